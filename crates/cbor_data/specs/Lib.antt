@@ -1,0 +1,10 @@
+pub mod Value
+pub mod Validity
+pub mod Preferred
+pub mod Forms
+pub mod Sound
+pub mod Faults
+pub mod Sequence
+pub mod Notation
+pub mod Same
+pub mod Codes
