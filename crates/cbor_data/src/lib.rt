@@ -1,6 +1,10 @@
 //! What items of CBOR are and how bytes spell them (RFC 8949), for contracts: the definitions stand in `specs/`.
 #![tactic(auto)]
 
+ghost use Rattle.std.specs.Prelude.{◌≡◌, ℕ, List, ◌++◌};
+ghost use Rattle.cbor_data.specs.Value.{Value};
+ghost use Rattle.cbor_data.specs.Forms.{Spells, IsWellFormed};
+
 /// How many bits a float has.
 #[derive(Clone, Copy, Debug, PartialEq, Eq)]
 pub enum Width {
@@ -11,3 +15,13 @@ pub enum Width {
     /// Double precision, 64 bits.
     W64,
 }
+
+/// Bytes spell at most one item, and no spelling begins another (RFC 8949 section 3).
+pub fn one_item()
+    ensures { (x y : Value) (a r b s : List ℕ) → Spells x a → Spells y b → a ++ r ≡ b ++ s → (a ≡ b) × (x ≡ y) }
+{}
+
+/// No well-formed bytes begin others: what a sequence begins with is one item at most (RFC 8742).
+pub fn one_front()
+    ensures { (a r b s : List ℕ) → IsWellFormed a → IsWellFormed b → a ++ r ≡ b ++ s → (a ≡ b) × (r ≡ s) }
+{}
