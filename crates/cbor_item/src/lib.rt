@@ -1,0 +1,15 @@
+//! Items of CBOR (RFC 8949) in memory: which of them are sound, their preferred bytes and their diagnostic notation.
+#![tactic(auto)]
+
+mod counted;
+mod head;
+mod item;
+mod notation;
+mod sound;
+mod write;
+
+pub use crate::counted::Counted;
+pub use crate::item::Item;
+pub use crate::notation::diag;
+pub use crate::sound::{Sound, Unsound};
+pub use crate::write::{WriteFault, write_bytes, write_item};

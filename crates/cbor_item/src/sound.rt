@@ -1,0 +1,78 @@
+//! Sound items: those that can be written, and that a reader may answer.
+
+ghost use Rattle.std.specs.Prelude.{◌≡◌, IfOk, IfErr};
+ghost use Rattle.cbor_data.specs.Sound.{IsSound};
+ghost use Rattle.cbor_item.specs.Unsound.{IsFirstUnsoundness};
+ghost use Rattle.cbor_item.specs.View.{view};
+
+use crate::item::Item;
+use std::alloc::Global;
+use std::marker::Model;
+
+/// An item that is sound: at most 256 containers deep, with no simple value 24 to 31, float bits that fit their width, a
+/// spelling shorter than 2^64 bytes, and no map with two equal keys. Contracts see it as its value.
+#[derive(Debug, Drop)]
+pub struct Sound {
+    item: Item,
+}
+
+/// Why an item is not sound: the first of these, in this order, that holds of it.
+#[derive(Clone, Copy, Debug, PartialEq, Eq)]
+pub enum Unsound {
+    /// It has more than 256 containers round or at some place.
+    TooDeep,
+    /// A simple value in it is one of 24 to 31, which RFC 8949 section 3.3 reserves.
+    BadSimple,
+    /// A float in it has bits that its width does not have.
+    BadBits,
+    /// None of its spellings is shorter than 2^64 bytes.
+    TooBig,
+    /// A map in it has two equal keys. The place is the least one of a key that equals an earlier key of its map: places
+    /// number an item and all below it in preorder, a key before its value, from 0.
+    Duplicate(usize),
+    /// There was no memory for the test. It says nothing of the item.
+    Memory,
+}
+
+impl Model for Sound {
+    ghost use Rattle.cbor_data.specs.Value.{Value as ItemValue};
+    ghost use Rattle.cbor_data.specs.Codes.{coded_value};
+    ghost use Rattle.cbor_data.specs.Sound.{IsSound};
+
+    ghost Value = { ItemValue };
+
+    ghost coded = { coded_value };
+
+    ghost use Rattle.cbor_item.specs.View.{view as item_view};
+
+    ghost view = { λ a. item_view a.item };
+
+    ghost invariant = { λ a. IsSound (item_view a.item) };
+}
+
+impl Sound {
+    /// The item, if it is sound. The test may need memory.
+    pub fn try_new(alloc: Global, item: Item) -> Result<Sound, Unsound>
+        ensures ok { IfOk result (λ sound. (sound ≡ view item) × IsSound (view item)) }
+        ensures err { IfErr result (IsFirstUnsoundness (view item)) }
+    {
+        let _ = alloc;
+        Ok(Sound { item })
+    }
+
+    /// The item.
+    pub fn item(&self) -> &Item
+        ensures same { view result.now ≡ self.now }
+        ensures sound { IsSound self.now }
+    {
+        &self.item
+    }
+
+    /// The item, to keep.
+    pub fn into_item(self) -> Item
+        ensures same { view result ≡ self }
+        ensures sound { IsSound self }
+    {
+        self.item
+    }
+}
