@@ -1,0 +1,64 @@
+-- What the answers of the reader's calls say.
+use Rattle.std.specs.Prelude.{◌≡◌, ◌≢◌, ℕ, ◌+◌, ◌<◌, ◌≤◌, List, [], ◌++◌, length, take, Option, Some, None, Result, Ok, Err, alloc_error}
+use Rattle.std.specs.declared.alloc.AllocError.{AllocError}
+use Rattle.cbor_data.specs.Value.{Value}
+use Rattle.cbor_data.specs.Forms.{IsWellFormed, IsUnfinished}
+use Rattle.cbor_data.specs.Faults.{Bounds, IsClearBefore}
+use Rattle.cbor_read.specs.Initial.{IsNotYet}
+use Rattle.cbor_read.specs.Told.{IsTold, IsRead}
+use Rattle.cbor_read.specs.Reading.{Reading}
+use Rattle.cbor_read.specs.declared.fault.Fault as declared
+use Rattle.cbor_read.specs.declared.fault.FaultKind.{FaultKind}
+use Rattle.cbor_read.specs.declared.fault.FaultKind.TheVariants.{BadText, DuplicateKey}
+use Rattle.cbor_read.specs.declared.fault.Stop.{Stop}
+use Rattle.cbor_read.specs.declared.fault.Stop.TheVariants as stop
+use Rattle.cbor_read.specs.declared.reader.Fed.{Fed}
+use Rattle.cbor_read.specs.declared.reader.Fed.TheVariants.{More, Item, Fault}
+
+-- The whole piece was used, the item goes on, and nothing is wrong with a byte in sight.
+pub record IsGoingOn (old : Reading) (piece : List ℕ) (new : Reading) : Type 0 where
+  pub next : new ≡ record old { fed = old.fed ++ piece }
+  pub unfinished : IsUnfinished (old.fed ++ piece)
+  pub clear : IsClearBefore old.limits old.offset (old.fed ++ piece) (length (old.fed ++ piece))
+  pub read : IsNotYet (old.fed ++ piece) → ⊥
+
+-- The item x ended with byte `used` of the piece, and the next one begins behind it.
+pub record IsTaken (old : Reading) (piece : List ℕ) (used : ℕ) (x : Value) (new : Reading) : Type 0 where
+  pub some : 0 < used
+  pub within : used ≤ length piece
+  pub read : IsRead old.limits old.offset x (old.fed ++ take used piece)
+  pub next : new ≡ record { limits = old.limits; offset = old.offset + length (old.fed ++ take used piece); fed = []; stopped = None }
+
+-- How far a piece is used before a fault of this kind at this place is told: up to the fault's byte, or, where the item
+-- is whole, up to its end.
+abbrev pub IsUsedUpTo : Reading → List ℕ → ℕ → FaultKind → ℕ → Type 0
+IsUsedUpTo old piece used BadText at = IsWellFormed (old.fed ++ take used piece)
+IsUsedUpTo old piece used DuplicateKey at = IsWellFormed (old.fed ++ take used piece)
+IsUsedUpTo old piece used _ at = (used < length piece) × (at ≡ old.offset + length (old.fed ++ take used piece))
+
+-- Whatever follows, this fault is told of the bytes; it is the first answer that says so, and the reader stops with it.
+pub record IsRefused (old : Reading) (piece : List ℕ) (used : ℕ) (fault : declared.Fault) (new : Reading) : Type 0 where
+  pub within : used ≤ length piece
+  pub told : (more : List ℕ) → IsTold old.limits old.offset ((old.fed ++ piece) ++ more) fault.kind fault.at
+  pub place : IsUsedUpTo old piece used fault.kind fault.at
+  pub next : new ≡ record old { fed = old.fed ++ take used piece; stopped = Some (stop.Fault fault) }
+
+-- what `feed` answers of a reader that has not stopped
+abbrev pub IsFed : Reading → List ℕ → Result Fed AllocError → Reading → Type 0
+IsFed old piece (Ok More) new = IsGoingOn old piece new
+IsFed old piece (Ok (Item used x)) new = IsTaken old piece used x new
+IsFed old piece (Ok (Fault used fault)) new = IsRefused old piece used fault new
+IsFed old piece (Err e) new = new ≡ record old { stopped = Some stop.Memory }
+
+-- what `feed` answers
+abbrev pub IsAnswer : Option Stop → Reading → List ℕ → Result Fed AllocError → Reading → Type 0
+IsAnswer None old piece result new = IsFed old piece result new
+IsAnswer (Some (stop.Fault fault)) old piece result new = (result ≡ Ok (Fault 0 fault)) × (new ≡ old)
+IsAnswer (Some stop.Memory) old piece result new = (result ≡ Err alloc_error) × (new ≡ old)
+
+-- what is said of a reader where the stream ends
+abbrev pub IsEnd : Option Stop → Reading → Result (Unit {0}) Stop → Type 0
+IsEnd (Some s) reading result = result ≡ Err s
+IsEnd None reading (Ok _) = reading.fed ≡ []
+IsEnd None reading (Err (stop.Fault fault)) = (reading.fed ≢ []) × IsTold reading.limits reading.offset reading.fed fault.kind fault.at
+IsEnd None reading (Err stop.Memory) = ⊥

@@ -1,0 +1,11 @@
+-- What stands at the front of a rest.
+use Rattle.std.specs.Prelude.{◌≡◌, ℕ, ◌≤◌, List, [], length, take}
+use Rattle.cbor_data.specs.Faults.{Bounds}
+use Rattle.cbor_read.specs.Told.{IsTold, IsRead}
+use Rattle.cbor_read.specs.declared.front.Front.{Front}
+use Rattle.cbor_read.specs.declared.front.Front.TheVariants.{Nothing, Item, Fault}
+
+abbrev pub IsFront : Bounds → ℕ → List ℕ → Front → Type 0
+IsFront l o b Nothing = b ≡ []
+IsFront l o b (Item n x) = (n ≤ length b) × IsRead l o x (take n b)
+IsFront l o b (Fault fault) = IsTold l o b fault.kind fault.at

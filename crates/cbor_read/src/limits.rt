@@ -1,0 +1,56 @@
+ghost use Rattle.std.specs.Prelude.{◌≡◌, ◌≤◌, ◌⊎◌, ◌<◌, IfSome, IfNone};
+
+use std::marker::Model;
+
+/// What an item may have: its greatest depth, and the most bytes.
+#[derive(Clone, Copy, Debug)]
+pub struct Limits {
+    depth: u32,
+    item_bytes: u32,
+}
+
+impl Model for Limits {
+    ghost use Rattle.std.specs.Prelude.{◌≤◌};
+    ghost use Rattle.cbor_data.specs.Faults.{Bounds};
+
+    ghost Value = { Bounds };
+
+    ghost view = { λ l. record { depth = l.depth; item_bytes = l.item_bytes } };
+
+    ghost invariant = { λ l. ((1 ≤ l.depth) × (l.depth ≤ 256)) × ((1 ≤ l.item_bytes) × (l.item_bytes ≤ 16777216)) };
+
+    ghost inverse = { λ b. record { depth = b.depth; item_bytes = b.item_bytes } };
+}
+
+impl Limits {
+    /// A depth of 1 to 256 and 1 to 16,777,216 bytes; `None` outside of these ranges.
+    pub fn try_new(depth: u32, item_bytes: u32) -> Option<Limits>
+        ensures some { IfSome result (λ limits. limits ≡ record { depth = depth; item_bytes = item_bytes }) }
+        ensures inside { IfSome result (λ _. ((1 ≤ depth) × (depth ≤ 256)) × ((1 ≤ item_bytes) × (item_bytes ≤ 16777216))) }
+        ensures outside { IfNone result (((depth ≡ 0) ⊎ (256 < depth)) ⊎ ((item_bytes ≡ 0) ⊎ (16777216 < item_bytes))) }
+    {
+        if depth < 1 || depth > 256 {
+            return None;
+        }
+        if item_bytes < 1 || item_bytes > 16_777_216 {
+            return None;
+        }
+        Some(Limits { depth, item_bytes })
+    }
+
+    /// The greatest depth of an item.
+    pub fn depth(self) -> u32
+        ensures value { result ≡ self.depth }
+        ensures range { (1 ≤ result) × (result ≤ 256) }
+    {
+        self.depth
+    }
+
+    /// The most bytes of an item.
+    pub fn item_bytes(self) -> u32
+        ensures value { result ≡ self.item_bytes }
+        ensures range { (1 ≤ result) × (result ≤ 16777216) }
+    {
+        self.item_bytes
+    }
+}
