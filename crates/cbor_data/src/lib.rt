@@ -4,6 +4,8 @@
 ghost use Rattle.std.specs.Prelude.{◌≡◌, ℕ, List, ◌++◌};
 ghost use Rattle.cbor_data.specs.Value.{Value};
 ghost use Rattle.cbor_data.specs.Forms.{Spells, IsWellFormed};
+ghost use Rattle.cbor_data.specs.Preferred.{preferred};
+ghost use Rattle.cbor_data.specs.Sound.{IsSound};
 
 /// How many bits a float has.
 #[derive(Clone, Copy, Debug, PartialEq, Eq)]
@@ -24,4 +26,9 @@ pub fn one_item()
 /// No well-formed bytes begin others: what a sequence begins with is one item at most (RFC 8742).
 pub fn one_front()
     ensures { (a r b s : List ℕ) → IsWellFormed a → IsWellFormed b → a ++ r ≡ b ++ s → (a ≡ b) × (r ≡ s) }
+{}
+
+/// The preferred bytes of a sound item are a spelling of it (RFC 8949 section 4.1).
+pub fn preferred_spells()
+    ensures { (x : Value) → IsSound x → Spells x (preferred x) }
 {}
