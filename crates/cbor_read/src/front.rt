@@ -25,7 +25,12 @@ pub enum Front {
 /// # Errors
 ///
 /// [`AllocError`] where an allocation was refused.
-pub fn read_front(alloc: Global, limits: Limits, offset: u64, bytes: &[u8]) -> Result<Front, AllocError>
+pub fn read_front(
+    alloc: Global,
+    limits: Limits,
+    offset: u64,
+    bytes: &[u8],
+) -> Result<Front, AllocError>
     ensures { IfOk result (λ front. IsFront limits offset bytes.now front) }
 {
     let Some(first) = bytes.first() else {

@@ -1,5 +1,5 @@
 // Reads items from pieces.
-ghost use Rattle.std.specs.Prelude.{◌≡◌, ℕ, ◌+◌, ◌^◌, ◌<◌, ◌≤◌, [], List, length, IfOk, None};
+ghost use Rattle.std.specs.Prelude.{◌≡◌, ℕ, ◌+◌, ◌-◌, ◌^◌, ◌<◌, ◌≤◌, [], List, min, IfOk, None};
 ghost use Rattle.cbor_read.specs.Reading.{Reading};
 ghost use Rattle.cbor_read.specs.Answers.{IsAnswer, IsEnd};
 ghost use Rattle.cbor_read.specs.Stages.{IsAt, IsInRange, IsReached};
@@ -90,7 +90,14 @@ impl ItemReader {
                 self.stage = Stage::Stopped(Stop::Fault(fault));
                 Ok(Fed::Fault { used: 0, fault })
             }
-            stage => match read(self.alloc, self.limits, self.offset, self.count, stage, piece)? {
+            stage => match read(
+                self.alloc,
+                self.limits,
+                self.offset,
+                self.count,
+                stage,
+                piece,
+            )? {
                 Outcome::Open(stage) => {
                     self.stage = stage;
                     self.count += piece.len() as u64;
@@ -150,18 +157,32 @@ fn room_of(limits: Limits, offset: u64, count: u64) -> usize
     item.min(u64::MAX - (offset + count)) as usize
 }
 
-fn read(alloc: Global, limits: Limits, offset: u64, count: u64, stage: Stage, piece: &[u8]) -> Result<Outcome, AllocError>
+fn read(
+    alloc: Global,
+    limits: Limits,
+    offset: u64,
+    count: u64,
+    stage: Stage,
+    piece: &[u8],
+) -> Result<Outcome, AllocError>
     requires range { IsInRange stage }
     requires short { count ≤ limits.item_bytes }
     requires placed { offset + count < 2 ^ 64 }
     ensures { IfOk result (λ outcome. (fed : List ℕ) → IsReached limits offset count fed stage → IsOutcome limits offset count fed piece.now outcome) }
 {
-    if let Stage::Start = &stage && let Some(first) = piece.first() && let Some(kind) = first_fault(*first) {
+    if let Stage::Start = &stage
+        && let Some(first) = piece.first()
+        && let Some(kind) = first_fault(*first)
+    {
         let fault = Fault { at: offset, kind };
         return Ok(Outcome::Fault { used: 0, fault });
     }
     let room = room_of(limits, offset, count);
-    let inside = if piece.len() > room { &piece[..room] } else { piece };
+    let inside = if piece.len() > room {
+        &piece[..room]
+    } else {
+        piece
+    };
     match read_on(alloc, stage, inside)? {
         Step::Open(stage) => {
             if inside.len() == piece.len() {
@@ -175,14 +196,20 @@ fn read(alloc: Global, limits: Limits, offset: u64, count: u64, stage: Stage, pi
         }
         Step::Whole { left, item } => {
             let item = Sound::try_new(alloc, item).map_err(|_| AllocError)?;
-            Ok(Outcome::Item { used: inside.len() - left, item })
+            Ok(Outcome::Item {
+                used: inside.len() - left,
+                item,
+            })
         }
         Step::BadText { left } => {
             let fault = Fault {
                 at: offset,
                 kind: FaultKind::BadText,
             };
-            Ok(Outcome::Fault { used: inside.len() - left, fault })
+            Ok(Outcome::Fault {
+                used: inside.len() - left,
+                fault,
+            })
         }
     }
 }

@@ -105,7 +105,13 @@ fn major_of(number: u8) -> Major
 }
 
 // The bytes of an argument, the most significant first, and what follows them.
-fn read_argument(alloc: Global, major: Major, left: u8, value: u64, piece: &[u8]) -> Result<Step, AllocError>
+fn read_argument(
+    alloc: Global,
+    major: Major,
+    left: u8,
+    value: u64,
+    piece: &[u8],
+) -> Result<Step, AllocError>
     requires { IsArgument left value }
     ensures leads { IfOk result (λ step. (seen : List ℕ) → IsAt seen (Stage.Argument major left value) → LeadsTo seen piece.now step) }
     ensures left { IfOk result (λ step. IsShorter step (length piece.now)) }
@@ -129,8 +135,14 @@ fn read_content(alloc: Global, major: Major, argument: u64, rest: &[u8]) -> Resu
 {
     let left = rest.len();
     match major {
-        Major::Uint => Ok(Step::Whole { left, item: Item::Uint(argument) }),
-        Major::Nint => Ok(Step::Whole { left, item: Item::Nint(argument) }),
+        Major::Uint => Ok(Step::Whole {
+            left,
+            item: Item::Uint(argument),
+        }),
+        Major::Nint => Ok(Step::Whole {
+            left,
+            item: Item::Nint(argument),
+        }),
         Major::Bytes => {
             if argument == 0 {
                 let item = Item::Bytes(Vec::new(alloc));
@@ -167,7 +179,10 @@ fn read_bytes(awaited: u64, held: Vec<u8>, piece: &[u8]) -> Result<Step, AllocEr
     if awaited > 0 {
         return Ok(Step::Open(Stage::Bytes(awaited, held)));
     }
-    Ok(Step::Whole { left: piece.len() - run, item: Item::Bytes(held) })
+    Ok(Step::Whole {
+        left: piece.len() - run,
+        item: Item::Bytes(held),
+    })
 }
 
 fn read_text(awaited: u64, held: Vec<u8>, piece: &[u8]) -> Result<Step, AllocError>
@@ -184,7 +199,10 @@ fn read_text(awaited: u64, held: Vec<u8>, piece: &[u8]) -> Result<Step, AllocErr
     }
     let left = piece.len() - run;
     Ok(match text_of(held) {
-        Some(text) => Step::Whole { left, item: Item::Text(text) },
+        Some(text) => Step::Whole {
+            left,
+            item: Item::Text(text),
+        },
         None => Step::BadText { left },
     })
 }
