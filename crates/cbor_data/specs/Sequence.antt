@@ -34,11 +34,11 @@ pub data End (kind : Type 0) : Type 0 where
   failed : ℕ → ℕ → Cause kind → End kind
 
 -- The stream's run is these items, and it ends so. `told` says of a rest at an offset which fault it has, and
--- `misses` of an item where it does not match.
+-- `misses` of an item and its bytes where it does not match.
 pub data EndsBy (l : Bounds) (accepts : Value → List ℕ → Type 0) {kind : Type 0} (told : ℕ → List ℕ → kind → ℕ → Type 0)
-    (misses : Value → ℕ → Type 0) (b : List ℕ) (found : List Found) : End kind → Type 0 where
+    (misses : Value → List ℕ → ℕ → Type 0) (b : List ℕ) (found : List Found) : End kind → Type 0 where
   cleanly : IsRunOf l accepts b found [] → EndsBy l accepts told misses b found (clean (length found) (length b))
   at_fault : {o : ℕ} {k : kind} {at : ℕ} (rest : List ℕ) → IsRunOf l accepts b found rest → rest ≢ [] → o + length rest ≡ length b →
       told o rest k at → EndsBy l accepts told misses b found (failed (length found) o (fault k at))
   at_mismatch : {o : ℕ} {place : ℕ} (rest : List ℕ) (x : Value) (front back : List ℕ) → IsRunOf l accepts b found rest → o + length rest ≡ length b →
-      rest ≡ front ++ back → IsItem l o x front → misses x place → EndsBy l accepts told misses b found (failed (length found) o (mismatch place))
+      rest ≡ front ++ back → IsItem l o x front → misses x front place → EndsBy l accepts told misses b found (failed (length found) o (mismatch place))
