@@ -1,6 +1,8 @@
 //! Sound items: those that can be written, and that a reader may answer.
 
-ghost use Rattle.std.specs.Prelude.{◌≡◌, IfOk, IfErr};
+ghost use Rattle.std.specs.Prelude.{◌≡◌, ◌<◌, ◌^◌, length, IfOk, IfErr};
+ghost use Rattle.cbor_data.specs.Preferred.{preferred};
+ghost use Rattle.cbor_data.specs.Value.{AreBytes, IsInRange};
 ghost use Rattle.cbor_data.specs.Sound.{IsSound};
 ghost use Rattle.cbor_item.specs.Unsound.{IsFirstUnsoundness};
 ghost use Rattle.cbor_item.specs.View.{view};
@@ -57,6 +59,7 @@ impl Sound {
         ensures err { IfErr result (IsFirstUnsoundness (view item)) }
     {
         let _ = alloc;
+        note_ranges(&item);
         Ok(Sound { item })
     }
 
@@ -75,4 +78,29 @@ impl Sound {
     {
         self.item
     }
+}
+
+// Does nothing. What the types of an item's parts say of them: numbers are in range, texts are UTF-8, and no list in
+// memory is longer than 2^63 - 1.
+fn note_ranges(item: &Item)
+    ensures range { IsInRange (view item.now) }
+    ensures short { length (preferred (view item.now)) < 2 ^ 64 }
+{
+    match item {
+        Item::Uint(n) | Item::Nint(n) => note_number(*n),
+        Item::Bytes(bytes) => note_bytes(bytes.as_slice()),
+        Item::Text(text) => note_bytes(text.as_bytes()),
+    }
+}
+
+fn note_number(n: u64)
+    ensures { n < 2 ^ 64 }
+{
+    let _ = n;
+}
+
+fn note_bytes(bytes: &[u8])
+    ensures { AreBytes bytes.now }
+{
+    let _ = bytes;
 }

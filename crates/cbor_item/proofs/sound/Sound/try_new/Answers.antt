@@ -1,8 +1,9 @@
-use Rattle.std.proofs.Common.{rules, ◌≡◌, IfOk, IfErr, ℕ, ◌+◌, ◌-◌, ◌*◌, ◌<◌, ◌≤◌, length, ◌/◌, ◌%◌, Bool, true, false, nat_eq, nat_lt, List, [], ◌∷◌, ◌++◌}
-use Rattle.cbor_data.specs.Sound.{IsSound}
-use Rattle.cbor_item.specs.Unsound.{IsFirstUnsoundness}
-use Rattle.cbor_item.specs.View.{view}
+use Rattle.std.proofs.Common.{refl}
+use Rattle.cbor_item.proofs.Ranges.{IsSound-view}
 use Rattle.cbor_item.proofs.sound.Sound.try_new.Goals as goal
 
 pub invariant_of-result : goal.invariant_of-result
-invariant_of-result c = let i = c.type_inv in ?
+invariant_of-result c = IsSound-view c.args.item c.note_ranges.ensures.range c.note_ranges.ensures.short
+
+pub returns-clause-ok : goal.returns-clause-ok
+returns-clause-ok c = (refl, IsSound-view c.args.item c.note_ranges.ensures.range c.note_ranges.ensures.short)
