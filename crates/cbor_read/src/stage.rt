@@ -122,7 +122,8 @@ fn read_argument(
         value = value * 256 + u64::from(*byte);
         left -= 1;
         if left == 0 {
-            return read_content(alloc, major, value, &piece[i + 1..]);
+            let (_, rest) = piece.split_at(i + 1);
+            return read_content(alloc, major, value, rest);
         }
     }
     Ok(Step::Open(Stage::Argument(major, left, value)))
