@@ -8,7 +8,7 @@ use Rattle.cbor_data.specs.declared.Width.{Width}
 use Rattle.cbor_data.specs.declared.Width.TheVariants.{W16, W32, W64}
 use Rattle.cbor_data.specs.Value.{AreBytes}
 use Rattle.cbor_data.specs.Forms.{Form, uint_form, nint_form, bytes_form, bytes_chunks, text_form, text_chunks, array_form, array_to_break, pairs_form, pairs_to_break, tag_form, simple_inside, simple_next, float_form, Forms, no_forms, form, PairForms, no_pair_forms, pair_form, flat, forms_flat, pair_forms_flat, forms_len, pair_forms_len, IsOk, IsWellFormed, Begins, AreFormsOk, ArePairFormsOk, Chunk, chunk_bytes, chunks_bytes, AreChunksOk, Place, inside, one, two, four, eight, head_in, FitsPlace}
-use Rattle.cbor_machine.specs.Machine.{State, Frame, rest, until, until_key, until_value, item, argument, body, chunk, chunk_argument, chunk_body, simple, done, held, chunk_held, start_chunk, twice, ask, wide, after, give, step, steps, start, info_of, given, more}
+use Rattle.cbor_machine.specs.Machine.{State, Frame, rest, until, until_key, until_value, item, argument, body, chunk, chunk_argument, chunk_body, simple, done, held, chunk_held, start_chunk, twice, ask, wide, after, give, step, steps, start, info_of, given, more, opens_container}
 
 major_of : (m i : ℕ) → i < 32 → initial m i / 32 ≡ m
 major_of m i h = omega arith
@@ -20,10 +20,10 @@ info_in m i h = omega arith
 pub first : (m i : ℕ) (K : List Frame) → i < 32 → step (item K) (initial m i) ≡ start m (info_of i) K
 first m i K h = ap (λ a. start a (info_of (initial m i % 32)) K) (major_of m i h) ∙ ap (λ a. start m (info_of a) K) (info_in m i h)
 
-info_of-given : (n : ℕ) → n < 24 → info_of n ≡ given n
+pub info_of-given : (n : ℕ) → n < 24 → info_of n ≡ given n
 info_of-given n h = grind (arith, nat_tests)
 
-wide_is : (m k : ℕ) (K : List Frame) → m < 7 → wide m k K ≡ argument m k 0 K
+pub wide_is : (m k : ℕ) (K : List Frame) → m < 7 → wide m k K ≡ argument m k 0 K
 wide_is zero k K h = refl
 wide_is (suc zero) k K h = refl
 wide_is (suc (suc zero)) k K h = refl
@@ -47,11 +47,11 @@ string [] K r = refl
 string (b ∷ []) K r = refl
 string (b ∷ c ∷ s) K r = string (c ∷ s) K r
 
-give_rest : (n : ℕ) (K : List Frame) → give (rest n ∷ K) ≡ ask n K
+pub give_rest : (n : ℕ) (K : List Frame) → give (rest n ∷ K) ≡ ask n K
 give_rest zero K = refl
 give_rest (suc n) K = refl
 
-chunk_first : (m i : ℕ) (K : List Frame) → m < 7 → i < 32 → step (chunk m K) (initial m i) ≡ start_chunk m (info_of i) K
+pub chunk_first : (m i : ℕ) (K : List Frame) → m < 7 → i < 32 → step (chunk m K) (initial m i) ≡ start_chunk m (info_of i) K
 chunk_first m i K small h =
     let other : (initial m i == 255) ≡ false = grind (arith, nat_tests) in
     let same : (m == m) ≡ true = grind (arith, nat_tests) in
@@ -127,39 +127,45 @@ mutual
 
 -- every live state can be completed
 
+-- none is the initial byte of a container
+abbrev pub AreQuiet : List ℕ → Type 0
+AreQuiet [] = Unit {0}
+AreQuiet (b ∷ bs) = (opens_container b ≡ false) × AreQuiet bs
+
 pub record Completes (s : State) : Type 0 where
   pub more : List ℕ
   pub bytes : AreBytes more
+  pub quiet : AreQuiet more
   pub done : steps s more ≡ Some done
 
-by : (s t : State) (b : ℕ) → b < 256 → step s b ≡ Some t → Completes t → Completes s
-by s t b small e c = record { more = b ∷ c.more; bytes = (small, c.bytes); done = ap (option_and_then (λ u. steps u c.more)) e ∙ c.done }
+by : (s t : State) (b : ℕ) → b < 256 → opens_container b ≡ false → step s b ≡ Some t → Completes t → Completes s
+by s t b small still e c = record { more = b ∷ c.more; bytes = (small, c.bytes); quiet = (still, c.quiet); done = ap (option_and_then (λ u. steps u c.more)) e ∙ c.done }
 
 ask_completes : (n : ℕ) (K : List Frame) → Completes (give K) → Completes (ask n K)
 ask_completes zero K c = c
-ask_completes (suc n) K c = by _ (give (rest n ∷ K)) 0 (omega arith) refl (subst Completes (sym (give_rest n K)) (ask_completes n K c))
+ask_completes (suc n) K c = by _ (give (rest n ∷ K)) 0 (omega arith) refl refl (subst Completes (sym (give_rest n K)) (ask_completes n K c))
 
 give_completes : (K : List Frame) → Completes (give K)
-give_completes [] = record { more = []; bytes = tt; done = refl }
+give_completes [] = record { more = []; bytes = tt; quiet = tt; done = refl }
 give_completes (rest n ∷ K) = subst Completes (sym (give_rest n K)) (ask_completes n K (give_completes K))
-give_completes (until ∷ K) = by _ (give K) 255 (omega arith) refl (give_completes K)
-give_completes (until_key ∷ K) = by _ (item (until_key ∷ K)) 0 (omega arith) refl (by _ (give K) 255 (omega arith) refl (give_completes K))
-give_completes (until_value ∷ K) = by _ (give K) 255 (omega arith) refl (give_completes K)
+give_completes (until ∷ K) = by _ (give K) 255 (omega arith) refl refl (give_completes K)
+give_completes (until_key ∷ K) = by _ (item (until_key ∷ K)) 0 (omega arith) refl refl (by _ (give K) 255 (omega arith) refl refl (give_completes K))
+give_completes (until_value ∷ K) = by _ (give K) 255 (omega arith) refl refl (give_completes K)
 
 body_completes : (n : ℕ) (K : List Frame) → Completes (body n K)
-body_completes zero K = by _ (give K) 0 (omega arith) refl (give_completes K)
-body_completes (suc n) K = by _ (body n K) 0 (omega arith) refl (body_completes n K)
+body_completes zero K = by _ (give K) 0 (omega arith) refl refl (give_completes K)
+body_completes (suc n) K = by _ (body n K) 0 (omega arith) refl refl (body_completes n K)
 
 held_completes : (n : ℕ) (K : List Frame) → Completes (held n K)
 held_completes zero K = give_completes K
 held_completes (suc n) K = body_completes n K
 
 chunk_completes : (m : ℕ) (K : List Frame) → Completes (chunk m K)
-chunk_completes m K = by _ (give K) 255 (omega arith) refl (give_completes K)
+chunk_completes m K = by _ (give K) 255 (omega arith) refl refl (give_completes K)
 
 chunk_body_completes : (m n : ℕ) (K : List Frame) → Completes (chunk_body m n K)
-chunk_body_completes m zero K = by _ (chunk m K) 0 (omega arith) refl (chunk_completes m K)
-chunk_body_completes m (suc n) K = by _ (chunk_body m n K) 0 (omega arith) refl (chunk_body_completes m n K)
+chunk_body_completes m zero K = by _ (chunk m K) 0 (omega arith) refl refl (chunk_completes m K)
+chunk_body_completes m (suc n) K = by _ (chunk_body m n K) 0 (omega arith) refl refl (chunk_body_completes m n K)
 
 chunk_held_completes : (m n : ℕ) (K : List Frame) → Completes (chunk_held m n K)
 chunk_held_completes m zero K = chunk_completes m K
@@ -176,29 +182,29 @@ after_completes (suc (suc (suc (suc (suc (suc zero)))))) n K = ask_completes 1 K
 after_completes (suc (suc (suc (suc (suc (suc (suc m))))))) n K = give_completes K
 
 argument_completes : (k m n : ℕ) (K : List Frame) → Completes (argument m k n K)
-argument_completes zero m n K = by _ (after m (n * 256 + 0) K) 0 (omega arith) refl (after_completes m (n * 256 + 0) K)
-argument_completes (suc k) m n K = by _ (argument m k (n * 256 + 0) K) 0 (omega arith) refl (argument_completes k m (n * 256 + 0) K)
+argument_completes zero m n K = by _ (after m (n * 256 + 0) K) 0 (omega arith) refl refl (after_completes m (n * 256 + 0) K)
+argument_completes (suc k) m n K = by _ (argument m k (n * 256 + 0) K) 0 (omega arith) refl refl (argument_completes k m (n * 256 + 0) K)
 
 chunk_argument_completes : (k m n : ℕ) (K : List Frame) → Completes (chunk_argument m k n K)
-chunk_argument_completes zero m n K = by _ (chunk_held m (n * 256 + 0) K) 0 (omega arith) refl (chunk_held_completes m (n * 256 + 0) K)
-chunk_argument_completes (suc k) m n K = by _ (chunk_argument m k (n * 256 + 0) K) 0 (omega arith) refl (chunk_argument_completes k m (n * 256 + 0) K)
+chunk_argument_completes zero m n K = by _ (chunk_held m (n * 256 + 0) K) 0 (omega arith) refl refl (chunk_held_completes m (n * 256 + 0) K)
+chunk_argument_completes (suc k) m n K = by _ (chunk_argument m k (n * 256 + 0) K) 0 (omega arith) refl refl (chunk_argument_completes k m (n * 256 + 0) K)
 
 -- whatever stands in the stack
 pub completes : (s : State) → Completes s
-completes (item K) = by _ (give K) 0 (omega arith) refl (give_completes K)
+completes (item K) = by _ (give K) 0 (omega arith) refl refl (give_completes K)
 completes (argument m k n K) = argument_completes k m n K
 completes (body n K) = body_completes n K
 completes (chunk m K) = chunk_completes m K
 completes (chunk_argument m k n K) = chunk_argument_completes k m n K
 completes (chunk_body m n K) = chunk_body_completes m n K
-completes (simple K) = by _ (give K) 32 (omega arith) refl (give_completes K)
-completes done = record { more = []; bytes = tt; done = refl }
+completes (simple K) = by _ (give K) 32 (omega arith) refl refl (give_completes K)
+completes done = record { more = []; bytes = tt; quiet = tt; done = refl }
 
 chained : (o : Option State) (f g h : State → Option State) → ((t : State) → f t ≡ option_and_then h (g t)) → option_and_then f o ≡ option_and_then h (option_and_then g o)
 chained None f g h e = refl
 chained (Some t) f g h e = e t
 
-steps-append : (s : State) (a b : List ℕ) → steps s (a ++ b) ≡ option_and_then (λ t. steps t b) (steps s a)
+pub steps-append : (s : State) (a b : List ℕ) → steps s (a ++ b) ≡ option_and_then (λ t. steps t b) (steps s a)
 steps-append s [] b = refl
 steps-append s (x ∷ a) b = chained (step s x) (λ t. steps t (a ++ b)) (λ t. steps t a) (λ t. steps t b) (λ t. steps-append t a b)
 

@@ -51,12 +51,12 @@ pairs_and-ok (pair_form l w ps) k v a b c = (a.0, a.1, pairs_and-ok ps k v a.2 b
 pub data Within : List Frame → List ℕ → Type 0 where
   nowhere : {c : List ℕ} → c ≡ [] → Within [] c
   in_array : {K : List Frame} {r : ℕ} {c : List ℕ} (b : List ℕ) (p : Place) (n : ℕ) (fs : Forms) → Within K b → FitsPlace p n → AreFormsOk fs → forms_len fs + suc r ≡ n →
-    c ≡ b ++ (head_in p 4 n ++ forms_flat fs) → Within (rest r ∷ K) c
+      c ≡ b ++ (head_in p 4 n ++ forms_flat fs) → Within (rest r ∷ K) c
   in_open_array : {K : List Frame} {c : List ℕ} (b : List ℕ) (fs : Forms) → Within K b → AreFormsOk fs → c ≡ b ++ (initial 4 31 ∷ forms_flat fs) → Within (until ∷ K) c
   at_key : {K : List Frame} {r : ℕ} {c : List ℕ} (b : List ℕ) (p : Place) (n m : ℕ) (ps : PairForms) → Within K b → FitsPlace p n → ArePairFormsOk ps → pair_forms_len ps + suc m ≡ n → r ≡ suc (twice m) →
-    c ≡ b ++ (head_in p 5 n ++ pair_forms_flat ps) → Within (rest r ∷ K) c
+      c ≡ b ++ (head_in p 5 n ++ pair_forms_flat ps) → Within (rest r ∷ K) c
   at_value : {K : List Frame} {r : ℕ} {c : List ℕ} (b : List ℕ) (p : Place) (n m : ℕ) (ps : PairForms) (k : Form) → Within K b → FitsPlace p n → ArePairFormsOk ps → IsOk k → pair_forms_len ps + suc m ≡ n → r ≡ twice m →
-    c ≡ b ++ (head_in p 5 n ++ (pair_forms_flat ps ++ flat k)) → Within (rest r ∷ K) c
+      c ≡ b ++ (head_in p 5 n ++ (pair_forms_flat ps ++ flat k)) → Within (rest r ∷ K) c
   at_open_key : {K : List Frame} {c : List ℕ} (b : List ℕ) (ps : PairForms) → Within K b → ArePairFormsOk ps → c ≡ b ++ (initial 5 31 ∷ pair_forms_flat ps) → Within (until_key ∷ K) c
   at_open_value : {K : List Frame} {c : List ℕ} (b : List ℕ) (ps : PairForms) (k : Form) → Within K b → ArePairFormsOk ps → IsOk k → c ≡ b ++ (initial 5 31 ∷ (pair_forms_flat ps ++ flat k)) → Within (until_value ∷ K) c
   in_tag : {K : List Frame} {r : ℕ} {c : List ℕ} (b : List ℕ) (p : Place) (n : ℕ) → Within K b → FitsPlace p n → r ≡ 0 → c ≡ b ++ head_in p 6 n → Within (rest r ∷ K) c
@@ -169,7 +169,7 @@ give_keeps (rest zero ∷ K) b c f (in_tag a p n w fits r e) ok is =
     give_keeps K a c (tag_form p n f) w (fits, ok) (is ∙ (ap (λ x. x ++ flat f) e ∙ append_assoc a (head_in p 6 n) (flat f)))
 give_keeps (rest (suc r) ∷ K) b c f (in_tag a p n w fits re e) ok is = absurd (omega arith)
 
-bytes-append : (a b : List ℕ) → AreBytes a → AreBytes b → AreBytes (a ++ b)
+pub bytes-append : (a b : List ℕ) → AreBytes a → AreBytes b → AreBytes (a ++ b)
 bytes-append [] b h k = k
 bytes-append (x ∷ a) b h k = (h.0, bytes-append a b h.1 k)
 
@@ -291,7 +291,7 @@ pub data Information (i : ℕ) : Type 0 where
   says_indefinite : i ≡ 31 → info_of i ≡ indefinite → Information i
   says_reserved : 28 ≤ i → i ≤ 30 → info_of i ≡ reserved → Information i
 
-tested : (b : Bool) → (b ≡ true) ⊎ (b ≡ false)
+pub tested : (b : Bool) → (b ≡ true) ⊎ (b ≡ false)
 tested true = inl refl
 tested false = inr refl
 
@@ -309,13 +309,13 @@ information i h = elim (tested (nat_lt i 24)) [
           | inr x ↦ elim (tested (i == 31)) [
             | inl y ↦ let e : i ≡ 31 = grind (arith, nat_tests) in says_indefinite e (rw (t, u, v, w, x, y) refl)
             | inr y ↦
-              let least : 24 ≤ i = grind (arith, nat_tests) in
-              let a : i ≢ 24 = grind (arith, nat_tests) in
-              let b : i ≢ 25 = grind (arith, nat_tests) in
-              let c : i ≢ 26 = grind (arith, nat_tests) in
-              let d : i ≢ 27 = grind (arith, nat_tests) in
-              let f : i ≢ 31 = grind (arith, nat_tests) in
-              says_reserved (omega arith) (omega arith) (rw (t, u, v, w, x, y) refl)
+                let least : 24 ≤ i = grind (arith, nat_tests) in
+                let a : i ≢ 24 = grind (arith, nat_tests) in
+                let b : i ≢ 25 = grind (arith, nat_tests) in
+                let c : i ≢ 26 = grind (arith, nat_tests) in
+                let d : i ≢ 27 = grind (arith, nat_tests) in
+                let f : i ≢ 31 = grind (arith, nat_tests) in
+                says_reserved (omega arith) (omega arith) (rw (t, u, v, w, x, y) refl)
           ]
         ]
       ]
@@ -413,10 +413,13 @@ chunk_whole : (m : ℕ) (K : List Frame) (b c : List ℕ) (p : Place) (s : List 
 chunk_whole m K b c p s r fits are is =
     let d : Chunk = record { place = p; held = s } in
     record {
-      before = r.before; chunks = r.chunks ++ d ∷ []; within = r.within; string = r.string;
+      before = r.before;
+      chunks = r.chunks ++ d ∷ [];
+      within = r.within;
+      string = r.string;
       ok = chunks_and-ok r.chunks d r.ok fits are;
       is = is ∙ (ap (λ x. x ++ (head_in p m (length s) ++ s)) r.is ∙ (longer r.before (initial m 31 ∷ []) (chunks_bytes m r.chunks) (head_in p m (length s) ++ s)
-        ∙ ap (λ x. r.before ++ (initial m 31 ∷ x)) (sym (chunks_and m r.chunks d))));
+          ∙ ap (λ x. r.before ++ (initial m 31 ∷ x)) (sym (chunks_and m r.chunks d))));
     }
 
 chunk_held_keeps : (m n : ℕ) (K : List Frame) (b c : List ℕ) (p : Place) → ChunksRead m K b → FitsPlace p n → c ≡ b ++ head_in p m n → Reached (chunk_held m n K) c
@@ -497,14 +500,14 @@ chunks_done m K c d r is = elim r.string [
 chunk_step : (m x : ℕ) (t : State) (K : List Frame) (c : List ℕ) → ChunksRead m K c → x < 256 → step (chunk m K) x ≡ Some t → Reached t (c ++ x ∷ [])
 chunk_step m x t K c r small e = elim (tested (x == 255)) [
   | inl u ↦
-    let last : x ≡ 255 = grind (arith, nat_tests) in
-    let to : give K ≡ t = (let g : Some (give K) ≡ Some t = rw u at e in cc) in
-    subst (λ s. Reached s (c ++ x ∷ [])) to (chunks_done m K c (c ++ x ∷ []) r (ap (λ y. c ++ y ∷ []) last))
+      let last : x ≡ 255 = grind (arith, nat_tests) in
+      let to : give K ≡ t = (let g : Some (give K) ≡ Some t = rw u at e in cc) in
+      subst (λ s. Reached s (c ++ x ∷ [])) to (chunks_done m K c (c ++ x ∷ []) r (ap (λ y. c ++ y ∷ []) last))
   | inr u ↦ let e1 = rw u at e in elim (tested (x / 32 == m)) [
     | inl v ↦
-      let major : x / 32 ≡ m = grind (arith, nat_tests) in
-      let e2 = rw v at e1 in
-      start_chunk_keeps m (x % 32) t K c (c ++ x ∷ []) (information (x % 32) (omega arith)) r e2 (ap (λ y. c ++ y ∷ []) (split_byte x ∙ ap (λ k. initial k (x % 32)) major))
+        let major : x / 32 ≡ m = grind (arith, nat_tests) in
+        let e2 = rw v at e1 in
+        start_chunk_keeps m (x % 32) t K c (c ++ x ∷ []) (information (x % 32) (omega arith)) r e2 (ap (λ y. c ++ y ∷ []) (split_byte x ∙ ap (λ k. initial k (x % 32)) major))
     | inr v ↦ let e2 = rw v at e1 in absurd (cc)
   ]
 ]
@@ -513,9 +516,9 @@ simple_step : (x : ℕ) (t : State) (K : List Frame) (b c : List ℕ) → Within
 simple_step x t K b c w is small e = elim (tested (nat_lt x 32)) [
   | inl u ↦ let e1 = rw u at e in absurd (cc)
   | inr u ↦
-    let least : 32 ≤ x = grind (arith, nat_tests) in
-    let to : give K ≡ t = (let g : Some (give K) ≡ Some t = rw u at e in cc) in
-    subst (λ s. Reached s (c ++ x ∷ [])) to (give_keeps K b (c ++ x ∷ []) (simple_next x) w (least, small) (ap (λ y. y ++ x ∷ []) is ∙ append_assoc b (initial 7 24 ∷ []) (x ∷ [])))
+      let least : 32 ≤ x = grind (arith, nat_tests) in
+      let to : give K ≡ t = (let g : Some (give K) ≡ Some t = rw u at e in cc) in
+      subst (λ s. Reached s (c ++ x ∷ [])) to (give_keeps K b (c ++ x ∷ []) (simple_next x) w (least, small) (ap (λ y. y ++ x ∷ []) is ∙ append_assoc b (initial 7 24 ∷ []) (x ∷ [])))
 ]
 
 -- each step keeps what was read
@@ -556,7 +559,7 @@ step_keeps (simple K) t c x (b, w, is) small e = simple_step x t K b c w is smal
 step_keeps done t c x r small e = absurd (cc)
 
 stepped_on : (x : ℕ) (b : List ℕ) (s t : State) (c : List ℕ) → Reached s c → AreBytes (x ∷ b) → steps s (x ∷ b) ≡ Some t → (o : Option State) → step s x ≡ o →
-  ((u : State) → Reached u (c ++ x ∷ []) → steps u b ≡ Some t → Reached t ((c ++ x ∷ []) ++ b)) → Reached t (c ++ (x ∷ b))
+    ((u : State) → Reached u (c ++ x ∷ []) → steps u b ≡ Some t → Reached t ((c ++ x ∷ []) ++ b)) → Reached t (c ++ (x ∷ b))
 stepped_on x b s t c r are e None f on = let none : None ≡ Some t = sym (ap (option_and_then (λ u. steps u b)) f) ∙ e in absurd (cc)
 stepped_on x b s t c r are e (Some u) f on =
     let next : steps u b ≡ Some t = sym (ap (option_and_then (λ v. steps v b)) f) ∙ e in

@@ -1,2 +1,5 @@
 pub mod Forward
 pub mod Keeping
+pub mod Refusing
+pub mod Shallow
+pub mod Telling

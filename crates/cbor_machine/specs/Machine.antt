@@ -1,21 +1,22 @@
 -- A machine that reads one item byte by byte: a tool of proofs, tied to the written forms by its laws.
-use Rattle.std.specs.Prelude.{◌≡◌, ℕ, zero, suc, ◌+◌, ◌*◌, ◌/◌, ◌%◌, List, [], ◌∷◌, nat_lt, ◌==◌, if◌then◌else◌, Option, Some, None, option_and_then}
+use Rattle.std.specs.Prelude.{◌≡◌, ℕ, zero, suc, ◌+◌, ◌*◌, ◌/◌, ◌%◌, List, [], ◌∷◌, length, Bool, nat_lt, nat_le, ◌==◌, ◌&&◌, if◌then◌else◌, Option, Some, None, option_and_then}
+use Rattle.cbor_data.specs.Faults.{FaultKind, reserved_info, bad_indefinite, bad_break, bad_chunk, bad_simple}
 
 -- what the awaited item is in the innermost open container
 pub data Frame : Type 0 where
   rest : ℕ → Frame
   until : Frame
-  until_key : Frame       -- a key of an indefinite map, which a break may end
-  until_value : Frame     -- a value of an indefinite map
+  until_key : Frame  -- a key of an indefinite map, which a break may end
+  until_value : Frame  -- a value of an indefinite map
 
 pub data State : Type 0 where
-  item : List Frame → State                     -- an item's initial byte is awaited
-  argument : ℕ → ℕ → ℕ → List Frame → State     -- the major type, how many bytes come after the next one, the argument so far
-  body : ℕ → List Frame → State                 -- so many bytes of a string come after the next one
-  chunk : ℕ → List Frame → State                -- a chunk of this major type is awaited, or the break
+  item : List Frame → State  -- an item's initial byte is awaited
+  argument : ℕ → ℕ → ℕ → List Frame → State  -- the major type, how many bytes come after the next one, the argument so far
+  body : ℕ → List Frame → State  -- so many bytes of a string come after the next one
+  chunk : ℕ → List Frame → State  -- a chunk of this major type is awaited, or the break
   chunk_argument : ℕ → ℕ → ℕ → List Frame → State
   chunk_body : ℕ → ℕ → List Frame → State
-  simple : List Frame → State                   -- the byte after f8
+  simple : List Frame → State  -- the byte after f8
   done : State
 
 -- the item is whole
@@ -57,7 +58,7 @@ after (suc (suc (suc (suc (suc (suc (suc m))))))) n K = give K
 
 pub data Info : Type 0 where
   given : ℕ → Info
-  more : ℕ → Info          -- one byte and so many
+  more : ℕ → Info  -- one byte and so many
   indefinite : Info
   reserved : Info
 
@@ -123,3 +124,22 @@ steps s (b ∷ bs) = option_and_then (λ t. steps t bs) (step s b)
 abbrev pub IsLive : Option State → Type 0
 IsLive None = ⊥
 IsLive (Some s) = Unit {0}
+
+-- the kind of fault where the machine refuses a byte
+abbrev pub refused_kind : State → ℕ → FaultKind
+refused_kind (item K) b = if b % 32 == 31 then (if b / 32 == 7 then bad_break else bad_indefinite) else reserved_info
+refused_kind (chunk m K) b = if b / 32 == m then (if b % 32 == 31 then bad_chunk else reserved_info) else bad_chunk
+refused_kind _ b = bad_simple
+
+-- the initial byte of an array, a map or a tag
+abbrev pub opens_container : ℕ → Bool
+opens_container b = nat_lt 3 (b / 32) && nat_lt (b / 32) 7
+
+-- a step that opens no container inside `depth` open ones
+abbrev pub step_in : ℕ → State → ℕ → Option State
+step_in depth (item K) b = if opens_container b && nat_le depth (length K) then None else step (item K) b
+step_in depth s b = step s b
+
+abbrev pub steps_in : ℕ → State → List ℕ → Option State
+steps_in depth s [] = Some s
+steps_in depth s (b ∷ bs) = option_and_then (λ t. steps_in depth t bs) (step_in depth s b)

@@ -1,2 +1,33 @@
-//! A machine that reads one item of CBOR byte by byte, for proofs alone: the laws that tie it to the written forms.
+//! A machine that reads one item of CBOR byte by byte, for contracts and proofs: what it says of bytes is what the
+//! written forms say (RFC 8949 section 3). The functions here do nothing: their contracts are the laws.
 #![tactic(auto)]
+
+ghost use Rattle.std.specs.Prelude.{◌≡◌, ◌≢◌, ℕ, ◌+◌, ◌<◌, List, [], ◌∷◌, ◌++◌, length, Some, None};
+ghost use Rattle.cbor_data.specs.Value.{AreBytes};
+ghost use Rattle.cbor_data.specs.Forms.{IsWellFormed, Begins, IsUnfinished};
+ghost use Rattle.cbor_data.specs.Faults.{Bounds, BeginsWithin, IsKindOf};
+ghost use Rattle.cbor_machine.specs.Machine.{State, item, done, step, steps, steps_in, refused_kind};
+
+/// The machine is done exactly behind a well-formed item.
+pub fn done_is_whole()
+    ensures sound { (b : List ℕ) → AreBytes b → steps (item []) b ≡ Some done → IsWellFormed b }
+    ensures complete { (b : List ℕ) → IsWellFormed b → steps (item []) b ≡ Some done }
+{}
+
+/// Where it goes on some well-formed item begins so, and where it does not none does.
+pub fn live_begins()
+    ensures live { (b : List ℕ) (s : State) → AreBytes b → steps (item []) b ≡ Some s → Begins b }
+    ensures refused { (b : List ℕ) → steps (item []) b ≡ None → Begins b → ⊥ }
+{}
+
+/// The same for the machine that opens no container inside `depth` open ones, and items that are no deeper.
+pub fn live_begins_within()
+    ensures live { (depth : ℕ) (b : List ℕ) (s : State) → AreBytes b → steps_in depth (item []) b ≡ Some s → BeginsWithin depth b }
+    ensures refused { (depth : ℕ) (b : List ℕ) → steps_in depth (item []) b ≡ None → BeginsWithin depth b → ⊥ }
+{}
+
+/// A byte that the machine refuses is wrong in just the way that it says.
+pub fn refused_is_of_its_kind()
+    ensures { (b : List ℕ) (s : State) (x : ℕ) → AreBytes b → steps (item []) b ≡ Some s → s ≢ done → x < 256 →
+        step s x ≡ None → IsKindOf b x (refused_kind s x) }
+{}
