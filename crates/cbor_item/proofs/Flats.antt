@@ -1,21 +1,22 @@
--- A loop that pushes an image of each byte in turn.
-use Rattle.std.proofs.Common.{◌≡◌, ℕ, ◌+◌, ◌<◌, ◌≤◌, List, [], ◌∷◌, ◌++◌, length, get_or, drop, sym, ap, ◌∙◌, append_assoc, append-nil, cond, Result, Ok, Err}
-use Rattle.std.proofs.lemmas.List.{drop_more, drop_all}
-use Rattle.std.specs.Prelude.{flat_map, OnOk, is_ok, if◌then◌else◌}
+-- A loop that pushes the image of one front after the other.
+use Rattle.std.proofs.Common.{◌≡◌, ℕ, ◌+◌, ◌/◌, ◌%◌, List, [], ◌∷◌, ◌++◌, take, drop, refl, sym, ap, ◌∙◌, append_assoc}
+use Rattle.std.proofs.Math.Seq.{take-add}
+use Rattle.std.specs.Prelude.{slice_index}
+use Rattle.hex.specs.Hex.{encode_with, encode_lower, lower_digits}
 
--- what stands before is joined with the image of the next byte, and then of the rest
-pub flat_map-drop : (f : ℕ → List ℕ) (before xs : List ℕ) (i : ℕ) → i < length xs →
-    (before ++ f (get_or xs i 0)) ++ flat_map f (drop (i + 1) xs) ≡ before ++ flat_map f (drop i xs)
-flat_map-drop f before xs i h =
-    append_assoc before (f (get_or xs i 0)) (flat_map f (drop (i + 1) xs)) ∙ sym (ap (λ ys. before ++ flat_map f ys) (drop_more xs i 0 h))
+-- an image of lists that goes part by part
+pub pushed_more : (image : List ℕ → List ℕ) → ((xs ys : List ℕ) → image (xs ++ ys) ≡ image xs ++ image ys) →
+    (bs before : List ℕ) {mid new : List ℕ} (at n : ℕ) → mid ≡ before ++ image (take at bs) →
+    new ≡ mid ++ image (take n (drop at bs)) → new ≡ before ++ image (take (at + n) bs)
+pushed_more image splits bs before at n e f =
+    f ∙ ap (λ m. m ++ image (take n (drop at bs))) e ∙ append_assoc before (image (take at bs)) (image (take n (drop at bs)))
+    ∙ ap (λ r. before ++ r) (sym (splits (take at bs) (take n (drop at bs)))) ∙ ap (λ r. before ++ image r) (sym (take-add at n bs))
 
--- nothing is left
-pub flat_map-all : (f : ℕ → List ℕ) (before xs : List ℕ) (i : ℕ) → length xs ≤ i → before ≡ before ++ flat_map f (drop i xs)
-flat_map-all f before xs i h = sym (ap (λ ys. before ++ flat_map f ys) (drop_all i xs h) ∙ append-nil before)
+pub encode_lower-nil : encode_lower [] ≡ []
+unfolding encode_with
+encode_lower-nil = refl
 
--- the last quote
-pub quoted : {E : Type 0} (r : Result (Unit {0}) E) (old middle : List ℕ) {before new : List ℕ} → before ≡ (old ++ 34 ∷ []) ++ middle →
-    new ≡ (if is_ok r then before ++ 34 ∷ [] else before) → OnOk r (new ≡ old ++ (34 ∷ (middle ++ 34 ∷ [])))
-quoted (Ok u) old middle {before = before} {new = new} e n =
-    n ∙ ap (λ b. b ++ 34 ∷ []) e ∙ append_assoc (old ++ 34 ∷ []) middle (34 ∷ []) ∙ append_assoc old (34 ∷ []) (middle ++ 34 ∷ [])
-quoted (Err x) old middle e n = tt
+pub encode_lower-append : (xs ys : List ℕ) → encode_lower (xs ++ ys) ≡ encode_lower xs ++ encode_lower ys
+unfolding encode_with
+encode_lower-append [] ys = refl
+encode_lower-append (x ∷ xs) ys = ap (λ r. slice_index lower_digits (x / 16) ∷ (slice_index lower_digits (x % 16) ∷ r)) (encode_lower-append xs ys)

@@ -1,8 +1,7 @@
 -- What the types of an item's parts say of it.
-use Rattle.std.proofs.Common.{◌≡◌, ℕ, zero, suc, ◌+◌, ◌<◌, ◌≤◌, ◌^◌, Vec, String, Global, List, [], ◌∷◌, ◌++◌, length, get_or, nat_lt, Bool, true, false, ◌⊎◌, inl, inr, refl, arith, length-append, string_bytes}
+use Rattle.std.proofs.Common.{◌≡◌, ℕ, suc, ◌<◌, ◌≤◌, ◌^◌, Vec, String, Global, List, [], ◌∷◌, ◌++◌, length, get_or, nat_lt, Bool, true, false, ◌⊎◌, inl, inr, refl, arith, length-append, string_bytes}
 use Rattle.std.specs.String.{string_vec}
-use Rattle.std.proofs.lemmas.Str.{IsUtf8-string_bytes}
-use Rattle.cbor_data.specs.Preferred.{initial, shortest_head, preferred}
+use Rattle.cbor_data.specs.Preferred.{shortest_head, preferred}
 use Rattle.cbor_data.specs.Value.{AreBytes, IsInRange}
 use Rattle.cbor_data.specs.Sound.{IsSound}
 use Rattle.cbor_data.proofs.PreferredSpells.{spells_preferred}

@@ -1,5 +1,5 @@
 -- Why an item is not sound.
-use Rattle.std.specs.Prelude.{ℕ, ◌<◌, ◌≤◌}
+use Rattle.std.specs.Prelude.{◌<◌, ◌≤◌}
 use Rattle.cbor_data.specs.Value.{Value, AreBitsFitting, AreSimplesAssignable, depth_of}
 use Rattle.cbor_data.specs.Validity.{IsFirstRepeatedKey}
 use Rattle.cbor_data.specs.Sound.{HasShortSpelling}

@@ -41,6 +41,13 @@ impl<D> Counted<D> {
     {
         self.failures
     }
+
+    fn note_failure(&mut self)
+        ensures device { device_of self.new ≡ device_of self.old }
+        ensures failures { failures_of self.new ≡ one_more (failures_of self.old) }
+    {
+        self.failures = self.failures.saturating_add(1);
+    }
 }
 
 impl<D: Read> Counted<D> {
@@ -52,7 +59,7 @@ impl<D: Read> Counted<D> {
     {
         let answer = self.device.read(buf);
         if answer.is_err() {
-            self.failures = self.failures.saturating_add(1);
+            self.note_failure();
         }
         answer
     }
@@ -67,7 +74,7 @@ impl<D: Write> Counted<D> {
     {
         let answer = self.device.write(piece);
         if has_failed(&answer, piece) {
-            self.failures = self.failures.saturating_add(1);
+            self.note_failure();
         }
         answer
     }

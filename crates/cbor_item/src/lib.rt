@@ -6,6 +6,8 @@ mod head;
 mod item;
 mod notation;
 mod sound;
+#[cfg(test)]
+mod tests;
 mod write;
 
 pub use crate::counted::Counted;

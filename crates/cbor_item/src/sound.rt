@@ -10,6 +10,7 @@ ghost use Rattle.cbor_item.specs.View.{view};
 use crate::item::Item;
 use std::alloc::Global;
 use std::marker::Model;
+use thiserror::Error;
 
 /// An item that is sound: at most 256 containers deep, with no simple value 24 to 31, float bits that fit their width, a
 /// spelling shorter than 2^64 bytes, and no map with two equal keys. Contracts see it as its value.
@@ -19,20 +20,26 @@ pub struct Sound {
 }
 
 /// Why an item is not sound: the first of these, in this order, that holds of it.
-#[derive(Clone, Copy, Debug, PartialEq, Eq)]
+#[derive(Clone, Copy, Debug, PartialEq, Eq, Error)]
 pub enum Unsound {
     /// It has more than 256 containers round or at some place.
+    #[error("more than 256 containers deep")]
     TooDeep,
     /// A simple value in it is one of 24 to 31, which RFC 8949 section 3.3 reserves.
+    #[error("a reserved simple value")]
     BadSimple,
     /// A float in it has bits that its width does not have.
+    #[error("a float's bits do not fit its width")]
     BadBits,
     /// None of its spellings is shorter than 2^64 bytes.
+    #[error("no spelling shorter than 2^64 bytes")]
     TooBig,
     /// A map in it has two equal keys. The place is the least one of a key that equals an earlier key of its map: places
     /// number an item and all below it in preorder, a key before its value, from 0.
+    #[error("a repeated key at place {0}")]
     Duplicate(usize),
     /// There was no memory for the test. It says nothing of the item.
+    #[error("out of memory")]
     Memory,
 }
 
@@ -76,7 +83,8 @@ impl Sound {
         ensures same { view result ≡ self }
         ensures sound { IsSound self }
     {
-        self.item
+        let Sound { item } = self;
+        item
     }
 }
 

@@ -10,9 +10,11 @@ use crate::head::Head;
 use crate::item::Item;
 use crate::sound::Sound;
 use std::io::Write;
+use thiserror::Error;
 
 /// The device failed while bytes were written to it: a write answered an error, or took 0 bytes.
-#[derive(Clone, Copy, Debug, PartialEq, Eq)]
+#[derive(Clone, Copy, Debug, PartialEq, Eq, Error)]
+#[error("the device failed after {written} bytes")]
 pub struct WriteFault {
     /// How many of the call's bytes went out. They are the first ones.
     pub written: u128,

@@ -1,17 +1,20 @@
-use Rattle.std.proofs.Common.{◌≡◌, ◌+◌, ◌++◌, ◌<◌, ◌≤◌, ◌∷◌, [], length, get_or, drop, arith, rules, sym, ap, ◌∙◌, append_assoc}
-use Rattle.std.specs.Prelude.{flat_map, OnOk}
-use Rattle.cbor_data.specs.Notation.{shown_byte, text_notation}
-use Rattle.cbor_item.proofs.Flats.{flat_map-drop, flat_map-all, quoted}
+use Rattle.std.proofs.Common.{◌≡◌, ◌≤◌, ◌++◌, [], ◌∷◌, take, drop, length, arith, subst, length-drop}
+use Rattle.std.specs.Prelude.{flat_map}
+use Rattle.std.proofs.lemmas.Grind.{flat_map-append}
+use Rattle.std.proofs.lemmas.List.{take_rest}
+use Rattle.cbor_data.specs.Notation.{shown_byte}
+use Rattle.cbor_item.proofs.Flats.{pushed_more}
 use Rattle.cbor_item.proofs.notation.push_text.Goals as goal
 
-pub loop-byte-preserved : goal.loop-byte-preserved
-loop-byte-preserved c =
-    let here : c.loop-byte.byte-index < length c.args.bytes.now = omega arith in
-    ap (λ o. o ++ flat_map shown_byte (drop (c.loop-byte.byte-index + 1) c.args.bytes.now)) c.in_ok-push_shown.ensures
-    ∙ flat_map-drop shown_byte c.loop-byte.out.items c.args.bytes.now c.loop-byte.byte-index here ∙ c.loop-byte.invariant
-
-pub returns : goal.returns
-returns c =
-    let done : length c.args.bytes.now ≤ c.loop-byte.byte-index = c.loop-byte-test.false in
-    let said = flat_map-all shown_byte c.loop-byte.out.items c.args.bytes.now c.loop-byte.byte-index done ∙ c.loop-byte.invariant in
-    quoted c.extend_from_slice.result c.args.out.now.items (flat_map shown_byte c.args.bytes.now) said c.extend_from_slice.ensures.items
+pub loop-at-preserved : goal.loop-at-preserved
+loop-at-preserved c =
+    let bytes = c.args.bytes.now in
+    let at = c.loop-at.at in
+    let n = c.in_ok-at.field-0 in
+    let within : n ≤ length (drop at bytes) = subst (λ r. n ≤ length r) (take_rest bytes at) c.in_ok-at.ensures.within in
+    record {
+      within = omega (arith, length-drop at bytes);
+      pushed =
+          pushed_more (flat_map shown_byte) (flat_map-append shown_byte) bytes (c.args.out.now.items ++ 34 ∷ []) at n c.loop-at.invariant.pushed
+          (subst (λ r. c.push_run.new.out.items ≡ c.loop-at.out.items ++ flat_map shown_byte (take n r)) (take_rest bytes at) c.in_ok-at.ensures.pushed);
+    }

@@ -1,4 +1,4 @@
-use Rattle.std.proofs.Common.{◌≡◌, ◌+◌, ◌-◌, ◌≤◌, ◌++◌, take, drop, length, arith, sym, ◌∙◌, ap, rules, subst, length-drop}
+use Rattle.std.proofs.Common.{◌-◌, ◌≤◌, take, drop, length, arith, sym, ◌∙◌, subst, length-drop}
 use Rattle.std.proofs.lemmas.List.{take_rest}
 use Rattle.std.proofs.Math.Seq.{take-add}
 use Rattle.std.proofs.KnownBytes.{Appends-trans}
