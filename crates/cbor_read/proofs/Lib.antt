@@ -1,2 +1,5 @@
 mod Heads
 mod Leads
+mod Grows
+mod Verdicts
+mod Settled

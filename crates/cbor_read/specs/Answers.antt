@@ -50,11 +50,15 @@ IsFed old piece (Ok (Item used x)) new = IsTaken old piece used x new
 IsFed old piece (Ok (Fault used fault)) new = IsRefused old piece used fault new
 IsFed old piece (Err e) new = new ≡ record old { stopped = Some stop.Memory }
 
+-- what `feed` answers of a reader that has stopped
+abbrev pub IsAgain : Stop → Result Fed AllocError → Type 0
+IsAgain (stop.Fault fault) result = result ≡ Ok (Fault 0 fault)
+IsAgain stop.Memory result = result ≡ Err alloc_error
+
 -- what `feed` answers
 abbrev pub IsAnswer : Option Stop → Reading → List ℕ → Result Fed AllocError → Reading → Type 0
 IsAnswer None old piece result new = IsFed old piece result new
-IsAnswer (Some (stop.Fault fault)) old piece result new = (result ≡ Ok (Fault 0 fault)) × (new ≡ old)
-IsAnswer (Some stop.Memory) old piece result new = (result ≡ Err alloc_error) × (new ≡ old)
+IsAnswer (Some s) old piece result new = IsAgain s result × (new ≡ old)
 
 -- what is said of a reader where the stream ends
 abbrev pub IsEnd : Option Stop → Reading → Result (Unit {0}) Stop → Type 0

@@ -4,7 +4,8 @@ use Rattle.cbor_data.specs.Value.{AreBytes}
 use Rattle.cbor_data.specs.Preferred.{initial}
 use Rattle.cbor_data.specs.Forms.{Place, inside, one, two, four, eight, head_in, FitsPlace}
 use Rattle.cbor_data.specs.Faults.{Bounds}
-use Rattle.cbor_read.specs.Initial.{IsInitial}
+use Rattle.cbor_read.specs.Initial.{IsInitial, IsFirstKind}
+use Rattle.cbor_read.specs.declared.fault.FaultKind.{FaultKind}
 use Rattle.cbor_read.specs.declared.fault.Stop.{Stop}
 use Rattle.cbor_read.specs.declared.stage.Major.{Major}
 use Rattle.cbor_read.specs.declared.stage.Major.TheVariants as major
@@ -98,6 +99,11 @@ IsFirst (byte ∷ rest) = IsInitial byte
 abbrev pub IsStartingWith : Stage → List ℕ → Type 0
 IsStartingWith Start piece = IsFirst piece
 IsStartingWith _ piece = Unit {0}
+
+-- at the start the piece begins as no item may, and this is told of its first byte
+abbrev pub IsBadStart : Stage → List ℕ → FaultKind → Type 0
+IsBadStart Start (byte ∷ rest) kind = IsFirstKind byte kind
+IsBadStart _ _ kind = ⊥
 
 abbrev pub stop_of : Stage → Option Stop
 stop_of (Stopped s) = Some s

@@ -3,7 +3,7 @@ use Rattle.std.specs.Prelude.{◌≡◌, ℕ, ◌+◌, ◌<◌, ◌≤◌, List,
 use Rattle.cbor_data.specs.Forms.{Place, Form, text_form, flat, IsOk, HasText, meaning}
 use Rattle.cbor_item.specs.View.{view}
 use Rattle.cbor_read.specs.Initial.{IsNotYet}
-use Rattle.cbor_read.specs.Stages.{IsAt}
+use Rattle.cbor_read.specs.Stages.{IsAt, IsInRange}
 use Rattle.cbor_read.specs.declared.stage.Step.{Step}
 use Rattle.cbor_read.specs.declared.stage.Step.TheVariants.{Open, Whole, BadText}
 
@@ -22,14 +22,14 @@ LeadsTo seen piece (Open stage) = IsAt (seen ++ piece) stage
 LeadsTo seen piece (Whole left item) = (f : Form) × IsEnding seen piece left f × HasText f × (view item ≡ meaning f)
 LeadsTo seen piece (BadText left) = (p : Place) × (s : List ℕ) × IsEnding seen piece left (text_form p s) × (IsUtf8 s → ⊥)
 
--- no more bytes are left than there are
+-- the stage's numbers have room, and no more bytes are left than there are
 abbrev pub IsWithin : Step → ℕ → Type 0
-IsWithin (Open stage) n = Unit {0}
+IsWithin (Open stage) n = IsInRange stage
 IsWithin (Whole left item) n = left ≤ n
 IsWithin (BadText left) n = left ≤ n
 
--- fewer bytes are left than there are
+-- the stage's numbers have room, and fewer bytes are left than there are
 abbrev pub IsShorter : Step → ℕ → Type 0
-IsShorter (Open stage) n = Unit {0}
+IsShorter (Open stage) n = IsInRange stage
 IsShorter (Whole left item) n = left < n
 IsShorter (BadText left) n = left < n

@@ -1,14 +1,14 @@
 // Reads items from pieces.
-ghost use Rattle.std.specs.Prelude.{◌≡◌, ℕ, ◌+◌, ◌-◌, ◌^◌, ◌<◌, ◌≤◌, [], List, min, IfOk, None};
-ghost use Rattle.cbor_read.specs.Reading.{Reading};
-ghost use Rattle.cbor_read.specs.Answers.{IsAnswer, IsEnd};
-ghost use Rattle.cbor_read.specs.Stages.{IsAt, IsInRange, IsReached};
+ghost use Rattle.std.specs.Prelude.{◌≡◌, ℕ, ◌+◌, ◌-◌, ◌^◌, ◌<◌, ◌≤◌, [], List, min, take, IfOk, IfSome, IfNone, None};
+ghost use Rattle.cbor_item.specs.View.{view};
+ghost use Rattle.cbor_read.specs.Answers.{IsAgain, IsAnswer, IsEnd};
+ghost use Rattle.cbor_read.specs.Stages.{IsAt, IsInRange, IsReached, IsStartingWith, IsBadStart};
 ghost use Rattle.cbor_read.specs.Outcomes.{IsOutcome};
 
 use crate::fault::{Fault, FaultKind, Stop};
 use crate::limits::Limits;
 use crate::stage::{Stage, Step, first_fault, read_on};
-use cbor_item::Sound;
+use cbor_item::{Item, Sound};
 use history::History;
 use std::alloc::{AllocError, Global};
 use std::marker::Model;
@@ -84,39 +84,29 @@ impl ItemReader {
     pub fn feed(&mut self, piece: &[u8]) -> Result<Fed, AllocError>
         ensures { IsAnswer self.old.stopped self.old piece.now result self.new }
     {
-        match mem::replace(&mut self.stage, Stage::Stopped(Stop::Memory)) {
-            Stage::Stopped(Stop::Memory) => Err(AllocError),
-            Stage::Stopped(Stop::Fault(fault)) => {
-                self.stage = Stage::Stopped(Stop::Fault(fault));
-                Ok(Fed::Fault { used: 0, fault })
+        if let Stage::Stopped(stop) = &self.stage {
+            return again(*stop);
+        }
+        let stage = mem::replace(&mut self.stage, Stage::Stopped(Stop::Memory));
+        match read(self.alloc, self.limits, self.offset, self.count, stage, piece)? {
+            Outcome::Open(stage) => {
+                self.stage = stage;
+                self.count += piece.len() as u64;
+                self.fed.extend(piece);
+                Ok(Fed::More)
             }
-            stage => match read(
-                self.alloc,
-                self.limits,
-                self.offset,
-                self.count,
-                stage,
-                piece,
-            )? {
-                Outcome::Open(stage) => {
-                    self.stage = stage;
-                    self.count += piece.len() as u64;
-                    self.fed.extend(piece);
-                    Ok(Fed::More)
-                }
-                Outcome::Item { used, item } => {
-                    self.stage = Stage::Start;
-                    self.offset += self.count + used as u64;
-                    self.count = 0;
-                    self.fed.clear();
-                    Ok(Fed::Item { used, item })
-                }
-                Outcome::Fault { used, fault } => {
-                    self.stage = Stage::Stopped(Stop::Fault(fault));
-                    self.fed.extend(&piece[..used]);
-                    Ok(Fed::Fault { used, fault })
-                }
-            },
+            Outcome::Item { used, item } => {
+                self.stage = Stage::Start;
+                self.offset += self.count + used as u64;
+                self.count = 0;
+                self.fed.clear();
+                Ok(Fed::Item { used, item })
+            }
+            Outcome::Fault { used, fault } => {
+                self.stage = Stage::Stopped(Stop::Fault(fault));
+                self.fed.extend(&piece[..used]);
+                Ok(Fed::Fault { used, fault })
+            }
         }
     }
 
@@ -147,6 +137,16 @@ impl ItemReader {
     }
 }
 
+// The answer of a reader that has stopped.
+fn again(stop: Stop) -> Result<Fed, AllocError>
+    ensures { IsAgain stop result }
+{
+    match stop {
+        Stop::Fault(fault) => Ok(Fed::Fault { used: 0, fault }),
+        Stop::Memory => Err(AllocError),
+    }
+}
+
 // How many bytes may follow at once: as many as the item may still have, and none at the last offset.
 fn room_of(limits: Limits, offset: u64, count: u64) -> usize
     requires short { count ≤ limits.item_bytes }
@@ -157,35 +157,60 @@ fn room_of(limits: Limits, offset: u64, count: u64) -> usize
     item.min(u64::MAX - (offset + count)) as usize
 }
 
-fn read(
-    alloc: Global,
-    limits: Limits,
-    offset: u64,
-    count: u64,
-    stage: Stage,
-    piece: &[u8],
-) -> Result<Outcome, AllocError>
+// The bytes of the piece that have room.
+fn front_of(piece: &[u8], room: usize) -> &[u8]
+    ensures { result.now ≡ take room piece.now }
+{
+    &piece[..room.min(piece.len())]
+}
+
+// What is wrong with the first byte of the piece, where an item is awaited.
+fn fault_at_start(stage: &Stage, piece: &[u8]) -> Option<FaultKind>
+    ensures none { IfNone result (IsStartingWith stage.now piece.now) }
+    ensures some { IfSome result (IsBadStart stage.now piece.now) }
+{
+    match stage {
+        Stage::Start => first_fault(*piece.first()?),
+        _ => None,
+    }
+}
+
+fn read(alloc: Global, limits: Limits, offset: u64, count: u64, stage: Stage, piece: &[u8]) -> Result<Outcome, AllocError>
     requires range { IsInRange stage }
     requires short { count ≤ limits.item_bytes }
     requires placed { offset + count < 2 ^ 64 }
     ensures { IfOk result (λ outcome. (fed : List ℕ) → IsReached limits offset count fed stage → IsOutcome limits offset count fed piece.now outcome) }
 {
-    if let Stage::Start = &stage
-        && let Some(first) = piece.first()
-        && let Some(kind) = first_fault(*first)
-    {
+    if let Some(kind) = fault_at_start(&stage, piece) {
         let fault = Fault { at: offset, kind };
         return Ok(Outcome::Fault { used: 0, fault });
     }
+    read_within(alloc, limits, offset, count, stage, piece)
+}
+
+// The item as a sound one: a form without containers is.
+fn sound_of(alloc: Global, item: Item) -> Result<Sound, AllocError>
+    ensures { IfOk result (λ sound. sound ≡ view item) }
+{
+    match Sound::try_new(alloc, item) {
+        Ok(sound) => Ok(sound),
+        Err(_) => Err(AllocError),
+    }
+}
+
+// Reads on where nothing is wrong with the first byte.
+fn read_within(alloc: Global, limits: Limits, offset: u64, count: u64, stage: Stage, piece: &[u8]) -> Result<Outcome, AllocError>
+    requires range { IsInRange stage }
+    requires first { IsStartingWith stage piece.now }
+    requires short { count ≤ limits.item_bytes }
+    requires placed { offset + count < 2 ^ 64 }
+    ensures { IfOk result (λ outcome. (fed : List ℕ) → IsReached limits offset count fed stage → IsOutcome limits offset count fed piece.now outcome) }
+{
     let room = room_of(limits, offset, count);
-    let inside = if piece.len() > room {
-        &piece[..room]
-    } else {
-        piece
-    };
+    let inside = front_of(piece, room);
     match read_on(alloc, stage, inside)? {
         Step::Open(stage) => {
-            if inside.len() == piece.len() {
+            if piece.len() <= room {
                 return Ok(Outcome::Open(stage));
             }
             let fault = Fault {
@@ -195,10 +220,10 @@ fn read(
             Ok(Outcome::Fault { used: room, fault })
         }
         Step::Whole { left, item } => {
-            let item = Sound::try_new(alloc, item).map_err(|_| AllocError)?;
+            let sound = sound_of(alloc, item)?;
             Ok(Outcome::Item {
                 used: inside.len() - left,
-                item,
+                item: sound,
             })
         }
         Step::BadText { left } => {
