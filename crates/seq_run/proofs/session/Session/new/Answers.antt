@@ -1,0 +1,8 @@
+use Rattle.std.proofs.Common.{refl, inl, arith}
+use Rattle.cbor_data.specs.Sequence.{none}
+use Rattle.seq_run.proofs.Transitions.{started}
+use Rattle.seq_run.proofs.Steps.{more_step}
+use Rattle.seq_run.proofs.session.Session.new.Goals as goal
+
+pub invariant_of-result : goal.invariant_of-result
+invariant_of-result c = started c.args.table.now c.new.result c.new-2.result c.new-3.result c.args.limits c.new.ensures c.new-2.ensures c.new-3.ensures

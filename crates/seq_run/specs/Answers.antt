@@ -1,0 +1,105 @@
+-- What the answers of a session's calls say.
+use Rattle.std.specs.Prelude.{◌≡◌, ◌≢◌, ℕ, ◌+◌, ◌<◌, ◌≤◌, List, [], ◌∷◌, ◌++◌, length, take, map, Option, Some, None, Result, Ok, Err, alloc_error}
+use Rattle.std.specs.declared.alloc.AllocError.{AllocError}
+use Rattle.cbor_data.specs.Value.{Value}
+use Rattle.cbor_data.specs.Faults.{Bounds, last_offset}
+use Rattle.cbor_data.specs.Sequence.{Found}
+use Rattle.cbor_read.specs.declared.fault.FaultKind.{FaultKind}
+use Rattle.cbor_read.specs.declared.fault.FaultKind.TheVariants as kind
+use Rattle.seq_run.specs.declared.end.Cause.TheVariants.{Fault, Mismatch}
+use Rattle.seq_run.specs.declared.end.End.{End}
+use Rattle.seq_run.specs.declared.end.End.TheVariants.{Clean, Failed}
+use Rattle.seq_run.specs.declared.end.State.{State}
+use Rattle.seq_run.specs.declared.end.State.TheVariants as state
+use Rattle.seq_run.specs.declared.end.Stopped.{Stopped}
+use Rattle.seq_run.specs.declared.end.Stopped.TheVariants.{Ended, Memory}
+use Rattle.seq_run.specs.declared.session.Step.{Step}
+use Rattle.seq_run.specs.declared.session.Step.TheVariants as step
+use Rattle.seq_run.specs.Ends.{BeginsWith, IsRun, Ends}
+use Rattle.seq_run.specs.Standing.{IsRejected}
+use Rattle.seq_run.specs.Progress.{Progress}
+
+abbrev pub items_of : List Found → List Value
+items_of found = map (λ f. f.item) found
+
+-- a fault that stands behind the last byte of a stream, for want of more
+abbrev pub IsAtEndKind : FaultKind → Type 0
+IsAtEndKind kind.Truncated = Unit {0}
+IsAtEndKind kind.TooLong = Unit {0}
+IsAtEndKind _ = ⊥
+
+-- More bytes may change this end of a stream of that length: it is clean, or the stream ends inside an item, or the item
+-- has all the bytes that it may have and no byte follows.
+abbrev pub IsUndecided : ℕ → End → Type 0
+IsUndecided n (Clean items bytes) = Unit {0}
+IsUndecided n (Failed items offset (Fault f)) = (f.at ≡ n) × IsAtEndKind f.kind
+IsUndecided n (Failed items offset (Mismatch place)) = ⊥
+
+-- The bytes fed have this end, and more bytes may change it.
+pub record IsOpen (p : Progress) : Type 0 where
+  pub end : End
+  pub ends : Ends p.table p.limits p.fed p.taken end
+  pub undecided : IsUndecided (length p.fed) end
+  pub short : length p.fed ≤ last_offset
+  pub going : p.stopped ≡ None
+
+-- Each stream that begins with the bytes fed has this end.
+pub record IsEnded (p : Progress) (end : End) : Type 0 where
+  pub ends : (more : List ℕ) → Ends p.table p.limits (p.fed ++ more) p.taken end
+  pub stopped : p.stopped ≡ Some (Ended end)
+
+-- The bytes fed begin with the items taken; the run of these bytes may have more.
+pub record IsCutShort (p : Progress) : Type 0 where
+  pub rest : List ℕ
+  pub begins : BeginsWith p.table p.limits p.fed p.taken rest
+  pub stopped : p.stopped ≡ Some Memory
+
+-- what `feed` answers of a session that has not stopped
+abbrev pub IsFed : Result State AllocError → Progress → Type 0
+IsFed (Ok state.Open) new = IsOpen new
+IsFed (Ok (state.Ended end)) new = IsEnded new end
+IsFed (Err e) new = IsCutShort new
+
+-- what `feed` answers
+abbrev pub IsAnswer : Option Stopped → Progress → List ℕ → Result State AllocError → Progress → Type 0
+IsAnswer None old piece result new = (new.fed ≡ old.fed ++ piece) × IsFed result new
+IsAnswer (Some (Ended end)) old piece result new = (result ≡ Ok (state.Ended end)) × (new ≡ old)
+IsAnswer (Some Memory) old piece result new = (result ≡ Err alloc_error) × (new ≡ old)
+
+-- The items that came to the session's are those that came to the list, and the specification and the limits stay.
+pub record Appends (old new : Progress) (out_old out_new : List Value) : Type 0 where
+  pub added : List Found
+  pub taken : new.taken ≡ old.taken ++ added
+  pub out : out_new ≡ out_old ++ items_of added
+  pub table : new.table ≡ old.table
+  pub limits : new.limits ≡ old.limits
+
+-- what `finish` answers
+abbrev pub IsFinish : Option Stopped → Progress → Result End AllocError → Progress → Type 0
+IsFinish None old (Ok end) new = Ends old.table old.limits old.fed old.taken end × (new ≡ record old { stopped = Some (Ended end) })
+IsFinish None old (Err e) new = ⊥
+IsFinish (Some (Ended end)) old result new = (result ≡ Ok end) × (new ≡ old)
+IsFinish (Some Memory) old result new = (result ≡ Err alloc_error) × (new ≡ old)
+
+-- the item that failed, exactly where the session has ended by a mismatch
+abbrev pub IsLent : Option Stopped → Progress → Option Value → Type 0
+IsLent (Some (Ended end)) p rejected = IsRejected p.table p.limits p.fed p.taken end rejected
+IsLent _ p rejected = rejected ≡ None
+
+-- one step of a session that has not stopped
+abbrev pub IsStep : Progress → List ℕ → List Value → Result Step AllocError → Progress → List Value → Type 0
+IsStep old piece out (Ok step.More) new out_new =
+    (new ≡ record old { fed = old.fed ++ piece }) × (out_new ≡ out) × IsOpen new
+IsStep old piece out (Ok (step.Item used number offset)) new out_new =
+    (0 < used) × (used ≤ length piece) × (number ≡ length new.taken) × ((x : Value)
+    × (new ≡ record old { fed = old.fed ++ take used piece; taken = old.taken ++ record { offset = offset; item = x } ∷ [] })
+    × (out_new ≡ out ++ x ∷ []))
+IsStep old piece out (Ok (step.Ended end)) new out_new =
+    (new ≡ record old { fed = old.fed ++ piece; stopped = Some (Ended end) }) × (out_new ≡ out) × IsEnded new end
+IsStep old piece out (Err e) new out_new =
+    (new ≡ record old { fed = old.fed ++ piece; stopped = Some Memory }) × (out_new ≡ out) × IsCutShort new
+
+abbrev pub IsStepAnswer : Option Stopped → Progress → List ℕ → List Value → Result Step AllocError → Progress → List Value → Type 0
+IsStepAnswer None old piece out result new out_new = IsStep old piece out result new out_new
+IsStepAnswer (Some (Ended end)) old piece out result new out_new = (result ≡ Ok (step.Ended end)) × (new ≡ old) × (out_new ≡ out)
+IsStepAnswer (Some Memory) old piece out result new out_new = (result ≡ Err alloc_error) × (new ≡ old) × (out_new ≡ out)

@@ -1,0 +1,5 @@
+pub mod Ends
+pub mod Progress
+pub mod Placed
+pub mod Standing
+pub mod Answers

@@ -1,0 +1,209 @@
+//! A session: the run of a stream that comes in pieces.
+
+ghost use Rattle.std.specs.Prelude.{◌≡◌, [], None, option_copied};
+ghost use Rattle.seq_run.specs.Answers.{Appends, IsAnswer, IsFinish, IsLent, IsStepAnswer};
+
+use crate::end::{Cause, End, State, Stopped};
+use cbor_item::Sound;
+use cbor_read::{Fed, ItemReader, Limits, Stop};
+use cddl_table::{Table, matches};
+use history::History;
+use std::alloc::{AllocError, Global};
+use std::marker::Model;
+
+/// An item, and the offset of its first byte.
+#[derive(Drop)]
+struct Placed {
+    offset: u64,
+    item: Sound,
+}
+
+/// What one step of a session led to.
+#[derive(Clone, Copy, Debug)]
+pub enum Step {
+    /// The whole piece was used.
+    More,
+    /// An item was accepted with byte `used` of the piece: its number, from 1, and the offset of its first byte.
+    Item {
+        used: usize,
+        number: u64,
+        offset: u64,
+    },
+    Ended(End),
+}
+
+/// Takes the items of a stream (RFC 8742) that match a specification, up to the first that does not.
+///
+/// Contracts see its specification, its limits, the bytes fed, the items taken with their offsets, and why it takes
+/// nothing more, if so.
+#[derive(Drop)]
+pub struct Session<'t> {
+    table: &'t Table,
+    reader: ItemReader,
+    items: u64,
+    offset: u64,
+    bytes: u64,
+    stopped: Option<Stopped>,
+    rejected: Option<Sound>,
+    fed: History<u8>,
+    taken: History<Placed>,
+}
+
+impl<'t> Model for Session<'t> {
+    ghost use Rattle.std.specs.Prelude.{map};
+    ghost use Rattle.seq_run.specs.Progress.{Progress, coded_progress};
+    ghost use Rattle.seq_run.specs.Placed.{found_of};
+    ghost use Rattle.seq_run.specs.Standing.{IsStanding};
+
+    ghost Value = { Progress };
+
+    ghost coded = { coded_progress };
+
+    ghost view = { λ s. record { table = s.table.now; limits = s.reader.limits; fed = s.fed; taken = map found_of s.taken; stopped = s.stopped } };
+
+    ghost invariant = { λ s. IsStanding s.stopped s.table.now s.reader.limits s.fed (map found_of s.taken) s.reader s.items s.offset s.bytes s.rejected };
+}
+
+impl<'t> Session<'t> {
+    /// A session at the first byte of a stream. Takes no memory.
+    pub fn new(alloc: Global, table: &'t Table, limits: Limits) -> Session<'t>
+        ensures { result ≡ record { table = table.now; limits = limits; fed = []; taken = []; stopped = None } }
+    {
+        Session {
+            table,
+            reader: ItemReader::new(alloc, limits),
+            items: 0,
+            offset: 0,
+            bytes: 0,
+            stopped: None,
+            rejected: None,
+            fed: History::new(),
+            taken: History::new(),
+        }
+    }
+
+    /// Takes the next piece of the stream, and appends the items that it completes.
+    ///
+    /// `Open` says that more bytes may follow. `Ended` says how the stream ends, with the byte that decides it: an item
+    /// that does not match, or a fault. From then on each call answers that end and appends nothing.
+    ///
+    /// # Errors
+    ///
+    /// [`AllocError`] where an allocation was refused. From then on each call answers so.
+    pub fn feed(&mut self, piece: &[u8], out: &mut Vec<Sound>) -> Result<State, AllocError>
+        ensures appends { Appends self.old self.new out.old.items out.new.items }
+        ensures answer { IsAnswer self.old.stopped self.old piece.now result self.new }
+    {
+        let mut rest = piece;
+        'steps: loop {
+            match self.feed_one(rest, out)? {
+                Step::More => return Ok(State::Open),
+                Step::Ended(end) => return Ok(State::Ended(end)),
+                Step::Item { used, .. } => rest = &rest[used..],
+            }
+        }
+    }
+
+    /// Ends the stream, and says how it ends. From then on each call answers that end. Takes no memory.
+    ///
+    /// # Errors
+    ///
+    /// [`AllocError`] where an earlier call answered so.
+    pub fn finish(&mut self) -> Result<End, AllocError>
+        ensures { IsFinish self.old.stopped self.old result self.new }
+    {
+        match self.stopped {
+            Some(Stopped::Ended(end)) => return Ok(end),
+            Some(Stopped::Memory) => return Err(AllocError),
+            None => {}
+        }
+        let end = match self.reader.at_end() {
+            Ok(()) => End::Clean {
+                items: self.items,
+                bytes: self.bytes,
+            },
+            Err(Stop::Fault(fault)) => End::Failed {
+                items: self.items,
+                offset: self.offset,
+                cause: Cause::Fault(fault),
+            },
+            Err(Stop::Memory) => return Err(AllocError),
+        };
+        self.stopped = Some(Stopped::Ended(end));
+        Ok(end)
+    }
+
+    /// The item that does not match, exactly where the session has ended by that. Takes no memory.
+    pub fn rejected(&self) -> Option<&Sound>
+        ensures { IsLent self.now.stopped self.now (option_copied result) }
+    {
+        self.rejected.as_ref()
+    }
+
+    // Takes the piece as far as the end of an item, which it appends.
+    fn feed_one(&mut self, piece: &[u8], out: &mut Vec<Sound>) -> Result<Step, AllocError>
+        ensures { IsStepAnswer self.old.stopped self.old piece.now out.old.items result self.new out.new.items }
+    {
+        match self.stopped {
+            Some(Stopped::Ended(end)) => return Ok(Step::Ended(end)),
+            Some(Stopped::Memory) => return Err(AllocError),
+            None => {}
+        }
+        match self.reader.feed(piece) {
+            Ok(Fed::More) => {
+                self.fed.extend(piece);
+                self.bytes += piece.len() as u64;
+                Ok(Step::More)
+            }
+            Ok(Fed::Item { used, item }) => {
+                if !matches(self.table, &item) {
+                    self.fed.extend(piece);
+                    let end = End::Failed {
+                        items: self.items,
+                        offset: self.offset,
+                        cause: Cause::Mismatch(0),
+                    };
+                    self.rejected = Some(item);
+                    self.stopped = Some(Stopped::Ended(end));
+                    return Ok(Step::Ended(end));
+                }
+                let placed = Placed {
+                    offset: self.offset,
+                    item,
+                };
+                let taken = self.taken.with(&placed);
+                if out.push(placed.item).is_err() {
+                    self.fed.extend(piece);
+                    self.stopped = Some(Stopped::Memory);
+                    return Err(AllocError);
+                }
+                let offset = self.offset;
+                self.taken = taken;
+                self.fed.extend(&piece[..used]);
+                self.items += 1;
+                self.bytes += used as u64;
+                self.offset = self.bytes;
+                Ok(Step::Item {
+                    used,
+                    number: self.items,
+                    offset,
+                })
+            }
+            Ok(Fed::Fault { used: _, fault }) => {
+                self.fed.extend(piece);
+                let end = End::Failed {
+                    items: self.items,
+                    offset: self.offset,
+                    cause: Cause::Fault(fault),
+                };
+                self.stopped = Some(Stopped::Ended(end));
+                Ok(Step::Ended(end))
+            }
+            Err(error) => {
+                self.fed.extend(piece);
+                self.stopped = Some(Stopped::Memory);
+                Err(error)
+            }
+        }
+    }
+}
