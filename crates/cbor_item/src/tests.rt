@@ -182,6 +182,25 @@ fn items_of_other_rows_are_unequal(rt: HostRuntime) -> Result<(), Fail> {
     Ok(())
 }
 
+// Run with each allocation refused in turn (`rt try --test --fail-alloc N`), it finds no third answer.
+#[test]
+fn shows_the_text_or_answers_no_memory(rt: HostRuntime) {
+    let alloc = rt.alloc();
+    let long = make_row(
+        Form::Bytes(&[0x5a; 70]),
+        b"",
+        "h'5a5a5a5a5a5a5a5a5a5a5a5a5a5a5a5a5a5a5a5a5a5a5a5a5a5a5a5a5a5a5a5a5a5a5a5a5a5a5a5a5a5a5a5a5a5a5a5a5a5a5a5a5a5a5a5a5a5a5a5a5a5a5a5a5a5a5a5a5a5a'",
+    );
+    let rows = rows();
+    for row in [long, rows[12], rows[18], rows[24]] {
+        if let Ok(item) = item_of(alloc, row.form) {
+            if let Ok(text) = diag(alloc, &item) {
+                assert_eq!(rt; text.as_slice(), row.notation.as_bytes());
+            }
+        }
+    }
+}
+
 #[derive(Drop)]
 struct Broken;
 
