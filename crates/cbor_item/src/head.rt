@@ -6,7 +6,7 @@ ghost use Rattle.cbor_data.specs.Preferred.{shortest_head};
 use std::marker::Model;
 
 /// A head, on the stack. Contracts see it as its bytes.
-#[derive(Clone, Drop)]
+#[derive(Drop)]
 pub struct Head {
     bytes: [u8; 9],
     len: usize,
