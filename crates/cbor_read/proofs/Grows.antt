@@ -45,13 +45,14 @@ grows_unfinished b x g = (x, g.more, record { written = g.written; ok = g.ok; is
 pub clear : (l : Bounds) (o : ℕ) (b : List ℕ) (n : ℕ) → Grows (take n b) → n ≤ l.item_bytes → o + n ≤ last_offset → IsClearBefore l o b n
 clear l o b n g few placed q kind h s = none kind s
   where
-  here : Grows (take (q + 1) b)
-  here = let k : q + 1 ≤ n = omega arith in subst Grows (take-take (q + 1) n b k) (grows_take (q + 1) (take n b) g)
-  none : (kind : FaultKind) → StandsAt l o b q kind → ⊥
-  none _ (malformed p not k) = not (grows_begins (take (q + 1) b) here)
-  none _ (deep p begins not) = not (grows_within l.depth (take (q + 1) b) here)
-  none _ (long begins (inl e)) = omega (arith, few, h, e)
-  none _ (long begins (inr e)) = omega (arith, placed, h, e.1)
+    here : Grows (take (q + 1) b)
+    here = let k : q + 1 ≤ n = omega arith in subst Grows (take-take (q + 1) n b k) (grows_take (q + 1) (take n b) g)
+
+    none : (kind : FaultKind) → StandsAt l o b q kind → ⊥
+    none _ (malformed p not k) = not (grows_begins (take (q + 1) b) here)
+    none _ (deep p begins not) = not (grows_within l.depth (take (q + 1) b) here)
+    none _ (long begins (inl e)) = omega (arith, few, h, e)
+    none _ (long begins (inr e)) = omega (arith, placed, h, e.1)
 
 -- each stage can be completed
 
@@ -102,12 +103,12 @@ argument_next (suc (suc left)) seen m value x h some small =
     let less : suc (suc left) - 1 ≡ suc left = omega arith in
     open_grows left (seen ++ x ∷ []) m (value * 256 + x) (subst (λ k. IsHeadOpen (seen ++ x ∷ []) m k (value * 256 + x)) less (one_digit seen m (suc (suc left)) value x h some small))
 
-bytes_next : (left : ℕ) (seen held : List ℕ) (x : ℕ) → IsStringOpen seen 2 left held → 0 < left → x < 256 → Grows (seen ++ x ∷ [])
+pub bytes_next : (left : ℕ) (seen held : List ℕ) (x : ℕ) → IsStringOpen seen 2 left held → 0 < left → x < 256 → Grows (seen ++ x ∷ [])
 bytes_next left seen held x h some small =
     let len : length held + left ≡ length (held ++ x ∷ []) + (left - 1) = omega (arith, length-append held (x ∷ [])) in
     bytes_grow h.place (left - 1) (seen ++ x ∷ []) (held ++ x ∷ []) (subst (FitsPlace h.place) len h.fits) (bytes-append held (x ∷ []) h.bytes (small, tt)) (ap (λ s. s ++ x ∷ []) h.is ∙ append_assoc (head_in h.place 2 (length held + left)) held (x ∷ []) ∙ ap (λ k. head_in h.place 2 k ++ (held ++ x ∷ [])) len)
 
-text_next : (left : ℕ) (seen held : List ℕ) (x : ℕ) → IsStringOpen seen 3 left held → 0 < left → x < 256 → Grows (seen ++ x ∷ [])
+pub text_next : (left : ℕ) (seen held : List ℕ) (x : ℕ) → IsStringOpen seen 3 left held → 0 < left → x < 256 → Grows (seen ++ x ∷ [])
 text_next left seen held x h some small =
     let len : length held + left ≡ length (held ++ x ∷ []) + (left - 1) = omega (arith, length-append held (x ∷ [])) in
     text_grows h.place (left - 1) (seen ++ x ∷ []) (held ++ x ∷ []) (subst (FitsPlace h.place) len h.fits) (bytes-append held (x ∷ []) h.bytes (small, tt)) (ap (λ s. s ++ x ∷ []) h.is ∙ append_assoc (head_in h.place 3 (length held + left)) held (x ∷ []) ∙ ap (λ k. head_in h.place 3 k ++ (held ++ x ∷ [])) len)
@@ -170,7 +171,7 @@ at_grows seen stage at range = grows_front seen (0 ∷ []) (next_grows seen stag
 
 -- what the first byte tells stays
 
-known_append : (seen rest : List ℕ) → 0 < length seen → (IsNotYet seen → ⊥) → IsNotYet (seen ++ rest) → ⊥
+pub known_append : (seen rest : List ℕ) → 0 < length seen → (IsNotYet seen → ⊥) → IsNotYet (seen ++ rest) → ⊥
 known_append [] rest some known w = omega arith
 known_append (x ∷ seen) rest some known w = known w
 

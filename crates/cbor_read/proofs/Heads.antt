@@ -134,24 +134,24 @@ text_ends seen piece run held h w = ends_as seen piece 3 run held (text_form w.p
 pub one_more_digit : (digits : List ℕ) (x : ℕ) → number_of (digits ++ x ∷ []) ≡ number_of digits * 256 + x
 one_more_digit digits x = from 0 digits
   where
-  from : (n : ℕ) (ds : List ℕ) → fold (λ n byte. n * 256 + byte) n (ds ++ x ∷ []) ≡ fold (λ n byte. n * 256 + byte) n ds * 256 + x
-  from n [] = refl
-  from n (d ∷ ds) = from (n * 256 + d) ds
+    from : (n : ℕ) (ds : List ℕ) → fold (λ n byte. n * 256 + byte) n (ds ++ x ∷ []) ≡ fold (λ n byte. n * 256 + byte) n ds * 256 + x
+    from n [] = refl
+    from n (d ∷ ds) = from (n * 256 + d) ds
 
 pub argument_room : (left value x : ℕ) → IsArgument left value → x < 256 → value * 256 + x < limit (left - 1)
 argument_room left value x h small = room left h.some h.few h.fits
   where
-  room : (l : ℕ) → 0 < l → l ≤ 8 → value < limit l → value * 256 + x < limit (l - 1)
-  room zero a b c = absurd (omega arith)
-  room (suc zero) a b c = omega arith
-  room (suc (suc zero)) a b c = omega arith
-  room (suc (suc (suc zero))) a b c = omega arith
-  room (suc (suc (suc (suc zero)))) a b c = omega arith
-  room (suc (suc (suc (suc (suc zero))))) a b c = omega arith
-  room (suc (suc (suc (suc (suc (suc zero)))))) a b c = omega arith
-  room (suc (suc (suc (suc (suc (suc (suc zero))))))) a b c = omega arith
-  room (suc (suc (suc (suc (suc (suc (suc (suc zero)))))))) a b c = omega arith
-  room (suc (suc (suc (suc (suc (suc (suc (suc (suc l))))))))) a b c = absurd (omega arith)
+    room : (l : ℕ) → 0 < l → l ≤ 8 → value < limit l → value * 256 + x < limit (l - 1)
+    room zero a b c = absurd (omega arith)
+    room (suc zero) a b c = omega arith
+    room (suc (suc zero)) a b c = omega arith
+    room (suc (suc (suc zero))) a b c = omega arith
+    room (suc (suc (suc (suc zero)))) a b c = omega arith
+    room (suc (suc (suc (suc (suc zero))))) a b c = omega arith
+    room (suc (suc (suc (suc (suc (suc zero)))))) a b c = omega arith
+    room (suc (suc (suc (suc (suc (suc (suc zero))))))) a b c = omega arith
+    room (suc (suc (suc (suc (suc (suc (suc (suc zero)))))))) a b c = omega arith
+    room (suc (suc (suc (suc (suc (suc (suc (suc (suc l))))))))) a b c = absurd (omega arith)
 
 -- the digits of a whole argument are its bytes
 pub whole_head : (p : Place) (m : ℕ) (digits : List ℕ) (n : ℕ) → 0 < length digits → length digits ≡ place_len p → AreBytes digits → n ≡ number_of digits → (initial m (place_info p) ∷ digits ≡ head_in p m n) × FitsPlace p n

@@ -3,3 +3,4 @@ mod Leads
 mod Grows
 mod Verdicts
 mod Settled
+mod FrontLaws

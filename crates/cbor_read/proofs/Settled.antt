@@ -100,15 +100,17 @@ full_told l o n fed stage h full =
 short_clear : (l : Bounds) (o n : ℕ) (fed : List ℕ) (stage : Stage) → IsReached l o n fed stage → n ≢ l.item_bytes → IsClearBefore l o fed (suc (length fed))
 short_clear l o n fed stage h few q kind before s = none kind s
   where
-  grows : Grows fed
-  grows = at_grows fed stage h.at h.range
-  here : Grows (take (q + 1) fed)
-  here = grows_take (q + 1) fed grows
-  none : (kind : faults.FaultKind) → StandsAt l o fed q kind → ⊥
-  none _ (malformed p not k) = not (grows_begins (take (q + 1) fed) here)
-  none _ (deep p begins not) = not (grows_within l.depth (take (q + 1) fed) here)
-  none _ (long begins (inl e)) = few (omega (arith, h.counted, h.short, before, e))
-  none _ (long begins (inr e)) = omega (arith, h.counted, h.placed, e.0, e.1)
+    grows : Grows fed
+    grows = at_grows fed stage h.at h.range
+
+    here : Grows (take (q + 1) fed)
+    here = grows_take (q + 1) fed grows
+
+    none : (kind : faults.FaultKind) → StandsAt l o fed q kind → ⊥
+    none _ (malformed p not k) = not (grows_begins (take (q + 1) fed) here)
+    none _ (deep p begins not) = not (grows_within l.depth (take (q + 1) fed) here)
+    none _ (long begins (inl e)) = few (omega (arith, h.counted, h.short, before, e))
+    none _ (long begins (inr e)) = omega (arith, h.counted, h.placed, e.0, e.1)
 
 cut_told : (l : Bounds) (o n : ℕ) (fed : List ℕ) (stage : Stage) → IsReached l o n fed stage → stage ≢ Start → n ≢ l.item_bytes → IsTold l o fed Truncated (o + n)
 cut_told l o n fed stage h other few = record {

@@ -43,7 +43,7 @@ nothing_before l o b q kind h s = omega arith
 known_major : (x : ℕ) → (IsNotYetByte x → ⊥) → x / 32 ≢ 7
 known_major x known e = known (inl (omega arith))
 
-first_told : (l : Bounds) (o x : ℕ) (rest : List ℕ) (kind : FaultKind) → IsFirstKind x kind → IsTold l o (x ∷ rest) kind o
+pub first_told : (l : Bounds) (o x : ℕ) (rest : List ℕ) (kind : FaultKind) → IsFirstKind x kind → IsTold l o (x ∷ rest) kind o
 first_told l o x rest NotYet h = (h, refl)
 first_told l o x rest ReservedInfo h = record {
   read = h.0;
@@ -86,14 +86,15 @@ pub going_on : (l : Bounds) (o n : ℕ) (fed piece : List ℕ) (after : Stage) �
 going_on l o n fed piece after counted at range short placed =
     let b : List ℕ = fed ++ piece in
     let len : length b ≡ n + length piece = omega (arith, length-append fed piece) in
-    let all : take (length b) b ≡ b = take_all (length b) b (omega arith) in
-    (record { at = at; range = range; counted = sym len; short = short; placed = placed },
-    record {
-      next = refl;
-      unfinished = at_unfinished b after at range;
-      clear = clear l o b (length b) (subst Grows (sym all) (at_grows b after at range)) (omega arith) (omega arith);
-      read = at_known b after at;
-    })
+    let all : take (length b) b ≡ b = take_all (length b) b (omega arith) in (
+      record { at = at; range = range; counted = sym len; short = short; placed = placed },
+      record {
+        next = refl;
+        unfinished = at_unfinished b after at range;
+        clear = clear l o b (length b) (subst Grows (sym all) (at_grows b after at range)) (omega arith) (omega arith);
+        read = at_known b after at;
+      },
+    )
 
 -- the item has no room for the next byte
 
@@ -113,9 +114,9 @@ too_long_told l o s x rest stage at range next small short placed why =
       fault = of_form p (omega arith) (subst IsUnfinished (sym front) (at_unfinished s stage at range)) (long begins (go inside why)) (clear l o b p (subst Grows (sym front) (at_grows s stage at range)) short placed) refl;
     }
   where
-  go : length s < length (s ++ x ∷ rest) → (length s ≡ l.item_bytes) ⊎ (o + length s ≡ last_offset) → (length s ≡ l.item_bytes) ⊎ ((length s < length (s ++ x ∷ rest)) × (o + length s ≡ last_offset))
-  go inside (inl e) = inl e
-  go inside (inr e) = inr (inside, e)
+    go : length s < length (s ++ x ∷ rest) → (length s ≡ l.item_bytes) ⊎ (o + length s ≡ last_offset) → (length s ≡ l.item_bytes) ⊎ ((length s < length (s ++ x ∷ rest)) × (o + length s ≡ last_offset))
+    go inside (inl e) = inl e
+    go inside (inr e) = inr (inside, e)
 
 not_empty : (p : Place) (m n : ℕ) (held : List ℕ) → [] ≡ head_in p m n ++ held → ⊥
 not_empty p m n held e = let some : 0 < length (head_in p m n ++ held) = head_some p m n held in let none : 0 ≡ length (head_in p m n ++ held) = ap length e in omega arith
@@ -162,11 +163,11 @@ too_long l o n fed piece stage after room h first at range more small e =
       next = refl;
     }
   where
-  which : (a b r : ℕ) {P Q : Type 0} → r ≡ min a b → (r ≡ a → P) → (r ≡ b → Q) → P ⊎ Q
-  which a b r m f g = elim (cases_lt a b) [
-    | inl below ↦ inl (f (omega arith))
-    | inr above ↦ inr (g (omega arith))
-  ]
+    which : (a b r : ℕ) {P Q : Type 0} → r ≡ min a b → (r ≡ a → P) → (r ≡ b → Q) → P ⊎ Q
+    which a b r m f g = elim (cases_lt a b) [
+      | inl below ↦ inl (f (omega arith))
+      | inr above ↦ inr (g (omega arith))
+    ]
 
 -- the front is whole
 
@@ -186,6 +187,19 @@ plain_depth (item.Nint n) = refl
 plain_depth (item.Bytes v) = refl
 plain_depth (item.Text t) = refl
 
+-- a form's bytes, which have room, are the item
+pub read_whole : (l : Bounds) (o : ℕ) (s : List ℕ) (x : Item) (y : Value) (f : Form) → IsOk f → HasText f → s ≡ flat f → view x ≡ meaning f → y ≡ view x → (IsNotYet s → ⊥) → length s ≤ l.item_bytes → o + length s ≤ last_offset → IsRead l o y s
+read_whole l o s x y f ok text whole meant is known short placed = record {
+  item = record {
+    spells = record { written = f; ok = ok; text = text; is = whole; meant = is ∙ meant };
+    valid = subst IsValid (sym is) (plain_valid x);
+    shallow = let none : depth_of y ≡ 0 = ap depth_of is ∙ plain_depth x in omega arith;
+    short = short;
+    placed = placed;
+  };
+  read = known;
+}
+
 pub taken : (l : Bounds) (o n : ℕ) (fed piece : List ℕ) (stage : Stage) (room left : ℕ) (inside : List ℕ) (x : Item) (y : Value) (f : Form) → IsReached l o n fed stage → inside ≡ take room piece → IsEnding fed inside left f → HasText f → view x ≡ meaning f → y ≡ view x →
     left < length inside → room ≤ l.item_bytes - n → room ≤ 2 ^ 64 - 1 - (o + n) →
     let used = length inside - left in
@@ -198,24 +212,17 @@ taken l o n fed piece stage room left inside x y f h e ends text meant is some s
     let len : length (fed ++ take used piece) ≡ n + used = ap (λ t. length (fed ++ t)) front ∙ omega (arith, length-append fed ends.front, h.counted) in
     let most : length inside ≤ room = omega (arith, ap length e, length-take room piece) in
     let have : length inside ≤ length piece = omega (arith, ap length e, length-take room piece) in
-    let whole : fed ++ take used piece ≡ flat f = ap (λ t. fed ++ t) front ∙ ends.prints in
-    (omega (arith, h.placed), record {
-      some = omega arith;
-      within = omega arith;
-      read = record {
-        item = record {
-          spells = record { written = f; ok = ends.ok; text = text; is = whole; meant = is ∙ meant };
-          valid = subst IsValid (sym is) (plain_valid x);
-          shallow = let none : depth_of y ≡ 0 = ap depth_of is ∙ plain_depth x in omega arith;
-          short = omega (arith, h.short);
-          placed = omega (arith, h.placed);
-        };
-        read = λ w. ends.read (subst (λ t. IsNotYet (fed ++ t)) front w);
-      };
-      next = refl;
-    })
+    let whole : fed ++ take used piece ≡ flat f = ap (λ t. fed ++ t) front ∙ ends.prints in (
+      omega (arith, h.placed),
+      record {
+        some = omega arith;
+        within = omega arith;
+        read = read_whole l o (fed ++ take used piece) x y f ends.ok text whole meant is (λ w. ends.read (subst (λ t. IsNotYet (fed ++ t)) front w)) (omega (arith, h.short)) (omega (arith, h.placed));
+  next = refl;
+      },
+    )
 
-bad_text_told : (l : Bounds) (o : ℕ) (b s r : List ℕ) (p : Place) (t : List ℕ) → b ≡ s ++ r → IsOk (text_form p t) → s ≡ flat (text_form p t) → (IsUtf8 t → ⊥) → length s ≤ l.item_bytes → o + length s ≤ last_offset → IsKnown l o b faults.bad_text o
+pub bad_text_told : (l : Bounds) (o : ℕ) (b s r : List ℕ) (p : Place) (t : List ℕ) → b ≡ s ++ r → IsOk (text_form p t) → s ≡ flat (text_form p t) → (IsUtf8 t → ⊥) → length s ≤ l.item_bytes → o + length s ≤ last_offset → IsKnown l o b faults.bad_text o
 bad_text_told l o b s r p t e ok is bad short placed =
     let n : ℕ = length s in
     let more : length b ≡ n + length r = ap length e ∙ length-append s r in
@@ -248,5 +255,5 @@ bad_text l o n fed piece stage room left inside p t h e ends bad some short plac
       next = refl;
     }
   where
-  parts : (used : ℕ) (r : List ℕ) → (fed ++ piece) ++ r ≡ (fed ++ take used piece) ++ (drop used piece ++ r)
-  parts used r = ap (λ y. (fed ++ y) ++ r) (sym (take-append-drop used piece)) ∙ ap (λ y. y ++ r) (sym (append_assoc fed (take used piece) (drop used piece))) ∙ append_assoc (fed ++ take used piece) (drop used piece) r
+    parts : (used : ℕ) (r : List ℕ) → (fed ++ piece) ++ r ≡ (fed ++ take used piece) ++ (drop used piece ++ r)
+    parts used r = ap (λ y. (fed ++ y) ++ r) (sym (take-append-drop used piece)) ∙ ap (λ y. y ++ r) (sym (append_assoc fed (take used piece) (drop used piece))) ∙ append_assoc (fed ++ take used piece) (drop used piece) r

@@ -88,7 +88,14 @@ impl ItemReader {
             return again(*stop);
         }
         let stage = mem::replace(&mut self.stage, Stage::Stopped(Stop::Memory));
-        match read(self.alloc, self.limits, self.offset, self.count, stage, piece)? {
+        match read(
+            self.alloc,
+            self.limits,
+            self.offset,
+            self.count,
+            stage,
+            piece,
+        )? {
             Outcome::Open(stage) => {
                 self.stage = stage;
                 self.count += piece.len() as u64;
@@ -175,7 +182,14 @@ fn fault_at_start(stage: &Stage, piece: &[u8]) -> Option<FaultKind>
     }
 }
 
-fn read(alloc: Global, limits: Limits, offset: u64, count: u64, stage: Stage, piece: &[u8]) -> Result<Outcome, AllocError>
+fn read(
+    alloc: Global,
+    limits: Limits,
+    offset: u64,
+    count: u64,
+    stage: Stage,
+    piece: &[u8],
+) -> Result<Outcome, AllocError>
     requires range { IsInRange stage }
     requires short { count ≤ limits.item_bytes }
     requires placed { offset + count < 2 ^ 64 }
@@ -188,8 +202,8 @@ fn read(alloc: Global, limits: Limits, offset: u64, count: u64, stage: Stage, pi
     read_within(alloc, limits, offset, count, stage, piece)
 }
 
-// The item as a sound one: a form without containers is.
-fn sound_of(alloc: Global, item: Item) -> Result<Sound, AllocError>
+/// The item as a sound one: a form without containers is.
+pub fn sound_of(alloc: Global, item: Item) -> Result<Sound, AllocError>
     ensures { IfOk result (λ sound. sound ≡ view item) }
 {
     match Sound::try_new(alloc, item) {
@@ -199,7 +213,14 @@ fn sound_of(alloc: Global, item: Item) -> Result<Sound, AllocError>
 }
 
 // Reads on where nothing is wrong with the first byte.
-fn read_within(alloc: Global, limits: Limits, offset: u64, count: u64, stage: Stage, piece: &[u8]) -> Result<Outcome, AllocError>
+fn read_within(
+    alloc: Global,
+    limits: Limits,
+    offset: u64,
+    count: u64,
+    stage: Stage,
+    piece: &[u8],
+) -> Result<Outcome, AllocError>
     requires range { IsInRange stage }
     requires first { IsStartingWith stage piece.now }
     requires short { count ≤ limits.item_bytes }

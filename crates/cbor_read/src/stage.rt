@@ -92,7 +92,8 @@ fn read_head(alloc: Global, byte: u8, rest: &[u8]) -> Result<Step, AllocError>
     }
 }
 
-fn major_of(number: u8) -> Major
+/// The major type of this number.
+pub fn major_of(number: u8) -> Major
     requires { number < 4 }
     ensures { major_number result ≡ number }
 {
