@@ -258,18 +258,16 @@ headed_read l o b h s k x y head bytes e enough is few small held is_view =
     let means = held_means head.is.place h.major h.argument s x held in
     (within, read_whole l o (take n b) x y (form_of head.is.place h.major h.argument s) f.ok means.0 f.is means.1 is_view (front_known b h (length s) head) (omega arith) (omega arith))
 
+text_bad : (l : Bounds) (o : ℕ) (b : List ℕ) (n : ℕ) (p : Place) (m : Major) (a : ℕ) (s : List ℕ) → IsHeld m a s None → IsFormed b n (form_of p m a s) → length (take n b) ≤ l.item_bytes → o + length (take n b) ≤ last_offset → IsKnown l o b faults.bad_text o
+text_bad l o b n p major.Text a s bad f short placed = bad_text_told l o b (take n b) (drop n b) p s (sym (take-append-drop n b)) f.ok f.is bad short placed
+text_bad l o b n p major.Uint a s bad f short placed = absurd bad
+text_bad l o b n p major.Nint a s bad f short placed = absurd bad
+text_bad l o b n p major.Bytes a s bad f short placed = absurd bad
+
 pub headed_bad : (l : Bounds) (o : ℕ) (b : List ℕ) (h : Head) (s : List ℕ) (k : ℕ) → IsHeaded b h → AreBytes b → k ≡ content_len h.major h.argument → k ≤ length (drop h.length b) → s ≡ take k (drop h.length b) → h.length + length s ≤ allowed l o → o ≤ last_offset →
     IsHeld h.major h.argument s None → IsKnown l o b faults.bad_text o
-headed_bad l o b h s k head bytes e enough is few small held = go h.major held (formed b h s k head bytes e enough is)
-  where
-  n : ℕ
-  n = h.length + length s
-  within : n ≤ length b
-  within = omega (arith, ap length is, length-take k (drop h.length b), length-drop h.length b, head.within)
-  len : length (take n b) ≡ n
-  len = omega (arith, length-take n b)
-  go : (m : Major) → IsHeld m h.argument s None → IsFormed b n (form_of head.is.place m h.argument s) → IsKnown l o b faults.bad_text o
-  go major.Text bad f = bad_text_told l o b (take n b) (drop n b) head.is.place s (sym (take-append-drop n b)) f.ok f.is bad (omega arith) (omega arith)
-  go major.Uint bad f = absurd bad
-  go major.Nint bad f = absurd bad
-  go major.Bytes bad f = absurd bad
+headed_bad l o b h s k head bytes e enough is few small held =
+    let n : ℕ = h.length + length s in
+    let within : n ≤ length b = omega (arith, ap length is, length-take k (drop h.length b), length-drop h.length b, head.within) in
+    let len : length (take n b) ≡ n = omega (arith, length-take n b) in
+    text_bad l o b n head.is.place h.major h.argument s held (formed b h s k head bytes e enough is) (omega arith) (omega arith)
