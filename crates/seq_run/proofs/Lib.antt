@@ -5,3 +5,6 @@ pub mod Transitions
 pub mod Steps
 pub mod Feeding
 pub mod Cutting
+pub mod Reporting
+pub mod RunLoop
+pub mod Appending

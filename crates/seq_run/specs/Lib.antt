@@ -3,3 +3,5 @@ pub mod Progress
 pub mod Placed
 pub mod Standing
 pub mod Answers
+pub mod Report
+pub mod Running

@@ -2,9 +2,13 @@
 #![tactic(auto)]
 
 mod end;
+mod lines;
 mod pieces;
+mod running;
 mod session;
 
 pub use crate::end::{Cause, End, State, Stopped};
+pub use crate::lines::end_line;
 pub use crate::pieces::validate_pieces;
+pub use crate::running::{RunFault, run};
 pub use crate::session::Session;

@@ -1,6 +1,6 @@
 //! A session: the run of a stream that comes in pieces.
 
-ghost use Rattle.std.specs.Prelude.{◌≡◌, [], None, option_copied};
+ghost use Rattle.std.specs.Prelude.{◌≡◌, [], length, None, option_copied};
 ghost use Rattle.seq_run.specs.Answers.{Appends, IsAnswer, IsFinish, IsLent, IsStepAnswer};
 
 use crate::end::{Cause, End, State, Stopped};
@@ -140,8 +140,26 @@ impl<'t> Session<'t> {
         self.rejected.as_ref()
     }
 
-    // Takes the piece as far as the end of an item, which it appends.
-    fn feed_one(&mut self, piece: &[u8], out: &mut Vec<Sound>) -> Result<Step, AllocError>
+    /// How many items were taken of a stream that has not ended.
+    pub(crate) fn items(&self) -> u64
+        ensures { self.now.stopped ≡ None → result ≡ length self.now.taken }
+    {
+        self.items
+    }
+
+    /// The item that does not match, exactly where the session has ended by that.
+    pub(crate) fn into_rejected(self) -> Option<Sound>
+        ensures { IsLent self.entry.stopped self.entry result }
+    {
+        self.rejected
+    }
+
+    /// Takes the piece as far as the end of an item, which it appends.
+    pub(crate) fn feed_one(
+        &mut self,
+        piece: &[u8],
+        out: &mut Vec<Sound>,
+    ) -> Result<Step, AllocError>
         ensures { IsStepAnswer self.old.stopped self.old piece.now out.old.items result self.new out.new.items }
     {
         match self.stopped {

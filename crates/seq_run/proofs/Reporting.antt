@@ -1,0 +1,120 @@
+-- The lines of a piece.
+use Rattle.std.proofs.Common.{◌≡◌, ◌≢◌, ℕ, zero, suc, ◌+◌, ◌-◌, ◌<◌, ◌≤◌, List, [], ◌∷◌, ◌++◌, length, take, drop, get_or, Option, Some, None, Result, Ok, Err, refl, sym, ap, ap₂, ◌∙◌, subst, arith, append-nil, append_assoc, length-append}
+use Rattle.std.specs.declared.alloc.AllocError.{AllocError}
+use Rattle.std.proofs.lemmas.List.{take-append-drop, length-drop}
+use Rattle.std.proofs.Math.Seq.{take-length}
+use Rattle.cbor_data.specs.Value.{Value}
+use Rattle.cbor_data.specs.Sequence as sequence
+use Rattle.cbor_data.specs.Sequence.{Found, EndsBy, cleanly, at_fault, at_mismatch}
+use Rattle.cbor_data.specs.Faults.{Bounds}
+use Rattle.cddl_table.specs.declared.table.Table.{Table}
+use Rattle.seq_run.specs.declared.end.Cause.TheVariants.{Fault, Mismatch}
+use Rattle.seq_run.specs.declared.end.End.{End}
+use Rattle.seq_run.specs.declared.end.End.TheVariants.{Clean, Failed}
+use Rattle.seq_run.specs.declared.end.State.{State}
+use Rattle.seq_run.specs.declared.end.State.TheVariants as state
+use Rattle.seq_run.specs.declared.end.Stopped.{Stopped}
+use Rattle.seq_run.specs.declared.end.Stopped.TheVariants.{Ended, Memory}
+use Rattle.seq_run.specs.declared.session.Step.{Step}
+use Rattle.seq_run.specs.declared.session.Step.TheVariants as step
+use Rattle.seq_run.specs.Ends.{Misses, Ends}
+use Rattle.seq_run.specs.Progress.{Progress}
+use Rattle.seq_run.specs.Standing.{IsRejected}
+use Rattle.seq_run.specs.Answers.{IsOpen, IsEnded, IsFed, IsFinish, IsLent, IsStep, IsStepAnswer}
+use Rattle.seq_run.specs.Report.{item_line, item_lines, end_line, IsShown}
+use Rattle.seq_run.specs.Running.{Adds, IsSettled, IsDecided, IsLast, IsPieceDone}
+
+-- one line more
+pub item_lines_more : (n : ℕ) (fs : List Found) (f : Found) → item_lines n (fs ++ f ∷ []) ≡ item_lines n fs ++ item_line (n + length fs) f
+item_lines_more n [] f = append-nil (item_line n f) ∙ ap (λ (m : ℕ). item_line m f) (let e : n ≡ n + 0 = omega arith in e)
+item_lines_more n (g ∷ gs) f =
+    let number : suc n + length gs ≡ n + suc (length gs) = omega arith in
+    ap (λ (b : List ℕ). item_line n g ++ b) (item_lines_more (suc n) gs f ∙ ap (λ (m : ℕ). item_lines (suc n) gs ++ item_line m f) number) ∙ sym (append_assoc (item_line n g) (item_lines (suc n) gs) (item_line (n + suc (length gs)) f))
+
+-- `rest` of the piece is left, and the lines are those of the items so far
+pub record IsReporting (old : Progress) (piece lines : List ℕ) (now : Progress) (rest lines_now : List ℕ) : Type 0 where
+  pub fed : now.fed ++ rest ≡ old.fed ++ piece
+  pub going : now.stopped ≡ None
+  pub added : List Found
+  pub taken : now.taken ≡ old.taken ++ added
+  pub written : lines_now ≡ lines ++ item_lines (suc (length old.taken)) added
+  pub table : now.table ≡ old.table
+  pub limits : now.limits ≡ old.limits
+
+pub begin_reporting : (old : Progress) (piece lines : List ℕ) → old.stopped ≡ None → IsReporting old piece lines old piece lines
+begin_reporting old piece lines e = record { fed = refl; going = e; added = []; taken = sym (append-nil old.taken); written = sym (append-nil lines); table = refl; limits = refl }
+
+module _ (old : Progress) (piece lines : List ℕ) (now : Progress) (rest lines_now : List ℕ) (r : IsReporting old piece lines now rest lines_now) (new : Progress) (out_new : List Value) where
+  step_of : (result : Result Step AllocError) → IsStepAnswer now.stopped now rest [] result new out_new → IsStep now rest [] result new out_new
+  step_of result s = subst (λ v. IsStepAnswer v now rest [] result new out_new) r.going s
+
+  adds : new.fed ≡ now.fed ++ rest → new.taken ≡ now.taken → new.table ≡ now.table → new.limits ≡ now.limits → Adds old piece lines new lines_now
+  adds f t u v = record { fed = f ∙ r.fed; added = r.added; taken = t ∙ r.taken; written = r.written; table = u ∙ r.table; limits = v ∙ r.limits }
+
+  pub reported_more : IsStepAnswer now.stopped now rest [] (Ok step.More) new out_new → Adds old piece lines new lines_now × IsOpen new
+  reported_more a =
+      let s : IsStep now rest [] (Ok step.More) new out_new = step_of (Ok step.More) a in
+      (adds (ap (λ (p : Progress). p.fed) s.0) (ap (λ (p : Progress). p.taken) s.0) (ap (λ (p : Progress). p.table) s.0) (ap (λ (p : Progress). p.limits) s.0), s.2)
+
+  pub reported_ended : (end : End) → IsStepAnswer now.stopped now rest [] (Ok (step.Ended end)) new out_new → Adds old piece lines new lines_now × IsEnded new end
+  reported_ended end a =
+      let s : IsStep now rest [] (Ok (step.Ended end)) new out_new = step_of (Ok (step.Ended end)) a in
+      (adds (ap (λ (p : Progress). p.fed) s.0) (ap (λ (p : Progress). p.taken) s.0) (ap (λ (p : Progress). p.table) s.0) (ap (λ (p : Progress). p.limits) s.0), s.2)
+
+  pub item_there : (used number offset : ℕ) → IsStepAnswer now.stopped now rest [] (Ok (step.Item used number offset)) new out_new → length out_new ≡ 1
+  item_there used number offset a =
+      let s : IsStep now rest [] (Ok (step.Item used number offset)) new out_new = step_of (Ok (step.Item used number offset)) a in
+      ap length s.3.2
+
+  pub reported_item : (used number offset : ℕ) (y : Value) (lines_new : List ℕ) → IsStepAnswer now.stopped now rest [] (Ok (step.Item used number offset)) new out_new → y ≡ get_or out_new 0 y →
+      lines_new ≡ lines_now ++ item_line number (record { offset = offset; item = y }) → IsReporting old piece lines new (drop used rest) lines_new × (0 < used) × (used ≤ length rest)
+  reported_item used number offset y lines_new a item written =
+      let s : IsStep now rest [] (Ok (step.Item used number offset)) new out_new = step_of (Ok (step.Item used number offset)) a in
+      let x = s.3.0 in
+      let more : Found = record { offset = offset; item = x } in
+      let same : y ≡ x = item ∙ ap (λ (xs : List Value). get_or xs 0 y) s.3.2 in
+      let taken : new.taken ≡ old.taken ++ (r.added ++ more ∷ []) = ap (λ (p : Progress). p.taken) s.3.1 ∙ (ap (λ (fs : List Found). fs ++ more ∷ []) r.taken ∙ append_assoc old.taken r.added (more ∷ [])) in
+      let count : number ≡ suc (length old.taken) + length r.added = omega (arith, s.2, ap length taken, length-append old.taken (r.added ++ more ∷ []), length-append r.added (more ∷ [])) in
+      let line : item_line number (record { offset = offset; item = y }) ≡ item_line (suc (length old.taken) + length r.added) more =
+      ap₂ (λ (n : ℕ) (v : Value). item_line n (record { offset = offset; item = v })) count same in (
+        record {
+          fed = ap (λ (p : Progress). p.fed ++ drop used rest) s.3.1 ∙ (append_assoc now.fed (take used rest) (drop used rest) ∙ (ap (λ (xs : List ℕ). now.fed ++ xs) (take-append-drop used rest) ∙ r.fed));
+          going = ap (λ (p : Progress). p.stopped) s.3.1 ∙ r.going;
+          added = r.added ++ more ∷ [];
+          taken = taken;
+          written = written ∙ (ap₂ (λ (a b : List ℕ). a ++ b) r.written line ∙ (append_assoc lines (item_lines (suc (length old.taken)) r.added) (item_line (suc (length old.taken) + length r.added) more)
+              ∙ ap (λ (b : List ℕ). lines ++ b) (sym (item_lines_more (suc (length old.taken)) r.added more))));
+          table = ap (λ (p : Progress). p.table) s.3.1 ∙ r.table;
+          limits = ap (λ (p : Progress). p.limits) s.3.1 ∙ r.limits;
+        },
+        s.0,
+        s.1,
+      )
+
+-- a mismatch is at the whole of its item
+missed_whole : (table : Table) {l : Bounds} {accepts : Value → List ℕ → Type 0} {kind : Type 0} {told : ℕ → List ℕ → kind → ℕ → Type 0} {stream : List ℕ} {found : List Found} {e : sequence.End kind} →
+    EndsBy l accepts told (Misses table) stream found e → (n o place : ℕ) → e ≡ sequence.failed n o (sequence.mismatch place) → place ≡ 0
+missed_whole table (cleanly run) n o place e = absurd (cc)
+missed_whole table (at_fault rest run some placed told) n o place e = absurd (cc)
+missed_whole table (at_mismatch {o = p} {place = there} rest x front back run placed parts item misses) n o place e =
+    let same : there ≡ place = cc in
+    sym same ∙ misses.2
+
+-- the end of a stream can be shown
+pub shown : (table : Table) (l : Bounds) (stream : List ℕ) (found : List Found) (end : End) (rejected : Option Value) → Ends table l stream found end → IsRejected table l stream found end rejected → IsShown end rejected
+shown table l stream found (Clean items bytes) rejected ends r = tt
+shown table l stream found (Failed items offset (Fault f)) rejected ends r = tt
+shown table l stream found (Failed items offset (Mismatch zero)) (Some x) ends r = tt
+shown table l stream found (Failed items offset (Mismatch zero)) None ends r = r
+shown table l stream found (Failed items offset (Mismatch (suc place))) rejected ends r = absurd (let none : suc place ≡ 0 = missed_whole table ends items offset (suc place) refl in omega arith)
+
+-- the rest from a place on
+pub range_from : (n : ℕ) (xs : List ℕ) → take (length xs - n) (drop n xs) ≡ drop n xs
+range_from n xs = ap (λ k. take k (drop n xs)) (sym (length-drop n xs)) ∙ take-length (drop n xs)
+
+-- the item that a settled session lends can be shown with its end
+pub shown_lent : (piece : List ℕ) (new : Progress) (end : End) (lent : Option Value) → IsSettled end piece new → IsLent new.stopped new lent → IsShown end lent
+shown_lent piece new end lent s lends =
+    let ends : Ends new.table new.limits new.fed new.taken end = subst (λ (b : List ℕ). Ends new.table new.limits b new.taken end) (append-nil new.fed) (s.ends [] (λ e. refl)) in
+    let rejects : IsRejected new.table new.limits new.fed new.taken end lent = subst (λ v. IsLent v new lent) s.stopped lends in
+    shown new.table new.limits new.fed new.taken end lent ends rejects

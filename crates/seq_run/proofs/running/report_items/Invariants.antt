@@ -1,0 +1,12 @@
+use Rattle.std.proofs.Common.{◌≡◌, [], length}
+use Rattle.seq_run.proofs.Reporting.{IsReporting}
+use Rattle.seq_run.proofs.running.report_items.Given as goal
+
+abbrev pub invariant-steps : goal.invariant-steps
+invariant-steps l = record {
+  reporting : IsReporting l.initial.session l.piece l.initial.lines.items l.session l.rest l.lines.items;
+  empty : l.items.items ≡ [];
+}
+
+abbrev pub decreases-steps : goal.decreases-steps
+decreases-steps l = length l.rest

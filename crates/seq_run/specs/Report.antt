@@ -1,0 +1,56 @@
+-- The report of a stream: a line for each accepted item, and one for its end.
+use Rattle.std.specs.Prelude.{ℕ, zero, suc, List, [], ◌∷◌, ◌++◌, Option, Some, None, codes, decimal}
+use Rattle.cbor_data.specs.Value.{Value}
+use Rattle.cbor_data.specs.Sequence.{Found}
+use Rattle.cbor_data.specs.Notation.{notation}
+use Rattle.cbor_read.specs.declared.fault.FaultKind.{FaultKind}
+use Rattle.cbor_read.specs.declared.fault.FaultKind.TheVariants.{NotYet, ReservedInfo, BadIndefinite, BadBreak, BadChunk, BadSimple, TooDeep, TooLong, Truncated, BadText, DuplicateKey}
+use Rattle.seq_run.specs.declared.end.Cause.{Cause}
+use Rattle.seq_run.specs.declared.end.Cause.TheVariants.{Fault, Mismatch}
+use Rattle.seq_run.specs.declared.end.End.{End}
+use Rattle.seq_run.specs.declared.end.End.TheVariants.{Clean, Failed}
+
+-- `item N at OFFSET: DIAG`, with the item in diagnostic notation
+abbrev pub item_line : ℕ → Found → List ℕ
+item_line number f =
+    codes "item " ++ (decimal number ++ (codes " at " ++ (decimal f.offset ++ (codes ": " ++ (notation f.item ++ codes "\n")))))
+
+-- the lines of these items, the first of which has this number
+abbrev pub item_lines : ℕ → List Found → List ℕ
+item_lines number [] = []
+item_lines number (f ∷ fs) = item_line number f ++ item_lines (suc number) fs
+
+-- a fault, up to its place
+abbrev pub fault_text : FaultKind → List ℕ
+fault_text NotYet = codes "not supported yet at byte "
+fault_text ReservedInfo = codes "reserved additional information at byte "
+fault_text BadIndefinite = codes "indefinite length not allowed at byte "
+fault_text BadBreak = codes "break not allowed at byte "
+fault_text BadChunk = codes "bad chunk at byte "
+fault_text BadSimple = codes "bad simple value at byte "
+fault_text TooDeep = codes "too deep at byte "
+fault_text TooLong = codes "item too long at byte "
+fault_text Truncated = codes "truncated at byte "
+fault_text BadText = codes "text is not UTF-8 at byte "
+fault_text DuplicateKey = codes "duplicate key at place "
+
+-- why a stream failed; of an item that does not match, `$` is the whole of it
+abbrev pub cause_text : Cause → Option Value → List ℕ
+cause_text (Fault f) rejected = fault_text f.kind ++ decimal f.at
+cause_text (Mismatch zero) (Some x) = codes "mismatch at $: " ++ notation x
+cause_text (Mismatch place) _ = []
+
+-- the last line, with the item that failed
+abbrev pub end_line : End → Option Value → List ℕ
+end_line (Clean items bytes) rejected = codes "clean: " ++ (decimal items ++ (codes " items, " ++ (decimal bytes ++ codes " bytes\n")))
+end_line (Failed items offset cause) rejected =
+    codes "failed: " ++ (decimal items ++ (codes " items, offset " ++ (decimal offset ++ (codes ": " ++ (cause_text cause rejected ++ codes "\n")))))
+
+abbrev pub report : List Found → End → Option Value → List ℕ
+report found end rejected = item_lines 1 found ++ end_line end rejected
+
+-- A mismatch comes with its item, and at the whole of it.
+abbrev pub IsShown : End → Option Value → Type 0
+IsShown (Failed items offset (Mismatch zero)) (Some x) = Unit {0}
+IsShown (Failed items offset (Mismatch place)) _ = ⊥
+IsShown _ rejected = Unit {0}

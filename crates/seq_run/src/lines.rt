@@ -1,0 +1,117 @@
+//! The lines of a report.
+
+ghost use Rattle.std.specs.Prelude.{◌≡◌, ◌++◌, decimal, IfOk, OnOk, option_copied};
+ghost use Rattle.seq_run.specs.Report.{cause_text, end_line as end_line_of, fault_text, item_line, IsShown};
+
+use crate::end::{Cause, End};
+use cbor_item::{Sound, diag};
+use cbor_read::FaultKind;
+use itoa::Buffer;
+use std::alloc::{AllocError, Global};
+
+/// The last line of a report, its line feed with it: `clean: N items, B bytes`, or `failed: N items, offset O:` and the
+/// cause. For a mismatch it asks for the item that failed.
+///
+/// # Errors
+///
+/// [`AllocError`] where an allocation was refused.
+pub fn end_line(alloc: Global, end: &End, rejected: Option<&Sound>) -> Result<Vec<u8>, AllocError>
+    requires { IsShown end.now (option_copied rejected) }
+    ensures { IfOk result (λ line. line.items ≡ end_line_of end.now (option_copied rejected.entry)) }
+{
+    let mut line = Vec::new(alloc);
+    match end {
+        End::Clean { items, bytes } => {
+            line.extend_from_slice(b"clean: ")?;
+            push_number(&mut line, *items)?;
+            line.extend_from_slice(b" items, ")?;
+            push_number(&mut line, *bytes)?;
+            line.extend_from_slice(b" bytes\n")?;
+            Ok(line)
+        }
+        End::Failed {
+            items,
+            offset,
+            cause,
+        } => {
+            line.extend_from_slice(b"failed: ")?;
+            push_number(&mut line, *items)?;
+            line.extend_from_slice(b" items, offset ")?;
+            push_number(&mut line, *offset)?;
+            line.extend_from_slice(b": ")?;
+            push_cause(alloc, &mut line, *cause, rejected)?;
+            line.extend_from_slice(b"\n")?;
+            Ok(line)
+        }
+    }
+}
+
+// `item N at OFFSET: DIAG` and a line feed.
+pub fn push_item_line(
+    alloc: Global,
+    lines: &mut Vec<u8>,
+    number: u64,
+    offset: u64,
+    item: &Sound,
+) -> Result<(), AllocError>
+    ensures { OnOk result (lines.new.items ≡ lines.old.items ++ item_line number (record { offset = offset; item = item.now })) }
+{
+    lines.extend_from_slice(b"item ")?;
+    push_number(lines, number)?;
+    lines.extend_from_slice(b" at ")?;
+    push_number(lines, offset)?;
+    lines.extend_from_slice(b": ")?;
+    let text = diag(alloc, item.item())?;
+    lines.extend_from_slice(text.as_slice())?;
+    lines.extend_from_slice(b"\n")?;
+    Ok(())
+}
+
+fn push_cause(
+    alloc: Global,
+    line: &mut Vec<u8>,
+    cause: Cause,
+    rejected: Option<&Sound>,
+) -> Result<(), AllocError>
+    ensures { OnOk result (line.new.items ≡ line.old.items ++ cause_text cause (option_copied rejected.entry)) }
+{
+    match (cause, rejected) {
+        (Cause::Fault(fault), _) => {
+            line.extend_from_slice(fault_words(fault.kind))?;
+            push_number(line, fault.at)?;
+            Ok(())
+        }
+        (Cause::Mismatch(0), Some(item)) => {
+            line.extend_from_slice(b"mismatch at $: ")?;
+            let text = diag(alloc, item.item())?;
+            line.extend_from_slice(text.as_slice())?;
+            Ok(())
+        }
+        (Cause::Mismatch(_), _) => Ok(()),
+    }
+}
+
+fn fault_words(kind: FaultKind) -> &'static [u8]
+    ensures { result.now ≡ fault_text kind }
+{
+    match kind {
+        FaultKind::NotYet => b"not supported yet at byte ",
+        FaultKind::ReservedInfo => b"reserved additional information at byte ",
+        FaultKind::BadIndefinite => b"indefinite length not allowed at byte ",
+        FaultKind::BadBreak => b"break not allowed at byte ",
+        FaultKind::BadChunk => b"bad chunk at byte ",
+        FaultKind::BadSimple => b"bad simple value at byte ",
+        FaultKind::TooDeep => b"too deep at byte ",
+        FaultKind::TooLong => b"item too long at byte ",
+        FaultKind::Truncated => b"truncated at byte ",
+        FaultKind::BadText => b"text is not UTF-8 at byte ",
+        FaultKind::DuplicateKey => b"duplicate key at place ",
+    }
+}
+
+fn push_number(line: &mut Vec<u8>, n: u64) -> Result<(), AllocError>
+    ensures { OnOk result (line.new.items ≡ line.old.items ++ decimal n) }
+{
+    let mut buffer = Buffer::new();
+    line.extend_from_slice(buffer.format(n).as_bytes())
+}

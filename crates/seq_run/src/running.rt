@@ -1,0 +1,147 @@
+//! Runs a stream that a device gives, and writes its report to another.
+
+ghost use Rattle.std.specs.Prelude.{◌≡◌, [], None, IfOk, IfErr, OnOk, IfSome};
+ghost use Rattle.cbor_item.specs.Counted.{device_of, failures_of};
+ghost use Rattle.seq_run.specs.Answers.{IsFed};
+ghost use Rattle.seq_run.specs.Running.{Adds, IsDecided, IsFault, IsPieceDone, IsReported};
+
+use crate::end::{End, State};
+use crate::lines::{end_line, push_item_line};
+use crate::session::{Session, Step};
+use cbor_item::{Counted, Sound, write_bytes};
+use cbor_read::Limits;
+use cddl_table::Table;
+use std::alloc::{AllocError, Global};
+use std::io::{Read, Write};
+use thiserror::Error;
+
+// How many bytes are read at once, at most.
+const PIECE: usize = 4096;
+
+/// Why a run stopped before its report was whole.
+#[derive(Clone, Copy, Debug, PartialEq, Eq, Error)]
+pub enum RunFault {
+    /// A read failed. Exactly the lines of so many items went out, and they are all items of the bytes read.
+    #[error("read failed after {0} items")]
+    ReadFailed(u64),
+    /// A write failed, or took no byte. Exactly so many bytes of the report went out.
+    #[error("write failed after {0} bytes")]
+    WriteFailed(u128),
+    /// An allocation was refused. Exactly the lines of so many items went out.
+    #[error("out of memory")]
+    Memory(u64),
+}
+
+/// Reads a stream in pieces of at most 4,096 bytes, up to the one in which its end is known, and writes its report: a line
+/// for each accepted item and one for the end. It answers the end, and for a mismatch the item that failed.
+///
+/// # Errors
+///
+/// A [`RunFault`], only where a read, a write or an allocation of this call failed.
+pub fn run<R: Read, W: Write>(
+    alloc: Global,
+    table: &Table,
+    limits: Limits,
+    input: &mut Counted<R>,
+    output: &mut Counted<W>,
+) -> Result<(End, Option<Sound>), RunFault>
+    ensures reported { IfOk result (λ r. IfSome (R.remaining (device_of input.old)) (λ stream.
+        IsReported table.now limits stream (W.contents (device_of output.old)) (W.contents (device_of output.new)) r.0 r.1)) }
+    ensures counts { OnOk result ((failures_of input.new ≡ failures_of input.old) × (failures_of output.new ≡ failures_of output.old)) }
+    ensures fault { IfErr result (IsFault table.now limits (R.remaining (device_of input.old)) (R.remaining (device_of input.new))
+        (W.contents (device_of output.old)) (W.contents (device_of output.new))
+        (failures_of input.old) (failures_of input.new) (failures_of output.old) (failures_of output.new)) }
+{
+    let mut session = Session::new(alloc, table, limits);
+    let mut buffer = [0; PIECE];
+    let mut lines = Vec::new(alloc);
+    let mut reported = 0;
+    let mut written = 0;
+    'pieces: loop {
+        let Ok(count) = input.read(&mut buffer) else {
+            return Err(RunFault::ReadFailed(reported));
+        };
+        lines.clear();
+        let Ok(end) = report_piece(alloc, &mut session, &buffer[..count], &mut lines) else {
+            return Err(RunFault::Memory(reported));
+        };
+        if let Err(fault) = write_bytes(lines.as_slice(), output) {
+            return Err(RunFault::WriteFailed(written + fault.written));
+        }
+        written += lines.len() as u128;
+        if let Some(end) = end {
+            return Ok((end, session.into_rejected()));
+        }
+        reported = session.items();
+    }
+}
+
+// Takes a piece of the stream, or its end where the piece is empty, and gives its lines: those of the items that the piece
+// completes, and that of the end, if it is known now.
+fn report_piece(
+    alloc: Global,
+    session: &mut Session<'_>,
+    piece: &[u8],
+    lines: &mut Vec<u8>,
+) -> Result<Option<End>, AllocError>
+    requires open { session.old.stopped ≡ None }
+    requires empty { lines.old.items ≡ [] }
+    ensures { IfOk result (λ end. IsPieceDone session.old piece.now end session.new lines.new.items) }
+{
+    match take_piece(alloc, session, piece, lines)? {
+        State::Open => Ok(None),
+        State::Ended(end) => {
+            let line = end_line(alloc, &end, session.rejected())?;
+            lines.extend_from_slice(line.as_slice())?;
+            Ok(Some(end))
+        }
+    }
+}
+
+// Takes a piece of the stream, or its end where the piece is empty.
+fn take_piece(
+    alloc: Global,
+    session: &mut Session<'_>,
+    piece: &[u8],
+    lines: &mut Vec<u8>,
+) -> Result<State, AllocError>
+    requires { session.old.stopped ≡ None }
+    ensures adds { OnOk result (Adds session.old piece.now lines.old.items session.new lines.new.items) }
+    ensures decided { IfOk result (λ state. IsDecided state piece.now session.new) }
+{
+    if piece.is_empty() {
+        let end = session.finish()?;
+        return Ok(State::Ended(end));
+    }
+    report_items(alloc, session, piece, lines)
+}
+
+// Feeds a piece, and appends the lines of the items that it completes.
+fn report_items(
+    alloc: Global,
+    session: &mut Session<'_>,
+    piece: &[u8],
+    lines: &mut Vec<u8>,
+) -> Result<State, AllocError>
+    requires { session.old.stopped ≡ None }
+    ensures adds { OnOk result (Adds session.old piece.now lines.old.items session.new lines.new.items) }
+    ensures answer { OnOk result (IsFed result session.new) }
+{
+    let mut rest = piece;
+    let mut items = Vec::new(alloc);
+    'steps: loop {
+        match session.feed_one(rest, &mut items)? {
+            Step::More => return Ok(State::Open),
+            Step::Ended(end) => return Ok(State::Ended(end)),
+            Step::Item {
+                used,
+                number,
+                offset,
+            } => {
+                push_item_line(alloc, lines, number, offset, &items[0])?;
+                items.clear();
+                rest = &rest[used..];
+            }
+        }
+    }
+}
