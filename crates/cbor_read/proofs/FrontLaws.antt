@@ -59,34 +59,40 @@ take_both h k b =
 pub string_part : (b : List ℕ) (h : Head) → IsHeaded b h → AreBytes b → length b - h.length < content_len h.major h.argument → IsPart b
 string_part b h headed bytes less = go h.major refl
   where
-  held : List ℕ
-  held = drop h.length b
-  held_bytes : (k : ℕ) (c : List ℕ) → AreBytes c → AreBytes (drop k c)
-  held_bytes zero c y = y
-  held_bytes (suc k) [] y = tt
-  held_bytes (suc k) (x ∷ c) y = held_bytes k c y.1
-  left : ℕ
-  left = h.argument - length held
-  sum : length b - h.length < h.argument → h.argument ≡ length held + left
-  sum l = omega (arith, length-drop h.length b)
-  opened : (m : Major) → h.major ≡ m → length b - h.length < h.argument → IsStringOpen b (major_number m) left held
-  opened m e l = record {
-    place = headed.is.place;
-    fits = subst (FitsPlace headed.is.place) (sum l) headed.is.fits;
-    is = sym (take-append-drop h.length b) ∙ ap (λ t. t ++ held) (headed.is.is ∙ ap (λ k. head_in headed.is.place (major_number k) h.argument) e ∙ ap (head_in headed.is.place (major_number m)) (sum l));
-    bytes = held_bytes h.length b bytes;
-  }
-  known : IsNotYet b → ⊥
-  known w = head_known headed.is.place (major_number h.major) h.argument held (major_below h.major) headed.is.fits (subst IsNotYet (sym (take-append-drop h.length b) ∙ ap (λ t. t ++ held) headed.is.is) w)
-  go : (m : Major) → h.major ≡ m → IsPart b
-  go major.Uint e = absurd (let l : length b - h.length < 0 = subst (λ m. length b - h.length < content_len m h.argument) e less in omega arith)
-  go major.Nint e = absurd (let l : length b - h.length < 0 = subst (λ m. length b - h.length < content_len m h.argument) e less in omega arith)
-  go major.Bytes e =
-      let l : length b - h.length < h.argument = subst (λ m. length b - h.length < content_len m h.argument) e less in
-      part_of b (bytes_next left b held 0 (opened major.Bytes e l) (omega (arith, length-drop h.length b)) (omega arith)) known
-  go major.Text e =
-      let l : length b - h.length < h.argument = subst (λ m. length b - h.length < content_len m h.argument) e less in
-      part_of b (text_next left b held 0 (opened major.Text e l) (omega (arith, length-drop h.length b)) (omega arith)) known
+    held : List ℕ
+    held = drop h.length b
+
+    held_bytes : (k : ℕ) (c : List ℕ) → AreBytes c → AreBytes (drop k c)
+    held_bytes zero c y = y
+    held_bytes (suc k) [] y = tt
+    held_bytes (suc k) (x ∷ c) y = held_bytes k c y.1
+
+    left : ℕ
+    left = h.argument - length held
+
+    sum : length b - h.length < h.argument → h.argument ≡ length held + left
+    sum l = omega (arith, length-drop h.length b)
+
+    opened : (m : Major) → h.major ≡ m → length b - h.length < h.argument → IsStringOpen b (major_number m) left held
+    opened m e l = record {
+      place = headed.is.place;
+      fits = subst (FitsPlace headed.is.place) (sum l) headed.is.fits;
+      is = sym (take-append-drop h.length b) ∙ ap (λ t. t ++ held) (headed.is.is ∙ ap (λ k. head_in headed.is.place (major_number k) h.argument) e ∙ ap (head_in headed.is.place (major_number m)) (sum l));
+      bytes = held_bytes h.length b bytes;
+    }
+
+    known : IsNotYet b → ⊥
+    known w = head_known headed.is.place (major_number h.major) h.argument held (major_below h.major) headed.is.fits (subst IsNotYet (sym (take-append-drop h.length b) ∙ ap (λ t. t ++ held) headed.is.is) w)
+
+    go : (m : Major) → h.major ≡ m → IsPart b
+    go major.Uint e = absurd (let l : length b - h.length < 0 = subst (λ m. length b - h.length < content_len m h.argument) e less in omega arith)
+    go major.Nint e = absurd (let l : length b - h.length < 0 = subst (λ m. length b - h.length < content_len m h.argument) e less in omega arith)
+    go major.Bytes e =
+        let l : length b - h.length < h.argument = subst (λ m. length b - h.length < content_len m h.argument) e less in
+        part_of b (bytes_next left b held 0 (opened major.Bytes e l) (omega (arith, length-drop h.length b)) (omega arith)) known
+    go major.Text e =
+        let l : length b - h.length < h.argument = subst (λ m. length b - h.length < content_len m h.argument) e less in
+        part_of b (text_next left b held 0 (opened major.Text e l) (omega (arith, length-drop h.length b)) (omega arith)) known
 
 -- a fault past the bytes
 
@@ -133,15 +139,15 @@ too_long_at l o b h small why =
       fault = of_form p (omega arith) h.unfinished (long (grows_within l.depth (take (p + 1) b) h.grows) (reason why)) (clear l o b p (subst Grows front (grows_take p (take (p + 1) b) h.grows)) (omega arith) (omega arith)) refl;
     }
   where
-  reason : (l.item_bytes ≤ length b) ⊎ (allowed l o < length b) → (min (length b) (allowed l o) ≡ l.item_bytes) ⊎ ((min (length b) (allowed l o) < length b) × (o + min (length b) (allowed l o) ≡ last_offset))
-  reason (inl full) = elim (cases_lt (last_offset - o) l.item_bytes) [
-    | inl below ↦ inr (omega arith, omega arith)
-    | inr above ↦ inl (omega arith)
-  ]
-  reason (inr more) = elim (cases_lt (last_offset - o) l.item_bytes) [
-    | inl below ↦ inr (omega arith, omega arith)
-    | inr above ↦ inl (omega arith)
-  ]
+    reason : (l.item_bytes ≤ length b) ⊎ (allowed l o < length b) → (min (length b) (allowed l o) ≡ l.item_bytes) ⊎ ((min (length b) (allowed l o) < length b) × (o + min (length b) (allowed l o) ≡ last_offset))
+    reason (inl full) = elim (cases_lt (last_offset - o) l.item_bytes) [
+      | inl below ↦ inr (omega arith, omega arith)
+      | inr above ↦ inl (omega arith)
+    ]
+    reason (inr more) = elim (cases_lt (last_offset - o) l.item_bytes) [
+      | inl below ↦ inr (omega arith, omega arith)
+      | inr above ↦ inl (omega arith)
+    ]
 
 cut_at_end : (l : Bounds) (o : ℕ) (b : List ℕ) → IsPast l o b → o ≤ last_offset → 0 < length b → length b < l.item_bytes → length b ≤ allowed l o → IsKnown l o b faults.truncated (o + length b)
 cut_at_end l o b h small some few fits = record {
@@ -149,19 +155,23 @@ cut_at_end l o b h small some few fits = record {
   fault = of_end (λ e. let none : length b ≡ 0 = ap length e in omega arith) (subst IsUnfinished all h.unfinished) before refl;
 }
   where
-  p : ℕ
-  p = min (length b) (allowed l o)
-  all : take p b ≡ b
-  all = take_all p b (omega arith)
-  grows : Grows b
-  grows = subst Grows (take_all (p + 1) b (omega arith)) h.grows
-  none : (q : ℕ) (kind : FaultKind) → q < suc (length b) → StandsAt l o b q kind → ⊥
-  none q _ less (malformed a not k) = not (grows_begins (take (q + 1) b) (grows_take (q + 1) b grows))
-  none q _ less (deep a begins not) = not (grows_within l.depth (take (q + 1) b) (grows_take (q + 1) b grows))
-  none q _ less (long begins (inl e)) = omega arith
-  none q _ less (long begins (inr e)) = omega (arith, e.0, e.1)
-  before : IsClearBefore l o b (suc (length b))
-  before q kind less s = none q kind less s
+    p : ℕ
+    p = min (length b) (allowed l o)
+
+    all : take p b ≡ b
+    all = take_all p b (omega arith)
+
+    grows : Grows b
+    grows = subst Grows (take_all (p + 1) b (omega arith)) h.grows
+
+    none : (q : ℕ) (kind : FaultKind) → q < suc (length b) → StandsAt l o b q kind → ⊥
+    none q _ less (malformed a not k) = not (grows_begins (take (q + 1) b) (grows_take (q + 1) b grows))
+    none q _ less (deep a begins not) = not (grows_within l.depth (take (q + 1) b) (grows_take (q + 1) b grows))
+    none q _ less (long begins (inl e)) = omega arith
+    none q _ less (long begins (inr e)) = omega (arith, e.0, e.1)
+
+    before : IsClearBefore l o b (suc (length b))
+    before q kind less s = none q kind less s
 
 pub past_told : (l : Bounds) (o : ℕ) (b : List ℕ) (fault : declared.Fault) → IsPast l o b → o ≤ last_offset → 0 < length b → IsStopped l o (length b) fault → IsTold l o b fault.kind fault.at
 past_told l o b fault h small some (at, inl (kind, why)) =
@@ -206,25 +216,28 @@ pub record IsFormed (b : List ℕ) (n : ℕ) (f : Form) : Type 0 where
 pub formed : (b : List ℕ) (h : Head) (s : List ℕ) (k : ℕ) (x : IsHeaded b h) → AreBytes b → k ≡ content_len h.major h.argument → k ≤ length (drop h.length b) → s ≡ take k (drop h.length b) → IsFormed b (h.length + length s) (form_of x.is.place h.major h.argument s)
 formed b h s k x bytes e enough is = go h.major refl
   where
-  len : length s ≡ k
-  len = omega (arith, ap length is, length-take k (drop h.length b))
-  whole : (m : Major) → h.major ≡ m → take (h.length + length s) b ≡ head_in x.is.place (major_number m) h.argument ++ s
-  whole m f = ap (λ j. take (h.length + j) b) len ∙ whole_bytes b h k x ∙ ap₂ (λ j t. head_in x.is.place (major_number j) h.argument ++ t) f (sym is)
-  s_bytes : AreBytes s
-  s_bytes = subst AreBytes (sym is) (bytes-take k (drop h.length b) (bytes-drop h.length b bytes))
-  go : (m : Major) → h.major ≡ m → IsFormed b (h.length + length s) (form_of x.is.place m h.argument s)
-  go major.Uint f =
-      let none : s ≡ [] = no_bytes s (len ∙ e ∙ ap (λ m. content_len m h.argument) f) in
-      record { ok = x.is.fits; is = whole major.Uint f ∙ ap (λ t. head_in x.is.place 0 h.argument ++ t) none ∙ append-nil (head_in x.is.place 0 h.argument); plain = refl }
-  go major.Nint f =
-      let none : s ≡ [] = no_bytes s (len ∙ e ∙ ap (λ m. content_len m h.argument) f) in
-      record { ok = x.is.fits; is = whole major.Nint f ∙ ap (λ t. head_in x.is.place 1 h.argument ++ t) none ∙ append-nil (head_in x.is.place 1 h.argument); plain = refl }
-  go major.Bytes f =
-      let all : h.argument ≡ length s = sym (len ∙ e ∙ ap (λ m. content_len m h.argument) f) in
-      record { ok = (subst (FitsPlace x.is.place) all x.is.fits, s_bytes); is = whole major.Bytes f ∙ ap (λ j. head_in x.is.place 2 j ++ s) all; plain = refl }
-  go major.Text f =
-      let all : h.argument ≡ length s = sym (len ∙ e ∙ ap (λ m. content_len m h.argument) f) in
-      record { ok = (subst (FitsPlace x.is.place) all x.is.fits, s_bytes); is = whole major.Text f ∙ ap (λ j. head_in x.is.place 3 j ++ s) all; plain = refl }
+    len : length s ≡ k
+    len = omega (arith, ap length is, length-take k (drop h.length b))
+
+    whole : (m : Major) → h.major ≡ m → take (h.length + length s) b ≡ head_in x.is.place (major_number m) h.argument ++ s
+    whole m f = ap (λ j. take (h.length + j) b) len ∙ whole_bytes b h k x ∙ ap₂ (λ j t. head_in x.is.place (major_number j) h.argument ++ t) f (sym is)
+
+    s_bytes : AreBytes s
+    s_bytes = subst AreBytes (sym is) (bytes-take k (drop h.length b) (bytes-drop h.length b bytes))
+
+    go : (m : Major) → h.major ≡ m → IsFormed b (h.length + length s) (form_of x.is.place m h.argument s)
+    go major.Uint f =
+        let none : s ≡ [] = no_bytes s (len ∙ e ∙ ap (λ m. content_len m h.argument) f) in
+        record { ok = x.is.fits; is = whole major.Uint f ∙ ap (λ t. head_in x.is.place 0 h.argument ++ t) none ∙ append-nil (head_in x.is.place 0 h.argument); plain = refl }
+    go major.Nint f =
+        let none : s ≡ [] = no_bytes s (len ∙ e ∙ ap (λ m. content_len m h.argument) f) in
+        record { ok = x.is.fits; is = whole major.Nint f ∙ ap (λ t. head_in x.is.place 1 h.argument ++ t) none ∙ append-nil (head_in x.is.place 1 h.argument); plain = refl }
+    go major.Bytes f =
+        let all : h.argument ≡ length s = sym (len ∙ e ∙ ap (λ m. content_len m h.argument) f) in
+        record { ok = (subst (FitsPlace x.is.place) all x.is.fits, s_bytes); is = whole major.Bytes f ∙ ap (λ j. head_in x.is.place 2 j ++ s) all; plain = refl }
+    go major.Text f =
+        let all : h.argument ≡ length s = sym (len ∙ e ∙ ap (λ m. content_len m h.argument) f) in
+        record { ok = (subst (FitsPlace x.is.place) all x.is.fits, s_bytes); is = whole major.Text f ∙ ap (λ j. head_in x.is.place 3 j ++ s) all; plain = refl }
 
 held_means : (p : Place) (m : Major) (n : ℕ) (s : List ℕ) (x : Item) → IsHeld m n s (Some x) → HasText (form_of p m n s) × (view x ≡ meaning (form_of p m n s))
 held_means p major.Uint n s x h = (tt, h)

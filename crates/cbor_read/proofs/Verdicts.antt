@@ -218,7 +218,7 @@ taken l o n fed piece stage room left inside x y f h e ends text meant is some s
         some = omega arith;
         within = omega arith;
         read = read_whole l o (fed ++ take used piece) x y f ends.ok text whole meant is (λ w. ends.read (subst (λ t. IsNotYet (fed ++ t)) front w)) (omega (arith, h.short)) (omega (arith, h.placed));
-  next = refl;
+        next = refl;
       },
     )
 

@@ -72,7 +72,7 @@ pub fn read_on(alloc: Global, stage: Stage, piece: &[u8]) -> Result<Step, AllocE
         Stage::Argument(major, left, value) => read_argument(alloc, major, left, value, piece),
         Stage::Bytes(left, held) => read_bytes(left, held, piece),
         Stage::Text(left, held) => read_text(left, held, piece),
-        Stage::Stopped(stop) => Ok(Step::Open(Stage::Stopped(stop))),
+        Stage::Stopped(_) => unreachable!(),
     }
 }
 
