@@ -1,0 +1,77 @@
+//! What the program does with a specification and a stream.
+
+use crate::choice::{Options, Task};
+use cbor_item::{Counted, write_bytes};
+use cbor_read::Limits;
+use cddl_table::{Table, read_specification};
+use seq_run::{End, RunFault, run};
+use std::alloc::Global;
+use std::io::{Read, Write};
+
+/// The status of a stream that failed.
+pub const FAILED: u8 = 1;
+
+/// The status of a specification that was refused.
+pub const REFUSED: u8 = 2;
+
+/// The status of a use, a file or a growth that failed.
+pub const BROKEN: u8 = 3;
+
+/// Reads the specification. A refused one is told on `err`, and the status is answered.
+pub fn ready<E: Write>(options: &Options, spec: &[u8], err: &mut Counted<E>) -> Result<Table, u8> {
+    match options.task {
+        Task::Validate => {}
+    }
+    match read_specification(spec) {
+        Some(table) => Ok(table),
+        None => {
+            say(b"refused: specification not supported yet\n", err);
+            Err(REFUSED)
+        }
+    }
+}
+
+/// Validates the stream of `input`, writes its report to `out`, and answers the status: 0 where the stream is clean,
+/// [`FAILED`] where it failed, and else [`BROKEN`], with a line on `err`.
+pub fn act<R: Read, W: Write, E: Write>(
+    alloc: Global,
+    options: &Options,
+    table: &Table,
+    input: &mut Counted<R>,
+    out: &mut Counted<W>,
+    err: &mut Counted<E>,
+) -> u8 {
+    match options.task {
+        Task::Validate => {}
+    }
+    match run(alloc, table, default_limits(), input, out) {
+        Ok((end, _)) => status_of(&end),
+        Err(fault) => {
+            say_fault(alloc, fault, err);
+            BROKEN
+        }
+    }
+}
+
+fn status_of(end: &End) -> u8 {
+    match end {
+        End::Clean { .. } => 0,
+        End::Failed { .. } => FAILED,
+    }
+}
+
+fn default_limits() -> Limits {
+    Limits::try_new(256, 16_777_216).unwrap()
+}
+
+fn say_fault<E: Write>(alloc: Global, fault: RunFault, err: &mut Counted<E>) {
+    match format!(in alloc; "{fault}\n") {
+        Ok(line) => say(line.as_str().as_bytes(), err),
+        Err(_) => say(b"out of memory\n", err),
+    }
+}
+
+/// Writes a text to the standard error. A failed write is passed over.
+pub fn say<E: Write>(text: &[u8], err: &mut Counted<E>) {
+    let _ = write_bytes(text, err);
+}
