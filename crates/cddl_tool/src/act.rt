@@ -1,5 +1,13 @@
 //! What the program does with a specification and a stream.
 
+ghost use Rattle.std.specs.Prelude.{◌≡◌, ◌≢◌, IfOk, IfErr, IfSome};
+ghost use Rattle.cbor_item.specs.Counted.{device_of, failures_of};
+ghost use Rattle.cddl_table.specs.Specification.{IsSpecification};
+ghost use Rattle.cddl_table.specs.declared.table.Table.{Table as Tables};
+ghost use Rattle.seq_run.specs.Running.{IsFault};
+ghost use Rattle.seq_run.specs.declared.running.RunFault.{RunFault as RunFaults};
+ghost use Rattle.cddl_tool.specs.Acting.{default_bounds, status_for, IsAnswered};
+
 use crate::choice::{Options, Task};
 use cbor_item::{Counted, write_bytes};
 use cbor_read::Limits;
@@ -18,7 +26,10 @@ pub const REFUSED: u8 = 2;
 pub const BROKEN: u8 = 3;
 
 /// Reads the specification. A refused one is told on `err`, and the status is answered.
-pub fn ready<E: Write>(options: &Options, spec: &[u8], err: &mut Counted<E>) -> Result<Table, u8> {
+pub fn ready<E: Write>(options: &Options, spec: &[u8], err: &mut Counted<E>) -> Result<Table, u8>
+    ensures found { IfOk result (IsSpecification spec.now) }
+    ensures refused { IfErr result (λ status. (status ≡ REFUSED) × ((table : Tables) → IsSpecification spec.now table → ⊥)) }
+{
     match options.task {
         Task::Validate => {}
     }
@@ -40,7 +51,13 @@ pub fn act<R: Read, W: Write, E: Write>(
     input: &mut Counted<R>,
     out: &mut Counted<W>,
     err: &mut Counted<E>,
-) -> u8 {
+) -> u8
+    ensures answered { result ≢ BROKEN → IfSome (R.remaining (device_of input.old)) (λ stream.
+        IsAnswered table.now stream (W.contents (device_of out.old)) (W.contents (device_of out.new)) result) }
+    ensures broken { result ≡ BROKEN → (fault : RunFaults) × IsFault table.now default_bounds
+        (R.remaining (device_of input.old)) (R.remaining (device_of input.new)) (W.contents (device_of out.old)) (W.contents (device_of out.new))
+        (failures_of input.old) (failures_of input.new) (failures_of out.old) (failures_of out.new) fault }
+{
     match options.task {
         Task::Validate => {}
     }
@@ -53,14 +70,18 @@ pub fn act<R: Read, W: Write, E: Write>(
     }
 }
 
-fn status_of(end: &End) -> u8 {
+fn status_of(end: &End) -> u8
+    ensures { result ≡ status_for end.now }
+{
     match end {
         End::Clean { .. } => 0,
         End::Failed { .. } => FAILED,
     }
 }
 
-fn default_limits() -> Limits {
+fn default_limits() -> Limits
+    ensures { result ≡ default_bounds }
+{
     Limits::try_new(256, 16_777_216).unwrap()
 }
 

@@ -3,6 +3,8 @@
 
 mod act;
 mod choice;
+#[cfg(test)]
+mod tests;
 mod words;
 
 use crate::act::{BROKEN, act, ready, say};

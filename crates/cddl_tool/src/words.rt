@@ -1,5 +1,9 @@
 //! The words of the command line.
 
+ghost use Rattle.std.specs.Prelude.{◌≡◌, map, IfOk, option_map, string_bytes};
+ghost use Rattle.clap.specs.Words.{app_of, first_value, found_of};
+ghost use Rattle.cddl_tool.specs.Chosen.{program_app, AreChosen};
+
 use crate::choice::{Options, Task, Use};
 use clap::error::ErrorKind;
 use clap::{Arg, ArgMatches, Command};
@@ -10,7 +14,9 @@ use std::alloc::{AllocError, Global};
 /// # Errors
 ///
 /// [`Use::Words`] where the words are no command, or ask for help; [`Use::Memory`] where an allocation was refused.
-pub fn options(alloc: Global, words: &[&str]) -> Result<Options, Use> {
+pub fn options(alloc: Global, words: &[&str]) -> Result<Options, Use>
+    ensures { IfOk result (λ o. AreChosen o (map (λ w. w.now) words.entry.now)) }
+{
     let command = command(alloc)?;
     let matches = match command.try_get_matches_from(words) {
         Ok(matches) => matches,
@@ -21,17 +27,27 @@ pub fn options(alloc: Global, words: &[&str]) -> Result<Options, Use> {
             return Err(Use::Words(error));
         }
     };
-    let given = matches.subcommand_matches("validate");
-    let spec = value(alloc, given, "spec")?;
-    let file = value(alloc, given, "file")?;
-    Ok(Options {
-        task: Task::Validate,
-        spec,
-        file,
-    })
+    match matches.subcommand_matches("validate") {
+        Some(given) => {
+            let spec = value(alloc, given, "spec")?;
+            let file = value(alloc, given, "file")?;
+            Ok(Options {
+                task: Task::Validate,
+                spec,
+                file,
+            })
+        }
+        None => Ok(Options {
+            task: Task::Validate,
+            spec: None,
+            file: None,
+        }),
+    }
 }
 
-fn command<'a>(alloc: Global) -> Result<Command<'a>, AllocError> {
+fn command<'a>(alloc: Global) -> Result<Command<'a>, AllocError>
+    ensures { IfOk result (λ c. app_of c ≡ program_app) }
+{
     let spec = Arg::new(alloc, "spec")
         .value_name("SPEC")
         .help("The file with the specification, in CDDL")
@@ -49,15 +65,10 @@ fn command<'a>(alloc: Global) -> Result<Command<'a>, AllocError> {
         .subcommand(validate)
 }
 
-fn value(
-    alloc: Global,
-    given: Option<&ArgMatches<'_>>,
-    name: &str,
-) -> Result<Option<String>, AllocError> {
-    let Some(matches) = given else {
-        return Ok(None);
-    };
-    match matches.get_str(name) {
+fn value(alloc: Global, given: &ArgMatches<'_>, name: &str) -> Result<Option<String>, AllocError>
+    ensures { IfOk result (λ o. option_map (λ s. string_bytes s) o ≡ first_value (found_of given.now) name.now) }
+{
+    match given.get_str(name) {
         Some(text) => Ok(Some(String::from_str(alloc, text)?)),
         None => Ok(None),
     }
