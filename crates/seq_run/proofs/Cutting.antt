@@ -1,8 +1,7 @@
 -- A stream that is fed in pieces.
-use Rattle.std.proofs.Common.{◌≡◌, ℕ, zero, suc, ◌+◌, ◌<◌, ◌≤◌, List, [], ◌∷◌, ◌++◌, length, take, get_or, map, flat_map, Option, Some, None, Result, Ok, Err, refl, sym, ap, ◌∙◌, subst, arith, append-nil, append_assoc, alloc_error}
+use Rattle.std.proofs.Common.{◌≡◌, ℕ, zero, suc, ◌+◌, ◌<◌, ◌≤◌, List, [], ◌∷◌, ◌++◌, length, take, get_or, flat_map, Option, Some, None, Ok, refl, sym, ap, ◌∙◌, subst, arith, append-nil, append_assoc}
 use Rattle.std.proofs.lemmas.List.{take_more}
 use Rattle.std.proofs.lemmas.Grind.{flat_map-append}
-use Rattle.std.specs.declared.alloc.AllocError.{AllocError}
 use Rattle.cbor_data.specs.Value.{Value}
 use Rattle.cbor_data.specs.Faults.{Bounds}
 use Rattle.cbor_data.specs.Sequence.{Found}
@@ -14,7 +13,7 @@ use Rattle.seq_run.specs.declared.end.Stopped.{Stopped}
 use Rattle.seq_run.specs.declared.end.Stopped.TheVariants.{Ended, Memory}
 use Rattle.seq_run.specs.Ends.{Ends}
 use Rattle.seq_run.specs.Progress.{Progress}
-use Rattle.seq_run.specs.Answers.{items_of, IsOpen, IsEnded, IsFed, IsAnswer, Appends, IsFinish}
+use Rattle.seq_run.specs.Answers.{items_of, IsAnswer, Appends, IsFinish}
 use Rattle.seq_run.proofs.Feeding.{items_of-append}
 
 take_all : {V : Type 0} (i : ℕ) (xs : List V) → length xs ≤ i → take i xs ≡ xs

@@ -1,16 +1,15 @@
 -- How a session's bytes end.
-use Rattle.std.proofs.Common.{◌≡◌, ◌≢◌, ℕ, zero, suc, ◌+◌, ◌-◌, ◌*◌, ◌/◌, ◌%◌, ◌^◌, ◌<◌, ◌≤◌, ◌⊎◌, inl, inr, List, [], ◌∷◌, ◌++◌, length, take, drop, refl, sym, ap, ◌∙◌, subst, arith, append_assoc, append-nil, length-append}
-use Rattle.std.proofs.lemmas.List.{take-append-drop, take-append-le}
+use Rattle.std.proofs.Common.{◌≡◌, ◌≢◌, ℕ, suc, ◌+◌, ◌<◌, inl, inr, List, [], ◌∷◌, ◌++◌, length, take, refl, sym, ap, ◌∙◌, subst, arith, length-append}
 use Rattle.std.proofs.lemmas.Bool.{cases_eq}
 use Rattle.std.proofs.Math.Seq.{take-length}
 use Rattle.cbor_data.specs.Value.{Value, depth_of}
 use Rattle.cbor_data.specs.Preferred.{initial}
 use Rattle.cbor_data.specs.Forms.{Form, uint_form, nint_form, bytes_form, bytes_chunks, text_form, text_chunks, array_form, array_to_break, pairs_form, pairs_to_break, tag_form, simple_inside, simple_next, float_form, forms_len, pair_forms_len, forms_flat, pair_forms_flat, flat, meaning, IsUnfinished}
-use Rattle.cbor_data.specs.Faults.{Bounds, last_offset, truncated, too_long, BeginsWithin, long, IsClearBefore, of_form, of_end, IsFaultOf, IsItem}
-use Rattle.cbor_data.specs.Sequence.{Found, Takes, IsRunOf, cleanly, at_fault, at_mismatch}
+use Rattle.cbor_data.specs.Faults.{Bounds, BeginsWithin, long, IsClearBefore, of_form, of_end, IsItem}
+use Rattle.cbor_data.specs.Sequence.{Found, cleanly, at_fault, at_mismatch}
 use Rattle.cbor_data.proofs.Unique.{head_first, first_byte, place_info}
 use Rattle.cbor_read.specs.Initial.{IsNotYetByte, IsNotYet}
-use Rattle.cbor_read.specs.Told.{IsKnown, IsTold, IsRead}
+use Rattle.cbor_read.specs.Told.{IsTold, IsRead}
 use Rattle.cbor_read.specs.declared.fault.FaultKind.{FaultKind}
 use Rattle.cbor_read.specs.declared.fault.FaultKind.TheVariants.{NotYet, ReservedInfo, BadIndefinite, BadBreak, BadChunk, BadSimple, TooDeep, TooLong, Truncated, BadText, DuplicateKey}
 use Rattle.cddl_table.specs.Matches.{Matches}
@@ -18,7 +17,7 @@ use Rattle.cddl_table.specs.declared.table.Table.{Table}
 use Rattle.seq_run.specs.declared.end.Cause.TheVariants.{Fault, Mismatch}
 use Rattle.seq_run.specs.declared.end.End.{End}
 use Rattle.seq_run.specs.declared.end.End.TheVariants.{Clean, Failed}
-use Rattle.seq_run.specs.Ends.{Accepts, Misses, BeginsWith, IsRun, Ends}
+use Rattle.seq_run.specs.Ends.{Accepts, BeginsWith, IsRun, Ends}
 use Rattle.seq_run.specs.Standing.{IsHeld, IsNext}
 use Rattle.seq_run.specs.Answers.{IsUndecided}
 use Rattle.seq_run.proofs.Fronts.{formed, unfinished_no_front, fault_no_item, clear_end}

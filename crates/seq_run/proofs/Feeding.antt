@@ -1,5 +1,5 @@
 -- A piece that is fed step by step.
-use Rattle.std.proofs.Common.{◌≡◌, ℕ, zero, ◌+◌, ◌-◌, ◌<◌, ◌≤◌, List, [], ◌∷◌, ◌++◌, length, take, drop, map, Option, Some, None, Result, Ok, Err, refl, sym, ap, ◌∙◌, subst, arith, append-nil, append_assoc, alloc_error}
+use Rattle.std.proofs.Common.{◌≡◌, ℕ, ◌<◌, ◌≤◌, List, [], ◌∷◌, ◌++◌, length, take, drop, Option, Some, None, Result, Ok, Err, refl, sym, ap, ◌∙◌, subst, append-nil, append_assoc}
 use Rattle.std.specs.declared.alloc.AllocError.{AllocError}
 use Rattle.std.proofs.lemmas.List.{take-append-drop}
 use Rattle.cbor_data.specs.Value.{Value}
@@ -12,7 +12,7 @@ use Rattle.seq_run.specs.declared.end.Stopped.TheVariants.{Ended, Memory}
 use Rattle.seq_run.specs.declared.session.Step.{Step}
 use Rattle.seq_run.specs.declared.session.Step.TheVariants as step
 use Rattle.seq_run.specs.Progress.{Progress}
-use Rattle.seq_run.specs.Answers.{items_of, IsOpen, IsEnded, IsCutShort, IsFed, IsAnswer, Appends, IsStep, IsStepAnswer}
+use Rattle.seq_run.specs.Answers.{items_of, IsAnswer, Appends, IsStepAnswer}
 
 -- `rest` of the piece is left, and `now` and `out_now` are what came of the rest of it
 pub record IsFeeding (old : Progress) (piece : List ℕ) (out : List Value) (now : Progress) (rest : List ℕ) (out_now : List Value) : Type 0 where

@@ -1,14 +1,13 @@
 -- A rest has a fault, or is unfinished, or begins with an item: no two of these.
-use Rattle.std.proofs.Common.{◌≡◌, ◌≢◌, ℕ, suc, ◌+◌, ◌-◌, ◌/◌, ◌%◌, ◌<◌, ◌≤◌, ◌⊎◌, inl, inr, List, [], ◌∷◌, ◌++◌, length, take, drop, refl, sym, ap, ◌∙◌, subst, arith, append_assoc, append-nil, length-append, IsUtf8}
-use Rattle.std.proofs.lemmas.List.{take-append-le, take-append-drop, length-take}
-use Rattle.std.proofs.Math.Seq.{take-append-add, take-length}
-use Rattle.std.proofs.lemmas.Bool.{cases_lt, cases_eq}
+use Rattle.std.proofs.Common.{◌≡◌, ℕ, suc, ◌+◌, ◌-◌, ◌<◌, ◌≤◌, ◌⊎◌, inl, inr, List, [], ◌∷◌, ◌++◌, length, take, drop, refl, sym, ap, ◌∙◌, subst, arith, append_assoc, append-nil, length-append}
+use Rattle.std.proofs.lemmas.List.{take-append-le, take-append-drop}
+use Rattle.std.proofs.Math.Seq.{take-append-add}
+use Rattle.std.proofs.lemmas.Bool.{cases_lt}
 use Rattle.cbor_data.specs.Value.{Value, depth_of}
 use Rattle.cbor_data.specs.Validity.{IsValid}
-use Rattle.cbor_data.specs.Preferred.{initial}
-use Rattle.cbor_data.specs.Forms.{Place, inside, one, two, four, eight, head_in, Form, uint_form, nint_form, bytes_form, bytes_chunks, text_form, text_chunks, array_form, array_to_break, pairs_form, pairs_to_break, tag_form, simple_inside, simple_next, float_form, Forms, no_forms, form, PairForms, no_pair_forms, pair_form, Chunk, AllText, flat, IsOk, meaning, HasText, HaveText, HavePairsText, IsWellFormed, Spells, Begins, IsUnfinished}
+use Rattle.cbor_data.specs.Forms.{Form, uint_form, nint_form, bytes_form, bytes_chunks, text_form, text_chunks, array_form, array_to_break, pairs_form, pairs_to_break, tag_form, simple_inside, simple_next, float_form, Forms, no_forms, form, PairForms, no_pair_forms, pair_form, Chunk, AllText, flat, IsOk, meaning, HasText, HaveText, HavePairsText, IsWellFormed, Spells, Begins, IsUnfinished}
 use Rattle.cbor_data.specs.Faults.{Bounds, last_offset, FaultKind, too_deep, too_long, BeginsWithin, StandsAt, malformed, deep, long, IsClearBefore, IsBadChunkAt, IsBadTextAt, IsBadTextAmong, IsBadTextAmongPairs, IsFaultOf, of_form, of_end, of_text, of_key, IsItem}
-use Rattle.cbor_data.proofs.Unique.{one_form, unique, unique_front}
+use Rattle.cbor_data.proofs.Unique.{one_form, unique_front}
 
 pub formed : {x : Value} {b : List ℕ} → Spells x b → IsWellFormed b
 formed s = record { written = s.written; ok = s.ok; is = s.is }

@@ -1,5 +1,5 @@
 -- The lines of a piece.
-use Rattle.std.proofs.Common.{◌≡◌, ◌≢◌, ℕ, zero, suc, ◌+◌, ◌-◌, ◌<◌, ◌≤◌, List, [], ◌∷◌, ◌++◌, length, take, drop, get_or, Option, Some, None, Result, Ok, Err, refl, sym, ap, ap₂, ◌∙◌, subst, arith, append-nil, append_assoc, length-append}
+use Rattle.std.proofs.Common.{◌≡◌, ℕ, zero, suc, ◌+◌, ◌-◌, ◌<◌, ◌≤◌, List, [], ◌∷◌, ◌++◌, length, take, drop, get_or, Option, Some, None, Result, Ok, refl, sym, ap, ap₂, ◌∙◌, subst, arith, append-nil, append_assoc, length-append}
 use Rattle.std.specs.declared.alloc.AllocError.{AllocError}
 use Rattle.std.proofs.lemmas.List.{take-append-drop, length-drop}
 use Rattle.std.proofs.Math.Seq.{take-length}
@@ -11,18 +11,14 @@ use Rattle.cddl_table.specs.declared.table.Table.{Table}
 use Rattle.seq_run.specs.declared.end.Cause.TheVariants.{Fault, Mismatch}
 use Rattle.seq_run.specs.declared.end.End.{End}
 use Rattle.seq_run.specs.declared.end.End.TheVariants.{Clean, Failed}
-use Rattle.seq_run.specs.declared.end.State.{State}
-use Rattle.seq_run.specs.declared.end.State.TheVariants as state
-use Rattle.seq_run.specs.declared.end.Stopped.{Stopped}
-use Rattle.seq_run.specs.declared.end.Stopped.TheVariants.{Ended, Memory}
 use Rattle.seq_run.specs.declared.session.Step.{Step}
 use Rattle.seq_run.specs.declared.session.Step.TheVariants as step
 use Rattle.seq_run.specs.Ends.{Misses, Ends}
 use Rattle.seq_run.specs.Progress.{Progress}
 use Rattle.seq_run.specs.Standing.{IsRejected}
-use Rattle.seq_run.specs.Answers.{IsOpen, IsEnded, IsFed, IsFinish, IsLent, IsStep, IsStepAnswer}
-use Rattle.seq_run.specs.Report.{item_line, item_lines, end_line, IsShown}
-use Rattle.seq_run.specs.Running.{Adds, IsSettled, IsDecided, IsLast, IsPieceDone}
+use Rattle.seq_run.specs.Answers.{IsOpen, IsEnded, IsLent, IsStep, IsStepAnswer}
+use Rattle.seq_run.specs.Report.{item_line, item_lines, IsShown}
+use Rattle.seq_run.specs.Running.{Adds, IsSettled}
 
 -- one line more
 pub item_lines_more : (n : ℕ) (fs : List Found) (f : Found) → item_lines n (fs ++ f ∷ []) ≡ item_lines n fs ++ item_line (n + length fs) f

@@ -1,11 +1,11 @@
 -- A run, from piece to piece.
-use Rattle.std.proofs.Common.{◌≡◌, ◌≢◌, ℕ, zero, suc, ◌+◌, ◌-◌, ◌*◌, ◌^◌, ◌<◌, ◌≤◌, ◌⊎◌, inl, inr, min, List, [], ◌∷◌, ◌++◌, length, take, drop, Option, Some, None, Result, Ok, Err, IfSome, refl, sym, ap, ap₂, ◌∙◌, subst, arith, append-nil, append_assoc, length-append}
+use Rattle.std.proofs.Common.{◌≡◌, ◌≢◌, ℕ, suc, ◌+◌, ◌-◌, ◌*◌, ◌^◌, ◌<◌, ◌≤◌, ◌⊎◌, inl, inr, List, [], ◌∷◌, ◌++◌, length, take, Option, Some, None, IfSome, refl, sym, ap, ◌∙◌, subst, arith, append-nil, append_assoc, length-append}
 use Rattle.std.proofs.Math.Seq.{take-append-add}
 use Rattle.std.proofs.lemmas.Bool.{cases_lt}
 use Rattle.std.proofs.lemmas.List.{length-take-le}
 use Rattle.std.specs.Io.KnownBytes as bytes
 use Rattle.cbor_data.specs.Value.{Value}
-use Rattle.cbor_data.specs.Faults.{Bounds, last_offset, IsItem}
+use Rattle.cbor_data.specs.Faults.{Bounds}
 use Rattle.cbor_data.specs.Sequence as sequence
 use Rattle.cbor_data.specs.Sequence.{Found, Takes, none, IsRunOf, EndsBy, cleanly, at_fault, at_mismatch}
 use Rattle.cbor_item.specs.Counted.{HasRisen, one_more}
@@ -13,14 +13,12 @@ use Rattle.cddl_table.specs.declared.table.Table.{Table}
 use Rattle.seq_run.specs.declared.end.Cause.TheVariants.{Fault, Mismatch}
 use Rattle.seq_run.specs.declared.end.End.{End}
 use Rattle.seq_run.specs.declared.end.End.TheVariants.{Clean, Failed}
-use Rattle.seq_run.specs.declared.end.Stopped.{Stopped}
-use Rattle.seq_run.specs.declared.end.Stopped.TheVariants.{Ended}
-use Rattle.seq_run.specs.Ends.{Accepts, Misses, BeginsWith, IsRun, Ends}
+use Rattle.seq_run.specs.Ends.{Accepts, BeginsWith, IsRun, Ends}
 use Rattle.seq_run.specs.Progress.{Progress}
 use Rattle.seq_run.specs.Standing.{IsNext, IsRejected}
 use Rattle.seq_run.specs.Answers.{IsOpen, IsLent}
-use Rattle.seq_run.specs.Report.{item_line, item_lines, end_line, report}
-use Rattle.seq_run.specs.Running.{IsReported, IsWhole, IsBeginning, WritesFirst, WritesItems, WritesRun, Adds, IsSettled, IsLast, IsPieceDone}
+use Rattle.seq_run.specs.Report.{item_line, item_lines, end_line}
+use Rattle.seq_run.specs.Running.{IsReported, IsWhole, IsBeginning, WritesFirst, WritesItems, WritesRun, IsSettled, IsLast, IsPieceDone}
 use Rattle.seq_run.proofs.Ending.{open_end}
 use Rattle.seq_run.proofs.Runs.{same_front, same_takes, takes_extend, begins_run}
 

@@ -1,5 +1,5 @@
 -- There is one run of a stream.
-use Rattle.std.proofs.Common.{◌≡◌, ◌≢◌, ℕ, zero, suc, ◌+◌, ◌<◌, ◌≤◌, List, [], ◌∷◌, ◌++◌, length, refl, sym, ap, ap₂, ◌∙◌, subst, arith, append_assoc, append-nil, length-append}
+use Rattle.std.proofs.Common.{◌≡◌, ℕ, ◌+◌, ◌<◌, ◌≤◌, List, [], ◌∷◌, ◌++◌, length, refl, sym, ap, ap₂, ◌∙◌, subst, arith, append_assoc, length-append}
 use Rattle.cbor_data.specs.Value.{Value}
 use Rattle.cbor_data.specs.Forms.{inside, uint_form, IsWellFormed}
 use Rattle.cbor_data.specs.Faults.{Bounds, IsItem}

@@ -1,10 +1,9 @@
 -- How a session's parts go on.
-use Rattle.std.proofs.Common.{◌≡◌, ◌≢◌, ℕ, zero, suc, ◌+◌, ◌-◌, ◌^◌, ◌<◌, ◌≤◌, ◌⊎◌, inl, inr, List, [], ◌∷◌, ◌++◌, length, take, drop, map, Option, Some, None, refl, sym, ap, ◌∙◌, subst, arith, append_assoc, append-nil, length-append}
+use Rattle.std.proofs.Common.{◌≡◌, ◌≢◌, ℕ, ◌+◌, ◌<◌, ◌≤◌, inl, inr, List, [], ◌∷◌, ◌++◌, length, take, drop, map, Option, Some, None, refl, sym, ap, ◌∙◌, subst, arith, append_assoc, append-nil, length-append}
 use Rattle.std.proofs.lemmas.List.{take-append-drop, length-take-le}
 use Rattle.cbor_data.specs.Value.{Value}
-use Rattle.cbor_data.specs.Forms.{IsWellFormed}
 use Rattle.cbor_data.specs.Faults.{Bounds, last_offset, IsClearBefore, IsItem}
-use Rattle.cbor_data.specs.Sequence.{Found, Takes, none}
+use Rattle.cbor_data.specs.Sequence.{Found, none}
 use Rattle.cbor_read.specs.Told.{IsTold, IsRead}
 use Rattle.cbor_read.specs.Reading.{Reading}
 use Rattle.cbor_read.specs.Answers.{IsGoingOn, IsTaken, IsRefused, IsUsedUpTo}
@@ -14,19 +13,17 @@ use Rattle.cbor_read.specs.declared.fault.FaultKind.TheVariants.{NotYet, Reserve
 use Rattle.cddl_table.specs.Matches.{Matches}
 use Rattle.cddl_table.specs.declared.table.Table.{Table}
 use Rattle.seq_run.specs.declared.end.Cause.TheVariants.{Fault, Mismatch}
-use Rattle.seq_run.specs.declared.end.End.{End}
-use Rattle.seq_run.specs.declared.end.End.TheVariants.{Clean, Failed}
+use Rattle.seq_run.specs.declared.end.End.TheVariants.{Failed}
 use Rattle.seq_run.specs.declared.end.Stopped.{Stopped}
-use Rattle.seq_run.specs.declared.end.Stopped.TheVariants.{Ended, Memory}
+use Rattle.seq_run.specs.declared.end.Stopped.TheVariants.{Memory}
 use Rattle.seq_run.specs.declared.session.Placed.{Placed}
-use Rattle.seq_run.specs.Ends.{Accepts, BeginsWith, IsRun, Ends}
+use Rattle.seq_run.specs.Ends.{Accepts, BeginsWith, Ends}
 use Rattle.seq_run.specs.Placed.{found_of}
-use Rattle.seq_run.specs.Progress.{Progress}
-use Rattle.seq_run.specs.Standing.{IsHeld, IsNext, IsRejected, IsRunning}
-use Rattle.seq_run.specs.Answers.{IsUndecided, IsOpen, IsEnded, IsCutShort}
-use Rattle.seq_run.proofs.Fronts.{formed, clear_placed}
+use Rattle.seq_run.specs.Standing.{IsHeld, IsNext, IsRunning}
+use Rattle.seq_run.specs.Answers.{IsOpen, IsCutShort}
+use Rattle.seq_run.proofs.Fronts.{clear_placed}
 use Rattle.seq_run.proofs.Runs.{takes_extend, takes_snoc, takes_count, formed_some}
-use Rattle.seq_run.proofs.Ending.{clean_end, fault_end, missed_end, open_end}
+use Rattle.seq_run.proofs.Ending.{fault_end, missed_end, open_end}
 
 -- a new session
 pub started : (table : Table) (reader : Reading) (fed : List ℕ) (taken : List Placed) (l : Bounds) → reader ≡ record { limits = l; offset = 0; fed = []; stopped = None } → fed ≡ [] → taken ≡ [] →

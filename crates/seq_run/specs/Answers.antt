@@ -1,8 +1,8 @@
 -- What the answers of a session's calls say.
-use Rattle.std.specs.Prelude.{◌≡◌, ◌≢◌, ℕ, ◌+◌, ◌<◌, ◌≤◌, List, [], ◌∷◌, ◌++◌, length, take, map, Option, Some, None, Result, Ok, Err, alloc_error}
+use Rattle.std.specs.Prelude.{◌≡◌, ℕ, ◌<◌, ◌≤◌, List, [], ◌∷◌, ◌++◌, length, take, map, Option, Some, None, Result, Ok, Err, alloc_error}
 use Rattle.std.specs.declared.alloc.AllocError.{AllocError}
 use Rattle.cbor_data.specs.Value.{Value}
-use Rattle.cbor_data.specs.Faults.{Bounds, last_offset}
+use Rattle.cbor_data.specs.Faults.{last_offset}
 use Rattle.cbor_data.specs.Sequence.{Found}
 use Rattle.cbor_read.specs.declared.fault.FaultKind.{FaultKind}
 use Rattle.cbor_read.specs.declared.fault.FaultKind.TheVariants as kind
@@ -15,7 +15,7 @@ use Rattle.seq_run.specs.declared.end.Stopped.{Stopped}
 use Rattle.seq_run.specs.declared.end.Stopped.TheVariants.{Ended, Memory}
 use Rattle.seq_run.specs.declared.session.Step.{Step}
 use Rattle.seq_run.specs.declared.session.Step.TheVariants as step
-use Rattle.seq_run.specs.Ends.{BeginsWith, IsRun, Ends}
+use Rattle.seq_run.specs.Ends.{BeginsWith, Ends}
 use Rattle.seq_run.specs.Standing.{IsRejected}
 use Rattle.seq_run.specs.Progress.{Progress}
 

@@ -1,5 +1,5 @@
 -- The report of a stream: a line for each accepted item, and one for its end.
-use Rattle.std.specs.Prelude.{ℕ, zero, suc, List, [], ◌∷◌, ◌++◌, Option, Some, None, codes, decimal}
+use Rattle.std.specs.Prelude.{ℕ, zero, suc, List, [], ◌∷◌, ◌++◌, Option, Some, codes, decimal}
 use Rattle.cbor_data.specs.Value.{Value}
 use Rattle.cbor_data.specs.Sequence.{Found}
 use Rattle.cbor_data.specs.Notation.{notation}

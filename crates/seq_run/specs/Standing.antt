@@ -1,5 +1,5 @@
 -- What holds of a session's parts.
-use Rattle.std.specs.Prelude.{◌≡◌, ◌≢◌, ℕ, ◌+◌, ◌^◌, ◌<◌, ◌≤◌, ◌⊎◌, List, [], ◌∷◌, ◌++◌, length, Option, Some, None}
+use Rattle.std.specs.Prelude.{◌≡◌, ℕ, ◌+◌, ◌≤◌, ◌⊎◌, List, [], ◌++◌, length, Option, Some, None}
 use Rattle.cbor_data.specs.Value.{Value}
 use Rattle.cbor_data.specs.Forms.{IsUnfinished}
 use Rattle.cbor_data.specs.Faults.{Bounds, last_offset, IsClearBefore, IsItem}
@@ -7,9 +7,9 @@ use Rattle.cbor_data.specs.Sequence.{Found}
 use Rattle.cbor_read.specs.Initial.{IsNotYet}
 use Rattle.cbor_read.specs.Reading.{Reading}
 use Rattle.cddl_table.specs.declared.table.Table.{Table}
-use Rattle.seq_run.specs.declared.end.Cause.TheVariants.{Fault, Mismatch}
+use Rattle.seq_run.specs.declared.end.Cause.TheVariants.{Mismatch}
 use Rattle.seq_run.specs.declared.end.End.{End}
-use Rattle.seq_run.specs.declared.end.End.TheVariants.{Clean, Failed}
+use Rattle.seq_run.specs.declared.end.End.TheVariants.{Failed}
 use Rattle.seq_run.specs.declared.end.Stopped.{Stopped}
 use Rattle.seq_run.specs.declared.end.Stopped.TheVariants.{Ended, Memory}
 use Rattle.seq_run.specs.Ends.{BeginsWith, IsRun, Ends}

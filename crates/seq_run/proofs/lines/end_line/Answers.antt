@@ -1,4 +1,3 @@
-use Rattle.std.proofs.Common.{[], option_copied}
 use Rattle.seq_run.proofs.Appending.{seven_parts, from_nothing}
 use Rattle.seq_run.proofs.lines.end_line.Goals as goal
 

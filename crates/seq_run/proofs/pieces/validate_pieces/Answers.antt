@@ -1,5 +1,5 @@
-use Rattle.std.proofs.Common.{List, ℕ, flat_map, take, ◌++◌, sym, ap, ◌∙◌, subst}
-use Rattle.seq_run.proofs.Cutting.{IsCut, cut_start, cut_more, finish_cut, joined_more, joined_all}
+use Rattle.std.proofs.Common.{flat_map, take, sym}
+use Rattle.seq_run.proofs.Cutting.{cut_start, cut_more, finish_cut, joined_more, joined_all}
 use Rattle.seq_run.proofs.pieces.validate_pieces.Goals as goal
 
 pub loop-piece-init : goal.loop-piece-init

@@ -1,5 +1,4 @@
-use Rattle.std.proofs.Common.{refl, ◌∙◌, ap, sym, subst}
-use Rattle.seq_run.proofs.Reporting.{IsReporting, reported_item, range_from}
+use Rattle.seq_run.proofs.Reporting.{reported_item, range_from}
 use Rattle.seq_run.proofs.running.report_items.Goals as goal
 
 pub steps-preserved : goal.steps-preserved

@@ -1,4 +1,4 @@
-use Rattle.std.proofs.Common.{◌≡◌, ℕ, List, [], take, length, None, refl, sym, ap, ◌∙◌, arith}
+use Rattle.std.proofs.Common.{◌≡◌, take, None, refl, ◌∙◌, arith}
 use Rattle.cbor_item.specs.Counted.{device_of, failures_of}
 use Rattle.seq_run.proofs.RunLoop.{begin_run, read_failed, no_memory, write_failed, reported_all, goes_on, no_bytes}
 use Rattle.seq_run.proofs.running.run.Goals as goal

@@ -1,4 +1,4 @@
-use Rattle.std.proofs.Common.{◌≡◌, ℕ, List, [], ◌∷◌, ◌++◌, map, arith, refl, sym, ap, ◌∙◌, true, false}
+use Rattle.std.proofs.Common.{[], ◌∷◌, ◌++◌, map, arith, refl, sym, ◌∙◌}
 use Rattle.std.proofs.lemmas.Bool.{iff_false}
 use Rattle.seq_run.specs.Placed.{found_of}
 use Rattle.seq_run.proofs.Steps.{more_fits, more_kept, more_step, item_fits, item_kept, missed_kept, missed_step, fault_kept, fault_step, cut_step, taking_limits, failing_limits, noted, kept_items}

@@ -1,6 +1,6 @@
 use Rattle.std.proofs.Common.{map, ap, ◌∙◌, Err}
 use Rattle.seq_run.specs.Placed.{found_of}
-use Rattle.seq_run.proofs.Steps.{Kept, clean_kept, failed_kept, finished}
+use Rattle.seq_run.proofs.Steps.{clean_kept, failed_kept, finished}
 use Rattle.seq_run.proofs.session.Session.finish.Goals as goal
 use Rattle.seq_run.proofs.session.Session.finish.Goals.{in-Ok, in-Err-Fault}
 

@@ -1,7 +1,4 @@
-use Rattle.std.proofs.Common.{refl, inl, arith}
-use Rattle.cbor_data.specs.Sequence.{none}
 use Rattle.seq_run.proofs.Transitions.{started}
-use Rattle.seq_run.proofs.Steps.{more_step}
 use Rattle.seq_run.proofs.session.Session.new.Goals as goal
 
 pub invariant_of-result : goal.invariant_of-result
