@@ -1,5 +1,5 @@
 -- What clap's clauses say of the words.
-use Rattle.std.proofs.Common.{◌≡◌, ℕ, List, [], ◌∷◌, Bool, true, false, codes, Option, Some, None, option_map, refl, sym, ap, ◌∙◌, subst, bytes_eq, if◌then◌else◌, Box}
+use Rattle.std.proofs.Common.{◌≡◌, List, Bool, true, false, codes, Option, Some, None, option_map, refl, sym, ap, ◌∙◌, bytes_eq, if◌then◌else◌, Box}
 use Rattle.clap.specs.Words.{App, Row, Text, is_simple, subcommand_of, first_of, HasMatchesOf, subcommand_rows_of, subcommand_name_of, rows_of, found_of, first_value}
 use Rattle.clap.specs.declared.parser.matches.ArgMatches.{ArgMatches}
 use Rattle.clap.specs.Simple.{subcommand_rows}

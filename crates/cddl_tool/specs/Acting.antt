@@ -1,12 +1,11 @@
 -- What the program's status says.
-use Rattle.std.specs.Prelude.{◌≡◌, ℕ, List, Option, IfSome}
+use Rattle.std.specs.Prelude.{◌≡◌, ℕ, List, Option}
 use Rattle.cbor_data.specs.Value.{Value}
 use Rattle.cbor_data.specs.Faults.{Bounds}
 use Rattle.cddl_table.specs.declared.table.Table.{Table}
 use Rattle.seq_run.specs.declared.end.End.{End}
 use Rattle.seq_run.specs.declared.end.End.TheVariants.{Clean, Failed}
-use Rattle.seq_run.specs.declared.running.RunFault.{RunFault}
-use Rattle.seq_run.specs.Running.{IsReported, IsFault}
+use Rattle.seq_run.specs.Running.{IsReported}
 
 -- the limits where none are given
 abbrev pub default_bounds : Bounds

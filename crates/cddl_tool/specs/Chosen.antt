@@ -1,5 +1,5 @@
 -- The command line that the program reads, and what it gives.
-use Rattle.std.specs.Prelude.{◌≡◌, ℕ, Bool, true, List, [], ◌∷◌, map, codes, Option, Some, None, option_map, if◌then◌else◌, string_bytes}
+use Rattle.std.specs.Prelude.{◌≡◌, true, List, [], codes, Option, Some, None, option_map, if◌then◌else◌, string_bytes}
 use Rattle.std.specs.Str.{bytes_eq}
 use Rattle.clap.specs.Words.{App, Row, Rule, Text, new_app, new_rule, with_rule, with_subcommand, subcommand_of, first_of}
 use Rattle.cddl_tool.specs.declared.choice.Options.{Options}

@@ -1,8 +1,8 @@
-use Rattle.std.proofs.Common.{rules, refl, ap, ap₂, ◌∙◌, ◌≡◌, codes, true}
+use Rattle.std.proofs.Common.{rules, ap, ap₂, ◌∙◌, ◌≡◌, codes, true}
 use Rattle.std.proofs.lemmas.Result.{IfOk-weaker}
 use Rattle.clap.specs.Simple.{app_of_fields}
 use Rattle.clap.specs.Words.{App, app_of, rule_of, with_rule, with_subcommand, new_app}
-use Rattle.cddl_tool.specs.Chosen.{spec_rule, file_rule, validate_app, top_app, program_app}
+use Rattle.cddl_tool.specs.Chosen.{spec_rule, file_rule, validate_app, top_app}
 use Rattle.cddl_tool.proofs.words.command.Goals as goal
 
 pub returns : goal.returns

@@ -1,4 +1,4 @@
-use Rattle.std.proofs.Common.{◌≡◌, ap, ◌∙◌, sym, map, codes, Some, refl, string_bytes, option_map}
+use Rattle.std.proofs.Common.{◌≡◌, codes, Some, refl}
 use Rattle.clap.specs.Words.{subcommand_name_of}
 use Rattle.cddl_tool.proofs.Meeting.{met, chosen_value, no_value}
 use Rattle.cddl_tool.proofs.words.options.Goals as goal
