@@ -1,0 +1,30 @@
+# Needs rt (the Rattle toolchain) and python3 on PATH. For what each target shows see README.md.
+
+RT      = rt
+PYTHON  = python3 -B
+PREFIX  = /usr/local
+
+MAKEFLAGS += --no-print-directory
+
+.PHONY: build run test bench install clean
+
+# Proves the program and every crate below it, and leaves it at build/cddlseq. 'rt run' is what proves, compiles and
+# links; it also runs the program, here for its help.
+build:
+	cd crates/cddl_tool && $(RT) run -- --help > /dev/null
+	install -D -m 755 crates/cddl_tool/out/cddl_tool build/cddlseq
+
+run: build
+	build/cddlseq validate examples/readings.cddl examples/readings.cborseq
+
+test:
+	@$(PYTHON) tests/gate.py --rt "$(RT)"
+
+bench: build
+	@$(PYTHON) bench/run.py build/cddlseq
+
+install: build
+	install -D -m 755 build/cddlseq "$(DESTDIR)$(PREFIX)/bin/cddlseq"
+
+clean:
+	rm -rf build bench/data crates/*/out
