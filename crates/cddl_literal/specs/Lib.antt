@@ -1,0 +1,6 @@
+pub mod Bytes
+pub mod Numbers
+pub mod Escapes
+pub mod Strings
+pub mod Prefixed
+pub mod Literals
