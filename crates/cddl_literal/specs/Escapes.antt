@@ -42,7 +42,7 @@ IsLowSurrogate n = (0xDC00 ≤ n) × (n < 0xE000)
 
 -- the character that two surrogates stand for
 abbrev pub joined : ℕ → ℕ → ℕ
-joined high low = 0x10000 + ((high - 0xD800) * 1024 + (low - 0xDC00))
+joined high low = 0x10000 + (high - 0xD800) * 1024 + (low - 0xDC00)
 
 -- From i to j stands an escape that means the character v.
 pub data Escape (quote : Quote) (s : List ℕ) (i j v : ℕ) : Type 0 where

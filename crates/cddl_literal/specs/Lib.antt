@@ -1,3 +1,4 @@
+pub mod Answers
 pub mod Bytes
 pub mod Numbers
 pub mod Escapes

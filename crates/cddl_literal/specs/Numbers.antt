@@ -4,7 +4,7 @@ use Rattle.hex.specs.Hex.{hex_digit_value, is_hex_digit}
 use Rattle.cddl_literal.specs.Bytes.{IsRun, is_decimal_digit, is_binary_digit, is_x, is_b}
 
 -- the value of a digit, of both cases
-abbrev pub digit_value : ℕ → ℕ
+unfoldable pub digit_value : ℕ → ℕ
 digit_value b = unwrap_or (hex_digit_value b) 0
 
 -- the number that digits in a base stand for, behind those that stand for `before`

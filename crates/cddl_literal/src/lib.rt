@@ -1,8 +1,17 @@
-//! What literals of CDDL stand for.
+//! What the literals of CDDL stand for: numbers, text strings and byte strings (RFC 8610, appendix B;
+//! RFC 9682, section 2.1).
+//!
+//! A place is a byte's index in a source. A place past the end reads as 0, which no literal holds.
 #![tactic(auto)]
 
-ghost use Rattle.std.specs.Prelude.{◌≡◌};
-ghost use Rattle.cddl_literal.specs.Literals.{view};
+mod digits;
+mod escapes;
+mod numbers;
+mod prefixed;
+mod strings;
+
+pub use escapes::{Escape, escape_at};
+pub use strings::characters_end;
 
 /// What stands around a string.
 #[derive(Clone, Copy, Debug, PartialEq, Eq)]
