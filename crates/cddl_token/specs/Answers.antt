@@ -1,0 +1,39 @@
+-- What the code's tokens and refusals say.
+use Rattle.std.specs.Prelude.{◌≡◌, ℕ, ◌<◌, ◌≤◌, ◌^◌, List, [], ◌∷◌, length, slice_range, IsUtf8, ◌⊎◌, Result, Ok, Err, map, All}
+use Rattle.cddl_token.specs.declared.Code.{Code}
+use Rattle.cddl_token.specs.declared.Code.TheVariants.{NotUtf8, SourceTooLong}
+use Rattle.cddl_token.specs.declared.Token.{Token}
+use Rattle.cddl_token.specs.declared.Refusal.{Refusal}
+use Rattle.cddl_token.specs.declared.Refusal.TheVariants.{At, Memory}
+use Rattle.cddl_token.specs.Tokens.{Spanned, Tokenized, Refused}
+use Rattle.std.specs.Str.Lossy.{utf8_valid_len}
+
+-- a token without its text
+abbrev pub span : Token → Spanned
+span t = record { kind = t.kind; start = t.start; end = t.end }
+
+-- the token's text is the part of the source where it stands
+abbrev pub IsCut : List ℕ → Token → Type 0
+IsCut s t = t.text.now ≡ slice_range s t.start t.end
+
+-- each begins at `at` or later, behind the one before, and ends at `end` or earlier
+abbrev pub InOrder : ℕ → ℕ → List Spanned → Type 0
+InOrder at end [] = at ≤ end
+InOrder at end (t ∷ ts) = (at ≤ t.start) × (t.start ≤ t.end) × InOrder t.end end ts
+
+-- s is a text of at most 1,048,576 bytes
+abbrev pub IsSource : List ℕ → Type 0
+IsSource s = (length s ≤ 1048576) × IsUtf8 s
+
+-- s is a text of at most 1,048,576 bytes, and ts are its tokens
+abbrev pub IsTokenized : List ℕ → List Spanned → Type 0
+IsTokenized s ts = IsSource s × Tokenized s 0 ts
+
+-- Why s has no tokens: it is too long; or it is no text, which shows where its longest front that is text ends; or a token can't be read.
+abbrev pub IsRefused : List ℕ → Code → ℕ → Type 0
+IsRefused s code at = ((1048576 < length s) × (code ≡ SourceTooLong) × (at ≡ 1048576)) ⊎ (((length s ≤ 1048576) × (IsUtf8 s → ⊥) × (code ≡ NotUtf8) × (at ≡ utf8_valid_len s)) ⊎ (IsSource s × Refused s 0 code at))
+
+-- the refusal is why s has no tokens, or memory ran out
+abbrev pub Refuses : List ℕ → Refusal → Type 0
+Refuses s (At code at) = IsRefused s code at
+Refuses s Memory = Unit {0}
