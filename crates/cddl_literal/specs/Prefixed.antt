@@ -59,7 +59,9 @@ is_padding b = b == 61
 -- The bytes that base64 stands for, with all of its padding where there is any. No rest of one
 -- character and no nonzero bits to spare are taken.
 unfoldable pub base64_bytes : List ℕ → Option (List ℕ)
-base64_bytes d = result_ok (base64_decode_of (if list_any is_padding d then standard else standard_no_pad) (map standard_letter d))
+base64_bytes d =
+    if list_any is_padding d then result_ok (base64_decode_of standard (map standard_letter d))
+    else result_ok (base64_decode_of standard_no_pad (map standard_letter d))
 
 -- The bytes that hex digits stand for, an even number of them.
 unfoldable pub hex_bytes : List ℕ → Option (List ℕ)

@@ -11,6 +11,7 @@ mod prefixed;
 mod strings;
 
 pub use escapes::{Escape, escape_at};
+pub use prefixed::{bytes_between, coded_end};
 pub use strings::characters_end;
 
 /// What stands around a string.
