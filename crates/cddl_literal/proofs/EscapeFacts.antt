@@ -1,6 +1,7 @@
 -- Which escapes stand at a place.
-use Rattle.std.proofs.Common.{◌≡◌, ◌≢◌, ℕ, ◌+◌, ◌≤◌, inl, inr, Bool, true, false, List, Some, slice_index, sym, refl, ap, subst, ◌∙◌, ⊎_elim, arith}
+use Rattle.std.proofs.Common.{◌<◌, ◌-◌, ◌≡◌, ◌≢◌, ℕ, ◌+◌, ◌≤◌, inl, inr, Bool, true, false, List, Some, slice_index, sym, refl, ap, subst, ◌∙◌, ⊎_elim, arith}
 use Rattle.std.proofs.lemmas.Bool.{false≢true, cases_lt, cases_eq}
+use Rattle.std.proofs.lemmas.Bool.Decides.{nat_tests}
 use lib.Utf8.{scalar_cases}
 use Rattle.std.specs.Char.{IsScalar}
 use Rattle.hex.specs.Hex.{is_hex_digit}
@@ -121,3 +122,17 @@ escape_one {s} {i} e f =
           let second = letter_of f other in
           (omega (arith, first.1, second.1), some_same (sym first.0 ∙ second.0))
     ]
+
+letter_ascii : (quote : Quote) (b v : ℕ) → letter_in quote b ≡ Some v → b < 128
+letter_ascii Double b v h = grind (arith, nat_tests)
+letter_ascii Single b v h = grind (arith, nat_tests)
+
+hex_ascii : (b : ℕ) → is_hex_digit b ≡ true → b < 128
+hex_ascii b h = grind (arith, nat_tests)
+
+-- the last byte of an escape is ASCII
+pub escape_ascii : {quote : Quote} {s : List ℕ} {i j v : ℕ} → Escape quote s i j v → slice_index s (j - 1) < 128
+escape_ascii {quote} {s} {i} {j} {v} (letter b l e) = let last : i + 1 ≡ j - 1 = omega arith in subst (λ k. slice_index s k < 128) last (letter_ascii quote (slice_index s (i + 1)) v l)
+escape_ascii {quote} {s} {i} {j} {v} (unit u c e) = let last : i + 5 ≡ j - 1 = omega arith in subst (λ k. slice_index s k < 128) last (hex_ascii (slice_index s (i + 5)) (u.digits (i + 5) (omega arith) (omega arith)))
+escape_ascii {quote} {s} {i} {j} {v} (pair h l u a w b f e) = let last : i + 6 + 5 ≡ j - 1 = omega arith in subst (λ k. slice_index s k < 128) last (hex_ascii (slice_index s (i + 6 + 5)) (w.digits (i + 6 + 5) (omega arith) (omega arith)))
+escape_ascii {quote} {s} {i} {j} {v} (braces k b u o r c f a e) = let last : k ≡ j - 1 = omega arith in subst (λ k. slice_index s k < 128) last (omega (arith, c))

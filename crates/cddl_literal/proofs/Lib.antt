@@ -5,3 +5,5 @@ pub mod Ranges
 pub mod StringFacts
 pub mod PrefixedFacts
 pub mod DecodedFacts
+pub mod UintFacts
+pub mod ValueFacts

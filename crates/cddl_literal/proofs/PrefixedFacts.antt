@@ -1,9 +1,9 @@
 -- What stands in a byte string with prefix from a place on.
-use Rattle.std.proofs.Common.{◌≡◌, ◌≢◌, ℕ, ◌+◌, ◌-◌, ◌<◌, ◌≤◌, ◌⊎◌, inl, inr, Bool, true, false, not, ◌&&◌, ◌||◌, ◌==◌, List, [], ◌∷◌, ◌++◌, length, slice_index, sym, refl, ap, subst, ◌∙◌, ⊎_elim, arith}
+use Rattle.std.proofs.Common.{◌≡◌, ◌≢◌, ℕ, ◌+◌, ◌<◌, ◌≤◌, ◌⊎◌, inl, inr, true, false, List, [], ◌∷◌, length, slice_index, sym, ap, subst, ◌∙◌, ⊎_elim, arith}
 use Rattle.std.proofs.lemmas.Bool.{false≢true, cases_lt}
 use Rattle.std.proofs.lemmas.Bool.Decides.{nat_tests}
 use Rattle.std.proofs.lemmas.List.{get_or_past}
-use Rattle.cddl_literal.specs.Bytes.{Each, is_blank}
+use Rattle.cddl_literal.specs.Bytes.{is_blank}
 use Rattle.cddl_literal.specs.Prefixed.{Coded, none, blank, line, comment, other, IsCrLf, IsCommentTo, EndsComment, is_in_inner_comment, is_other, HoldsCoded}
 use Rattle.cddl_literal.proofs.EscapeFacts.{run_one}
 

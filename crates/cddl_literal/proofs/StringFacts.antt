@@ -1,13 +1,17 @@
 -- What characters stand from a place on.
-use Rattle.std.proofs.Common.{◌≡◌, ℕ, ◌+◌, ◌≤◌, ◌⊎◌, inl, inr, true, false, List, [], ◌∷◌, ◌++◌, length, slice_index, sym, refl, ap, subst, ◌∙◌, arith}
-use Rattle.std.proofs.lemmas.Bool.{false≢true}
+use Rattle.std.proofs.Common.{suc, zero, ⊎_elim, ◌<◌, ◌≡◌, ℕ, ◌+◌, ◌≤◌, ◌⊎◌, inl, inr, true, false, List, [], ◌∷◌, ◌++◌, length, slice_index, sym, refl, ap, subst, ◌∙◌, arith}
+use Rattle.std.proofs.lemmas.Bool.{false≢true, cases_lt}
 use Rattle.std.proofs.lemmas.List.{get_or_past}
+use Rattle.std.proofs.lemmas.Bool.Decides.{nat_tests}
+use Rattle.std.specs.Prelude.{slice_range}
 use Rattle.std.specs.Char.{encode_utf8}
+use Rattle.cddl_literal.specs.Bytes.{Each}
 use Rattle.cddl_literal.specs.Escapes.{Escape}
 use Rattle.cddl_literal.specs.Strings.{closing, is_plain, Characters, none, plain, escape, line, HoldsCharacters}
 use Rattle.cddl_literal.specs.Prefixed.{IsCrLf}
 use Rattle.cddl_literal.specs.declared.Quote.{Quote}
 use Rattle.cddl_literal.specs.declared.Quote.TheVariants.{Double, Single}
+use Rattle.cddl_literal.proofs.Ranges.{range_none, range_more}
 use Rattle.cddl_literal.proofs.EscapeFacts.{escape_backslash, escape_past, escape_one}
 
 plain_other : (q : Quote) (b c : ℕ) → b ≡ c → is_plain q c ≡ false → is_plain q b ≡ true → ⊥
@@ -94,3 +98,56 @@ end_stuck q s i past =
       escape = λ k c x. absurd (let b = escape_backslash x in omega arith);
       line = λ o h. absurd (omega (arith, h.0));
     }
+
+pub characters_le : {q : Quote} {s : List ℕ} {i j : ℕ} {v : List ℕ} → Characters q s i j v → i ≤ j
+characters_le (none e f) = omega arith
+characters_le (plain b r e) = let le = characters_le r in omega arith
+characters_le (escape x r e) = let le = characters_le r in let past = escape_past x in omega arith
+characters_le (line o c f r e) = let le = characters_le r in omega arith
+
+pub characters_none : {q : Quote} {s : List ℕ} {i j : ℕ} {v : List ℕ} → Characters q s i j v → i ≡ j → v ≡ []
+characters_none (none e f) same = f
+characters_none (plain b r e) same = absurd (let le = characters_le r in omega arith)
+characters_none (escape x r e) same = absurd (let le = characters_le r in let past = escape_past x in omega arith)
+characters_none (line o c f r e) same = absurd (let le = characters_le r in omega arith)
+
+-- what stands before the end goes on
+pub moves : {q : Quote} {s : List ℕ} {i k j : ℕ} (front : List ℕ) {v : List ℕ} → i < j → Goes q s i k j front v → (w : List ℕ) × Characters q s k j w × (v ≡ front ++ w)
+moves front lt (inl h) = absurd (omega (arith, h.0))
+moves front lt (inr h) = h
+
+-- a character that is no escape and no line stands for itself
+pub is_plain_here : {q : Quote} {s : List ℕ} {i j : ℕ} {v : List ℕ} → i < j → ((k c : ℕ) → Escape q s i k c → ⊥) → (q ≡ Single → IsCrLf s i → ⊥) → Characters q s i j v → is_plain q (slice_index s i) ≡ true
+is_plain_here lt no_escape no_line (none e f) = absurd (omega arith)
+is_plain_here lt no_escape no_line (plain b r e) = b
+is_plain_here lt no_escape no_line (escape x r e) = absurd (no_escape _ _ x)
+is_plain_here lt no_escape no_line (line o c f r e) = absurd (no_line o (c, f))
+
+-- bytes that stand for themselves, n of them
+pub after_run : (n : ℕ) (q : Quote) (s : List ℕ) (i e j : ℕ) (v : List ℕ) → i + n ≡ e → e ≤ j → e ≤ length s → Each (is_plain q) s i e → Characters q s i j v → (w : List ℕ) × Characters q s e j w × (v ≡ slice_range s i e ++ w)
+after_run zero q s i e j v sum le in_source all r =
+    let same : i ≡ e = omega arith in
+    (v, subst (λ k. Characters q s k j v) same r, sym (ap (λ k. slice_range s k e ++ v) same ∙ ap (λ l. l ++ v) (range_none s e)))
+after_run (suc n) q s i e j v sum le in_source all r =
+    let next = moves (slice_index s i ∷ []) (omega arith) (after_plain (all i (omega arith) (omega arith)) r) in
+    let rest = after_run n q s (i + 1) e j next.0 (omega arith) le in_source (λ k low high. all k (omega arith) high) next.1 in
+    (rest.0, rest.1, next.2 ∙ ap (λ l. slice_index s i ∷ l) rest.2 ∙ sym (ap (λ l. l ++ rest.0) (range_more s i e (omega arith) (omega arith))))
+
+-- bytes that stand for themselves end before what closes the string
+pub run_within : (q : Quote) (s : List ℕ) (i e j : ℕ) → Each (is_plain q) s i e → i ≤ j → slice_index s j ≡ closing q → e ≤ j
+run_within q s i e j all le closes = ⊎_elim (λ lt. absurd (false≢true (sym (ap (is_plain q) closes ∙ closing_other q) ∙ all j le lt))) (λ ge. ge) (cases_lt j e)
+
+plain_above : (q : Quote) (b : ℕ) → 128 ≤ b → is_plain q b ≡ true
+plain_above Double b h = grind (arith, nat_tests)
+plain_above Single b h = grind (arith, nat_tests)
+
+-- what does not stand for itself is ASCII
+pub other_ascii : (q : Quote) (b : ℕ) → is_plain q b ≡ false → b < 128
+other_ascii q b h = ⊎_elim (λ lt. lt) (λ ge. absurd (false≢true (sym h ∙ plain_above q b ge))) (cases_lt b 128)
+
+pub closing_ascii : (q : Quote) (b : ℕ) → b ≡ closing q → b < 128
+closing_ascii q b e = other_ascii q b (ap (is_plain q) e ∙ closing_other q)
+
+-- a run that begins with such a byte is not empty
+pub run_moves : (q : Quote) (s : List ℕ) (i e : ℕ) → i ≤ e → is_plain q (slice_index s i) ≡ true → is_plain q (slice_index s e) ≡ false → i < e
+run_moves q s i e le here stops = ⊎_elim (λ lt. lt) (λ ge. let same : i ≡ e = omega arith in absurd (false≢true (sym stops ∙ ap (λ k. is_plain q (slice_index s k)) (sym same) ∙ here))) (cases_lt i e)

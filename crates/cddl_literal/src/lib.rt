@@ -9,10 +9,13 @@ mod escapes;
 mod numbers;
 mod prefixed;
 mod strings;
+mod values;
 
 pub use escapes::{Escape, escape_at};
+pub use numbers::{number_of, number_value, uint_of};
 pub use prefixed::{bytes_between, coded_end};
-pub use strings::characters_end;
+pub use strings::{characters_end, text_value};
+pub use values::bytes_value;
 
 /// What stands around a string.
 #[derive(Clone, Copy, Debug, PartialEq, Eq)]

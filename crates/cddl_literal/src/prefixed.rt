@@ -1,12 +1,5 @@
 //! Byte strings in hex and base64.
 
-use super::Coding;
-use super::digits::{byte_at, is_cr_lf};
-use base64::DecodeAllocError;
-use base64::engine::general_purpose::{STANDARD, STANDARD_NO_PAD};
-use hex::FromHexError;
-use std::alloc::{AllocError, Global};
-
 ghost use Rattle.std.specs.Prelude.{◌≡◌, ℕ, ◌+◌, ◌<◌, ◌≤◌, ◌↔◌, List, map, true, false, length, slice_index, IsTrue, IfOk, MatchResult, ◌≢◌};
 ghost use Rattle.std.specs.List.{list_any};
 ghost use Rattle.base64.specs.declared.decode.DecodeAllocError.{DecodeAllocError};
@@ -14,6 +7,13 @@ ghost use Rattle.std.specs.Option.{option_map};
 ghost use Rattle.cddl_literal.specs.Bytes.{is_blank};
 ghost use Rattle.cddl_literal.specs.Strings.{IsFurthest};
 ghost use Rattle.cddl_literal.specs.Prefixed.{Coded, HoldsCoded, IsCommentTo, EndsComment, is_in_inner_comment, standard_letter, is_padding, hex_bytes, base64_bytes, decoded};
+
+use super::Coding;
+use super::digits::{byte_at, is_cr_lf};
+use base64::DecodeAllocError;
+use base64::engine::general_purpose::{STANDARD, STANDARD_NO_PAD};
+use hex::FromHexError;
+use std::alloc::{AllocError, Global};
 
 fn is_blank(b: u8) -> bool
     ensures { result ≡ is_blank b }
@@ -151,9 +151,7 @@ fn standard_letters(alloc: Global, letters: &[u8]) -> Result<Vec<u8>, AllocError
 }
 
 /// The decoded bytes, or none where the text was at fault.
-fn unless_faulty(
-    decoded: Result<Vec<u8>, DecodeAllocError>,
-) -> Result<Option<Vec<u8>>, AllocError>
+fn unless_faulty(decoded: Result<Vec<u8>, DecodeAllocError>) -> Result<Option<Vec<u8>>, AllocError>
     ensures { IfOk result (λ o. MatchResult decoded (λ v. o ≡ Some v) (λ e. (o ≡ None) × (e ≢ DecodeAllocError.OutOfMemory))) }
 {
     match decoded {

@@ -1,13 +1,16 @@
 //! Text strings and plain byte strings.
 
-ghost use Rattle.std.specs.Prelude.{◌≡◌, ℕ, ◌+◌, ◌<◌, ◌≤◌, true, false, length, slice_index, IsTrue};
+ghost use Rattle.std.specs.Prelude.{◌≡◌, ℕ, ◌+◌, ◌<◌, ◌≤◌, true, false, length, slice_index, IsTrue, IfOk, List, ◌-◌};
+ghost use Rattle.std.specs.String.{string_bytes};
+ghost use Rattle.cddl_literal.specs.Literals.{IsText};
 ghost use Rattle.cddl_literal.specs.Prefixed.{IsCrLf};
 ghost use Rattle.cddl_literal.specs.Bytes.{Each};
-ghost use Rattle.cddl_literal.specs.Strings.{closing, is_plain, HoldsCharacters, IsFurthest};
+ghost use Rattle.cddl_literal.specs.Strings.{closing, is_plain, Characters, HoldsCharacters, IsFurthest};
 
 use super::Quote;
 use super::digits::is_cr_lf;
 use super::escapes::escape_at;
+use std::alloc::{AllocError, Global};
 
 /// A byte that stands for itself.
 fn is_plain(quote: Quote, b: u8) -> bool
@@ -66,4 +69,46 @@ pub fn characters_end(source: &[u8], at: usize, quote: Quote) -> usize
         }
     }
     i
+}
+
+/// The value of the characters from one place to another, between quotes.
+pub(crate) fn characters_between(
+    alloc: Global,
+    text: &str,
+    from: usize,
+    to: usize,
+    quote: Quote,
+) -> Result<String, AllocError>
+    requires behind { 0 < from }
+    requires opens { slice_index text.now (from - 1) ≡ closing quote }
+    requires closes { slice_index text.now to ≡ closing quote }
+    requires within { to < length text.now }
+    requires holds { HoldsCharacters quote text.now from to }
+    ensures { (v : List ℕ) → Characters quote text.now from to v → IfOk result (λ t. string_bytes t ≡ v) }
+{
+    let source = text.as_bytes();
+    let mut out = String::new(alloc);
+    let mut i = from;
+    while i < to {
+        if let Some(escape) = escape_at(source, i, quote) {
+            out.push(escape.scalar)?;
+            i = escape.end;
+        } else if is_line(source, i, quote) {
+            out.push('\n')?;
+            i += 2;
+        } else {
+            let end = plain_end(source, i, quote);
+            out.push_str(&text[i..end])?;
+            i = end;
+        }
+    }
+    Ok(out)
+}
+
+/// The characters of a text string, from its opening to its closing quote.
+pub fn text_value(alloc: Global, text: &str) -> Result<String, AllocError>
+    requires { (v : List ℕ) × IsText text.now 0 (length text.now) v }
+    ensures { (v : List ℕ) → IsText text.now 0 (length text.now) v → IfOk result (λ t. string_bytes t ≡ v) }
+{
+    characters_between(alloc, text, 1, text.len() - 1, Quote::Double)
 }

@@ -1,4 +1,4 @@
-use Rattle.std.proofs.Common.{◌≡◌, sym, ap, ◌∙◌}
+use Rattle.std.proofs.Common.{sym, ◌∙◌}
 use Rattle.base64.specs.Engines.{standard, standard_no_pad}
 use Rattle.cddl_literal.proofs.DecodedFacts.{decoded_by, padded, unpadded}
 use Rattle.cddl_literal.proofs.prefixed.base64_bytes.Goals as goal

@@ -1,6 +1,5 @@
-use Rattle.std.proofs.Common.{◌≡◌, ℕ, ◌+◌, ◌≤◌, ◌<◌, ◌⊎◌, [], ◌∷◌, ◌++◌, List, length, slice_index, refl, sym, ap, ◌∙◌, ⊎_elim, inl, inr, arith, append_assoc}
+use Rattle.std.proofs.Common.{[], ◌∷◌, ◌++◌, refl, sym, ap, ◌∙◌, arith, append_assoc}
 use Rattle.std.proofs.lemmas.List.{append-nil}
-use Rattle.cddl_literal.specs.Prefixed.{Coded}
 use Rattle.cddl_literal.proofs.PrefixedFacts.{coded_le, coded_none, after_blank, after_line, after_comment, after_other, moves, moves_comment, moves_other}
 use Rattle.cddl_literal.proofs.prefixed.coded_between.Goals as goal
 

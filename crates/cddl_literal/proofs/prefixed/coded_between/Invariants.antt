@@ -1,4 +1,4 @@
-use Rattle.std.proofs.Common.{◌≡◌, ℕ, List, length, ◌-◌, ◌≤◌, ◌++◌}
+use Rattle.std.proofs.Common.{◌≡◌, ℕ, List, ◌-◌, ◌≤◌, ◌++◌}
 use Rattle.cddl_literal.specs.Prefixed.{Coded}
 use Rattle.cddl_literal.proofs.prefixed.coded_between.Given as goal
 

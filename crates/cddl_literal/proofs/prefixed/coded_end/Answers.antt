@@ -1,5 +1,5 @@
-use Rattle.std.proofs.Common.{◌≡◌, ℕ, ◌+◌, ◌≤◌, ◌⊎◌, [], List, length, slice_index, refl, sym, ◌∙◌, ⊎_elim, inl, inr, arith}
-use Rattle.cddl_literal.specs.Prefixed.{Coded, none, blank, line, comment, other, HoldsCoded}
+use Rattle.std.proofs.Common.{◌≡◌, ◌⊎◌, slice_index, refl, sym, ◌∙◌, ⊎_elim, inl, inr, arith}
+use Rattle.cddl_literal.specs.Prefixed.{none, blank, line, comment, other}
 use Rattle.cddl_literal.proofs.PrefixedFacts.{left_blank, left_line, left_comment, left_other, left_stop, left_end, is_other_from}
 use Rattle.cddl_literal.proofs.prefixed.coded_end.Goals as goal
 

@@ -1,4 +1,4 @@
-use Rattle.std.proofs.Common.{◌≡◌, sym, ap, ◌∙◌, ⊎_elim}
+use Rattle.std.proofs.Common.{sym, ap, ⊎_elim}
 use Rattle.std.specs.Result.{result_ok}
 use Rattle.cddl_literal.specs.Prefixed.{hex_bytes}
 use Rattle.cddl_literal.proofs.prefixed.hex_bytes.Goals as goal
