@@ -7,3 +7,4 @@ pub mod PrefixedFacts
 pub mod DecodedFacts
 pub mod UintFacts
 pub mod ValueFacts
+pub mod OneMeaning

@@ -43,7 +43,7 @@ other_blank : (b : ℕ) → is_other b ≡ true → is_blank b ≡ true → ⊥
 other_blank b h k = grind (arith, nat_tests)
 
 -- what ends a comment is not in it
-ends_other : (s : List ℕ) (k : ℕ) → EndsComment s k → is_in_inner_comment (slice_index s k) ≡ false
+pub ends_other : (s : List ℕ) (k : ℕ) → EndsComment s k → is_in_inner_comment (slice_index s k) ≡ false
 ends_other s k (inl (inl e)) = ap is_in_inner_comment e
 ends_other s k (inl (inr e)) = ap is_in_inner_comment e.0
 ends_other s k (inr e) = ap is_in_inner_comment e

@@ -6,12 +6,14 @@
 
 mod digits;
 mod escapes;
+mod laws;
 mod numbers;
 mod prefixed;
 mod strings;
 mod values;
 
 pub use escapes::{Escape, escape_at};
+pub use laws::{closes_at_stop, one_meaning};
 pub use numbers::{number_of, number_value, uint_of};
 pub use prefixed::{bytes_between, coded_end};
 pub use strings::{characters_end, text_value};
