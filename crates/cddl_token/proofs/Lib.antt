@@ -1,5 +1,10 @@
 pub mod Begins
 pub mod Each
+pub mod HashFacts
 pub mod NameFacts
+pub mod Numeric
 pub mod ShapeFacts
+pub mod ShapeOne
 pub mod Singles
+pub mod StringFacts
+pub mod UintFacts

@@ -13,32 +13,32 @@ use Rattle.cddl_token.specs.declared.numbers.Shape.{Shape}
 use Rattle.cddl_token.specs.declared.numbers.Shape.TheVariants.{Uint, Misspelled, Float}
 use Rattle.cddl_token.proofs.Each.{each_within, run_same}
 
-x_digit : (b : ℕ) → is_x b ≡ true → is_decimal_digit b ≡ false
+pub x_digit : (b : ℕ) → is_x b ≡ true → is_decimal_digit b ≡ false
 x_digit b h = grind (arith, nat_tests)
 
-b_digit : (b : ℕ) → is_b b ≡ true → is_decimal_digit b ≡ false
+pub b_digit : (b : ℕ) → is_b b ≡ true → is_decimal_digit b ≡ false
 b_digit b h = grind (arith, nat_tests)
 
-x_b : (b : ℕ) → is_x b ≡ true → is_b b ≡ true → ⊥
+pub x_b : (b : ℕ) → is_x b ≡ true → is_b b ≡ true → ⊥
 x_b b h k = grind (arith, nat_tests)
 
-x_e : (b : ℕ) → is_x b ≡ true → is_e b ≡ true → ⊥
+pub x_e : (b : ℕ) → is_x b ≡ true → is_e b ≡ true → ⊥
 x_e b h k = grind (arith, nat_tests)
 
-b_e : (b : ℕ) → is_b b ≡ true → is_e b ≡ true → ⊥
+pub b_e : (b : ℕ) → is_b b ≡ true → is_e b ≡ true → ⊥
 b_e b h k = grind (arith, nat_tests)
 
-p_hex : (b : ℕ) → is_p b ≡ true → is_hex_digit b ≡ false
+pub p_hex : (b : ℕ) → is_p b ≡ true → is_hex_digit b ≡ false
 p_hex b h = grind (arith, nat_tests)
 
-e_digit : (b : ℕ) → is_e b ≡ true → is_decimal_digit b ≡ false
+pub e_digit : (b : ℕ) → is_e b ≡ true → is_decimal_digit b ≡ false
 e_digit b h = grind (arith, nat_tests)
 
-marked : {letter : ℕ → Bool} {s : List ℕ} {i j : ℕ} → IsExponent letter s i j → letter (slice_index s i) ≡ true
+pub marked : {letter : ℕ → Bool} {s : List ℕ} {i j : ℕ} → IsExponent letter s i j → letter (slice_index s i) ≡ true
 marked (unsigned l d e) = l
 marked (signed l g d e) = l
 
-exponent_past : {letter : ℕ → Bool} {s : List ℕ} {i j : ℕ} → IsExponent letter s i j → i < j
+pub exponent_past : {letter : ℕ → Bool} {s : List ℕ} {i j : ℕ} → IsExponent letter s i j → i < j
 exponent_past (unsigned l d e) = omega arith
 exponent_past (signed l g d e) = omega arith
 
@@ -57,7 +57,7 @@ module _ (s : List ℕ) (a : ℕ) (prefix : IsPrefix is_x s a) where
   x_short : {m : ℕ} → IsRun is_decimal_digit s a m → m ≤ a + 1
   x_short run = each_within is_decimal_digit s (let le : a ≤ a + 1 = omega arith in le) (x_digit (slice_index s (a + 1)) prefix.1) run.holds
 
-  x_one : {m : ℕ} → IsRun is_decimal_digit s a m → m ≡ a + 1
+  pub x_one : {m : ℕ} → IsRun is_decimal_digit s a m → m ≡ a + 1
   x_one run = let le = x_short run in let past = run.nonempty in omega arith
 
   module _ (d : ℕ) (from : a + 2 ≤ d) (each : Each is_hex_digit s (a + 2) d) (stops : is_hex_digit (slice_index s d) ≡ false) where
@@ -131,7 +131,7 @@ module _ (s : List ℕ) (a : ℕ) (prefix : IsPrefix is_b s a) where
   b_one : {m : ℕ} → IsRun is_decimal_digit s a m → m ≡ a + 1
   b_one run = let le = b_short run in let past = run.nonempty in omega arith
 
-  no_float : {m : ℕ} → IsFloat s a m → ⊥
+  pub no_float : {m : ℕ} → IsFloat s a m → ⊥
   no_float (fraction {d = k} run dot digit e) = let same = b_one run in false≢true (sym (ap is_b dot) ∙ ap (λ n. is_b (slice_index s n)) same ∙ prefix.1)
   no_float (exponent {d = k} run exp) = let same = b_one run in b_e (slice_index s (a + 1)) prefix.1 (ap (λ n. is_e (slice_index s n)) (sym same) ∙ marked exp)
   no_float (hex_exponent p run exp) = x_b (slice_index s (a + 1)) p.1 prefix.1
@@ -228,3 +228,6 @@ hex_fraction_from s d e None some each stops dot none = λ m h.
     let same : h.0 ≡ e = run_same is_hex_digit s (let le : d + 1 ≤ e = omega arith in le) each stops h.2 (p_hex (slice_index s h.0) (marked h.3)) in
     none m (subst (λ n. IsExponent is_p s n m) same h.3)
 hex_fraction_from s d e (Some j) some each stops dot found = ((e, dot, record { nonempty = some; holds = each }, found.0), found.1)
+
+pub zero_run : (s : List ℕ) (a : ℕ) → slice_index s a ≡ 48 → IsRun is_decimal_digit s a (a + 1)
+zero_run s a zero = record { nonempty = omega arith; holds = λ i low high. let same : i ≡ a = omega arith in ap (λ n. is_decimal_digit (slice_index s n)) same ∙ ap is_decimal_digit zero }

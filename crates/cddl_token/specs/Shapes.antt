@@ -1,10 +1,10 @@
 -- What a number may be where its first digit stands, and how the scanner takes it apart.
 use Rattle.std.specs.Prelude.{◌≡◌, ℕ, ◌+◌, ◌<◌, ◌≤◌, ◌⊎◌, Bool, true, false, List, slice_index}
 use Rattle.hex.specs.Hex.{is_hex_digit}
-use Rattle.cddl_literal.specs.Bytes.{IsRun, is_decimal_digit, is_binary_digit}
+use Rattle.cddl_literal.specs.Bytes.{IsRun, is_decimal_digit, is_binary_digit, is_x, is_b}
 use Rattle.cddl_literal.specs.Numbers.{IsUint}
 use Rattle.cddl_token.specs.Bytes.{is_e, is_p}
-use Rattle.cddl_token.specs.Numbers.{IsMisspelled, IsFloat, IsExponent}
+use Rattle.cddl_token.specs.Numbers.{IsMisspelled, IsFloat, IsExponent, IsBound}
 use Rattle.cddl_token.specs.declared.numbers.Radix.{Radix}
 use Rattle.cddl_token.specs.declared.numbers.Radix.TheVariants.{Binary, Decimal, Hexadecimal}
 use Rattle.cddl_token.specs.declared.numbers.Shape.{Shape}
@@ -14,6 +14,12 @@ abbrev pub is_digit_in : Radix → ℕ → Bool
 is_digit_in Binary b = is_binary_digit b
 is_digit_in Decimal b = is_decimal_digit b
 is_digit_in Hexadecimal b = is_hex_digit b
+
+-- the letter behind the `0` of a prefix
+abbrev pub marks_radix : Radix → ℕ → Bool
+marks_radix Binary b = is_b b
+marks_radix Decimal b = false
+marks_radix Hexadecimal b = is_x b
 
 abbrev pub marks_exponent : Radix → ℕ → Bool
 marks_exponent Hexadecimal b = is_p b
@@ -41,3 +47,19 @@ IsShape Float s a b = IsFloat s a b
 pub record IsLongestShape (shape : Shape) (s : List ℕ) (a b : ℕ) : Type 0 where
   pub spelled : IsShape shape s a b
   pub longest : (q : Shape) (m : ℕ) → IsShape q s a m → m ≤ b
+
+-- from a to b stands a uint or nothing, and no longer one begins at a
+pub record IsLongestBound (s : List ℕ) (a b : ℕ) : Type 0 where
+  pub number : ℕ
+  pub spelled : IsBound s a b number
+  pub longest : (m n : ℕ) → IsBound s a m n → m ≤ b
+
+-- An occurrence begins at a, and its `*` stands at star: nothing stands before it, or a uint that nothing longer hides.
+abbrev pub BeginsOccur : List ℕ → ℕ → ℕ → Type 0
+BeginsOccur s a star = (a ≡ star) ⊎ IsLongestShape Uint s a star
+
+-- at a stand `#`, a digit and `.`
+pub record IsHashDot (s : List ℕ) (a : ℕ) : Type 0 where
+  pub hash : slice_index s a ≡ 35
+  pub digit : is_decimal_digit (slice_index s (a + 1)) ≡ true
+  pub dot : slice_index s (a + 2) ≡ 46

@@ -12,9 +12,13 @@ use std::error::Error;
 use std::fmt;
 
 mod bytes;
+mod gaps;
+mod hashes;
 mod names;
 mod numbers;
 mod signs;
+mod strings;
+mod uints;
 
 /// What a token is.
 #[derive(Clone, Copy, Debug, PartialEq, Eq)]

@@ -58,13 +58,13 @@ fn is_sign(b: u8) -> bool
     b == b'+' || b == b'-'
 }
 
-fn is_x(b: u8) -> bool
+pub(crate) fn is_x(b: u8) -> bool
     ensures { result ≡ is_x_byte b }
 {
     b == b'x' || b == b'X'
 }
 
-fn is_b(b: u8) -> bool
+pub(crate) fn is_b(b: u8) -> bool
     ensures { result ≡ is_b_byte b }
 {
     b == b'b' || b == b'B'
