@@ -8,3 +8,5 @@ pub mod DecodedFacts
 pub mod UintFacts
 pub mod ValueFacts
 pub mod OneMeaning
+pub mod CutFacts
+pub mod EndFacts

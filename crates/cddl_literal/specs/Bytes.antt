@@ -1,5 +1,5 @@
 -- Classes of bytes. A place past the end of a source reads 0, which is in none of them.
-use Rattle.std.specs.Prelude.{◌≡◌, ℕ, ◌<◌, ◌≤◌, ◌==◌, nat_le, Bool, true, not, ◌&&◌, ◌||◌, List, slice_index}
+use Rattle.std.specs.Prelude.{◌≡◌, ℕ, ◌-◌, ◌<◌, ◌≤◌, ◌==◌, nat_le, Bool, true, not, ◌&&◌, ◌||◌, List, length, slice_index}
 
 -- each byte of s from a on and before b passes
 abbrev pub Each : (ℕ → Bool) → List ℕ → ℕ → ℕ → Type 0
@@ -42,3 +42,10 @@ is_in_comment b = b == 9 || (nat_le 32 b && not (b == 127))
 -- appendix B, wider from U+0080 on)
 abbrev pub is_in_string : ℕ → Bool
 is_in_string b = nat_le 32 b && not (b == 92) && not (b == 127)
+
+-- from a to b stand bytes of s, the first and the last of them ASCII
+pub record HasAsciiEnds (s : List ℕ) (a b : ℕ) : Type 0 where
+  pub nonempty : a < b
+  pub within : b ≤ length s
+  pub first : slice_index s a < 128
+  pub last : slice_index s (b - 1) < 128

@@ -13,7 +13,7 @@ mod strings;
 mod values;
 
 pub use escapes::{Escape, escape_at};
-pub use laws::{closes_at_stop, one_meaning};
+pub use laws::{closes_at_stop, cut_out, ends_in_ascii, one_meaning};
 pub use numbers::{number_of, number_value, uint_of};
 pub use prefixed::{bytes_between, coded_end};
 pub use strings::{characters_end, text_value};
