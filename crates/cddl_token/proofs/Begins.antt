@@ -134,6 +134,48 @@ begins_so (Good _) s a m h = eq-eqb _ _ h.1
 pub elsewhere : (q : Reading) (s : List ℕ) (a m : ℕ) {b : ℕ} → slice_index s a ≡ b → begins q b ≡ false → Spells q s a m → ⊥
 elsewhere q s a m first other h = false≢true (sym other ∙ sym (ap (begins q) first) ∙ begins_so q s a m h)
 
--- a byte with which a token may begin
-abbrev pub starts_token : ℕ → Bool
-starts_token b = (((is_ealpha b || is_signed b) || (b == 42 || b == 34)) || ((b == 39 || b == 35) || (b == 61 || b == 47))) || (b == 46 || is_single b)
+letter_h : (b : ℕ) → is_ealpha b ≡ false → is_h b ≡ false
+letter_h b h = grind (arith, nat_tests)
+
+letter_b : (b : ℕ) → is_ealpha b ≡ false → is_b b ≡ false
+letter_b b h = grind (arith, nat_tests)
+
+single_apart : (b k : ℕ) → is_single b ≡ false → is_single k ≡ true → (b == k) ≡ false
+single_apart b k other it = ne_eqb b k (λ e. false≢true (sym other ∙ ap is_single e ∙ it))
+
+-- nothing begins with another byte
+module _ (b : ℕ) (letter : is_ealpha b ≡ false) (digit : is_decimal_digit b ≡ false) (single : is_single b ≡ false) (dash : b ≡ 45 → ⊥) (star : b ≡ 42 → ⊥) (text : b ≡ 34 → ⊥) (bytes : b ≡ 39 → ⊥) (hash : b ≡ 35 → ⊥) (equals : b ≡ 61 → ⊥) (slash : b ≡ 47 → ⊥) (dot : b ≡ 46 → ⊥) where
+  signed_nothing : is_signed b ≡ false
+  signed_nothing = or_from _ _ digit (ne_eqb _ _ dash)
+
+  pub begins_nothing : (q : Reading) → begins q b ≡ false
+  begins_nothing (Good Name) = letter
+  begins_nothing (Good NameOpen) = letter
+  begins_nothing (Good Control) = ne_eqb _ _ dot
+  begins_nothing (Good Number) = signed_nothing
+  begins_nothing (Good Occur) = or_from _ _ (or_from _ _ (or_from _ _ digit (ne_eqb _ _ star)) (single_apart b 43 single refl)) (single_apart b 63 single refl)
+  begins_nothing (Good Text) = ne_eqb _ _ text
+  begins_nothing (Good Bytes) = or_from _ _ (or_from _ _ (ne_eqb _ _ bytes) (letter_h b letter)) (letter_b b letter)
+  begins_nothing (Good Assign) = ne_eqb _ _ equals
+  begins_nothing (Good Arrow) = ne_eqb _ _ equals
+  begins_nothing (Good TypeAssign) = ne_eqb _ _ slash
+  begins_nothing (Good GroupAssign) = ne_eqb _ _ slash
+  begins_nothing (Good Slash) = ne_eqb _ _ slash
+  begins_nothing (Good DoubleSlash) = ne_eqb _ _ slash
+  begins_nothing (Good Range) = ne_eqb _ _ dot
+  begins_nothing (Good RangeBelow) = ne_eqb _ _ dot
+  begins_nothing (Good Cut) = single_apart b 94 single refl
+  begins_nothing (Good Colon) = single_apart b 58 single refl
+  begins_nothing (Good Comma) = single_apart b 44 single refl
+  begins_nothing (Good ParenOpen) = single_apart b 40 single refl
+  begins_nothing (Good ParenClose) = single_apart b 41 single refl
+  begins_nothing (Good BracketOpen) = single_apart b 91 single refl
+  begins_nothing (Good BracketClose) = single_apart b 93 single refl
+  begins_nothing (Good BraceOpen) = single_apart b 123 single refl
+  begins_nothing (Good BraceClose) = single_apart b 125 single refl
+  begins_nothing (Good AngleClose) = single_apart b 62 single refl
+  begins_nothing (Good Tilde) = single_apart b 126 single refl
+  begins_nothing (Good Ampersand) = single_apart b 38 single refl
+  begins_nothing (Good End) = refl
+  begins_nothing (Good _) = ne_eqb _ _ hash
+  begins_nothing (Bad _) = or_from _ _ (or_from _ _ signed_nothing (ne_eqb _ _ star)) (ne_eqb _ _ hash)

@@ -1,4 +1,5 @@
 pub mod Begins
+pub mod CodedFacts
 pub mod Each
 pub mod HashFacts
 pub mod NameFacts
@@ -6,5 +7,7 @@ pub mod Numeric
 pub mod ShapeFacts
 pub mod ShapeOne
 pub mod Singles
+pub mod Spelled
 pub mod StringFacts
+pub mod Texts
 pub mod UintFacts

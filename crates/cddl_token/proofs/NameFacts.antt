@@ -70,7 +70,7 @@ module _ (s : List ℕ) (a e : ℕ) (id : IsId s a e) (longest : (m : ℕ) → I
   name_open_token sign = record { longest = record { spelled = (e, refl, id, sign); longest = name_open_longest }; allowed = tt }
 
 -- the last byte of an id
-id_last : {s : List ℕ} {a b : ℕ} → IsId s a b → is_id_byte (slice_index s (b - 1)) ≡ true
+pub id_last : {s : List ℕ} {a b : ℕ} → IsId s a b → is_id_byte (slice_index s (b - 1)) ≡ true
 id_last {s} {a} {b} id = id.holds (b - 1) (let some = id.nonempty in omega arith) (let some = id.nonempty in omega arith)
 
 -- `.` and what may follow it

@@ -37,3 +37,8 @@ IsRefused s code at = ((1048576 < length s) × (code ≡ SourceTooLong) × (at �
 abbrev pub Refuses : List ℕ → Refusal → Type 0
 Refuses s (At code at) = IsRefused s code at
 Refuses s Memory = Unit {0}
+
+-- the refusal is why no token can be read at some place, or memory ran out
+abbrev pub StopsScan : List ℕ → Refusal → Type 0
+StopsScan s (At code at) = Refused s 0 code at
+StopsScan s Memory = Unit {0}

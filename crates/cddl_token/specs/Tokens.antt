@@ -9,6 +9,8 @@ use Rattle.cddl_token.specs.declared.Kind.TheVariants.{Name, End}
 use Rattle.cddl_token.specs.declared.Code.{Code}
 use Rattle.cddl_token.specs.declared.Code.TheVariants.{BadCharacter}
 use Rattle.cddl_token.specs.declared.Fault.{Fault}
+use Rattle.cddl_token.specs.declared.Refusal.{Refusal}
+use Rattle.cddl_token.specs.declared.Refusal.TheVariants.{At, Memory}
 
 -- At i a line ends, or the source.
 abbrev pub IsLineEnd : List ℕ → ℕ → Type 0
@@ -78,3 +80,9 @@ pub data Refused (s : List ℕ) : ℕ → Code → ℕ → Type 0 where
 abbrev pub IsRead : List ℕ → ℕ → Result (Kind × ℕ) Fault → Type 0
 IsRead s a (Ok t) = IsToken t.0 s a t.1 × (t.1 ≤ length s)
 IsRead s a (Err f) = FaultAt s a f.code f.at
+
+-- the same of a function that takes memory
+abbrev pub IsFound : List ℕ → ℕ → Result (Kind × ℕ) Refusal → Type 0
+IsFound s a (Ok t) = IsToken t.0 s a t.1 × (t.1 ≤ length s)
+IsFound s a (Err (At code at)) = FaultAt s a code at
+IsFound s a (Err Memory) = Unit {0}

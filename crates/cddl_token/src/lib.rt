@@ -16,6 +16,7 @@ mod gaps;
 mod hashes;
 mod names;
 mod numbers;
+mod scanner;
 mod signs;
 mod strings;
 mod uints;
