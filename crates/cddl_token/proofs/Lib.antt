@@ -2,8 +2,10 @@ pub mod Begins
 pub mod CodedFacts
 pub mod Each
 pub mod HashFacts
+pub mod HashOne
 pub mod NameFacts
 pub mod Numeric
+pub mod NumericOne
 pub mod ShapeFacts
 pub mod ShapeOne
 pub mod Singles

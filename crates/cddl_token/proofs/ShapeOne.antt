@@ -3,7 +3,8 @@ use Rattle.std.proofs.Common.{◌≡◌, ℕ, ◌+◌, ◌<◌, ◌≤◌, ◌�
 use Rattle.std.proofs.lemmas.Bool.{cases_lt, false≢true}
 use Rattle.hex.specs.Hex.{is_hex_digit}
 use Rattle.cddl_literal.specs.Bytes.{Each, IsRun, is_decimal_digit, is_binary_digit, is_x, is_b}
-use Rattle.cddl_literal.specs.Numbers.{IsUint, decimal, hexadecimal, binary, number_in}
+use Rattle.cddl_literal.specs.Numbers.{IsUint, decimal, hexadecimal, binary, number_in, IsSigned}
+use Rattle.cddl_token.proofs.Begins.{uint_digit, misspelled_digit, float_digit}
 use Rattle.cddl_token.specs.Bytes.{is_e, is_p, is_sign}
 use Rattle.cddl_token.specs.Numbers.{IsPrefix, IsMisspelled, zero_first, bare_hexadecimal, bare_binary, IsExponent, unsigned, signed, IsFloat, fraction, exponent, hex_exponent, hex_fraction}
 use Rattle.cddl_token.specs.Shapes.{IsShape}
@@ -136,3 +137,54 @@ module _ (s : List ℕ) where
   shape_past Uint a b h = uint_past h.1
   shape_past Misspelled a b h = misspelled_past h
   shape_past Float a b h = float_past h
+
+  shapes_one : (q r : Shape) (a b : ℕ) → IsShape q s a b → IsShape r s a b → r ≡ q
+  shapes_one Uint Uint a b h k = refl
+  shapes_one Uint Misspelled a b h k = absurd (uint_no_misspelled h.1 k)
+  shapes_one Uint Float a b h k = absurd (uint_no_float h.1 k)
+  shapes_one Misspelled Uint a b h k = absurd (uint_no_misspelled k.1 h)
+  shapes_one Misspelled Misspelled a b h k = refl
+  shapes_one Misspelled Float a b h k = absurd (misspelled_no_float h k)
+  shapes_one Float Uint a b h k = absurd (uint_no_float k.1 h)
+  shapes_one Float Misspelled a b h k = absurd (misspelled_no_float k h)
+  shapes_one Float Float a b h k = refl
+
+  shape_digit : (q : Shape) (a b : ℕ) → IsShape q s a b → is_decimal_digit (slice_index s a) ≡ true
+  shape_digit Uint a b h = uint_digit h.1
+  shape_digit Misspelled a b h = misspelled_digit h
+  shape_digit Float a b h = float_digit h
+
+  -- with a `-` in front, or not
+  abbrev pub SignedShape : Shape → ℕ → ℕ → Type 0
+  SignedShape q a b = IsShape q s a b ⊎ ((slice_index s a ≡ 45) × IsShape q s (a + 1) b)
+
+  dash_no_shape : (q : Shape) (a b : ℕ) → slice_index s a ≡ 45 → IsShape q s a b → ⊥
+  dash_no_shape q a b dash h = false≢true (ap is_decimal_digit (sym dash) ∙ shape_digit q a b h)
+
+  pub signed_one : (q r : Shape) (a b : ℕ) → SignedShape q a b → SignedShape r a b → r ≡ q
+  signed_one q r a b h k =
+      ⊎_elim
+      (λ x. ⊎_elim (λ y. shapes_one q r a b x y) (λ y. absurd (dash_no_shape q a b y.0 x)) k)
+      (λ x. ⊎_elim (λ y. absurd (dash_no_shape r a b x.0 y)) (λ y. shapes_one q r (a + 1) b x.1 y.1) k)
+      h
+
+  pub signed_no_star : (q : Shape) {a b : ℕ} → SignedShape q a b → (i : ℕ) → a ≤ i → i < b → slice_index s i ≡ 42 → ⊥
+  signed_no_star q {a} h i low high e =
+      ⊎_elim
+      (λ x. no_star q x i low high e)
+      (λ x. ⊎_elim (λ lt. let same : i ≡ a = omega arith in let here = ap (λ n. slice_index s n) same in omega (arith, x.0)) (λ ge. no_star q x.1 i ge high e) (cases_lt i (a + 1)))
+      h
+
+  pub signed_past : (q : Shape) (a b : ℕ) → SignedShape q a b → a < b
+  signed_past q a b h = ⊎_elim (λ x. shape_past q a b x) (λ x. let past = shape_past q (a + 1) b x.1 in omega arith) h
+
+  -- a `-` alone is none of them
+  pub signed_no_dash : (q : Shape) (a b : ℕ) → SignedShape q a b → slice_index s a ≡ 45 → b ≡ a + 1 → ⊥
+  signed_no_dash q a b h dash end = ⊎_elim (λ x. dash_no_shape q a b dash x) (λ x. let past = shape_past q (a + 1) b x.1 in omega arith) h
+
+  pub of_signed : (minus : Bool) (a b n : ℕ) → IsSigned minus s a b n → SignedShape Uint a b
+  of_signed false a b n h = inl (n, h)
+  of_signed true a b n h = inr (h.0, (n, h.1))
+
+  pub signed_first : (q : Shape) (a b : ℕ) → SignedShape q a b → (is_decimal_digit (slice_index s a) ≡ true) ⊎ (slice_index s a ≡ 45)
+  signed_first q a b h = ⊎_elim (λ x. inl (shape_digit q a b x)) (λ x. inr x.0) h
