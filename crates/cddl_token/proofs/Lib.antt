@@ -3,9 +3,11 @@ pub mod CodedFacts
 pub mod Each
 pub mod HashFacts
 pub mod HashOne
+pub mod Laws
 pub mod NameFacts
 pub mod Numeric
 pub mod NumericOne
+pub mod One
 pub mod ShapeFacts
 pub mod ShapeOne
 pub mod Singles
