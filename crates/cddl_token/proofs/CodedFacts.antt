@@ -8,4 +8,3 @@ coded_le (blank b r) = let le = coded_le r in omega arith
 coded_le (line c r) = let le = coded_le r in omega arith
 coded_le (comment c e r) = let le = coded_le r in let past = c.past in omega arith
 coded_le (other l o c r e) = let le = coded_le r in omega arith
-

@@ -20,13 +20,13 @@ use Rattle.cddl_token.proofs.Singles as sign
 use Rattle.cddl_token.proofs.StringFacts.{opening}
 
 -- a comment doesn't hold the end of a line
-line_end_apart : (s : List ℕ) (k : ℕ) → IsLineEnd s k → is_in_comment (slice_index s k) ≡ false
+pub line_end_apart : (s : List ℕ) (k : ℕ) → IsLineEnd s k → is_in_comment (slice_index s k) ≡ false
 line_end_apart s k end = ⊎_elim (λ e. ⊎_elim (λ past. ap is_in_comment (get_or_past s k 0 (omega arith))) (λ lf. ap is_in_comment lf) e) (λ crlf. ap is_in_comment crlf.0) end
 
 comment_within : {s : List ℕ} {i j k : ℕ} → IsComment s i j → IsComment s i k → k ≤ j
 comment_within {s} {i} {j} {k} first second = ⊎_elim (λ lt. absurd (false≢true (sym (line_end_apart s j first.ends) ∙ second.holds j (let past = first.past in omega arith) lt))) (λ le. le) (cases_lt j k)
 
-gap_le : {s : List ℕ} {i j : ℕ} → GapFrom s i j → i ≤ j
+pub gap_le : {s : List ℕ} {i j : ℕ} → GapFrom s i j → i ≤ j
 gap_le (none e) = omega arith
 gap_le (blank p r) = let le = gap_le r in omega arith
 gap_le (line p q r) = let le = gap_le r in omega arith

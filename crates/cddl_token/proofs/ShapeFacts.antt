@@ -186,12 +186,14 @@ module _ (s : List ℕ) (a : ℕ) (no_hex : IsPrefix is_x s a → ⊥) (no_binar
     where
       past : d < m
       past = ⊎_elim (λ x. exponent_past x) (λ x. omega (arith, x.2)) tail
+
       one : {n : ℕ} → IsDecimalTail s d n → n ≡ m
       one more =
           ⊎_elim
           (λ x. ⊎_elim (λ y. exponent_one x y) (λ y. absurd (false≢true (sym (ap is_e y.0) ∙ marked x))) more)
           (λ x. ⊎_elim (λ y. absurd (false≢true (sym (ap is_e x.0) ∙ marked y))) (λ y. omega (arith, x.2, y.2)) more)
           tail
+
       longest : (q : Shape) (n : ℕ) → IsShape q s a n → n ≤ m
       longest Uint n h = let le = decimal_uint h.1 in let lt = past in omega arith
       longest Misspelled n h = let le = decimal_misspelled h in let lt = past in omega arith

@@ -4,9 +4,14 @@
 //! token is taken. [`tokens`] answers them with their places, or why there are none, and where.
 #![tactic(auto)]
 
-ghost use Rattle.std.specs.Prelude.{◌≡◌};
+ghost use Rattle.std.specs.Prelude.{◌≡◌, ℕ, ◌↔◌, ◌⊎◌, List, map, length, All, IfOk, IfErr, MatchResult};
+ghost use Rattle.cddl_token.specs.Answers.{span, IsAnswered, IsReadFrom, InOrder, IsTokenized, IsRefused, Refuses, StandsFor};
+ghost use Rattle.cddl_token.specs.Spelling.{IsId, IsGrammarId};
+ghost use Rattle.cddl_token.specs.Tokens.{Spanned, Tokenized, Refused};
+ghost use Rattle.cddl_token.specs.declared.Code.{Code};
 ghost use Rattle.cddl_token.specs.declared.Refusal.TheVariants.{Memory as OutOfMemory};
 
+use cddl_literal::{Literal, bytes_value, number_value, text_value};
 use std::alloc::{AllocError, AllocFailed, Global};
 use std::error::Error;
 use std::fmt;
@@ -247,9 +252,75 @@ fn label(code: Code) -> &'static str {
 
 /// Why a token can't be read, and where.
 #[derive(Clone, Copy, Debug, PartialEq, Eq)]
-pub struct Fault {
+pub(crate) struct Fault {
     /// What is wrong.
     pub code: Code,
     /// The byte offset where it shows.
     pub at: usize,
 }
+
+/// The number of bytes that a source may have.
+pub const SOURCE_LIMIT: usize = 1_048_576;
+
+/// The tokens of a source, with [`Kind::End`] last (RFC 8610, appendix B; RFC 9682).
+///
+/// Errors: `At` with the code of the first fault and the offset where it shows. A source over
+/// [`SOURCE_LIMIT`] comes before one that is not UTF-8, and that before the others. `Memory` where
+/// a growth was refused.
+pub fn tokens<'s>(alloc: Global, source: &'s [u8]) -> Result<Vec<Token<'s>>, Refusal>
+    // What is answered are the source's tokens.
+    ensures found { IfOk result (λ v. IsTokenized source.now (map span v.items)) }
+    // Each has its part of the source as text, which spells its kind.
+    ensures each { IfOk result (λ v. All (IsReadFrom source.now) v.items) }
+    // So each may be asked for its value.
+    ensures answered { IfOk result (λ v. All IsAnswered v.items) }
+    // They stand in order, within the source, and do not overlap.
+    ensures in_order { IfOk result (λ v. InOrder 0 (length source.now) (map span v.items)) }
+    // Where the source has tokens, they are the answer, unless memory runs out.
+    ensures only { (ts : List Spanned) → IsTokenized source.now ts → MatchResult result (λ v. map span v.items ≡ ts) (λ e. e ≡ Refusal.Memory) }
+    // A refusal says why the source has no tokens, and where.
+    ensures refused { IfErr result (λ e. Refuses source.now e) }
+    // Where it has none for this reason, this is the answer, unless memory runs out.
+    ensures only_refused { (code : Code) (at : ℕ) → IsRefused source.now code at → MatchResult result (λ v. ⊥) (λ e. (e ≡ Refusal.At code at) ⊎ (e ≡ Refusal.Memory)) }
+{
+    one_answer();
+    if source.len() > SOURCE_LIMIT {
+        return Err(Refusal::At(Code::SourceTooLong, SOURCE_LIMIT));
+    }
+    match simdutf8::compat::from_utf8(source) {
+        Ok(text) => scanner::scan(alloc, source, text),
+        Err(error) => Err(Refusal::At(Code::NotUtf8, error.valid_up_to())),
+    }
+}
+
+/// What a number, a text or a byte string stands for; nothing for other tokens.
+///
+/// It asks for a token that [`tokens`] answered. It fails only where a growth was refused.
+pub fn value(alloc: Global, token: &Token<'_>) -> Result<Option<Literal>, AllocError>
+    requires { IsAnswered token.now }
+    // Of whatever source it is a token, that is what it stands for there.
+    ensures { (s : List ℕ) → IsReadFrom s token.now → IfOk result (λ o. StandsFor s token.now o) }
+{
+    cddl_literal::cut_out();
+    match token.kind {
+        Kind::Number => Ok(Some(number_value(token.text.as_bytes()))),
+        Kind::Text => Ok(Some(Literal::Text(text_value(alloc, token.text)?))),
+        Kind::Bytes => Ok(Some(Literal::Bytes(bytes_value(alloc, token.text)?))),
+        _ => Ok(None),
+    }
+}
+
+/// A source has one list of tokens, or is refused for one fault at one place, and never both.
+pub fn one_answer()
+    ensures tokens { (s : List ℕ) (ts us : List Spanned) → IsTokenized s ts → IsTokenized s us → us ≡ ts }
+    ensures fault { (s : List ℕ) (c d : Code) (p q : ℕ) → IsRefused s c p → IsRefused s d q → (d ≡ c) × (q ≡ p) }
+    ensures apart { (s : List ℕ) (ts : List Spanned) (c : Code) (p : ℕ) → IsTokenized s ts → IsRefused s c p → ⊥ }
+{
+    cddl_literal::one_meaning();
+    cddl_literal::closes_at_stop();
+}
+
+/// An id is what the grammar says (RFC 8610, appendix B: id).
+pub fn id_by_grammar()
+    ensures { (s : List ℕ) (a b : ℕ) → IsId s a b ↔ IsGrammarId s a b }
+{}

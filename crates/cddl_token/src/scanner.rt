@@ -3,7 +3,7 @@
 ghost use Rattle.std.specs.Prelude.{◌≡◌, ℕ, ◌+◌, ◌-◌, ◌<◌, ◌≤◌, ◌≢◌, false, true, length, slice_index, slice_range, map, All, MatchResult};
 ghost use Rattle.cddl_token.specs.Bytes.{is_ealpha};
 ghost use Rattle.cddl_token.specs.Tokens.{StartsNoGap, IsRead, IsFound, Tokenized};
-ghost use Rattle.cddl_token.specs.Answers.{span, IsCut, StopsScan};
+ghost use Rattle.cddl_token.specs.Answers.{span, IsReadFrom, StopsScan};
 
 use crate::bytes::{is_digit, is_ealpha};
 use crate::gaps::gap_end;
@@ -87,9 +87,13 @@ fn cut(text: &str, start: usize, end: usize) -> &str
 }
 
 /// The tokens of a source, which `text` is too.
-pub(crate) fn scan<'s>(alloc: Global, source: &[u8], text: &'s str) -> Result<Vec<Token<'s>>, Refusal>
+pub(crate) fn scan<'s>(
+    alloc: Global,
+    source: &[u8],
+    text: &'s str,
+) -> Result<Vec<Token<'s>>, Refusal>
     requires { text.now ≡ source.now }
-    ensures { MatchResult result (λ v. Tokenized source.now 0 (map span v.items) × All (IsCut source.now) v.items) (λ e. StopsScan source.now e) }
+    ensures { MatchResult result (λ v. Tokenized source.now 0 (map span v.items) × All (IsReadFrom source.now) v.items) (λ e. StopsScan source.now e) }
 {
     let mut out = Vec::new(alloc);
     let mut at = 0;

@@ -1,9 +1,9 @@
-use Rattle.std.proofs.Common.{◌≡◌, ℕ, ◌+◌, ◌-◌, ◌<◌, List, [], ◌∷◌, ◌++◌, length, slice_index, refl, sym, ◌∙◌, ap, subst, arith, append_assoc}
+use Rattle.std.proofs.Common.{◌≡◌, ℕ, ◌+◌, ◌-◌, ◌<◌, List, [], ◌∷◌, ◌++◌, length, slice_index, refl, sym, ◌∙◌, ap, subst, inl, inr, arith, append_assoc}
 use Rattle.std.specs.Prelude.{All, map, slice_range}
 use Rattle.std.proofs.lemmas.List.Elements.{All-push}
 use Rattle.cddl_token.specs.declared.Kind.TheVariants.{End}
 use Rattle.cddl_token.specs.declared.Token.{Token}
-use Rattle.cddl_token.specs.Answers.{span, IsCut}
+use Rattle.cddl_token.specs.Answers.{span, IsReadFrom}
 use Rattle.cddl_token.specs.Tokens.{GapFrom, Tokenized, Refused, ends, more, here, later, token}
 use Rattle.cddl_token.proofs.Spelled.{spelled_past}
 use Rattle.cddl_token.proofs.Spelled.{spelled_ascii}
@@ -28,7 +28,7 @@ loop-start-preserved c =
     record {
       in_source = found.1;
       found = λ ts rest. subst (λ xs. Tokenized c.args.source.now 0 (map span xs ++ ts)) (sym c.in-Ok-push-2.ensures.items) (pushed c.args.source.now c.loop-start.out.items _ ts (c.loop-start.invariant.found _ (more c.in-Ok.ensures.0 found.0 rest)));
-      texts = subst (All (IsCut c.args.source.now)) (sym c.in-Ok-push-2.ensures.items) (All-push (IsCut c.args.source.now) c.loop-start.out.items _ c.loop-start.invariant.texts (c.cut-part.ensures ∙ ap (λ s. slice_range s c.in-Ok.start c.in-Ok-token_at.found.1) c.requires));
+      each = subst (All (IsReadFrom c.args.source.now)) (sym c.in-Ok-push-2.ensures.items) (All-push (IsReadFrom c.args.source.now) c.loop-start.out.items _ c.loop-start.invariant.each (c.cut-part.ensures ∙ ap (λ s. slice_range s c.in-Ok.start c.in-Ok-token_at.found.1) c.requires, inr found.0.longest.spelled));
       refused = λ code place rest. c.loop-start.invariant.refused code place (later c.in-Ok.ensures.0 found.0 rest);
     }
 
@@ -37,7 +37,7 @@ returns-in-Ok-push c =
     let same : c.in-Ok.start ≡ length c.args.source.now = c.if-start-source.true in
     let gap = subst (GapFrom c.args.source.now c.loop-start.at) same c.in-Ok.ensures.0 in (
       subst (λ xs. Tokenized c.args.source.now 0 (map span xs)) (sym c.in-Ok-push.ensures.items) (pushed_last c.args.source.now c.loop-start.out.items _ (c.loop-start.invariant.found _ (ends gap (ap (λ n. token End n n ∷ []) same)))),
-      subst (All (IsCut c.args.source.now)) (sym c.in-Ok-push.ensures.items) (All-push (IsCut c.args.source.now) c.loop-start.out.items _ c.loop-start.invariant.texts (no_bytes c.args.source.now c.in-Ok.start)),
+      subst (All (IsReadFrom c.args.source.now)) (sym c.in-Ok-push.ensures.items) (All-push (IsReadFrom c.args.source.now) c.loop-start.out.items _ c.loop-start.invariant.each (no_bytes c.args.source.now c.in-Ok.start, inl refl)),
     )
 
 pub cut-part-requires-clause-past : goal.cut-part-requires-clause-past

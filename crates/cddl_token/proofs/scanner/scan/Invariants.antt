@@ -1,7 +1,7 @@
 use Rattle.std.proofs.Common.{length, ℕ, List, ◌-◌, ◌≤◌, ◌++◌}
 use Rattle.std.specs.Prelude.{map, All}
 use Rattle.cddl_token.specs.declared.Code.{Code}
-use Rattle.cddl_token.specs.Answers.{span, IsCut}
+use Rattle.cddl_token.specs.Answers.{span, IsReadFrom}
 use Rattle.cddl_token.specs.Tokens.{Spanned, Tokenized, Refused}
 use Rattle.cddl_token.proofs.scanner.scan.Given as goal
 
@@ -10,7 +10,7 @@ abbrev pub invariant-loop-start : goal.invariant-loop-start
 invariant-loop-start l = record {
   in_source : l.at ≤ length l.source;
   found : (ts : List Spanned) → Tokenized l.source l.at ts → Tokenized l.source 0 (map span l.out.items ++ ts);
-  texts : All (IsCut l.source) l.out.items;
+  each : All (IsReadFrom l.source) l.out.items;
   refused : (code : Code) (place : ℕ) → Refused l.source l.at code place → Refused l.source 0 code place;
 }
 
