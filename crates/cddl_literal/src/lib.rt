@@ -49,3 +49,6 @@ pub enum Literal {
     /// A byte string.
     Bytes(Vec<u8>),
 }
+
+#[cfg(test)]
+mod tests;
