@@ -11,7 +11,8 @@ ghost use Rattle.cddl_token.specs.Tokens.{Spanned, Tokenized, Refused};
 ghost use Rattle.cddl_token.specs.declared.Code.{Code};
 ghost use Rattle.cddl_token.specs.declared.Refusal.TheVariants.{Memory as OutOfMemory};
 
-use cddl_literal::{Literal, bytes_value, number_value, text_value};
+pub use cddl_literal::Literal;
+use cddl_literal::{bytes_value, number_value, text_value};
 use std::alloc::{AllocError, AllocFailed, Global};
 use std::error::Error;
 use std::fmt;
@@ -324,3 +325,6 @@ pub fn one_answer()
 pub fn id_by_grammar()
     ensures { (s : List ℕ) (a b : ℕ) → IsId s a b ↔ IsGrammarId s a b }
 {}
+
+#[cfg(test)]
+mod tests;
