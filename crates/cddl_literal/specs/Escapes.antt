@@ -1,4 +1,4 @@
--- Escapes in strings (RFC 9682, section 2.1.2).
+-- Escapes in strings (RFC 9682, section 2.1).
 use Rattle.std.specs.Prelude.{◌≡◌, ℕ, ◌+◌, ◌-◌, ◌*◌, ◌<◌, ◌≤◌, ◌==◌, if◌then◌else◌, List, slice_index, Option, Some, None}
 use Rattle.std.specs.Char.{IsScalar}
 use Rattle.hex.specs.Hex.{is_hex_digit}

@@ -116,7 +116,7 @@ fn units_at(source: &[u8], at: usize, quote: Quote) -> Option<Escape>
     })
 }
 
-/// The escape that stands here, in a string in such quotes.
+/// The escape that stands here, in a string in such quotes (RFC 9682, section 2.1).
 pub fn escape_at(source: &[u8], at: usize, quote: Quote) -> Option<Escape>
     ensures { IsEscapeAt quote source.now at result }
 {

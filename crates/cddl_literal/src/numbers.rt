@@ -23,7 +23,7 @@ fn magnitude(source: &[u8], from: usize, to: usize) -> Option<u128>
     }
 }
 
-/// The uint that stands from one place to another, if it is below 2^64.
+/// The uint that stands from one place to another, if it is below 2^64 (RFC 8610, appendix B).
 pub fn uint_of(source: &[u8], from: usize, to: usize) -> Option<u64>
     requires within { to ≤ length source.now }
     requires spelled { (n : ℕ) × IsUint source.now from to n }
@@ -52,7 +52,7 @@ pub fn number_of(source: &[u8], from: usize, to: usize) -> Option<Literal>
     }
 }
 
-/// What a number stands for.
+/// What a number stands for, given from its first byte to its last.
 pub fn number_value(text: &[u8]) -> Literal
     requires { (m : Meaning) × IsNumber text.now 0 (length text.now) m }
     ensures { (m : Meaning) → IsNumber text.now 0 (length text.now) m → view result ≡ m }

@@ -52,7 +52,8 @@ fn ends_comment(source: &[u8], at: usize) -> bool
 }
 
 /// Where what begins here stops, inside a byte string with prefix: where the string closes, at a
-/// backslash, at what a comment may not hold, or at the source's end.
+/// backslash, at what a comment may not hold, or at the source's end. White space and comments may stand
+/// in it (RFC 8610, section 3.1).
 pub fn coded_end(source: &[u8], at: usize) -> usize
     requires { at ≤ length source.now }
     ensures furthest { IsFurthest (HoldsCoded source.now at) result }
@@ -173,8 +174,8 @@ fn base64_bytes(alloc: Global, letters: &[u8]) -> Result<Option<Vec<u8>>, AllocE
     }
 }
 
-/// The bytes that stand in a byte string with prefix between its quotes, if what stands there is fit
-/// for them (RFC 4648).
+/// The bytes that stand in a byte string with prefix between its quotes, or none where what stands there
+/// is no hex or base64 (RFC 4648, sections 4, 5 and 8). The only error is want of memory.
 pub fn bytes_between(
     alloc: Global,
     coding: Coding,

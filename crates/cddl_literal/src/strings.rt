@@ -49,8 +49,9 @@ fn is_line(source: &[u8], at: usize, quote: Quote) -> bool
     }
 }
 
-/// Where the characters that begin here stop, in a string in such quotes: where it closes or shows a
-/// fault, or at the source's end.
+/// Where the characters that begin here stop, in a string in such quotes: where it closes, at a
+/// backslash that begins no escape, at a character that it may not hold, or at the source's end (RFC 8610,
+/// appendix B; RFC 9682, section 2.1).
 pub fn characters_end(source: &[u8], at: usize, quote: Quote) -> usize
     requires { at ≤ length source.now }
     ensures furthest { IsFurthest (HoldsCharacters quote source.now at) result }
@@ -105,7 +106,8 @@ pub(crate) fn characters_between(
     Ok(out)
 }
 
-/// The characters of a text string, from its opening to its closing quote.
+/// The characters of a text string, from its opening to its closing quote. The only error is want of
+/// memory.
 pub fn text_value(alloc: Global, text: &str) -> Result<String, AllocError>
     requires { (v : List ℕ) × IsText text.now 0 (length text.now) v }
     ensures { (v : List ℕ) → IsText text.now 0 (length text.now) v → IfOk result (λ t. string_bytes t ≡ v) }

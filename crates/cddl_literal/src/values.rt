@@ -43,7 +43,8 @@ fn is_h(b: u8) -> bool
     b == b'h' || b == b'H'
 }
 
-/// The bytes of a byte string, plain or with a prefix, from its first byte to its closing quote.
+/// The bytes of a byte string, plain or with a prefix, from its first byte to its closing quote. The only
+/// error is want of memory.
 pub fn bytes_value(alloc: Global, text: &str) -> Result<Vec<u8>, AllocError>
     requires { (v : List ℕ) × IsBytes text.now 0 (length text.now) v }
     ensures { (v : List ℕ) → IsBytes text.now 0 (length text.now) v → IfOk result (λ b. b.items ≡ v) }

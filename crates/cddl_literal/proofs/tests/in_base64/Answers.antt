@@ -1,4 +1,4 @@
-use Rattle.std.proofs.Common.{◌≡◌, ◌+◌, ℕ, List, length, ap, subst, refl, sym, ◌∙◌, inl, inr, arith}
+use Rattle.std.proofs.Common.{ℕ, List, length, ap, subst, refl, sym, ◌∙◌, inr, arith}
 use Rattle.std.specs.Option.{option_map}
 use Rattle.cddl_literal.specs.Bytes.{is_b}
 use Rattle.cddl_literal.specs.Literals.{IsBytes}

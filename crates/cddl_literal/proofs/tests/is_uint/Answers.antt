@@ -1,4 +1,4 @@
-use Rattle.std.proofs.Common.{◌≡◌, ◌+◌, ◌<◌, length, refl, sym, ◌∙◌, arith}
+use Rattle.std.proofs.Common.{refl, sym, ◌∙◌, arith}
 use Rattle.cddl_literal.specs.Numbers.{decimal, hexadecimal, binary}
 use Rattle.cddl_literal.proofs.tests.is_uint.Goals as goal
 
