@@ -1,0 +1,12 @@
+pub mod EachFacts
+pub mod EscapeFacts
+pub mod NumberFacts
+pub mod Ranges
+pub mod StringFacts
+pub mod PrefixedFacts
+pub mod DecodedFacts
+pub mod UintFacts
+pub mod ValueFacts
+pub mod OneMeaning
+pub mod CutFacts
+pub mod EndFacts

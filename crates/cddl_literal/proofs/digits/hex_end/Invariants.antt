@@ -1,0 +1,14 @@
+use Rattle.std.proofs.Common.{length, ◌-◌, ◌≤◌}
+use Rattle.hex.specs.Hex.{is_hex_digit}
+use Rattle.cddl_literal.specs.Bytes.{Each}
+use Rattle.cddl_literal.proofs.digits.hex_end.Given as goal
+
+abbrev pub invariant-loop-i : goal.invariant-loop-i
+invariant-loop-i l = record {
+  from : l.at ≤ l.i;
+  in_source : l.i ≤ length l.source;
+  each : Each is_hex_digit l.source l.at l.i;
+}
+
+abbrev pub decreases-loop-i : goal.decreases-loop-i
+decreases-loop-i l = length l.source - l.i

@@ -1,0 +1,7 @@
+pub mod Answers
+pub mod Bytes
+pub mod Numbers
+pub mod Escapes
+pub mod Strings
+pub mod Prefixed
+pub mod Literals

@@ -1,0 +1,195 @@
+//! Byte strings in hex and base64.
+
+ghost use Rattle.std.specs.Prelude.{◌≡◌, ℕ, ◌+◌, ◌<◌, ◌≤◌, ◌↔◌, List, map, true, false, length, slice_index, IsTrue, IfOk, MatchResult, ◌≢◌};
+ghost use Rattle.std.specs.List.{list_any};
+ghost use Rattle.base64.specs.declared.decode.DecodeAllocError.{DecodeAllocError};
+ghost use Rattle.std.specs.Option.{option_map};
+ghost use Rattle.cddl_literal.specs.Bytes.{is_blank};
+ghost use Rattle.cddl_literal.specs.Strings.{IsFurthest};
+ghost use Rattle.cddl_literal.specs.Prefixed.{Coded, HoldsCoded, IsCommentTo, EndsComment, is_in_inner_comment, standard_letter, is_padding, hex_bytes, base64_bytes, decoded};
+
+use super::Coding;
+use super::digits::{byte_at, is_cr_lf};
+use base64::DecodeAllocError;
+use base64::engine::general_purpose::{STANDARD, STANDARD_NO_PAD};
+use hex::FromHexError;
+use std::alloc::{AllocError, Global};
+
+fn is_blank(b: u8) -> bool
+    ensures { result ≡ is_blank b }
+{
+    b == b' ' || b == b'\t' || b == b'\n'
+}
+
+fn is_in_inner_comment(b: u8) -> bool
+    ensures { result ≡ is_in_inner_comment b }
+{
+    (b == b'\t' || (b >= 32 && b != 127)) && b != b'\'' && b != b'\\'
+}
+
+/// Where the comment that begins here ends, or holds what it may not.
+fn comment_stop(source: &[u8], at: usize) -> usize
+    requires begins { slice_index source.now at ≡ 59 }
+    requires within { at < length source.now }
+    ensures comment { IsCommentTo source.now at result }
+    ensures stops { is_in_inner_comment (slice_index source.now result) ≡ false }
+    ensures in_source { result ≤ length source.now }
+{
+    let mut i = at + 1;
+    while i < source.len() && is_in_inner_comment(source[i]) {
+        i += 1;
+    }
+    i
+}
+
+/// Whether a line ends here, or the string.
+fn ends_comment(source: &[u8], at: usize) -> bool
+    ensures yes { IsTrue result → EndsComment source.now at }
+    ensures goes_on { result ≡ false → EndsComment source.now at → ⊥ }
+{
+    let b = byte_at(source, at);
+    b == b'\n' || b == b'\'' || is_cr_lf(source, at)
+}
+
+/// Where what begins here stops, inside a byte string with prefix: where the string closes, at a
+/// backslash, at what a comment may not hold, or at the source's end. White space and comments may stand
+/// in it (RFC 8610, section 3.1).
+pub fn coded_end(source: &[u8], at: usize) -> usize
+    requires { at ≤ length source.now }
+    ensures furthest { IsFurthest (HoldsCoded source.now at) result }
+    // A comment that reaches the closing quote ends there.
+    ensures closed { slice_index source.now result ≡ 39 → (d : List ℕ) × Coded source.now at result d }
+    ensures in_source { result ≤ length source.now }
+{
+    let mut i = at;
+    while i < source.len() {
+        let b = source[i];
+        if b == b';' {
+            let stop = comment_stop(source, i);
+            if !ends_comment(source, stop) {
+                return stop;
+            }
+            i = stop;
+        } else if is_blank(b) {
+            i += 1;
+        } else if is_cr_lf(source, i) {
+            i += 2;
+        } else if b == b'\'' || b == b'\\' {
+            return i;
+        } else {
+            i += 1;
+        }
+    }
+    i
+}
+
+/// What stands from one place to another, without white space and comments.
+fn coded_between(
+    alloc: Global,
+    source: &[u8],
+    from: usize,
+    to: usize,
+) -> Result<Vec<u8>, AllocError>
+    requires within { to ≤ length source.now }
+    requires holds { (d : List ℕ) × Coded source.now from to d }
+    ensures { (d : List ℕ) → Coded source.now from to d → IfOk result (λ v. v.items ≡ d) }
+{
+    let mut out = Vec::new(alloc);
+    let mut i = from;
+    while i < to {
+        let b = source[i];
+        if b == b';' {
+            i = comment_stop(source, i);
+        } else if is_blank(b) {
+            i += 1;
+        } else if is_cr_lf(source, i) {
+            i += 2;
+        } else {
+            out.push(b)?;
+            i += 1;
+        }
+    }
+    Ok(out)
+}
+
+fn standard_letter(b: u8) -> u8
+    ensures { result ≡ standard_letter b }
+{
+    if b == b'-' {
+        b'+'
+    } else if b == b'_' {
+        b'/'
+    } else {
+        b
+    }
+}
+
+/// The bytes that hex digits stand for, if they do.
+fn hex_bytes(alloc: Global, digits: &[u8]) -> Result<Option<Vec<u8>>, AllocError>
+    ensures { IfOk result (λ o. option_map (λ v. v.items) o ≡ hex_bytes digits.now) }
+{
+    match hex::decode(alloc, digits) {
+        Ok(bytes) => Ok(Some(bytes)),
+        Err(error) => match error {
+            FromHexError::OutOfMemory => Err(AllocError),
+            _ => Ok(None),
+        },
+    }
+}
+
+/// Whether `=` is among the letters.
+fn has_padding(letters: &[u8]) -> bool
+    ensures { result ≡ list_any is_padding letters.now }
+{
+    letters.iter().any(|b| *b == b'=')
+}
+
+/// The letters in the standard alphabet.
+fn standard_letters(alloc: Global, letters: &[u8]) -> Result<Vec<u8>, AllocError>
+    ensures { IfOk result (λ v. v.items ≡ map standard_letter letters.now) }
+{
+    letters.iter().map(|b| standard_letter(*b)).collect(alloc)
+}
+
+/// The decoded bytes, or none where the text was at fault.
+fn unless_faulty(decoded: Result<Vec<u8>, DecodeAllocError>) -> Result<Option<Vec<u8>>, AllocError>
+    ensures { IfOk result (λ o. MatchResult decoded (λ v. o ≡ Some v) (λ e. (o ≡ None) × (e ≢ DecodeAllocError.OutOfMemory))) }
+{
+    match decoded {
+        Ok(bytes) => Ok(Some(bytes)),
+        Err(DecodeAllocError::OutOfMemory) => Err(AllocError),
+        Err(DecodeAllocError::DecodeError(_)) => Ok(None),
+    }
+}
+
+/// The bytes that letters in base64 stand for, if they do.
+fn base64_bytes(alloc: Global, letters: &[u8]) -> Result<Option<Vec<u8>>, AllocError>
+    ensures { IfOk result (λ o. option_map (λ v. v.items) o ≡ base64_bytes letters.now) }
+{
+    let standard = standard_letters(alloc, letters)?;
+    if has_padding(letters) {
+        unless_faulty(STANDARD.decode(alloc, &standard))
+    } else {
+        unless_faulty(STANDARD_NO_PAD.decode(alloc, &standard))
+    }
+}
+
+/// The bytes that stand in a byte string with prefix between its quotes, or none where what stands there
+/// is no hex or base64 (RFC 4648, sections 4, 5 and 8). The only error is want of memory.
+pub fn bytes_between(
+    alloc: Global,
+    coding: Coding,
+    source: &[u8],
+    from: usize,
+    to: usize,
+) -> Result<Option<Vec<u8>>, AllocError>
+    requires within { to ≤ length source.now }
+    requires holds { (d : List ℕ) × Coded source.now from to d }
+    ensures { (d : List ℕ) → Coded source.now from to d → IfOk result (λ o. option_map (λ v. v.items) o ≡ decoded coding d) }
+{
+    let characters = coded_between(alloc, source, from, to)?;
+    match coding {
+        Coding::Hex => hex_bytes(alloc, &characters),
+        Coding::Base64 => base64_bytes(alloc, &characters),
+    }
+}

@@ -1,0 +1,13 @@
+use Rattle.std.proofs.Common.{◌≡◌, ◌+◌, slice_index, refl, sym, ap, ◌∙◌, arith}
+use Rattle.cddl_token.specs.Bytes.{is_ealpha}
+use Rattle.cddl_token.specs.Tokens.{unknown}
+use Rattle.cddl_token.proofs.NameFacts.{lone_dot, control_token, dot_opens}
+use Rattle.cddl_token.proofs.names.dot_at.Goals as goal
+
+pub returns-then-is_ealpha : goal.returns-then-is_ealpha
+returns-then-is_ealpha c = (control_token c.args.source.now c.args.at _ c.requires.begins c.id_end.ensures.id c.id_end.ensures.longest, c.id_end.ensures.in_source)
+
+pub returns-then-next-ne46 : goal.returns-then-next-ne46
+returns-then-next-ne46 c =
+    unknown refl c.requires.no_gap (dot_opens c.args.source.now c.args.at c.requires.begins) (λ e. omega (arith, c.requires.begins))
+    (lone_dot c.args.source.now c.args.at c.requires.begins (λ e. c.if-next-ne46.true (c.byte_at-next.ensures.value ∙ e)) (ap is_ealpha (sym c.byte_at-next.ensures.value) ∙ sym c.is_ealpha.ensures ∙ c.if-is_ealpha.false))

@@ -1,0 +1,9 @@
+pub mod Answers
+pub mod Bytes
+pub mod Numbers
+pub mod Shapes
+pub mod Signs
+pub mod Spelling
+pub mod Strings
+pub mod Tokens
+pub use Rattle.cddl_literal.specs.Literals
