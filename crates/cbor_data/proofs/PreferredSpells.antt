@@ -129,9 +129,12 @@ mutual
       let y = writes v h.1 f.1 a.1 c.1 in
       let w = writes_pairs ps h.2 f.2 a.2 c.2 in
       record {
-        written = pair_form x.written y.written w.written; ok = (x.ok, y.ok, w.ok); text = (x.text, y.text, w.text);
+        written = pair_form x.written y.written w.written;
+        ok = (x.ok, y.ok, w.ok);
+        text = (x.text, y.text, w.text);
         is = ap₂ (λ i j. i ++ j) x.is (ap₂ (λ i j. i ++ j) y.is w.is);
-        meant = ap₂ (λ i j. pair i j (pair_meanings w.written)) x.meant y.meant ∙ ap (pair k v) w.meant; len = ap suc w.len;
+        meant = ap₂ (λ i j. pair i j (pair_meanings w.written)) x.meant y.meant ∙ ap (pair k v) w.meant;
+        len = ap suc w.len;
       }
 
 -- the preferred bytes of an item spell it where its counts are short
