@@ -1,7 +1,7 @@
 //! Sources with what is told of them.
 
-/// A source, and the kinds of its tokens or the line of its refusal.
-pub(crate) static KINDS: [(&[u8], &str); 202] = [
+/// Sources, and the kinds of their tokens or the line of their refusal: part 1.
+pub(crate) static ROWS_1: [(&[u8], &str); 26] = [
     (b"a", "Name End "),
     (b"a..b", "Name End "),
     (b"bstr.size", "Name End "),
@@ -28,6 +28,10 @@ pub(crate) static KINDS: [(&[u8], &str); 202] = [
     (b"0", "Number End "),
     (b"10", "Number End "),
     (b"-1", "Number End "),
+];
+
+/// Sources, and the kinds of their tokens or the line of their refusal: part 2.
+pub(crate) static ROWS_2: [(&[u8], &str); 26] = [
     (b"-0", "Number End "),
     (b"0x1F", "Number End "),
     (b"0Xf", "Number End "),
@@ -69,6 +73,10 @@ pub(crate) static KINDS: [(&[u8], &str); 202] = [
     ),
     (b"a = 01", "refused: S5 BadNumber at byte 4"),
     (b"a = 00", "refused: S5 BadNumber at byte 4"),
+];
+
+/// Sources, and the kinds of their tokens or the line of their refusal: part 3.
+pub(crate) static ROWS_3: [(&[u8], &str); 26] = [
     (b"a = 0x", "refused: S5 BadNumber at byte 4"),
     (b"a = 0X", "refused: S5 BadNumber at byte 4"),
     (b"a = 0b", "refused: S5 BadNumber at byte 4"),
@@ -95,6 +103,10 @@ pub(crate) static KINDS: [(&[u8], &str); 202] = [
     (b"?", "Occur End "),
     (b"1*2", "Occur End "),
     (b"1*", "Occur End "),
+];
+
+/// Sources, and the kinds of their tokens or the line of their refusal: part 4.
+pub(crate) static ROWS_4: [(&[u8], &str); 26] = [
     (b"*2", "Occur End "),
     (b"1 * 2", "Number Occur Number End "),
     (b"1* 2", "Occur Number End "),
@@ -130,6 +142,10 @@ pub(crate) static KINDS: [(&[u8], &str); 202] = [
     (b"#6.<", "TagHeadOpen End "),
     (b"#7.<", "SimpleHeadOpen End "),
     (b"#6.< 1 >", "TagHeadOpen Number AngleClose End "),
+];
+
+/// Sources, and the kinds of their tokens or the line of their refusal: part 5.
+pub(crate) static ROWS_5: [(&[u8], &str); 26] = [
     (b"#5.<", "refused: S2 BadCharacter at byte 2"),
     (b"#6.", "refused: S2 BadCharacter at byte 2"),
     (b"#6.a", "Hash Control End "),
@@ -165,6 +181,10 @@ pub(crate) static KINDS: [(&[u8], &str); 202] = [
     (b"a = b <int>", "refused: S2 BadCharacter at byte 6"),
     (b"%", "refused: S2 BadCharacter at byte 0"),
     (b"\\", "refused: S2 BadCharacter at byte 0"),
+];
+
+/// Sources, and the kinds of their tokens or the line of their refusal: part 6.
+pub(crate) static ROWS_6: [(&[u8], &str); 26] = [
     (b"`", "refused: S2 BadCharacter at byte 0"),
     (b"|", "refused: S2 BadCharacter at byte 0"),
     (b"a = \x01", "refused: S2 BadCharacter at byte 4"),
@@ -191,6 +211,10 @@ pub(crate) static KINDS: [(&[u8], &str); 202] = [
     (b"h '00'", "Name Bytes End "),
     (b"b6'a'", "Name Bytes End "),
     (b"b64 'a'", "Name Bytes End "),
+];
+
+/// Sources, and the kinds of their tokens or the line of their refusal: part 7.
+pub(crate) static ROWS_7: [(&[u8], &str); 26] = [
     (b"hb64''", "Name Bytes End "),
     (b"h'00", "refused: S3 Unclosed at byte 0"),
     (b"1h''", "Number Bytes End "),
@@ -217,6 +241,10 @@ pub(crate) static KINDS: [(&[u8], &str); 202] = [
     (b"h'00 ; \\'", "refused: S4 BadEscape at byte 7"),
     (b"\"a\nb\"", "refused: S2 BadCharacter at byte 2"),
     (b"\"\x01", "refused: S2 BadCharacter at byte 1"),
+];
+
+/// Sources, and the kinds of their tokens or the line of their refusal: part 8.
+pub(crate) static ROWS_8: [(&[u8], &str); 20] = [
     (b"\"\x7f\"", "refused: S2 BadCharacter at byte 1"),
     (b"'a\rb'", "refused: S2 BadCharacter at byte 2"),
     (b"'\t'", "refused: S2 BadCharacter at byte 1"),
