@@ -22,6 +22,8 @@ test:
 
 bench: build
 	@$(PYTHON) bench/run.py build/cddlseq
+	cd crates/cddl_scan && $(RT) run < /dev/null > /dev/null
+	@$(PYTHON) bench/tokens.py crates/cddl_scan/out/cddl_scan
 
 install: build
 	install -D -m 755 build/cddlseq "$(DESTDIR)$(PREFIX)/bin/cddlseq"

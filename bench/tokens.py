@@ -1,0 +1,79 @@
+#!/usr/bin/env python3
+"""Measures the scanner of CDDL on sources of 512 KiB and 1 MiB, and prints a table.
+
+    tokens.py PROGRAM     PROGRAM counts the tokens of its standard input
+
+A run takes a few milliseconds, so the times of many runs are added, the two sizes and an empty source taking turns; what
+the empty source costs is taken off. The columns: the speed on the larger source, in MiB/s of processor time, and the
+growth of the processor time from the smaller source to the larger, which is 2 where the cost grows with the size alone.
+The status is 1 where a growth is outside 1.4 to 2.8.
+"""
+import argparse
+import contextlib
+import os
+import resource
+import subprocess
+import sys
+import tempfile
+
+KIB = 1 << 10
+SIZES = (512 * KIB, 1024 * KIB)
+RUNS = 80
+LEAST, MOST = 1.4, 2.8
+
+
+def padded(front, unit, back, size):
+    count = (size - len(front) - len(back)) // len(unit)
+    return front + unit * count + back
+
+
+TEXTS = [
+    ("one comment", b";", b"x", b""),
+    ("one text", b'"', b"x", b'"'),
+    ("a text of backslashes", b'"', b"\\\\", b'"'),
+    ("a text that is not closed", b'"', b"x", b""),
+    ("a name of dots and dashes", b"a", b".-", b"a"),
+    ("dots and dashes with no end", b"a", b"-.", b""),
+    ("a byte string in hex", b"h'", b"0f", b"'"),
+    ("a byte string in base64", b"b64'", b"AQID", b"'"),
+    ("a number of many digits", b"", b"9", b""),
+    ("short names", b"", b"ab ", b""),
+    ("signs", b"", b"=>", b""),
+    ("blank lines", b"", b"\r\n", b""),
+]
+
+
+def seconds(program, sources):
+    """The processor time of RUNS runs on each of these sources, by turns."""
+    spent = [0.0] * len(sources)
+    with contextlib.ExitStack() as stack:
+        files = [stack.enter_context(tempfile.TemporaryFile()) for _ in sources]
+        for file, source in zip(files, sources):
+            file.write(source)
+        for _ in range(RUNS):
+            for i, file in enumerate(files):
+                file.seek(0)
+                before = resource.getrusage(resource.RUSAGE_CHILDREN)
+                subprocess.run([program], stdin=file, stdout=subprocess.DEVNULL, check=True)
+                after = resource.getrusage(resource.RUSAGE_CHILDREN)
+                spent[i] += (after.ru_utime - before.ru_utime) + (after.ru_stime - before.ru_stime)
+    return spent
+
+
+def main():
+    words = argparse.ArgumentParser(description="Measures the scanner of CDDL.")
+    words.add_argument("program")
+    program = os.path.abspath(words.parse_args().program)
+    bad = False
+    print(f"{'source':30} {'MiB/s':>8} {'growth':>7}")
+    for name, front, unit, back in TEXTS:
+        empty, small, large = seconds(program, [b"", *(padded(front, unit, back, size) for size in SIZES)])
+        small, large = max(small - empty, 1e-6), max(large - empty, 1e-6)
+        growth = large / small
+        bad = bad or not LEAST <= growth <= MOST
+        print(f"{name:30} {RUNS * SIZES[1] / (1 << 20) / large:8.1f} {growth:7.2f}", flush=True)
+    return 1 if bad else 0
+
+
+if __name__ == "__main__":
+    sys.exit(main())
