@@ -1,6 +1,7 @@
 //! What the program does with a specification and a stream.
 
-ghost use Rattle.std.specs.Prelude.{◌≡◌, ◌≢◌, IfOk, IfErr, IfSome};
+ghost use Rattle.std.specs.Prelude.{◌≡◌, ◌≢◌, ◌<◌, ◌^◌, ◌-◌, IfOk, IfErr, IfSome};
+ghost use Rattle.std.specs.Io.KnownBytes.{Appends};
 ghost use Rattle.cbor_item.specs.Counted.{device_of, failures_of};
 ghost use Rattle.cddl_table.specs.Specification.{IsSpecification};
 ghost use Rattle.cddl_table.specs.declared.table.Table.{Table as Tables};
@@ -92,7 +93,10 @@ fn say_fault<E: Write>(alloc: Global, fault: RunFault, err: &mut Counted<E>) {
     }
 }
 
-/// Writes a text to the standard error. A failed write is passed over.
-pub fn say<E: Write>(text: &[u8], err: &mut Counted<E>) {
+/// Writes a text to the standard error: all of it, unless the device failed. A failed write is passed over.
+pub fn say<E: Write>(text: &[u8], err: &mut Counted<E>)
+    ensures { failures_of err.new ≡ failures_of err.old → failures_of err.old < 2 ^ 64 - 1 →
+        Appends (E.contents (device_of err.old)) (E.contents (device_of err.new)) text.now }
+{
     let _ = write_bytes(text, err);
 }
