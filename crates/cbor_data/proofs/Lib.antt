@@ -1,3 +1,4 @@
 pub mod SameLaws
 pub mod Unique
 pub mod PreferredSpells
+pub mod PreferredLength

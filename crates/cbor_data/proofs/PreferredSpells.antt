@@ -13,7 +13,7 @@ abbrev shortest : ℕ → Place
 shortest n =
     cond (nat_lt n 24) inside (cond (nat_lt n (2 ^ 8)) one (cond (nat_lt n (2 ^ 16)) two (cond (nat_lt n (2 ^ 32)) four eight)))
 
-tested : (b : Bool) → (b ≡ true) ⊎ (b ≡ false)
+pub tested : (b : Bool) → (b ≡ true) ⊎ (b ≡ false)
 tested true = inl refl
 tested false = inr refl
 
@@ -142,22 +142,22 @@ pub spells_preferred : (x : Value) → IsInRange x → AreBitsFitting x → AreS
 spells_preferred x h f a c = let w = writes x h f a c in record { written = w.written; ok = w.ok; text = w.text; is = sym w.is; meant = sym w.meant }
 
 -- chunks are no shorter than what they hold
-joined_len : (m : ℕ) (cs : List Chunk) → length (joined cs) ≤ length (chunks_bytes m cs)
+pub joined_len : (m : ℕ) (cs : List Chunk) → length (joined cs) ≤ length (chunks_bytes m cs)
 joined_len m [] = omega arith
 joined_len m (c ∷ cs) =
     omega (arith, length-append c.held (joined cs), length-append (chunk_bytes m c) (chunks_bytes m cs), length-append (head_in c.place m (length c.held)) c.held, joined_len m cs)
 
-broken_len : (m : ℕ) (inner : List ℕ) → length inner < length (to_break m inner)
+pub broken_len : (m : ℕ) (inner : List ℕ) → length inner < length (to_break m inner)
 broken_len m inner = omega (arith, length-append inner (255 ∷ []))
 
-head_some : (p : Place) (m n : ℕ) → 0 < length (head_in p m n)
+pub head_some : (p : Place) (m n : ℕ) → 0 < length (head_in p m n)
 head_some inside m n = omega arith
 head_some one m n = omega arith
 head_some two m n = omega arith
 head_some four m n = omega arith
 head_some eight m n = omega arith
 
-float_some : (w : Width) (n : ℕ) → 0 < length (float_bytes w n)
+pub float_some : (w : Width) (n : ℕ) → 0 < length (float_bytes w n)
 float_some W16 n = omega arith
 float_some W32 n = omega arith
 float_some W64 n = omega arith

@@ -1,7 +1,7 @@
 //! What items of CBOR are and how bytes spell them (RFC 8949), for contracts: the definitions stand in `specs/`.
 #![tactic(auto)]
 
-ghost use Rattle.std.specs.Prelude.{◌≡◌, ℕ, List, ◌++◌};
+ghost use Rattle.std.specs.Prelude.{◌≡◌, ◌≤◌, ◌*◌, ℕ, List, ◌++◌, length};
 ghost use Rattle.cbor_data.specs.Value.{Value};
 ghost use Rattle.cbor_data.specs.Forms.{Spells, IsWellFormed};
 ghost use Rattle.cbor_data.specs.Preferred.{preferred};
@@ -31,4 +31,10 @@ pub fn one_front()
 /// The preferred bytes of a sound item are a spelling of it (RFC 8949 section 4.1).
 pub fn preferred_spells()
     ensures { (x : Value) → IsSound x → Spells x (preferred x) }
+{}
+
+/// No spelling of an item is shorter than a ninth of its preferred bytes: a head has one byte at least, and a preferred
+/// one at most nine (RFC 8949 section 3).
+pub fn preferred_length()
+    ensures { (x : Value) (b : List ℕ) → Spells x b → length (preferred x) ≤ 9 * length b }
 {}

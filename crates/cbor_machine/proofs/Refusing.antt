@@ -1,18 +1,13 @@
 -- What is wrong with a byte that the machine refuses.
 use Rattle.std.proofs.Common.{◌≡◌, ◌≢◌, ℕ, zero, suc, ◌+◌, ◌-◌, ◌*◌, ◌/◌, ◌%◌, ◌<◌, ◌≤◌, List, [], ◌∷◌, ◌++◌, length, Option, Some, None, option_and_then, nat_lt, nat_le, cond, ◌==◌, ◌&&◌, Bool, true, false, ◌⊎◌, inl, inr, refl, sym, ap, ◌∙◌, subst, arith}
 use Rattle.std.proofs.lemmas.Bool.Decides.{nat_tests}
-use Rattle.cbor_data.specs.Value.{AreBytes}
 use Rattle.cbor_data.specs.Preferred.{initial}
 use Rattle.cbor_data.specs.Forms.{IsWellFormed, Begins, IsUnfinished}
 use Rattle.cbor_data.specs.Faults.{FaultKind, reserved_info, bad_indefinite, bad_break, bad_chunk, bad_simple, AwaitsItem, AwaitsChunk, AwaitsSimple, IsReserved, IsKindOf}
 use Rattle.cbor_machine.specs.Machine.{State, Frame, rest, until, until_key, until_value, item, argument, body, chunk, chunk_argument, chunk_body, simple, done, after, give, step, steps, start, start_chunk, info_of, given, more, indefinite, reserved, opened, break, refused_kind}
+use Rattle.cbor_machine.specs.Reads.{Leads}
 use Rattle.cbor_machine.proofs.Forward.{completes, Completes, refused, steps-append}
 use Rattle.cbor_machine.proofs.Keeping.{Reached, IsString, ChunksRead, reached, done_whole, bytes-append, Information, says_given, says_more, says_indefinite, says_reserved, information, tested}
-
--- the machine gets along the bytes b to the state s
-pub record Leads (b : List ℕ) (s : State) : Type 0 where
-  pub are : AreBytes b
-  pub is : steps (item []) b ≡ Some s
 
 -- a byte more
 pub one_more : (b : List ℕ) (s : State) (x : ℕ) → Leads b s → steps (item []) (b ++ x ∷ []) ≡ step s x

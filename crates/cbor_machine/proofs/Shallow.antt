@@ -5,14 +5,14 @@ use Rattle.std.proofs.lemmas.Nat.{from_be_bytes-to_be_bytes_2, from_be_bytes-to_
 use Rattle.std.proofs.lemmas.Bool.Decides.{nat_tests}
 use Rattle.cbor_data.specs.declared.Width.{Width}
 use Rattle.cbor_data.specs.declared.Width.TheVariants.{W16, W32, W64}
-use Rattle.cbor_data.specs.Value.{AreBytes, depth_of, values_depth, pairs_depth}
+use Rattle.cbor_data.specs.Value.{depth_of, values_depth, pairs_depth}
 use Rattle.cbor_data.specs.Preferred.{initial, float_bytes}
 use Rattle.cbor_data.specs.Forms.{Place, inside, one, two, four, eight, head_in, FitsPlace, Form, uint_form, nint_form, bytes_form, bytes_chunks, text_form, text_chunks, array_form, array_to_break, pairs_form, pairs_to_break, tag_form, simple_inside, simple_next, float_form, Forms, no_forms, form, PairForms, no_pair_forms, pair_form, Chunk, chunk_bytes, chunks_bytes, AreChunksOk, forms_len, pair_forms_len, flat, forms_flat, pair_forms_flat, meaning, meanings, pair_meanings, IsOk, AreFormsOk, ArePairFormsOk, IsWellFormed}
 use Rattle.cbor_data.specs.Faults.{BeginsWithin}
 use Rattle.cbor_machine.specs.Machine.{State, Frame, rest, until, until_key, until_value, item, argument, body, chunk, chunk_argument, chunk_body, simple, done, held, chunk_held, start_chunk, twice, ask, wide, after, give, step, steps, start, info_of, given, more, opens_container, step_in, steps_in}
+use Rattle.cbor_machine.specs.Reads.{Leads, LeadsWithin}
 use Rattle.cbor_machine.proofs.Forward.{first, info_of-given, wide_is, give_rest, chunk_first, completes, Completes, AreQuiet, steps-append}
 use Rattle.cbor_machine.proofs.Keeping.{done_whole, bytes-append, tested}
-use Rattle.cbor_machine.proofs.Refusing.{Leads}
 
 -- states that are not in an item's place step as ever; strings, chunks and floats are read as before
 
@@ -281,11 +281,6 @@ quiet_steps : (d : ℕ) (b : List ℕ) (s : State) → AreQuiet b → steps_in d
 quiet_steps d [] s q = refl
 quiet_steps d (x ∷ b) s q =
     ap (option_and_then (λ t. steps_in d t b)) (quiet_step d s x q.0) ∙ mapped (λ t. steps_in d t b) (λ t. steps t b) (step s x) (λ t. quiet_steps d b t q.1)
-
--- the bounded machine gets along the bytes b to the state s
-pub record LeadsWithin (d : ℕ) (b : List ℕ) (s : State) : Type 0 where
-  pub are : AreBytes b
-  pub is : steps_in d (item []) b ≡ Some s
 
 pub leads : (d : ℕ) (b : List ℕ) (s : State) → LeadsWithin d b s → Leads b s
 leads d b s l = record { are = l.are; is = restricts d b (item []) s l.is }

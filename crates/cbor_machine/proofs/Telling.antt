@@ -7,16 +7,11 @@ use Rattle.cbor_data.specs.Value.{AreBytes}
 use Rattle.cbor_data.specs.Forms.{IsWellFormed, Begins, IsUnfinished}
 use Rattle.cbor_data.specs.Faults.{Bounds, FaultKind, too_deep, too_long, truncated, last_offset, BeginsWithin, StandsAt, malformed, deep, long, IsClearBefore, IsWholeFront, IsFaultOf, of_form, of_end, IsKindOf}
 use Rattle.cbor_machine.specs.Machine.{State, item, done, step, steps, step_in, steps_in, refused_kind}
+use Rattle.cbor_machine.specs.Reads.{Leads, LeadsWithin, Reads}
 use Rattle.cbor_machine.proofs.Forward.{completes, Completes, steps-append}
 use Rattle.cbor_machine.proofs.Keeping.{done_whole, bytes-append, tested}
-use Rattle.cbor_machine.proofs.Refusing.{Leads, leads_begins, step_begins, step_refuses, refused_is_kind, one_more}
-use Rattle.cbor_machine.proofs.Shallow.{LeadsWithin, leads, leads_begins_within, refused_within, steps_in-append}
-
--- the bounded machine gets along b to s, and b is within the bounds
-pub record Reads (l : Bounds) (o : ℕ) (b : List ℕ) (s : State) : Type 0 where
-  pub leads : LeadsWithin l.depth b s
-  pub short : length b ≤ l.item_bytes
-  pub placed : o + length b ≤ last_offset
+use Rattle.cbor_machine.proofs.Refusing.{leads_begins, step_begins, step_refuses, refused_is_kind, one_more}
+use Rattle.cbor_machine.proofs.Shallow.{leads, leads_begins_within, refused_within, steps_in-append}
 
 pub nothing_read : (l : Bounds) (o : ℕ) → o ≤ last_offset → Reads l o [] (item [])
 nothing_read l o h = record { leads = record { are = tt; is = refl }; short = omega arith; placed = omega arith }

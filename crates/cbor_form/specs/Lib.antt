@@ -1,0 +1,5 @@
+pub mod Kinds
+pub mod Arguments
+pub mod Stages
+pub mod Turns
+pub mod Progress

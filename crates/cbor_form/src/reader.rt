@@ -1,0 +1,102 @@
+// Reads the form of items.
+ghost use Rattle.std.specs.Prelude.{◌≡◌, ◌≢◌, [], IfOk};
+ghost use Rattle.cbor_machine.specs.Machine.{item, done};
+ghost use Rattle.cbor_form.specs.Progress.{IsProgress};
+ghost use Rattle.cbor_form.specs.Stages.{stack_of, state_of, IsAwaiting};
+
+use crate::frame::Frame;
+use crate::malformed::Malformed;
+use crate::stage::Stage;
+use crate::turn::{Turn, next_turn};
+use std::alloc::{AllocError, Global};
+use std::marker::Model;
+
+/// What a piece leads to. `used` counts bytes of the piece.
+#[derive(Clone, Copy, Debug, PartialEq, Eq)]
+pub enum Progress {
+    /// The whole piece was used, and the item goes on.
+    More,
+    /// The item ended with byte `used` of the piece. What stands behind it is for the next call.
+    Whole { used: usize },
+    /// The byte after so many cannot stand there.
+    Refused { used: usize, kind: Malformed },
+    /// The byte after so many opens a container inside as many as may be open.
+    TooDeep { used: usize },
+}
+
+/// Reads the form of one item after the other (RFC 8949 section 3), from pieces of any size.
+///
+/// Contracts see it as the state of the machine of `cbor_machine`. It keeps a frame for each container that is open, and
+/// none of the bytes.
+#[derive(Drop)]
+pub struct FormReader {
+    stage: Stage,
+    frames: Vec<Frame>,
+}
+
+impl Model for FormReader {
+    ghost use Rattle.cbor_machine.specs.Machine.{State};
+    ghost use Rattle.cbor_form.specs.Stages.{stack_of, state_of, IsAwaiting};
+
+    ghost Value = { State };
+
+    ghost view = { λ r. state_of r.stage (stack_of r.frames.items) };
+
+    ghost invariant = { λ r. IsAwaiting r.stage };
+}
+
+impl FormReader {
+    /// A reader that awaits an item. Takes no memory.
+    pub fn new(alloc: Global) -> FormReader
+        ensures { result ≡ item [] }
+    {
+        FormReader {
+            stage: Stage::Item,
+            frames: Vec::new(alloc),
+        }
+    }
+
+    /// Takes the next piece, up to the end of the item or to a byte that cannot stand where it does, with at most `depth`
+    /// containers open at a time. Behind a whole item the next one is awaited; a byte that was refused leaves the reader
+    /// before that byte.
+    ///
+    /// # Errors
+    ///
+    /// [`AllocError`] where an allocation was refused. Of what the reader then awaits nothing is known.
+    pub fn read(&mut self, depth: u32, piece: &[u8]) -> Result<Progress, AllocError>
+        ensures live { self.old ≢ done }
+        ensures next { self.new ≢ done }
+        ensures answer { IfOk result (λ progress. IsProgress depth self.old piece.now progress self.new) }
+    {
+        read_on(&mut self.stage, &mut self.frames, depth, piece)
+    }
+}
+
+fn read_on(
+    stage: &mut Stage,
+    frames: &mut Vec<Frame>,
+    depth: u32,
+    piece: &[u8],
+) -> Result<Progress, AllocError>
+    requires { IsAwaiting stage.old }
+    ensures awaiting { IsAwaiting stage.new }
+    ensures answer { IfOk result (λ progress. IsProgress depth (state_of stage.old (stack_of frames.old.items)) piece.now progress (state_of stage.new (stack_of frames.new.items))) }
+{
+    let mut used = 0;
+    while used < piece.len() {
+        match next_turn(*stage, frames, depth, &piece[used..])? {
+            Turn::On(count, next) => {
+                used += count;
+                if let Stage::Done = next {
+                    *stage = Stage::Item;
+                    frames.clear();
+                    return Ok(Progress::Whole { used });
+                }
+                *stage = next;
+            }
+            Turn::Refused(kind) => return Ok(Progress::Refused { used, kind }),
+            Turn::TooDeep => return Ok(Progress::TooDeep { used }),
+        }
+    }
+    Ok(Progress::More)
+}
