@@ -1,3 +1,12 @@
-pub mod Ranges
+pub mod Bytes
 pub mod Flats
 pub mod Going
+pub mod Walks
+pub mod Commas
+pub mod Goes
+pub mod Views
+pub mod Counts
+pub mod Keys
+pub mod Plain
+pub mod Walking
+pub mod Keeping

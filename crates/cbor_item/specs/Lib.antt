@@ -1,3 +1,7 @@
 pub mod View
 pub mod Unsound
 pub mod Counted
+pub mod Length
+pub mod Gone
+pub mod Walk
+pub mod Comma

@@ -1,10 +1,16 @@
 //! Items of CBOR (RFC 8949) in memory: which of them are sound, their preferred bytes and their diagnostic notation.
 #![tactic(auto)]
 
+mod bits;
 mod counted;
+mod depth;
+mod duplicates;
 mod head;
 mod item;
+mod length;
 mod notation;
+mod ranges;
+mod simples;
 mod sound;
 #[cfg(test)]
 mod tests;
@@ -15,3 +21,4 @@ pub use crate::item::Item;
 pub use crate::notation::diag;
 pub use crate::sound::{Sound, Unsound};
 pub use crate::write::{WriteFault, write_bytes, write_item};
+pub use cbor_data::Width;

@@ -2,15 +2,20 @@
 
 ghost use Rattle.std.specs.Prelude.{◌≡◌, ◌≢◌, ◌<◌, ◌≤◌, ◌+◌, ◌*◌, ◌↔◌, ◌++◌, ◌∷◌, [], length, slice_index, take, codes, decimal, flat_map, IfOk, OnOk, IsTrue};
 ghost use Rattle.hex.specs.Hex.{encode_lower};
-ghost use Rattle.cbor_data.specs.Notation.{bytes_notation, notation, shown_byte, text_notation};
-ghost use Rattle.cbor_item.specs.View.{view};
+ghost use Rattle.cbor_data.specs.Notation.{bytes_notation, float_notation, notation, shown_byte, simple_notation, text_notation};
+ghost use Rattle.cbor_data.specs.Value.{array, pairs as pairs_value};
+ghost use Rattle.cbor_item.specs.Comma.{comma};
+ghost use Rattle.cbor_item.specs.View.{view, values_view, pairs_view};
 
 use crate::item::Item;
+use cbor_data::Width;
 use itoa::Buffer;
 use std::alloc::{AllocError, Global};
 
 /// The item in diagnostic notation, a profile of RFC 8949 section 8: numbers in decimal, byte strings as `h'01ff'`,
-/// texts in `"`, where `"` and `\` stand behind a `\` and controls are `\u` and four hex digits.
+/// texts in `"`, where `"` and `\` stand behind a `\` and controls are `\u` and four hex digits, arrays as `[1, 2]`, maps as
+/// `{1: 2, 3: 4}`, tags as `1(2)`, simple values as `false`, `true`, `null`, `undefined` or `simple(99)`, and floats as their
+/// bits, `f16'3c00'`.
 ///
 /// It fails only where memory does.
 pub fn diag(alloc: Global, item: &Item) -> Result<Vec<u8>, AllocError>
@@ -21,6 +26,7 @@ pub fn diag(alloc: Global, item: &Item) -> Result<Vec<u8>, AllocError>
     Ok(text)
 }
 
+#[cycle(show)]
 fn push_item(out: &mut Vec<u8>, item: &Item) -> Result<(), AllocError>
     ensures { OnOk result (out.new.items ≡ out.old.items ++ notation (view item.now)) }
 {
@@ -32,7 +38,91 @@ fn push_item(out: &mut Vec<u8>, item: &Item) -> Result<(), AllocError>
         }
         Item::Bytes(bytes) => push_bytes(out, bytes.as_slice()),
         Item::Text(text) => push_text(out, text.as_str().as_bytes()),
+        Item::Array(items) => push_members(out, items),
+        Item::Map(pairs) => push_pairs(out, pairs),
+        Item::Tag(number, content) => {
+            push_number(out, u128::from(*number))?;
+            out.push(b'(')?;
+            push_item(out, content)?;
+            Ok(out.push(b')')?)
+        }
+        Item::Simple(n) => push_simple(out, *n),
+        Item::Float(width, bits) => push_float(out, *width, *bits),
     }
+}
+
+#[cycle(show)]
+fn push_members(out: &mut Vec<u8>, items: &Vec<Item>) -> Result<(), AllocError>
+    ensures { OnOk result (out.new.items ≡ out.old.items ++ notation (array (values_view items.now.items))) }
+{
+    out.push(b'[')?;
+    for (i, item) in items.iter().enumerate() {
+        push_comma(out, i)?;
+        push_item(out, item)?;
+    }
+    Ok(out.push(b']')?)
+}
+
+#[cycle(show)]
+fn push_pairs(out: &mut Vec<u8>, pairs: &Vec<(Item, Item)>) -> Result<(), AllocError>
+    ensures { OnOk result (out.new.items ≡ out.old.items ++ notation (pairs_value (pairs_view pairs.now.items))) }
+{
+    out.push(b'{')?;
+    for (i, pair) in pairs.iter().enumerate() {
+        push_comma(out, i)?;
+        push_item(out, &pair.0)?;
+        out.extend_from_slice(b": ")?;
+        push_item(out, &pair.1)?;
+    }
+    Ok(out.push(b'}')?)
+}
+
+// What parts the member or pair at this index from the one before.
+fn push_comma(out: &mut Vec<u8>, index: usize) -> Result<(), AllocError>
+    ensures { OnOk result (out.new.items ≡ out.old.items ++ comma index) }
+{
+    if index > 0 {
+        out.extend_from_slice(b", ")?;
+    }
+    Ok(())
+}
+
+fn push_simple(out: &mut Vec<u8>, n: u8) -> Result<(), AllocError>
+    ensures { OnOk result (out.new.items ≡ out.old.items ++ simple_notation n) }
+{
+    match n {
+        20 => out.extend_from_slice(b"false"),
+        21 => out.extend_from_slice(b"true"),
+        22 => out.extend_from_slice(b"null"),
+        23 => out.extend_from_slice(b"undefined"),
+        _ => {
+            out.extend_from_slice(b"simple(")?;
+            push_number(out, u128::from(n))?;
+            out.extend_from_slice(b")")
+        }
+    }
+}
+
+// As many bytes as the width has, of the bits' low end.
+fn push_float(out: &mut Vec<u8>, width: Width, bits: u64) -> Result<(), AllocError>
+    ensures { OnOk result (out.new.items ≡ out.old.items ++ float_notation width bits) }
+{
+    let bytes = bits.to_be_bytes();
+    match width {
+        Width::W16 => {
+            out.extend_from_slice(b"f16'")?;
+            push_hex_run(out, &bytes[6..])?;
+        }
+        Width::W32 => {
+            out.extend_from_slice(b"f32'")?;
+            push_hex_run(out, &bytes[4..])?;
+        }
+        Width::W64 => {
+            out.extend_from_slice(b"f64'")?;
+            push_hex_run(out, &bytes)?;
+        }
+    }
+    out.extend_from_slice(b"'")
 }
 
 fn push_number(out: &mut Vec<u8>, n: u128) -> Result<(), AllocError>

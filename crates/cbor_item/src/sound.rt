@@ -1,13 +1,17 @@
 //! Sound items: those that can be written, and that a reader may answer.
 
-ghost use Rattle.std.specs.Prelude.{◌≡◌, ◌<◌, ◌^◌, length, IfOk, IfErr};
-ghost use Rattle.cbor_data.specs.Preferred.{preferred};
-ghost use Rattle.cbor_data.specs.Value.{AreBytes, IsInRange};
+ghost use Rattle.std.specs.Prelude.{◌≡◌, IfOk, IfErr};
 ghost use Rattle.cbor_data.specs.Sound.{IsSound};
 ghost use Rattle.cbor_item.specs.Unsound.{IsFirstUnsoundness};
 ghost use Rattle.cbor_item.specs.View.{view};
 
+use crate::bits::are_bits_fitting;
+use crate::depth::is_within;
+use crate::duplicates::check_keys;
 use crate::item::Item;
+use crate::length::check_length;
+use crate::ranges::note_ranges;
+use crate::simples::are_simples_assignable;
 use std::alloc::Global;
 use std::marker::Model;
 use thiserror::Error;
@@ -59,14 +63,27 @@ impl Model for Sound {
     ghost invariant = { λ a. IsSound (item_view a.item) };
 }
 
+// How many containers may be round or at a place of a sound item.
+const MOST_CONTAINERS: u32 = 256;
+
 impl Sound {
     /// The item, if it is sound. The test may need memory.
     pub fn try_new(alloc: Global, item: Item) -> Result<Sound, Unsound>
         ensures ok { IfOk result (λ sound. (sound ≡ view item) × IsSound (view item)) }
         ensures err { IfErr result (IsFirstUnsoundness (view item)) }
     {
-        let _ = alloc;
+        if !is_within(&item, MOST_CONTAINERS) {
+            return Err(Unsound::TooDeep);
+        }
+        if !are_simples_assignable(&item) {
+            return Err(Unsound::BadSimple);
+        }
+        if !are_bits_fitting(&item) {
+            return Err(Unsound::BadBits);
+        }
         note_ranges(&item);
+        check_length(&item)?;
+        check_keys(alloc, &item)?;
         Ok(Sound { item })
     }
 
@@ -86,29 +103,4 @@ impl Sound {
         let Sound { item } = self;
         item
     }
-}
-
-// Does nothing. What the types of an item's parts say of them: numbers are in range, texts are UTF-8, and no list in
-// memory is longer than 2^63 - 1.
-fn note_ranges(item: &Item)
-    ensures range { IsInRange (view item.now) }
-    ensures short { length (preferred (view item.now)) < 2 ^ 64 }
-{
-    match item {
-        Item::Uint(n) | Item::Nint(n) => note_number(*n),
-        Item::Bytes(bytes) => note_bytes(bytes.as_slice()),
-        Item::Text(text) => note_bytes(text.as_bytes()),
-    }
-}
-
-fn note_number(n: u64)
-    ensures { n < 2 ^ 64 }
-{
-    let _ = n;
-}
-
-fn note_bytes(bytes: &[u8])
-    ensures { AreBytes bytes.now }
-{
-    let _ = bytes;
 }

@@ -1,9 +1,12 @@
 //! Writes items to a device, without taking memory.
 
-ghost use Rattle.std.specs.Prelude.{◌≡◌, ◌+◌, ◌<◌, ◌++◌, length, take, OnOk, OnErr, IfErr};
+ghost use Rattle.std.specs.Prelude.{◌≡◌, ◌+◌, ◌<◌, ◌^◌, ◌++◌, length, take, OnOk, OnErr, IfErr};
 ghost use Rattle.std.specs.Io.KnownBytes.{Appends};
 ghost use Rattle.cbor_data.specs.Preferred.{preferred, shortest_head};
+ghost use Rattle.cbor_data.specs.Value.{array, pairs as pairs_value, AreBitsFitting};
 ghost use Rattle.cbor_item.specs.Counted.{device_of, failures_of, HasRisen};
+ghost use Rattle.cbor_item.specs.Gone.{Goes, state_of};
+ghost use Rattle.cbor_item.specs.View.{view, values_view, pairs_view};
 
 use crate::counted::Counted;
 use crate::head::Head;
@@ -54,40 +57,106 @@ pub fn write_item<W: Write>(sound: &Sound, out: &mut Counted<W>) -> Result<(), W
     ensures part { IfErr result (λ f. Appends (W.contents (device_of out.old)) (W.contents (device_of out.new)) (take f.written (preferred sound.now))) }
     ensures failed { OnErr result (HasRisen (failures_of out.old) (failures_of out.new)) }
 {
-    match sound.item() {
-        Item::Uint(n) => write_head(0, *n, out),
-        Item::Nint(n) => write_head(1, *n, out),
-        Item::Bytes(bytes) => write_string(2, bytes.as_slice(), out),
-        Item::Text(text) => write_string(3, text.as_str().as_bytes(), out),
+    write_value(sound.item(), 0, out)?;
+    Ok(())
+}
+
+// Writes the preferred bytes of an item, where `before` bytes of the call went out already. Answers how many did then.
+#[cycle(write)]
+pub fn write_value<W: Write>(
+    item: &Item,
+    before: u128,
+    out: &mut Counted<W>,
+) -> Result<u128, WriteFault>
+    requires fitting { AreBitsFitting (view item.now) }
+    requires room { before + length (preferred (view item.now)) < 2 ^ 128 }
+    ensures { Goes (state_of W.contents out.old) (state_of W.contents out.new) before (preferred (view item.now)) result }
+{
+    match item {
+        Item::Uint(n) => write_head(&Head::shortest(0, *n), before, out),
+        Item::Nint(n) => write_head(&Head::shortest(1, *n), before, out),
+        Item::Bytes(bytes) => write_string(2, bytes.as_slice(), before, out),
+        Item::Text(text) => write_string(3, text.as_str().as_bytes(), before, out),
+        Item::Array(items) => write_members(items, before, out),
+        Item::Map(pairs) => write_pairs(pairs, before, out),
+        Item::Tag(number, content) => {
+            let after = write_head(&Head::shortest(6, *number), before, out)?;
+            write_value(content, after, out)
+        }
+        Item::Simple(n) => write_head(&Head::simple(*n), before, out),
+        Item::Float(width, bits) => write_head(&Head::float(*width, *bits), before, out),
     }
 }
 
-fn write_head<W: Write>(major: u8, argument: u64, out: &mut Counted<W>) -> Result<(), WriteFault>
-    requires { major < 8 }
-    ensures all { OnOk result (Appends (W.contents (device_of out.old)) (W.contents (device_of out.new)) (shortest_head major argument)) }
-    ensures count { OnOk result (failures_of out.new ≡ failures_of out.old) }
-    ensures short { IfErr result (λ f. f.written < length (shortest_head major argument)) }
-    ensures part { IfErr result (λ f. Appends (W.contents (device_of out.old)) (W.contents (device_of out.new)) (take f.written (shortest_head major argument))) }
-    ensures failed { OnErr result (HasRisen (failures_of out.old) (failures_of out.new)) }
+fn write_head<W: Write>(head: &Head, before: u128, out: &mut Counted<W>) -> Result<u128, WriteFault>
+    requires { before + length head.now < 2 ^ 128 }
+    ensures { Goes (state_of W.contents out.old) (state_of W.contents out.new) before head.now result }
 {
-    write_bytes(Head::shortest(major, argument).as_slice(), out)
+    write_part(head.as_slice(), before, out)
+}
+
+fn write_part<W: Write>(
+    bytes: &[u8],
+    before: u128,
+    out: &mut Counted<W>,
+) -> Result<u128, WriteFault>
+    requires { before + length bytes.now < 2 ^ 128 }
+    ensures { Goes (state_of W.contents out.old) (state_of W.contents out.new) before bytes.now result }
+{
+    match write_bytes(bytes, out) {
+        Ok(()) => Ok(before + bytes.len() as u128),
+        Err(fault) => Err(WriteFault {
+            written: before + fault.written,
+        }),
+    }
 }
 
 // A string: its head, and then its bytes.
-fn write_string<W: Write>(major: u8, bytes: &[u8], out: &mut Counted<W>) -> Result<(), WriteFault>
-    requires { major < 8 }
-    ensures all { OnOk result (Appends (W.contents (device_of out.old)) (W.contents (device_of out.new)) (shortest_head major (length bytes.now) ++ bytes.now)) }
-    ensures count { OnOk result (failures_of out.new ≡ failures_of out.old) }
-    ensures short { IfErr result (λ f. f.written < length (shortest_head major (length bytes.now) ++ bytes.now)) }
-    ensures part { IfErr result (λ f. Appends (W.contents (device_of out.old)) (W.contents (device_of out.new)) (take f.written (shortest_head major (length bytes.now) ++ bytes.now))) }
-    ensures failed { OnErr result (HasRisen (failures_of out.old) (failures_of out.new)) }
+fn write_string<W: Write>(
+    major: u8,
+    bytes: &[u8],
+    before: u128,
+    out: &mut Counted<W>,
+) -> Result<u128, WriteFault>
+    requires major { major < 8 }
+    requires room { before + length (shortest_head major (length bytes.now) ++ bytes.now) < 2 ^ 128 }
+    ensures { Goes (state_of W.contents out.old) (state_of W.contents out.new) before (shortest_head major (length bytes.now) ++ bytes.now) result }
 {
-    let head = Head::shortest(major, bytes.len() as u64);
-    write_bytes(head.as_slice(), out)?;
-    match write_bytes(bytes, out) {
-        Ok(()) => Ok(()),
-        Err(fault) => Err(WriteFault {
-            written: head.as_slice().len() as u128 + fault.written,
-        }),
+    let after = write_head(&Head::shortest(major, bytes.len() as u64), before, out)?;
+    write_part(bytes, after, out)
+}
+
+#[cycle(write)]
+fn write_members<W: Write>(
+    items: &Vec<Item>,
+    before: u128,
+    out: &mut Counted<W>,
+) -> Result<u128, WriteFault>
+    requires fitting { AreBitsFitting (array (values_view items.now.items)) }
+    requires room { before + length (preferred (array (values_view items.now.items))) < 2 ^ 128 }
+    ensures { Goes (state_of W.contents out.old) (state_of W.contents out.new) before (preferred (array (values_view items.now.items))) result }
+{
+    let mut after = write_head(&Head::shortest(4, items.len() as u64), before, out)?;
+    for item in items {
+        after = write_value(item, after, out)?;
     }
+    Ok(after)
+}
+
+#[cycle(write)]
+fn write_pairs<W: Write>(
+    pairs: &Vec<(Item, Item)>,
+    before: u128,
+    out: &mut Counted<W>,
+) -> Result<u128, WriteFault>
+    requires fitting { AreBitsFitting (pairs_value (pairs_view pairs.now.items)) }
+    requires room { before + length (preferred (pairs_value (pairs_view pairs.now.items))) < 2 ^ 128 }
+    ensures { Goes (state_of W.contents out.old) (state_of W.contents out.new) before (preferred (pairs_value (pairs_view pairs.now.items))) result }
+{
+    let mut after = write_head(&Head::shortest(5, pairs.len() as u64), before, out)?;
+    for (key, value) in pairs {
+        after = write_value(key, after, out)?;
+        after = write_value(value, after, out)?;
+    }
+    Ok(after)
 }

@@ -1,6 +1,5 @@
-mod Heads
-mod Leads
-mod Grows
-mod Verdicts
-mod Settled
-mod FrontLaws
+mod Meanings
+mod Pieces
+mod Following
+mod Valued
+mod Turned

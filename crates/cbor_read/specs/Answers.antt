@@ -3,9 +3,8 @@ use Rattle.std.specs.Prelude.{◌≡◌, ◌≢◌, ℕ, ◌+◌, ◌<◌, ◌�
 use Rattle.std.specs.declared.alloc.AllocError.{AllocError}
 use Rattle.cbor_data.specs.Value.{Value}
 use Rattle.cbor_data.specs.Forms.{IsWellFormed, IsUnfinished}
-use Rattle.cbor_data.specs.Faults.{Bounds, IsClearBefore}
-use Rattle.cbor_read.specs.Initial.{IsNotYet}
-use Rattle.cbor_read.specs.Told.{IsTold, IsRead}
+use Rattle.cbor_data.specs.Faults.{Bounds, BeginsWithin, IsClearBefore, IsItem}
+use Rattle.cbor_read.specs.Told.{IsTold}
 use Rattle.cbor_read.specs.Reading.{Reading}
 use Rattle.cbor_read.specs.declared.fault.Fault as declared
 use Rattle.cbor_read.specs.declared.fault.FaultKind.{FaultKind}
@@ -19,14 +18,14 @@ use Rattle.cbor_read.specs.declared.reader.Fed.TheVariants.{More, Item, Fault}
 pub record IsGoingOn (old : Reading) (piece : List ℕ) (new : Reading) : Type 0 where
   pub next : new ≡ record old { fed = old.fed ++ piece }
   pub unfinished : IsUnfinished (old.fed ++ piece)
+  pub shallow : BeginsWithin old.limits.depth (old.fed ++ piece)
   pub clear : IsClearBefore old.limits old.offset (old.fed ++ piece) (length (old.fed ++ piece))
-  pub read : IsNotYet (old.fed ++ piece) → ⊥
 
 -- The item x ended with byte `used` of the piece, and the next one begins behind it.
 pub record IsTaken (old : Reading) (piece : List ℕ) (used : ℕ) (x : Value) (new : Reading) : Type 0 where
   pub some : 0 < used
   pub within : used ≤ length piece
-  pub read : IsRead old.limits old.offset x (old.fed ++ take used piece)
+  pub item : IsItem old.limits old.offset x (old.fed ++ take used piece)
   pub next : new ≡ record { limits = old.limits; offset = old.offset + length (old.fed ++ take used piece); fed = []; stopped = None }
 
 -- How far a piece is used before a fault of this kind at this place is told: up to the fault's byte, or, where the item

@@ -1,8 +1,7 @@
-pub mod Initial
-pub mod Stages
-pub mod Steps
 pub mod Told
 pub mod Reading
 pub mod Answers
 pub mod Outcomes
+pub mod Steps
+pub mod Turns
 pub mod Fronts

@@ -1,21 +1,39 @@
--- Where a piece leads under the limits.
-use Rattle.std.specs.Prelude.{◌≡◌, ℕ, ◌+◌, ◌^◌, ◌<◌, ◌≤◌, List, [], ◌++◌, length, take, Option, Some, None}
-use Rattle.cbor_data.specs.Forms.{IsUnfinished}
-use Rattle.cbor_data.specs.Faults.{Bounds, IsClearBefore}
-use Rattle.cbor_read.specs.Initial.{IsNotYet}
-use Rattle.cbor_read.specs.Reading.{Reading}
-use Rattle.cbor_read.specs.Stages.{IsReached}
-use Rattle.cbor_read.specs.Answers.{IsGoingOn, IsTaken, IsRefused}
-use Rattle.cbor_read.specs.declared.fault.Stop.TheVariants as stop
-use Rattle.cbor_read.specs.declared.reader.Outcome.{Outcome}
-use Rattle.cbor_read.specs.declared.reader.Outcome.TheVariants.{Open, Item, Fault}
+-- What the bytes of a whole item come to.
+use Rattle.std.specs.Prelude.{◌≡◌, ℕ, ◌≤◌, List, ◌++◌}
+use Rattle.cbor_data.specs.Value.{Value, AreBitsFitting, AreSimplesAssignable, depth_of}
+use Rattle.cbor_data.specs.Validity.{IsFirstRepeatedKey}
+use Rattle.cbor_data.specs.Sound.{IsSound, HasShortSpelling}
+use Rattle.cbor_data.specs.Faults.{Bounds, IsItem}
+use Rattle.cbor_read.specs.Told.{IsTold}
+use Rattle.cbor_read.specs.declared.fault.Fault as declared
+use Rattle.cbor_read.specs.declared.fault.FaultKind.{FaultKind}
+use Rattle.cbor_read.specs.declared.fault.FaultKind.TheVariants.{BadText, DuplicateKey}
+use Rattle.cbor_read.specs.declared.value.Outcome.{Outcome}
+use Rattle.cbor_read.specs.declared.value.Outcome.TheVariants.{Item, Fault}
 
-abbrev pub IsOutcome : Bounds → ℕ → ℕ → List ℕ → List ℕ → Outcome → Type 0
-IsOutcome l o n fed piece (Open stage) =
-    IsReached l o (n + length piece) (fed ++ piece) stage
-    × IsGoingOn (record { limits = l; offset = o; fed = fed; stopped = None }) piece (record { limits = l; offset = o; fed = fed ++ piece; stopped = None })
-IsOutcome l o n fed piece (Item used x) =
-    (o + (n + used) < 2 ^ 64)
-    × IsTaken (record { limits = l; offset = o; fed = fed; stopped = None }) piece used x (record { limits = l; offset = o + length (fed ++ take used piece); fed = []; stopped = None })
-IsOutcome l o n fed piece (Fault used fault) =
-    IsRefused (record { limits = l; offset = o; fed = fed; stopped = None }) piece used fault (record { limits = l; offset = o; fed = fed ++ take used piece; stopped = Some (stop.Fault fault) })
+-- it is told of a whole item
+abbrev pub IsOfValue : FaultKind → Type 0
+IsOfValue BadText = Unit {0}
+IsOfValue DuplicateKey = Unit {0}
+IsOfValue _ = ⊥
+
+-- whatever follows the item's bytes, this fault is told of them
+pub record IsWrong (l : Bounds) (o : ℕ) (b : List ℕ) (fault : declared.Fault) : Type 0 where
+  pub value : IsOfValue fault.kind
+  pub told : (more : List ℕ) → IsTold l o (b ++ more) fault.kind fault.at
+
+abbrev pub IsOutcome : Bounds → ℕ → List ℕ → Outcome → Type 0
+IsOutcome l o b (Item x) = IsItem l o x b
+IsOutcome l o b (Fault fault) = IsWrong l o b fault
+
+-- the item is sound unless it repeats a key
+pub record IsSoundButKeys (x : Value) : Type 0 where
+  pub shallow : depth_of x ≤ 256
+  pub assignable : AreSimplesAssignable x
+  pub fitting : AreBitsFitting x
+  pub short : HasShortSpelling x
+
+-- the item x is sound, or it repeats a key, at this place first
+abbrev pub IsSettled : Value → Outcome → Type 0
+IsSettled x (Item y) = (y ≡ x) × IsSound x
+IsSettled x (Fault fault) = (fault.kind ≡ DuplicateKey) × IsFirstRepeatedKey x fault.at

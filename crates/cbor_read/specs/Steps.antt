@@ -1,35 +1,54 @@
--- Where the bytes of a piece lead.
-use Rattle.std.specs.Prelude.{◌≡◌, ℕ, ◌+◌, ◌<◌, ◌≤◌, List, ◌++◌, length, IsUtf8}
-use Rattle.cbor_data.specs.Forms.{Place, Form, text_form, flat, IsOk, HasText, meaning}
-use Rattle.cbor_item.specs.View.{view}
-use Rattle.cbor_read.specs.Initial.{IsNotYet}
-use Rattle.cbor_read.specs.Stages.{IsAt, IsInRange}
-use Rattle.cbor_read.specs.declared.stage.Step.{Step}
-use Rattle.cbor_read.specs.declared.stage.Step.TheVariants.{Open, Whole, BadText}
+-- Where the form of an item goes in a piece, under the limits.
+use Rattle.std.specs.Prelude.{◌≡◌, ◌≢◌, ℕ, ◌+◌, ◌<◌, ◌≤◌, ◌⊎◌, List, [], ◌++◌, length, take}
+use Rattle.cbor_data.specs.Faults.{Bounds, last_offset}
+use Rattle.cbor_machine.specs.Machine.{State, item, done}
+use Rattle.cbor_machine.specs.Reads.{Reads}
+use Rattle.cbor_value.specs.Unread.{IsWhole}
+use Rattle.cbor_read.specs.Told.{IsTold}
+use Rattle.cbor_read.specs.declared.fault.Fault as declared
+use Rattle.cbor_read.specs.declared.fault.FaultKind.{FaultKind}
+use Rattle.cbor_read.specs.declared.fault.FaultKind.TheVariants.{BadText, DuplicateKey}
+use Rattle.cbor_read.specs.declared.follow.Step.{Step}
+use Rattle.cbor_read.specs.declared.follow.Step.TheVariants.{Open, Whole, Fault}
 
--- with the front of the piece the form is whole, and `left` bytes stand behind it
-pub record IsEnding (seen piece : List ℕ) (left : ℕ) (f : Form) : Type 0 where
-  pub front : List ℕ
-  pub back : List ℕ
-  pub is : piece ≡ front ++ back
-  pub behind : length back ≡ left
-  pub ok : IsOk f
-  pub prints : seen ++ front ≡ flat f
-  pub read : IsNotYet (seen ++ front) → ⊥
+-- it is told of a byte, and not of a whole item
+abbrev pub IsOfForm : FaultKind → Type 0
+IsOfForm BadText = ⊥
+IsOfForm DuplicateKey = ⊥
+IsOfForm _ = Unit {0}
 
-abbrev pub LeadsTo : List ℕ → List ℕ → Step → Type 0
-LeadsTo seen piece (Open stage) = IsAt (seen ++ piece) stage
-LeadsTo seen piece (Whole left item) = (f : Form) × IsEnding seen piece left f × HasText f × (view item ≡ meaning f)
-LeadsTo seen piece (BadText left) = (p : Place) × (s : List ℕ) × IsEnding seen piece left (text_form p s) × (IsUtf8 s → ⊥)
+-- the bytes begin an item, and are not all of it
+pub record IsOpen (l : Bounds) (o : ℕ) (b : List ℕ) : Type 0 where
+  pub state : State
+  pub reads : Reads l o b state
+  pub live : state ≢ done
+  pub some : b ≢ []
 
--- the stage's numbers have room, and no more bytes are left than there are
-abbrev pub IsWithin : Step → ℕ → Type 0
-IsWithin (Open stage) n = IsInRange stage
-IsWithin (Whole left item) n = left ≤ n
-IsWithin (BadText left) n = left ≤ n
+-- the bytes have no room for another one
+abbrev pub IsFull : Bounds → ℕ → List ℕ → Type 0
+IsFull l o b = (length b ≡ l.item_bytes) ⊎ (o + length b ≡ last_offset)
 
--- the stage's numbers have room, and fewer bytes are left than there are
-abbrev pub IsShorter : Step → ℕ → Type 0
-IsShorter (Open stage) n = IsInRange stage
-IsShorter (Whole left item) n = left < n
-IsShorter (BadText left) n = left < n
+-- whatever follows, this is told of the byte that comes where there is no room
+pub record IsToldPast (l : Bounds) (old : State) (byte : List ℕ) (kind : FaultKind) : Type 0 where
+  pub form : IsOfForm kind
+  pub told : (o : ℕ) (b more : List ℕ) → Reads l o b old → IsFull l o b → IsTold l o (b ++ (byte ++ more)) kind (o + length b)
+
+-- the item ended with byte `used` of the piece, and the next one is awaited
+pub record IsEnded (l : Bounds) (o : ℕ) (seen piece : List ℕ) (used : ℕ) (new : State) : Type 0 where
+  pub some : 0 < used
+  pub within : used ≤ length piece
+  pub reads : Reads l o (seen ++ take used piece) done
+  pub whole : IsWhole 256 (seen ++ take used piece)
+  pub next : new ≡ item []
+
+-- whatever follows, this fault is told, of the byte behind `used` others of the piece
+pub record IsHalted (l : Bounds) (o : ℕ) (seen piece : List ℕ) (used : ℕ) (fault : declared.Fault) : Type 0 where
+  pub within : used < length piece
+  pub form : IsOfForm fault.kind
+  pub told : (more : List ℕ) → IsTold l o ((seen ++ piece) ++ more) fault.kind fault.at
+  pub place : fault.at ≡ o + length (seen ++ take used piece)
+
+abbrev pub IsFollowed : Bounds → ℕ → List ℕ → List ℕ → Step → State → Type 0
+IsFollowed l o seen piece Open new = Reads l o (seen ++ piece) new
+IsFollowed l o seen piece (Whole used) new = IsEnded l o seen piece used new
+IsFollowed l o seen piece (Fault used fault) new = IsHalted l o seen piece used fault

@@ -1,8 +1,6 @@
 /// What is wrong with the bytes of an item.
 #[derive(Clone, Copy, Debug, PartialEq, Eq)]
 pub enum FaultKind {
-    /// A form that is not read yet: a first byte of major type 4 to 7, or a string of indefinite length.
-    NotYet,
     /// Additional information 28 to 30 (RFC 8949 section 3).
     ReservedInfo,
     /// Additional information 31 on major type 0, 1 or 6 (RFC 8949 section 3.2).

@@ -1,18 +1,19 @@
 // Reads items from pieces.
-ghost use Rattle.std.specs.Prelude.{◌≡◌, ℕ, ◌+◌, ◌-◌, ◌^◌, ◌<◌, ◌≤◌, [], List, min, take, IfOk, IfSome, IfNone, None};
-ghost use Rattle.cbor_item.specs.View.{view};
+ghost use Rattle.std.specs.Prelude.{◌≡◌, ◌≢◌, [], None, IfOk};
+ghost use Rattle.cbor_machine.specs.Machine.{done};
+ghost use Rattle.cbor_machine.specs.Reads.{Reads};
 ghost use Rattle.cbor_read.specs.Answers.{IsAgain, IsAnswer, IsEnd};
-ghost use Rattle.cbor_read.specs.Stages.{IsAt, IsInRange, IsReached, IsStartingWith, IsBadStart};
-ghost use Rattle.cbor_read.specs.Outcomes.{IsOutcome};
+ghost use Rattle.cbor_read.specs.Turns.{IsTurn};
 
-use crate::fault::{Fault, FaultKind, Stop};
+use crate::fault::{Fault, Stop};
+use crate::follow::{Step, fault_at_end, follow};
 use crate::limits::Limits;
-use crate::stage::{Stage, Step, first_fault, read_on};
-use cbor_item::{Item, Sound};
+use crate::value::{Outcome, value_of};
+use cbor_form::FormReader;
+use cbor_item::Sound;
 use history::History;
 use std::alloc::{AllocError, Global};
 use std::marker::Model;
-use std::mem;
 
 /// What a piece led to.
 #[derive(Drop)]
@@ -22,42 +23,35 @@ pub enum Fed {
     /// The item ended with byte `used` of the piece. What stands behind it is for the next call.
     Item { used: usize, item: Sound },
     /// The stream has a fault. `used` counts the bytes of the piece before the fault's byte, or, where the item is
-    /// whole (bad text), those up to its end.
+    /// whole (bad text, a repeated key), those up to its end.
     Fault { used: usize, fault: Fault },
 }
 
 /// Reads the items of a stream, one after the other, from pieces of any size.
 ///
 /// Contracts see its limits, the offset of the item's first byte, the bytes used since, and why it has stopped, if it
-/// has. It keeps one copy of a string's bytes, takes no memory for a length that is only declared, and costs a constant
-/// for each piece beside its bytes.
+/// has. It keeps one copy of the item's bytes and takes no memory for a length that is only declared.
 #[derive(Drop)]
 pub struct ItemReader {
     alloc: Global,
     limits: Limits,
     offset: u64,
-    count: u64,
-    stage: Stage,
+    form: FormReader,
+    bytes: Vec<u8>,
+    stopped: Option<Stop>,
     fed: History<u8>,
 }
 
 impl Model for ItemReader {
+    ghost use Rattle.std.specs.Prelude.{◌≡◌, None};
     ghost use Rattle.cbor_read.specs.Reading.{Reading};
-    ghost use Rattle.cbor_read.specs.Stages.{stop_of, IsKept};
+    ghost use Rattle.cbor_read.specs.Turns.{IsKept};
 
     ghost Value = { Reading };
 
-    ghost view = { λ r. record { limits = r.limits; offset = r.offset; fed = r.fed; stopped = stop_of r.stage } };
+    ghost view = { λ r. record { limits = r.limits; offset = r.offset; fed = r.fed; stopped = r.stopped } };
 
-    ghost invariant = { λ r. IsKept r.limits r.offset r.count r.fed r.stage };
-}
-
-/// Where a piece leads under the limits.
-#[derive(Drop)]
-pub enum Outcome {
-    Open(Stage),
-    Item { used: usize, item: Sound },
-    Fault { used: usize, fault: Fault },
+    ghost invariant = { λ r. r.stopped ≡ None → IsKept r.limits r.offset r.fed r.bytes.items r.form };
 }
 
 impl ItemReader {
@@ -69,8 +63,9 @@ impl ItemReader {
             alloc,
             limits,
             offset: 0,
-            count: 0,
-            stage: Stage::Start,
+            form: FormReader::new(alloc),
+            bytes: Vec::new(alloc),
+            stopped: None,
             fed: History::new(),
         }
     }
@@ -84,34 +79,33 @@ impl ItemReader {
     pub fn feed(&mut self, piece: &[u8]) -> Result<Fed, AllocError>
         ensures { IsAnswer self.old.stopped self.old piece.now result self.new }
     {
-        if let Stage::Stopped(stop) = &self.stage {
-            return again(*stop);
+        if let Some(stop) = self.stopped {
+            return again(stop);
         }
-        let stage = mem::replace(&mut self.stage, Stage::Stopped(Stop::Memory));
-        match read(
+        self.stopped = Some(Stop::Memory);
+        match take_turn(
             self.alloc,
             self.limits,
             self.offset,
-            self.count,
-            stage,
+            &mut self.form,
+            &mut self.bytes,
             piece,
         )? {
-            Outcome::Open(stage) => {
-                self.stage = stage;
-                self.count += piece.len() as u64;
+            Fed::More => {
                 self.fed.extend(piece);
+                self.stopped = None;
                 Ok(Fed::More)
             }
-            Outcome::Item { used, item } => {
-                self.stage = Stage::Start;
-                self.offset += self.count + used as u64;
-                self.count = 0;
+            Fed::Item { used, item } => {
+                self.offset += self.bytes.len() as u64;
+                self.bytes.clear();
                 self.fed.clear();
+                self.stopped = None;
                 Ok(Fed::Item { used, item })
             }
-            Outcome::Fault { used, fault } => {
-                self.stage = Stage::Stopped(Stop::Fault(fault));
+            Fed::Fault { used, fault } => {
                 self.fed.extend(&piece[..used]);
+                self.stopped = Some(Stop::Fault(fault));
                 Ok(Fed::Fault { used, fault })
             }
         }
@@ -126,21 +120,13 @@ impl ItemReader {
     pub fn at_end(&self) -> Result<(), Stop>
         ensures { IsEnd self.now.stopped self.now result }
     {
-        match &self.stage {
-            Stage::Start => Ok(()),
-            Stage::Stopped(stop) => Err(*stop),
-            _ => {
-                let kind = if self.count == u64::from(self.limits.item_bytes()) {
-                    FaultKind::TooLong
-                } else {
-                    FaultKind::Truncated
-                };
-                Err(Stop::Fault(Fault {
-                    at: self.offset + self.count,
-                    kind,
-                }))
-            }
+        if let Some(stop) = self.stopped {
+            return Err(stop);
         }
+        if self.bytes.is_empty() {
+            return Ok(());
+        }
+        Err(Stop::Fault(fault_at_end(self.limits, self.offset, &self.bytes)))
     }
 }
 
@@ -154,108 +140,31 @@ fn again(stop: Stop) -> Result<Fed, AllocError>
     }
 }
 
-// How many bytes may follow at once: as many as the item may still have, and none at the last offset.
-fn room_of(limits: Limits, offset: u64, count: u64) -> usize
-    requires short { count ≤ limits.item_bytes }
-    requires placed { offset + count < 2 ^ 64 }
-    ensures { result ≡ min (limits.item_bytes - count) (2 ^ 64 - 1 - (offset + count)) }
-{
-    let item = u64::from(limits.item_bytes()) - count;
-    item.min(u64::MAX - (offset + count)) as usize
-}
-
-// The bytes of the piece that have room.
-fn front_of(piece: &[u8], room: usize) -> &[u8]
-    ensures { result.now ≡ take room piece.now }
-{
-    &piece[..room.min(piece.len())]
-}
-
-// What is wrong with the first byte of the piece, where an item is awaited.
-fn fault_at_start(stage: &Stage, piece: &[u8]) -> Option<FaultKind>
-    ensures none { IfNone result (IsStartingWith stage.now piece.now) }
-    ensures some { IfSome result (IsBadStart stage.now piece.now) }
-{
-    match stage {
-        Stage::Start => first_fault(*piece.first()?),
-        _ => None,
-    }
-}
-
-fn read(
+// Reads on. Where no fault is told, what is used of the piece is added to the item's bytes.
+fn take_turn(
     alloc: Global,
     limits: Limits,
     offset: u64,
-    count: u64,
-    stage: Stage,
+    form: &mut FormReader,
+    bytes: &mut Vec<u8>,
     piece: &[u8],
-) -> Result<Outcome, AllocError>
-    requires range { IsInRange stage }
-    requires short { count ≤ limits.item_bytes }
-    requires placed { offset + count < 2 ^ 64 }
-    ensures { IfOk result (λ outcome. (fed : List ℕ) → IsReached limits offset count fed stage → IsOutcome limits offset count fed piece.now outcome) }
+) -> Result<Fed, AllocError>
+    requires live { form.old ≢ done }
+    requires reads { Reads limits offset bytes.old.items form.old }
+    ensures { IfOk result (λ fed. IsTurn limits offset bytes.old.items piece.now fed bytes.new.items form.new) }
 {
-    if let Some(kind) = fault_at_start(&stage, piece) {
-        let fault = Fault { at: offset, kind };
-        return Ok(Outcome::Fault { used: 0, fault });
-    }
-    read_within(alloc, limits, offset, count, stage, piece)
-}
-
-/// The item as a sound one: a form without containers is.
-pub fn sound_of(alloc: Global, item: Item) -> Result<Sound, AllocError>
-    ensures { IfOk result (λ sound. sound ≡ view item) }
-{
-    match Sound::try_new(alloc, item) {
-        Ok(sound) => Ok(sound),
-        Err(_) => Err(AllocError),
-    }
-}
-
-// Reads on where nothing is wrong with the first byte.
-fn read_within(
-    alloc: Global,
-    limits: Limits,
-    offset: u64,
-    count: u64,
-    stage: Stage,
-    piece: &[u8],
-) -> Result<Outcome, AllocError>
-    requires range { IsInRange stage }
-    requires first { IsStartingWith stage piece.now }
-    requires short { count ≤ limits.item_bytes }
-    requires placed { offset + count < 2 ^ 64 }
-    ensures { IfOk result (λ outcome. (fed : List ℕ) → IsReached limits offset count fed stage → IsOutcome limits offset count fed piece.now outcome) }
-{
-    let room = room_of(limits, offset, count);
-    let inside = front_of(piece, room);
-    match read_on(alloc, stage, inside)? {
-        Step::Open(stage) => {
-            if piece.len() <= room {
-                return Ok(Outcome::Open(stage));
+    match follow(limits, offset, bytes, form, piece)? {
+        Step::Open => {
+            bytes.extend_from_slice(piece)?;
+            Ok(Fed::More)
+        }
+        Step::Whole { used } => {
+            bytes.extend_from_slice(&piece[..used])?;
+            match value_of(alloc, offset, bytes)? {
+                Outcome::Item(item) => Ok(Fed::Item { used, item }),
+                Outcome::Fault(fault) => Ok(Fed::Fault { used, fault }),
             }
-            let fault = Fault {
-                at: offset + count + room as u64,
-                kind: FaultKind::TooLong,
-            };
-            Ok(Outcome::Fault { used: room, fault })
         }
-        Step::Whole { left, item } => {
-            let sound = sound_of(alloc, item)?;
-            Ok(Outcome::Item {
-                used: inside.len() - left,
-                item: sound,
-            })
-        }
-        Step::BadText { left } => {
-            let fault = Fault {
-                at: offset,
-                kind: FaultKind::BadText,
-            };
-            Ok(Outcome::Fault {
-                used: inside.len() - left,
-                fault,
-            })
-        }
+        Step::Fault { used, fault } => Ok(Fed::Fault { used, fault }),
     }
 }

@@ -7,123 +7,155 @@ use std::test::Fail;
 
 #[derive(Clone, Copy)]
 struct Row {
+    depth: u32,
     item_bytes: u32,
     stream: &'static [u8],
     log: &'static str,
 }
 
 const fn make_row(stream: &'static [u8], log: &'static str) -> Row {
-    Row {
-        item_bytes: 1 << 24,
-        stream,
-        log,
-    }
+    limited(64, 1 << 24, stream, log)
 }
 
-const fn limited(item_bytes: u32, stream: &'static [u8], log: &'static str) -> Row {
+const fn limited(depth: u32, item_bytes: u32, stream: &'static [u8], log: &'static str) -> Row {
     Row {
+        depth,
         item_bytes,
         stream,
         log,
     }
 }
 
-// The streams of the first request, and the heads of RFC 8949 section 3 at the bounds of their widths.
-fn rows() -> [Row; 56] {
+// Values of RFC 8949 Appendix A, and not well-formed bytes after its Appendix F.
+fn rows() -> [Row; 55] {
     [
         make_row(b"", "clean at 0\n"),
-        make_row(b"\x17\x18\x18", "0: 23\n1: 24\nclean at 3\n"),
         make_row(b"\x17\x18\x18\x20", "0: 23\n1: 24\n3: -1\nclean at 4\n"),
-        make_row(b"\x61\x61\x40", "0: \"a\"\n2: h''\nclean at 3\n"),
-        make_row(b"\x63\x61\x62", "Truncated at 3\n"),
-        make_row(b"\x61\xff", "BadText at 0\n"),
-        make_row(b"\x61\xff\x00", "BadText at 0\n"),
-        make_row(b"\x00\x61\xff\x00", "0: 0\nBadText at 1\n"),
-        make_row(b"\x62\xc3\xbc\x60", "0: \"\u{fc}\"\n3: \"\"\nclean at 4\n"),
-        make_row(b"\x1c", "ReservedInfo at 0\n"),
-        make_row(b"\x7e", "ReservedInfo at 0\n"),
-        make_row(b"\x00\x3d", "0: 0\nReservedInfo at 1\n"),
-        make_row(b"\x1f", "BadIndefinite at 0\n"),
-        make_row(b"\x3f", "BadIndefinite at 0\n"),
-        make_row(b"\x80", "NotYet at 0\n"),
-        make_row(b"\x9c", "NotYet at 0\n"),
-        make_row(b"\x01\x9f", "0: 1\nNotYet at 1\n"),
-        make_row(b"\xa0", "NotYet at 0\n"),
-        make_row(b"\xc0\x01", "NotYet at 0\n"),
-        make_row(b"\xf4", "NotYet at 0\n"),
-        make_row(b"\x5f", "NotYet at 0\n"),
-        make_row(b"\x7f", "NotYet at 0\n"),
-        make_row(b"\xff", "NotYet at 0\n"),
         make_row(b"\x18", "Truncated at 1\n"),
-        make_row(b"\x18\x00", "0: 0\nclean at 2\n"),
-        make_row(b"\x18\x17", "0: 23\nclean at 2\n"),
-        make_row(b"\x18\xff", "0: 255\nclean at 2\n"),
-        make_row(b"\x19\x00\x00", "0: 0\nclean at 3\n"),
-        make_row(b"\x19\x01\x00", "0: 256\nclean at 3\n"),
-        make_row(b"\x19\xff\xff", "0: 65535\nclean at 3\n"),
-        make_row(b"\x1a\x00\x00\x00\x18", "0: 24\nclean at 5\n"),
-        make_row(b"\x1a\x00\x01\x00\x00", "0: 65536\nclean at 5\n"),
-        make_row(b"\x1a\xff\xff\xff\xff", "0: 4294967295\nclean at 5\n"),
         make_row(
-            b"\x1b\x00\x00\x00\x00\x00\x00\x00\x18",
-            "0: 24\nclean at 9\n",
+            b"\x1b\xff\xff\xff\xff\xff\xff\xff\xff\x3b\xff\xff\xff\xff\xff\xff\xff\xff",
+            "0: 18446744073709551615\n9: -18446744073709551616\nclean at 18\n",
         ),
-        make_row(
-            b"\x1b\x00\x00\x00\x01\x00\x00\x00\x00",
-            "0: 4294967296\nclean at 9\n",
-        ),
-        make_row(
-            b"\x1b\x01\x02\x03\x04\x05\x06\x07\x08",
-            "0: 72623859790382856\nclean at 9\n",
-        ),
-        make_row(
-            b"\x1b\xff\xff\xff\xff\xff\xff\xff\xff",
-            "0: 18446744073709551615\nclean at 9\n",
-        ),
-        make_row(b"\x37\x38\x18", "0: -24\n1: -25\nclean at 3\n"),
-        make_row(b"\x38\xff\x39\xff\xff", "0: -256\n2: -65536\nclean at 5\n"),
-        make_row(b"\x3a\xff\xff\xff\xff", "0: -4294967296\nclean at 5\n"),
-        make_row(
-            b"\x3b\xff\xff\xff\xff\xff\xff\xff\xff",
-            "0: -18446744073709551616\nclean at 9\n",
-        ),
+        make_row(b"\x1c", "ReservedInfo at 0\n"),
+        make_row(b"\x1f", "BadIndefinite at 0\n"),
+        make_row(b"\x00\x3d", "0: 0\nReservedInfo at 1\n"),
         make_row(
             b"\x44\x01\x02\x03\x04\x58\x01\xaa",
             "0: h'01020304'\n5: h'aa'\nclean at 8\n",
         ),
         make_row(
-            b"\x59\x00\x01\xaa\x5a\x00\x00\x00\x00",
-            "0: h'aa'\n4: h''\nclean at 9\n",
-        ),
-        make_row(
             b"\x5b\x00\x00\x00\x00\x00\x00\x00\x02\xaa\xbb",
             "0: h'aabb'\nclean at 11\n",
         ),
-        make_row(
-            b"\x78\x01\x61\x79\x00\x01\x62",
-            "0: \"a\"\n3: \"b\"\nclean at 7\n",
-        ),
-        make_row(b"\x7a\x00\x00\x00\x01\x63", "0: \"c\"\nclean at 6\n"),
-        make_row(
-            b"\x7b\x00\x00\x00\x00\x00\x00\x00\x01\x64\x00",
-            "0: \"d\"\n10: 0\nclean at 11\n",
-        ),
         make_row(b"\x5b\xff\xff\xff\xff\xff\xff\xff\xff", "Truncated at 9\n"),
+        make_row(b"\x5f\xff", "0: h''\nclean at 2\n"),
         make_row(
-            b"\x7b\xff\xff\xff\xff\xff\xff\xff\xff\x61",
+            b"\x5f\x42\x01\x02\x41\x03\xff",
+            "0: h'010203'\nclean at 7\n",
+        ),
+        make_row(b"\x5f\x61\x61", "BadChunk at 1\n"),
+        make_row(b"\x5f\x5f", "BadChunk at 1\n"),
+        make_row(b"\x5f\x5c", "ReservedInfo at 1\n"),
+        make_row(b"\x5f\x1c", "BadChunk at 1\n"),
+        make_row(b"\x62\xc3\xbc\x60", "0: \"\u{fc}\"\n3: \"\"\nclean at 4\n"),
+        make_row(b"\x61\xff", "BadText at 0\n"),
+        make_row(b"\x61\xff\x00", "BadText at 0\n"),
+        make_row(b"\x63\x61\x62", "Truncated at 3\n"),
+        make_row(b"\x7f\x61\x61\x60\x61\x62\xff", "0: \"ab\"\nclean at 7\n"),
+        make_row(b"\x7f\x62\xc3\xbc\xff", "0: \"\u{fc}\"\nclean at 5\n"),
+        make_row(b"\x7f\x61\x61\x61\xc3\x61\xbc\xff", "BadText at 3\n"),
+        make_row(b"\x7f\x7f", "BadChunk at 1\n"),
+        make_row(b"\x7f\x41\x61", "BadChunk at 1\n"),
+        make_row(b"\x80\x83\x01\x02\x03", "0: []\n1: [1, 2, 3]\nclean at 5\n"),
+        make_row(
+            b"\x9f\xff\x9f\x01\x82\x02\x03\x9f\x04\x05\xff\xff",
+            "0: []\n2: [1, [2, 3], [4, 5]]\nclean at 12\n",
+        ),
+        make_row(
+            b"\x9b\x00\x00\x00\x01\x00\x00\x00\x00\x00",
             "Truncated at 10\n",
         ),
-        limited(1, b"\x18", "TooLong at 1\n"),
-        limited(1, b"\x17\x18\x18", "0: 23\nTooLong at 2\n"),
+        make_row(b"\x82\x01", "Truncated at 2\n"),
+        make_row(b"\x82\xff", "BadBreak at 1\n"),
+        make_row(b"\x81\x1c", "ReservedInfo at 1\n"),
+        make_row(b"\x82\x61\xff\x1c", "ReservedInfo at 3\n"),
+        make_row(b"\x82\x61\xff\x00", "BadText at 1\n"),
+        make_row(b"\x82\x61\xff", "Truncated at 3\n"),
+        make_row(b"\x00\x82\x61\x61\x61\xff", "0: 0\nBadText at 4\n"),
+        make_row(
+            b"\xa0\xa2\x01\x02\x03\x04",
+            "0: {}\n1: {1: 2, 3: 4}\nclean at 6\n",
+        ),
+        make_row(b"\xbf\x61\x61\x01\xff", "0: {\"a\": 1}\nclean at 5\n"),
+        make_row(b"\x9f\x01\xbf\x61\x61\xff", "BadBreak at 5\n"),
+        make_row(b"\xa1\xff", "BadBreak at 1\n"),
+        make_row(b"\xa1\x01", "Truncated at 2\n"),
+        make_row(b"\xa2\x01\x00\x18\x01\x00", "DuplicateKey at 3\n"),
+        make_row(b"\x00\xa2\x01\x00\x01\x00", "0: 0\nDuplicateKey at 3\n"),
+        make_row(b"\x81\xa2\x01\x00\x01\x00", "DuplicateKey at 4\n"),
+        make_row(b"\xa3\x01\x00\x01\x00\x61\xff\x00", "BadText at 5\n"),
+        make_row(
+            b"\xc1\x1a\x51\x4b\x67\xb0\xd8\x20\x61\x61",
+            "0: 1(1363896240)\n6: 32(\"a\")\nclean at 10\n",
+        ),
+        make_row(b"\xc0\xff", "BadBreak at 1\n"),
+        make_row(b"\xdf", "BadIndefinite at 0\n"),
+        make_row(
+            b"\xf4\xf5\xf6\xf7\xe0",
+            "0: false\n1: true\n2: null\n3: undefined\n4: simple(0)\nclean at 5\n",
+        ),
+        make_row(
+            b"\xf8\x20\xf8\xff",
+            "0: simple(32)\n2: simple(255)\nclean at 4\n",
+        ),
+        make_row(b"\xf8\x1f", "BadSimple at 1\n"),
+        make_row(b"\xf8\x18", "BadSimple at 1\n"),
+        make_row(b"\xfc", "ReservedInfo at 0\n"),
+        make_row(b"\xff", "BadBreak at 0\n"),
+        make_row(
+            b"\xf9\x3c\x00\xfa\x47\xc3\x50\x00",
+            "0: f16'3c00'\n3: f32'47c35000'\nclean at 8\n",
+        ),
+        make_row(
+            b"\xfb\x3f\xf1\x99\x99\x99\x99\x99\x9a",
+            "0: f64'3ff199999999999a'\nclean at 9\n",
+        ),
+    ]
+}
+
+// Streams at the limits.
+fn limited_rows() -> [Row; 20] {
+    [
+        limited(64, 1, b"\x18", "TooLong at 1\n"),
+        limited(64, 1, b"\x17\x18\x18", "0: 23\nTooLong at 2\n"),
         limited(
+            64,
             4,
             b"\x43\x01\x02\x03\x43\x01",
             "0: h'010203'\nTruncated at 6\n",
         ),
-        limited(3, b"\x43\x01\x02\x03", "TooLong at 3\n"),
-        limited(4, b"\x58\x18\x01", "Truncated at 3\n"),
-        limited(4, b"\x58\x18\x01\x01", "TooLong at 4\n"),
-        limited(3, b"\x63\xff\xff\xff\x1c", "TooLong at 3\n"),
+        limited(64, 3, b"\x43\x01\x02\x03", "TooLong at 3\n"),
+        limited(64, 4, b"\x58\x18\x01", "Truncated at 3\n"),
+        limited(64, 4, b"\x58\x18\x01\x01", "TooLong at 4\n"),
+        limited(64, 3, b"\x63\xff\xff\xff\x1c", "TooLong at 3\n"),
+        limited(64, 3, b"\x82\x01\x02", "0: [1, 2]\nclean at 3\n"),
+        limited(64, 3, b"\x83\x01\x02", "TooLong at 3\n"),
+        limited(64, 4, b"\x9f\x01\x02\x03\xff", "TooLong at 4\n"),
+        limited(64, 1, b"\x81\x80", "TooLong at 1\n"),
+        limited(64, 1, b"\x81\x1c", "ReservedInfo at 1\n"),
+        limited(1, 1, b"\x81\x80", "TooDeep at 1\n"),
+        limited(1, 64, b"\x81\x00", "0: [0]\nclean at 2\n"),
+        limited(1, 64, b"\x81\x80", "TooDeep at 1\n"),
+        limited(1, 64, b"\x81\x9c", "ReservedInfo at 1\n"),
+        limited(1, 64, b"\x81\xff", "BadBreak at 1\n"),
+        limited(1, 64, b"\xc1\xc1\x00", "TooDeep at 1\n"),
+        limited(1, 64, b"\xbf\x00\xbf", "TooDeep at 2\n"),
+        limited(
+            2,
+            64,
+            b"\x81\x81\xf6\x9f\x80\x00\xff",
+            "0: [[null]]\n3: [[], 0]\nclean at 7\n",
+        ),
     ]
 }
 
@@ -240,14 +272,24 @@ fn read_at_each_cut(
     Ok(())
 }
 
-#[test]
-fn reads_each_row_at_each_cut(rt: HostRuntime) -> Result<(), Fail> {
-    let alloc = rt.alloc();
-    for row in rows() {
-        if let Some(limits) = Limits::try_new(64, row.item_bytes) {
-            read_at_each_cut(&rt, alloc, limits, row.stream, row.log.as_bytes())?;
+fn read_each(rt: &impl Abort, alloc: Global, rows: &[Row]) -> Result<(), AllocError> {
+    for row in rows {
+        if let Some(limits) = Limits::try_new(row.depth, row.item_bytes) {
+            read_at_each_cut(rt, alloc, limits, row.stream, row.log.as_bytes())?;
         }
     }
+    Ok(())
+}
+
+#[test]
+fn reads_each_row_at_each_cut(rt: HostRuntime) -> Result<(), Fail> {
+    read_each(&rt, rt.alloc(), &rows())?;
+    Ok(())
+}
+
+#[test]
+fn keeps_the_limits_at_each_cut(rt: HostRuntime) -> Result<(), Fail> {
+    read_each(&rt, rt.alloc(), &limited_rows())?;
     Ok(())
 }
 
@@ -255,7 +297,7 @@ fn reads_each_row_at_each_cut(rt: HostRuntime) -> Result<(), Fail> {
 fn reads_made_up_streams_as_the_plain_reader_does(rt: HostRuntime) -> Result<(), Fail> {
     let alloc = rt.alloc();
     let heads =
-        b"\x00\x17\x18\x19\x1a\x1b\x20\x38\x3b\x40\x41\x43\x45\x58\x59\x5b\x60\x61\x62\x64\x78\x79\x7b\x1c\x1f\x5f\x80";
+        b"\x00\x18\x20\x41\x5f\x61\x7f\x80\x82\x9f\xa0\xa1\xa2\xbf\xc1\xd8\xf4\xf8\xf9\xff\xff\x1c";
     let mut state = 1u64;
     for round in 0..400u32 {
         let mut stream = Vec::new(alloc);
@@ -272,7 +314,7 @@ fn reads_made_up_streams_as_the_plain_reader_does(rt: HostRuntime) -> Result<(),
             };
             stream.push(byte)?;
         }
-        if let Some(limits) = Limits::try_new(1, 1 + round % 12) {
+        if let Some(limits) = Limits::try_new(1 + round % 3, 1 + round % 12) {
             let log = by_fronts(alloc, limits, &stream)?;
             read_at_each_cut(&rt, alloc, limits, &stream, &log)?;
         }
@@ -280,36 +322,106 @@ fn reads_made_up_streams_as_the_plain_reader_does(rt: HostRuntime) -> Result<(),
     Ok(())
 }
 
+// How much of one piece is used.
 #[test]
-fn answers_a_fault_again(rt: HostRuntime) -> Result<(), Fail> {
+fn uses_a_piece_up_to_what_it_tells(rt: HostRuntime) -> Result<(), Fail> {
     let alloc = rt.alloc();
-    let Some(limits) = Limits::try_new(64, 1) else {
-        return Ok(());
-    };
-    let fault = Fault {
-        at: 0,
-        kind: FaultKind::ReservedInfo,
-    };
-    let mut reader = ItemReader::new(alloc, limits);
-    assert!(rt; reader.at_end() == Ok(()));
-    for piece in [b"\x1c", b"\x00", b"\x17"] {
-        let again =
-            matches!(reader.feed(piece)?, Fed::Fault { used: 0, fault: told } if told == fault);
-        assert!(rt; again);
-    }
-    assert!(rt; reader.at_end() == Err(Stop::Fault(fault)));
-    let mut reader = ItemReader::new(alloc, limits);
-    let used_to_the_end = matches!(reader.feed(b"\x61")?, Fed::More);
-    assert!(rt; used_to_the_end);
     let Some(limits) = Limits::try_new(64, 100) else {
         return Ok(());
     };
+    for (piece, count, place, kind) in [
+        (
+            b"\x81\x1c\x00\x00\x00\x00\x00\x00",
+            1,
+            1,
+            FaultKind::ReservedInfo,
+        ),
+        (
+            b"\x61\xff\x00\x00\x00\x00\x00\x00",
+            2,
+            0,
+            FaultKind::BadText,
+        ),
+        (
+            b"\x82\x61\xff\x1c\x00\x00\x00\x00",
+            3,
+            3,
+            FaultKind::ReservedInfo,
+        ),
+        (
+            b"\x82\x61\xff\x00\x00\x00\x00\x00",
+            4,
+            1,
+            FaultKind::BadText,
+        ),
+        (
+            b"\xa3\x01\x00\x01\x00\x61\xff\x00",
+            8,
+            5,
+            FaultKind::BadText,
+        ),
+        (
+            b"\xa2\x01\x00\x18\x01\x00\x00\x00",
+            6,
+            3,
+            FaultKind::DuplicateKey,
+        ),
+        (
+            b"\x9f\x01\xbf\x61\x61\xff\x00\x00",
+            5,
+            5,
+            FaultKind::BadBreak,
+        ),
+    ] {
+        let told = Fault { at: place, kind };
+        let mut reader = ItemReader::new(alloc, limits);
+        let as_told = matches!(
+            reader.feed(piece)?,
+            Fed::Fault { used, fault } if used == count && fault == told
+        );
+        assert!(rt; as_told, "{piece:?}");
+        let again = matches!(reader.feed(piece)?, Fed::Fault { used: 0, fault } if fault == told);
+        assert!(rt; again, "{piece:?}, fed again");
+        assert!(rt;
+            reader.at_end() == Err(Stop::Fault(told)),
+            "{piece:?}, at the end"
+        );
+    }
+    Ok(())
+}
+
+// The bytes of `0` inside so many arrays.
+fn nested(alloc: Global, depth: usize) -> Result<Vec<u8>, AllocError> {
+    let mut bytes = Vec::new(alloc);
+    for _ in 0..depth {
+        bytes.push(0x81)?;
+    }
+    bytes.push(0)?;
+    Ok(bytes)
+}
+
+#[test]
+fn reads_256_containers_and_no_more(rt: HostRuntime) -> Result<(), Fail> {
+    let alloc = rt.alloc();
+    let Some(limits) = Limits::try_new(256, 1000) else {
+        return Ok(());
+    };
     let mut reader = ItemReader::new(alloc, limits);
-    let used_to_the_end = matches!(
-        reader.feed(b"\x61\xff\x00")?,
-        Fed::Fault { used: 2, fault: _ }
+    let read = matches!(
+        reader.feed(&nested(alloc, 256)?)?,
+        Fed::Item { used: 257, item: _ }
     );
-    assert!(rt; used_to_the_end);
+    assert!(rt; read);
+    let mut reader = ItemReader::new(alloc, limits);
+    let told = Fault {
+        at: 256,
+        kind: FaultKind::TooDeep,
+    };
+    let refused = matches!(
+        reader.feed(&nested(alloc, 257)?)?,
+        Fed::Fault { used: 256, fault } if fault == told
+    );
+    assert!(rt; refused);
     Ok(())
 }
 
@@ -341,7 +453,7 @@ fn stops_for_good_without_memory(rt: HostRuntime) {
     };
     let mut reader = ItemReader::new(alloc, limits);
     let mut items = 0u32;
-    for piece in [b"\x44\x01\x02", b"\x03\x04\x63", b"abc"] {
+    for piece in [b"\x82\x41\x01", b"\xf4\x5f\x42", b"\x01\x02\xff"] {
         let mut rest: &[u8] = piece;
         for _ in 0..3 {
             match reader.feed(rest) {

@@ -3,7 +3,7 @@ use Rattle.std.proofs.Common.{◌≡◌, ◌≢◌, ℕ, inl, inr, List, [], ◌
 use Rattle.std.proofs.lemmas.Bool.Decides.{nat_tests}
 use Rattle.cddl_table.specs.Specification.{Each, IsGapByte, IsLetter, type_name, IsSpecification, BeginsOtherwise, IsFront}
 use Rattle.cddl_table.specs.declared.table.Table.{Table}
-use Rattle.cddl_table.specs.declared.table.Table.TheVariants.{Uint, Nint, Bstr, Tstr}
+use Rattle.cddl_table.specs.declared.table.Table.TheVariants.{Any, Uint, Nint, Bstr, Tstr}
 use Rattle.cddl_table.proofs.Fronts.{one_front}
 
 letter_no_gap : (b : ℕ) → IsLetter b → IsGapByte b → ⊥
@@ -29,12 +29,14 @@ gap_no_letter [] rest e r = r
 gap_no_letter (b ∷ bs) rest e r = λ l. letter_no_gap b l e.0
 
 type_letters : (t : Table) → Each IsLetter (type_name t)
+type_letters Any = (inr (omega arith, omega arith), (inr (omega arith, omega arith), (inr (omega arith, omega arith), tt)))
 type_letters Uint = (inr (omega arith, omega arith), (inr (omega arith, omega arith), (inr (omega arith, omega arith), (inr (omega arith, omega arith), tt))))
 type_letters Nint = (inr (omega arith, omega arith), (inr (omega arith, omega arith), (inr (omega arith, omega arith), (inr (omega arith, omega arith), tt))))
 type_letters Bstr = (inr (omega arith, omega arith), (inr (omega arith, omega arith), (inr (omega arith, omega arith), (inr (omega arith, omega arith), tt))))
 type_letters Tstr = (inr (omega arith, omega arith), (inr (omega arith, omega arith), (inr (omega arith, omega arith), (inr (omega arith, omega arith), tt))))
 
 type_named : (t : Table) → type_name t ≢ []
+type_named Any e = cc
 type_named Uint e = cc
 type_named Nint e = cc
 type_named Bstr e = cc

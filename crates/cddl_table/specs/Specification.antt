@@ -1,7 +1,7 @@
 -- Which texts are a specification of one rule (a part of RFC 8610 Appendix B).
 use Rattle.std.specs.Prelude.{◌≡◌, ◌≢◌, ℕ, ◌≤◌, ◌⊎◌, List, [], ◌∷◌, ◌++◌, codes}
 use Rattle.cddl_table.specs.declared.table.Table.{Table}
-use Rattle.cddl_table.specs.declared.table.Table.TheVariants.{Uint, Nint, Bstr, Tstr}
+use Rattle.cddl_table.specs.declared.table.Table.TheVariants.{Any, Uint, Nint, Bstr, Tstr}
 
 -- each byte is such a one
 abbrev pub Each : (ℕ → Type 0) → List ℕ → Type 0
@@ -17,6 +17,7 @@ abbrev pub IsLetter : ℕ → Type 0
 IsLetter b = ((65 ≤ b) × (b ≤ 90)) ⊎ ((97 ≤ b) × (b ≤ 122))
 
 abbrev pub type_name : Table → List ℕ
+type_name Any = codes "any"
 type_name Uint = codes "uint"
 type_name Nint = codes "nint"
 type_name Bstr = codes "bstr"

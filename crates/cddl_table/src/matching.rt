@@ -11,6 +11,7 @@ pub fn matches(table: &Table, item: &Sound) -> bool
     ensures { IsTrue result ↔ Matches table.now item.now }
 {
     match (table, item.item()) {
+        (Table::Any, _) => true,
         (Table::Uint, Item::Uint(_)) => true,
         (Table::Nint, Item::Nint(_)) => true,
         (Table::Bstr, Item::Bytes(_)) => true,

@@ -79,6 +79,7 @@ fn table_of(name: &[u8]) -> Option<Table>
     ensures none { IfNone result ((table : Tables) → name.now ≢ type_name table) }
 {
     match name {
+        b"any" => Some(Table::Any),
         b"uint" => Some(Table::Uint),
         b"nint" => Some(Table::Nint),
         b"bstr" => Some(Table::Bstr),

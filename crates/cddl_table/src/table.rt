@@ -3,6 +3,8 @@
 /// What the root rule of a specification asks of an item (RFC 8610 Appendix D).
 #[derive(Debug, PartialEq, Eq, Drop)]
 pub enum Table {
+    /// `any`, which is `#`.
+    Any,
     /// `uint`, which is `#0`.
     Uint,
     /// `nint`, which is `#1`.

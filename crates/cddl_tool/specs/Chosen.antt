@@ -1,8 +1,13 @@
 -- The command line that the program reads, and what it gives.
-use Rattle.std.specs.Prelude.{◌≡◌, true, List, [], codes, Option, Some, None, option_map, if◌then◌else◌, string_bytes}
-use Rattle.std.specs.Str.{bytes_eq}
-use Rattle.clap.specs.Words.{App, Row, Rule, Text, new_app, new_rule, with_rule, with_subcommand, subcommand_of, first_of}
+use Rattle.std.specs.Prelude.{◌≡◌, ℕ, ◌≤◌, pos, true, List, [], ◌∷◌, codes, Option, Some, None, option_and_then, option_map, string_bytes}
+use Rattle.std.specs.Str.Parse.{IsNumeral, digits_value, without_leading_plus}
+use Rattle.clap.specs.Words.{App, Row, Rule, Text, fault_of, new_app, new_rule, with_rule, with_subcommand, subcommand_of, first_of, one_of}
+use Rattle.clap.specs.declared.builder.value_parser.ValueParser.TheVariants.{Signed}
 use Rattle.cddl_tool.specs.declared.choice.Options.{Options}
+use Rattle.cddl_tool.specs.declared.choice.Task.{Task}
+use Rattle.cddl_tool.specs.declared.choice.Task.TheVariants.{Validate, Show}
+use Rattle.cddl_tool.specs.declared.choice.Use.{Use}
+use Rattle.cddl_tool.specs.declared.choice.Use.TheVariants.{Words, Memory}
 
 abbrev pub spec_rule : Rule
 spec_rule = record (new_rule (codes "spec")) { value_names = 1; required = true }
@@ -10,25 +15,75 @@ spec_rule = record (new_rule (codes "spec")) { value_names = 1; required = true 
 abbrev pub file_rule : Rule
 file_rule = record (new_rule (codes "file")) { value_names = 1 }
 
--- `validate SPEC [FILE]`
+-- an option with a number from 1 to `most`, which is the number where the option is absent
+abbrev pub number_rule : Text → ℕ → Text → Rule
+number_rule name most default =
+    record (new_rule name) { long = Some name; value_names = 1; defaults = default ∷ []; parser = Some (Signed (pos 1) (pos most)) }
+
+abbrev pub depth_rule : Rule
+depth_rule = number_rule (codes "depth") 256 (codes "256")
+
+abbrev pub item_bytes_rule : Rule
+item_bytes_rule = number_rule (codes "item-bytes") 16777216 (codes "16777216")
+
+-- `validate SPEC [FILE]`, with `--depth N` and `--item-bytes N`
 abbrev pub validate_app : App
-validate_app = with_rule (with_rule (new_app (codes "validate")) spec_rule) file_rule
+validate_app = with_rule (with_rule (with_rule (with_rule (new_app (codes "validate")) spec_rule) file_rule) depth_rule) item_bytes_rule
+
+-- `show [FILE]`, with the same options
+abbrev pub show_app : App
+show_app = with_rule (with_rule (with_rule (new_app (codes "show")) file_rule) depth_rule) item_bytes_rule
 
 -- the program's command, of which a subcommand is required
 abbrev pub top_app : App
 top_app = record { top = record ((new_app (codes "cddlseq")).top) { subcommand_required = true }; subs = [] }
 
 abbrev pub program_app : App
-program_app = with_subcommand top_app validate_app.top
+program_app = with_subcommand (with_subcommand top_app validate_app.top) show_app.top
 
--- the value of an argument among what a subcommand was given, if that is `validate`
-abbrev pub value_in : Text → Option (Text × List Row) → Option Text
-value_in id None = None
-value_in id (Some found) = if bytes_eq found.0 (codes "validate") then first_of id found.1 else None
+abbrev pub task_name : Task → Text
+task_name Validate = codes "validate"
+task_name Show = codes "show"
 
--- the value that the words give this argument of `validate`, by clap's rules
+-- the subcommand that the words name, by clap's rules
+unfoldable pub named : List Text → Option Text
+named words = option_map (λ p. p.0) (subcommand_of program_app words)
+
+-- the value that the words give this argument of it
 unfoldable pub given : Text → List Text → Option Text
-given id words = value_in id (subcommand_of program_app words)
+given id words = option_and_then (λ p. first_of id p.1) (subcommand_of program_app words)
 
-abbrev pub AreChosen : Options → List Text → Type 0
-AreChosen o words = (option_map (λ s. string_bytes s) o.spec ≡ given (codes "spec") words) × (option_map (λ s. string_bytes s) o.file ≡ given (codes "file") words)
+-- the text that they give an option with a number
+unfoldable pub number_given : Text → List Text → Option Text
+number_given id words = option_and_then (λ p. one_of id p.1) (subcommand_of program_app words)
+
+-- the text is this number, from 1 to `most`, in decimal
+abbrev pub IsNumber : ℕ → Option Text → ℕ → Type 0
+IsNumber most None n = ⊥
+IsNumber most (Some text) n = IsNumeral 10 (without_leading_plus text) × (n ≡ digits_value 10 (without_leading_plus text)) × (1 ≤ n) × (n ≤ most)
+
+-- what the rows of a subcommand's matches give
+pub record AreRead (task : Task) (rows : List Row) (o : Options) : Type 0 where
+  pub task_is : o.task ≡ task
+  pub spec : option_map (λ s. string_bytes s) o.spec ≡ first_of (codes "spec") rows
+  pub file : option_map (λ s. string_bytes s) o.file ≡ first_of (codes "file") rows
+  pub depth : IsNumber 256 (one_of (codes "depth") rows) o.depth
+  pub item_bytes : IsNumber 16777216 (one_of (codes "item-bytes") rows) o.item_bytes
+
+abbrev pub AreUnread : Task → List Row → Use → Type 0
+AreUnread task rows (Words e) = (o : Options) → AreRead task rows o → ⊥
+AreUnread task rows Memory = Unit {0}
+
+-- By clap's rules nothing is wrong with the words, and they give these options.
+pub record AreChosen (o : Options) (words : List Text) : Type 0 where
+  pub taken : fault_of program_app words ≡ []
+  pub task : named words ≡ Some (task_name o.task)
+  pub spec : option_map (λ s. string_bytes s) o.spec ≡ given (codes "spec") words
+  pub file : option_map (λ s. string_bytes s) o.file ≡ given (codes "file") words
+  pub depth : IsNumber 256 (number_given (codes "depth") words) o.depth
+  pub item_bytes : IsNumber 16777216 (number_given (codes "item-bytes") words) o.item_bytes
+
+-- Where the words are refused they give no options.
+abbrev pub IsMisuse : List Text → Use → Type 0
+IsMisuse words (Words e) = (o : Options) → AreChosen o words → ⊥
+IsMisuse words Memory = Unit {0}

@@ -1,13 +1,13 @@
 //! What the program does with a specification and a stream.
 
-ghost use Rattle.std.specs.Prelude.{◌≡◌, ◌≢◌, ◌<◌, ◌^◌, ◌-◌, IfOk, IfErr, IfSome};
+ghost use Rattle.std.specs.Prelude.{◌≡◌, ◌≢◌, ◌<◌, ◌≤◌, ◌^◌, ◌-◌, IfOk, IfErr, IfSome};
 ghost use Rattle.std.specs.Io.KnownBytes.{Appends};
 ghost use Rattle.cbor_item.specs.Counted.{device_of, failures_of};
 ghost use Rattle.cddl_table.specs.Specification.{IsSpecification};
 ghost use Rattle.cddl_table.specs.declared.table.Table.{Table as Tables};
 ghost use Rattle.seq_run.specs.Running.{IsFault};
 ghost use Rattle.seq_run.specs.declared.running.RunFault.{RunFault as RunFaults};
-ghost use Rattle.cddl_tool.specs.Acting.{default_bounds, status_for, IsAnswered};
+ghost use Rattle.cddl_tool.specs.Acting.{bounds_of, specification_of, status_for, IsAnswered};
 
 use crate::choice::{Options, Task};
 use cbor_item::{Counted, write_bytes};
@@ -26,20 +26,28 @@ pub const REFUSED: u8 = 2;
 /// The status of a use, a file or a growth that failed.
 pub const BROKEN: u8 = 3;
 
-/// Reads the specification. A refused one is told on `err`, and the status is answered.
+/// Reads the specification: `spec`, or to show a stream `a = any`. A refused one is told on `err`, and the status is
+/// answered.
 pub fn ready<E: Write>(options: &Options, spec: &[u8], err: &mut Counted<E>) -> Result<Table, u8>
-    ensures found { IfOk result (IsSpecification spec.now) }
-    ensures refused { IfErr result (λ status. (status ≡ REFUSED) × ((table : Tables) → IsSpecification spec.now table → ⊥)) }
+    ensures found { IfOk result (IsSpecification (specification_of options.now.task spec.now)) }
+    ensures refused { IfErr result (λ status. (status ≡ REFUSED) × ((table : Tables) → IsSpecification (specification_of options.now.task spec.now) table → ⊥)) }
 {
-    match options.task {
-        Task::Validate => {}
-    }
-    match read_specification(spec) {
+    match read_specification(specification_for(options.task, spec)) {
         Some(table) => Ok(table),
         None => {
             say(b"refused: specification not supported yet\n", err);
             Err(REFUSED)
         }
+    }
+}
+
+// The text of a task's specification.
+fn specification_for(task: Task, spec: &[u8]) -> &[u8]
+    ensures { result.now ≡ specification_of task spec.now }
+{
+    match task {
+        Task::Validate => spec,
+        Task::Show => b"a = any",
     }
 }
 
@@ -53,16 +61,16 @@ pub fn act<R: Read, W: Write, E: Write>(
     out: &mut Counted<W>,
     err: &mut Counted<E>,
 ) -> u8
+    requires depth { (1 ≤ options.now.depth) × (options.now.depth ≤ 256) }
+    requires item_bytes { (1 ≤ options.now.item_bytes) × (options.now.item_bytes ≤ 16777216) }
     ensures answered { result ≢ BROKEN → IfSome (R.remaining (device_of input.old)) (λ stream.
-        IsAnswered table.now stream (W.contents (device_of out.old)) (W.contents (device_of out.new)) result) }
-    ensures broken { result ≡ BROKEN → (fault : RunFaults) × IsFault table.now default_bounds
+        IsAnswered table.now (bounds_of options.now) stream (W.contents (device_of out.old)) (W.contents (device_of out.new)) result) }
+    ensures broken { result ≡ BROKEN → (fault : RunFaults) × IsFault table.now (bounds_of options.now)
         (R.remaining (device_of input.old)) (R.remaining (device_of input.new)) (W.contents (device_of out.old)) (W.contents (device_of out.new))
         (failures_of input.old) (failures_of input.new) (failures_of out.old) (failures_of out.new) fault }
 {
-    match options.task {
-        Task::Validate => {}
-    }
-    match run(alloc, table, default_limits(), input, out) {
+    let limits = Limits::try_new(options.depth, options.item_bytes).unwrap();
+    match run(alloc, table, limits, input, out) {
         Ok((end, _)) => status_of(&end),
         Err(fault) => {
             say_fault(alloc, fault, err);
@@ -78,12 +86,6 @@ fn status_of(end: &End) -> u8
         End::Clean { .. } => 0,
         End::Failed { .. } => FAILED,
     }
-}
-
-fn default_limits() -> Limits
-    ensures { result ≡ default_bounds }
-{
-    Limits::try_new(256, 16_777_216).unwrap()
 }
 
 fn say_fault<E: Write>(alloc: Global, fault: RunFault, err: &mut Counted<E>) {

@@ -1,6 +1,11 @@
 //! What the words of the command line say.
 
+ghost use Rattle.std.specs.Prelude.{◌≡◌};
+ghost use Rattle.cddl_tool.specs.Errors.{IsUseOf};
+ghost use Rattle.cddl_tool.specs.declared.choice.Use.TheVariants.{Memory as OutOfMemory};
+
 use clap::Error;
+use clap::error::ErrorKind;
 use std::alloc::AllocError;
 
 /// What the program is asked to do.
@@ -8,6 +13,8 @@ use std::alloc::AllocError;
 pub enum Task {
     /// To validate a stream against a specification.
     Validate,
+    /// To show the items of a stream, whatever they are.
+    Show,
 }
 
 /// What the words say.
@@ -15,10 +22,14 @@ pub enum Task {
 pub struct Options {
     /// What to do.
     pub task: Task,
-    /// The name of the file with the specification.
+    /// The name of the file with the specification, if the task has one.
     pub spec: Option<String>,
     /// The name of the file with the stream. Without it standard input is read.
     pub file: Option<String>,
+    /// The greatest depth of an item, from 1 to 256.
+    pub depth: u32,
+    /// The most bytes of an item, from 1 to 16,777,216.
+    pub item_bytes: u32,
 }
 
 /// Why the words say nothing.
@@ -30,7 +41,21 @@ pub enum Use {
     Memory,
 }
 
+impl From<Error> for Use {
+    ghost from_gives = { λ e u. IsUseOf e u };
+
+    fn from(error: Error) -> Use {
+        if error.kind() == ErrorKind::OutOfMemory {
+            Use::Memory
+        } else {
+            Use::Words(error)
+        }
+    }
+}
+
 impl From<AllocError> for Use {
+    ghost from_gives = { λ _ u. u ≡ OutOfMemory };
+
     fn from(_error: AllocError) -> Use {
         Use::Memory
     }

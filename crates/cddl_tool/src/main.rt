@@ -1,6 +1,8 @@
 //! The program `cddlseq`: validates a sequence of CBOR items against a specification.
 #![tactic(auto)]
 
+ghost use Rattle.std.specs.Prelude.{◌≤◌, IfOk};
+
 mod act;
 mod choice;
 #[cfg(test)]
@@ -36,7 +38,7 @@ fn program(rt: &HostRuntime) -> u8 {
         }
     };
     match chosen(rt.alloc(), words.as_slice()) {
-        Ok(options) => validate(rt, &options, &mut err),
+        Ok(options) => perform(rt, &options, &mut err),
         Err(Use::Words(error)) => {
             let _ = error.print(rt);
             if error.use_stderr() { BROKEN } else { 0 }
@@ -52,7 +54,10 @@ fn arguments(rt: &HostRuntime) -> io::Result<Vec<String>> {
     Ok(env::args(rt)?.collect(rt.alloc())?)
 }
 
-fn chosen(alloc: Global, words: &[String]) -> Result<Options, Use> {
+fn chosen(alloc: Global, words: &[String]) -> Result<Options, Use>
+    ensures depth { IfOk result (λ o. (1 ≤ o.depth) × (o.depth ≤ 256)) }
+    ensures item_bytes { IfOk result (λ o. (1 ≤ o.item_bytes) × (o.item_bytes ≤ 16777216)) }
+{
     let mut texts = Vec::new(alloc);
     for word in words {
         texts.push(word.as_str()).map_err(AllocError::from)?;
@@ -60,23 +65,17 @@ fn chosen(alloc: Global, words: &[String]) -> Result<Options, Use> {
     options(alloc, texts.as_slice())
 }
 
-// Reads the specification, and then the stream.
-fn validate<E: io::Write>(rt: &HostRuntime, options: &Options, err: &mut Counted<E>) -> u8 {
+// Reads the specification, if there is one to read, and then the stream.
+fn perform<E: io::Write>(rt: &HostRuntime, options: &Options, err: &mut Counted<E>) -> u8
+    requires depth { (1 ≤ options.now.depth) × (options.now.depth ≤ 256) }
+    requires item_bytes { (1 ≤ options.now.item_bytes) × (options.now.item_bytes ≤ 16777216) }
+{
     let alloc = rt.alloc();
-    let Some(spec) = &options.spec else {
-        say(b"no specification is given\n", err);
-        return BROKEN;
-    };
-    let Ok(mut file) = fs::open(rt, spec.as_str()) else {
-        return stopped("cannot open ", spec.as_str(), err);
-    };
     let mut text = Vec::new(alloc);
-    if let Err(error) = file.read_to_end(&mut text) {
-        if error.kind() == ErrorKind::OutOfMemory {
-            say(b"out of memory\n", err);
-            return BROKEN;
+    if let Some(spec) = &options.spec {
+        if let Err(status) = read_file(rt, spec.as_str(), &mut text, err) {
+            return status;
         }
-        return stopped("cannot read ", spec.as_str(), err);
     }
     let table = match ready(options, text.as_slice(), err) {
         Ok(table) => table,
@@ -95,6 +94,26 @@ fn validate<E: io::Write>(rt: &HostRuntime, options: &Options, err: &mut Counted
             let mut input = Counted::new(file);
             act(alloc, options, &table, &mut input, &mut output, err)
         }
+    }
+}
+
+// Reads the whole file; or says that it cannot be used, and answers the status.
+fn read_file<E: io::Write>(
+    rt: &HostRuntime,
+    name: &str,
+    text: &mut Vec<u8>,
+    err: &mut Counted<E>,
+) -> Result<(), u8> {
+    let Ok(mut file) = fs::open(rt, name) else {
+        return Err(stopped("cannot open ", name, err));
+    };
+    match file.read_to_end(text) {
+        Ok(_) => Ok(()),
+        Err(error) if error.kind() == ErrorKind::OutOfMemory => {
+            say(b"out of memory\n", err);
+            Err(BROKEN)
+        }
+        Err(_) => Err(stopped("cannot read ", name, err)),
     }
 }
 

@@ -1,5 +1,5 @@
 use crate::act::{act, ready};
-use crate::choice::Options;
+use crate::choice::{Options, Task};
 use crate::words::options;
 use cbor_item::Counted;
 use std::alloc::Global;
@@ -73,8 +73,14 @@ struct Outcome {
     err: Vec<u8>,
 }
 
-fn validated(alloc: Global, spec: &[u8], source: Source<'_>, sink: Sink) -> Result<Outcome, Fail> {
-    let options: Options = match options(alloc, &["cddlseq", "validate", "spec"]) {
+fn performed(
+    alloc: Global,
+    words: &[&str],
+    spec: &[u8],
+    source: Source<'_>,
+    sink: Sink,
+) -> Result<Outcome, Fail> {
+    let options: Options = match options(alloc, words) {
         Ok(options) => options,
         Err(_) => return Err(Fail::from("no options")),
     };
@@ -99,8 +105,17 @@ fn validated(alloc: Global, spec: &[u8], source: Source<'_>, sink: Sink) -> Resu
     })
 }
 
-// Specification, stream, standard output, standard error, status.
+static VALIDATE: [&str; 3] = ["cddlseq", "validate", "spec"];
+
+static SHOW: [&str; 2] = ["cddlseq", "show"];
+
+static SHALLOW: [&str; 6] = ["cddlseq", "show", "--depth", "1", "--item-bytes", "1"];
+
+static SHORT: [&str; 5] = ["cddlseq", "validate", "--item-bytes=3", "--", "spec"];
+
+// Words, specification, stream, standard output, standard error, status.
 type Row = (
+    &'static [&'static str],
     &'static [u8],
     &'static [u8],
     &'static [u8],
@@ -108,9 +123,17 @@ type Row = (
     u8,
 );
 
-static ROWS: [Row; 22] = [
-    (b"a = uint", b"", b"clean: 0 items, 0 bytes\n", b"", 0),
+static ROWS: [Row; 47] = [
     (
+        VALIDATE.as_slice(),
+        b"a = uint",
+        b"",
+        b"clean: 0 items, 0 bytes\n",
+        b"",
+        0,
+    ),
+    (
+        VALIDATE.as_slice(),
         b"a = nint",
         b"\x3b\xff\xff\xff\xff\xff\xff\xff\xff",
         b"item 1 at 0: -18446744073709551616\nclean: 1 items, 9 bytes\n",
@@ -118,6 +141,7 @@ static ROWS: [Row; 22] = [
         0,
     ),
     (
+        VALIDATE.as_slice(),
         b"a = uint",
         b"\x17\x18\x18",
         b"item 1 at 0: 23\nitem 2 at 1: 24\nclean: 2 items, 3 bytes\n",
@@ -125,6 +149,7 @@ static ROWS: [Row; 22] = [
         0,
     ),
     (
+        VALIDATE.as_slice(),
         b"a = uint",
         b"\x17\x18\x18\x20",
         b"item 1 at 0: 23\nitem 2 at 1: 24\nfailed: 2 items, offset 3: mismatch at $: -1\n",
@@ -132,6 +157,7 @@ static ROWS: [Row; 22] = [
         1,
     ),
     (
+        VALIDATE.as_slice(),
         b"s = tstr",
         b"\x61\x61\x40",
         b"item 1 at 0: \"a\"\nfailed: 1 items, offset 2: mismatch at $: h''\n",
@@ -139,6 +165,7 @@ static ROWS: [Row; 22] = [
         1,
     ),
     (
+        VALIDATE.as_slice(),
         b"s = tstr",
         b"\x63\x61\x62",
         b"failed: 0 items, offset 0: truncated at byte 3\n",
@@ -146,6 +173,7 @@ static ROWS: [Row; 22] = [
         1,
     ),
     (
+        VALIDATE.as_slice(),
         b"s = tstr",
         b"\x61\xff",
         b"failed: 0 items, offset 0: text is not UTF-8 at byte 0\n",
@@ -153,6 +181,7 @@ static ROWS: [Row; 22] = [
         1,
     ),
     (
+        VALIDATE.as_slice(),
         b"a = uint",
         b"\x1c",
         b"failed: 0 items, offset 0: reserved additional information at byte 0\n",
@@ -160,6 +189,7 @@ static ROWS: [Row; 22] = [
         1,
     ),
     (
+        VALIDATE.as_slice(),
         b"a = uint",
         b"\x1f",
         b"failed: 0 items, offset 0: indefinite length not allowed at byte 0\n",
@@ -167,34 +197,39 @@ static ROWS: [Row; 22] = [
         1,
     ),
     (
+        VALIDATE.as_slice(),
         b"a = uint",
         b"\x80",
-        b"failed: 0 items, offset 0: not supported yet at byte 0\n",
+        b"failed: 0 items, offset 0: mismatch at $: []\n",
         b"",
         1,
     ),
     (
+        VALIDATE.as_slice(),
         b"a = uint",
         b"\x01\x9f",
-        b"item 1 at 0: 1\nfailed: 1 items, offset 1: not supported yet at byte 1\n",
+        b"item 1 at 0: 1\nfailed: 1 items, offset 1: truncated at byte 2\n",
         b"",
         1,
     ),
     (
-        b"a = uint",
-        b"\x5f",
-        b"failed: 0 items, offset 0: not supported yet at byte 0\n",
+        VALIDATE.as_slice(),
+        b"b = bstr",
+        b"\x5f\xff",
+        b"item 1 at 0: h''\nclean: 1 items, 2 bytes\n",
         b"",
-        1,
+        0,
     ),
     (
+        VALIDATE.as_slice(),
         b"a = uint",
         b"\xff",
-        b"failed: 0 items, offset 0: not supported yet at byte 0\n",
+        b"failed: 0 items, offset 0: break not allowed at byte 0\n",
         b"",
         1,
     ),
     (
+        VALIDATE.as_slice(),
         b"a = int",
         b"",
         b"",
@@ -202,6 +237,7 @@ static ROWS: [Row; 22] = [
         2,
     ),
     (
+        VALIDATE.as_slice(),
         b"uint = uint",
         b"",
         b"",
@@ -209,6 +245,15 @@ static ROWS: [Row; 22] = [
         2,
     ),
     (
+        VALIDATE.as_slice(),
+        b"any = any",
+        b"",
+        b"",
+        b"refused: specification not supported yet\n",
+        2,
+    ),
+    (
+        VALIDATE.as_slice(),
         b"a = uint a = uint",
         b"",
         b"",
@@ -216,6 +261,7 @@ static ROWS: [Row; 22] = [
         2,
     ),
     (
+        VALIDATE.as_slice(),
         b"a = [uint]",
         b"",
         b"",
@@ -223,6 +269,7 @@ static ROWS: [Row; 22] = [
         2,
     ),
     (
+        VALIDATE.as_slice(),
         b"",
         b"",
         b"",
@@ -230,6 +277,7 @@ static ROWS: [Row; 22] = [
         2,
     ),
     (
+        VALIDATE.as_slice(),
         b"a1 = uint",
         b"",
         b"",
@@ -237,6 +285,7 @@ static ROWS: [Row; 22] = [
         2,
     ),
     (
+        VALIDATE.as_slice(),
         b"a = uint ; c",
         b"",
         b"",
@@ -244,19 +293,219 @@ static ROWS: [Row; 22] = [
         2,
     ),
     (
+        VALIDATE.as_slice(),
         b"a  \n= \n\n uint",
         b"",
         b"clean: 0 items, 0 bytes\n",
         b"",
         0,
     ),
-    (b"name=uint\n", b"", b"clean: 0 items, 0 bytes\n", b"", 0),
+    (
+        VALIDATE.as_slice(),
+        b"name=uint\n",
+        b"",
+        b"clean: 0 items, 0 bytes\n",
+        b"",
+        0,
+    ),
+    (
+        VALIDATE.as_slice(),
+        b"a = any",
+        b"\x5f\x41\x01\x61\x61\xff",
+        b"failed: 0 items, offset 0: bad chunk at byte 3\n",
+        b"",
+        1,
+    ),
+    (
+        VALIDATE.as_slice(),
+        b"a = any",
+        b"\x01\x02\xf8\x10",
+        b"item 1 at 0: 1\nitem 2 at 1: 2\nfailed: 2 items, offset 2: bad simple value at byte 3\n",
+        b"",
+        1,
+    ),
+    (
+        VALIDATE.as_slice(),
+        b"a = any",
+        b"\x01\x82\x01",
+        b"item 1 at 0: 1\nfailed: 1 items, offset 1: truncated at byte 3\n",
+        b"",
+        1,
+    ),
+    (
+        VALIDATE.as_slice(),
+        b"a = any",
+        b"\xa2\x01\x02\x18\x01\x03",
+        b"failed: 0 items, offset 0: duplicate key at place 3\n",
+        b"",
+        1,
+    ),
+    (
+        SHORT.as_slice(),
+        b"a = any",
+        b"\x83\x01\x02\x03",
+        b"failed: 0 items, offset 0: item too long at byte 3\n",
+        b"",
+        1,
+    ),
+    (
+        SHORT.as_slice(),
+        b"a = any",
+        b"\x83\x01\x02",
+        b"failed: 0 items, offset 0: item too long at byte 3\n",
+        b"",
+        1,
+    ),
+    (
+        SHORT.as_slice(),
+        b"a = any",
+        b"\x83\x01\x02\xff",
+        b"failed: 0 items, offset 0: break not allowed at byte 3\n",
+        b"",
+        1,
+    ),
+    (
+        VALIDATE.as_slice(),
+        b"a = any",
+        b"\x7f\x61\xc3\x61\xa9\xff",
+        b"failed: 0 items, offset 0: text is not UTF-8 at byte 1\n",
+        b"",
+        1,
+    ),
+    (
+        VALIDATE.as_slice(),
+        b"a = any",
+        b"\x9b\xff\xff\xff\xff\xff\xff\xff\xff",
+        b"failed: 0 items, offset 0: truncated at byte 9\n",
+        b"",
+        1,
+    ),
+    (
+        SHOW.as_slice(),
+        b"ignored",
+        b"\x9f\x01\xbf\x61\x61\xff",
+        b"failed: 0 items, offset 0: break not allowed at byte 5\n",
+        b"",
+        1,
+    ),
+    (
+        SHOW.as_slice(),
+        b"ignored",
+        b"\xc1\xff",
+        b"failed: 0 items, offset 0: break not allowed at byte 1\n",
+        b"",
+        1,
+    ),
+    (
+        SHOW.as_slice(),
+        b"ignored",
+        b"\x5f\x5c",
+        b"failed: 0 items, offset 0: reserved additional information at byte 1\n",
+        b"",
+        1,
+    ),
+    (
+        SHOW.as_slice(),
+        b"ignored",
+        b"\x5f\x7c",
+        b"failed: 0 items, offset 0: bad chunk at byte 1\n",
+        b"",
+        1,
+    ),
+    (
+        SHOW.as_slice(),
+        b"ignored",
+        b"\x5f\x41\x01\x5f",
+        b"failed: 0 items, offset 0: bad chunk at byte 3\n",
+        b"",
+        1,
+    ),
+    (
+        SHOW.as_slice(),
+        b"ignored",
+        b"\x7f\x61\x61\x60\x61\x62\xff",
+        b"item 1 at 0: \"ab\"\nclean: 1 items, 7 bytes\n",
+        b"",
+        0,
+    ),
+    (
+        SHOW.as_slice(),
+        b"ignored",
+        b"\xbf\x01\x9f\x02\xff\xc0\x60\xf4\xff",
+        b"item 1 at 0: {1: [2], 0(\"\"): false}\nclean: 1 items, 9 bytes\n",
+        b"",
+        0,
+    ),
+    (
+        SHOW.as_slice(),
+        b"ignored",
+        b"\x82\x61\xff\x1c",
+        b"failed: 0 items, offset 0: reserved additional information at byte 3\n",
+        b"",
+        1,
+    ),
+    (
+        SHOW.as_slice(),
+        b"ignored",
+        b"\x82\x61\xff\x00",
+        b"failed: 0 items, offset 0: text is not UTF-8 at byte 1\n",
+        b"",
+        1,
+    ),
+    (
+        SHOW.as_slice(),
+        b"ignored",
+        b"\x82\x61\xff",
+        b"failed: 0 items, offset 0: truncated at byte 3\n",
+        b"",
+        1,
+    ),
+    (
+        SHOW.as_slice(),
+        b"ignored",
+        b"\xa3\x01\x00\x01\x00\x61\xff\x00",
+        b"failed: 0 items, offset 0: text is not UTF-8 at byte 5\n",
+        b"",
+        1,
+    ),
+    (
+        SHALLOW.as_slice(),
+        b"ignored",
+        b"\x81\x80",
+        b"failed: 0 items, offset 0: too deep at byte 1\n",
+        b"",
+        1,
+    ),
+    (
+        SHOW.as_slice(),
+        b"ignored",
+        b"\xa2\xa2\x01\x02\x03\x04\x00\xa2\x03\x04\x01\x02\x00",
+        b"item 1 at 0: {{1: 2, 3: 4}: 0, {3: 4, 1: 2}: 0}\nclean: 1 items, 13 bytes\n",
+        b"",
+        0,
+    ),
+    (
+        SHOW.as_slice(),
+        b"ignored",
+        b"\xf9\x3c\x00\xfa\x00\x00\x00\x01\xfb\x7f\xf0\x00\x00\x00\x00\x00\x00",
+        b"item 1 at 0: f16'3c00'\nitem 2 at 3: f32'00000001'\nitem 3 at 8: f64'7ff0000000000000'\nclean: 3 items, 17 bytes\n",
+        b"",
+        0,
+    ),
+    (
+        SHOW.as_slice(),
+        b"ignored",
+        b"\xf5\xf6\xf7\xe0\xf8\xff",
+        b"item 1 at 0: true\nitem 2 at 1: null\nitem 3 at 2: undefined\nitem 4 at 3: simple(0)\nitem 5 at 4: simple(255)\nclean: 5 items, 6 bytes\n",
+        b"",
+        0,
+    ),
 ];
 
 #[test]
 fn answers_the_rows_at_every_cut(rt: HostRuntime) -> Result<(), Fail> {
     let alloc = rt.alloc();
-    for (spec, stream, out, err, status) in ROWS.iter() {
+    for (words, spec, stream, out, err, status) in ROWS.iter() {
         for cut in 0..stream.len() + 1 {
             let source = Source {
                 bytes: stream,
@@ -268,7 +517,7 @@ fn answers_the_rows_at_every_cut(rt: HostRuntime) -> Result<(), Fail> {
                 room: 1000,
                 fails: true,
             };
-            let outcome = validated(alloc, spec, source, sink)?;
+            let outcome = performed(alloc, words, spec, source, sink)?;
             assert_eq!(rt; outcome.status, *status);
             assert!(rt; outcome.out.as_slice() == *out);
             assert!(rt; outcome.err.as_slice() == *err);
@@ -301,7 +550,7 @@ fn tells_of_a_reader_that_fails(rt: HostRuntime) -> Result<(), Fail> {
             room: 1000,
             fails: true,
         };
-        let outcome = validated(alloc, b"a = uint", source, sink)?;
+        let outcome = performed(alloc, VALIDATE.as_slice(), b"a = uint", source, sink)?;
         assert_eq!(rt; outcome.status, 3);
         assert!(rt; outcome.out.as_slice() == *out);
         assert!(rt; outcome.err.as_slice() == *err);
@@ -325,7 +574,7 @@ fn tells_of_a_writer_that_fails(rt: HostRuntime) -> Result<(), Fail> {
                 room,
                 fails,
             };
-            let outcome = validated(alloc, b"a = uint", source, sink)?;
+            let outcome = performed(alloc, VALIDATE.as_slice(), b"a = uint", source, sink)?;
             let line = format!(in alloc; "write failed after {room} bytes\n")?;
             assert_eq!(rt; outcome.status, 3);
             assert!(rt; outcome.out.as_slice() == &whole[..room]);
@@ -340,6 +589,9 @@ fn reads_the_words(rt: HostRuntime) -> Result<(), Fail> {
     let alloc = rt.alloc();
     match options(alloc, &["cddlseq", "validate", "a.cddl", "b.cbor"]) {
         Ok(options) => {
+            assert_eq!(rt; options.task, Task::Validate);
+            assert_eq!(rt; options.depth, 256);
+            assert_eq!(rt; options.item_bytes, 16_777_216);
             let spec = options.spec.ok_or("a specification")?;
             let file = options.file.ok_or("a file")?;
             assert!(rt; spec.as_str() == "a.cddl");
@@ -347,8 +599,32 @@ fn reads_the_words(rt: HostRuntime) -> Result<(), Fail> {
         }
         Err(_) => return Err(Fail::from("no options")),
     }
-    assert!(rt; options(alloc, &["cddlseq", "validate"]).is_err());
-    assert!(rt; options(alloc, &["cddlseq"]).is_err());
-    assert!(rt; options(alloc, &["cddlseq", "show"]).is_err());
+    match options(
+        alloc,
+        &["cddlseq", "show", "--depth=7", "--item-bytes", "1"],
+    ) {
+        Ok(options) => {
+            assert_eq!(rt; options.task, Task::Show);
+            assert_eq!(rt; options.depth, 7);
+            assert_eq!(rt; options.item_bytes, 1);
+            assert!(rt; options.spec.is_none());
+            assert!(rt; options.file.is_none());
+        }
+        Err(_) => return Err(Fail::from("no options")),
+    }
     Ok(())
+}
+
+#[test]
+fn refuses_other_words(rt: HostRuntime) {
+    let alloc = rt.alloc();
+    assert!(rt; options(alloc, &["cddlseq"]).is_err());
+    assert!(rt; options(alloc, &["cddlseq", "validate"]).is_err());
+    assert!(rt; options(alloc, &["cddlseq", "check", "a"]).is_err());
+    assert!(rt; options(alloc, &["cddlseq", "show", "a", "b"]).is_err());
+    assert!(rt; options(alloc, &["cddlseq", "show", "--depth", "0"]).is_err());
+    assert!(rt; options(alloc, &["cddlseq", "show", "--depth", "257"]).is_err());
+    assert!(rt; options(alloc, &["cddlseq", "show", "--depth", "one"]).is_err());
+    assert!(rt; options(alloc, &["cddlseq", "show", "--item-bytes", "16777217"]).is_err());
+    assert!(rt; options(alloc, &["cddlseq", "show", "--depth", "1", "--depth", "2"]).is_err());
 }

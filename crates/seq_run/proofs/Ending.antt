@@ -2,16 +2,13 @@
 use Rattle.std.proofs.Common.{◌≡◌, ◌≢◌, ℕ, suc, ◌+◌, ◌<◌, inl, inr, List, [], ◌∷◌, ◌++◌, length, take, refl, sym, ap, ◌∙◌, subst, arith, length-append}
 use Rattle.std.proofs.lemmas.Bool.{cases_eq}
 use Rattle.std.proofs.Math.Seq.{take-length}
-use Rattle.cbor_data.specs.Value.{Value, depth_of}
-use Rattle.cbor_data.specs.Preferred.{initial}
+use Rattle.cbor_data.specs.Value.{Value}
 use Rattle.cbor_data.specs.Forms.{Form, uint_form, nint_form, bytes_form, bytes_chunks, text_form, text_chunks, array_form, array_to_break, pairs_form, pairs_to_break, tag_form, simple_inside, simple_next, float_form, forms_len, pair_forms_len, forms_flat, pair_forms_flat, flat, meaning, IsUnfinished}
 use Rattle.cbor_data.specs.Faults.{Bounds, BeginsWithin, long, IsClearBefore, of_form, of_end, IsItem}
 use Rattle.cbor_data.specs.Sequence.{Found, cleanly, at_fault, at_mismatch}
-use Rattle.cbor_data.proofs.Unique.{head_first, first_byte, place_info}
-use Rattle.cbor_read.specs.Initial.{IsNotYetByte, IsNotYet}
-use Rattle.cbor_read.specs.Told.{IsTold, IsRead}
+use Rattle.cbor_read.specs.Told.{kind_of, IsTold}
 use Rattle.cbor_read.specs.declared.fault.FaultKind.{FaultKind}
-use Rattle.cbor_read.specs.declared.fault.FaultKind.TheVariants.{NotYet, ReservedInfo, BadIndefinite, BadBreak, BadChunk, BadSimple, TooDeep, TooLong, Truncated, BadText, DuplicateKey}
+use Rattle.cbor_read.specs.declared.fault.FaultKind.TheVariants.{TooLong, Truncated}
 use Rattle.cddl_table.specs.Matches.{Matches}
 use Rattle.cddl_table.specs.declared.table.Table.{Table}
 use Rattle.seq_run.specs.declared.end.Cause.TheVariants.{Fault, Mismatch}
@@ -23,37 +20,6 @@ use Rattle.seq_run.specs.Answers.{IsUndecided}
 use Rattle.seq_run.proofs.Fronts.{formed, unfinished_no_front, fault_no_item, clear_end}
 use Rattle.seq_run.proofs.Runs.{EndsHere, item_some, same_front, run_of}
 
--- a first byte that is read begins no container
-plain_form : (f : Form) (y : ℕ) (r : List ℕ) → flat f ≡ y ∷ r → (IsNotYetByte y → ⊥) → depth_of (meaning f) ≡ 0
-plain_form (array_form p fs) y r e not =
-    let byte : initial 4 (place_info p (forms_len fs)) ≡ y = sym (head_first p 4 (forms_len fs) (forms_flat fs)) ∙ ap first_byte e in
-    absurd (not (inl (omega arith)))
-plain_form (array_to_break fs) y r e not = let byte = ap first_byte e in absurd (not (inl (omega arith)))
-plain_form (pairs_form p ps) y r e not =
-    let byte : initial 5 (place_info p (pair_forms_len ps)) ≡ y = sym (head_first p 5 (pair_forms_len ps) (pair_forms_flat ps)) ∙ ap first_byte e in
-    absurd (not (inl (omega arith)))
-plain_form (pairs_to_break ps) y r e not = let byte = ap first_byte e in absurd (not (inl (omega arith)))
-plain_form (tag_form p n f) y r e not =
-    let byte : initial 6 (place_info p n) ≡ y = sym (head_first p 6 n (flat f)) ∙ ap first_byte e in
-    absurd (not (inl (omega arith)))
-plain_form (uint_form p n) y r e not = refl
-plain_form (nint_form p n) y r e not = refl
-plain_form (bytes_form p s) y r e not = refl
-plain_form (bytes_chunks cs) y r e not = refl
-plain_form (text_form p s) y r e not = refl
-plain_form (text_chunks cs) y r e not = refl
-plain_form (simple_inside n) y r e not = refl
-plain_form (simple_next n) y r e not = refl
-plain_form (float_form w n) y r e not = refl
-
--- an unfinished item that is read goes on without a container
-begins_within : (depth : ℕ) (b : List ℕ) → b ≢ [] → (IsNotYet b → ⊥) → IsUnfinished b → BeginsWithin depth b
-begins_within depth [] some not u = absurd (some refl)
-begins_within depth (y ∷ ys) some not u =
-    let wf = u.2 in
-    let none : depth_of (meaning wf.written) ≡ 0 = plain_form wf.written y (ys ++ u.0 ∷ u.1) (sym wf.is) not in
-    record { more = u.0 ∷ u.1; written = wf.written; ok = wf.ok; is = wf.is; shallow = omega (arith, none) }
-
 take_whole : (b : List ℕ) → take (length b + 1) b ≡ b
 take_whole [] = refl
 take_whole (y ∷ ys) =
@@ -61,17 +27,13 @@ take_whole (y ∷ ys) =
     ap (λ n. take n (y ∷ ys)) more ∙ ap (λ (xs : List ℕ). y ∷ xs) (take_whole ys)
 
 -- what stands at the end of the bytes that an unfinished item has
-pub too_long_end : (l : Bounds) (o : ℕ) (b : List ℕ) → b ≢ [] → (IsNotYet b → ⊥) → IsUnfinished b → IsClearBefore l o b (length b) → length b ≡ l.item_bytes → IsTold l o b TooLong (o + length b)
-too_long_end l o b some not u clear full =
-    let within : BeginsWithin l.depth (take (length b + 1) b) = subst (BeginsWithin l.depth) (sym (take_whole b)) (begins_within l.depth b some not u) in
-    record { read = not; fault = of_form (length b) (omega arith) (subst IsUnfinished (sym (take-length b)) u) (long within (inl full)) clear refl }
+pub too_long_end : (l : Bounds) (o : ℕ) (b : List ℕ) → IsUnfinished b → BeginsWithin l.depth b → IsClearBefore l o b (length b) → length b ≡ l.item_bytes → IsTold l o b TooLong (o + length b)
+too_long_end l o b u shallow clear full =
+    let within : BeginsWithin l.depth (take (length b + 1) b) = subst (BeginsWithin l.depth) (sym (take_whole b)) shallow in
+    of_form (length b) (omega arith) (subst IsUnfinished (sym (take-length b)) u) (long within (inl full)) clear refl
 
-pub truncated_end : (l : Bounds) (o : ℕ) (b : List ℕ) → b ≢ [] → (IsNotYet b → ⊥) → IsUnfinished b → IsClearBefore l o b (length b) → (length b ≡ l.item_bytes → ⊥) → IsTold l o b Truncated (o + length b)
-truncated_end l o b some not u clear full = record { read = not; fault = of_end some u (clear_end l o b clear full) refl }
-
-not_yet_front : (front back : List ℕ) → 0 < length front → IsNotYet (front ++ back) → IsNotYet front
-not_yet_front [] back some n = absurd (omega arith)
-not_yet_front (y ∷ ys) back some n = n
+pub truncated_end : (l : Bounds) (o : ℕ) (b : List ℕ) → b ≢ [] → IsUnfinished b → IsClearBefore l o b (length b) → (length b ≡ l.item_bytes → ⊥) → IsTold l o b Truncated (o + length b)
+truncated_end l o b some u clear full = of_end some u (clear_end l o b clear full) refl
 
 module _ (table : Table) (l : Bounds) where
   pub none_ends : (o : ℕ) (rest : List ℕ) → rest ≡ [] → EndsHere l (Accepts table) o rest
@@ -81,25 +43,15 @@ module _ (table : Table) (l : Bounds) where
 
   pub held_ends : (o : ℕ) (rest : List ℕ) → IsHeld l o rest → EndsHere l (Accepts table) o rest
   held_ends o rest (inl none) x front back e item accepts = none_ends o rest none x front back e item accepts
-  held_ends o rest (inr held) x front back e item accepts = unfinished_no_front rest front back held.1 (formed item.spells) e
+  held_ends o rest (inr held) x front back e item accepts = unfinished_no_front rest front back held.0 (formed item.spells) e
 
   pub told_ends : (o : ℕ) (rest : List ℕ) (k : FaultKind) (at : ℕ) → IsTold l o rest k at → EndsHere l (Accepts table) o rest
-  told_ends o rest NotYet at told x front back e item accepts = accepts.0 (not_yet_front front back (item_some l o x front item) (subst IsNotYet e told.0))
-  told_ends o rest ReservedInfo at told x front back e item accepts = fault_no_item l o rest _ at x front back told.fault item e
-  told_ends o rest BadIndefinite at told x front back e item accepts = fault_no_item l o rest _ at x front back told.fault item e
-  told_ends o rest BadBreak at told x front back e item accepts = fault_no_item l o rest _ at x front back told.fault item e
-  told_ends o rest BadChunk at told x front back e item accepts = fault_no_item l o rest _ at x front back told.fault item e
-  told_ends o rest BadSimple at told x front back e item accepts = fault_no_item l o rest _ at x front back told.fault item e
-  told_ends o rest TooDeep at told x front back e item accepts = fault_no_item l o rest _ at x front back told.fault item e
-  told_ends o rest TooLong at told x front back e item accepts = fault_no_item l o rest _ at x front back told.fault item e
-  told_ends o rest Truncated at told x front back e item accepts = fault_no_item l o rest _ at x front back told.fault item e
-  told_ends o rest BadText at told x front back e item accepts = fault_no_item l o rest _ at x front back told.fault item e
-  told_ends o rest DuplicateKey at told x front back e item accepts = fault_no_item l o rest _ at x front back told.fault item e
+  told_ends o rest k at told x front back e item accepts = fault_no_item l o rest (kind_of k) at x front back told item e
 
   pub missed_ends : (o : ℕ) (rest : List ℕ) (x : Value) (front back : List ℕ) → rest ≡ front ++ back → IsItem l o x front → (Matches table x → ⊥) → EndsHere l (Accepts table) o rest
   missed_ends o rest x front back e item not y other left f found accepts =
       let same = same_front l l o o x y front back other left item found (sym e ∙ f) in
-      not (subst (Matches table) (sym same.2) accepts.1)
+      not (subst (Matches table) (sym same.2) accepts)
 
   -- the end of a stream of which nothing is left
   pub clean_end : (stream : List ℕ) (found : List Found) → BeginsWith table l stream found [] → Ends table l stream found (Clean (length found) (length stream))
@@ -113,12 +65,12 @@ module _ (table : Table) (l : Bounds) where
 
   -- the end of a stream with an item that does not match
   pub missed_end : (stream : List ℕ) (found : List Found) (rest : List ℕ) (o : ℕ) (x : Value) (front back : List ℕ) → BeginsWith table l stream found rest → o + length rest ≡ length stream →
-      rest ≡ front ++ back → IsRead l o x front → (Matches table x → ⊥) →
+      rest ≡ front ++ back → IsItem l o x front → (Matches table x → ⊥) →
       Ends table l stream found (Failed (length found) o (Mismatch 0)) × IsNext table l stream found x
-  missed_end stream found rest o x front back t placed e read not =
-      let run : IsRun table l stream found rest = run_of l (Accepts table) o t placed (missed_ends o rest x front back e read.item not) in (
-        at_mismatch rest x front back run placed e read.item (read.read, not, refl),
-        record { rest = rest; offset = o; front = front; back = back; run = run; placed = placed; parts = e; item = read.item },
+  missed_end stream found rest o x front back t placed e item not =
+      let run : IsRun table l stream found rest = run_of l (Accepts table) o t placed (missed_ends o rest x front back e item not) in (
+        at_mismatch rest x front back run placed e item (not, refl),
+        record { rest = rest; offset = o; front = front; back = back; run = run; placed = placed; parts = e; item = item },
       )
 
   -- how the bytes end that an open session has
@@ -128,17 +80,17 @@ module _ (table : Table) (l : Bounds) where
     pub undecided : IsUndecided (length stream) end
 
   unfinished_end : (stream : List ℕ) (found : List Found) (o : ℕ) (rest : List ℕ) → BeginsWith table l stream found rest → o + length rest ≡ length stream → rest ≢ [] →
-      (IsNotYet rest → ⊥) × IsUnfinished rest × IsClearBefore l o rest (length rest) → OpenEnd stream found
+      IsUnfinished rest × BeginsWithin l.depth rest × IsClearBefore l o rest (length rest) → OpenEnd stream found
   unfinished_end stream found o rest t placed some held =
       elim (cases_eq (length rest) l.item_bytes) [
         | inl full ↦ record {
           end = Failed (length found) o (Fault (record { at = o + length rest; kind = TooLong }));
-          ends = fault_end stream found rest o TooLong (o + length rest) t placed some (too_long_end l o rest some held.0 held.1 held.2 full);
+          ends = fault_end stream found rest o TooLong (o + length rest) t placed some (too_long_end l o rest held.0 held.1 held.2 full);
           undecided = (placed, tt);
         }
         | inr not ↦ record {
           end = Failed (length found) o (Fault (record { at = o + length rest; kind = Truncated }));
-          ends = fault_end stream found rest o Truncated (o + length rest) t placed some (truncated_end l o rest some held.0 held.1 held.2 not);
+          ends = fault_end stream found rest o Truncated (o + length rest) t placed some (truncated_end l o rest some held.0 held.2 not);
           undecided = (placed, tt);
         }
       ]

@@ -8,3 +8,4 @@ pub mod Cutting
 pub mod Reporting
 pub mod RunLoop
 pub mod Appending
+pub mod Rereading

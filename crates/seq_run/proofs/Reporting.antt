@@ -94,7 +94,7 @@ missed_whole table (cleanly run) n o place e = absurd (cc)
 missed_whole table (at_fault rest run some placed told) n o place e = absurd (cc)
 missed_whole table (at_mismatch {o = p} {place = there} rest x front back run placed parts item misses) n o place e =
     let same : there ≡ place = cc in
-    sym same ∙ misses.2
+    sym same ∙ misses.1
 
 -- the end of a stream can be shown
 pub shown : (table : Table) (l : Bounds) (stream : List ℕ) (found : List Found) (end : End) (rejected : Option Value) → Ends table l stream found end → IsRejected table l stream found end rejected → IsShown end rejected

@@ -2,14 +2,14 @@
 use Rattle.std.proofs.Common.{◌≡◌, ◌≢◌, ℕ, ◌+◌, ◌<◌, ◌≤◌, inl, inr, List, [], ◌∷◌, ◌++◌, length, take, drop, map, Option, Some, None, refl, sym, ap, ◌∙◌, subst, arith, append_assoc, append-nil, length-append}
 use Rattle.std.proofs.lemmas.List.{take-append-drop, length-take-le}
 use Rattle.cbor_data.specs.Value.{Value}
-use Rattle.cbor_data.specs.Faults.{Bounds, last_offset, IsClearBefore, IsItem}
+use Rattle.cbor_data.specs.Faults.{Bounds, last_offset, BeginsWithin, IsClearBefore, IsItem}
 use Rattle.cbor_data.specs.Sequence.{Found, none}
-use Rattle.cbor_read.specs.Told.{IsTold, IsRead}
+use Rattle.cbor_read.specs.Told.{IsTold}
 use Rattle.cbor_read.specs.Reading.{Reading}
 use Rattle.cbor_read.specs.Answers.{IsGoingOn, IsTaken, IsRefused, IsUsedUpTo}
 use Rattle.cbor_read.specs.declared.fault.Fault as declared
 use Rattle.cbor_read.specs.declared.fault.FaultKind.{FaultKind}
-use Rattle.cbor_read.specs.declared.fault.FaultKind.TheVariants.{NotYet, ReservedInfo, BadIndefinite, BadBreak, BadChunk, BadSimple, TooDeep, TooLong, Truncated, BadText, DuplicateKey}
+use Rattle.cbor_read.specs.declared.fault.FaultKind.TheVariants.{ReservedInfo, BadIndefinite, BadBreak, BadChunk, BadSimple, TooDeep, TooLong, Truncated, BadText, DuplicateKey}
 use Rattle.cddl_table.specs.Matches.{Matches}
 use Rattle.cddl_table.specs.declared.table.Table.{Table}
 use Rattle.seq_run.specs.declared.end.Cause.TheVariants.{Fault, Mismatch}
@@ -81,7 +81,7 @@ module _ (table : Table) (l : Bounds) (fed : List ℕ) (taken : List Found) (rea
     short = grows piece new g;
     limits = s.limits;
     going = s.going;
-    held = inr (g.read, g.unfinished, subst (λ (m : Bounds). IsClearBefore m reader.offset (reader.fed ++ piece) (length (reader.fed ++ piece))) s.limits g.clear);
+    held = inr (g.unfinished, subst (λ (m : Bounds). BeginsWithin m.depth (reader.fed ++ piece)) s.limits g.shallow, subst (λ (m : Bounds). IsClearBefore m reader.offset (reader.fed ++ piece) (length (reader.fed ++ piece))) s.limits g.clear);
     none = s.none;
   })
 
@@ -98,12 +98,12 @@ module _ (table : Table) (l : Bounds) (fed : List ℕ) (taken : List Found) (rea
       (bytes + used ≤ last_offset) × IsRunning table l (fed ++ take used piece) (taken ++ record { offset = offset; item = x } ∷ []) new (items + 1) (bytes + used) (bytes + used) None
   took piece used x new t matches =
       let front = reader.fed ++ take used piece in
-      let item : IsItem l reader.offset x front = subst (λ (m : Bounds). IsItem m reader.offset x front) s.limits t.read.item in
+      let item : IsItem l reader.offset x front = subst (λ (m : Bounds). IsItem m reader.offset x front) s.limits t.item in
       let used_is : length (take used piece) ≡ used = length-take-le used piece t.within in
       let at : offset + length front ≡ length (fed ++ take used piece) = omega (arith, placed_at (take used piece), s.offset_is) in
       let short : bytes + used ≤ last_offset = omega (arith, item.placed, s.offset_is, s.placed, used_is, length-append reader.fed (take used piece)) in
       let begins : BeginsWith table l (fed ++ take used piece) (taken ++ record { offset = offset; item = x } ∷ []) [] =
-      takes_snoc l (Accepts table) offset x front [] (extended (take used piece)) (omega (arith, at)) (sym (append-nil front)) (subst (λ n. IsItem l n x front) (sym s.offset_is) item) (t.read.read, matches) in
+      takes_snoc l (Accepts table) offset x front [] (extended (take used piece)) (omega (arith, at)) (sym (append-nil front)) (subst (λ n. IsItem l n x front) (sym s.offset_is) item) matches in
       let running : IsRunning table l (fed ++ take used piece) (taken ++ record { offset = offset; item = x } ∷ []) (record { limits = reader.limits; offset = reader.offset + length front; fed = []; stopped = None }) (items + 1) (bytes + used) (bytes + used) None = record {
         takes = begins;
         items_is = omega (arith, s.items_is, length-append taken (record { offset = offset; item = x } ∷ []));
@@ -131,13 +131,12 @@ module _ (table : Table) (l : Bounds) (fed : List ℕ) (taken : List Found) (rea
   missed piece used x new more t not =
       let front = reader.fed ++ take used piece in
       let back = drop used piece ++ more in
-      let read : IsRead l offset x front = subst (λ n. IsRead l n x front) (sym s.offset_is) (subst (λ (m : Bounds). IsRead m reader.offset x front) s.limits t.read) in
+      let item : IsItem l offset x front = subst (λ n. IsItem l n x front) (sym s.offset_is) (subst (λ (m : Bounds). IsItem m reader.offset x front) s.limits t.item) in
       let parts : (reader.fed ++ piece) ++ more ≡ front ++ back = ap (λ b. b ++ more) (split_piece used reader.fed piece) ∙ append_assoc front (drop used piece) more in
-      let both = missed_end table l ((fed ++ piece) ++ more) taken ((reader.fed ++ piece) ++ more) offset x front back (rest_of piece more) (rest_placed piece more) parts read not in
+      let both = missed_end table l ((fed ++ piece) ++ more) taken ((reader.fed ++ piece) ++ more) offset x front back (rest_of piece more) (rest_placed piece more) parts item not in
       (subst (λ n. Ends table l ((fed ++ piece) ++ more) taken (Failed n offset (Mismatch 0))) (sym s.items_is) both.0, both.1)
 
   refused_some : (piece : List ℕ) (used : ℕ) (k : FaultKind) (at : ℕ) → used ≤ length piece → IsUsedUpTo reader piece used k at → reader.fed ++ piece ≢ []
-  refused_some piece used NotYet at within u e = omega (arith, u.0, ap length e, length-append reader.fed piece)
   refused_some piece used ReservedInfo at within u e = omega (arith, u.0, ap length e, length-append reader.fed piece)
   refused_some piece used BadIndefinite at within u e = omega (arith, u.0, ap length e, length-append reader.fed piece)
   refused_some piece used BadBreak at within u e = omega (arith, u.0, ap length e, length-append reader.fed piece)

@@ -4,7 +4,6 @@ use Rattle.cbor_data.specs.Value.{Value}
 use Rattle.cbor_data.specs.Faults.{Bounds}
 use Rattle.cbor_data.specs.Sequence as sequence
 use Rattle.cbor_data.specs.Sequence.{Found, Takes, IsRunOf, EndsBy, clean, failed, fault, mismatch}
-use Rattle.cbor_read.specs.Initial.{IsNotYet}
 use Rattle.cbor_read.specs.Told.{IsTold}
 use Rattle.cbor_read.specs.declared.fault.FaultKind.{FaultKind}
 use Rattle.cddl_table.specs.Matches.{Matches}
@@ -14,13 +13,13 @@ use Rattle.seq_run.specs.declared.end.Cause.TheVariants.{Fault, Mismatch}
 use Rattle.seq_run.specs.declared.end.End.{End}
 use Rattle.seq_run.specs.declared.end.End.TheVariants.{Clean, Failed}
 
--- The item, spelled so, is accepted: its form is read, and it matches.
+-- The item, spelled so, is accepted: it matches.
 abbrev pub Accepts : Table → Value → List ℕ → Type 0
-Accepts table x b = (IsNotYet b → ⊥) × Matches table x
+Accepts table x b = Matches table x
 
 -- The item, spelled so, does not match, which shows at this place: so far an item fails as a whole.
 abbrev pub Misses : Table → Value → List ℕ → ℕ → Type 0
-Misses table x b place = (IsNotYet b → ⊥) × (Matches table x → ⊥) × (place ≡ 0)
+Misses table x b place = (Matches table x → ⊥) × (place ≡ 0)
 
 -- The stream begins with these accepted items, at these offsets, and then comes the rest.
 abbrev pub BeginsWith : Table → Bounds → List ℕ → List Found → List ℕ → Type 0

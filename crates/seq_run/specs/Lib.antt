@@ -5,3 +5,4 @@ pub mod Standing
 pub mod Answers
 pub mod Report
 pub mod Running
+pub mod Written

@@ -4,7 +4,7 @@ use Rattle.cbor_data.specs.Value.{Value}
 use Rattle.cbor_data.specs.Sequence.{Found}
 use Rattle.cbor_data.specs.Notation.{notation}
 use Rattle.cbor_read.specs.declared.fault.FaultKind.{FaultKind}
-use Rattle.cbor_read.specs.declared.fault.FaultKind.TheVariants.{NotYet, ReservedInfo, BadIndefinite, BadBreak, BadChunk, BadSimple, TooDeep, TooLong, Truncated, BadText, DuplicateKey}
+use Rattle.cbor_read.specs.declared.fault.FaultKind.TheVariants.{ReservedInfo, BadIndefinite, BadBreak, BadChunk, BadSimple, TooDeep, TooLong, Truncated, BadText, DuplicateKey}
 use Rattle.seq_run.specs.declared.end.Cause.{Cause}
 use Rattle.seq_run.specs.declared.end.Cause.TheVariants.{Fault, Mismatch}
 use Rattle.seq_run.specs.declared.end.End.{End}
@@ -22,7 +22,6 @@ item_lines number (f ∷ fs) = item_line number f ++ item_lines (suc number) fs
 
 -- a fault, up to its place
 abbrev pub fault_text : FaultKind → List ℕ
-fault_text NotYet = codes "not supported yet at byte "
 fault_text ReservedInfo = codes "reserved additional information at byte "
 fault_text BadIndefinite = codes "indefinite length not allowed at byte "
 fault_text BadBreak = codes "break not allowed at byte "

@@ -2,9 +2,8 @@
 use Rattle.std.specs.Prelude.{◌≡◌, ℕ, ◌+◌, ◌≤◌, ◌⊎◌, List, [], ◌++◌, length, Option, Some, None}
 use Rattle.cbor_data.specs.Value.{Value}
 use Rattle.cbor_data.specs.Forms.{IsUnfinished}
-use Rattle.cbor_data.specs.Faults.{Bounds, last_offset, IsClearBefore, IsItem}
+use Rattle.cbor_data.specs.Faults.{Bounds, last_offset, BeginsWithin, IsClearBefore, IsItem}
 use Rattle.cbor_data.specs.Sequence.{Found}
-use Rattle.cbor_read.specs.Initial.{IsNotYet}
 use Rattle.cbor_read.specs.Reading.{Reading}
 use Rattle.cddl_table.specs.declared.table.Table.{Table}
 use Rattle.seq_run.specs.declared.end.Cause.TheVariants.{Mismatch}
@@ -16,7 +15,7 @@ use Rattle.seq_run.specs.Ends.{BeginsWith, IsRun, Ends}
 
 -- The bytes, at this offset of the stream, are none, or the beginning of an item in which nothing is wrong so far.
 abbrev pub IsHeld : Bounds → ℕ → List ℕ → Type 0
-IsHeld l o rest = (rest ≡ []) ⊎ ((IsNotYet rest → ⊥) × IsUnfinished rest × IsClearBefore l o rest (length rest))
+IsHeld l o rest = (rest ≡ []) ⊎ (IsUnfinished rest × BeginsWithin l.depth rest × IsClearBefore l o rest (length rest))
 
 -- Behind the items of the stream's run comes this one.
 pub record IsNext (table : Table) (l : Bounds) (stream : List ℕ) (found : List Found) (x : Value) : Type 0 where

@@ -2,12 +2,14 @@
 #![tactic(auto)]
 
 mod end;
+mod laws;
 mod lines;
 mod pieces;
 mod running;
 mod session;
 
 pub use crate::end::{Cause, End, State, Stopped};
+pub use crate::laws::written_is_read_back;
 pub use crate::lines::end_line;
 pub use crate::pieces::validate_pieces;
 pub use crate::running::{RunFault, run};

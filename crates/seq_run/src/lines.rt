@@ -95,7 +95,6 @@ fn fault_words(kind: FaultKind) -> &'static [u8]
     ensures { result.now ≡ fault_text kind }
 {
     match kind {
-        FaultKind::NotYet => b"not supported yet at byte ",
         FaultKind::ReservedInfo => b"reserved additional information at byte ",
         FaultKind::BadIndefinite => b"indefinite length not allowed at byte ",
         FaultKind::BadBreak => b"break not allowed at byte ",

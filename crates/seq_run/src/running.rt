@@ -1,9 +1,11 @@
 //! Runs a stream that a device gives, and writes its report to another.
 
-ghost use Rattle.std.specs.Prelude.{◌≡◌, [], None, IfOk, IfErr, OnOk, IfSome};
+ghost use Rattle.std.specs.Prelude.{◌≡◌, List, [], None, IfOk, IfErr, OnOk, IfSome};
+ghost use Rattle.cbor_data.specs.Value.{Value};
 ghost use Rattle.cbor_item.specs.Counted.{device_of, failures_of};
 ghost use Rattle.seq_run.specs.Answers.{IsFed};
 ghost use Rattle.seq_run.specs.Running.{Adds, IsDecided, IsFault, IsPieceDone, IsReported};
+ghost use Rattle.seq_run.specs.Written.{IsReadBack, IsWrittenStream};
 
 use crate::end::{End, State};
 use crate::lines::{end_line, push_item_line};
@@ -47,6 +49,9 @@ pub fn run<R: Read, W: Write>(
 ) -> Result<(End, Option<Sound>), RunFault>
     ensures reported { IfOk result (λ r. IfSome (R.remaining (device_of input.old)) (λ stream.
         IsReported table.now limits stream (W.contents (device_of output.old)) (W.contents (device_of output.new)) r.0 r.1)) }
+    ensures read_back { IfOk result (λ r. (items : List Value) →
+        IsWrittenStream table.now limits items (R.remaining (device_of input.old)) →
+        IsReadBack items (W.contents (device_of output.old)) (W.contents (device_of output.new)) r.0 r.1) }
     ensures counts { OnOk result ((failures_of input.new ≡ failures_of input.old) × (failures_of output.new ≡ failures_of output.old)) }
     ensures fault { IfErr result (IsFault table.now limits (R.remaining (device_of input.old)) (R.remaining (device_of input.new))
         (W.contents (device_of output.old)) (W.contents (device_of output.new))

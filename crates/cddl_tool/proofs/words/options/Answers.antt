@@ -1,18 +1,44 @@
 use Rattle.std.proofs.Common.{◌≡◌, codes, Some, refl}
 use Rattle.clap.specs.Words.{subcommand_name_of}
-use Rattle.cddl_tool.proofs.Meeting.{met, chosen_value, no_value}
+use Rattle.cddl_tool.specs.declared.choice.Task.TheVariants.{Validate, Show}
+use Rattle.cddl_tool.proofs.Meeting.{met, no_fault, is_met, chosen_if_read, misused_if_unread, refused_result, none_met, misused}
 use Rattle.cddl_tool.proofs.words.options.Goals as goal
 
-pub returns-in-Some : goal.returns-in-Some
-returns-in-Some c =
-    let sub = met _ _ c.in-Ok.matches c.in_ok-command.ensures c.in-Ok.ensures.matches in
-    let name = c.in-Some.ensures.found.0 refl in (
-      chosen_value (codes "spec") _ c.in-Ok.matches c.in-Some.given.now _ sub name c.in-Some.ensures.rows c.in_ok-spec-in-Some.ensures,
-      chosen_value (codes "file") _ c.in-Ok.matches c.in-Some.given.now _ sub name c.in-Some.ensures.rows c.in_ok-file-in-Some.ensures,
-    )
+pub returns-in_err-matches-clause-misuse : goal.returns-in_err-matches-clause-misuse
+returns-in_err-matches-clause-misuse c =
+    refused_result _ _ _ c.from_residual-in_err-matches.result c.in_ok-command.ensures c.in_err-matches.ensures.kinds c.from_residual-in_err-matches.ensures.1
 
-pub returns : goal.returns
-returns c =
-    let sub = met _ _ c.in-Ok.matches c.in_ok-command.ensures c.in-Ok.ensures.matches in
-    let not : subcommand_name_of c.in-Ok.matches ≡ Some (codes "validate") → ⊥ = λ e. let there = c.in-None.ensures.found.1 e in cc in
-    (no_value (codes "spec") _ c.in-Ok.matches sub not, no_value (codes "file") _ c.in-Ok.matches sub not)
+pub returns-in-Some-clause-chosen : goal.returns-in-Some-clause-chosen
+returns-in-Some-clause-chosen c =
+    let sub = met _ _ c.in_ok-matches.matches c.in_ok-command.ensures c.in_ok-matches.ensures.matches in
+    let taken = no_fault _ _ c.in_ok-matches.matches c.in_ok-command.ensures c.in_ok-matches.ensures.kinds in
+    chosen_if_read _ Validate _ c.options_of.result taken (is_met _ c.in_ok-matches.matches c.in-Some.given.now (codes "validate") sub (c.in-Some.ensures.found.0 refl) c.in-Some.ensures.rows) c.options_of.ensures.read
+
+pub returns-in-Some-clause-misuse : goal.returns-in-Some-clause-misuse
+returns-in-Some-clause-misuse c =
+    let sub = met _ _ c.in_ok-matches.matches c.in_ok-command.ensures c.in_ok-matches.ensures.matches in
+    misused_if_unread _ Validate _ c.options_of.result (is_met _ c.in_ok-matches.matches c.in-Some.given.now (codes "validate") sub (c.in-Some.ensures.found.0 refl) c.in-Some.ensures.rows) c.options_of.ensures.misuse
+
+pub returns-in-Some-subcommand_matches-clause-chosen :
+    goal.returns-in-Some-subcommand_matches-clause-chosen
+returns-in-Some-subcommand_matches-clause-chosen c =
+    let sub = met _ _ c.in_ok-matches.matches c.in_ok-command.ensures c.in_ok-matches.ensures.matches in
+    let taken = no_fault _ _ c.in_ok-matches.matches c.in_ok-command.ensures c.in_ok-matches.ensures.kinds in
+    chosen_if_read _ Show _ c.options_of-in-Some-subcommand_matches.result taken
+    (is_met _ c.in_ok-matches.matches c.in-Some-subcommand_matches.given.now (codes "show") sub (c.in-Some-subcommand_matches.ensures.found.0 refl) c.in-Some-subcommand_matches.ensures.rows)
+    c.options_of-in-Some-subcommand_matches.ensures.read
+
+pub returns-in-Some-subcommand_matches-clause-misuse :
+    goal.returns-in-Some-subcommand_matches-clause-misuse
+returns-in-Some-subcommand_matches-clause-misuse c =
+    let sub = met _ _ c.in_ok-matches.matches c.in_ok-command.ensures c.in_ok-matches.ensures.matches in
+    misused_if_unread _ Show _ c.options_of-in-Some-subcommand_matches.result
+    (is_met _ c.in_ok-matches.matches c.in-Some-subcommand_matches.given.now (codes "show") sub (c.in-Some-subcommand_matches.ensures.found.0 refl) c.in-Some-subcommand_matches.ensures.rows)
+    c.options_of-in-Some-subcommand_matches.ensures.misuse
+
+pub returns-clause-misuse : goal.returns-clause-misuse
+returns-clause-misuse c =
+    let sub = met _ _ c.in_ok-matches.matches c.in_ok-command.ensures c.in_ok-matches.ensures.matches in
+    let not_validate : subcommand_name_of c.in_ok-matches.matches ≡ Some (codes "validate") → ⊥ = λ e. let there = c.in_default.ensures.found.1 e in cc in
+    let not_show : subcommand_name_of c.in_ok-matches.matches ≡ Some (codes "show") → ⊥ = λ e. let there = c.in_default-subcommand_matches.ensures.found.1 e in cc in
+    misused _ c.misuse.result (none_met _ c.in_ok-matches.matches sub not_validate not_show)

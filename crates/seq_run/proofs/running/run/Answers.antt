@@ -1,6 +1,7 @@
 use Rattle.std.proofs.Common.{◌≡◌, take, None, refl, ◌∙◌, arith}
 use Rattle.cbor_item.specs.Counted.{device_of, failures_of}
 use Rattle.seq_run.proofs.RunLoop.{begin_run, read_failed, no_memory, write_failed, reported_all, goes_on, no_bytes}
+use Rattle.seq_run.proofs.Rereading.{read_back}
 use Rattle.seq_run.proofs.running.run.Goals as goal
 
 pub pieces-init : goal.pieces-init
@@ -36,6 +37,11 @@ returns-in-Some-clause-reported g c =
     (λ e. c.in-Ok.ensures.bytes.1 (no_bytes c.in-Ok.count c.read.new.buf (take c.in-Ok.count c.read.new.buf) c.in-Ok.ensures.bound.0 refl e) (omega arith))
     c.in-Ok-report_piece.end c.report_piece.new.session c.report_piece.new.lines.items c.in-Ok-report_piece.ensures
     c.in-Some.end c.into_rejected.result (g.W.Write.contents (device_of c.write_bytes.new.out)) c.in-Some.is (rw c.as_slice.ensures.value at c.in_default-write_bytes.ensures.all) c.into_rejected.ensures
+
+pub returns-in-Some-clause-read_back : goal.returns-in-Some-clause-read_back
+returns-in-Some-clause-read_back g c =
+    read_back c.args.table.now c.args.limits (g.R.Read.remaining (device_of c.args.input.now)) (g.W.Write.contents (device_of c.args.output.now)) (g.W.Write.contents (device_of c.write_bytes.new.out))
+    c.in-Some.end c.into_rejected.result (returns-in-Some-clause-reported g c)
 
 pub pieces-preserved : goal.pieces-preserved
 pieces-preserved g c =

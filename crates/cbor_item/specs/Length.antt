@@ -1,0 +1,16 @@
+-- How long an item's spellings are.
+use Rattle.std.specs.Prelude.{ℕ, ◌+◌, ◌-◌, ◌^◌, min}
+use Rattle.cbor_data.specs.Value.{Value}
+use Rattle.cbor_data.specs.Sound.{HasShortSpelling}
+use Rattle.cbor_item.specs.declared.sound.Unsound.{Unsound}
+use Rattle.cbor_item.specs.declared.sound.Unsound.TheVariants.{TooBig, Memory}
+
+-- so many more, as far as 2^128 - 1
+abbrev pub counted : ℕ → ℕ → ℕ
+counted before more = min (before + more) (2 ^ 128 - 1)
+
+-- why an item is refused for its length: none of its spellings is short, or there was no memory to tell
+abbrev pub IsTooLong : Value → Unsound → Type 0
+IsTooLong x TooBig = HasShortSpelling x → ⊥
+IsTooLong x Memory = Unit {0}
+IsTooLong x _ = ⊥

@@ -1,0 +1,120 @@
+-- What the meaning of a well-formed item cannot be, and where its bad text can be.
+use Rattle.std.proofs.Common.{◌≡◌, ℕ, suc, ◌+◌, ◌≤◌, List, [], ◌∷◌, ◌++◌, length, inl, inr, nat_le, cond, Option, Some, None, refl, sym, ap, ◌∙◌, arith, append-nil, length-append}
+use Rattle.std.proofs.lemmas.Bool.Decides.{nat_tests}
+use Rattle.cbor_data.specs.Value.{AreBitsFitting, AreValuesFitting, ArePairsFitting, AreSimplesAssignable, AreValuesAssignable, ArePairsAssignable, depth_of}
+use Rattle.cbor_data.specs.Forms.{Chunk, chunk_bytes, chunks_bytes, head_in, Form, uint_form, nint_form, bytes_form, bytes_chunks, text_form, text_chunks, array_form, array_to_break, pairs_form, pairs_to_break, tag_form, simple_inside, simple_next, float_form, Forms, no_forms, form, PairForms, no_pair_forms, pair_form, forms_len, pair_forms_len, flat, forms_flat, pair_forms_flat, IsOk, AreFormsOk, ArePairFormsOk, meaning, meanings, pair_meanings}
+use Rattle.cbor_data.specs.Faults.{IsBadChunkAt, IsBadTextAt, IsBadTextAmong, IsBadTextAmongPairs}
+use Rattle.cbor_machine.specs.Machine.{State, item, done, steps_in}
+use Rattle.cbor_machine.specs.Reads.{LeadsWithin}
+use Rattle.cbor_machine.proofs.Keeping.{tested}
+use Rattle.cbor_machine.proofs.Shallow.{item_in}
+
+mutual
+  pub assignable : (f : Form) → IsOk f → AreSimplesAssignable (meaning f)
+  assignable (uint_form p n) ok = tt
+  assignable (nint_form p n) ok = tt
+  assignable (bytes_form p s) ok = tt
+  assignable (bytes_chunks cs) ok = tt
+  assignable (text_form p s) ok = tt
+  assignable (text_chunks cs) ok = tt
+  assignable (array_form p fs) ok = all_assignable fs ok.1
+  assignable (array_to_break fs) ok = all_assignable fs ok
+  assignable (pairs_form p ps) ok = pairs_assignable ps ok.1
+  assignable (pairs_to_break ps) ok = pairs_assignable ps ok
+  assignable (tag_form p n f) ok = assignable f ok.1
+  assignable (simple_inside n) ok = inl ok
+  assignable (simple_next n) ok = inr ok.0
+  assignable (float_form w n) ok = tt
+
+  all_assignable : (fs : Forms) → AreFormsOk fs → AreValuesAssignable (meanings fs)
+  all_assignable no_forms ok = tt
+  all_assignable (form f fs) ok = (assignable f ok.0, all_assignable fs ok.1)
+
+  pairs_assignable : (ps : PairForms) → ArePairFormsOk ps → ArePairsAssignable (pair_meanings ps)
+  pairs_assignable no_pair_forms ok = tt
+  pairs_assignable (pair_form k v ps) ok = (assignable k ok.0, assignable v ok.1, pairs_assignable ps ok.2)
+
+mutual
+  pub fitting : (f : Form) → IsOk f → AreBitsFitting (meaning f)
+  fitting (uint_form p n) ok = tt
+  fitting (nint_form p n) ok = tt
+  fitting (bytes_form p s) ok = tt
+  fitting (bytes_chunks cs) ok = tt
+  fitting (text_form p s) ok = tt
+  fitting (text_chunks cs) ok = tt
+  fitting (array_form p fs) ok = all_fitting fs ok.1
+  fitting (array_to_break fs) ok = all_fitting fs ok
+  fitting (pairs_form p ps) ok = pairs_fitting ps ok.1
+  fitting (pairs_to_break ps) ok = pairs_fitting ps ok
+  fitting (tag_form p n f) ok = fitting f ok.1
+  fitting (simple_inside n) ok = tt
+  fitting (simple_next n) ok = tt
+  fitting (float_form w n) ok = ok
+
+  all_fitting : (fs : Forms) → AreFormsOk fs → AreValuesFitting (meanings fs)
+  all_fitting no_forms ok = tt
+  all_fitting (form f fs) ok = (fitting f ok.0, all_fitting fs ok.1)
+
+  pairs_fitting : (ps : PairForms) → ArePairFormsOk ps → ArePairsFitting (pair_meanings ps)
+  pairs_fitting no_pair_forms ok = tt
+  pairs_fitting (pair_form k v ps) ok = (fitting k ok.0, fitting v ok.1, pairs_fitting ps ok.2)
+
+-- bad text lies in the item
+
+behind : (a b : List ℕ) (i j : ℕ) → i ≡ length a + j → j ≤ length b → i ≤ length (a ++ b)
+behind a b i j e h = omega (arith, length-append a b)
+
+-- and a break
+behind_byte : (b : List ℕ) (i j : ℕ) → i ≡ suc j → j ≤ length b → i ≤ suc (length (b ++ 255 ∷ []))
+behind_byte b i j e h = omega (arith, length-append b (255 ∷ []))
+
+in_front : (a b : List ℕ) (i : ℕ) → i ≤ length a → i ≤ length (a ++ b)
+in_front a b i h = omega (arith, length-append a b)
+
+chunk_inside : (cs : List Chunk) (i : ℕ) → IsBadChunkAt cs i → i ≤ length (chunks_bytes 3 cs)
+chunk_inside [] i h = absurd h
+chunk_inside (c ∷ cs) i (inl h) = let e : i ≡ 0 = h.0 in omega arith
+chunk_inside (c ∷ cs) i (inr h) = behind (chunk_bytes 3 c) (chunks_bytes 3 cs) i h.0 h.1 (chunk_inside cs h.0 h.3)
+
+mutual
+  pub text_inside : (f : Form) (i : ℕ) → IsBadTextAt f i → i ≤ length (flat f)
+  text_inside (text_form p s) i h = let e : i ≡ 0 = h.0 in omega arith
+  text_inside (text_chunks cs) i h = behind_byte (chunks_bytes 3 cs) i h.0 h.1 (chunk_inside cs h.0 h.2)
+  text_inside (array_form p fs) i h = behind (head_in p 4 (forms_len fs)) (forms_flat fs) i h.0 h.1 (text_among fs h.0 h.2)
+  text_inside (array_to_break fs) i h = behind_byte (forms_flat fs) i h.0 h.1 (text_among fs h.0 h.2)
+  text_inside (pairs_form p ps) i h = behind (head_in p 5 (pair_forms_len ps)) (pair_forms_flat ps) i h.0 h.1 (text_among_pairs ps h.0 h.2)
+  text_inside (pairs_to_break ps) i h = behind_byte (pair_forms_flat ps) i h.0 h.1 (text_among_pairs ps h.0 h.2)
+  text_inside (tag_form p n f) i h = behind (head_in p 6 n) (flat f) i h.0 h.1 (text_inside f h.0 h.2)
+  text_inside (uint_form p n) i h = absurd h
+  text_inside (nint_form p n) i h = absurd h
+  text_inside (bytes_form p s) i h = absurd h
+  text_inside (bytes_chunks cs) i h = absurd h
+  text_inside (simple_inside n) i h = absurd h
+  text_inside (simple_next n) i h = absurd h
+  text_inside (float_form w n) i h = absurd h
+
+  text_among : (fs : Forms) (i : ℕ) → IsBadTextAmong fs i → i ≤ length (forms_flat fs)
+  text_among no_forms i h = absurd h
+  text_among (form f fs) i (inl h) = in_front (flat f) (forms_flat fs) i (text_inside f i h)
+  text_among (form f fs) i (inr h) = behind (flat f) (forms_flat fs) i h.1.0 h.1.1 (text_among fs h.1.0 h.1.2)
+
+  text_among_pairs : (ps : PairForms) (i : ℕ) → IsBadTextAmongPairs ps i → i ≤ length (pair_forms_flat ps)
+  text_among_pairs no_pair_forms i h = absurd h
+  text_among_pairs (pair_form k v ps) i (inl h) = in_front (flat k) (flat v ++ pair_forms_flat ps) i (text_inside k i h)
+  text_among_pairs (pair_form k v ps) i (inr (inl h)) =
+      behind (flat k) (flat v ++ pair_forms_flat ps) i h.1.0 h.1.1 (in_front (flat v) (pair_forms_flat ps) h.1.0 (text_inside v h.1.0 h.1.2))
+  text_among_pairs (pair_form k v ps) i (inr (inr h)) =
+      behind (flat k) (flat v ++ pair_forms_flat ps) i (length (flat v) + h.2.0) h.2.1 (behind (flat v) (pair_forms_flat ps) (length (flat v) + h.2.0) h.2.0 refl (text_among_pairs ps h.2.0 h.2.2))
+
+-- a form that the bounded machine reads to its end is no deeper
+
+fits : (a d : ℕ) (o : Option State) (t : State) → cond (nat_le (a + 0) d) o None ≡ Some t → a ≤ d
+fits a d o t e = elim (tested (nat_le (a + 0) d)) [
+  | inl u ↦ let le : a + 0 ≤ d = grind (arith, nat_tests) in omega arith
+  | inr u ↦ let e1 = rw u at e in absurd (cc)
+]
+
+pub shallow : (d : ℕ) (b : List ℕ) (f : Form) → LeadsWithin d b done → IsOk f → b ≡ flat f → depth_of (meaning f) ≤ d
+shallow d b f l ok is =
+    let read : steps_in d (item []) (flat f ++ []) ≡ Some done = ap (steps_in d (item [])) (append-nil (flat f) ∙ sym is) ∙ l.is in
+    fits (depth_of (meaning f)) d (Some done) done (sym (item_in d f [] [] ok (omega arith)) ∙ read)

@@ -1,0 +1,69 @@
+-- What the value of a whole item tells of its bytes.
+use Rattle.std.proofs.Common.{◌≡◌, ℕ, ◌+◌, ◌<◌, ◌≤◌, ◌^◌, List, length, refl, sym, subst}
+use Rattle.cbor_data.specs.Value.{Value, AreBitsFitting, AreSimplesAssignable, depth_of}
+use Rattle.cbor_data.specs.Validity.{IsFirstRepeatedKey}
+use Rattle.cbor_data.specs.Sound.{IsSound}
+use Rattle.cbor_data.specs.Forms.{Form, flat, IsOk, HasText, meaning, IsWellFormed}
+use Rattle.cbor_data.specs.Faults.{Bounds, IsBadTextAt, IsItem, of_text, of_key}
+use Rattle.cbor_machine.specs.Machine.{done}
+use Rattle.cbor_machine.specs.Reads.{Reads}
+use Rattle.cbor_machine.proofs.Telling.{whole, whole_front}
+use Rattle.cbor_value.specs.Unread.{IsWhole}
+use Rattle.cbor_read.specs.Outcomes.{IsOutcome, IsSettled, IsSoundButKeys, IsWrong}
+use Rattle.cbor_read.specs.declared.fault.FaultKind.TheVariants.{BadText, DuplicateKey}
+use Rattle.cbor_read.specs.declared.value.Outcome.{Outcome}
+use Rattle.cbor_read.specs.declared.value.Outcome.TheVariants as outcome
+use Rattle.cbor_read.proofs.Meanings.{assignable, fitting, shallow, text_inside}
+
+-- what is known of the value of the bytes b
+pub record IsValueOf (b : List ℕ) (x : Value) : Type 0 where
+  pub means : (f : Form) → IsOk f → b ≡ flat f → HasText f × (x ≡ meaning f)
+
+pub sound_but_keys : (b : List ℕ) (x : Value) → IsWhole 256 b → length b < 2 ^ 64 → IsValueOf b x → IsSoundButKeys x
+sound_but_keys b x w short v =
+    let f : Form = w.written in
+    let m = v.means f w.ok w.is in
+    record {
+      shallow = subst (λ y. depth_of y ≤ 256) (sym m.1) w.shallow;
+      assignable = subst AreSimplesAssignable (sym m.1) (assignable f w.ok);
+      fitting = subst AreBitsFitting (sym m.1) (fitting f w.ok);
+      short = record { spelling = b; spells = record { written = f; ok = w.ok; text = m.0; is = w.is; meant = m.1 }; short = short };
+    }
+
+-- a sound value is the item
+item_read : (l : Bounds) (o : ℕ) (b : List ℕ) (x : Value) → Reads l o b done → IsValueOf b x → IsSound x → IsItem l o x b
+item_read l o b x r v s =
+    let w : IsWellFormed b = whole l o b r in
+    let m = v.means w.written w.ok w.is in
+    record {
+      spells = record { written = w.written; ok = w.ok; text = m.0; is = w.is; meant = m.1 };
+      valid = s.valid;
+      shallow = subst (λ y. depth_of y ≤ l.depth) (sym m.1) (shallow l.depth b w.written r.leads w.ok w.is);
+      short = r.short;
+      placed = r.placed;
+    }
+
+key_told : (l : Bounds) (o : ℕ) (b : List ℕ) (x : Value) (at : ℕ) → Reads l o b done → IsValueOf b x → IsFirstRepeatedKey x at → IsWrong l o b (record { at = at; kind = DuplicateKey })
+key_told l o b x at r v k =
+    let w : IsWellFormed b = whole l o b r in
+    let m = v.means w.written w.ok w.is in
+    record {
+      value = tt;
+      told = λ more. of_key (length b) w.written (whole_front l o b more r) m.0 (subst (λ y. IsFirstRepeatedKey y at) m.1 k);
+    }
+
+-- what the value is settled to be is what the bytes come to
+pub settled : (l : Bounds) (o : ℕ) (b : List ℕ) (x : Value) (out : Outcome) → Reads l o b done → IsValueOf b x → IsSettled x out → IsOutcome l o b out
+settled l o b x (outcome.Item y) r v s = subst (λ z. IsItem l o z b) (sym s.0) (item_read l o b x r v s.1)
+settled l o b x (outcome.Fault fault) r v s = subst (λ k. IsWrong l o b (record { at = fault.at; kind = k })) (sym s.0) (key_told l o b x fault.at r v s.1)
+
+pub text_told : (l : Bounds) (o : ℕ) (b : List ℕ) (i : ℕ) → Reads l o b done → ((f : Form) → IsOk f → b ≡ flat f → IsBadTextAt f i) → IsWrong l o b (record { at = o + i; kind = BadText })
+text_told l o b i r bad =
+    let w : IsWellFormed b = whole l o b r in
+    record {
+      value = tt;
+      told = λ more. of_text (length b) i w.written (whole_front l o b more r) (bad w.written w.ok w.is) refl;
+    }
+
+pub text_placed : (b : List ℕ) (i : ℕ) → IsWhole 256 b → ((f : Form) → IsOk f → b ≡ flat f → IsBadTextAt f i) → i ≤ length b
+text_placed b i w bad = subst (λ c. i ≤ length c) (sym w.is) (text_inside w.written i (bad w.written w.ok w.is))

@@ -1,0 +1,54 @@
+// The value of a whole item.
+ghost use Rattle.std.specs.Prelude.{◌+◌, ◌^◌, ◌<◌, length, IfOk};
+ghost use Rattle.cbor_data.specs.Faults.{Bounds};
+ghost use Rattle.cbor_machine.specs.Machine.{done};
+ghost use Rattle.cbor_machine.specs.Reads.{Reads};
+ghost use Rattle.cbor_item.specs.View.{view};
+ghost use Rattle.cbor_value.specs.Unread.{IsWhole};
+ghost use Rattle.cbor_read.specs.Outcomes.{IsOutcome, IsSettled, IsSoundButKeys};
+
+use crate::fault::{Fault, FaultKind};
+use cbor_item::{Item, Sound, Unsound};
+use cbor_value::{Unread, read_value};
+use std::alloc::{AllocError, Global};
+
+/// What the bytes of a whole item come to.
+#[derive(Drop)]
+pub enum Outcome {
+    Item(Sound),
+    Fault(Fault),
+}
+
+/// Reads the value of the whole item that stands at this offset, which is at most 256 containers deep.
+pub fn value_of(alloc: Global, offset: u64, bytes: &[u8]) -> Result<Outcome, AllocError>
+    requires whole { IsWhole 256 bytes.now }
+    requires placed { offset + length bytes.now < 2 ^ 64 }
+    ensures { IfOk result (λ outcome. (limits : Bounds) → Reads limits offset bytes.now done → IsOutcome limits offset bytes.now outcome) }
+{
+    match read_value(alloc, bytes) {
+        Ok(item) => sound_of(alloc, item),
+        Err(Unread::BadText(place)) => Ok(Outcome::Fault(Fault {
+            at: offset + place as u64,
+            kind: FaultKind::BadText,
+        })),
+        Err(Unread::Memory) => Err(AllocError),
+    }
+}
+
+// The item as a sound one, if it repeats no key.
+fn sound_of(alloc: Global, item: Item) -> Result<Outcome, AllocError>
+    requires { IsSoundButKeys (view item) }
+    ensures { IfOk result (IsSettled (view item)) }
+{
+    match Sound::try_new(alloc, item) {
+        Ok(sound) => Ok(Outcome::Item(sound)),
+        Err(Unsound::Duplicate(place)) => Ok(Outcome::Fault(Fault {
+            at: place as u64,
+            kind: FaultKind::DuplicateKey,
+        })),
+        Err(Unsound::Memory) => Err(AllocError),
+        Err(Unsound::TooDeep | Unsound::BadSimple | Unsound::BadBits | Unsound::TooBig) => {
+            unreachable!()
+        }
+    }
+}

@@ -1,0 +1,127 @@
+-- An item from what its head and the bytes behind it say.
+use Rattle.std.proofs.Common.{◌≡◌, ℕ, suc, ◌+◌, ◌≤◌, List, [], ◌∷◌, ◌++◌, length, drop, take, Result, Ok, Err, refl, sym, ap, ◌∙◌, subst, arith, append_assoc, length-append}
+use Rattle.std.proofs.Math.Seq.{take-append_seam}
+use Rattle.cbor_data.specs.Forms.{Place, head_in, Form, bytes_form, text_form, text_chunks, array_form, array_to_break, pairs_form, pairs_to_break, tag_form, Forms, PairForms, Chunk, forms_len, pair_forms_len, flat, forms_flat, pair_forms_flat, chunks_bytes}
+use Rattle.cbor_item.specs.declared.item.Item.{Item}
+use Rattle.cbor_value.specs.declared.head.Head.{Head}
+use Rattle.cbor_value.specs.declared.head.Head.TheVariants as head
+use Rattle.cbor_value.specs.declared.value.Unread.{Unread}
+use Rattle.cbor_value.specs.declared.value.Unread.TheVariants.{BadText, Memory}
+use Rattle.cbor_value.specs.Heads.{head_of, head_bytes, content, Stands, IsHeaded}
+use Rattle.cbor_value.specs.Strings.{IsTextRead, StandsChunks, IsTextJoined}
+use Rattle.cbor_value.specs.Items.{IsRead, IsTagRead, StandsForms, AreRead, StandsPairs, ArePairsRead}
+use Rattle.cbor_value.proofs.Places.{within, flat_some, flat_is}
+
+-- the head of every form that stands there is read so
+abbrev pub ReadsHead : List ℕ → ℕ → Head × ℕ → Type 0
+ReadsHead b at h = (f : Form) (back : List ℕ) → Stands b at f back → IsHeaded b at f back h
+
+-- the bytes of a string are there
+
+string_len : (f : Form) (h : Head) (len : ℕ) → h ≡ head_of f → (h ≡ head.Bytes len) → len ≡ length (content f)
+string_len (bytes_form p s) h len e k = cc
+string_len f h len e k = absurd (let other : head_of f ≡ head.Bytes len = sym e ∙ k in cc)
+
+text_len : (f : Form) (h : Head) (len : ℕ) → h ≡ head_of f → (h ≡ head.Text len) → len ≡ length (content f)
+text_len (text_form p s) h len e k = cc
+text_len f h len e k = absurd (let other : head_of f ≡ head.Text len = sym e ∙ k in cc)
+
+content_within : (b : List ℕ) (at : ℕ) (f : Form) (back : List ℕ) (h : Head × ℕ) → Stands b at f back → IsHeaded b at f back h → h.1 + length (content f) ≤ length b
+content_within b at f back h s headed =
+    omega (arith, headed.end, within b at (flat f) back s.is (flat_some f s.ok), ap length (flat_is f), length-append (head_bytes f) (content f))
+
+pub bytes_within : (b : List ℕ) (at : ℕ) (f : Form) (back : List ℕ) (h : Head × ℕ) (len : ℕ) → Stands b at f back → ReadsHead b at h → h.0 ≡ head.Bytes len → h.1 + len ≤ length b
+bytes_within b at f back h len s reads is =
+    let headed = reads f back s in
+    omega (arith, content_within b at f back h s headed, string_len f h.0 len headed.head is)
+
+pub text_within : (b : List ℕ) (at : ℕ) (f : Form) (back : List ℕ) (h : Head × ℕ) (len : ℕ) → Stands b at f back → ReadsHead b at h → h.0 ≡ head.Text len → h.1 + len ≤ length b
+text_within b at f back h len s reads is =
+    let headed = reads f back s in
+    omega (arith, content_within b at f back h s headed, text_len f h.0 len headed.head is)
+
+-- text strings
+
+text_form_read : (at start len : ℕ) (p : Place) (s : List ℕ) (r : Result (Item × ℕ) Unread) → start ≡ at + length (head_in p 3 (length s)) → len ≡ length s → IsTextRead s at start len r → IsRead at (text_form p s) r
+text_form_read at start len p s (Ok r) e l h = (h.2, h.0, omega (arith, h.1, length-append (head_in p 3 (length s)) s))
+text_form_read at start len p s (Err (BadText q)) e l h = (0, omega (arith, h.0), (refl, h.1))
+text_form_read at start len p s (Err Memory) e l h = tt
+
+pub text_read : (b : List ℕ) (at : ℕ) (f : Form) (back : List ℕ) (h : Head × ℕ) (len : ℕ) (r : Result (Item × ℕ) Unread) → IsHeaded b at f back h → h.0 ≡ head.Text len → IsTextRead (take len (drop h.1 b)) at h.1 len r → IsRead at f r
+text_read b at (text_form p s) back h len r headed is read =
+    let same : len ≡ length s = text_len (text_form p s) h.0 len headed.head is in
+    let held : take len (drop h.1 b) ≡ s = ap (take len) headed.behind ∙ (ap (λ k. take k (s ++ back)) same ∙ take-append_seam s back) in
+    text_form_read at h.1 len p s r headed.end same (subst (λ x. IsTextRead x at h.1 len r) held read)
+text_read b at f back h len r headed is read = absurd (let other : head_of f ≡ head.Text len = sym headed.head ∙ is in cc)
+
+text_chunks_read : (at start : ℕ) (cs : List Chunk) (r : Result (Item × ℕ) Unread) → start ≡ at + 1 → IsTextJoined start cs r → IsRead at (text_chunks cs) r
+text_chunks_read at start cs (Ok r) e h = (h.2, h.0, omega (arith, h.1, length-append (chunks_bytes 3 cs) (255 ∷ [])))
+text_chunks_read at start cs (Err (BadText q)) e h = (suc h.0, omega (arith, h.1), (h.0, refl, h.2))
+text_chunks_read at start cs (Err Memory) e h = tt
+
+pub chunks_read : (b : List ℕ) (at : ℕ) (f : Form) (back : List ℕ) (h : Head × ℕ) (r : Result (Item × ℕ) Unread) → Stands b at f back → IsHeaded b at f back h → h.0 ≡ head.TextToBreak → ((cs : List Chunk) (back : List ℕ) → StandsChunks b h.1 3 cs (255 ∷ back) → IsTextJoined h.1 cs r) → IsRead at f r
+chunks_read b at (text_chunks cs) back h r s headed is reads =
+    text_chunks_read at h.1 cs r headed.end (reads cs back (record { ok = s.ok; is = headed.behind ∙ append_assoc (chunks_bytes 3 cs) (255 ∷ []) back }))
+chunks_read b at f back h r s headed is reads = absurd (let other : head_of f ≡ head.TextToBreak = sym headed.head ∙ is in cc)
+
+-- arrays
+
+array_form_read : (at start : ℕ) (p : Place) (fs : Forms) (r : Result (Item × ℕ) Unread) → start ≡ at + length (head_in p 4 (forms_len fs)) → AreRead start 0 fs r → IsRead at (array_form p fs) r
+array_form_read at start p fs (Ok r) e h = (h.0, h.1, omega (arith, h.2, length-append (head_in p 4 (forms_len fs)) (forms_flat fs)))
+array_form_read at start p fs (Err (BadText q)) e h = (length (head_in p 4 (forms_len fs)) + h.0, omega (arith, h.1), (h.0, refl, h.2))
+array_form_read at start p fs (Err Memory) e h = tt
+
+pub array_read : (b : List ℕ) (at : ℕ) (f : Form) (back : List ℕ) (h : Head × ℕ) (len : ℕ) (r : Result (Item × ℕ) Unread) → Stands b at f back → IsHeaded b at f back h → h.0 ≡ head.Array len → ((fs : Forms) (back : List ℕ) → forms_len fs ≡ len → StandsForms b h.1 fs back → AreRead h.1 0 fs r) → IsRead at f r
+array_read b at (array_form p fs) back h len r s headed is reads =
+    let other : head.Array (forms_len fs) ≡ head.Array len = sym headed.head ∙ is in
+    let same : forms_len fs ≡ len = cc in
+    array_form_read at h.1 p fs r headed.end (reads fs back same (record { ok = s.ok.1; is = headed.behind }))
+array_read b at f back h len r s headed is reads = absurd (let other : head_of f ≡ head.Array len = sym headed.head ∙ is in cc)
+
+array_to_break_read : (at start : ℕ) (fs : Forms) (r : Result (Item × ℕ) Unread) → start ≡ at + 1 → AreRead start 1 fs r → IsRead at (array_to_break fs) r
+array_to_break_read at start fs (Ok r) e h = (h.0, h.1, omega (arith, h.2, length-append (forms_flat fs) (255 ∷ [])))
+array_to_break_read at start fs (Err (BadText q)) e h = (suc h.0, omega (arith, h.1), (h.0, refl, h.2))
+array_to_break_read at start fs (Err Memory) e h = tt
+
+pub unbroken_read : (b : List ℕ) (at : ℕ) (f : Form) (back : List ℕ) (h : Head × ℕ) (r : Result (Item × ℕ) Unread) → Stands b at f back → IsHeaded b at f back h → h.0 ≡ head.ArrayToBreak → ((fs : Forms) (back : List ℕ) → StandsForms b h.1 fs (255 ∷ back) → AreRead h.1 1 fs r) → IsRead at f r
+unbroken_read b at (array_to_break fs) back h r s headed is reads =
+    array_to_break_read at h.1 fs r headed.end (reads fs back (record { ok = s.ok; is = headed.behind ∙ append_assoc (forms_flat fs) (255 ∷ []) back }))
+unbroken_read b at f back h r s headed is reads = absurd (let other : head_of f ≡ head.ArrayToBreak = sym headed.head ∙ is in cc)
+
+-- maps
+
+pairs_form_read : (at start : ℕ) (p : Place) (ps : PairForms) (r : Result (Item × ℕ) Unread) → start ≡ at + length (head_in p 5 (pair_forms_len ps)) → ArePairsRead start 0 ps r → IsRead at (pairs_form p ps) r
+pairs_form_read at start p ps (Ok r) e h = (h.0, h.1, omega (arith, h.2, length-append (head_in p 5 (pair_forms_len ps)) (pair_forms_flat ps)))
+pairs_form_read at start p ps (Err (BadText q)) e h = (length (head_in p 5 (pair_forms_len ps)) + h.0, omega (arith, h.1), (h.0, refl, h.2))
+pairs_form_read at start p ps (Err Memory) e h = tt
+
+pub map_read : (b : List ℕ) (at : ℕ) (f : Form) (back : List ℕ) (h : Head × ℕ) (len : ℕ) (r : Result (Item × ℕ) Unread) → Stands b at f back → IsHeaded b at f back h → h.0 ≡ head.Map len → ((ps : PairForms) (back : List ℕ) → pair_forms_len ps ≡ len → StandsPairs b h.1 ps back → ArePairsRead h.1 0 ps r) → IsRead at f r
+map_read b at (pairs_form p ps) back h len r s headed is reads =
+    let other : head.Map (pair_forms_len ps) ≡ head.Map len = sym headed.head ∙ is in
+    let same : pair_forms_len ps ≡ len = cc in
+    pairs_form_read at h.1 p ps r headed.end (reads ps back same (record { ok = s.ok.1; is = headed.behind }))
+map_read b at f back h len r s headed is reads = absurd (let other : head_of f ≡ head.Map len = sym headed.head ∙ is in cc)
+
+pairs_to_break_read : (at start : ℕ) (ps : PairForms) (r : Result (Item × ℕ) Unread) → start ≡ at + 1 → ArePairsRead start 1 ps r → IsRead at (pairs_to_break ps) r
+pairs_to_break_read at start ps (Ok r) e h = (h.0, h.1, omega (arith, h.2, length-append (pair_forms_flat ps) (255 ∷ [])))
+pairs_to_break_read at start ps (Err (BadText q)) e h = (suc h.0, omega (arith, h.1), (h.0, refl, h.2))
+pairs_to_break_read at start ps (Err Memory) e h = tt
+
+pub unbroken_map_read : (b : List ℕ) (at : ℕ) (f : Form) (back : List ℕ) (h : Head × ℕ) (r : Result (Item × ℕ) Unread) → Stands b at f back → IsHeaded b at f back h → h.0 ≡ head.MapToBreak → ((ps : PairForms) (back : List ℕ) → StandsPairs b h.1 ps (255 ∷ back) → ArePairsRead h.1 1 ps r) → IsRead at f r
+unbroken_map_read b at (pairs_to_break ps) back h r s headed is reads =
+    pairs_to_break_read at h.1 ps r headed.end (reads ps back (record { ok = s.ok; is = headed.behind ∙ append_assoc (pair_forms_flat ps) (255 ∷ []) back }))
+unbroken_map_read b at f back h r s headed is reads = absurd (let other : head_of f ≡ head.MapToBreak = sym headed.head ∙ is in cc)
+
+-- tags
+
+tag_form_read : (at start : ℕ) (p : Place) (n : ℕ) (f : Form) (r : Result (Item × ℕ) Unread) → start ≡ at + length (head_in p 6 n) → IsTagRead start n f r → IsRead at (tag_form p n f) r
+tag_form_read at start p n f (Ok r) e h = (h.0, h.1, omega (arith, h.2, length-append (head_in p 6 n) (flat f)))
+tag_form_read at start p n f (Err (BadText q)) e h = (length (head_in p 6 n) + h.0, omega (arith, h.1), (h.0, refl, h.2))
+tag_form_read at start p n f (Err Memory) e h = tt
+
+pub tag_read : (b : List ℕ) (at : ℕ) (f : Form) (back : List ℕ) (h : Head × ℕ) (n : ℕ) (r : Result (Item × ℕ) Unread) → Stands b at f back → IsHeaded b at f back h → h.0 ≡ head.Tag n → ((g : Form) (back : List ℕ) → Stands b h.1 g back → IsTagRead h.1 n g r) → IsRead at f r
+tag_read b at (tag_form p m g) back h n r s headed is reads =
+    let other : head.Tag m ≡ head.Tag n = sym headed.head ∙ is in
+    let same : m ≡ n = cc in
+    tag_form_read at h.1 p m g r headed.end (subst (λ k. IsTagRead h.1 k g r) (sym same) (reads g back (record { ok = s.ok.1; is = headed.behind })))
+tag_read b at f back h n r s headed is reads = absurd (let other : head_of f ≡ head.Tag n = sym headed.head ∙ is in cc)

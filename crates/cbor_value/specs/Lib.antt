@@ -1,0 +1,4 @@
+pub mod Unread
+pub mod Heads
+pub mod Strings
+pub mod Items

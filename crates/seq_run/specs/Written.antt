@@ -1,0 +1,50 @@
+-- Items that are written out, and what reading them back gives.
+use Rattle.std.specs.Prelude.{◌≡◌, ℕ, ◌+◌, ◌≤◌, List, [], ◌∷◌, ◌++◌, length, Option, Some, None}
+use Rattle.std.specs.Io.KnownBytes as bytes
+use Rattle.cbor_data.specs.Value.{Value, depth_of}
+use Rattle.cbor_data.specs.Preferred.{preferred}
+use Rattle.cbor_data.specs.Sound.{IsSound}
+use Rattle.cbor_data.specs.Faults.{Bounds, last_offset}
+use Rattle.cbor_data.specs.Sequence.{Found}
+use Rattle.cddl_table.specs.Matches.{Matches}
+use Rattle.cddl_table.specs.declared.table.Table.{Table}
+use Rattle.seq_run.specs.declared.end.End.{End}
+use Rattle.seq_run.specs.declared.end.End.TheVariants.{Clean}
+use Rattle.seq_run.specs.Report.{report}
+
+-- The item is sound, matches, and is within the limits as it is written.
+pub record IsWritable (table : Table) (l : Bounds) (x : Value) : Type 0 where
+  pub sound : IsSound x
+  pub matches : Matches table x
+  pub shallow : depth_of x ≤ l.depth
+  pub short : length (preferred x) ≤ l.item_bytes
+
+abbrev pub AreWritable : Table → Bounds → List Value → Type 0
+AreWritable table l [] = Unit {0}
+AreWritable table l (x ∷ xs) = IsWritable table l x × AreWritable table l xs
+
+-- the items' preferred bytes, one after the other
+abbrev pub written : List Value → List ℕ
+written [] = []
+written (x ∷ xs) = preferred x ++ written xs
+
+-- the items, each with the offset of its first byte, where the first one's is o
+abbrev pub found_from : ℕ → List Value → List Found
+found_from o [] = []
+found_from o (x ∷ xs) = record { offset = o; item = x } ∷ found_from (o + length (preferred x)) xs
+
+-- all of a stream is these items
+abbrev pub clean_end : List Value → End
+clean_end items = Clean (length items) (length (written items))
+
+-- Such items, written out, and no longer than a stream may be, are this stream.
+pub record IsWrittenStream (table : Table) (l : Bounds) (items : List Value) (stream : Option (List ℕ)) : Type 0 where
+  pub writable : AreWritable table l items
+  pub short : length (written items) ≤ last_offset
+  pub is : stream ≡ Some (written items)
+
+-- The end says that all was read, no item failed, and the report that went out has these items.
+pub record IsReadBack (items : List Value) (before after : Option (List ℕ)) (end : End) (rejected : Option Value) : Type 0 where
+  pub clean : end ≡ clean_end items
+  pub accepted : rejected ≡ None
+  pub reported : bytes.Appends before after (report (found_from 0 items) (clean_end items) None)
