@@ -1,6 +1,6 @@
 -- Looking for the first repeated key in parts.
-use Rattle.std.proofs.Common.{◌≡◌, ℕ, suc, ◌+◌, ◌<◌, ◌≤◌, List, [], ◌∷◌, ◌⊎◌, inl, inr, refl, ap, ◌∙◌, arith, Result, Ok, Err}
-use Rattle.cbor_data.specs.Validity.{IsOneOf, IsRepeatedKey, IsRepeatedKeyAmong, IsRepeatedKeyAfter}
+use Rattle.std.proofs.Common.{◌≡◌, ℕ, suc, ◌+◌, ◌<◌, ◌≤◌, List, [], ◌∷◌, ◌⊎◌, inl, inr, refl, ap, ◌∙◌, subst, arith, Result, Ok, Err}
+use Rattle.cbor_data.specs.Validity.{IsOneOf, IsValid, IsRepeatedKey, IsRepeatedKeyAmong, IsRepeatedKeyAfter}
 use Rattle.cbor_data.specs.Value.{Value, uint, nint, bytes, text, array, pairs, tag, simple, float, Values, no_values, value, Pairs, no_pairs, pair, place_count, values_place_count, pairs_place_count}
 use Rattle.cbor_item.proofs.Plain.{place_some}
 use Rattle.cbor_item.specs.Walk.{Finds, Walks, WalksAmong, WalksAfter}
@@ -102,6 +102,11 @@ among_none place = (λ i h. h, omega arith)
 pub after_none : (earlier : List Value) (place : ℕ) → WalksAfter earlier no_pairs place (Ok place)
 after_none earlier place = (λ i h. h, omega arith)
 
+-- no map in the values has two equal keys
+abbrev pub AreValid : List Value → Type 0
+AreValid [] = Unit {0}
+AreValid (x ∷ xs) = IsValid x × AreValid xs
+
 -- a place in the value or behind it, from the value on
 abbrev FromValue : List Value → Value → Value → Pairs → ℕ → Type 0
 FromValue earlier k v ps = OrBehind (IsRepeatedKey v) (place_count v) (IsRepeatedKeyAfter (k ∷ earlier) ps)
@@ -137,11 +142,22 @@ after_more earlier k v ps place mid next r new h i j =
     (on (IsRepeatedKey k) (FromValue earlier k v ps) (place_count k) (place_count v + pairs_place_count ps) place mid r h
     (on (IsRepeatedKey v) (IsRepeatedKeyAfter (k ∷ earlier) ps) (place_count v) (pairs_place_count ps) mid next r i j))
 
--- or ends in its key, or in its value
-pub after_key : (earlier : List Value) (k v : Value) (ps : Pairs) (place : ℕ) (e : Unsound) → (IsOneOf earlier k → ⊥) → Walks k place (Err e) → WalksAfter earlier (pair k v ps) place (Err e)
-after_key earlier k v ps place e new h =
-    pair_split earlier k v ps place (Err e) new
-    (first (IsRepeatedKey k) (FromValue earlier k v ps) (place_count k) (place_count v + pairs_place_count ps) place e (within k) h)
+-- a key in which a repeated key is found is none of valid ones
+repeat_new : (earlier : List Value) (k : Value) (i : ℕ) → AreValid earlier → IsRepeatedKey k i → IsOneOf earlier k → ⊥
+repeat_new [] k i valid h o = o
+repeat_new (l ∷ ls) k i valid h (inl same) = valid.0 i (subst (λ x. IsRepeatedKey x i) same h)
+repeat_new (l ∷ ls) k i valid h (inr o) = repeat_new ls k i valid.1 h o
+
+-- or ends in its key, where the earlier keys are valid, or in its value
+pub after_key : (earlier : List Value) (k v : Value) (ps : Pairs) (place : ℕ) (e : Unsound) → AreValid earlier → Walks k place (Err e) → WalksAfter earlier (pair k v ps) place (Err e)
+after_key earlier k v ps place TooDeep valid h = h
+after_key earlier k v ps place BadSimple valid h = h
+after_key earlier k v ps place BadBits valid h = h
+after_key earlier k v ps place TooBig valid h = h
+after_key earlier k v ps place (Duplicate at) valid h =
+    pair_split earlier k v ps place (Err (Duplicate at)) (repeat_new earlier k h.0 valid h.2.holds)
+    (first (IsRepeatedKey k) (FromValue earlier k v ps) (place_count k) (place_count v + pairs_place_count ps) place (Duplicate at) (within k) h)
+after_key earlier k v ps place Memory valid h = tt
 
 pub after_value : (earlier : List Value) (k v : Value) (ps : Pairs) (place mid : ℕ) (e : Unsound) → (IsOneOf earlier k → ⊥) → Walks k place (Ok mid) → Walks v mid (Err e) →
     WalksAfter earlier (pair k v ps) place (Err e)

@@ -61,11 +61,12 @@ fn walk_pairs(alloc: Global, pairs: &Vec<(Item, Item)>, place: usize) -> Result<
     let mut keys = BTreeSet::new(alloc);
     let mut next = place;
     for (key, value) in pairs {
+        // Walked before it is noted, so that no set holds a key while the walk is inside that key.
+        let behind = walk(alloc, key, next)?;
         if !note_key(alloc, &mut keys, key)? {
             return Err(Unsound::Duplicate(next));
         }
-        next = walk(alloc, key, next)?;
-        next = walk(alloc, value, next)?;
+        next = walk(alloc, value, behind)?;
     }
     Ok(next)
 }

@@ -87,6 +87,39 @@ walk_pairs-returns-then-not-branch t c =
     (ends_repeated keys k v rest next (pairs_view ys) c.args.place (subst (λ ps. KnowsKeys keys ps next (pairs_view ys) c.args.place) seen c.loop-key.invariant.knows)
     (plain_spells k plain.0) (sym old ∙ c.in_ok-note_key.ensures.new))
 
+pub walk_pairs-returns-in_err-behind : goal.walk_pairs-returns-in_err-behind
+walk_pairs-returns-in_err-behind t c =
+    let ys = c.deref-key-items.result.now in
+    let p = c.loop-key-item.result in
+    let k = view p.0 in
+    let v = view p.1 in
+    let rest = pairs_view (drop (c.loop-key.key-index + 1) ys) in
+    let next = c.loop-key.next in
+    let keys = c.loop-key.keys in
+    let e = c.in_err-behind.field-0.0 in
+    let seen = pairs_view-drop ys c.loop-key.key-index p (omega arith) c.loop-key-item.is in
+    let is : c.from_residual.result ≡ Err e = search rules in
+    subst (WalksAfter [] (pairs_view c.args.pairs.now.items) c.args.place) (sym is)
+    (subst (λ zs. WalksAfter [] (pairs_view zs) c.args.place (Err e)) c.deref-key-items.ensures.value
+    (ends_in_key keys k v rest next (pairs_view ys) c.args.place e (subst (λ ps. KnowsKeys keys ps next (pairs_view ys) c.args.place) seen c.loop-key.invariant.knows)
+    c.in_err-behind.ensures))
+
+pub walk_pairs-walk-requires-in-loop-key : goal.walk_pairs-walk-requires-in-loop-key
+walk_pairs-walk-requires-in-loop-key t c =
+    let ys = c.deref-key-items.result.now in
+    let p = c.loop-key-item.result in
+    let k = view p.0 in
+    let v = view p.1 in
+    let rest = pairs_view (drop (c.loop-key.key-index + 1) ys) in
+    let next = c.loop-key.next in
+    let seen = pairs_view-drop ys c.loop-key.key-index p (omega arith) c.loop-key-item.is in
+    let plain = plain_pair k v rest (subst ArePairsPlain seen c.loop-key.invariant.plain) in
+    let less : pair_size p ≤ most (weighed-Item-Map-0-at-2.weight Item the_size) c.args.pairs.now.items = pair_size-within c.args.pairs.now.items _ c.loop-key.key-index p (omega arith) c.loop-key-item.is c.deref-key-items.ensures.value in
+    let room : next + length (preferred k ++ (preferred v ++ pairs_preferred rest)) < 2 ^ 64 = subst (λ ps. next + length (pairs_preferred ps) < 2 ^ 64) seen c.loop-key.invariant.room in
+    let after : c.in_ok-behind.behind + length (preferred v ++ pairs_preferred rest) < 2 ^ 64 =
+    room_behind next c.in_ok-behind.behind (2 ^ 64) (place_count k) (preferred k) (preferred v ++ pairs_preferred rest) c.in_ok-behind.ensures.1 (places_within k) room in
+    (omega (arith, less), (plain.1, room_first c.in_ok-behind.behind (2 ^ 64) (preferred v) (pairs_preferred rest) after))
+
 pub walk_pairs-returns-in_err-next : goal.walk_pairs-returns-in_err-next
 walk_pairs-returns-in_err-next t c =
     let ys = c.deref-key-items.result.now in
@@ -102,42 +135,8 @@ walk_pairs-returns-in_err-next t c =
     let is : c.from_residual-in_err-next.result ≡ Err e = search rules in
     subst (WalksAfter [] (pairs_view c.args.pairs.now.items) c.args.place) (sym is)
     (subst (λ zs. WalksAfter [] (pairs_view zs) c.args.place (Err e)) c.deref-key-items.ensures.value
-    (ends_in_key keys k v rest next (pairs_view ys) c.args.place e (subst (λ ps. KnowsKeys keys ps next (pairs_view ys) c.args.place) seen c.loop-key.invariant.knows)
-    (sym new ∙ c.in_ok-note_key.ensures.new) c.in_err-next.ensures))
-
-pub walk_pairs-walk-requires-in-loop-key : goal.walk_pairs-walk-requires-in-loop-key
-walk_pairs-walk-requires-in-loop-key t c =
-    let ys = c.deref-key-items.result.now in
-    let p = c.loop-key-item.result in
-    let k = view p.0 in
-    let v = view p.1 in
-    let rest = pairs_view (drop (c.loop-key.key-index + 1) ys) in
-    let next = c.loop-key.next in
-    let seen = pairs_view-drop ys c.loop-key.key-index p (omega arith) c.loop-key-item.is in
-    let plain = plain_pair k v rest (subst ArePairsPlain seen c.loop-key.invariant.plain) in
-    let less : pair_size p ≤ most (weighed-Item-Map-0-at-2.weight Item the_size) c.args.pairs.now.items = pair_size-within c.args.pairs.now.items _ c.loop-key.key-index p (omega arith) c.loop-key-item.is c.deref-key-items.ensures.value in
-    let room : next + length (preferred k ++ (preferred v ++ pairs_preferred rest)) < 2 ^ 64 = subst (λ ps. next + length (pairs_preferred ps) < 2 ^ 64) seen c.loop-key.invariant.room in
-    let after : c.in_ok-next.next + length (preferred v ++ pairs_preferred rest) < 2 ^ 64 =
-    room_behind next c.in_ok-next.next (2 ^ 64) (place_count k) (preferred k) (preferred v ++ pairs_preferred rest) c.in_ok-next.ensures.1 (places_within k) room in
-    (omega (arith, less), (plain.1, room_first c.in_ok-next.next (2 ^ 64) (preferred v) (pairs_preferred rest) after))
-
-pub walk_pairs-returns-in_err-next-2 : goal.walk_pairs-returns-in_err-next-2
-walk_pairs-returns-in_err-next-2 t c =
-    let ys = c.deref-key-items.result.now in
-    let p = c.loop-key-item.result in
-    let k = view p.0 in
-    let v = view p.1 in
-    let rest = pairs_view (drop (c.loop-key.key-index + 1) ys) in
-    let next = c.loop-key.next in
-    let keys = c.loop-key.keys in
-    let e = c.in_err-next-2.field-0.0 in
-    let seen = pairs_view-drop ys c.loop-key.key-index p (omega arith) c.loop-key-item.is in
-    let new : c.in_ok-note_key.field-0 ≡ true = search rules in
-    let is : c.from_residual-in_err-next-2.result ≡ Err e = search rules in
-    subst (WalksAfter [] (pairs_view c.args.pairs.now.items) c.args.place) (sym is)
-    (subst (λ zs. WalksAfter [] (pairs_view zs) c.args.place (Err e)) c.deref-key-items.ensures.value
-    (ends_in_value keys k v rest next c.in_ok-next.next (pairs_view ys) c.args.place e (subst (λ ps. KnowsKeys keys ps next (pairs_view ys) c.args.place) seen c.loop-key.invariant.knows)
-    (sym new ∙ c.in_ok-note_key.ensures.new) c.in_ok-next.ensures c.in_err-next-2.ensures))
+    (ends_in_value keys k v rest next c.in_ok-behind.behind (pairs_view ys) c.args.place e (subst (λ ps. KnowsKeys keys ps next (pairs_view ys) c.args.place) seen c.loop-key.invariant.knows)
+    (sym new ∙ c.in_ok-note_key.ensures.new) c.in_ok-behind.ensures c.in_err-next.ensures))
 
 pub walk_pairs-loop-key-preserved : goal.walk_pairs-loop-key-preserved
 walk_pairs-loop-key-preserved t c =
@@ -152,15 +151,15 @@ walk_pairs-loop-key-preserved t c =
     let plain = plain_pair k v rest (subst ArePairsPlain seen c.loop-key.invariant.plain) in
     let new : c.in_ok-note_key.field-0 ≡ true = search rules in
     let room : next + length (preferred k ++ (preferred v ++ pairs_preferred rest)) < 2 ^ 64 = subst (λ ps. next + length (pairs_preferred ps) < 2 ^ 64) seen c.loop-key.invariant.room in
-    let after : c.in_ok-next.next + length (preferred v ++ pairs_preferred rest) < 2 ^ 64 =
-    room_behind next c.in_ok-next.next (2 ^ 64) (place_count k) (preferred k) (preferred v ++ pairs_preferred rest) c.in_ok-next.ensures.1 (places_within k) room in
+    let after : c.in_ok-behind.behind + length (preferred v ++ pairs_preferred rest) < 2 ^ 64 =
+    room_behind next c.in_ok-behind.behind (2 ^ 64) (place_count k) (preferred k) (preferred v ++ pairs_preferred rest) c.in_ok-behind.ensures.1 (places_within k) room in
     record {
       plain = plain.2;
-      room = room_behind c.in_ok-next.next c.in_ok-next-2.next (2 ^ 64) (place_count v) (preferred v) (pairs_preferred rest) c.in_ok-next-2.ensures.1 (places_within v) after;
+      room = room_behind c.in_ok-behind.behind c.in_ok-next.next (2 ^ 64) (place_count v) (preferred v) (pairs_preferred rest) c.in_ok-next.ensures.1 (places_within v) after;
       knows =
-          knows_more keys c.note_key.new.keys k v rest next c.in_ok-next.next c.in_ok-next-2.next (pairs_view ys) c.args.place
+          knows_more keys c.note_key.new.keys k v rest next c.in_ok-behind.behind c.in_ok-next.next (pairs_view ys) c.args.place
           (subst (λ ps. KnowsKeys keys ps next (pairs_view ys) c.args.place) seen c.loop-key.invariant.knows)
-          (plain_spells k plain.0) (sym new ∙ c.in_ok-note_key.ensures.new) c.in_ok-note_key.ensures.noted c.in_ok-next.ensures c.in_ok-next-2.ensures;
+          (plain_spells k plain.0) (sym new ∙ c.in_ok-note_key.ensures.new) c.in_ok-note_key.ensures.noted c.in_ok-behind.ensures c.in_ok-next.ensures;
     }
 
 pub walk_pairs-returns : goal.walk_pairs-returns
