@@ -89,9 +89,16 @@ mutual
   pair_forms_length no_pair_forms = omega arith
   pair_forms_length (pair_form k v ps) =
       let rest = pairs_preferred (pair_meanings ps) in
-      omega (arith, form_length k, form_length v, pair_forms_length ps,
-      length-append (preferred (meaning k)) (preferred (meaning v) ++ rest), length-append (preferred (meaning v)) rest,
-      length-append (flat k) (flat v ++ pair_forms_flat ps), length-append (flat v) (pair_forms_flat ps))
+      omega (
+        arith,
+        form_length k,
+        form_length v,
+        pair_forms_length ps,
+        length-append (preferred (meaning k)) (preferred (meaning v) ++ rest),
+        length-append (preferred (meaning v)) rest,
+        length-append (flat k) (flat v ++ pair_forms_flat ps),
+        length-append (flat v) (pair_forms_flat ps),
+      )
 
 -- no spelling is shorter than a ninth of the preferred bytes
 pub preferred_len : (x : Value) (b : List ℕ) → Spells x b → length (preferred x) ≤ 9 * length b

@@ -90,8 +90,8 @@ reads_back table l stream before after end rejected items r w h is =
       clean = clean;
       accepted = none;
       reported = subst (λ (v : Option Value). bytes.Appends before after (report (found_from 0 items) (clean_end items) v)) none
-      (subst (λ (f : End). bytes.Appends before after (report (found_from 0 items) f rejected)) clean
-      (subst (λ (fs : List Found). bytes.Appends before after (report fs end rejected)) one.0 r.written));
+          (subst (λ (f : End). bytes.Appends before after (report (found_from 0 items) f rejected)) clean
+          (subst (λ (fs : List Found). bytes.Appends before after (report fs end rejected)) one.0 r.written));
     }
 
 pub read_back : (table : Table) (l : Bounds) (stream before after : Option (List ℕ)) (end : End) (rejected : Option Value) →
