@@ -1,23 +1,33 @@
 #!/usr/bin/env python3
 """Measures the built program on streams of two sizes, and prints a table.
 
-    run.py PROGRAM [--mib N]     the first size, 16 MiB if left out; the second is twice that
+    run.py PROGRAM [--mib N] [--only TEXT]
 
-Each stream goes through a pipe into 'PROGRAM validate SPEC', whose report goes to /dev/null, and into 'cat'. The two
-programs and the two sizes take turns, three times at least and up to fifteen times where the runs are short; the best
-time of each counts. The columns:
+Each stream goes through a pipe into 'PROGRAM validate SPEC', whose report goes to /dev/null, into 'cat', and where its
+items have many parts into two stock readers. All of these and the two sizes take turns, three times at least and up to
+fifteen times where the runs are short; the best time of each counts. The columns:
 
-  MiB/s    of the stream, for the program and for cat
-  ratio    the program's time over cat's
-  growth   the program's processor time for the second size over that for the first, which other work on the machine
-           disturbs less: 2 where the cost grows with the size alone
-  peak     the most memory that lay in RAM for the program (VmHWM), in a run of its own that is looked at while the
-           program waits behind the last byte
+  MiB/s     of the stream, for the program and for cat
+  ratio     the program's time over cat's
+  to cbor2  the program's time over that of Python's cbor2 (Debian's python3-cbor2), which decodes the same stream
+  to json   the program's time over that of Python's json, which decodes the same data as lines of JSON
+  growth    the program's processor time for the second size over that for the first, which other work on the machine
+            disturbs less: 2 where the cost grows with the size alone
+  peak      the most memory that lay in RAM for the program (VmHWM), in a run of its own that is looked at while the
+            program waits behind the last byte
+  per byte  the peak over the bytes of an item, where an item has 64 KiB at least
 
-What writes into the pipe is 'cat FILE', and for pieces of one byte 'dd bs=1', at a sixteenth of the sizes: a writer that
-hands on one byte at a time is what takes the time there, for cat as for the program. The report has a line for each
-item, so small numbers make some 25 bytes of output from each byte of input.
-The streams are made in bench/data. The status is 1 where a growth is outside 1.5 to 2.6.
+The stock readers only decode, each item into Python's objects, and print nothing. What they take for an empty stream,
+which is Python's start, is taken off their times. 'short': less than a tenth of that start is left; 'absent': there is
+no such reader; 'fails': it doesn't get through; '-': it isn't asked, as where JSON has no such data.
+
+What writes into the pipe is 'cat FILE', and for pieces of one byte 'dd bs=1', at a sixteenth of the sizes: a writer
+that hands on one byte at a time is what takes the time there, for cat as for the program. The report has a line for
+each item, so small numbers make some 25 bytes of output from each byte of input.
+
+--mib is the first size of the streams of strings and of single numbers, 16 if left out; the second is twice that. The
+other streams' sizes change with it; since an item may have 16 MiB, N is at most 128. --only takes the streams whose
+name has TEXT. The streams are made in bench/data. The status is 1 where a growth is outside 1.5 to 2.6.
 """
 import argparse
 import os
@@ -25,53 +35,30 @@ import subprocess
 import sys
 import time
 
-DATA = os.path.join(os.path.dirname(os.path.abspath(__file__)), "data")
-MIB = 1 << 20
+from streams import DATA, MIB, STREAMS
+
 RUNS, MOST_RUNS, SECONDS = 3, 15, 5
 LEAST, MOST = 1.5, 2.6
+LONG_ITEM = 1 << 16
+SHORT = 0.1
 
-
-def text_of_one_mib():
-    text = "aé€" * (MIB // 6)
-    return (text + "a" * (MIB - len(text.encode()))).encode()
-
-
-def small_numbers(size):
-    return bytes(range(24)), size // 24
-
-
-def short_strings(size):
-    return b"\x50" + bytes(range(0xa0, 0xb0)), size // 16
-
-
-def long_strings(size):
-    return b"\x5a" + MIB.to_bytes(4, "big") + bytes(range(256)) * (MIB // 256), size // MIB
-
-
-def long_texts(size):
-    return b"\x7a" + MIB.to_bytes(4, "big") + text_of_one_mib(), size // MIB
-
-
-# name, type asked for, what the stream repeats, part of the size, what writes it into the pipe
-CASES = [
-    ("numbers from 0 to 23", "uint", small_numbers, 1, ["cat"]),
-    ("byte strings of 16 bytes", "bstr", short_strings, 1, ["cat"]),
-    ("byte strings of 1 MiB", "bstr", long_strings, 1, ["cat"]),
-    ("texts of 1 MiB", "tstr", long_texts, 1, ["cat"]),
-    ("numbers, in pieces of one byte", "uint", small_numbers, 16, ["dd", "bs=1", "status=none"]),
-]
-
-
-def made(make, size):
-    """The file of a stream, which is made where it isn't there yet."""
-    path = os.path.join(DATA, f"{make.__name__}-{size}.cborseq")
-    if not os.path.exists(path):
-        unit, count = make(size)
-        with open(path + ".part", "wb") as file:
-            for _ in range(count):
-                file.write(unit)
-        os.replace(path + ".part", path)
-    return path
+# for each stock reader what it reads, and how: a script for this Python, or else for that of the system's packages
+READERS = {
+    "cbor2": ("cbor", """
+import cbor2, sys
+decoder = cbor2.CBORDecoder(sys.stdin.buffer)
+try:
+    while True:
+        decoder.decode()
+except EOFError:
+    pass
+"""),
+    "json": ("json", """
+import json, sys
+for line in sys.stdin.buffer:
+    json.loads(line)
+"""),
+}
 
 
 def seconds(writer, path, reader):
@@ -97,7 +84,7 @@ def is_waiting(process):
 
 
 def peak(path, reader):
-    """The most RAM that the reader had up to the stream's end, in MiB."""
+    """The most bytes of RAM that the reader had up to the stream's end."""
     reading = subprocess.Popen(reader, stdin=subprocess.PIPE, stdout=subprocess.DEVNULL)
     with open(path, "rb") as file:
         while piece := file.read(1 << 16):
@@ -112,31 +99,77 @@ def peak(path, reader):
     reading.stdin.close()
     if reading.wait():
         raise SystemExit(f"{' '.join(reader)} failed on {path}")
-    return int(line.split()[1]) / 1024
+    return int(line.split()[1]) * 1024
 
 
-def best_times(writer, paths, reader):
-    """For each path the best time of the reader, its best processor time, and the best time of cat."""
+def least(pairs):
+    return tuple(map(min, zip(*pairs)))
+
+
+def best_times(sizes):
+    """For each size and each of its jobs, which is a writer, a path and a reader, the best time and processor time."""
     runs, start = [], time.monotonic()
     while len(runs) < RUNS or (len(runs) < MOST_RUNS and time.monotonic() - start < SECONDS):
-        runs.append([(*seconds(writer, path, reader), seconds(writer, path, ["cat"])[0]) for path in paths])
-    return [tuple(min(column) for column in zip(*of_path)) for of_path in zip(*runs)]
+        runs.append([{name: seconds(*job) for name, job in jobs.items()} for jobs in sizes])
+    return [{name: least(it[name] for it in of_size) for name in of_size[0]} for of_size in zip(*runs)]
 
 
-def measured(program, case, sizes):
+def gets_through(path, reader):
+    with open(path, "rb") as file:
+        reading = subprocess.run(reader, stdin=file, stdout=subprocess.DEVNULL, stderr=subprocess.DEVNULL)
+    return reading.returncode == 0
+
+
+def readers_there():
+    """For each stock reader that is there its command, and its time for an empty stream."""
+    there = {}
+    for name, (_, script) in READERS.items():
+        for python in (sys.executable, "/usr/bin/python3"):
+            command = [python, "-c", script]
+            if name not in there and os.path.exists(python) and gets_through(os.devnull, command):
+                there[name] = command, min(seconds(["cat"], os.devnull, command)[0] for _ in range(MOST_RUNS))
+    return there
+
+
+def jobs_of(stream, files, program, there):
+    """What takes turns on a stream of one size, by name: the program, cat, and the stock readers that get through."""
+    jobs = {name: (stream.writer, files["cbor"], reader) for name, reader in (("program", program), ("cat", ["cat"]))}
+    for name in stream.readers:
+        path = files[READERS[name][0]]
+        if name in there and gets_through(path, there[name][0]):
+            jobs[name] = stream.writer, path, there[name][0]
+    return jobs
+
+
+def ratio_to(name, stream, times, there):
+    """What the table shows for a stock reader."""
+    if name not in stream.readers:
+        return "-"
+    if name not in there:
+        return "absent"
+    if name not in times:
+        return "fails"
+    start = there[name][1]
+    decoding = times[name][0] - start
+    return "short" if decoding < SHORT * start else f"{times['program'][0] / decoding:.2f}"
+
+
+def measured(program, stream, part, there):
     """Prints a line for each size, and returns the growth."""
-    name, kind, make, part, writer = case
-    paths = [made(make, size // part) for size in sizes]
-    spec = os.path.join(DATA, f"{kind}.cddl")
+    spec = os.path.join(DATA, f"{stream.kind}.cddl")
     with open(spec, "w", encoding="ascii") as file:
-        file.write(f"item = {kind}\n")
+        file.write(f"item = {stream.kind}\n")
     reader = [program, "validate", spec]
-    times = best_times(writer, paths, reader)
-    growth = times[1][1] / times[0][1]
-    for path, (taken, _, of_cat), shown in zip(paths, times, ("", f"{growth:.2f}")):
-        mib = os.path.getsize(path) / MIB
-        print(f"{name:32}{mib:7.1f}{mib / taken:9.1f}{mib / of_cat:11.1f}{taken / of_cat:8.1f}{shown:>8}"
-              f"{peak(path, reader):10.1f}", flush=True)
+    written = [stream.written(int(stream.first * part) * turn) for turn in (1, 2)]
+    times = best_times([jobs_of(stream, files, reader, there) for files, _ in written])
+    growth = times[1]["program"][1] / times[0]["program"][1]
+    for (files, item), of_size, shown in zip(written, times, ("", f"{growth:.2f}")):
+        mib, most = os.path.getsize(files["cbor"]) / MIB, peak(files["cbor"], reader)
+        taken, of_cat = of_size["program"][0], of_size["cat"][0]
+        ratios = [ratio_to(name, stream, of_size, there) for name in READERS]
+        per_byte = f"{most / item:.1f}" if item >= LONG_ITEM else "-"
+        print(f"{stream.name:32}{mib:7.1f}{mib / taken:9.1f}{mib / of_cat:11.1f}{taken / of_cat:8.1f}"
+              + "".join(f"{cell:>10}" for cell in (*ratios, shown, f"{most / MIB:.1f}", per_byte)), flush=True)
     return growth
 
 
@@ -144,11 +177,16 @@ def main():
     words = argparse.ArgumentParser(description="Measures the built program.")
     words.add_argument("program")
     words.add_argument("--mib", type=int, default=16, help="the first size in MiB")
+    words.add_argument("--only", default="", metavar="TEXT", help="only the streams whose name has this text")
     given = words.parse_args()
-    sizes = given.mib * MIB, 2 * given.mib * MIB
+    streams = [it for it in STREAMS if given.only in it.name]
+    if not streams:
+        words.error(f"no stream's name has {given.only!r}")
     os.makedirs(DATA, exist_ok=True)
-    print(f"{'stream':32}{'MiB':>7}{'MiB/s':>9}{'cat MiB/s':>11}{'ratio':>8}{'growth':>8}{'peak MiB':>10}")
-    growths = [measured(os.path.abspath(given.program), case, sizes) for case in CASES]
+    there = readers_there()
+    print(f"{'stream':32}{'MiB':>7}{'MiB/s':>9}{'cat MiB/s':>11}{'ratio':>8}"
+          + "".join(f"{f'to {name}':>10}" for name in READERS) + f"{'growth':>10}{'peak MiB':>10}{'per byte':>10}")
+    growths = [measured(os.path.abspath(given.program), stream, given.mib / 16, there) for stream in streams]
     is_even = all(LEAST <= it <= MOST for it in growths)
     print("each growth is 2 within noise" if is_even else f"a growth is outside {LEAST} to {MOST}")
     return 0 if is_even else 1
