@@ -105,17 +105,27 @@ fn performed(
     })
 }
 
-static VALIDATE: [&str; 3] = ["cddlseq", "validate", "spec"];
+// Which words the program is called with.
+#[derive(Clone, Copy)]
+enum Call {
+    Validate,
+    ValidateShort,
+    Show,
+    ShowShallow,
+}
 
-static SHOW: [&str; 2] = ["cddlseq", "show"];
+fn words_of(call: Call) -> &'static [&'static str] {
+    match call {
+        Call::Validate => &["cddlseq", "validate", "spec"],
+        Call::ValidateShort => &["cddlseq", "validate", "--item-bytes=3", "--", "spec"],
+        Call::Show => &["cddlseq", "show"],
+        Call::ShowShallow => &["cddlseq", "show", "--depth", "1", "--item-bytes", "1"],
+    }
+}
 
-static SHALLOW: [&str; 6] = ["cddlseq", "show", "--depth", "1", "--item-bytes", "1"];
-
-static SHORT: [&str; 5] = ["cddlseq", "validate", "--item-bytes=3", "--", "spec"];
-
-// Words, specification, stream, standard output, standard error, status.
+// Call, specification, stream, standard output, standard error, status.
 type Row = (
-    &'static [&'static str],
+    Call,
     &'static [u8],
     &'static [u8],
     &'static [u8],
@@ -125,7 +135,7 @@ type Row = (
 
 static ROWS: [Row; 47] = [
     (
-        VALIDATE.as_slice(),
+        Call::Validate,
         b"a = uint",
         b"",
         b"clean: 0 items, 0 bytes\n",
@@ -133,7 +143,7 @@ static ROWS: [Row; 47] = [
         0,
     ),
     (
-        VALIDATE.as_slice(),
+        Call::Validate,
         b"a = nint",
         b"\x3b\xff\xff\xff\xff\xff\xff\xff\xff",
         b"item 1 at 0: -18446744073709551616\nclean: 1 items, 9 bytes\n",
@@ -141,7 +151,7 @@ static ROWS: [Row; 47] = [
         0,
     ),
     (
-        VALIDATE.as_slice(),
+        Call::Validate,
         b"a = uint",
         b"\x17\x18\x18",
         b"item 1 at 0: 23\nitem 2 at 1: 24\nclean: 2 items, 3 bytes\n",
@@ -149,7 +159,7 @@ static ROWS: [Row; 47] = [
         0,
     ),
     (
-        VALIDATE.as_slice(),
+        Call::Validate,
         b"a = uint",
         b"\x17\x18\x18\x20",
         b"item 1 at 0: 23\nitem 2 at 1: 24\nfailed: 2 items, offset 3: mismatch at $: -1\n",
@@ -157,7 +167,7 @@ static ROWS: [Row; 47] = [
         1,
     ),
     (
-        VALIDATE.as_slice(),
+        Call::Validate,
         b"s = tstr",
         b"\x61\x61\x40",
         b"item 1 at 0: \"a\"\nfailed: 1 items, offset 2: mismatch at $: h''\n",
@@ -165,7 +175,7 @@ static ROWS: [Row; 47] = [
         1,
     ),
     (
-        VALIDATE.as_slice(),
+        Call::Validate,
         b"s = tstr",
         b"\x63\x61\x62",
         b"failed: 0 items, offset 0: truncated at byte 3\n",
@@ -173,7 +183,7 @@ static ROWS: [Row; 47] = [
         1,
     ),
     (
-        VALIDATE.as_slice(),
+        Call::Validate,
         b"s = tstr",
         b"\x61\xff",
         b"failed: 0 items, offset 0: text is not UTF-8 at byte 0\n",
@@ -181,7 +191,7 @@ static ROWS: [Row; 47] = [
         1,
     ),
     (
-        VALIDATE.as_slice(),
+        Call::Validate,
         b"a = uint",
         b"\x1c",
         b"failed: 0 items, offset 0: reserved additional information at byte 0\n",
@@ -189,7 +199,7 @@ static ROWS: [Row; 47] = [
         1,
     ),
     (
-        VALIDATE.as_slice(),
+        Call::Validate,
         b"a = uint",
         b"\x1f",
         b"failed: 0 items, offset 0: indefinite length not allowed at byte 0\n",
@@ -197,7 +207,7 @@ static ROWS: [Row; 47] = [
         1,
     ),
     (
-        VALIDATE.as_slice(),
+        Call::Validate,
         b"a = uint",
         b"\x80",
         b"failed: 0 items, offset 0: mismatch at $: []\n",
@@ -205,7 +215,7 @@ static ROWS: [Row; 47] = [
         1,
     ),
     (
-        VALIDATE.as_slice(),
+        Call::Validate,
         b"a = uint",
         b"\x01\x9f",
         b"item 1 at 0: 1\nfailed: 1 items, offset 1: truncated at byte 2\n",
@@ -213,7 +223,7 @@ static ROWS: [Row; 47] = [
         1,
     ),
     (
-        VALIDATE.as_slice(),
+        Call::Validate,
         b"b = bstr",
         b"\x5f\xff",
         b"item 1 at 0: h''\nclean: 1 items, 2 bytes\n",
@@ -221,7 +231,7 @@ static ROWS: [Row; 47] = [
         0,
     ),
     (
-        VALIDATE.as_slice(),
+        Call::Validate,
         b"a = uint",
         b"\xff",
         b"failed: 0 items, offset 0: break not allowed at byte 0\n",
@@ -229,7 +239,7 @@ static ROWS: [Row; 47] = [
         1,
     ),
     (
-        VALIDATE.as_slice(),
+        Call::Validate,
         b"a = int",
         b"",
         b"",
@@ -237,7 +247,7 @@ static ROWS: [Row; 47] = [
         2,
     ),
     (
-        VALIDATE.as_slice(),
+        Call::Validate,
         b"uint = uint",
         b"",
         b"",
@@ -245,7 +255,7 @@ static ROWS: [Row; 47] = [
         2,
     ),
     (
-        VALIDATE.as_slice(),
+        Call::Validate,
         b"any = any",
         b"",
         b"",
@@ -253,7 +263,7 @@ static ROWS: [Row; 47] = [
         2,
     ),
     (
-        VALIDATE.as_slice(),
+        Call::Validate,
         b"a = uint a = uint",
         b"",
         b"",
@@ -261,7 +271,7 @@ static ROWS: [Row; 47] = [
         2,
     ),
     (
-        VALIDATE.as_slice(),
+        Call::Validate,
         b"a = [uint]",
         b"",
         b"",
@@ -269,7 +279,7 @@ static ROWS: [Row; 47] = [
         2,
     ),
     (
-        VALIDATE.as_slice(),
+        Call::Validate,
         b"",
         b"",
         b"",
@@ -277,7 +287,7 @@ static ROWS: [Row; 47] = [
         2,
     ),
     (
-        VALIDATE.as_slice(),
+        Call::Validate,
         b"a1 = uint",
         b"",
         b"",
@@ -285,7 +295,7 @@ static ROWS: [Row; 47] = [
         2,
     ),
     (
-        VALIDATE.as_slice(),
+        Call::Validate,
         b"a = uint ; c",
         b"",
         b"",
@@ -293,7 +303,7 @@ static ROWS: [Row; 47] = [
         2,
     ),
     (
-        VALIDATE.as_slice(),
+        Call::Validate,
         b"a  \n= \n\n uint",
         b"",
         b"clean: 0 items, 0 bytes\n",
@@ -301,7 +311,7 @@ static ROWS: [Row; 47] = [
         0,
     ),
     (
-        VALIDATE.as_slice(),
+        Call::Validate,
         b"name=uint\n",
         b"",
         b"clean: 0 items, 0 bytes\n",
@@ -309,7 +319,7 @@ static ROWS: [Row; 47] = [
         0,
     ),
     (
-        VALIDATE.as_slice(),
+        Call::Validate,
         b"a = any",
         b"\x5f\x41\x01\x61\x61\xff",
         b"failed: 0 items, offset 0: bad chunk at byte 3\n",
@@ -317,7 +327,7 @@ static ROWS: [Row; 47] = [
         1,
     ),
     (
-        VALIDATE.as_slice(),
+        Call::Validate,
         b"a = any",
         b"\x01\x02\xf8\x10",
         b"item 1 at 0: 1\nitem 2 at 1: 2\nfailed: 2 items, offset 2: bad simple value at byte 3\n",
@@ -325,7 +335,7 @@ static ROWS: [Row; 47] = [
         1,
     ),
     (
-        VALIDATE.as_slice(),
+        Call::Validate,
         b"a = any",
         b"\x01\x82\x01",
         b"item 1 at 0: 1\nfailed: 1 items, offset 1: truncated at byte 3\n",
@@ -333,7 +343,7 @@ static ROWS: [Row; 47] = [
         1,
     ),
     (
-        VALIDATE.as_slice(),
+        Call::Validate,
         b"a = any",
         b"\xa2\x01\x02\x18\x01\x03",
         b"failed: 0 items, offset 0: duplicate key at place 3\n",
@@ -341,7 +351,7 @@ static ROWS: [Row; 47] = [
         1,
     ),
     (
-        SHORT.as_slice(),
+        Call::ValidateShort,
         b"a = any",
         b"\x83\x01\x02\x03",
         b"failed: 0 items, offset 0: item too long at byte 3\n",
@@ -349,7 +359,7 @@ static ROWS: [Row; 47] = [
         1,
     ),
     (
-        SHORT.as_slice(),
+        Call::ValidateShort,
         b"a = any",
         b"\x83\x01\x02",
         b"failed: 0 items, offset 0: item too long at byte 3\n",
@@ -357,7 +367,7 @@ static ROWS: [Row; 47] = [
         1,
     ),
     (
-        SHORT.as_slice(),
+        Call::ValidateShort,
         b"a = any",
         b"\x83\x01\x02\xff",
         b"failed: 0 items, offset 0: break not allowed at byte 3\n",
@@ -365,7 +375,7 @@ static ROWS: [Row; 47] = [
         1,
     ),
     (
-        VALIDATE.as_slice(),
+        Call::Validate,
         b"a = any",
         b"\x7f\x61\xc3\x61\xa9\xff",
         b"failed: 0 items, offset 0: text is not UTF-8 at byte 1\n",
@@ -373,7 +383,7 @@ static ROWS: [Row; 47] = [
         1,
     ),
     (
-        VALIDATE.as_slice(),
+        Call::Validate,
         b"a = any",
         b"\x9b\xff\xff\xff\xff\xff\xff\xff\xff",
         b"failed: 0 items, offset 0: truncated at byte 9\n",
@@ -381,7 +391,7 @@ static ROWS: [Row; 47] = [
         1,
     ),
     (
-        SHOW.as_slice(),
+        Call::Show,
         b"ignored",
         b"\x9f\x01\xbf\x61\x61\xff",
         b"failed: 0 items, offset 0: break not allowed at byte 5\n",
@@ -389,7 +399,7 @@ static ROWS: [Row; 47] = [
         1,
     ),
     (
-        SHOW.as_slice(),
+        Call::Show,
         b"ignored",
         b"\xc1\xff",
         b"failed: 0 items, offset 0: break not allowed at byte 1\n",
@@ -397,7 +407,7 @@ static ROWS: [Row; 47] = [
         1,
     ),
     (
-        SHOW.as_slice(),
+        Call::Show,
         b"ignored",
         b"\x5f\x5c",
         b"failed: 0 items, offset 0: reserved additional information at byte 1\n",
@@ -405,7 +415,7 @@ static ROWS: [Row; 47] = [
         1,
     ),
     (
-        SHOW.as_slice(),
+        Call::Show,
         b"ignored",
         b"\x5f\x7c",
         b"failed: 0 items, offset 0: bad chunk at byte 1\n",
@@ -413,7 +423,7 @@ static ROWS: [Row; 47] = [
         1,
     ),
     (
-        SHOW.as_slice(),
+        Call::Show,
         b"ignored",
         b"\x5f\x41\x01\x5f",
         b"failed: 0 items, offset 0: bad chunk at byte 3\n",
@@ -421,7 +431,7 @@ static ROWS: [Row; 47] = [
         1,
     ),
     (
-        SHOW.as_slice(),
+        Call::Show,
         b"ignored",
         b"\x7f\x61\x61\x60\x61\x62\xff",
         b"item 1 at 0: \"ab\"\nclean: 1 items, 7 bytes\n",
@@ -429,7 +439,7 @@ static ROWS: [Row; 47] = [
         0,
     ),
     (
-        SHOW.as_slice(),
+        Call::Show,
         b"ignored",
         b"\xbf\x01\x9f\x02\xff\xc0\x60\xf4\xff",
         b"item 1 at 0: {1: [2], 0(\"\"): false}\nclean: 1 items, 9 bytes\n",
@@ -437,7 +447,7 @@ static ROWS: [Row; 47] = [
         0,
     ),
     (
-        SHOW.as_slice(),
+        Call::Show,
         b"ignored",
         b"\x82\x61\xff\x1c",
         b"failed: 0 items, offset 0: reserved additional information at byte 3\n",
@@ -445,7 +455,7 @@ static ROWS: [Row; 47] = [
         1,
     ),
     (
-        SHOW.as_slice(),
+        Call::Show,
         b"ignored",
         b"\x82\x61\xff\x00",
         b"failed: 0 items, offset 0: text is not UTF-8 at byte 1\n",
@@ -453,7 +463,7 @@ static ROWS: [Row; 47] = [
         1,
     ),
     (
-        SHOW.as_slice(),
+        Call::Show,
         b"ignored",
         b"\x82\x61\xff",
         b"failed: 0 items, offset 0: truncated at byte 3\n",
@@ -461,7 +471,7 @@ static ROWS: [Row; 47] = [
         1,
     ),
     (
-        SHOW.as_slice(),
+        Call::Show,
         b"ignored",
         b"\xa3\x01\x00\x01\x00\x61\xff\x00",
         b"failed: 0 items, offset 0: text is not UTF-8 at byte 5\n",
@@ -469,7 +479,7 @@ static ROWS: [Row; 47] = [
         1,
     ),
     (
-        SHALLOW.as_slice(),
+        Call::ShowShallow,
         b"ignored",
         b"\x81\x80",
         b"failed: 0 items, offset 0: too deep at byte 1\n",
@@ -477,7 +487,7 @@ static ROWS: [Row; 47] = [
         1,
     ),
     (
-        SHOW.as_slice(),
+        Call::Show,
         b"ignored",
         b"\xa2\xa2\x01\x02\x03\x04\x00\xa2\x03\x04\x01\x02\x00",
         b"item 1 at 0: {{1: 2, 3: 4}: 0, {3: 4, 1: 2}: 0}\nclean: 1 items, 13 bytes\n",
@@ -485,7 +495,7 @@ static ROWS: [Row; 47] = [
         0,
     ),
     (
-        SHOW.as_slice(),
+        Call::Show,
         b"ignored",
         b"\xf9\x3c\x00\xfa\x00\x00\x00\x01\xfb\x7f\xf0\x00\x00\x00\x00\x00\x00",
         b"item 1 at 0: f16'3c00'\nitem 2 at 3: f32'00000001'\nitem 3 at 8: f64'7ff0000000000000'\nclean: 3 items, 17 bytes\n",
@@ -493,7 +503,7 @@ static ROWS: [Row; 47] = [
         0,
     ),
     (
-        SHOW.as_slice(),
+        Call::Show,
         b"ignored",
         b"\xf5\xf6\xf7\xe0\xf8\xff",
         b"item 1 at 0: true\nitem 2 at 1: null\nitem 3 at 2: undefined\nitem 4 at 3: simple(0)\nitem 5 at 4: simple(255)\nclean: 5 items, 6 bytes\n",
@@ -505,7 +515,7 @@ static ROWS: [Row; 47] = [
 #[test]
 fn answers_the_rows_at_every_cut(rt: HostRuntime) -> Result<(), Fail> {
     let alloc = rt.alloc();
-    for (words, spec, stream, out, err, status) in ROWS.iter() {
+    for (call, spec, stream, out, err, status) in ROWS.iter() {
         for cut in 0..stream.len() + 1 {
             let source = Source {
                 bytes: stream,
@@ -517,7 +527,7 @@ fn answers_the_rows_at_every_cut(rt: HostRuntime) -> Result<(), Fail> {
                 room: 1000,
                 fails: true,
             };
-            let outcome = performed(alloc, words, spec, source, sink)?;
+            let outcome = performed(alloc, words_of(*call), spec, source, sink)?;
             assert_eq!(rt; outcome.status, *status);
             assert!(rt; outcome.out.as_slice() == *out);
             assert!(rt; outcome.err.as_slice() == *err);
@@ -550,7 +560,7 @@ fn tells_of_a_reader_that_fails(rt: HostRuntime) -> Result<(), Fail> {
             room: 1000,
             fails: true,
         };
-        let outcome = performed(alloc, VALIDATE.as_slice(), b"a = uint", source, sink)?;
+        let outcome = performed(alloc, words_of(Call::Validate), b"a = uint", source, sink)?;
         assert_eq!(rt; outcome.status, 3);
         assert!(rt; outcome.out.as_slice() == *out);
         assert!(rt; outcome.err.as_slice() == *err);
@@ -574,7 +584,7 @@ fn tells_of_a_writer_that_fails(rt: HostRuntime) -> Result<(), Fail> {
                 room,
                 fails,
             };
-            let outcome = performed(alloc, VALIDATE.as_slice(), b"a = uint", source, sink)?;
+            let outcome = performed(alloc, words_of(Call::Validate), b"a = uint", source, sink)?;
             let line = format!(in alloc; "write failed after {room} bytes\n")?;
             assert_eq!(rt; outcome.status, 3);
             assert!(rt; outcome.out.as_slice() == &whole[..room]);
