@@ -1,5 +1,5 @@
 -- Bytes are the beginning of at most one written form, so no spelling begins another.
-use Rattle.std.proofs.Common.{◌≡◌, ℕ, zero, suc, ◌+◌, ◌*◌, ◌/◌, ◌%◌, ◌<◌, ◌≤◌, ◌^◌, List, [], ◌∷◌, ◌++◌, length, nat_lt, cond, ◌==◌, Bool, true, false, refl, sym, ap, ap₂, ◌∙◌, subst, arith, append_assoc}
+use Rattle.std.proofs.Common.{◌≡◌, ℕ, zero, suc, ◌/◌, ◌%◌, ◌<◌, List, [], ◌∷◌, ◌++◌, length, nat_lt, cond, ◌==◌, true, false, refl, sym, ap, ap₂, ◌∙◌, subst, arith, append_assoc, append-nil, length-append}
 use Rattle.std.specs.Int.{to_be_bytes, from_be_bytes, w8, w16, w32, w64, Width as NumberWidth}
 use Rattle.std.proofs.lemmas.Nat.{from_be_bytes-to_be_bytes_2, from_be_bytes-to_be_bytes_4, from_be_bytes-to_be_bytes_8}
 use Rattle.std.proofs.lemmas.Bool.Decides.{nat_tests}
@@ -7,7 +7,7 @@ use Rattle.cbor_data.specs.declared.Width.{Width}
 use Rattle.cbor_data.specs.declared.Width.TheVariants.{W16, W32, W64}
 use Rattle.cbor_data.specs.Value.{Value, FitsWidth}
 use Rattle.cbor_data.specs.Preferred.{initial, float_bytes}
-use Rattle.cbor_data.specs.Forms.{Place, inside, one, two, four, eight, head_in, FitsPlace, Form, uint_form, nint_form, bytes_form, bytes_chunks, text_form, text_chunks, array_form, array_to_break, pairs_form, pairs_to_break, tag_form, simple_inside, simple_next, float_form, Forms, no_forms, form, PairForms, no_pair_forms, pair_form, Chunk, chunk_bytes, chunks_bytes, AreChunksOk, forms_len, pair_forms_len, flat, forms_flat, pair_forms_flat, IsOk, AreFormsOk, ArePairFormsOk, meaning, Spells, IsWellFormed}
+use Rattle.cbor_data.specs.Forms.{Place, inside, one, two, four, eight, head_in, FitsPlace, Form, uint_form, nint_form, bytes_form, bytes_chunks, text_form, text_chunks, array_form, array_to_break, pairs_form, pairs_to_break, tag_form, simple_inside, simple_next, float_form, Forms, no_forms, form, PairForms, no_pair_forms, pair_form, Chunk, chunk_bytes, chunks_bytes, AreChunksOk, forms_len, pair_forms_len, flat, forms_flat, pair_forms_flat, IsOk, AreFormsOk, ArePairFormsOk, meaning, Spells, IsWellFormed, IsUnfinished}
 
 -- lists of one length that begin the same list are one
 same_length : (a b r s : List ℕ) → length a ≡ length b → a ++ r ≡ b ++ s → (a ≡ b) × (r ≡ s)
@@ -338,3 +338,12 @@ pub unique_front : (a r b s : List ℕ) → IsWellFormed a → IsWellFormed b �
 unique_front a r b s p q e =
     let forms : (p.written ≡ q.written) × (r ≡ s) = one_form p.written q.written r s p.ok q.ok (ap (λ bs. bs ++ r) (sym p.is) ∙ (e ∙ ap (λ bs. bs ++ s) q.is)) in
     (p.is ∙ (ap flat forms.0 ∙ sym q.is), forms.1)
+
+-- what is unfinished does not begin with an item
+pub unfinished_no_front : (rest front back : List ℕ) → IsUnfinished rest → IsWellFormed front → rest ≡ front ++ back → ⊥
+unfinished_no_front rest front back u w e =
+    let whole = rest ++ u.0 ∷ u.1 in
+    let same : front ++ (back ++ u.0 ∷ u.1) ≡ whole ++ [] = sym (append_assoc front back (u.0 ∷ u.1)) ∙ (ap (λ b. b ++ u.0 ∷ u.1) (sym e) ∙ sym (append-nil whole)) in
+    let parts = unique_front front (back ++ u.0 ∷ u.1) whole [] w u.2 same in
+    let none : length (back ++ u.0 ∷ u.1) ≡ 0 = ap length parts.1 in
+    omega (arith, none, length-append back (u.0 ∷ u.1))

@@ -3,3 +3,4 @@ pub mod Keeping
 pub mod Refusing
 pub mod Shallow
 pub mod Telling
+pub mod OneFault

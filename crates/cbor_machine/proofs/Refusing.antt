@@ -1,13 +1,13 @@
 -- What is wrong with a byte that the machine refuses.
-use Rattle.std.proofs.Common.{◌≡◌, ◌≢◌, ℕ, zero, suc, ◌+◌, ◌-◌, ◌*◌, ◌/◌, ◌%◌, ◌<◌, ◌≤◌, List, [], ◌∷◌, ◌++◌, length, Option, Some, None, option_and_then, nat_lt, nat_le, cond, ◌==◌, ◌&&◌, Bool, true, false, ◌⊎◌, inl, inr, refl, sym, ap, ◌∙◌, subst, arith}
+use Rattle.std.proofs.Common.{◌≡◌, ◌≢◌, ℕ, zero, suc, ◌-◌, ◌/◌, ◌%◌, ◌<◌, ◌≤◌, List, [], ◌∷◌, ◌++◌, Option, Some, None, option_and_then, ◌==◌, true, false, ◌⊎◌, inl, inr, refl, sym, ap, ◌∙◌, subst, arith}
 use Rattle.std.proofs.lemmas.Bool.Decides.{nat_tests}
 use Rattle.cbor_data.specs.Preferred.{initial}
-use Rattle.cbor_data.specs.Forms.{IsWellFormed, Begins, IsUnfinished}
-use Rattle.cbor_data.specs.Faults.{FaultKind, reserved_info, bad_indefinite, bad_break, bad_chunk, bad_simple, AwaitsItem, AwaitsChunk, AwaitsSimple, IsReserved, IsKindOf}
-use Rattle.cbor_machine.specs.Machine.{State, Frame, rest, until, until_key, until_value, item, argument, body, chunk, chunk_argument, chunk_body, simple, done, after, give, step, steps, start, start_chunk, info_of, given, more, indefinite, reserved, opened, break, refused_kind}
+use Rattle.cbor_data.specs.Forms.{Begins}
+use Rattle.cbor_data.specs.Faults.{FaultKind, reserved_info, bad_indefinite, bad_break, bad_chunk, bad_simple, too_deep, too_long, truncated, bad_text, duplicate_key, AwaitsItem, AwaitsChunk, AwaitsSimple, IsKindOf}
+use Rattle.cbor_machine.specs.Machine.{State, Frame, item, argument, body, chunk, chunk_argument, chunk_body, simple, done, give, step, steps, start, start_chunk, given, more, refused_kind}
 use Rattle.cbor_machine.specs.Reads.{Leads}
 use Rattle.cbor_machine.proofs.Forward.{completes, Completes, refused, steps-append}
-use Rattle.cbor_machine.proofs.Keeping.{Reached, IsString, ChunksRead, reached, done_whole, bytes-append, Information, says_given, says_more, says_indefinite, says_reserved, information, tested}
+use Rattle.cbor_machine.proofs.Keeping.{IsString, ChunksRead, reached, done_whole, bytes-append, says_given, says_more, says_indefinite, says_reserved, information, tested}
 
 -- a byte more
 pub one_more : (b : List ℕ) (s : State) (x : ℕ) → Leads b s → steps (item []) (b ++ x ∷ []) ≡ step s x
@@ -57,15 +57,22 @@ awaits_chunk b m K l =
       not_that = step_refuses b (chunk m K) (initial (5 - m) 0) l (chunk_that m K r.string);
     }
 
+-- where both empty strings may come, no chunk is awaited
+both_strings : (b : List ℕ) (m : ℕ) → Begins (b ++ initial 2 0 ∷ []) → Begins (b ++ initial 3 0 ∷ []) → AwaitsChunk m b → ⊥
+both_strings b m bytes text a = other m a.string a.not_that
+  where
+    other : (m : ℕ) → (m ≡ 2) ⊎ (m ≡ 3) → (Begins (b ++ initial (5 - m) 0 ∷ []) → ⊥) → ⊥
+    other m (inl e) n = n (subst (λ k. Begins (b ++ initial (5 - k) 0 ∷ [])) (sym e) text)
+    other m (inr e) n = n (subst (λ k. Begins (b ++ initial (5 - k) 0 ∷ [])) (sym e) bytes)
+
+simple_no_chunk : (b : List ℕ) (m : ℕ) (K : List Frame) → Leads b (simple K) → AwaitsChunk m b → ⊥
+simple_no_chunk b m K l = both_strings b m (step_begins b (simple K) (give K) 64 l (omega arith) refl) (step_begins b (simple K) (give K) 96 l (omega arith) refl)
+
 awaits_simple : (b : List ℕ) (K : List Frame) → Leads b (simple K) → AwaitsSimple b
 awaits_simple b K l = record {
   not_item = step_refuses b (simple K) 0 l refl;
-  not_chunk = λ m a. other m a.string a.not_that;
+  not_chunk = λ m. simple_no_chunk b m K l;
 }
-  where
-    other : (m : ℕ) → (m ≡ 2) ⊎ (m ≡ 3) → (Begins (b ++ initial (5 - m) 0 ∷ []) → ⊥) → ⊥
-    other m (inl e) n = n (subst (λ k. Begins (b ++ initial (5 - k) 0 ∷ [])) (sym e) (step_begins b (simple K) (give K) 96 l (omega arith) refl))
-    other m (inr e) n = n (subst (λ k. Begins (b ++ initial (5 - k) 0 ∷ [])) (sym e) (step_begins b (simple K) (give K) 64 l (omega arith) refl))
 
 -- a byte that is refused where an item is awaited
 item_refuses : (x : ℕ) (K : List Frame) → x < 256 → step (item K) x ≡ None → ((28 ≤ x % 32) × (x % 32 ≤ 30)) ⊎ (x % 32 ≡ 31)
@@ -126,3 +133,101 @@ refused_is_kind b (chunk_body m zero K) x l live small e = absurd (cc)
 refused_is_kind b (chunk_body m (suc k) K) x l live small e = absurd (cc)
 refused_is_kind b (simple K) x l live small e = awaits_simple b K l
 refused_is_kind b done x l live small e = absurd (live refl)
+
+-- a byte that the machine refuses is wrong in no other way
+
+item_no_chunk : (b : List ℕ) (m : ℕ) (K : List Frame) → Leads b (item K) → AwaitsChunk m b → ⊥
+item_no_chunk b m K l = both_strings b m (step_begins b (item K) (give K) 64 l (omega arith) refl) (step_begins b (item K) (give K) 96 l (omega arith) refl)
+
+item_only : (b : List ℕ) (x : ℕ) (K : List Frame) (kind : FaultKind) → Leads b (item K) → IsKindOf b x kind → kind ≡ refused_kind (item K) x
+item_only b x K reserved_info l (inl r) =
+    let low : 28 ≤ x % 32 = r.1.0 in
+    let high : x % 32 ≤ 30 = r.1.1 in
+    let t : (x % 32 == 31) ≡ false = grind (arith, nat_tests) in
+    rw t refl
+item_only b x K reserved_info l (inr r) = absurd (item_no_chunk b (x / 32) K l r.0)
+item_only b x K bad_indefinite l r =
+    let last : x % 32 ≡ 31 = r.1 in
+    let major : x / 32 ≢ 7 = r.2 in
+    let t : (x % 32 == 31) ≡ true = grind (arith, nat_tests) in
+    let u : (x / 32 == 7) ≡ false = grind (arith, nat_tests) in
+    rw (t, u) refl
+item_only b x K bad_break l r = rw r.1 refl
+item_only b x K bad_chunk l r = absurd (item_no_chunk b r.0 K l r.1)
+item_only b x K bad_simple l r = absurd (r.not_item (awaits_item b K l))
+item_only b x K too_deep l r = absurd r
+item_only b x K too_long l r = absurd r
+item_only b x K truncated l r = absurd r
+item_only b x K bad_text l r = absurd r
+item_only b x K duplicate_key l r = absurd r
+
+chunk_zero : (m : ℕ) (K : List Frame) → IsString m → step (chunk m K) 0 ≡ None
+chunk_zero m K (inl e) = subst (λ k. step (chunk k K) 0 ≡ None) (sym e) refl
+chunk_zero m K (inr e) = subst (λ k. step (chunk k K) 0 ≡ None) (sym e) refl
+
+chunk_no_item : (b : List ℕ) (m : ℕ) (K : List Frame) → Leads b (chunk m K) → AwaitsItem b → ⊥
+chunk_no_item b m K l = step_refuses b (chunk m K) 0 l (chunk_zero m K (awaits_chunk b m K l).string)
+
+chunk_major : (b : List ℕ) (m k : ℕ) (K : List Frame) → Leads b (chunk m K) → AwaitsChunk k b → k ≡ m
+chunk_major b m k K l a = let own = awaits_chunk b m K l in same m k own.string a.string own.not_that a.this
+  where
+    same : (m k : ℕ) → IsString m → IsString k → (Begins (b ++ initial (5 - m) 0 ∷ []) → ⊥) → Begins (b ++ initial k 0 ∷ []) → k ≡ m
+    same m k (inl e) (inl f) not this = f ∙ sym e
+    same m k (inr e) (inr f) not this = f ∙ sym e
+    same m k (inl e) (inr f) not this = let other : k ≡ 5 - m = omega (arith, e, f) in absurd (not (subst (λ j. Begins (b ++ initial j 0 ∷ [])) other this))
+    same m k (inr e) (inl f) not this = let other : k ≡ 5 - m = omega (arith, e, f) in absurd (not (subst (λ j. Begins (b ++ initial j 0 ∷ [])) other this))
+
+chunk_only : (b : List ℕ) (m x : ℕ) (K : List Frame) (kind : FaultKind) → Leads b (chunk m K) → IsKindOf b x kind → kind ≡ refused_kind (chunk m K) x
+chunk_only b m x K reserved_info l (inl r) = absurd (chunk_no_item b m K l r.0)
+chunk_only b m x K reserved_info l (inr r) =
+    let major : x / 32 ≡ m = chunk_major b m (x / 32) K l r.0 in
+    let low : 28 ≤ x % 32 = r.1.0 in
+    let high : x % 32 ≤ 30 = r.1.1 in
+    let v : (x / 32 == m) ≡ true = grind (arith, nat_tests) in
+    let t : (x % 32 == 31) ≡ false = grind (arith, nat_tests) in
+    rw (v, t) refl
+chunk_only b m x K bad_indefinite l r = absurd (chunk_no_item b m K l r.0)
+chunk_only b m x K bad_break l r = absurd (chunk_no_item b m K l r.0)
+chunk_only b m x K bad_chunk l (k, a, inl other) =
+    let major : k ≡ m = chunk_major b m k K l a in
+    let v : (x / 32 == m) ≡ false = grind (arith, nat_tests) in
+    rw v refl
+chunk_only b m x K bad_chunk l (k, a, inr last) =
+    let t : (x % 32 == 31) ≡ true = grind (arith, nat_tests) in
+    elim (tested (x / 32 == m)) [
+      | inl v ↦ rw (v, t) refl
+      | inr v ↦ rw v refl
+    ]
+chunk_only b m x K bad_simple l r = absurd (r.not_chunk m (awaits_chunk b m K l))
+chunk_only b m x K too_deep l r = absurd r
+chunk_only b m x K too_long l r = absurd r
+chunk_only b m x K truncated l r = absurd r
+chunk_only b m x K bad_text l r = absurd r
+chunk_only b m x K duplicate_key l r = absurd r
+
+simple_only : (b : List ℕ) (x : ℕ) (K : List Frame) (kind : FaultKind) → Leads b (simple K) → IsKindOf b x kind → kind ≡ bad_simple
+simple_only b x K reserved_info l (inl r) = absurd (step_refuses b (simple K) 0 l refl r.0)
+simple_only b x K reserved_info l (inr r) = absurd (simple_no_chunk b (x / 32) K l r.0)
+simple_only b x K bad_indefinite l r = absurd (step_refuses b (simple K) 0 l refl r.0)
+simple_only b x K bad_break l r = absurd (step_refuses b (simple K) 0 l refl r.0)
+simple_only b x K bad_chunk l r = absurd (simple_no_chunk b r.0 K l r.1)
+simple_only b x K bad_simple l r = refl
+simple_only b x K too_deep l r = absurd r
+simple_only b x K too_long l r = absurd r
+simple_only b x K truncated l r = absurd r
+simple_only b x K bad_text l r = absurd r
+simple_only b x K duplicate_key l r = absurd r
+
+pub only_kind : (b : List ℕ) (s : State) (x : ℕ) (kind : FaultKind) → Leads b s → s ≢ done → step s x ≡ None → IsKindOf b x kind → kind ≡ refused_kind s x
+only_kind b (item K) x kind l live e r = item_only b x K kind l r
+only_kind b (argument m zero n K) x kind l live e r = absurd (cc)
+only_kind b (argument m (suc k) n K) x kind l live e r = absurd (cc)
+only_kind b (body zero K) x kind l live e r = absurd (cc)
+only_kind b (body (suc k) K) x kind l live e r = absurd (cc)
+only_kind b (chunk m K) x kind l live e r = chunk_only b m x K kind l r
+only_kind b (chunk_argument m zero n K) x kind l live e r = absurd (cc)
+only_kind b (chunk_argument m (suc k) n K) x kind l live e r = absurd (cc)
+only_kind b (chunk_body m zero K) x kind l live e r = absurd (cc)
+only_kind b (chunk_body m (suc k) K) x kind l live e r = absurd (cc)
+only_kind b (simple K) x kind l live e r = simple_only b x K kind l r
+only_kind b done x kind l live e r = absurd (live refl)

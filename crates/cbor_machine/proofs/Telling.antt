@@ -26,7 +26,7 @@ front_begins_within d b n w = record {
   shallow = w.shallow;
 }
 
-within_begins : (d : ℕ) (b : List ℕ) → BeginsWithin d b → Begins b
+pub within_begins : (d : ℕ) (b : List ℕ) → BeginsWithin d b → Begins b
 within_begins d b w = (w.more, record { written = w.written; ok = w.ok; is = w.is })
 
 -- nothing is wrong before the end of what was read, however it goes on

@@ -5,7 +5,7 @@
 ghost use Rattle.std.specs.Prelude.{◌≡◌, ◌≢◌, ℕ, ◌+◌, ◌<◌, List, [], ◌∷◌, ◌++◌, length, Some, None};
 ghost use Rattle.cbor_data.specs.Value.{AreBytes};
 ghost use Rattle.cbor_data.specs.Forms.{IsWellFormed, Begins, IsUnfinished};
-ghost use Rattle.cbor_data.specs.Faults.{Bounds, BeginsWithin, IsKindOf};
+ghost use Rattle.cbor_data.specs.Faults.{Bounds, FaultKind, BeginsWithin, IsKindOf, IsFaultOf};
 ghost use Rattle.cbor_machine.specs.Machine.{State, item, done, step, steps, steps_in, refused_kind};
 
 /// The machine is done exactly behind a well-formed item.
@@ -30,4 +30,10 @@ pub fn live_begins_within()
 pub fn refused_is_of_its_kind()
     ensures { (b : List ℕ) (s : State) (x : ℕ) → AreBytes b → steps (item []) b ≡ Some s → s ≢ done → x < 256 →
         step s x ≡ None → IsKindOf b x (refused_kind s x) }
+{}
+
+/// The bytes of a rest have one fault at most: one kind, at one place.
+pub fn one_fault()
+    ensures { (l : Bounds) (o : ℕ) (b : List ℕ) (k k' : FaultKind) (at at' : ℕ) → AreBytes b →
+        IsFaultOf l o b k at → IsFaultOf l o b k' at' → (k ≡ k') × (at ≡ at') }
 {}

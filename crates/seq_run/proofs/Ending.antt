@@ -3,7 +3,7 @@ use Rattle.std.proofs.Common.{◌≡◌, ◌≢◌, ℕ, suc, ◌+◌, ◌<◌, 
 use Rattle.std.proofs.lemmas.Bool.{cases_eq}
 use Rattle.std.proofs.Math.Seq.{take-length}
 use Rattle.cbor_data.specs.Value.{Value}
-use Rattle.cbor_data.specs.Forms.{Form, uint_form, nint_form, bytes_form, bytes_chunks, text_form, text_chunks, array_form, array_to_break, pairs_form, pairs_to_break, tag_form, simple_inside, simple_next, float_form, forms_len, pair_forms_len, forms_flat, pair_forms_flat, flat, meaning, IsUnfinished}
+use Rattle.cbor_data.specs.Forms.{IsUnfinished}
 use Rattle.cbor_data.specs.Faults.{Bounds, BeginsWithin, long, IsClearBefore, of_form, of_end, IsItem}
 use Rattle.cbor_data.specs.Sequence.{Found, cleanly, at_fault, at_mismatch}
 use Rattle.cbor_read.specs.Told.{kind_of, IsTold}
@@ -17,7 +17,8 @@ use Rattle.seq_run.specs.declared.end.End.TheVariants.{Clean, Failed}
 use Rattle.seq_run.specs.Ends.{Accepts, BeginsWith, IsRun, Ends}
 use Rattle.seq_run.specs.Standing.{IsHeld, IsNext}
 use Rattle.seq_run.specs.Answers.{IsUndecided}
-use Rattle.seq_run.proofs.Fronts.{formed, unfinished_no_front, fault_no_item, clear_end}
+use Rattle.cbor_data.proofs.Unique.{unfinished_no_front}
+use Rattle.seq_run.proofs.Fronts.{formed, fault_no_item, clear_end}
 use Rattle.seq_run.proofs.Runs.{EndsHere, item_some, same_front, run_of}
 
 take_whole : (b : List ℕ) → take (length b + 1) b ≡ b

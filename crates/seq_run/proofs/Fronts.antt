@@ -1,59 +1,17 @@
 -- A rest has a fault, or is unfinished, or begins with an item: no two of these.
-use Rattle.std.proofs.Common.{◌≡◌, ℕ, suc, ◌+◌, ◌-◌, ◌<◌, ◌≤◌, ◌⊎◌, inl, inr, List, [], ◌∷◌, ◌++◌, length, take, drop, refl, sym, ap, ◌∙◌, subst, arith, append_assoc, append-nil, length-append}
+use Rattle.std.proofs.Common.{◌≡◌, ℕ, suc, ◌+◌, ◌-◌, ◌<◌, ◌≤◌, ◌⊎◌, inl, inr, List, ◌∷◌, ◌++◌, length, take, drop, refl, sym, ap, ◌∙◌, subst, arith, append_assoc}
 use Rattle.std.proofs.lemmas.List.{take-append-le, take-append-drop}
 use Rattle.std.proofs.Math.Seq.{take-append-add}
 use Rattle.std.proofs.lemmas.Bool.{cases_lt}
 use Rattle.cbor_data.specs.Value.{Value, depth_of}
 use Rattle.cbor_data.specs.Validity.{IsValid}
-use Rattle.cbor_data.specs.Forms.{Form, uint_form, nint_form, bytes_form, bytes_chunks, text_form, text_chunks, array_form, array_to_break, pairs_form, pairs_to_break, tag_form, simple_inside, simple_next, float_form, Forms, no_forms, form, PairForms, no_pair_forms, pair_form, Chunk, AllText, flat, IsOk, meaning, HasText, HaveText, HavePairsText, IsWellFormed, Spells, Begins, IsUnfinished}
-use Rattle.cbor_data.specs.Faults.{Bounds, last_offset, FaultKind, too_deep, too_long, BeginsWithin, StandsAt, malformed, deep, long, IsClearBefore, IsBadChunkAt, IsBadTextAt, IsBadTextAmong, IsBadTextAmongPairs, IsFaultOf, of_form, of_end, of_text, of_key, IsItem}
-use Rattle.cbor_data.proofs.Unique.{one_form, unique_front}
+use Rattle.cbor_data.specs.Forms.{Form, flat, IsOk, meaning, HasText, IsWellFormed, Spells, Begins, IsUnfinished}
+use Rattle.cbor_data.specs.Faults.{Bounds, last_offset, FaultKind, too_deep, too_long, BeginsWithin, StandsAt, malformed, deep, long, IsClearBefore, IsFaultOf, of_form, of_end, of_text, of_key, IsItem}
+use Rattle.cbor_data.proofs.Unique.{one_form, unfinished_no_front}
+use Rattle.cbor_data.proofs.BadText.{good_text}
 
 pub formed : {x : Value} {b : List ℕ} → Spells x b → IsWellFormed b
 formed s = record { written = s.written; ok = s.ok; is = s.is }
-
--- what is unfinished does not begin with an item
-pub unfinished_no_front : (rest front back : List ℕ) → IsUnfinished rest → IsWellFormed front → rest ≡ front ++ back → ⊥
-unfinished_no_front rest front back u w e =
-    let whole = rest ++ u.0 ∷ u.1 in
-    let same : front ++ (back ++ u.0 ∷ u.1) ≡ whole ++ [] = sym (append_assoc front back (u.0 ∷ u.1)) ∙ (ap (λ b. b ++ u.0 ∷ u.1) (sym e) ∙ sym (append-nil whole)) in
-    let parts = unique_front front (back ++ u.0 ∷ u.1) whole [] w u.2 same in
-    let none : length (back ++ u.0 ∷ u.1) ≡ 0 = ap length parts.1 in
-    omega (arith, none, length-append back (u.0 ∷ u.1))
-
-good_chunks : (cs : List Chunk) (i : ℕ) → AllText cs → IsBadChunkAt cs i → ⊥
-good_chunks [] i t b = b
-good_chunks (c ∷ cs) i t (inl b) = b.1 t.0
-good_chunks (c ∷ cs) i t (inr b) = good_chunks cs b.0 t.1 b.3
-
-mutual
-  -- where each text is UTF-8 no text is bad
-  pub good_text : (f : Form) (i : ℕ) → HasText f → IsBadTextAt f i → ⊥
-  good_text (uint_form p n) i t b = b
-  good_text (nint_form p n) i t b = b
-  good_text (bytes_form p s) i t b = b
-  good_text (bytes_chunks cs) i t b = b
-  good_text (text_form p s) i t b = b.1 t
-  good_text (text_chunks cs) i t b = good_chunks cs b.0 t b.2
-  good_text (array_form p fs) i t b = good_texts fs b.0 t b.2
-  good_text (array_to_break fs) i t b = good_texts fs b.0 t b.2
-  good_text (pairs_form p ps) i t b = good_pairs ps b.0 t b.2
-  good_text (pairs_to_break ps) i t b = good_pairs ps b.0 t b.2
-  good_text (tag_form p n f) i t b = good_text f b.0 t b.2
-  good_text (simple_inside n) i t b = b
-  good_text (simple_next n) i t b = b
-  good_text (float_form w n) i t b = b
-
-  good_texts : (fs : Forms) (i : ℕ) → HaveText fs → IsBadTextAmong fs i → ⊥
-  good_texts no_forms i t b = b
-  good_texts (form f fs) i t (inl b) = good_text f i t.0 b
-  good_texts (form f fs) i t (inr b) = good_texts fs b.1.0 t.1 b.1.2
-
-  good_pairs : (ps : PairForms) (i : ℕ) → HavePairsText ps → IsBadTextAmongPairs ps i → ⊥
-  good_pairs no_pair_forms i t b = b
-  good_pairs (pair_form k v ps) i t (inl b) = good_text k i t.0 b
-  good_pairs (pair_form k v ps) i t (inr (inl b)) = good_text v b.1.0 t.1 b.1.2
-  good_pairs (pair_form k v ps) i t (inr (inr b)) = good_pairs ps b.2.0 t.2 b.2.2
 
 -- the front of an item, and what the item has behind it
 take_inside : (p : ℕ) (front back : List ℕ) → p < length front → take (p + 1) (front ++ back) ++ drop (p + 1) front ≡ front

@@ -9,3 +9,4 @@ pub mod Reporting
 pub mod RunLoop
 pub mod Appending
 pub mod Rereading
+pub mod OneEnd

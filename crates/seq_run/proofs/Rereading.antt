@@ -1,5 +1,5 @@
 -- What is written out is read back.
-use Rattle.std.proofs.Common.{◌≡◌, ℕ, suc, ◌+◌, ◌<◌, ◌≤◌, List, [], ◌∷◌, ◌++◌, length, Option, Some, None, refl, sym, ap, ap₂, ◌∙◌, subst, arith, length-append}
+use Rattle.std.proofs.Common.{◌≡◌, ℕ, suc, ◌+◌, ◌≤◌, List, [], ◌∷◌, ◌++◌, length, Option, Some, None, refl, ap, ◌∙◌, subst, arith, length-append}
 use Rattle.std.specs.Io.KnownBytes as bytes
 use Rattle.std.specs.Prelude.{IfSome}
 use Rattle.cbor_data.specs.Value.{Value}
@@ -10,17 +10,15 @@ use Rattle.cbor_data.specs.Sequence.{Found, Takes, none, next, IsRunOf, EndsBy, 
 use Rattle.cbor_data.proofs.PreferredSpells.{sound_preferred}
 use Rattle.cbor_read.specs.declared.fault.FaultKind.{FaultKind}
 use Rattle.cddl_table.specs.declared.table.Table.{Table}
-use Rattle.seq_run.specs.declared.end.Cause.{Cause}
-use Rattle.seq_run.specs.declared.end.Cause.TheVariants.{Fault, Mismatch}
 use Rattle.seq_run.specs.declared.end.End.{End}
 use Rattle.seq_run.specs.declared.end.End.TheVariants.{Clean, Failed}
-use Rattle.seq_run.specs.Ends.{Accepts, Misses, BeginsWith, Ends, end_of}
+use Rattle.seq_run.specs.Ends.{Accepts, Misses, Ends, end_of}
 use Rattle.seq_run.specs.Standing.{IsRejected}
 use Rattle.seq_run.specs.Report.{report}
 use Rattle.seq_run.specs.Running.{IsReported}
 use Rattle.seq_run.specs.Written.{IsWritable, AreWritable, written, found_from, clean_end, IsWrittenStream, IsReadBack}
-use Rattle.seq_run.proofs.Runs.{same_takes, item_some}
 use Rattle.seq_run.proofs.Ending.{clean_end as ends_cleanly}
+use Rattle.seq_run.proofs.OneEnd.{one_clean}
 
 found_len : (o : ℕ) (items : List Value) → length (found_from o items) ≡ length items
 found_len o [] = refl
@@ -42,25 +40,6 @@ pub written_ends : (table : Table) (l : Bounds) (items : List Value) → AreWrit
 written_ends table l items w h =
     subst (λ n. Ends table l (written items) (found_from 0 items) (Clean n (length (written items)))) (found_len 0 items)
     (ends_cleanly table l (written items) (found_from 0 items) (takes_written table l 0 items w (omega (arith, h))))
-
-same_runs : (l : Bounds) (accepts : Value → List ℕ → Type 0) (b : List ℕ) (found others : List Found) (rest left : List ℕ) → IsRunOf l accepts b found rest → IsRunOf l accepts b others left → (found ≡ others) × (rest ≡ left)
-same_runs l accepts b found others rest left r s =
-    let above : length others ≤ length found = r.longest others left s.takes in
-    let below : length found ≤ length others = s.longest found rest r.takes in
-    same_takes l accepts r.takes s.takes (omega (arith, above, below))
-
--- where a run leaves nothing the end is clean
-one_clean : (table : Table) {l : Bounds} {kind : Type 0} {told : ℕ → List ℕ → kind → ℕ → Type 0} {b : List ℕ} {found others : List Found} {e : sequence.End kind} →
-    EndsBy l (Accepts table) told (Misses table) b found e → IsRunOf l (Accepts table) b others [] → (found ≡ others) × (e ≡ sequence.clean (length others) (length b))
-one_clean table {l} {b = b} {found = found} {others = others} (cleanly run) r =
-    let same = same_runs l (Accepts table) b found others [] [] run r in
-    (same.0, ap (λ (fs : List Found). sequence.clean (length fs) (length b)) same.0)
-one_clean table {l} {b = b} {found = found} {others = others} (at_fault rest run some placed told) r =
-    absurd (some (same_runs l (Accepts table) b found others rest [] run r).1)
-one_clean table {l} {b = b} {found = found} {others = others} (at_mismatch {o = o} rest x front back run placed parts item misses) r =
-    let none : rest ≡ [] = (same_runs l (Accepts table) b found others rest [] run r).1 in
-    let some : 0 < length front = item_some l o x front item in
-    absurd (omega (arith, some, ap length (sym none ∙ parts), length-append front back))
 
 clean_only : (end : End) (n m : ℕ) → end_of end ≡ sequence.clean n m → end ≡ Clean n m
 clean_only (Clean items bytes) n m e = cc
