@@ -1,0 +1,22 @@
+use Rattle.cddl_tree.specs.View.{view_types}
+use Rattle.cddl_tree.proofs.Starting.{keyed_start}
+use Rattle.cddl_tree.proofs.Viewing.{views}
+use Rattle.cddl_tree.proofs.tree.GrpEnt.start.Goals as goal
+
+pub returns-in-Some : goal.returns-in-Some
+returns-in-Some c = simp (c.in-Typed.is, c.in-Some.is, views)
+
+pub returns-in-None : goal.returns-in-None
+returns-in-None c = simp (c.in-Typed.is, c.in-None.is, views) c.start.ensures
+
+pub returns-in-Some-occur : goal.returns-in-Some-occur
+returns-in-Some-occur c = simp (c.in-Keyed.is, c.in-Some-occur.is, views)
+
+pub returns-in-None-occur : goal.returns-in-None-occur
+returns-in-None-occur c = simp (c.in-Keyed.is, c.in-None-occur.is, views) (keyed_start _ (view_types c.in-Keyed.types) _ c.start-in-None-occur.ensures)
+
+pub returns-in-Some-occur-2 : goal.returns-in-Some-occur-2
+returns-in-Some-occur-2 c = simp (c.in-Grouped.is, c.in-Some-occur-2.is, views)
+
+pub returns-in-None-occur-2 : goal.returns-in-None-occur-2
+returns-in-None-occur-2 c = simp (c.in-Grouped.is, c.in-None-occur-2.is, views)

@@ -1,0 +1,8 @@
+use Rattle.cddl_tree.proofs.Viewing.{views}
+use Rattle.cddl_tree.proofs.tree.Ref.start.Goals as goal
+
+pub returns-in-Name : goal.returns-in-Name
+returns-in-Name c = simp (c.in-Name.is, views)
+
+pub returns-in-Applied : goal.returns-in-Applied
+returns-in-Applied c = simp (c.in-Applied.is, views)

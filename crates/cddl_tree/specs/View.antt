@@ -1,0 +1,181 @@
+-- What a tree of the code stands for.
+use Rattle.std.specs.Prelude.{◌≡◌, ℕ, List, [], ◌∷◌, ◌++◌, Option, Some, None, map}
+use Rattle.cddl_token.specs.declared.Token.{Token}
+use Rattle.cddl_tree.specs.declared.tree.GrpEnt.{GrpEnt}
+use Rattle.cddl_tree.specs.declared.tree.MemberKey.{MemberKey}
+use Rattle.cddl_tree.specs.declared.tree.Ref.{Ref}
+use Rattle.cddl_tree.specs.declared.tree.Type1.{Type1}
+use Rattle.cddl_tree.specs.declared.tree.Type2.{Type2}
+use Rattle.cddl_tree.specs.declared.tree.Entry.{Entry}
+use Rattle.cddl_tree.specs.declared.tree.Further.{Further}
+use Rattle.cddl_tree.specs.declared.tree.GenericArg.{GenericArg}
+use Rattle.cddl_tree.specs.declared.tree.Group.{Group}
+use Rattle.cddl_tree.specs.declared.tree.GrpChoice.{GrpChoice}
+use Rattle.cddl_tree.specs.declared.tree.Types.{Types}
+use Rattle.cddl_tree.specs.declared.tree.Value.{Value}
+use Rattle.cddl_tree.specs.declared.tree.Operator.{Operator}
+use Rattle.cddl_tree.specs.declared.tree.Parameter.{Parameter}
+use Rattle.cddl_tree.specs.declared.tree.GenericParm.{GenericParm}
+use Rattle.cddl_tree.specs.declared.tree.RuleName.{RuleName}
+use Rattle.cddl_tree.specs.declared.tree.AssignT.{AssignT}
+use Rattle.cddl_tree.specs.declared.tree.AssignG.{AssignG}
+use Rattle.cddl_tree.specs.declared.tree.Rule.{Rule}
+use Rattle.cddl_tree.specs.declared.tree.Tree.{Tree}
+use Rattle.cddl_tree.specs.declared.tree.Value.TheVariants as ValueV
+use Rattle.cddl_tree.specs.declared.tree.Operator.TheVariants as OperatorV
+use Rattle.cddl_tree.specs.declared.tree.RuleName.TheVariants as RuleNameV
+use Rattle.cddl_tree.specs.declared.tree.AssignT.TheVariants as AssignTV
+use Rattle.cddl_tree.specs.declared.tree.AssignG.TheVariants as AssignGV
+use Rattle.cddl_tree.specs.declared.tree.Rule.TheVariants as RuleV
+use Rattle.cddl_tree.specs.declared.tree.GrpEnt.TheFolds.{fold-GrpEnt, fold-MemberKey, fold-Ref, fold-Type1, fold-Type2, fold-Entry, fold-Further, fold-GenericArg, fold-Group, fold-GrpChoice, fold-Types}
+use Rattle.cddl_tree.specs.declared.tree.GrpEnt.TheOpen.{GrpEnt-F, MemberKey-F, Ref-F, Type1-F, Type2-F, Entry-F, Further-F, GenericArg-F, Group-F, GrpChoice-F, Types-F}
+use Rattle.cddl_syntax.specs.Syntax as S
+
+abbrev pub view_value : Value → S.Value
+view_value (ValueV.Number t) = S.number t
+view_value (ValueV.Text t) = S.text t
+view_value (ValueV.Bytes t) = S.bytes t
+
+abbrev pub view_operator : Operator → S.Operator
+view_operator (OperatorV.Range t) = S.range t
+view_operator (OperatorV.RangeBelow t) = S.range_below t
+view_operator (OperatorV.Control t) = S.control t
+
+-- a choice with further ones
+abbrev pub with_types : S.Types → List (Token × S.Type1) → S.Types
+with_types t [] = t
+with_types t (x ∷ xs) = with_types (S.or t x.0 x.1) xs
+
+abbrev pub with_arguments : S.GenericArg → List (Token × S.Type1) → S.GenericArg
+with_arguments a [] = a
+with_arguments a (x ∷ xs) = with_arguments (S.arguments a x.0 x.1) xs
+
+abbrev pub with_entries : S.GrpChoice → List (S.GrpEnt × Option Token) → S.GrpChoice
+with_entries es [] = es
+with_entries es (x ∷ xs) = with_entries (S.entries es x.0 x.1) xs
+
+abbrev pub with_choices : S.Group → List (Token × S.GrpChoice) → S.Group
+with_choices g [] = g
+with_choices g (x ∷ xs) = with_choices (S.orelse g x.0 x.1) xs
+
+-- What a node is made of, from what its parts stand for.
+
+abbrev pub grpent_step : GrpEnt-F S.GrpEnt S.MemberKey S.Ref S.Type1 S.Type2 (S.GrpEnt × Option Token) (Token × S.Type1) S.GenericArg S.Group (Token × S.GrpChoice) S.Types → S.GrpEnt
+grpent_step (GrpEnt-F.Typed o t) = S.typed o t
+grpent_step (GrpEnt-F.Keyed o k t) = S.keyed o k t
+grpent_step (GrpEnt-F.Grouped o p g c) = S.grouped o p g c
+
+abbrev pub key_step : MemberKey-F S.GrpEnt S.MemberKey S.Ref S.Type1 S.Type2 (S.GrpEnt × Option Token) (Token × S.Type1) S.GenericArg S.Group (Token × S.GrpChoice) S.Types → S.MemberKey
+key_step (MemberKey-F.TypeKey r u a) = S.type_key r u a
+key_step (MemberKey-F.Bareword n c) = S.bareword n c
+key_step (MemberKey-F.ValueKey v c) = S.value_key (view_value v) c
+
+abbrev pub ref_step : Ref-F S.GrpEnt S.MemberKey S.Ref S.Type1 S.Type2 (S.GrpEnt × Option Token) (Token × S.Type1) S.GenericArg S.Group (Token × S.GrpChoice) S.Types → S.Ref
+ref_step (Ref-F.Name t) = S.name t
+ref_step (Ref-F.Applied o a c) = S.applied o a.value c
+
+abbrev pub type1_step : Type1-F S.GrpEnt S.MemberKey S.Ref S.Type1 S.Type2 (S.GrpEnt × Option Token) (Token × S.Type1) S.GenericArg S.Group (Token × S.GrpChoice) S.Types → S.Type1
+type1_step (Type1-F.One x) = S.one x
+type1_step (Type1-F.Operation x o y) = S.operation x (view_operator o) y.value
+
+abbrev pub type2_step : Type2-F S.GrpEnt S.MemberKey S.Ref S.Type1 S.Type2 (S.GrpEnt × Option Token) (Token × S.Type1) S.GenericArg S.Group (Token × S.GrpChoice) S.Types → S.Type2
+type2_step (Type2-F.Literal v) = S.literal (view_value v)
+type2_step (Type2-F.Typename r) = S.typename r
+type2_step (Type2-F.Parens o t c) = S.parens o t.value c
+type2_step (Type2-F.MapOf o g c) = S.map_of o g.value c
+type2_step (Type2-F.ArrayOf o g c) = S.array_of o g.value c
+type2_step (Type2-F.Unwrapped u r) = S.unwrapped u r
+type2_step (Type2-F.ChoiceOf a o g c) = S.choice_of a o g.value c
+type2_step (Type2-F.ChoiceOfName a r) = S.choice_of_name a r
+type2_step (Type2-F.Tagged o t c) = S.tagged o t.value c
+type2_step (Type2-F.TaggedBy o h a p t c) = S.tagged_by o h.value a p t.value c
+type2_step (Type2-F.SimpleBy o h c) = S.simple_by o h.value c
+type2_step (Type2-F.Hash t) = S.hash t
+
+abbrev pub entry_step : Entry-F S.GrpEnt S.MemberKey S.Ref S.Type1 S.Type2 (S.GrpEnt × Option Token) (Token × S.Type1) S.GenericArg S.Group (Token × S.GrpChoice) S.Types → S.GrpEnt × Option Token
+entry_step e = (e.grpent, e.comma)
+
+abbrev pub further_step : Further-F S.GrpEnt S.MemberKey S.Ref S.Type1 S.Type2 (S.GrpEnt × Option Token) (Token × S.Type1) S.GenericArg S.Group (Token × S.GrpChoice) S.Types → Token × S.Type1
+further_step x = (x.sign, x.type1)
+
+abbrev pub arg_step : GenericArg-F S.GrpEnt S.MemberKey S.Ref S.Type1 S.Type2 (S.GrpEnt × Option Token) (Token × S.Type1) S.GenericArg S.Group (Token × S.GrpChoice) S.Types → S.GenericArg
+arg_step a = with_arguments (S.argument a.first) a.others.items
+
+abbrev pub group_step : Group-F S.GrpEnt S.MemberKey S.Ref S.Type1 S.Type2 (S.GrpEnt × Option Token) (Token × S.Type1) S.GenericArg S.Group (Token × S.GrpChoice) S.Types → S.Group
+group_step g = with_choices (S.sole (with_entries S.no_entries g.first.items)) g.others.items
+
+abbrev pub choice_step : GrpChoice-F S.GrpEnt S.MemberKey S.Ref S.Type1 S.Type2 (S.GrpEnt × Option Token) (Token × S.Type1) S.GenericArg S.Group (Token × S.GrpChoice) S.Types → Token × S.GrpChoice
+choice_step c = (c.slashes, with_entries S.no_entries c.entries.items)
+
+abbrev pub types_step : Types-F S.GrpEnt S.MemberKey S.Ref S.Type1 S.Type2 (S.GrpEnt × Option Token) (Token × S.Type1) S.GenericArg S.Group (Token × S.GrpChoice) S.Types → S.Types
+types_step t = with_types (S.only t.first) t.others.items
+
+-- What a node stands for.
+
+unfoldable pub view_grpent : GrpEnt → S.GrpEnt
+view_grpent = fold-GrpEnt S.GrpEnt S.MemberKey S.Ref S.Type1 S.Type2 (S.GrpEnt × Option Token) (Token × S.Type1) S.GenericArg S.Group (Token × S.GrpChoice) S.Types grpent_step key_step ref_step type1_step type2_step entry_step further_step arg_step group_step choice_step types_step
+
+unfoldable pub view_key : MemberKey → S.MemberKey
+view_key = fold-MemberKey S.GrpEnt S.MemberKey S.Ref S.Type1 S.Type2 (S.GrpEnt × Option Token) (Token × S.Type1) S.GenericArg S.Group (Token × S.GrpChoice) S.Types grpent_step key_step ref_step type1_step type2_step entry_step further_step arg_step group_step choice_step types_step
+
+unfoldable pub view_ref : Ref → S.Ref
+view_ref = fold-Ref S.GrpEnt S.MemberKey S.Ref S.Type1 S.Type2 (S.GrpEnt × Option Token) (Token × S.Type1) S.GenericArg S.Group (Token × S.GrpChoice) S.Types grpent_step key_step ref_step type1_step type2_step entry_step further_step arg_step group_step choice_step types_step
+
+unfoldable pub view_type1 : Type1 → S.Type1
+view_type1 = fold-Type1 S.GrpEnt S.MemberKey S.Ref S.Type1 S.Type2 (S.GrpEnt × Option Token) (Token × S.Type1) S.GenericArg S.Group (Token × S.GrpChoice) S.Types grpent_step key_step ref_step type1_step type2_step entry_step further_step arg_step group_step choice_step types_step
+
+unfoldable pub view_type2 : Type2 → S.Type2
+view_type2 = fold-Type2 S.GrpEnt S.MemberKey S.Ref S.Type1 S.Type2 (S.GrpEnt × Option Token) (Token × S.Type1) S.GenericArg S.Group (Token × S.GrpChoice) S.Types grpent_step key_step ref_step type1_step type2_step entry_step further_step arg_step group_step choice_step types_step
+
+unfoldable pub view_entry : Entry → S.GrpEnt × Option Token
+view_entry = fold-Entry S.GrpEnt S.MemberKey S.Ref S.Type1 S.Type2 (S.GrpEnt × Option Token) (Token × S.Type1) S.GenericArg S.Group (Token × S.GrpChoice) S.Types grpent_step key_step ref_step type1_step type2_step entry_step further_step arg_step group_step choice_step types_step
+
+unfoldable pub view_further : Further → Token × S.Type1
+view_further = fold-Further S.GrpEnt S.MemberKey S.Ref S.Type1 S.Type2 (S.GrpEnt × Option Token) (Token × S.Type1) S.GenericArg S.Group (Token × S.GrpChoice) S.Types grpent_step key_step ref_step type1_step type2_step entry_step further_step arg_step group_step choice_step types_step
+
+unfoldable pub view_arg : GenericArg → S.GenericArg
+view_arg = fold-GenericArg S.GrpEnt S.MemberKey S.Ref S.Type1 S.Type2 (S.GrpEnt × Option Token) (Token × S.Type1) S.GenericArg S.Group (Token × S.GrpChoice) S.Types grpent_step key_step ref_step type1_step type2_step entry_step further_step arg_step group_step choice_step types_step
+
+unfoldable pub view_group : Group → S.Group
+view_group = fold-Group S.GrpEnt S.MemberKey S.Ref S.Type1 S.Type2 (S.GrpEnt × Option Token) (Token × S.Type1) S.GenericArg S.Group (Token × S.GrpChoice) S.Types grpent_step key_step ref_step type1_step type2_step entry_step further_step arg_step group_step choice_step types_step
+
+unfoldable pub view_choice : GrpChoice → Token × S.GrpChoice
+view_choice = fold-GrpChoice S.GrpEnt S.MemberKey S.Ref S.Type1 S.Type2 (S.GrpEnt × Option Token) (Token × S.Type1) S.GenericArg S.Group (Token × S.GrpChoice) S.Types grpent_step key_step ref_step type1_step type2_step entry_step further_step arg_step group_step choice_step types_step
+
+unfoldable pub view_types : Types → S.Types
+view_types = fold-Types S.GrpEnt S.MemberKey S.Ref S.Type1 S.Type2 (S.GrpEnt × Option Token) (Token × S.Type1) S.GenericArg S.Group (Token × S.GrpChoice) S.Types grpent_step key_step ref_step type1_step type2_step entry_step further_step arg_step group_step choice_step types_step
+
+abbrev pub with_parameters : S.GenericParm → List Parameter → S.GenericParm
+with_parameters p [] = p
+with_parameters p (x ∷ xs) = with_parameters (S.parameters p x.comma x.name) xs
+
+abbrev pub view_parm : GenericParm → S.GenericParm
+view_parm p = with_parameters (S.parameter p.first) p.others.items
+
+abbrev pub view_name : RuleName → S.RuleName
+view_name (RuleNameV.Plain t) = S.plain t
+view_name (RuleNameV.Generic o p c) = S.generic o (view_parm p) c
+
+abbrev pub view_assignt : AssignT → S.AssignT
+view_assignt (AssignTV.TypeIs t) = S.type_is t
+view_assignt (AssignTV.TypeOr t) = S.type_or t
+
+abbrev pub view_assigng : AssignG → S.AssignG
+view_assigng (AssignGV.GroupIs t) = S.group_is t
+view_assigng (AssignGV.GroupOr t) = S.group_or t
+
+abbrev pub view_rule : Rule → S.Rule
+view_rule (RuleV.TypeRule n a t) = S.type_rule (view_name n) (view_assignt a) (view_types t)
+view_rule (RuleV.GroupRule n a e) = S.group_rule (view_name n) (view_assigng a) (view_grpent e)
+
+abbrev pub with_rules : S.Rules → List Rule → S.Rules
+with_rules rs [] = rs
+with_rules rs (r ∷ more) = with_rules (S.rules rs (view_rule r)) more
+
+abbrev pub view : Tree → S.Cddl
+view t = S.cddl (with_rules S.no_rules t.rules.items) t.end
+
+-- the first of the tokens begins there
+abbrev pub StartsAt : List S.Lexeme → ℕ → Type 0
+StartsAt [] at = ⊥
+StartsAt (t ∷ ts) at = at ≡ t.1.start
