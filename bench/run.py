@@ -27,7 +27,9 @@ each item, so small numbers make some 25 bytes of output from each byte of input
 
 --mib is the first size of the streams of strings and of single numbers, 16 if left out; the second is twice that. The
 other streams' sizes change with it; since an item may have 16 MiB, N is at most 128. --only takes the streams whose
-name has TEXT. The streams are made in bench/data. The status is 1 where a growth is outside 1.5 to 2.6.
+name has TEXT. The streams are made in bench/data. The status is 1 where a growth is below 1.5 or above 2.6; for the
+maps of many keys above 3.4, since more keys than the processor's caches hold take longer each (pair by pair the growth
+would be 4).
 """
 import argparse
 import os
@@ -38,7 +40,7 @@ import time
 from streams import DATA, MIB, STREAMS
 
 RUNS, MOST_RUNS, SECONDS = 3, 15, 5
-LEAST, MOST = 1.5, 2.6
+LEAST = 1.5
 LONG_ITEM = 1 << 16
 SHORT = 0.1
 
@@ -187,9 +189,9 @@ def main():
     print(f"{'stream':32}{'MiB':>7}{'MiB/s':>9}{'cat MiB/s':>11}{'ratio':>8}"
           + "".join(f"{f'to {name}':>10}" for name in READERS) + f"{'growth':>10}{'peak MiB':>10}{'per byte':>10}")
     growths = [measured(os.path.abspath(given.program), stream, given.mib / 16, there) for stream in streams]
-    is_even = all(LEAST <= it <= MOST for it in growths)
-    print("each growth is 2 within noise" if is_even else f"a growth is outside {LEAST} to {MOST}")
-    return 0 if is_even else 1
+    uneven = [it.name for it, growth in zip(streams, growths) if not LEAST <= growth <= it.most]
+    print(f"the growth is out of bounds: {', '.join(uneven)}" if uneven else "each growth is within its bounds")
+    return 1 if uneven else 0
 
 
 if __name__ == "__main__":
