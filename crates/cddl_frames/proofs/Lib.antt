@@ -1,0 +1,5 @@
+pub mod Closing
+pub mod Contents
+pub mod Elsewhere
+pub mod Pushing
+pub mod Steps
