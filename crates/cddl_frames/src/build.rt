@@ -1,5 +1,5 @@
 //! The parts of a tree, put where they belong.
-ghost use Rattle.std.specs.Prelude.{◌≡◌, false, None, [], IfOk, IfErr};
+ghost use Rattle.std.specs.Prelude.{◌≡◌, false, None, [], IfOk, IfErr, MatchResult};
 ghost use Rattle.cddl_syntax.specs.Machine as M;
 ghost use Rattle.cddl_syntax.specs.Syntax as S;
 ghost use Rattle.cddl_tree.specs.View.{view_types, view_type1, view_type2, view_ref, view_arg, view_parm, view_group, view_grpent};
@@ -36,7 +36,7 @@ pub fn more_types<'s>(
     slash: Token<'s>,
     type1: Type1<'s>,
 ) -> Result<Types<'s>, Refusal>
-    ensures { IfOk result (λ t. view_types t ≡ S.or (view_types types.entry) slash.entry (view_type1 type1.entry)) }
+    ensures { MatchResult result (λ t. view_types t ≡ S.or (view_types types.entry) slash.entry (view_type1 type1.entry)) (λ e. e ≡ Refusal.Memory) }
 {
     let Types { first, mut others } = types;
     match others.push(Further { sign: slash, type1 }) {
@@ -56,7 +56,7 @@ pub fn group_of<'s>(
     before: Option<Alternatives<'s>>,
     entries: Vec<Entry<'s>>,
 ) -> Result<Group<'s>, Refusal>
-    ensures { IfOk result (λ g. view_group g ≡ M.group_of (view_alternatives before.entry) (view_entries entries.entry.items)) }
+    ensures { MatchResult result (λ g. view_group g ≡ M.group_of (view_alternatives before.entry) (view_entries entries.entry.items)) (λ e. e ≡ Refusal.Memory) }
 {
     match before {
         None => Ok(Group {
@@ -85,7 +85,7 @@ pub fn arg_of<'s>(
     before: Option<Arguments<'s>>,
     type1: Type1<'s>,
 ) -> Result<GenericArg<'s>, Refusal>
-    ensures { IfOk result (λ a. view_arg a ≡ M.arg_of (view_arguments before.entry) (view_type1 type1.entry)) }
+    ensures { MatchResult result (λ a. view_arg a ≡ M.arg_of (view_arguments before.entry) (view_type1 type1.entry)) (λ e. e ≡ Refusal.Memory) }
 {
     match before {
         None => Ok(GenericArg {
@@ -114,7 +114,7 @@ pub fn parm_of<'s>(
     before: Option<Parameters<'s>>,
     name: Token<'s>,
 ) -> Result<GenericParm<'s>, Refusal>
-    ensures { IfOk result (λ p. view_parm p ≡ M.parm_of (view_parameters before.entry) name.entry) }
+    ensures { MatchResult result (λ p. view_parm p ≡ M.parm_of (view_parameters before.entry) name.entry) (λ e. e ≡ Refusal.Memory) }
 {
     match before {
         None => Ok(GenericParm {
@@ -232,7 +232,7 @@ fn name_key<'s>(name: Ref<'s>, colon: Token<'s>) -> Option<MemberKey<'s>>
 
 /// What a group in parentheses stands for.
 pub fn content_of(group: Group<'_>) -> Result<Content<'_>, Refusal>
-    ensures { IfOk result (λ x. IsContent x (view_group group.entry)) }
+    ensures { MatchResult result (λ x. IsContent x (view_group group.entry)) (λ e. e ≡ Refusal.Memory) }
 {
     let Group { first, others } = group;
     if others.is_empty() {
@@ -248,7 +248,7 @@ fn sole_content<'s>(
     others: Vec<GrpChoice<'s>>,
 ) -> Result<Content<'s>, Refusal>
     requires { others.items ≡ [] }
-    ensures { IfOk result (λ x. IsContent x (S.sole (view_entries first.entry.items))) }
+    ensures { MatchResult result (λ x. IsContent x (S.sole (view_entries first.entry.items))) (λ e. e ≡ Refusal.Memory) }
 {
     let mut first = first;
     match first.pop() {
@@ -282,7 +282,7 @@ fn whole<'s>(
 ) -> Result<Content<'s>, Refusal>
     requires group { S.is_type (S.sole (S.entries (view_entries first.items) (view_grpent grpent) comma)) ≡ false }
     requires alone { others.items ≡ [] }
-    ensures { IfOk result (λ x. IsContent x (S.sole (S.entries (view_entries first.entry.items) (view_grpent grpent.entry) comma.entry))) }
+    ensures { MatchResult result (λ x. IsContent x (S.sole (S.entries (view_entries first.entry.items) (view_grpent grpent.entry) comma.entry))) (λ e. e ≡ Refusal.Memory) }
 {
     let mut first = first;
     match first.push(Entry { grpent, comma }) {
