@@ -15,6 +15,3 @@ mod turn;
 
 pub use malformed::Malformed;
 pub use reader::{FormReader, Progress};
-
-#[cfg(test)]
-mod tests;

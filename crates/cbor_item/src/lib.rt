@@ -12,8 +12,6 @@ mod notation;
 mod ranges;
 mod simples;
 mod sound;
-#[cfg(test)]
-mod tests;
 mod write;
 
 pub use crate::counted::Counted;

@@ -12,6 +12,3 @@ pub use fault::{Fault, FaultKind, Stop};
 pub use front::{Front, read_front};
 pub use limits::Limits;
 pub use reader::{Fed, ItemReader};
-
-#[cfg(test)]
-mod tests;

@@ -5,4 +5,3 @@ pub mod Views
 pub mod Members
 pub mod PairMembers
 pub mod Parts
-pub mod Spelled

@@ -7,6 +7,3 @@ mod strings;
 mod value;
 
 pub use crate::value::{Unread, read_value};
-
-#[cfg(test)]
-mod tests;

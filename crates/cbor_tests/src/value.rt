@@ -2,7 +2,7 @@
 ghost use Rattle.std.specs.Prelude.{◌≡◌, [], ◌∷◌, ◌++◌, replicate, IfOk};
 ghost use Rattle.cbor_value.specs.Unread.{IsWhole};
 
-use super::*;
+use cbor_value::{Unread, read_value};
 use std::alloc::{AllocError, Global};
 use std::process::Abort;
 use std::test::Fail;

@@ -1,7 +1,7 @@
 use Rattle.std.proofs.Common.{[], ◌∷◌, arith}
 use Rattle.cbor_data.specs.Forms.{bytes_form, bytes_chunks, text_form, text_chunks, inside, one, two}
-use Rattle.cbor_value.proofs.Spelled.{spelled, chunk}
-use Rattle.cbor_value.proofs.tests.reads_strings.Goals as goal
+use Rattle.cbor_tests.proofs.Spelled.{spelled, chunk}
+use Rattle.cbor_tests.proofs.value.reads_strings.Goals as goal
 
 pub expect-requires : goal.expect-requires
 expect-requires g c = spelled (bytes_form inside ([])) (omega arith, tt) (omega arith)

@@ -1,7 +1,7 @@
 use Rattle.std.proofs.Common.{[], ◌∷◌, arith}
 use Rattle.cbor_data.specs.Forms.{uint_form, nint_form, text_form, array_to_break, pairs_form, pairs_to_break, simple_inside, no_forms, form, no_pair_forms, pair_form, inside}
-use Rattle.cbor_value.proofs.Spelled.{spelled}
-use Rattle.cbor_value.proofs.tests.reads_maps.Goals as goal
+use Rattle.cbor_tests.proofs.Spelled.{spelled}
+use Rattle.cbor_tests.proofs.value.reads_maps.Goals as goal
 
 pub expect-requires : goal.expect-requires
 expect-requires g c = spelled (pairs_form inside no_pair_forms) (omega arith, tt) (omega arith)

@@ -1,5 +1,5 @@
 // What pieces lead to, however they are cut.
-use super::*;
+use cbor_form::{FormReader, Malformed, Progress};
 use std::alloc::{AllocError, Global};
 use std::process::Abort;
 use std::test::Fail;

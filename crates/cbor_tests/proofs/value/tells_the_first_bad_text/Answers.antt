@@ -1,7 +1,7 @@
 use Rattle.std.proofs.Common.{[], ◌∷◌, arith}
 use Rattle.cbor_data.specs.Forms.{uint_form, text_form, text_chunks, array_form, array_to_break, pairs_form, pairs_to_break, tag_form, no_forms, form, no_pair_forms, pair_form, inside, one, two}
-use Rattle.cbor_value.proofs.Spelled.{spelled, chunk}
-use Rattle.cbor_value.proofs.tests.tells_the_first_bad_text.Goals as goal
+use Rattle.cbor_tests.proofs.Spelled.{spelled, chunk}
+use Rattle.cbor_tests.proofs.value.tells_the_first_bad_text.Goals as goal
 
 pub expect-requires : goal.expect-requires
 expect-requires g c = spelled (text_form inside (255 ∷ [])) (omega arith, (omega arith, tt)) (omega arith)

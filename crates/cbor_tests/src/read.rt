@@ -1,6 +1,6 @@
 // What is read of whole streams, by pieces and by the plain reader.
-use super::*;
 use cbor_item::{Sound, diag};
+use cbor_read::{Fault, FaultKind, Fed, Front, ItemReader, Limits, Stop, read_front};
 use std::alloc::{AllocError, Global};
 use std::process::Abort;
 use std::test::Fail;

@@ -1,8 +1,8 @@
 use Rattle.std.proofs.Common.{arith}
 use Rattle.cbor_data.specs.declared.Width.TheVariants.{W16, W32, W64}
 use Rattle.cbor_data.specs.Forms.{simple_inside, simple_next, float_form}
-use Rattle.cbor_value.proofs.Spelled.{spelled}
-use Rattle.cbor_value.proofs.tests.reads_simple_values_and_floats.Goals as goal
+use Rattle.cbor_tests.proofs.Spelled.{spelled}
+use Rattle.cbor_tests.proofs.value.reads_simple_values_and_floats.Goals as goal
 
 pub expect-requires : goal.expect-requires
 expect-requires g c = spelled (simple_inside 20) (omega arith) (omega arith)

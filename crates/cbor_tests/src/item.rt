@@ -1,4 +1,4 @@
-use super::*;
+use cbor_item::{Counted, Item, Sound, Unsound, Width, WriteFault, diag, write_bytes, write_item};
 use std::alloc::{AllocError, Global};
 use std::io;
 use std::io::{ErrorKind, Read, Write};

@@ -1,7 +1,7 @@
 use Rattle.std.proofs.Common.{[], ◌∷◌, arith}
 use Rattle.cbor_data.specs.Forms.{uint_form, bytes_form, array_form, array_to_break, tag_form, no_forms, form, inside, one, four}
-use Rattle.cbor_value.proofs.Spelled.{spelled}
-use Rattle.cbor_value.proofs.tests.reads_arrays_and_tags.Goals as goal
+use Rattle.cbor_tests.proofs.Spelled.{spelled}
+use Rattle.cbor_tests.proofs.value.reads_arrays_and_tags.Goals as goal
 
 pub expect-requires : goal.expect-requires
 expect-requires g c = spelled (array_form inside no_forms) (omega arith, tt) (omega arith)

@@ -1,7 +1,7 @@
 use Rattle.std.proofs.Common.{arith}
 use Rattle.cbor_data.specs.Forms.{uint_form, nint_form, inside, one, two, four, eight}
-use Rattle.cbor_value.proofs.Spelled.{spelled}
-use Rattle.cbor_value.proofs.tests.reads_numbers.Goals as goal
+use Rattle.cbor_tests.proofs.Spelled.{spelled}
+use Rattle.cbor_tests.proofs.value.reads_numbers.Goals as goal
 
 pub expect-requires : goal.expect-requires
 expect-requires g c = spelled (uint_form inside 0) (omega arith) (omega arith)

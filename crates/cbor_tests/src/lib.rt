@@ -1,0 +1,11 @@
+//! The tests of the crates that read and write items: a crate with tests of its own is proved twice.
+#![tactic(auto)]
+
+#[cfg(test)]
+mod form;
+#[cfg(test)]
+mod item;
+#[cfg(test)]
+mod read;
+#[cfg(test)]
+mod value;
