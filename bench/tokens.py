@@ -1,7 +1,7 @@
 #!/usr/bin/env python3
-"""Measures the scanner of CDDL on sources of 512 KiB and 1 MiB, and prints a table.
+"""Measures the scanner and the parser of CDDL on sources of two sizes, one twice the other, and prints a table.
 
-    tokens.py PROGRAM     PROGRAM counts the tokens of its standard input
+    tokens.py PROGRAM     PROGRAM counts the tokens and the rules of its standard input
 
 A run takes a few milliseconds, so the times of many runs are added, the two sizes and an empty source taking turns; what
 the empty source costs is taken off. The columns: the speed on the larger source, in MiB/s of processor time, and the
@@ -17,8 +17,9 @@ import sys
 import tempfile
 
 KIB = 1 << 10
-SIZES = (512 * KIB, 1024 * KIB)
-RUNS = 80
+# What only the scanner takes time for, and what the parser does too: the sizes, and how many runs.
+SCANNED = (512 * KIB, 1024 * KIB), 80
+PARSED = (256 * KIB, 512 * KIB), 4
 LEAST, MOST = 1.4, 2.8
 
 
@@ -42,15 +43,33 @@ TEXTS = [
     ("blank lines", b"", b"\r\n", b""),
 ]
 
+SPECIFICATIONS = [
+    ("a refusal at the last token", b"a=[", b"b,", b""),
+    ("short rules", b"", b"a=b ", b""),
+    ("rules with parameters", b"", b"a<b,c>=d<b,c> ", b""),
+    ("a wide choice", b"a=b", b"/b", b""),
+    ("a wide choice of groups", b"a=[b", b"//b", b"]"),
+    ("a wide array", b"a=[", b"b,", b"]"),
+    ("a wide array without commas", b"a=[", b"b ", b"]"),
+    ("a wide map", b"a={", b"b:c,", b"}"),
+    ("a wide list of arguments", b"a=b<c", b",c", b">"),
+    ("deep arrays", b"a=b", b"/" + b"[" * 128 + b"]" * 128, b""),
+    ("deep parentheses", b"a=b", b"/" + b"(" * 128 + b"c" + b")" * 128, b""),
+    ("deep groups", b"a=[b", b"," + b"(" * 127 + b"c,d" + b")" * 127, b"]"),
+    ("deep arguments", b"a=b", b"/" + b"c<" * 128 + b"c" + b">" * 128, b""),
+    ("deep keys", b"a=b", b"/" + b"[" * 128 + b"c" + b"=>d]" * 128, b""),
+    ("deep tags", b"a=b", b"/" + b"#6.1(" * 128 + b"c" + b")" * 128, b""),
+]
 
-def seconds(program, sources):
-    """The processor time of RUNS runs on each of these sources, by turns."""
+
+def seconds(program, sources, runs):
+    """The processor time of so many runs on each of these sources, by turns."""
     spent = [0.0] * len(sources)
     with contextlib.ExitStack() as stack:
         files = [stack.enter_context(tempfile.TemporaryFile()) for _ in sources]
         for file, source in zip(files, sources):
             file.write(source)
-        for _ in range(RUNS):
+        for _ in range(runs):
             for i, file in enumerate(files):
                 file.seek(0)
                 before = resource.getrusage(resource.RUSAGE_CHILDREN)
@@ -61,17 +80,19 @@ def seconds(program, sources):
 
 
 def main():
-    words = argparse.ArgumentParser(description="Measures the scanner of CDDL.")
+    words = argparse.ArgumentParser(description="Measures the scanner and the parser of CDDL.")
     words.add_argument("program")
     program = os.path.abspath(words.parse_args().program)
     bad = False
     print(f"{'source':30} {'MiB/s':>8} {'growth':>7}")
-    for name, front, unit, back in TEXTS:
-        empty, small, large = seconds(program, [b"", *(padded(front, unit, back, size) for size in SIZES)])
-        small, large = max(small - empty, 1e-6), max(large - empty, 1e-6)
-        growth = large / small
-        bad = bad or not LEAST <= growth <= MOST
-        print(f"{name:30} {RUNS * SIZES[1] / (1 << 20) / large:8.1f} {growth:7.2f}", flush=True)
+    for texts, (sizes, runs) in ((TEXTS, SCANNED), (SPECIFICATIONS, PARSED)):
+        for name, front, unit, back in texts:
+            sources = [b"", *(padded(front, unit, back, size) for size in sizes)]
+            empty, small, large = seconds(program, sources, runs)
+            small, large = max(small - empty, 1e-6), max(large - empty, 1e-6)
+            growth = large / small
+            bad = bad or not LEAST <= growth <= MOST
+            print(f"{name:30} {runs * sizes[1] / (1 << 20) / large:8.1f} {growth:7.2f}", flush=True)
     return 1 if bad else 0
 
 

@@ -1,5 +1,5 @@
 -- The equations of the view.
-use Rattle.std.proofs.Common.{◌≡◌, ℕ, List, [], ◌∷◌, ◌++◌, Option, Some, None, refl, sym, ap, ◌∙◌, map, Box, Vec, Global}
+use Rattle.std.proofs.Common.{◌≡◌, Option, sym, ap, ◌∙◌, map, Box, Vec, Global}
 use Rattle.cddl_token.specs.declared.Token.{Token}
 use Rattle.cddl_tree.specs.declared.tree.GrpEnt.{GrpEnt}
 use Rattle.cddl_tree.specs.declared.tree.MemberKey.{MemberKey}
@@ -14,9 +14,9 @@ use Rattle.cddl_tree.specs.declared.tree.GrpChoice.{GrpChoice}
 use Rattle.cddl_tree.specs.declared.tree.Types.{Types}
 use Rattle.cddl_tree.specs.declared.tree.Value.{Value}
 use Rattle.cddl_tree.specs.declared.tree.Operator.{Operator}
-use Rattle.cddl_tree.specs.declared.tree.GrpEnt.TheViews.{roll-Entry, roll-Further, roll-GenericArg, roll-Group, roll-GrpChoice, roll-Types, out-Types, out-GenericArg, out-Group, out-GrpChoice, out-Entry, out-Further}
-use Rattle.cddl_tree.specs.declared.tree.GrpEnt.TheFolds.{fold-roll-GrpEnt, fold-roll-MemberKey, fold-roll-Ref, fold-roll-Type1, fold-roll-Type2, fold-roll-Entry, fold-roll-Further, fold-roll-GenericArg, fold-roll-Group, fold-roll-GrpChoice, fold-roll-Types, fold_out-Types, fold_out-GenericArg, fold_out-Group, fold_out-GrpChoice, fold_out-Entry, fold_out-Further}
-use Rattle.cddl_tree.specs.declared.tree.GrpEnt.TheOpen.{GrpEnt-F, MemberKey-F, Ref-F, Type1-F, Type2-F, Entry-F, Further-F, GenericArg-F, Group-F, GrpChoice-F, Types-F}
+use Rattle.cddl_tree.specs.declared.tree.GrpEnt.TheViews.{roll-GenericArg, roll-Group, roll-GrpChoice, roll-Types, out-Types, out-GenericArg, out-Group, out-GrpChoice}
+use Rattle.cddl_tree.specs.declared.tree.GrpEnt.TheFolds.{fold-roll-GrpEnt, fold-roll-MemberKey, fold-roll-Ref, fold-roll-Type1, fold-roll-Type2, fold-roll-Entry, fold-roll-Further, fold-roll-GenericArg, fold-roll-Group, fold-roll-GrpChoice, fold-roll-Types, fold_out-Types, fold_out-GenericArg, fold_out-Group, fold_out-GrpChoice}
+use Rattle.cddl_tree.specs.declared.tree.GrpEnt.TheOpen.{GrpEnt-F, MemberKey-F, Ref-F, Type1-F, Type2-F}
 use Rattle.cddl_tree.specs.declared.tree.GrpEnt.TheVariants as GrpEntV
 use Rattle.cddl_tree.specs.declared.tree.MemberKey.TheVariants as MemberKeyV
 use Rattle.cddl_tree.specs.declared.tree.Ref.TheVariants as RefV
@@ -33,11 +33,11 @@ pub view-Applied : (o : Token) (a : Box GenericArg Global) (c : Token) → view_
 unfolding view_ref view_arg
 view-Applied o a c = ap view_ref (sym (RefV.rolls-Applied o a c)) ∙ fold-roll-Ref _ _ _ _ _ _ _ _ _ _ _ grpent_step key_step ref_step type1_step type2_step entry_step further_step arg_step group_step choice_step types_step (Ref-F.Applied o a c)
 
-pub view-One : (x : Type2) → view_type1 (Type1V.One x) ≡ S.one (view_type2 x)
+pub view-One : (x : Box Type2 Global) → view_type1 (Type1V.One x) ≡ S.one (view_type2 x.value)
 unfolding view_type1 view_type2
 view-One x = ap view_type1 (sym (Type1V.rolls-One x)) ∙ fold-roll-Type1 _ _ _ _ _ _ _ _ _ _ _ grpent_step key_step ref_step type1_step type2_step entry_step further_step arg_step group_step choice_step types_step (Type1-F.One x)
 
-pub view-Operation : (x : Type2) (o : Operator) (y : Box Type2 Global) → view_type1 (Type1V.Operation x o y) ≡ S.operation (view_type2 x) (view_operator o) (view_type2 y.value)
+pub view-Operation : (x : Box Type2 Global) (o : Operator) (y : Box Type2 Global) → view_type1 (Type1V.Operation x o y) ≡ S.operation (view_type2 x.value) (view_operator o) (view_type2 y.value)
 unfolding view_type1 view_type2
 view-Operation x o y = ap view_type1 (sym (Type1V.rolls-Operation x o y)) ∙ fold-roll-Type1 _ _ _ _ _ _ _ _ _ _ _ grpent_step key_step ref_step type1_step type2_step entry_step further_step arg_step group_step choice_step types_step (Type1-F.Operation x o y)
 

@@ -1,5 +1,5 @@
 -- What a tree of the code stands for.
-use Rattle.std.specs.Prelude.{◌≡◌, ℕ, List, [], ◌∷◌, ◌++◌, Option, Some, None, map}
+use Rattle.std.specs.Prelude.{◌≡◌, ℕ, List, [], ◌∷◌, Option}
 use Rattle.cddl_token.specs.declared.Token.{Token}
 use Rattle.cddl_tree.specs.declared.tree.GrpEnt.{GrpEnt}
 use Rattle.cddl_tree.specs.declared.tree.MemberKey.{MemberKey}
@@ -75,8 +75,8 @@ ref_step (Ref-F.Name t) = S.name t
 ref_step (Ref-F.Applied o a c) = S.applied o a.value c
 
 abbrev pub type1_step : Type1-F S.GrpEnt S.MemberKey S.Ref S.Type1 S.Type2 (S.GrpEnt × Option Token) (Token × S.Type1) S.GenericArg S.Group (Token × S.GrpChoice) S.Types → S.Type1
-type1_step (Type1-F.One x) = S.one x
-type1_step (Type1-F.Operation x o y) = S.operation x (view_operator o) y.value
+type1_step (Type1-F.One x) = S.one x.value
+type1_step (Type1-F.Operation x o y) = S.operation x.value (view_operator o) y.value
 
 abbrev pub type2_step : Type2-F S.GrpEnt S.MemberKey S.Ref S.Type1 S.Type2 (S.GrpEnt × Option Token) (Token × S.Type1) S.GenericArg S.Group (Token × S.GrpChoice) S.Types → S.Type2
 type2_step (Type2-F.Literal v) = S.literal (view_value v)

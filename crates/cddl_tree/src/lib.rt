@@ -10,6 +10,3 @@ pub use crate::tree::{
     AssignG, AssignT, Entry, Further, GenericArg, GenericParm, Group, GrpChoice, GrpEnt, MemberKey,
     Operator, Parameter, Ref, Rule, RuleName, Tree, Type1, Type2, Types, Value,
 };
-
-#[cfg(test)]
-mod tests;

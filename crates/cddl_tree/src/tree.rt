@@ -21,7 +21,7 @@ pub enum Operator<'s> {
 
 /// type: a choice of one type1 or more.
 #[cycle(tree)]
-#[derive(Drop)]
+#[derive(Debug, Drop)]
 pub struct Types<'s> {
     pub first: Type1<'s>,
     /// The others, each behind its `/`.
@@ -30,7 +30,7 @@ pub struct Types<'s> {
 
 /// A further type1 and the sign before it.
 #[cycle(tree)]
-#[derive(Drop)]
+#[derive(Debug, Drop)]
 pub struct Further<'s> {
     /// `/` in a type, `,` in a genericarg.
     pub sign: Token<'s>,
@@ -39,11 +39,11 @@ pub struct Further<'s> {
 
 /// type1: an operand, or two and what stands between them.
 #[cycle(tree)]
-#[derive(Drop)]
+#[derive(Debug, Drop)]
 pub enum Type1<'s> {
-    One(Type2<'s>),
+    One(Box<Type2<'s>>),
     Operation {
-        left: Type2<'s>,
+        left: Box<Type2<'s>>,
         operator: Operator<'s>,
         right: Box<Type2<'s>>,
     },
@@ -51,7 +51,7 @@ pub enum Type1<'s> {
 
 /// type2: an operand.
 #[cycle(tree)]
-#[derive(Drop)]
+#[derive(Debug, Drop)]
 pub enum Type2<'s> {
     Literal(Value<'s>),
     /// A typename; in an entry perhaps a groupname.
@@ -118,7 +118,7 @@ pub enum Type2<'s> {
 
 /// A typename or groupname that is used, with its genericarg if it has one.
 #[cycle(tree)]
-#[derive(Drop)]
+#[derive(Debug, Drop)]
 pub enum Ref<'s> {
     Name(Token<'s>),
     Applied {
@@ -130,7 +130,7 @@ pub enum Ref<'s> {
 
 /// genericarg, between its angles: one type1 or more.
 #[cycle(tree)]
-#[derive(Drop)]
+#[derive(Debug, Drop)]
 pub struct GenericArg<'s> {
     pub first: Type1<'s>,
     /// The others, each behind its `,`.
@@ -139,7 +139,7 @@ pub struct GenericArg<'s> {
 
 /// group: a choice of one grpchoice or more, of which any may be empty.
 #[cycle(tree)]
-#[derive(Drop)]
+#[derive(Debug, Drop)]
 pub struct Group<'s> {
     pub first: Vec<Entry<'s>>,
     pub others: Vec<GrpChoice<'s>>,
@@ -147,7 +147,7 @@ pub struct Group<'s> {
 
 /// A further grpchoice, behind its `//`.
 #[cycle(tree)]
-#[derive(Drop)]
+#[derive(Debug, Drop)]
 pub struct GrpChoice<'s> {
     pub slashes: Token<'s>,
     pub entries: Vec<Entry<'s>>,
@@ -155,7 +155,7 @@ pub struct GrpChoice<'s> {
 
 /// A grpent and its optcom.
 #[cycle(tree)]
-#[derive(Drop)]
+#[derive(Debug, Drop)]
 pub struct Entry<'s> {
     pub grpent: GrpEnt<'s>,
     pub comma: Option<Token<'s>>,
@@ -163,7 +163,7 @@ pub struct Entry<'s> {
 
 /// grpent
 #[cycle(tree)]
-#[derive(Drop)]
+#[derive(Debug, Drop)]
 pub enum GrpEnt<'s> {
     /// A type; or a reference to a group.
     Typed {
@@ -186,7 +186,7 @@ pub enum GrpEnt<'s> {
 
 /// memberkey
 #[cycle(tree)]
-#[derive(Drop)]
+#[derive(Debug, Drop)]
 pub enum MemberKey<'s> {
     /// `type1 =>` or `type1 ^ =>`
     TypeKey {
@@ -207,7 +207,7 @@ pub enum MemberKey<'s> {
 }
 
 /// genericparm, between its angles: one name or more.
-#[derive(Drop)]
+#[derive(Debug, Drop)]
 pub struct GenericParm<'s> {
     pub first: Token<'s>,
     pub others: Vec<Parameter<'s>>,
@@ -221,7 +221,7 @@ pub struct Parameter<'s> {
 }
 
 /// A typename or groupname that is defined, with its genericparm if it has one.
-#[derive(Drop)]
+#[derive(Debug, Drop)]
 pub enum RuleName<'s> {
     Plain(Token<'s>),
     Generic {
@@ -250,7 +250,7 @@ pub enum AssignG<'s> {
 }
 
 /// rule
-#[derive(Drop)]
+#[derive(Debug, Drop)]
 pub enum Rule<'s> {
     TypeRule {
         name: RuleName<'s>,
@@ -265,7 +265,7 @@ pub enum Rule<'s> {
 }
 
 /// cddl: the rules of a specification, and the end of its source.
-#[derive(Drop)]
+#[derive(Debug, Drop)]
 pub struct Tree<'s> {
     pub rules: Vec<Rule<'s>>,
     pub end: Token<'s>,

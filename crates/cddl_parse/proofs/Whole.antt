@@ -1,0 +1,228 @@
+-- What the parser's state says of the tokens behind it.
+use Rattle.std.proofs.Common.{◌≡◌, ◌≢◌, ℕ, suc, max, ◌≤◌, ◌<◌, ◌+◌, ◌⊎◌, List, [], ◌∷◌, ◌++◌, length, take, drop, get_or, Option, Some, None, Result, Ok, Err, refl, sym, ap, ◌∙◌, subst, ⊎_elim, arith, add-one, append-nil}
+use Rattle.std.proofs.Math.Seq.{take-suc, drop-cons}
+use Rattle.std.proofs.lemmas.List.{take-append-drop}
+use Rattle.cddl_token.specs.declared.Token.{Token}
+use Rattle.cddl_token.specs.declared.Kind.TheVariants.{End}
+use Rattle.cddl_token.specs.declared.Refusal.{Refusal}
+use Rattle.cddl_token.specs.declared.Refusal.TheVariants.{At, Memory}
+use Rattle.cddl_token.specs.declared.Code.{Code}
+use Rattle.cddl_token.specs.declared.Code.TheVariants.{Unexpected, TooNested}
+use Rattle.cddl_syntax.specs.Syntax.{Lexeme, Cddl, flat, nesting}
+use Rattle.cddl_syntax.specs.Machine as M
+use Rattle.cddl_syntax.specs.Answers.{lexeme, lexemes, Prints, Begins, nesting_limit, opened, open_after, deepest, IsTreeOf, Reaches, IsUnexpected, IsTooNested, IsRefused}
+use Rattle.cddl_tree.specs.declared.tree.Tree.{Tree}
+use Rattle.cddl_tree.specs.View.{view}
+use Rattle.cddl_parse.specs.declared.frames.Now.{Now}
+use Rattle.cddl_parse.specs.declared.frames.Now.TheVariants as N
+use Rattle.cddl_parse.specs.Frames.{on, made, Below, below, as_entry, view_at_type1, view_at_type2, view_now, view_rules}
+use Rattle.cddl_parse.specs.declared.state.State.{State}
+use Rattle.cddl_parse.specs.declared.state.State.TheVariants as St
+use Rattle.cddl_parse.specs.declared.state.Progress.{Progress}
+use Rattle.cddl_parse.specs.States.{view_state, tree_in, GivesState, EndsInEnd, Refuses, Stands}
+
+-- One token more.
+
+run-push : (s : M.State) (ts : List Token) (t : Token) → M.run s (lexemes (ts ++ t ∷ [])) ≡ M.step (M.run s (lexemes ts)) t.kind t
+run-push s [] t = refl
+run-push s (x ∷ ts) t = run-push (M.step s x.kind x) ts t
+
+open-push : (n : ℕ) (ts : List Token) (t : Token) → open_after n (lexemes (ts ++ t ∷ [])) ≡ opened t.kind (open_after n (lexemes ts))
+open-push n [] t = refl
+open-push n (x ∷ ts) t = open-push (opened x.kind n) ts t
+
+deepest-push : (n : ℕ) (ts : List Token) (t : Token) → deepest n (lexemes (ts ++ t ∷ [])) ≡ max (deepest n (lexemes ts)) (opened t.kind (open_after n (lexemes ts)))
+deepest-push n [] t = refl
+deepest-push n (x ∷ ts) t = let e = deepest-push (opened x.kind n) ts t in omega arith
+
+open_within : (n : ℕ) (a b : List Token) → open_after n (lexemes a) ≤ deepest n (lexemes (a ++ b))
+open_within n [] [] = omega arith
+open_within n [] (y ∷ b) = omega arith
+open_within n (x ∷ a) b = let i = open_within (opened x.kind n) a b in omega arith
+
+-- A state of the parser is never stuck.
+
+made_goes : {A : Type 0} (f : A → M.State) (q : Option A) → ((x : A) → f x ≢ M.stuck) → made f q ≢ Some M.stuck
+made_goes f None h e = cc
+made_goes f (Some x) h e = h x cc
+
+now_goes : (b : Below) (x : Now) → view_now b x ≢ Some M.stuck
+now_goes b (N.Want at) e = made_goes _ (view_at_type2 b at) (λ k i. cc) e
+now_goes b (N.WantRef at p) e = made_goes _ (view_at_type2 b at) (λ k i. cc) e
+now_goes b (N.WantContent at o h a) e = made_goes _ (view_at_type2 b at) (λ k i. cc) e
+now_goes b (N.Have at r) e = made_goes _ (view_at_type1 b at) (λ k i. cc) e
+now_goes b (N.WantArrow oc r u) e = made_goes _ (as_entry b) (λ k i. cc) e
+now_goes b (N.HaveGroup x) e = made_goes _ (as_entry b) (λ k i. cc) e
+now_goes b (N.Ended r) e = cc
+
+goes : (s : State) → view_state s ≢ Some M.stuck
+goes St.Begin e = cc
+goes (St.WantParm rs o p) e = cc
+goes (St.HaveParm rs o p) e = cc
+goes (St.WantAssign rs n) e = cc
+goes (St.Body rs fs x) e = now_goes (below (view_rules rs.items) fs.items) x.value e
+goes (St.Done t) e = cc
+
+pub live : (p : Progress) (ts : List Token) → Stands p ts → M.run M.begin (lexemes ts) ≢ M.stuck
+live p ts h e = goes p.state (h.place ∙ ap Some e)
+
+-- From token to token.
+
+-- what the step says at the state's view
+at_place : (v : Option M.State) (m : M.State) (P : M.State → Type 0) → v ≡ Some m → on v P → P m
+at_place v m P e h = rw e at h
+
+pub stands_first : Stands (record { state = St.Begin; count = 0 }) []
+stands_first = record { place = refl; count = refl; within = omega arith }
+
+-- the step that the code makes at the token t
+abbrev pub Stepped : State → Token → Result State Refusal → Type 0
+Stepped s t r = on (view_state s) (λ m. GivesState t r (M.step m t.kind t))
+
+stepped : (p : Progress) (ts : List Token) (t : Token) (r : Result State Refusal) → Stands p ts → Stepped p.state t r → GivesState t r (M.step (M.run M.begin (lexemes ts)) t.kind t)
+stepped p ts t r h g = at_place (view_state p.state) (M.run M.begin (lexemes ts)) (λ m. GivesState t r (M.step m t.kind t)) h.place g
+
+pub stands_next : (p : Progress) (s : State) (n : ℕ) (ts : List Token) (t : Token) → Stands p ts → Stepped p.state t (Ok s) → n ≡ opened t.kind p.count → n ≤ nesting_limit → Stands (record { state = s; count = n }) (ts ++ t ∷ [])
+stands_next p s n ts t h g e w =
+    let c : n ≡ opened t.kind (open_after 0 (lexemes ts)) = e ∙ ap (opened t.kind) h.count in
+    let d = deepest-push 0 ts t in
+    let i = h.within in
+    record {
+      place = stepped p ts t (Ok s) h g ∙ ap Some (sym (run-push M.begin ts t));
+      count = c ∙ sym (open-push 0 ts t);
+      within = omega arith;
+    }
+
+pub goes_along : (xs : List Token) (i : ℕ) (d : Token) (p : Progress) → i < length xs → Stands p (take i xs ++ get_or xs i d ∷ []) → Stands p (take (i + 1) xs)
+goes_along xs i d p l h = subst (Stands p) (sym (take-suc xs i d l) ∙ ap (λ (k : ℕ). take k xs) (sym (add-one i))) h
+
+-- the count is small enough to grow
+pub countable : (p : Progress) (ts : List Token) → Stands p ts → p.count < 129
+countable p ts h = let c = h.count in let w = h.within in let o = open_within 0 ts [] in
+    let e : deepest 0 (lexemes (ts ++ [])) ≡ deepest 0 (lexemes ts) = ap (λ (us : List Token). deepest 0 (lexemes us)) (append-nil ts) in omega arith
+
+-- The laws of the grammar's machine.
+
+abbrev pub Going : Type 0
+Going = (t : Token) (ts : List Lexeme) → M.run M.begin ts ≢ M.stuck → Begins ts
+
+abbrev pub Stuck : Type 0
+Stuck = (ts : List Lexeme) → M.run M.begin ts ≡ M.stuck → Begins ts → ⊥
+
+abbrev pub Answered : Type 0
+Answered = (front : List Token) (e : Token) → e.kind ≡ End → ((x : Cddl) × IsTreeOf x (front ++ e ∷ [])) ⊎ ((c : Code) × (p : ℕ) × IsRefused (front ++ e ∷ []) c p)
+
+-- A refusal.
+
+reached : Going → (p : Progress) (front back : List Token) (t : Token) → Stands p front → Reaches (front ++ t ∷ back) front t t.start
+reached go p front back t h = record { back = back; parts = refl; place = refl; begins = go t (lexemes front) (live p front h); within = h.within }
+
+unexpected : Going → Stuck → (p : Progress) (front back : List Token) (t : Token) (n : ℕ) → Stands p front → M.step (M.run M.begin (lexemes front)) t.kind t ≡ M.stuck → n ≡ t.start → IsUnexpected (front ++ t ∷ back) n
+unexpected go stop p front back t n h e f = rw f (record {
+  front = front;
+  token = t;
+  reaches = reached go p front back t h;
+  wrong = stop (lexemes (front ++ t ∷ [])) (run-push M.begin front t ∙ e);
+})
+
+right : Going → Stuck → (p : Progress) (front back : List Token) (t : Token) (e : Refusal) → Stands p front → GivesState t (Err e) (M.step (M.run M.begin (lexemes front)) t.kind t) → Refuses (front ++ t ∷ back) e
+right go stop p front back t Memory h g = tt
+right go stop p front back t (At Unexpected n) h g = unexpected go stop p front back t n h g.0 g.1
+right go stop p front back t (At c n) h g = absurd g
+
+pub refused : Going → Stuck → (p : Progress) (ts : List Token) (t : Token) (e : Refusal) → Stands p ts → Stepped p.state t (Err e) → (back : List Token) → Refuses (ts ++ t ∷ back) e
+refused go stop p ts t e h g back = right go stop p ts back t e h (stepped p ts t (Err e) h g)
+
+pub too_nested : Going → (p : Progress) (s : State) (n : ℕ) (ts : List Token) (t : Token) → Stands p ts → Stepped p.state t (Ok s) → n ≡ opened t.kind p.count → nesting_limit < n → (back : List Token) → IsTooNested (ts ++ t ∷ back) t.start
+too_nested go p s n ts t h g e w back =
+    let i = stepped p ts t (Ok s) h g ∙ ap Some (sym (run-push M.begin ts t)) in
+    let c : n ≡ open_after 0 (lexemes (ts ++ t ∷ [])) = e ∙ ap (opened t.kind) h.count ∙ sym (open-push 0 ts t) in
+    record {
+      front = ts;
+      token = t;
+      reaches = reached go p ts back t h;
+      begins = go t (lexemes (ts ++ t ∷ [])) (λ j. goes s (i ∙ ap Some j));
+      over = omega arith;
+    }
+
+pub parts : (xs : List Token) (i : ℕ) (d : Token) → i < length xs → xs ≡ take i xs ++ get_or xs i d ∷ drop (suc i) xs
+parts xs i d l = sym (take-append-drop i xs) ∙ ap (λ (ys : List Token). take i xs ++ ys) (drop-cons xs i d l)
+
+pub refused_whole : (xs : List Token) (i : ℕ) (d : Token) (e : Refusal) → i < length xs → ((back : List Token) → Refuses (take i xs ++ get_or xs i d ∷ back) e) → Refuses xs e
+refused_whole xs i d e l h = subst (λ (ys : List Token). Refuses ys e) (sym (parts xs i d l)) (h (drop (suc i) xs))
+
+-- The end.
+
+pub done_place : (s : State) (t : Tree) → Some t ≡ tree_in s → view_state s ≡ Some (M.done (view t))
+done_place St.Begin t e = cc
+done_place (St.WantParm rs o p) t e = cc
+done_place (St.HaveParm rs o p) t e = cc
+done_place (St.WantAssign rs n) t e = cc
+done_place (St.Body rs fs now) t e = cc
+done_place (St.Done u) t e = let f : t ≡ u = cc in ap (λ (x : Tree). Some (M.done (view x))) (sym f)
+
+-- behind all tokens the state holds their tree
+pub done_behind : (p : Progress) (ts : List Token) (t : Tree) → Some t ≡ tree_in p.state → Stands p ts → M.run M.begin (lexemes ts) ≡ M.done (view t)
+done_behind p ts t e h = let f = h.place in let g = done_place p.state t e in cc
+
+lexemes-front : (a b : List Token) (us : List Lexeme) → lexemes (a ++ b) ++ us ≡ lexemes a ++ (lexemes b ++ us)
+lexemes-front [] b us = refl
+lexemes-front (t ∷ a) b us = ap (λ (ts : List Lexeme). lexeme t ∷ ts) (lexemes-front a b us)
+
+begins_front : (a b : List Token) → Begins (lexemes (a ++ b)) → Begins (lexemes a)
+begins_front a b h = (h.0, lexemes b ++ h.1, subst (Prints h.0) (lexemes-front a b h.1) h.2)
+
+more : (front back : List Token) (t : Token) → front ++ t ∷ back ≡ (front ++ t ∷ []) ++ back
+more [] back t = refl
+more (x ∷ front) back t = ap (λ (ts : List Token). x ∷ ts) (more front back t)
+
+-- tokens that begin a tree within the limit are not refused
+not_refused : (ts : List Token) (c : Code) (p : ℕ) → Begins (lexemes ts) → deepest 0 (lexemes ts) ≤ nesting_limit → IsRefused ts c p → ⊥
+not_refused ts Unexpected p b w h = h.wrong (begins_front (h.front ++ h.token ∷ []) h.reaches.back (subst (λ (us : List Token). Begins (lexemes us)) (h.reaches.parts ∙ more h.front h.reaches.back h.token) b))
+not_refused ts TooNested p b w h =
+    let v = subst (λ (us : List Token). deepest 0 (lexemes us) ≤ nesting_limit) (h.reaches.parts ∙ more h.front h.reaches.back h.token) w in
+    let o = open_within 0 (h.front ++ h.token ∷ []) h.reaches.back in
+    let i = h.over in
+    omega arith
+not_refused ts c p b w h = absurd h
+
+not_over : (s : State) (x : Cddl) → view_state s ≡ Some (M.done x) → None ≡ tree_in s → ⊥
+not_over St.Begin x e f = cc
+not_over (St.WantParm rs o p) x e f = cc
+not_over (St.HaveParm rs o p) x e f = cc
+not_over (St.WantAssign rs n) x e f = cc
+not_over (St.Body rs fs now) x e f = body (below (view_rules rs.items) fs.items) now.value e
+  where
+    never : {A : Type 0} (g : A → M.State) (q : Option A) → ((y : A) → g y ≢ M.done x) → made g q ≢ Some (M.done x)
+    never g None h i = cc
+    never g (Some y) h i = h y cc
+
+    body : (b : Below) (v : Now) → view_now b v ≢ Some (M.done x)
+    body b (N.Want at) i = never _ (view_at_type2 b at) (λ k j. cc) i
+    body b (N.WantRef at p) i = never _ (view_at_type2 b at) (λ k j. cc) i
+    body b (N.WantContent at o h a) i = never _ (view_at_type2 b at) (λ k j. cc) i
+    body b (N.Have at r) i = never _ (view_at_type1 b at) (λ k j. cc) i
+    body b (N.WantArrow oc r u) i = never _ (as_entry b) (λ k j. cc) i
+    body b (N.HaveGroup g) i = never _ (as_entry b) (λ k j. cc) i
+    body b (N.Ended r) i = cc
+not_over (St.Done t) x e f = cc
+
+pub is_done : Going → ((ts : List Lexeme) (x : Cddl) → Prints x ts → M.run M.begin ts ≡ M.done x) → Answered → (ts : List Token) (p : Progress) → EndsInEnd ts → Stands p ts → None ≡ tree_in p.state → ⊥
+is_done go complete answered ts p e h f =
+    let k : Stands p (e.0 ++ e.1 ∷ []) = subst (Stands p) e.2 h in
+    ⊎_elim
+    (λ y. not_over p.state y.0 (k.place ∙ ap Some (complete (lexemes (e.0 ++ e.1 ∷ [])) y.0 y.1.prints)) f)
+    (λ y. not_refused (e.0 ++ e.1 ∷ []) y.0 y.1 (go e.1 (lexemes (e.0 ++ e.1 ∷ [])) (live p (e.0 ++ e.1 ∷ []) k)) k.within y.2)
+    (answered e.0 e.1 e.3)
+
+-- the tokens' tree nests as deep as they do
+pub tree_of : ((x : Cddl) → deepest 0 (flat x) ≡ nesting x) → (ts : List Token) (x : Cddl) → Prints x (lexemes ts) → deepest 0 (lexemes ts) ≤ nesting_limit → IsTreeOf x ts
+tree_of deep ts x p w = record { prints = p; within = let e = deep x in let d = ap (deepest 0) p.tokens in omega arith }
+
+pub not_done : (s : State) → ((t : Tree) → s ≢ St.Done t) → None ≡ tree_in s
+not_done St.Begin f = refl
+not_done (St.WantParm rs o p) f = refl
+not_done (St.HaveParm rs o p) f = refl
+not_done (St.WantAssign rs n) f = refl
+not_done (St.Body rs fs now) f = refl
+not_done (St.Done t) f = absurd (f t refl)

@@ -1,0 +1,123 @@
+//! From tokens to their tree.
+ghost use Rattle.std.specs.Prelude.{◌≡◌, ℕ, ◌<◌, List, map, IfOk, IfErr};
+ghost use Rattle.cddl_token.specs.declared.Token.{Token};
+ghost use Rattle.cddl_token.specs.Answers.{span, IsTokenized};
+ghost use Rattle.cddl_syntax.specs.Answers.{opened as opened_after, IsTreeOf};
+ghost use Rattle.cddl_syntax.specs.Syntax.{Cddl};
+ghost use Rattle.cddl_tree.specs.View.{view};
+ghost use Rattle.cddl_parse.specs.States.{tree_in, EndsInEnd, Refuses, Stands, Advances};
+
+use crate::rules::step;
+use crate::state::{Progress, State};
+use cddl_syntax::{goes_on, is_balanced, is_stuck, makes_trees, one_tree, some_answer};
+use cddl_token::{Code, Kind, Refusal, Token};
+use cddl_tree::Tree;
+use std::alloc::Global;
+
+/// The number of opening tokens that may be open at once.
+pub const NESTING_LIMIT: usize = 128;
+
+/// How many are open behind a token, of `count` before it.
+fn opened(kind: Kind, count: usize) -> usize
+    requires { count < 129 }
+    ensures { result ≡ opened_after kind count }
+{
+    match kind {
+        Kind::ParenOpen
+        | Kind::BracketOpen
+        | Kind::BraceOpen
+        | Kind::NameOpen
+        | Kind::TagOpen
+        | Kind::TagHeadOpen
+        | Kind::SimpleHeadOpen => count + 1,
+        Kind::ParenClose | Kind::BracketClose | Kind::BraceClose | Kind::AngleClose => {
+            count.saturating_sub(1)
+        }
+        _ => count,
+    }
+}
+
+/// The parser behind one token more.
+#[tactic(none)]
+fn advance<'s>(
+    alloc: Global,
+    progress: Progress<'s>,
+    token: Token<'s>,
+) -> Result<Progress<'s>, Refusal>
+    requires { progress.count < 129 }
+    ensures { (ts : List Token) → Stands progress.entry ts → Advances ts token.entry result }
+{
+    goes_on();
+    is_stuck();
+    let Progress { state, count } = progress;
+    match step(alloc, state, token) {
+        Ok(state) => {
+            let count = opened(token.kind, count);
+            if count > NESTING_LIMIT {
+                drop(state);
+                return Err(Refusal::At(Code::TooNested, token.start));
+            }
+            Ok(Progress { state, count })
+        }
+        Err(refusal) => Err(refusal),
+    }
+}
+
+/// The tree, behind the last token.
+#[tactic(none)]
+fn finished<'s>(state: State<'s>) -> Option<Tree<'s>>
+    ensures { result ≡ tree_in state.entry }
+{
+    match state {
+        State::Done(tree) => Some(tree),
+        state => {
+            drop(state);
+            None
+        }
+    }
+}
+
+/// The last token of a source is its end, so what [`cddl_token::tokens`] answers may be parsed: a
+/// law for callers, which does nothing.
+pub fn tokens_end()
+    ensures { (source : List ℕ) (ts : List Token) → IsTokenized source (map span ts) → EndsInEnd ts }
+{}
+
+/// The tree of the tokens that [`cddl_token::tokens`] answers (RFC 8610, appendix B).
+///
+/// Errors: `At` with [`Code::Unexpected`] and the offset of the first token with which the tokens
+/// so far begin no specification; or, where it comes earlier, with [`Code::TooNested`] and the
+/// offset of the first opening token that has [`NESTING_LIMIT`] others open around it. `Memory`
+/// where a growth was refused.
+#[tactic(auto)]
+pub fn parse<'s>(alloc: Global, tokens: &[Token<'s>]) -> Result<Tree<'s>, Refusal>
+    // The last token is the source's end.
+    requires { EndsInEnd tokens.now }
+    // The tree's tokens are these, and it nests within the limit.
+    ensures tree { IfOk result (λ t. IsTreeOf (view t) tokens.now) }
+    // They have no other.
+    ensures only { IfOk result (λ t. (x : Cddl) → IsTreeOf x tokens.now → x ≡ view t) }
+    // A refusal says why they have none, and where.
+    ensures refused { IfErr result (λ e. Refuses tokens.now e) }
+{
+    one_tree();
+    makes_trees();
+    goes_on();
+    is_balanced();
+    some_answer();
+    let mut progress = Progress {
+        state: State::Begin,
+        count: 0,
+    };
+    for token in tokens {
+        progress = match advance(alloc, progress, *token) {
+            Ok(next) => next,
+            Err(refusal) => return Err(refusal),
+        };
+    }
+    let Progress { state, count: _ } = progress;
+    match finished(state) {
+        Some(tree) => Ok(tree),
+        None => unreachable!(),
+    }
+}

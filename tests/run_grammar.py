@@ -1,0 +1,317 @@
+#!/usr/bin/env python3
+"""Runs the rows of grammar_rows.json on the built cddl_outline: the tree of each text, or why it has none.
+
+    run_grammar.py PROGRAM [--only TEXT] [-v]
+    run_grammar.py --texts FOLDER [--only TEXT]
+    run_grammar.py --answers FOLDER [--only TEXT] [-v]
+
+Prints each row that failed, with what came, and last 'N passed, M failed'. --only takes the rows whose name has TEXT.
+--texts runs nothing, and writes what the program would read: a file for each run. --answers judges what it printed
+for them: files of the same names.
+
+A row is one case, with these fields. Whatever it expects comes from the grammar (docs/LANGUAGE.md), never from what
+the program printed.
+
+  name          what the row shows
+  text          the specification: a text, or a list of lines
+  text_parts    the same, as a list of [text, count], each taken count times
+  text_hex      the same, as bytes in hex
+  tree          the sketch of its tree
+  tree_parts    the same, as a list of [text, count]
+  rules         for a long specification in place of its sketch: how many rules it has
+  code, at      in place of a tree: why it has none, and the offset where that shows
+  input         in place of one text: all that stands on standard input, of a run for this row alone
+  answers       for that: a list of what comes, each the sketch of a tree or the line of a refusal
+
+A sketch is the tokens of a tree, with words that tell apart what is spelled alike: 'type' and 'group' before a rule
+and before parentheses, by what they hold; 'op(..)' round two operands; 'key', 'bareword' and 'value' before a key. '|'
+parts the entries of an alternative, and ';' rules. Besides, the tokens that the program prints in a tree have to be
+those of the text, all of them and in order.
+"""
+import argparse
+import json
+import os
+import re
+import subprocess
+import sys
+
+TOP = os.path.dirname(os.path.dirname(os.path.abspath(__file__)))
+SECONDS = 60
+TEXTS_PER_RUN = 50
+
+# How the nodes of a tree are told. Those with one part and no name for it are told as that part.
+FORMS = {
+    "TypeRule": "type {name} {assign} {types}",
+    "GroupRule": "group {name} {assign} {grpent}",
+    "Generic": "{opening}{parameters}{closing}",
+    "GenericParm": "{first}{others}",
+    "Parameter": "{comma} {name}",
+    "Types": "{first}{others}",
+    "Further": "{sign} {type1}",
+    "Operation": "op({left} {operator} {right})",
+    "Parens": "type{opening}{types}{closing}",
+    "MapOf": "{opening}{group}{closing}",
+    "ArrayOf": "{opening}{group}{closing}",
+    "Unwrapped": "{tilde}{name}",
+    "ChoiceOf": "{ampersand}{opening}{group}{closing}",
+    "ChoiceOfName": "{ampersand}{name}",
+    "Tagged": "{opening}{types}{closing}",
+    "TaggedBy": "{opening}{head}{angle}{paren}{types}{closing}",
+    "SimpleBy": "{opening}{head}{closing}",
+    "Applied": "{opening}{arguments}{closing}",
+    "GenericArg": "{first}{others}",
+    "Group": "{first}{others}",
+    "GrpChoice": " {slashes} {entries}",
+    "Entry": "{grpent}{comma}",
+    "Typed": "{occur}{types}",
+    "Keyed": "{occur}{key}{types}",
+    "Grouped": "{occur}group{opening}{group}{closing}",
+    "TypeKey": "key {type1} {cut}{arrow} ",
+    "Bareword": "bareword {name}{colon} ",
+    "ValueKey": "value {value}{colon} ",
+    "Token": "{text}",
+}
+# The kind of token that each node of one token holds.
+LEAVES = {
+    "Plain": "Name", "Name": "Name", "Hash": "Hash", "Number": "Number", "Text": "Text", "Bytes": "Bytes",
+    "Range": "Range", "RangeBelow": "RangeBelow", "Control": "Control",
+    "TypeIs": "Assign", "TypeOr": "TypeAssign", "GroupIs": "Assign", "GroupOr": "GroupAssign",
+}
+QUOTED = r'"((?:[^"\\]|\\.)*)"'
+PIECE = re.compile(
+    rf"(?P<text>{QUOTED})|(?P<opened>\w* ?[{{(\[])|(?P<closed>[)\]}}])|(?P<label>\w+):|(?P<word>\w+)")
+TOKEN = re.compile(rf"Token {{ kind: (\w+), start: (\d+), end: (\d+), text: {QUOTED} }}")
+LEAF = re.compile(r"(\w+)\(Token { kind: (\w+)")
+ESCAPE = re.compile(r"\\(?:u\{([0-9a-f]+)\}|(.))")
+GAP = re.compile(rb"(?:[ \t\n]|\r\n|;[^\n]*(?:\n|$))*")
+
+
+def unescaped(text):
+    """What stands between the quotes of a text that is printed by {:?}."""
+    letters = {"n": "\n", "r": "\r", "t": "\t", "0": "\0"}
+    return ESCAPE.sub(lambda it: chr(int(it[1], 16)) if it[1] else letters.get(it[2], it[2]), text)
+
+
+def told(name, parts):
+    """The sketch of a node from those of its parts; of a list, a list."""
+    if not name:
+        return list(parts.values())
+    if name == "Tree":
+        return parts["rules"]
+    for label, part in parts.items():
+        if isinstance(part, list):
+            parts[label] = (" | " if label in ("first", "entries") else "").join(part)
+        elif part and label in ("occur", "cut"):
+            parts[label] = f"{part} "
+    before = " " if name == "Further" and parts["sign"] == "/" else ""
+    return before + FORMS.get(name, "{part0}").format(**parts)
+
+
+def rules_of(line):
+    """The sketches of the rules of a tree that is printed by {:?}."""
+    nodes, label = [("", {}, "")], ""
+    for piece in PIECE.finditer(line):
+        kind, word = piece.lastgroup, piece[piece.lastgroup]
+        if kind == "label":
+            label = word
+            continue
+        if kind == "opened":
+            nodes.append((word.rstrip(" {(["), {}, label))
+            label = ""
+            continue
+        value = "" if word == "None" else word
+        if kind == "text":
+            value = unescaped(word[1:-1])
+        if kind == "closed":
+            name, parts, label = nodes.pop()
+            value = told(name, parts)
+        above = nodes[-1][1]
+        above[label or f"part{len(above)}"] = value
+        label = ""
+    return nodes[0][1]["part0"]
+
+
+def is_printed_by(line, text):
+    """Whether a text is just the tokens of a tree that is printed by {:?}, with gaps between them."""
+    at, kind = 0, ""
+    for kind, start, end, token in TOKEN.findall(line):
+        start, end = int(start), int(end)
+        if not GAP.fullmatch(text, at, start) or text[start:end] != unescaped(token).encode():
+            return False
+        at = end
+    return kind == "End" and at == len(text)
+
+
+def has_its_kinds(line):
+    """Whether the nodes of one token, in a tree that is printed by {:?}, hold tokens of the right kinds."""
+    return all(LEAVES.get(name) == kind for name, kind in LEAF.findall(line) if name != "Some")
+
+
+def joined(parts):
+    return "".join(text * count for text, count in parts)
+
+
+def text_of(row):
+    """The specification of a row; for a row with a run of its own all that it reads."""
+    if "text_hex" in row:
+        return bytes.fromhex(row["text_hex"])
+    if "text_parts" in row:
+        return joined(row["text_parts"]).encode()
+    text = row.get("input", row.get("text"))
+    return (text if isinstance(text, str) else "".join(f"{it}\n" for it in text)).encode()
+
+
+def answer_of(row):
+    """The answer to a row's text: a sketch, the line of a refusal, or a number of rules."""
+    if "code" in row:
+        return f"refused: {row['code']} at byte {row['at']}"
+    if "rules" in row:
+        return row["rules"]
+    return joined(row["tree_parts"]) if "tree_parts" in row else row["tree"]
+
+
+def cases_of(row):
+    """The texts of a row, with their answers."""
+    if "input" not in row:
+        return [(text_of(row), answer_of(row))]
+    texts = text_of(row).split(b"\0")
+    if not texts[-1]:
+        texts.pop()
+    if len(texts) != len(row["answers"]):
+        raise SystemExit(f"grammar_rows.json: {row['name']}: {len(texts)} texts, {len(row['answers'])} answers")
+    return list(zip(texts, row["answers"]))
+
+
+def shown(text):
+    return text if len(text) <= 160 else f"{text[:160]}.. ({len(text)} characters)"
+
+
+def fault_of(text, answer, line):
+    """What is wrong with the line that came for a text; None where nothing is."""
+    if line is None:
+        return "no line came"
+    if not line.startswith("Tree {"):
+        is_wanted = line == answer and line.startswith("refused: ")
+        return None if is_wanted else f"{shown(line)!r}, wanted {shown(str(answer))!r}"
+    try:
+        rules = rules_of(line)
+    except (KeyError, ValueError, IndexError, TypeError):
+        return f"no tree can be read from {shown(line)}"
+    got = len(rules) if isinstance(answer, int) else "; ".join(rules)
+    if got != answer:
+        return f"{shown(str(got))!r}, wanted {shown(str(answer))!r}"
+    if not has_its_kinds(line):
+        return f"a node holds a token of another kind: {shown(line)}"
+    return None if is_printed_by(line, text) else f"these tokens aren't those of the text: {shown(line)}"
+
+
+def runs_of(rows):
+    """The runs of the program: for each its input, and the rows that it is for."""
+    together = [row for row in rows if "input" not in row]
+    runs = []
+    for at in range(0, len(together), TEXTS_PER_RUN):
+        part = together[at:at + TEXTS_PER_RUN]
+        runs.append((b"\0".join(text_of(row) for row in part) + b"\0", part))
+    return runs + [(text_of(row), [row]) for row in rows if "input" in row]
+
+
+def printed(program, given):
+    """What the program prints for an input, and what is wrong with the run itself, if anything."""
+    try:
+        run = subprocess.run([program], input=given, stdout=subprocess.PIPE, stderr=subprocess.PIPE, timeout=SECONDS)
+    except subprocess.TimeoutExpired:
+        return b"", f"no end in {SECONDS} seconds"
+    except OSError as error:
+        return b"", f"cannot run the program: {error}"
+    if run.returncode or run.stderr:
+        return run.stdout, f"status {run.returncode}, standard error {run.stderr[:160]!r}"
+    return run.stdout, None
+
+
+def lines_of(output):
+    return output.decode(errors="replace").split("\n")[:-1]
+
+
+def judged(rows, output, wrong):
+    """The rows of a run, each with its faults."""
+    lines = lines_of(output)
+    for row in rows:
+        came = [(text, answer, lines.pop(0) if lines else None) for text, answer in cases_of(row)]
+        faults = [wrong] if wrong else [it for it in (fault_of(*case) for case in came) if it]
+        if row is rows[-1] and lines:
+            faults.append(f"{len(lines)} lines too many")
+        yield row, faults
+
+
+def selected(only):
+    with open(os.path.join(TOP, "tests", "grammar_rows.json"), encoding="utf-8") as file:
+        rows = json.load(file)
+    names = [row["name"] for row in rows]
+    twice = sorted({it for it in names if names.count(it) > 1})
+    if twice:
+        raise SystemExit(f"grammar_rows.json has two rows of one name: {', '.join(twice)}")
+    return [row for row in rows if only in row["name"]]
+
+
+def judge(outputs, only="", is_verbose=False):
+    """Judges what each run printed, prints the rows that failed, and returns how many passed and failed."""
+    passed = failed = 0
+    for (given, rows), (output, wrong) in outputs(runs_of(selected(only))):
+        for row, faults in judged(rows, output, wrong):
+            passed, failed = (passed, failed + 1) if faults else (passed + 1, failed)
+            if faults:
+                print(f"FAILED {row['name']}")
+            elif is_verbose:
+                print(f"ok {row['name']}")
+            for it in faults[:6]:
+                print(f"    {it}")
+    return passed, failed
+
+
+def run_grammar(program, only="", is_verbose=False):
+    """Runs the rows, prints those that failed, and returns how many passed and failed."""
+    return judge(lambda runs: ((run, printed(program, run[0])) for run in runs), only, is_verbose)
+
+
+def read_answers(folder):
+    """What the program printed for each run, from files."""
+    def outputs(runs):
+        for number, run in enumerate(runs, 1):
+            try:
+                with open(os.path.join(folder, str(number)), "rb") as file:
+                    yield run, (file.read(), None)
+            except OSError as error:
+                yield run, (b"", f"cannot read what it printed: {error}")
+    return outputs
+
+
+def write_texts(folder, inputs):
+    os.makedirs(folder, exist_ok=True)
+    for number, given in enumerate(inputs, 1):
+        with open(os.path.join(folder, str(number)), "wb") as file:
+            file.write(given)
+
+
+def main():
+    words = argparse.ArgumentParser(description="Runs the rows of grammar_rows.json on the built cddl_outline.")
+    words.add_argument("program", nargs="?")
+    words.add_argument("--texts", metavar="FOLDER", help="write what the program would read, a file for each run")
+    words.add_argument("--answers", metavar="FOLDER", help="judge what it printed for these files")
+    words.add_argument("--only", default="", help="only the rows whose name has this text")
+    words.add_argument("-v", action="store_true", help="print each row that passed too")
+    given = words.parse_args()
+    if sum(it is not None for it in (given.program, given.texts, given.answers)) != 1:
+        words.error("give one of PROGRAM, --texts and --answers")
+    if given.texts:
+        write_texts(given.texts, (it for it, _ in runs_of(selected(given.only))))
+        return 0
+    if given.program:
+        passed, failed = run_grammar(os.path.abspath(given.program), given.only, given.v)
+    else:
+        passed, failed = judge(read_answers(given.answers), given.only, given.v)
+    print(f"{passed} passed, {failed} failed")
+    return 1 if failed or not passed else 0
+
+
+if __name__ == "__main__":
+    sys.exit(main())
