@@ -108,9 +108,13 @@ pub on_same : {A : Type 0} (q : Option A) (P : M.State → Type 0) (f g : A → 
 on_same None P f g e h = tt
 on_same (Some x) P f g e h = subst P (sym (e x)) h
 
-pub head_shut : (q : Option M.AtType2) (u : M.TypeOpening) (o : Token) (us ts : S.Types) (t : Token) → u ≡ M.tag_head o → us ≡ ts → on q (λ k. made (λ j. M.want_content j o us t) q ≡ Some (M.shut_types k u ts K.AngleClose t))
-head_shut None u o us ts t e f = tt
-head_shut (Some k) u o us ts t e f = rw (e, f) refl
+-- the step at the kind that the token has, and the type that was put into a box
+pub shut_by : (q : Option M.AtType2) (P : M.State → Type 0) (o : M.TypeOpening) (us ts : S.Types) (i j : Kind) (t : Token) → i ≡ j → us ≡ ts → on q (λ k. P (M.shut_types k o us j t)) → on q (λ k. P (M.shut_types k o ts i t))
+shut_by q P o us ts i j t d e h = rw (d, ← e) h
+
+pub head_shut : (q : Option M.AtType2) (u : M.TypeOpening) (o : Token) (ts : S.Types) (t : Token) → u ≡ M.tag_head o → on q (λ k. made (λ j. M.want_content j o ts t) q ≡ Some (M.shut_types k u ts K.AngleClose t))
+head_shut None u o ts t e = tt
+head_shut (Some k) u o ts t e = rw e refl
 
 pub simple_shut : (u : M.TypeOpening) (o : Token) (ts : S.Types) (t : Token) (x : S.Type2) → u ≡ M.simple_head o → x ≡ S.simple_by o ts t → (k : M.AtType2) → M.shut_types k u ts K.AngleClose t ≡ M.got k x
 simple_shut u o ts t x e f k = rw (e, f) refl

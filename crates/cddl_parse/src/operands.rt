@@ -110,14 +110,22 @@ pub(crate) fn shut_types<'s>(
 ) -> Result<Now<'s>, Refusal>
     ensures { (rs : S.Rules) (b : Below) → on (view_at_type2 b at.entry) (λ k. Gives token.entry rs b result (M.shut_types k (view_type_opening opening.entry) (view_types types.entry) token.entry.kind token.entry)) }
 {
-    match token.kind {
-        Kind::ParenClose => shut_parens(alloc, at, opening, types, token),
-        Kind::AngleClose => shut_angles(alloc, at, opening, types, token),
-        _ => {
-            drop(at);
+    match Box::new(alloc, types) {
+        Ok(types) => match token.kind {
+            Kind::ParenClose => shut_parens(alloc, at, opening, types, token),
+            Kind::AngleClose => shut_angles(alloc, at, opening, types, token),
+            _ => {
+                drop(at);
+                drop(opening);
+                drop(types);
+                Err(unexpected(token))
+            }
+        },
+        Err(error) => {
+            drop(error);
             drop(opening);
-            drop(types);
-            Err(unexpected(token))
+            drop(at);
+            Err(Refusal::Memory)
         }
     }
 }
@@ -128,20 +136,11 @@ pub(crate) fn shut_parens<'s>(
     alloc: Global,
     at: AtType2<'s>,
     opening: TypeOpening<'s>,
-    types: Types<'s>,
+    types: Box<Types<'s>>,
     token: Token<'s>,
 ) -> Result<Now<'s>, Refusal>
-    ensures { (rs : S.Rules) (b : Below) → on (view_at_type2 b at.entry) (λ k. Gives token.entry rs b result (M.shut_types k (view_type_opening opening.entry) (view_types types.entry) ParenClose token.entry)) }
+    ensures { (rs : S.Rules) (b : Below) → on (view_at_type2 b at.entry) (λ k. Gives token.entry rs b result (M.shut_types k (view_type_opening opening.entry) (view_types types.entry.value) ParenClose token.entry)) }
 {
-    let types = match Box::new(alloc, types) {
-        Ok(types) => types,
-        Err(error) => {
-            drop(error);
-            drop(opening);
-            drop(at);
-            return Err(Refusal::Memory);
-        }
-    };
     let closing = token;
     match opening {
         TypeOpening::Paren(opening) => got(
@@ -189,20 +188,11 @@ pub(crate) fn shut_angles<'s>(
     alloc: Global,
     at: AtType2<'s>,
     opening: TypeOpening<'s>,
-    types: Types<'s>,
+    types: Box<Types<'s>>,
     token: Token<'s>,
 ) -> Result<Now<'s>, Refusal>
-    ensures { (rs : S.Rules) (b : Below) → on (view_at_type2 b at.entry) (λ k. Gives token.entry rs b result (M.shut_types k (view_type_opening opening.entry) (view_types types.entry) AngleClose token.entry)) }
+    ensures { (rs : S.Rules) (b : Below) → on (view_at_type2 b at.entry) (λ k. Gives token.entry rs b result (M.shut_types k (view_type_opening opening.entry) (view_types types.entry.value) AngleClose token.entry)) }
 {
-    let types = match Box::new(alloc, types) {
-        Ok(types) => types,
-        Err(error) => {
-            drop(error);
-            drop(opening);
-            drop(at);
-            return Err(Refusal::Memory);
-        }
-    };
     match opening {
         TypeOpening::TagHead(opening) => Ok(Now::WantContent(at, opening, types, token)),
         TypeOpening::SimpleHead(opening) => got(
