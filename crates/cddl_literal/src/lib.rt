@@ -49,6 +49,3 @@ pub enum Literal {
     /// A byte string.
     Bytes(Vec<u8>),
 }
-
-#[cfg(test)]
-mod tests;

@@ -325,6 +325,3 @@ pub fn one_answer()
 pub fn id_by_grammar()
     ensures { (s : List ℕ) (a b : ℕ) → IsId s a b ↔ IsGrammarId s a b }
 {}
-
-#[cfg(test)]
-mod tests;

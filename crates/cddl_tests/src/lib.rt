@@ -1,0 +1,7 @@
+//! The tests of the crates that read the literals and the tokens of CDDL: a crate with tests of its own is proved twice.
+#![tactic(auto)]
+
+#[cfg(test)]
+mod literal;
+#[cfg(test)]
+mod token;

@@ -1,0 +1,501 @@
+ghost use Rattle.std.specs.Prelude.{◌≡◌, ℕ, ◌+◌, ◌<◌, ◌≤◌, Bool, length, slice_index, IsTrue};
+ghost use Rattle.cddl_literal.specs.Bytes.{Each, is_decimal_digit, is_binary_digit, is_x, is_b};
+ghost use Rattle.cddl_literal.specs.Numbers.{IsUint, IsSigned};
+ghost use Rattle.hex.specs.Hex.{is_hex_digit};
+
+use cddl_literal::{
+    Coding, Escape, Literal, Quote, bytes_between, bytes_value, characters_end, coded_end,
+    escape_at, number_of, text_value,
+};
+use std::alloc::{AllocError, Global};
+use std::test::Fail;
+
+/// The byte at a place, or 0 past the end.
+fn byte_at(source: &[u8], at: usize) -> u8
+    ensures value { result ≡ slice_index source.now at }
+    ensures inside { 0 < result → at < length source.now }
+{
+    source.get(at).copied().unwrap_or(0)
+}
+
+fn is_hex_digit(b: u8) -> bool
+    ensures { result ≡ is_hex_digit b }
+{
+    (b >= b'A' && b <= b'F') || (b >= b'a' && b <= b'f') || (b >= b'0' && b <= b'9')
+}
+
+fn is_decimal_digit(b: u8) -> bool
+    ensures { result ≡ is_decimal_digit b }
+{
+    b >= b'0' && b <= b'9'
+}
+
+fn is_binary_digit(b: u8) -> bool
+    ensures { result ≡ is_binary_digit b }
+{
+    b == b'0' || b == b'1'
+}
+
+fn are_decimal(source: &[u8], from: usize) -> bool
+    ensures { IsTrue result → Each is_decimal_digit source.now from (length source.now) }
+{
+    let mut i = from;
+    while i < source.len() {
+        if !is_decimal_digit(source[i]) {
+            return false;
+        }
+        i += 1;
+    }
+    true
+}
+
+fn are_hex(source: &[u8], from: usize) -> bool
+    ensures { IsTrue result → Each is_hex_digit source.now from (length source.now) }
+{
+    let mut i = from;
+    while i < source.len() {
+        if !is_hex_digit(source[i]) {
+            return false;
+        }
+        i += 1;
+    }
+    true
+}
+
+fn are_binary(source: &[u8], from: usize) -> bool
+    ensures { IsTrue result → Each is_binary_digit source.now from (length source.now) }
+{
+    let mut i = from;
+    while i < source.len() {
+        if !is_binary_digit(source[i]) {
+            return false;
+        }
+        i += 1;
+    }
+    true
+}
+
+fn is_x(b: u8) -> bool
+    ensures { result ≡ is_x b }
+{
+    b == b'x' || b == b'X'
+}
+
+fn is_b(b: u8) -> bool
+    ensures { result ≡ is_b b }
+{
+    b == b'b' || b == b'B'
+}
+
+/// Whether a uint stands from here to the end.
+fn is_uint(source: &[u8], from: usize) -> bool
+    requires { from < length source.now }
+    ensures { IsTrue result → (n : ℕ) × IsUint source.now from (length source.now) n }
+{
+    if source[from] != b'0' {
+        return are_decimal(source, from);
+    }
+    if from + 1 == source.len() {
+        return are_decimal(source, from);
+    }
+    if from + 2 == source.len() {
+        return false;
+    }
+    if is_x(source[from + 1]) {
+        return are_hex(source, from + 2);
+    }
+    if is_b(source[from + 1]) {
+        return are_binary(source, from + 2);
+    }
+    false
+}
+
+/// What a source that is a number stands for, if it is one that is not too large.
+fn number(source: &[u8]) -> Option<Literal> {
+    let from = if byte_at(source, 0) == b'-' { 1 } else { 0 };
+    if from < source.len() && is_uint(source, from) {
+        number_of(source, 0, source.len())
+    } else {
+        None
+    }
+}
+
+#[test]
+fn numbers(rt: HostRuntime) {
+    for (source, want) in [
+        ("0", Literal::Uint(0)),
+        ("-0", Literal::Uint(0)),
+        ("7", Literal::Uint(7)),
+        ("-1", Literal::Nint(0)),
+        ("18446744073709551615", Literal::Uint(18446744073709551615)),
+        ("-18446744073709551615", Literal::Nint(18446744073709551614)),
+        ("-18446744073709551616", Literal::Nint(18446744073709551615)),
+        ("0x10", Literal::Uint(16)),
+        ("0XfF", Literal::Uint(255)),
+        ("0xffffffffffffffff", Literal::Uint(18446744073709551615)),
+        ("-0x10000000000000000", Literal::Nint(18446744073709551615)),
+        ("0x00000000000000000000000000000000000001", Literal::Uint(1)),
+        ("-0x0", Literal::Uint(0)),
+        ("0b101", Literal::Uint(5)),
+        ("0B1", Literal::Uint(1)),
+        ("-0b11", Literal::Nint(2)),
+    ] {
+        assert!(rt; number(source.as_bytes()) == Some(want), "{source}");
+    }
+    for source in [
+        "18446744073709551616",
+        "-18446744073709551617",
+        "0x10000000000000000",
+        "99999999999999999999999999999999999999999999999999",
+    ] {
+        assert!(rt; number(source.as_bytes()).is_none(), "{source}");
+    }
+}
+
+#[test]
+fn escapes(rt: HostRuntime) {
+    for (source, end, scalar) in [
+        ("\\\"", 2, '"'),
+        ("\\/", 2, '/'),
+        ("\\\\", 2, '\\'),
+        ("\\b", 2, '\u{8}'),
+        ("\\f", 2, '\u{c}'),
+        ("\\n", 2, '\n'),
+        ("\\r", 2, '\r'),
+        ("\\t", 2, '\t'),
+        ("\\u0041", 6, 'A'),
+        ("\\u00e9", 6, '\u{e9}'),
+        ("\\u00E9", 6, '\u{e9}'),
+        ("\\uD7FF", 6, '\u{d7ff}'),
+        ("\\uE000", 6, '\u{e000}'),
+        ("\\uFFFF0", 6, '\u{ffff}'),
+        ("\\uD800\\uDC00", 12, '\u{10000}'),
+        ("\\uDBFF\\uDFFF", 12, '\u{10ffff}'),
+        ("\\ud83c\\udc73", 12, '\u{1f073}'),
+        ("\\u{1F073}", 9, '\u{1f073}'),
+        ("\\u{0}", 5, '\0'),
+        ("\\u{10FFFF}", 10, '\u{10ffff}'),
+        ("\\u{d7ff}", 8, '\u{d7ff}'),
+        ("\\u{00000000000000000000000000000041}", 36, 'A'),
+    ] {
+        let want = Some(Escape { end, scalar });
+        assert!(rt;
+            escape_at(source.as_bytes(), 0, Quote::Double) == want,
+            "{source}"
+        );
+        assert!(rt;
+            escape_at(source.as_bytes(), 0, Quote::Single) == want,
+            "{source}"
+        );
+    }
+    for source in [
+        "",
+        "n",
+        "\\",
+        "\\q",
+        "\\N",
+        "\\T",
+        "\\x41",
+        "\\U0041",
+        "\\u",
+        "\\u004",
+        "\\u00g0",
+        "\\uDC00",
+        "\\uD83D",
+        "\\uD83Dx",
+        "\\uD83D\\n",
+        "\\uD83D\\uD83D",
+        "\\uD83D\\u0041",
+        "\\uD83D\\u{DE00}",
+        "\\u{}",
+        "\\u{41",
+        "\\u{4g}",
+        "\\u{110000}",
+        "\\u{D800}",
+        "\\u{DFFF}",
+        "\\u{100000000000000000041}",
+        "\\0",
+        "\\1",
+    ] {
+        assert!(rt;
+            escape_at(source.as_bytes(), 0, Quote::Double).is_none(),
+            "{source}"
+        );
+        assert!(rt;
+            escape_at(source.as_bytes(), 0, Quote::Single).is_none(),
+            "{source}"
+        );
+    }
+    let quote = Escape {
+        end: 2,
+        scalar: '\'',
+    };
+    assert!(rt; escape_at(b"\\'", 0, Quote::Single) == Some(quote));
+    assert!(rt; escape_at(b"\\'", 0, Quote::Double).is_none());
+}
+
+/// Where characters stop in a source.
+fn stop(source: &[u8], quote: Quote) -> usize {
+    characters_end(source, 0, quote)
+}
+
+#[test]
+fn stops_of_strings(rt: HostRuntime) {
+    assert_eq!(rt; stop(b"", Quote::Double), 0);
+    assert_eq!(rt; stop(b"ab'c\"d", Quote::Double), 4);
+    assert_eq!(rt; stop(b"ab'c\"d", Quote::Single), 2);
+    assert_eq!(rt; stop(b"a\\\"b\"", Quote::Double), 4);
+    assert_eq!(rt; stop(b"a\\qb\"", Quote::Double), 1);
+    assert_eq!(rt; stop(b"a\x1f\"", Quote::Double), 1);
+    assert_eq!(rt; stop(b" ~\x7f\"", Quote::Double), 2);
+    assert_eq!(rt; stop(b"\xc2\x80\xf4\x8f\xbf\xbf", Quote::Double), 6);
+    assert_eq!(rt; stop(b"a\tb", Quote::Double), 1);
+    assert_eq!(rt; stop(b"a\nb", Quote::Double), 1);
+    assert_eq!(rt; stop(b"a\r\nb", Quote::Double), 1);
+    assert_eq!(rt; stop(b"a\tb", Quote::Single), 1);
+    assert_eq!(rt; stop(b"a\nb\r\nc'", Quote::Single), 6);
+    assert_eq!(rt; stop(b"a\rb", Quote::Single), 1);
+    assert_eq!(rt; stop(b"a\r", Quote::Single), 1);
+}
+
+/// Where what a string with prefix may hold stops in a source.
+fn coded_stop(source: &[u8]) -> usize {
+    coded_end(source, 0)
+}
+
+#[test]
+fn stops_of_prefixed(rt: HostRuntime) {
+    assert_eq!(rt; coded_stop(b"00 ; x"), 6);
+    assert_eq!(rt; coded_stop(b"00'"), 2);
+    assert_eq!(rt; coded_stop(b"00 ; x'"), 6);
+    assert_eq!(rt; coded_stop(b"0\\"), 1);
+    assert_eq!(rt; coded_stop(b"0;a\\'"), 3);
+    assert_eq!(rt; coded_stop(b"0;\x01'"), 2);
+    assert_eq!(rt; coded_stop(b"0;\x7f'"), 2);
+    assert_eq!(rt; coded_stop(b"0;\ta\nb'"), 6);
+    assert_eq!(rt; coded_stop(b"0;a\r\nb'"), 6);
+    assert_eq!(rt; coded_stop(b"0;a\rb'"), 3);
+    assert_eq!(rt; coded_stop(b"0\x01\r\x7f\"'"), 5);
+    assert_eq!(rt; coded_stop(b"0;\x00"), 2);
+    assert_eq!(rt; coded_stop(b"0\x00'"), 2);
+}
+
+/// The value of a source that is a text string, if it is one.
+fn text(alloc: Global, source: &str) -> Result<Option<String>, AllocError> {
+    let bytes = source.as_bytes();
+    if byte_at(bytes, 0) != b'"' {
+        return Ok(None);
+    }
+    let end = characters_end(bytes, 1, Quote::Double);
+    if byte_at(bytes, end) != b'"' || end + 1 != source.len() {
+        return Ok(None);
+    }
+    let value = text_value(alloc, source)?;
+    Ok(Some(value))
+}
+
+#[test]
+fn texts(rt: HostRuntime) -> Result<(), Fail> {
+    for (source, want) in [
+        ("\"\"", ""),
+        ("\"a'b\"", "a'b"),
+        ("\"\\u{1F600}\\uD83D\\uDE00\"", "\u{1f600}\u{1f600}"),
+        (
+            "\"D\\u{6f}mino's \\u{1F073} + \\u2318\"",
+            "Domino's \u{1f073} + \u{2318}",
+        ),
+        (
+            "\"\u{e9}\\\\\u{1f600}\\\"\u{10ffff}\"",
+            "\u{e9}\\\u{1f600}\"\u{10ffff}",
+        ),
+    ] {
+        let found = text(rt.alloc(), source)?.ok_or("no text")?;
+        assert!(rt; found.as_str() == want, "{source}");
+    }
+    Ok(())
+}
+
+/// The value of a source that is a plain byte string, if it is one.
+fn plain(alloc: Global, source: &str) -> Result<Option<Vec<u8>>, AllocError> {
+    let bytes = source.as_bytes();
+    if byte_at(bytes, 0) != b'\'' {
+        return Ok(None);
+    }
+    let end = characters_end(bytes, 1, Quote::Single);
+    if byte_at(bytes, end) != b'\'' || end + 1 != source.len() {
+        return Ok(None);
+    }
+    let value = bytes_value(alloc, source)?;
+    Ok(Some(value))
+}
+
+#[test]
+fn plain_bytes(rt: HostRuntime) -> Result<(), Fail> {
+    for (source, want) in [
+        ("''", ""),
+        ("'a\"b'", "a\"b"),
+        ("'a\\'b\\\"'", "a'b\""),
+        ("'a\nb\r\nc\\r\\n'", "a\nb\nc\r\n"),
+        ("'\r\n\r\n'", "\n\n"),
+        ("'\u{e9}\\u00e9'", "\u{e9}\u{e9}"),
+    ] {
+        let found = plain(rt.alloc(), source)?.ok_or("no byte string")?;
+        assert!(rt; found.as_slice() == want.as_bytes(), "{source}");
+    }
+    Ok(())
+}
+
+/// The bytes between the quotes of a closed string with prefix, if they are fit for them.
+fn between(alloc: Global, coding: Coding, source: &[u8]) -> Result<Option<Vec<u8>>, AllocError> {
+    let end = coded_end(source, 0);
+    if byte_at(source, end) != b'\'' {
+        return Ok(None);
+    }
+    bytes_between(alloc, coding, source, 0, end)
+}
+
+#[test]
+fn hex(rt: HostRuntime) -> Result<(), Fail> {
+    for (source, want) in [
+        ("'", b"".as_slice()),
+        ("00'", b"\x00".as_slice()),
+        ("0aF09b'", b"\x0a\xf0\x9b".as_slice()),
+        (" 0 ; 1\n0\t1 ; 2\r\n\r\n2 '", b"\x00\x12".as_slice()),
+        ("00 ; 11'", b"\x00".as_slice()),
+        (";'", b"".as_slice()),
+    ] {
+        let found = between(rt.alloc(), Coding::Hex, source.as_bytes())?;
+        assert!(rt; found.ok_or("no bytes")?.as_slice() == want, "{source}");
+    }
+    for source in [
+        "0'", "012'", "0g'", "0\u{e9}'", "0\"0'", "00\x01'", "0\r0'", "0-'", "00=' ",
+    ] {
+        let found = between(rt.alloc(), Coding::Hex, source.as_bytes())?;
+        assert!(rt; found.is_none(), "{source}");
+    }
+    Ok(())
+}
+
+#[test]
+fn base64(rt: HostRuntime) -> Result<(), Fail> {
+    for (source, want) in [
+        ("'", b"".as_slice()),
+        ("Zg=='", b"f".as_slice()),
+        ("Zm8='", b"fo".as_slice()),
+        ("Zm9v'", b"foo".as_slice()),
+        ("Zm9vYg=='", b"foob".as_slice()),
+        ("Zm9vYmE='", b"fooba".as_slice()),
+        ("Zm9vYmFy'", b"foobar".as_slice()),
+        ("Zg'", b"f".as_slice()),
+        ("Zm8'", b"fo".as_slice()),
+        ("Zm9vYmE'", b"fooba".as_slice()),
+        ("+/-_'", b"\xfb\xff\xbf".as_slice()),
+        ("Z m\t8 ; =\n = ; x'", b"fo".as_slice()),
+    ] {
+        let found = between(rt.alloc(), Coding::Base64, source.as_bytes())?;
+        assert!(rt; found.ok_or("no bytes")?.as_slice() == want, "{source}");
+    }
+    for source in [
+        "Q'",
+        "QQ='",
+        "QR'",
+        "QR=='",
+        "QUI==='",
+        "QUJ'",
+        "QUJD='",
+        "QUJD===='",
+        "='",
+        "===='",
+        "QQ==QQ=='",
+        "QUJDQ'",
+        "Q\u{e9}==",
+        "QQ\x01'",
+        "QQ,='",
+        "Q.'",
+        "Zg==Zg'",
+    ] {
+        let found = between(rt.alloc(), Coding::Base64, source.as_bytes())?;
+        assert!(rt; found.is_none(), "{source}");
+    }
+    Ok(())
+}
+
+#[test]
+fn base64_alphabet(rt: HostRuntime) -> Result<(), Fail> {
+    let letters = b"ABCDEFGHIJKLMNOPQRSTUVWXYZabcdefghijklmnopqrstuvwxyz0123456789+/";
+    for (value, letter) in letters.iter().enumerate() {
+        // The letter's six bits stand in the first byte's last two and the second byte's first four.
+        let found = between(
+            rt.alloc(),
+            Coding::Base64,
+            &[b'A', *letter, b'A', b'A', b'\''],
+        )?;
+        let bytes = found.ok_or("no bytes")?;
+        assert_eq!(rt; bytes.len(), 3);
+        assert_eq!(rt; bytes[0] as usize * 16 + bytes[1] as usize / 16, value);
+    }
+    Ok(())
+}
+
+/// The value of a source that is a byte string in hex, if it is one.
+fn in_hex(alloc: Global, source: &str) -> Result<Option<Vec<u8>>, AllocError> {
+    let bytes = source.as_bytes();
+    let first = byte_at(bytes, 0);
+    if (first != b'h' && first != b'H') || byte_at(bytes, 1) != b'\'' {
+        return Ok(None);
+    }
+    let end = coded_end(bytes, 2);
+    if byte_at(bytes, end) != b'\'' || end + 1 != source.len() {
+        return Ok(None);
+    }
+    match bytes_between(alloc, Coding::Hex, bytes, 2, end)? {
+        Some(_) => {
+            let value = bytes_value(alloc, source)?;
+            Ok(Some(value))
+        }
+        None => Ok(None),
+    }
+}
+
+/// The value of a source that is a byte string in base64, if it is one.
+fn in_base64(alloc: Global, source: &str) -> Result<Option<Vec<u8>>, AllocError> {
+    let bytes = source.as_bytes();
+    if !is_b(byte_at(bytes, 0)) || byte_at(bytes, 1) != b'6' {
+        return Ok(None);
+    }
+    if byte_at(bytes, 2) != b'4' || byte_at(bytes, 3) != b'\'' {
+        return Ok(None);
+    }
+    let end = coded_end(bytes, 4);
+    if byte_at(bytes, end) != b'\'' || end + 1 != source.len() {
+        return Ok(None);
+    }
+    match bytes_between(alloc, Coding::Base64, bytes, 4, end)? {
+        Some(_) => {
+            let value = bytes_value(alloc, source)?;
+            Ok(Some(value))
+        }
+        None => Ok(None),
+    }
+}
+
+#[test]
+fn prefixed_bytes(rt: HostRuntime) -> Result<(), Fail> {
+    for (source, want) in [
+        ("h''", b"".as_slice()),
+        ("h'00ff'", b"\x00\xff".as_slice()),
+        ("H'4869 ; comment'", b"Hi".as_slice()),
+    ] {
+        let found = in_hex(rt.alloc(), source)?.ok_or("no byte string")?;
+        assert!(rt; found.as_slice() == want, "{source}");
+    }
+    for (source, want) in [
+        ("b64''", b"".as_slice()),
+        ("b64'SGk='", b"Hi".as_slice()),
+        ("B64'SGk ; comment'", b"Hi".as_slice()),
+    ] {
+        let found = in_base64(rt.alloc(), source)?.ok_or("no byte string")?;
+        assert!(rt; found.as_slice() == want, "{source}");
+    }
+    Ok(())
+}
