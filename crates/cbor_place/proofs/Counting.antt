@@ -1,5 +1,5 @@
 -- An item has as many paths as places.
-use Rattle.std.proofs.Common.{◌≡◌, ℕ, suc, ◌++◌, length, refl, ap, ◌∙◌, arith, length-append}
+use Rattle.std.proofs.Common.{◌≡◌, ℕ, suc, List, ◌++◌, length, refl, ap, ◌∙◌, arith, length-append}
 use Rattle.std.proofs.lemmas.List.{length-map}
 use Rattle.cbor_data.specs.Value.{Value, uint, nint, bytes, text, array, pairs, tag, simple, float, Values, no_values, value, Pairs, no_pairs, pair, places, values_places, pairs_places, place_count, values_place_count, pairs_place_count}
 use Rattle.cbor_place.specs.Paths.{paths, members_paths, pairs_paths, behind, member_step, key_step, value_step, content_step}
@@ -48,3 +48,7 @@ mutual
   pairs_places_counted no_pairs = refl
   pairs_places_counted (pair k v ps) =
       omega (arith, length-append (places k) (places v ++ pairs_places ps), length-append (places v) (pairs_places ps), places_counted k, places_counted v, pairs_places_counted ps)
+
+-- a step before each path leaves as many
+pub behind_alike : (step : List ℕ) (x : Value) → length (behind step (paths x)) ≡ length (places x)
+behind_alike step x = length-map (paths x) (λ path. step ++ path) ∙ paths_alike x

@@ -1,3 +1,4 @@
 pub mod Sought
 pub mod Paths
 pub mod Walked
+pub mod Leads

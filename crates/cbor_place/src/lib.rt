@@ -2,8 +2,9 @@
 //! and all below it in preorder, a key before its value; the whole is place 0.
 #![tactic(auto)]
 
-ghost use Rattle.std.specs.Prelude.{◌≡◌, length};
+ghost use Rattle.std.specs.Prelude.{◌≡◌, ℕ, List, length, slice_get};
 ghost use Rattle.cbor_data.specs.Value.{Value, places, place_count};
+ghost use Rattle.cbor_place.specs.Leads.{Leads};
 ghost use Rattle.cbor_place.specs.Paths.{paths};
 
 mod path;
@@ -17,4 +18,11 @@ pub use crate::seek::item_at;
 pub fn path_of_each_place()
     ensures paths { (x : Value) → length (paths x) ≡ length (places x) }
     ensures count { (x : Value) → length (places x) ≡ place_count x }
+{}
+
+/// The path of a place leads to what stands there, step by step, and whatever steps lead to stands at a place with that
+/// path.
+pub fn paths_lead_to_places()
+    ensures leads { (x : Value) (place : ℕ) (steps : List ℕ) (y : Value) → slice_get (paths x) place ≡ Some steps → slice_get (places x) place ≡ Some y → Leads x steps y }
+    ensures stands { (x : Value) (steps : List ℕ) (y : Value) → Leads x steps y → (place : ℕ) × (slice_get (paths x) place ≡ Some steps) × (slice_get (places x) place ≡ Some y) }
 {}

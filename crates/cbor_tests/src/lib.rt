@@ -6,6 +6,8 @@ mod form;
 #[cfg(test)]
 mod item;
 #[cfg(test)]
+mod place;
+#[cfg(test)]
 mod read;
 #[cfg(test)]
 mod value;
