@@ -1,8 +1,18 @@
 -- Texts that are appended one after the other.
+use Rattle.std.specs.Option.{option_map}
+use Rattle.std.specs.Borrow.{Bor}
+use Rattle.std.specs.Prelude.{Option, Some, None}
+use Rattle.cbor_data.specs.Value.{Value}
+use Rattle.cbor_data.specs.Notation.{notation}
+use Rattle.cbor_item.specs.View.{view}
+use Rattle.cbor_item.specs.declared.item.Item.{Item}
 use Rattle.std.proofs.Common.{◌≡◌, ℕ, List, [], ◌++◌, ap, ◌∙◌, append_assoc}
 
 pub two_parts : (o p q a b : List ℕ) → p ≡ o ++ a → q ≡ p ++ b → q ≡ o ++ (a ++ b)
 two_parts o p q a b e f = rw (f, e) (append_assoc o a b)
+
+pub four_parts : (o p q r s a b c d : List ℕ) → p ≡ o ++ a → q ≡ p ++ b → r ≡ q ++ c → s ≡ r ++ d → s ≡ o ++ (a ++ (b ++ (c ++ d)))
+four_parts o p q r s a b c d h i j k = rw (k, j, i, h) (simp append_assoc)
 
 pub five_parts : (o p q r s t a b c d e : List ℕ) → p ≡ o ++ a → q ≡ p ++ b → r ≡ q ++ c → s ≡ r ++ d → t ≡ s ++ e → t ≡ o ++ (a ++ (b ++ (c ++ (d ++ e))))
 five_parts o p q r s t a b c d e h i j k l = rw (l, k, j, i, h) (simp append_assoc)
@@ -13,3 +23,8 @@ seven_parts o p q r s t u v a b c d e f g h i j k l m n = rw (n, m, l, k, j, i, 
 
 pub from_nothing : (o text all : List ℕ) → o ≡ [] → text ≡ o ++ all → text ≡ all
 from_nothing o text all e f = f ∙ ap (λ (b : List ℕ). b ++ all) e
+
+-- what stands at a place, shown
+pub shown_there : (found : Option (Bor Item)) (there : Option Value) → option_map (λ (item : Bor Item). view item.now) found ≡ there → option_map (λ (item : Bor Item). notation (view item.now)) found ≡ option_map notation there
+shown_there None there e = ap (option_map notation) e
+shown_there (Some item) there e = ap (option_map notation) e

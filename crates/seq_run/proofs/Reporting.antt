@@ -17,6 +17,7 @@ use Rattle.seq_run.specs.Ends.{Misses, Ends}
 use Rattle.seq_run.specs.Progress.{Progress}
 use Rattle.seq_run.specs.Standing.{IsRejected}
 use Rattle.seq_run.specs.Answers.{IsOpen, IsEnded, IsLent, IsStep, IsStepAnswer}
+use Rattle.cbor_item.proofs.Plain.{place_some}
 use Rattle.seq_run.specs.Report.{item_line, item_lines, IsShown}
 use Rattle.seq_run.specs.Running.{Adds, IsSettled}
 
@@ -100,7 +101,7 @@ missed_whole table (at_mismatch {o = p} {place = there} rest x front back run pl
 pub shown : (table : Table) (l : Bounds) (stream : List ℕ) (found : List Found) (end : End) (rejected : Option Value) → Ends table l stream found end → IsRejected table l stream found end rejected → IsShown end rejected
 shown table l stream found (Clean items bytes) rejected ends r = tt
 shown table l stream found (Failed items offset (Fault f)) rejected ends r = tt
-shown table l stream found (Failed items offset (Mismatch zero)) (Some x) ends r = tt
+shown table l stream found (Failed items offset (Mismatch zero)) (Some x) ends r = place_some x
 shown table l stream found (Failed items offset (Mismatch zero)) None ends r = r
 shown table l stream found (Failed items offset (Mismatch (suc place))) rejected ends r = absurd (let none : suc place ≡ 0 = missed_whole table ends items offset (suc place) refl in omega arith)
 

@@ -1,6 +1,8 @@
 -- The report of a stream: a line for each accepted item, and one for its end.
-use Rattle.std.specs.Prelude.{ℕ, zero, suc, List, [], ◌∷◌, ◌++◌, Option, Some, codes, decimal}
-use Rattle.cbor_data.specs.Value.{Value}
+use Rattle.std.specs.Prelude.{ℕ, suc, ◌<◌, List, [], ◌∷◌, ◌++◌, Option, Some, None, slice_get, codes, decimal}
+use Rattle.std.specs.Option.{option_map}
+use Rattle.cbor_data.specs.Value.{Value, places, place_count}
+use Rattle.cbor_place.specs.Paths.{path}
 use Rattle.cbor_data.specs.Sequence.{Found}
 use Rattle.cbor_data.specs.Notation.{notation}
 use Rattle.cbor_read.specs.declared.fault.FaultKind.{FaultKind}
@@ -33,11 +35,19 @@ fault_text Truncated = codes "truncated at byte "
 fault_text BadText = codes "text is not UTF-8 at byte "
 fault_text DuplicateKey = codes "duplicate key at place "
 
--- why a stream failed; of an item that does not match, `$` is the whole of it
+abbrev pub or_nothing : Option (List ℕ) → List ℕ
+or_nothing (Some text) = text
+or_nothing None = []
+
+-- of an item that does not match: the path of the place where it shows, and what stands there
+abbrev pub mismatch_text : ℕ → Value → List ℕ
+mismatch_text place x = codes "mismatch at " ++ (or_nothing (path x place) ++ (codes ": " ++ or_nothing (option_map notation (slice_get (places x) place))))
+
+-- why a stream failed
 abbrev pub cause_text : Cause → Option Value → List ℕ
 cause_text (Fault f) rejected = fault_text f.kind ++ decimal f.at
-cause_text (Mismatch zero) (Some x) = codes "mismatch at $: " ++ notation x
-cause_text (Mismatch place) _ = []
+cause_text (Mismatch place) (Some x) = mismatch_text place x
+cause_text (Mismatch place) None = []
 
 -- the last line, with the item that failed
 abbrev pub end_line : End → Option Value → List ℕ
@@ -48,8 +58,8 @@ end_line (Failed items offset cause) rejected =
 abbrev pub report : List Found → End → Option Value → List ℕ
 report found end rejected = item_lines 1 found ++ end_line end rejected
 
--- A mismatch comes with its item, and at the whole of it.
+-- A mismatch comes with its item, in which the place stands.
 abbrev pub IsShown : End → Option Value → Type 0
-IsShown (Failed items offset (Mismatch zero)) (Some x) = Unit {0}
-IsShown (Failed items offset (Mismatch place)) _ = ⊥
+IsShown (Failed items offset (Mismatch place)) (Some x) = place < place_count x
+IsShown (Failed items offset (Mismatch place)) None = ⊥
 IsShown _ rejected = Unit {0}

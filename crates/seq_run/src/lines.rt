@@ -1,16 +1,21 @@
 //! The lines of a report.
 
 ghost use Rattle.std.specs.Prelude.{◌≡◌, ◌++◌, decimal, IfOk, OnOk, option_copied};
-ghost use Rattle.seq_run.specs.Report.{cause_text, end_line as end_line_of, fault_text, item_line, IsShown};
+ghost use Rattle.std.specs.Option.{option_map};
+ghost use Rattle.cbor_data.specs.Notation.{notation};
+ghost use Rattle.cbor_item.specs.View.{view};
+ghost use Rattle.cbor_place.specs.Paths.{path};
+ghost use Rattle.seq_run.specs.Report.{cause_text, end_line as end_line_of, fault_text, item_line, mismatch_text, or_nothing, IsShown};
 
 use crate::end::{Cause, End};
-use cbor_item::{Sound, diag};
+use cbor_item::{Item, Sound, diag};
+use cbor_place::{item_at, path_text};
 use cbor_read::FaultKind;
 use itoa::Buffer;
 use std::alloc::{AllocError, Global};
 
 /// The last line of a report, its line feed with it: `clean: N items, B bytes`, or `failed: N items, offset O:` and the
-/// cause. For a mismatch it asks for the item that failed.
+/// cause. For a mismatch it asks for the item that failed, in which the place stands.
 ///
 /// # Errors
 ///
@@ -81,13 +86,45 @@ fn push_cause(
             push_number(line, fault.at)?;
             Ok(())
         }
-        (Cause::Mismatch(0), Some(item)) => {
-            line.extend_from_slice(b"mismatch at $: ")?;
-            let text = diag(alloc, item.item())?;
-            line.extend_from_slice(text.as_slice())?;
-            Ok(())
+        (Cause::Mismatch(place), Some(item)) => push_mismatch(alloc, line, place, item.item()),
+        (Cause::Mismatch(_), None) => Ok(()),
+    }
+}
+
+// The path of the place, and what stands there.
+fn push_mismatch(
+    alloc: Global,
+    line: &mut Vec<u8>,
+    place: usize,
+    item: &Item,
+) -> Result<(), AllocError>
+    ensures { OnOk result (line.new.items ≡ line.old.items ++ mismatch_text place (view item.now)) }
+{
+    line.extend_from_slice(b"mismatch at ")?;
+    push_path(alloc, line, place, item)?;
+    line.extend_from_slice(b": ")?;
+    push_found(alloc, line, item_at(item, place))?;
+    Ok(())
+}
+
+fn push_path(alloc: Global, line: &mut Vec<u8>, place: usize, item: &Item) -> Result<(), AllocError>
+    ensures { OnOk result (line.new.items ≡ line.old.items ++ or_nothing (path (view item.now) place)) }
+{
+    match path_text(alloc, item, place)? {
+        Some(text) => line.extend_from_slice(text.as_slice()),
+        None => Ok(()),
+    }
+}
+
+fn push_found(alloc: Global, line: &mut Vec<u8>, found: Option<&Item>) -> Result<(), AllocError>
+    ensures { OnOk result (line.new.items ≡ line.old.items ++ or_nothing (option_map (λ item. notation (view item.now)) found.entry)) }
+{
+    match found {
+        Some(item) => {
+            let text = diag(alloc, item)?;
+            line.extend_from_slice(text.as_slice())
         }
-        (Cause::Mismatch(_), _) => Ok(()),
+        None => Ok(()),
     }
 }
 
