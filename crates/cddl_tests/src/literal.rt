@@ -152,33 +152,70 @@ fn numbers(rt: HostRuntime) {
     }
 }
 
+/// Escapes, where they end, and the character that they stand for.
+static ESCAPES: [(&str, usize, char); 22] = [
+    ("\\\"", 2, '"'),
+    ("\\/", 2, '/'),
+    ("\\\\", 2, '\\'),
+    ("\\b", 2, '\u{8}'),
+    ("\\f", 2, '\u{c}'),
+    ("\\n", 2, '\n'),
+    ("\\r", 2, '\r'),
+    ("\\t", 2, '\t'),
+    ("\\u0041", 6, 'A'),
+    ("\\u00e9", 6, '\u{e9}'),
+    ("\\u00E9", 6, '\u{e9}'),
+    ("\\uD7FF", 6, '\u{d7ff}'),
+    ("\\uE000", 6, '\u{e000}'),
+    ("\\uFFFF0", 6, '\u{ffff}'),
+    ("\\uD800\\uDC00", 12, '\u{10000}'),
+    ("\\uDBFF\\uDFFF", 12, '\u{10ffff}'),
+    ("\\ud83c\\udc73", 12, '\u{1f073}'),
+    ("\\u{1F073}", 9, '\u{1f073}'),
+    ("\\u{0}", 5, '\0'),
+    ("\\u{10FFFF}", 10, '\u{10ffff}'),
+    ("\\u{d7ff}", 8, '\u{d7ff}'),
+    ("\\u{00000000000000000000000000000041}", 36, 'A'),
+];
+
+/// What begins no escape.
+static NO_ESCAPES: [&str; 27] = [
+    "",
+    "n",
+    "\\",
+    "\\q",
+    "\\N",
+    "\\T",
+    "\\x41",
+    "\\U0041",
+    "\\u",
+    "\\u004",
+    "\\u00g0",
+    "\\uDC00",
+    "\\uD83D",
+    "\\uD83Dx",
+    "\\uD83D\\n",
+    "\\uD83D\\uD83D",
+    "\\uD83D\\u0041",
+    "\\uD83D\\u{DE00}",
+    "\\u{}",
+    "\\u{41",
+    "\\u{4g}",
+    "\\u{110000}",
+    "\\u{D800}",
+    "\\u{DFFF}",
+    "\\u{100000000000000000041}",
+    "\\0",
+    "\\1",
+];
+
 #[test]
 fn escapes(rt: HostRuntime) {
-    for (source, end, scalar) in [
-        ("\\\"", 2, '"'),
-        ("\\/", 2, '/'),
-        ("\\\\", 2, '\\'),
-        ("\\b", 2, '\u{8}'),
-        ("\\f", 2, '\u{c}'),
-        ("\\n", 2, '\n'),
-        ("\\r", 2, '\r'),
-        ("\\t", 2, '\t'),
-        ("\\u0041", 6, 'A'),
-        ("\\u00e9", 6, '\u{e9}'),
-        ("\\u00E9", 6, '\u{e9}'),
-        ("\\uD7FF", 6, '\u{d7ff}'),
-        ("\\uE000", 6, '\u{e000}'),
-        ("\\uFFFF0", 6, '\u{ffff}'),
-        ("\\uD800\\uDC00", 12, '\u{10000}'),
-        ("\\uDBFF\\uDFFF", 12, '\u{10ffff}'),
-        ("\\ud83c\\udc73", 12, '\u{1f073}'),
-        ("\\u{1F073}", 9, '\u{1f073}'),
-        ("\\u{0}", 5, '\0'),
-        ("\\u{10FFFF}", 10, '\u{10ffff}'),
-        ("\\u{d7ff}", 8, '\u{d7ff}'),
-        ("\\u{00000000000000000000000000000041}", 36, 'A'),
-    ] {
-        let want = Some(Escape { end, scalar });
+    for (source, end, scalar) in ESCAPES.iter() {
+        let want = Some(Escape {
+            end: *end,
+            scalar: *scalar,
+        });
         assert!(rt;
             escape_at(source.as_bytes(), 0, Quote::Double) == want,
             "{source}"
@@ -188,35 +225,7 @@ fn escapes(rt: HostRuntime) {
             "{source}"
         );
     }
-    for source in [
-        "",
-        "n",
-        "\\",
-        "\\q",
-        "\\N",
-        "\\T",
-        "\\x41",
-        "\\U0041",
-        "\\u",
-        "\\u004",
-        "\\u00g0",
-        "\\uDC00",
-        "\\uD83D",
-        "\\uD83Dx",
-        "\\uD83D\\n",
-        "\\uD83D\\uD83D",
-        "\\uD83D\\u0041",
-        "\\uD83D\\u{DE00}",
-        "\\u{}",
-        "\\u{41",
-        "\\u{4g}",
-        "\\u{110000}",
-        "\\u{D800}",
-        "\\u{DFFF}",
-        "\\u{100000000000000000041}",
-        "\\0",
-        "\\1",
-    ] {
+    for source in NO_ESCAPES.iter() {
         assert!(rt;
             escape_at(source.as_bytes(), 0, Quote::Double).is_none(),
             "{source}"
@@ -234,50 +243,54 @@ fn escapes(rt: HostRuntime) {
     assert!(rt; escape_at(b"\\'", 0, Quote::Double).is_none());
 }
 
-/// Where characters stop in a source.
-fn stop(source: &[u8], quote: Quote) -> usize {
-    characters_end(source, 0, quote)
-}
+/// Sources, and where the characters of a string stop in them.
+static STRINGS: [(&[u8], Quote, usize); 15] = [
+    (b"", Quote::Double, 0),
+    (b"ab'c\"d", Quote::Double, 4),
+    (b"ab'c\"d", Quote::Single, 2),
+    (b"a\\\"b\"", Quote::Double, 4),
+    (b"a\\qb\"", Quote::Double, 1),
+    (b"a\x1f\"", Quote::Double, 1),
+    (b" ~\x7f\"", Quote::Double, 2),
+    (b"\xc2\x80\xf4\x8f\xbf\xbf", Quote::Double, 6),
+    (b"a\tb", Quote::Double, 1),
+    (b"a\nb", Quote::Double, 1),
+    (b"a\r\nb", Quote::Double, 1),
+    (b"a\tb", Quote::Single, 1),
+    (b"a\nb\r\nc'", Quote::Single, 6),
+    (b"a\rb", Quote::Single, 1),
+    (b"a\r", Quote::Single, 1),
+];
 
 #[test]
 fn stops_of_strings(rt: HostRuntime) {
-    assert_eq!(rt; stop(b"", Quote::Double), 0);
-    assert_eq!(rt; stop(b"ab'c\"d", Quote::Double), 4);
-    assert_eq!(rt; stop(b"ab'c\"d", Quote::Single), 2);
-    assert_eq!(rt; stop(b"a\\\"b\"", Quote::Double), 4);
-    assert_eq!(rt; stop(b"a\\qb\"", Quote::Double), 1);
-    assert_eq!(rt; stop(b"a\x1f\"", Quote::Double), 1);
-    assert_eq!(rt; stop(b" ~\x7f\"", Quote::Double), 2);
-    assert_eq!(rt; stop(b"\xc2\x80\xf4\x8f\xbf\xbf", Quote::Double), 6);
-    assert_eq!(rt; stop(b"a\tb", Quote::Double), 1);
-    assert_eq!(rt; stop(b"a\nb", Quote::Double), 1);
-    assert_eq!(rt; stop(b"a\r\nb", Quote::Double), 1);
-    assert_eq!(rt; stop(b"a\tb", Quote::Single), 1);
-    assert_eq!(rt; stop(b"a\nb\r\nc'", Quote::Single), 6);
-    assert_eq!(rt; stop(b"a\rb", Quote::Single), 1);
-    assert_eq!(rt; stop(b"a\r", Quote::Single), 1);
+    for (source, quote, end) in STRINGS.iter() {
+        assert_eq!(rt; characters_end(*source, 0, *quote), *end, "{source:?}");
+    }
 }
 
-/// Where what a string with prefix may hold stops in a source.
-fn coded_stop(source: &[u8]) -> usize {
-    coded_end(source, 0)
-}
+/// Sources, and where what a string with a prefix may hold stops in them.
+static PREFIXED: [(&[u8], usize); 13] = [
+    (b"00 ; x", 6),
+    (b"00'", 2),
+    (b"00 ; x'", 6),
+    (b"0\\", 1),
+    (b"0;a\\'", 3),
+    (b"0;\x01'", 2),
+    (b"0;\x7f'", 2),
+    (b"0;\ta\nb'", 6),
+    (b"0;a\r\nb'", 6),
+    (b"0;a\rb'", 3),
+    (b"0\x01\r\x7f\"'", 5),
+    (b"0;\x00", 2),
+    (b"0\x00'", 2),
+];
 
 #[test]
 fn stops_of_prefixed(rt: HostRuntime) {
-    assert_eq!(rt; coded_stop(b"00 ; x"), 6);
-    assert_eq!(rt; coded_stop(b"00'"), 2);
-    assert_eq!(rt; coded_stop(b"00 ; x'"), 6);
-    assert_eq!(rt; coded_stop(b"0\\"), 1);
-    assert_eq!(rt; coded_stop(b"0;a\\'"), 3);
-    assert_eq!(rt; coded_stop(b"0;\x01'"), 2);
-    assert_eq!(rt; coded_stop(b"0;\x7f'"), 2);
-    assert_eq!(rt; coded_stop(b"0;\ta\nb'"), 6);
-    assert_eq!(rt; coded_stop(b"0;a\r\nb'"), 6);
-    assert_eq!(rt; coded_stop(b"0;a\rb'"), 3);
-    assert_eq!(rt; coded_stop(b"0\x01\r\x7f\"'"), 5);
-    assert_eq!(rt; coded_stop(b"0;\x00"), 2);
-    assert_eq!(rt; coded_stop(b"0\x00'"), 2);
+    for (source, end) in PREFIXED.iter() {
+        assert_eq!(rt; coded_end(*source, 0), *end, "{source:?}");
+    }
 }
 
 /// The value of a source that is a text string, if it is one.
@@ -376,44 +389,50 @@ fn hex(rt: HostRuntime) -> Result<(), Fail> {
     Ok(())
 }
 
+/// What stands between the quotes of a string in base64, and its bytes.
+static BASE64: [(&str, &[u8]); 12] = [
+    ("'", b""),
+    ("Zg=='", b"f"),
+    ("Zm8='", b"fo"),
+    ("Zm9v'", b"foo"),
+    ("Zm9vYg=='", b"foob"),
+    ("Zm9vYmE='", b"fooba"),
+    ("Zm9vYmFy'", b"foobar"),
+    ("Zg'", b"f"),
+    ("Zm8'", b"fo"),
+    ("Zm9vYmE'", b"fooba"),
+    ("+/-_'", b"\xfb\xff\xbf"),
+    ("Z m\t8 ; =\n = ; x'", b"fo"),
+];
+
+/// What is no base64.
+static NO_BASE64: [&str; 17] = [
+    "Q'",
+    "QQ='",
+    "QR'",
+    "QR=='",
+    "QUI==='",
+    "QUJ'",
+    "QUJD='",
+    "QUJD===='",
+    "='",
+    "===='",
+    "QQ==QQ=='",
+    "QUJDQ'",
+    "Q\u{e9}==",
+    "QQ\x01'",
+    "QQ,='",
+    "Q.'",
+    "Zg==Zg'",
+];
+
 #[test]
 fn base64(rt: HostRuntime) -> Result<(), Fail> {
-    for (source, want) in [
-        ("'", b"".as_slice()),
-        ("Zg=='", b"f".as_slice()),
-        ("Zm8='", b"fo".as_slice()),
-        ("Zm9v'", b"foo".as_slice()),
-        ("Zm9vYg=='", b"foob".as_slice()),
-        ("Zm9vYmE='", b"fooba".as_slice()),
-        ("Zm9vYmFy'", b"foobar".as_slice()),
-        ("Zg'", b"f".as_slice()),
-        ("Zm8'", b"fo".as_slice()),
-        ("Zm9vYmE'", b"fooba".as_slice()),
-        ("+/-_'", b"\xfb\xff\xbf".as_slice()),
-        ("Z m\t8 ; =\n = ; x'", b"fo".as_slice()),
-    ] {
+    for (source, want) in BASE64.iter() {
         let found = between(rt.alloc(), Coding::Base64, source.as_bytes())?;
-        assert!(rt; found.ok_or("no bytes")?.as_slice() == want, "{source}");
+        assert!(rt; found.ok_or("no bytes")?.as_slice() == *want, "{source}");
     }
-    for source in [
-        "Q'",
-        "QQ='",
-        "QR'",
-        "QR=='",
-        "QUI==='",
-        "QUJ'",
-        "QUJD='",
-        "QUJD===='",
-        "='",
-        "===='",
-        "QQ==QQ=='",
-        "QUJDQ'",
-        "Q\u{e9}==",
-        "QQ\x01'",
-        "QQ,='",
-        "Q.'",
-        "Zg==Zg'",
-    ] {
+    for source in NO_BASE64.iter() {
         let found = between(rt.alloc(), Coding::Base64, source.as_bytes())?;
         assert!(rt; found.is_none(), "{source}");
     }
