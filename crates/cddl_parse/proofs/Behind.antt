@@ -3,21 +3,21 @@ use Rattle.std.proofs.Common.{◌≡◌, ◌≢◌, Option, Some, None, refl, sy
 use Rattle.cddl_token.specs.declared.Token.{Token}
 use Rattle.cddl_token.specs.declared.Kind.{Kind}
 use Rattle.cddl_token.specs.declared.Kind.TheVariants as K
-use Rattle.cddl_parse.specs.declared.frames.Home.{Home}
-use Rattle.cddl_parse.specs.declared.frames.Before.{Before}
-use Rattle.cddl_parse.specs.declared.frames.Before.TheVariants as B
-use Rattle.cddl_parse.specs.declared.frames.Arguments.{Arguments}
-use Rattle.cddl_parse.specs.declared.frames.AtType2.{AtType2}
-use Rattle.cddl_parse.specs.declared.frames.Prefix.{Prefix}
-use Rattle.cddl_parse.specs.declared.frames.TypeOpening.{TypeOpening}
+use Rattle.cddl_frames.specs.declared.frames.Home.{Home}
+use Rattle.cddl_frames.specs.declared.frames.Before.{Before}
+use Rattle.cddl_frames.specs.declared.frames.Before.TheVariants as B
+use Rattle.cddl_frames.specs.declared.frames.Arguments.{Arguments}
+use Rattle.cddl_frames.specs.declared.frames.AtType2.{AtType2}
+use Rattle.cddl_frames.specs.declared.frames.Prefix.{Prefix}
+use Rattle.cddl_frames.specs.declared.frames.TypeOpening.{TypeOpening}
 use Rattle.cddl_tree.specs.declared.tree.RuleName.{RuleName}
-use Rattle.cddl_parse.specs.declared.frames.Frame.{Frame}
-use Rattle.cddl_parse.specs.declared.frames.Frame.TheVariants as F
+use Rattle.cddl_frames.specs.declared.frames.Frame.{Frame}
+use Rattle.cddl_frames.specs.declared.frames.Frame.TheVariants as F
 use Rattle.cddl_tree.specs.declared.tree.Types.{Types}
 use Rattle.cddl_syntax.specs.Syntax as S
 use Rattle.cddl_syntax.specs.Machine as M
 use Rattle.cddl_tree.specs.View.{view_types}
-use Rattle.cddl_parse.specs.Frames.{on, made, Below, nowhere, types, reference, entry, group, as_types, as_entry, as_group, as_argument, as_reference, view_home, view_at_type2, view_arguments, view_alternatives, view_entries, view_prefix, view_type_opening, view_group_opening, type1_at, inside_at, within_at, reference_at, in_entry_at, member_at, above}
+use Rattle.cddl_frames.specs.Frames.{on, made, Below, nowhere, types, reference, entry, group, as_types, as_entry, as_group, as_argument, as_reference, view_home, view_at_type2, view_arguments, view_alternatives, view_entries, view_prefix, view_type_opening, view_group_opening, type1_at, inside_at, within_at, reference_at, in_entry_at, member_at, above}
 
 pub on_made : {A B : Type 0} (f : A → B) (q : Option A) (P : B → Type 0) → on q (λ x. P (f x)) → on (made f q) P
 on_made f None P h = tt
@@ -48,16 +48,6 @@ pub type1_argument : (b : Below) (h : Home) (bf : Before) (P : M.State → Type 
 type1_argument b h bf P a x r i t e f g = rw e (type1_argument_at b P (view_arguments a) x r i t f g)
 
 -- Behind an argument.
-
-argument_comma_at : (b : Below) (a : S.GenericArg) (t : Token) → on (as_reference b) (λ y. made M.want (made M.lower (as_argument b (M.behind_arg a t))) ≡ Some (M.after_argument y.0 y.1 y.2 a K.Comma t))
-argument_comma_at nowhere a t = tt
-argument_comma_at (types k) a t = tt
-argument_comma_at (reference k p o) a t = refl
-argument_comma_at (entry k) a t = tt
-argument_comma_at (group k) a t = tt
-
-pub argument_comma : (b : Below) (w : Option M.AtType2) (x a : S.GenericArg) (t : Token) → x ≡ a → w ≡ made M.lower (as_argument b (M.behind_arg x t)) → on (as_reference b) (λ y. made M.want w ≡ Some (M.after_argument y.0 y.1 y.2 a K.Comma t))
-argument_comma b w x a t e f = rw (f, e) (argument_comma_at b a t)
 
 pub argument_other : (k : M.AtType2) (p : M.Prefix) (o : Token) (a : S.GenericArg) (i : Kind) (t : Token) → i ≢ K.Comma → i ≢ K.AngleClose → M.after_argument k p o a i t ≡ M.stuck
 argument_other k p o a K.Comma t e f = absurd (e refl)

@@ -11,23 +11,22 @@ use Rattle.cddl_tree.specs.declared.tree.RuleName.{RuleName}
 use Rattle.cddl_tree.specs.declared.tree.AssignG.{AssignG}
 use Rattle.cddl_tree.specs.declared.tree.Rule.{Rule}
 use Rattle.cddl_tree.specs.declared.tree.Entry.{Entry}
-use Rattle.cddl_parse.specs.declared.frames.Alternatives.{Alternatives}
-use Rattle.cddl_parse.specs.declared.frames.Home.{Home}
-use Rattle.cddl_parse.specs.declared.frames.Prefix.{Prefix}
-use Rattle.cddl_parse.specs.declared.frames.Prefix.TheVariants as P
-use Rattle.cddl_parse.specs.declared.frames.Frame.{Frame}
-use Rattle.cddl_parse.specs.declared.frames.Frame.TheVariants as F
-use Rattle.cddl_parse.specs.declared.frames.Now.{Now}
-use Rattle.cddl_parse.specs.declared.frames.Now.TheVariants as N
+use Rattle.cddl_frames.specs.declared.frames.Alternatives.{Alternatives}
+use Rattle.cddl_frames.specs.declared.frames.Home.{Home}
+use Rattle.cddl_frames.specs.declared.frames.Prefix.{Prefix}
+use Rattle.cddl_frames.specs.declared.frames.Prefix.TheVariants as P
+use Rattle.cddl_frames.specs.declared.frames.Frame.{Frame}
+use Rattle.cddl_frames.specs.declared.frames.Frame.TheVariants as F
+use Rattle.cddl_frames.specs.declared.frames.Now.{Now}
+use Rattle.cddl_frames.specs.declared.frames.Now.TheVariants as N
 use Rattle.cddl_parse.specs.declared.state.State.{State}
 use Rattle.cddl_syntax.specs.Syntax as S
 use Rattle.cddl_syntax.specs.Machine as M
 use Rattle.cddl_parse.specs.Kinds.{IsNoOperand, IsNoHead}
-use Rattle.cddl_parse.proofs.Pushing.{below-empty, below-push}
-use Rattle.cddl_parse.proofs.Steps.{on_all, refuses}
-use Rattle.cddl_parse.specs.Frames.{on, made, Below, nowhere, as_entry, view_home, view_at_type2, view_prefix, view_type_opening, view_group_opening, inside_at, within_at, reference_at, in_entry_at, above, below, view_now, view_rules, Comes, Refused}
+use Rattle.cddl_frames.proofs.Steps.{on_all, refuses, popped, bottom}
+use Rattle.cddl_frames.specs.Frames.{on, made, Below, nowhere, as_entry, view_home, view_at_type2, view_prefix, view_type_opening, view_group_opening, inside_at, within_at, reference_at, in_entry_at, above, below, view_now, Comes, Refused}
 use Rattle.cddl_parse.proofs.Behind.{on_made}
-use Rattle.cddl_parse.specs.States.{view_state, BeginsBody, GivesState}
+use Rattle.cddl_parse.specs.States.{view_rules, view_state, BeginsBody, GivesState}
 
 -- what is made of the place is what is made of it
 pub made_on : {A B : Type 0} (f : A → B) (q : Option A) → on q (λ x. made f q ≡ Some (f x))
@@ -183,7 +182,7 @@ pub body_begun : (rs : S.Rules) (old new : List Frame) (f : Frame) (h : Home) (w
 body_begun rs old new f h w e g i = ap (made M.want) (i ∙ ap (λ (b : Below). made (λ k. M.lower (M.head k)) (view_home b h)) here) ∙ made_twice (view_home (above rs nowhere f) h)
   where
     here : below rs new ≡ above rs nowhere f
-    here = ap (below rs) (g ∙ ap (λ (xs : List Frame). xs ++ f ∷ []) e) ∙ below-push rs [] f ∙ ap (λ (b : Below). above rs b f) (below-empty rs)
+    here = popped rs new old f g ∙ ap (λ (b : Below). above rs b f) (bottom rs old e)
 
 pub begins : (r : Result State Refusal) (v : Option M.State) (k : Option M.AtTypes) → MatchResult r (λ s. view_state s ≡ v) (λ e. e ≡ Memory) → v ≡ made M.open_types k → BeginsBody r k
 begins (Ok s) v k h e = h ∙ e

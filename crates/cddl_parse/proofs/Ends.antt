@@ -6,17 +6,17 @@ use Rattle.cddl_token.specs.declared.Kind.TheVariants as K
 use Rattle.cddl_token.specs.declared.Refusal.{Refusal}
 use Rattle.cddl_token.specs.declared.Refusal.TheVariants.{At}
 use Rattle.cddl_token.specs.declared.Code.TheVariants.{Unexpected}
-use Rattle.cddl_parse.specs.declared.frames.AtType2.{AtType2}
-use Rattle.cddl_parse.specs.declared.frames.GroupOpening.{GroupOpening}
-use Rattle.cddl_parse.specs.declared.frames.Frame.{Frame}
-use Rattle.cddl_parse.specs.declared.frames.Frame.TheVariants as F
-use Rattle.cddl_parse.specs.declared.frames.Alternatives.{Alternatives}
+use Rattle.cddl_frames.specs.declared.frames.AtType2.{AtType2}
+use Rattle.cddl_frames.specs.declared.frames.GroupOpening.{GroupOpening}
+use Rattle.cddl_frames.specs.declared.frames.Frame.{Frame}
+use Rattle.cddl_frames.specs.declared.frames.Frame.TheVariants as F
+use Rattle.cddl_frames.specs.declared.frames.Alternatives.{Alternatives}
 use Rattle.cddl_tree.specs.declared.tree.Entry.{Entry}
 use Rattle.std.proofs.Common.{Vec, Global}
 use Rattle.cddl_syntax.specs.Syntax as S
 use Rattle.cddl_syntax.specs.Machine as M
-use Rattle.cddl_parse.proofs.Steps.{refuses}
-use Rattle.cddl_parse.specs.Frames.{on, made, Below, nowhere, as_entry, as_group, view_at_type2, view_group_opening, view_type_opening, view_prefix, view_alternatives, view_entries, inside_at, within_at, reference_at, in_entry_at, member_at, above, Refused, IsElsewhere}
+use Rattle.cddl_frames.proofs.Steps.{refuses}
+use Rattle.cddl_frames.specs.Frames.{on, made, Below, nowhere, as_entry, as_group, view_at_type2, view_group_opening, view_type_opening, view_prefix, view_alternatives, view_entries, inside_at, within_at, reference_at, in_entry_at, member_at, above, Refused, IsElsewhere}
 use Rattle.cddl_parse.proofs.Heads.{ends_elsewhere, ends_occur, ends_other, ends_slashes, in_entry_shut}
 
 -- The first place of a type.

@@ -5,7 +5,7 @@ use Rattle.cddl_token.specs.declared.Kind.{Kind}
 use Rattle.cddl_token.specs.declared.Kind.TheVariants as K
 use Rattle.cddl_syntax.specs.Syntax as S
 use Rattle.cddl_syntax.specs.Machine as M
-use Rattle.cddl_parse.specs.Frames.{on, made, Below, entry, as_entry, as_group, within_at, in_entry_at, member_at, IsElsewhere, IsChoice}
+use Rattle.cddl_frames.specs.Frames.{on, made, Below, entry, as_entry, as_group, within_at, in_entry_at, member_at, IsElsewhere, IsChoice}
 
 -- Behind a type at the head of an entry.
 

@@ -1,12 +1,7 @@
 pub mod Adding
 pub mod Behind
 pub mod Bodies
-pub mod Closing
-pub mod Contents
-pub mod Elsewhere
 pub mod Ending
 pub mod Ends
 pub mod Heads
-pub mod Pushing
-pub mod Steps
 pub mod Whole

@@ -1,5 +1,5 @@
 -- What a state of the parser stands for.
-use Rattle.cddl_parse.specs.Frames.{made, below, view_rules, view_parameters, view_now, Refused}
+use Rattle.cddl_frames.specs.Frames.{made, below, view_parameters, view_now, Refused}
 use Rattle.std.specs.Prelude.{◌≡◌, ◌≤◌, List, [], ◌∷◌, ◌++◌, Option, Some, None, Result, Ok, Err}
 use Rattle.cddl_token.specs.declared.Token.{Token}
 use Rattle.cddl_token.specs.declared.Kind.TheVariants.{End}
@@ -7,11 +7,16 @@ use Rattle.cddl_token.specs.declared.Refusal.{Refusal}
 use Rattle.cddl_token.specs.declared.Refusal.TheVariants.{At, Memory}
 use Rattle.cddl_parse.specs.declared.state.State.{State}
 use Rattle.cddl_parse.specs.declared.state.Progress.{Progress}
+use Rattle.cddl_tree.specs.declared.tree.Rule.{Rule}
 use Rattle.cddl_tree.specs.declared.tree.Tree.{Tree}
 use Rattle.cddl_parse.specs.declared.state.State.TheVariants as St
 use Rattle.cddl_syntax.specs.Machine as M
+use Rattle.cddl_syntax.specs.Syntax as S
 use Rattle.cddl_syntax.specs.Answers.{lexemes, nesting_limit, open_after, deepest, IsRefused}
-use Rattle.cddl_tree.specs.View.{view_parm, view_name, view}
+use Rattle.cddl_tree.specs.View.{view_parm, view_name, view, with_rules}
+
+abbrev pub view_rules : List Rule → S.Rules
+view_rules rs = with_rules S.no_rules rs
 
 abbrev pub view_state : State → Option M.State
 view_state St.Begin = Some M.begin

@@ -3,20 +3,16 @@ ghost use Rattle.std.specs.Prelude.{◌≡◌, IfOk};
 ghost use Rattle.cddl_syntax.specs.Machine as M;
 ghost use Rattle.cddl_syntax.specs.Syntax as S;
 ghost use Rattle.cddl_tree.specs.View.{view_type1, view_grpent, view_rule, view_name, view_assigng};
-ghost use Rattle.cddl_parse.specs.Frames.{Below, on, as_entry, as_group, below, view_now, view_at_type1, view_at_type2, view_prefix, view_alternatives, view_entries, Gives};
+ghost use Rattle.cddl_frames.specs.Frames.{Below, on, as_entry, as_group, below, view_now, view_at_type1, view_at_type2, view_prefix, view_alternatives, view_entries, Gives};
 ghost use Rattle.cddl_parse.specs.Kinds.{IsNoOperand, IsNoHead};
 
-use crate::build::{lone_type, prefixed, unexpected};
-use crate::frames::{
-    Alternatives, AtType1, AtType2, Frame, GroupOpening, Home, Now, Prefix, TypeOpening,
-};
 use crate::groups::ends_want;
-use crate::open::{
-    occur_want, open_group, open_inside, open_member, open_paren, open_reference, type_at,
-};
-use crate::operands::{got, operated, slash};
-use crate::places::{ended, value_at};
 use crate::types::after_type1;
+use cddl_frames::{
+    Alternatives, AtType1, AtType2, Frame, GroupOpening, Home, Now, Prefix, TypeOpening, ended,
+    got, lone_type, occur_want, open_group, open_inside, open_member, open_paren, open_reference,
+    operated, prefixed, slash, type_at, unexpected, value_at,
+};
 use cddl_token::{Kind, Refusal, Token};
 use cddl_tree::{
     AssignG, AssignT, Entry, GrpEnt, MemberKey, Operator, Ref, Rule, RuleName, Type1, Type2, Value,

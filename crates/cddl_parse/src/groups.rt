@@ -6,12 +6,12 @@ ghost use Rattle.cddl_token.specs.declared.Refusal.{Refusal};
 ghost use Rattle.cddl_syntax.specs.Machine as M;
 ghost use Rattle.cddl_syntax.specs.Syntax as S;
 ghost use Rattle.cddl_tree.specs.View.{view_group};
-ghost use Rattle.cddl_parse.specs.Frames.{Below, on, as_entry, as_group, below, view_at_type2, view_alternatives, view_entries, view_group_opening, bracketed, Gives};
+ghost use Rattle.cddl_frames.specs.Frames.{Below, on, as_entry, as_group, below, view_at_type2, view_alternatives, view_entries, view_group_opening, bracketed, Gives};
 
-use crate::brackets::{shut_entry, shut_within};
-use crate::build::{group_of, unexpected};
-use crate::frames::{Alternatives, AtType2, Frame, Now};
-use crate::open::{entry_head, open_member};
+use cddl_frames::{
+    Alternatives, AtType2, Frame, Now, entry_head, group_of, open_member, shut_entry, shut_within,
+    unexpected,
+};
 use cddl_token::{Kind, Refusal, Token};
 use cddl_tree::{Entry, Group};
 use std::alloc::Global;

@@ -1,15 +1,13 @@
 //! What a token does between the rules and in the head of a rule.
 ghost use Rattle.std.specs.Prelude.{◌≡◌, MatchResult};
 ghost use Rattle.cddl_syntax.specs.Machine as M;
-ghost use Rattle.cddl_parse.specs.Frames.{on, nowhere, above, below, view_rules, view_home, view_now, Gives};
-ghost use Rattle.cddl_parse.specs.States.{view_state, BeginsBody, GivesState};
+ghost use Rattle.cddl_frames.specs.Frames.{on, nowhere, above, below, view_home, view_now, Gives};
+ghost use Rattle.cddl_parse.specs.States.{view_rules, view_state, BeginsBody, GivesState};
 ghost use Rattle.cddl_tree.specs.View.{view_name, view_parm};
 
-use crate::build::{parm_of, unexpected};
 use crate::entries::step_body;
-use crate::frames::{Frame, Home, Now, Parameters};
-use crate::open::type_at;
 use crate::state::State;
+use cddl_frames::{Frame, Home, Now, Parameters, parm_of, type_at, unexpected};
 use cddl_token::{Kind, Refusal, Token};
 use cddl_tree::{AssignG, GenericParm, Rule, RuleName, Tree};
 use std::alloc::Global;

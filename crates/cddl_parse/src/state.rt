@@ -1,5 +1,5 @@
 //! Where the parser is between two tokens.
-use crate::frames::{Frame, Now, Parameters};
+use cddl_frames::{Frame, Now, Parameters};
 use cddl_token::Token;
 use cddl_tree::{GenericParm, Rule, RuleName, Tree};
 

@@ -5,13 +5,13 @@ ghost use Rattle.cddl_token.specs.declared.Kind.TheVariants.{ParenClose, AngleCl
 ghost use Rattle.cddl_syntax.specs.Machine as M;
 ghost use Rattle.cddl_syntax.specs.Syntax as S;
 ghost use Rattle.cddl_tree.specs.View.{view_operator, view_types, view_type1, view_type2, view_arg, view_key};
-ghost use Rattle.cddl_parse.specs.Frames.{Below, on, made, as_types, as_entry, as_argument, as_reference, view_arguments, below, view_home, view_at_type1, view_at_type2, view_type_opening, Gives};
+ghost use Rattle.cddl_frames.specs.Frames.{Below, on, made, as_types, as_entry, as_argument, as_reference, view_arguments, below, view_home, view_at_type1, view_at_type2, view_type_opening, Gives};
 
-use crate::build::{arg_of, more_types, one_type, prefixed, sole_type1, unexpected};
 use crate::entries::after_entry;
-use crate::frames::{AtType1, Before, Frame, Home, Now};
-use crate::operands::{arrow, colon, got, shut_types};
-use crate::places::{ended, next_argument, want_arrow};
+use cddl_frames::{
+    AtType1, Before, Frame, Home, Now, arg_of, arrow, colon, ended, got, more_types, next_argument,
+    one_type, prefixed, shut_types, sole_type1, unexpected, want_arrow,
+};
 use cddl_token::{Kind, Refusal, Token};
 use cddl_tree::{AssignT, GenericArg, GrpEnt, Ref, Rule, Type1, Types};
 use std::alloc::Global;

@@ -1,11 +1,11 @@
 use Rattle.std.proofs.Common.{◌∙◌, ap}
 use Rattle.cddl_syntax.specs.Machine as M
 use Rattle.cddl_tree.specs.View.{view_grpent, view_name, view_assigng}
-use Rattle.cddl_parse.specs.declared.frames.Frame.{Frame}
+use Rattle.cddl_frames.specs.declared.frames.Frame.{Frame}
 use Rattle.cddl_parse.proofs.entries.after_entry.Goals as goal
-use Rattle.cddl_parse.proofs.Contents.{empty_items}
-use Rattle.cddl_parse.proofs.Steps.{bottom, on_with, popped}
-use Rattle.cddl_parse.specs.Frames.{below, above, as_entry, as_group, view_alternatives, view_entries, Gives}
+use Rattle.cddl_frames.proofs.Contents.{empty_items}
+use Rattle.cddl_frames.proofs.Steps.{bottom, on_with, popped}
+use Rattle.cddl_frames.specs.Frames.{below, above, as_entry, as_group, view_alternatives, view_entries, Gives}
 use Rattle.cddl_parse.proofs.Heads.{body_entry, member_entry}
 use Rattle.cddl_parse.proofs.Bodies.{nowhere_entry, other_frame}
 

@@ -2,8 +2,8 @@ use Rattle.std.proofs.Common.{None}
 use Rattle.cddl_syntax.specs.Machine as M
 use Rattle.cddl_tree.specs.View.{view_grpent}
 use Rattle.cddl_parse.proofs.entries.after_member.Goals as goal
-use Rattle.cddl_parse.proofs.Steps.{on_all, popped}
-use Rattle.cddl_parse.specs.Frames.{below, as_group, view_at_type2, view_alternatives, view_entries, Gives}
+use Rattle.cddl_frames.proofs.Steps.{on_all, popped}
+use Rattle.cddl_frames.specs.Frames.{below, as_group, view_at_type2, view_alternatives, view_entries, Gives}
 use Rattle.cddl_parse.proofs.Heads.{on_along, entry_comma, entry_other, entry_want}
 
 pub returns-in-Ok : goal.returns-in-Ok

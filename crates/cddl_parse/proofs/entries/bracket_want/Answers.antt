@@ -1,7 +1,7 @@
 use Rattle.cddl_token.specs.declared.Kind.{Kind}
 use Rattle.cddl_syntax.specs.Machine as M
 use Rattle.cddl_parse.proofs.entries.bracket_want.Goals as goal
-use Rattle.cddl_parse.specs.Frames.{below, view_at_type2, Gives}
+use Rattle.cddl_frames.specs.Frames.{below, view_at_type2, Gives}
 use Rattle.cddl_parse.proofs.Heads.{on_along}
 use Rattle.cddl_parse.proofs.Bodies.{at_kind, want_ends}
 

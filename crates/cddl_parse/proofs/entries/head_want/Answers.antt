@@ -1,10 +1,10 @@
 use Rattle.cddl_token.specs.declared.Kind.{Kind}
 use Rattle.cddl_syntax.specs.Machine as M
 use Rattle.std.proofs.Common.{Ok}
-use Rattle.cddl_parse.specs.declared.frames.Now.TheVariants as N
-use Rattle.cddl_parse.specs.declared.frames.Prefix.TheVariants as P
+use Rattle.cddl_frames.specs.declared.frames.Now.TheVariants as N
+use Rattle.cddl_frames.specs.declared.frames.Prefix.TheVariants as P
 use Rattle.cddl_parse.proofs.entries.head_want.Goals as goal
-use Rattle.cddl_parse.specs.Frames.{below, view_at_type2, Gives}
+use Rattle.cddl_frames.specs.Frames.{below, view_at_type2, Gives}
 use Rattle.cddl_parse.proofs.Bodies.{at_kind, made_on, no_head}
 
 pub returns-in-NameOpen : goal.returns-in-NameOpen

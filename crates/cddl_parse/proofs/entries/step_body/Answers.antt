@@ -7,7 +7,7 @@ use Rattle.cddl_tree.specs.declared.tree.Type1.{Type1}
 use Rattle.cddl_tree.specs.View.{view_type1, view_types, view_grpent}
 use Rattle.cddl_tree.proofs.Viewing.{view-TypeKey}
 use Rattle.cddl_parse.proofs.entries.step_body.Goals as goal
-use Rattle.cddl_parse.specs.Frames.{made, below, as_entry, view_now, view_at_type1, view_at_type2, view_prefix, Gives, Refused}
+use Rattle.cddl_frames.specs.Frames.{made, below, as_entry, view_now, view_at_type1, view_at_type2, view_prefix, Gives, Refused}
 use Rattle.cddl_parse.proofs.Heads.{arrow_behind_cut}
 use Rattle.cddl_parse.proofs.Bodies.{at_kind, refused_at, now_made, now_none, content_other, arrow_other}
 

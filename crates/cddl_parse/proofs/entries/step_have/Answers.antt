@@ -2,7 +2,7 @@ use Rattle.cddl_token.specs.declared.Kind.{Kind}
 use Rattle.cddl_syntax.specs.Machine as M
 use Rattle.cddl_tree.specs.View.{view_type1}
 use Rattle.cddl_parse.proofs.entries.step_have.Goals as goal
-use Rattle.cddl_parse.specs.Frames.{below, view_at_type1, Gives}
+use Rattle.cddl_frames.specs.Frames.{below, view_at_type1, Gives}
 use Rattle.cddl_parse.proofs.Heads.{on_along, have_other}
 use Rattle.cddl_parse.proofs.Bodies.{at_kind}
 

@@ -6,7 +6,7 @@ use Rattle.cddl_tree.specs.declared.tree.Value.TheVariants as V
 use Rattle.cddl_tree.specs.declared.tree.Ref.TheVariants as R
 use Rattle.cddl_tree.proofs.Viewing.{view-Literal, view-Typename, view-Name, view-Hash}
 use Rattle.cddl_parse.proofs.entries.step_want.Goals as goal
-use Rattle.cddl_parse.specs.Frames.{below, view_at_type2, Gives}
+use Rattle.cddl_frames.specs.Frames.{below, view_at_type2, Gives}
 use Rattle.cddl_parse.proofs.Bodies.{got_at, no_operand}
 
 pub returns-in-Number : goal.returns-in-Number

@@ -2,9 +2,9 @@ use Rattle.std.proofs.Common.{◌∙◌, ap, refl}
 use Rattle.cddl_token.specs.declared.Kind.{Kind}
 use Rattle.cddl_syntax.specs.Machine as M
 use Rattle.cddl_tree.proofs.Viewing.{view-Name}
-use Rattle.cddl_parse.specs.declared.frames.Prefix.{Prefix}
+use Rattle.cddl_frames.specs.declared.frames.Prefix.{Prefix}
 use Rattle.cddl_parse.proofs.entries.step_want_ref.Goals as goal
-use Rattle.cddl_parse.specs.Frames.{below, view_at_type2, view_prefix, Gives}
+use Rattle.cddl_frames.specs.Frames.{below, view_at_type2, view_prefix, Gives}
 use Rattle.cddl_parse.proofs.Heads.{on_along, ref_other}
 use Rattle.cddl_parse.proofs.Bodies.{at_kind, got_at, refused_at, no_choice}
 

@@ -1,8 +1,8 @@
 use Rattle.std.proofs.Common.{ap}
 use Rattle.cddl_syntax.specs.Machine as M
 use Rattle.cddl_parse.proofs.groups.ends.Goals as goal
-use Rattle.cddl_parse.proofs.Steps.{on_all}
-use Rattle.cddl_parse.specs.Frames.{as_group, below, view_entries, Gives}
+use Rattle.cddl_frames.proofs.Steps.{on_all}
+use Rattle.cddl_frames.specs.Frames.{as_group, below, view_entries, Gives}
 use Rattle.cddl_parse.proofs.Ends.{slashes_opened, ends_shut}
 
 pub returns-in-DoubleSlash : goal.returns-in-DoubleSlash

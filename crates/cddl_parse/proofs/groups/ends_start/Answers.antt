@@ -1,9 +1,9 @@
 use Rattle.std.proofs.Common.{◌∙◌, ap}
 use Rattle.cddl_syntax.specs.Machine as M
 use Rattle.cddl_parse.proofs.groups.ends_start.Goals as goal
-use Rattle.cddl_parse.proofs.Contents.{empty_items}
-use Rattle.cddl_parse.proofs.Steps.{popped, bottom}
-use Rattle.cddl_parse.specs.Frames.{below, above, Gives}
+use Rattle.cddl_frames.proofs.Contents.{empty_items}
+use Rattle.cddl_frames.proofs.Steps.{popped, bottom}
+use Rattle.cddl_frames.specs.Frames.{below, above, Gives}
 use Rattle.cddl_parse.proofs.Heads.{ends_member}
 use Rattle.cddl_parse.proofs.Ends.{nothing_entry, ends_default}
 

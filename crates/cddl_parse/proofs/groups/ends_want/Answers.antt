@@ -1,8 +1,8 @@
 use Rattle.std.proofs.Common.{ap}
 use Rattle.cddl_syntax.specs.Machine as M
 use Rattle.cddl_parse.proofs.groups.ends_want.Goals as goal
-use Rattle.cddl_parse.proofs.Elsewhere.{head_none}
-use Rattle.cddl_parse.specs.Frames.{as_entry, below, view_at_type2, Gives}
+use Rattle.cddl_frames.proofs.Steps.{head_none}
+use Rattle.cddl_frames.specs.Frames.{as_entry, below, view_at_type2, Gives}
 use Rattle.cddl_parse.proofs.Ends.{ends_twice, ends_refused}
 
 pub returns-in-None : goal.returns-in-None

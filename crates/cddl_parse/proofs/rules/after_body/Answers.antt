@@ -3,7 +3,8 @@ use Rattle.cddl_syntax.specs.Syntax as S
 use Rattle.cddl_tree.specs.declared.tree.Rule.{Rule}
 use Rattle.cddl_tree.specs.View.{view_rule}
 use Rattle.cddl_parse.proofs.rules.after_body.Goals as goal
-use Rattle.cddl_parse.specs.Frames.{below, view_rules}
+use Rattle.cddl_frames.specs.Frames.{below}
+use Rattle.cddl_parse.specs.States.{view_rules}
 use Rattle.cddl_parse.proofs.Bodies.{ended, goes_on, stays}
 use Rattle.cddl_parse.proofs.Adding.{view_rules-push}
 

@@ -1,8 +1,8 @@
 use Rattle.std.proofs.Common.{refl}
+use Rattle.cddl_parse.specs.States.{view_rules}
 use Rattle.cddl_tree.specs.View.{view_parm}
 use Rattle.cddl_parse.proofs.rules.after_parm.Goals as goal
-use Rattle.cddl_parse.proofs.Steps.{refuses}
-use Rattle.cddl_parse.specs.Frames.{view_rules}
+use Rattle.cddl_frames.proofs.Steps.{refuses}
 use Rattle.cddl_parse.proofs.Bodies.{parm_other}
 
 pub returns-in-Comma : goal.returns-in-Comma

@@ -1,11 +1,11 @@
 use Rattle.std.proofs.Common.{ap, None}
+use Rattle.cddl_parse.specs.States.{view_rules}
 use Rattle.cddl_token.specs.declared.Kind.{Kind}
 use Rattle.cddl_syntax.specs.Syntax as S
 use Rattle.cddl_syntax.specs.Machine as M
 use Rattle.cddl_tree.specs.View.{view_name}
 use Rattle.cddl_parse.proofs.rules.assigned.Goals as goal
-use Rattle.cddl_parse.proofs.Steps.{refuses}
-use Rattle.cddl_parse.specs.Frames.{view_rules}
+use Rattle.cddl_frames.proofs.Steps.{refuses}
 use Rattle.cddl_parse.proofs.Bodies.{assigned_other, begun}
 
 pub returns-in-Assign : goal.returns-in-Assign

@@ -1,6 +1,7 @@
 use Rattle.std.proofs.Common.{refl}
 use Rattle.cddl_parse.proofs.rules.begin_body.Goals as goal
-use Rattle.cddl_parse.specs.Frames.{below, view_rules}
+use Rattle.cddl_frames.specs.Frames.{below}
+use Rattle.cddl_parse.specs.States.{view_rules}
 use Rattle.cddl_parse.proofs.Bodies.{begins, body_begun}
 
 pub returns-in-Ok : goal.returns-in-Ok

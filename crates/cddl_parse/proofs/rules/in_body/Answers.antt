@@ -1,6 +1,7 @@
 use Rattle.std.proofs.Common.{ap, refl}
 use Rattle.cddl_parse.proofs.rules.in_body.Goals as goal
-use Rattle.cddl_parse.specs.Frames.{below, view_now, view_rules}
+use Rattle.cddl_frames.specs.Frames.{below, view_now}
+use Rattle.cddl_parse.specs.States.{view_rules}
 
 pub returns-in-Ok : goal.returns-in-Ok
 returns-in-Ok c = ap (view_now (below (view_rules c.args.rules.items) c.args.frames.items)) c.in-Ok.ensures.ok

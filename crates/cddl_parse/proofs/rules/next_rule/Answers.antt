@@ -1,7 +1,7 @@
 use Rattle.std.proofs.Common.{refl}
+use Rattle.cddl_parse.specs.States.{view_rules}
 use Rattle.cddl_parse.proofs.rules.next_rule.Goals as goal
-use Rattle.cddl_parse.proofs.Steps.{refuses}
-use Rattle.cddl_parse.specs.Frames.{view_rules}
+use Rattle.cddl_frames.proofs.Steps.{refuses}
 use Rattle.cddl_parse.proofs.Bodies.{next_other}
 
 pub returns-in-Name : goal.returns-in-Name

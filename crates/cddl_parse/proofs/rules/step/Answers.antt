@@ -2,10 +2,10 @@ use Rattle.std.proofs.Common.{◌≡◌, ◌∙◌, ap, refl, sym, Some}
 use Rattle.cddl_syntax.specs.Machine as M
 use Rattle.cddl_tree.specs.View.{view_name, view_parm, view}
 use Rattle.cddl_parse.proofs.rules.step.Goals as goal
-use Rattle.cddl_parse.proofs.Steps.{on_all, refuses}
-use Rattle.cddl_parse.specs.Frames.{below, view_rules, view_now, view_parameters, Gives, Refused}
+use Rattle.cddl_frames.proofs.Steps.{on_all, refuses}
+use Rattle.cddl_frames.specs.Frames.{below, view_now, view_parameters, Gives, Refused}
 use Rattle.cddl_parse.proofs.Bodies.{now_at, on_through, parm_named, awaited_parm, begin_next}
-use Rattle.cddl_parse.specs.States.{view_state, GivesState}
+use Rattle.cddl_parse.specs.States.{view_rules, view_state, GivesState}
 
 pub returns-in-Begin : goal.returns-in-Begin
 returns-in-Begin c = now_at (view_state c.args.state) M.begin (λ (m : M.State). GivesState c.args.token c.next_rule.result (M.step m c.args.token.kind c.args.token)) (ap view_state c.in-Begin.is) (begin_next c.args.token c.next_rule.result c.new.result.items c.new.ensures.items c.next_rule.ensures)

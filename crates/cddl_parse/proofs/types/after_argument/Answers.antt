@@ -3,8 +3,8 @@ use Rattle.cddl_token.specs.declared.Token.{Token}
 use Rattle.cddl_token.specs.declared.Kind.{Kind}
 use Rattle.cddl_tree.specs.View.{view_arg}
 use Rattle.cddl_parse.proofs.types.after_argument.Goals as goal
-use Rattle.cddl_parse.proofs.Steps.{refused_on, on_kind}
-use Rattle.cddl_parse.specs.Frames.{below, as_reference, Gives}
+use Rattle.cddl_frames.proofs.Steps.{refused_on, on_kind}
+use Rattle.cddl_frames.specs.Frames.{below, as_reference, Gives}
 use Rattle.cddl_parse.proofs.Behind.{argument_other}
 
 pub returns-in-Comma : goal.returns-in-Comma

@@ -2,9 +2,9 @@ use Rattle.std.proofs.Common.{◌∙◌, ap, refl}
 use Rattle.cddl_syntax.specs.Machine as M
 use Rattle.cddl_tree.specs.View.{view_types, view_name}
 use Rattle.cddl_parse.proofs.types.after_inside.Goals as goal
-use Rattle.cddl_parse.proofs.Contents.{empty_items}
-use Rattle.cddl_parse.proofs.Steps.{popped, bottom}
-use Rattle.cddl_parse.specs.Frames.{below, above, as_types, Gives}
+use Rattle.cddl_frames.proofs.Contents.{empty_items}
+use Rattle.cddl_frames.proofs.Steps.{popped, bottom}
+use Rattle.cddl_frames.specs.Frames.{below, above, as_types, Gives}
 use Rattle.cddl_parse.proofs.Behind.{body_ended, inside_shut, on_none, no_types, nowhere_types}
 
 pub returns-in-None : goal.returns-in-None

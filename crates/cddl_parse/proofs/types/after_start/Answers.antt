@@ -5,8 +5,8 @@ use Rattle.cddl_token.specs.declared.Kind.{Kind}
 use Rattle.cddl_tree.specs.View.{view_types}
 use Rattle.cddl_tree.proofs.Viewing.{view-Typed}
 use Rattle.cddl_parse.proofs.types.after_start.Goals as goal
-use Rattle.cddl_parse.proofs.Steps.{refused_on, on_kind, on_same}
-use Rattle.cddl_parse.specs.Frames.{below, as_entry, Gives, Refused}
+use Rattle.cddl_frames.proofs.Steps.{refused_on, on_kind, on_same}
+use Rattle.cddl_frames.specs.Frames.{below, as_entry, Gives, Refused}
 use Rattle.cddl_parse.proofs.Heads.{start_other, cut_taken, cut_several}
 
 pub returns-in-Arrow : goal.returns-in-Arrow

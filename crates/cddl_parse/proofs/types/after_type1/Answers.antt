@@ -1,7 +1,7 @@
 use Rattle.cddl_syntax.specs.Machine as M
 use Rattle.cddl_parse.proofs.types.after_type1.Goals as goal
-use Rattle.cddl_parse.proofs.Steps.{on_all}
-use Rattle.cddl_parse.specs.Frames.{below, Gives, view_at_type1}
+use Rattle.cddl_frames.proofs.Steps.{on_all}
+use Rattle.cddl_frames.specs.Frames.{below, Gives, view_at_type1}
 use Rattle.cddl_parse.proofs.Behind.{type1_first, type1_more, type1_argument}
 
 pub returns-in-Nothing : goal.returns-in-Nothing

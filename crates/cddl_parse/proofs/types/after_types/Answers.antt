@@ -5,8 +5,8 @@ use Rattle.cddl_tree.specs.declared.tree.MemberKey.{MemberKey}
 use Rattle.cddl_tree.specs.View.{view_types, view_key}
 use Rattle.cddl_tree.proofs.Viewing.{view-Keyed}
 use Rattle.cddl_parse.proofs.types.after_types.Goals as goal
-use Rattle.cddl_parse.proofs.Steps.{on_same}
-use Rattle.cddl_parse.specs.Frames.{below, as_entry, Gives}
+use Rattle.cddl_frames.proofs.Steps.{on_same}
+use Rattle.cddl_frames.specs.Frames.{below, as_entry, Gives}
 use Rattle.cddl_parse.proofs.Behind.{on_made, on_home}
 
 pub returns-in-Inside : goal.returns-in-Inside

@@ -5,9 +5,9 @@ use Rattle.cddl_tree.specs.declared.tree.GenericArg.{GenericArg}
 use Rattle.cddl_tree.specs.View.{view_arg}
 use Rattle.cddl_tree.proofs.Viewing.{view-Applied}
 use Rattle.cddl_parse.proofs.types.shut_arguments.Goals as goal
-use Rattle.cddl_parse.proofs.Contents.{empty_items}
-use Rattle.cddl_parse.proofs.Steps.{popped, bottom, on_all}
-use Rattle.cddl_parse.specs.Frames.{below, above, view_prefix, as_reference, Gives}
+use Rattle.cddl_frames.proofs.Contents.{empty_items}
+use Rattle.cddl_frames.proofs.Steps.{popped, bottom, on_all}
+use Rattle.cddl_frames.specs.Frames.{below, above, view_prefix, as_reference, Gives}
 use Rattle.cddl_parse.proofs.Behind.{argument_shut, on_none, no_reference, nowhere_reference}
 
 pub returns-in-None : goal.returns-in-None

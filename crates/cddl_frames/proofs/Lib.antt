@@ -1,0 +1,5 @@
+mod Closing
+pub mod Contents
+mod Elsewhere
+mod Pushing
+pub mod Steps
