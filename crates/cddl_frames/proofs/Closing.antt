@@ -97,14 +97,6 @@ pub occur_taken : (q : Option M.AtEntry) (w : Option M.AtType2) (t : Token) → 
 occur_taken None w t e = tt
 occur_taken (Some p) w t e = rw e refl
 
--- Behind the entries of an alternative.
-
-pub within_other : (k : M.AtType2) (o : M.GroupOpening) (g : S.Group) (i : Kind) (t : Token) → i ≢ K.BraceClose → i ≢ K.BracketClose → i ≢ K.ParenClose → M.shut_group (M.within k o) g i t ≡ M.stuck
-within_other k (M.brace o) g K.BraceClose t e f h = absurd (e refl)
-within_other k (M.bracket o) g K.BracketClose t e f h = absurd (f refl)
-within_other k (M.choice a o) g K.ParenClose t e f h = absurd (h refl)
-within_other k o g i t e f h = refl
-
 -- what parentheses at the head of an entry come to
 
 pub paren_group : (p : M.AtEntry) (oc : Option Token) (o : Token) (g : S.Group) (t : Token) → S.is_type g ≡ false → M.shut_paren p oc o g t ≡ M.have_group p (S.grouped oc o g t)

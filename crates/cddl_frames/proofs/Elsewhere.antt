@@ -20,10 +20,10 @@ use Rattle.cddl_frames.specs.declared.frames.Content.TheVariants as C
 use Rattle.cddl_tree.specs.declared.tree.Types.{Types}
 use Rattle.cddl_tree.specs.declared.tree.Group.{Group}
 use Rattle.cddl_tree.specs.View.{view_types, view_group}
-use Rattle.std.proofs.Common.{false}
+use Rattle.std.proofs.Common.{true, false}
 use Rattle.cddl_syntax.specs.Syntax as S
 use Rattle.cddl_syntax.specs.Machine as M
-use Rattle.cddl_frames.specs.Frames.{on, made, Below, nowhere, types, reference, entry, group, as_types, as_entry, as_argument, view_at_type2, view_group_opening, bracketed, Gives, Refused, IsElsewhere, IsContent}
+use Rattle.cddl_frames.specs.Frames.{on, made, Below, nowhere, types, reference, entry, group, as_types, as_entry, as_argument, view_at_type2, view_group_opening, bracketed, is_closed_by, Refused, IsElsewhere, IsContent}
 use Rattle.cddl_frames.proofs.Steps.{refuses}
 use Rattle.cddl_frames.proofs.Closing.{open_paren_elsewhere, occur_elsewhere, paren_group}
 
@@ -71,36 +71,19 @@ argument_elsewhere (reference k p o) a = tt
 argument_elsewhere (entry p) a = tt
 argument_elsewhere (group k) a = tt
 
--- Refusals.
+-- A bracket that its opening fits, and one that it does not.
 
-pub gives_refused : (t : Token) (rs : S.Rules) (b : Below) (r : Result Now Refusal) (m : M.State) → r ≡ Err (At Unexpected t.start) → m ≡ M.stuck → Gives t rs b r m
-gives_refused t rs b r m e f = rw e (f, refl)
+pub closed : (k : M.AtType2) (o : M.GroupOpening) (g : S.Group) (i : Kind) (t : Token) → is_closed_by o i ≡ true → M.shut_group (M.within k o) g i t ≡ M.got k (bracketed o g t)
+closed k (M.brace o) g K.BraceClose t e = refl
+closed k (M.bracket o) g K.BracketClose t e = refl
+closed k (M.choice a o) g K.ParenClose t e = refl
+closed k o g i t e = cc
 
--- A bracket that its opening fits.
-
-pub brace_shut : (q : Option M.AtType2) (o : GroupOpening) (p : Token) (g : S.Group) (i : Kind) (t : Token) (P : M.State → Type 0) → i ≡ K.BraceClose → o ≡ G.Brace p → on q (λ k. P (M.got k (S.map_of p g t))) → on q (λ k. P (M.shut_group (M.within k (view_group_opening o)) g i t))
-brace_shut q o p g i t P e f h = rw (e, f) h
-
-pub bracket_shut : (q : Option M.AtType2) (o : GroupOpening) (p : Token) (g : S.Group) (i : Kind) (t : Token) (P : M.State → Type 0) → i ≡ K.BracketClose → o ≡ G.Bracket p → on q (λ k. P (M.got k (S.array_of p g t))) → on q (λ k. P (M.shut_group (M.within k (view_group_opening o)) g i t))
-bracket_shut q o p g i t P e f h = rw (e, f) h
-
-pub choice_shut : (q : Option M.AtType2) (o : GroupOpening) (a p : Token) (g : S.Group) (i : Kind) (t : Token) (P : M.State → Type 0) → i ≡ K.ParenClose → o ≡ G.Choice a p → on q (λ k. P (M.got k (S.choice_of a p g t))) → on q (λ k. P (M.shut_group (M.within k (view_group_opening o)) g i t))
-choice_shut q o a p g i t P e f h = rw (e, f) h
-
-pub brace_other : (k : M.AtType2) (o : GroupOpening) (g : S.Group) (i : Kind) (t : Token) → i ≡ K.BraceClose → ((p : Token) → o ≢ G.Brace p) → M.shut_group (M.within k (view_group_opening o)) g i t ≡ M.stuck
-brace_other k (G.Brace p) g i t e f = absurd (f p refl)
-brace_other k (G.Bracket p) g i t e f = rw e refl
-brace_other k (G.Choice a p) g i t e f = rw e refl
-
-pub bracket_other : (k : M.AtType2) (o : GroupOpening) (g : S.Group) (i : Kind) (t : Token) → i ≡ K.BracketClose → ((p : Token) → o ≢ G.Bracket p) → M.shut_group (M.within k (view_group_opening o)) g i t ≡ M.stuck
-bracket_other k (G.Brace p) g i t e f = rw e refl
-bracket_other k (G.Bracket p) g i t e f = absurd (f p refl)
-bracket_other k (G.Choice a p) g i t e f = rw e refl
-
-pub choice_other : (k : M.AtType2) (o : GroupOpening) (g : S.Group) (i : Kind) (t : Token) → i ≡ K.ParenClose → ((a p : Token) → o ≢ G.Choice a p) → M.shut_group (M.within k (view_group_opening o)) g i t ≡ M.stuck
-choice_other k (G.Brace p) g i t e f = rw e refl
-choice_other k (G.Bracket p) g i t e f = rw e refl
-choice_other k (G.Choice a p) g i t e f = absurd (f a p refl)
+pub not_closed : (k : M.AtType2) (o : M.GroupOpening) (g : S.Group) (i : Kind) (t : Token) → is_closed_by o i ≡ false → M.shut_group (M.within k o) g i t ≡ M.stuck
+not_closed k (M.brace o) g K.BraceClose t e = cc
+not_closed k (M.bracket o) g K.BracketClose t e = cc
+not_closed k (M.choice a o) g K.ParenClose t e = cc
+not_closed k o g i t e = refl
 
 -- A member without entries.
 

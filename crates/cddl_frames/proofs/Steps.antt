@@ -18,7 +18,7 @@ use Rattle.cddl_tree.specs.declared.tree.Types.{Types}
 use Rattle.cddl_syntax.specs.Syntax as S
 use Rattle.cddl_syntax.specs.Machine as M
 use Rattle.cddl_tree.specs.View.{view_operator, view_types, view_type2}
-use Rattle.cddl_frames.specs.Frames.{on, made, Below, nowhere, types, reference, entry, group, as_argument, view_home, view_arguments, view_type_opening, type1_at, type2_at, above, below, Refused}
+use Rattle.cddl_frames.specs.Frames.{on, made, Below, nowhere, types, reference, entry, group, as_argument, view_home, view_arguments, view_type_opening, type1_at, type2_at, joined_to, above, below, Refused}
 use Rattle.cddl_frames.proofs.Pushing.{below-push, below-empty}
 
 pub on_all : {A : Type 0} (q : Option A) (P : A → Type 0) → ((x : A) → P x) → on q P
@@ -60,13 +60,17 @@ head_none q (Some p) oc P e f h = rw (f, e) h
 
 -- Behind an operand.
 
-pub got_none : (q : Option M.AtType1) (l : Option Left) (P : M.State → Type 0) (r : S.Type1) (x : S.Type2) → l ≡ None → r ≡ S.one x → on q (λ k. P (M.have k r)) → on (type2_at l q) (λ k. P (M.got k x))
-got_none None l P r x e f h = rw e tt
-got_none (Some k) l P r x e f h = rw e (rw f at h)
+pub got_joined : (q : Option M.AtType1) (l : Option Left) (P : M.State → Type 0) (r : S.Type1) (x : S.Type2) → r ≡ joined_to l x → on q (λ k. P (M.have k r)) → on (type2_at l q) (λ k. P (M.got k x))
+got_joined None None P r x e h = tt
+got_joined None (Some l) P r x e h = tt
+got_joined (Some k) None P r x e h = rw e at h
+got_joined (Some k) (Some l) P r x e h = rw e at h
 
-pub got_some : (q : Option M.AtType1) (l : Option Left) (y : Left) (P : M.State → Type 0) (r : S.Type1) (x : S.Type2) → l ≡ Some y → r ≡ S.operation (view_type2 y.type2.value) (view_operator y.operator) x → on q (λ k. P (M.have k r)) → on (type2_at l q) (λ k. P (M.got k x))
-got_some None l y P r x e f h = rw e tt
-got_some (Some k) l y P r x e f h = rw e (rw f at h)
+pub joined_none : (l : Option Left) (r : S.Type1) (x : S.Type2) → l ≡ None → r ≡ S.one x → r ≡ joined_to l x
+joined_none l r x e f = rw (e, f) refl
+
+pub joined_some : (l : Option Left) (y : Left) (r : S.Type1) (x : S.Type2) → l ≡ Some y → r ≡ S.operation (view_type2 y.type2.value) (view_operator y.operator) x → r ≡ joined_to l x
+joined_some l y r x e f = rw (e, f) refl
 
 pub operated_one : (q : Option M.AtType1) (r : S.Type1) (x : S.Type2) (o : S.Operator) → r ≡ S.one x → on q (λ k. made M.want (made (λ j. M.upper j x o) q) ≡ Some (M.operated k r o))
 operated_one None r x o e = tt

@@ -1,6 +1,8 @@
 -- What the frames stand for. Frames that do not fit what is below them stand for nothing.
-use Rattle.std.specs.Prelude.{◌≡◌, List, [], ◌∷◌, Option, Some, None, map, false, Result, Ok, Err}
+use Rattle.std.specs.Prelude.{◌≡◌, List, [], ◌∷◌, Option, Some, None, map, Bool, true, false, Result, Ok, Err}
 use Rattle.cddl_token.specs.declared.Token.{Token}
+use Rattle.cddl_token.specs.declared.Kind.{Kind}
+use Rattle.cddl_token.specs.declared.Kind.TheVariants as K
 use Rattle.cddl_token.specs.declared.Refusal.{Refusal}
 use Rattle.cddl_token.specs.declared.Refusal.TheVariants.{At, Memory}
 use Rattle.cddl_token.specs.declared.Code.TheVariants.{Unexpected}
@@ -79,6 +81,18 @@ abbrev pub bracketed : M.GroupOpening → S.Group → Token → S.Type2
 bracketed (M.brace o) g c = S.map_of o g c
 bracketed (M.bracket o) g c = S.array_of o g c
 bracketed (M.choice a o) g c = S.choice_of a o g c
+
+-- whether a token closes what was opened so
+abbrev pub is_closed_by : M.GroupOpening → Kind → Bool
+is_closed_by (M.brace o) K.BraceClose = true
+is_closed_by (M.bracket o) K.BracketClose = true
+is_closed_by (M.choice a o) K.ParenClose = true
+is_closed_by _ i = false
+
+-- the type1 that an operand ends
+abbrev pub joined_to : Option Left → S.Type2 → S.Type1
+joined_to None x = S.one x
+joined_to (Some l) x = S.operation (view_type2 l.type2.value) (view_operator l.operator) x
 
 -- What the frames stand for, by what may stand over them.
 pub data Below : Type 0 where

@@ -1,12 +1,10 @@
 //! What a token does behind a group in brackets, or in parentheses at the head of an entry.
-ghost use Rattle.std.specs.Prelude.{◌≡◌, Err};
+ghost use Rattle.std.specs.Prelude.{◌≡◌};
 ghost use Rattle.cddl_token.specs.declared.Token as T;
-ghost use Rattle.cddl_token.specs.declared.Code.{Code};
-ghost use Rattle.cddl_token.specs.declared.Refusal.{Refusal};
 ghost use Rattle.cddl_syntax.specs.Machine as M;
 ghost use Rattle.cddl_syntax.specs.Syntax as S;
-ghost use Rattle.cddl_tree.specs.View.{view_group};
-ghost use Rattle.cddl_frames.specs.Frames.{Below, on, as_entry, view_at_type2, view_group_opening, bracketed, Gives};
+ghost use Rattle.cddl_tree.specs.View.{view_type2, view_group};
+ghost use Rattle.cddl_frames.specs.Frames.{Below, on, as_entry, view_at_type2, view_group_opening, bracketed, is_closed_by, Gives};
 
 use crate::build::{content_of, unexpected};
 use crate::frames::{AtType2, Content, GroupOpening, Home, Now};
@@ -28,48 +26,24 @@ pub fn shut_within<'s>(
 ) -> Result<Now<'s>, Refusal>
     ensures { (rs : S.Rules) (b : Below) → on (view_at_type2 b at.entry) (λ k. Gives token.entry rs b result (M.shut_group (M.within k (view_group_opening opening.entry)) (view_group group.entry) token.entry.kind token.entry)) }
 {
-    match token.kind {
-        Kind::BraceClose => match opening {
-            GroupOpening::Brace(opening) => shut_with(
-                alloc,
-                at,
-                GroupOpening::Brace(opening),
-                group,
-                token,
-            ),
-            _ => refused(at, group, token),
-        },
-        Kind::BracketClose => match opening {
-            GroupOpening::Bracket(opening) => shut_with(
-                alloc,
-                at,
-                GroupOpening::Bracket(opening),
-                group,
-                token,
-            ),
-            _ => refused(at, group, token),
-        },
-        Kind::ParenClose => match opening {
-            GroupOpening::Choice(ampersand, opening) => shut_with(
-                alloc,
-                at,
-                GroupOpening::Choice(ampersand, opening),
-                group,
-                token,
-            ),
-            _ => refused(at, group, token),
-        },
-        _ => refused(at, group, token),
+    if closes(opening, token.kind) {
+        shut_with(alloc, at, opening, group, token)
+    } else {
+        drop(at);
+        drop(group);
+        Err(unexpected(token))
     }
 }
 
-/// Refuses the token.
-fn refused<'s>(at: AtType2<'s>, group: Group<'s>, token: Token<'s>) -> Result<Now<'s>, Refusal>
-    ensures { result ≡ Err (Refusal.At Code.Unexpected token.entry.start) }
+/// Whether the token is the bracket that closes what was opened so.
+fn closes(opening: GroupOpening<'_>, kind: Kind) -> bool
+    ensures { result ≡ is_closed_by (view_group_opening opening.entry) kind }
 {
-    drop(at);
-    drop(group);
-    Err(unexpected(token))
+    match opening {
+        GroupOpening::Brace(_) => matches!(kind, Kind::BraceClose),
+        GroupOpening::Bracket(_) => matches!(kind, Kind::BracketClose),
+        GroupOpening::Choice(_, _) => matches!(kind, Kind::ParenClose),
+    }
 }
 
 /// A group in brackets that this token closes.
@@ -84,41 +58,40 @@ fn shut_with<'s>(
     ensures { (t : T.Token) (rs : S.Rules) (b : Below) → on (view_at_type2 b at.entry) (λ k. Gives t rs b result (M.got k (bracketed (view_group_opening opening.entry) (view_group group.entry) closing.entry))) }
 {
     match Box::new(alloc, group) {
-        Ok(group) => match opening {
-            GroupOpening::Brace(opening) => got(
-                alloc,
-                at,
-                Type2::MapOf {
-                    opening,
-                    group,
-                    closing,
-                },
-            ),
-            GroupOpening::Bracket(opening) => got(
-                alloc,
-                at,
-                Type2::ArrayOf {
-                    opening,
-                    group,
-                    closing,
-                },
-            ),
-            GroupOpening::Choice(ampersand, opening) => got(
-                alloc,
-                at,
-                Type2::ChoiceOf {
-                    ampersand,
-                    opening,
-                    group,
-                    closing,
-                },
-            ),
-        },
+        Ok(group) => got(alloc, at, in_brackets(opening, group, closing)),
         Err(error) => {
             drop(error);
             drop(at);
             Err(Refusal::Memory)
         }
+    }
+}
+
+/// A group in brackets.
+fn in_brackets<'s>(
+    opening: GroupOpening<'s>,
+    group: Box<Group<'s>>,
+    closing: Token<'s>,
+) -> Type2<'s>
+    ensures { view_type2 result ≡ bracketed (view_group_opening opening.entry) (view_group group.entry.value) closing.entry }
+{
+    match opening {
+        GroupOpening::Brace(opening) => Type2::MapOf {
+            opening,
+            group,
+            closing,
+        },
+        GroupOpening::Bracket(opening) => Type2::ArrayOf {
+            opening,
+            group,
+            closing,
+        },
+        GroupOpening::Choice(ampersand, opening) => Type2::ChoiceOf {
+            ampersand,
+            opening,
+            group,
+            closing,
+        },
     }
 }
 

@@ -1,10 +1,11 @@
 //! What a token does behind an operand, and behind a type.
+ghost use Rattle.std.specs.Prelude.{◌≡◌};
 ghost use Rattle.cddl_token.specs.declared.Token as T;
 ghost use Rattle.cddl_token.specs.declared.Kind.TheVariants.{ParenClose, AngleClose};
 ghost use Rattle.cddl_syntax.specs.Machine as M;
 ghost use Rattle.cddl_syntax.specs.Syntax as S;
 ghost use Rattle.cddl_tree.specs.View.{view_operator, view_types, view_type1, view_type2};
-ghost use Rattle.cddl_frames.specs.Frames.{Below, on, as_entry, view_at_type1, view_at_type2, view_type_opening, Gives};
+ghost use Rattle.cddl_frames.specs.Frames.{Below, on, as_entry, view_at_type1, view_at_type2, view_type_opening, joined_to, Gives};
 
 use crate::build::{more_types, one_type, simple_key, sole_type1, unexpected};
 use crate::frames::{AtType1, AtType2, Before, Left, Now, TypeOpening};
@@ -18,29 +19,35 @@ use std::alloc::Global;
 pub fn got<'s>(alloc: Global, at: AtType2<'s>, type2: Type2<'s>) -> Result<Now<'s>, Refusal>
     ensures { (t : T.Token) (rs : S.Rules) (b : Below) → on (view_at_type2 b at.entry) (λ k. Gives t rs b result (M.got k (view_type2 type2.entry))) }
 {
-    let AtType2 { at, left } = at;
-    let type2 = match Box::new(alloc, type2) {
-        Ok(type2) => type2,
+    match Box::new(alloc, type2) {
+        Ok(type2) => {
+            let AtType2 { at, left } = at;
+            have(alloc, at, joined(left, type2))
+        }
         Err(error) => {
             drop(error);
-            drop(left);
             drop(at);
-            return Err(Refusal::Memory);
+            Err(Refusal::Memory)
         }
-    };
+    }
+}
+
+/// The type1 that an operand ends, behind what stands left of it.
+fn joined<'s>(left: Option<Left<'s>>, type2: Box<Type2<'s>>) -> Type1<'s>
+    ensures { view_type1 result ≡ joined_to left.entry (view_type2 type2.entry.value) }
+{
     match left {
-        None => have(alloc, at, Type1::One(type2)),
+        None => Type1::One(type2),
         Some(left) => {
             let Left {
                 type2: left,
                 operator,
             } = left;
-            let type1 = Type1::Operation {
+            Type1::Operation {
                 left,
                 operator,
                 right: type2,
-            };
-            have(alloc, at, type1)
+            }
         }
     }
 }
