@@ -1,5 +1,5 @@
 -- Places that are not the head of an entry, and frames that are none of an entry or a group.
-use Rattle.std.proofs.Common.{◌≡◌, ◌≢◌, Option, Some, None, Result, Err, refl, sym, subst}
+use Rattle.std.proofs.Common.{◌≡◌, Option, Some, None, refl, sym, subst}
 use Rattle.cddl_token.specs.declared.Token.{Token}
 use Rattle.cddl_token.specs.declared.Kind.{Kind}
 use Rattle.cddl_token.specs.declared.Kind.TheVariants as K
@@ -14,7 +14,6 @@ use Rattle.cddl_frames.specs.declared.frames.Left.{Left}
 use Rattle.cddl_frames.specs.declared.frames.AtType2.{AtType2}
 use Rattle.cddl_frames.specs.declared.frames.GroupOpening.{GroupOpening}
 use Rattle.cddl_frames.specs.declared.frames.GroupOpening.TheVariants as G
-use Rattle.cddl_frames.specs.declared.frames.Now.{Now}
 use Rattle.cddl_frames.specs.declared.frames.Content.{Content}
 use Rattle.cddl_frames.specs.declared.frames.Content.TheVariants as C
 use Rattle.cddl_tree.specs.declared.tree.Types.{Types}

@@ -17,7 +17,7 @@ use std::alloc::Global;
 
 /// A token that can only close a group in brackets.
 #[tactic(none)]
-pub fn shut_within<'s>(
+pub(crate) fn shut_within<'s>(
     alloc: Global,
     at: AtType2<'s>,
     opening: GroupOpening<'s>,
@@ -97,7 +97,7 @@ fn in_brackets<'s>(
 
 /// A `)` behind a group at the head of an entry.
 #[tactic(none)]
-pub fn shut_entry<'s>(
+pub(crate) fn shut_entry<'s>(
     alloc: Global,
     occur: Option<Token<'s>>,
     opening: Token<'s>,

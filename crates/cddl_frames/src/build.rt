@@ -51,7 +51,7 @@ pub fn more_types<'s>(
 }
 
 /// The group that the open alternative ends.
-pub fn group_of<'s>(
+pub(crate) fn group_of<'s>(
     alloc: Global,
     before: Option<Alternatives<'s>>,
     entries: Vec<Entry<'s>>,

@@ -123,7 +123,7 @@ fn open_entry<'s>(
 
 /// The occurrence before the place, where that is the head of an entry; or the place as it was.
 #[tactic(none)]
-pub fn entry_head(at: AtType2<'_>) -> Result<Option<Token<'_>>, AtType2<'_>>
+pub(crate) fn entry_head(at: AtType2<'_>) -> Result<Option<Token<'_>>, AtType2<'_>>
     ensures head { IfOk result (λ oc. (b : Below) → view_at_type2 b at.entry ≡ made (λ p. M.lower (M.head (M.start p oc))) (as_entry b)) }
     ensures same { IfErr result (λ k. at.entry ≡ k) }
     ensures elsewhere { IfErr result (λ k. (b : Below) → on (view_at_type2 b k) IsElsewhere) }

@@ -1,11 +1,12 @@
--- What the machine does where a bracket closes, where one opens, and at an entry's head.
+-- What the machine does behind a type at an entry's head, behind an entry, and where a part is awaited.
 use Rattle.std.proofs.Common.{◌≡◌, ◌≢◌, false, Option, Some, None, refl}
 use Rattle.cddl_token.specs.declared.Token.{Token}
 use Rattle.cddl_token.specs.declared.Kind.{Kind}
 use Rattle.cddl_token.specs.declared.Kind.TheVariants as K
 use Rattle.cddl_syntax.specs.Syntax as S
 use Rattle.cddl_syntax.specs.Machine as M
-use Rattle.cddl_frames.specs.Frames.{on, made, Below, entry, as_entry, as_group, within_at, in_entry_at, member_at, IsElsewhere, IsChoice}
+use Rattle.cddl_parse.specs.Kinds.{IsNoOperator}
+use Rattle.cddl_frames.specs.Frames.{on, made, Below, entry, as_entry, member_at, IsChoice}
 
 -- Behind a type at the head of an entry.
 
@@ -28,46 +29,10 @@ pub cut_taken : (q : Option M.AtEntry) (P : M.State → Type 0) (oc : Option Tok
 cut_taken None P oc ts r t e h = tt
 cut_taken (Some p) P oc ts r t e h = rw e h
 
--- what holds there by another fact, too
-pub ends_elsewhere : (k : M.AtType2) (i : Kind) (t : Token) → IsElsewhere k → M.ends_want k i t ≡ M.stuck
-ends_elsewhere (M.lower (M.head (M.start p oc))) i t h = absurd h
-ends_elsewhere k i t h = refl
-
-pub ends_occur : (p : M.AtEntry) (o : Token) (i : Kind) (t : Token) → M.ends_want (M.lower (M.head (M.start p (Some o)))) i t ≡ M.stuck
-ends_occur (M.group_body rs n a) o i t = refl
-ends_occur (M.member k b es) o i t = refl
-
--- Behind the entries of an alternative.
-
-pub ends_member : (b : Below) (q : Option M.AtGroup) (bf : M.Before) (es : S.GrpChoice) (i : Kind) (t : Token) (P : M.State → Type 0) → b ≡ member_at q bf es → on q (λ k. P (M.ends k bf es i t)) → on (as_entry b) (λ p. P (M.ends_want (M.lower (M.head (M.start p None))) i t))
-ends_member b None bf es i t P e h = rw e tt
-ends_member b (Some k) bf es i t P e h = rw e h
-
-pub ends_slashes : (k : M.AtGroup) (bf : M.Before) (es : S.GrpChoice) (g : S.Group) (i : Kind) (t : Token) → i ≡ K.DoubleSlash → g ≡ M.group_of bf es → M.ends k bf es i t ≡ M.open_entry (M.member k (M.behind g t) S.no_entries)
-ends_slashes k bf es g i t e f = rw (e, f) refl
-
-pub ends_other : (k : M.AtGroup) (bf : M.Before) (es : S.GrpChoice) (g : S.Group) (i : Kind) (t : Token) → i ≢ K.DoubleSlash → g ≡ M.group_of bf es → M.ends k bf es i t ≡ M.shut_group k g i t
-ends_other k bf es g K.DoubleSlash t e f = absurd (e refl)
-ends_other k bf es g i t e f = rw f refl
-
 -- one place's step is another's
 pub on_along : {A : Type 0} (q : Option A) (P : M.State → Type 0) (f g : A → M.State) → ((x : A) → f x ≡ g x) → on q (λ x. P (g x)) → on q (λ x. P (f x))
 on_along None P f g e h = tt
 on_along (Some x) P f g e h = rw (e x) h
-
-pub within_shut : (b : Below) (q : Option M.AtType2) (o : M.GroupOpening) (g : S.Group) (i : Kind) (t : Token) (P : M.State → Type 0) → b ≡ within_at q o → on q (λ k. P (M.shut_group (M.within k o) g i t)) → on (as_group b) (λ k. P (M.shut_group k g i t))
-within_shut b None o g i t P e h = rw e tt
-within_shut b (Some k) o g i t P e h = rw e h
-
-pub in_entry_shut : (b : Below) (q : Option M.AtEntry) (oc : Option Token) (o : Token) (g : S.Group) (i : Kind) (t : Token) (P : M.State → Type 0) → b ≡ in_entry_at q oc o → on q (λ p. P (M.shut_group (M.in_entry p oc o) g i t)) → on (as_group b) (λ k. P (M.shut_group k g i t))
-in_entry_shut b None oc o g i t P e h = rw e tt
-in_entry_shut b (Some p) oc o g i t P e h = rw e h
-
-pub in_entry_other : (p : M.AtEntry) (oc : Option Token) (o : Token) (g : S.Group) (i : Kind) (t : Token) → i ≢ K.ParenClose → M.shut_group (M.in_entry p oc o) g i t ≡ M.stuck
-in_entry_other p oc o g K.ParenClose t e = absurd (e refl)
-in_entry_other p oc o g i t e = refl
-
--- what parentheses at the head of an entry come to
 
 -- Behind an entry.
 
@@ -114,9 +79,15 @@ ref_other k p i t e f g = refl
 
 -- Where a type2 is awaited, and behind a type1.
 
-pub have_other : (k : M.AtType1) (r : S.Type1) (i : Kind) (t : Token) → i ≢ K.Range → i ≢ K.RangeBelow → i ≢ K.Control → i ≢ K.Slash → M.step_have k r i t ≡ M.after_type1 k r i t
-have_other k r K.Range t e f g h = absurd (e refl)
-have_other k r K.RangeBelow t e f g h = absurd (f refl)
-have_other k r K.Control t e f g h = absurd (g refl)
-have_other k r K.Slash t e f g h = absurd (h refl)
-have_other k r i t e f g h = refl
+pub no_operator : (i : Kind) → i ≢ K.Range → i ≢ K.RangeBelow → i ≢ K.Control → IsNoOperator i
+no_operator K.Range e f g = absurd (e refl)
+no_operator K.RangeBelow e f g = absurd (f refl)
+no_operator K.Control e f g = absurd (g refl)
+no_operator i e f g = tt
+
+pub have_other : (k : M.AtType1) (r : S.Type1) (i : Kind) (t : Token) → IsNoOperator i → i ≢ K.Slash → M.step_have k r i t ≡ M.after_type1 k r i t
+have_other k r K.Range t e h = absurd e
+have_other k r K.RangeBelow t e h = absurd e
+have_other k r K.Control t e h = absurd e
+have_other k r K.Slash t e h = absurd (h refl)
+have_other k r i t e h = refl

@@ -2,6 +2,5 @@ pub mod Adding
 pub mod Behind
 pub mod Bodies
 pub mod Ending
-pub mod Ends
 pub mod Heads
 pub mod Whole

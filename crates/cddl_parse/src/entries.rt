@@ -3,15 +3,14 @@ ghost use Rattle.std.specs.Prelude.{◌≡◌, IfOk};
 ghost use Rattle.cddl_syntax.specs.Machine as M;
 ghost use Rattle.cddl_syntax.specs.Syntax as S;
 ghost use Rattle.cddl_tree.specs.View.{view_type1, view_grpent, view_rule, view_name, view_assigng};
-ghost use Rattle.cddl_frames.specs.Frames.{Below, on, as_entry, as_group, below, view_now, view_at_type1, view_at_type2, view_prefix, view_alternatives, view_entries, Gives};
-ghost use Rattle.cddl_parse.specs.Kinds.{IsNoOperand, IsNoHead};
+ghost use Rattle.cddl_frames.specs.Frames.{on, as_entry, as_group, below, view_now, view_at_type1, view_at_type2, view_prefix, view_alternatives, view_entries, Gives};
+ghost use Rattle.cddl_parse.specs.Kinds.{IsNoOperand, IsNoHead, IsOperandOf, IsOperatorOf};
 
-use crate::groups::ends_want;
 use crate::types::after_type1;
 use cddl_frames::{
     Alternatives, AtType1, AtType2, Frame, GroupOpening, Home, Now, Prefix, TypeOpening, ended,
-    got, lone_type, occur_want, open_group, open_inside, open_member, open_paren, open_reference,
-    operated, prefixed, slash, type_at, unexpected, value_at,
+    ends_want, got, lone_type, occur_want, open_group, open_inside, open_member, open_paren,
+    open_reference, operated, prefixed, slash, type_at, unexpected, value_at,
 };
 use cddl_token::{Kind, Refusal, Token};
 use cddl_tree::{
@@ -29,13 +28,24 @@ pub(crate) fn step_want<'s>(
 ) -> Result<Now<'s>, Refusal>
     ensures { (rs : S.Rules) → on (view_at_type2 (below rs frames.old.items) at.entry) (λ k. Gives token.entry rs (below rs frames.new.items) result (M.step_want k token.entry.kind token.entry)) }
 {
+    match operand_of(token) {
+        Some(type2) => got(alloc, at, type2),
+        None => head_want(alloc, frames, at, token),
+    }
+}
+
+/// The operand that this token alone is, if it is one.
+#[tactic(none)]
+fn operand_of(token: Token<'_>) -> Option<Type2<'_>>
+    ensures { IsOperandOf result token.entry }
+{
     match token.kind {
-        Kind::Number => got(alloc, at, Type2::Literal(Value::Number(token))),
-        Kind::Text => got(alloc, at, Type2::Literal(Value::Text(token))),
-        Kind::Bytes => got(alloc, at, Type2::Literal(Value::Bytes(token))),
-        Kind::Name => got(alloc, at, Type2::Typename(Ref::Name(token))),
-        Kind::Hash => got(alloc, at, Type2::Hash(token)),
-        _ => head_want(alloc, frames, at, token),
+        Kind::Number => Some(Type2::Literal(Value::Number(token))),
+        Kind::Text => Some(Type2::Literal(Value::Text(token))),
+        Kind::Bytes => Some(Type2::Literal(Value::Bytes(token))),
+        Kind::Name => Some(Type2::Typename(Ref::Name(token))),
+        Kind::Hash => Some(Type2::Hash(token)),
+        _ => None,
     }
 }
 
@@ -125,12 +135,25 @@ pub(crate) fn step_have<'s>(
 ) -> Result<Now<'s>, Refusal>
     ensures { (rs : S.Rules) → on (view_at_type1 (below rs frames.old.items) at.entry) (λ k. Gives token.entry rs (below rs frames.new.items) result (M.step_have k (view_type1 type1.entry) token.entry.kind token.entry)) }
 {
+    match operator_of(token) {
+        Some(operator) => operated(at, type1, operator, token),
+        None => match token.kind {
+            Kind::Slash => slash(alloc, at, type1, token),
+            _ => after_type1(alloc, frames, at, type1, token),
+        },
+    }
+}
+
+/// The operator that the token is, if it is one.
+#[tactic(none)]
+fn operator_of(token: Token<'_>) -> Option<Operator<'_>>
+    ensures { IsOperatorOf result token.entry }
+{
     match token.kind {
-        Kind::Range => operated(at, type1, Operator::Range(token), token),
-        Kind::RangeBelow => operated(at, type1, Operator::RangeBelow(token), token),
-        Kind::Control => operated(at, type1, Operator::Control(token), token),
-        Kind::Slash => slash(alloc, at, type1, token),
-        _ => after_type1(alloc, frames, at, type1, token),
+        Kind::Range => Some(Operator::Range(token)),
+        Kind::RangeBelow => Some(Operator::RangeBelow(token)),
+        Kind::Control => Some(Operator::Control(token)),
+        _ => None,
     }
 }
 

@@ -2,7 +2,6 @@
 #![tactic(auto)]
 
 mod entries;
-mod groups;
 mod parser;
 mod rules;
 mod state;

@@ -1,11 +1,9 @@
 //! What a token does behind an operand, and behind a type.
-ghost use Rattle.std.specs.Prelude.{◌≡◌};
-ghost use Rattle.cddl_token.specs.declared.Token as T;
-ghost use Rattle.cddl_token.specs.declared.Kind.TheVariants.{ParenClose, AngleClose};
+ghost use Rattle.cddl_token.specs.declared.Kind.TheVariants.{AngleClose};
 ghost use Rattle.cddl_syntax.specs.Machine as M;
 ghost use Rattle.cddl_syntax.specs.Syntax as S;
-ghost use Rattle.cddl_tree.specs.View.{view_operator, view_types, view_type1, view_type2, view_arg, view_key};
-ghost use Rattle.cddl_frames.specs.Frames.{Below, on, made, as_types, as_entry, as_argument, as_reference, view_arguments, below, view_home, view_at_type1, view_at_type2, view_type_opening, Gives};
+ghost use Rattle.cddl_tree.specs.View.{view_types, view_type1, view_arg};
+ghost use Rattle.cddl_frames.specs.Frames.{on, as_types, as_entry, as_reference, below, view_home, view_at_type1, Gives};
 
 use crate::entries::after_entry;
 use cddl_frames::{

@@ -1,10 +1,7 @@
-use Rattle.std.proofs.Common.{◌∙◌, ap}
-use Rattle.cddl_syntax.specs.Syntax as S
+use Rattle.std.proofs.Common.{ap}
 use Rattle.cddl_syntax.specs.Machine as M
-use Rattle.cddl_tree.specs.declared.tree.Types.{Types}
 use Rattle.cddl_frames.specs.Frames.{view_at_type2, view_type_opening, Gives}
-use Rattle.cddl_tree.specs.View.{view_types}
-use Rattle.cddl_frames.proofs.Steps.{on_all, refused_on, on_same, paren_shut, tag_shut, content_shut, no_parens}
+use Rattle.cddl_frames.proofs.Steps.{refused_on, on_same, paren_shut, tag_shut, content_shut, no_parens}
 use Rattle.cddl_tree.proofs.Viewing.{view-Parens, view-Tagged, view-TaggedBy}
 use Rattle.cddl_frames.proofs.operands.shut_parens.Goals as goal
 

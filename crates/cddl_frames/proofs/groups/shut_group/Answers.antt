@@ -1,11 +1,10 @@
 use Rattle.std.proofs.Common.{◌∙◌, ap}
 use Rattle.cddl_syntax.specs.Machine as M
-use Rattle.cddl_parse.proofs.groups.shut_group.Goals as goal
+use Rattle.cddl_frames.proofs.groups.shut_group.Goals as goal
 use Rattle.cddl_frames.proofs.Contents.{empty_items}
 use Rattle.cddl_frames.proofs.Steps.{on_all, refuses, popped, bottom}
 use Rattle.cddl_frames.specs.Frames.{as_entry, below, above, Gives, Refused}
-use Rattle.cddl_parse.proofs.Heads.{within_shut, in_entry_shut, in_entry_other}
-use Rattle.cddl_parse.proofs.Ends.{nothing_group, group_default, entry_shut}
+use Rattle.cddl_frames.proofs.Ends.{within_shut, in_entry_shut, in_entry_other, nothing_group, group_default, entry_shut}
 
 pub returns-in-None : goal.returns-in-None
 returns-in-None c rs = nothing_group (below rs c.args.frames.now.items) _ (bottom rs c.args.frames.now.items (empty_items c.args.frames.now c.in-None.ensures.cases.0))

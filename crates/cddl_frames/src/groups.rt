@@ -1,24 +1,21 @@
-//! What a token does behind a group.
-ghost use Rattle.std.specs.Prelude.{◌≡◌, None, Err};
-ghost use Rattle.cddl_token.specs.declared.Token as T;
-ghost use Rattle.cddl_token.specs.declared.Code.{Code};
-ghost use Rattle.cddl_token.specs.declared.Refusal.{Refusal};
+//! What a token does where only an alternative of a group can end.
+ghost use Rattle.std.specs.Prelude.{None};
 ghost use Rattle.cddl_syntax.specs.Machine as M;
 ghost use Rattle.cddl_syntax.specs.Syntax as S;
 ghost use Rattle.cddl_tree.specs.View.{view_group};
-ghost use Rattle.cddl_frames.specs.Frames.{Below, on, as_entry, as_group, below, view_at_type2, view_alternatives, view_entries, view_group_opening, bracketed, Gives};
+ghost use Rattle.cddl_frames.specs.Frames.{on, as_entry, as_group, below, view_at_type2, view_alternatives, view_entries, Gives};
 
-use cddl_frames::{
-    Alternatives, AtType2, Frame, Now, entry_head, group_of, open_member, shut_entry, shut_within,
-    unexpected,
-};
+use crate::brackets::{shut_entry, shut_within};
+use crate::build::{group_of, unexpected};
+use crate::frames::{Alternatives, AtType2, Frame, Now};
+use crate::open::{entry_head, open_member};
 use cddl_token::{Kind, Refusal, Token};
 use cddl_tree::{Entry, Group};
 use std::alloc::Global;
 
 /// A token that can only end an alternative, where a type2 is awaited.
 #[tactic(none)]
-pub(crate) fn ends_want<'s>(
+pub fn ends_want<'s>(
     alloc: Global,
     frames: &mut Vec<Frame<'s>>,
     at: AtType2<'s>,
@@ -40,7 +37,7 @@ pub(crate) fn ends_want<'s>(
 
 /// The same at the head of an entry.
 #[tactic(none)]
-pub(crate) fn ends_start<'s>(
+fn ends_start<'s>(
     alloc: Global,
     frames: &mut Vec<Frame<'s>>,
     token: Token<'s>,
@@ -61,7 +58,7 @@ pub(crate) fn ends_start<'s>(
 
 /// A token behind the entries of an alternative.
 #[tactic(none)]
-pub(crate) fn ends<'s>(
+fn ends<'s>(
     alloc: Global,
     frames: &mut Vec<Frame<'s>>,
     before: Option<Alternatives<'s>>,
@@ -90,7 +87,7 @@ pub(crate) fn ends<'s>(
 
 /// A token that can only close a group.
 #[tactic(none)]
-pub(crate) fn shut_group<'s>(
+fn shut_group<'s>(
     alloc: Global,
     frames: &mut Vec<Frame<'s>>,
     group: Group<'s>,

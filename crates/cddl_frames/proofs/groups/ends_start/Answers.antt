@@ -1,11 +1,10 @@
 use Rattle.std.proofs.Common.{◌∙◌, ap}
 use Rattle.cddl_syntax.specs.Machine as M
-use Rattle.cddl_parse.proofs.groups.ends_start.Goals as goal
+use Rattle.cddl_frames.proofs.groups.ends_start.Goals as goal
 use Rattle.cddl_frames.proofs.Contents.{empty_items}
 use Rattle.cddl_frames.proofs.Steps.{popped, bottom}
 use Rattle.cddl_frames.specs.Frames.{below, above, Gives}
-use Rattle.cddl_parse.proofs.Heads.{ends_member}
-use Rattle.cddl_parse.proofs.Ends.{nothing_entry, ends_default}
+use Rattle.cddl_frames.proofs.Ends.{ends_member, nothing_entry, ends_default}
 
 pub returns-in-None : goal.returns-in-None
 returns-in-None c rs = nothing_entry (below rs c.args.frames.now.items) _ (bottom rs c.args.frames.now.items (empty_items c.args.frames.now c.in-None.ensures.cases.0))

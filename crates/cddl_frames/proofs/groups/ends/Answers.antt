@@ -1,9 +1,9 @@
 use Rattle.std.proofs.Common.{ap}
 use Rattle.cddl_syntax.specs.Machine as M
-use Rattle.cddl_parse.proofs.groups.ends.Goals as goal
+use Rattle.cddl_frames.proofs.groups.ends.Goals as goal
 use Rattle.cddl_frames.proofs.Steps.{on_all}
 use Rattle.cddl_frames.specs.Frames.{as_group, below, view_entries, Gives}
-use Rattle.cddl_parse.proofs.Ends.{slashes_opened, ends_shut}
+use Rattle.cddl_frames.proofs.Ends.{slashes_opened, ends_shut}
 
 pub returns-in-DoubleSlash : goal.returns-in-DoubleSlash
 returns-in-DoubleSlash c rs = slashes_opened (as_group (below rs c.args.frames.now.items)) _ _ _ _ c.args.token.kind c.args.token (λ (m : M.State). Gives c.args.token rs (below rs c.open_member.new.frames.items) c.open_member.result m) c.in-DoubleSlash.is c.in-Ok.ensures (ap view_entries c.new.ensures.items) (c.open_member.ensures c.args.token rs)

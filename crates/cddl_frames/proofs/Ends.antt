@@ -1,4 +1,4 @@
--- Places that are not the head of an entry, and frames that are none of an entry or a group.
+-- What the machine does behind a group, and frames that are none of an entry or a group.
 use Rattle.std.proofs.Common.{◌≡◌, ◌≢◌, Option, Some, None, refl, sym, ap, ◌∙◌, subst}
 use Rattle.cddl_token.specs.declared.Token.{Token}
 use Rattle.cddl_token.specs.declared.Kind.{Kind}
@@ -17,9 +17,39 @@ use Rattle.cddl_syntax.specs.Syntax as S
 use Rattle.cddl_syntax.specs.Machine as M
 use Rattle.cddl_frames.proofs.Steps.{refuses}
 use Rattle.cddl_frames.specs.Frames.{on, made, Below, nowhere, as_entry, as_group, view_at_type2, view_group_opening, view_type_opening, view_prefix, view_alternatives, view_entries, inside_at, within_at, reference_at, in_entry_at, member_at, above, Refused, IsElsewhere}
-use Rattle.cddl_parse.proofs.Heads.{ends_elsewhere, ends_occur, ends_other, ends_slashes, in_entry_shut}
 
--- The first place of a type.
+-- Where only an alternative can end.
+
+pub ends_elsewhere : (k : M.AtType2) (i : Kind) (t : Token) → IsElsewhere k → M.ends_want k i t ≡ M.stuck
+ends_elsewhere (M.lower (M.head (M.start p oc))) i t h = absurd h
+ends_elsewhere k i t h = refl
+
+pub ends_occur : (p : M.AtEntry) (o : Token) (i : Kind) (t : Token) → M.ends_want (M.lower (M.head (M.start p (Some o)))) i t ≡ M.stuck
+ends_occur (M.group_body rs n a) o i t = refl
+ends_occur (M.member k b es) o i t = refl
+
+pub ends_member : (b : Below) (q : Option M.AtGroup) (bf : M.Before) (es : S.GrpChoice) (i : Kind) (t : Token) (P : M.State → Type 0) → b ≡ member_at q bf es → on q (λ k. P (M.ends k bf es i t)) → on (as_entry b) (λ p. P (M.ends_want (M.lower (M.head (M.start p None))) i t))
+ends_member b None bf es i t P e h = rw e tt
+ends_member b (Some k) bf es i t P e h = rw e h
+
+pub ends_slashes : (k : M.AtGroup) (bf : M.Before) (es : S.GrpChoice) (g : S.Group) (i : Kind) (t : Token) → i ≡ K.DoubleSlash → g ≡ M.group_of bf es → M.ends k bf es i t ≡ M.open_entry (M.member k (M.behind g t) S.no_entries)
+ends_slashes k bf es g i t e f = rw (e, f) refl
+
+pub ends_other : (k : M.AtGroup) (bf : M.Before) (es : S.GrpChoice) (g : S.Group) (i : Kind) (t : Token) → i ≢ K.DoubleSlash → g ≡ M.group_of bf es → M.ends k bf es i t ≡ M.shut_group k g i t
+ends_other k bf es g K.DoubleSlash t e f = absurd (e refl)
+ends_other k bf es g i t e f = rw f refl
+
+pub within_shut : (b : Below) (q : Option M.AtType2) (o : M.GroupOpening) (g : S.Group) (i : Kind) (t : Token) (P : M.State → Type 0) → b ≡ within_at q o → on q (λ k. P (M.shut_group (M.within k o) g i t)) → on (as_group b) (λ k. P (M.shut_group k g i t))
+within_shut b None o g i t P e h = rw e tt
+within_shut b (Some k) o g i t P e h = rw e h
+
+pub in_entry_shut : (b : Below) (q : Option M.AtEntry) (oc : Option Token) (o : Token) (g : S.Group) (i : Kind) (t : Token) (P : M.State → Type 0) → b ≡ in_entry_at q oc o → on q (λ p. P (M.shut_group (M.in_entry p oc o) g i t)) → on (as_group b) (λ k. P (M.shut_group k g i t))
+in_entry_shut b None oc o g i t P e h = rw e tt
+in_entry_shut b (Some p) oc o g i t P e h = rw e h
+
+pub in_entry_other : (p : M.AtEntry) (oc : Option Token) (o : Token) (g : S.Group) (i : Kind) (t : Token) → i ≢ K.ParenClose → M.shut_group (M.in_entry p oc o) g i t ≡ M.stuck
+in_entry_other p oc o g K.ParenClose t e = absurd (e refl)
+in_entry_other p oc o g i t e = refl
 
 -- Frames that are no entry's, and no group's.
 
