@@ -1,0 +1,4 @@
+pub mod Judged
+pub mod Lists
+pub mod Room
+pub mod Turns

@@ -1,0 +1,105 @@
+//! Tests of an item by itself.
+
+ghost use Rattle.std.specs.Prelude.{◌≡◌};
+ghost use Rattle.cbor_item.specs.View.{view};
+ghost use Rattle.cddl_meaning.specs.Forms.{is_below as is_below_of, is_up_to as is_up_to_of, is_simple as is_simple_of, is_float as is_float_of, major_of as major_of_value, passes as passes_of};
+ghost use Rattle.cddl_nodes.specs.Nodes.{test_view, whole_view};
+
+use cbor_data::Width;
+use cbor_item::Item;
+use cddl_nodes::{Test, Whole};
+
+/// The major type of an item (RFC 8949 section 3.1).
+fn major_of(item: &Item) -> u8
+    ensures { result ≡ major_of_value (view item.now) }
+{
+    match item {
+        Item::Uint(_) => 0,
+        Item::Nint(_) => 1,
+        Item::Bytes(_) => 2,
+        Item::Text(_) => 3,
+        Item::Array(_) => 4,
+        Item::Map(_) => 5,
+        Item::Tag(_, _) => 6,
+        Item::Simple(_) | Item::Float(_, _) => 7,
+    }
+}
+
+/// Whether an item is the simple value of this number.
+fn is_simple(number: u8, item: &Item) -> bool
+    ensures { result ≡ is_simple_of number (view item.now) }
+{
+    match item {
+        Item::Simple(n) => *n == number,
+        _ => false,
+    }
+}
+
+/// Whether an item is a float of this width.
+fn is_float(width: Width, item: &Item) -> bool
+    ensures { result ≡ is_float_of width (view item.now) }
+{
+    match item {
+        Item::Float(w, _) => width == *w,
+        _ => false,
+    }
+}
+
+/// Whether an item is a whole number from this one on.
+fn is_from(least: Whole, item: &Item) -> bool
+    ensures { result ≡ is_up_to_of (whole_view least) (view item.now) }
+{
+    match (least, item) {
+        (Whole::Uint(m), Item::Uint(n)) => m <= *n,
+        (Whole::Nint(_), Item::Uint(_)) => true,
+        (Whole::Nint(m), Item::Nint(n)) => *n <= m,
+        _ => false,
+    }
+}
+
+/// Whether an item is a whole number up to this one.
+fn is_up_to(item: &Item, last: Whole) -> bool
+    ensures { result ≡ is_up_to_of (view item.now) (whole_view last) }
+{
+    match (item, last) {
+        (Item::Uint(m), Whole::Uint(n)) => *m <= n,
+        (Item::Nint(_), Whole::Uint(_)) => true,
+        (Item::Nint(m), Whole::Nint(n)) => n <= *m,
+        _ => false,
+    }
+}
+
+/// Whether an item is a whole number below this one.
+fn is_below(item: &Item, last: Whole) -> bool
+    ensures { result ≡ is_below_of (view item.now) (whole_view last) }
+{
+    match (item, last) {
+        (Item::Uint(m), Whole::Uint(n)) => *m < n,
+        (Item::Nint(_), Whole::Uint(_)) => true,
+        (Item::Nint(m), Whole::Nint(n)) => n < *m,
+        _ => false,
+    }
+}
+
+/// Whether an item passes a test.
+pub(crate) fn passes(test: &Test, item: &Item) -> bool
+    ensures { result ≡ passes_of (test_view test.now) (view item.now) }
+{
+    match test {
+        Test::Anything => true,
+        Test::Major(major) => major_of(item) == *major,
+        Test::Simple(number) => is_simple(*number, item),
+        Test::Float(width) => is_float(*width, item),
+        Test::Equals(literal) => item == literal,
+        Test::Between {
+            least,
+            last,
+            closed: true,
+        } => is_from(*least, item) && is_up_to(item, *last),
+        Test::Between {
+            least,
+            last,
+            closed: false,
+        } => is_from(*least, item) && is_below(item, *last),
+    }
+}

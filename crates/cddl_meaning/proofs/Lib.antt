@@ -1,0 +1,5 @@
+pub mod Covers
+pub mod Once
+pub mod Matches
+pub mod Means
+pub mod Alike

@@ -1,0 +1,43 @@
+-- Two languages that say the same, name by name: what is named here and what is named there have forms alike.
+--
+-- So one specification may have several tables: equal types are one row in the one and two in the other. R relates the
+-- names of types, S those of groups.
+use Rattle.std.specs.Prelude.{ℕ, List, [], ◌∷◌}
+use Rattle.cddl_meaning.specs.Forms.{Test, TagNumber, any_number, exactly, such_as, TypeForm, Plain, Ref, Choice, ArrayOf, TagOf, SimpleBy, Most, GroupForm, Entry, GroupRef, Sequence, Alternatives, Repeat, Language}
+
+-- as many names, related one by one in their order
+pub data AlikeAll {N M : Type 0} (R : N → M → Type 0) : List N → List M → Type 0 where
+  none : AlikeAll R [] []
+  both : {n : N} {m : M} {ns : List N} {ms : List M} → R n m → AlikeAll R ns ms → AlikeAll R (n ∷ ns) (m ∷ ms)
+
+-- the same tag numbers are meant
+pub data AlikeNumbers {N M : Type 0} (R : N → M → Type 0) : TagNumber N → TagNumber M → Type 0 where
+  any_numbers : AlikeNumbers R any_number any_number
+  same_number : {n : ℕ} → AlikeNumbers R (exactly n) (exactly n)
+  heads : {n : N} {m : M} → R n m → AlikeNumbers R (such_as n) (such_as m)
+
+-- the same form of type, of related parts
+pub data AlikeTypes {N G M H : Type 0} (R : N → M → Type 0) (S : G → H → Type 0) : TypeForm N G → TypeForm M H → Type 0 where
+  plain : {t : Test} → AlikeTypes R S (Plain t) (Plain t)
+  refs : {n : N} {m : M} → R n m → AlikeTypes R S (Ref n) (Ref m)
+  choices : {ns : List N} {ms : List M} → AlikeAll R ns ms → AlikeTypes R S (Choice ns) (Choice ms)
+  arrays : {g : G} {h : H} → S g h → AlikeTypes R S (ArrayOf g) (ArrayOf h)
+  tags : {s : TagNumber N} {t : TagNumber M} {n : N} {m : M} → AlikeNumbers R s t → R n m → AlikeTypes R S (TagOf s n) (TagOf t m)
+  simples : {n : N} {m : M} → R n m → AlikeTypes R S (SimpleBy n) (SimpleBy m)
+
+-- the same form of group, of related parts, and as often
+pub data AlikeGroups {N G M H : Type 0} (R : N → M → Type 0) (S : G → H → Type 0) : GroupForm N G → GroupForm M H → Type 0 where
+  entries : {n : N} {m : M} → R n m → AlikeGroups R S (Entry n) (Entry m)
+  group_refs : {g : G} {h : H} → S g h → AlikeGroups R S (GroupRef g) (GroupRef h)
+  sequences : {gs : List G} {hs : List H} → AlikeAll S gs hs → AlikeGroups R S (Sequence gs) (Sequence hs)
+  alternates : {gs : List G} {hs : List H} → AlikeAll S gs hs → AlikeGroups R S (Alternatives gs) (Alternatives hs)
+  repeats : {least : ℕ} {most : Most} {g : G} {h : H} → S g h → AlikeGroups R S (Repeat least most g) (Repeat least most h)
+
+-- what is related has forms alike
+pub record AreAlike {N G M H : Type 0} (l : Language N G) (k : Language M H) (R : N → M → Type 0) (S : G → H → Type 0) : Type 0 where
+  pub types : (n : N) (m : M) → R n m → AlikeTypes R S (l.type_at n) (k.type_at m)
+  pub groups : (g : G) (h : H) → S g h → AlikeGroups R S (l.group_at g) (k.group_at h)
+
+-- the relation, read the other way
+abbrev pub flipped : {N M : Type 0} → (N → M → Type 0) → M → N → Type 0
+flipped R m n = R n m

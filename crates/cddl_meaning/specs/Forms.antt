@@ -1,0 +1,127 @@
+-- Forms of types and groups (RFC 8610 sections 2 and 3), whose parts are named in some way: by numbers of a table, or by
+-- the trees of a specification themselves.
+use Rattle.std.specs.Prelude.{ℕ, List, [], ◌∷◌, Option, Some, None, Bool, true, false, nat_lt, nat_le, nat_eq, ◌&&◌}
+use Rattle.cbor_data.specs.declared.Width.{Width}
+use Rattle.cbor_data.specs.Same.{same_value, same_width}
+use Rattle.cbor_data.specs.Value.{Value, uint, nint, bytes, text, array, pairs, tag, simple, float, Values, no_values, value}
+
+-- What is asked of an item by itself (RFC 8610 sections 2.2.1, 2.2.2.1 and 2.2.3): `any` and `#`, a major type, a simple
+-- value, a float of one width, a value, or a range.
+pub data Test : Type 0 where
+  anything : Test
+  of_major : ℕ → Test
+  simple_value : ℕ → Test
+  float_of : Width → Test
+  equals : Value → Test
+  -- from one whole number to another: with the last in `a..b`, without it in `a...b`
+  between : (least last : Value) → (closed : Bool) → Test
+
+-- the major type (RFC 8949 section 3.1)
+abbrev pub major_of : Value → ℕ
+major_of (uint n) = 0
+major_of (nint n) = 1
+major_of (bytes b) = 2
+major_of (text b) = 3
+major_of (array xs) = 4
+major_of (pairs ps) = 5
+major_of (tag n x) = 6
+major_of (simple n) = 7
+major_of (float w n) = 7
+
+-- The order of whole numbers, which other items are in no part of: the first is less than the second.
+abbrev pub is_below : Value → Value → Bool
+is_below (uint m) (uint n) = nat_lt m n
+is_below (nint m) (uint n) = true
+is_below (nint m) (nint n) = nat_lt n m
+is_below _ _ = false
+
+-- the first whole number is the second or less
+abbrev pub is_up_to : Value → Value → Bool
+is_up_to (uint m) (uint n) = nat_le m n
+is_up_to (nint m) (uint n) = true
+is_up_to (nint m) (nint n) = nat_le n m
+is_up_to _ _ = false
+
+-- the simple value of this number (RFC 8949 section 3.3)
+abbrev pub is_simple : ℕ → Value → Bool
+is_simple n (simple m) = nat_eq m n
+is_simple n _ = false
+
+-- a float written with this width; its value does not count
+abbrev pub is_float : Width → Value → Bool
+is_float w (float v n) = same_width v w
+is_float w _ = false
+
+-- An item passes a test. A value is matched by the same value alone: numbers of other kinds, and floats of other widths,
+-- differ.
+abbrev pub passes : Test → Value → Bool
+passes anything x = true
+passes (of_major m) x = nat_eq (major_of x) m
+passes (simple_value n) x = is_simple n x
+passes (float_of w) x = is_float w x
+passes (equals v) x = same_value x v
+passes (between least last true) x = is_up_to least x && is_up_to x last
+passes (between least last false) x = is_up_to least x && is_below x last
+
+-- the members as a list
+abbrev pub list_of : Values → List Value
+list_of no_values = []
+list_of (value x xs) = x ∷ list_of xs
+
+-- the members of an array, in their order
+abbrev pub members_in : Value → Option (List Value)
+members_in (array xs) = Some (list_of xs)
+members_in _ = None
+
+-- the number and the content of a tag
+abbrev pub tag_in : Value → Option (ℕ × Value)
+tag_in (tag n x) = Some (n, x)
+tag_in _ = None
+
+-- the number of a simple value
+abbrev pub simple_in : Value → Option ℕ
+simple_in (simple n) = Some n
+simple_in _ = None
+
+-- Which tag numbers are meant (RFC 8610 section 3.6): any, one, or those that a type says yes to, as unsigned items.
+pub data TagNumber (N : Type 0) : Type 0 where
+  any_number : TagNumber N
+  exactly : ℕ → TagNumber N
+  such_as : N → TagNumber N
+
+-- A type whose parts are types named by N and groups named by G.
+pub data TypeForm (N G : Type 0) : Type 0 where
+  Plain : Test → TypeForm N G
+  -- what another type says
+  Ref : N → TypeForm N G
+  -- `a / b / ..` (section 2.2.2): the first that says yes
+  Choice : List N → TypeForm N G
+  -- `[ group ]` (section 3.4)
+  ArrayOf : G → TypeForm N G
+  -- `#6.n(type)` (section 3.6)
+  TagOf : TagNumber N → N → TypeForm N G
+  -- `#7.<type>`: the simple values to whose number the type says yes
+  SimpleBy : N → TypeForm N G
+
+-- how often at most: `a*b`, or `a*` with no end (section 3.2)
+pub data Most : Type 0 where
+  at_most : ℕ → Most
+  any_number_of : Most
+
+-- A group, asked of a list of items: the members of an array from one of them on.
+pub data GroupForm (N G : Type 0) : Type 0 where
+  -- one item, of this type
+  Entry : N → GroupForm N G
+  -- what another group does
+  GroupRef : G → GroupForm N G
+  -- `a, b, ..` (section 2.1): each with what the one before left
+  Sequence : List G → GroupForm N G
+  -- `a // b // ..` (section 2.2.2): the first that does not fail
+  Alternatives : List G → GroupForm N G
+  -- an occurrence (section 3.2)
+  Repeat : (least : ℕ) → Most → G → GroupForm N G
+
+-- what each name stands for
+pub record Language (N G : Type 0) : Type 0 where
+  pub type_at : N → TypeForm N G
+  pub group_at : G → GroupForm N G

@@ -1,0 +1,4 @@
+pub mod Forms
+pub mod Judges
+pub mod Alike
+pub mod Moves

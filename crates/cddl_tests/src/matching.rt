@@ -1,0 +1,331 @@
+use cbor_item::{Item, Sound};
+use cddl_match::{Verdict, judge};
+use cddl_nodes::{Group, GroupId, Most, Node, Nodes, TagNumber, Test, TypeId, Whole};
+use std::alloc::{AllocError, Global};
+use std::process::Abort;
+use std::test::Fail;
+
+/// An item of a row.
+#[derive(Clone, Copy)]
+enum Form {
+    Uint(u64),
+    Nint(u64),
+    Empty,
+    Array(&'static [Form]),
+    Pair(&'static (Form, Form)),
+    Tag(u64, &'static Form),
+    Simple(u8),
+}
+
+fn item_of(alloc: Global, form: Form) -> Result<Item, AllocError> {
+    Ok(match form {
+        Form::Uint(n) => Item::Uint(n),
+        Form::Nint(n) => Item::Nint(n),
+        Form::Empty => Item::Text(String::new(alloc)),
+        Form::Array(members) => {
+            let mut items = Vec::new(alloc);
+            for member in members {
+                items.push(item_of(alloc, *member)?)?;
+            }
+            Item::Array(items)
+        }
+        Form::Pair((key, value)) => {
+            let mut pairs = Vec::new(alloc);
+            pairs.push((item_of(alloc, *key)?, item_of(alloc, *value)?))?;
+            Item::Map(pairs)
+        }
+        Form::Tag(number, content) => Item::Tag(
+            number,
+            Box::new(alloc, item_of(alloc, *content)?)?,
+        ),
+        Form::Simple(n) => Item::Simple(n),
+    })
+}
+
+/// The number of a type, an item, and what the type says of it.
+type Row = (usize, Form, Verdict);
+
+const YES: Verdict = Verdict::Yes;
+
+/// A type of a table. Its parts are numbers of the same table.
+#[derive(Clone, Copy)]
+enum Kind {
+    Anything,
+    Major(u8),
+    /// From the first to the last; whether with the last.
+    Between(u64, u64, bool),
+    Choice(&'static [usize]),
+    Array(usize),
+    /// What the number has to be, and the content.
+    Tag(usize, usize),
+    Simple(usize),
+}
+
+/// A group of a table.
+#[derive(Clone, Copy)]
+enum Part {
+    Entry(usize),
+    Sequence(&'static [usize]),
+    Alternatives(&'static [usize]),
+    Repeat(u64, Most, usize),
+}
+
+fn type_ids(alloc: Global, numbers: &[usize]) -> Result<Vec<TypeId>, AllocError> {
+    let mut out = Vec::new(alloc);
+    for number in numbers {
+        out.push(TypeId { number: *number })?;
+    }
+    Ok(out)
+}
+
+fn group_ids(alloc: Global, numbers: &[usize]) -> Result<Vec<GroupId>, AllocError> {
+    let mut out = Vec::new(alloc);
+    for number in numbers {
+        out.push(GroupId { number: *number })?;
+    }
+    Ok(out)
+}
+
+fn between(least: u64, last: u64, closed: bool) -> Test {
+    Test::Between {
+        least: Whole::Uint(least),
+        last: Whole::Uint(last),
+        closed,
+    }
+}
+
+fn node_of(alloc: Global, kind: Kind) -> Result<Node, AllocError> {
+    Ok(match kind {
+        Kind::Anything => Node::Plain(Test::Anything),
+        Kind::Major(major) => Node::Plain(Test::Major(major)),
+        Kind::Between(least, last, closed) => Node::Plain(between(least, last, closed)),
+        Kind::Choice(numbers) => Node::Choice(type_ids(alloc, numbers)?),
+        Kind::Array(number) => Node::ArrayOf(GroupId { number }),
+        Kind::Tag(head, number) => {
+            Node::TagOf(
+                TagNumber::SuchAs(TypeId { number: head }),
+                TypeId { number },
+            )
+        }
+        Kind::Simple(number) => Node::SimpleBy(TypeId { number }),
+    })
+}
+
+fn group_of(alloc: Global, part: Part) -> Result<Group, AllocError> {
+    Ok(match part {
+        Part::Entry(number) => Group::Entry(TypeId { number }),
+        Part::Sequence(numbers) => Group::Sequence(group_ids(alloc, numbers)?),
+        Part::Alternatives(numbers) => Group::Alternatives(group_ids(alloc, numbers)?),
+        Part::Repeat(least, most, number) => Group::Repeat {
+            least,
+            most,
+            group: GroupId { number },
+        },
+    })
+}
+
+fn nodes_of(alloc: Global, kinds: &[Kind], parts: &[Part]) -> Result<Nodes, AllocError> {
+    let mut types = Vec::new(alloc);
+    for kind in kinds {
+        types.push(node_of(alloc, *kind)?)?;
+    }
+    let mut groups = Vec::new(alloc);
+    for part in parts {
+        groups.push(group_of(alloc, *part)?)?;
+    }
+    Ok(Nodes { types, groups })
+}
+
+/// What the type of this number says of an item, within so many steps.
+fn told(
+    alloc: Global,
+    nodes: &Nodes,
+    number: usize,
+    form: Form,
+    steps: u64,
+) -> Result<Verdict, Fail> {
+    let item = Sound::try_new(alloc, item_of(alloc, form)?)?;
+    Ok(judge(alloc, nodes, TypeId { number }, &item, steps)?)
+}
+
+fn check_rows(rt: &impl Abort, alloc: Global, nodes: &Nodes, rows: &[Row]) -> Result<(), Fail> {
+    for (number, form, verdict) in rows {
+        assert_eq!(rt;
+            told(alloc, nodes, *number, *form, 1000)?,
+            *verdict,
+            "of type {number}"
+        );
+    }
+    Ok(())
+}
+
+// Groups of `int`, which is the first type, and the arrays of them.
+const KINDS: [Kind; 13] = [
+    Kind::Choice(&[1, 2]),
+    Kind::Major(0),
+    Kind::Major(1),
+    // 3: [* int, int]
+    Kind::Array(2),
+    // 4: [int // int, int]
+    Kind::Array(4),
+    // 5: [3* (? int)]
+    Kind::Array(6),
+    // 6: [2* int]
+    Kind::Array(7),
+    // 7: [int, int]
+    Kind::Array(3),
+    // 8: [nint]
+    Kind::Array(8),
+    // 9: [int, int] / [nint]
+    Kind::Choice(&[7, 8]),
+    // 10: [any, int]
+    Kind::Array(9),
+    Kind::Anything,
+    // 12: [[* int, int]]
+    Kind::Array(11),
+];
+
+const PARTS: [Part; 12] = [
+    Part::Entry(0),
+    // 1: * int
+    Part::Repeat(0, Most::Any, 0),
+    // 2: * int, int
+    Part::Sequence(&[1, 0]),
+    // 3: int, int
+    Part::Sequence(&[0, 0]),
+    // 4: int // int, int
+    Part::Alternatives(&[0, 3]),
+    // 5: ? int
+    Part::Repeat(0, Most::AtMost(1), 0),
+    // 6: 3* (? int)
+    Part::Repeat(3, Most::Any, 5),
+    // 7: 2* int
+    Part::Repeat(2, Most::Any, 0),
+    Part::Entry(2),
+    // 9: any, int
+    Part::Sequence(&[10, 0]),
+    Part::Entry(11),
+    Part::Entry(3),
+];
+
+const ONE: Form = Form::Uint(1);
+
+const ARRAY_ROWS: [Row; 18] = [
+    // a group takes all that it can, and gives nothing back
+    (3, Form::Array(&[ONE]), Verdict::No { place: 0 }),
+    (
+        3,
+        Form::Array(&[ONE, Form::Empty]),
+        Verdict::No { place: 2 },
+    ),
+    // the first alternative is taken, and what it leaves is left over
+    (
+        4,
+        Form::Array(&[ONE, Form::Uint(2)]),
+        Verdict::No { place: 2 },
+    ),
+    (4, Form::Array(&[ONE]), YES),
+    // a round that takes no item meets the rest of the minimum
+    (5, Form::Array(&[]), YES),
+    (5, Form::Array(&[ONE, ONE, ONE, ONE]), YES),
+    (6, Form::Array(&[ONE]), Verdict::No { place: 0 }),
+    (6, Form::Array(&[ONE, ONE, ONE]), YES),
+    (
+        6,
+        Form::Array(&[ONE, Form::Empty]),
+        Verdict::No { place: 2 },
+    ),
+    (0, Form::Nint(0), YES),
+    (0, Form::Empty, Verdict::No { place: 0 }),
+    // of a choice's trials the greatest place counts
+    (
+        9,
+        Form::Array(&[ONE, Form::Empty]),
+        Verdict::No { place: 2 },
+    ),
+    (9, Form::Array(&[Form::Nint(0)]), YES),
+    // the place behind an item is behind all that is in it
+    (
+        10,
+        Form::Array(&[Form::Array(&[ONE]), Form::Empty]),
+        Verdict::No { place: 3 },
+    ),
+    (
+        10,
+        Form::Array(&[Form::Pair(&(ONE, Form::Array(&[ONE]))), Form::Empty]),
+        Verdict::No { place: 5 },
+    ),
+    (
+        12,
+        Form::Array(&[Form::Array(&[ONE])]),
+        Verdict::No { place: 1 },
+    ),
+    (
+        12,
+        Form::Array(&[Form::Array(&[ONE, Form::Empty])]),
+        Verdict::No { place: 3 },
+    ),
+    // a number that is not there
+    (13, ONE, Verdict::No { place: 0 }),
+];
+
+#[test]
+fn judges_arrays(rt: HostRuntime) -> Result<(), Fail> {
+    let nodes = nodes_of(rt.alloc(), &KINDS, &PARTS)?;
+    check_rows(&rt, rt.alloc(), &nodes, &ARRAY_ROWS)
+}
+
+// Ranges, and what asks them of the numbers of tags and simple values.
+const HEADS: [Kind; 6] = [
+    Kind::Between(0, 5, true),
+    Kind::Between(0, 5, false),
+    Kind::Between(1, 2, true),
+    Kind::Between(32, 255, true),
+    // 4: #6.<1..2>(0..5)
+    Kind::Tag(2, 0),
+    // 5: #7.<32..255>
+    Kind::Simple(3),
+];
+
+const HEAD_ROWS: [Row; 9] = [
+    (0, Form::Uint(5), YES),
+    (1, Form::Uint(5), Verdict::No { place: 0 }),
+    (4, Form::Tag(1, &ONE), YES),
+    (4, Form::Tag(3, &ONE), Verdict::No { place: 0 }),
+    (4, Form::Tag(1, &Form::Empty), Verdict::No { place: 1 }),
+    (4, ONE, Verdict::No { place: 0 }),
+    (5, Form::Simple(32), YES),
+    // true
+    (5, Form::Simple(21), Verdict::No { place: 0 }),
+    (5, Form::Uint(32), Verdict::No { place: 0 }),
+];
+
+#[test]
+fn judges_heads(rt: HostRuntime) -> Result<(), Fail> {
+    let nodes = nodes_of(rt.alloc(), &HEADS, &[])?;
+    check_rows(&rt, rt.alloc(), &nodes, &HEAD_ROWS)
+}
+
+/// A type, an item, and the steps that it takes to tell.
+const STEPS: [(usize, Form, u64); 4] = [
+    // int, uint, nint
+    (0, Form::Nint(0), 3),
+    // the array, both groups, the repetition, an entry in a round and one behind
+    (3, Form::Array(&[]), 5),
+    // and an entry, int and uint for each item
+    (3, Form::Array(&[ONE]), 8),
+    (13, ONE, 1),
+];
+
+#[test]
+fn counts_steps(rt: HostRuntime) -> Result<(), Fail> {
+    let a = rt.alloc();
+    let nodes = nodes_of(a, &KINDS, &PARTS)?;
+    for (number, form, steps) in STEPS.iter() {
+        let enough = told(a, &nodes, *number, *form, *steps)?;
+        assert!(rt; enough != Verdict::Spent, "of type {number} in {steps}");
+        let fewer = told(a, &nodes, *number, *form, steps.saturating_sub(1))?;
+        assert_eq!(rt; fewer, Verdict::Spent, "of type {number} in {steps}");
+    }
+    Ok(())
+}
