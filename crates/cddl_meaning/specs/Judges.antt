@@ -1,8 +1,8 @@
 -- What a type says of an item, and what a group does with a list of items (RFC 8610 sections 2 and 3 and appendix A).
 --
 -- Choices are ordered, as in a parsing expression grammar: the first member that says yes, the first group that does not
--- fail, and no other is asked then. A group takes items from the front, as many rounds as an occurrence can; what it has
--- taken it never gives back, whatever fails behind it.
+-- fail, and no other is asked then. A group takes items from the front, as many rounds as an occurrence can, or fails and
+-- takes none; what it has taken it never gives back, whatever fails behind it.
 --
 -- Each derivation has a weight, the number of its judgements: a type said something of an item, or a group did something
 -- with a list. A place is an item's number in preorder, a key before its value.
@@ -10,13 +10,14 @@ use Rattle.std.specs.Prelude.{◌≡◌, ◌≢◌, ℕ, zero, suc, ◌+◌, ◌
 use Rattle.cbor_data.specs.Value.{Value, uint, place_count}
 use Rattle.cddl_meaning.specs.Forms.{Test, passes, members_in, tag_in, simple_in, TagNumber, any_number, exactly, such_as, TypeForm, Plain, Ref, Choice, ArrayOf, TagOf, SimpleBy, Most, at_most, any_number_of, GroupForm, Entry, GroupRef, Sequence, Alternatives, Repeat, Language}
 
--- yes; or no, with the place where it shows: the greatest of all trials that failed
+-- yes; or no, with the place where it shows: the greatest of all trials that failed, but for those of types that then
+-- said yes
 pub data Answer : Type 0 where
   Yes : Answer
   No : (far : ℕ) → Answer
 
 -- Items are taken, after which these are left, the first of them at `behind`; or the group fails. With the greatest
--- place of all trials that failed.
+-- place of all trials that failed, as above; the array's own place, where none did.
 pub data Outcome : Type 0 where
   Takes : (left : List Value) → (behind far : ℕ) → Outcome
   Fails : (far : ℕ) → Outcome

@@ -101,12 +101,10 @@ fn node_of(alloc: Global, kind: Kind) -> Result<Node, AllocError> {
         Kind::Between(least, last, closed) => Node::Plain(between(least, last, closed)),
         Kind::Choice(numbers) => Node::Choice(type_ids(alloc, numbers)?),
         Kind::Array(number) => Node::ArrayOf(GroupId { number }),
-        Kind::Tag(head, number) => {
-            Node::TagOf(
-                TagNumber::SuchAs(TypeId { number: head }),
-                TypeId { number },
-            )
-        }
+        Kind::Tag(head, number) => Node::TagOf(
+            TagNumber::SuchAs(TypeId { number: head }),
+            TypeId { number },
+        ),
         Kind::Simple(number) => Node::SimpleBy(TypeId { number }),
     })
 }
@@ -209,6 +207,8 @@ const PARTS: [Part; 12] = [
 ];
 
 const ONE: Form = Form::Uint(1);
+
+const TWO_ONES: Form = Form::Array(&[ONE, ONE]);
 
 const ARRAY_ROWS: [Row; 18] = [
     // a group takes all that it can, and gives nothing back
@@ -328,4 +328,18 @@ fn counts_steps(rt: HostRuntime) -> Result<(), Fail> {
         assert_eq!(rt; fewer, Verdict::Spent, "of type {number} in {steps}");
     }
     Ok(())
+}
+
+/// What a type says of an item, and None where there is no memory.
+fn judged(alloc: Global, number: usize, form: Form) -> Option<Verdict> {
+    let nodes = nodes_of(alloc, &KINDS, &PARTS).ok()?;
+    let item = Sound::try_new(alloc, item_of(alloc, form).ok()?).ok()?;
+    judge(alloc, &nodes, TypeId { number }, &item, 1000).ok()
+}
+
+// Run with each allocation refused in turn (`rt try --test --fail-alloc N`), this finds no third answer.
+#[test]
+fn judges_or_wants_memory(rt: HostRuntime) {
+    let verdict = judged(rt.alloc(), 7, TWO_ONES);
+    assert!(rt; matches!(verdict, None | Some(Verdict::Yes)));
 }
