@@ -34,7 +34,7 @@ pub enum Argument {
     Whole(u64),
 }
 
-pub fn info_of_byte(byte: u8) -> Info
+pub(crate) fn info_of_byte(byte: u8) -> Info
     ensures { info_view result ≡ info_of (byte % 32) }
 {
     match byte % 32 {
@@ -50,7 +50,7 @@ pub fn info_of_byte(byte: u8) -> Info
 
 impl Width {
     /// How many bytes come after the first one.
-    pub fn left(self) -> u8
+    pub(crate) fn left(self) -> u8
         ensures left { result ≡ left_of self }
         ensures few { result < 8 }
     {
@@ -65,7 +65,7 @@ impl Width {
 
 impl Partial {
     /// None of the bytes yet.
-    pub fn new(width: Width) -> Partial
+    pub(crate) fn new(width: Width) -> Partial
         ensures left { result.left ≡ left_of width }
         ensures value { result.value ≡ 0 }
     {
@@ -76,7 +76,7 @@ impl Partial {
     }
 
     /// One byte more, the most significant first.
-    pub fn with(self, byte: u8) -> Argument
+    pub(crate) fn with(self, byte: u8) -> Argument
         ensures { IsWith self byte result }
     {
         let value = self.value * 256 + u64::from(byte);

@@ -33,7 +33,7 @@ fn passed_item(frame: Frame) -> Option<Frame>
 }
 
 /// Ends an item, and each container that ends with it.
-pub fn end_item(frames: &mut Vec<Frame>) -> Stage
+pub(crate) fn end_item(frames: &mut Vec<Frame>) -> Stage
     ensures { state_of result (stack_of frames.new.items) ≡ machine.give (stack_of frames.old.items) }
 {
     while !frames.is_empty() {
@@ -50,7 +50,7 @@ pub fn end_item(frames: &mut Vec<Frame>) -> Stage
 }
 
 /// Awaits so many items in one container.
-pub fn await_items(frames: &mut Vec<Frame>, count: u128) -> Result<Stage, AllocError>
+pub(crate) fn await_items(frames: &mut Vec<Frame>, count: u128) -> Result<Stage, AllocError>
     ensures { IfOk result (λ stage. state_of stage (stack_of frames.new.items) ≡ machine.ask count (stack_of frames.old.items)) }
 {
     if count == 0 {
@@ -61,7 +61,10 @@ pub fn await_items(frames: &mut Vec<Frame>, count: u128) -> Result<Stage, AllocE
 }
 
 /// Opens a container or a string of indefinite length, or ends what is open, by the initial byte of this major type.
-pub fn open_indefinite(frames: &mut Vec<Frame>, major: u8) -> Result<Option<Stage>, AllocError>
+pub(crate) fn open_indefinite(
+    frames: &mut Vec<Frame>,
+    major: u8,
+) -> Result<Option<Stage>, AllocError>
     requires { major < 8 }
     ensures { IfOk result (λ next. IsNext (machine.opened major (stack_of frames.old.items)) next (stack_of frames.old.items) (stack_of frames.new.items)) }
 {

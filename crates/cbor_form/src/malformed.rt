@@ -20,7 +20,7 @@ pub enum Malformed {
 }
 
 /// What is wrong with an initial byte that no item has.
-pub fn item_fault(byte: u8) -> Malformed
+pub(crate) fn item_fault(byte: u8) -> Malformed
     ensures { (around : List Frame) → refused_kind (item around) byte ≡ kind_of result }
 {
     if byte % 32 != 31 {
@@ -33,7 +33,7 @@ pub fn item_fault(byte: u8) -> Malformed
 }
 
 /// What is wrong with a byte that begins no chunk of a string of this major type.
-pub fn chunk_fault(major: u8, byte: u8) -> Malformed
+pub(crate) fn chunk_fault(major: u8, byte: u8) -> Malformed
     ensures { (around : List Frame) → refused_kind (chunk major around) byte ≡ kind_of result }
 {
     if byte / 32 == major && byte % 32 != 31 {

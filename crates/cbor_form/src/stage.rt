@@ -79,7 +79,7 @@ fn await_argument(major: u8, width: Width) -> Stage
 }
 
 /// What follows an initial byte where an item is awaited, or none where it begins no item.
-pub fn begin_item(
+pub(crate) fn begin_item(
     frames: &mut Vec<Frame>,
     major: u8,
     info: Info,
@@ -96,7 +96,7 @@ pub fn begin_item(
 }
 
 /// What follows an initial byte of this major type where a chunk of it is awaited, or none where it begins no chunk.
-pub fn begin_chunk(major: u8, info: Info) -> Option<Stage>
+pub(crate) fn begin_chunk(major: u8, info: Info) -> Option<Stage>
     ensures { (around : List machine.Frame) → next_of result around ≡ machine.start_chunk major (info_view info) around }
 {
     match info {
@@ -107,7 +107,7 @@ pub fn begin_chunk(major: u8, info: Info) -> Option<Stage>
 }
 
 /// What follows one byte more of an argument.
-pub fn go_on_argument(
+pub(crate) fn go_on_argument(
     frames: &mut Vec<Frame>,
     major: u8,
     partial: Partial,
@@ -122,7 +122,7 @@ pub fn go_on_argument(
 }
 
 /// What follows one byte more of the argument of a chunk's head.
-pub fn go_on_chunk_argument(major: u8, partial: Partial, byte: u8) -> Stage
+pub(crate) fn go_on_chunk_argument(major: u8, partial: Partial, byte: u8) -> Stage
     ensures { (around : List machine.Frame) → machine.step (machine.chunk_argument major partial.left partial.value around) byte ≡ Some (state_of result around) }
 {
     match partial.with(byte) {

@@ -112,7 +112,7 @@ fn turn_simple(frames: &mut Vec<Frame>, rest: &[u8]) -> Turn
 }
 
 /// Where the next bytes of the piece lead from a stage: one byte, or as many of a string's content as there are.
-pub fn next_turn(
+pub(crate) fn next_turn(
     stage: Stage,
     frames: &mut Vec<Frame>,
     depth: u32,

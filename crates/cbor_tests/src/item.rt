@@ -7,7 +7,7 @@ use std::test::Fail;
 
 // The values are those of RFC 8949 Appendix A in definite lengths, and the controls of our own notation.
 #[derive(Clone, Copy)]
-pub enum Form {
+pub(crate) enum Form {
     Uint(u64),
     Nint(u64),
     Bytes(&'static [u8]),
@@ -356,7 +356,7 @@ fn all_rows(alloc: Global) -> Result<Vec<Row>, AllocError> {
     Ok(rows)
 }
 
-pub fn item_of(alloc: Global, form: Form) -> Result<Item, AllocError> {
+pub(crate) fn item_of(alloc: Global, form: Form) -> Result<Item, AllocError> {
     Ok(match form {
         Form::Uint(n) => Item::Uint(n),
         Form::Nint(n) => Item::Nint(n),
