@@ -10,4 +10,6 @@ mod place;
 #[cfg(test)]
 mod read;
 #[cfg(test)]
+mod rows;
+#[cfg(test)]
 mod value;

@@ -1,479 +1,524 @@
 // What is read of whole streams, by pieces and by the plain reader.
+use crate::rows::{byte_by_byte, row_of};
+use crate::value::nested;
 use cbor_item::{Sound, diag};
 use cbor_read::{Fault, FaultKind, Fed, Front, ItemReader, Limits, Stop, read_front};
 use std::alloc::{AllocError, Global};
 use std::process::Abort;
 use std::test::Fail;
 
-#[derive(Clone, Copy)]
-struct Row {
-    depth: u32,
-    item_bytes: u32,
-    stream: &'static [u8],
-    log: &'static str,
-}
+// Streams and their logs: values of RFC 8949 Appendix A, and not well-formed bytes after its Appendix F.
+static STREAMS: &str = "|clean at 0
+17181820|0: 23; 1: 24; 3: -1; clean at 4
+18|Truncated at 1
+1bffffffffffffffff3bffffffffffffffff|0: 18446744073709551615; 9: -18446744073709551616; clean at 18
+1c|ReservedInfo at 0
+1f|BadIndefinite at 0
+003d|0: 0; ReservedInfo at 1
+44010203045801aa|0: h'01020304'; 5: h'aa'; clean at 8
+5b0000000000000002aabb|0: h'aabb'; clean at 11
+5bffffffffffffffff|Truncated at 9
+5fff|0: h''; clean at 2
+5f4201024103ff|0: h'010203'; clean at 7
+5f6161|BadChunk at 1
+5f5f|BadChunk at 1
+5f5c|ReservedInfo at 1
+5f1c|BadChunk at 1
+62c3bc60|0: \"\u{fc}\"; 3: \"\"; clean at 4
+61ff|BadText at 0
+61ff00|BadText at 0
+636162|Truncated at 3
+7f6161606162ff|0: \"ab\"; clean at 7
+7f62c3bcff|0: \"\u{fc}\"; clean at 5
+7f616161c361bcff|BadText at 3
+7f7f|BadChunk at 1
+7f4161|BadChunk at 1
+8083010203|0: []; 1: [1, 2, 3]; clean at 5
+9fff9f018202039f0405ffff|0: []; 2: [1, [2, 3], [4, 5]]; clean at 12
+9b000000010000000000|Truncated at 10
+8201|Truncated at 2
+82ff|BadBreak at 1
+811c|ReservedInfo at 1
+8261ff1c|ReservedInfo at 3
+8261ff00|BadText at 1
+8261ff|Truncated at 3
+0082616161ff|0: 0; BadText at 4
+a0a201020304|0: {}; 1: {1: 2, 3: 4}; clean at 6
+bf616101ff|0: {\"a\": 1}; clean at 5
+9f01bf6161ff|BadBreak at 5
+a1ff|BadBreak at 1
+a101|Truncated at 2
+a20100180100|DuplicateKey at 3
+00a201000100|0: 0; DuplicateKey at 3
+81a201000100|DuplicateKey at 4
+a30100010061ff00|BadText at 5
+c11a514b67b0d8206161|0: 1(1363896240); 6: 32(\"a\"); clean at 10
+c0ff|BadBreak at 1
+df|BadIndefinite at 0
+f4f5f6f7e0|0: false; 1: true; 2: null; 3: undefined; 4: simple(0); clean at 5
+f820f8ff|0: simple(32); 2: simple(255); clean at 4
+f81f|BadSimple at 1
+f818|BadSimple at 1
+fc|ReservedInfo at 0
+ff|BadBreak at 0
+f93c00fa47c35000|0: f16'3c00'; 3: f32'47c35000'; clean at 8
+fb3ff199999999999a|0: f64'3ff199999999999a'; clean at 9";
 
-const fn make_row(stream: &'static [u8], log: &'static str) -> Row {
-    limited(64, 1 << 24, stream, log)
-}
+// Limits, and streams at them.
+static LIMITED: [(u32, u32, &str); 6] = [
+    (
+        64,
+        1,
+        "18|TooLong at 1
+171818|0: 23; TooLong at 2
+8180|TooLong at 1
+811c|ReservedInfo at 1",
+    ),
+    (
+        64,
+        4,
+        "430102034301|0: h'010203'; Truncated at 6
+581801|Truncated at 3
+58180101|TooLong at 4
+9f010203ff|TooLong at 4",
+    ),
+    (
+        64,
+        3,
+        "43010203|TooLong at 3
+63ffffff1c|TooLong at 3
+820102|0: [1, 2]; clean at 3
+830102|TooLong at 3",
+    ),
+    (1, 1, "8180|TooDeep at 1"),
+    (
+        1,
+        64,
+        "8100|0: [0]; clean at 2
+8180|TooDeep at 1
+819c|ReservedInfo at 1
+81ff|BadBreak at 1
+c1c100|TooDeep at 1
+bf00bf|TooDeep at 2",
+    ),
+    (2, 64, "8181f69f8000ff|0: [[null]]; 3: [[], 0]; clean at 7"),
+];
 
-const fn limited(depth: u32, item_bytes: u32, stream: &'static [u8], log: &'static str) -> Row {
-    Row {
-        depth,
-        item_bytes,
-        stream,
-        log,
-    }
-}
-
-// Values of RFC 8949 Appendix A, and not well-formed bytes after its Appendix F.
-fn rows() -> [Row; 55] {
-    [
-        make_row(b"", "clean at 0\n"),
-        make_row(b"\x17\x18\x18\x20", "0: 23\n1: 24\n3: -1\nclean at 4\n"),
-        make_row(b"\x18", "Truncated at 1\n"),
-        make_row(
-            b"\x1b\xff\xff\xff\xff\xff\xff\xff\xff\x3b\xff\xff\xff\xff\xff\xff\xff\xff",
-            "0: 18446744073709551615\n9: -18446744073709551616\nclean at 18\n",
-        ),
-        make_row(b"\x1c", "ReservedInfo at 0\n"),
-        make_row(b"\x1f", "BadIndefinite at 0\n"),
-        make_row(b"\x00\x3d", "0: 0\nReservedInfo at 1\n"),
-        make_row(
-            b"\x44\x01\x02\x03\x04\x58\x01\xaa",
-            "0: h'01020304'\n5: h'aa'\nclean at 8\n",
-        ),
-        make_row(
-            b"\x5b\x00\x00\x00\x00\x00\x00\x00\x02\xaa\xbb",
-            "0: h'aabb'\nclean at 11\n",
-        ),
-        make_row(b"\x5b\xff\xff\xff\xff\xff\xff\xff\xff", "Truncated at 9\n"),
-        make_row(b"\x5f\xff", "0: h''\nclean at 2\n"),
-        make_row(
-            b"\x5f\x42\x01\x02\x41\x03\xff",
-            "0: h'010203'\nclean at 7\n",
-        ),
-        make_row(b"\x5f\x61\x61", "BadChunk at 1\n"),
-        make_row(b"\x5f\x5f", "BadChunk at 1\n"),
-        make_row(b"\x5f\x5c", "ReservedInfo at 1\n"),
-        make_row(b"\x5f\x1c", "BadChunk at 1\n"),
-        make_row(b"\x62\xc3\xbc\x60", "0: \"\u{fc}\"\n3: \"\"\nclean at 4\n"),
-        make_row(b"\x61\xff", "BadText at 0\n"),
-        make_row(b"\x61\xff\x00", "BadText at 0\n"),
-        make_row(b"\x63\x61\x62", "Truncated at 3\n"),
-        make_row(b"\x7f\x61\x61\x60\x61\x62\xff", "0: \"ab\"\nclean at 7\n"),
-        make_row(b"\x7f\x62\xc3\xbc\xff", "0: \"\u{fc}\"\nclean at 5\n"),
-        make_row(b"\x7f\x61\x61\x61\xc3\x61\xbc\xff", "BadText at 3\n"),
-        make_row(b"\x7f\x7f", "BadChunk at 1\n"),
-        make_row(b"\x7f\x41\x61", "BadChunk at 1\n"),
-        make_row(b"\x80\x83\x01\x02\x03", "0: []\n1: [1, 2, 3]\nclean at 5\n"),
-        make_row(
-            b"\x9f\xff\x9f\x01\x82\x02\x03\x9f\x04\x05\xff\xff",
-            "0: []\n2: [1, [2, 3], [4, 5]]\nclean at 12\n",
-        ),
-        make_row(
-            b"\x9b\x00\x00\x00\x01\x00\x00\x00\x00\x00",
-            "Truncated at 10\n",
-        ),
-        make_row(b"\x82\x01", "Truncated at 2\n"),
-        make_row(b"\x82\xff", "BadBreak at 1\n"),
-        make_row(b"\x81\x1c", "ReservedInfo at 1\n"),
-        make_row(b"\x82\x61\xff\x1c", "ReservedInfo at 3\n"),
-        make_row(b"\x82\x61\xff\x00", "BadText at 1\n"),
-        make_row(b"\x82\x61\xff", "Truncated at 3\n"),
-        make_row(b"\x00\x82\x61\x61\x61\xff", "0: 0\nBadText at 4\n"),
-        make_row(
-            b"\xa0\xa2\x01\x02\x03\x04",
-            "0: {}\n1: {1: 2, 3: 4}\nclean at 6\n",
-        ),
-        make_row(b"\xbf\x61\x61\x01\xff", "0: {\"a\": 1}\nclean at 5\n"),
-        make_row(b"\x9f\x01\xbf\x61\x61\xff", "BadBreak at 5\n"),
-        make_row(b"\xa1\xff", "BadBreak at 1\n"),
-        make_row(b"\xa1\x01", "Truncated at 2\n"),
-        make_row(b"\xa2\x01\x00\x18\x01\x00", "DuplicateKey at 3\n"),
-        make_row(b"\x00\xa2\x01\x00\x01\x00", "0: 0\nDuplicateKey at 3\n"),
-        make_row(b"\x81\xa2\x01\x00\x01\x00", "DuplicateKey at 4\n"),
-        make_row(b"\xa3\x01\x00\x01\x00\x61\xff\x00", "BadText at 5\n"),
-        make_row(
-            b"\xc1\x1a\x51\x4b\x67\xb0\xd8\x20\x61\x61",
-            "0: 1(1363896240)\n6: 32(\"a\")\nclean at 10\n",
-        ),
-        make_row(b"\xc0\xff", "BadBreak at 1\n"),
-        make_row(b"\xdf", "BadIndefinite at 0\n"),
-        make_row(
-            b"\xf4\xf5\xf6\xf7\xe0",
-            "0: false\n1: true\n2: null\n3: undefined\n4: simple(0)\nclean at 5\n",
-        ),
-        make_row(
-            b"\xf8\x20\xf8\xff",
-            "0: simple(32)\n2: simple(255)\nclean at 4\n",
-        ),
-        make_row(b"\xf8\x1f", "BadSimple at 1\n"),
-        make_row(b"\xf8\x18", "BadSimple at 1\n"),
-        make_row(b"\xfc", "ReservedInfo at 0\n"),
-        make_row(b"\xff", "BadBreak at 0\n"),
-        make_row(
-            b"\xf9\x3c\x00\xfa\x47\xc3\x50\x00",
-            "0: f16'3c00'\n3: f32'47c35000'\nclean at 8\n",
-        ),
-        make_row(
-            b"\xfb\x3f\xf1\x99\x99\x99\x99\x99\x9a",
-            "0: f64'3ff199999999999a'\nclean at 9\n",
-        ),
-    ]
-}
-
-// Streams at the limits.
-fn limited_rows() -> [Row; 20] {
-    [
-        limited(64, 1, b"\x18", "TooLong at 1\n"),
-        limited(64, 1, b"\x17\x18\x18", "0: 23\nTooLong at 2\n"),
-        limited(
-            64,
-            4,
-            b"\x43\x01\x02\x03\x43\x01",
-            "0: h'010203'\nTruncated at 6\n",
-        ),
-        limited(64, 3, b"\x43\x01\x02\x03", "TooLong at 3\n"),
-        limited(64, 4, b"\x58\x18\x01", "Truncated at 3\n"),
-        limited(64, 4, b"\x58\x18\x01\x01", "TooLong at 4\n"),
-        limited(64, 3, b"\x63\xff\xff\xff\x1c", "TooLong at 3\n"),
-        limited(64, 3, b"\x82\x01\x02", "0: [1, 2]\nclean at 3\n"),
-        limited(64, 3, b"\x83\x01\x02", "TooLong at 3\n"),
-        limited(64, 4, b"\x9f\x01\x02\x03\xff", "TooLong at 4\n"),
-        limited(64, 1, b"\x81\x80", "TooLong at 1\n"),
-        limited(64, 1, b"\x81\x1c", "ReservedInfo at 1\n"),
-        limited(1, 1, b"\x81\x80", "TooDeep at 1\n"),
-        limited(1, 64, b"\x81\x00", "0: [0]\nclean at 2\n"),
-        limited(1, 64, b"\x81\x80", "TooDeep at 1\n"),
-        limited(1, 64, b"\x81\x9c", "ReservedInfo at 1\n"),
-        limited(1, 64, b"\x81\xff", "BadBreak at 1\n"),
-        limited(1, 64, b"\xc1\xc1\x00", "TooDeep at 1\n"),
-        limited(1, 64, b"\xbf\x00\xbf", "TooDeep at 2\n"),
-        limited(
-            2,
-            64,
-            b"\x81\x81\xf6\x9f\x80\x00\xff",
-            "0: [[null]]\n3: [[], 0]\nclean at 7\n",
-        ),
-    ]
-}
-
-// What is read: a line for each item and one for the end.
-
-fn log_item(
+// What is read: each item and the end, and where the next item begins.
+#[derive(Drop)]
+struct Log {
     alloc: Global,
-    text: &mut Vec<u8>,
+    text: Vec<u8>,
     offset: u64,
-    item: &Sound,
-) -> Result<(), AllocError> {
-    let place = format!(in alloc; "{offset}: ")?;
-    text.extend_from_slice(place.as_bytes())?;
-    let notation = diag(alloc, item.item())?;
-    text.extend_from_slice(&notation)?;
-    text.push(b'\n')?;
-    Ok(())
+    seen: u64,
 }
 
-fn log_fault(alloc: Global, text: &mut Vec<u8>, fault: Fault) -> Result<(), AllocError> {
-    let kind = fault.kind;
-    let at = fault.at;
-    let line = format!(in alloc; "{kind:?} at {at}\n")?;
-    text.extend_from_slice(line.as_bytes())
-}
-
-fn log_clean(alloc: Global, text: &mut Vec<u8>, len: u64) -> Result<(), AllocError> {
-    let line = format!(in alloc; "clean at {len}\n")?;
-    text.extend_from_slice(line.as_bytes())
-}
-
-// By `feed`, a piece after the other; each piece is fed until it is used up.
-fn by_pieces(alloc: Global, limits: Limits, pieces: &[&[u8]]) -> Result<Vec<u8>, AllocError> {
-    let mut text = Vec::new(alloc);
-    let mut reader = ItemReader::new(alloc, limits);
-    let mut offset = 0u64;
-    let mut seen = 0u64;
-    for piece in pieces {
-        let mut rest: &[u8] = piece;
-        for _ in 0..=piece.len() {
-            match reader.feed(rest)? {
-                Fed::More => {
-                    seen = seen.saturating_add(rest.len() as u64);
-                    break;
-                }
-                Fed::Item { used, item } => {
-                    log_item(alloc, &mut text, offset, &item)?;
-                    seen = seen.saturating_add(used as u64);
-                    offset = seen;
-                    rest = rest.get(used..).unwrap_or(&[]);
-                }
-                Fed::Fault { used: _, fault } => {
-                    log_fault(alloc, &mut text, fault)?;
-                    return Ok(text);
-                }
-            }
+impl Log {
+    fn new(alloc: Global) -> Log {
+        Log {
+            alloc,
+            text: Vec::new(alloc),
+            offset: 0,
+            seen: 0,
         }
     }
-    match reader.at_end() {
-        Ok(()) => log_clean(alloc, &mut text, seen)?,
-        Err(Stop::Fault(fault)) => log_fault(alloc, &mut text, fault)?,
-        Err(Stop::Memory) => text.extend_from_slice(b"memory\n")?,
+
+    fn push_item(&mut self, used: usize, item: &Sound) -> Result<(), AllocError> {
+        let offset = self.offset;
+        let place = format!(in self.alloc; "{offset}: ")?;
+        self.text.extend_from_slice(place.as_bytes())?;
+        let notation = diag(self.alloc, item.item())?;
+        self.text.extend_from_slice(&notation)?;
+        self.text.extend_from_slice(b"; ")?;
+        self.skip(used);
+        self.offset = self.seen;
+        Ok(())
     }
-    Ok(text)
+
+    // Notes bytes that end no item.
+    fn skip(&mut self, count: usize) {
+        self.seen = self.seen.saturating_add(count as u64);
+    }
+
+    fn push_fault(&mut self, fault: Fault) -> Result<(), AllocError> {
+        let kind = fault.kind;
+        let at = fault.at;
+        let end = format!(in self.alloc; "{kind:?} at {at}")?;
+        self.text.extend_from_slice(end.as_bytes())
+    }
+
+    fn push_clean(&mut self) -> Result<(), AllocError> {
+        let seen = self.seen;
+        let end = format!(in self.alloc; "clean at {seen}")?;
+        self.text.extend_from_slice(end.as_bytes())
+    }
+}
+
+// What a reader goes on with.
+#[derive(Clone, Copy)]
+enum Next {
+    Piece,
+    // So many bytes of the piece are used.
+    Rest(usize),
+    End,
+}
+
+fn feed_once(reader: &mut ItemReader, piece: &[u8], log: &mut Log) -> Result<Next, AllocError> {
+    match reader.feed(piece) {
+        Ok(Fed::More) => {
+            log.skip(piece.len());
+            Ok(Next::Piece)
+        }
+        Ok(Fed::Item { used, item }) => match log.push_item(used, &item) {
+            Ok(()) => Ok(Next::Rest(used)),
+            Err(error) => Err(error),
+        },
+        Ok(Fed::Fault { used: _, fault }) => match log.push_fault(fault) {
+            Ok(()) => Ok(Next::End),
+            Err(error) => Err(error),
+        },
+        Err(error) => Err(error),
+    }
+}
+
+// Feeds a piece until it is used up. Answers whether the stream may go on.
+fn feed_all(reader: &mut ItemReader, piece: &[u8], log: &mut Log) -> Result<bool, AllocError> {
+    let mut rest = piece;
+    for _ in 0..=piece.len() {
+        match feed_once(reader, rest, log)? {
+            Next::Piece => return Ok(true),
+            Next::Rest(used) => rest = rest.get(used..).unwrap_or(&[]),
+            Next::End => return Ok(false),
+        }
+    }
+    Ok(true)
+}
+
+fn log_end(reader: &mut ItemReader, log: &mut Log) -> Result<(), AllocError> {
+    match reader.at_end() {
+        Ok(()) => log.push_clean(),
+        Err(Stop::Fault(fault)) => log.push_fault(fault),
+        Err(Stop::Memory) => Err(AllocError),
+    }
+}
+
+// By `feed`, a piece after the other.
+fn by_pieces(alloc: Global, limits: Limits, pieces: &[&[u8]]) -> Result<Vec<u8>, AllocError> {
+    let mut log = Log::new(alloc);
+    let mut reader = ItemReader::new(alloc, limits);
+    for piece in pieces {
+        if !feed_all(&mut reader, *piece, &mut log)? {
+            return Ok(log.text);
+        }
+    }
+    log_end(&mut reader, &mut log)?;
+    Ok(log.text)
+}
+
+fn log_front(limits: Limits, rest: &[u8], log: &mut Log) -> Result<Next, AllocError> {
+    match read_front(log.alloc, limits, log.offset, rest) {
+        Ok(Front::Nothing) => match log.push_clean() {
+            Ok(()) => Ok(Next::End),
+            Err(error) => Err(error),
+        },
+        Ok(Front::Item { length, item }) => match log.push_item(length, &item) {
+            Ok(()) => Ok(Next::Rest(length)),
+            Err(error) => Err(error),
+        },
+        Ok(Front::Fault(fault)) => match log.push_fault(fault) {
+            Ok(()) => Ok(Next::End),
+            Err(error) => Err(error),
+        },
+        Err(error) => Err(error),
+    }
 }
 
 // By the plain reader, an item after the other.
 fn by_fronts(alloc: Global, limits: Limits, stream: &[u8]) -> Result<Vec<u8>, AllocError> {
-    let mut text = Vec::new(alloc);
-    let mut offset = 0u64;
+    let mut log = Log::new(alloc);
     let mut rest = stream;
     for _ in 0..=stream.len() {
-        match read_front(alloc, limits, offset, rest)? {
-            Front::Nothing => {
-                log_clean(alloc, &mut text, offset)?;
-                break;
-            }
-            Front::Item { length, item } => {
-                log_item(alloc, &mut text, offset, &item)?;
-                offset = offset.saturating_add(length as u64);
-                rest = rest.get(length..).unwrap_or(&[]);
-            }
-            Front::Fault(fault) => {
-                log_fault(alloc, &mut text, fault)?;
-                break;
-            }
+        match log_front(limits, rest, &mut log)? {
+            Next::Rest(used) => rest = rest.get(used..).unwrap_or(&[]),
+            _ => break,
         }
     }
-    Ok(text)
+    Ok(log.text)
 }
 
-// The same log from each cut in two, and byte by byte with empty pieces between.
+fn expect_log(
+    rt: &impl Abort,
+    alloc: Global,
+    limits: Limits,
+    pieces: &[&[u8]],
+    wanted: &[u8],
+) -> Result<(), AllocError> {
+    let log = by_pieces(alloc, limits, pieces)?;
+    assert_eq!(rt; log.as_slice(), wanted, "{pieces:?}");
+    Ok(())
+}
+
+// The same log by the plain reader, from each cut in two, and byte by byte with empty pieces between.
 fn read_at_each_cut(
     rt: &impl Abort,
     alloc: Global,
     limits: Limits,
     stream: &[u8],
-    log: &[u8],
+    wanted: &[u8],
 ) -> Result<(), AllocError> {
     for at in 0..=stream.len() {
         let (front, back) = stream.split_at(at);
-        let text = by_pieces(alloc, limits, &[front, back])?;
-        assert_eq!(rt; text.as_slice(), log, "{stream:?} cut at {at}");
+        expect_log(rt, alloc, limits, &[front, back], wanted)?;
     }
-    let mut pieces: Vec<&[u8]> = Vec::new(alloc);
-    for byte in stream.chunks(1) {
-        pieces.push(&[])?;
-        pieces.push(byte)?;
-    }
-    let text = by_pieces(alloc, limits, &pieces)?;
-    assert_eq!(rt; text.as_slice(), log, "{stream:?} byte by byte");
-    let plain = by_fronts(alloc, limits, stream)?;
-    assert_eq!(rt; plain.as_slice(), log, "{stream:?} by the plain reader");
+    expect_log(rt, alloc, limits, &byte_by_byte(alloc, stream)?, wanted)
+}
+
+fn check_row(rt: &impl Abort, alloc: Global, limits: Limits, line: &str) -> Result<(), Fail> {
+    let (stream, wanted) = row_of(rt, alloc, line)?;
+    let plain = by_fronts(alloc, limits, &stream)?;
+    assert_eq!(rt; plain.as_slice(), wanted.as_bytes(), "{line}");
+    read_at_each_cut(rt, alloc, limits, &stream, wanted.as_bytes())?;
     Ok(())
 }
 
-fn read_each(rt: &impl Abort, alloc: Global, rows: &[Row]) -> Result<(), AllocError> {
-    for row in rows {
-        if let Some(limits) = Limits::try_new(row.depth, row.item_bytes) {
-            read_at_each_cut(rt, alloc, limits, row.stream, row.log.as_bytes())?;
-        }
+fn check_table(rt: &impl Abort, alloc: Global, limits: Limits, table: &str) -> Result<(), Fail> {
+    for line in table.lines() {
+        check_row(rt, alloc, limits, line)?;
     }
     Ok(())
+}
+
+fn limits_of(rt: &impl Abort, depth: u32, item_bytes: u32) -> Limits {
+    Limits::try_new(depth, item_bytes).expect(rt, "limits")
 }
 
 #[test]
 fn reads_each_row_at_each_cut(rt: HostRuntime) -> Result<(), Fail> {
-    read_each(&rt, rt.alloc(), &rows())?;
+    check_table(&rt, rt.alloc(), limits_of(&rt, 64, 1 << 24), STREAMS)
+}
+
+fn check_limited(rt: &impl Abort, alloc: Global, tables: &[(u32, u32, &str)]) -> Result<(), Fail> {
+    for (depth, item_bytes, table) in tables {
+        check_table(rt, alloc, limits_of(rt, *depth, *item_bytes), *table)?;
+    }
     Ok(())
 }
 
 #[test]
 fn keeps_the_limits_at_each_cut(rt: HostRuntime) -> Result<(), Fail> {
-    read_each(&rt, rt.alloc(), &limited_rows())?;
-    Ok(())
+    check_limited(&rt, rt.alloc(), &LIMITED)
+}
+
+// The next number of a fixed sequence that looks like chance.
+fn draw(state: &mut u64) -> usize {
+    *state = state
+        .wrapping_mul(6364136223846793005)
+        .wrapping_add(1442695040888963407);
+    (*state >> 33) as usize
+}
+
+fn made_up_byte(state: &mut u64) -> u8 {
+    let heads =
+        b"\x00\x18\x20\x41\x5f\x61\x7f\x80\x82\x9f\xa0\xa1\xa2\xbf\xc1\xd8\xf4\xf8\xf9\xff\xff\x1c";
+    let number = draw(state);
+    match number % 4 {
+        0 => 0,
+        1 => b'a',
+        2 => (number / 4 % 256) as u8,
+        _ => heads[number / 4 % heads.len()],
+    }
+}
+
+fn made_up(alloc: Global, length: u32, state: &mut u64) -> Result<Vec<u8>, AllocError> {
+    let mut stream = Vec::new(alloc);
+    for _ in 0..length {
+        stream.push(made_up_byte(state))?;
+    }
+    Ok(stream)
 }
 
 #[test]
 fn reads_made_up_streams_as_the_plain_reader_does(rt: HostRuntime) -> Result<(), Fail> {
-    let alloc = rt.alloc();
-    let heads =
-        b"\x00\x18\x20\x41\x5f\x61\x7f\x80\x82\x9f\xa0\xa1\xa2\xbf\xc1\xd8\xf4\xf8\xf9\xff\xff\x1c";
     let mut state = 1u64;
     for round in 0..400u32 {
-        let mut stream = Vec::new(alloc);
-        for _ in 0..(round % 23) {
-            state = state
-                .wrapping_mul(6364136223846793005)
-                .wrapping_add(1442695040888963407);
-            let draw = (state >> 33) as usize;
-            let byte = match draw % 4 {
-                0 => 0,
-                1 => b'a',
-                2 => (draw / 4 % 256) as u8,
-                _ => heads[draw / 4 % heads.len()],
-            };
-            stream.push(byte)?;
-        }
-        if let Some(limits) = Limits::try_new(1 + round % 3, 1 + round % 12) {
-            let log = by_fronts(alloc, limits, &stream)?;
-            read_at_each_cut(&rt, alloc, limits, &stream, &log)?;
-        }
+        let stream = made_up(rt.alloc(), round % 23, &mut state)?;
+        let limits = limits_of(&rt, 1 + round % 3, 1 + round % 12);
+        let wanted = by_fronts(rt.alloc(), limits, &stream)?;
+        read_at_each_cut(&rt, rt.alloc(), limits, &stream, &wanted)?;
     }
     Ok(())
 }
 
-// How much of one piece is used.
+fn is_item(reader: &mut ItemReader, piece: &[u8], length: usize) -> bool {
+    matches!(reader.feed(piece), Ok(Fed::Item { used, item: _ }) if used == length)
+}
+
+fn is_refused(reader: &mut ItemReader, piece: &[u8], count: usize, told: Fault) -> bool {
+    matches!(reader.feed(piece), Ok(Fed::Fault { used, fault }) if used == count && fault == told)
+}
+
+// Pieces with a fault, how much of each is used, the fault's place and its kind.
+static PIECES: [(&[u8], usize, u64, FaultKind); 7] = [
+    (
+        b"\x81\x1c\x00\x00\x00\x00\x00\x00",
+        1,
+        1,
+        FaultKind::ReservedInfo,
+    ),
+    (
+        b"\x61\xff\x00\x00\x00\x00\x00\x00",
+        2,
+        0,
+        FaultKind::BadText,
+    ),
+    (
+        b"\x82\x61\xff\x1c\x00\x00\x00\x00",
+        3,
+        3,
+        FaultKind::ReservedInfo,
+    ),
+    (
+        b"\x82\x61\xff\x00\x00\x00\x00\x00",
+        4,
+        1,
+        FaultKind::BadText,
+    ),
+    (
+        b"\xa3\x01\x00\x01\x00\x61\xff\x00",
+        8,
+        5,
+        FaultKind::BadText,
+    ),
+    (
+        b"\xa2\x01\x00\x18\x01\x00\x00\x00",
+        6,
+        3,
+        FaultKind::DuplicateKey,
+    ),
+    (
+        b"\x9f\x01\xbf\x61\x61\xff\x00\x00",
+        5,
+        5,
+        FaultKind::BadBreak,
+    ),
+];
+
+// Whether the fault is told at its piece, when the piece is fed again, and at the end.
+fn tellings(alloc: Global, limits: Limits, piece: &[u8], used: usize, told: Fault) -> [bool; 3] {
+    let mut reader = ItemReader::new(alloc, limits);
+    let at_once = is_refused(&mut reader, piece, used, told);
+    let again = is_refused(&mut reader, piece, 0, told);
+    [at_once, again, reader.at_end() == Err(Stop::Fault(told))]
+}
+
+fn check_pieces(rt: &impl Abort, alloc: Global, rows: &[(&[u8], usize, u64, FaultKind)]) {
+    let limits = limits_of(rt, 64, 100);
+    for (piece, used, at, kind) in rows {
+        let told = Fault {
+            at: *at,
+            kind: *kind,
+        };
+        let tellings = tellings(alloc, limits, *piece, *used, told);
+        assert_eq!(rt; tellings, [true; 3], "{piece:?}");
+    }
+}
+
 #[test]
-fn uses_a_piece_up_to_what_it_tells(rt: HostRuntime) -> Result<(), Fail> {
-    let alloc = rt.alloc();
-    let Some(limits) = Limits::try_new(64, 100) else {
-        return Ok(());
-    };
-    for (piece, count, place, kind) in [
-        (
-            b"\x81\x1c\x00\x00\x00\x00\x00\x00",
-            1,
-            1,
-            FaultKind::ReservedInfo,
-        ),
-        (
-            b"\x61\xff\x00\x00\x00\x00\x00\x00",
-            2,
-            0,
-            FaultKind::BadText,
-        ),
-        (
-            b"\x82\x61\xff\x1c\x00\x00\x00\x00",
-            3,
-            3,
-            FaultKind::ReservedInfo,
-        ),
-        (
-            b"\x82\x61\xff\x00\x00\x00\x00\x00",
-            4,
-            1,
-            FaultKind::BadText,
-        ),
-        (
-            b"\xa3\x01\x00\x01\x00\x61\xff\x00",
-            8,
-            5,
-            FaultKind::BadText,
-        ),
-        (
-            b"\xa2\x01\x00\x18\x01\x00\x00\x00",
-            6,
-            3,
-            FaultKind::DuplicateKey,
-        ),
-        (
-            b"\x9f\x01\xbf\x61\x61\xff\x00\x00",
-            5,
-            5,
-            FaultKind::BadBreak,
-        ),
-    ] {
-        let told = Fault { at: place, kind };
-        let mut reader = ItemReader::new(alloc, limits);
-        let as_told = matches!(
-            reader.feed(piece)?,
-            Fed::Fault { used, fault } if used == count && fault == told
-        );
-        assert!(rt; as_told, "{piece:?}");
-        let again = matches!(reader.feed(piece)?, Fed::Fault { used: 0, fault } if fault == told);
-        assert!(rt; again, "{piece:?}, fed again");
-        assert!(rt;
-            reader.at_end() == Err(Stop::Fault(told)),
-            "{piece:?}, at the end"
-        );
-    }
-    Ok(())
-}
-
-// The bytes of `0` inside so many arrays.
-fn nested(alloc: Global, depth: usize) -> Result<Vec<u8>, AllocError> {
-    let mut bytes = Vec::new(alloc);
-    for _ in 0..depth {
-        bytes.push(0x81)?;
-    }
-    bytes.push(0)?;
-    Ok(bytes)
+fn uses_a_piece_up_to_what_it_tells(rt: HostRuntime) {
+    check_pieces(&rt, rt.alloc(), &PIECES);
 }
 
 #[test]
 fn reads_256_containers_and_no_more(rt: HostRuntime) -> Result<(), Fail> {
     let alloc = rt.alloc();
-    let Some(limits) = Limits::try_new(256, 1000) else {
-        return Ok(());
-    };
-    let mut reader = ItemReader::new(alloc, limits);
-    let read = matches!(
-        reader.feed(&nested(alloc, 256)?)?,
-        Fed::Item { used: 257, item: _ }
-    );
-    assert!(rt; read);
-    let mut reader = ItemReader::new(alloc, limits);
+    let limits = limits_of(&rt, 256, 1000);
     let told = Fault {
         at: 256,
         kind: FaultKind::TooDeep,
     };
-    let refused = matches!(
-        reader.feed(&nested(alloc, 257)?)?,
-        Fed::Fault { used: 256, fault } if fault == told
-    );
-    assert!(rt; refused);
+    let deepest = nested(alloc, 256)?;
+    assert!(rt; is_item(&mut ItemReader::new(alloc, limits), &deepest, 257));
+    let deeper = nested(alloc, 257)?;
+    assert!(rt; is_refused(&mut ItemReader::new(alloc, limits), &deeper, 256, told));
     Ok(())
 }
 
+// Numbers for both limits, and whether they are in their ranges.
+static RANGES: [(u32, u32, bool); 6] = [
+    (1, 1, true),
+    (256, 16777216, true),
+    (0, 1, false),
+    (257, 1, false),
+    (1, 0, false),
+    (1, 16777217, false),
+];
+
 #[test]
 fn takes_the_limits_in_their_ranges(rt: HostRuntime) {
-    for (depth, item_bytes, inside) in [
-        (1, 1, true),
-        (256, 16777216, true),
-        (0, 1, false),
-        (257, 1, false),
-        (1, 0, false),
-        (1, 16777217, false),
-    ] {
-        let limits = Limits::try_new(depth, item_bytes);
-        assert_eq!(rt; limits.is_some(), inside, "{depth}, {item_bytes}");
+    for (depth, item_bytes, inside) in RANGES.iter() {
+        let limits = Limits::try_new(*depth, *item_bytes);
+        assert_eq!(rt; limits.is_some(), *inside, "{depth}, {item_bytes}");
         if let Some(limits) = limits {
-            assert_eq!(rt; (limits.depth(), limits.item_bytes()), (depth, item_bytes));
+            assert!(rt; limits.depth() == *depth && limits.item_bytes() == *item_bytes);
         }
     }
+}
+
+// The bytes of the piece that the next item ends with; None where the piece ends before.
+fn item_end(
+    rt: &impl Abort,
+    reader: &mut ItemReader,
+    piece: &[u8],
+) -> Result<Option<usize>, AllocError> {
+    match reader.feed(piece) {
+        Ok(Fed::More) => Ok(None),
+        Ok(Fed::Item { used, item: _ }) => Ok(Some(used)),
+        Ok(Fed::Fault { .. }) => panic!(rt; "a fault is told"),
+        Err(error) => Err(error),
+    }
+}
+
+// How many items end in a piece, of which each byte may end one.
+fn items_of(rt: &impl Abort, reader: &mut ItemReader, piece: &[u8]) -> Result<u32, AllocError> {
+    let mut items = 0u32;
+    let mut rest = piece;
+    for _ in 0..=piece.len() {
+        let Some(used) = item_end(rt, reader, rest)? else {
+            break;
+        };
+        items = items.saturating_add(1);
+        rest = rest.get(used..).unwrap_or(&[]);
+    }
+    Ok(items)
+}
+
+fn count_items(
+    rt: &impl Abort,
+    reader: &mut ItemReader,
+    pieces: &[&[u8]],
+) -> Result<u32, AllocError> {
+    let mut items = 0u32;
+    for piece in pieces {
+        items = items.saturating_add(items_of(rt, reader, *piece)?);
+    }
+    Ok(items)
 }
 
 // Run with each allocation refused in turn (`rt try --test --fail-alloc N`), it finds no third answer, and a reader that
 // had no memory answers so for good.
 #[test]
 fn stops_for_good_without_memory(rt: HostRuntime) {
-    let alloc = rt.alloc();
-    let Some(limits) = Limits::try_new(64, 100) else {
-        return;
-    };
-    let mut reader = ItemReader::new(alloc, limits);
-    let mut items = 0u32;
-    for piece in [b"\x82\x41\x01", b"\xf4\x5f\x42", b"\x01\x02\xff"] {
-        let mut rest: &[u8] = piece;
-        for _ in 0..3 {
-            match reader.feed(rest) {
-                Ok(Fed::More) => break,
-                Ok(Fed::Item { used, item: _ }) => {
-                    items = items.saturating_add(1);
-                    rest = rest.get(used..).unwrap_or(&[]);
-                }
-                Ok(Fed::Fault { used: _, fault }) => {
-                    assert_eq!(rt; fault.at, u64::MAX, "no fault is told");
-                }
-                Err(_) => {
-                    assert!(rt; reader.feed(b"").is_err());
-                    assert!(rt; reader.feed(b"\x00").is_err());
-                    assert!(rt; reader.at_end() == Err(Stop::Memory));
-                    return;
-                }
-            }
+    let mut reader = ItemReader::new(rt.alloc(), limits_of(&rt, 64, 100));
+    let pieces: [&[u8]; 3] = [b"\x82\x41\x01", b"\xf4\x5f\x42", b"\x01\x02\xff"];
+    match count_items(&rt, &mut reader, &pieces) {
+        Ok(items) => {
+            assert_eq!(rt; items, 2);
+            assert!(rt; reader.at_end() == Ok(()));
+        }
+        Err(_) => {
+            assert!(rt; reader.feed(b"").is_err());
+            assert!(rt; reader.feed(b"\x00").is_err());
+            assert!(rt; reader.at_end() == Err(Stop::Memory));
         }
     }
-    assert_eq!(rt; items, 2);
-    assert!(rt; reader.at_end() == Ok(()));
 }
