@@ -8,6 +8,7 @@ use cddl_literal::{
     escape_at, number_of, text_value,
 };
 use std::alloc::{AllocError, Global};
+use std::process::Abort;
 use std::test::Fail;
 
 /// The byte at a place, or 0 past the end.
@@ -120,36 +121,64 @@ fn number(source: &[u8]) -> Option<Literal> {
     }
 }
 
+/// Sources, and the numbers from 0 on that they stand for.
+static UINTS: [(&str, u64); 11] = [
+    ("0", 0),
+    ("-0", 0),
+    ("7", 7),
+    ("18446744073709551615", 18446744073709551615),
+    ("0x10", 16),
+    ("0XfF", 255),
+    ("0xffffffffffffffff", 18446744073709551615),
+    ("0x00000000000000000000000000000000000001", 1),
+    ("-0x0", 0),
+    ("0b101", 5),
+    ("0B1", 1),
+];
+
+/// Sources, and the numbers n of which they stand for -1 - n.
+static NINTS: [(&str, u64); 5] = [
+    ("-1", 0),
+    ("-18446744073709551615", 18446744073709551614),
+    ("-18446744073709551616", 18446744073709551615),
+    ("-0x10000000000000000", 18446744073709551615),
+    ("-0b11", 2),
+];
+
+static TOO_LARGE: [&str; 4] = [
+    "18446744073709551616",
+    "-18446744073709551617",
+    "0x10000000000000000",
+    "99999999999999999999999999999999999999999999999999",
+];
+
+fn expect_number(rt: &impl Abort, source: &str, want: Option<Literal>) {
+    assert!(rt; number(source.as_bytes()) == want, "{source}");
+}
+
+fn expect_uints(rt: &impl Abort, rows: &[(&str, u64)]) {
+    for (source, n) in rows {
+        expect_number(rt, *source, Some(Literal::Uint(*n)));
+    }
+}
+
+fn expect_nints(rt: &impl Abort, rows: &[(&str, u64)]) {
+    for (source, n) in rows {
+        expect_number(rt, *source, Some(Literal::Nint(*n)));
+    }
+}
+
+fn expect_no_numbers(rt: &impl Abort, sources: &[&str]) {
+    for source in sources {
+        expect_number(rt, *source, None);
+    }
+}
+
 #[test]
 fn numbers(rt: HostRuntime) {
-    for (source, want) in [
-        ("0", Literal::Uint(0)),
-        ("-0", Literal::Uint(0)),
-        ("7", Literal::Uint(7)),
-        ("-1", Literal::Nint(0)),
-        ("18446744073709551615", Literal::Uint(18446744073709551615)),
-        ("-18446744073709551615", Literal::Nint(18446744073709551614)),
-        ("-18446744073709551616", Literal::Nint(18446744073709551615)),
-        ("0x10", Literal::Uint(16)),
-        ("0XfF", Literal::Uint(255)),
-        ("0xffffffffffffffff", Literal::Uint(18446744073709551615)),
-        ("-0x10000000000000000", Literal::Nint(18446744073709551615)),
-        ("0x00000000000000000000000000000000000001", Literal::Uint(1)),
-        ("-0x0", Literal::Uint(0)),
-        ("0b101", Literal::Uint(5)),
-        ("0B1", Literal::Uint(1)),
-        ("-0b11", Literal::Nint(2)),
-    ] {
-        assert!(rt; number(source.as_bytes()) == Some(want), "{source}");
-    }
-    for source in [
-        "18446744073709551616",
-        "-18446744073709551617",
-        "0x10000000000000000",
-        "99999999999999999999999999999999999999999999999999",
-    ] {
-        assert!(rt; number(source.as_bytes()).is_none(), "{source}");
-    }
+    expect_uints(&rt, &UINTS);
+    expect_nints(&rt, &NINTS);
+    expect_no_numbers(&rt, &TOO_LARGE);
 }
 
 /// Escapes, where they end, and the character that they stand for.
@@ -209,32 +238,37 @@ static NO_ESCAPES: [&str; 27] = [
     "\\1",
 ];
 
-#[test]
-fn escapes(rt: HostRuntime) {
-    for (source, end, scalar) in ESCAPES.iter() {
-        let want = Some(Escape {
+/// A string of either kind has the same escape at its front, or none.
+fn expect_escape(rt: &impl Abort, source: &str, want: Option<Escape>) {
+    let double = escape_at(source.as_bytes(), 0, Quote::Double);
+    let single = escape_at(source.as_bytes(), 0, Quote::Single);
+    assert!(rt; double == want && single == want, "{source}");
+}
+
+fn expect_escapes(rt: &impl Abort, rows: &[(&str, usize, char)]) {
+    for (source, end, scalar) in rows {
+        let escape = Escape {
             end: *end,
             scalar: *scalar,
-        });
-        assert!(rt;
-            escape_at(source.as_bytes(), 0, Quote::Double) == want,
-            "{source}"
-        );
-        assert!(rt;
-            escape_at(source.as_bytes(), 0, Quote::Single) == want,
-            "{source}"
-        );
+        };
+        expect_escape(rt, *source, Some(escape));
     }
-    for source in NO_ESCAPES.iter() {
-        assert!(rt;
-            escape_at(source.as_bytes(), 0, Quote::Double).is_none(),
-            "{source}"
-        );
-        assert!(rt;
-            escape_at(source.as_bytes(), 0, Quote::Single).is_none(),
-            "{source}"
-        );
+}
+
+fn expect_no_escapes(rt: &impl Abort, sources: &[&str]) {
+    for source in sources {
+        expect_escape(rt, *source, None);
     }
+}
+
+#[test]
+fn escapes(rt: HostRuntime) {
+    expect_escapes(&rt, &ESCAPES);
+    expect_no_escapes(&rt, &NO_ESCAPES);
+}
+
+#[test]
+fn escapes_of_quotes(rt: HostRuntime) {
     let quote = Escape {
         end: 2,
         scalar: '\'',
@@ -262,11 +296,15 @@ static STRINGS: [(&[u8], Quote, usize); 15] = [
     (b"a\r", Quote::Single, 1),
 ];
 
-#[test]
-fn stops_of_strings(rt: HostRuntime) {
-    for (source, quote, end) in STRINGS.iter() {
+fn expect_stops(rt: &impl Abort, rows: &[(&[u8], Quote, usize)]) {
+    for (source, quote, end) in rows {
         assert_eq!(rt; characters_end(*source, 0, *quote), *end, "{source:?}");
     }
+}
+
+#[test]
+fn stops_of_strings(rt: HostRuntime) {
+    expect_stops(&rt, &STRINGS);
 }
 
 /// Sources, and where what a string with a prefix may hold stops in them.
@@ -286,11 +324,15 @@ static PREFIXED: [(&[u8], usize); 13] = [
     (b"0\x00'", 2),
 ];
 
-#[test]
-fn stops_of_prefixed(rt: HostRuntime) {
-    for (source, end) in PREFIXED.iter() {
+fn expect_coded_ends(rt: &impl Abort, rows: &[(&[u8], usize)]) {
+    for (source, end) in rows {
         assert_eq!(rt; coded_end(*source, 0), *end, "{source:?}");
     }
+}
+
+#[test]
+fn stops_of_prefixed(rt: HostRuntime) {
+    expect_coded_ends(&rt, &PREFIXED);
 }
 
 /// The value of a source that is a text string, if it is one.
@@ -307,24 +349,32 @@ fn text(alloc: Global, source: &str) -> Result<Option<String>, AllocError> {
     Ok(Some(value))
 }
 
+/// Text strings and their values.
+static TEXTS: [(&str, &str); 5] = [
+    ("\"\"", ""),
+    ("\"a'b\"", "a'b"),
+    ("\"\\u{1F600}\\uD83D\\uDE00\"", "\u{1f600}\u{1f600}"),
+    (
+        "\"D\\u{6f}mino's \\u{1F073} + \\u2318\"",
+        "Domino's \u{1f073} + \u{2318}",
+    ),
+    (
+        "\"\u{e9}\\\\\u{1f600}\\\"\u{10ffff}\"",
+        "\u{e9}\\\u{1f600}\"\u{10ffff}",
+    ),
+];
+
+fn expect_texts(rt: &impl Abort, alloc: Global, rows: &[(&str, &str)]) -> Result<(), AllocError> {
+    for (source, want) in rows {
+        let found = text(alloc, *source)?.expect(rt, "a text");
+        assert!(rt; found.as_str() == *want, "{source}");
+    }
+    Ok(())
+}
+
 #[test]
 fn texts(rt: HostRuntime) -> Result<(), Fail> {
-    for (source, want) in [
-        ("\"\"", ""),
-        ("\"a'b\"", "a'b"),
-        ("\"\\u{1F600}\\uD83D\\uDE00\"", "\u{1f600}\u{1f600}"),
-        (
-            "\"D\\u{6f}mino's \\u{1F073} + \\u2318\"",
-            "Domino's \u{1f073} + \u{2318}",
-        ),
-        (
-            "\"\u{e9}\\\\\u{1f600}\\\"\u{10ffff}\"",
-            "\u{e9}\\\u{1f600}\"\u{10ffff}",
-        ),
-    ] {
-        let found = text(rt.alloc(), source)?.ok_or("no text")?;
-        assert!(rt; found.as_str() == want, "{source}");
-    }
+    expect_texts(&rt, rt.alloc(), &TEXTS)?;
     Ok(())
 }
 
@@ -342,19 +392,31 @@ fn plain(alloc: Global, source: &str) -> Result<Option<Vec<u8>>, AllocError> {
     Ok(Some(value))
 }
 
+/// Plain byte strings and their values.
+static PLAIN: [(&str, &str); 6] = [
+    ("''", ""),
+    ("'a\"b'", "a\"b"),
+    ("'a\\'b\\\"'", "a'b\""),
+    ("'a\nb\r\nc\\r\\n'", "a\nb\nc\r\n"),
+    ("'\r\n\r\n'", "\n\n"),
+    ("'\u{e9}\\u00e9'", "\u{e9}\u{e9}"),
+];
+
+fn expect_bytes(rt: &impl Abort, found: Option<Vec<u8>>, want: &[u8], source: &str) {
+    let bytes = found.expect(rt, "a byte string");
+    assert!(rt; bytes.as_slice() == want, "{source}");
+}
+
+fn expect_plain(rt: &impl Abort, alloc: Global, rows: &[(&str, &str)]) -> Result<(), AllocError> {
+    for (source, want) in rows {
+        expect_bytes(rt, plain(alloc, *source)?, want.as_bytes(), *source);
+    }
+    Ok(())
+}
+
 #[test]
 fn plain_bytes(rt: HostRuntime) -> Result<(), Fail> {
-    for (source, want) in [
-        ("''", ""),
-        ("'a\"b'", "a\"b"),
-        ("'a\\'b\\\"'", "a'b\""),
-        ("'a\nb\r\nc\\r\\n'", "a\nb\nc\r\n"),
-        ("'\r\n\r\n'", "\n\n"),
-        ("'\u{e9}\\u00e9'", "\u{e9}\u{e9}"),
-    ] {
-        let found = plain(rt.alloc(), source)?.ok_or("no byte string")?;
-        assert!(rt; found.as_slice() == want.as_bytes(), "{source}");
-    }
+    expect_plain(&rt, rt.alloc(), &PLAIN)?;
     Ok(())
 }
 
@@ -367,25 +429,55 @@ fn between(alloc: Global, coding: Coding, source: &[u8]) -> Result<Option<Vec<u8
     bytes_between(alloc, coding, source, 0, end)
 }
 
-#[test]
-fn hex(rt: HostRuntime) -> Result<(), Fail> {
-    for (source, want) in [
-        ("'", b"".as_slice()),
-        ("00'", b"\x00".as_slice()),
-        ("0aF09b'", b"\x0a\xf0\x9b".as_slice()),
-        (" 0 ; 1\n0\t1 ; 2\r\n\r\n2 '", b"\x00\x12".as_slice()),
-        ("00 ; 11'", b"\x00".as_slice()),
-        (";'", b"".as_slice()),
-    ] {
-        let found = between(rt.alloc(), Coding::Hex, source.as_bytes())?;
-        assert!(rt; found.ok_or("no bytes")?.as_slice() == want, "{source}");
+fn expect_between(
+    rt: &impl Abort,
+    alloc: Global,
+    coding: Coding,
+    rows: &[(&str, &[u8])],
+) -> Result<(), AllocError> {
+    for (source, want) in rows {
+        expect_bytes(
+            rt,
+            between(alloc, coding, source.as_bytes())?,
+            *want,
+            *source,
+        );
     }
-    for source in [
-        "0'", "012'", "0g'", "0\u{e9}'", "0\"0'", "00\x01'", "0\r0'", "0-'", "00=' ",
-    ] {
-        let found = between(rt.alloc(), Coding::Hex, source.as_bytes())?;
+    Ok(())
+}
+
+fn expect_none(
+    rt: &impl Abort,
+    alloc: Global,
+    coding: Coding,
+    sources: &[&str],
+) -> Result<(), AllocError> {
+    for source in sources {
+        let found = between(alloc, coding, source.as_bytes())?;
         assert!(rt; found.is_none(), "{source}");
     }
+    Ok(())
+}
+
+/// What stands between the quotes of a string in hex, and its bytes.
+static HEX: [(&str, &[u8]); 6] = [
+    ("'", b""),
+    ("00'", b"\x00"),
+    ("0aF09b'", b"\x0a\xf0\x9b"),
+    (" 0 ; 1\n0\t1 ; 2\r\n\r\n2 '", b"\x00\x12"),
+    ("00 ; 11'", b"\x00"),
+    (";'", b""),
+];
+
+/// What is no hex.
+static NO_HEX: [&str; 9] = [
+    "0'", "012'", "0g'", "0\u{e9}'", "0\"0'", "00\x01'", "0\r0'", "0-'", "00=' ",
+];
+
+#[test]
+fn hex(rt: HostRuntime) -> Result<(), Fail> {
+    expect_between(&rt, rt.alloc(), Coding::Hex, &HEX)?;
+    expect_none(&rt, rt.alloc(), Coding::Hex, &NO_HEX)?;
     Ok(())
 }
 
@@ -428,30 +520,24 @@ static NO_BASE64: [&str; 17] = [
 
 #[test]
 fn base64(rt: HostRuntime) -> Result<(), Fail> {
-    for (source, want) in BASE64.iter() {
-        let found = between(rt.alloc(), Coding::Base64, source.as_bytes())?;
-        assert!(rt; found.ok_or("no bytes")?.as_slice() == *want, "{source}");
-    }
-    for source in NO_BASE64.iter() {
-        let found = between(rt.alloc(), Coding::Base64, source.as_bytes())?;
-        assert!(rt; found.is_none(), "{source}");
-    }
+    expect_between(&rt, rt.alloc(), Coding::Base64, &BASE64)?;
+    expect_none(&rt, rt.alloc(), Coding::Base64, &NO_BASE64)?;
     Ok(())
+}
+
+/// The letter's six bits stand in the first byte's last two and the second byte's first four.
+fn bits_of(rt: &impl Abort, alloc: Global, letter: u8) -> Result<usize, AllocError> {
+    let source = [b'A', letter, b'A', b'A', b'\''];
+    let bytes = between(alloc, Coding::Base64, &source)?.expect(rt, "bytes");
+    assert!(rt; bytes.len() == 3);
+    Ok(bytes[0] as usize * 16 + bytes[1] as usize / 16)
 }
 
 #[test]
 fn base64_alphabet(rt: HostRuntime) -> Result<(), Fail> {
     let letters = b"ABCDEFGHIJKLMNOPQRSTUVWXYZabcdefghijklmnopqrstuvwxyz0123456789+/";
     for (value, letter) in letters.iter().enumerate() {
-        // The letter's six bits stand in the first byte's last two and the second byte's first four.
-        let found = between(
-            rt.alloc(),
-            Coding::Base64,
-            &[b'A', *letter, b'A', b'A', b'\''],
-        )?;
-        let bytes = found.ok_or("no bytes")?;
-        assert_eq!(rt; bytes.len(), 3);
-        assert_eq!(rt; bytes[0] as usize * 16 + bytes[1] as usize / 16, value);
+        assert_eq!(rt; bits_of(&rt, rt.alloc(), *letter)?, value);
     }
     Ok(())
 }
@@ -498,23 +584,27 @@ fn in_base64(alloc: Global, source: &str) -> Result<Option<Vec<u8>>, AllocError>
     }
 }
 
+/// Byte strings in hex and their values.
+static IN_HEX: [(&str, &[u8]); 3] = [
+    ("h''", b""),
+    ("h'00ff'", b"\x00\xff"),
+    ("H'4869 ; comment'", b"Hi"),
+];
+
+/// Byte strings in base64 and their values.
+static IN_BASE64: [(&str, &[u8]); 3] = [
+    ("b64''", b""),
+    ("b64'SGk='", b"Hi"),
+    ("B64'SGk ; comment'", b"Hi"),
+];
+
 #[test]
 fn prefixed_bytes(rt: HostRuntime) -> Result<(), Fail> {
-    for (source, want) in [
-        ("h''", b"".as_slice()),
-        ("h'00ff'", b"\x00\xff".as_slice()),
-        ("H'4869 ; comment'", b"Hi".as_slice()),
-    ] {
-        let found = in_hex(rt.alloc(), source)?.ok_or("no byte string")?;
-        assert!(rt; found.as_slice() == want, "{source}");
+    for (source, want) in IN_HEX.iter() {
+        expect_bytes(&rt, in_hex(rt.alloc(), *source)?, *want, *source);
     }
-    for (source, want) in [
-        ("b64''", b"".as_slice()),
-        ("b64'SGk='", b"Hi".as_slice()),
-        ("B64'SGk ; comment'", b"Hi".as_slice()),
-    ] {
-        let found = in_base64(rt.alloc(), source)?.ok_or("no byte string")?;
-        assert!(rt; found.as_slice() == want, "{source}");
+    for (source, want) in IN_BASE64.iter() {
+        expect_bytes(&rt, in_base64(rt.alloc(), *source)?, *want, *source);
     }
     Ok(())
 }

@@ -6,7 +6,6 @@ use std::process::Abort;
 use std::test::Fail;
 
 /// An item of a row.
-#[derive(Clone, Copy)]
 enum Form {
     Uint(u64),
     Nint(u64),
@@ -17,29 +16,36 @@ enum Form {
     Simple(u8),
 }
 
-fn item_of(alloc: Global, form: Form) -> Result<Item, AllocError> {
-    Ok(match form {
-        Form::Uint(n) => Item::Uint(n),
-        Form::Nint(n) => Item::Nint(n),
-        Form::Empty => Item::Text(String::new(alloc)),
-        Form::Array(members) => {
-            let mut items = Vec::new(alloc);
-            for member in members {
-                items.push(item_of(alloc, *member)?)?;
-            }
-            Item::Array(items)
-        }
-        Form::Pair((key, value)) => {
-            let mut pairs = Vec::new(alloc);
-            pairs.push((item_of(alloc, *key)?, item_of(alloc, *value)?))?;
-            Item::Map(pairs)
-        }
-        Form::Tag(number, content) => Item::Tag(
-            number,
-            Box::new(alloc, item_of(alloc, *content)?)?,
-        ),
-        Form::Simple(n) => Item::Simple(n),
-    })
+#[cycle(items)]
+fn array_of(alloc: Global, members: &[Form]) -> Result<Item, AllocError> {
+    let mut items = Vec::new(alloc);
+    for member in members {
+        items.push(item_of(alloc, member)?)?;
+    }
+    Ok(Item::Array(items))
+}
+
+fn map_of(alloc: Global, key: Item, value: Item) -> Result<Item, AllocError> {
+    let mut pairs = Vec::new(alloc);
+    pairs.push((key, value))?;
+    Ok(Item::Map(pairs))
+}
+
+fn tag_of(alloc: Global, number: u64, content: Item) -> Result<Item, AllocError> {
+    Ok(Item::Tag(number, Box::new(alloc, content)?))
+}
+
+#[cycle(items)]
+fn item_of(alloc: Global, form: &Form) -> Result<Item, AllocError> {
+    match form {
+        Form::Uint(n) => Ok(Item::Uint(*n)),
+        Form::Nint(n) => Ok(Item::Nint(*n)),
+        Form::Empty => Ok(Item::Text(String::new(alloc))),
+        Form::Array(members) => array_of(alloc, *members),
+        Form::Pair((key, value)) => map_of(alloc, item_of(alloc, key)?, item_of(alloc, value)?),
+        Form::Tag(number, content) => tag_of(alloc, *number, item_of(alloc, *content)?),
+        Form::Simple(n) => Ok(Item::Simple(*n)),
+    }
 }
 
 /// The number of a type, an item, and what the type says of it.
@@ -139,7 +145,7 @@ fn told(
     alloc: Global,
     nodes: &Nodes,
     number: usize,
-    form: Form,
+    form: &Form,
     steps: u64,
 ) -> Result<Verdict, Fail> {
     let item = Sound::try_new(alloc, item_of(alloc, form)?)?;
@@ -149,7 +155,7 @@ fn told(
 fn check_rows(rt: &impl Abort, alloc: Global, nodes: &Nodes, rows: &[Row]) -> Result<(), Fail> {
     for (number, form, verdict) in rows {
         assert_eq!(rt;
-            told(alloc, nodes, *number, *form, 1000)?,
+            told(alloc, nodes, *number, form, 1000)?,
             *verdict,
             "of type {number}"
         );
@@ -158,7 +164,7 @@ fn check_rows(rt: &impl Abort, alloc: Global, nodes: &Nodes, rows: &[Row]) -> Re
 }
 
 // Groups of `int`, which is the first type, and the arrays of them.
-const KINDS: [Kind; 13] = [
+static KINDS: [Kind; 13] = [
     Kind::Choice(&[1, 2]),
     Kind::Major(0),
     Kind::Major(1),
@@ -183,7 +189,7 @@ const KINDS: [Kind; 13] = [
     Kind::Array(11),
 ];
 
-const PARTS: [Part; 12] = [
+static PARTS: [Part; 12] = [
     Part::Entry(0),
     // 1: * int
     Part::Repeat(0, Most::Any, 0),
@@ -210,7 +216,7 @@ const ONE: Form = Form::Uint(1);
 
 const TWO_ONES: Form = Form::Array(&[ONE, ONE]);
 
-const ARRAY_ROWS: [Row; 18] = [
+static ARRAY_ROWS: [Row; 18] = [
     // a group takes all that it can, and gives nothing back
     (3, Form::Array(&[ONE]), Verdict::No { place: 0 }),
     (
@@ -276,7 +282,7 @@ fn judges_arrays(rt: HostRuntime) -> Result<(), Fail> {
 }
 
 // Ranges, and what asks them of the numbers of tags and simple values.
-const HEADS: [Kind; 6] = [
+static HEADS: [Kind; 6] = [
     Kind::Between(0, 5, true),
     Kind::Between(0, 5, false),
     Kind::Between(1, 2, true),
@@ -287,7 +293,7 @@ const HEADS: [Kind; 6] = [
     Kind::Simple(3),
 ];
 
-const HEAD_ROWS: [Row; 9] = [
+static HEAD_ROWS: [Row; 9] = [
     (0, Form::Uint(5), YES),
     (1, Form::Uint(5), Verdict::No { place: 0 }),
     (4, Form::Tag(1, &ONE), YES),
@@ -307,7 +313,7 @@ fn judges_heads(rt: HostRuntime) -> Result<(), Fail> {
 }
 
 /// A type, an item, and the steps that it takes to tell.
-const STEPS: [(usize, Form, u64); 4] = [
+static STEPS: [(usize, Form, u64); 4] = [
     // int, uint, nint
     (0, Form::Nint(0), 3),
     // the array, both groups, the repetition, an entry in a round and one behind
@@ -319,19 +325,33 @@ const STEPS: [(usize, Form, u64); 4] = [
 
 #[test]
 fn counts_steps(rt: HostRuntime) -> Result<(), Fail> {
-    let a = rt.alloc();
-    let nodes = nodes_of(a, &KINDS, &PARTS)?;
+    let nodes = nodes_of(rt.alloc(), &KINDS, &PARTS)?;
     for (number, form, steps) in STEPS.iter() {
-        let enough = told(a, &nodes, *number, *form, *steps)?;
-        assert!(rt; enough != Verdict::Spent, "of type {number} in {steps}");
-        let fewer = told(a, &nodes, *number, *form, steps.saturating_sub(1))?;
-        assert_eq!(rt; fewer, Verdict::Spent, "of type {number} in {steps}");
+        check_steps(&rt, rt.alloc(), &nodes, *number, form, *steps)?;
     }
     Ok(())
 }
 
+/// So many steps tell, and one fewer does not.
+fn check_steps(
+    rt: &impl Abort,
+    alloc: Global,
+    nodes: &Nodes,
+    number: usize,
+    form: &Form,
+    steps: u64,
+) -> Result<(), Fail> {
+    let enough = told(alloc, nodes, number, form, steps)?;
+    let fewer = told(alloc, nodes, number, form, steps.saturating_sub(1))?;
+    assert!(rt;
+        enough != Verdict::Spent && fewer == Verdict::Spent,
+        "of type {number} in {steps}"
+    );
+    Ok(())
+}
+
 /// What a type says of an item, and None where there is no memory.
-fn judged(alloc: Global, number: usize, form: Form) -> Option<Verdict> {
+fn judged(alloc: Global, number: usize, form: &Form) -> Option<Verdict> {
     let nodes = nodes_of(alloc, &KINDS, &PARTS).ok()?;
     let item = Sound::try_new(alloc, item_of(alloc, form).ok()?).ok()?;
     judge(alloc, &nodes, TypeId { number }, &item, 1000).ok()
@@ -340,6 +360,6 @@ fn judged(alloc: Global, number: usize, form: Form) -> Option<Verdict> {
 // Run with each allocation refused in turn (`rt try --test --fail-alloc N`), this finds no third answer.
 #[test]
 fn judges_or_wants_memory(rt: HostRuntime) {
-    let verdict = judged(rt.alloc(), 7, TWO_ONES);
+    let verdict = judged(rt.alloc(), 7, &TWO_ONES);
     assert!(rt; matches!(verdict, None | Some(Verdict::Yes)));
 }

@@ -3,6 +3,7 @@ ghost use Rattle.cddl_token.specs.Answers.{IsAnswered};
 
 use cddl_token::{Kind, Literal, Refusal, Token, tokens, value};
 use std::alloc::{AllocError, Global};
+use std::process::Abort;
 use std::test::Fail;
 
 mod rows;
@@ -12,16 +13,18 @@ use rows::{ROWS_1, ROWS_2, ROWS_3, ROWS_4, ROWS_5, ROWS_6, ROWS_7, ROWS_8, VALUE
 use texts::{COSE, EXAMPLES};
 
 /// The kinds of the tokens, or the line of the refusal.
-fn told(alloc: Global, source: &[u8]) -> Result<String, Fail> {
-    let mut out = String::new(alloc);
+fn told(alloc: Global, source: &[u8]) -> Result<String, AllocError> {
     match tokens(alloc, source) {
-        Ok(found) => {
-            for token in found.iter() {
-                let kind = token.kind;
-                out.push_str(format!(in alloc; "{kind:?} ")?.as_str())?;
-            }
-        }
-        Err(refusal) => out.push_str(format!(in alloc; "{refusal}")?.as_str())?,
+        Ok(found) => kinds(alloc, &found),
+        Err(refusal) => refusal.to_string(alloc),
+    }
+}
+
+fn kinds(alloc: Global, found: &[Token<'_>]) -> Result<String, AllocError> {
+    let mut out = String::new(alloc);
+    for token in found {
+        let kind = token.kind;
+        out.push_str(format!(in alloc; "{kind:?} ")?.as_str())?;
     }
     Ok(out)
 }
@@ -34,96 +37,84 @@ fn value_at(alloc: Global, found: &Vec<Token<'_>>, i: usize) -> Result<Option<Li
     value(alloc, &found[i])
 }
 
-/// What the first token that is a literal stands for, and an empty text where there is none.
-fn first_value(alloc: Global, source: &str) -> Result<String, Fail> {
+/// What the tokens that are literals stand for.
+fn values(alloc: Global, found: &Vec<Token<'_>>) -> Result<String, AllocError>
+    requires { All IsAnswered found.now.items }
+{
     let mut out = String::new(alloc);
-    match tokens(alloc, source.as_bytes()) {
-        Ok(found) => {
-            for i in 0..found.len() {
-                if let Some(literal) = value_at(alloc, &found, i)? {
-                    out.push_str(format!(in alloc; "{literal:?}")?.as_str())?;
-                }
-            }
+    for i in 0..found.len() {
+        if let Some(literal) = value_at(alloc, found, i)? {
+            out.push_str(format!(in alloc; "{literal:?}")?.as_str())?;
         }
-        Err(refusal) => out.push_str(format!(in alloc; "{refusal}")?.as_str())?,
     }
     Ok(out)
 }
 
-#[test]
-fn tells_rows_1(rt: HostRuntime) -> Result<(), Fail> {
-    for (source, want) in ROWS_1.iter() {
-        assert_eq!(rt; told(rt.alloc(), *source)?.as_str(), *want, "at {source:?}");
+/// What the literals of a source stand for, or the line of the refusal.
+fn told_values(alloc: Global, source: &str) -> Result<String, AllocError> {
+    match tokens(alloc, source.as_bytes()) {
+        Ok(found) => values(alloc, &found),
+        Err(refusal) => refusal.to_string(alloc),
+    }
+}
+
+fn check_rows(rt: &impl Abort, alloc: Global, rows: &[(&[u8], &str)]) -> Result<(), Fail> {
+    for (source, want) in rows {
+        assert_eq!(rt; told(alloc, *source)?.as_str(), *want, "at {source:?}");
     }
     Ok(())
+}
+
+#[test]
+fn tells_rows_1(rt: HostRuntime) -> Result<(), Fail> {
+    check_rows(&rt, rt.alloc(), &ROWS_1)
 }
 
 #[test]
 fn tells_rows_2(rt: HostRuntime) -> Result<(), Fail> {
-    for (source, want) in ROWS_2.iter() {
-        assert_eq!(rt; told(rt.alloc(), *source)?.as_str(), *want, "at {source:?}");
-    }
-    Ok(())
+    check_rows(&rt, rt.alloc(), &ROWS_2)
 }
 
 #[test]
 fn tells_rows_3(rt: HostRuntime) -> Result<(), Fail> {
-    for (source, want) in ROWS_3.iter() {
-        assert_eq!(rt; told(rt.alloc(), *source)?.as_str(), *want, "at {source:?}");
-    }
-    Ok(())
+    check_rows(&rt, rt.alloc(), &ROWS_3)
 }
 
 #[test]
 fn tells_rows_4(rt: HostRuntime) -> Result<(), Fail> {
-    for (source, want) in ROWS_4.iter() {
-        assert_eq!(rt; told(rt.alloc(), *source)?.as_str(), *want, "at {source:?}");
-    }
-    Ok(())
+    check_rows(&rt, rt.alloc(), &ROWS_4)
 }
 
 #[test]
 fn tells_rows_5(rt: HostRuntime) -> Result<(), Fail> {
-    for (source, want) in ROWS_5.iter() {
-        assert_eq!(rt; told(rt.alloc(), *source)?.as_str(), *want, "at {source:?}");
-    }
-    Ok(())
+    check_rows(&rt, rt.alloc(), &ROWS_5)
 }
 
 #[test]
 fn tells_rows_6(rt: HostRuntime) -> Result<(), Fail> {
-    for (source, want) in ROWS_6.iter() {
-        assert_eq!(rt; told(rt.alloc(), *source)?.as_str(), *want, "at {source:?}");
-    }
-    Ok(())
+    check_rows(&rt, rt.alloc(), &ROWS_6)
 }
 
 #[test]
 fn tells_rows_7(rt: HostRuntime) -> Result<(), Fail> {
-    for (source, want) in ROWS_7.iter() {
-        assert_eq!(rt; told(rt.alloc(), *source)?.as_str(), *want, "at {source:?}");
-    }
-    Ok(())
+    check_rows(&rt, rt.alloc(), &ROWS_7)
 }
 
 #[test]
 fn tells_rows_8(rt: HostRuntime) -> Result<(), Fail> {
-    for (source, want) in ROWS_8.iter() {
-        assert_eq!(rt; told(rt.alloc(), *source)?.as_str(), *want, "at {source:?}");
+    check_rows(&rt, rt.alloc(), &ROWS_8)
+}
+
+fn check_values(rt: &impl Abort, alloc: Global, rows: &[(&str, &str)]) -> Result<(), Fail> {
+    for (source, want) in rows {
+        assert_eq!(rt; told_values(alloc, *source)?.as_str(), *want, "at {source}");
     }
     Ok(())
 }
 
 #[test]
 fn gives_values(rt: HostRuntime) -> Result<(), Fail> {
-    for (source, want) in VALUES.iter() {
-        assert_eq!(rt;
-            first_value(rt.alloc(), *source)?.as_str(),
-            *want,
-            "at {source}"
-        );
-    }
-    Ok(())
+    check_values(&rt, rt.alloc(), &VALUES)
 }
 
 /// How many `=` stand in a source, and None where it has no tokens.
@@ -137,50 +128,53 @@ fn rules(alloc: Global, source: &str) -> Option<usize> {
     )
 }
 
-#[test]
-fn reads_specifications_of_rfcs(rt: HostRuntime) -> Result<(), Fail> {
-    for (source, count) in EXAMPLES.iter() {
-        assert_eq!(rt; rules(rt.alloc(), *source), Some(*count), "at {source}");
+fn expect_rules(rt: &impl Abort, alloc: Global, specifications: &[(&str, usize)]) {
+    for (source, count) in specifications {
+        assert_eq!(rt; rules(alloc, *source), Some(*count), "at {source}");
     }
-    assert_eq!(rt; rules(rt.alloc(), COSE.0), Some(COSE.1));
-    Ok(())
 }
 
-/// So many bytes.
-fn repeated(alloc: Global, byte: u8, count: usize) -> Result<Vec<u8>, Fail> {
-    let mut out = Vec::new(alloc);
-    for _ in 0..count {
-        out.push(byte)?;
-    }
-    Ok(out)
+#[test]
+fn reads_specifications_of_rfcs(rt: HostRuntime) {
+    expect_rules(&rt, rt.alloc(), &EXAMPLES);
+    expect_rules(&rt, rt.alloc(), &COSE);
 }
+
+/// Bytes, how often each stands in a source, and what is told of it.
+static LENGTHS: [(u8, usize, &str); 4] = [
+    (b' ', 1_048_576, "End "),
+    (b' ', 1_048_577, "refused: S9 SourceTooLong at byte 1048576"),
+    (255, 1_048_577, "refused: S9 SourceTooLong at byte 1048576"),
+    (255, 1_048_576, "refused: S1 NotUtf8 at byte 0"),
+];
 
 #[test]
 fn limits_the_length(rt: HostRuntime) -> Result<(), Fail> {
-    let a = rt.alloc();
-    let too_long = "refused: S9 SourceTooLong at byte 1048576";
-    assert_eq!(rt; told(a, &repeated(a, b' ', 1_048_576)?)?.as_str(), "End ");
-    assert_eq!(rt; told(a, &repeated(a, b' ', 1_048_577)?)?.as_str(), too_long);
-    assert_eq!(rt; told(a, &repeated(a, 255, 1_048_577)?)?.as_str(), too_long);
-    assert_eq!(rt;
-        told(a, &repeated(a, 255, 1_048_576)?)?.as_str(),
-        "refused: S1 NotUtf8 at byte 0"
-    );
+    for (byte, count, want) in LENGTHS.iter() {
+        let source = vec![in rt.alloc(); *byte; *count]?;
+        assert_eq!(rt; told(rt.alloc(), &source)?.as_str(), *want);
+    }
     Ok(())
 }
 
+/// Whether the first token has a value, or memory runs out.
+fn has_value(alloc: Global, found: &Vec<Token<'_>>) -> bool
+    requires within { 0 < vec_len found.now }
+    requires answered { All IsAnswered found.now.items }
+{
+    match value_at(alloc, found, 0) {
+        Ok(answer) => answer.is_some(),
+        Err(_) => true,
+    }
+}
+
 #[test]
-fn answers_or_wants_memory(rt: HostRuntime) -> Result<(), Fail> {
-    let a = rt.alloc();
-    match tokens(a, b"h'00 01'") {
+fn answers_or_wants_memory(rt: HostRuntime) {
+    match tokens(rt.alloc(), b"h'00 01'") {
         Err(refusal) => assert_eq!(rt; refusal, Refusal::Memory),
         Ok(found) => {
             assert_eq!(rt; found.len(), 2);
-            match value_at(a, &found, 0) {
-                Ok(answer) => assert!(rt; answer.is_some()),
-                Err(_) => {}
-            }
+            assert!(rt; has_value(rt.alloc(), &found));
         }
     }
-    Ok(())
 }

@@ -139,7 +139,7 @@ ext-value = ( text => any )
 ];
 
 /// The specification of COSE, RFC 9052.
-pub(crate) static COSE: (&str, usize) = (
+pub(crate) static COSE: [(&str, usize); 1] = [(
     "start = COSE_Messages / COSE_Key / COSE_KeySet / Internal_Types
 Internal_Types = Enc_structure / Sig_structure / MAC_structure
 label = int / tstr
@@ -202,4 +202,4 @@ COSE_Key = {
 COSE_KeySet = [+COSE_Key]
 ",
     30,
-);
+)];
