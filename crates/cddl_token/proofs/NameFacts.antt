@@ -73,6 +73,20 @@ module _ (s : List ℕ) (a e : ℕ) (id : IsId s a e) (longest : (m : ℕ) → I
 pub id_last : {s : List ℕ} {a b : ℕ} → IsId s a b → is_id_byte (slice_index s (b - 1)) ≡ true
 id_last {s} {a} {b} id = id.holds (b - 1) (let some = id.nonempty in omega arith) (let some = id.nonempty in omega arith)
 
+pub letter_no_mark : (b : ℕ) → is_ealpha b ≡ true → is_mark b ≡ false
+letter_no_mark b h = or_from _ _ (letter_other b _ h refl) (letter_other b _ h refl)
+
+pub letter_of_id : (b : ℕ) → is_ealpha b ≡ true → is_id_byte b ≡ true
+letter_of_id b h = or_left _ _ (or_left _ _ h)
+
+-- no id goes past marks and then a byte of no id
+pub id_ends : (s : List ℕ) (a e i m : ℕ) → a < e → e ≤ i → Each is_mark s e i → is_id_byte (slice_index s i) ≡ false → IsId s a m → m ≤ e
+id_ends s a e i m from passed marks other id =
+    ⊎_elim
+    (λ more. absurd (⊎_elim (λ past. false≢true (sym other ∙ id.holds i (omega arith) past)) (λ before. false≢true (sym id.ends ∙ marks (m - 1) (omega arith) (omega arith))) (cases_lt i m)))
+    (λ le. le)
+    (cases_lt e m)
+
 -- `.` and what may follow it
 module _ (s : List ℕ) (a : ℕ) where
   control_longest : (e : ℕ) → slice_index s a ≡ 46 → IsId s (a + 1) e → ((m : ℕ) → IsId s (a + 1) m → m ≤ e) → (q : Reading) (m : ℕ) → Spells q s a m → m ≤ e
@@ -89,6 +103,24 @@ module _ (s : List ℕ) (a : ℕ) where
   lone_dot first second letter (Good RangeBelow) m h = second h.2
   lone_dot first second letter (Good Control) m h = let id = h.1 in false≢true (sym letter ∙ id.begins)
   lone_dot first second letter q m h = elsewhere q s a m first refl h
+
+  range_longest : slice_index s a ≡ 46 → slice_index s (a + 1) ≡ 46 → (slice_index s (a + 2) ≡ 46 → ⊥) → (q : Reading) (m : ℕ) → Spells q s a m → m ≤ a + 2
+  range_longest first second third (Good Control) m h = absurd (let id = h.1 in false≢true (ap is_ealpha (sym second) ∙ id.begins))
+  range_longest first second third (Good Range) m h = omega (arith, h.0)
+  range_longest first second third (Good RangeBelow) m h = absurd (third h.3)
+  range_longest first second third q m h = absurd (elsewhere q s a m first refl h)
+
+  pub range_token : slice_index s a ≡ 46 → slice_index s (a + 1) ≡ 46 → (slice_index s (a + 2) ≡ 46 → ⊥) → IsToken Range s a (a + 2)
+  range_token first second third = record { longest = record { spelled = (refl, first, second); longest = range_longest first second third }; allowed = tt }
+
+  range_below_longest : slice_index s a ≡ 46 → slice_index s (a + 1) ≡ 46 → (q : Reading) (m : ℕ) → Spells q s a m → m ≤ a + 3
+  range_below_longest first second (Good Control) m h = absurd (let id = h.1 in false≢true (ap is_ealpha (sym second) ∙ id.begins))
+  range_below_longest first second (Good Range) m h = omega (arith, h.0)
+  range_below_longest first second (Good RangeBelow) m h = omega (arith, h.0)
+  range_below_longest first second q m h = absurd (elsewhere q s a m first refl h)
+
+  pub range_below_token : slice_index s a ≡ 46 → slice_index s (a + 1) ≡ 46 → slice_index s (a + 2) ≡ 46 → IsToken RangeBelow s a (a + 3)
+  range_below_token first second third = record { longest = record { spelled = (refl, first, second, third); longest = range_below_longest first second }; allowed = tt }
 
 prefix_first : (coding : Coding) (s : List ℕ) (a p : ℕ) → Opens coding s a p → (is_h (slice_index s a) || is_b (slice_index s a)) ≡ true
 prefix_first Hex s a p h = or_left _ _ h.0
