@@ -11,8 +11,8 @@ MAKEFLAGS += --no-print-directory
 # Proves the program and every crate below it, and leaves it at build/cddlseq. 'rt run' is what proves, compiles and
 # links; it also runs the program, here for its help.
 build:
-	cd crates/cddl_tool && $(RT) run -- --help > /dev/null
-	install -D -m 755 crates/cddl_tool/out/cddl_tool build/cddlseq
+	cd crates/cddlseq && $(RT) run -- --help > /dev/null
+	install -D -m 755 crates/cddlseq/out/cddlseq build/cddlseq
 
 run: build
 	build/cddlseq validate examples/readings.cddl examples/readings.cborseq

@@ -17,7 +17,7 @@ import recognizer
 from run_grammar import run_grammar
 from run_rows import TOP, run_rows
 
-PROVED = os.path.join(TOP, "crates", "cddl_tool", "out", "cddl_tool")
+PROVED = os.path.join(TOP, "crates", "cddlseq", "out", "cddlseq")
 OUTLINE = os.path.join(TOP, "crates", "cddl_outline", "out", "cddl_outline")
 PROGRAM = os.path.join(TOP, "build", "cddlseq")
 COUNT = re.compile(r"(\d+) passed, (\d+) failed")

@@ -1,7 +1,6 @@
 //! What the program does with a specification and a stream.
 
-ghost use Rattle.std.specs.Prelude.{◌≡◌, ◌≢◌, ◌<◌, ◌≤◌, ◌^◌, ◌-◌, IfOk, IfErr, IfSome};
-ghost use Rattle.std.specs.Io.KnownBytes.{Appends};
+ghost use Rattle.std.specs.Prelude.{◌≡◌, ◌≢◌, ◌≤◌, IfOk, IfErr, IfSome, OnOk, vec_items};
 ghost use Rattle.cbor_item.specs.Counted.{device_of, failures_of};
 ghost use Rattle.cddl_table.specs.Specification.{IsSpecification};
 ghost use Rattle.cddl_table.specs.declared.table.Table.{Table as Tables};
@@ -10,21 +9,37 @@ ghost use Rattle.seq_run.specs.declared.running.RunFault.{RunFault as RunFaults}
 ghost use Rattle.cddl_tool.specs.Acting.{bounds_of, specification_of, status_for, IsAnswered};
 
 use crate::choice::{Options, Task};
-use cbor_item::{Counted, write_bytes};
+use crate::lines::{say, say_of_file};
+use crate::status::{BROKEN, FAILED, REFUSED};
+use cbor_item::Counted;
 use cbor_read::Limits;
 use cddl_table::{Table, read_specification};
 use seq_run::{End, RunFault, run};
 use std::alloc::Global;
-use std::io::{Read, Write};
+use std::io::{ErrorKind, Read, Write};
 
-/// The status of a stream that failed.
-pub const FAILED: u8 = 1;
-
-/// The status of a specification that was refused.
-pub const REFUSED: u8 = 2;
-
-/// The status of a use, a file or a growth that failed.
-pub const BROKEN: u8 = 3;
+/// Reads the text of a specification: all that is left in its file. A file that cannot be read is told on `err`, by its
+/// name, and the status is answered.
+pub fn read_text<R: Read, E: Write>(
+    alloc: Global,
+    file: &mut R,
+    name: &str,
+    err: &mut Counted<E>,
+) -> Result<Vec<u8>, u8>
+    ensures whole { IfOk result (λ text. IfSome (R.remaining file.old) (λ bytes. vec_items text ≡ bytes)) }
+    ensures quiet { OnOk result (err.new ≡ err.old) }
+    ensures broken { IfErr result (λ status. status ≡ BROKEN) }
+{
+    let mut text = Vec::new(alloc);
+    match file.read_to_end(&mut text) {
+        Ok(_) => Ok(text),
+        Err(error) if error.kind() == ErrorKind::OutOfMemory => {
+            say(b"out of memory\n", err);
+            Err(BROKEN)
+        }
+        Err(_) => Err(say_of_file("cannot read ", name, err)),
+    }
+}
 
 /// Reads the specification: `spec`, or to show a stream `a = any`. A refused one is told on `err`, and the status is
 /// answered.
@@ -93,12 +108,4 @@ fn say_fault<E: Write>(alloc: Global, fault: RunFault, err: &mut Counted<E>) {
         Ok(line) => say(line.as_str().as_bytes(), err),
         Err(_) => say(b"out of memory\n", err),
     }
-}
-
-/// Writes a text to the standard error: all of it, unless the device failed. A failed write is passed over.
-pub fn say<E: Write>(text: &[u8], err: &mut Counted<E>)
-    ensures { failures_of err.new ≡ failures_of err.old → failures_of err.old < 2 ^ 64 - 1 →
-        Appends (E.contents (device_of err.old)) (E.contents (device_of err.new)) text.now }
-{
-    let _ = write_bytes(text, err);
 }

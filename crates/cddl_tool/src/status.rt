@@ -1,0 +1,10 @@
+//! The exit statuses of the program, beside 0 for a clean stream.
+
+/// The status of a stream that failed.
+pub const FAILED: u8 = 1;
+
+/// The status of a specification that was refused.
+pub const REFUSED: u8 = 2;
+
+/// The status of a use, a file or a growth that failed.
+pub const BROKEN: u8 = 3;

@@ -1,0 +1,122 @@
+//! The program `cddlseq`: validates a sequence of CBOR items against a specification. Here are its words, its files and its
+//! status; what it does with them is in `cddl_tool`.
+#![tactic(auto)]
+
+ghost use Rattle.std.specs.Prelude.{◌≤◌, IfOk};
+
+use cbor_item::Counted;
+use cddl_table::Table;
+use cddl_tool::{BROKEN, Options, Use, act, options, read_text, ready, say, say_of_file};
+use std::alloc::{AllocError, Global};
+use std::io::{self, ErrorKind, Read, Write};
+use std::process::ExitCode;
+use std::{env, fs};
+
+fn main(rt: HostRuntime) -> ExitCode {
+    let mut err = Counted::new(rt.stderr());
+    let status = match arguments(&rt) {
+        Ok(words) => program(&rt, words.as_slice(), &mut err),
+        Err(error) if error.kind() == ErrorKind::OutOfMemory => out_of_memory(&mut err),
+        Err(_) => {
+            say(b"an argument is not text\n", &mut err);
+            BROKEN
+        }
+    };
+    ExitCode::from(status)
+}
+
+fn arguments(rt: &HostRuntime) -> io::Result<Vec<String>> {
+    Ok(env::args(rt)?.collect(rt.alloc())?)
+}
+
+// Does what the words say, and answers the exit status.
+fn program<E: Write>(rt: &HostRuntime, words: &[String], err: &mut Counted<E>) -> u8 {
+    match chosen(rt.alloc(), words) {
+        Ok(options) => perform(rt, &options, err),
+        Err(Use::Words(error)) => {
+            let _ = error.print(rt);
+            if error.use_stderr() { BROKEN } else { 0 }
+        }
+        Err(Use::Memory) => out_of_memory(err),
+    }
+}
+
+fn chosen(alloc: Global, words: &[String]) -> Result<Options, Use>
+    ensures depth { IfOk result (λ o. (1 ≤ o.depth) × (o.depth ≤ 256)) }
+    ensures item_bytes { IfOk result (λ o. (1 ≤ o.item_bytes) × (o.item_bytes ≤ 16777216)) }
+{
+    let mut texts = Vec::new(alloc);
+    for word in words {
+        texts.push(word.as_str()).map_err(AllocError::from)?;
+    }
+    options(alloc, texts.as_slice())
+}
+
+// Reads the specification, if there is one to read, and then the stream.
+fn perform<E: Write>(rt: &HostRuntime, options: &Options, err: &mut Counted<E>) -> u8
+    requires depth { (1 ≤ options.now.depth) × (options.now.depth ≤ 256) }
+    requires item_bytes { (1 ≤ options.now.item_bytes) × (options.now.item_bytes ≤ 16777216) }
+{
+    let text = match text_of(rt, options, err) {
+        Ok(text) => text,
+        Err(status) => return status,
+    };
+    match ready(options, text.as_slice(), err) {
+        Ok(table) => validate(rt, options, &table, err),
+        Err(status) => status,
+    }
+}
+
+// The text of the specification: none where the task has none.
+fn text_of<E: Write>(
+    rt: &HostRuntime,
+    options: &Options,
+    err: &mut Counted<E>,
+) -> Result<Vec<u8>, u8> {
+    let Some(name) = &options.spec else {
+        return Ok(Vec::new(rt.alloc()));
+    };
+    match fs::open(rt, name.as_str()) {
+        Ok(mut file) => read_text(rt.alloc(), &mut file, name.as_str(), err),
+        Err(_) => Err(say_of_file("cannot open ", name.as_str(), err)),
+    }
+}
+
+// Validates the stream of the file that is named, or of standard input.
+fn validate<E: Write>(
+    rt: &HostRuntime,
+    options: &Options,
+    table: &Table,
+    err: &mut Counted<E>,
+) -> u8
+    requires depth { (1 ≤ options.now.depth) × (options.now.depth ≤ 256) }
+    requires item_bytes { (1 ≤ options.now.item_bytes) × (options.now.item_bytes ≤ 16777216) }
+{
+    let Some(name) = &options.file else {
+        return validate_from(rt, options, table, rt.stdin(), err);
+    };
+    match fs::open(rt, name.as_str()) {
+        Ok(file) => validate_from(rt, options, table, file, err),
+        Err(_) => say_of_file("cannot open ", name.as_str(), err),
+    }
+}
+
+fn validate_from<R: Read + Drop, E: Write>(
+    rt: &HostRuntime,
+    options: &Options,
+    table: &Table,
+    device: R,
+    err: &mut Counted<E>,
+) -> u8
+    requires depth { (1 ≤ options.now.depth) × (options.now.depth ≤ 256) }
+    requires item_bytes { (1 ≤ options.now.item_bytes) × (options.now.item_bytes ≤ 16777216) }
+{
+    let mut input = Counted::new(device);
+    let mut output = Counted::new(rt.stdout());
+    act(rt.alloc(), options, table, &mut input, &mut output, err)
+}
+
+fn out_of_memory<E: Write>(err: &mut Counted<E>) -> u8 {
+    say(b"out of memory\n", err);
+    BROKEN
+}

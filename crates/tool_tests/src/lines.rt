@@ -1,0 +1,46 @@
+// What goes to standard error, and the text of a specification's file.
+use crate::devices::{Sink, Source};
+use cbor_item::Counted;
+use cddl_tool::{BROKEN, read_text, say, say_of_file};
+use std::io::ErrorKind;
+
+// For how many bytes the device has room, and what comes.
+static SAID: [(usize, &[u8]); 4] = [
+    (0, b""),
+    (3, b"cut"),
+    (15, b"cut\ncannot open"),
+    (100, b"cut\ncannot open a.cddl\n"),
+];
+
+#[test]
+fn says_what_a_device_takes(rt: HostRuntime) {
+    for (room, wanted) in SAID.iter() {
+        let mut err = Counted::new(Sink::new(rt.alloc(), *room, true));
+        say(b"cut\n", &mut err);
+        assert_eq!(rt; say_of_file("cannot open ", "a.cddl", &mut err), BROKEN);
+        assert!(rt; err.into_inner().into_taken().as_slice() == *wanted);
+    }
+}
+
+const TEXT: &[u8] = b"a = any";
+
+// How many reads of the file succeed, how the next one fails, and the line that comes: none where the text is read.
+static READ: [(usize, ErrorKind, &[u8]); 4] = [
+    (8, ErrorKind::Other, b""),
+    (7, ErrorKind::Other, b"cannot read a.cddl\n"),
+    (0, ErrorKind::IsADirectory, b"cannot read a.cddl\n"),
+    (3, ErrorKind::OutOfMemory, b"out of memory\n"),
+];
+
+#[test]
+fn reads_the_text_of_a_file(rt: HostRuntime) {
+    for (reads, fault, line) in READ.iter() {
+        let mut file = Source::failing(TEXT, *reads, *fault);
+        let mut err = Counted::new(Sink::new(rt.alloc(), 100, true));
+        match read_text(rt.alloc(), &mut file, "a.cddl", &mut err) {
+            Ok(text) => assert!(rt; line.is_empty() && text.as_slice() == TEXT),
+            Err(status) => assert!(rt; !line.is_empty() && status == BROKEN),
+        }
+        assert!(rt; err.into_inner().into_taken().as_slice() == *line);
+    }
+}

@@ -1,0 +1,89 @@
+use cddl_tool::{Options, Task, options};
+
+// Words, and what they say.
+struct Row {
+    words: &'static [&'static str],
+    task: Task,
+    spec: Option<&'static str>,
+    file: Option<&'static str>,
+    depth: u32,
+    item_bytes: u32,
+}
+
+static ROWS: [Row; 4] = [
+    Row {
+        words: &["cddlseq", "validate", "a.cddl", "b.cbor"],
+        task: Task::Validate,
+        spec: Some("a.cddl"),
+        file: Some("b.cbor"),
+        depth: 256,
+        item_bytes: 16_777_216,
+    },
+    Row {
+        words: &["cddlseq", "validate", "--item-bytes=3", "--", "--depth"],
+        task: Task::Validate,
+        spec: Some("--depth"),
+        file: None,
+        depth: 256,
+        item_bytes: 3,
+    },
+    Row {
+        words: &["cddlseq", "show", "--depth=7", "--item-bytes", "1"],
+        task: Task::Show,
+        spec: None,
+        file: None,
+        depth: 7,
+        item_bytes: 1,
+    },
+    Row {
+        words: &["cddlseq", "show", "b.cbor"],
+        task: Task::Show,
+        spec: None,
+        file: Some("b.cbor"),
+        depth: 256,
+        item_bytes: 16_777_216,
+    },
+];
+
+fn has_names(options: &Options, row: &Row) -> bool {
+    let spec = options.spec.as_ref().map(|name| name.as_str());
+    let file = options.file.as_ref().map(|name| name.as_str());
+    spec == row.spec && file == row.file
+}
+
+fn has_numbers(options: &Options, row: &Row) -> bool {
+    options.depth == row.depth && options.item_bytes == row.item_bytes
+}
+
+#[test]
+fn reads_the_words(rt: HostRuntime) {
+    for row in ROWS.iter() {
+        match options(rt.alloc(), row.words) {
+            Ok(options) => {
+                assert_eq!(rt; options.task, row.task);
+                assert!(rt; has_names(&options, row));
+                assert!(rt; has_numbers(&options, row));
+            }
+            Err(_) => assert!(rt; false, "no options"),
+        }
+    }
+}
+
+static REFUSED: [&[&str]; 9] = [
+    &["cddlseq"],
+    &["cddlseq", "validate"],
+    &["cddlseq", "check", "a"],
+    &["cddlseq", "show", "a", "b"],
+    &["cddlseq", "show", "--depth", "0"],
+    &["cddlseq", "show", "--depth", "257"],
+    &["cddlseq", "show", "--depth", "one"],
+    &["cddlseq", "show", "--item-bytes", "16777217"],
+    &["cddlseq", "show", "--depth", "1", "--depth", "2"],
+];
+
+#[test]
+fn refuses_other_words(rt: HostRuntime) {
+    for words in REFUSED.iter() {
+        assert!(rt; options(rt.alloc(), *words).is_err());
+    }
+}
