@@ -1,6 +1,6 @@
 -- How a command grows.
-use Rattle.std.proofs.Common.{◌≡◌, Bool, true, false, ◌||◌, ap, ap₂, ◌∙◌, refl}
-use Rattle.clap.specs.Words.{App, Rule, app_of, rule_of, with_rule, with_subcommand, AddsArg, AddsSubcommand, shape_of}
+use Rattle.std.proofs.Common.{◌≡◌, Bool, false, ◌||◌, ap, ap₂, ◌∙◌}
+use Rattle.clap.specs.Words.{App, Rule, app_of, rule_of, with_rule, with_subcommand, AddsArg, AddsSubcommand}
 use Rattle.clap.specs.declared.builder.arg.Arg.{Arg}
 use Rattle.clap.specs.declared.builder.command.Command.{Command}
 use Rattle.clap.specs.declared.builder.command.Command.TheViews.{out-Command}

@@ -1,9 +1,9 @@
 -- What clap's clauses say of the words.
-use Rattle.std.proofs.Common.{◌≡◌, ℕ, List, [], ◌∷◌, true, codes, Option, Some, None, option_map, option_and_then, inl, inr, refl, sym, ap, ◌∙◌, subst, string_bytes}
-use Rattle.std.specs.Prelude.{◌⊎◌, Result, Ok, Err, Box, IfErr, IfOk}
+use Rattle.std.proofs.Common.{◌≡◌, List, [], ◌∷◌, true, codes, Option, Some, None, option_map, option_and_then, inl, inr, refl, sym, ap, ◌∙◌}
+use Rattle.std.specs.Prelude.{Result, Ok, Err, Box, IfErr, IfOk}
 use Rattle.std.specs.Result.{IsErrAnd}
 use Rattle.std.specs.Box.{box_value}
-use Rattle.clap.specs.Words.{App, Row, Text, is_simple, subcommand_of, first_of, one_of, HasMatchesOf, subcommand_rows_of, subcommand_rows, subcommand_name_of, rows_of, found_of, fault_of, FailsBy, HasKind, IsAmong, Kinds, kind_of}
+use Rattle.clap.specs.Words.{App, Row, Text, is_simple, subcommand_of, first_of, HasMatchesOf, subcommand_rows_of, subcommand_rows, subcommand_name_of, rows_of, found_of, fault_of, HasKind, Kinds, kind_of}
 use Rattle.clap.specs.Faults.{is_simple_and_free}
 use Rattle.clap.specs.declared.error.Error.{Error}
 use Rattle.clap.specs.declared.error.kind.ErrorKind.TheVariants as kind

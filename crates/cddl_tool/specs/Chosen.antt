@@ -26,13 +26,17 @@ depth_rule = number_rule (codes "depth") 256 (codes "256")
 abbrev pub item_bytes_rule : Rule
 item_bytes_rule = number_rule (codes "item-bytes") 16777216 (codes "16777216")
 
--- `validate SPEC [FILE]`, with `--depth N` and `--item-bytes N`
-abbrev pub validate_app : App
-validate_app = with_rule (with_rule (with_rule (with_rule (new_app (codes "validate")) spec_rule) file_rule) depth_rule) item_bytes_rule
+-- a command with `[FILE]`, `--depth N` and `--item-bytes N`, which both commands take
+abbrev pub stream_app : App → App
+stream_app a = with_rule (with_rule (with_rule a file_rule) depth_rule) item_bytes_rule
 
--- `show [FILE]`, with the same options
+-- `validate SPEC [FILE]`, with these options
+abbrev pub validate_app : App
+validate_app = stream_app (with_rule (new_app (codes "validate")) spec_rule)
+
+-- `show [FILE]`, with the same ones
 abbrev pub show_app : App
-show_app = with_rule (with_rule (with_rule (new_app (codes "show")) file_rule) depth_rule) item_bytes_rule
+show_app = stream_app (new_app (codes "show"))
 
 -- the program's command, of which a subcommand is required
 abbrev pub top_app : App

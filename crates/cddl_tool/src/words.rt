@@ -3,11 +3,12 @@
 ghost use Rattle.std.specs.Prelude.{◌≡◌, ℕ, false, map, IfOk, IfErr, IfSome, IfNone, option_map, string_bytes};
 ghost use Rattle.clap.specs.Words.{app_of, first_value, found_of, one_text, rows_of, rule_of};
 ghost use Rattle.clap.specs.declared.builder.command.Command.TheViews.{out-Command};
-ghost use Rattle.cddl_tool.specs.Chosen.{depth_rule, file_rule, item_bytes_rule, program_app, show_app, spec_rule, validate_app, AreChosen, AreRead, AreUnread, IsMisuse, IsNumber};
+ghost use Rattle.cddl_tool.specs.Chosen.{file_rule, number_rule, program_app, show_app, spec_rule, stream_app, top_app, validate_app, AreChosen, AreRead, AreUnread, IsMisuse, IsNumber};
 
 use crate::choice::{Options, Task, Use};
+use clap::builder::ValueParser;
 use clap::error::ErrorKind;
-use clap::{Arg, ArgMatches, Command, Error, value_parser};
+use clap::{Arg, ArgMatches, Command, Error};
 use std::alloc::{AllocError, Global};
 
 /// Reads the words of the command line, the program's name first: `validate SPEC [FILE]` or `show [FILE]`, with
@@ -71,34 +72,63 @@ fn misuse(alloc: Global, kind: ErrorKind, message: &str) -> Use {
 fn command<'a>(alloc: Global) -> Result<Command<'a>, AllocError>
     ensures { IfOk result (λ c. app_of c ≡ program_app) }
 {
+    top_command(alloc)
+        .subcommand(validate_command(alloc)?)?
+        .subcommand(show_command(alloc)?)
+}
+
+// The program's command, before it has subcommands.
+fn top_command<'a>(alloc: Global) -> Command<'a>
+    ensures app { app_of result ≡ top_app }
+    ensures local { (out-Command result).has_globals ≡ false }
+{
     Command::new(alloc, "cddlseq")
         .about("Validates sequences of CBOR items against a CDDL specification")
         .subcommand_required(true)
-        .subcommand(validate_command(alloc)?)?
-        .subcommand(show_command(alloc)?)
 }
 
 fn validate_command<'a>(alloc: Global) -> Result<Command<'a>, AllocError>
     ensures app { IfOk result (λ c. app_of c ≡ validate_app) }
     ensures local { IfOk result (λ c. (out-Command c).has_globals ≡ false) }
 {
-    Command::new(alloc, "validate")
-        .about("Prints a line for each item of the stream that matches, and one for its end")
-        .arg(spec_arg(alloc))?
-        .arg(file_arg(alloc))?
-        .arg(depth_arg(alloc))?
-        .arg(item_bytes_arg(alloc))
+    let command = Command::new(alloc, "validate").about(
+        "Prints a line for each item of the stream that matches, and one for its end",
+    );
+    with_stream(alloc, command.arg(spec_arg(alloc))?)
 }
 
 fn show_command<'a>(alloc: Global) -> Result<Command<'a>, AllocError>
     ensures app { IfOk result (λ c. app_of c ≡ show_app) }
     ensures local { IfOk result (λ c. (out-Command c).has_globals ≡ false) }
 {
-    Command::new(alloc, "show")
-        .about("Prints a line for each item of the stream, and one for its end")
+    let command = Command::new(alloc, "show").about(
+        "Prints a line for each item of the stream, and one for its end",
+    );
+    with_stream(alloc, command)
+}
+
+// The command with what both commands take: the stream's file and the limits.
+fn with_stream<'a>(alloc: Global, command: Command<'a>) -> Result<Command<'a>, AllocError>
+    requires { (out-Command command).has_globals ≡ false }
+    ensures app { IfOk result (λ c. app_of c ≡ stream_app (app_of command.entry)) }
+    ensures local { IfOk result (λ c. (out-Command c).has_globals ≡ false) }
+{
+    command
         .arg(file_arg(alloc))?
-        .arg(depth_arg(alloc))?
-        .arg(item_bytes_arg(alloc))
+        .arg(number_arg(
+            alloc,
+            "depth",
+            "The greatest depth of an item, 1 to 256",
+            256,
+            "256",
+        ))?
+        .arg(number_arg(
+            alloc,
+            "item-bytes",
+            "The most bytes of an item, 1 to 16777216",
+            16_777_216,
+            "16777216",
+        ))
 }
 
 fn spec_arg<'a>(alloc: Global) -> Arg<'a>
@@ -120,28 +150,23 @@ fn file_arg<'a>(alloc: Global) -> Arg<'a>
     )
 }
 
-fn depth_arg<'a>(alloc: Global) -> Arg<'a>
-    ensures rule { rule_of result ≡ depth_rule }
+// An option with a number from 1 to `most`.
+fn number_arg<'a>(
+    alloc: Global,
+    name: &'a str,
+    help: &'a str,
+    most: u32,
+    default: &'a str,
+) -> Arg<'a>
+    ensures rule { rule_of result ≡ number_rule name.now most default.now }
     ensures own { result.global ≡ false }
 {
-    Arg::new(alloc, "depth")
-        .long("depth")
+    Arg::new(alloc, name)
+        .long(name)
         .value_name("N")
-        .help("The greatest depth of an item, 1 to 256")
-        .value_parser(value_parser!(u32).range(1..=256))
-        .default_value("256")
-}
-
-fn item_bytes_arg<'a>(alloc: Global) -> Arg<'a>
-    ensures rule { rule_of result ≡ item_bytes_rule }
-    ensures own { result.global ≡ false }
-{
-    Arg::new(alloc, "item-bytes")
-        .long("item-bytes")
-        .value_name("N")
-        .help("The most bytes of an item, 1 to 16777216")
-        .value_parser(value_parser!(u32).range(1..=16_777_216))
-        .default_value("16777216")
+        .help(help)
+        .value_parser(ValueParser::signed(1, i64::from(most)))
+        .default_value(default)
 }
 
 fn value(alloc: Global, given: &ArgMatches<'_>, name: &str) -> Result<Option<String>, AllocError>
@@ -163,6 +188,5 @@ fn number(given: &ArgMatches<'_>, name: &str, most: u32) -> Option<u32>
 }
 
 fn refused(alloc: Global, kind: ErrorKind, message: &str) -> Result<Error, AllocError> {
-    let mut command = command(alloc)?;
-    command.error(kind, message)
+    command(alloc)?.error(kind, message)
 }

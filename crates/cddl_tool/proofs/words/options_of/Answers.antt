@@ -1,5 +1,5 @@
-use Rattle.std.proofs.Common.{◌≡◌, ◌∙◌, sym, refl, subst, codes}
-use Rattle.clap.specs.Words.{found_of, one_text, one_of, rows_of}
+use Rattle.std.proofs.Common.{◌∙◌, sym, refl, subst, codes}
+use Rattle.clap.specs.Words.{found_of}
 use Rattle.clap.proofs.WalkLemmas.{first_value-rows, one_text-rows}
 use Rattle.cddl_tool.specs.Chosen.{IsNumber}
 use Rattle.cddl_tool.proofs.Meeting.{unread}
