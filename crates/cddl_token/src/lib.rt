@@ -4,7 +4,8 @@
 //! token is taken. [`tokens`] answers them with their places, or why there are none, and where.
 #![tactic(auto)]
 
-ghost use Rattle.std.specs.Prelude.{◌≡◌, ℕ, ◌↔◌, ◌⊎◌, List, map, length, All, IfOk, IfErr, MatchResult};
+ghost use Rattle.std.specs.Prelude.{◌≡◌, ◌≢◌, ℕ, ◌<◌, ◌≤◌, ◌↔◌, ◌⊎◌, List, map, length, All, IsUtf8, IfOk, IfErr, IsOk, MatchResult};
+ghost use Rattle.std.specs.Str.Lossy.{utf8_valid_len};
 ghost use Rattle.cddl_token.specs.Answers.{span, IsAnswered, IsReadFrom, InOrder, IsTokenized, IsRefused, Refuses, StandsFor};
 ghost use Rattle.cddl_token.specs.Spelling.{IsId, IsGrammarId};
 ghost use Rattle.cddl_token.specs.Tokens.{Spanned, Tokenized, Refused};
@@ -283,6 +284,9 @@ pub fn tokens<'s>(alloc: Global, source: &'s [u8]) -> Result<Vec<Token<'s>>, Ref
     ensures refused { IfErr result (λ e. Refuses source.now e) }
     // Where it has none for this reason, this is the answer, unless memory runs out.
     ensures only_refused { (code : Code) (at : ℕ) → IsRefused source.now code at → MatchResult result (λ v. ⊥) (λ e. (e ≡ Refusal.At code at) ⊎ (e ≡ Refusal.Memory)) }
+    // That a source is too long, or not UTF-8, is told without taking memory.
+    ensures too_long { 1048576 < length source.now → result ≡ Err (Refusal.At Code.SourceTooLong 1048576) }
+    ensures no_text { length source.now ≤ 1048576 → (IsUtf8 source.now → ⊥) → result ≡ Err (Refusal.At Code.NotUtf8 (utf8_valid_len source.now)) }
 {
     one_answer();
     if source.len() > SOURCE_LIMIT {
@@ -296,11 +300,14 @@ pub fn tokens<'s>(alloc: Global, source: &'s [u8]) -> Result<Vec<Token<'s>>, Ref
 
 /// What a number, a text or a byte string stands for; nothing for other tokens.
 ///
-/// It asks for a token that [`tokens`] answered. It fails only where a growth was refused.
+/// It asks for a token that [`tokens`] answered. It fails only where a growth was refused, and never at a token that is
+/// neither a text nor a byte string.
 pub fn value(alloc: Global, token: &Token<'_>) -> Result<Option<Literal>, AllocError>
     requires { IsAnswered token.now }
     // Of whatever source it is a token, that is what it stands for there.
-    ensures { (s : List ℕ) → IsReadFrom s token.now → IfOk result (λ o. StandsFor s token.now o) }
+    ensures stands { (s : List ℕ) → IsReadFrom s token.now → IfOk result (λ o. StandsFor s token.now o) }
+    // Only the values of texts and of byte strings take memory.
+    ensures no_memory { token.now.kind ≢ Kind.Text → token.now.kind ≢ Kind.Bytes → IsOk result }
 {
     cddl_literal::cut_out();
     match token.kind {
