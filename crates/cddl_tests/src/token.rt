@@ -1,14 +1,16 @@
 ghost use Rattle.std.specs.Prelude.{◌<◌, All, vec_len};
 ghost use Rattle.cddl_token.specs.Answers.{IsAnswered};
 
-use cddl_token::{Kind, Literal, Refusal, Token, tokens, value};
+use cddl_token::{Code, Kind, Literal, Refusal, Token, tokens, value};
 use std::alloc::{AllocError, Global};
 use std::process::Abort;
 use std::test::Fail;
 
+mod codes;
 mod rows;
 mod texts;
 
+use codes::CODES;
 use rows::{ROWS_1, ROWS_2, ROWS_3, ROWS_4, ROWS_5, ROWS_6, ROWS_7, ROWS_8, VALUES};
 use texts::{COSE, EXAMPLES};
 
@@ -177,4 +179,28 @@ fn answers_or_wants_memory(rt: HostRuntime) {
             assert!(rt; has_value(rt.alloc(), &found));
         }
     }
+}
+
+#[test]
+fn tells_every_code(rt: HostRuntime) -> Result<(), Fail> {
+    for (code, want) in CODES.iter() {
+        assert_eq!(rt; code.to_string(rt.alloc())?.as_str(), *want);
+    }
+    Ok(())
+}
+
+static REFUSALS: [(Refusal, &str); 2] = [
+    (
+        Refusal::At(Code::BadEscape, 5),
+        "refused: S4 BadEscape at byte 5",
+    ),
+    (Refusal::Memory, "out of memory"),
+];
+
+#[test]
+fn tells_refusals(rt: HostRuntime) -> Result<(), Fail> {
+    for (refusal, want) in REFUSALS.iter() {
+        assert_eq!(rt; refusal.to_string(rt.alloc())?.as_str(), *want);
+    }
+    Ok(())
 }
