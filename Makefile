@@ -6,7 +6,7 @@ PREFIX  = /usr/local
 
 MAKEFLAGS += --no-print-directory
 
-.PHONY: build run test bench install clean
+.PHONY: build run test quick bench install clean
 
 # Proves the program and every crate below it, and leaves it at build/cddlseq. 'rt run' is what proves, compiles and
 # links; it also runs the program, here for its help.
@@ -19,6 +19,10 @@ run: build
 
 test:
 	@$(PYTHON) tests/gate.py --rt "$(RT)"
+
+# For work in progress: what changed is proved, over what earlier checks kept, and all tests and rows are run.
+quick:
+	@$(PYTHON) tests/gate.py --quick --rt "$(RT)"
 
 bench: build
 	@$(PYTHON) bench/run.py build/cddlseq

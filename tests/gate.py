@@ -1,17 +1,23 @@
 #!/usr/bin/env python3
 """The whole gate: every proof and test from nothing by 'rt ci', then the rows on the programs that it built.
 
-    gate.py [--rt COMMAND]
+    gate.py [--rt COMMAND] [--quick]
 
-The last line is 'N passed, M failed', both counted together. The status is 0 only where all was run and nothing failed.
+With --quick, for work in progress: what changed is proved over what earlier checks kept, then come the tests and the
+rows; no edit is tried, and no verdict follows from it.
+
+The last line is 'N passed, M failed', all counted together. The status is 0 only where all was run and nothing failed.
 """
 import argparse
+import glob
 import os
 import re
 import shlex
 import shutil
 import subprocess
 import sys
+import time
+from concurrent.futures import ThreadPoolExecutor
 
 import recognizer
 from run_grammar import run_grammar
@@ -20,6 +26,8 @@ from run_rows import TOP, run_rows
 PROVED = os.path.join(TOP, "crates", "cddlseq", "out", "cddlseq")
 OUTLINE = os.path.join(TOP, "crates", "cddl_outline", "out", "cddl_outline")
 PROGRAM = os.path.join(TOP, "build", "cddlseq")
+# Each step may take a few gigabytes.
+STEPS_AT_ONCE = 3
 COUNT = re.compile(r"(\d+) passed, (\d+) failed")
 
 
@@ -40,8 +48,46 @@ def proofs(rt):
     return passed, failed or (1 if run.returncode or not count else 0)
 
 
+def crates_with(text):
+    """The folders of the crates whose sources have this text."""
+    found = set()
+    for path in glob.glob(os.path.join(TOP, "crates", "*", "src", "**", "*.rt"), recursive=True):
+        with open(path, encoding="utf-8") as file:
+            if text in file.read():
+                found.add(path.split(f"{os.sep}src{os.sep}")[0])
+    return sorted(found)
+
+
+def step(name, command, folder):
+    """Runs one step, tells its time, and what it printed where it failed. Returns whether it passed."""
+    began = time.monotonic()
+    ran = subprocess.run(
+        command, cwd=folder, stdin=subprocess.DEVNULL, stdout=subprocess.PIPE, stderr=subprocess.STDOUT, text=True, errors="replace"
+    )
+    said = "passed" if ran.returncode == 0 else f"FAILED\n{ran.stdout}"
+    print(f"{name}: {time.monotonic() - began:.0f} s, {said}", flush=True)
+    return ran.returncode == 0
+
+
+def kept_proofs(rt):
+    """Proves what changed since earlier checks, runs the tests and builds the programs of the rows; returns how many
+    steps passed and failed."""
+    rt = shlex.split(rt)
+    if not step("proofs", [*rt, "all", "check"], TOP):
+        return 0, 1
+    steps = [(f"tests of {os.path.basename(it)}", [*rt, "test", "--jobs", "1"], it) for it in crates_with("#[test]")]
+    steps += [(f"program {os.path.basename(it)}", [*rt, "run", "--", "--help"], crate_of(it)) for it in (PROVED, OUTLINE)]
+    with ThreadPoolExecutor(STEPS_AT_ONCE) as pool:
+        passed = list(pool.map(lambda it: step(*it), steps))
+    return 1 + sum(passed), passed.count(False)
+
+
+def crate_of(program):
+    return os.path.dirname(os.path.dirname(program))
+
+
 def rows():
-    """Runs the rows on the programs that 'rt ci' proved just now, and returns how many passed and failed."""
+    """Runs the rows on the programs that were proved just now, and returns how many passed and failed."""
     os.makedirs(os.path.dirname(PROGRAM), exist_ok=True)
     shutil.copy(PROVED, PROGRAM)
     passed = failed = 0
@@ -60,9 +106,10 @@ def rows():
 def main():
     words = argparse.ArgumentParser(description="Runs the whole gate.")
     words.add_argument("--rt", default="rt", help="the command of the Rattle toolchain")
-    rt = words.parse_args().rt
-    passed, failed = proofs(rt)
-    # 'rt ci' set aside what earlier runs built, so these are the programs that it proved just now
+    words.add_argument("--quick", action="store_true", help="over what earlier checks kept, and without edits")
+    words = words.parse_args()
+    passed, failed = kept_proofs(words.rt) if words.quick else proofs(words.rt)
+    # 'rt ci' set aside what earlier runs built, so these are the programs that were proved just now
     if failed or not (os.path.isfile(PROVED) and os.path.isfile(OUTLINE)):
         print("the rows on the built programs are not run: there is no proved program")
         failed = max(failed, 1)
