@@ -3,6 +3,7 @@ use cbor_item::Counted;
 use cddl_tool::{BROKEN, Options, act, options, ready};
 use std::alloc::Global;
 use std::io::ErrorKind;
+use std::process::Abort;
 use std::test::Fail;
 
 // What the program writes and answers.
@@ -42,428 +43,275 @@ fn performed(
     })
 }
 
+fn assert_outcome(rt: &impl Abort, outcome: &Outcome, status: u8, out: &[u8], err: &[u8]) {
+    assert_eq!(rt; outcome.status, status);
+    assert!(rt; outcome.out.as_slice() == out);
+    assert!(rt; outcome.err.as_slice() == err);
+}
+
 const VALIDATE: &[&str] = &["cddlseq", "validate", "spec"];
 
 const VALIDATE_SHORT: &[&str] = &["cddlseq", "validate", "--item-bytes=3", "--", "spec"];
 
 const SHOW: &[&str] = &["cddlseq", "show"];
 
-const SHOW_SHALLOW: &[&str] = &["cddlseq", "show", "--depth", "1", "--item-bytes", "1"];
-
 // A specification and a stream, and what comes of them.
 struct Row {
     words: &'static [&'static str],
     spec: &'static [u8],
     stream: &'static [u8],
-    out: &'static str,
-    err: &'static str,
+    out: &'static [u8],
+    err: &'static [u8],
     status: u8,
 }
 
-static ROWS: [Row; 47] = [
-    Row {
-        words: VALIDATE,
-        spec: b"a = uint",
-        stream: b"",
-        out: "clean: 0 items, 0 bytes\n",
-        err: "",
-        status: 0,
-    },
+static ROWS: [Row; 27] = [
     Row {
         words: VALIDATE,
         spec: b"a = nint",
         stream: b"\x3b\xff\xff\xff\xff\xff\xff\xff\xff",
-        out: "item 1 at 0: -18446744073709551616\nclean: 1 items, 9 bytes\n",
-        err: "",
+        out: b"item 1 at 0: -18446744073709551616\nclean: 1 items, 9 bytes\n",
+        err: b"",
         status: 0,
     },
     Row {
         words: VALIDATE,
         spec: b"a = uint",
         stream: b"\x17\x18\x18",
-        out: "item 1 at 0: 23\nitem 2 at 1: 24\nclean: 2 items, 3 bytes\n",
-        err: "",
+        out: b"item 1 at 0: 23\nitem 2 at 1: 24\nclean: 2 items, 3 bytes\n",
+        err: b"",
         status: 0,
     },
     Row {
         words: VALIDATE,
         spec: b"a = uint",
         stream: b"\x17\x18\x18\x20",
-        out: "item 1 at 0: 23\nitem 2 at 1: 24\nfailed: 2 items, offset 3: mismatch at $: -1\n",
-        err: "",
+        out: b"item 1 at 0: 23\nitem 2 at 1: 24\nfailed: 2 items, offset 3: mismatch at $: -1\n",
+        err: b"",
         status: 1,
     },
     Row {
         words: VALIDATE,
         spec: b"s = tstr",
         stream: b"\x61\x61\x40",
-        out: "item 1 at 0: \"a\"\nfailed: 1 items, offset 2: mismatch at $: h''\n",
-        err: "",
+        out: b"item 1 at 0: \"a\"\nfailed: 1 items, offset 2: mismatch at $: h''\n",
+        err: b"",
         status: 1,
     },
     Row {
         words: VALIDATE,
         spec: b"s = tstr",
         stream: b"\x63\x61\x62",
-        out: "failed: 0 items, offset 0: truncated at byte 3\n",
-        err: "",
-        status: 1,
-    },
-    Row {
-        words: VALIDATE,
-        spec: b"s = tstr",
-        stream: b"\x61\xff",
-        out: "failed: 0 items, offset 0: text is not UTF-8 at byte 0\n",
-        err: "",
-        status: 1,
-    },
-    Row {
-        words: VALIDATE,
-        spec: b"a = uint",
-        stream: b"\x1c",
-        out: "failed: 0 items, offset 0: reserved additional information at byte 0\n",
-        err: "",
-        status: 1,
-    },
-    Row {
-        words: VALIDATE,
-        spec: b"a = uint",
-        stream: b"\x1f",
-        out: "failed: 0 items, offset 0: indefinite length not allowed at byte 0\n",
-        err: "",
-        status: 1,
-    },
-    Row {
-        words: VALIDATE,
-        spec: b"a = uint",
-        stream: b"\x80",
-        out: "failed: 0 items, offset 0: mismatch at $: []\n",
-        err: "",
-        status: 1,
-    },
-    Row {
-        words: VALIDATE,
-        spec: b"a = uint",
-        stream: b"\x01\x9f",
-        out: "item 1 at 0: 1\nfailed: 1 items, offset 1: truncated at byte 2\n",
-        err: "",
+        out: b"failed: 0 items, offset 0: truncated at byte 3\n",
+        err: b"",
         status: 1,
     },
     Row {
         words: VALIDATE,
         spec: b"b = bstr",
         stream: b"\x5f\xff",
-        out: "item 1 at 0: h''\nclean: 1 items, 2 bytes\n",
-        err: "",
-        status: 0,
-    },
-    Row {
-        words: VALIDATE,
-        spec: b"a = uint",
-        stream: b"\xff",
-        out: "failed: 0 items, offset 0: break not allowed at byte 0\n",
-        err: "",
-        status: 1,
-    },
-    Row {
-        words: VALIDATE,
-        spec: b"a = int",
-        stream: b"",
-        out: "",
-        err: "refused: specification not supported yet\n",
-        status: 2,
-    },
-    Row {
-        words: VALIDATE,
-        spec: b"uint = uint",
-        stream: b"",
-        out: "",
-        err: "refused: specification not supported yet\n",
-        status: 2,
-    },
-    Row {
-        words: VALIDATE,
-        spec: b"any = any",
-        stream: b"",
-        out: "",
-        err: "refused: specification not supported yet\n",
-        status: 2,
-    },
-    Row {
-        words: VALIDATE,
-        spec: b"a = uint a = uint",
-        stream: b"",
-        out: "",
-        err: "refused: specification not supported yet\n",
-        status: 2,
-    },
-    Row {
-        words: VALIDATE,
-        spec: b"a = [uint]",
-        stream: b"",
-        out: "",
-        err: "refused: specification not supported yet\n",
-        status: 2,
-    },
-    Row {
-        words: VALIDATE,
-        spec: b"",
-        stream: b"",
-        out: "",
-        err: "refused: specification not supported yet\n",
-        status: 2,
-    },
-    Row {
-        words: VALIDATE,
-        spec: b"a1 = uint",
-        stream: b"",
-        out: "",
-        err: "refused: specification not supported yet\n",
-        status: 2,
-    },
-    Row {
-        words: VALIDATE,
-        spec: b"a = uint ; c",
-        stream: b"",
-        out: "",
-        err: "refused: specification not supported yet\n",
-        status: 2,
-    },
-    Row {
-        words: VALIDATE,
-        spec: b"a  \n= \n\n uint",
-        stream: b"",
-        out: "clean: 0 items, 0 bytes\n",
-        err: "",
+        out: b"item 1 at 0: h''\nclean: 1 items, 2 bytes\n",
+        err: b"",
         status: 0,
     },
     Row {
         words: VALIDATE,
         spec: b"name=uint\n",
         stream: b"",
-        out: "clean: 0 items, 0 bytes\n",
-        err: "",
+        out: b"clean: 0 items, 0 bytes\n",
+        err: b"",
         status: 0,
     },
     Row {
         words: VALIDATE,
         spec: b"a = any",
         stream: b"\x5f\x41\x01\x61\x61\xff",
-        out: "failed: 0 items, offset 0: bad chunk at byte 3\n",
-        err: "",
+        out: b"failed: 0 items, offset 0: bad chunk at byte 3\n",
+        err: b"",
         status: 1,
     },
     Row {
         words: VALIDATE,
         spec: b"a = any",
         stream: b"\x01\x02\xf8\x10",
-        out: "item 1 at 0: 1\nitem 2 at 1: 2\nfailed: 2 items, offset 2: bad simple value at byte 3\n",
-        err: "",
+        out: b"item 1 at 0: 1\nitem 2 at 1: 2\nfailed: 2 items, offset 2: bad simple value at byte 3\n",
+        err: b"",
         status: 1,
     },
     Row {
         words: VALIDATE,
         spec: b"a = any",
         stream: b"\x01\x82\x01",
-        out: "item 1 at 0: 1\nfailed: 1 items, offset 1: truncated at byte 3\n",
-        err: "",
+        out: b"item 1 at 0: 1\nfailed: 1 items, offset 1: truncated at byte 3\n",
+        err: b"",
         status: 1,
     },
     Row {
         words: VALIDATE,
         spec: b"a = any",
         stream: b"\xa2\x01\x02\x18\x01\x03",
-        out: "failed: 0 items, offset 0: duplicate key at place 3\n",
-        err: "",
+        out: b"failed: 0 items, offset 0: duplicate key at place 3\n",
+        err: b"",
         status: 1,
     },
     Row {
         words: VALIDATE_SHORT,
         spec: b"a = any",
         stream: b"\x83\x01\x02\x03",
-        out: "failed: 0 items, offset 0: item too long at byte 3\n",
-        err: "",
+        out: b"failed: 0 items, offset 0: item too long at byte 3\n",
+        err: b"",
         status: 1,
     },
     Row {
         words: VALIDATE_SHORT,
         spec: b"a = any",
         stream: b"\x83\x01\x02",
-        out: "failed: 0 items, offset 0: item too long at byte 3\n",
-        err: "",
+        out: b"failed: 0 items, offset 0: item too long at byte 3\n",
+        err: b"",
         status: 1,
     },
     Row {
         words: VALIDATE_SHORT,
         spec: b"a = any",
         stream: b"\x83\x01\x02\xff",
-        out: "failed: 0 items, offset 0: break not allowed at byte 3\n",
-        err: "",
+        out: b"failed: 0 items, offset 0: break not allowed at byte 3\n",
+        err: b"",
         status: 1,
     },
     Row {
         words: VALIDATE,
         spec: b"a = any",
         stream: b"\x7f\x61\xc3\x61\xa9\xff",
-        out: "failed: 0 items, offset 0: text is not UTF-8 at byte 1\n",
-        err: "",
+        out: b"failed: 0 items, offset 0: text is not UTF-8 at byte 1\n",
+        err: b"",
         status: 1,
     },
     Row {
         words: VALIDATE,
         spec: b"a = any",
         stream: b"\x9b\xff\xff\xff\xff\xff\xff\xff\xff",
-        out: "failed: 0 items, offset 0: truncated at byte 9\n",
-        err: "",
+        out: b"failed: 0 items, offset 0: truncated at byte 9\n",
+        err: b"",
         status: 1,
     },
     Row {
         words: SHOW,
         spec: b"ignored",
         stream: b"\x9f\x01\xbf\x61\x61\xff",
-        out: "failed: 0 items, offset 0: break not allowed at byte 5\n",
-        err: "",
-        status: 1,
-    },
-    Row {
-        words: SHOW,
-        spec: b"ignored",
-        stream: b"\xc1\xff",
-        out: "failed: 0 items, offset 0: break not allowed at byte 1\n",
-        err: "",
-        status: 1,
-    },
-    Row {
-        words: SHOW,
-        spec: b"ignored",
-        stream: b"\x5f\x5c",
-        out: "failed: 0 items, offset 0: reserved additional information at byte 1\n",
-        err: "",
-        status: 1,
-    },
-    Row {
-        words: SHOW,
-        spec: b"ignored",
-        stream: b"\x5f\x7c",
-        out: "failed: 0 items, offset 0: bad chunk at byte 1\n",
-        err: "",
+        out: b"failed: 0 items, offset 0: break not allowed at byte 5\n",
+        err: b"",
         status: 1,
     },
     Row {
         words: SHOW,
         spec: b"ignored",
         stream: b"\x5f\x41\x01\x5f",
-        out: "failed: 0 items, offset 0: bad chunk at byte 3\n",
-        err: "",
+        out: b"failed: 0 items, offset 0: bad chunk at byte 3\n",
+        err: b"",
         status: 1,
     },
     Row {
         words: SHOW,
         spec: b"ignored",
         stream: b"\x7f\x61\x61\x60\x61\x62\xff",
-        out: "item 1 at 0: \"ab\"\nclean: 1 items, 7 bytes\n",
-        err: "",
+        out: b"item 1 at 0: \"ab\"\nclean: 1 items, 7 bytes\n",
+        err: b"",
         status: 0,
     },
     Row {
         words: SHOW,
         spec: b"ignored",
         stream: b"\xbf\x01\x9f\x02\xff\xc0\x60\xf4\xff",
-        out: "item 1 at 0: {1: [2], 0(\"\"): false}\nclean: 1 items, 9 bytes\n",
-        err: "",
+        out: b"item 1 at 0: {1: [2], 0(\"\"): false}\nclean: 1 items, 9 bytes\n",
+        err: b"",
         status: 0,
     },
     Row {
         words: SHOW,
         spec: b"ignored",
         stream: b"\x82\x61\xff\x1c",
-        out: "failed: 0 items, offset 0: reserved additional information at byte 3\n",
-        err: "",
+        out: b"failed: 0 items, offset 0: reserved additional information at byte 3\n",
+        err: b"",
         status: 1,
     },
     Row {
         words: SHOW,
         spec: b"ignored",
         stream: b"\x82\x61\xff\x00",
-        out: "failed: 0 items, offset 0: text is not UTF-8 at byte 1\n",
-        err: "",
+        out: b"failed: 0 items, offset 0: text is not UTF-8 at byte 1\n",
+        err: b"",
         status: 1,
     },
     Row {
         words: SHOW,
         spec: b"ignored",
         stream: b"\x82\x61\xff",
-        out: "failed: 0 items, offset 0: truncated at byte 3\n",
-        err: "",
+        out: b"failed: 0 items, offset 0: truncated at byte 3\n",
+        err: b"",
         status: 1,
     },
     Row {
         words: SHOW,
         spec: b"ignored",
         stream: b"\xa3\x01\x00\x01\x00\x61\xff\x00",
-        out: "failed: 0 items, offset 0: text is not UTF-8 at byte 5\n",
-        err: "",
-        status: 1,
-    },
-    Row {
-        words: SHOW_SHALLOW,
-        spec: b"ignored",
-        stream: b"\x81\x80",
-        out: "failed: 0 items, offset 0: too deep at byte 1\n",
-        err: "",
+        out: b"failed: 0 items, offset 0: text is not UTF-8 at byte 5\n",
+        err: b"",
         status: 1,
     },
     Row {
         words: SHOW,
         spec: b"ignored",
         stream: b"\xa2\xa2\x01\x02\x03\x04\x00\xa2\x03\x04\x01\x02\x00",
-        out: "item 1 at 0: {{1: 2, 3: 4}: 0, {3: 4, 1: 2}: 0}\nclean: 1 items, 13 bytes\n",
-        err: "",
+        out: b"item 1 at 0: {{1: 2, 3: 4}: 0, {3: 4, 1: 2}: 0}\nclean: 1 items, 13 bytes\n",
+        err: b"",
         status: 0,
     },
     Row {
         words: SHOW,
         spec: b"ignored",
         stream: b"\xf9\x3c\x00\xfa\x00\x00\x00\x01\xfb\x7f\xf0\x00\x00\x00\x00\x00\x00",
-        out: "item 1 at 0: f16'3c00'\nitem 2 at 3: f32'00000001'\nitem 3 at 8: f64'7ff0000000000000'\nclean: 3 items, 17 bytes\n",
-        err: "",
+        out: b"item 1 at 0: f16'3c00'\nitem 2 at 3: f32'00000001'\nitem 3 at 8: f64'7ff0000000000000'\nclean: 3 items, 17 bytes\n",
+        err: b"",
         status: 0,
     },
     Row {
         words: SHOW,
         spec: b"ignored",
         stream: b"\xf5\xf6\xf7\xe0\xf8\xff",
-        out: "item 1 at 0: true\nitem 2 at 1: null\nitem 3 at 2: undefined\nitem 4 at 3: simple(0)\nitem 5 at 4: simple(255)\nclean: 5 items, 6 bytes\n",
-        err: "",
+        out: b"item 1 at 0: true\nitem 2 at 1: null\nitem 3 at 2: undefined\nitem 4 at 3: simple(0)\nitem 5 at 4: simple(255)\nclean: 5 items, 6 bytes\n",
+        err: b"",
         status: 0,
     },
 ];
 
+// A proof that names the table itself unfolds all of it at each of its steps.
+fn rows() -> &'static [Row] {
+    &ROWS
+}
+
 #[test]
 fn answers_the_rows_at_every_cut(rt: HostRuntime) -> Result<(), Fail> {
     let alloc = rt.alloc();
-    for row in ROWS.iter() {
+    for row in rows() {
         for cut in 1..row.stream.len().max(1) + 1 {
             let source = Source::cut(row.stream, cut);
             let sink = Sink::new(alloc, 1000, true);
             let outcome = performed(alloc, row.words, row.spec, source, sink)?;
-            assert_eq!(rt; outcome.status, row.status);
-            assert!(rt; outcome.out.as_slice() == row.out.as_bytes());
-            assert!(rt; outcome.err.as_slice() == row.err.as_bytes());
+            assert_outcome(&rt, &outcome, row.status, row.out, row.err);
         }
     }
     Ok(())
 }
 
 // How many bytes are read before a read fails, and what goes out by then.
-static CUT_OFF: [(usize, &str, &str); 4] = [
-    (0, "", "read failed after 0 items\n"),
-    (1, "item 1 at 0: 23\n", "read failed after 1 items\n"),
-    (2, "item 1 at 0: 23\n", "read failed after 1 items\n"),
+static CUT_OFF: [(usize, &[u8], &[u8]); 4] = [
+    (0, b"", b"read failed after 0 items\n"),
+    (1, b"item 1 at 0: 23\n", b"read failed after 1 items\n"),
+    (2, b"item 1 at 0: 23\n", b"read failed after 1 items\n"),
     (
         3,
-        "item 1 at 0: 23\nitem 2 at 1: 24\n",
-        "read failed after 2 items\n",
+        b"item 1 at 0: 23\nitem 2 at 1: 24\n",
+        b"read failed after 2 items\n",
     ),
 ];
 
@@ -474,9 +322,7 @@ fn tells_of_a_reader_that_fails(rt: HostRuntime) -> Result<(), Fail> {
         let source = Source::failing(b"\x17\x18\x18", *reads, ErrorKind::Other);
         let sink = Sink::new(alloc, 1000, true);
         let outcome = performed(alloc, VALIDATE, b"a = uint", source, sink)?;
-        assert_eq!(rt; outcome.status, BROKEN);
-        assert!(rt; outcome.out.as_slice() == out.as_bytes());
-        assert!(rt; outcome.err.as_slice() == err.as_bytes());
+        assert_outcome(&rt, &outcome, BROKEN, *out, *err);
     }
     Ok(())
 }
@@ -491,9 +337,13 @@ fn tells_of_a_writer_that_fails(rt: HostRuntime) -> Result<(), Fail> {
             let sink = Sink::new(alloc, room, fails);
             let outcome = performed(alloc, VALIDATE, b"a = uint", source, sink)?;
             let line = format!(in alloc; "write failed after {room} bytes\n")?;
-            assert_eq!(rt; outcome.status, BROKEN);
-            assert!(rt; outcome.out.as_slice() == &whole[..room]);
-            assert!(rt; outcome.err.as_slice() == line.as_str().as_bytes());
+            assert_outcome(
+                &rt,
+                &outcome,
+                BROKEN,
+                &whole[..room],
+                line.as_str().as_bytes(),
+            );
         }
     }
     Ok(())
