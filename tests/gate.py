@@ -1,5 +1,6 @@
 #!/usr/bin/env python3
-"""The whole gate: every proof and test from nothing by 'rt ci', then the rows on the programs that it built.
+"""The whole gate: every proof and test from nothing by 'rt ci', then the wrong bodies that are tried many in one check,
+and the rows on the programs that were built.
 
     gate.py [--rt COMMAND] [--quick]
 
@@ -22,6 +23,8 @@ from concurrent.futures import ThreadPoolExecutor
 import recognizer
 from run_grammar import run_grammar
 from run_rows import TOP, run_rows
+from test_wrong_edits import run_tests
+from wrong_edits import run_wrong
 
 PROVED = os.path.join(TOP, "crates", "cddlseq", "out", "cddlseq")
 OUTLINE = os.path.join(TOP, "crates", "cddl_outline", "out", "cddl_outline")
@@ -34,6 +37,9 @@ COUNT = re.compile(r"(\d+) passed, (\d+) failed")
 def proofs(rt):
     """Runs 'rt ci', passes its lines on, and returns how many passed and failed; a run without a count is a failure."""
     last = ""
+    for kept in glob.glob(f"{TOP}/crates/*/out/rlib"):
+        # what an earlier check built would be put back in place of what this run proves
+        shutil.rmtree(kept)
     try:
         run = subprocess.Popen([*shlex.split(rt), "ci"], cwd=TOP, stdout=subprocess.PIPE, text=True, errors="replace")
     except OSError as error:
@@ -86,6 +92,15 @@ def crate_of(program):
     return os.path.dirname(os.path.dirname(program))
 
 
+def wrong_bodies(rt):
+    """Tries crates/*/wrong over the libraries that 'rt ci' proved just now, and returns how many passed and failed."""
+    print("== wrong bodies, many in one check", flush=True)
+    counts = [run_tests(rt), run_wrong(rt)]
+    for name, (passed, failed) in zip(("tests of tests/wrong_edits.py", "wrong bodies"), counts):
+        print(f"{name}: {passed} passed, {failed} failed", flush=True)
+    return sum(it for it, _ in counts), sum(it for _, it in counts)
+
+
 def rows():
     """Runs the rows on the programs that were proved just now, and returns how many passed and failed."""
     os.makedirs(os.path.dirname(PROGRAM), exist_ok=True)
@@ -114,6 +129,9 @@ def main():
         print("the rows on the built programs are not run: there is no proved program")
         failed = max(failed, 1)
     else:
+        if not words.quick:
+            more, bad = wrong_bodies(words.rt)
+            passed, failed = passed + more, failed + bad
         more, bad = rows()
         passed, failed = passed + more, failed + bad
     print(f"{passed} passed, {failed} failed")

@@ -1,0 +1,222 @@
+#!/usr/bin/env python3
+"""Tests of wrong_edits.py: of functions.py on a text, and of whole runs on a small repository that is made for it.
+
+    test_wrong_edits.py [--rt COMMAND]
+
+The last line is 'N passed, M failed', and the status is 0 only where none failed.
+"""
+import argparse
+import os
+import shutil
+import subprocess
+import sys
+import tempfile
+
+from functions import functions_of
+
+HERE = os.path.dirname(os.path.abspath(__file__))
+SOURCES = {
+    "src/lib.rt": """\
+// Small functions, to be edited.
+#![tactic(auto)]
+
+pub mod left;
+pub mod right;
+
+ghost use Rattle.std.specs.Prelude.{◌≡◌};
+
+/// A way of some steps.
+#[derive(Drop)]
+pub struct Near {
+    steps: u32,
+}
+
+/// A way of some paces.
+#[derive(Drop)]
+pub struct Far {
+    paces: u32,
+}
+
+impl Near {
+    /// How long it is.
+    pub fn length(&self) -> u32
+        ensures { result ≡ self.now.steps }
+    {
+        self.steps
+    }
+}
+
+impl Far {
+    /// How long it is.
+    pub fn length(&self) -> u32
+        ensures { result ≡ self.now.paces }
+    {
+        self.paces
+    }
+}
+
+/// The number 1.
+pub fn one() -> u32
+    ensures { result ≡ 1 }
+{
+    1
+}
+
+/// The number 2.
+pub fn two() -> u32
+    ensures { result ≡ 2 }
+{
+    one() + 1
+}
+""",
+    "src/left.rt": """\
+//! One side.
+
+ghost use Rattle.std.specs.Prelude.{◌≡◌};
+
+/// The number of this side.
+pub fn side() -> u32
+    ensures { result ≡ 1 }
+{
+    1
+}
+""",
+    "src/right.rt": """\
+//! The other side.
+
+ghost use Rattle.std.specs.Prelude.{◌≡◌};
+
+/// The number of this side.
+pub fn side() -> u32
+    ensures { result ≡ 2 }
+{
+    2
+}
+""",
+}
+# Each edit by its name: the file, the old and the new text, and what is to be said of it.
+EDITS = {
+    "near_is_halved": ("src/lib.rt", "self.steps", "self.steps / 2", "refused, as it must be"),
+    # the method of another type has the same name
+    "far_stays": ("src/lib.rt", "self.paces", "0 + self.paces", "NOT REFUSED"),
+    "one_is_nought": ("src/lib.rt", "    1", "    0", "refused, as it must be"),
+    # it calls what is refused beside it
+    "two_stays": ("src/lib.rt", "one() + 1", "1 + one()", "NOT REFUSED"),
+    # two edits of one function, whose name another module has too
+    "left_is_two": ("src/left.rt", "    1", "    2", "refused, as it must be"),
+    "left_stays": ("src/left.rt", "    1", "    0 + 1", "NOT REFUSED"),
+    "near_has_no_paces": ("src/lib.rt", "self.steps", "self.paces", "BAD EDIT"),
+    "right_is_not_three": ("src/right.rt", "    3", "    2", "BAD EDIT"),
+}
+SHAPES = """\
+pub fn law()
+    ensures { ⊤ }
+{}
+
+const fn four() -> u8 {
+    4
+}
+
+#[cycle(ring)]
+pub(crate) fn long(
+    first: u8,
+) -> u8
+    requires { first ≤ 3 }
+{
+    first
+}
+
+impl<T: Ord> From<Vec<T>> for Pile<T> {
+    fn from(of: Vec<T>) -> Pile<T> {
+        Pile { of }
+    }
+}
+
+trait Tall {
+    fn height(&self) -> u8;
+
+    fn twice(&self) -> u8 {
+        self.height()
+    }
+}
+
+mod inner {
+    pub fn long() -> u8 {
+        5
+    }
+}
+"""
+
+
+def run_on_functions():
+    """Whether the functions of a text have their names, their lines and their cycles."""
+    texts = {"src/deep/shape.rt": SHAPES, "src/pile.rt": "pub struct Pile<T> {\n    of: Vec<T>,\n}\n"}
+    found = {(it.path, it.opens, it.last, it.cycle, it.is_const) for it in functions_of(texts)}
+    wanted = {
+        (("deep", "shape", "law"), 2, 2, "", False),
+        (("deep", "shape", "four"), 4, 6, "", True),
+        (("deep", "shape", "long"), 13, 15, "ring", False),
+        (("pile", "PileFromVec", "from"), 18, 20, "", False),
+        ((), 26, 28, "", False),
+        (("deep", "shape", "inner", "long"), 32, 34, "", False),
+    }
+    for it in found ^ wanted:
+        print(f"a function is {'not ' if it in wanted else ''}found: {it}")
+    names = {it.path: it for it in functions_of(texts)}
+    closure = "pile::fn::PileFromVec::from::map+FnMut::call_mut"
+    return found == wanted and [it for it in names if it and names[it].is_named(closure)] == [("pile", "PileFromVec", "from")]
+
+
+def write(folder, edits):
+    """Writes a repository with the crate 'sample' and these of its edits."""
+    shutil.rmtree(f"{folder}/crates", ignore_errors=True)
+    for file, text in SOURCES.items():
+        os.makedirs(f"{folder}/crates/sample/src", exist_ok=True)
+        with open(f"{folder}/crates/sample/{file}", "w", encoding="utf-8") as it:
+            it.write(text)
+    os.makedirs(f"{folder}/crates/sample/wrong")
+    for name in edits:
+        file, old, new, _ = EDITS[name]
+        with open(f"{folder}/crates/sample/wrong/{name}.edit", "w", encoding="utf-8") as it:
+            it.write(f"file: {file}\nold: {old}\nnew: {new}\n")
+    with open(f"{folder}/crates.txt", "w", encoding="utf-8") as it:
+        it.write("sample:\n")
+    os.makedirs(f"{folder}/tests", exist_ok=True)
+    for name in ("wrong_edits.py", "functions.py"):
+        shutil.copy(f"{HERE}/{name}", f"{folder}/tests/{name}")
+
+
+def run(rt, folder, edits):
+    """Runs these edits, and returns whether each line, the count and the status are as they are to be."""
+    write(folder, edits)
+    words = [sys.executable, "-B", f"{folder}/tests/wrong_edits.py", "--rt", rt]
+    ran = subprocess.run(words, stdin=subprocess.DEVNULL, stdout=subprocess.PIPE, stderr=subprocess.STDOUT, text=True)
+    good = sum(EDITS[it][3].startswith("refused") for it in edits)
+    lines = {it.split(":")[0]: it for it in ran.stdout.split("\n") if it.startswith("wrong ")}
+    is_right = {it: lines.get(f"wrong sample/{it}.edit", "").startswith(f"wrong sample/{it}.edit: {EDITS[it][3]}") for it in edits}
+    is_right["count"] = ran.stdout.split("\n")[-2:] == [f"{good} passed, {len(edits) - good} failed", ""]
+    is_right["status"] = ran.returncode == (1 if good < len(edits) else 0)
+    wrong = [it for it in is_right if not is_right[it]]
+    if wrong:
+        print(f"not as it is to be: {', '.join(wrong)}\n{ran.stdout}", end="")
+    return not wrong
+
+
+def run_tests(rt):
+    """Runs all tests, and returns how many passed and failed."""
+    with tempfile.TemporaryDirectory(prefix="wrong-test-") as folder:
+        os.makedirs(f"{folder}/.git")
+        done = [run_on_functions(), run(rt, folder, list(EDITS)), run(rt, folder, [])]
+    return sum(done), len(done) - sum(done)
+
+
+def main():
+    words = argparse.ArgumentParser(description="Tests wrong_edits.py.")
+    words.add_argument("--rt", default="rt", help="the command of the Rattle toolchain")
+    passed, failed = run_tests(words.parse_args().rt)
+    print(f"{passed} passed, {failed} failed")
+    return 1 if failed else 0
+
+
+if __name__ == "__main__":
+    sys.exit(main())
