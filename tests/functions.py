@@ -4,7 +4,7 @@ In that layout the body of a function is opened at the end of a line of its head
 it, and ends at the first line with the head's indentation and then '}'.
 """
 import re
-from dataclasses import dataclass
+from dataclasses import dataclass, replace
 
 HEAD = re.compile(r"( *)(?:pub(?:\([^)]*\))? )?((?:const |unsafe |extern \"C\" )*)fn (\w+)")
 BLOCK = re.compile(r"( *)(?:pub(?:\([^)]*\))? )?(?:unsafe )?(impl|trait|mod)\b")
@@ -14,7 +14,8 @@ CYCLE = re.compile(r" *#\[cycle\((\w+)\)\]")
 
 @dataclass(frozen=True)
 class Function:
-    """A function with a body, which begins behind the line 'opens' and ends at the line 'last', counted from 0.
+    """A function with a body. It begins at the line 'first' with what stands above its head, and has its head at 'head';
+    its body begins behind the line 'opens' and ends at 'last', all counted from 0.
 
     The path is what a check prints below the crate: modules, the type or impl of a method, and the name. It is empty where
     the text does not tell it, as for a body in a trait, which each impl takes over."""
@@ -22,10 +23,13 @@ class Function:
     file: str
     name: str
     path: tuple
+    first: int
+    head: int
     opens: int
     last: int
     cycle: str
     is_const: bool
+    is_of_trait: bool
 
     def is_named(self, symbol):
         """Tells whether a name in a check's lines, less the crate, is of this function or of a closure in it."""
@@ -35,6 +39,10 @@ class Function:
     def depth(self):
         """How many words of the path stand behind the modules."""
         return 2 if len(self.path) > 1 and self.path[-2][:1].isupper() else 1
+
+    def called(self, name):
+        """This function under another name, where it stands."""
+        return replace(self, name=name, path=(*self.path[:-1], name))
 
     def holds(self, file, hunk):
         """Tells whether all lines of a change stand in the body."""
@@ -70,7 +78,9 @@ def in_file(file, lines, homes):
             opens, last = body_of(lines, at, head[1])
             if last is not None:
                 path = path_of(module_of(file), blocks, head[3], homes)
-                found.append(Function(file, head[3], path, opens, last, cycle_of(lines, at), "const" in head[2]))
+                first, cycle = above(lines, at)
+                is_of_trait = any(kind == "trait" or " for " in words for _, kind, words in blocks)
+                found.append(Function(file, head[3], path, first, at, opens, last, cycle, "const" in head[2], is_of_trait))
                 at = last
         elif block:
             opens, last = body_of(lines, at, block[1])
@@ -127,12 +137,11 @@ def impl_of(head):
     return kind, kind + "".join(it for it in re.findall(r"\b[A-Z]\w*", trait) if it not in own)
 
 
-def cycle_of(lines, at):
-    """The cycle of calls that an attribute above the function's head names, or an empty text."""
-    for line in reversed(lines[:at]):
-        if not line.strip().startswith(("#[", "//")):
-            break
-        found = CYCLE.match(line)
-        if found:
-            return found[1]
-    return ""
+def above(lines, at):
+    """The first line of what stands above the function's head, and the cycle of calls that it names, or an empty text."""
+    first, cycle = at, ""
+    while first and lines[first - 1].strip() and not lines[first - 1].rstrip().endswith(("{", "}", ";")):
+        first -= 1
+        found = CYCLE.match(lines[first])
+        cycle = found[1] if found else cycle
+    return first, cycle

@@ -46,6 +46,14 @@ impl Near {
     }
 }
 
+impl From<u32> for Near {
+    fn from(steps: u32) -> Near
+        ensures { result.steps ≡ steps }
+    {
+        Near { steps }
+    }
+}
+
 impl Far {
     /// How long it is.
     pub fn length(&self) -> u32
@@ -97,6 +105,8 @@ pub fn side() -> u32
 # Each edit by its name: the file, the old and the new text, and what is to be said of it.
 EDITS = {
     "near_is_halved": ("src/lib.rt", "self.steps", "self.steps / 2", "refused, as it must be"),
+    # a method of a trait, which is edited where it stands
+    "from_is_halved": ("src/lib.rt", "Near { steps }", "Near { steps: steps / 2 }", "refused, as it must be"),
     # the method of another type has the same name
     "far_stays": ("src/lib.rt", "self.paces", "0 + self.paces", "NOT REFUSED"),
     "one_is_nought": ("src/lib.rt", "    1", "    0", "refused, as it must be"),
@@ -151,14 +161,14 @@ mod inner {
 def run_on_functions():
     """Whether the functions of a text have their names, their lines and their cycles."""
     texts = {"src/deep/shape.rt": SHAPES, "src/pile.rt": "pub struct Pile<T> {\n    of: Vec<T>,\n}\n"}
-    found = {(it.path, it.opens, it.last, it.cycle, it.is_const) for it in functions_of(texts)}
+    found = {(it.path, it.first, it.opens, it.last, it.cycle, it.is_of_trait) for it in functions_of(texts)}
     wanted = {
-        (("deep", "shape", "law"), 2, 2, "", False),
-        (("deep", "shape", "four"), 4, 6, "", True),
-        (("deep", "shape", "long"), 13, 15, "ring", False),
-        (("pile", "PileFromVec", "from"), 18, 20, "", False),
-        ((), 26, 28, "", False),
-        (("deep", "shape", "inner", "long"), 32, 34, "", False),
+        (("deep", "shape", "law"), 0, 2, 2, "", False),
+        (("deep", "shape", "four"), 4, 4, 6, "", False),
+        (("deep", "shape", "long"), 8, 13, 15, "ring", False),
+        (("pile", "PileFromVec", "from"), 18, 18, 20, "", True),
+        ((), 26, 26, 28, "", True),
+        (("deep", "shape", "inner", "long"), 32, 32, 34, "", False),
     }
     for it in found ^ wanted:
         print(f"a function is {'not ' if it in wanted else ''}found: {it}")

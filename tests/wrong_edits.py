@@ -16,6 +16,7 @@ import os
 import re
 import shlex
 import shutil
+import subprocess
 import sys
 import tempfile
 from concurrent.futures import ThreadPoolExecutor, as_completed
@@ -49,19 +50,21 @@ def hunks(old, new):
     return [(i, j, b[k:m]) for tag, i, j, k, m in found if tag != "equal"]
 
 
+def with_hunks(lines, found):
+    """The lines with these changes, no two of which are of one line."""
+    made = list(lines)
+    for first, behind, new in sorted(found, key=lambda it: it[0], reverse=True):
+        made[first:behind] = new
+    return made
+
+
 def together(edits, sources):
-    """The texts of the files with all of these edits, no two of which change one line."""
+    """The texts of the files with all of these edits."""
     parts = collections.defaultdict(list)
     for edit in edits:
         for file, found in edit.hunks.items():
             parts[file] += found
-    texts = {}
-    for file, found in parts.items():
-        lines = sources[file].split("\n")
-        for first, behind, new in sorted(found, key=lambda it: it[0], reverse=True):
-            lines[first:behind] = new
-        texts[file] = "\n".join(lines)
-    return texts
+    return {file: "\n".join(with_hunks(sources[file].split("\n"), found)) for file, found in parts.items()}
 
 
 def words_in(lines):
@@ -113,15 +116,60 @@ class Trial:
         told = [(False, f"{self.label(it)}: BAD EDIT: {why}") for it in bad]
         edits = [Edit(self, it) for it in good]
         with tempfile.TemporaryDirectory(prefix="wrong-") as kept:
-            refused = self.try_in_turns([it for it in edits if it.function], kept)
-            alone = self.try_alone([it for it in edits if it not in refused], kept)
+            refused = self.try_beside([it for it in edits if it.function and self.can_stand_beside(it.function)], kept)
+            refused.update(self.try_in_turns([it for it in edits if it.function and it not in refused], kept))
+            alone = self.try_alone([it for it in edits if not refused.get(it)], kept)
         for edit in edits:
             told.append(alone.get(edit) or (True, f"{self.label(edit.path)}: refused, as it must be: {refused[edit][:160]}"))
         return told
 
+    def can_stand_beside(self, function):
+        """Whether a copy under another name has the same goals: a method of a trait, or one that calls itself, does not."""
+        body = "\n".join(self.sources[function.file].split("\n")[function.opens + 1 : function.last])
+        calls_itself = re.search(rf"(?:(?<![\w.:])|\b[Ss]elf(?:\.|::)){function.name}\(", body)
+        return not (function.cycle or function.is_of_trait or calls_itself or self.crate.is_program)
+
+    def try_beside(self, edits, kept):
+        """What one check says of each edit, made in a copy of its function that stands beside it, under another name: an
+        empty text where that is proved. An edit is left out where a copy without an edit is not proved too."""
+        if not edits:
+            return {}
+        copies = self.copies(edits)
+        is_whole, found = self.check(self.with_copies(copies), [it for _, _, it in copies], kept)
+        said = {copy: [(words, why) for of, words, why in found if of == copy] for _, _, copy in copies}
+        if not is_whole or not all(words == "proved" for of, words, _ in found if of not in said):
+            half = len(edits) // 2
+            return {**self.try_beside(edits[:half], kept), **self.try_beside(edits[half:], kept)} if half else {}
+        proved = {of for edit, of, copy in copies if not edit and said[copy] and all(it == "proved" for it, _ in said[copy])}
+        why = {edit: next((why for it, why in said[copy] if IS_REFUSED.match(it)), "") for edit, of, copy in copies if of in proved}
+        return {edit: it for edit, it in why.items() if edit}
+
+    def copies(self, edits):
+        """Of each edited function a copy without an edit and one with each edit: the edit, the function and the copy."""
+        found = []
+        for of in dict.fromkeys(it.function for it in edits):
+            own = [None, *(it for it in edits if it.function == of)]
+            found += [(edit, of, of.called(f"{of.name}_tried_{at}")) for at, edit in enumerate(own)]
+        return found
+
+    def with_copies(self, copies):
+        """The texts of the files with these copies, each right behind its function, and of the copies' proofs."""
+        lines, texts = {file: text.split("\n") for file, text in self.sources.items()}, {}
+        for edit, of, copy in sorted(copies, key=lambda it: it[1].last, reverse=True):
+            old = self.sources[of.file].split("\n")
+            new = with_hunks(old, edit.hunks[of.file]) if edit else old
+            item = new[of.first : of.last + 1 + len(new) - len(old)]
+            item[of.head - of.first] = re.sub(rf"\bfn {of.name}\b", f"fn {copy.name}", item[of.head - of.first], count=1)
+            lines[of.file][of.last + 1 : of.last + 1] = ["", *item]
+            inside = f"proofs/{of.proof().replace('.', '/')}/"
+            for file in (it for it in self.proofs if it.startswith(inside)):
+                to = f"proofs/{copy.proof().replace('.', '/')}/{file[len(inside) :]}"
+                texts[to] = self.proofs[file].replace(f"proofs.{of.proof()}.", f"proofs.{copy.proof()}.")
+        return {**texts, **{file: "\n".join(it) for file, it in lines.items()}}
+
     def try_in_turns(self, edits, kept):
-        """What a check says of each edit that it refuses. The first turn has an edit of each function: where a callee is
-        refused, goals of a caller are not tried, and so the later ones have no function beside those that it calls."""
+        """What checks say of each edit that they refuse, made where it stands. The first has an edit of each function. Where
+        a callee is refused, goals of its callers are not tried: so the later ones have no function beside those it calls."""
         refused = self.try_together(apart(edits, lambda it, other: False), kept)
         left = [it for it in edits if it not in refused]
         while left:
@@ -141,35 +189,35 @@ class Trial:
         """What the check says of each edit that it refuses by the edited function, with all of these edits made."""
         if not edits:
             return {}
-        texts = together(edits, self.sources)
-        names = [f"{self.crate.name}::{'::'.join(it.function.path)}" for it in edits]
-        flags = [*ONE_JOB, *(word for name in names for word in ("--only", name))]
-        ran = self.kit.checked(self.crate, texts, flags, kept)
-        lines = ran.stdout.rstrip("\n").split("\n")
-        found = self.said(lines)
+        is_whole, found = self.check(together(edits, self.sources), [it.function for it in edits], kept)
         groups = {it.function.group() for it in edits}
-        is_clear = ran.returncode in (0, 1) and lines[-1].startswith("only=") and not any(self.kit.unread(it, texts) for it in lines)
+        found = [(of and of.group(), said, why) for of, said, why in found]
         # what stands as it was is never refused for itself: else one edit reaches into another's function
-        is_clear = is_clear and all(of in groups or said == "proved" or RESTS.match(said) for of, said, _ in found)
+        is_clear = is_whole and all(of in groups or said == "proved" or RESTS.match(said) for of, said, _ in found)
         if not is_clear and len(edits) > 1:
             half = len(edits) // 2
             return {**self.try_together(edits[:half], kept), **self.try_together(edits[half:], kept)}
-        why = {of: because for of, said, because in found if IS_REFUSED.match(said)}
-        return {it: why[it.function.group()] for it in edits if it.function.group() in why}
+        whys = {of: why for of, said, why in found if IS_REFUSED.match(said)}
+        return {it: whys[it.function.group()] for it in edits if it.function.group() in whys}
 
-    def said(self, lines):
-        """Of each line on a function: its group, what is said, and why: the note above, or an error in its proof."""
+    def check(self, texts, functions, kept):
+        """Checks these functions and what they call, and returns whether the check went through, and of each line on a
+        function the function, what is said, and why: the note above, or an error in its proof."""
+        flags = [*ONE_JOB, *(word for it in functions for word in ("--only", "::".join([self.crate.name, *it.path])))]
+        ran = checked(self.kit, self.crate, texts, flags, kept)
+        lines = ran.stdout.rstrip("\n").split("\n")
+        is_whole = ran.returncode in (0, 1) and lines[-1].startswith("only=") and not any(self.kit.unread(it, ()) for it in lines)
         found, note = [], ""
         for line in lines:
             line_of = LINE.match(line)
             if line_of:
                 name = line_of[1].removeprefix(f"{self.crate.name}::")
-                one = next((it for it in self.functions if it.is_named(name)), None)
+                one = next((it for it in [*functions, *self.functions] if it.is_named(name)), None)
                 inside = f"proofs/{one.proof().replace('.', '/')}/" if one else None
                 error = next((it for it in lines if inside and it.removeprefix("./").startswith(inside) and ": error: " in it), "")
-                found.append((one and one.group(), line_of[2], note or error or line_of[2]))
+                found.append((one, line_of[2], note or error or line_of[2]))
             note = "" if line_of else note or (line if NOTE.match(line) else "")
-        return found
+        return is_whole, found
 
     def try_alone(self, edits, kept):
         """What the kit says of each edit, tried as its own are: over the turns' work where the crate itself is proved so."""
@@ -187,6 +235,21 @@ class Trial:
             found |= left
             left = {word for it in self.functions if it.name in left for word in self.words[it]} - found
         return found
+
+
+def checked(kit, crate, texts, flags, kept):
+    """Checks a copy of the crate with these texts, as the kit does, over what kept holds. A text's folder may be new."""
+    with tempfile.TemporaryDirectory(prefix="wrong-crate-") as room:
+        for part in kit.rtlib.PARTS:
+            if os.path.isdir(f"{crate.folder}/{part}"):
+                shutil.copytree(f"{crate.folder}/{part}", f"{room}/{part}")
+        for path, text in texts.items():
+            os.makedirs(os.path.dirname(f"{room}/{path}"), exist_ok=True)
+            with open(f"{room}/{path}", "w", encoding="utf-8") as it:
+                it.write(text)
+        words = [kit.rtlib.RATTLE, "check", *crate.words(flags, keeps=False), "--incremental", kept]
+        how = {"cwd": room, "stdin": subprocess.DEVNULL, "stdout": subprocess.PIPE, "stderr": subprocess.STDOUT, "errors": "replace"}
+        return subprocess.run([*kit.rtlib.guarded(), *words], **how)
 
 
 def texts_below(folder, part, ending):
