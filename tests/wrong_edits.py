@@ -116,12 +116,28 @@ class Trial:
         told = [(False, f"{self.label(it)}: BAD EDIT: {why}") for it in bad]
         edits = [Edit(self, it) for it in good]
         with tempfile.TemporaryDirectory(prefix="wrong-") as kept:
-            refused = self.try_beside([it for it in edits if it.function and self.can_stand_beside(it.function)], kept)
-            refused.update(self.try_in_turns([it for it in edits if it.function and it not in refused], kept))
+            refused = self.try_many([it for it in edits if it.function], kept)
             alone = self.try_alone([it for it in edits if not refused.get(it)], kept)
         for edit in edits:
             told.append(alone.get(edit) or (True, f"{self.label(edit.path)}: refused, as it must be: {refused[edit][:160]}"))
         return told
+
+    def try_many(self, edits, kept):
+        """What checks of many edits say of each that they refuse. The first has an edit of each function, where it stands.
+        There a caller's goals are not all tried where a callee is refused, and so what is left is tried in other ways."""
+        refused = self.try_together(apart(edits, lambda it, other: False), kept)
+        left = [it for it in edits if it not in refused]
+        refused.update(self.try_beside([it for it in left if self.can_stand_beside(it.function)], kept))
+        left = [it for it in left if it not in refused]
+        while left:
+            turn = apart(left, self.reaches)
+            refused.update(self.try_together(turn, kept))
+            left = [it for it in left if it not in turn]
+        return refused
+
+    def reaches(self, edit, other):
+        """Whether the one edit's function calls the other's, itself or through others, as far as their names tell."""
+        return other.function.name in self.words_below(edit.words)
 
     def can_stand_beside(self, function):
         """Whether a copy under another name has the same goals: a method of a trait, or one that calls itself, does not."""
@@ -129,9 +145,14 @@ class Trial:
         calls_itself = re.search(rf"(?:(?<![\w.:])|\b[Ss]elf(?:\.|::)){function.name}\(", body)
         return not (function.cycle or function.is_of_trait or calls_itself or self.crate.is_program)
 
+    def proofs_of(self, function):
+        """The files of the function's proof, which name its path."""
+        return [it for it in self.proofs if it.startswith(f"proofs/{function.proof().replace('.', '/')}/")]
+
     def try_beside(self, edits, kept):
         """What one check says of each edit, made in a copy of its function that stands beside it, under another name: an
-        empty text where that is proved. An edit is left out where a copy without an edit is not proved too."""
+        empty text where that is proved. A function whose proof has files gets a copy without an edit too, since the files
+        are changed with the name; an edit is left out where that copy is not proved."""
         if not edits:
             return {}
         copies = self.copies(edits)
@@ -140,15 +161,16 @@ class Trial:
         if not is_whole or not all(words == "proved" for of, words, _ in found if of not in said):
             half = len(edits) // 2
             return {**self.try_beside(edits[:half], kept), **self.try_beside(edits[half:], kept)} if half else {}
-        proved = {of for edit, of, copy in copies if not edit and said[copy] and all(it == "proved" for it, _ in said[copy])}
-        why = {edit: next((why for it, why in said[copy] if IS_REFUSED.match(it)), "") for edit, of, copy in copies if of in proved}
+        lost = {of for edit, of, copy in copies if not said[copy] or not edit and any(it != "proved" for it, _ in said[copy])}
+        why = {edit: next((why for it, why in said[copy] if IS_REFUSED.match(it)), "") for edit, of, copy in copies if of not in lost}
         return {edit: it for edit, it in why.items() if edit}
 
     def copies(self, edits):
-        """Of each edited function a copy without an edit and one with each edit: the edit, the function and the copy."""
+        """The copies of the edited functions, one with each edit and where it is needed one without: the edit, the function
+        and the copy."""
         found = []
         for of in dict.fromkeys(it.function for it in edits):
-            own = [None, *(it for it in edits if it.function == of)]
+            own = [None][: bool(self.proofs_of(of))] + [it for it in edits if it.function == of]
             found += [(edit, of, of.called(f"{of.name}_tried_{at}")) for at, edit in enumerate(own)]
         return found
 
@@ -161,26 +183,10 @@ class Trial:
             item = new[of.first : of.last + 1 + len(new) - len(old)]
             item[of.head - of.first] = re.sub(rf"\bfn {of.name}\b", f"fn {copy.name}", item[of.head - of.first], count=1)
             lines[of.file][of.last + 1 : of.last + 1] = ["", *item]
-            inside = f"proofs/{of.proof().replace('.', '/')}/"
-            for file in (it for it in self.proofs if it.startswith(inside)):
-                to = f"proofs/{copy.proof().replace('.', '/')}/{file[len(inside) :]}"
+            for file in self.proofs_of(of):
+                to = f"proofs/{copy.proof().replace('.', '/')}/{os.path.basename(file)}"
                 texts[to] = self.proofs[file].replace(f"proofs.{of.proof()}.", f"proofs.{copy.proof()}.")
         return {**texts, **{file: "\n".join(it) for file, it in lines.items()}}
-
-    def try_in_turns(self, edits, kept):
-        """What checks say of each edit that they refuse, made where it stands. The first has an edit of each function. Where
-        a callee is refused, goals of its callers are not tried: so the later ones have no function beside those it calls."""
-        refused = self.try_together(apart(edits, lambda it, other: False), kept)
-        left = [it for it in edits if it not in refused]
-        while left:
-            turn = apart(left, self.reaches)
-            refused.update(self.try_together(turn, kept))
-            left = [it for it in left if it not in turn]
-        return refused
-
-    def reaches(self, edit, other):
-        """Whether the one edit's function calls the other's, itself or through others, as far as their names tell."""
-        return other.function.name in self.words_below(edit.words)
 
     def label(self, path):
         return f"wrong {self.crate.name}/{os.path.basename(path)}"
