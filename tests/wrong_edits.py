@@ -21,13 +21,14 @@ import sys
 import tempfile
 from concurrent.futures import ThreadPoolExecutor, as_completed
 
-from functions import functions_of
+from functions import HEAD, functions_of
 
 TOP = os.path.dirname(os.path.dirname(os.path.abspath(__file__)))
 ONE_JOB = ["--jobs", "1"]
 MOST_AT_ONCE = 3
 NAME = re.compile(r"[A-Za-z0-9_-][A-Za-z0-9_.-]*\.edit")
 LINE = re.compile(r"fn (\S+): (.*)")
+PLACE = re.compile(r"(?:\./)?(src/\S+\.rt):(\d+):\d+: error")
 NOTE = re.compile(r"note: \S+:\d+:\d+: ")
 # What a check says of a function that it refuses for itself, and what of one that rests on a refused one.
 IS_REFUSED = re.compile(r"no proof: expected |not proved(?!.*\bit (?:calls|passes) )")
@@ -99,6 +100,7 @@ class Trial:
         paths = [it.path for it in self.functions]
         self.doubles = {it for it in paths if paths.count(it) > 1}
         self.words = {it: words_in(self.sources[it.file].split("\n")[it.opens : it.last + 1]) for it in self.functions}
+        self.broken = set()
 
     def tells_of(self, function):
         """Whether the lines of a check tell what becomes of this function's body, whatever becomes of other bodies."""
@@ -127,8 +129,9 @@ class Trial:
         There a caller's goals are not all tried where a callee is refused, and so what is left is tried in other ways."""
         refused = self.try_together(apart(edits, lambda it, other: False), kept)
         left = [it for it in edits if it not in refused]
-        refused.update(self.try_beside([it for it in left if self.can_stand_beside(it.function)], kept))
-        left = [it for it in left if it not in refused]
+        beside = [it for it in left if it not in self.broken and self.can_stand_beside(it.function)]
+        refused.update(self.try_beside(beside, kept))
+        left = [it for it in left if it not in refused and it not in self.broken]
         while left:
             turn = apart(left, self.reaches)
             refused.update(self.try_together(turn, kept))
@@ -156,11 +159,10 @@ class Trial:
         if not edits:
             return {}
         copies = self.copies(edits)
-        is_whole, found = self.check(self.with_copies(copies), [it for _, _, it in copies], kept)
+        is_whole, found = self.check(self.with_copies(copies), {copy: edit for edit, _, copy in copies}, kept)
         said = {copy: [(words, why) for of, words, why in found if of == copy] for _, _, copy in copies}
         if not is_whole or not all(words == "proved" for of, words, _ in found if of not in said):
-            half = len(edits) // 2
-            return {**self.try_beside(edits[:half], kept), **self.try_beside(edits[half:], kept)} if half else {}
+            return self.in_parts(self.try_beside, edits, kept)
         lost = {of for edit, of, copy in copies if not said[copy] or not edit and any(it != "proved" for it, _ in said[copy])}
         why = {edit: next((why for it, why in said[copy] if IS_REFUSED.match(it)), "") for edit, of, copy in copies if of not in lost}
         return {edit: it for edit, it in why.items() if edit}
@@ -195,24 +197,33 @@ class Trial:
         """What the check says of each edit that it refuses by the edited function, with all of these edits made."""
         if not edits:
             return {}
-        is_whole, found = self.check(together(edits, self.sources), [it.function for it in edits], kept)
+        is_whole, found = self.check(together(edits, self.sources), {it.function: it for it in edits}, kept)
         groups = {it.function.group() for it in edits}
         found = [(of and of.group(), said, why) for of, said, why in found]
         # what stands as it was is never refused for itself: else one edit reaches into another's function
         is_clear = is_whole and all(of in groups or said == "proved" or RESTS.match(said) for of, said, _ in found)
         if not is_clear and len(edits) > 1:
-            half = len(edits) // 2
-            return {**self.try_together(edits[:half], kept), **self.try_together(edits[half:], kept)}
+            return self.in_parts(self.try_together, edits, kept)
         whys = {of: why for of, said, why in found if IS_REFUSED.match(said)}
         return {it: whys[it.function.group()] for it in edits if it.function.group() in whys}
 
+    def in_parts(self, way, edits, kept):
+        """Tries the edits again without those that do not compile, or where none is known to be so in halves."""
+        left = [it for it in edits if it not in self.broken]
+        if len(left) < len(edits):
+            return way(left, kept)
+        half = len(edits) // 2
+        return {**way(edits[:half], kept), **way(edits[half:], kept)} if half else {}
+
     def check(self, texts, functions, kept):
-        """Checks these functions and what they call, and returns whether the check went through, and of each line on a
-        function the function, what is said, and why: the note above, or an error in its proof."""
+        """Checks these functions, each with its edit, and what they call. Returns whether the check went through, and of
+        each line on a function the function, what is said, and why: the note above, or an error in its proof."""
         flags = [*ONE_JOB, *(word for it in functions for word in ("--only", "::".join([self.crate.name, *it.path])))]
         ran = checked(self.kit, self.crate, texts, flags, kept)
         lines = ran.stdout.rstrip("\n").split("\n")
         is_whole = ran.returncode in (0, 1) and lines[-1].startswith("only=") and not any(self.kit.unread(it, ()) for it in lines)
+        if not is_whole:
+            self.broken |= {functions.get(it) for it in at_fault(lines, texts, functions)} - {None}
         found, note = [], ""
         for line in lines:
             line_of = LINE.match(line)
@@ -265,6 +276,16 @@ def texts_below(folder, part, ending):
         for name in sorted(it for it in names if it.endswith(ending)):
             with open(f"{at}/{name}", encoding="utf-8") as it:
                 found[os.path.relpath(f"{at}/{name}", folder)] = it.read()
+    return found
+
+
+def at_fault(lines, texts, functions):
+    """Those of the functions in which the check finds errors of the language: the head nearest above each is theirs."""
+    found = set()
+    for place in filter(None, map(PLACE.match, lines)):
+        above = texts.get(place[1], "").split("\n")[: int(place[2])]
+        name = next((it[3] for it in map(HEAD.match, reversed(above)) if it), "")
+        found |= {it for it in functions if (it.file, it.name) == (place[1], name)}
     return found
 
 
