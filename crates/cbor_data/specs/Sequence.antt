@@ -21,7 +21,7 @@ pub record IsRunOf (l : Bounds) (accepts : Value → List ℕ → Type 0) (b : L
   pub longest : (others : List Found) (left : List ℕ) → Takes l accepts 0 b others left → length others ≤ length found
 
 -- Why a stream fails: a fault of a kind at an offset or place, an item that does not match, by the place in it where
--- that shows, or no steps left.
+-- that shows, or that the steps are not enough.
 pub data Cause (kind : Type 0) : Type 0 where
   fault : kind → ℕ → Cause kind
   mismatch : ℕ → Cause kind
@@ -33,12 +33,14 @@ pub data End (kind : Type 0) : Type 0 where
   clean : ℕ → ℕ → End kind
   failed : ℕ → ℕ → Cause kind → End kind
 
--- The stream's run is these items, and it ends so. `told` says of a rest at an offset which fault it has, and
--- `misses` of an item and its bytes where it does not match.
+-- The stream's run is these items, and it ends so. `told` says of a rest at an offset which fault it has, `misses` of an
+-- item and its bytes where it does not match, and `overruns` of them that the steps are not enough.
 pub data EndsBy (l : Bounds) (accepts : Value → List ℕ → Type 0) {kind : Type 0} (told : ℕ → List ℕ → kind → ℕ → Type 0)
-    (misses : Value → List ℕ → ℕ → Type 0) (b : List ℕ) (found : List Found) : End kind → Type 0 where
-  cleanly : IsRunOf l accepts b found [] → EndsBy l accepts told misses b found (clean (length found) (length b))
+    (misses : Value → List ℕ → ℕ → Type 0) (overruns : Value → List ℕ → Type 0) (b : List ℕ) (found : List Found) : End kind → Type 0 where
+  cleanly : IsRunOf l accepts b found [] → EndsBy l accepts told misses overruns b found (clean (length found) (length b))
   at_fault : {o : ℕ} {k : kind} {at : ℕ} (rest : List ℕ) → IsRunOf l accepts b found rest → rest ≢ [] → o + length rest ≡ length b →
-      told o rest k at → EndsBy l accepts told misses b found (failed (length found) o (fault k at))
+      told o rest k at → EndsBy l accepts told misses overruns b found (failed (length found) o (fault k at))
   at_mismatch : {o : ℕ} {place : ℕ} (rest : List ℕ) (x : Value) (front back : List ℕ) → IsRunOf l accepts b found rest → o + length rest ≡ length b →
-      rest ≡ front ++ back → IsItem l o x front → misses x front place → EndsBy l accepts told misses b found (failed (length found) o (mismatch place))
+      rest ≡ front ++ back → IsItem l o x front → misses x front place → EndsBy l accepts told misses overruns b found (failed (length found) o (mismatch place))
+  at_spent : {o : ℕ} (rest : List ℕ) (x : Value) (front back : List ℕ) → IsRunOf l accepts b found rest → o + length rest ≡ length b →
+      rest ≡ front ++ back → IsItem l o x front → overruns x front → EndsBy l accepts told misses overruns b found (failed (length found) o spent)

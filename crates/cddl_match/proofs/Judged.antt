@@ -6,7 +6,7 @@ use Rattle.cddl_meaning.specs.Judges.{Answer, Yes, No, Outcome, Takes, Fails, Sa
 use Rattle.cddl_meaning.specs.Moves.{OfType, Replies, reply_of}
 use Rattle.cddl_meaning.proofs.Means.{means}
 use Rattle.cddl_meaning.proofs.Matches.{Fits}
-use Rattle.cddl_match.specs.declared.judging.Verdict.TheVariants as V
+use Rattle.cddl_match.specs.declared.answers.Verdict.TheVariants as V
 use Rattle.cddl_match.specs.Views.{verdict_of}
 
 module _ {N G : Type 0} (l : Language N G) where

@@ -3,8 +3,8 @@ use Rattle.std.specs.Prelude.{◌≡◌, ℕ, ◌+◌, List, [], ◌∷◌, map,
 use Rattle.cddl_meaning.specs.Forms.{Language}
 use Rattle.cddl_meaning.specs.Judges.{Outcome}
 use Rattle.cddl_meaning.specs.Moves.{Ask, Open, Move, Replies, Ends, resumed}
-use Rattle.cddl_nodes.specs.declared.TypeId.{TypeId}
-use Rattle.cddl_nodes.specs.declared.GroupId.{GroupId}
+use Rattle.cddl_table.specs.declared.nodes.TypeId.{TypeId}
+use Rattle.cddl_table.specs.declared.nodes.GroupId.{GroupId}
 use Rattle.cddl_match.specs.declared.questions.Frame.{Frame}
 use Rattle.cddl_match.specs.Views.{frame_view}
 

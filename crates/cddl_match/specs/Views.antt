@@ -7,9 +7,9 @@ use Rattle.cddl_meaning.specs.Judges as J
 use Rattle.cddl_meaning.specs.Moves as M
 use Rattle.cddl_meaning.specs.Moves.{Ask, Open}
 use Rattle.cddl_meaning.specs.Judges.{Outcome}
-use Rattle.cddl_nodes.specs.declared.TypeId.{TypeId}
-use Rattle.cddl_nodes.specs.declared.GroupId.{GroupId}
-use Rattle.cddl_nodes.specs.Nodes.{most_view}
+use Rattle.cddl_table.specs.declared.nodes.TypeId.{TypeId}
+use Rattle.cddl_table.specs.declared.nodes.GroupId.{GroupId}
+use Rattle.cddl_table.specs.Language.{most_view}
 use Rattle.cddl_match.specs.declared.questions.Subject.{Subject}
 use Rattle.cddl_match.specs.declared.questions.Subject.TheVariants as S
 use Rattle.cddl_match.specs.declared.questions.Question.{Question}
@@ -20,8 +20,8 @@ use Rattle.cddl_match.specs.declared.questions.Frame.{Frame}
 use Rattle.cddl_match.specs.declared.questions.Frame.TheVariants as F
 use Rattle.cddl_match.specs.declared.questions.Move.{Move}
 use Rattle.cddl_match.specs.declared.questions.Move.TheVariants.{Answered, Asks}
-use Rattle.cddl_match.specs.declared.judging.Verdict.{Verdict}
-use Rattle.cddl_match.specs.declared.judging.Verdict.TheVariants.{Yes, No}
+use Rattle.cddl_match.specs.declared.answers.Verdict.{Verdict}
+use Rattle.cddl_match.specs.declared.answers.Verdict.TheVariants.{Yes, No}
 
 -- items, as contracts see them
 abbrev pub values : List Item → List Value

@@ -2,29 +2,18 @@
 //! they like.
 
 ghost use Rattle.std.specs.Prelude.{◌≡◌, ◌<◌, ◌≤◌, ℕ};
-ghost use Rattle.cddl_meaning.specs.Judges.{Answer, Says};
+ghost use Rattle.cddl_meaning.specs.Judges.{Answer};
 ghost use Rattle.cddl_match.specs.Views.{reply_view, verdict_of as verdict_of_reply};
-ghost use Rattle.cddl_nodes.specs.Nodes.{language_of};
+ghost use Rattle.cddl_table.specs.Language.{RootSays};
 
+use crate::answers::Verdict;
 use crate::moves::{open, resume};
 use crate::questions::{Frame, Move, Question, Reply, Subject};
 use cbor_item::Sound;
-use cddl_nodes::{Nodes, TypeId};
+use cddl_table::Table;
 use std::alloc::{AllocError, Global};
 
-/// What a type says of an item, or that so many steps do not tell.
-#[derive(Clone, Copy, Debug, PartialEq, Eq)]
-pub enum Verdict {
-    /// The item matches.
-    Yes,
-    /// It does not. That shows at this place, the greatest of all trials that failed, but for those of types that then
-    /// said yes: places number the item and all below it in preorder, a key before its value, from 0.
-    No { place: usize },
-    /// The steps do not tell: more would be needed.
-    Spent,
-}
-
-/// What the type with the number `root` says of the item.
+/// What the root type of the table says of the item.
 ///
 /// `steps` bounds the work. One step is one question: a type asked of an item, or of the number of a tag or of a simple
 /// value; or a group asked of a list of items. At most `steps` questions are asked, and as many may wait for a reply.
@@ -32,23 +21,22 @@ pub enum Verdict {
 /// # Errors
 ///
 /// `AllocError` where there is no memory for the questions that wait.
-pub fn judge(
+pub fn verdict(
     alloc: Global,
-    nodes: &Nodes,
-    root: TypeId,
+    table: &Table,
     item: &Sound,
     steps: u64,
 ) -> Result<Verdict, AllocError>
     // A yes and a no are the definition's, and took as many steps as there are judgements in it.
-    ensures yes { result ≡ Ok Verdict.Yes → (w : ℕ) × Says (language_of nodes.now) ((language_of nodes.now).type_at root) 0 item.now Answer.Yes w × (w ≤ steps) }
-    ensures no { (place : ℕ) → result ≡ Ok (Verdict.No place) → (w : ℕ) × Says (language_of nodes.now) ((language_of nodes.now).type_at root) 0 item.now (Answer.No place) w × (w ≤ steps) }
+    ensures yes { result ≡ Ok Verdict.Yes → (w : ℕ) × RootSays table.now item.now Answer.Yes w × (w ≤ steps) }
+    ensures no { (place : ℕ) → result ≡ Ok (Verdict.No place) → (w : ℕ) × RootSays table.now item.now (Answer.No place) w × (w ≤ steps) }
     // Where the steps are spent, more judgements are in it.
-    ensures spent { result ≡ Ok Verdict.Spent → (a : Answer) (w : ℕ) → Says (language_of nodes.now) ((language_of nodes.now).type_at root) 0 item.now a w → steps < w }
+    ensures spent { result ≡ Ok Verdict.Spent → (a : Answer) (w : ℕ) → RootSays table.now item.now a w → steps < w }
 {
     let mut left = steps;
     let mut waiting: Vec<Frame<'_, '_>> = Vec::new(alloc);
     let mut next = Move::Asks(
-        Question::OfType(root, 0, Subject::Item(item.item())),
+        Question::OfType(table.root(), 0, Subject::Item(item.item())),
         Frame::Ref,
     );
     loop {
@@ -60,7 +48,7 @@ pub fn judge(
                 }
                 left -= 1;
                 waiting.push(frame)?;
-                next = open(nodes, question);
+                next = open(table, question);
             }
             Move::Answered(reply) => match waiting.pop() {
                 None => return Ok(verdict_of(reply)),

@@ -1,10 +1,14 @@
 //! Whether an item matches a type (RFC 8610 sections 2 and 3 and appendix A).
 #![tactic(auto)]
 
+mod answers;
 mod judging;
+mod laws;
 mod moves;
 mod places;
 mod questions;
 mod tested;
 
-pub use crate::judging::{Verdict, judge};
+pub use crate::answers::Verdict;
+pub use crate::judging::verdict;
+pub use crate::laws::{one_answer, shows_inside};

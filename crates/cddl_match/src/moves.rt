@@ -32,13 +32,13 @@ ghost use Rattle.cddl_meaning.specs.Moves.{
   yes,
 };
 ghost use Rattle.cddl_match.specs.Views.{ask_view, frame_view, move_view, reply_view, subject_view, values};
-ghost use Rattle.cddl_nodes.specs.Nodes.{group_view, language_of, most_view, tag_number_view, test_view, type_view};
+ghost use Rattle.cddl_table.specs.Language.{group_view, language_of, most_view, tag_number_view, test_view, type_view};
 
 use crate::places::{place_behind, plus};
 use crate::questions::{Frame, Move, Question, Reply, Subject};
 use crate::tested::passes;
 use cbor_item::Item;
-use cddl_nodes::{Group, GroupId, Most, Node, Nodes, TagNumber, Test, TypeId};
+use cddl_table::{Group, GroupId, Most, Node, Table, TagNumber, Test, TypeId};
 
 /// A yes. It tells the place behind the item, so that nobody counts the item's places a second time.
 fn yes_to<'i>(place: usize, subject: Subject<'i>) -> Reply<'i>
@@ -293,15 +293,15 @@ fn open_group<'t, 'i>(
 }
 
 /// What a question asks first, or its reply.
-pub(crate) fn open<'t, 'i>(nodes: &'t Nodes, question: Question<'i>) -> Move<'t, 'i>
-    ensures { move_view result ≡ opened (language_of nodes.now) (ask_view question.entry) }
+pub(crate) fn open<'t, 'i>(table: &'t Table, question: Question<'i>) -> Move<'t, 'i>
+    ensures { move_view result ≡ opened (language_of table.now) (ask_view question.entry) }
 {
     match question {
-        Question::OfType(node, place, subject) => match nodes.types.get(node.number) {
+        Question::OfType(node, place, subject) => match table.node(node) {
             Some(node) => open_type(node, place, subject),
             None => Move::Answered(Reply::Fails(place)),
         },
-        Question::OfGroup(group, base, place, items) => match nodes.groups.get(group.number) {
+        Question::OfGroup(group, base, place, items) => match table.group(group) {
             Some(group) => open_group(group, base, place, items),
             None => Move::Answered(Reply::Fails(base)),
         },

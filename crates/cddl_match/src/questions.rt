@@ -1,7 +1,7 @@
 //! Questions, the replies to them, and what waits for a reply.
 
 use cbor_item::Item;
-use cddl_nodes::{GroupId, Most, TypeId};
+use cddl_table::{GroupId, Most, TypeId};
 
 /// What a type is asked of: an item, or the number of a tag or of a simple value as an unsigned item.
 #[derive(Clone, Copy)]

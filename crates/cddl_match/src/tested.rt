@@ -3,11 +3,11 @@
 ghost use Rattle.std.specs.Prelude.{◌≡◌};
 ghost use Rattle.cbor_item.specs.View.{view};
 ghost use Rattle.cddl_meaning.specs.Forms.{is_below as is_below_of, is_up_to as is_up_to_of, is_simple as is_simple_of, is_float as is_float_of, major_of as major_of_value, passes as passes_of};
-ghost use Rattle.cddl_nodes.specs.Nodes.{test_view, whole_view};
+ghost use Rattle.cddl_table.specs.Language.{test_view, whole_view};
 
 use cbor_data::Width;
 use cbor_item::Item;
-use cddl_nodes::{Test, Whole};
+use cddl_table::{Test, Whole};
 
 /// The major type of an item (RFC 8949 section 3.1).
 fn major_of(item: &Item) -> u8

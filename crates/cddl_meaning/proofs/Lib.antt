@@ -1,4 +1,5 @@
 pub mod Covers
+pub mod Inside
 pub mod Once
 pub mod Matches
 pub mod Means

@@ -1,12 +1,8 @@
-//! What a specification asks of an item: its rules as a table, and whether an item matches them.
-//!
-//! So far a specification is one rule, whose type is one of four names.
+//! A table of types and groups, each known by its number: what a matcher runs, and a language by its contracts.
 #![tactic(auto)]
 
-mod matching;
-mod specification;
+mod nodes;
 mod table;
 
-pub use crate::matching::matches;
-pub use crate::specification::read_specification;
+pub use crate::nodes::{Group, GroupId, Most, Node, TagNumber, Test, TypeId, Whole};
 pub use crate::table::Table;

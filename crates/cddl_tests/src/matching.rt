@@ -1,6 +1,6 @@
 use cbor_item::{Item, Sound};
-use cddl_match::{Verdict, judge};
-use cddl_nodes::{Group, GroupId, Most, Node, Nodes, TagNumber, Test, TypeId, Whole};
+use cddl_match::{Verdict, verdict};
+use cddl_table::{Group, GroupId, Most, Node, Table, TagNumber, Test, TypeId, Whole};
 use std::alloc::{AllocError, Global};
 use std::process::Abort;
 use std::test::Fail;
@@ -128,7 +128,13 @@ fn group_of(alloc: Global, part: Part) -> Result<Group, AllocError> {
     })
 }
 
-fn nodes_of(alloc: Global, kinds: &[Kind], parts: &[Part]) -> Result<Nodes, AllocError> {
+/// The table of these types and groups, whose root is the type of this number.
+fn table_of(
+    alloc: Global,
+    kinds: &[Kind],
+    parts: &[Part],
+    number: usize,
+) -> Result<Table, AllocError> {
     let mut types = Vec::new(alloc);
     for kind in kinds {
         types.push(node_of(alloc, *kind)?)?;
@@ -137,26 +143,27 @@ fn nodes_of(alloc: Global, kinds: &[Kind], parts: &[Part]) -> Result<Nodes, Allo
     for part in parts {
         groups.push(group_of(alloc, *part)?)?;
     }
-    Ok(Nodes { types, groups })
+    Ok(Table::new(types, groups, TypeId { number }))
 }
 
-/// What the type of this number says of an item, within so many steps.
-fn told(
-    alloc: Global,
-    nodes: &Nodes,
-    number: usize,
-    form: &Form,
-    steps: u64,
-) -> Result<Verdict, Fail> {
+/// What the root of a table says of an item, within so many steps.
+fn told(alloc: Global, table: &Table, form: &Form, steps: u64) -> Result<Verdict, Fail> {
     let item = Sound::try_new(alloc, item_of(alloc, form)?)?;
-    Ok(judge(alloc, nodes, TypeId { number }, &item, steps)?)
+    Ok(verdict(alloc, table, &item, steps)?)
 }
 
-fn check_rows(rt: &impl Abort, alloc: Global, nodes: &Nodes, rows: &[Row]) -> Result<(), Fail> {
-    for (number, form, verdict) in rows {
+fn check_rows(
+    rt: &impl Abort,
+    alloc: Global,
+    kinds: &[Kind],
+    parts: &[Part],
+    rows: &[Row],
+) -> Result<(), Fail> {
+    for (number, form, wanted) in rows {
+        let table = table_of(alloc, kinds, parts, *number)?;
         assert_eq!(rt;
-            told(alloc, nodes, *number, form, 1000)?,
-            *verdict,
+            told(alloc, &table, form, 1000)?,
+            *wanted,
             "of type {number}"
         );
     }
@@ -277,8 +284,7 @@ static ARRAY_ROWS: [Row; 18] = [
 
 #[test]
 fn judges_arrays(rt: HostRuntime) -> Result<(), Fail> {
-    let nodes = nodes_of(rt.alloc(), &KINDS, &PARTS)?;
-    check_rows(&rt, rt.alloc(), &nodes, &ARRAY_ROWS)
+    check_rows(&rt, rt.alloc(), &KINDS, &PARTS, &ARRAY_ROWS)
 }
 
 // Ranges, and what asks them of the numbers of tags and simple values.
@@ -308,8 +314,7 @@ static HEAD_ROWS: [Row; 9] = [
 
 #[test]
 fn judges_heads(rt: HostRuntime) -> Result<(), Fail> {
-    let nodes = nodes_of(rt.alloc(), &HEADS, &[])?;
-    check_rows(&rt, rt.alloc(), &nodes, &HEAD_ROWS)
+    check_rows(&rt, rt.alloc(), &HEADS, &[], &HEAD_ROWS)
 }
 
 /// A type, an item, and the steps that it takes to tell.
@@ -325,9 +330,9 @@ static STEPS: [(usize, Form, u64); 4] = [
 
 #[test]
 fn counts_steps(rt: HostRuntime) -> Result<(), Fail> {
-    let nodes = nodes_of(rt.alloc(), &KINDS, &PARTS)?;
     for (number, form, steps) in STEPS.iter() {
-        check_steps(&rt, rt.alloc(), &nodes, *number, form, *steps)?;
+        let table = table_of(rt.alloc(), &KINDS, &PARTS, *number)?;
+        check_steps(&rt, rt.alloc(), &table, *number, form, *steps)?;
     }
     Ok(())
 }
@@ -336,13 +341,13 @@ fn counts_steps(rt: HostRuntime) -> Result<(), Fail> {
 fn check_steps(
     rt: &impl Abort,
     alloc: Global,
-    nodes: &Nodes,
+    table: &Table,
     number: usize,
     form: &Form,
     steps: u64,
 ) -> Result<(), Fail> {
-    let enough = told(alloc, nodes, number, form, steps)?;
-    let fewer = told(alloc, nodes, number, form, steps.saturating_sub(1))?;
+    let enough = told(alloc, table, form, steps)?;
+    let fewer = told(alloc, table, form, steps.saturating_sub(1))?;
     assert!(rt;
         enough != Verdict::Spent && fewer == Verdict::Spent,
         "of type {number} in {steps}"
@@ -352,9 +357,9 @@ fn check_steps(
 
 /// What a type says of an item, and None where there is no memory.
 fn judged(alloc: Global, number: usize, form: &Form) -> Option<Verdict> {
-    let nodes = nodes_of(alloc, &KINDS, &PARTS).ok()?;
+    let table = table_of(alloc, &KINDS, &PARTS, number).ok()?;
     let item = Sound::try_new(alloc, item_of(alloc, form).ok()?).ok()?;
-    judge(alloc, &nodes, TypeId { number }, &item, 1000).ok()
+    verdict(alloc, &table, &item, 1000).ok()
 }
 
 // Run with each allocation refused in turn (`rt try --test --fail-alloc N`), this finds no third answer.

@@ -2,9 +2,9 @@
 use Rattle.std.specs.Prelude.{◌≡◌, ℕ, List, Option, codes}
 use Rattle.cbor_data.specs.Value.{Value}
 use Rattle.cbor_data.specs.Faults.{Bounds}
-use Rattle.cddl_table.specs.declared.table.Table.{Table}
 use Rattle.seq_run.specs.declared.end.End.{End}
 use Rattle.seq_run.specs.declared.end.End.TheVariants.{Clean, Failed}
+use Rattle.seq_run.specs.Judge.{Judge}
 use Rattle.seq_run.specs.Running.{IsReported}
 use Rattle.cddl_tool.specs.declared.choice.Options.{Options}
 use Rattle.cddl_tool.specs.declared.choice.Task.{Task}
@@ -23,8 +23,8 @@ status_for (Clean items bytes) = 0
 status_for (Failed items offset cause) = 1
 
 -- The whole report of the stream went out, and the status is that of its end.
-pub record IsAnswered (table : Table) (l : Bounds) (stream : List ℕ) (before after : Option (List ℕ)) (status : ℕ) : Type 0 where
+pub record IsAnswered (judge : Judge) (l : Bounds) (stream : List ℕ) (before after : Option (List ℕ)) (status : ℕ) : Type 0 where
   pub end : End
   pub rejected : Option Value
-  pub reported : IsReported table l stream before after end rejected
+  pub reported : IsReported judge l stream before after end rejected
   pub is : status ≡ status_for end

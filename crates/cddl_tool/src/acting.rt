@@ -1,9 +1,10 @@
 //! What the program does with a specification and a stream.
 
-ghost use Rattle.std.specs.Prelude.{◌≡◌, ◌≢◌, ◌≤◌, IfOk, IfErr, IfSome, OnOk, vec_items};
+ghost use Rattle.std.specs.Prelude.{◌≡◌, ◌≢◌, ◌≤◌, ◌⊎◌, IfOk, IfErr, IfSome, OnOk, vec_items};
 ghost use Rattle.cbor_item.specs.Counted.{device_of, failures_of};
-ghost use Rattle.cddl_table.specs.Specification.{IsSpecification};
-ghost use Rattle.cddl_table.specs.declared.table.Table.{Table as Tables};
+ghost use Rattle.cddl_one_rule.specs.Specification.{IsRule, IsSpecification};
+ghost use Rattle.cddl_one_rule.specs.declared.named.NamedType.{NamedType as NamedTypes};
+ghost use Rattle.seq_run.specs.Judge.{judge_of};
 ghost use Rattle.seq_run.specs.Running.{IsFault};
 ghost use Rattle.seq_run.specs.declared.running.RunFault.{RunFault as RunFaults};
 ghost use Rattle.cddl_tool.specs.Acting.{bounds_of, specification_of, status_for, IsAnswered};
@@ -13,10 +14,14 @@ use crate::lines::{say, say_of_file};
 use crate::status::{BROKEN, FAILED, REFUSED};
 use cbor_item::Counted;
 use cbor_read::Limits;
-use cddl_table::{Table, read_specification};
+use cddl_one_rule::read_specification;
+use cddl_table::Table;
 use seq_run::{End, RunFault, run};
 use std::alloc::Global;
 use std::io::{ErrorKind, Read, Write};
+
+/// How many questions a specification may ask of one item.
+pub const STEPS: u64 = 10_000_000;
 
 /// Reads the text of a specification: all that is left in its file. A file that cannot be read is told on `err`, by its
 /// name, and the status is answered.
@@ -41,17 +46,26 @@ pub fn read_text<R: Read, E: Write>(
     }
 }
 
-/// Reads the specification: `spec`, or to show a stream `a = any`. A refused one is told on `err`, and the status is
-/// answered.
-pub fn ready<E: Write>(options: &Options, spec: &[u8], err: &mut Counted<E>) -> Result<Table, u8>
+/// Reads the specification: `spec`, or to show a stream `a = any`. A refused one, and want of memory, is told on `err`, and
+/// the status is answered.
+pub fn ready<E: Write>(
+    alloc: Global,
+    options: &Options,
+    spec: &[u8],
+    err: &mut Counted<E>,
+) -> Result<Table, u8>
     ensures found { IfOk result (IsSpecification (specification_of options.now.task spec.now)) }
-    ensures refused { IfErr result (λ status. (status ≡ REFUSED) × ((table : Tables) → IsSpecification (specification_of options.now.task spec.now) table → ⊥)) }
+    ensures refused { IfErr result (λ status. (status ≡ BROKEN) ⊎ ((status ≡ REFUSED) × ((type : NamedTypes) → IsRule (specification_of options.now.task spec.now) type → ⊥))) }
 {
-    match read_specification(specification_for(options.task, spec)) {
-        Some(table) => Ok(table),
-        None => {
+    match read_specification(alloc, specification_for(options.task, spec)) {
+        Ok(Some(table)) => Ok(table),
+        Ok(None) => {
             say(b"refused: specification not supported yet\n", err);
             Err(REFUSED)
+        }
+        Err(_) => {
+            say(b"out of memory\n", err);
+            Err(BROKEN)
         }
     }
 }
@@ -79,13 +93,13 @@ pub fn act<R: Read, W: Write, E: Write>(
     requires depth { (1 ≤ options.now.depth) × (options.now.depth ≤ 256) }
     requires item_bytes { (1 ≤ options.now.item_bytes) × (options.now.item_bytes ≤ 16777216) }
     ensures answered { result ≢ BROKEN → IfSome (R.remaining (device_of input.old)) (λ stream.
-        IsAnswered table.now (bounds_of options.now) stream (W.contents (device_of out.old)) (W.contents (device_of out.new)) result) }
-    ensures broken { result ≡ BROKEN → (fault : RunFaults) × IsFault table.now (bounds_of options.now)
+        IsAnswered (judge_of table.now STEPS) (bounds_of options.now) stream (W.contents (device_of out.old)) (W.contents (device_of out.new)) result) }
+    ensures broken { result ≡ BROKEN → (fault : RunFaults) × IsFault (judge_of table.now STEPS) (bounds_of options.now)
         (R.remaining (device_of input.old)) (R.remaining (device_of input.new)) (W.contents (device_of out.old)) (W.contents (device_of out.new))
         (failures_of input.old) (failures_of input.new) (failures_of out.old) (failures_of out.new) fault }
 {
     let limits = Limits::try_new(options.depth, options.item_bytes).unwrap();
-    match run(alloc, table, limits, input, out) {
+    match run(alloc, table, limits, STEPS, input, out) {
         Ok((end, _)) => status_of(&end),
         Err(fault) => {
             say_fault(alloc, fault, err);

@@ -61,7 +61,7 @@ fn perform<E: Write>(rt: &HostRuntime, options: &Options, err: &mut Counted<E>) 
         Ok(text) => text,
         Err(status) => return status,
     };
-    match ready(options, text.as_slice(), err) {
+    match ready(rt.alloc(), options, text.as_slice(), err) {
         Ok(table) => validate(rt, options, &table, err),
         Err(status) => status,
     }

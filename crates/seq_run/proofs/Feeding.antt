@@ -23,14 +23,14 @@ pub record IsFeeding (old : Progress) (piece : List ℕ) (out : List Value) (now
 
 pub begin_feeding : (old : Progress) (piece : List ℕ) (out : List Value) → IsFeeding old piece out old piece out
 begin_feeding old piece out = record {
-  appends = record { added = []; taken = sym (append-nil old.taken); out = sym (append-nil out); table = refl; limits = refl };
+  appends = record { added = []; taken = sym (append-nil old.taken); out = sym (append-nil out); judge = refl; limits = refl };
   stopped = refl;
   fed = refl;
   first = λ s e. (refl, refl);
 }
 
-appends_same : (old now new : Progress) (out out_now out_new : List Value) → Appends old now out out_now → new.taken ≡ now.taken → new.table ≡ now.table → new.limits ≡ now.limits → out_new ≡ out_now → Appends old new out out_new
-appends_same old now new out out_now out_new a t u v o = record { added = a.added; taken = t ∙ a.taken; out = o ∙ a.out; table = u ∙ a.table; limits = v ∙ a.limits }
+appends_same : (old now new : Progress) (out out_now out_new : List Value) → Appends old now out out_now → new.taken ≡ now.taken → new.judge ≡ now.judge → new.limits ≡ now.limits → out_new ≡ out_now → Appends old new out out_new
+appends_same old now new out out_now out_new a t u v o = record { added = a.added; taken = t ∙ a.taken; out = o ∙ a.out; judge = u ∙ a.judge; limits = v ∙ a.limits }
 
 pub items_of-append : (fs gs : List Found) → items_of (fs ++ gs) ≡ items_of fs ++ items_of gs
 items_of-append [] gs = refl
@@ -48,12 +48,12 @@ module _ (old : Progress) (piece : List ℕ) (out : List Value) (now : Progress)
   stays : (s : Stopped) → old.stopped ≡ Some s → new ≡ now → out_new ≡ out_now → Appends old new out out_new
   stays s e same outs =
       let before = f.first s e in
-      record { added = []; taken = ap (λ (p : Progress). p.taken) (same ∙ before.0) ∙ sym (append-nil old.taken); out = outs ∙ (before.1 ∙ sym (append-nil out)); table = ap (λ (p : Progress). p.table) (same ∙ before.0); limits = ap (λ (p : Progress). p.limits) (same ∙ before.0) }
+      record { added = []; taken = ap (λ (p : Progress). p.taken) (same ∙ before.0) ∙ sym (append-nil old.taken); out = outs ∙ (before.1 ∙ sym (append-nil out)); judge = ap (λ (p : Progress). p.judge) (same ∙ before.0); limits = ap (λ (p : Progress). p.limits) (same ∙ before.0) }
 
   ends_more : (st : Option Stopped) → old.stopped ≡ st → IsStepAnswer st now rest out_now (Ok step.More) new out_new → Appends old new out out_new × IsAnswer st old piece (Ok state.Open) new
   ends_more None e s =
       let fed : new.fed ≡ old.fed ++ piece = ap (λ (p : Progress). p.fed) s.0 ∙ f.fed in
-      (appends_same old now new out out_now out_new f.appends (ap (λ (p : Progress). p.taken) s.0) (ap (λ (p : Progress). p.table) s.0) (ap (λ (p : Progress). p.limits) s.0) s.1, (fed, s.2))
+      (appends_same old now new out out_now out_new f.appends (ap (λ (p : Progress). p.taken) s.0) (ap (λ (p : Progress). p.judge) s.0) (ap (λ (p : Progress). p.limits) s.0) s.1, (fed, s.2))
   ends_more (Some (Ended end)) e s = absurd (cc)
   ends_more (Some Memory) e s = absurd (cc)
 
@@ -63,7 +63,7 @@ module _ (old : Progress) (piece : List ℕ) (out : List Value) (now : Progress)
   ends_ended : (st : Option Stopped) (end : End) → old.stopped ≡ st → IsStepAnswer st now rest out_now (Ok (step.Ended end)) new out_new → Appends old new out out_new × IsAnswer st old piece (Ok (state.Ended end)) new
   ends_ended None end e s =
       let fed : new.fed ≡ old.fed ++ piece = ap (λ (p : Progress). p.fed) s.0 ∙ f.fed in
-      (appends_same old now new out out_now out_new f.appends (ap (λ (p : Progress). p.taken) s.0) (ap (λ (p : Progress). p.table) s.0) (ap (λ (p : Progress). p.limits) s.0) s.1, (fed, s.2))
+      (appends_same old now new out out_now out_new f.appends (ap (λ (p : Progress). p.taken) s.0) (ap (λ (p : Progress). p.judge) s.0) (ap (λ (p : Progress). p.limits) s.0) s.1, (fed, s.2))
   ends_ended (Some (Ended had)) end e s =
       let same : end ≡ had = cc in
       (stays (Ended had) e s.1 s.2, (ap (λ (v : End). Ok (state.Ended v)) same, s.1 ∙ (f.first (Ended had) e).0))
@@ -75,7 +75,7 @@ module _ (old : Progress) (piece : List ℕ) (out : List Value) (now : Progress)
   ends_err : (st : Option Stopped) (error : AllocError) → old.stopped ≡ st → IsStepAnswer st now rest out_now (Err error) new out_new → Appends old new out out_new × IsAnswer st old piece (Err error) new
   ends_err None error e s =
       let fed : new.fed ≡ old.fed ++ piece = ap (λ (p : Progress). p.fed) s.0 ∙ f.fed in
-      (appends_same old now new out out_now out_new f.appends (ap (λ (p : Progress). p.taken) s.0) (ap (λ (p : Progress). p.table) s.0) (ap (λ (p : Progress). p.limits) s.0) s.1, (fed, s.2))
+      (appends_same old now new out out_now out_new f.appends (ap (λ (p : Progress). p.taken) s.0) (ap (λ (p : Progress). p.judge) s.0) (ap (λ (p : Progress). p.limits) s.0) s.1, (fed, s.2))
   ends_err (Some (Ended had)) error e s = absurd (cc)
   ends_err (Some Memory) error e s = (stays Memory e s.1 s.2, (refl, s.1 ∙ (f.first Memory e).0))
 
@@ -92,7 +92,7 @@ module _ (old : Progress) (piece : List ℕ) (out : List Value) (now : Progress)
             added = f.appends.added ++ more ∷ [];
             taken = ap (λ (p : Progress). p.taken) s.3.1 ∙ (ap (λ (fs : List Found). fs ++ more ∷ []) f.appends.taken ∙ append_assoc old.taken f.appends.added (more ∷ []));
             out = s.3.2 ∙ (ap (λ (xs : List Value). xs ++ x ∷ []) f.appends.out ∙ (append_assoc out (items_of f.appends.added) (x ∷ []) ∙ ap (λ (xs : List Value). out ++ xs) (sym (items_of-append f.appends.added (more ∷ [])))));
-            table = ap (λ (p : Progress). p.table) s.3.1 ∙ f.appends.table;
+            judge = ap (λ (p : Progress). p.judge) s.3.1 ∙ f.appends.judge;
             limits = ap (λ (p : Progress). p.limits) s.3.1 ∙ f.appends.limits;
           };
           stopped = ap (λ (p : Progress). p.stopped) s.3.1 ∙ f.stopped;

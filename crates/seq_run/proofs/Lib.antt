@@ -1,6 +1,8 @@
 pub mod Fronts
 pub mod Runs
+pub mod Verdicts
 pub mod Ending
+pub mod Deciding
 pub mod Transitions
 pub mod Steps
 pub mod Feeding

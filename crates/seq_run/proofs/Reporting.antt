@@ -1,25 +1,26 @@
 -- The lines of a piece.
-use Rattle.std.proofs.Common.{◌≡◌, ℕ, zero, suc, ◌+◌, ◌-◌, ◌<◌, ◌≤◌, List, [], ◌∷◌, ◌++◌, length, take, drop, get_or, Option, Some, None, Result, Ok, refl, sym, ap, ap₂, ◌∙◌, subst, arith, append-nil, append_assoc, length-append}
+use Rattle.std.proofs.Common.{◌≡◌, ℕ, suc, ◌+◌, ◌-◌, ◌<◌, ◌≤◌, List, [], ◌∷◌, ◌++◌, length, take, drop, get_or, Option, Some, None, Result, Ok, refl, sym, ap, ap₂, ◌∙◌, subst, arith, append-nil, append_assoc, length-append}
 use Rattle.std.specs.declared.alloc.AllocError.{AllocError}
 use Rattle.std.proofs.lemmas.List.{take-append-drop, length-drop}
 use Rattle.std.proofs.Math.Seq.{take-length}
-use Rattle.cbor_data.specs.Value.{Value}
+use Rattle.cbor_data.specs.Value.{Value, place_count}
 use Rattle.cbor_data.specs.Sequence as sequence
-use Rattle.cbor_data.specs.Sequence.{Found, EndsBy, cleanly, at_fault, at_mismatch}
+use Rattle.cbor_data.specs.Sequence.{Found, EndsBy, cleanly, at_fault, at_mismatch, at_spent}
 use Rattle.cbor_data.specs.Faults.{Bounds}
-use Rattle.cddl_table.specs.declared.table.Table.{Table}
-use Rattle.seq_run.specs.declared.end.Cause.TheVariants.{Fault, Mismatch}
+use Rattle.seq_run.specs.Judge.{Judge}
+use Rattle.seq_run.specs.declared.end.Cause.TheVariants.{Fault, Mismatch, Spent}
 use Rattle.seq_run.specs.declared.end.End.{End}
 use Rattle.seq_run.specs.declared.end.End.TheVariants.{Clean, Failed}
 use Rattle.seq_run.specs.declared.session.Step.{Step}
 use Rattle.seq_run.specs.declared.session.Step.TheVariants as step
-use Rattle.seq_run.specs.Ends.{Misses, Ends}
+use Rattle.seq_run.specs.Ends.{Accepts, Misses, Overruns, Ends}
 use Rattle.seq_run.specs.Progress.{Progress}
-use Rattle.seq_run.specs.Standing.{IsRejected}
+use Rattle.seq_run.specs.Standing.{IsNext, IsRejected}
 use Rattle.seq_run.specs.Answers.{IsOpen, IsEnded, IsLent, IsStep, IsStepAnswer}
-use Rattle.cbor_item.proofs.Plain.{place_some}
 use Rattle.seq_run.specs.Report.{item_line, item_lines, IsShown}
 use Rattle.seq_run.specs.Running.{Adds, IsSettled}
+use Rattle.seq_run.proofs.Runs.{same_front, same_takes}
+use Rattle.seq_run.proofs.Verdicts.{shown_inside}
 
 -- one line more
 pub item_lines_more : (n : ℕ) (fs : List Found) (f : Found) → item_lines n (fs ++ f ∷ []) ≡ item_lines n fs ++ item_line (n + length fs) f
@@ -35,28 +36,28 @@ pub record IsReporting (old : Progress) (piece lines : List ℕ) (now : Progress
   pub added : List Found
   pub taken : now.taken ≡ old.taken ++ added
   pub written : lines_now ≡ lines ++ item_lines (suc (length old.taken)) added
-  pub table : now.table ≡ old.table
+  pub judge : now.judge ≡ old.judge
   pub limits : now.limits ≡ old.limits
 
 pub begin_reporting : (old : Progress) (piece lines : List ℕ) → old.stopped ≡ None → IsReporting old piece lines old piece lines
-begin_reporting old piece lines e = record { fed = refl; going = e; added = []; taken = sym (append-nil old.taken); written = sym (append-nil lines); table = refl; limits = refl }
+begin_reporting old piece lines e = record { fed = refl; going = e; added = []; taken = sym (append-nil old.taken); written = sym (append-nil lines); judge = refl; limits = refl }
 
 module _ (old : Progress) (piece lines : List ℕ) (now : Progress) (rest lines_now : List ℕ) (r : IsReporting old piece lines now rest lines_now) (new : Progress) (out_new : List Value) where
   step_of : (result : Result Step AllocError) → IsStepAnswer now.stopped now rest [] result new out_new → IsStep now rest [] result new out_new
   step_of result s = subst (λ v. IsStepAnswer v now rest [] result new out_new) r.going s
 
-  adds : new.fed ≡ now.fed ++ rest → new.taken ≡ now.taken → new.table ≡ now.table → new.limits ≡ now.limits → Adds old piece lines new lines_now
-  adds f t u v = record { fed = f ∙ r.fed; added = r.added; taken = t ∙ r.taken; written = r.written; table = u ∙ r.table; limits = v ∙ r.limits }
+  adds : new.fed ≡ now.fed ++ rest → new.taken ≡ now.taken → new.judge ≡ now.judge → new.limits ≡ now.limits → Adds old piece lines new lines_now
+  adds f t u v = record { fed = f ∙ r.fed; added = r.added; taken = t ∙ r.taken; written = r.written; judge = u ∙ r.judge; limits = v ∙ r.limits }
 
   pub reported_more : IsStepAnswer now.stopped now rest [] (Ok step.More) new out_new → Adds old piece lines new lines_now × IsOpen new
   reported_more a =
       let s : IsStep now rest [] (Ok step.More) new out_new = step_of (Ok step.More) a in
-      (adds (ap (λ (p : Progress). p.fed) s.0) (ap (λ (p : Progress). p.taken) s.0) (ap (λ (p : Progress). p.table) s.0) (ap (λ (p : Progress). p.limits) s.0), s.2)
+      (adds (ap (λ (p : Progress). p.fed) s.0) (ap (λ (p : Progress). p.taken) s.0) (ap (λ (p : Progress). p.judge) s.0) (ap (λ (p : Progress). p.limits) s.0), s.2)
 
   pub reported_ended : (end : End) → IsStepAnswer now.stopped now rest [] (Ok (step.Ended end)) new out_new → Adds old piece lines new lines_now × IsEnded new end
   reported_ended end a =
       let s : IsStep now rest [] (Ok (step.Ended end)) new out_new = step_of (Ok (step.Ended end)) a in
-      (adds (ap (λ (p : Progress). p.fed) s.0) (ap (λ (p : Progress). p.taken) s.0) (ap (λ (p : Progress). p.table) s.0) (ap (λ (p : Progress). p.limits) s.0), s.2)
+      (adds (ap (λ (p : Progress). p.fed) s.0) (ap (λ (p : Progress). p.taken) s.0) (ap (λ (p : Progress). p.judge) s.0) (ap (λ (p : Progress). p.limits) s.0), s.2)
 
   pub item_there : (used number offset : ℕ) → IsStepAnswer now.stopped now rest [] (Ok (step.Item used number offset)) new out_new → length out_new ≡ 1
   item_there used number offset a =
@@ -81,29 +82,38 @@ module _ (old : Progress) (piece lines : List ℕ) (now : Progress) (rest lines_
           taken = taken;
           written = written ∙ (ap₂ (λ (a b : List ℕ). a ++ b) r.written line ∙ (append_assoc lines (item_lines (suc (length old.taken)) r.added) (item_line (suc (length old.taken) + length r.added) more)
               ∙ ap (λ (b : List ℕ). lines ++ b) (sym (item_lines_more (suc (length old.taken)) r.added more))));
-          table = ap (λ (p : Progress). p.table) s.3.1 ∙ r.table;
+          judge = ap (λ (p : Progress). p.judge) s.3.1 ∙ r.judge;
           limits = ap (λ (p : Progress). p.limits) s.3.1 ∙ r.limits;
         },
         s.0,
         s.1,
       )
 
--- a mismatch is at the whole of its item
-missed_whole : (table : Table) {l : Bounds} {accepts : Value → List ℕ → Type 0} {kind : Type 0} {told : ℕ → List ℕ → kind → ℕ → Type 0} {stream : List ℕ} {found : List Found} {e : sequence.End kind} →
-    EndsBy l accepts told (Misses table) stream found e → (n o place : ℕ) → e ≡ sequence.failed n o (sequence.mismatch place) → place ≡ 0
-missed_whole table (cleanly run) n o place e = absurd (cc)
-missed_whole table (at_fault rest run some placed told) n o place e = absurd (cc)
-missed_whole table (at_mismatch {o = p} {place = there} rest x front back run placed parts item misses) n o place e =
+-- the item behind the run is one
+pub same_next : (judge : Judge) (l : Bounds) (stream : List ℕ) (found : List Found) (x y : Value) → IsNext judge l stream found x → IsNext judge l stream found y → x ≡ y
+same_next judge l stream found x y a b =
+    let rests = same_takes l (Accepts judge) a.run.takes b.run.takes refl in
+    let parts : a.front ++ a.back ≡ b.front ++ b.back = sym a.parts ∙ (rests.1 ∙ b.parts) in
+    (same_front l l a.offset b.offset x y a.front a.back b.front b.back a.item b.item parts).2
+
+-- a mismatch shows at a place of the item behind the run
+missed_there : (judge : Judge) {l : Bounds} {kind : Type 0} {told : ℕ → List ℕ → kind → ℕ → Type 0} {stream : List ℕ} {found : List Found} {e : sequence.End kind} (x : Value) →
+    EndsBy l (Accepts judge) told (Misses judge) (Overruns judge) stream found e → IsNext judge l stream found x → (n o place : ℕ) → e ≡ sequence.failed n o (sequence.mismatch place) → place < place_count x
+missed_there judge x (cleanly run) is n o place e = absurd (cc)
+missed_there judge x (at_fault rest run some placed told) is n o place e = absurd (cc)
+missed_there judge {l} {stream = stream} {found = found} x (at_mismatch {o = p} {place = there} rest y front back run placed parts item misses) is n o place e =
     let same : there ≡ place = cc in
-    sym same ∙ misses.1
+    let next : IsNext judge l stream found y = record { rest = rest; offset = p; front = front; back = back; run = run; placed = placed; parts = parts; item = item } in
+    subst (λ v. place < place_count v) (same_next judge l stream found y x next is) (subst (λ m. m < place_count y) same (shown_inside judge.table misses.1))
+missed_there judge x (at_spent rest y front back run placed parts item over) is n o place e = absurd (cc)
 
 -- the end of a stream can be shown
-pub shown : (table : Table) (l : Bounds) (stream : List ℕ) (found : List Found) (end : End) (rejected : Option Value) → Ends table l stream found end → IsRejected table l stream found end rejected → IsShown end rejected
-shown table l stream found (Clean items bytes) rejected ends r = tt
-shown table l stream found (Failed items offset (Fault f)) rejected ends r = tt
-shown table l stream found (Failed items offset (Mismatch zero)) (Some x) ends r = place_some x
-shown table l stream found (Failed items offset (Mismatch zero)) None ends r = r
-shown table l stream found (Failed items offset (Mismatch (suc place))) rejected ends r = absurd (let none : suc place ≡ 0 = missed_whole table ends items offset (suc place) refl in omega arith)
+pub shown : (judge : Judge) (l : Bounds) (stream : List ℕ) (found : List Found) (end : End) (rejected : Option Value) → Ends judge l stream found end → IsRejected judge l stream found end rejected → IsShown end rejected
+shown judge l stream found (Clean items bytes) rejected ends r = tt
+shown judge l stream found (Failed items offset (Fault f)) rejected ends r = tt
+shown judge l stream found (Failed items offset (Mismatch place)) (Some x) ends r = missed_there judge x ends r items offset place refl
+shown judge l stream found (Failed items offset (Mismatch place)) None ends r = r
+shown judge l stream found (Failed items offset Spent) rejected ends r = tt
 
 -- the rest from a place on
 pub range_from : (n : ℕ) (xs : List ℕ) → take (length xs - n) (drop n xs) ≡ drop n xs
@@ -112,6 +122,6 @@ range_from n xs = ap (λ k. take k (drop n xs)) (sym (length-drop n xs)) ∙ tak
 -- the item that a settled session lends can be shown with its end
 pub shown_lent : (piece : List ℕ) (new : Progress) (end : End) (lent : Option Value) → IsSettled end piece new → IsLent new.stopped new lent → IsShown end lent
 shown_lent piece new end lent s lends =
-    let ends : Ends new.table new.limits new.fed new.taken end = subst (λ (b : List ℕ). Ends new.table new.limits b new.taken end) (append-nil new.fed) (s.ends [] (λ e. refl)) in
-    let rejects : IsRejected new.table new.limits new.fed new.taken end lent = subst (λ v. IsLent v new lent) s.stopped lends in
-    shown new.table new.limits new.fed new.taken end lent ends rejects
+    let ends : Ends new.judge new.limits new.fed new.taken end = subst (λ (b : List ℕ). Ends new.judge new.limits b new.taken end) (append-nil new.fed) (s.ends [] (λ e. refl)) in
+    let rejects : IsRejected new.judge new.limits new.fed new.taken end lent = subst (λ v. IsLent v new lent) s.stopped lends in
+    shown new.judge new.limits new.fed new.taken end lent ends rejects

@@ -7,10 +7,10 @@ use Rattle.std.specs.Io.KnownBytes as bytes
 use Rattle.cbor_data.specs.Value.{Value}
 use Rattle.cbor_data.specs.Faults.{Bounds}
 use Rattle.cbor_data.specs.Sequence as sequence
-use Rattle.cbor_data.specs.Sequence.{Found, Takes, none, IsRunOf, EndsBy, cleanly, at_fault, at_mismatch}
+use Rattle.cbor_data.specs.Sequence.{Found, Takes, none, IsRunOf, EndsBy, cleanly, at_fault, at_mismatch, at_spent}
 use Rattle.cbor_item.specs.Counted.{HasRisen, one_more}
-use Rattle.cddl_table.specs.declared.table.Table.{Table}
-use Rattle.seq_run.specs.declared.end.Cause.TheVariants.{Fault, Mismatch}
+use Rattle.seq_run.specs.Judge.{Judge}
+use Rattle.seq_run.specs.declared.end.Cause.TheVariants.{Fault, Mismatch, Spent}
 use Rattle.seq_run.specs.declared.end.End.{End}
 use Rattle.seq_run.specs.declared.end.End.TheVariants.{Clean, Failed}
 use Rattle.seq_run.specs.Ends.{Accepts, BeginsWith, IsRun, Ends}
@@ -20,7 +20,8 @@ use Rattle.seq_run.specs.Answers.{IsOpen, IsLent}
 use Rattle.seq_run.specs.Report.{item_line, item_lines, end_line}
 use Rattle.seq_run.specs.Running.{IsReported, IsWhole, IsBeginning, WritesFirst, WritesItems, WritesRun, IsSettled, IsLast, IsPieceDone}
 use Rattle.seq_run.proofs.Ending.{open_end}
-use Rattle.seq_run.proofs.Runs.{same_front, same_takes, takes_extend, begins_run}
+use Rattle.seq_run.proofs.Reporting.{same_next}
+use Rattle.seq_run.proofs.Runs.{same_takes, takes_extend, begins_run}
 
 -- ---- known bytes
 
@@ -64,33 +65,28 @@ risen n = elim (cases_lt (n + 1) (2 ^ 64 - 1)) [
 
 -- ---- ends
 
-ends_of : {l : Bounds} {accepts : Value → List ℕ → Type 0} {kind : Type 0} {told : ℕ → List ℕ → kind → ℕ → Type 0} {misses : Value → List ℕ → ℕ → Type 0} {stream : List ℕ} {found : List Found} {e : sequence.End kind} →
-    EndsBy l accepts told misses stream found e → (rest : List ℕ) × IsRunOf l accepts stream found rest
+ends_of : {l : Bounds} {accepts : Value → List ℕ → Type 0} {kind : Type 0} {told : ℕ → List ℕ → kind → ℕ → Type 0} {misses : Value → List ℕ → ℕ → Type 0} {overruns : Value → List ℕ → Type 0} {stream : List ℕ} {found : List Found} {e : sequence.End kind} →
+    EndsBy l accepts told misses overruns stream found e → (rest : List ℕ) × IsRunOf l accepts stream found rest
 ends_of (cleanly run) = ([], run)
 ends_of (at_fault rest run some placed told) = (rest, run)
 ends_of (at_mismatch rest x front back run placed parts item misses) = (rest, run)
+ends_of (at_spent rest x front back run placed parts item over) = (rest, run)
 
-module _ (table : Table) (l : Bounds) where
-  pub ends_run : (stream : List ℕ) (found : List Found) (end : End) → Ends table l stream found end → (rest : List ℕ) × IsRun table l stream found rest
+module _ (judge : Judge) (l : Bounds) where
+  pub ends_run : (stream : List ℕ) (found : List Found) (end : End) → Ends judge l stream found end → (rest : List ℕ) × IsRun judge l stream found rest
   ends_run stream found end e = ends_of e
 
-  -- the item behind the run is one
-  same_next : (stream : List ℕ) (found : List Found) (x y : Value) → IsNext table l stream found x → IsNext table l stream found y → x ≡ y
-  same_next stream found x y a b =
-      let rests = same_takes l (Accepts table) a.run.takes b.run.takes refl in
-      let parts : a.front ++ a.back ≡ b.front ++ b.back = sym a.parts ∙ (rests.1 ∙ b.parts) in
-      (same_front l l a.offset b.offset x y a.front a.back b.front b.back a.item b.item parts).2
-
-  pub same_rejected : (stream : List ℕ) (found : List Found) (end : End) (a b : Option Value) → IsRejected table l stream found end a → IsRejected table l stream found end b → a ≡ b
+  pub same_rejected : (stream : List ℕ) (found : List Found) (end : End) (a b : Option Value) → IsRejected judge l stream found end a → IsRejected judge l stream found end b → a ≡ b
   same_rejected stream found (Clean items bytes) a b p q = p ∙ sym q
   same_rejected stream found (Failed items offset (Fault f)) a b p q = p ∙ sym q
-  same_rejected stream found (Failed items offset (Mismatch place)) (Some x) (Some y) p q = ap Some (same_next stream found x y p q)
+  same_rejected stream found (Failed items offset Spent) a b p q = p ∙ sym q
+  same_rejected stream found (Failed items offset (Mismatch place)) (Some x) (Some y) p q = ap Some (same_next judge l stream found x y p q)
   same_rejected stream found (Failed items offset (Mismatch place)) None b p q = absurd p
   same_rejected stream found (Failed items offset (Mismatch place)) (Some x) None p q = absurd q
 
-  next_more : (fed more : List ℕ) (found : List Found) (rest : List ℕ) (x : Value) → IsNext table l fed found x → IsRun table l (fed ++ more) found rest → IsNext table l (fed ++ more) found x
+  next_more : (fed more : List ℕ) (found : List Found) (rest : List ℕ) (x : Value) → IsNext judge l fed found x → IsRun judge l (fed ++ more) found rest → IsNext judge l (fed ++ more) found x
   next_more fed more found rest x n run =
-      let rests = same_takes l (Accepts table) run.takes (takes_extend l (Accepts table) more n.run.takes) refl in
+      let rests = same_takes l (Accepts judge) run.takes (takes_extend l (Accepts judge) more n.run.takes) refl in
       record {
         rest = rest;
         offset = n.offset;
@@ -103,9 +99,10 @@ module _ (table : Table) (l : Bounds) where
       }
 
   -- the item that failed stays so
-  pub rejected_more : (fed more : List ℕ) (found : List Found) (end : End) (a : Option Value) → IsRejected table l fed found end a → Ends table l (fed ++ more) found end → IsRejected table l (fed ++ more) found end a
+  pub rejected_more : (fed more : List ℕ) (found : List Found) (end : End) (a : Option Value) → IsRejected judge l fed found end a → Ends judge l (fed ++ more) found end → IsRejected judge l (fed ++ more) found end a
   rejected_more fed more found (Clean items bytes) a r e = r
   rejected_more fed more found (Failed items offset (Fault f)) a r e = r
+  rejected_more fed more found (Failed items offset Spent) a r e = r
   rejected_more fed more found (Failed items offset (Mismatch place)) (Some x) r e =
       let run = ends_of e in next_more fed more found run.0 x r run.1
   rejected_more fed more found (Failed items offset (Mismatch place)) None r e = absurd r
@@ -119,10 +116,10 @@ item_lines-append n (f ∷ fs) gs =
     ap (λ (b : List ℕ). item_line n f ++ b) (item_lines-append (suc n) fs gs ∙ ap (λ (m : ℕ). item_lines (suc n) fs ++ item_lines m gs) number) ∙ sym (append_assoc (item_line n f) (item_lines (suc n) fs) (item_lines (n + suc (length fs)) gs))
 
 -- a list of items that the stream begins with has the first lines of its report
-pub lines_begin : (table : Table) (l : Bounds) (stream : List ℕ) (found : List Found) (rest out : List ℕ) → BeginsWith table l stream found rest → out ≡ item_lines 1 found → IsBeginning table l stream out
-lines_begin table l stream found rest out t is others end rejected e r =
+pub lines_begin : (judge : Judge) (l : Bounds) (stream : List ℕ) (found : List Found) (rest out : List ℕ) → BeginsWith judge l stream found rest → out ≡ item_lines 1 found → IsBeginning judge l stream out
+lines_begin judge l stream found rest out t is others end rejected e r =
     let run = ends_of e in
-    let more = begins_run l (Accepts table) t run.1.takes (run.1.longest found rest t) in
+    let more = begins_run l (Accepts judge) t run.1.takes (run.1.longest found rest t) in
     let behind = item_lines (1 + length found) more.0 ++ end_line end rejected in
     (behind, ap (λ (fs : List Found). item_lines 1 fs ++ end_line end rejected) more.1 ∙ (ap (λ (b : List ℕ). b ++ end_line end rejected) (item_lines-append 1 found more.0) ∙ (append_assoc (item_lines 1 found) (item_lines (1 + length found) more.0) (end_line end rejected) ∙ ap (λ (b : List ℕ). b ++ behind) (sym is))))
 
@@ -131,9 +128,9 @@ some_byte [] h = absurd (h refl)
 some_byte (b ∷ bs) h = omega arith
 
 -- what is known before each read
-pub record IsOn (table : Table) (l : Bounds) (in_old in_now out_old out_now : Option (List ℕ)) (reads reads_now writes writes_now : ℕ) (session : Progress) (reported written : ℕ) : Type 0 where
+pub record IsOn (judge : Judge) (l : Bounds) (in_old in_now out_old out_now : Option (List ℕ)) (reads reads_now writes writes_now : ℕ) (session : Progress) (reported written : ℕ) : Type 0 where
   pub open_now : IsOpen session
-  pub table_is : session.table ≡ table
+  pub judge_is : session.judge ≡ judge
   pub limits_is : session.limits ≡ l
   pub consumed : bytes.Consumes in_old in_now session.fed
   pub appended : bytes.Appends out_old out_now (item_lines 1 session.taken)
@@ -143,31 +140,31 @@ pub record IsOn (table : Table) (l : Bounds) (in_old in_now out_old out_now : Op
   pub written_is : written ≡ length (item_lines 1 session.taken)
   pub bound : written ≤ length session.fed * 2 ^ 64
 
-module _ (table : Table) (l : Bounds) (in_old in_now out_old out_now : Option (List ℕ)) (reads reads_now writes writes_now : ℕ) (session : Progress) (reported written : ℕ)
-    (on : IsOn table l in_old in_now out_old out_now reads reads_now writes writes_now session reported written) where
-  ends_here : Ends table l session.fed session.taken on.open_now.end
-  ends_here = subst (λ (t : Table). Ends t l session.fed session.taken on.open_now.end) on.table_is (subst (λ (m : Bounds). Ends session.table m session.fed session.taken on.open_now.end) on.limits_is on.open_now.ends)
+module _ (judge : Judge) (l : Bounds) (in_old in_now out_old out_now : Option (List ℕ)) (reads reads_now writes writes_now : ℕ) (session : Progress) (reported written : ℕ)
+    (on : IsOn judge l in_old in_now out_old out_now reads reads_now writes writes_now session reported written) where
+  ends_here : Ends judge l session.fed session.taken on.open_now.end
+  ends_here = subst (λ (t : Judge). Ends t l session.fed session.taken on.open_now.end) on.judge_is (subst (λ (m : Bounds). Ends session.judge m session.fed session.taken on.open_now.end) on.limits_is on.open_now.ends)
 
   pub read_failed : (in_new : Option (List ℕ)) (reads_new : ℕ) → bytes.Keeps in_now in_new → reads_new ≡ one_more reads_now →
-      HasRisen reads reads_new × WritesRun table l in_old in_new out_old out_now reported
+      HasRisen reads reads_new × WritesRun judge l in_old in_new out_old out_now reported
   read_failed in_new reads_new keeps count =
-      let run = ends_run table l session.fed session.taken on.open_now.end ends_here in (
+      let run = ends_run judge l session.fed session.taken on.open_now.end ends_here in (
         subst (λ n. HasRisen reads n) (sym (count ∙ ap one_more on.reads_is)) (risen reads),
         record { read = session.fed; found = session.taken; rest = run.0; consumed = consumes_kept in_old in_now in_new session.fed on.consumed keeps; run = run.1; count = on.reported_is; written = on.appended },
       )
 
-  pub no_memory : (in_new : Option (List ℕ)) (piece : List ℕ) → bytes.Consumes in_now in_new piece → WritesItems table l in_old in_new out_old out_now reported
+  pub no_memory : (in_new : Option (List ℕ)) (piece : List ℕ) → bytes.Consumes in_now in_new piece → WritesItems judge l in_old in_new out_old out_now reported
   no_memory in_new piece c =
-      let run = ends_run table l session.fed session.taken on.open_now.end ends_here in
-      record { read = session.fed ++ piece; found = session.taken; rest = run.0 ++ piece; consumed = consumes_more in_old in_now in_new session.fed piece on.consumed c; begins = takes_extend l (Accepts table) piece run.1.takes; count = on.reported_is; written = on.appended }
+      let run = ends_run judge l session.fed session.taken on.open_now.end ends_here in
+      record { read = session.fed ++ piece; found = session.taken; rest = run.0 ++ piece; consumed = consumes_more in_old in_now in_new session.fed piece on.consumed c; begins = takes_extend l (Accepts judge) piece run.1.takes; count = on.reported_is; written = on.appended }
 
   module _ (in_new : Option (List ℕ)) (piece : List ℕ) (c : bytes.Consumes in_now in_new piece) (at_end : piece ≡ [] → bytes.IsAtEnd in_new)
       (end : Option End) (new : Progress) (lines : List ℕ) (d : IsPieceDone session piece end new lines) where
     consumed_new : bytes.Consumes in_old in_new new.fed
     consumed_new = subst (λ (b : List ℕ). bytes.Consumes in_old in_new b) (sym d.adds.fed) (consumes_more in_old in_now in_new session.fed piece on.consumed c)
 
-    table_new : new.table ≡ table
-    table_new = d.adds.table ∙ on.table_is
+    judge_new : new.judge ≡ judge
+    judge_new = d.adds.judge ∙ on.judge_is
 
     limits_new : new.limits ≡ l
     limits_new = d.adds.limits ∙ on.limits_is
@@ -182,36 +179,36 @@ module _ (table : Table) (l : Bounds) (in_old in_now out_old out_now : Option (L
     all_lines = ap (λ (b : List ℕ). item_lines 1 session.taken ++ b) d.written ∙ (sym (append_assoc (item_lines 1 session.taken) d.items d.last) ∙ ap (λ (b : List ℕ). b ++ d.last) (sym lines_of_items))
 
     -- each stream that the reader may give ends so
-    settled : (e : End) → IsSettled e piece new → (left : List ℕ) → (piece ≡ [] → left ≡ []) → Ends table l (new.fed ++ left) new.taken e
-    settled e s left h = subst (λ (t : Table). Ends t l (new.fed ++ left) new.taken e) table_new (subst (λ (m : Bounds). Ends new.table m (new.fed ++ left) new.taken e) limits_new (s.ends left h))
+    settled : (e : End) → IsSettled e piece new → (left : List ℕ) → (piece ≡ [] → left ≡ []) → Ends judge l (new.fed ++ left) new.taken e
+    settled e s left h = subst (λ (t : Judge). Ends t l (new.fed ++ left) new.taken e) judge_new (subst (λ (m : Bounds). Ends new.judge m (new.fed ++ left) new.taken e) limits_new (s.ends left h))
 
-    rejects : (e : End) (a : Option Value) → IsRejected new.table new.limits new.fed new.taken e a → IsRejected table l new.fed new.taken e a
-    rejects e a r = subst (λ (t : Table). IsRejected t l new.fed new.taken e a) table_new (subst (λ (m : Bounds). IsRejected new.table m new.fed new.taken e a) limits_new r)
+    rejects : (e : End) (a : Option Value) → IsRejected new.judge new.limits new.fed new.taken e a → IsRejected judge l new.fed new.taken e a
+    rejects e a r = subst (λ (t : Judge). IsRejected t l new.fed new.taken e a) judge_new (subst (λ (m : Bounds). IsRejected new.judge m new.fed new.taken e a) limits_new r)
 
     front_of : (last : List ℕ) (e : Option End) → IsLast e piece new last → (left : List ℕ) → (piece ≡ [] → left ≡ []) →
-        IsWhole table l (new.fed ++ left) (item_lines 1 new.taken ++ last) ⊎ IsBeginning table l (new.fed ++ left) (item_lines 1 new.taken ++ last)
+        IsWhole judge l (new.fed ++ left) (item_lines 1 new.taken ++ last) ⊎ IsBeginning judge l (new.fed ++ left) (item_lines 1 new.taken ++ last)
     front_of last None h left bare =
         let open_new = h.2 in
-        let here : Ends table l new.fed new.taken open_new.end = subst (λ (t : Table). Ends t l new.fed new.taken open_new.end) table_new (subst (λ (m : Bounds). Ends new.table m new.fed new.taken open_new.end) limits_new open_new.ends) in
-        let run = ends_run table l new.fed new.taken open_new.end here in
-        inr (lines_begin table l (new.fed ++ left) new.taken (run.0 ++ left) (item_lines 1 new.taken ++ last) (takes_extend l (Accepts table) left run.1.takes) (ap (λ (b : List ℕ). item_lines 1 new.taken ++ b) h.0 ∙ append-nil (item_lines 1 new.taken)))
+        let here : Ends judge l new.fed new.taken open_new.end = subst (λ (t : Judge). Ends t l new.fed new.taken open_new.end) judge_new (subst (λ (m : Bounds). Ends new.judge m new.fed new.taken open_new.end) limits_new open_new.ends) in
+        let run = ends_run judge l new.fed new.taken open_new.end here in
+        inr (lines_begin judge l (new.fed ++ left) new.taken (run.0 ++ left) (item_lines 1 new.taken ++ last) (takes_extend l (Accepts judge) left run.1.takes) (ap (λ (b : List ℕ). item_lines 1 new.taken ++ b) h.0 ∙ append-nil (item_lines 1 new.taken)))
     front_of last (Some e) h left bare =
         let ends = settled e h.3 left bare in
-        inl (record { found = new.taken; end = e; rejected = h.0; ends = ends; rejects = rejected_more table l new.fed left new.taken e h.0 (rejects e h.0 h.1) ends; is = ap (λ (b : List ℕ). item_lines 1 new.taken ++ b) h.2 })
+        inl (record { found = new.taken; end = e; rejected = h.0; ends = ends; rejects = rejected_more judge l new.fed left new.taken e h.0 (rejects e h.0 h.1) ends; is = ap (λ (b : List ℕ). item_lines 1 new.taken ++ b) h.2 })
 
     pub write_failed : (out_new : Option (List ℕ)) (k writes_new : ℕ) → k < length lines → bytes.Appends out_now out_new (take k lines) → HasRisen writes_now writes_new →
-        HasRisen writes writes_new × IfSome in_old (λ stream. WritesFirst table l stream out_old out_new (written + k))
+        HasRisen writes writes_new × IfSome in_old (λ stream. WritesFirst judge l stream out_old out_new (written + k))
     write_failed out_new k writes_new short part rise =
         let out = item_lines 1 session.taken ++ lines in
         let front : take (written + k) out ≡ item_lines 1 session.taken ++ take k lines = ap (λ n. take (n + k) out) on.written_is ∙ take-append-add (item_lines 1 session.taken) lines k in
         let all : bytes.Appends out_old out_new (take (written + k) out) = subst (λ (b : List ℕ). bytes.Appends out_old out_new b) (sym front) (appends_more out_old out_now out_new (item_lines 1 session.taken) (take k lines) on.appended part) in
         let below : written + k < length out = omega (arith, short, on.written_is, length-append (item_lines 1 session.taken) lines) in (
           subst (λ n. HasRisen n writes_new) on.writes_is rise,
-          of_stream in_old in_new new.fed piece (λ stream. WritesFirst table l stream out_old out_new (written + k)) consumed_new at_end (λ left bare.
+          of_stream in_old in_new new.fed piece (λ stream. WritesFirst judge l stream out_old out_new (written + k)) consumed_new at_end (λ left bare.
               let front_there = front_of d.last end d.line left bare in
               record {
                 out = out;
-                front = subst (λ (b : List ℕ). IsWhole table l (new.fed ++ left) b ⊎ IsBeginning table l (new.fed ++ left) b) (sym all_lines) front_there;
+                front = subst (λ (b : List ℕ). IsWhole judge l (new.fed ++ left) b ⊎ IsBeginning judge l (new.fed ++ left) b) (sym all_lines) front_there;
                 short = below;
                 written = all;
               }),
@@ -221,26 +218,26 @@ module _ (table : Table) (l : Bounds) (in_old in_now out_old out_now : Option (L
     written_all out_new part = subst (λ (b : List ℕ). bytes.Appends out_old out_new b) all_lines (appends_more out_old out_now out_new (item_lines 1 session.taken) lines on.appended part)
 
     last_of : (e : End) (last : List ℕ) (lent : Option Value) → IsLast (Some e) piece new last → IsLent new.stopped new lent → (left : List ℕ) → (piece ≡ [] → left ≡ []) → (out_new : Option (List ℕ)) →
-        bytes.Appends out_old out_new (item_lines 1 new.taken ++ last) → IsReported table l (new.fed ++ left) out_old out_new e lent
+        bytes.Appends out_old out_new (item_lines 1 new.taken ++ last) → IsReported judge l (new.fed ++ left) out_old out_new e lent
     last_of e last lent h lends left bare out_new part =
         let ends = settled e h.3 left bare in
-        let lent_there : IsRejected new.table new.limits new.fed new.taken e lent = subst (λ v. IsLent v new lent) h.3.stopped lends in
-        let same : h.0 ≡ lent = same_rejected new.table new.limits new.fed new.taken e h.0 lent h.1 lent_there in
+        let lent_there : IsRejected new.judge new.limits new.fed new.taken e lent = subst (λ v. IsLent v new lent) h.3.stopped lends in
+        let same : h.0 ≡ lent = same_rejected new.judge new.limits new.fed new.taken e h.0 lent h.1 lent_there in
         record {
           found = new.taken;
           ends = ends;
-          rejects = rejected_more table l new.fed left new.taken e lent (rejects e lent lent_there) ends;
+          rejects = rejected_more judge l new.fed left new.taken e lent (rejects e lent lent_there) ends;
           written = subst (λ (b : List ℕ). bytes.Appends out_old out_new (item_lines 1 new.taken ++ b)) (h.2 ∙ ap (λ (a : Option Value). end_line e a) same) part;
         }
 
     pub reported_all : (e : End) (lent : Option Value) (out_new : Option (List ℕ)) → end ≡ Some e → bytes.Appends out_now out_new lines → IsLent new.stopped new lent →
-        IfSome in_old (λ stream. IsReported table l stream out_old out_new e lent)
+        IfSome in_old (λ stream. IsReported judge l stream out_old out_new e lent)
     reported_all e lent out_new is part lends =
         let line : IsLast (Some e) piece new d.last = subst (λ v. IsLast v piece new d.last) is d.line in
-        of_stream in_old in_new new.fed piece (λ stream. IsReported table l stream out_old out_new e lent) consumed_new at_end (λ left bare. last_of e d.last lent line lends left bare out_new (written_all out_new part))
+        of_stream in_old in_new new.fed piece (λ stream. IsReported judge l stream out_old out_new e lent) consumed_new at_end (λ left bare. last_of e d.last lent line lends left bare out_new (written_all out_new part))
 
     pub goes_on : (out_new : Option (List ℕ)) (reads_new writes_new : ℕ) → reads_new ≡ reads_now → end ≡ None → bytes.Appends out_now out_new lines → writes_new ≡ writes_now → (len : ℕ) → len ≡ length lines → len < 2 ^ 64 → (reported_new : ℕ) → (new.stopped ≡ None → reported_new ≡ length new.taken) →
-        (0 < length piece) × IsOn table l in_old in_new out_old out_new reads reads_new writes writes_new new reported_new (written + len)
+        (0 < length piece) × IsOn judge l in_old in_new out_old out_new reads reads_new writes writes_new new reported_new (written + len)
     goes_on out_new reads_new writes_new read_count is part count len len_is few reported_new reported_new_is =
         let line : IsLast None piece new d.last = subst (λ v. IsLast v piece new d.last) is d.line in
         let all : item_lines 1 session.taken ++ lines ≡ item_lines 1 new.taken = all_lines ∙ (ap (λ (b : List ℕ). item_lines 1 new.taken ++ b) line.0 ∙ append-nil (item_lines 1 new.taken)) in
@@ -248,7 +245,7 @@ module _ (table : Table) (l : Bounds) (in_old in_now out_old out_now : Option (L
           some,
           record {
             open_now = line.2;
-            table_is = table_new;
+            judge_is = judge_new;
             limits_is = limits_new;
             consumed = consumed_new;
             appended = subst (λ (b : List ℕ). bytes.Appends out_old out_new b) (ap (λ (b : List ℕ). item_lines 1 new.taken ++ b) line.0 ∙ append-nil (item_lines 1 new.taken)) (written_all out_new part);
@@ -263,13 +260,13 @@ module _ (table : Table) (l : Bounds) (in_old in_now out_old out_now : Option (L
     pub written_fits : length lines < 2 ^ 64 → written + length lines < 2 ^ 128
     written_fits few = omega (arith, on.bound, few, on.open_now.short)
 
-pub begin_run : (table : Table) (l : Bounds) (input output : Option (List ℕ)) (reads writes : ℕ) (session : Progress) → session ≡ record { table = table; limits = l; fed = []; taken = []; stopped = None } →
-    IsOn table l input input output output reads reads writes writes session 0 0
-begin_run table l input output reads writes session e =
-    let end = open_end table l [] [] 0 [] none refl (inl refl) in
+pub begin_run : (judge : Judge) (l : Bounds) (input output : Option (List ℕ)) (reads writes : ℕ) (session : Progress) → session ≡ record { judge = judge; limits = l; fed = []; taken = []; stopped = None } →
+    IsOn judge l input input output output reads reads writes writes session 0 0
+begin_run judge l input output reads writes session e =
+    let end = open_end judge l [] [] 0 [] none refl (inl refl) in
     rw e (record {
       open_now = record { end = end.end; ends = end.ends; undecided = end.undecided; short = omega arith; going = refl };
-      table_is = refl;
+      judge_is = refl;
       limits_is = refl;
       consumed = consumes_none input;
       appended = appends_none output;

@@ -10,25 +10,24 @@ use Rattle.cbor_read.specs.Answers.{IsGoingOn, IsTaken, IsRefused, IsUsedUpTo}
 use Rattle.cbor_read.specs.declared.fault.Fault as declared
 use Rattle.cbor_read.specs.declared.fault.FaultKind.{FaultKind}
 use Rattle.cbor_read.specs.declared.fault.FaultKind.TheVariants.{ReservedInfo, BadIndefinite, BadBreak, BadChunk, BadSimple, TooDeep, TooLong, Truncated, BadText, DuplicateKey}
-use Rattle.cddl_table.specs.Matches.{Matches}
-use Rattle.cddl_table.specs.declared.table.Table.{Table}
-use Rattle.seq_run.specs.declared.end.Cause.TheVariants.{Fault, Mismatch}
+use Rattle.seq_run.specs.Judge.{Judge}
+use Rattle.seq_run.specs.declared.end.Cause.TheVariants.{Fault, Mismatch, Spent}
 use Rattle.seq_run.specs.declared.end.End.TheVariants.{Failed}
 use Rattle.seq_run.specs.declared.end.Stopped.{Stopped}
 use Rattle.seq_run.specs.declared.end.Stopped.TheVariants.{Memory}
 use Rattle.seq_run.specs.declared.session.Placed.{Placed}
-use Rattle.seq_run.specs.Ends.{Accepts, BeginsWith, Ends}
+use Rattle.seq_run.specs.Ends.{Accepts, Misses, Overruns, BeginsWith, Ends}
 use Rattle.seq_run.specs.Placed.{found_of}
 use Rattle.seq_run.specs.Standing.{IsHeld, IsNext, IsRunning}
 use Rattle.seq_run.specs.Answers.{IsOpen, IsCutShort}
 use Rattle.seq_run.proofs.Fronts.{clear_placed}
 use Rattle.seq_run.proofs.Runs.{takes_extend, takes_snoc, takes_count, formed_some}
-use Rattle.seq_run.proofs.Ending.{fault_end, missed_end, open_end}
+use Rattle.seq_run.proofs.Ending.{fault_end, missed_end, spent_end, open_end}
 
 -- a new session
-pub started : (table : Table) (reader : Reading) (fed : List ℕ) (taken : List Placed) (l : Bounds) → reader ≡ record { limits = l; offset = 0; fed = []; stopped = None } → fed ≡ [] → taken ≡ [] →
-    IsRunning table reader.limits fed (map found_of taken) reader 0 0 0 None
-started table reader fed taken l r f t = rw (r, f, t) (record {
+pub started : (judge : Judge) (reader : Reading) (fed : List ℕ) (taken : List Placed) (l : Bounds) → reader ≡ record { limits = l; offset = 0; fed = []; stopped = None } → fed ≡ [] → taken ≡ [] →
+    IsRunning judge reader.limits fed (map found_of taken) reader 0 0 0 None
+started judge reader fed taken l r f t = rw (r, f, t) (record {
   takes = none;
   items_is = refl;
   offset_is = refl;
@@ -52,17 +51,17 @@ regrouped fed piece more = append_assoc fed piece more
 split_piece : (used : ℕ) (held piece : List ℕ) → held ++ piece ≡ (held ++ take used piece) ++ drop used piece
 split_piece used held piece = ap (λ b. held ++ b) (sym (take-append-drop used piece)) ∙ sym (append_assoc held (take used piece) (drop used piece))
 
-module _ (table : Table) (l : Bounds) (fed : List ℕ) (taken : List Found) (reader : Reading) (items offset bytes : ℕ) (rejected : Option Value)
-    (s : IsRunning table l fed taken reader items offset bytes rejected) where
+module _ (judge : Judge) (l : Bounds) (fed : List ℕ) (taken : List Found) (reader : Reading) (items offset bytes : ℕ) (rejected : Option Value)
+    (s : IsRunning judge l fed taken reader items offset bytes rejected) where
   -- the beginning with more bytes
-  extended : (piece : List ℕ) → BeginsWith table l (fed ++ piece) taken (reader.fed ++ piece)
-  extended piece = takes_extend l (Accepts table) piece s.takes
+  extended : (piece : List ℕ) → BeginsWith judge l (fed ++ piece) taken (reader.fed ++ piece)
+  extended piece = takes_extend l (Accepts judge) piece s.takes
 
   placed_at : (piece : List ℕ) → reader.offset + length (reader.fed ++ piece) ≡ length (fed ++ piece)
   placed_at piece = omega (arith, s.placed, s.bytes_is, s.offset_is, length-append reader.fed piece, length-append fed piece)
 
   pub counts_below : items ≤ bytes
-  counts_below = omega (arith, takes_count l (Accepts table) s.takes, s.items_is, s.bytes_is)
+  counts_below = omega (arith, takes_count l (Accepts judge) s.takes, s.items_is, s.bytes_is)
 
   -- the piece was used, and the item goes on
   pub grows : (piece : List ℕ) (new : Reading) → IsGoingOn reader piece new → bytes + length piece ≤ last_offset
@@ -71,7 +70,7 @@ module _ (table : Table) (l : Bounds) (fed : List ℕ) (taken : List Found) (rea
       let end = clear_placed reader.limits reader.offset (reader.fed ++ piece) below g.unfinished g.clear in
       omega (arith, end, placed_at piece, s.bytes_is, length-append fed piece)
 
-  pub going_on : (piece : List ℕ) (new : Reading) → IsGoingOn reader piece new → IsRunning table l (fed ++ piece) taken new items offset (bytes + length piece) rejected
+  pub going_on : (piece : List ℕ) (new : Reading) → IsGoingOn reader piece new → IsRunning judge l (fed ++ piece) taken new items offset (bytes + length piece) rejected
   going_on piece new g = rw g.next (record {
     takes = extended piece;
     items_is = s.items_is;
@@ -86,25 +85,25 @@ module _ (table : Table) (l : Bounds) (fed : List ℕ) (taken : List Found) (rea
   })
 
   -- the bytes fed have an end that more may change
-  pub opened : (stopped : Option Stopped) → stopped ≡ None → IsOpen (record { table = table; limits = l; fed = fed; taken = taken; stopped = stopped })
+  pub opened : (stopped : Option Stopped) → stopped ≡ None → IsOpen (record { judge = judge; limits = l; fed = fed; taken = taken; stopped = stopped })
   opened stopped going =
       let held : IsHeld l reader.offset reader.fed = s.held in
       let at : reader.offset + length reader.fed ≡ length fed = omega (arith, s.placed, s.bytes_is, s.offset_is) in
-      let end = open_end table l fed taken reader.offset reader.fed s.takes at held in
+      let end = open_end judge l fed taken reader.offset reader.fed s.takes at held in
       record { end = end.end; ends = end.ends; undecided = end.undecided; short = omega (arith, s.bytes_is, s.short); going = going }
 
   -- an item was accepted
-  pub took : (piece : List ℕ) (used : ℕ) (x : Value) (new : Reading) → IsTaken reader piece used x new → Matches table x →
-      (bytes + used ≤ last_offset) × IsRunning table l (fed ++ take used piece) (taken ++ record { offset = offset; item = x } ∷ []) new (items + 1) (bytes + used) (bytes + used) None
-  took piece used x new t matches =
+  pub took : (piece : List ℕ) (used : ℕ) (x : Value) (new : Reading) → IsTaken reader piece used x new → Accepts judge x (reader.fed ++ take used piece) →
+      (bytes + used ≤ last_offset) × IsRunning judge l (fed ++ take used piece) (taken ++ record { offset = offset; item = x } ∷ []) new (items + 1) (bytes + used) (bytes + used) None
+  took piece used x new t accepts =
       let front = reader.fed ++ take used piece in
       let item : IsItem l reader.offset x front = subst (λ (m : Bounds). IsItem m reader.offset x front) s.limits t.item in
       let used_is : length (take used piece) ≡ used = length-take-le used piece t.within in
       let at : offset + length front ≡ length (fed ++ take used piece) = omega (arith, placed_at (take used piece), s.offset_is) in
       let short : bytes + used ≤ last_offset = omega (arith, item.placed, s.offset_is, s.placed, used_is, length-append reader.fed (take used piece)) in
-      let begins : BeginsWith table l (fed ++ take used piece) (taken ++ record { offset = offset; item = x } ∷ []) [] =
-      takes_snoc l (Accepts table) offset x front [] (extended (take used piece)) (omega (arith, at)) (sym (append-nil front)) (subst (λ n. IsItem l n x front) (sym s.offset_is) item) matches in
-      let running : IsRunning table l (fed ++ take used piece) (taken ++ record { offset = offset; item = x } ∷ []) (record { limits = reader.limits; offset = reader.offset + length front; fed = []; stopped = None }) (items + 1) (bytes + used) (bytes + used) None = record {
+      let begins : BeginsWith judge l (fed ++ take used piece) (taken ++ record { offset = offset; item = x } ∷ []) [] =
+      takes_snoc l (Accepts judge) offset x front [] (extended (take used piece)) (omega (arith, at)) (sym (append-nil front)) (subst (λ n. IsItem l n x front) (sym s.offset_is) item) accepts in
+      let running : IsRunning judge l (fed ++ take used piece) (taken ++ record { offset = offset; item = x } ∷ []) (record { limits = reader.limits; offset = reader.offset + length front; fed = []; stopped = None }) (items + 1) (bytes + used) (bytes + used) None = record {
         takes = begins;
         items_is = omega (arith, s.items_is, length-append taken (record { offset = offset; item = x } ∷ []));
         offset_is = omega (arith, s.offset_is, s.placed, used_is, length-append reader.fed (take used piece));
@@ -116,25 +115,39 @@ module _ (table : Table) (l : Bounds) (fed : List ℕ) (taken : List Found) (rea
         held = inl refl;
         none = refl;
       } in
-      (short, subst (λ (r : Reading). IsRunning table l (fed ++ take used piece) (taken ++ record { offset = offset; item = x } ∷ []) r (items + 1) (bytes + used) (bytes + used) None) (sym t.next) running)
+      (short, subst (λ (r : Reading). IsRunning judge l (fed ++ take used piece) (taken ++ record { offset = offset; item = x } ∷ []) r (items + 1) (bytes + used) (bytes + used) None) (sym t.next) running)
 
   -- the bytes behind the run, whatever follows
-  rest_of : (piece more : List ℕ) → BeginsWith table l ((fed ++ piece) ++ more) taken ((reader.fed ++ piece) ++ more)
-  rest_of piece more = takes_extend l (Accepts table) more (extended piece)
+  rest_of : (piece more : List ℕ) → BeginsWith judge l ((fed ++ piece) ++ more) taken ((reader.fed ++ piece) ++ more)
+  rest_of piece more = takes_extend l (Accepts judge) more (extended piece)
 
   rest_placed : (piece more : List ℕ) → offset + length ((reader.fed ++ piece) ++ more) ≡ length ((fed ++ piece) ++ more)
   rest_placed piece more = omega (arith, placed_at piece, s.offset_is, length-append (reader.fed ++ piece) more, length-append (fed ++ piece) more)
 
-  -- an item was not accepted
-  pub missed : (piece : List ℕ) (used : ℕ) (x : Value) (new : Reading) (more : List ℕ) → IsTaken reader piece used x new → (Matches table x → ⊥) →
-      Ends table l ((fed ++ piece) ++ more) taken (Failed items offset (Mismatch 0)) × IsNext table l ((fed ++ piece) ++ more) taken x
-  missed piece used x new more t not =
-      let front = reader.fed ++ take used piece in
-      let back = drop used piece ++ more in
-      let item : IsItem l offset x front = subst (λ n. IsItem l n x front) (sym s.offset_is) (subst (λ (m : Bounds). IsItem m reader.offset x front) s.limits t.item) in
-      let parts : (reader.fed ++ piece) ++ more ≡ front ++ back = ap (λ b. b ++ more) (split_piece used reader.fed piece) ∙ append_assoc front (drop used piece) more in
-      let both = missed_end table l ((fed ++ piece) ++ more) taken ((reader.fed ++ piece) ++ more) offset x front back (rest_of piece more) (rest_placed piece more) parts item not in
-      (subst (λ n. Ends table l ((fed ++ piece) ++ more) taken (Failed n offset (Mismatch 0))) (sym s.items_is) both.0, both.1)
+  -- an item was read that is not accepted
+  module _ (piece : List ℕ) (used : ℕ) (x : Value) (new : Reading) (more : List ℕ) (t : IsTaken reader piece used x new) where
+    abbrev front : List ℕ
+    front = reader.fed ++ take used piece
+
+    abbrev back : List ℕ
+    back = drop used piece ++ more
+
+    read_item : IsItem l offset x front
+    read_item = subst (λ n. IsItem l n x front) (sym s.offset_is) (subst (λ (m : Bounds). IsItem m reader.offset x front) s.limits t.item)
+
+    read_parts : (reader.fed ++ piece) ++ more ≡ front ++ back
+    read_parts = ap (λ b. b ++ more) (split_piece used reader.fed piece) ∙ append_assoc front (drop used piece) more
+
+    pub missed : (place : ℕ) → Misses judge x front place →
+        Ends judge l ((fed ++ piece) ++ more) taken (Failed items offset (Mismatch place)) × IsNext judge l ((fed ++ piece) ++ more) taken x
+    missed place misses =
+        let both = missed_end judge l ((fed ++ piece) ++ more) taken ((reader.fed ++ piece) ++ more) offset x front back place (rest_of piece more) (rest_placed piece more) read_parts read_item misses in
+        (subst (λ n. Ends judge l ((fed ++ piece) ++ more) taken (Failed n offset (Mismatch place))) (sym s.items_is) both.0, both.1)
+
+    pub overrun : Overruns judge x front → Ends judge l ((fed ++ piece) ++ more) taken (Failed items offset Spent)
+    overrun over =
+        subst (λ n. Ends judge l ((fed ++ piece) ++ more) taken (Failed n offset Spent)) (sym s.items_is)
+        (spent_end judge l ((fed ++ piece) ++ more) taken ((reader.fed ++ piece) ++ more) offset x front back (rest_of piece more) (rest_placed piece more) read_parts read_item over)
 
   refused_some : (piece : List ℕ) (used : ℕ) (k : FaultKind) (at : ℕ) → used ≤ length piece → IsUsedUpTo reader piece used k at → reader.fed ++ piece ≢ []
   refused_some piece used ReservedInfo at within u e = omega (arith, u.0, ap length e, length-append reader.fed piece)
@@ -154,14 +167,14 @@ module _ (table : Table) (l : Bounds) (fed : List ℕ) (taken : List Found) (rea
 
   -- a fault was told
   pub faulted : (piece : List ℕ) (used : ℕ) (fault : declared.Fault) (new : Reading) (more : List ℕ) → IsRefused reader piece used fault new →
-      Ends table l ((fed ++ piece) ++ more) taken (Failed items offset (Fault fault))
+      Ends judge l ((fed ++ piece) ++ more) taken (Failed items offset (Fault fault))
   faulted piece used fault new more r =
       let rest = (reader.fed ++ piece) ++ more in
       let told : IsTold l offset rest fault.kind fault.at = subst (λ n. IsTold l n rest fault.kind fault.at) (sym s.offset_is) (subst (λ (m : Bounds). IsTold m reader.offset rest fault.kind fault.at) s.limits (r.told more)) in
       let some : rest ≢ [] = λ e. refused_some piece used fault.kind fault.at r.within r.place (empty_front (reader.fed ++ piece) more e) in
-      subst (λ n. Ends table l ((fed ++ piece) ++ more) taken (Failed n offset (Fault fault))) (sym s.items_is)
-      (fault_end table l ((fed ++ piece) ++ more) taken rest offset fault.kind fault.at (rest_of piece more) (rest_placed piece more) some told)
+      subst (λ n. Ends judge l ((fed ++ piece) ++ more) taken (Failed n offset (Fault fault))) (sym s.items_is)
+      (fault_end judge l ((fed ++ piece) ++ more) taken rest offset fault.kind fault.at (rest_of piece more) (rest_placed piece more) some told)
 
   -- where the session gives up
-  pub cut_short : (piece : List ℕ) → IsCutShort (record { table = table; limits = l; fed = fed ++ piece; taken = taken; stopped = Some Memory })
+  pub cut_short : (piece : List ℕ) → IsCutShort (record { judge = judge; limits = l; fed = fed ++ piece; taken = taken; stopped = Some Memory })
   cut_short piece = record { rest = reader.fed ++ piece; begins = extended piece; stopped = refl }

@@ -6,7 +6,7 @@ use Rattle.cbor_data.specs.Faults.{last_offset}
 use Rattle.cbor_data.specs.Sequence.{Found}
 use Rattle.cbor_read.specs.declared.fault.FaultKind.{FaultKind}
 use Rattle.cbor_read.specs.declared.fault.FaultKind.TheVariants as kind
-use Rattle.seq_run.specs.declared.end.Cause.TheVariants.{Fault, Mismatch}
+use Rattle.seq_run.specs.declared.end.Cause.TheVariants.{Fault, Mismatch, Spent}
 use Rattle.seq_run.specs.declared.end.End.{End}
 use Rattle.seq_run.specs.declared.end.End.TheVariants.{Clean, Failed}
 use Rattle.seq_run.specs.declared.end.State.{State}
@@ -34,24 +34,25 @@ abbrev pub IsUndecided : ℕ → End → Type 0
 IsUndecided n (Clean items bytes) = Unit {0}
 IsUndecided n (Failed items offset (Fault f)) = (f.at ≡ n) × IsAtEndKind f.kind
 IsUndecided n (Failed items offset (Mismatch place)) = ⊥
+IsUndecided n (Failed items offset Spent) = ⊥
 
 -- The bytes fed have this end, and more bytes may change it.
 pub record IsOpen (p : Progress) : Type 0 where
   pub end : End
-  pub ends : Ends p.table p.limits p.fed p.taken end
+  pub ends : Ends p.judge p.limits p.fed p.taken end
   pub undecided : IsUndecided (length p.fed) end
   pub short : length p.fed ≤ last_offset
   pub going : p.stopped ≡ None
 
 -- Each stream that begins with the bytes fed has this end.
 pub record IsEnded (p : Progress) (end : End) : Type 0 where
-  pub ends : (more : List ℕ) → Ends p.table p.limits (p.fed ++ more) p.taken end
+  pub ends : (more : List ℕ) → Ends p.judge p.limits (p.fed ++ more) p.taken end
   pub stopped : p.stopped ≡ Some (Ended end)
 
 -- The bytes fed begin with the items taken; the run of these bytes may have more.
 pub record IsCutShort (p : Progress) : Type 0 where
   pub rest : List ℕ
-  pub begins : BeginsWith p.table p.limits p.fed p.taken rest
+  pub begins : BeginsWith p.judge p.limits p.fed p.taken rest
   pub stopped : p.stopped ≡ Some Memory
 
 -- what `feed` answers of a session that has not stopped
@@ -66,24 +67,25 @@ IsAnswer None old piece result new = (new.fed ≡ old.fed ++ piece) × IsFed res
 IsAnswer (Some (Ended end)) old piece result new = (result ≡ Ok (state.Ended end)) × (new ≡ old)
 IsAnswer (Some Memory) old piece result new = (result ≡ Err alloc_error) × (new ≡ old)
 
--- The items that came to the session's are those that came to the list, and the specification and the limits stay.
+-- The items that came to the session's are those that came to the list, and the specification, the steps and the limits
+-- stay.
 pub record Appends (old new : Progress) (out_old out_new : List Value) : Type 0 where
   pub added : List Found
   pub taken : new.taken ≡ old.taken ++ added
   pub out : out_new ≡ out_old ++ items_of added
-  pub table : new.table ≡ old.table
+  pub judge : new.judge ≡ old.judge
   pub limits : new.limits ≡ old.limits
 
 -- what `finish` answers
 abbrev pub IsFinish : Option Stopped → Progress → Result End AllocError → Progress → Type 0
-IsFinish None old (Ok end) new = Ends old.table old.limits old.fed old.taken end × (new ≡ record old { stopped = Some (Ended end) })
+IsFinish None old (Ok end) new = Ends old.judge old.limits old.fed old.taken end × (new ≡ record old { stopped = Some (Ended end) })
 IsFinish None old (Err e) new = ⊥
 IsFinish (Some (Ended end)) old result new = (result ≡ Ok end) × (new ≡ old)
 IsFinish (Some Memory) old result new = (result ≡ Err alloc_error) × (new ≡ old)
 
 -- the item that failed, exactly where the session has ended by a mismatch
 abbrev pub IsLent : Option Stopped → Progress → Option Value → Type 0
-IsLent (Some (Ended end)) p rejected = IsRejected p.table p.limits p.fed p.taken end rejected
+IsLent (Some (Ended end)) p rejected = IsRejected p.judge p.limits p.fed p.taken end rejected
 IsLent _ p rejected = rejected ≡ None
 
 -- one step of a session that has not stopped

@@ -1,3 +1,4 @@
+pub mod Judge
 pub mod Ends
 pub mod Progress
 pub mod Placed

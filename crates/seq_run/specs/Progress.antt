@@ -7,12 +7,14 @@ use Rattle.cbor_data.specs.Faults.{Bounds}
 use Rattle.cbor_data.specs.Sequence.{Found}
 use Rattle.cddl_table.specs.declared.table.Table.{Table}
 use Rattle.cddl_table.specs.contracts.table.Table.{the_row as table_row}
+use Rattle.seq_run.specs.Judge.{Judge}
 use Rattle.seq_run.specs.declared.end.Stopped.{Stopped}
 use Rattle.seq_run.specs.contracts.end.Stopped.{the_row as stopped_row}
 
--- the specification, the limits, the bytes fed, the items taken with their offsets, and why nothing more is taken, if so
+-- the specification with the steps, the limits, the bytes fed, the items taken with their offsets, and why nothing more is
+-- taken, if so
 pub record Progress : Type 0 where
-  pub table : Table
+  pub judge : Judge
   pub limits : Bounds
   pub fed : List ℕ
   pub taken : List Found
@@ -24,16 +26,16 @@ coded_bounds = code_by (ℕ × ℕ) (coded× coded_ℕ coded_ℕ) (λ l. (l.dept
 abbrev coded_found : Coded Found
 coded_found = code_by (ℕ × Value) (coded× coded_ℕ coded_value) (λ f. (f.offset, f.item)) (λ p. record { offset = p.0; item = p.1 }) (λ _. refl)
 
-abbrev coded_table : Coded Table
-coded_table = table_row.coded
+abbrev coded_judge : Coded Judge
+coded_judge = code_by (Table × ℕ) (coded× table_row.coded coded_ℕ) (λ j. (j.table, j.steps)) (λ p. record { table = p.0; steps = p.1 }) (λ _. refl)
 
 abbrev coded_stopped : Coded Stopped
 coded_stopped = stopped_row.coded
 
 abbrev pub coded_progress : Coded Progress
 coded_progress =
-    code_by (Table × (Bounds × (List ℕ × (List Found × Option Stopped))))
-    (coded× coded_table (coded× coded_bounds (coded× (coded_list coded_ℕ) (coded× (coded_list coded_found) (coded_option coded_stopped)))))
-    (λ p. (p.table, (p.limits, (p.fed, (p.taken, p.stopped)))))
-    (λ p. record { table = p.0; limits = p.1.0; fed = p.1.1.0; taken = p.1.1.1.0; stopped = p.1.1.1.1 })
+    code_by (Judge × (Bounds × (List ℕ × (List Found × Option Stopped))))
+    (coded× coded_judge (coded× coded_bounds (coded× (coded_list coded_ℕ) (coded× (coded_list coded_found) (coded_option coded_stopped)))))
+    (λ p. (p.judge, (p.limits, (p.fed, (p.taken, p.stopped)))))
+    (λ p. record { judge = p.0; limits = p.1.0; fed = p.1.1.0; taken = p.1.1.1.0; stopped = p.1.1.1.1 })
     (λ _. refl)

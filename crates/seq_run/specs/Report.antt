@@ -8,7 +8,7 @@ use Rattle.cbor_data.specs.Notation.{notation}
 use Rattle.cbor_read.specs.declared.fault.FaultKind.{FaultKind}
 use Rattle.cbor_read.specs.declared.fault.FaultKind.TheVariants.{ReservedInfo, BadIndefinite, BadBreak, BadChunk, BadSimple, TooDeep, TooLong, Truncated, BadText, DuplicateKey}
 use Rattle.seq_run.specs.declared.end.Cause.{Cause}
-use Rattle.seq_run.specs.declared.end.Cause.TheVariants.{Fault, Mismatch}
+use Rattle.seq_run.specs.declared.end.Cause.TheVariants.{Fault, Mismatch, Spent}
 use Rattle.seq_run.specs.declared.end.End.{End}
 use Rattle.seq_run.specs.declared.end.End.TheVariants.{Clean, Failed}
 
@@ -48,6 +48,7 @@ abbrev pub cause_text : Cause → Option Value → List ℕ
 cause_text (Fault f) rejected = fault_text f.kind ++ decimal f.at
 cause_text (Mismatch place) (Some x) = mismatch_text place x
 cause_text (Mismatch place) None = []
+cause_text Spent rejected = codes "step limit reached"
 
 -- the last line, with the item that failed
 abbrev pub end_line : End → Option Value → List ℕ

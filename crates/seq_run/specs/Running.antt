@@ -5,7 +5,7 @@ use Rattle.cbor_data.specs.Value.{Value}
 use Rattle.cbor_data.specs.Faults.{Bounds}
 use Rattle.cbor_data.specs.Sequence.{Found}
 use Rattle.cbor_item.specs.Counted.{HasRisen}
-use Rattle.cddl_table.specs.declared.table.Table.{Table}
+use Rattle.seq_run.specs.Judge.{Judge}
 use Rattle.seq_run.specs.declared.end.End.{End}
 use Rattle.seq_run.specs.declared.end.State.{State}
 use Rattle.seq_run.specs.declared.end.State.TheVariants as state
@@ -19,61 +19,61 @@ use Rattle.seq_run.specs.Answers.{IsOpen}
 use Rattle.seq_run.specs.Report.{item_lines, end_line, report}
 
 -- The stream ends so, with this item where the end is a mismatch, and what went out is its whole report.
-pub record IsReported (table : Table) (l : Bounds) (stream : List ℕ) (before after : Option (List ℕ)) (end : End) (rejected : Option Value) : Type 0 where
+pub record IsReported (judge : Judge) (l : Bounds) (stream : List ℕ) (before after : Option (List ℕ)) (end : End) (rejected : Option Value) : Type 0 where
   pub found : List Found
-  pub ends : Ends table l stream found end
-  pub rejects : IsRejected table l stream found end rejected
+  pub ends : Ends judge l stream found end
+  pub rejects : IsRejected judge l stream found end rejected
   pub written : bytes.Appends before after (report found end rejected)
 
 -- The bytes are the whole report of the stream.
-pub record IsWhole (table : Table) (l : Bounds) (stream out : List ℕ) : Type 0 where
+pub record IsWhole (judge : Judge) (l : Bounds) (stream out : List ℕ) : Type 0 where
   pub found : List Found
   pub end : End
   pub rejected : Option Value
-  pub ends : Ends table l stream found end
-  pub rejects : IsRejected table l stream found end rejected
+  pub ends : Ends judge l stream found end
+  pub rejects : IsRejected judge l stream found end rejected
   pub is : out ≡ report found end rejected
 
 -- The bytes begin the report of the stream, whatever its end is.
-abbrev pub IsBeginning : Table → Bounds → List ℕ → List ℕ → Type 0
-IsBeginning table l stream out = (found : List Found) (end : End) (rejected : Option Value) → Ends table l stream found end → IsRejected table l stream found end rejected →
+abbrev pub IsBeginning : Judge → Bounds → List ℕ → List ℕ → Type 0
+IsBeginning judge l stream out = (found : List Found) (end : End) (rejected : Option Value) → Ends judge l stream found end → IsRejected judge l stream found end rejected →
     (behind : List ℕ) × (report found end rejected ≡ out ++ behind)
 
 -- Exactly the first k bytes of the stream's report went out.
-pub record WritesFirst (table : Table) (l : Bounds) (stream : List ℕ) (before after : Option (List ℕ)) (k : ℕ) : Type 0 where
+pub record WritesFirst (judge : Judge) (l : Bounds) (stream : List ℕ) (before after : Option (List ℕ)) (k : ℕ) : Type 0 where
   pub out : List ℕ
-  pub front : IsWhole table l stream out ⊎ IsBeginning table l stream out
+  pub front : IsWhole judge l stream out ⊎ IsBeginning judge l stream out
   pub short : k < length out
   pub written : bytes.Appends before after (take k out)
 
 -- Exactly the lines of the n items went out that the bytes read begin with, all of them where `all` says so.
-pub record WritesItems (table : Table) (l : Bounds) (input_before input_after before after : Option (List ℕ)) (n : ℕ) : Type 0 where
+pub record WritesItems (judge : Judge) (l : Bounds) (input_before input_after before after : Option (List ℕ)) (n : ℕ) : Type 0 where
   pub read : List ℕ
   pub found : List Found
   pub rest : List ℕ
   pub consumed : bytes.Consumes input_before input_after read
-  pub begins : BeginsWith table l read found rest
+  pub begins : BeginsWith judge l read found rest
   pub count : n ≡ length found
   pub written : bytes.Appends before after (item_lines 1 found)
 
 -- the same, of all items of the bytes read
-pub record WritesRun (table : Table) (l : Bounds) (input_before input_after before after : Option (List ℕ)) (n : ℕ) : Type 0 where
+pub record WritesRun (judge : Judge) (l : Bounds) (input_before input_after before after : Option (List ℕ)) (n : ℕ) : Type 0 where
   pub read : List ℕ
   pub found : List Found
   pub rest : List ℕ
   pub consumed : bytes.Consumes input_before input_after read
-  pub run : IsRun table l read found rest
+  pub run : IsRun judge l read found rest
   pub count : n ≡ length found
   pub written : bytes.Appends before after (item_lines 1 found)
 
 -- why a run stopped early, and what went out: a device failed only where its count has risen
-abbrev pub IsFault : Table → Bounds → Option (List ℕ) → Option (List ℕ) → Option (List ℕ) → Option (List ℕ) → ℕ → ℕ → ℕ → ℕ → RunFault → Type 0
-IsFault table l input_before input_after before after reads reads_after writes writes_after (ReadFailed n) =
-    HasRisen reads reads_after × WritesRun table l input_before input_after before after n
-IsFault table l input_before input_after before after reads reads_after writes writes_after (WriteFailed k) =
-    HasRisen writes writes_after × IfSome input_before (λ stream. WritesFirst table l stream before after k)
-IsFault table l input_before input_after before after reads reads_after writes writes_after (Memory n) =
-    WritesItems table l input_before input_after before after n
+abbrev pub IsFault : Judge → Bounds → Option (List ℕ) → Option (List ℕ) → Option (List ℕ) → Option (List ℕ) → ℕ → ℕ → ℕ → ℕ → RunFault → Type 0
+IsFault judge l input_before input_after before after reads reads_after writes writes_after (ReadFailed n) =
+    HasRisen reads reads_after × WritesRun judge l input_before input_after before after n
+IsFault judge l input_before input_after before after reads reads_after writes writes_after (WriteFailed k) =
+    HasRisen writes writes_after × IfSome input_before (λ stream. WritesFirst judge l stream before after k)
+IsFault judge l input_before input_after before after reads reads_after writes writes_after (Memory n) =
+    WritesItems judge l input_before input_after before after n
 
 -- The piece was fed, and the lines of the items that it completes were appended.
 pub record Adds (old : Progress) (piece lines : List ℕ) (new : Progress) (lines_new : List ℕ) : Type 0 where
@@ -81,12 +81,12 @@ pub record Adds (old : Progress) (piece lines : List ℕ) (new : Progress) (line
   pub added : List Found
   pub taken : new.taken ≡ old.taken ++ added
   pub written : lines_new ≡ lines ++ item_lines (suc (length old.taken)) added
-  pub table : new.table ≡ old.table
+  pub judge : new.judge ≡ old.judge
   pub limits : new.limits ≡ old.limits
 
 -- The session has this end: of each stream that begins with the bytes fed, or, where the last piece is empty, of these.
 pub record IsSettled (end : End) (piece : List ℕ) (new : Progress) : Type 0 where
-  pub ends : (more : List ℕ) → (piece ≡ [] → more ≡ []) → Ends new.table new.limits (new.fed ++ more) new.taken end
+  pub ends : (more : List ℕ) → (piece ≡ [] → more ≡ []) → Ends new.judge new.limits (new.fed ++ more) new.taken end
   pub stopped : new.stopped ≡ Some (Ended end)
 
 -- what is known after a piece, which is empty where the stream ends
@@ -97,7 +97,7 @@ IsDecided (state.Ended end) piece new = IsSettled end piece new
 -- what is known after a piece, and the line of the end, with the item that failed, if the end is known
 abbrev pub IsLast : Option End → List ℕ → Progress → List ℕ → Type 0
 IsLast None piece new line = (line ≡ []) × (piece ≢ []) × IsOpen new
-IsLast (Some end) piece new line = (rejected : Option Value) × IsRejected new.table new.limits new.fed new.taken end rejected × (line ≡ end_line end rejected) × IsSettled end piece new
+IsLast (Some end) piece new line = (rejected : Option Value) × IsRejected new.judge new.limits new.fed new.taken end rejected × (line ≡ end_line end rejected) × IsSettled end piece new
 
 -- A piece, or the end of the stream where it is empty, was taken, and its lines were appended.
 pub record IsPieceDone (old : Progress) (piece : List ℕ) (end : Option End) (new : Progress) (lines : List ℕ) : Type 0 where

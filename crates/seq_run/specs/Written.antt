@@ -6,22 +6,22 @@ use Rattle.cbor_data.specs.Preferred.{preferred}
 use Rattle.cbor_data.specs.Sound.{IsSound}
 use Rattle.cbor_data.specs.Faults.{Bounds, last_offset}
 use Rattle.cbor_data.specs.Sequence.{Found}
-use Rattle.cddl_table.specs.Matches.{Matches}
 use Rattle.cddl_table.specs.declared.table.Table.{Table}
 use Rattle.seq_run.specs.declared.end.End.{End}
 use Rattle.seq_run.specs.declared.end.End.TheVariants.{Clean}
+use Rattle.seq_run.specs.Ends.{IsAccepted}
 use Rattle.seq_run.specs.Report.{report}
 
--- The item is sound, matches, and is within the limits as it is written.
-pub record IsWritable (table : Table) (l : Bounds) (x : Value) : Type 0 where
+-- The item is sound, accepted, and within the limits as it is written.
+pub record IsWritable (accepts : Value → List ℕ → Type 0) (l : Bounds) (x : Value) : Type 0 where
   pub sound : IsSound x
-  pub matches : Matches table x
+  pub accepted : accepts x (preferred x)
   pub shallow : depth_of x ≤ l.depth
   pub short : length (preferred x) ≤ l.item_bytes
 
-abbrev pub AreWritable : Table → Bounds → List Value → Type 0
-AreWritable table l [] = Unit {0}
-AreWritable table l (x ∷ xs) = IsWritable table l x × AreWritable table l xs
+abbrev pub AreWritable : (Value → List ℕ → Type 0) → Bounds → List Value → Type 0
+AreWritable accepts l [] = Unit {0}
+AreWritable accepts l (x ∷ xs) = IsWritable accepts l x × AreWritable accepts l xs
 
 -- the items' preferred bytes, one after the other
 abbrev pub written : List Value → List ℕ
@@ -37,9 +37,10 @@ found_from o (x ∷ xs) = record { offset = o; item = x } ∷ found_from (o + le
 abbrev pub clean_end : List Value → End
 clean_end items = Clean (length items) (length (written items))
 
--- Such items, written out, and no longer than a stream may be, are this stream.
+-- Such items, which the specification accepts in any number of judgements, are this stream as they are written out, which
+-- is no longer than a stream may be.
 pub record IsWrittenStream (table : Table) (l : Bounds) (items : List Value) (stream : Option (List ℕ)) : Type 0 where
-  pub writable : AreWritable table l items
+  pub writable : AreWritable (IsAccepted table) l items
   pub short : length (written items) ≤ last_offset
   pub is : stream ≡ Some (written items)
 

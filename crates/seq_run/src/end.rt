@@ -10,6 +10,8 @@ pub enum Cause {
     /// The item behind the accepted ones does not match the specification. The place in it, in preorder from 0, is where
     /// that shows.
     Mismatch(usize),
+    /// The steps do not tell whether the item behind the accepted ones matches the specification.
+    Spent,
 }
 
 /// How a stream ends: with its last item, or with an item that fails.

@@ -88,6 +88,7 @@ fn push_cause(
         }
         (Cause::Mismatch(place), Some(item)) => push_mismatch(alloc, line, place, item.item()),
         (Cause::Mismatch(_), None) => Ok(()),
+        (Cause::Spent, _) => line.extend_from_slice(b"step limit reached"),
     }
 }
 

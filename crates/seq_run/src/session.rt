@@ -2,11 +2,13 @@
 
 ghost use Rattle.std.specs.Prelude.{◌≡◌, [], length, None, option_copied};
 ghost use Rattle.seq_run.specs.Answers.{Appends, IsAnswer, IsFinish, IsLent, IsStepAnswer};
+ghost use Rattle.seq_run.specs.Judge.{judge_of};
 
 use crate::end::{Cause, End, State, Stopped};
 use cbor_item::Sound;
 use cbor_read::{Fed, ItemReader, Limits, Stop};
-use cddl_table::{Table, matches};
+use cddl_match::{Verdict, verdict};
+use cddl_table::Table;
 use history::History;
 use std::alloc::{AllocError, Global};
 use std::marker::Model;
@@ -34,11 +36,13 @@ pub enum Step {
 
 /// Takes the items of a stream (RFC 8742) that match a specification, up to the first that does not.
 ///
-/// Contracts see its specification, its limits, the bytes fed, the items taken with their offsets, and why it takes
-/// nothing more, if so.
+/// Contracts see its specification with the steps that an item may take, its limits, the bytes fed, the items taken with
+/// their offsets, and why it takes nothing more, if so.
 #[derive(Drop)]
 pub struct Session<'t> {
+    alloc: Global,
     table: &'t Table,
+    steps: u64,
     reader: ItemReader,
     items: u64,
     offset: u64,
@@ -54,23 +58,27 @@ impl<'t> Model for Session<'t> {
     ghost use Rattle.seq_run.specs.Progress.{Progress, coded_progress};
     ghost use Rattle.seq_run.specs.Placed.{found_of};
     ghost use Rattle.seq_run.specs.Standing.{IsStanding};
+    ghost use Rattle.seq_run.specs.Judge.{judge_of};
 
     ghost Value = { Progress };
 
     ghost coded = { coded_progress };
 
-    ghost view = { λ s. record { table = s.table.now; limits = s.reader.limits; fed = s.fed; taken = map found_of s.taken; stopped = s.stopped } };
+    ghost view = { λ s. record { judge = judge_of s.table.now s.steps; limits = s.reader.limits; fed = s.fed; taken = map found_of s.taken; stopped = s.stopped } };
 
-    ghost invariant = { λ s. IsStanding s.stopped s.table.now s.reader.limits s.fed (map found_of s.taken) s.reader s.items s.offset s.bytes s.rejected };
+    ghost invariant = { λ s. IsStanding s.stopped (judge_of s.table.now s.steps) s.reader.limits s.fed (map found_of s.taken) s.reader s.items s.offset s.bytes s.rejected };
 }
 
 impl<'t> Session<'t> {
-    /// A session at the first byte of a stream. Takes no memory.
-    pub fn new(alloc: Global, table: &'t Table, limits: Limits) -> Session<'t>
-        ensures { result ≡ record { table = table.now; limits = limits; fed = []; taken = []; stopped = None } }
+    /// A session at the first byte of a stream. Of each item the specification may ask so many questions, its steps.
+    /// Takes no memory.
+    pub fn new(alloc: Global, table: &'t Table, limits: Limits, steps: u64) -> Session<'t>
+        ensures { result ≡ record { judge = judge_of table.now steps; limits = limits; fed = []; taken = []; stopped = None } }
     {
         Session {
+            alloc,
             table,
+            steps,
             reader: ItemReader::new(alloc, limits),
             items: 0,
             offset: 0,
@@ -85,7 +93,7 @@ impl<'t> Session<'t> {
     /// Takes the next piece of the stream, and appends the items that it completes.
     ///
     /// `Open` says that more bytes may follow. `Ended` says how the stream ends, with the byte that decides it: an item
-    /// that does not match, or a fault. From then on each call answers that end and appends nothing.
+    /// that does not match or takes too many steps, or a fault. From then on each call answers that end and appends nothing.
     ///
     /// # Errors
     ///
@@ -174,16 +182,34 @@ impl<'t> Session<'t> {
                 Ok(Step::More)
             }
             Ok(Fed::Item { used, item }) => {
-                if !matches(self.table, &item) {
-                    self.fed.extend(piece);
-                    let end = End::Failed {
-                        items: self.items,
-                        offset: self.offset,
-                        cause: Cause::Mismatch(0),
-                    };
-                    self.rejected = Some(item);
-                    self.stopped = Some(Stopped::Ended(end));
-                    return Ok(Step::Ended(end));
+                match verdict(self.alloc, self.table, &item, self.steps) {
+                    Ok(Verdict::Yes) => {}
+                    Ok(Verdict::No { place }) => {
+                        self.fed.extend(piece);
+                        let end = End::Failed {
+                            items: self.items,
+                            offset: self.offset,
+                            cause: Cause::Mismatch(place),
+                        };
+                        self.rejected = Some(item);
+                        self.stopped = Some(Stopped::Ended(end));
+                        return Ok(Step::Ended(end));
+                    }
+                    Ok(Verdict::Spent) => {
+                        self.fed.extend(piece);
+                        let end = End::Failed {
+                            items: self.items,
+                            offset: self.offset,
+                            cause: Cause::Spent,
+                        };
+                        self.stopped = Some(Stopped::Ended(end));
+                        return Ok(Step::Ended(end));
+                    }
+                    Err(error) => {
+                        self.fed.extend(piece);
+                        self.stopped = Some(Stopped::Memory);
+                        return Err(error);
+                    }
                 }
                 let placed = Placed {
                     offset: self.offset,

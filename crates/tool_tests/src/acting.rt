@@ -25,7 +25,7 @@ fn performed(
     let mut input = Counted::new(source);
     let mut output = Counted::new(sink);
     let mut errors = Counted::new(Vec::new(alloc));
-    let status = match ready(&options, spec, &mut errors) {
+    let status = match ready(alloc, &options, spec, &mut errors) {
         Ok(table) => act(
             alloc,
             &options,

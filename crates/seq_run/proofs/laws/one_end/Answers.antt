@@ -1,5 +1,8 @@
-use Rattle.seq_run.proofs.OneEnd.{one_end}
+use Rattle.seq_run.proofs.OneEnd.{one_end, one_free_end}
 use Rattle.seq_run.proofs.laws.one_end.Goals as goal
 
-pub returns : goal.returns
-returns c = one_end
+pub returns-clause-within : goal.returns-clause-within
+returns-clause-within c = one_end
+
+pub returns-clause-freely : goal.returns-clause-freely
+returns-clause-freely c = one_free_end

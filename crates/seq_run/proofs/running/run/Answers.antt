@@ -1,28 +1,29 @@
 use Rattle.std.proofs.Common.{◌≡◌, take, None, refl, ◌∙◌, arith}
 use Rattle.cbor_item.specs.Counted.{device_of, failures_of}
+use Rattle.seq_run.specs.Judge.{judge_of}
 use Rattle.seq_run.proofs.RunLoop.{begin_run, read_failed, no_memory, write_failed, reported_all, goes_on, no_bytes}
 use Rattle.seq_run.proofs.Rereading.{read_back}
 use Rattle.seq_run.proofs.running.run.Goals as goal
 
 pub pieces-init : goal.pieces-init
-pieces-init g c = begin_run c.args.table.now c.args.limits (g.R.Read.remaining (device_of c.args.input.now)) (g.W.Write.contents (device_of c.args.output.now)) (failures_of c.args.input.now) (failures_of c.args.output.now) c.new-session.result c.new-session.ensures
+pieces-init g c = begin_run (judge_of c.args.table.now c.args.steps) c.args.limits (g.R.Read.remaining (device_of c.args.input.now)) (g.W.Write.contents (device_of c.args.output.now)) (failures_of c.args.input.now) (failures_of c.args.output.now) c.new-session.result c.new-session.ensures
 
 pub returns-in_default-clause-fault : goal.returns-in_default-clause-fault
 returns-in_default-clause-fault g c =
-    read_failed c.args.table.now c.args.limits (g.R.Read.remaining (device_of c.args.input.now)) (g.R.Read.remaining (device_of c.pieces.input)) (g.W.Write.contents (device_of c.args.output.now)) (g.W.Write.contents (device_of c.pieces.output))
+    read_failed (judge_of c.args.table.now c.args.steps) c.args.limits (g.R.Read.remaining (device_of c.args.input.now)) (g.R.Read.remaining (device_of c.pieces.input)) (g.W.Write.contents (device_of c.args.output.now)) (g.W.Write.contents (device_of c.pieces.output))
     (failures_of c.args.input.now) (failures_of c.pieces.input) (failures_of c.args.output.now) (failures_of c.pieces.output) c.pieces.session c.pieces.reported c.pieces.written c.pieces.invariant
     (g.R.Read.remaining (device_of c.read.new.self)) (failures_of c.read.new.self) c.in_default.ensures.bytes c.in_default.ensures.count
 
 pub returns-in_default-report_piece-clause-fault :
     goal.returns-in_default-report_piece-clause-fault
 returns-in_default-report_piece-clause-fault g c =
-    no_memory c.args.table.now c.args.limits (g.R.Read.remaining (device_of c.args.input.now)) (g.R.Read.remaining (device_of c.pieces.input)) (g.W.Write.contents (device_of c.args.output.now)) (g.W.Write.contents (device_of c.pieces.output))
+    no_memory (judge_of c.args.table.now c.args.steps) c.args.limits (g.R.Read.remaining (device_of c.args.input.now)) (g.R.Read.remaining (device_of c.pieces.input)) (g.W.Write.contents (device_of c.args.output.now)) (g.W.Write.contents (device_of c.pieces.output))
     (failures_of c.args.input.now) (failures_of c.pieces.input) (failures_of c.args.output.now) (failures_of c.pieces.output) c.pieces.session c.pieces.reported c.pieces.written c.pieces.invariant
     (g.R.Read.remaining (device_of c.read.new.self)) (take c.in-Ok.count c.read.new.buf) c.in-Ok.ensures.bytes.0
 
 pub returns-in-Err-clause-fault : goal.returns-in-Err-clause-fault
 returns-in-Err-clause-fault g c =
-    write_failed c.args.table.now c.args.limits (g.R.Read.remaining (device_of c.args.input.now)) (g.R.Read.remaining (device_of c.pieces.input)) (g.W.Write.contents (device_of c.args.output.now)) (g.W.Write.contents (device_of c.pieces.output))
+    write_failed (judge_of c.args.table.now c.args.steps) c.args.limits (g.R.Read.remaining (device_of c.args.input.now)) (g.R.Read.remaining (device_of c.pieces.input)) (g.W.Write.contents (device_of c.args.output.now)) (g.W.Write.contents (device_of c.pieces.output))
     (failures_of c.args.input.now) (failures_of c.pieces.input) (failures_of c.args.output.now) (failures_of c.pieces.output) c.pieces.session c.pieces.reported c.pieces.written c.pieces.invariant
     (g.R.Read.remaining (device_of c.read.new.self)) (take c.in-Ok.count c.read.new.buf) c.in-Ok.ensures.bytes.0
     (λ e. c.in-Ok.ensures.bytes.1 (no_bytes c.in-Ok.count c.read.new.buf (take c.in-Ok.count c.read.new.buf) c.in-Ok.ensures.bound.0 refl e) (omega arith))
@@ -31,7 +32,7 @@ returns-in-Err-clause-fault g c =
 
 pub returns-in-Some-clause-reported : goal.returns-in-Some-clause-reported
 returns-in-Some-clause-reported g c =
-    reported_all c.args.table.now c.args.limits (g.R.Read.remaining (device_of c.args.input.now)) (g.R.Read.remaining (device_of c.pieces.input)) (g.W.Write.contents (device_of c.args.output.now)) (g.W.Write.contents (device_of c.pieces.output))
+    reported_all (judge_of c.args.table.now c.args.steps) c.args.limits (g.R.Read.remaining (device_of c.args.input.now)) (g.R.Read.remaining (device_of c.pieces.input)) (g.W.Write.contents (device_of c.args.output.now)) (g.W.Write.contents (device_of c.pieces.output))
     (failures_of c.args.input.now) (failures_of c.pieces.input) (failures_of c.args.output.now) (failures_of c.pieces.output) c.pieces.session c.pieces.reported c.pieces.written c.pieces.invariant
     (g.R.Read.remaining (device_of c.read.new.self)) (take c.in-Ok.count c.read.new.buf) c.in-Ok.ensures.bytes.0
     (λ e. c.in-Ok.ensures.bytes.1 (no_bytes c.in-Ok.count c.read.new.buf (take c.in-Ok.count c.read.new.buf) c.in-Ok.ensures.bound.0 refl e) (omega arith))
@@ -40,13 +41,13 @@ returns-in-Some-clause-reported g c =
 
 pub returns-in-Some-clause-read_back : goal.returns-in-Some-clause-read_back
 returns-in-Some-clause-read_back g c =
-    read_back c.args.table.now c.args.limits (g.R.Read.remaining (device_of c.args.input.now)) (g.W.Write.contents (device_of c.args.output.now)) (g.W.Write.contents (device_of c.write_bytes.new.out))
+    read_back (judge_of c.args.table.now c.args.steps) c.args.limits (g.R.Read.remaining (device_of c.args.input.now)) (g.W.Write.contents (device_of c.args.output.now)) (g.W.Write.contents (device_of c.write_bytes.new.out))
     c.in-Some.end c.into_rejected.result (returns-in-Some-clause-reported g c)
 
 pub pieces-preserved : goal.pieces-preserved
 pieces-preserved g c =
     let none : c.in-Ok-report_piece.end ≡ None = c.in_default-end.is in
-    let next = goes_on c.args.table.now c.args.limits (g.R.Read.remaining (device_of c.args.input.now)) (g.R.Read.remaining (device_of c.pieces.input)) (g.W.Write.contents (device_of c.args.output.now)) (g.W.Write.contents (device_of c.pieces.output))
+    let next = goes_on (judge_of c.args.table.now c.args.steps) c.args.limits (g.R.Read.remaining (device_of c.args.input.now)) (g.R.Read.remaining (device_of c.pieces.input)) (g.W.Write.contents (device_of c.args.output.now)) (g.W.Write.contents (device_of c.pieces.output))
     (failures_of c.args.input.now) (failures_of c.pieces.input) (failures_of c.args.output.now) (failures_of c.pieces.output) c.pieces.session c.pieces.reported c.pieces.written c.pieces.invariant
     (g.R.Read.remaining (device_of c.read.new.self)) (take c.in-Ok.count c.read.new.buf) c.in-Ok.ensures.bytes.0
     (λ e. c.in-Ok.ensures.bytes.1 (no_bytes c.in-Ok.count c.read.new.buf (take c.in-Ok.count c.read.new.buf) c.in-Ok.ensures.bound.0 refl e) (omega arith))

@@ -1,11 +1,12 @@
 use Rattle.std.proofs.Common.{◌-◌, ◌^◌, length}
 use Rattle.cbor_item.specs.Counted.{device_of, failures_of}
+use Rattle.seq_run.specs.Judge.{judge_of}
 use Rattle.seq_run.proofs.RunLoop.{IsOn}
 use Rattle.seq_run.proofs.running.run.Given as goal
 
 abbrev pub invariant-pieces : goal.invariant-pieces
 invariant-pieces g l =
-    IsOn l.table l.fn.limits (g.R.Read.remaining (device_of l.initial.input)) (g.R.Read.remaining (device_of l.input)) (g.W.Write.contents (device_of l.initial.output)) (g.W.Write.contents (device_of l.output))
+    IsOn (judge_of l.table l.fn.steps) l.fn.limits (g.R.Read.remaining (device_of l.initial.input)) (g.R.Read.remaining (device_of l.input)) (g.W.Write.contents (device_of l.initial.output)) (g.W.Write.contents (device_of l.output))
     (failures_of l.initial.input) (failures_of l.input) (failures_of l.initial.output) (failures_of l.output) l.session l.reported l.written
 
 abbrev pub decreases-pieces : goal.decreases-pieces

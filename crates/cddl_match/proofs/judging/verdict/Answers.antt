@@ -1,0 +1,48 @@
+use Rattle.std.proofs.Common.{◌≡◌, [], sym, ◌∙◌, arith}
+use Rattle.cddl_table.specs.Language.{language_of, root_of}
+use Rattle.cddl_meaning.specs.Moves.{OfType}
+use Rattle.cddl_meaning.proofs.Matches.{said}
+use Rattle.cddl_match.proofs.Turns.{begun, asked, answered, finished, heavier, in_steps, stack_push, none_left}
+use Rattle.cddl_match.proofs.Judged.{said_yes, said_no}
+use Rattle.cddl_match.proofs.Room.{room}
+use Rattle.cddl_match.proofs.judging.verdict.Goals as goal
+
+pub loop-next-init : goal.loop-next-init
+loop-next-init c = record {
+  within = omega arith;
+  leads = rw (c.new-waiting.ensures.items, c.item.ensures.same, c.root.ensures) (in_steps (omega arith) (begun (language_of c.args.table.now) (OfType (root_of c.args.table.now) 0 c.args.item.now)));
+}
+
+pub returns-then-left-eq0-clause-spent : goal.returns-then-left-eq0-clause-spent
+returns-then-left-eq0-clause-spent c = λ e a w d.
+    let i = rw c.in-Asks.is at c.loop-next.invariant.leads in
+    let h = heavier (language_of c.args.table.now) i _ w (said (language_of c.args.table.now) (room c.args.item.now c.item.ensures.sound) d) in
+    omega (arith, h, c.if-left-eq0.true)
+
+pub loop-next-preserved-in-Asks : goal.loop-next-preserved-in-Asks
+loop-next-preserved-in-Asks c =
+    let i = rw c.in-Asks.is at c.loop-next.invariant.leads in
+    record {
+      within = omega (arith, c.loop-next.invariant.within);
+      leads = rw (c.in_ok-push-in-Asks.ensures.items, stack_push, c.open-next.ensures) (in_steps (omega (arith, c.loop-next.invariant.within, c.if-left-eq0.false)) (asked (language_of c.args.table.now) i));
+    }
+
+pub loop-next-preserved : goal.loop-next-preserved
+loop-next-preserved c =
+    let i = rw (c.in-Answered.is, c.in-Some.ensures.items, stack_push) at c.loop-next.invariant.leads in
+    record {
+      within = c.loop-next.invariant.within;
+      leads = rw c.resume-next.ensures (answered (language_of c.args.table.now) i);
+    }
+
+pub returns-in-None-clause-yes : goal.returns-in-None-clause-yes
+returns-in-None-clause-yes c = λ e.
+    let empty : c.loop-next.waiting.items ≡ [] = none_left _ (omega (arith, c.in-None.ensures.cases.0, c.loop-next.waiting.ok.0)) in
+    let d = finished (language_of c.args.table.now) (rw (c.in-Answered.is, empty) at c.loop-next.invariant.leads) in
+    (_, said_yes (language_of c.args.table.now) _ (room c.args.item.now c.item.ensures.sound) (sym c.verdict_of.ensures ∙ cc e) d, omega arith)
+
+pub returns-in-None-clause-no : goal.returns-in-None-clause-no
+returns-in-None-clause-no c = λ place e.
+    let empty : c.loop-next.waiting.items ≡ [] = none_left _ (omega (arith, c.in-None.ensures.cases.0, c.loop-next.waiting.ok.0)) in
+    let d = finished (language_of c.args.table.now) (rw (c.in-Answered.is, empty) at c.loop-next.invariant.leads) in
+    (_, said_no (language_of c.args.table.now) _ (room c.args.item.now c.item.ensures.sound) (sym c.verdict_of.ensures ∙ cc e) d, omega arith)

@@ -1,0 +1,10 @@
+use Rattle.std.proofs.Common.{◌+◌, ◌<◌, ◌^◌, arith}
+use Rattle.cbor_data.specs.Value.{place_count}
+use Rattle.cddl_table.specs.Language.{language_of}
+use Rattle.cddl_meaning.proofs.Matches.{one_saying}
+use Rattle.cddl_match.proofs.laws.one_answer.Goals as goal
+
+pub returns : goal.returns
+returns c = λ table x a b v w h d e.
+    let room : 0 + place_count x < 2 ^ 64 = omega (arith, h) in
+    one_saying (language_of table) room d e

@@ -1,0 +1,18 @@
+//! What a table says of an item.
+
+ghost use Rattle.std.specs.Prelude.{◌≡◌, ◌<◌, ◌^◌, ℕ};
+ghost use Rattle.cbor_data.specs.Value.{Value, place_count};
+ghost use Rattle.cddl_meaning.specs.Judges.{Answer};
+ghost use Rattle.cddl_table.specs.Language.{RootSays};
+ghost use Rattle.cddl_table.specs.declared.table.Table.{Table};
+
+/// A table says one thing at most of an item whose places have numbers below 2^64, and in one number of judgements. It
+/// does nothing.
+pub fn one_answer()
+    ensures { (table : Table) (x : Value) (a b : Answer) (v w : ℕ) → place_count x < 2 ^ 64 → RootSays table x a v → RootSays table x b w → (b ≡ a) × (w ≡ v) }
+{}
+
+/// Where a table says no of an item, that shows at a place in it. It does nothing.
+pub fn shows_inside()
+    ensures { (table : Table) (x : Value) (place w : ℕ) → RootSays table x (Answer.No place) w → place < place_count x }
+{}

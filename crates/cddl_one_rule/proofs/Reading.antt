@@ -1,0 +1,90 @@
+-- The parts that a reader finds are those of the specification.
+use Rattle.std.proofs.Common.{◌≡◌, ◌≢◌, ℕ, inl, inr, List, [], ◌∷◌, ◌++◌, true, false, Option, Some, None, IfSome, is_some, length, ◌==◌, refl, sym, ap, ◌∙◌, arith, subst}
+use Rattle.std.proofs.lemmas.Bool.Decides.{nat_tests}
+use Rattle.cddl_one_rule.specs.Specification.{Each, IsGapByte, IsLetter, type_name, IsRule, BeginsOtherwise, IsFront}
+use Rattle.cddl_one_rule.specs.declared.named.NamedType.{NamedType}
+use Rattle.cddl_one_rule.specs.declared.named.NamedType.TheVariants.{Any, Uint, Nint, Bstr, Tstr}
+use Rattle.cddl_one_rule.proofs.Fronts.{one_front}
+
+letter_no_gap : (b : ℕ) → IsLetter b → IsGapByte b → ⊥
+letter_no_gap b (inl p) (inl q) = omega arith
+letter_no_gap b (inl p) (inr q) = omega arith
+letter_no_gap b (inr p) (inl q) = omega arith
+letter_no_gap b (inr p) (inr q) = omega arith
+
+equals_no_gap : IsGapByte 61 → ⊥
+equals_no_gap (inl p) = omega arith
+equals_no_gap (inr p) = omega arith
+
+equals_no_letter : IsLetter 61 → ⊥
+equals_no_letter (inl p) = omega arith
+equals_no_letter (inr p) = omega arith
+
+letters_no_gap : (name rest : List ℕ) → name ≢ [] → Each IsLetter name → BeginsOtherwise IsGapByte (name ++ rest)
+letters_no_gap [] rest n e = absurd (n refl)
+letters_no_gap (b ∷ bs) rest n e = letter_no_gap b e.0
+
+gap_no_letter : (gap rest : List ℕ) → Each IsGapByte gap → BeginsOtherwise IsLetter rest → BeginsOtherwise IsLetter (gap ++ rest)
+gap_no_letter [] rest e r = r
+gap_no_letter (b ∷ bs) rest e r = λ l. letter_no_gap b l e.0
+
+type_letters : (t : NamedType) → Each IsLetter (type_name t)
+type_letters Any = (inr (omega arith, omega arith), (inr (omega arith, omega arith), (inr (omega arith, omega arith), tt)))
+type_letters Uint = (inr (omega arith, omega arith), (inr (omega arith, omega arith), (inr (omega arith, omega arith), (inr (omega arith, omega arith), tt))))
+type_letters Nint = (inr (omega arith, omega arith), (inr (omega arith, omega arith), (inr (omega arith, omega arith), (inr (omega arith, omega arith), tt))))
+type_letters Bstr = (inr (omega arith, omega arith), (inr (omega arith, omega arith), (inr (omega arith, omega arith), (inr (omega arith, omega arith), tt))))
+type_letters Tstr = (inr (omega arith, omega arith), (inr (omega arith, omega arith), (inr (omega arith, omega arith), (inr (omega arith, omega arith), tt))))
+
+has_name : (t : NamedType) → type_name t ≢ []
+has_name Any e = cc
+has_name Uint e = cc
+has_name Nint e = cc
+has_name Bstr e = cc
+has_name Tstr e = cc
+
+gap_alone : (gap : List ℕ) → gap ≡ gap ++ []
+gap_alone [] = refl
+gap_alone (b ∷ bs) = ap (λ (xs : List ℕ). b ∷ xs) (gap_alone bs)
+
+-- the rest of a specification behind its name
+abbrev pub behind_name : {text : List ℕ} {type : NamedType} → IsRule text type → List ℕ
+behind_name {type = type} s = s.gap_after_name ++ (61 ∷ (s.gap_after_equals ++ (type_name type ++ s.gap_behind)))
+
+pub name_first : {text : List ℕ} {type : NamedType} (s : IsRule text type) {gap after name rest : List ℕ} → IsFront IsGapByte text gap after → IsFront IsLetter after name rest →
+    (name ≡ s.name) × (rest ≡ behind_name s)
+name_first s {gap} {after} {name} {rest} f g =
+    let gaps = one_front IsGapByte gap after s.gap_before (s.name ++ behind_name s) f.each f.stops s.gaps.0 (letters_no_gap s.name (behind_name s) s.named s.letters) (sym f.whole ∙ s.is) in
+    let stop : BeginsOtherwise IsLetter (behind_name s) = gap_no_letter s.gap_after_name _ s.gaps.1 equals_no_letter in
+    one_front IsLetter name rest s.name (behind_name s) g.each g.stops s.letters stop (sym g.whole ∙ gaps.1)
+
+pub equals_next : {text : List ℕ} {type : NamedType} (s : IsRule text type) {before gap rest : List ℕ} → before ≡ behind_name s → IsFront IsGapByte before gap rest →
+    rest ≡ 61 ∷ (s.gap_after_equals ++ (type_name type ++ s.gap_behind))
+equals_next s {before} {gap} {rest} e f =
+    (one_front IsGapByte gap rest s.gap_after_name _ f.each f.stops s.gaps.1 equals_no_gap (sym f.whole ∙ e)).1
+
+pub type_next : {text : List ℕ} {type : NamedType} (s : IsRule text type) {before gap after name rest : List ℕ} → before ≡ s.gap_after_equals ++ (type_name type ++ s.gap_behind) →
+    IsFront IsGapByte before gap after → IsFront IsLetter after name rest → (name ≡ type_name type) × (rest ≡ s.gap_behind)
+type_next {type = type} s {before} {gap} {after} {name} {rest} e f g =
+    let gaps = one_front IsGapByte gap after s.gap_after_equals (type_name type ++ s.gap_behind) f.each f.stops s.gaps.2 (letters_no_gap (type_name type) s.gap_behind (has_name type) (type_letters type)) (sym f.whole ∙ e) in
+    let stop : BeginsOtherwise IsLetter s.gap_behind = subst (BeginsOtherwise IsLetter) (sym (gap_alone s.gap_behind)) (gap_no_letter s.gap_behind [] s.gaps.3 tt) in
+    one_front IsLetter name rest (type_name type) s.gap_behind g.each g.stops (type_letters type) stop (sym g.whole ∙ gaps.1)
+
+pub nothing_behind : {text : List ℕ} {type : NamedType} (s : IsRule text type) {before gap rest : List ℕ} → before ≡ s.gap_behind → IsFront IsGapByte before gap rest → rest ≡ []
+nothing_behind s {before} {gap} {rest} e f =
+    (one_front IsGapByte gap rest s.gap_behind [] f.each f.stops s.gaps.3 tt (sym f.whole ∙ (e ∙ gap_alone s.gap_behind))).1
+
+-- an answer that is there says which type's name it is
+pub named_type : (o : Option NamedType) (name : List ℕ) → IfSome o (λ t. name ≡ type_name t) → is_some o ≡ true → (t : NamedType) × (name ≡ type_name t)
+named_type None name h e = absurd (cc)
+named_type (Some t) name h e = (t, h)
+
+pub empty_from_length : (xs : List ℕ) → (length xs == 0) ≡ true → xs ≡ []
+empty_from_length [] e = refl
+empty_from_length (x ∷ xs) e = let none : length (x ∷ xs) ≡ 0 = grind (arith, nat_tests) in absurd (omega arith)
+
+pub same_rest : (all xs ys : List ℕ) → all ≡ 61 ∷ xs → all ≡ 61 ∷ ys → xs ≡ ys
+same_rest all xs ys e f = cc
+
+pub not_empty : (xs : List ℕ) → xs ≡ [] → (length xs == 0) ≡ false → ⊥
+not_empty [] e f = absurd (cc)
+not_empty (x ∷ xs) e f = cc

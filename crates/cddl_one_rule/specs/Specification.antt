@@ -1,0 +1,66 @@
+-- Which texts are a specification of one rule (a part of RFC 8610 Appendix B).
+use Rattle.std.specs.Prelude.{◌≡◌, ◌≢◌, ℕ, ◌≤◌, ◌⊎◌, List, [], ◌∷◌, ◌++◌, codes}
+use Rattle.cddl_meaning.specs.Forms.{Test, anything, of_major, Plain}
+use Rattle.cddl_table.specs.Language.{root_form}
+use Rattle.cddl_table.specs.declared.table.Table.{Table}
+use Rattle.cddl_one_rule.specs.declared.named.NamedType.{NamedType}
+use Rattle.cddl_one_rule.specs.declared.named.NamedType.TheVariants.{Any, Uint, Nint, Bstr, Tstr}
+
+-- each byte is such a one
+abbrev pub Each : (ℕ → Type 0) → List ℕ → Type 0
+Each P [] = Unit {0}
+Each P (b ∷ bs) = P b × Each P bs
+
+-- a space or a line feed
+abbrev pub IsGapByte : ℕ → Type 0
+IsGapByte b = (b ≡ 32) ⊎ (b ≡ 10)
+
+-- `A` to `Z` or `a` to `z`
+abbrev pub IsLetter : ℕ → Type 0
+IsLetter b = ((65 ≤ b) × (b ≤ 90)) ⊎ ((97 ≤ b) × (b ≤ 122))
+
+abbrev pub type_name : NamedType → List ℕ
+type_name Any = codes "any"
+type_name Uint = codes "uint"
+type_name Nint = codes "nint"
+type_name Bstr = codes "bstr"
+type_name Tstr = codes "tstr"
+
+-- what the type of this name asks of an item (RFC 8610 Appendix D: `any = #`, `uint = #0`, `nint = #1`, `bstr = #2`,
+-- `tstr = #3`)
+abbrev pub test_named : NamedType → Test
+test_named Any = anything
+test_named Uint = of_major 0
+test_named Nint = of_major 1
+test_named Bstr = of_major 2
+test_named Tstr = of_major 3
+
+-- the text is a name, `=` (61) and the name of a type, with gaps before, between and after them
+pub record IsRule (text : List ℕ) (type : NamedType) : Type 0 where
+  pub gap_before : List ℕ
+  pub name : List ℕ
+  pub gap_after_name : List ℕ
+  pub gap_after_equals : List ℕ
+  pub gap_behind : List ℕ
+  pub gaps : Each IsGapByte gap_before × Each IsGapByte gap_after_name × Each IsGapByte gap_after_equals × Each IsGapByte gap_behind
+  pub letters : Each IsLetter name
+  pub named : name ≢ []
+  pub free : (other : NamedType) → name ≢ type_name other
+  pub is : text ≡ gap_before ++ (name ++ (gap_after_name ++ (61 ∷ (gap_after_equals ++ (type_name type ++ gap_behind)))))
+
+-- The text is such a rule, and the root type of the table is the type that it names.
+pub record IsSpecification (text : List ℕ) (table : Table) : Type 0 where
+  pub named : NamedType
+  pub rule : IsRule text named
+  pub root : root_form table ≡ Plain (test_named named)
+
+-- the first byte, if there is one, is no such one
+abbrev pub BeginsOtherwise : (ℕ → Type 0) → List ℕ → Type 0
+BeginsOtherwise P [] = Unit {0}
+BeginsOtherwise P (b ∷ bs) = P b → ⊥
+
+-- the longest beginning of such bytes, and the rest
+pub record IsFront (P : ℕ → Type 0) (text front rest : List ℕ) : Type 0 where
+  pub whole : text ≡ front ++ rest
+  pub each : Each P front
+  pub stops : BeginsOtherwise P rest

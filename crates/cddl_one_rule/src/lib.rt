@@ -1,0 +1,8 @@
+//! Reads a specification of one rule, whose type is one of five names, and gives its table.
+#![tactic(auto)]
+
+mod named;
+mod specification;
+
+pub use crate::named::NamedType;
+pub use crate::specification::read_specification;

@@ -1,0 +1,134 @@
+//! Reads a specification of one rule.
+
+ghost use Rattle.std.specs.Prelude.{◌≡◌, ◌≢◌, ℕ, List, ◌∷◌, ◌↔◌, IsTrue, IfOk, IfSome, IfNone};
+ghost use Rattle.cddl_meaning.specs.Forms.{Plain};
+ghost use Rattle.cddl_table.specs.Language.{root_form, test_view};
+ghost use Rattle.cddl_one_rule.specs.Specification.{IsFront, IsGapByte, IsLetter, IsRule, IsSpecification, test_named, type_name};
+ghost use Rattle.cddl_one_rule.specs.declared.named.NamedType.{NamedType as NamedTypes};
+
+use crate::named::NamedType;
+use cddl_table::{Node, Table, Test, TypeId};
+use std::alloc::{AllocError, Global};
+
+/// The table of a specification: a name of ASCII letters that is no type's, `=`, and the name of a type, with any spaces
+/// and line feeds before, between and after them. Any other text has none.
+///
+/// # Errors
+///
+/// [`AllocError`] where an allocation was refused.
+pub fn read_specification(alloc: Global, text: &[u8]) -> Result<Option<Table>, AllocError>
+    ensures found { IfOk result (λ table. IfSome table (IsSpecification text.now)) }
+    ensures none { IfOk result (λ table. IfNone table ((type : NamedTypes) → IsRule text.now type → ⊥)) }
+{
+    match read_rule(text) {
+        Some(named) => {
+            let table = table_of(alloc, named)?;
+            Ok(Some(table))
+        }
+        None => Ok(None),
+    }
+}
+
+// The table with the one type of this name.
+fn table_of(alloc: Global, named: NamedType) -> Result<Table, AllocError>
+    ensures { IfOk result (λ table. root_form table ≡ Plain (test_named named)) }
+{
+    let mut types = Vec::new(alloc);
+    types.push(Node::Plain(test_of(named)))?;
+    let root = TypeId { number: 0 };
+    Ok(Table::new(types, Vec::new(alloc), root))
+}
+
+// What the type of this name asks of an item.
+fn test_of(named: NamedType) -> Test
+    ensures { test_view result ≡ test_named named }
+{
+    match named {
+        NamedType::Any => Test::Anything,
+        NamedType::Uint => Test::Major(0),
+        NamedType::Nint => Test::Major(1),
+        NamedType::Bstr => Test::Major(2),
+        NamedType::Tstr => Test::Major(3),
+    }
+}
+
+// The type that the one rule of the text names.
+fn read_rule(text: &[u8]) -> Option<NamedType>
+    ensures found { IfSome result (IsRule text.now) }
+    ensures none { IfNone result ((type : NamedTypes) → IsRule text.now type → ⊥) }
+{
+    let text = split_gap(text).1;
+    let (name, text) = split_letters(text);
+    if name.is_empty() || named_type(name).is_some() {
+        return None;
+    }
+    let text = split_gap(text).1;
+    let text = split_equals(text)?;
+    let text = split_gap(text).1;
+    let (name, text) = split_letters(text);
+    let named = named_type(name)?;
+    let text = split_gap(text).1;
+    if text.is_empty() { Some(named) } else { None }
+}
+
+// The spaces and line feeds that the text begins with, and the rest.
+fn split_gap(text: &[u8]) -> (&[u8], &[u8])
+    ensures { IsFront IsGapByte text.now result.0.now result.1.now }
+{
+    for (i, byte) in text.iter().enumerate() {
+        if !is_gap_byte(*byte) {
+            return text.split_at(i);
+        }
+    }
+    text.split_at(text.len())
+}
+
+// The letters that the text begins with, and the rest.
+fn split_letters(text: &[u8]) -> (&[u8], &[u8])
+    ensures { IsFront IsLetter text.now result.0.now result.1.now }
+{
+    for (i, byte) in text.iter().enumerate() {
+        if !is_letter(*byte) {
+            return text.split_at(i);
+        }
+    }
+    text.split_at(text.len())
+}
+
+fn is_gap_byte(byte: u8) -> bool
+    ensures { IsTrue result ↔ IsGapByte byte }
+{
+    byte == b' ' || byte == b'\n'
+}
+
+fn is_letter(byte: u8) -> bool
+    ensures { IsTrue result ↔ IsLetter byte }
+{
+    byte.is_ascii_alphabetic()
+}
+
+// The rest behind the `=` that the text begins with.
+fn split_equals(text: &[u8]) -> Option<&[u8]>
+    ensures found { IfSome result (λ rest. text.now ≡ 61 ∷ rest.now) }
+    ensures none { IfNone result ((rest : List ℕ) → text.now ≢ 61 ∷ rest) }
+{
+    match text {
+        [b'=', rest @ ..] => Some(rest),
+        _ => None,
+    }
+}
+
+// The type of this name.
+fn named_type(name: &[u8]) -> Option<NamedType>
+    ensures found { IfSome result (λ type. name.now ≡ type_name type) }
+    ensures none { IfNone result ((type : NamedTypes) → name.now ≢ type_name type) }
+{
+    match name {
+        b"any" => Some(NamedType::Any),
+        b"uint" => Some(NamedType::Uint),
+        b"nint" => Some(NamedType::Nint),
+        b"bstr" => Some(NamedType::Bstr),
+        b"tstr" => Some(NamedType::Tstr),
+        _ => None,
+    }
+}
