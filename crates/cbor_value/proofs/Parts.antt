@@ -1,16 +1,20 @@
 -- An item from what its head and the bytes behind it say.
-use Rattle.std.proofs.Common.{◌≡◌, ℕ, suc, ◌+◌, ◌≤◌, List, [], ◌∷◌, ◌++◌, length, drop, take, Result, Ok, Err, refl, sym, ap, ◌∙◌, subst, arith, append_assoc, length-append}
+use Rattle.std.proofs.Common.{◌≡◌, ℕ, suc, ◌+◌, ◌-◌, ◌≤◌, List, [], ◌∷◌, ◌++◌, length, drop, take, Result, Ok, Err, refl, sym, ap, ◌∙◌, subst, arith, append_assoc, length-append}
 use Rattle.std.proofs.Math.Seq.{take-append_seam}
-use Rattle.cbor_data.specs.Forms.{Place, head_in, Form, bytes_form, text_form, text_chunks, array_form, array_to_break, pairs_form, pairs_to_break, tag_form, Forms, PairForms, Chunk, forms_len, pair_forms_len, flat, forms_flat, pair_forms_flat, chunks_bytes}
+use Rattle.cbor_data.specs.declared.Width.{Width}
+use Rattle.cbor_data.specs.Value.{uint, nint, simple, float, depth_of}
+use Rattle.cbor_data.specs.Forms.{Place, head_in, Form, uint_form, nint_form, bytes_form, bytes_chunks, text_form, text_chunks, array_form, array_to_break, pairs_form, pairs_to_break, tag_form, simple_inside, simple_next, float_form, Forms, PairForms, Chunk, forms_len, pair_forms_len, flat, forms_flat, pair_forms_flat, chunks_bytes, meaning}
 use Rattle.cbor_item.specs.declared.item.Item.{Item}
+use Rattle.cbor_item.specs.declared.item.Item.TheVariants as item
 use Rattle.cbor_value.specs.declared.head.Head.{Head}
 use Rattle.cbor_value.specs.declared.head.Head.TheVariants as head
 use Rattle.cbor_value.specs.declared.value.Unread.{Unread}
 use Rattle.cbor_value.specs.declared.value.Unread.TheVariants.{BadText, Memory}
 use Rattle.cbor_value.specs.Heads.{head_of, head_bytes, content, Stands, IsHeaded}
-use Rattle.cbor_value.specs.Strings.{IsTextRead, StandsChunks, IsTextJoined}
-use Rattle.cbor_value.specs.Items.{IsRead, IsTagRead, StandsForms, AreRead, StandsPairs, ArePairsRead}
+use Rattle.cbor_value.specs.Strings.{IsBytesRead, IsTextRead, StandsChunks, AreBytesJoined, IsTextJoined}
+use Rattle.cbor_value.specs.Items.{IsAwaited, IsRead, IsTagRead, StandsForms, AreAwaited, AreAwaitedToBreak, AreRead, StandsPairs, ArePairsAwaited, ArePairsAwaitedToBreak, ArePairsRead}
 use Rattle.cbor_value.proofs.Places.{within, flat_some, flat_is}
+use Rattle.cbor_value.proofs.Views.{view-Uint, view-Nint, view-Simple, view-Float}
 
 -- the head of every form that stands there is read so
 abbrev pub ReadsHead : List ℕ → ℕ → Head × ℕ → Type 0
@@ -125,3 +129,111 @@ tag_read b at (tag_form p m g) back h n r s headed is reads =
     let same : m ≡ n = cc in
     tag_form_read at h.1 p m g r headed.end (subst (λ k. IsTagRead h.1 k g r) (sym same) (reads g back (record { ok = s.ok.1; is = headed.behind })))
 tag_read b at f back h n r s headed is reads = absurd (let other : head_of f ≡ head.Tag n = sym headed.head ∙ is in cc)
+
+-- numbers, simple values and floats
+
+pub uint_read : (b : List ℕ) (at : ℕ) (f : Form) (back : List ℕ) (h : Head × ℕ) (n : ℕ) → IsHeaded b at f back h → h.0 ≡ head.Uint n → IsRead at f (Ok (item.Uint n, h.1))
+uint_read b at (uint_form p m) back h n headed is =
+    let other : head.Uint m ≡ head.Uint n = sym headed.head ∙ is in
+    let same : m ≡ n = cc in
+    (tt, view-Uint n ∙ ap uint (sym same), headed.end)
+uint_read b at f back h n headed is = absurd (let other : head_of f ≡ head.Uint n = sym headed.head ∙ is in cc)
+
+pub nint_read : (b : List ℕ) (at : ℕ) (f : Form) (back : List ℕ) (h : Head × ℕ) (n : ℕ) → IsHeaded b at f back h → h.0 ≡ head.Nint n → IsRead at f (Ok (item.Nint n, h.1))
+nint_read b at (nint_form p m) back h n headed is =
+    let other : head.Nint m ≡ head.Nint n = sym headed.head ∙ is in
+    let same : m ≡ n = cc in
+    (tt, view-Nint n ∙ ap nint (sym same), headed.end)
+nint_read b at f back h n headed is = absurd (let other : head_of f ≡ head.Nint n = sym headed.head ∙ is in cc)
+
+pub simple_read : (b : List ℕ) (at : ℕ) (f : Form) (back : List ℕ) (h : Head × ℕ) (n : ℕ) → IsHeaded b at f back h → h.0 ≡ head.Simple n → IsRead at f (Ok (item.Simple n, h.1))
+simple_read b at (simple_inside m) back h n headed is =
+    let other : head.Simple m ≡ head.Simple n = sym headed.head ∙ is in
+    let same : m ≡ n = cc in
+    (tt, view-Simple n ∙ ap simple (sym same), headed.end)
+simple_read b at (simple_next m) back h n headed is =
+    let other : head.Simple m ≡ head.Simple n = sym headed.head ∙ is in
+    let same : m ≡ n = cc in
+    (tt, view-Simple n ∙ ap simple (sym same), headed.end)
+simple_read b at f back h n headed is = absurd (let other : head_of f ≡ head.Simple n = sym headed.head ∙ is in cc)
+
+pub float_read : (b : List ℕ) (at : ℕ) (f : Form) (back : List ℕ) (h : Head × ℕ) (w : Width) (n : ℕ) → IsHeaded b at f back h → h.0 ≡ head.Float w n → IsRead at f (Ok (item.Float w n, h.1))
+float_read b at (float_form v m) back h w n headed is =
+    let other : head.Float v m ≡ head.Float w n = sym headed.head ∙ is in
+    let width : v ≡ w = cc in
+    let same : m ≡ n = cc in
+    (tt, view-Float w n ∙ (ap (float w) (sym same) ∙ ap (λ u. float u m) (sym width)), headed.end)
+float_read b at f back h w n headed is = absurd (let other : head_of f ≡ head.Float w n = sym headed.head ∙ is in cc)
+
+-- byte strings
+
+bytes_form_read : (at start len : ℕ) (p : Place) (s : List ℕ) (r : Result (Item × ℕ) Unread) → start ≡ at + length (head_in p 2 (length s)) → len ≡ length s → IsBytesRead s start len r → IsRead at (bytes_form p s) r
+bytes_form_read at start len p s (Ok r) e l h = (tt, h.0, omega (arith, h.1, length-append (head_in p 2 (length s)) s))
+bytes_form_read at start len p s (Err (BadText q)) e l h = absurd h
+bytes_form_read at start len p s (Err Memory) e l h = tt
+
+pub bytes_read : (b : List ℕ) (at : ℕ) (f : Form) (back : List ℕ) (h : Head × ℕ) (len : ℕ) (r : Result (Item × ℕ) Unread) → IsHeaded b at f back h → h.0 ≡ head.Bytes len → IsBytesRead (take len (drop h.1 b)) h.1 len r → IsRead at f r
+bytes_read b at (bytes_form p s) back h len r headed is read =
+    let same : len ≡ length s = string_len (bytes_form p s) h.0 len headed.head is in
+    let held : take len (drop h.1 b) ≡ s = ap (take len) headed.behind ∙ (ap (λ k. take k (s ++ back)) same ∙ take-append_seam s back) in
+    bytes_form_read at h.1 len p s r headed.end same (subst (λ x. IsBytesRead x h.1 len r) held read)
+bytes_read b at f back h len r headed is read = absurd (let other : head_of f ≡ head.Bytes len = sym headed.head ∙ is in cc)
+
+bytes_chunks_read : (at start : ℕ) (cs : List Chunk) (r : Result (Item × ℕ) Unread) → start ≡ at + 1 → AreBytesJoined start cs r → IsRead at (bytes_chunks cs) r
+bytes_chunks_read at start cs (Ok r) e h = (tt, h.0, omega (arith, h.1, length-append (chunks_bytes 2 cs) (255 ∷ [])))
+bytes_chunks_read at start cs (Err (BadText q)) e h = absurd h
+bytes_chunks_read at start cs (Err Memory) e h = tt
+
+pub byte_chunks_read : (b : List ℕ) (at : ℕ) (f : Form) (back : List ℕ) (h : Head × ℕ) (r : Result (Item × ℕ) Unread) → Stands b at f back → IsHeaded b at f back h → h.0 ≡ head.BytesToBreak → ((cs : List Chunk) (back : List ℕ) → StandsChunks b h.1 2 cs (255 ∷ back) → AreBytesJoined h.1 cs r) → IsRead at f r
+byte_chunks_read b at (bytes_chunks cs) back h r s headed is reads =
+    bytes_chunks_read at h.1 cs r headed.end (reads cs back (record { ok = s.ok; is = headed.behind ∙ append_assoc (chunks_bytes 2 cs) (255 ∷ []) back }))
+byte_chunks_read b at f back h r s headed is reads = absurd (let other : head_of f ≡ head.BytesToBreak = sym headed.head ∙ is in cc)
+
+-- what is in a container, one level less deep
+
+pub array_deep : (f : Form) (h : Head) (n : ℕ) → h ≡ head_of f → h ≡ head.Array n → 1 ≤ depth_of (meaning f)
+array_deep (array_form p fs) h n e k = omega arith
+array_deep f h n e k = absurd (let other : head_of f ≡ head.Array n = sym e ∙ k in cc)
+
+pub unbroken_deep : (f : Form) (h : Head) → h ≡ head_of f → h ≡ head.ArrayToBreak → 1 ≤ depth_of (meaning f)
+unbroken_deep (array_to_break fs) h e k = omega arith
+unbroken_deep f h e k = absurd (let other : head_of f ≡ head.ArrayToBreak = sym e ∙ k in cc)
+
+pub map_deep : (f : Form) (h : Head) (n : ℕ) → h ≡ head_of f → h ≡ head.Map n → 1 ≤ depth_of (meaning f)
+map_deep (pairs_form p ps) h n e k = omega arith
+map_deep f h n e k = absurd (let other : head_of f ≡ head.Map n = sym e ∙ k in cc)
+
+pub unbroken_map_deep : (f : Form) (h : Head) → h ≡ head_of f → h ≡ head.MapToBreak → 1 ≤ depth_of (meaning f)
+unbroken_map_deep (pairs_to_break ps) h e k = omega arith
+unbroken_map_deep f h e k = absurd (let other : head_of f ≡ head.MapToBreak = sym e ∙ k in cc)
+
+pub tag_deep : (f : Form) (h : Head) (n : ℕ) → h ≡ head_of f → h ≡ head.Tag n → 1 ≤ depth_of (meaning f)
+tag_deep (tag_form p m g) h n e k = omega arith
+tag_deep f h n e k = absurd (let other : head_of f ≡ head.Tag n = sym e ∙ k in cc)
+
+pub array_awaited : (b : List ℕ) (at allowed : ℕ) (f : Form) (back : List ℕ) (h : Head × ℕ) (n : ℕ) → Stands b at f back → depth_of (meaning f) ≤ allowed → IsHeaded b at f back h → h.0 ≡ head.Array n → AreAwaited (allowed - 1) n b h.1
+array_awaited b at allowed (array_form p fs) back h n s shallow headed is =
+    let other : head.Array (forms_len fs) ≡ head.Array n = sym headed.head ∙ is in
+    record { forms = fs; back = back; count = cc; stands = record { ok = s.ok.1; is = headed.behind }; shallow = omega arith }
+array_awaited b at allowed f back h n s shallow headed is = absurd (let other : head_of f ≡ head.Array n = sym headed.head ∙ is in cc)
+
+pub unbroken_awaited : (b : List ℕ) (at allowed : ℕ) (f : Form) (back : List ℕ) (h : Head × ℕ) → Stands b at f back → depth_of (meaning f) ≤ allowed → IsHeaded b at f back h → h.0 ≡ head.ArrayToBreak → AreAwaitedToBreak (allowed - 1) b h.1
+unbroken_awaited b at allowed (array_to_break fs) back h s shallow headed is =
+    record { forms = fs; back = back; stands = record { ok = s.ok; is = headed.behind ∙ append_assoc (forms_flat fs) (255 ∷ []) back }; shallow = omega arith }
+unbroken_awaited b at allowed f back h s shallow headed is = absurd (let other : head_of f ≡ head.ArrayToBreak = sym headed.head ∙ is in cc)
+
+pub map_awaited : (b : List ℕ) (at allowed : ℕ) (f : Form) (back : List ℕ) (h : Head × ℕ) (n : ℕ) → Stands b at f back → depth_of (meaning f) ≤ allowed → IsHeaded b at f back h → h.0 ≡ head.Map n → ArePairsAwaited (allowed - 1) n b h.1
+map_awaited b at allowed (pairs_form p ps) back h n s shallow headed is =
+    let other : head.Map (pair_forms_len ps) ≡ head.Map n = sym headed.head ∙ is in
+    record { forms = ps; back = back; count = cc; stands = record { ok = s.ok.1; is = headed.behind }; shallow = omega arith }
+map_awaited b at allowed f back h n s shallow headed is = absurd (let other : head_of f ≡ head.Map n = sym headed.head ∙ is in cc)
+
+pub unbroken_map_awaited : (b : List ℕ) (at allowed : ℕ) (f : Form) (back : List ℕ) (h : Head × ℕ) → Stands b at f back → depth_of (meaning f) ≤ allowed → IsHeaded b at f back h → h.0 ≡ head.MapToBreak → ArePairsAwaitedToBreak (allowed - 1) b h.1
+unbroken_map_awaited b at allowed (pairs_to_break ps) back h s shallow headed is =
+    record { forms = ps; back = back; stands = record { ok = s.ok; is = headed.behind ∙ append_assoc (pair_forms_flat ps) (255 ∷ []) back }; shallow = omega arith }
+unbroken_map_awaited b at allowed f back h s shallow headed is = absurd (let other : head_of f ≡ head.MapToBreak = sym headed.head ∙ is in cc)
+
+pub tag_awaited : (b : List ℕ) (at allowed : ℕ) (f : Form) (back : List ℕ) (h : Head × ℕ) (n : ℕ) → Stands b at f back → depth_of (meaning f) ≤ allowed → IsHeaded b at f back h → h.0 ≡ head.Tag n → IsAwaited (allowed - 1) b h.1
+tag_awaited b at allowed (tag_form p m g) back h n s shallow headed is =
+    record { written = g; back = back; stands = record { ok = s.ok.1; is = headed.behind }; shallow = omega arith }
+tag_awaited b at allowed f back h n s shallow headed is = absurd (let other : head_of f ≡ head.Tag n = sym headed.head ∙ is in cc)

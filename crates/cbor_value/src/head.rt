@@ -9,7 +9,7 @@ use cbor_item::Width;
 pub const BREAK: u8 = 0xff;
 
 /// What the head of an item says.
-#[derive(Clone, Copy, Debug)]
+#[derive(Clone, Copy)]
 pub enum Head {
     Uint(u64),
     Nint(u64),

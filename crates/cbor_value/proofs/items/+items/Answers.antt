@@ -4,7 +4,7 @@ use Rattle.cbor_data.specs.Forms.{forms_len, pair_forms_len}
 use Rattle.cbor_value.specs.Items.{AreRead, ArePairsRead}
 use Rattle.cbor_value.proofs.Members.{AreSeen, next_counted, next_unbroken, next_awaited, more, stops, all_counted, all_unbroken, handed_on}
 use Rattle.cbor_value.proofs.PairMembers as pair_members
-use Rattle.cbor_value.proofs.Parts.{bytes_within, text_within, text_read, chunks_read, array_read, unbroken_read, map_read, unbroken_map_read, tag_read}
+use Rattle.cbor_value.proofs.Parts.{array_deep, unbroken_deep, map_deep, unbroken_map_deep, tag_deep, array_awaited, unbroken_awaited, map_awaited, unbroken_map_awaited, tag_awaited, bytes_within, text_within, uint_read, nint_read, simple_read, float_read, bytes_read, byte_chunks_read, text_read, chunks_read, array_read, unbroken_read, map_read, unbroken_map_read, tag_read}
 use Rattle.cbor_value.proofs.Views.{view-Array, view-Map}
 use Rattle.cbor_value.proofs.items.+items.Goals as goal
 
@@ -64,6 +64,87 @@ item_at-byte_string-requires t c = bytes_within c.args.bytes.now c.args.at c.req
 
 pub item_at-text_string-requires : goal.item_at-text_string-requires
 item_at-text_string-requires t c = text_within c.args.bytes.now c.args.at c.requires.written c.requires.back c.head_at-head.result c.in-Text.len c.requires.stands c.head_at-head.ensures c.in-Text.is
+
+pub item_at-overflow_sub-allowed : goal.item_at-overflow_sub-allowed
+item_at-overflow_sub-allowed t c =
+    let r = c.requires in
+    let headed = c.head_at-head.ensures r.written r.back r.stands in
+    omega (arith, array_deep r.written c.head_at-head.result.0 c.in-Array.len headed.head c.in-Array.is, r.shallow)
+
+pub item_at-array-requires : goal.item_at-array-requires
+item_at-array-requires t c =
+    let r = c.requires in
+    let headed = c.head_at-head.ensures r.written r.back r.stands in
+    (omega (arith, array_deep r.written c.head_at-head.result.0 c.in-Array.len headed.head c.in-Array.is, r.shallow), array_awaited c.args.bytes.now c.args.at c.args.allowed r.written r.back c.head_at-head.result c.in-Array.len r.stands r.shallow headed c.in-Array.is)
+
+pub item_at-overflow_sub-allowed-in-ArrayToBreak : goal.item_at-overflow_sub-allowed-in-ArrayToBreak
+item_at-overflow_sub-allowed-in-ArrayToBreak t c =
+    let r = c.requires in
+    let headed = c.head_at-head.ensures r.written r.back r.stands in
+    omega (arith, unbroken_deep r.written c.head_at-head.result.0 headed.head c.in-ArrayToBreak.is, r.shallow)
+
+pub item_at-array_to_break-requires : goal.item_at-array_to_break-requires
+item_at-array_to_break-requires t c =
+    let r = c.requires in
+    let headed = c.head_at-head.ensures r.written r.back r.stands in
+    (omega (arith, unbroken_deep r.written c.head_at-head.result.0 headed.head c.in-ArrayToBreak.is, r.shallow), unbroken_awaited c.args.bytes.now c.args.at c.args.allowed r.written r.back c.head_at-head.result r.stands r.shallow headed c.in-ArrayToBreak.is)
+
+pub item_at-overflow_sub-allowed-in-Map : goal.item_at-overflow_sub-allowed-in-Map
+item_at-overflow_sub-allowed-in-Map t c =
+    let r = c.requires in
+    let headed = c.head_at-head.ensures r.written r.back r.stands in
+    omega (arith, map_deep r.written c.head_at-head.result.0 c.in-Map.len headed.head c.in-Map.is, r.shallow)
+
+pub item_at-map-requires : goal.item_at-map-requires
+item_at-map-requires t c =
+    let r = c.requires in
+    let headed = c.head_at-head.ensures r.written r.back r.stands in
+    (omega (arith, map_deep r.written c.head_at-head.result.0 c.in-Map.len headed.head c.in-Map.is, r.shallow), map_awaited c.args.bytes.now c.args.at c.args.allowed r.written r.back c.head_at-head.result c.in-Map.len r.stands r.shallow headed c.in-Map.is)
+
+pub item_at-overflow_sub-allowed-in-MapToBreak : goal.item_at-overflow_sub-allowed-in-MapToBreak
+item_at-overflow_sub-allowed-in-MapToBreak t c =
+    let r = c.requires in
+    let headed = c.head_at-head.ensures r.written r.back r.stands in
+    omega (arith, unbroken_map_deep r.written c.head_at-head.result.0 headed.head c.in-MapToBreak.is, r.shallow)
+
+pub item_at-map_to_break-requires : goal.item_at-map_to_break-requires
+item_at-map_to_break-requires t c =
+    let r = c.requires in
+    let headed = c.head_at-head.ensures r.written r.back r.stands in
+    (omega (arith, unbroken_map_deep r.written c.head_at-head.result.0 headed.head c.in-MapToBreak.is, r.shallow), unbroken_map_awaited c.args.bytes.now c.args.at c.args.allowed r.written r.back c.head_at-head.result r.stands r.shallow headed c.in-MapToBreak.is)
+
+pub item_at-overflow_sub-allowed-in-Tag : goal.item_at-overflow_sub-allowed-in-Tag
+item_at-overflow_sub-allowed-in-Tag t c =
+    let r = c.requires in
+    let headed = c.head_at-head.ensures r.written r.back r.stands in
+    omega (arith, tag_deep r.written c.head_at-head.result.0 c.in-Tag.number headed.head c.in-Tag.is, r.shallow)
+
+pub item_at-tag-requires : goal.item_at-tag-requires
+item_at-tag-requires t c =
+    let r = c.requires in
+    let headed = c.head_at-head.ensures r.written r.back r.stands in
+    (omega (arith, tag_deep r.written c.head_at-head.result.0 c.in-Tag.number headed.head c.in-Tag.is, r.shallow), tag_awaited c.args.bytes.now c.args.at c.args.allowed r.written r.back c.head_at-head.result c.in-Tag.number r.stands r.shallow headed c.in-Tag.is)
+
+pub item_at-returns-in-Uint : goal.item_at-returns-in-Uint
+item_at-returns-in-Uint t c = λ f back s. uint_read c.args.bytes.now c.args.at f back c.head_at-head.result c.in-Uint.n (c.head_at-head.ensures f back s) c.in-Uint.is
+
+pub item_at-returns-in-Nint : goal.item_at-returns-in-Nint
+item_at-returns-in-Nint t c = λ f back s. nint_read c.args.bytes.now c.args.at f back c.head_at-head.result c.in-Nint.n (c.head_at-head.ensures f back s) c.in-Nint.is
+
+pub item_at-returns-in-Simple : goal.item_at-returns-in-Simple
+item_at-returns-in-Simple t c = λ f back s. simple_read c.args.bytes.now c.args.at f back c.head_at-head.result c.in-Simple.n (c.head_at-head.ensures f back s) c.in-Simple.is
+
+pub item_at-returns-in-Float : goal.item_at-returns-in-Float
+item_at-returns-in-Float t c = λ f back s.
+    float_read c.args.bytes.now c.args.at f back c.head_at-head.result c.in-Float.width c.in-Float.bits (c.head_at-head.ensures f back s) c.in-Float.is
+
+pub item_at-returns-in-Bytes : goal.item_at-returns-in-Bytes
+item_at-returns-in-Bytes t c = λ f back s.
+    bytes_read c.args.bytes.now c.args.at f back c.head_at-head.result c.in-Bytes.len c.byte_string.result (c.head_at-head.ensures f back s) c.in-Bytes.is c.byte_string.ensures
+
+pub item_at-returns-in-BytesToBreak : goal.item_at-returns-in-BytesToBreak
+item_at-returns-in-BytesToBreak t c = λ f back s.
+    byte_chunks_read c.args.bytes.now c.args.at f back c.head_at-head.result c.byte_chunks.result s (c.head_at-head.ensures f back s) c.in-BytesToBreak.is c.byte_chunks.ensures
 
 pub item_at-returns-in-Text : goal.item_at-returns-in-Text
 item_at-returns-in-Text t c = λ f back s.
