@@ -7,13 +7,12 @@ use Rattle.cbor_data.specs.Sequence.{Found}
 use Rattle.cbor_read.specs.Told.{IsTold}
 use Rattle.cbor_read.specs.Reading.{Reading}
 use Rattle.cbor_read.specs.Answers as reader
-use Rattle.cbor_read.specs.Answers.{IsGoingOn, IsTaken, IsRefused}
+use Rattle.cbor_read.specs.Answers.{IsGoingOn, IsTaken}
 use Rattle.cbor_read.specs.declared.fault.Fault as declared
 use Rattle.cbor_read.specs.declared.fault.Stop.{Stop}
 use Rattle.cbor_read.specs.declared.fault.Stop.TheVariants as stop
-use Rattle.cbor_read.specs.declared.reader.Fed.{Fed}
-use Rattle.cbor_read.specs.declared.reader.Fed.TheVariants as fed_as
 use Rattle.seq_run.specs.Judge.{Judge}
+use Rattle.seq_run.specs.declared.end.Cause.{Cause}
 use Rattle.seq_run.specs.declared.end.Cause.TheVariants.{Fault, Mismatch, Spent}
 use Rattle.seq_run.specs.declared.end.End.{End}
 use Rattle.seq_run.specs.declared.end.End.TheVariants.{Clean, Failed}
@@ -22,10 +21,11 @@ use Rattle.seq_run.specs.declared.end.Stopped.TheVariants.{Ended, Memory}
 use Rattle.seq_run.specs.declared.session.Placed.{Placed}
 use Rattle.seq_run.specs.declared.session.Step.{Step}
 use Rattle.seq_run.specs.declared.session.Step.TheVariants as step
-use Rattle.seq_run.specs.Ends.{Accepts, Misses, Overruns, BeginsWith, Ends}
+use Rattle.seq_run.specs.Ends.{Accepts, BeginsWith, Ends}
+use Rattle.seq_run.specs.Judged.{IsFailing}
 use Rattle.seq_run.specs.Placed.{found_of}
 use Rattle.seq_run.specs.Progress.{Progress}
-use Rattle.seq_run.specs.Standing.{IsNext, IsRejected, IsRunning, IsStanding}
+use Rattle.seq_run.specs.Standing.{IsRejected, IsRunning, IsStanding}
 use Rattle.seq_run.specs.Answers.{IsOpen, IsEnded, IsCutShort, IsStep, IsStepAnswer, IsFinish}
 use Rattle.seq_run.proofs.Ending.{clean_end, fault_end}
 use Rattle.seq_run.proofs.Transitions.{grows, going_on, opened, took, missed, overrun, faulted, cut_short, counts_below}
@@ -44,9 +44,6 @@ answered : (now : Progress) (piece : List ℕ) (out : List Value) (result : Resu
     IsStepAnswer now.stopped now piece out result new out_new
 answered now piece out result new out_new e s = subst (λ v. IsStepAnswer v now piece out result new out_new) (sym e) s
 
-read_on : (s : Option Stop) (r : Reading) (piece : List ℕ) (result : Result Fed AllocError) (new : Reading) → s ≡ None → reader.IsAnswer s r piece result new → reader.IsFed r piece result new
-read_on s r piece result new e a = subst (λ v. reader.IsAnswer v r piece result new) e a
-
 module _ (judge : Judge) (fed : List ℕ) (taken : List Found) (r : Reading) (items offset bytes : ℕ) (stopped : Option Stopped) (rejected : Option Value)
     (is : stopped ≡ None) (standing : IsStanding stopped judge r.limits fed taken r items offset bytes rejected) where
   running : IsRunning judge r.limits fed taken r items offset bytes rejected
@@ -55,28 +52,26 @@ module _ (judge : Judge) (fed : List ℕ) (taken : List Found) (r : Reading) (it
   abbrev old : Progress
   old = record { judge = judge; limits = r.limits; fed = fed; taken = taken; stopped = stopped }
 
-  answer : (piece : List ℕ) (result : Result Fed AllocError) (new : Reading) → reader.IsAnswer r.stopped r piece result new → reader.IsFed r piece result new
-  answer piece result new a = read_on r.stopped r piece result new running.going a
+  pub going_reader : r.stopped ≡ None
+  going_reader = running.going
 
-  pub more_fits : (piece : List ℕ) (new : Reading) → reader.IsAnswer r.stopped r piece (Ok fed_as.More) new → bytes + length piece < 2 ^ 64
-  more_fits piece new a = omega (arith, grows judge r.limits fed taken r items offset bytes rejected running piece new (answer piece (Ok fed_as.More) new a))
+  pub more_fits : (piece : List ℕ) (new : Reading) → IsGoingOn r piece new → bytes + length piece < 2 ^ 64
+  more_fits piece new g = omega (arith, grows judge r.limits fed taken r items offset bytes rejected running piece new g)
 
-  more_running : (piece : List ℕ) (new : Reading) (fed' : List ℕ) → fed' ≡ fed ++ piece → reader.IsAnswer r.stopped r piece (Ok fed_as.More) new → IsRunning judge new.limits fed' taken new items offset (bytes + length piece) rejected
-  more_running piece new fed' e a =
-      let g : IsGoingOn r piece new = answer piece (Ok fed_as.More) new a in
+  more_running : (piece : List ℕ) (new : Reading) (fed' : List ℕ) → fed' ≡ fed ++ piece → IsGoingOn r piece new → IsRunning judge new.limits fed' taken new items offset (bytes + length piece) rejected
+  more_running piece new fed' e g =
       let next = going_on judge r.limits fed taken r items offset bytes rejected running piece new g in
       let limits : r.limits ≡ new.limits = ap (λ (v : Reading). v.limits) (sym g.next) in
       subst (λ l. IsRunning judge l fed' taken new items offset (bytes + length piece) rejected) limits (subst (λ f. IsRunning judge r.limits f taken new items offset (bytes + length piece) rejected) (sym e) next)
 
-  pub more_kept : (piece : List ℕ) (new : Reading) (fed' : List ℕ) → fed' ≡ fed ++ piece → reader.IsAnswer r.stopped r piece (Ok fed_as.More) new → IsStanding stopped judge new.limits fed' taken new items offset (bytes + length piece) rejected
-  more_kept piece new fed' e a = subst (λ v. IsStanding v judge new.limits fed' taken new items offset (bytes + length piece) rejected) (sym is) (more_running piece new fed' e a)
+  pub more_kept : (piece : List ℕ) (new : Reading) (fed' : List ℕ) → fed' ≡ fed ++ piece → IsGoingOn r piece new → IsStanding stopped judge new.limits fed' taken new items offset (bytes + length piece) rejected
+  more_kept piece new fed' e g = subst (λ v. IsStanding v judge new.limits fed' taken new items offset (bytes + length piece) rejected) (sym is) (more_running piece new fed' e g)
 
-  pub more_step : (now : Progress) → old ≡ now → (piece : List ℕ) (out : List Value) (new : Reading) (fed' : List ℕ) → fed' ≡ fed ++ piece → reader.IsAnswer r.stopped r piece (Ok fed_as.More) new →
+  pub more_step : (now : Progress) → old ≡ now → (piece : List ℕ) (out : List Value) (new : Reading) (fed' : List ℕ) → fed' ≡ fed ++ piece → IsGoingOn r piece new →
       IsStepAnswer now.stopped now piece out (Ok step.More) (record { judge = judge; limits = new.limits; fed = fed'; taken = taken; stopped = stopped }) out
-  more_step now same piece out new fed' e a =
-      let g : IsGoingOn r piece new = answer piece (Ok fed_as.More) new a in
+  more_step now same piece out new fed' e g =
       let limits : new.limits ≡ r.limits = ap (λ (v : Reading). v.limits) g.next in
-      let next = more_running piece new fed' e a in
+      let next = more_running piece new fed' e g in
       let after : Progress = record { judge = judge; limits = new.limits; fed = fed'; taken = taken; stopped = stopped } in
       let open_now : IsOpen after = opened judge new.limits fed' taken new items offset (bytes + length piece) rejected next stopped is in
       let moved : after ≡ record old { fed = fed ++ piece } = rw (limits, e) refl in
@@ -95,83 +90,49 @@ module _ (judge : Judge) (fed : List ℕ) (taken : List Found) (r : Reading) (it
       (subst (λ (p : Progress). after ≡ record p { fed = p.fed ++ piece; stopped = Some (Ended end) }) same moved, refl, ended)
 
   -- an item was accepted
-  taking : (piece : List ℕ) (used : ℕ) (x : Value) (new : Reading) → reader.IsAnswer r.stopped r piece (Ok (fed_as.Item used x)) new → IsTaken r piece used x new
-  taking piece used x new a = answer piece (Ok (fed_as.Item used x)) new a
-
-  pub item_fits : (piece : List ℕ) (used : ℕ) (x : Value) (new : Reading) → reader.IsAnswer r.stopped r piece (Ok (fed_as.Item used x)) new → Accepts judge x [] → (items + 1 < 2 ^ 64) × (bytes + used < 2 ^ 64)
-  item_fits piece used x new a accepts =
-      let t = taking piece used x new a in
+  pub item_fits : (piece : List ℕ) (used : ℕ) (x : Value) (new : Reading) → IsTaken r piece used x new → Accepts judge x [] → (items + 1 < 2 ^ 64) × (bytes + used < 2 ^ 64)
+  item_fits piece used x new t accepts =
       let next = took judge r.limits fed taken r items offset bytes rejected running piece used x new t accepts in
       let below = counts_below judge r.limits fed taken r items offset bytes rejected running in
       (omega (arith, below, t.some, next.0), omega (arith, next.0))
 
   pub item_kept : (piece : List ℕ) (used : ℕ) (x : Value) (new : Reading) (fed' : List ℕ) (taken' : List Found) → fed' ≡ fed ++ take used piece →
-      taken' ≡ taken ++ record { offset = offset; item = x } ∷ [] → reader.IsAnswer r.stopped r piece (Ok (fed_as.Item used x)) new → Accepts judge x [] →
+      taken' ≡ taken ++ record { offset = offset; item = x } ∷ [] → IsTaken r piece used x new → Accepts judge x [] →
       IsStanding stopped judge new.limits fed' taken' new (items + 1) (bytes + used) (bytes + used) rejected
-  item_kept piece used x new fed' taken' e f a accepts =
-      let t = taking piece used x new a in
+  item_kept piece used x new fed' taken' e f t accepts =
       let limits : new.limits ≡ r.limits = ap (λ (v : Reading). v.limits) t.next in
       let next = (took judge r.limits fed taken r items offset bytes rejected running piece used x new t accepts).1 in
       let there : IsRunning judge new.limits (fed ++ take used piece) (taken ++ record { offset = offset; item = x } ∷ []) new (items + 1) (bytes + used) (bytes + used) None =
       subst (λ l. IsRunning judge l (fed ++ take used piece) (taken ++ record { offset = offset; item = x } ∷ []) new (items + 1) (bytes + used) (bytes + used) None) (sym limits) next in
       rw (is, e, f, running.none) there
 
-  -- an item does not match
-  pub missed_kept : (piece : List ℕ) (used : ℕ) (x : Value) (place : ℕ) (new : Reading) (fed' : List ℕ) → fed' ≡ fed ++ piece → reader.IsAnswer r.stopped r piece (Ok (fed_as.Item used x)) new → Misses judge x [] place →
-      Ends judge new.limits fed' taken (Failed items offset (Mismatch place)) × IsNext judge new.limits fed' taken x
-  missed_kept piece used x place new fed' e a misses =
-      let t = taking piece used x new a in
-      let limits : new.limits ≡ r.limits = ap (λ (v : Reading). v.limits) t.next in
-      let both = missed judge r.limits fed taken r items offset bytes rejected running piece used x new [] t place misses in
+  -- what comes fails, whatever follows
+  failing : (piece : List ℕ) (cause : Cause) (left : Option Value) (new : Reading) (more : List ℕ) → IsFailing judge r piece cause left new →
+      Ends judge r.limits ((fed ++ piece) ++ more) taken (Failed items offset cause) × IsRejected judge r.limits ((fed ++ piece) ++ more) taken (Failed items offset cause) left
+  failing piece (Fault f) left new more (used, refused, none) = (faulted judge r.limits fed taken r items offset bytes rejected running piece used f new more refused, none)
+  failing piece (Mismatch place) left new more (used, x, t, misses, is) =
+      let both = missed judge r.limits fed taken r items offset bytes rejected running piece used x new more t place misses in
+      (both.0, subst (λ (v : Option Value). IsRejected judge r.limits ((fed ++ piece) ++ more) taken (Failed items offset (Mismatch place)) v) (sym is) both.1)
+  failing piece Spent left new more (used, x, t, over, none) = (overrun judge r.limits fed taken r items offset bytes rejected running piece used x new more t over, none)
+
+  failing_limits : (piece : List ℕ) (cause : Cause) (left : Option Value) (new : Reading) → IsFailing judge r piece cause left new → new.limits ≡ r.limits
+  failing_limits piece (Fault f) left new (used, refused, none) = ap (λ (v : Reading). v.limits) refused.next
+  failing_limits piece (Mismatch place) left new (used, x, t, misses, is) = ap (λ (v : Reading). v.limits) t.next
+  failing_limits piece Spent left new (used, x, t, over, none) = ap (λ (v : Reading). v.limits) t.next
+
+  pub stopped_kept : (piece : List ℕ) (cause : Cause) (left : Option Value) (new : Reading) (fed' : List ℕ) → fed' ≡ fed ++ piece → IsFailing judge r piece cause left new →
+      Ends judge new.limits fed' taken (Failed items offset cause) × IsRejected judge new.limits fed' taken (Failed items offset cause) left
+  stopped_kept piece cause left new fed' e f =
       let whole : fed' ≡ (fed ++ piece) ++ [] = e ∙ sym (append-nil (fed ++ piece)) in
-      rw (limits, whole) both
+      let end = Failed items offset cause in
+      subst (λ (l : Bounds). Ends judge l fed' taken end × IsRejected judge l fed' taken end left) (sym (failing_limits piece cause left new f))
+      (subst (λ (b : List ℕ). Ends judge r.limits b taken end × IsRejected judge r.limits b taken end left) (sym whole) (failing piece cause left new [] f))
 
-  pub missed_step : (now : Progress) → old ≡ now → (piece : List ℕ) (out : List Value) (used : ℕ) (x : Value) (place : ℕ) (new : Reading) (fed' : List ℕ) → fed' ≡ fed ++ piece →
-      reader.IsAnswer r.stopped r piece (Ok (fed_as.Item used x)) new → Misses judge x [] place →
-      IsStepAnswer now.stopped now piece out (Ok (step.Ended (Failed items offset (Mismatch place))))
-      (record { judge = judge; limits = new.limits; fed = fed'; taken = taken; stopped = Some (Ended (Failed items offset (Mismatch place))) }) out
-  missed_step now same piece out used x place new fed' e a misses =
-      let t = taking piece used x new a in
-      ended_step now same piece out (Failed items offset (Mismatch place)) new.limits fed' (ap (λ (v : Reading). v.limits) t.next) e (λ more. (missed judge r.limits fed taken r items offset bytes rejected running piece used x new more t place misses).0)
-
-  -- the steps were not enough for an item
-  pub overrun_kept : (piece : List ℕ) (used : ℕ) (x : Value) (new : Reading) (fed' : List ℕ) → fed' ≡ fed ++ piece → reader.IsAnswer r.stopped r piece (Ok (fed_as.Item used x)) new → Overruns judge x [] →
-      Ends judge new.limits fed' taken (Failed items offset Spent) × (rejected ≡ None)
-  overrun_kept piece used x new fed' e a over =
-      let t = taking piece used x new a in
-      let limits : new.limits ≡ r.limits = ap (λ (v : Reading). v.limits) t.next in
-      let end = overrun judge r.limits fed taken r items offset bytes rejected running piece used x new [] t over in
-      let whole : fed' ≡ (fed ++ piece) ++ [] = e ∙ sym (append-nil (fed ++ piece)) in
-      (rw (limits, whole) end, running.none)
-
-  pub overrun_step : (now : Progress) → old ≡ now → (piece : List ℕ) (out : List Value) (used : ℕ) (x : Value) (new : Reading) (fed' : List ℕ) → fed' ≡ fed ++ piece →
-      reader.IsAnswer r.stopped r piece (Ok (fed_as.Item used x)) new → Overruns judge x [] →
-      IsStepAnswer now.stopped now piece out (Ok (step.Ended (Failed items offset Spent)))
-      (record { judge = judge; limits = new.limits; fed = fed'; taken = taken; stopped = Some (Ended (Failed items offset Spent)) }) out
-  overrun_step now same piece out used x new fed' e a over =
-      let t = taking piece used x new a in
-      ended_step now same piece out (Failed items offset Spent) new.limits fed' (ap (λ (v : Reading). v.limits) t.next) e (λ more. overrun judge r.limits fed taken r items offset bytes rejected running piece used x new more t over)
-
-  -- a fault was told
-  telling : (piece : List ℕ) (used : ℕ) (fault : declared.Fault) (new : Reading) → reader.IsAnswer r.stopped r piece (Ok (fed_as.Fault used fault)) new → IsRefused r piece used fault new
-  telling piece used fault new a = answer piece (Ok (fed_as.Fault used fault)) new a
-
-  pub fault_kept : (piece : List ℕ) (used : ℕ) (fault : declared.Fault) (new : Reading) (fed' : List ℕ) → fed' ≡ fed ++ piece → reader.IsAnswer r.stopped r piece (Ok (fed_as.Fault used fault)) new →
-      Ends judge new.limits fed' taken (Failed items offset (Fault fault)) × (rejected ≡ None)
-  fault_kept piece used fault new fed' e a =
-      let t = telling piece used fault new a in
-      let limits : new.limits ≡ r.limits = ap (λ (v : Reading). v.limits) t.next in
-      let whole : fed' ≡ (fed ++ piece) ++ [] = e ∙ sym (append-nil (fed ++ piece)) in
-      let end = faulted judge r.limits fed taken r items offset bytes rejected running piece used fault new [] t in
-      (rw (limits, whole) end, running.none)
-
-  pub fault_step : (now : Progress) → old ≡ now → (piece : List ℕ) (out : List Value) (used : ℕ) (fault : declared.Fault) (new : Reading) (fed' : List ℕ) → fed' ≡ fed ++ piece →
-      reader.IsAnswer r.stopped r piece (Ok (fed_as.Fault used fault)) new →
-      IsStepAnswer now.stopped now piece out (Ok (step.Ended (Failed items offset (Fault fault))))
-      (record { judge = judge; limits = new.limits; fed = fed'; taken = taken; stopped = Some (Ended (Failed items offset (Fault fault))) }) out
-  fault_step now same piece out used fault new fed' e a =
-      let t = telling piece used fault new a in
-      ended_step now same piece out (Failed items offset (Fault fault)) new.limits fed' (ap (λ (v : Reading). v.limits) t.next) e (λ more. faulted judge r.limits fed taken r items offset bytes rejected running piece used fault new more t)
+  pub stopped_step : (now : Progress) → old ≡ now → (piece : List ℕ) (out : List Value) (cause : Cause) (left : Option Value) (new : Reading) (fed' : List ℕ) → fed' ≡ fed ++ piece → IsFailing judge r piece cause left new →
+      IsStepAnswer now.stopped now piece out (Ok (step.Ended (Failed items offset cause)))
+      (record { judge = judge; limits = new.limits; fed = fed'; taken = taken; stopped = Some (Ended (Failed items offset cause)) }) out
+  stopped_step now same piece out cause left new fed' e f =
+      ended_step now same piece out (Failed items offset cause) new.limits fed' (failing_limits piece cause left new f) e (λ more. (failing piece cause left new more f).0)
 
   -- there was no memory
   pub cut_step : (now : Progress) → old ≡ now → (piece : List ℕ) (out out_new : List Value) (error : AllocError) (limits : Bounds) (fed' : List ℕ) → limits ≡ r.limits → fed' ≡ fed ++ piece → out_new ≡ out →
@@ -182,12 +143,6 @@ module _ (judge : Judge) (fed : List ℕ) (taken : List Found) (r : Reading) (it
       let moved : after ≡ record old { fed = fed ++ piece; stopped = Some Memory } = rw (bounds, e) refl in
       answered now piece out (Err error) after out_new (ap (λ (p : Progress). p.stopped) (sym same) ∙ is)
       (subst (λ (p : Progress). after ≡ record p { fed = p.fed ++ piece; stopped = Some Memory }) same moved, kept, short)
-
-  pub taking_limits : (piece : List ℕ) (used : ℕ) (x : Value) (new : Reading) → reader.IsAnswer r.stopped r piece (Ok (fed_as.Item used x)) new → new.limits ≡ r.limits
-  taking_limits piece used x new a = ap (λ (v : Reading). v.limits) (taking piece used x new a).next
-
-  pub failing_limits : (piece : List ℕ) (error : AllocError) (new : Reading) → reader.IsAnswer r.stopped r piece (Err error) new → new.limits ≡ r.limits
-  failing_limits piece error new a = let next : new ≡ record r { stopped = Some stop.Memory } = answer piece (Err error) new a in ap (λ (v : Reading). v.limits) next
 
   -- the end of the bytes fed
   abbrev pub Kept : End → Type 0

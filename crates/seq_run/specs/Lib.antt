@@ -1,5 +1,6 @@
 pub mod Judge
 pub mod Ends
+pub mod Judged
 pub mod Progress
 pub mod Placed
 pub mod Standing

@@ -3,6 +3,7 @@
 ghost use Rattle.std.specs.Prelude.{◌≡◌, [], length, None, option_copied};
 ghost use Rattle.seq_run.specs.Answers.{Appends, IsAnswer, IsFinish, IsLent, IsStepAnswer};
 ghost use Rattle.seq_run.specs.Judge.{judge_of};
+ghost use Rattle.seq_run.specs.Judged.{IsJudged};
 
 use crate::end::{Cause, End, State, Stopped};
 use cbor_item::Sound;
@@ -32,6 +33,23 @@ pub enum Step {
         offset: u64,
     },
     Ended(End),
+}
+
+/// What a piece led to, by the reader and the specification.
+#[derive(Drop)]
+enum Judged {
+    /// The whole piece was used, and no item is whole.
+    More,
+    /// An item is accepted, whose last byte is byte `used` of the piece.
+    Accepted {
+        used: usize,
+        item: Sound,
+    },
+    /// What comes behind the accepted items fails, with the item where it does not match.
+    Failed {
+        cause: Cause,
+        rejected: Option<Sound>,
+    },
 }
 
 /// Takes the items of a stream (RFC 8742) that match a specification, up to the first that does not.
@@ -175,42 +193,13 @@ impl<'t> Session<'t> {
             Some(Stopped::Memory) => return Err(AllocError),
             None => {}
         }
-        match self.reader.feed(piece) {
-            Ok(Fed::More) => {
+        match judge_next(self.alloc, self.table, self.steps, &mut self.reader, piece) {
+            Ok(Judged::More) => {
                 self.fed.extend(piece);
                 self.bytes += piece.len() as u64;
                 Ok(Step::More)
             }
-            Ok(Fed::Item { used, item }) => {
-                match verdict(self.alloc, self.table, &item, self.steps) {
-                    Ok(Verdict::Yes) => {}
-                    Ok(Verdict::No { place }) => {
-                        self.fed.extend(piece);
-                        let end = End::Failed {
-                            items: self.items,
-                            offset: self.offset,
-                            cause: Cause::Mismatch(place),
-                        };
-                        self.rejected = Some(item);
-                        self.stopped = Some(Stopped::Ended(end));
-                        return Ok(Step::Ended(end));
-                    }
-                    Ok(Verdict::Spent) => {
-                        self.fed.extend(piece);
-                        let end = End::Failed {
-                            items: self.items,
-                            offset: self.offset,
-                            cause: Cause::Spent,
-                        };
-                        self.stopped = Some(Stopped::Ended(end));
-                        return Ok(Step::Ended(end));
-                    }
-                    Err(error) => {
-                        self.fed.extend(piece);
-                        self.stopped = Some(Stopped::Memory);
-                        return Err(error);
-                    }
-                }
+            Ok(Judged::Accepted { used, item }) => {
                 let placed = Placed {
                     offset: self.offset,
                     item,
@@ -233,13 +222,14 @@ impl<'t> Session<'t> {
                     offset,
                 })
             }
-            Ok(Fed::Fault { used: _, fault }) => {
+            Ok(Judged::Failed { cause, rejected }) => {
                 self.fed.extend(piece);
                 let end = End::Failed {
                     items: self.items,
                     offset: self.offset,
-                    cause: Cause::Fault(fault),
+                    cause,
                 };
+                self.rejected = rejected;
                 self.stopped = Some(Stopped::Ended(end));
                 Ok(Step::Ended(end))
             }
@@ -249,5 +239,36 @@ impl<'t> Session<'t> {
                 Err(error)
             }
         }
+    }
+}
+
+// Reads on, and asks the specification about an item that is whole.
+fn judge_next(
+    alloc: Global,
+    table: &Table,
+    steps: u64,
+    reader: &mut ItemReader,
+    piece: &[u8],
+) -> Result<Judged, AllocError>
+    requires { reader.old.stopped ≡ None }
+    ensures { IsJudged (judge_of table.now steps) reader.old piece.now result reader.new }
+{
+    match reader.feed(piece)? {
+        Fed::More => Ok(Judged::More),
+        Fed::Item { used, item } => match verdict(alloc, table, &item, steps)? {
+            Verdict::Yes => Ok(Judged::Accepted { used, item }),
+            Verdict::No { place } => Ok(Judged::Failed {
+                cause: Cause::Mismatch(place),
+                rejected: Some(item),
+            }),
+            Verdict::Spent => Ok(Judged::Failed {
+                cause: Cause::Spent,
+                rejected: None,
+            }),
+        },
+        Fed::Fault { used: _, fault } => Ok(Judged::Failed {
+            cause: Cause::Fault(fault),
+            rejected: None,
+        }),
     }
 }
