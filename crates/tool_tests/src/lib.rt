@@ -1,4 +1,5 @@
-//! The tests of `cddl_tool`, which call it as a program would: a crate with tests of its own is proved twice.
+//! The tests of `cddl_tool`, and of the steps that a session has, which call them as a program would: a crate with tests of its
+//! own is proved twice.
 #![tactic(auto)]
 
 #[cfg(test)]
@@ -7,5 +8,7 @@ mod acting;
 mod devices;
 #[cfg(test)]
 mod lines;
+#[cfg(test)]
+mod steps;
 #[cfg(test)]
 mod words;

@@ -1,0 +1,33 @@
+use cbor_read::Limits;
+use cddl_one_rule::read_specification;
+use seq_run::{Cause, End, end_line, validate_pieces};
+use std::process::Abort;
+use std::test::Fail;
+
+// The type `uint` asks one question of an item.
+#[test]
+fn ends_where_the_steps_are_spent(rt: HostRuntime) -> Result<(), Fail> {
+    let a = rt.alloc();
+    let Some(table) = read_specification(a, b"a = uint")? else {
+        return Err(Fail::from("no table"));
+    };
+    let limits = Limits::try_new(1, 1).ok_or(Fail::from("no limits"))?;
+    let piece: Vec<u8> = vec![in a; 1, 2]?;
+    let pieces = vec![in a; piece]?;
+    let (end, _) = validate_pieces(a, &table, limits, 1, pieces.as_slice())?;
+    assert_eq!(rt; end, End::Clean { items: 2, bytes: 2 });
+    let (end, items) = validate_pieces(a, &table, limits, 0, pieces.as_slice())?;
+    let spent = End::Failed {
+        items: 0,
+        offset: 0,
+        cause: Cause::Spent,
+    };
+    assert_eq!(rt; end, spent);
+    assert!(rt; items.is_empty());
+    let line = end_line(a, &spent, None)?;
+    assert_eq!(rt;
+        line.as_slice(),
+        b"failed: 0 items, offset 0: step limit reached\n"
+    );
+    Ok(())
+}
