@@ -1,6 +1,6 @@
 //! Reads a specification of one rule.
 
-ghost use Rattle.std.specs.Prelude.{◌≡◌, ◌≢◌, ℕ, List, ◌∷◌, ◌↔◌, IsTrue, IfOk, IfSome, IfNone};
+ghost use Rattle.std.specs.Prelude.{◌≡◌, ◌≢◌, ℕ, List, ◌∷◌, ◌↔◌, IsTrue, IfOk, IfErr, IfSome, IfNone};
 ghost use Rattle.cddl_meaning.specs.Forms.{Plain};
 ghost use Rattle.cddl_table.specs.Language.{root_form, test_view};
 ghost use Rattle.cddl_one_rule.specs.Specification.{IsFront, IsGapByte, IsLetter, IsRule, IsSpecification, test_named, type_name};
@@ -15,10 +15,11 @@ use std::alloc::{AllocError, Global};
 ///
 /// # Errors
 ///
-/// [`AllocError`] where an allocation was refused.
+/// [`AllocError`] where an allocation was refused, for the table of a text that is such a specification.
 pub fn read_specification(alloc: Global, text: &[u8]) -> Result<Option<Table>, AllocError>
     ensures found { IfOk result (λ table. IfSome table (IsSpecification text.now)) }
     ensures none { IfOk result (λ table. IfNone table ((type : NamedTypes) → IsRule text.now type → ⊥)) }
+    ensures memory { IfErr result (λ _. (type : NamedTypes) × IsRule text.now type) }
 {
     match read_rule(text) {
         Some(named) => {

@@ -55,7 +55,9 @@ pub fn ready<E: Write>(
     err: &mut Counted<E>,
 ) -> Result<Table, u8>
     ensures found { IfOk result (IsSpecification (specification_of options.now.task spec.now)) }
-    ensures refused { IfErr result (λ status. (status ≡ BROKEN) ⊎ ((status ≡ REFUSED) × ((type : NamedTypes) → IsRule (specification_of options.now.task spec.now) type → ⊥))) }
+    ensures refused { IfErr result (λ status.
+        ((status ≡ REFUSED) × ((type : NamedTypes) → IsRule (specification_of options.now.task spec.now) type → ⊥))
+        ⊎ ((status ≡ BROKEN) × ((type : NamedTypes) × IsRule (specification_of options.now.task spec.now) type))) }
 {
     match read_specification(alloc, specification_for(options.task, spec)) {
         Ok(Some(table)) => Ok(table),
