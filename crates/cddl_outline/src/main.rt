@@ -12,7 +12,7 @@ mod sketch;
 use crate::sketch::{Piece, Sketch};
 use cddl_parse::{parse, tokens_end};
 use cddl_token::{Token, tokens};
-use cddl_tree::Tree;
+use cddl_tree::{Rule, Tree};
 use std::io::Read;
 
 /// A text without the zero byte behind it.
@@ -53,17 +53,34 @@ fn print_answer<'s>(rt: &HostRuntime, found: &'s [Token<'s>]) -> anyhow::Result<
 
 fn print_tree(rt: &HostRuntime, tree: &Tree<'_>) -> anyhow::Result<()> {
     print!(rt; "tree: ")?;
-    let mut sketch = Sketch::of(rt.alloc(), tree.rules.as_slice())?;
+    print_rules(rt, tree.rules.as_slice())?;
+    print_token(rt, "", tree.end)?;
+    println!(rt; "")?;
+    Ok(())
+}
+
+fn print_rules(rt: &HostRuntime, rules: &[Rule<'_>]) -> anyhow::Result<()> {
+    let mut sketch = Sketch::of(rt.alloc(), rules)?;
     for _ in 0..u64::MAX {
         match sketch.next() {
             None => break,
-            Some(Piece::Word(word)) => print!(rt; "{word}")?,
-            Some(Piece::Leaf(node, token)) => print_token(rt, node, token)?,
-            Some(piece) => sketch.open(piece)?,
+            Some(piece) => print_piece(rt, &mut sketch, piece)?,
         }
     }
-    print_token(rt, "", tree.end)?;
-    println!(rt; "")?;
+    Ok(())
+}
+
+/// Prints a word or a token, and opens what is neither.
+fn print_piece<'t, 's>(
+    rt: &HostRuntime,
+    sketch: &mut Sketch<'t, 's>,
+    piece: Piece<'t, 's>,
+) -> anyhow::Result<()> {
+    match piece {
+        Piece::Word(word) => print!(rt; "{word}")?,
+        Piece::Leaf(node, token) => print_token(rt, node, token)?,
+        piece => sketch.open(piece)?,
+    }
     Ok(())
 }
 

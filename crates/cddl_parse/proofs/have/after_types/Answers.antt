@@ -1,7 +1,6 @@
-use Rattle.std.proofs.Common.{◌∙◌, ap, sym}
+use Rattle.std.proofs.Common.{ap, sym}
 use Rattle.cddl_syntax.specs.Syntax as S
 use Rattle.cddl_syntax.specs.Machine as M
-use Rattle.cddl_tree.specs.declared.tree.MemberKey.{MemberKey}
 use Rattle.cddl_tree.specs.View.{leaf, view_types, view_key}
 use Rattle.cddl_tree.proofs.Viewing.{view-Keyed}
 use Rattle.cddl_parse.proofs.have.after_types.Goals as goal
