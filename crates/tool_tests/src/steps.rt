@@ -11,7 +11,9 @@ fn ends_where_the_steps_are_spent(rt: HostRuntime) -> Result<(), Fail> {
     let Some(table) = read_specification(a, b"a = uint")? else {
         return Err(Fail::from("no table"));
     };
-    let limits = Limits::try_new(1, 1).ok_or(Fail::from("no limits"))?;
+    let Some(limits) = Limits::try_new(1, 1) else {
+        return Err(Fail::from("no limits"));
+    };
     let piece: Vec<u8> = vec![in a; 1, 2]?;
     let pieces = vec![in a; piece]?;
     let (end, _) = validate_pieces(a, &table, limits, 1, pieces.as_slice())?;
@@ -25,9 +27,7 @@ fn ends_where_the_steps_are_spent(rt: HostRuntime) -> Result<(), Fail> {
     assert_eq!(rt; end, spent);
     assert!(rt; items.is_empty());
     let line = end_line(a, &spent, None)?;
-    assert_eq!(rt;
-        line.as_slice(),
-        b"failed: 0 items, offset 0: step limit reached\n"
-    );
+    let wanted: &[u8] = b"failed: 0 items, offset 0: step limit reached\n";
+    assert_eq!(rt; line.as_slice(), wanted);
     Ok(())
 }
