@@ -1,12 +1,6 @@
-mod Adding
-mod Behind
-mod Bodies
-mod Closing
-mod Contents
-mod Elsewhere
-mod Ending
-mod Ends
-mod Heads
-mod Pushing
-mod Steps
-mod Whole
+pub mod Adding
+pub mod Behind
+pub mod Bodies
+pub mod Ending
+pub mod Heads
+pub mod Whole

@@ -1,3 +1,2 @@
-pub mod Frames
 pub mod Kinds
 pub mod States

@@ -1,27 +1,27 @@
 use cddl_token::Token;
 
 /// value: a literal.
-#[derive(Clone, Copy)]
+#[derive(Clone, Copy, Debug)]
 pub enum Value<'s> {
-    Number(&'s Token<'s>),
-    Text(&'s Token<'s>),
-    Bytes(&'s Token<'s>),
+    Number(Token<'s>),
+    Text(Token<'s>),
+    Bytes(Token<'s>),
 }
 
 /// rangeop or ctlop: what stands between two operands.
-#[derive(Clone, Copy)]
+#[derive(Clone, Copy, Debug)]
 pub enum Operator<'s> {
     /// `..`, with both ends.
-    Range(&'s Token<'s>),
+    Range(Token<'s>),
     /// `...`, without the upper end.
-    RangeBelow(&'s Token<'s>),
+    RangeBelow(Token<'s>),
     /// A control, as `.size`.
-    Control(&'s Token<'s>),
+    Control(Token<'s>),
 }
 
 /// type: a choice of one type1 or more.
 #[cycle(tree)]
-#[derive(Drop)]
+#[derive(Debug, Drop)]
 pub struct Types<'s> {
     pub first: Type1<'s>,
     /// The others, each behind its `/`.
@@ -30,16 +30,16 @@ pub struct Types<'s> {
 
 /// A further type1 and the sign before it.
 #[cycle(tree)]
-#[derive(Drop)]
+#[derive(Debug, Drop)]
 pub struct Further<'s> {
     /// `/` in a type, `,` in a genericarg.
-    pub sign: &'s Token<'s>,
+    pub sign: Token<'s>,
     pub type1: Type1<'s>,
 }
 
 /// type1: an operand, or two and what stands between them.
 #[cycle(tree)]
-#[derive(Drop)]
+#[derive(Debug, Drop)]
 pub enum Type1<'s> {
     One(Box<Type2<'s>>),
     Operation {
@@ -51,86 +51,86 @@ pub enum Type1<'s> {
 
 /// type2: an operand.
 #[cycle(tree)]
-#[derive(Drop)]
+#[derive(Debug, Drop)]
 pub enum Type2<'s> {
     Literal(Value<'s>),
     /// A typename; in an entry perhaps a groupname.
     Typename(Ref<'s>),
     /// `( type )`
     Parens {
-        opening: &'s Token<'s>,
+        opening: Token<'s>,
         types: Box<Types<'s>>,
-        closing: &'s Token<'s>,
+        closing: Token<'s>,
     },
     /// `{ group }`
     MapOf {
-        opening: &'s Token<'s>,
-        group: Group<'s>,
-        closing: &'s Token<'s>,
+        opening: Token<'s>,
+        group: Box<Group<'s>>,
+        closing: Token<'s>,
     },
     /// `[ group ]`
     ArrayOf {
-        opening: &'s Token<'s>,
-        group: Group<'s>,
-        closing: &'s Token<'s>,
+        opening: Token<'s>,
+        group: Box<Group<'s>>,
+        closing: Token<'s>,
     },
     /// `~ name`
     Unwrapped {
-        tilde: &'s Token<'s>,
+        tilde: Token<'s>,
         name: Ref<'s>,
     },
     /// `& ( group )`
     ChoiceOf {
-        ampersand: &'s Token<'s>,
-        opening: &'s Token<'s>,
-        group: Group<'s>,
-        closing: &'s Token<'s>,
+        ampersand: Token<'s>,
+        opening: Token<'s>,
+        group: Box<Group<'s>>,
+        closing: Token<'s>,
     },
     /// `& name`
     ChoiceOfName {
-        ampersand: &'s Token<'s>,
+        ampersand: Token<'s>,
         name: Ref<'s>,
     },
     /// `#6.n( type )`
     Tagged {
-        opening: &'s Token<'s>,
+        opening: Token<'s>,
         types: Box<Types<'s>>,
-        closing: &'s Token<'s>,
+        closing: Token<'s>,
     },
     /// `#6.< type > ( type )`
     TaggedBy {
-        opening: &'s Token<'s>,
+        opening: Token<'s>,
         head: Box<Types<'s>>,
-        angle: &'s Token<'s>,
-        paren: &'s Token<'s>,
+        angle: Token<'s>,
+        paren: Token<'s>,
         types: Box<Types<'s>>,
-        closing: &'s Token<'s>,
+        closing: Token<'s>,
     },
     /// `#7.< type >`
     SimpleBy {
-        opening: &'s Token<'s>,
+        opening: Token<'s>,
         head: Box<Types<'s>>,
-        closing: &'s Token<'s>,
+        closing: Token<'s>,
     },
     /// `#`, `#d` or `#d.n`
-    Hash(&'s Token<'s>),
+    Hash(Token<'s>),
 }
 
 /// A typename or groupname that is used, with its genericarg if it has one.
 #[cycle(tree)]
-#[derive(Drop)]
+#[derive(Debug, Drop)]
 pub enum Ref<'s> {
-    Name(&'s Token<'s>),
+    Name(Token<'s>),
     Applied {
-        opening: &'s Token<'s>,
+        opening: Token<'s>,
         arguments: Box<GenericArg<'s>>,
-        closing: &'s Token<'s>,
+        closing: Token<'s>,
     },
 }
 
 /// genericarg, between its angles: one type1 or more.
 #[cycle(tree)]
-#[derive(Drop)]
+#[derive(Debug, Drop)]
 pub struct GenericArg<'s> {
     pub first: Type1<'s>,
     /// The others, each behind its `,`.
@@ -139,7 +139,7 @@ pub struct GenericArg<'s> {
 
 /// group: a choice of one grpchoice or more, of which any may be empty.
 #[cycle(tree)]
-#[derive(Drop)]
+#[derive(Debug, Drop)]
 pub struct Group<'s> {
     pub first: Vec<Entry<'s>>,
     pub others: Vec<GrpChoice<'s>>,
@@ -147,110 +147,110 @@ pub struct Group<'s> {
 
 /// A further grpchoice, behind its `//`.
 #[cycle(tree)]
-#[derive(Drop)]
+#[derive(Debug, Drop)]
 pub struct GrpChoice<'s> {
-    pub slashes: &'s Token<'s>,
+    pub slashes: Token<'s>,
     pub entries: Vec<Entry<'s>>,
 }
 
 /// A grpent and its optcom.
 #[cycle(tree)]
-#[derive(Drop)]
+#[derive(Debug, Drop)]
 pub struct Entry<'s> {
     pub grpent: GrpEnt<'s>,
-    pub comma: Option<&'s Token<'s>>,
+    pub comma: Option<Token<'s>>,
 }
 
 /// grpent
 #[cycle(tree)]
-#[derive(Drop)]
+#[derive(Debug, Drop)]
 pub enum GrpEnt<'s> {
     /// A type; or a reference to a group.
     Typed {
-        occur: Option<&'s Token<'s>>,
+        occur: Option<Token<'s>>,
         types: Types<'s>,
     },
     Keyed {
-        occur: Option<&'s Token<'s>>,
-        key: Box<MemberKey<'s>>,
+        occur: Option<Token<'s>>,
+        key: MemberKey<'s>,
         types: Types<'s>,
     },
     /// `( group )` that is no type in parentheses.
     Grouped {
-        occur: Option<&'s Token<'s>>,
-        opening: &'s Token<'s>,
+        occur: Option<Token<'s>>,
+        opening: Token<'s>,
         group: Group<'s>,
-        closing: &'s Token<'s>,
+        closing: Token<'s>,
     },
 }
 
 /// memberkey
 #[cycle(tree)]
-#[derive(Drop)]
+#[derive(Debug, Drop)]
 pub enum MemberKey<'s> {
     /// `type1 =>` or `type1 ^ =>`
     TypeKey {
         type1: Type1<'s>,
-        cut: Option<&'s Token<'s>>,
-        arrow: &'s Token<'s>,
+        cut: Option<Token<'s>>,
+        arrow: Token<'s>,
     },
     /// `bareword :`
     Bareword {
-        name: &'s Token<'s>,
-        colon: &'s Token<'s>,
+        name: Token<'s>,
+        colon: Token<'s>,
     },
     /// `value :`
     ValueKey {
         value: Value<'s>,
-        colon: &'s Token<'s>,
+        colon: Token<'s>,
     },
 }
 
 /// genericparm, between its angles: one name or more.
-#[derive(Drop)]
+#[derive(Debug, Drop)]
 pub struct GenericParm<'s> {
-    pub first: &'s Token<'s>,
+    pub first: Token<'s>,
     pub others: Vec<Parameter<'s>>,
 }
 
 /// A further parameter, behind its `,`.
-#[derive(Clone, Copy)]
+#[derive(Clone, Copy, Debug)]
 pub struct Parameter<'s> {
-    pub comma: &'s Token<'s>,
-    pub name: &'s Token<'s>,
+    pub comma: Token<'s>,
+    pub name: Token<'s>,
 }
 
 /// A typename or groupname that is defined, with its genericparm if it has one.
-#[derive(Drop)]
+#[derive(Debug, Drop)]
 pub enum RuleName<'s> {
-    Plain(&'s Token<'s>),
+    Plain(Token<'s>),
     Generic {
-        opening: &'s Token<'s>,
+        opening: Token<'s>,
         parameters: GenericParm<'s>,
-        closing: &'s Token<'s>,
+        closing: Token<'s>,
     },
 }
 
 /// assignt: what makes a type rule.
-#[derive(Clone, Copy)]
+#[derive(Clone, Copy, Debug)]
 pub enum AssignT<'s> {
     /// `=`
-    TypeIs(&'s Token<'s>),
+    TypeIs(Token<'s>),
     /// `/=`
-    TypeOr(&'s Token<'s>),
+    TypeOr(Token<'s>),
 }
 
 /// assigng: what makes a group rule.
-#[derive(Clone, Copy)]
+#[derive(Clone, Copy, Debug)]
 pub enum AssignG<'s> {
     /// `=`
-    GroupIs(&'s Token<'s>),
+    GroupIs(Token<'s>),
     /// `//=`
-    GroupOr(&'s Token<'s>),
+    GroupOr(Token<'s>),
 }
 
 /// rule
-#[derive(Drop)]
+#[derive(Debug, Drop)]
 pub enum Rule<'s> {
     TypeRule {
         name: RuleName<'s>,
@@ -265,8 +265,8 @@ pub enum Rule<'s> {
 }
 
 /// cddl: the rules of a specification, and the end of its source.
-#[derive(Drop)]
+#[derive(Debug, Drop)]
 pub struct Tree<'s> {
     pub rules: Vec<Rule<'s>>,
-    pub end: &'s Token<'s>,
+    pub end: Token<'s>,
 }

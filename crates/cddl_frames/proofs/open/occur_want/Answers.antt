@@ -1,0 +1,15 @@
+use Rattle.std.proofs.Common.{ap}
+use Rattle.cddl_frames.specs.Frames.{as_entry, view_at_type2}
+use Rattle.cddl_frames.proofs.Closing.{occur_taken}
+use Rattle.cddl_frames.proofs.Steps.{head_none}
+use Rattle.cddl_frames.proofs.Elsewhere.{occur_twice, occur_refused}
+use Rattle.cddl_frames.proofs.open.occur_want.Goals as goal
+
+pub returns-in-None : goal.returns-in-None
+returns-in-None c rs b = head_none (view_at_type2 b c.args.at) (as_entry b) _ _ c.in-None.is (c.in-Ok.ensures.head b) (occur_taken (as_entry b) _ c.args.token (c.type_at.ensures b))
+
+pub returns-in-Some : goal.returns-in-Some
+returns-in-Some c rs b = occur_twice (view_at_type2 b c.args.at) (as_entry b) _ _ c.args.token _ c.in-Some.is (c.in-Ok.ensures.head b) c.unexpected.ensures
+
+pub returns-in-Err : goal.returns-in-Err
+returns-in-Err c rs b = occur_refused (view_at_type2 b c.args.at) _ c.args.token _ (ap (view_at_type2 b) c.in-Err.ensures.same) (c.in-Err.ensures.elsewhere b) c.unexpected-in-Err.ensures
