@@ -7,12 +7,14 @@ and the rows on the programs that were built.
 With --quick, for work in progress: what changed is proved over what earlier checks kept, then come the tests and the
 rows; no edit is tried, and no verdict follows from it.
 
-The last line is 'N passed, M failed', all counted together. The status is 0 only where all was run and nothing failed.
+After each part comes a line with the processor time that it took. The last line is 'N passed, M failed', all counted
+together. The status is 0 only where all was run and nothing failed.
 """
 import argparse
 import glob
 import os
 import re
+import resource
 import shlex
 import shutil
 import subprocess
@@ -32,6 +34,16 @@ PROGRAM = os.path.join(TOP, "build", "cddlseq")
 # Each step may take a few gigabytes.
 STEPS_AT_ONCE = 3
 COUNT = re.compile(r"(\d+) passed, (\d+) failed")
+
+
+def told(part, run):
+    """What a part of the gate answers; its processor time, user and system, of all its processes, is printed."""
+    before = resource.getrusage(resource.RUSAGE_CHILDREN)
+    answer = run()
+    after = resource.getrusage(resource.RUSAGE_CHILDREN)
+    taken = after.ru_utime + after.ru_stime - before.ru_utime - before.ru_stime
+    print(f"{part}: {taken:.0f} processor seconds", flush=True)
+    return answer
 
 
 def proofs(rt):
@@ -123,16 +135,16 @@ def main():
     words.add_argument("--rt", default="rt", help="the command of the Rattle toolchain")
     words.add_argument("--quick", action="store_true", help="over what earlier checks kept, and without edits")
     words = words.parse_args()
-    passed, failed = kept_proofs(words.rt) if words.quick else proofs(words.rt)
+    passed, failed = told("proofs and tests", lambda: kept_proofs(words.rt) if words.quick else proofs(words.rt))
     # 'rt ci' set aside what earlier runs built, so these are the programs that were proved just now
     if failed or not (os.path.isfile(PROVED) and os.path.isfile(OUTLINE)):
         print("the rows on the built programs are not run: there is no proved program")
         failed = max(failed, 1)
     else:
         if not words.quick:
-            more, bad = wrong_bodies(words.rt)
+            more, bad = told("wrong bodies, many in one check", lambda: wrong_bodies(words.rt))
             passed, failed = passed + more, failed + bad
-        more, bad = rows()
+        more, bad = told("rows", rows)
         passed, failed = passed + more, failed + bad
     print(f"{passed} passed, {failed} failed")
     return 1 if failed else 0
