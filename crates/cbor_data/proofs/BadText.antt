@@ -1,4 +1,4 @@
--- The first text of a form that is not UTF-8 stands at one place.
+-- The first text of a form that is not UTF-8 is at one place.
 use Rattle.std.proofs.Common.{◌≡◌, ℕ, suc, ◌+◌, inl, inr, List, [], ◌∷◌, length, refl, sym, ap, ◌∙◌}
 use Rattle.cbor_data.specs.Forms.{Form, uint_form, nint_form, bytes_form, bytes_chunks, text_form, text_chunks, array_form, array_to_break, pairs_form, pairs_to_break, tag_form, simple_inside, simple_next, float_form, Forms, no_forms, form, PairForms, no_pair_forms, pair_form, Chunk, AllText, chunk_bytes, head_in, forms_len, pair_forms_len, flat, HasText, HaveText, HavePairsText}
 use Rattle.cbor_data.specs.Faults.{IsBadChunkAt, IsBadTextAt, IsBadTextAmong, IsBadTextAmongPairs}
@@ -37,11 +37,11 @@ mutual
   good_pairs (pair_form k v ps) i t (inr (inl b)) = good_text v b.1.0 t.1 b.1.2
   good_pairs (pair_form k v ps) i t (inr (inr b)) = good_pairs ps b.2.0 t.2 b.2.2
 
--- two places behind this many bytes
+-- two places after this many bytes
 behind : {i j k l : ℕ} (n : ℕ) → i ≡ n + k → j ≡ n + l → k ≡ l → i ≡ j
 behind n e f same = e ∙ (ap (λ m. n + m) same ∙ sym f)
 
--- two places behind a byte
+-- two places after a byte
 next : {i j k l : ℕ} → i ≡ suc k → j ≡ suc l → k ≡ l → i ≡ j
 next e f same = e ∙ (ap suc same ∙ sym f)
 

@@ -1,5 +1,7 @@
-pub mod SameLaws
 pub mod Unique
 pub mod PreferredSpells
-pub mod PreferredLength
+mod PreferredLength
+mod Spelled
 pub mod BadText
+mod SameLaws
+pub mod Lemmas

@@ -3,13 +3,13 @@ use Rattle.std.proofs.Common.{◌≡◌, ℕ, suc, ◌+◌, ◌<◌, ◌≤◌, 
 use Rattle.std.proofs.lemmas.Bool.Decides.{nat_tests}
 use Rattle.cbor_data.specs.declared.Width.{Width}
 use Rattle.cbor_data.specs.declared.Width.TheVariants.{W16, W32, W64}
-use Rattle.cbor_data.specs.Preferred.{initial, shortest_head, simple_bytes, float_bytes, preferred, values_preferred, pairs_preferred}
+use Rattle.cbor_data.specs.Preferred.{initial, shortest_head, simple_bytes, float_bytes, preferred, values_preferred, pairs_preferred, AreCountsShort, AreValueCountsShort, ArePairCountsShort}
 use Rattle.cbor_data.specs.Value.{Value, uint, nint, bytes, text, array, pairs, tag, simple, float, Values, no_values, value, Pairs, no_pairs, pair, values_len, pairs_len, FitsWidth, IsInRange, AreInRange, ArePairsInRange, AreBitsFitting, AreValuesFitting, ArePairsFitting, AreSimplesAssignable, AreValuesAssignable, ArePairsAssignable}
 use Rattle.cbor_data.specs.Sound.{IsSound, HasShortSpelling}
-use Rattle.cbor_data.specs.Forms.{Form, uint_form, nint_form, bytes_form, bytes_chunks, text_form, text_chunks, array_form, array_to_break, pairs_form, pairs_to_break, tag_form, simple_inside, simple_next, float_form, Forms, no_forms, form, PairForms, no_pair_forms, pair_form, Chunk, chunk_bytes, chunks_bytes, joined, to_break, flat, forms_flat, pair_forms_flat, forms_len, pair_forms_len, meaning, meanings, pair_meanings, IsOk, HasText, HaveText, HavePairsText, AreFormsOk, ArePairFormsOk, Spells, Place, inside, one, two, four, eight, head_in, FitsPlace}
+use Rattle.cbor_data.specs.Forms.{Form, uint_form, nint_form, bytes_form, bytes_chunks, text_form, text_chunks, array_form, array_to_break, pairs_form, pairs_to_break, tag_form, simple_inside, simple_next, float_form, Forms, no_forms, form, PairForms, no_pair_forms, pair_form, Chunk, chunk_bytes, chunks_bytes, joined, to_break, flat, forms_flat, pair_forms_flat, forms_len, pair_forms_len, meaning, meanings, pair_meanings, IsOk, HasText, HaveText, HavePairsText, AreFormsOk, ArePairFormsOk, Spells, ArgumentSize, inside, one, two, four, eight, head_in, FitsSize}
 
--- the place of the shortest head
-abbrev shortest : ℕ → Place
+-- the size of the argument in the shortest head
+abbrev shortest : ℕ → ArgumentSize
 shortest n =
     cond (nat_lt n 24) inside (cond (nat_lt n (2 ^ 8)) one (cond (nat_lt n (2 ^ 16)) two (cond (nat_lt n (2 ^ 32)) four eight)))
 
@@ -17,7 +17,7 @@ pub tested : (b : Bool) → (b ≡ true) ⊎ (b ≡ false)
 tested true = inl refl
 tested false = inr refl
 
-in_shortest : (m n : ℕ) → n < 2 ^ 64 → (shortest_head m n ≡ head_in (shortest n) m n) × FitsPlace (shortest n) n
+in_shortest : (m n : ℕ) → n < 2 ^ 64 → (shortest_head m n ≡ head_in (shortest n) m n) × FitsSize (shortest n) n
 in_shortest m n h = elim (tested (nat_lt n 24)) [
   | inl t ↦ let small : n < 24 = grind (arith, nat_tests) in rw t (refl, small)
   | inr t ↦ elim (tested (nat_lt n (2 ^ 8))) [
@@ -31,24 +31,6 @@ in_shortest m n h = elim (tested (nat_lt n 24)) [
     ]
   ]
 ]
-
--- each string is shorter than 2^64 bytes, and each array and map has fewer members
-abbrev mutual
-  pub AreCountsShort : Value → Type 0
-  AreCountsShort (bytes s) = length s < 2 ^ 64
-  AreCountsShort (text s) = length s < 2 ^ 64
-  AreCountsShort (array xs) = (values_len xs < 2 ^ 64) × AreValueCountsShort xs
-  AreCountsShort (pairs ps) = (pairs_len ps < 2 ^ 64) × ArePairCountsShort ps
-  AreCountsShort (tag n x) = AreCountsShort x
-  AreCountsShort _ = Unit {0}
-
-  pub AreValueCountsShort : Values → Type 0
-  AreValueCountsShort no_values = Unit {0}
-  AreValueCountsShort (value x xs) = AreCountsShort x × AreValueCountsShort xs
-
-  pub ArePairCountsShort : Pairs → Type 0
-  ArePairCountsShort no_pairs = Unit {0}
-  ArePairCountsShort (pair k v ps) = AreCountsShort k × AreCountsShort v × ArePairCountsShort ps
 
 -- a form that writes these bytes and means this
 record Writes (x : Value) (b : List ℕ) : Type 0 where
@@ -93,7 +75,7 @@ mutual
       let w = writes_all xs h f a c.1 in
       record {
         written = array_form (shortest (values_len xs)) w.written;
-        ok = (subst (FitsPlace (shortest (values_len xs))) (sym w.len) s.1, w.ok);
+        ok = (subst (FitsSize (shortest (values_len xs))) (sym w.len) s.1, w.ok);
         text = w.text;
         is = ap₂ (λ i j. i ++ j) (ap (head_in (shortest (values_len xs)) 4) w.len ∙ sym s.0) w.is;
         meant = ap array w.meant;
@@ -103,7 +85,7 @@ mutual
       let w = writes_pairs ps h f a c.1 in
       record {
         written = pairs_form (shortest (pairs_len ps)) w.written;
-        ok = (subst (FitsPlace (shortest (pairs_len ps))) (sym w.len) s.1, w.ok);
+        ok = (subst (FitsSize (shortest (pairs_len ps))) (sym w.len) s.1, w.ok);
         text = w.text;
         is = ap₂ (λ i j. i ++ j) (ap (head_in (shortest (pairs_len ps)) 5) w.len ∙ sym s.0) w.is;
         meant = ap pairs w.meant;
@@ -145,12 +127,12 @@ spells_preferred x h f a c = let w = writes x h f a c in record { written = w.wr
 pub joined_len : (m : ℕ) (cs : List Chunk) → length (joined cs) ≤ length (chunks_bytes m cs)
 joined_len m [] = omega arith
 joined_len m (c ∷ cs) =
-    omega (arith, length-append c.held (joined cs), length-append (chunk_bytes m c) (chunks_bytes m cs), length-append (head_in c.place m (length c.held)) c.held, joined_len m cs)
+    omega (arith, length-append c.held (joined cs), length-append (chunk_bytes m c) (chunks_bytes m cs), length-append (head_in c.size m (length c.held)) c.held, joined_len m cs)
 
 pub broken_len : (m : ℕ) (inner : List ℕ) → length inner < length (to_break m inner)
 broken_len m inner = omega (arith, length-append inner (255 ∷ []))
 
-pub head_some : (p : Place) (m n : ℕ) → 0 < length (head_in p m n)
+pub head_some : (p : ArgumentSize) (m n : ℕ) → 0 < length (head_in p m n)
 head_some inside m n = omega arith
 head_some one m n = omega arith
 head_some two m n = omega arith
@@ -163,7 +145,7 @@ float_some W32 n = omega arith
 float_some W64 n = omega arith
 
 -- no form is empty
-form_some : (f : Form) → 0 < length (flat f)
+pub form_some : (f : Form) → 0 < length (flat f)
 form_some (uint_form p n) = head_some p 0 n
 form_some (nint_form p n) = head_some p 1 n
 form_some (bytes_form p s) = omega (arith, head_some p 2 (length s), length-append (head_in p 2 (length s)) s)
@@ -227,7 +209,8 @@ mutual
       let rest = length-append (flat v) (pair_forms_flat ps) in
       (counts k (omega (arith, whole)), counts v (omega (arith, whole, rest)), pair_counts ps (omega (arith, whole, rest)))
 
-counts_of : (x : Value) → HasShortSpelling x → AreCountsShort x
+-- the counts of what has a short spelling are short
+pub counts_of : (x : Value) → HasShortSpelling x → AreCountsShort x
 counts_of x h =
     let s = h.spells in
     subst AreCountsShort (sym s.meant) (counts s.written (subst (λ b. length b < 2 ^ 64) s.is h.short))

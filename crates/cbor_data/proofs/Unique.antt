@@ -7,7 +7,7 @@ use Rattle.cbor_data.specs.declared.Width.{Width}
 use Rattle.cbor_data.specs.declared.Width.TheVariants.{W16, W32, W64}
 use Rattle.cbor_data.specs.Value.{Value, FitsWidth}
 use Rattle.cbor_data.specs.Preferred.{initial, float_bytes}
-use Rattle.cbor_data.specs.Forms.{Place, inside, one, two, four, eight, head_in, FitsPlace, Form, uint_form, nint_form, bytes_form, bytes_chunks, text_form, text_chunks, array_form, array_to_break, pairs_form, pairs_to_break, tag_form, simple_inside, simple_next, float_form, Forms, no_forms, form, PairForms, no_pair_forms, pair_form, Chunk, chunk_bytes, chunks_bytes, AreChunksOk, forms_len, pair_forms_len, flat, forms_flat, pair_forms_flat, IsOk, AreFormsOk, ArePairFormsOk, meaning, Spells, IsWellFormed, IsUnfinished}
+use Rattle.cbor_data.specs.Forms.{ArgumentSize, inside, one, two, four, eight, head_in, FitsSize, Form, uint_form, nint_form, bytes_form, bytes_chunks, text_form, text_chunks, array_form, array_to_break, pairs_form, pairs_to_break, tag_form, simple_inside, simple_next, float_form, Forms, no_forms, form, PairForms, no_pair_forms, pair_form, Chunk, chunk_bytes, chunks_bytes, AreChunksOk, forms_len, pair_forms_len, flat, forms_flat, pair_forms_flat, IsOk, AreFormsOk, ArePairFormsOk, meaning, Spells, IsWellFormed, IsUnfinished}
 
 -- lists of one length that begin the same list are one
 same_length : (a b r s : List ℕ) → length a ≡ length b → a ++ r ≡ b ++ s → (a ≡ b) × (r ≡ s)
@@ -25,38 +25,38 @@ abbrev pub first_byte : List ℕ → ℕ
 first_byte [] = 0
 first_byte (b ∷ bs) = b
 
-abbrev pub place_info : Place → ℕ → ℕ
-place_info inside n = n
-place_info one n = 24
-place_info two n = 25
-place_info four n = 26
-place_info eight n = 27
+abbrev pub size_info : ArgumentSize → ℕ → ℕ
+size_info inside n = n
+size_info one n = 24
+size_info two n = 25
+size_info four n = 26
+size_info eight n = 27
 
-info_below : (p : Place) (n : ℕ) → FitsPlace p n → place_info p n < 28
+info_below : (p : ArgumentSize) (n : ℕ) → FitsSize p n → size_info p n < 28
 info_below inside n h = omega arith
 info_below one n h = omega arith
 info_below two n h = omega arith
 info_below four n h = omega arith
 info_below eight n h = omega arith
 
-pub head_first : (p : Place) (m n : ℕ) (r : List ℕ) → first_byte (head_in p m n ++ r) ≡ initial m (place_info p n)
+pub head_first : (p : ArgumentSize) (m n : ℕ) (r : List ℕ) → first_byte (head_in p m n ++ r) ≡ initial m (size_info p n)
 head_first inside m n r = refl
 head_first one m n r = refl
 head_first two m n r = refl
 head_first four m n r = refl
 head_first eight m n r = refl
 
-same_place : (p q : Place) (n l : ℕ) → FitsPlace p n → FitsPlace q l → place_info p n ≡ place_info q l → p ≡ q
-same_place inside inside n l h k e = refl
-same_place one one n l h k e = refl
-same_place two two n l h k e = refl
-same_place four four n l h k e = refl
-same_place eight eight n l h k e = refl
-same_place _ _ n l h k e = absurd (omega arith)
+same_size : (p q : ArgumentSize) (n l : ℕ) → FitsSize p n → FitsSize q l → size_info p n ≡ size_info q l → p ≡ q
+same_size inside inside n l h k e = refl
+same_size one one n l h k e = refl
+same_size two two n l h k e = refl
+same_size four four n l h k e = refl
+same_size eight eight n l h k e = refl
+same_size _ _ n l h k e = absurd (omega arith)
 
 -- the parts of one head
-pub record SameHead (p q : Place) (m k n l : ℕ) (r s : List ℕ) : Type 0 where
-  pub place : p ≡ q
+pub record SameHead (p q : ArgumentSize) (m k n l : ℕ) (r s : List ℕ) : Type 0 where
+  pub size : p ≡ q
   pub major : m ≡ k
   pub argument : n ≡ l
   pub rest : r ≡ s
@@ -66,36 +66,36 @@ wide_same w n l r s len back forth e =
     let both : (to_be_bytes w n ≡ to_be_bytes w l) × (r ≡ s) = same_length (to_be_bytes w n) (to_be_bytes w l) r s len e in
     (sym back ∙ (ap (from_be_bytes w) both.0 ∙ forth), both.1)
 
-in_place : (p : Place) (m n l : ℕ) (r s : List ℕ) → FitsPlace p n → FitsPlace p l → head_in p m n ++ r ≡ head_in p m l ++ s → (n ≡ l) × (r ≡ s)
-in_place inside m n l r s h k e =
+in_size : (p : ArgumentSize) (m n l : ℕ) (r s : List ℕ) → FitsSize p n → FitsSize p l → head_in p m n ++ r ≡ head_in p m l ++ s → (n ≡ l) × (r ≡ s)
+in_size inside m n l r s h k e =
     let same : initial m n ≡ initial m l = ap first_byte e in
     let rest : r ≡ s = cc in
     (omega arith, rest)
-in_place one m n l r s h k e =
+in_size one m n l r s h k e =
     let rest : to_be_bytes w8 n ++ r ≡ to_be_bytes w8 l ++ s = cc in
     wide_same w8 n l r s refl (omega arith) (omega arith) rest
-in_place two m n l r s h k e =
+in_size two m n l r s h k e =
     let rest : to_be_bytes w16 n ++ r ≡ to_be_bytes w16 l ++ s = cc in
     wide_same w16 n l r s refl (from_be_bytes-to_be_bytes_2 n h) (from_be_bytes-to_be_bytes_2 l k) rest
-in_place four m n l r s h k e =
+in_size four m n l r s h k e =
     let rest : to_be_bytes w32 n ++ r ≡ to_be_bytes w32 l ++ s = cc in
     wide_same w32 n l r s refl (from_be_bytes-to_be_bytes_4 n h) (from_be_bytes-to_be_bytes_4 l k) rest
-in_place eight m n l r s h k e =
+in_size eight m n l r s h k e =
     let rest : to_be_bytes w64 n ++ r ≡ to_be_bytes w64 l ++ s = cc in
     wide_same w64 n l r s refl (from_be_bytes-to_be_bytes_8 n h) (from_be_bytes-to_be_bytes_8 l k) rest
 
-pub same_head : (p q : Place) (m k n l : ℕ) (r s : List ℕ) → FitsPlace p n → FitsPlace q l → head_in p m n ++ r ≡ head_in q k l ++ s → SameHead p q m k n l r s
+pub same_head : (p q : ArgumentSize) (m k n l : ℕ) (r s : List ℕ) → FitsSize p n → FitsSize q l → head_in p m n ++ r ≡ head_in q k l ++ s → SameHead p q m k n l r s
 same_head p q m k n l r s h g e =
-    let bytes : initial m (place_info p n) ≡ initial k (place_info q l) = sym (head_first p m n r) ∙ (ap first_byte e ∙ head_first q k l s) in
-    let small : place_info p n < 28 = info_below p n h in
-    let small_too : place_info q l < 28 = info_below q l g in
+    let bytes : initial m (size_info p n) ≡ initial k (size_info q l) = sym (head_first p m n r) ∙ (ap first_byte e ∙ head_first q k l s) in
+    let small : size_info p n < 28 = info_below p n h in
+    let small_too : size_info q l < 28 = info_below q l g in
     let major : m ≡ k = omega arith in
-    let info : place_info p n ≡ place_info q l = omega arith in
-    let place : p ≡ q = same_place p q n l h g info in
-    let fits : FitsPlace p l = subst (λ a. FitsPlace a l) (sym place) g in
-    let to : head_in p m n ++ r ≡ head_in p m l ++ s = e ∙ ap₂ (λ a b. head_in a b l ++ s) (sym place) (sym major) in
-    let both : (n ≡ l) × (r ≡ s) = in_place p m n l r s h fits to in
-    record { place = place; major = major; argument = both.0; rest = both.1 }
+    let info : size_info p n ≡ size_info q l = omega arith in
+    let size : p ≡ q = same_size p q n l h g info in
+    let fits : FitsSize p l = subst (λ a. FitsSize a l) (sym size) g in
+    let to : head_in p m n ++ r ≡ head_in p m l ++ s = e ∙ ap₂ (λ a b. head_in a b l ++ s) (sym size) (sym major) in
+    let both : (n ≡ l) × (r ≡ s) = in_size p m n l r s h fits to in
+    record { size = size; major = major; argument = both.0; rest = both.1 }
 
 -- which form begins with an initial byte of this major type and additional information, as a number
 abbrev class_of : ℕ → ℕ → ℕ
@@ -136,14 +136,14 @@ initial_class m i h =
 not_indefinite : (i : ℕ) → i < 28 → (i == 31) ≡ false
 not_indefinite i h = grind (arith, nat_tests)
 
-head_class : (p : Place) (m n : ℕ) (r : List ℕ) → FitsPlace p n → byte_class (first_byte (head_in p m n ++ r)) ≡ class_of m (place_info p n)
+head_class : (p : ArgumentSize) (m n : ℕ) (r : List ℕ) → FitsSize p n → byte_class (first_byte (head_in p m n ++ r)) ≡ class_of m (size_info p n)
 head_class p m n r h =
-    let small : place_info p n < 28 = info_below p n h in
-    let fits : place_info p n < 32 = omega arith in
-    ap byte_class (head_first p m n r) ∙ initial_class m (place_info p n) fits
+    let small : size_info p n < 28 = info_below p n h in
+    let fits : size_info p n < 32 = omega arith in
+    ap byte_class (head_first p m n r) ∙ initial_class m (size_info p n) fits
 
-definite_class : (p : Place) (n a b : ℕ) → FitsPlace p n → cond (place_info p n == 31) a b ≡ b
-definite_class p n a b h = let t : (place_info p n == 31) ≡ false = not_indefinite (place_info p n) (info_below p n h) in rw t refl
+definite_class : (p : ArgumentSize) (n a b : ℕ) → FitsSize p n → cond (size_info p n == 31) a b ≡ b
+definite_class p n a b h = let t : (size_info p n == 31) ≡ false = not_indefinite (size_info p n) (info_below p n h) in rw t refl
 
 float_class : (w : Width) (n : ℕ) (r : List ℕ) → byte_class (first_byte (float_bytes w n ++ r)) ≡ 13
 float_class W16 n r = refl
@@ -173,41 +173,41 @@ flat_class (float_form w n) r ok = float_class w n r
 same_class : (f g : Form) (r s : List ℕ) → IsOk f → IsOk g → flat f ++ r ≡ flat g ++ s → form_class f ≡ form_class g
 same_class f g r s a b e = sym (flat_class f r a) ∙ (ap (λ bs. byte_class (first_byte bs)) e ∙ flat_class g s b)
 
-string_two : (p q : Place) (m : ℕ) (a b r s : List ℕ) → FitsPlace p (length a) → FitsPlace q (length b) → (head_in p m (length a) ++ a) ++ r ≡ (head_in q m (length b) ++ b) ++ s → (p ≡ q) × (a ≡ b) × (r ≡ s)
+string_two : (p q : ArgumentSize) (m : ℕ) (a b r s : List ℕ) → FitsSize p (length a) → FitsSize q (length b) → (head_in p m (length a) ++ a) ++ r ≡ (head_in q m (length b) ++ b) ++ s → (p ≡ q) × (a ≡ b) × (r ≡ s)
 string_two p q m a b r s h k e =
     let heads : SameHead p q m m (length a) (length b) (a ++ r) (b ++ s) = same_head p q m m (length a) (length b) (a ++ r) (b ++ s) h k (sym (append_assoc (head_in p m (length a)) a r) ∙ (e ∙ append_assoc (head_in q m (length b)) b s)) in
     let both : (a ≡ b) × (r ≡ s) = same_length a b r s heads.argument heads.rest in
-    (heads.place, both.0, both.1)
+    (heads.size, both.0, both.1)
 
-chunk_byte : (m : ℕ) (p : Place) (n : ℕ) (r s : List ℕ) → m < 4 → FitsPlace p n → head_in p m n ++ r ≡ 255 ∷ s → ⊥
+chunk_byte : (m : ℕ) (p : ArgumentSize) (n : ℕ) (r s : List ℕ) → m < 4 → FitsSize p n → head_in p m n ++ r ≡ 255 ∷ s → ⊥
 chunk_byte m p n r s small h e =
-    let bytes : initial m (place_info p n) ≡ 255 = sym (head_first p m n r) ∙ ap first_byte e in
-    let below : place_info p n < 28 = info_below p n h in
+    let bytes : initial m (size_info p n) ≡ 255 = sym (head_first p m n r) ∙ ap first_byte e in
+    let below : size_info p n < 28 = info_below p n h in
     omega arith
 
-chunk_flat : (m : ℕ) (c : Chunk) (cs : List Chunk) (r : List ℕ) → chunks_bytes m (c ∷ cs) ++ r ≡ head_in c.place m (length c.held) ++ (c.held ++ (chunks_bytes m cs ++ r))
-chunk_flat m c cs r = append_assoc (chunk_bytes m c) (chunks_bytes m cs) r ∙ append_assoc (head_in c.place m (length c.held)) c.held (chunks_bytes m cs ++ r)
+chunk_flat : (m : ℕ) (c : Chunk) (cs : List Chunk) (r : List ℕ) → chunks_bytes m (c ∷ cs) ++ r ≡ head_in c.size m (length c.held) ++ (c.held ++ (chunks_bytes m cs ++ r))
+chunk_flat m c cs r = append_assoc (chunk_bytes m c) (chunks_bytes m cs) r ∙ append_assoc (head_in c.size m (length c.held)) c.held (chunks_bytes m cs ++ r)
 
-chunk_two : (c d : Chunk) → c.place ≡ d.place → c.held ≡ d.held → c ≡ d
-chunk_two c d e f = ap₂ (λ (p : Place) (h : List ℕ). let made : Chunk = record { place = p; held = h } in made) e f
+chunk_two : (c d : Chunk) → c.size ≡ d.size → c.held ≡ d.held → c ≡ d
+chunk_two c d e f = ap₂ (λ (p : ArgumentSize) (h : List ℕ). let made : Chunk = record { size = p; held = h } in made) e f
 
 chunks_two : (m : ℕ) (cs ds : List Chunk) (r s : List ℕ) → m < 4 → AreChunksOk cs → AreChunksOk ds → chunks_bytes m cs ++ 255 ∷ r ≡ chunks_bytes m ds ++ 255 ∷ s → (cs ≡ ds) × (r ≡ s)
 chunks_two m [] [] r s small a b e = let rest : r ≡ s = cc in (refl, rest)
-chunks_two m [] (d ∷ ds) r s small a b e = absurd (chunk_byte m d.place (length d.held) (d.held ++ (chunks_bytes m ds ++ 255 ∷ s)) r small b.0.0 (sym (e ∙ chunk_flat m d ds (255 ∷ s))))
-chunks_two m (c ∷ cs) [] r s small a b e = absurd (chunk_byte m c.place (length c.held) (c.held ++ (chunks_bytes m cs ++ 255 ∷ r)) s small a.0.0 (sym (chunk_flat m c cs (255 ∷ r)) ∙ e))
+chunks_two m [] (d ∷ ds) r s small a b e = absurd (chunk_byte m d.size (length d.held) (d.held ++ (chunks_bytes m ds ++ 255 ∷ s)) r small b.0.0 (sym (e ∙ chunk_flat m d ds (255 ∷ s))))
+chunks_two m (c ∷ cs) [] r s small a b e = absurd (chunk_byte m c.size (length c.held) (c.held ++ (chunks_bytes m cs ++ 255 ∷ r)) s small a.0.0 (sym (chunk_flat m c cs (255 ∷ r)) ∙ e))
 chunks_two m (c ∷ cs) (d ∷ ds) r s small a b e =
     let more = chunks_bytes m cs ++ 255 ∷ r in
     let more_too = chunks_bytes m ds ++ 255 ∷ s in
-    let heads : SameHead c.place d.place m m (length c.held) (length d.held) (c.held ++ more) (d.held ++ more_too) =
-    same_head c.place d.place m m (length c.held) (length d.held) (c.held ++ more) (d.held ++ more_too) a.0.0 b.0.0 (sym (chunk_flat m c cs (255 ∷ r)) ∙ (e ∙ chunk_flat m d ds (255 ∷ s))) in
+    let heads : SameHead c.size d.size m m (length c.held) (length d.held) (c.held ++ more) (d.held ++ more_too) =
+    same_head c.size d.size m m (length c.held) (length d.held) (c.held ++ more) (d.held ++ more_too) a.0.0 b.0.0 (sym (chunk_flat m c cs (255 ∷ r)) ∙ (e ∙ chunk_flat m d ds (255 ∷ s))) in
     let held : (c.held ≡ d.held) × (more ≡ more_too) = same_length c.held d.held more more_too heads.argument heads.rest in
     let rest : (cs ≡ ds) × (r ≡ s) = chunks_two m cs ds r s small a.1 b.1 held.1 in
-    (ap₂ (λ (x : Chunk) (xs : List Chunk). x ∷ xs) (chunk_two c d heads.place held.0) rest.0, rest.1)
+    (ap₂ (λ (x : Chunk) (xs : List Chunk). x ∷ xs) (chunk_two c d heads.size held.0) rest.0, rest.1)
 
 float_two : (v w : Width) (n l : ℕ) (r s : List ℕ) → FitsWidth v n → FitsWidth w l → float_bytes v n ++ r ≡ float_bytes w l ++ s → (v ≡ w) × (n ≡ l) × (r ≡ s)
-float_two W16 W16 n l r s h k e = let both : (n ≡ l) × (r ≡ s) = in_place two 7 n l r s h k e in (refl, both.0, both.1)
-float_two W32 W32 n l r s h k e = let both : (n ≡ l) × (r ≡ s) = in_place four 7 n l r s h k e in (refl, both.0, both.1)
-float_two W64 W64 n l r s h k e = let both : (n ≡ l) × (r ≡ s) = in_place eight 7 n l r s h k e in (refl, both.0, both.1)
+float_two W16 W16 n l r s h k e = let both : (n ≡ l) × (r ≡ s) = in_size two 7 n l r s h k e in (refl, both.0, both.1)
+float_two W32 W32 n l r s h k e = let both : (n ≡ l) × (r ≡ s) = in_size four 7 n l r s h k e in (refl, both.0, both.1)
+float_two W64 W64 n l r s h k e = let both : (n ≡ l) × (r ≡ s) = in_size eight 7 n l r s h k e in (refl, both.0, both.1)
 float_two _ _ n l r s h k e = let bytes = ap first_byte e in absurd (omega arith)
 
 -- no form begins with the break
@@ -237,10 +237,10 @@ mutual
   pub one_form : (f g : Form) (r s : List ℕ) → IsOk f → IsOk g → flat f ++ r ≡ flat g ++ s → (f ≡ g) × (r ≡ s)
   one_form (uint_form p n) (uint_form q l) r s a b e =
       let heads : SameHead p q 0 0 n l r s = same_head p q 0 0 n l r s a b e in
-      (ap₂ uint_form heads.place heads.argument, heads.rest)
+      (ap₂ uint_form heads.size heads.argument, heads.rest)
   one_form (nint_form p n) (nint_form q l) r s a b e =
       let heads : SameHead p q 1 1 n l r s = same_head p q 1 1 n l r s a b e in
-      (ap₂ nint_form heads.place heads.argument, heads.rest)
+      (ap₂ nint_form heads.size heads.argument, heads.rest)
   one_form (bytes_form p c) (bytes_form q d) r s a b e =
       let parts = string_two p q 2 c d r s a.0 b.0 e in
       (ap₂ bytes_form parts.0 parts.1, parts.2)
@@ -258,7 +258,7 @@ mutual
   one_form (array_form p fs) (array_form q gs) r s a b e =
       let heads = same_head p q 4 4 (forms_len fs) (forms_len gs) (forms_flat fs ++ r) (forms_flat gs ++ s) a.0 b.0 (sym (append_assoc (head_in p 4 (forms_len fs)) (forms_flat fs) r) ∙ (e ∙ append_assoc (head_in q 4 (forms_len gs)) (forms_flat gs) s)) in
       let parts = all_two fs gs r s heads.argument a.1 b.1 heads.rest in
-      (ap₂ array_form heads.place parts.0, parts.1)
+      (ap₂ array_form heads.size parts.0, parts.1)
   one_form (array_to_break fs) (array_to_break gs) r s a b e =
       let inner : (forms_flat fs ++ 255 ∷ []) ++ r ≡ (forms_flat gs ++ 255 ∷ []) ++ s = cc in
       let parts = all_to_break fs gs r s a b (sym (append_assoc (forms_flat fs) (255 ∷ []) r) ∙ (inner ∙ append_assoc (forms_flat gs) (255 ∷ []) s)) in
@@ -266,7 +266,7 @@ mutual
   one_form (pairs_form p ps) (pairs_form q qs) r s a b e =
       let heads = same_head p q 5 5 (pair_forms_len ps) (pair_forms_len qs) (pair_forms_flat ps ++ r) (pair_forms_flat qs ++ s) a.0 b.0 (sym (append_assoc (head_in p 5 (pair_forms_len ps)) (pair_forms_flat ps) r) ∙ (e ∙ append_assoc (head_in q 5 (pair_forms_len qs)) (pair_forms_flat qs) s)) in
       let parts = pairs_two ps qs r s heads.argument a.1 b.1 heads.rest in
-      (ap₂ pairs_form heads.place parts.0, parts.1)
+      (ap₂ pairs_form heads.size parts.0, parts.1)
   one_form (pairs_to_break ps) (pairs_to_break qs) r s a b e =
       let inner : (pair_forms_flat ps ++ 255 ∷ []) ++ r ≡ (pair_forms_flat qs ++ 255 ∷ []) ++ s = cc in
       let parts = pairs_to_end ps qs r s a b (sym (append_assoc (pair_forms_flat ps) (255 ∷ []) r) ∙ (inner ∙ append_assoc (pair_forms_flat qs) (255 ∷ []) s)) in
@@ -274,9 +274,9 @@ mutual
   one_form (tag_form p n f) (tag_form q l g) r s a b e =
       let heads = same_head p q 6 6 n l (flat f ++ r) (flat g ++ s) a.0 b.0 (sym (append_assoc (head_in p 6 n) (flat f) r) ∙ (e ∙ append_assoc (head_in q 6 l) (flat g) s)) in
       let parts = one_form f g r s a.1 b.1 heads.rest in
-      (ap₂ (λ (x : Place) (y : ℕ). tag_form x y f) heads.place heads.argument ∙ ap (tag_form q l) parts.0, parts.1)
+      (ap₂ (λ (x : ArgumentSize) (y : ℕ). tag_form x y f) heads.size heads.argument ∙ ap (tag_form q l) parts.0, parts.1)
   one_form (simple_inside n) (simple_inside l) r s a b e =
-      let parts = in_place inside 7 n l r s a b e in
+      let parts = in_size inside 7 n l r s a b e in
       (ap simple_inside parts.0, parts.1)
   one_form (simple_next n) (simple_next l) r s a b e =
       let number : n ≡ l = cc in

@@ -1,4 +1,4 @@
--- What is wrong with the bytes that stand where an item should: the fault of a rest, from the bytes alone.
+-- What is wrong with the bytes that are where an item should be: the fault of a rest, from the bytes alone.
 use Rattle.std.specs.Prelude.{◌≡◌, ◌≢◌, ℕ, suc, ◌+◌, ◌-◌, ◌/◌, ◌%◌, ◌^◌, ◌<◌, ◌≤◌, ◌⊎◌, List, [], ◌∷◌, ◌++◌, length, take, slice_index, IsUtf8}
 use Rattle.cbor_data.specs.Value.{Value, depth_of}
 use Rattle.cbor_data.specs.Validity.{IsValid, IsFirstRepeatedKey}
@@ -26,18 +26,18 @@ pub data FaultKind : Type 0 where
   bad_text : FaultKind
   duplicate_key : FaultKind
 
--- Behind b an item is awaited: `00` may come next.
+-- After b an item is awaited: `00` may come next.
 abbrev pub AwaitsItem : List ℕ → Type 0
 AwaitsItem b = Begins (b ++ 0 ∷ [])
 
--- Behind b a chunk of the byte string (2) or text string (3) that is open is awaited:
+-- After b a chunk of the byte string (2) or text string (3) that is open is awaited:
 -- the empty string of that major type may come next, and that of the other may not.
 pub record AwaitsChunk (major : ℕ) (b : List ℕ) : Type 0 where
   pub string : (major ≡ 2) ⊎ (major ≡ 3)
   pub this : Begins (b ++ initial major 0 ∷ [])
   pub not_that : Begins (b ++ initial (5 - major) 0 ∷ []) → ⊥
 
--- Behind b the byte after `f8` is awaited: neither an item nor a chunk is, and not any byte may come.
+-- After b the byte after `f8` is awaited: neither an item nor a chunk is, and not any byte may come.
 pub record AwaitsSimple (b : List ℕ) : Type 0 where
   pub not_item : AwaitsItem b → ⊥
   pub not_chunk : (major : ℕ) → AwaitsChunk major b → ⊥
@@ -46,7 +46,7 @@ pub record AwaitsSimple (b : List ℕ) : Type 0 where
 abbrev pub IsReserved : ℕ → Type 0
 IsReserved byte = (28 ≤ byte % 32) × (byte % 32 ≤ 30)
 
--- What is wrong where `byte` comes behind b and nothing well-formed begins so (RFC 8949 sections 3 to 3.3).
+-- What is wrong where `byte` comes after b and nothing well-formed begins so (RFC 8949 sections 3 to 3.3).
 abbrev pub IsKindOf : List ℕ → ℕ → FaultKind → Type 0
 IsKindOf b byte reserved_info = (AwaitsItem b × IsReserved byte) ⊎ (AwaitsChunk (byte / 32) b × IsReserved byte)
 IsKindOf b byte bad_indefinite = AwaitsItem b × (byte % 32 ≡ 31) × (byte / 32 ≢ 7)
@@ -63,7 +63,7 @@ pub record BeginsWithin (depth : ℕ) (b : List ℕ) : Type 0 where
   pub is : b ++ more ≡ flat written
   pub shallow : depth_of (meaning written) ≤ depth
 
--- At p, with what stands before it the beginning of some well-formed list, stands a fault of form.
+-- At p is a fault of form, and what is before it begins some well-formed list.
 -- `o` is the stream's offset of b's first byte.
 pub data StandsAt (l : Bounds) (o : ℕ) (b : List ℕ) (p : ℕ) : FaultKind → Type 0 where
   -- with its byte nothing well-formed begins
@@ -77,14 +77,14 @@ pub data StandsAt (l : Bounds) (o : ℕ) (b : List ℕ) (p : ℕ) : FaultKind �
 abbrev pub IsClearBefore : Bounds → ℕ → List ℕ → ℕ → Type 0
 IsClearBefore l o b p = (q : ℕ) (kind : FaultKind) → q < p → StandsAt l o b q kind → ⊥
 
--- the first of the chunks that is not UTF-8 by itself has its head this far behind the first chunk's
+-- the first of the chunks that is not UTF-8 by itself has its head this far after the first chunk's
 abbrev pub IsBadChunkAt : List Chunk → ℕ → Type 0
 IsBadChunkAt [] i = ⊥
 IsBadChunkAt (c ∷ cs) i =
     ((i ≡ 0) × (IsUtf8 c.held → ⊥))
     ⊎ ((j : ℕ) × (i ≡ length (chunk_bytes 3 c) + j) × IsUtf8 c.held × IsBadChunkAt cs j)
 
--- the first text chunk of a form that is not UTF-8 by itself has its head this far behind the form's first byte
+-- the first text chunk of a form that is not UTF-8 by itself has its head this far after the form's first byte
 abbrev mutual
   pub IsBadTextAt : Form → ℕ → Type 0
   IsBadTextAt (text_form p s) i = (i ≡ 0) × (IsUtf8 s → ⊥)
@@ -114,7 +114,7 @@ pub record IsWholeFront (l : Bounds) (o : ℕ) (b : List ℕ) (n : ℕ) (f : For
   pub is : take n b ≡ flat f
   pub before : IsClearBefore l o b n
 
--- The fault of the bytes b, which stand where an item should, b's first byte at offset o of the stream:
+-- The fault of the bytes b, which are where an item should be, b's first byte at offset o of the stream:
 -- its kind, and where (an offset in the stream; for a repeated key a place in the item).
 pub data IsFaultOf (l : Bounds) (o : ℕ) (b : List ℕ) : FaultKind → ℕ → Type 0 where
   -- the least place where the form goes wrong

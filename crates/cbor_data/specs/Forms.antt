@@ -6,46 +6,46 @@ use Rattle.cbor_data.specs.declared.Width.{Width}
 use Rattle.cbor_data.specs.Value.{Value, uint, nint, bytes, text, array, pairs, tag, simple, float, Values, no_values, value, Pairs, no_pairs, pair, FitsWidth, AreBytes}
 use Rattle.cbor_data.specs.Preferred.{initial, float_bytes}
 
--- where a head keeps its argument: in the initial byte, or in so many bytes after it
-pub data Place : Type 0 where
-  inside : Place
-  one : Place
-  two : Place
-  four : Place
-  eight : Place
+-- how large the argument of a head is written: inside the initial byte, or in so many bytes after it
+pub data ArgumentSize : Type 0 where
+  inside : ArgumentSize
+  one : ArgumentSize
+  two : ArgumentSize
+  four : ArgumentSize
+  eight : ArgumentSize
 
-abbrev pub head_in : Place → ℕ → ℕ → List ℕ
+abbrev pub head_in : ArgumentSize → ℕ → ℕ → List ℕ
 head_in inside major n = initial major n ∷ []
 head_in one major n = initial major 24 ∷ to_be_bytes w8 n
 head_in two major n = initial major 25 ∷ to_be_bytes w16 n
 head_in four major n = initial major 26 ∷ to_be_bytes w32 n
 head_in eight major n = initial major 27 ∷ to_be_bytes w64 n
 
-abbrev pub FitsPlace : Place → ℕ → Type 0
-FitsPlace inside n = n < 24
-FitsPlace one n = n < 2 ^ 8
-FitsPlace two n = n < 2 ^ 16
-FitsPlace four n = n < 2 ^ 32
-FitsPlace eight n = n < 2 ^ 64
+abbrev pub FitsSize : ArgumentSize → ℕ → Type 0
+FitsSize inside n = n < 24
+FitsSize one n = n < 2 ^ 8
+FitsSize two n = n < 2 ^ 16
+FitsSize four n = n < 2 ^ 32
+FitsSize eight n = n < 2 ^ 64
 
 -- a definite string, as a chunk of an indefinite one (RFC 8949 section 3.2.3)
 pub record Chunk : Type 0 where
-  pub place : Place
+  pub size : ArgumentSize
   pub held : List ℕ
 
 mutual
   pub data Form : Type 0 where
-    uint_form : Place → ℕ → Form
-    nint_form : Place → ℕ → Form
-    bytes_form : Place → List ℕ → Form
+    uint_form : ArgumentSize → ℕ → Form
+    nint_form : ArgumentSize → ℕ → Form
+    bytes_form : ArgumentSize → List ℕ → Form
     bytes_chunks : List Chunk → Form
-    text_form : Place → List ℕ → Form
+    text_form : ArgumentSize → List ℕ → Form
     text_chunks : List Chunk → Form
-    array_form : Place → Forms → Form
+    array_form : ArgumentSize → Forms → Form
     array_to_break : Forms → Form
-    pairs_form : Place → PairForms → Form
+    pairs_form : ArgumentSize → PairForms → Form
     pairs_to_break : PairForms → Form
-    tag_form : Place → ℕ → Form → Form
+    tag_form : ArgumentSize → ℕ → Form → Form
     simple_inside : ℕ → Form
     simple_next : ℕ → Form
     float_form : Width → ℕ → Form
@@ -67,7 +67,7 @@ pair_forms_len no_pair_forms = 0
 pair_forms_len (pair_form k v ps) = suc (pair_forms_len ps)
 
 abbrev pub chunk_bytes : ℕ → Chunk → List ℕ
-chunk_bytes major c = head_in c.place major (length c.held) ++ c.held
+chunk_bytes major c = head_in c.size major (length c.held) ++ c.held
 
 abbrev pub chunks_bytes : ℕ → List Chunk → List ℕ
 chunks_bytes major [] = []
@@ -77,7 +77,7 @@ abbrev pub joined : List Chunk → List ℕ
 joined [] = []
 joined (c ∷ cs) = c.held ++ joined cs
 
--- an indefinite form: its initial byte, what stands in it, and the break
+-- an indefinite form: its initial byte, what is in it, and the break
 abbrev pub to_break : ℕ → List ℕ → List ℕ
 to_break major inner = initial major 31 ∷ (inner ++ 255 ∷ [])
 
@@ -109,22 +109,22 @@ abbrev mutual
 
 abbrev pub AreChunksOk : List Chunk → Type 0
 AreChunksOk [] = Unit {0}
-AreChunksOk (c ∷ cs) = (FitsPlace c.place (length c.held) × AreBytes c.held) × AreChunksOk cs
+AreChunksOk (c ∷ cs) = (FitsSize c.size (length c.held) × AreBytes c.held) × AreChunksOk cs
 
--- each argument fits its place
+-- each argument fits its size
 abbrev mutual
   pub IsOk : Form → Type 0
-  IsOk (uint_form p n) = FitsPlace p n
-  IsOk (nint_form p n) = FitsPlace p n
-  IsOk (bytes_form p s) = FitsPlace p (length s) × AreBytes s
+  IsOk (uint_form p n) = FitsSize p n
+  IsOk (nint_form p n) = FitsSize p n
+  IsOk (bytes_form p s) = FitsSize p (length s) × AreBytes s
   IsOk (bytes_chunks cs) = AreChunksOk cs
-  IsOk (text_form p s) = FitsPlace p (length s) × AreBytes s
+  IsOk (text_form p s) = FitsSize p (length s) × AreBytes s
   IsOk (text_chunks cs) = AreChunksOk cs
-  IsOk (array_form p fs) = FitsPlace p (forms_len fs) × AreFormsOk fs
+  IsOk (array_form p fs) = FitsSize p (forms_len fs) × AreFormsOk fs
   IsOk (array_to_break fs) = AreFormsOk fs
-  IsOk (pairs_form p ps) = FitsPlace p (pair_forms_len ps) × ArePairFormsOk ps
+  IsOk (pairs_form p ps) = FitsSize p (pair_forms_len ps) × ArePairFormsOk ps
   IsOk (pairs_to_break ps) = ArePairFormsOk ps
-  IsOk (tag_form p n f) = FitsPlace p n × IsOk f
+  IsOk (tag_form p n f) = FitsSize p n × IsOk f
   IsOk (simple_inside n) = n < 24
   IsOk (simple_next n) = (32 ≤ n) × (n < 256)
   IsOk (float_form w n) = FitsWidth w n

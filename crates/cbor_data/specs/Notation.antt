@@ -6,7 +6,7 @@ use Rattle.cbor_data.specs.declared.Width.{Width}
 use Rattle.cbor_data.specs.declared.Width.TheVariants.{W16, W32, W64}
 use Rattle.cbor_data.specs.Value.{Value, uint, nint, bytes, text, array, pairs, tag, simple, float, Values, no_values, value, Pairs, no_pairs, pair}
 
--- a byte of a text: `"` and `\` behind a `\`, controls as `\u` and four hex digits, all else itself
+-- a byte of a text: `"` and `\` after a `\`, controls as `\u` and four hex digits, all else itself
 abbrev pub shown_byte : ℕ → List ℕ
 shown_byte b =
     if b == 34 then 92 ∷ 34 ∷ []

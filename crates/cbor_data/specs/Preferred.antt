@@ -1,6 +1,6 @@
 -- The preferred bytes of an item (RFC 8949 section 4.1): shortest heads, definite lengths, pairs in the item's order,
 -- and a float in its own width.
-use Rattle.std.specs.Prelude.{ℕ, ◌+◌, ◌*◌, ◌^◌, List, [], ◌∷◌, ◌++◌, length, nat_lt, if◌then◌else◌}
+use Rattle.std.specs.Prelude.{ℕ, ◌+◌, ◌*◌, ◌^◌, ◌<◌, List, [], ◌∷◌, ◌++◌, length, nat_lt, if◌then◌else◌}
 use Rattle.std.specs.Int.{w8, w16, w32, w64, to_be_bytes}
 use Rattle.cbor_data.specs.declared.Width.{Width}
 use Rattle.cbor_data.specs.declared.Width.TheVariants.{W16, W32, W64}
@@ -46,3 +46,21 @@ abbrev mutual
   pub pairs_preferred : Pairs → List ℕ
   pairs_preferred no_pairs = []
   pairs_preferred (pair k v ps) = preferred k ++ (preferred v ++ pairs_preferred ps)
+
+-- each string is shorter than 2^64 bytes, and each array and map has fewer members
+abbrev mutual
+  pub AreCountsShort : Value → Type 0
+  AreCountsShort (bytes s) = length s < 2 ^ 64
+  AreCountsShort (text s) = length s < 2 ^ 64
+  AreCountsShort (array xs) = (values_len xs < 2 ^ 64) × AreValueCountsShort xs
+  AreCountsShort (pairs ps) = (pairs_len ps < 2 ^ 64) × ArePairCountsShort ps
+  AreCountsShort (tag n x) = AreCountsShort x
+  AreCountsShort _ = Unit {0}
+
+  pub AreValueCountsShort : Values → Type 0
+  AreValueCountsShort no_values = Unit {0}
+  AreValueCountsShort (value x xs) = AreCountsShort x × AreValueCountsShort xs
+
+  pub ArePairCountsShort : Pairs → Type 0
+  ArePairCountsShort no_pairs = Unit {0}
+  ArePairCountsShort (pair k v ps) = AreCountsShort k × AreCountsShort v × ArePairCountsShort ps

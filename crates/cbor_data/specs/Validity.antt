@@ -7,7 +7,7 @@ abbrev pub IsOneOf : List Value → Value → Type 0
 IsOneOf [] k = ⊥
 IsOneOf (l ∷ ls) k = (k ≡ l) ⊎ IsOneOf ls k
 
--- At this place of the item stands a key that equals an earlier key of its map.
+-- At this place of the item is a key that equals an earlier key of its map.
 abbrev mutual
   pub IsRepeatedKey : Value → ℕ → Type 0
   IsRepeatedKey (array xs) i = (j : ℕ) × (i ≡ suc j) × IsRepeatedKeyAmong xs j

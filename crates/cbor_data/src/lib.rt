@@ -1,4 +1,4 @@
-//! What items of CBOR are and how bytes spell them (RFC 8949), for contracts: the definitions stand in `specs/`.
+//! What items of CBOR are and how bytes spell them (RFC 8949), for contracts: the definitions are in `specs/`.
 #![tactic(auto)]
 
 ghost use Rattle.std.specs.Prelude.{◌≡◌, ◌≤◌, ◌*◌, ℕ, List, ◌++◌, length};

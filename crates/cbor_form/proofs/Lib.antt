@@ -1,3 +1,3 @@
-pub mod Stacks
-pub mod Heads
-pub mod Runs
+mod Stacks
+mod Heads
+mod Runs

@@ -2,7 +2,7 @@
 use Rattle.std.proofs.Common.{◌≡◌, ◌≢◌, ℕ, zero, suc, ◌+◌, ◌-◌, ◌<◌, ◌≤◌, List, [], ◌∷◌, length, take, drop, get_or, Option, Some, option_and_then, refl, ap, ◌∙◌, arith}
 use Rattle.std.proofs.Math.Seq.{take-add}
 use Rattle.cbor_machine.specs.Machine.{State, Frame, body, chunk, chunk_body, give, step_in, steps_in}
-use Rattle.cbor_machine.proofs.Shallow.{steps_in-append}
+use Rattle.cbor_machine.proofs.Lemmas.{steps_in-append}
 use Rattle.cbor_form.specs.Stages.{state_of, IsAwaiting}
 use Rattle.cbor_form.specs.Turns.{IsOn}
 use Rattle.cbor_form.specs.declared.stage.Stage.{Stage}
@@ -42,7 +42,7 @@ chunk_whole d m zero K (b ∷ []) h = refl
 chunk_whole d m zero K (b ∷ c ∷ bytes) h = absurd (omega arith)
 chunk_whole d m (suc n) K (b ∷ bytes) h = chunk_whole d m n K bytes (omega arith)
 
--- one run behind another
+-- one run after another
 pub joined : (d : ℕ) (s t : State) (u : Option State) (piece : List ℕ) (used count : ℕ) → steps_in d s (take used piece) ≡ Some t → steps_in d t (take count (drop used piece)) ≡ u → steps_in d s (take (used + count) piece) ≡ u
 joined d s t u piece used count e f =
     ap (steps_in d s) (take-add used count piece) ∙ (steps_in-append d s (take used piece) (take count (drop used piece)) ∙ (ap (option_and_then (λ v. steps_in d v (take count (drop used piece)))) e ∙ f))

@@ -1,7 +1,7 @@
 -- The bytes of an argument so far.
 use Rattle.std.specs.Prelude.{ℕ, zero, suc, ◌^◌}
 
--- below this the number so far leaves room for the next byte and so many behind it
+-- below this the number so far leaves room for the next byte and so many after it
 abbrev pub limit : ℕ → ℕ
 limit zero = 2 ^ 56
 limit (suc zero) = 2 ^ 48

@@ -59,7 +59,7 @@ abbrev pub IsAwaiting : Stage → Type 0
 IsAwaiting stage.Done = ⊥
 IsAwaiting _ = Unit {0}
 
--- what is open behind an item, with the frame that its container then has
+-- what is open after an item, with the frame that its container then has
 abbrev pub passed : Option Frame → List machine.Frame → machine.State
 passed None K = machine.give K
 passed (Some f) K = machine.item (frame_of f ∷ K)

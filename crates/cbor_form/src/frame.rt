@@ -19,7 +19,7 @@ pub enum Frame {
     UntilValue,
 }
 
-// The frame behind a whole item, or none where the item was the last one.
+// The frame after a whole item, or none where the item was the last one.
 fn passed_item(frame: Frame) -> Option<Frame>
     ensures { (around : List machine.Frame) → passed result around ≡ machine.give (frame_of frame ∷ around) }
 {

@@ -1,4 +1,4 @@
-// What is wrong with a byte that cannot stand where it does.
+// What is wrong with a byte that cannot be where it is.
 ghost use Rattle.std.specs.Prelude.{◌≡◌, ◌<◌, List};
 ghost use Rattle.cbor_machine.specs.Machine.{Frame, item, chunk, refused_kind};
 ghost use Rattle.cbor_form.specs.Kinds.{kind_of};
@@ -10,7 +10,7 @@ pub enum Malformed {
     ReservedInfo,
     /// Additional information 31 on major type 0, 1 or 6 (RFC 8949 section 3.2).
     BadIndefinite,
-    /// A break where none may stand (RFC 8949 section 3.2.1).
+    /// A break where none may be (RFC 8949 section 3.2.1).
     BadBreak,
     /// A string of indefinite length holds something else than definite strings of its major type
     /// (RFC 8949 section 3.2.3).

@@ -16,9 +16,9 @@ use std::marker::Model;
 pub enum Progress {
     /// The whole piece was used, and the item goes on.
     More,
-    /// The item ended with byte `used` of the piece. What stands behind it is for the next call.
+    /// The item ended with byte `used` of the piece. What is after it is for the next call.
     Whole { used: usize },
-    /// The byte after so many cannot stand there.
+    /// The byte after so many cannot be there.
     Refused { used: usize, kind: Malformed },
     /// The byte after so many opens a container inside as many as may be open.
     TooDeep { used: usize },
@@ -56,8 +56,8 @@ impl FormReader {
         }
     }
 
-    /// Takes the next piece, up to the end of the item or to a byte that cannot stand where it does, with at most `depth`
-    /// containers open at a time. Behind a whole item the next one is awaited; a byte that was refused leaves the reader
+    /// Takes the next piece, up to the end of the item or to a byte that cannot be where it is, with at most `depth`
+    /// containers open at a time. After a whole item the next one is awaited; a byte that was refused leaves the reader
     /// before that byte.
     ///
     /// # Errors

@@ -15,13 +15,13 @@ pub enum Stage {
     Item,
     /// A byte of the argument of a head of this major type.
     Argument(u8, Partial),
-    /// A byte of a string's or a float's content, with so many behind it.
+    /// A byte of a string's or a float's content, with so many after it.
     Body(u64),
     /// A chunk of this major type, or the break.
     Chunk(u8),
     /// A byte of the argument of a chunk's head.
     ChunkArgument(u8, Partial),
-    /// A byte of a chunk's content, with so many behind it.
+    /// A byte of a chunk's content, with so many after it.
     ChunkBody(u8, u64),
     /// The byte after `f8`.
     Simple,

@@ -15,7 +15,7 @@ use std::alloc::AllocError;
 pub enum Turn {
     /// So many bytes were used, and this is awaited.
     On(usize, Stage),
-    /// The first byte cannot stand there.
+    /// The first byte cannot be there.
     Refused(Malformed),
     /// The first byte opens a container inside as many as may be open.
     TooDeep,

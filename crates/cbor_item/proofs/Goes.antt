@@ -41,7 +41,7 @@ keeps (Some xs) = sym (append-nil xs)
 pub goes_nowhere : (a : State) (before : ℕ) → GoesWhole a a before [] before
 goes_nowhere a before = record { is = omega arith; all = keeps a.held; same = refl }
 
--- what has room for two has room for the first, and behind the first for the second
+-- what has room for two has room for the first, and after the first for the second
 pub room_first : (before most : ℕ) (bs cs : List ℕ) → before + length (bs ++ cs) < most → before + length bs < most
 room_first before most bs cs h = omega (arith, length-append bs cs)
 

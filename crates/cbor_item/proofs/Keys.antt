@@ -1,5 +1,6 @@
 -- The keys of a map by their preferred bytes, and the set of those.
-use Rattle.std.proofs.Common.{◌≡◌, ℕ, Vec, Global, List, [], ◌∷◌, ◌++◌, Bool, true, false, ◌||◌, ◌⊎◌, inl, inr, refl, sym, ap, ◌∙◌}
+use Rattle.std.proofs.Common.{◌≡◌, ℕ, List, [], ◌∷◌, ◌++◌, Bool, true, false, ◌||◌, ◌⊎◌, inl, inr, refl, sym, ap, ◌∙◌}
+use Rattle.std.specs.Borrow.{Bor}
 use Rattle.std.specs.BTreeSet.{insert_key}
 use Rattle.std.specs.BTreeMap.{is_at}
 use Rattle.std.specs.Cmp.Lexicographic.{slice_cmp}
@@ -15,14 +16,14 @@ use Rattle.cbor_data.specs.Forms.{Spells}
 use Rattle.cbor_data.specs.Preferred.{preferred}
 use Rattle.cbor_data.specs.Validity.{IsOneOf}
 use Rattle.cbor_data.specs.Value.{Value}
-use Rattle.cbor_data.proofs.Unique.{unique}
+use Rattle.cbor_data.proofs.Lemmas.{unique}
 
-abbrev items_cmp : Vec ℕ Global → Vec ℕ Global → Ordering
-items_cmp x y = slice_cmp nat_cmp x.items y.items
+abbrev items_cmp : Bor (List ℕ) → Bor (List ℕ) → Ordering
+items_cmp x y = slice_cmp nat_cmp x.now y.now
 
 -- whether one of the keys has these bytes
-abbrev has_among : List (Vec ℕ Global) → List ℕ → Bool
-has_among ks bytes = list_any (is_at (λ k. slice_cmp nat_cmp bytes k.items)) ks
+abbrev has_among : List (Bor (List ℕ)) → List ℕ → Bool
+has_among ks bytes = list_any (is_at (λ k. slice_cmp nat_cmp bytes k.now)) ks
 
 or_again : (b r : Bool) → (b || r) ≡ (b || (b || r))
 or_again true r = refl
@@ -34,23 +35,23 @@ or_swap true false r = refl
 or_swap false true r = refl
 or_swap false false r = refl
 
-at_key : (bytes : List ℕ) (k : Vec ℕ Global) → is_eq (slice_cmp nat_cmp bytes k.items) ≡ bytes_eq bytes k.items
-at_key bytes k = is_eq-slice_cmp bytes k.items
+at_key : (bytes : List ℕ) (k : Bor (List ℕ)) → is_eq (slice_cmp nat_cmp bytes k.now) ≡ bytes_eq bytes k.now
+at_key bytes k = is_eq-slice_cmp bytes k.now
 
-inserted_at : (o : Ordering) (x k : Vec ℕ Global) (xs : List (Vec ℕ Global)) (bytes : List ℕ) → o ≡ items_cmp k x →
-    has_among (insert_key items_cmp xs k) bytes ≡ (bytes_eq bytes k.items || has_among xs bytes) →
-    has_among (match_ordering o (k ∷ (x ∷ xs)) (x ∷ xs) (x ∷ insert_key items_cmp xs k)) bytes ≡ (bytes_eq bytes k.items || has_among (x ∷ xs) bytes)
+inserted_at : (o : Ordering) (x k : Bor (List ℕ)) (xs : List (Bor (List ℕ))) (bytes : List ℕ) → o ≡ items_cmp k x →
+    has_among (insert_key items_cmp xs k) bytes ≡ (bytes_eq bytes k.now || has_among xs bytes) →
+    has_among (match_ordering o (k ∷ (x ∷ xs)) (x ∷ xs) (x ∷ insert_key items_cmp xs k)) bytes ≡ (bytes_eq bytes k.now || has_among (x ∷ xs) bytes)
 inserted_at Less x k xs bytes e rest = ap (λ b. b || has_among (x ∷ xs) bytes) (at_key bytes k)
 inserted_at Equal x k xs bytes e rest =
-    let same : k.items ≡ x.items = exact_bytes k.items x.items (sym e) in
-    let at : is_eq (slice_cmp nat_cmp bytes x.items) ≡ bytes_eq bytes k.items = at_key bytes x ∙ ap (bytes_eq bytes) (sym same) in
-    ap (λ b. b || has_among xs bytes) at ∙ or_again (bytes_eq bytes k.items) (has_among xs bytes) ∙ ap (λ b. bytes_eq bytes k.items || (b || has_among xs bytes)) (sym at)
+    let same : k.now ≡ x.now = exact_bytes k.now x.now (sym e) in
+    let at : is_eq (slice_cmp nat_cmp bytes x.now) ≡ bytes_eq bytes k.now = at_key bytes x ∙ ap (bytes_eq bytes) (sym same) in
+    ap (λ b. b || has_among xs bytes) at ∙ or_again (bytes_eq bytes k.now) (has_among xs bytes) ∙ ap (λ b. bytes_eq bytes k.now || (b || has_among xs bytes)) (sym at)
 inserted_at Greater x k xs bytes e rest =
-    ap (λ r. is_eq (slice_cmp nat_cmp bytes x.items) || r) rest ∙ or_swap (is_eq (slice_cmp nat_cmp bytes x.items)) (bytes_eq bytes k.items) (has_among xs bytes)
+    ap (λ r. is_eq (slice_cmp nat_cmp bytes x.now) || r) rest ∙ or_swap (is_eq (slice_cmp nat_cmp bytes x.now)) (bytes_eq bytes k.now) (has_among xs bytes)
 
 -- what the set has with one key more
-pub has-insert : (ks : List (Vec ℕ Global)) (k : Vec ℕ Global) (bytes : List ℕ) →
-    list_any (is_at (λ x. slice_cmp nat_cmp bytes x.items)) (insert_key (λ x y. slice_cmp nat_cmp x.items y.items) ks k) ≡ (bytes_eq bytes k.items || list_any (is_at (λ x. slice_cmp nat_cmp bytes x.items)) ks)
+pub has-insert : (ks : List (Bor (List ℕ))) (k : Bor (List ℕ)) (bytes : List ℕ) →
+    list_any (is_at (λ x. slice_cmp nat_cmp bytes x.now)) (insert_key (λ x y. slice_cmp nat_cmp x.now y.now) ks k) ≡ (bytes_eq bytes k.now || list_any (is_at (λ x. slice_cmp nat_cmp bytes x.now)) ks)
 has-insert [] k bytes = ap (λ b. b || false) (at_key bytes k)
 has-insert (x ∷ xs) k bytes = inserted_at (items_cmp k x) x k xs bytes refl (has-insert xs k bytes)
 

@@ -1,12 +1,15 @@
-pub mod Bytes
-pub mod Flats
-pub mod Going
-pub mod Walks
-pub mod Commas
-pub mod Goes
+mod Bytes
+mod Flats
+mod Going
+mod Walks
+mod Commas
+mod Goes
 pub mod Views
-pub mod Counts
-pub mod Keys
-pub mod Plain
-pub mod Walking
-pub mod Keeping
+mod Counts
+mod Keys
+mod Plain
+mod Walking
+mod Cursors
+mod Keeping
+mod Sizes
+pub mod Lemmas

@@ -1,14 +1,13 @@
 -- What is plain has plain parts, and its preferred bytes spell it.
-use Rattle.std.proofs.Common.{ℕ, ◌<◌, ◌≤◌, ◌^◌, ◌++◌, length, arith, length-append}
+use Rattle.std.proofs.Common.{ℕ, ◌+◌, ◌<◌, ◌≤◌, ◌^◌, ◌++◌, length, arith, length-append}
 use Rattle.cbor_data.specs.Forms.{Spells}
-use Rattle.cbor_data.specs.Preferred.{shortest_head, preferred, values_preferred, pairs_preferred}
-use Rattle.cbor_data.specs.Value.{depth_of, Value, uint, nint, bytes, text, array, pairs, tag, simple, float, Values, no_values, value, Pairs, no_pairs, pair, values_len, pairs_len, place_count, values_place_count, pairs_place_count}
-use Rattle.cbor_data.proofs.PreferredLength.{shortest_head_some, simple_some}
-use Rattle.cbor_data.proofs.PreferredSpells.{spells_preferred, float_some, AreCountsShort, AreValueCountsShort, ArePairCountsShort}
+use Rattle.cbor_data.specs.Preferred.{shortest_head, preferred, values_preferred, pairs_preferred, AreCountsShort, AreValueCountsShort, ArePairCountsShort}
+use Rattle.cbor_data.specs.Value.{depth_of, IsInRange, AreSimplesAssignable, AreBitsFitting, Value, uint, nint, bytes, text, array, pairs, tag, simple, float, Values, no_values, value, Pairs, no_pairs, pair, values_len, pairs_len, place_count, values_place_count, pairs_place_count}
+use Rattle.cbor_data.proofs.Lemmas.{counts_of, float_some, preferred_len, shortest_head_some, simple_some, spelled_assignable, spelled_fitting, spelled_in_range, spelled_places, spells_preferred}
 use Rattle.cbor_data.specs.Sound.{IsSound, HasShortSpelling}
 use Rattle.cbor_data.specs.Validity.{IsValid}
-use Rattle.cbor_item.specs.Unsound.{IsFirstUnsoundness}
-use Rattle.cbor_item.specs.Walk.{IsPlain, ArePlain, ArePairsPlain, IsRepeat}
+use Rattle.cbor_item.specs.Unsound.{IsFirstUnsoundness, IsRepeat}
+use Rattle.cbor_item.specs.Walk.{IsPlain, ArePlain, ArePairsPlain}
 use Rattle.cbor_item.specs.declared.sound.Unsound.{Unsound}
 use Rattle.cbor_item.specs.declared.sound.Unsound.TheVariants.{TooDeep, BadSimple, BadBits, TooBig, Duplicate, Memory}
 
@@ -84,14 +83,33 @@ mutual
       let rest = length-append (preferred v) (pairs_preferred ps) in
       (counts_short k (omega (arith, whole)), counts_short v (omega (arith, whole, rest)), pair_counts_short ps (omega (arith, whole, rest)))
 
+-- what is in range, with each simple value assignable, each float's bits fitting and few preferred bytes, has a short spelling
+pub short_spelling : (x : Value) → IsInRange x → AreSimplesAssignable x → AreBitsFitting x → length (preferred x) < 2 ^ 64 → HasShortSpelling x
+short_spelling x r a f h = record { spelling = preferred x; spells = spells_preferred x r f a (counts_short x h); short = h }
+
+-- what has a short spelling is plain
+pub plain_spelled : (x : Value) → HasShortSpelling x → IsPlain x
+plain_spelled x h = record {
+  in_range = spelled_in_range x h.spelling h.spells;
+  assignable = spelled_assignable x h.spelling h.spells;
+  fitting = spelled_fitting x h.spelling h.spells;
+  counts = counts_of x h;
+  short = omega (arith, preferred_len x h.spelling h.spells, h.short);
+}
+
+-- and there are numbers for its places
+pub few_places : (x : Value) → HasShortSpelling x → 0 + place_count x < 2 ^ 64
+few_places x h = omega (arith, spelled_places x h.spelling h.spells, h.short)
+
 pub plain_spells : (x : Value) → IsPlain x → Spells x (preferred x)
-plain_spells x h = spells_preferred x h.in_range h.fitting h.assignable (counts_short x h.short)
+plain_spells x h = spells_preferred x h.in_range h.fitting h.assignable h.counts
 
 pub plain_members : (xs : Values) → IsPlain (array xs) → ArePlain xs
 plain_members xs h = record {
   in_range = h.in_range;
   assignable = h.assignable;
   fitting = h.fitting;
+  counts = h.counts.1;
   short = omega (arith, h.short, length-append (shortest_head 4 (values_len xs)) (values_preferred xs));
 }
 
@@ -100,6 +118,7 @@ plain_pairs ps h = record {
   in_range = h.in_range;
   assignable = h.assignable;
   fitting = h.fitting;
+  counts = h.counts.1;
   short = omega (arith, h.short, length-append (shortest_head 5 (pairs_len ps)) (pairs_preferred ps));
 }
 
@@ -108,6 +127,7 @@ plain_content n x h = record {
   in_range = h.in_range.1;
   assignable = h.assignable;
   fitting = h.fitting;
+  counts = h.counts;
   short = omega (arith, h.short, length-append (shortest_head 6 n) (preferred x));
 }
 
@@ -117,12 +137,14 @@ plain_first x xs h = (
     in_range = h.in_range.0;
     assignable = h.assignable.0;
     fitting = h.fitting.0;
+    counts = h.counts.0;
     short = omega (arith, h.short, length-append (preferred x) (values_preferred xs));
   },
   record {
     in_range = h.in_range.1;
     assignable = h.assignable.1;
     fitting = h.fitting.1;
+    counts = h.counts.1;
     short = omega (arith, h.short, length-append (preferred x) (values_preferred xs));
   },
 )
@@ -135,34 +157,35 @@ plain_pair k v ps h =
         in_range = h.in_range.0;
         assignable = h.assignable.0;
         fitting = h.fitting.0;
+        counts = h.counts.0;
         short = omega (arith, h.short, whole);
       },
       record {
         in_range = h.in_range.1;
         assignable = h.assignable.1;
         fitting = h.fitting.1;
+        counts = h.counts.1;
         short = omega (arith, h.short, whole, rest);
       },
       record {
         in_range = h.in_range.2;
         assignable = h.assignable.2;
         fitting = h.fitting.2;
+        counts = h.counts.2;
         short = omega (arith, h.short, whole, rest);
       },
     )
 
-plain_short : (x : Value) → IsPlain x → HasShortSpelling x
-plain_short x h = record { spelling = preferred x; spells = plain_spells x h; short = h.short }
+-- what has a short spelling, is not too deep and is valid is sound
+pub spelled_sound : (x : Value) → HasShortSpelling x → depth_of x ≤ 256 → IsValid x → IsSound x
+spelled_sound x h d v =
+    let p = plain_spelled x h in record { in_range = p.in_range; shallow = d; assignable = p.assignable; fitting = p.fitting; short = h; valid = v }
 
--- what is plain, not too deep and valid is sound
-pub plain_sound : (x : Value) → IsPlain x → depth_of x ≤ 256 → IsValid x → IsSound x
-plain_sound x h d v = record { in_range = h.in_range; shallow = d; assignable = h.assignable; fitting = h.fitting; short = plain_short x h; valid = v }
-
--- of what is plain and not too deep, a repeated key is the first unsoundness
-pub repeat_first : (x : Value) (e : Unsound) → IsPlain x → depth_of x ≤ 256 → IsRepeat x e → IsFirstUnsoundness x e
+-- of what has a short spelling and is not too deep, a repeated key is the first unsoundness
+pub repeat_first : (x : Value) (e : Unsound) → HasShortSpelling x → depth_of x ≤ 256 → IsRepeat x e → IsFirstUnsoundness x e
 repeat_first x TooDeep h d r = absurd r
 repeat_first x BadSimple h d r = absurd r
 repeat_first x BadBits h d r = absurd r
 repeat_first x TooBig h d r = absurd r
-repeat_first x (Duplicate place) h d r = (d, h.assignable, h.fitting, plain_short x h, r)
+repeat_first x (Duplicate place) h d r = let p = plain_spelled x h in (d, p.assignable, p.fitting, h, r)
 repeat_first x Memory h d r = tt

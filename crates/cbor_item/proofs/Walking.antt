@@ -7,7 +7,7 @@ use Rattle.cbor_item.specs.Walk.{Finds, Walks, WalksAmong, WalksAfter}
 use Rattle.cbor_item.specs.declared.sound.Unsound.{Unsound}
 use Rattle.cbor_item.specs.declared.sound.Unsound.TheVariants.{TooDeep, BadSimple, BadBits, TooBig, Duplicate, Memory}
 
--- a place that is one of these, or one of those behind so many
+-- a place that is one of these, or one of those after so many
 abbrev OrBehind : (ℕ → Type 0) → ℕ → (ℕ → Type 0) → ℕ → Type 0
 OrBehind P n Q i = P i ⊎ ((j : ℕ) × (i ≡ n + j) × Q j)
 
@@ -64,7 +64,7 @@ inside Q n place (Err (Duplicate at)) h =
     (suc h.0, omega (arith, h.1), record { holds = (h.0, refl, h.2.holds); least = λ i q. let le : h.0 ≤ q.0 = h.2.least q.0 q.2 in let is : i ≡ suc q.0 = q.1 in omega arith })
 inside Q n place (Err Memory) h = tt
 
--- each repeated key stands at a place of the item
+-- each repeated key is at a place of the item
 mutual
   within : (x : Value) (i : ℕ) → IsRepeatedKey x i → i < place_count x
   within (array xs) i h = let lt : h.0 < values_place_count xs = within_members xs h.0 h.2 in let is : i ≡ suc h.0 = h.1 in omega arith
@@ -107,7 +107,7 @@ abbrev pub AreValid : List Value → Type 0
 AreValid [] = Unit {0}
 AreValid (x ∷ xs) = IsValid x × AreValid xs
 
--- a place in the value or behind it, from the value on
+-- a place in the value or after it, from the value on
 abbrev FromValue : List Value → Value → Value → Pairs → ℕ → Type 0
 FromValue earlier k v ps = OrBehind (IsRepeatedKey v) (place_count v) (IsRepeatedKeyAfter (k ∷ earlier) ps)
 
@@ -134,7 +134,7 @@ pair_split earlier k v ps place r new h =
     ])
     h
 
--- the walk goes on behind a pair
+-- the walk goes on after a pair
 pub after_more : (earlier : List Value) (k v : Value) (ps : Pairs) (place mid next : ℕ) (r : Result ℕ Unsound) → (IsOneOf earlier k → ⊥) → Walks k place (Ok mid) →
     Walks v mid (Ok next) → WalksAfter (k ∷ earlier) ps next r → WalksAfter earlier (pair k v ps) place r
 after_more earlier k v ps place mid next r new h i j =

@@ -28,6 +28,6 @@ is_failed_write (Err e) piece = true
 abbrev pub failures_after_write : {E : Type 0} → ℕ → Result ℕ E → List ℕ → ℕ
 failures_after_write failures r piece = if is_failed_write r piece then one_more failures else failures
 
--- the device failed between the two counts: the count rose, or stands where it cannot rise
+-- the device failed between the two counts: the count rose, or is where it cannot rise
 abbrev pub HasRisen : ℕ → ℕ → Type 0
 HasRisen before after = (before < after) ⊎ (after ≡ 2 ^ 64 - 1)

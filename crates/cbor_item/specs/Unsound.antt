@@ -15,3 +15,9 @@ IsFirstUnsoundness x TooBig = (depth_of x ≤ 256) × AreSimplesAssignable x × 
 IsFirstUnsoundness x (Duplicate place) =
     (depth_of x ≤ 256) × AreSimplesAssignable x × AreBitsFitting x × HasShortSpelling x × IsFirstRepeatedKey x place
 IsFirstUnsoundness x Memory = Unit {0}
+
+-- of an item that is sound but for its keys: the first repeated key, or there was no memory to look for it
+abbrev pub IsRepeat : Value → Unsound → Type 0
+IsRepeat x (Duplicate place) = IsFirstRepeatedKey x place
+IsRepeat x Memory = Unit {0}
+IsRepeat x _ = ⊥

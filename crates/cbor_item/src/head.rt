@@ -54,7 +54,7 @@ impl Head {
         Head { bytes, len: 9 }
     }
 
-    /// A simple value: inside the initial byte below 24, else in the byte behind it (RFC 8949 section 3.3).
+    /// A simple value: inside the initial byte below 24, else in the byte after it (RFC 8949 section 3.3).
     pub fn simple(n: u8) -> Head
         ensures { result ≡ simple_bytes n }
     {

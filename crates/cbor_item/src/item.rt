@@ -33,7 +33,7 @@ pub enum Item {
 impl PartialEq for Item {
     ghost use Rattle.cbor_item.specs.View.{view as item_view};
     ghost use Rattle.cbor_data.specs.Same.{same_value};
-    ghost use Rattle.cbor_data.proofs.SameLaws.{same_value-laws};
+    ghost use Rattle.cbor_data.proofs.Lemmas.{same_value-laws};
     ghost use Rattle.std.proofs.Common.{◌∙◌};
 
     ghost eq = { λ a b. same_value (item_view a) (item_view b) };
@@ -47,7 +47,7 @@ impl PartialEq for Item {
 
 impl Eq for Item {
     ghost use Rattle.cbor_item.specs.View.{view as item_view};
-    ghost use Rattle.cbor_data.proofs.SameLaws.{same_value-laws};
+    ghost use Rattle.cbor_data.proofs.Lemmas.{same_value-laws};
 
     ghost laws = { same_value-laws item_view };
 }

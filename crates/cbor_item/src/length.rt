@@ -45,7 +45,14 @@ pub fn count_bytes(item: &Item, before: u128) -> u128
 fn count_head(argument: u64, before: u128) -> u128
     ensures { (major : ℕ) → result ≡ counted before (length (shortest_head major argument)) }
 {
-    let len = if argument < 24 {
+    before.saturating_add(head_len(argument) as u128)
+}
+
+// How many bytes the shortest head with this argument has.
+pub fn head_len(argument: u64) -> usize
+    ensures { (major : ℕ) → result ≡ length (shortest_head major argument) }
+{
+    if argument < 24 {
         1
     } else if argument < 1 << 8 {
         2
@@ -55,8 +62,7 @@ fn count_head(argument: u64, before: u128) -> u128
         5
     } else {
         9
-    };
-    before.saturating_add(len)
+    }
 }
 
 fn count_string(len: usize, before: u128) -> u128

@@ -8,6 +8,7 @@ mod duplicates;
 mod head;
 mod item;
 mod length;
+mod maps;
 mod notation;
 mod ranges;
 mod simples;

@@ -13,7 +13,7 @@ use itoa::Buffer;
 use std::alloc::{AllocError, Global};
 
 /// The item in diagnostic notation, a profile of RFC 8949 section 8: numbers in decimal, byte strings as `h'01ff'`,
-/// texts in `"`, where `"` and `\` stand behind a `\` and controls are `\u` and four hex digits, arrays as `[1, 2]`, maps as
+/// texts in `"`, where `"` and `\` are after a `\` and controls are `\u` and four hex digits, arrays as `[1, 2]`, maps as
 /// `{1: 2, 3: 4}`, tags as `1(2)`, simple values as `false`, `true`, `null`, `undefined` or `simple(99)`, and floats as their
 /// bits, `f16'3c00'`.
 ///
@@ -176,7 +176,7 @@ fn push_text(out: &mut Vec<u8>, bytes: &[u8]) -> Result<(), AllocError>
     out.extend_from_slice(b"\"")
 }
 
-// Pushes what `bytes` begins with: the bytes that are shown as themselves, and the one behind them. Answers how many.
+// Pushes what `bytes` begins with: the bytes that are shown as themselves, and the one after them. Answers how many.
 fn push_run(out: &mut Vec<u8>, bytes: &[u8]) -> Result<usize, AllocError>
     requires { 0 < length bytes.now }
     ensures some { IfOk result (λ n. 0 < n) }

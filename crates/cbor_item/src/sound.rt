@@ -1,8 +1,9 @@
 //! Sound items: those that can be written, and that a reader may answer.
 
-ghost use Rattle.std.specs.Prelude.{◌≡◌, IfOk, IfErr};
-ghost use Rattle.cbor_data.specs.Sound.{IsSound};
-ghost use Rattle.cbor_item.specs.Unsound.{IsFirstUnsoundness};
+ghost use Rattle.std.specs.Prelude.{◌≡◌, ◌≤◌, IfOk, IfErr};
+ghost use Rattle.cbor_data.specs.Sound.{HasShortSpelling, IsSound};
+ghost use Rattle.cbor_data.specs.Value.{depth_of};
+ghost use Rattle.cbor_item.specs.Unsound.{IsFirstUnsoundness, IsRepeat};
 ghost use Rattle.cbor_item.specs.View.{view};
 
 use crate::bits::are_bits_fitting;
@@ -83,6 +84,17 @@ impl Sound {
         }
         note_ranges(&item);
         check_length(&item)?;
+        Sound::try_spelled(alloc, item)
+    }
+
+    /// The item, if no map in it has two equal keys, where the rest is known: some spelling of it is shorter than 2^64
+    /// bytes, and it is at most 256 containers deep. So it is with an item that was read. The test may need memory.
+    pub fn try_spelled(alloc: Global, item: Item) -> Result<Sound, Unsound>
+        requires spelled { HasShortSpelling (view item) }
+        requires shallow { depth_of (view item) ≤ 256 }
+        ensures ok { IfOk result (λ sound. (sound ≡ view item) × IsSound (view item)) }
+        ensures err { IfErr result (IsRepeat (view item)) }
+    {
         check_keys(alloc, &item)?;
         Ok(Sound { item })
     }

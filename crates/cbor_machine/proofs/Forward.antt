@@ -7,7 +7,7 @@ use Rattle.cbor_data.specs.Preferred.{initial, float_bytes}
 use Rattle.cbor_data.specs.declared.Width.{Width}
 use Rattle.cbor_data.specs.declared.Width.TheVariants.{W16, W32, W64}
 use Rattle.cbor_data.specs.Value.{AreBytes}
-use Rattle.cbor_data.specs.Forms.{Form, uint_form, nint_form, bytes_form, bytes_chunks, text_form, text_chunks, array_form, array_to_break, pairs_form, pairs_to_break, tag_form, simple_inside, simple_next, float_form, Forms, no_forms, form, PairForms, no_pair_forms, pair_form, flat, forms_flat, pair_forms_flat, forms_len, pair_forms_len, IsOk, IsWellFormed, Begins, AreFormsOk, ArePairFormsOk, Chunk, chunk_bytes, chunks_bytes, AreChunksOk, Place, inside, one, two, four, eight, head_in, FitsPlace}
+use Rattle.cbor_data.specs.Forms.{Form, uint_form, nint_form, bytes_form, bytes_chunks, text_form, text_chunks, array_form, array_to_break, pairs_form, pairs_to_break, tag_form, simple_inside, simple_next, float_form, Forms, no_forms, form, PairForms, no_pair_forms, pair_form, flat, forms_flat, pair_forms_flat, forms_len, pair_forms_len, IsOk, IsWellFormed, Begins, AreFormsOk, ArePairFormsOk, Chunk, chunk_bytes, chunks_bytes, AreChunksOk, ArgumentSize, inside, one, two, four, eight, head_in, FitsSize}
 use Rattle.cbor_machine.specs.Machine.{State, Frame, rest, until, until_key, until_value, item, argument, body, chunk, chunk_argument, chunk_body, simple, done, held, chunk_held, start_chunk, twice, ask, wide, after, give, step, steps, start, info_of, given, more, opens_container}
 
 major_of : (m i : ℕ) → i < 32 → initial m i / 32 ≡ m
@@ -34,7 +34,7 @@ wide_is (suc (suc (suc (suc (suc (suc zero)))))) k K h = refl
 wide_is (suc (suc (suc (suc (suc (suc (suc m))))))) k K h = absurd (omega arith)
 
 -- a head in any width comes to the same
-pub head : (p : Place) (m n : ℕ) (K : List Frame) (r : List ℕ) → m < 7 → FitsPlace p n → steps (item K) (head_in p m n ++ r) ≡ steps (after m n K) r
+pub head : (p : ArgumentSize) (m n : ℕ) (K : List Frame) (r : List ℕ) → m < 7 → FitsSize p n → steps (item K) (head_in p m n ++ r) ≡ steps (after m n K) r
 head inside m n K r small h = rw (first m n K (omega arith), info_of-given n h) refl
 head one m n K r small h = rw (first m 24 K (omega arith), wide_is m 0 K small) (ap (λ a. steps (after m a K) r) (omega arith))
 head two m n K r small h = rw (first m 25 K (omega arith), wide_is m 1 K small) (ap (λ a. steps (after m a K) r) (omega (arith, from_be_bytes-to_be_bytes_2 n h)))
@@ -57,7 +57,7 @@ chunk_first m i K small h =
     let same : (m == m) ≡ true = grind (arith, nat_tests) in
     rw (other, major_of m i h, info_in m i h, same) refl
 
-chunk_head : (p : Place) (m n : ℕ) (K : List Frame) (r : List ℕ) → m < 7 → FitsPlace p n → steps (chunk m K) (head_in p m n ++ r) ≡ steps (chunk_held m n K) r
+chunk_head : (p : ArgumentSize) (m n : ℕ) (K : List Frame) (r : List ℕ) → m < 7 → FitsSize p n → steps (chunk m K) (head_in p m n ++ r) ≡ steps (chunk_held m n K) r
 chunk_head inside m n K r small h = rw (chunk_first m n K small (omega arith), info_of-given n h) refl
 chunk_head one m n K r small h = rw (chunk_first m 24 K small (omega arith)) (ap (λ a. steps (chunk_held m a K) r) (omega arith))
 chunk_head two m n K r small h = rw (chunk_first m 25 K small (omega arith)) (ap (λ a. steps (chunk_held m a K) r) (omega (arith, from_be_bytes-to_be_bytes_2 n h)))
@@ -72,8 +72,8 @@ chunk_string m (b ∷ c ∷ s) K r = chunk_string m (c ∷ s) K r
 chunks_forward : (m : ℕ) (cs : List Chunk) (K : List Frame) (r : List ℕ) → m < 7 → AreChunksOk cs → steps (chunk m K) (chunks_bytes m cs ++ r) ≡ steps (chunk m K) r
 chunks_forward m [] K r small ok = refl
 chunks_forward m (c ∷ cs) K r small ok =
-    ap (steps (chunk m K)) (append_assoc (chunk_bytes m c) (chunks_bytes m cs) r ∙ append_assoc (head_in c.place m (length c.held)) c.held (chunks_bytes m cs ++ r))
-    ∙ chunk_head c.place m (length c.held) K (c.held ++ (chunks_bytes m cs ++ r)) small ok.0.0 ∙ chunk_string m c.held K (chunks_bytes m cs ++ r) ∙ chunks_forward m cs K r small ok.1
+    ap (steps (chunk m K)) (append_assoc (chunk_bytes m c) (chunks_bytes m cs) r ∙ append_assoc (head_in c.size m (length c.held)) c.held (chunks_bytes m cs ++ r))
+    ∙ chunk_head c.size m (length c.held) K (c.held ++ (chunks_bytes m cs ++ r)) small ok.0.0 ∙ chunk_string m c.held K (chunks_bytes m cs ++ r) ∙ chunks_forward m cs K r small ok.1
 
 float_forward : (w : Width) (n : ℕ) (K : List Frame) (r : List ℕ) → steps (item K) (float_bytes w n ++ r) ≡ steps (give K) r
 float_forward W16 n K r = refl
@@ -189,7 +189,7 @@ chunk_argument_completes : (k m n : ℕ) (K : List Frame) → Completes (chunk_a
 chunk_argument_completes zero m n K = by _ (chunk_held m (n * 256 + 0) K) 0 (omega arith) refl refl (chunk_held_completes m (n * 256 + 0) K)
 chunk_argument_completes (suc k) m n K = by _ (chunk_argument m k (n * 256 + 0) K) 0 (omega arith) refl refl (chunk_argument_completes k m (n * 256 + 0) K)
 
--- whatever stands in the stack
+-- whatever is in the stack
 pub completes : (s : State) → Completes s
 completes (item K) = by _ (give K) 0 (omega arith) refl refl (give_completes K)
 completes (argument m k n K) = argument_completes k m n K

@@ -7,7 +7,7 @@ use Rattle.cbor_data.specs.declared.Width.{Width}
 use Rattle.cbor_data.specs.declared.Width.TheVariants.{W16, W32, W64}
 use Rattle.cbor_data.specs.Value.{AreBytes, FitsWidth}
 use Rattle.cbor_data.specs.Preferred.{initial, float_bytes}
-use Rattle.cbor_data.specs.Forms.{Place, inside, one, two, four, eight, head_in, FitsPlace, Form, uint_form, nint_form, bytes_form, bytes_chunks, text_form, text_chunks, array_form, array_to_break, pairs_form, pairs_to_break, tag_form, simple_inside, simple_next, float_form, Forms, no_forms, form, PairForms, no_pair_forms, pair_form, Chunk, chunk_bytes, chunks_bytes, AreChunksOk, forms_len, pair_forms_len, flat, forms_flat, pair_forms_flat, IsOk, AreFormsOk, ArePairFormsOk, IsWellFormed}
+use Rattle.cbor_data.specs.Forms.{ArgumentSize, inside, one, two, four, eight, head_in, FitsSize, Form, uint_form, nint_form, bytes_form, bytes_chunks, text_form, text_chunks, array_form, array_to_break, pairs_form, pairs_to_break, tag_form, simple_inside, simple_next, float_form, Forms, no_forms, form, PairForms, no_pair_forms, pair_form, Chunk, chunk_bytes, chunks_bytes, AreChunksOk, forms_len, pair_forms_len, flat, forms_flat, pair_forms_flat, IsOk, AreFormsOk, ArePairFormsOk, IsWellFormed}
 use Rattle.cbor_machine.specs.Machine.{State, Frame, rest, until, until_key, until_value, item, argument, body, chunk, chunk_argument, chunk_body, simple, done, held, chunk_held, start_chunk, twice, ask, wide, after, give, step, steps, start, info_of, Info, given, more, indefinite, reserved, opened, break}
 
 -- one more form at the end
@@ -50,39 +50,39 @@ pairs_and-ok (pair_form l w ps) k v a b c = (a.0, a.1, pairs_and-ok ps k v a.2 b
 -- The bytes c lead into these open containers, up to where an item is awaited in the innermost.
 pub data Within : List Frame → List ℕ → Type 0 where
   nowhere : {c : List ℕ} → c ≡ [] → Within [] c
-  in_array : {K : List Frame} {r : ℕ} {c : List ℕ} (b : List ℕ) (p : Place) (n : ℕ) (fs : Forms) → Within K b → FitsPlace p n → AreFormsOk fs → forms_len fs + suc r ≡ n →
+  in_array : {K : List Frame} {r : ℕ} {c : List ℕ} (b : List ℕ) (p : ArgumentSize) (n : ℕ) (fs : Forms) → Within K b → FitsSize p n → AreFormsOk fs → forms_len fs + suc r ≡ n →
       c ≡ b ++ (head_in p 4 n ++ forms_flat fs) → Within (rest r ∷ K) c
   in_open_array : {K : List Frame} {c : List ℕ} (b : List ℕ) (fs : Forms) → Within K b → AreFormsOk fs → c ≡ b ++ (initial 4 31 ∷ forms_flat fs) → Within (until ∷ K) c
-  at_key : {K : List Frame} {r : ℕ} {c : List ℕ} (b : List ℕ) (p : Place) (n m : ℕ) (ps : PairForms) → Within K b → FitsPlace p n → ArePairFormsOk ps → pair_forms_len ps + suc m ≡ n → r ≡ suc (twice m) →
+  at_key : {K : List Frame} {r : ℕ} {c : List ℕ} (b : List ℕ) (p : ArgumentSize) (n m : ℕ) (ps : PairForms) → Within K b → FitsSize p n → ArePairFormsOk ps → pair_forms_len ps + suc m ≡ n → r ≡ suc (twice m) →
       c ≡ b ++ (head_in p 5 n ++ pair_forms_flat ps) → Within (rest r ∷ K) c
-  at_value : {K : List Frame} {r : ℕ} {c : List ℕ} (b : List ℕ) (p : Place) (n m : ℕ) (ps : PairForms) (k : Form) → Within K b → FitsPlace p n → ArePairFormsOk ps → IsOk k → pair_forms_len ps + suc m ≡ n → r ≡ twice m →
+  at_value : {K : List Frame} {r : ℕ} {c : List ℕ} (b : List ℕ) (p : ArgumentSize) (n m : ℕ) (ps : PairForms) (k : Form) → Within K b → FitsSize p n → ArePairFormsOk ps → IsOk k → pair_forms_len ps + suc m ≡ n → r ≡ twice m →
       c ≡ b ++ (head_in p 5 n ++ (pair_forms_flat ps ++ flat k)) → Within (rest r ∷ K) c
   at_open_key : {K : List Frame} {c : List ℕ} (b : List ℕ) (ps : PairForms) → Within K b → ArePairFormsOk ps → c ≡ b ++ (initial 5 31 ∷ pair_forms_flat ps) → Within (until_key ∷ K) c
   at_open_value : {K : List Frame} {c : List ℕ} (b : List ℕ) (ps : PairForms) (k : Form) → Within K b → ArePairFormsOk ps → IsOk k → c ≡ b ++ (initial 5 31 ∷ (pair_forms_flat ps ++ flat k)) → Within (until_value ∷ K) c
-  in_tag : {K : List Frame} {r : ℕ} {c : List ℕ} (b : List ℕ) (p : Place) (n : ℕ) → Within K b → FitsPlace p n → r ≡ 0 → c ≡ b ++ head_in p 6 n → Within (rest r ∷ K) c
+  in_tag : {K : List Frame} {r : ℕ} {c : List ℕ} (b : List ℕ) (p : ArgumentSize) (n : ℕ) → Within K b → FitsSize p n → r ≡ 0 → c ≡ b ++ head_in p 6 n → Within (rest r ∷ K) c
 
--- how many bytes a place has after the initial byte
-abbrev pub place_width : Place → ℕ
-place_width inside = 0
-place_width one = 1
-place_width two = 2
-place_width four = 4
-place_width eight = 8
+-- how many bytes an argument of this size has after the initial byte
+abbrev pub size_len : ArgumentSize → ℕ
+size_len inside = 0
+size_len one = 1
+size_len two = 2
+size_len four = 4
+size_len eight = 8
 
--- the additional information of a place, of which `inside` has none of its own
-abbrev pub width_info : Place → ℕ
+-- the additional information of a size, of which `inside` has none of its own
+abbrev pub width_info : ArgumentSize → ℕ
 width_info inside = 0
 width_info one = 24
 width_info two = 25
 width_info four = 26
 width_info eight = 27
 
-abbrev pub float_place : Width → Place
-float_place W16 = two
-float_place W32 = four
-float_place W64 = eight
+abbrev pub float_size : Width → ArgumentSize
+float_size W16 = two
+float_size W32 = four
+float_size W64 = eight
 
--- the number whose bytes, highest first, come behind those of n
+-- the number whose bytes, highest first, come after those of n
 abbrev pub number_after : ℕ → List ℕ → ℕ
 number_after n [] = n
 number_after n (x ∷ xs) = number_after (n * 256 + x) xs
@@ -90,15 +90,15 @@ number_after n (x ∷ xs) = number_after (n * 256 + x) xs
 abbrev pub IsString : ℕ → Type 0
 IsString m = (m ≡ 2) ⊎ (m ≡ 3)
 
--- a part of the bytes after an initial byte: with `suc left` more the place is full
-pub record PartRead (p : Place) (left n : ℕ) (s : List ℕ) : Type 0 where
+-- a part of the bytes after an initial byte: with `suc left` more the argument is full
+pub record PartRead (p : ArgumentSize) (left n : ℕ) (s : List ℕ) : Type 0 where
   pub are : AreBytes s
-  pub len : length s + suc left ≡ place_width p
+  pub len : length s + suc left ≡ size_len p
   pub number : n ≡ number_after 0 s
 
 pub data BodyRead (left : ℕ) (K : List Frame) (c : List ℕ) : Type 0 where
-  of_string : (b : List ℕ) (p : Place) (m n : ℕ) (s : List ℕ) → Within K b → IsString m → FitsPlace p n → AreBytes s → length s + suc left ≡ n → c ≡ b ++ (head_in p m n ++ s) → BodyRead left K c
-  of_float : (b : List ℕ) (w : Width) (s : List ℕ) → Within K b → AreBytes s → length s + suc left ≡ place_width (float_place w) → c ≡ b ++ (initial 7 (width_info (float_place w)) ∷ s) → BodyRead left K c
+  of_string : (b : List ℕ) (p : ArgumentSize) (m n : ℕ) (s : List ℕ) → Within K b → IsString m → FitsSize p n → AreBytes s → length s + suc left ≡ n → c ≡ b ++ (head_in p m n ++ s) → BodyRead left K c
+  of_float : (b : List ℕ) (w : Width) (s : List ℕ) → Within K b → AreBytes s → length s + suc left ≡ size_len (float_size w) → c ≡ b ++ (initial 7 (width_info (float_size w)) ∷ s) → BodyRead left K c
 
 -- The chunks so far of an open string.
 pub record ChunksRead (m : ℕ) (K : List Frame) (c : List ℕ) : Type 0 where
@@ -112,11 +112,11 @@ pub record ChunksRead (m : ℕ) (K : List Frame) (c : List ℕ) : Type 0 where
 -- What the bytes c are where the machine is in this state.
 abbrev pub Reached : State → List ℕ → Type 0
 Reached (item K) c = Within K c
-Reached (argument m left n K) c = (b : List ℕ) × (p : Place) × (s : List ℕ) × Within K b × (m < 7) × PartRead p left n s × (c ≡ b ++ (initial m (width_info p) ∷ s))
+Reached (argument m left n K) c = (b : List ℕ) × (p : ArgumentSize) × (s : List ℕ) × Within K b × (m < 7) × PartRead p left n s × (c ≡ b ++ (initial m (width_info p) ∷ s))
 Reached (body left K) c = BodyRead left K c
 Reached (chunk m K) c = ChunksRead m K c
-Reached (chunk_argument m left n K) c = (b : List ℕ) × (p : Place) × (s : List ℕ) × ChunksRead m K b × PartRead p left n s × (c ≡ b ++ (initial m (width_info p) ∷ s))
-Reached (chunk_body m left K) c = (b : List ℕ) × (p : Place) × (n : ℕ) × (s : List ℕ) × ChunksRead m K b × FitsPlace p n × AreBytes s × (length s + suc left ≡ n) × (c ≡ b ++ (head_in p m n ++ s))
+Reached (chunk_argument m left n K) c = (b : List ℕ) × (p : ArgumentSize) × (s : List ℕ) × ChunksRead m K b × PartRead p left n s × (c ≡ b ++ (initial m (width_info p) ∷ s))
+Reached (chunk_body m left K) c = (b : List ℕ) × (p : ArgumentSize) × (n : ℕ) × (s : List ℕ) × ChunksRead m K b × FitsSize p n × AreBytes s × (length s + suc left ≡ n) × (c ≡ b ++ (head_in p m n ++ s))
 Reached (simple K) c = (b : List ℕ) × Within K b × (c ≡ b ++ (initial 7 24 ∷ []))
 Reached done c = IsWellFormed c
 
@@ -134,7 +134,7 @@ give_keeps _ b c f (nowhere e) ok is = record { written = f; ok = ok; is = is �
 give_keeps (rest zero ∷ K) b c f (in_array a p n fs w fits oks len e) ok is =
     let all = forms_and fs f in
     let count : forms_len all ≡ n = forms_and-len fs f ∙ (omega arith) in
-    give_keeps K a c (array_form p all) w (subst (FitsPlace p) (sym count) fits, forms_and-ok fs f oks ok)
+    give_keeps K a c (array_form p all) w (subst (FitsSize p) (sym count) fits, forms_and-ok fs f oks ok)
     (is ∙ (ap (λ x. x ++ flat f) e ∙ (written_array a (head_in p 4 n) (forms_flat fs) (flat f) (forms_flat all) (forms_and-flat fs f) ∙ ap (λ k. a ++ (head_in p 4 k ++ forms_flat all)) (sym count))))
 give_keeps (rest (suc r) ∷ K) b c f (in_array a p n fs w fits oks len e) ok is =
     let count : forms_len (forms_and fs f) + suc r ≡ n = ap (λ k. k + suc r) (forms_and-len fs f) ∙ (omega arith) in
@@ -151,7 +151,7 @@ give_keeps (rest (suc r) ∷ K) b c f (at_key a p n m ps w fits oks len re e) ok
 give_keeps (rest zero ∷ K) b c f (at_value a p n zero ps k w fits oks okk len r e) ok is =
     let all = pairs_and ps k f in
     let count : pair_forms_len all ≡ n = pairs_and-len ps k f ∙ (omega arith) in
-    give_keeps K a c (pairs_form p all) w (subst (FitsPlace p) (sym count) fits, pairs_and-ok ps k f oks okk ok)
+    give_keeps K a c (pairs_form p all) w (subst (FitsSize p) (sym count) fits, pairs_and-ok ps k f oks okk ok)
     (is ∙ (ap (λ x. x ++ flat f) e ∙ (written_array a (head_in p 5 n) (pair_forms_flat ps ++ flat k) (flat f) (pair_forms_flat all) (pairs_and-flat ps k f) ∙ ap (λ i. a ++ (head_in p 5 i ++ pair_forms_flat all)) (sym count))))
 give_keeps (rest zero ∷ K) b c f (at_value a p n (suc m) ps k w fits oks okk len r e) ok is = absurd (omega arith)
 give_keeps (rest (suc r) ∷ K) b c f (at_value a p n zero ps k w fits oks okk len re e) ok is = absurd (omega arith)
@@ -183,9 +183,9 @@ small_at (b ∷ bs) h zero = h.0
 small_at (b ∷ bs) h (suc i) = small_at bs h.1 i
 
 -- full bytes after an initial byte are a head
-record IsHeadOf (p : Place) (m : ℕ) (s : List ℕ) : Type 0 where
+record IsHeadOf (p : ArgumentSize) (m : ℕ) (s : List ℕ) : Type 0 where
   pub is : initial m (width_info p) ∷ s ≡ head_in p m (number_after 0 s)
-  pub fits : FitsPlace p (number_after 0 s)
+  pub fits : FitsSize p (number_after 0 s)
 
 two_number : (s : List ℕ) → length s ≡ 2 → number_after 0 s ≡ from_be_bytes w16 s
 two_number [] len = absurd (omega arith)
@@ -239,7 +239,7 @@ eight_fits (a ∷ b ∷ c ∷ d ∷ e ∷ f ∷ g ∷ []) are len = absurd (omeg
 eight_fits (a ∷ b ∷ c ∷ d ∷ e ∷ f ∷ g ∷ h ∷ []) are len = let a_small : a < 256 = are.0 in let b_small : b < 256 = are.1.0 in let c_small : c < 256 = are.1.1.0 in let d_small : d < 256 = are.1.1.1.0 in let e_small : e < 256 = are.1.1.1.1.0 in let f_small : f < 256 = are.1.1.1.1.1.0 in let g_small : g < 256 = are.1.1.1.1.1.1.0 in let h_small : h < 256 = are.1.1.1.1.1.1.1.0 in omega arith
 eight_fits (a ∷ b ∷ c ∷ d ∷ e ∷ f ∷ g ∷ h ∷ x ∷ s) are len = absurd (omega arith)
 
-full : (p : Place) (m : ℕ) (s : List ℕ) → AreBytes s → length s ≡ place_width p → 0 < place_width p → IsHeadOf p m s
+full : (p : ArgumentSize) (m : ℕ) (s : List ℕ) → AreBytes s → length s ≡ size_len p → 0 < size_len p → IsHeadOf p m s
 full inside m s are len some = absurd (omega arith)
 full one m [] are len some = absurd (omega arith)
 full one m (a ∷ []) are len some =
@@ -260,21 +260,21 @@ full eight m s are len some = record {
   fits = eight_fits s are len;
 }
 
-held_keeps : (n : ℕ) (K : List Frame) (b c : List ℕ) (p : Place) (m : ℕ) → IsString m → Within K b → FitsPlace p n → c ≡ b ++ head_in p m n → Reached (held n K) c
+held_keeps : (n : ℕ) (K : List Frame) (b c : List ℕ) (p : ArgumentSize) (m : ℕ) → IsString m → Within K b → FitsSize p n → c ≡ b ++ head_in p m n → Reached (held n K) c
 held_keeps zero K b c p _ (inl e) w fits is = give_keeps K b c (bytes_form p []) w (fits, tt) (is ∙ ap (λ x. b ++ x) (ap (λ m. head_in p m 0) e ∙ sym (append-nil (head_in p 2 0))))
 held_keeps zero K b c p _ (inr e) w fits is = give_keeps K b c (text_form p []) w (fits, tt) (is ∙ ap (λ x. b ++ x) (ap (λ m. head_in p m 0) e ∙ sym (append-nil (head_in p 3 0))))
 held_keeps (suc n) K b c p m e w fits is = of_string b p m (suc n) [] w e fits tt (omega arith) (is ∙ ap (λ x. b ++ x) (sym (append-nil (head_in p m (suc n)))))
 
-asked_array : (n : ℕ) (K : List Frame) (b c : List ℕ) (p : Place) → Within K b → FitsPlace p n → c ≡ b ++ head_in p 4 n → Reached (ask n K) c
+asked_array : (n : ℕ) (K : List Frame) (b c : List ℕ) (p : ArgumentSize) → Within K b → FitsSize p n → c ≡ b ++ head_in p 4 n → Reached (ask n K) c
 asked_array zero K b c p w fits is = give_keeps K b c (array_form p no_forms) w (fits, tt) (is ∙ ap (λ x. b ++ x) (sym (append-nil (head_in p 4 0))))
 asked_array (suc n) K b c p w fits is = in_array b p (suc n) no_forms w fits tt (omega arith) (is ∙ ap (λ x. b ++ x) (sym (append-nil (head_in p 4 (suc n)))))
 
-asked_pairs : (n : ℕ) (K : List Frame) (b c : List ℕ) (p : Place) → Within K b → FitsPlace p n → c ≡ b ++ head_in p 5 n → Reached (ask (twice n) K) c
+asked_pairs : (n : ℕ) (K : List Frame) (b c : List ℕ) (p : ArgumentSize) → Within K b → FitsSize p n → c ≡ b ++ head_in p 5 n → Reached (ask (twice n) K) c
 asked_pairs zero K b c p w fits is = give_keeps K b c (pairs_form p no_pair_forms) w (fits, tt) (is ∙ ap (λ x. b ++ x) (sym (append-nil (head_in p 5 0))))
 asked_pairs (suc n) K b c p w fits is = at_key b p (suc n) n no_pair_forms w fits tt (omega arith) refl (is ∙ ap (λ x. b ++ x) (sym (append-nil (head_in p 5 (suc n)))))
 
--- behind a head
-after_keeps : (m n : ℕ) (K : List Frame) (b c : List ℕ) (p : Place) → m < 7 → Within K b → FitsPlace p n → c ≡ b ++ head_in p m n → Reached (after m n K) c
+-- after a head
+after_keeps : (m n : ℕ) (K : List Frame) (b c : List ℕ) (p : ArgumentSize) → m < 7 → Within K b → FitsSize p n → c ≡ b ++ head_in p m n → Reached (after m n K) c
 after_keeps zero n K b c p small w fits is = give_keeps K b c (uint_form p n) w fits is
 after_keeps (suc zero) n K b c p small w fits is = give_keeps K b c (nint_form p n) w fits is
 after_keeps (suc (suc zero)) n K b c p small w fits is = held_keeps n K b c p 2 (inl refl) w fits is
@@ -287,7 +287,7 @@ after_keeps (suc (suc (suc (suc (suc (suc (suc m))))))) n K b c p small w fits i
 -- what additional information says
 pub data Information (i : ℕ) : Type 0 where
   says_given : i < 24 → info_of i ≡ given i → Information i
-  says_more : (p : Place) (k : ℕ) → i ≡ width_info p → 24 ≤ i → suc k ≡ place_width p → info_of i ≡ more k → Information i
+  says_more : (p : ArgumentSize) (k : ℕ) → i ≡ width_info p → 24 ≤ i → suc k ≡ size_len p → info_of i ≡ more k → Information i
   says_indefinite : i ≡ 31 → info_of i ≡ indefinite → Information i
   says_reserved : 28 ≤ i → i ≤ 30 → info_of i ≡ reserved → Information i
 
@@ -323,7 +323,7 @@ information i h = elim (tested (nat_lt i 24)) [
   ]
 ]
 
-wide_keeps : (m k : ℕ) (K : List Frame) (b c : List ℕ) (p : Place) → m < 8 → Within K b → suc k ≡ place_width p → c ≡ b ++ (initial m (width_info p) ∷ []) → Reached (wide m k K) c
+wide_keeps : (m k : ℕ) (K : List Frame) (b c : List ℕ) (p : ArgumentSize) → m < 8 → Within K b → suc k ≡ size_len p → c ≡ b ++ (initial m (width_info p) ∷ []) → Reached (wide m k K) c
 wide_keeps zero k K b c p small w width is = (b, p, [], w, omega arith, record { are = tt; len = omega arith; number = refl }, is)
 wide_keeps (suc zero) k K b c p small w width is = (b, p, [], w, omega arith, record { are = tt; len = omega arith; number = refl }, is)
 wide_keeps (suc (suc zero)) k K b c p small w width is = (b, p, [], w, omega arith, record { are = tt; len = omega arith; number = refl }, is)
@@ -405,13 +405,13 @@ chunks_and : (m : ℕ) (cs : List Chunk) (c : Chunk) → chunks_bytes m (cs ++ c
 chunks_and m [] c = append-nil (chunk_bytes m c)
 chunks_and m (d ∷ cs) c = ap (λ b. chunk_bytes m d ++ b) (chunks_and m cs c) ∙ sym (append_assoc (chunk_bytes m d) (chunks_bytes m cs) (chunk_bytes m c))
 
-chunks_and-ok : (cs : List Chunk) (c : Chunk) → AreChunksOk cs → FitsPlace c.place (length c.held) → AreBytes c.held → AreChunksOk (cs ++ c ∷ [])
+chunks_and-ok : (cs : List Chunk) (c : Chunk) → AreChunksOk cs → FitsSize c.size (length c.held) → AreBytes c.held → AreChunksOk (cs ++ c ∷ [])
 chunks_and-ok [] c ok fits are = ((fits, are), tt)
 chunks_and-ok (d ∷ cs) c ok fits are = (ok.0, chunks_and-ok cs c ok.1 fits are)
 
-chunk_whole : (m : ℕ) (K : List Frame) (b c : List ℕ) (p : Place) (s : List ℕ) → ChunksRead m K b → FitsPlace p (length s) → AreBytes s → c ≡ b ++ (head_in p m (length s) ++ s) → ChunksRead m K c
+chunk_whole : (m : ℕ) (K : List Frame) (b c : List ℕ) (p : ArgumentSize) (s : List ℕ) → ChunksRead m K b → FitsSize p (length s) → AreBytes s → c ≡ b ++ (head_in p m (length s) ++ s) → ChunksRead m K c
 chunk_whole m K b c p s r fits are is =
-    let d : Chunk = record { place = p; held = s } in
+    let d : Chunk = record { size = p; held = s } in
     record {
       before = r.before;
       chunks = r.chunks ++ d ∷ [];
@@ -422,7 +422,7 @@ chunk_whole m K b c p s r fits are is =
           ∙ ap (λ x. r.before ++ (initial m 31 ∷ x)) (sym (chunks_and m r.chunks d))));
     }
 
-chunk_held_keeps : (m n : ℕ) (K : List Frame) (b c : List ℕ) (p : Place) → ChunksRead m K b → FitsPlace p n → c ≡ b ++ head_in p m n → Reached (chunk_held m n K) c
+chunk_held_keeps : (m n : ℕ) (K : List Frame) (b c : List ℕ) (p : ArgumentSize) → ChunksRead m K b → FitsSize p n → c ≡ b ++ head_in p m n → Reached (chunk_held m n K) c
 chunk_held_keeps m zero K b c p r fits is = chunk_whole m K b c p [] r fits tt (is ∙ ap (λ x. b ++ x) (sym (append-nil (head_in p m 0))))
 chunk_held_keeps m (suc n) K b c p r fits is = (b, p, suc n, [], r, fits, tt, omega arith, is ∙ ap (λ x. b ++ x) (sym (append-nil (head_in p m (suc n)))))
 
@@ -442,27 +442,27 @@ split_byte : (x : ℕ) → x ≡ initial (x / 32) (x % 32)
 split_byte x = omega arith
 
 -- a byte more of an argument: it is full, or goes on
-pushed : (p : Place) (left n x : ℕ) (s : List ℕ) → PartRead p (suc left) n s → x < 256 → PartRead p left (n * 256 + x) (s ++ x ∷ [])
+pushed : (p : ArgumentSize) (left n x : ℕ) (s : List ℕ) → PartRead p (suc left) n s → x < 256 → PartRead p left (n * 256 + x) (s ++ x ∷ [])
 pushed p left n x s r small = record {
   are = bytes-append s (x ∷ []) r.are (small, tt);
   len = (let e : length (s ++ x ∷ []) ≡ length s + 1 = length-append s (x ∷ []) in omega (arith, r.len));
   number = ap (λ k. k * 256 + x) r.number ∙ sym (number_after-push 0 x s);
 }
 
-filled : (p : Place) (m n x : ℕ) (s : List ℕ) → PartRead p 0 n s → x < 256 → (initial m (width_info p) ∷ (s ++ x ∷ []) ≡ head_in p m (n * 256 + x)) × FitsPlace p (n * 256 + x)
+filled : (p : ArgumentSize) (m n x : ℕ) (s : List ℕ) → PartRead p 0 n s → x < 256 → (initial m (width_info p) ∷ (s ++ x ∷ []) ≡ head_in p m (n * 256 + x)) × FitsSize p (n * 256 + x)
 filled p m n x s r small =
     let are : AreBytes (s ++ x ∷ []) = bytes-append s (x ∷ []) r.are (small, tt) in
-    let len : length (s ++ x ∷ []) ≡ place_width p = (let e : length (s ++ x ∷ []) ≡ length s + 1 = length-append s (x ∷ []) in omega (arith, r.len)) in
-    let some : 0 < place_width p = omega (arith, r.len) in
+    let len : length (s ++ x ∷ []) ≡ size_len p = (let e : length (s ++ x ∷ []) ≡ length s + 1 = length-append s (x ∷ []) in omega (arith, r.len)) in
+    let some : 0 < size_len p = omega (arith, r.len) in
     let number : number_after 0 (s ++ x ∷ []) ≡ n * 256 + x = number_after-push 0 x s ∙ ap (λ k. k * 256 + x) (sym r.number) in
     let whole : IsHeadOf p m (s ++ x ∷ []) = full p m (s ++ x ∷ []) are len some in
-    (whole.is ∙ ap (head_in p m) number, subst (FitsPlace p) number whole.fits)
+    (whole.is ∙ ap (head_in p m) number, subst (FitsSize p) number whole.fits)
 
-string_full : (K : List Frame) (b c : List ℕ) (p : Place) (m : ℕ) (s : List ℕ) → Within K b → IsString m → FitsPlace p (length s) → AreBytes s → c ≡ b ++ (head_in p m (length s) ++ s) → Reached (give K) c
+string_full : (K : List Frame) (b c : List ℕ) (p : ArgumentSize) (m : ℕ) (s : List ℕ) → Within K b → IsString m → FitsSize p (length s) → AreBytes s → c ≡ b ++ (head_in p m (length s) ++ s) → Reached (give K) c
 string_full K b c p m s w (inl e) fits are is = give_keeps K b c (bytes_form p s) w (fits, are) (is ∙ ap (λ k. b ++ (head_in p k (length s) ++ s)) e)
 string_full K b c p m s w (inr e) fits are is = give_keeps K b c (text_form p s) w (fits, are) (is ∙ ap (λ k. b ++ (head_in p k (length s) ++ s)) e)
 
-float_full : (K : List Frame) (b c : List ℕ) (v : Width) (s : List ℕ) → Within K b → AreBytes s → length s ≡ place_width (float_place v) → c ≡ b ++ (initial 7 (width_info (float_place v)) ∷ s) → Reached (give K) c
+float_full : (K : List Frame) (b c : List ℕ) (v : Width) (s : List ℕ) → Within K b → AreBytes s → length s ≡ size_len (float_size v) → c ≡ b ++ (initial 7 (width_info (float_size v)) ∷ s) → Reached (give K) c
 float_full K b c W16 s w are len is = let h : IsHeadOf two 7 s = full two 7 s are len (omega arith) in give_keeps K b c (float_form W16 (number_after 0 s)) w h.fits (is ∙ ap (λ x. b ++ x) h.is)
 float_full K b c W32 s w are len is = let h : IsHeadOf four 7 s = full four 7 s are len (omega arith) in give_keeps K b c (float_form W32 (number_after 0 s)) w h.fits (is ∙ ap (λ x. b ++ x) h.is)
 float_full K b c W64 s w are len is = let h : IsHeadOf eight 7 s = full eight 7 s are len (omega arith) in give_keeps K b c (float_form W64 (number_after 0 s)) w h.fits (is ∙ ap (λ x. b ++ x) h.is)
@@ -473,20 +473,20 @@ pushed_len s x = length-append s (x ∷ [])
 body_done : (K : List Frame) (c : List ℕ) (x : ℕ) → BodyRead 0 K c → x < 256 → Reached (give K) (c ++ x ∷ [])
 body_done K c x (of_string b p m n s w string fits are len is) small =
     let total : length (s ++ x ∷ []) ≡ n = pushed_len s x ∙ (omega arith) in
-    string_full K b (c ++ x ∷ []) p m (s ++ x ∷ []) w string (subst (FitsPlace p) (sym total) fits) (bytes-append s (x ∷ []) are (small, tt))
+    string_full K b (c ++ x ∷ []) p m (s ++ x ∷ []) w string (subst (FitsSize p) (sym total) fits) (bytes-append s (x ∷ []) are (small, tt))
     (ap (λ y. y ++ x ∷ []) is ∙ (longer b (head_in p m n) s (x ∷ []) ∙ ap (λ k. b ++ (head_in p m k ++ (s ++ x ∷ []))) (sym total)))
 body_done K c x (of_float b v s w are len is) small =
-    let total : length (s ++ x ∷ []) ≡ place_width (float_place v) = pushed_len s x ∙ (omega (arith, len)) in
+    let total : length (s ++ x ∷ []) ≡ size_len (float_size v) = pushed_len s x ∙ (omega (arith, len)) in
     float_full K b (c ++ x ∷ []) v (s ++ x ∷ []) w (bytes-append s (x ∷ []) are (small, tt)) total
-    (ap (λ y. y ++ x ∷ []) is ∙ longer b (initial 7 (width_info (float_place v)) ∷ []) s (x ∷ []))
+    (ap (λ y. y ++ x ∷ []) is ∙ longer b (initial 7 (width_info (float_size v)) ∷ []) s (x ∷ []))
 
 body_on : (k : ℕ) (K : List Frame) (c : List ℕ) (x : ℕ) → BodyRead (suc k) K c → x < 256 → BodyRead k K (c ++ x ∷ [])
 body_on k K c x (of_string b p m n s w string fits are len is) small =
     let total : length (s ++ x ∷ []) + suc k ≡ n = ap (λ i. i + suc k) (pushed_len s x) ∙ (omega arith) in
     of_string b p m n (s ++ x ∷ []) w string fits (bytes-append s (x ∷ []) are (small, tt)) total (ap (λ y. y ++ x ∷ []) is ∙ longer b (head_in p m n) s (x ∷ []))
 body_on k K c x (of_float b v s w are len is) small =
-    let total : length (s ++ x ∷ []) + suc k ≡ place_width (float_place v) = ap (λ i. i + suc k) (pushed_len s x) ∙ (omega (arith, len)) in
-    of_float b v (s ++ x ∷ []) w (bytes-append s (x ∷ []) are (small, tt)) total (ap (λ y. y ++ x ∷ []) is ∙ longer b (initial 7 (width_info (float_place v)) ∷ []) s (x ∷ []))
+    let total : length (s ++ x ∷ []) + suc k ≡ size_len (float_size v) = ap (λ i. i + suc k) (pushed_len s x) ∙ (omega (arith, len)) in
+    of_float b v (s ++ x ∷ []) w (bytes-append s (x ∷ []) are (small, tt)) total (ap (λ y. y ++ x ∷ []) is ∙ longer b (initial 7 (width_info (float_size v)) ∷ []) s (x ∷ []))
 
 chunks_done : (m : ℕ) (K : List Frame) (c d : List ℕ) → ChunksRead m K c → d ≡ c ++ (255 ∷ []) → Reached (give K) d
 chunks_done m K c d r is = elim r.string [
@@ -549,7 +549,7 @@ step_keeps (chunk_argument m (suc k) n K) t c x (b, p, s, r, part, is) small e =
 step_keeps (chunk_body m zero K) t c x (b, p, n, s, r, fits, are, len, is) small e =
     let to : chunk m K ≡ t = cc in
     let total : length (s ++ x ∷ []) ≡ n = pushed_len s x ∙ (omega (arith, len)) in
-    subst (λ u. Reached u (c ++ x ∷ [])) to (chunk_whole m K b (c ++ x ∷ []) p (s ++ x ∷ []) r (subst (FitsPlace p) (sym total) fits) (bytes-append s (x ∷ []) are (small, tt))
+    subst (λ u. Reached u (c ++ x ∷ [])) to (chunk_whole m K b (c ++ x ∷ []) p (s ++ x ∷ []) r (subst (FitsSize p) (sym total) fits) (bytes-append s (x ∷ []) are (small, tt))
     (ap (λ y. y ++ x ∷ []) is ∙ (longer b (head_in p m n) s (x ∷ []) ∙ ap (λ k. b ++ (head_in p m k ++ (s ++ x ∷ []))) (sym total))))
 step_keeps (chunk_body m (suc k) K) t c x (b, p, n, s, r, fits, are, len, is) small e =
     let to : chunk_body m k K ≡ t = cc in

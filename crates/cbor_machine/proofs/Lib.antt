@@ -1,6 +1,7 @@
-pub mod Forward
-pub mod Keeping
-pub mod Refusing
-pub mod Shallow
-pub mod Telling
+mod Forward
+mod Keeping
+mod Refusing
+mod Shallow
+mod Telling
 pub mod OneFault
+pub mod Lemmas

@@ -7,8 +7,7 @@ use Rattle.cbor_data.specs.Value.{AreBytes}
 use Rattle.cbor_data.specs.Validity.{IsFirstRepeatedKey}
 use Rattle.cbor_data.specs.Forms.{Form, HasText, meaning, IsWellFormed, Begins, IsUnfinished}
 use Rattle.cbor_data.specs.Faults.{Bounds, FaultKind, StandsAt, malformed, deep, long, IsBadTextAt, IsWholeFront, IsKindOf, IsFaultOf, of_form, of_end, of_text, of_key}
-use Rattle.cbor_data.proofs.Unique.{one_form, unfinished_no_front}
-use Rattle.cbor_data.proofs.BadText.{good_text, one_text}
+use Rattle.cbor_data.proofs.Lemmas.{one_form, unfinished_no_front, good_text, one_text}
 use Rattle.cbor_machine.specs.Machine.{State, item, done, step, steps}
 use Rattle.cbor_machine.specs.Reads.{Leads}
 use Rattle.cbor_machine.proofs.Forward.{refused}

@@ -7,7 +7,7 @@ use Rattle.cbor_data.specs.declared.Width.{Width}
 use Rattle.cbor_data.specs.declared.Width.TheVariants.{W16, W32, W64}
 use Rattle.cbor_data.specs.Value.{depth_of, values_depth, pairs_depth}
 use Rattle.cbor_data.specs.Preferred.{initial, float_bytes}
-use Rattle.cbor_data.specs.Forms.{Place, inside, one, two, four, eight, head_in, FitsPlace, Form, uint_form, nint_form, bytes_form, bytes_chunks, text_form, text_chunks, array_form, array_to_break, pairs_form, pairs_to_break, tag_form, simple_inside, simple_next, float_form, Forms, no_forms, form, PairForms, no_pair_forms, pair_form, Chunk, chunk_bytes, chunks_bytes, AreChunksOk, forms_len, pair_forms_len, flat, forms_flat, pair_forms_flat, meaning, meanings, pair_meanings, IsOk, AreFormsOk, ArePairFormsOk, IsWellFormed}
+use Rattle.cbor_data.specs.Forms.{ArgumentSize, inside, one, two, four, eight, head_in, FitsSize, Form, uint_form, nint_form, bytes_form, bytes_chunks, text_form, text_chunks, array_form, array_to_break, pairs_form, pairs_to_break, tag_form, simple_inside, simple_next, float_form, Forms, no_forms, form, PairForms, no_pair_forms, pair_form, Chunk, chunk_bytes, chunks_bytes, AreChunksOk, forms_len, pair_forms_len, flat, forms_flat, pair_forms_flat, meaning, meanings, pair_meanings, IsOk, AreFormsOk, ArePairFormsOk, IsWellFormed}
 use Rattle.cbor_data.specs.Faults.{BeginsWithin}
 use Rattle.cbor_machine.specs.Machine.{State, Frame, rest, until, until_key, until_value, item, argument, body, chunk, chunk_argument, chunk_body, simple, done, held, chunk_held, start_chunk, twice, ask, wide, after, give, step, steps, start, info_of, given, more, opens_container, step_in, steps_in}
 use Rattle.cbor_machine.specs.Reads.{Leads, LeadsWithin}
@@ -37,7 +37,7 @@ container_full d m i K h e none =
     rw (t, u) refl
 
 -- a head that the first step lets pass comes to the same in any width
-passed : (d : ℕ) (p : Place) (m n : ℕ) (K : List Frame) (r : List ℕ) → m < 7 → FitsPlace p n → ((i : ℕ) → i < 32 → step_in d (item K) (initial m i) ≡ start m (info_of i) K) →
+passed : (d : ℕ) (p : ArgumentSize) (m n : ℕ) (K : List Frame) (r : List ℕ) → m < 7 → FitsSize p n → ((i : ℕ) → i < 32 → step_in d (item K) (initial m i) ≡ start m (info_of i) K) →
     steps_in d (item K) (head_in p m n ++ r) ≡ steps_in d (after m n K) r
 passed d inside m n K r small h f = rw (f n (omega arith), info_of-given n h) refl
 passed d one m n K r small h f = rw (f 24 (omega arith), wide_is m 0 K small) (ap (λ a. steps_in d (after m a K) r) (omega arith))
@@ -45,13 +45,13 @@ passed d two m n K r small h f = rw (f 25 (omega arith), wide_is m 1 K small) (a
 passed d four m n K r small h f = rw (f 26 (omega arith), wide_is m 3 K small) (ap (λ a. steps_in d (after m a K) r) (omega (arith, from_be_bytes-to_be_bytes_4 n h)))
 passed d eight m n K r small h f = rw (f 27 (omega arith), wide_is m 7 K small) (ap (λ a. steps_in d (after m a K) r) (omega (arith, from_be_bytes-to_be_bytes_8 n h)))
 
-plain_head : (d : ℕ) (p : Place) (m n : ℕ) (K : List Frame) (r : List ℕ) → m < 7 → FitsPlace p n → (nat_lt 3 m && nat_lt m 7) ≡ false → steps_in d (item K) (head_in p m n ++ r) ≡ steps_in d (after m n K) r
+plain_head : (d : ℕ) (p : ArgumentSize) (m n : ℕ) (K : List Frame) (r : List ℕ) → m < 7 → FitsSize p n → (nat_lt 3 m && nat_lt m 7) ≡ false → steps_in d (item K) (head_in p m n ++ r) ≡ steps_in d (after m n K) r
 plain_head d p m n K r small h e = passed d p m n K r small h (λ i few. plain_first d m i K few e)
 
-container_head : (d : ℕ) (p : Place) (m n : ℕ) (K : List Frame) (r : List ℕ) → m < 7 → FitsPlace p n → (nat_lt 3 m && nat_lt m 7) ≡ true → length K < d → steps_in d (item K) (head_in p m n ++ r) ≡ steps_in d (after m n K) r
+container_head : (d : ℕ) (p : ArgumentSize) (m n : ℕ) (K : List Frame) (r : List ℕ) → m < 7 → FitsSize p n → (nat_lt 3 m && nat_lt m 7) ≡ true → length K < d → steps_in d (item K) (head_in p m n ++ r) ≡ steps_in d (after m n K) r
 container_head d p m n K r small h e room = passed d p m n K r small h (λ i few. container_first d m i K few e room)
 
-full_head : (d : ℕ) (p : Place) (m n : ℕ) (K : List Frame) (r : List ℕ) → FitsPlace p n → (nat_lt 3 m && nat_lt m 7) ≡ true → d ≤ length K → steps_in d (item K) (head_in p m n ++ r) ≡ None
+full_head : (d : ℕ) (p : ArgumentSize) (m n : ℕ) (K : List Frame) (r : List ℕ) → FitsSize p n → (nat_lt 3 m && nat_lt m 7) ≡ true → d ≤ length K → steps_in d (item K) (head_in p m n ++ r) ≡ None
 full_head d inside m n K r h e none = rw (container_full d m n K (omega arith) e none) refl
 full_head d one m n K r h e none = rw (container_full d m 24 K (omega arith) e none) refl
 full_head d two m n K r h e none = rw (container_full d m 25 K (omega arith) e none) refl
@@ -63,7 +63,7 @@ string_in d [] K r = refl
 string_in d (b ∷ []) K r = refl
 string_in d (b ∷ c ∷ s) K r = string_in d (c ∷ s) K r
 
-chunk_head_in : (d : ℕ) (p : Place) (m n : ℕ) (K : List Frame) (r : List ℕ) → m < 7 → FitsPlace p n → steps_in d (chunk m K) (head_in p m n ++ r) ≡ steps_in d (chunk_held m n K) r
+chunk_head_in : (d : ℕ) (p : ArgumentSize) (m n : ℕ) (K : List Frame) (r : List ℕ) → m < 7 → FitsSize p n → steps_in d (chunk m K) (head_in p m n ++ r) ≡ steps_in d (chunk_held m n K) r
 chunk_head_in d inside m n K r small h = rw (chunk_first m n K small (omega arith), info_of-given n h) refl
 chunk_head_in d one m n K r small h = rw (chunk_first m 24 K small (omega arith)) (ap (λ a. steps_in d (chunk_held m a K) r) (omega arith))
 chunk_head_in d two m n K r small h = rw (chunk_first m 25 K small (omega arith)) (ap (λ a. steps_in d (chunk_held m a K) r) (omega (arith, from_be_bytes-to_be_bytes_2 n h)))
@@ -78,8 +78,8 @@ chunk_string_in d m (b ∷ c ∷ s) K r = chunk_string_in d m (c ∷ s) K r
 chunks_in : (d m : ℕ) (cs : List Chunk) (K : List Frame) (r : List ℕ) → m < 7 → AreChunksOk cs → steps_in d (chunk m K) (chunks_bytes m cs ++ r) ≡ steps_in d (chunk m K) r
 chunks_in d m [] K r small ok = refl
 chunks_in d m (c ∷ cs) K r small ok =
-    ap (steps_in d (chunk m K)) (append_assoc (chunk_bytes m c) (chunks_bytes m cs) r ∙ append_assoc (head_in c.place m (length c.held)) c.held (chunks_bytes m cs ++ r))
-    ∙ chunk_head_in d c.place m (length c.held) K (c.held ++ (chunks_bytes m cs ++ r)) small ok.0.0 ∙ chunk_string_in d m c.held K (chunks_bytes m cs ++ r) ∙ chunks_in d m cs K r small ok.1
+    ap (steps_in d (chunk m K)) (append_assoc (chunk_bytes m c) (chunks_bytes m cs) r ∙ append_assoc (head_in c.size m (length c.held)) c.held (chunks_bytes m cs ++ r))
+    ∙ chunk_head_in d c.size m (length c.held) K (c.held ++ (chunks_bytes m cs ++ r)) small ok.0.0 ∙ chunk_string_in d m c.held K (chunks_bytes m cs ++ r) ∙ chunks_in d m cs K r small ok.1
 
 float_in : (d : ℕ) (w : Width) (n : ℕ) (K : List Frame) (r : List ℕ) → steps_in d (item K) (float_bytes w n ++ r) ≡ steps_in d (give K) r
 float_in d W16 n K r = refl

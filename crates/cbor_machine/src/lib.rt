@@ -8,7 +8,7 @@ ghost use Rattle.cbor_data.specs.Forms.{IsWellFormed, Begins, IsUnfinished};
 ghost use Rattle.cbor_data.specs.Faults.{Bounds, FaultKind, BeginsWithin, IsKindOf, IsFaultOf};
 ghost use Rattle.cbor_machine.specs.Machine.{State, item, done, step, steps, steps_in, refused_kind};
 
-/// The machine is done exactly behind a well-formed item.
+/// The machine is done exactly after a well-formed item.
 pub fn done_is_whole()
     ensures sound { (b : List ℕ) → AreBytes b → steps (item []) b ≡ Some done → IsWellFormed b }
     ensures complete { (b : List ℕ) → IsWellFormed b → steps (item []) b ≡ Some done }

@@ -22,7 +22,7 @@ passed_at : (r : Result (List ℕ) ℕ) (step old new : List ℕ) (left : ℕ) �
 passed_at (Ok path) step old new left h = h
 passed_at (Err n) step old new left h = h
 
--- the step before the paths is put down behind what a walk that arrived put down
+-- the step before the paths is put down after what a walk that arrived put down
 pub arrived_behind : (step : List ℕ) (ps : List (List ℕ)) (i : ℕ) (old mid new : List ℕ) → Ends (sought ps i) old mid Arrived → new ≡ mid ++ reverse step →
     Ends (sought (behind step ps) i) old new Arrived
 arrived_behind step ps i old mid new h e =
@@ -47,7 +47,7 @@ passes_on xs ys i old new left (Err n) e h = (sought_behind xs ys i n e ∙ ap (
 pub arrived_in : (xs ys : List (List ℕ)) (i : ℕ) (old new : List ℕ) → Ends (sought xs i) old new Arrived → Ends (sought (xs ++ ys) i) old new Arrived
 arrived_in xs ys i old new h = arrives_in xs ys i old new (sought xs i) refl h
 
--- behind the first paths the search goes on
+-- after the first paths the search goes on
 pub passed_on : (xs ys : List (List ℕ)) (i : ℕ) (old new : List ℕ) (left : ℕ) → Ends (sought xs i) old new (Passed left) →
     (sought (xs ++ ys) i ≡ sought ys left) × (new ≡ old)
 passed_on xs ys i old new left h = passes_on xs ys i old new left (sought xs i) refl h
@@ -61,7 +61,7 @@ missed : (r : Result (List ℕ) ℕ) (old new : List ℕ) (left : ℕ) → Ends 
 missed (Ok path) old new left h = absurd h
 missed (Err n) old new left h = refl
 
--- what a walk that arrived put down is the path, when `$` is put down behind it and all is turned round
+-- what a walk that arrived put down is the path, when `$` is put down after it and all is turned round
 pub told_path : (x : Value) (i : ℕ) (new : List ℕ) → Ends (sought (paths x) i) [] new Arrived → Some (reverse (new ++ 36 ∷ [])) ≡ path x i
 told_path x i new h = told (sought (paths x) i) new h ∙ ap (option_map (λ steps. codes "$" ++ steps)) (sought-get (paths x) i)
 

@@ -1,4 +1,4 @@
--- Paths lead to what stands at their places, and to nothing else.
+-- Paths lead to what is at their places, and to nothing else.
 use Rattle.std.proofs.Common.{◌≡◌, ℕ, zero, suc, ◌+◌, List, [], ◌∷◌, ◌++◌, length, slice_get, Some, inl, inr, refl, sym, subst, arith}
 use Rattle.cbor_data.specs.Value.{Value, uint, nint, bytes, text, array, pairs, tag, simple, float, Values, no_values, value, Pairs, no_pairs, pair, places, values_places, pairs_places}
 use Rattle.cbor_place.specs.Leads.{member_at, HasPair, Leads, here, to_member, to_key, to_value, to_content}
@@ -147,7 +147,7 @@ first_met (tag n x) = (0, refl, refl)
 first_met (simple n) = (0, refl, refl)
 first_met (float w n) = (0, refl, refl)
 
--- what steps lead to stands at a place with that path
+-- what steps lead to is at a place with that path
 pub led_stands : (x : Value) (steps : List ℕ) (y : Value) → Leads x steps y → Meets (paths x) (places x) steps y
 led_stands x steps y (here z) = first_met z
 led_stands x steps y (to_member xs i z rest w at l) =

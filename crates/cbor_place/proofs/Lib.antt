@@ -1,4 +1,4 @@
-pub mod Searching
-pub mod Counting
-pub mod Arriving
-pub mod Leading
+mod Searching
+mod Counting
+mod Arriving
+mod Leading

@@ -10,7 +10,7 @@ sought_in [] ys i x h = cc
 sought_in (y ∷ xs) ys zero x h = h
 sought_in (y ∷ xs) ys (suc i) x h = sought_in xs ys i x h
 
--- it goes on behind the first
+-- it goes on after the first
 pub sought_behind : {A : Type 0} (xs ys : List A) (i n : ℕ) → sought xs i ≡ Err n → sought (xs ++ ys) i ≡ sought ys n
 sought_behind [] ys i n h = let e : i ≡ n = cc in ap (sought ys) e
 sought_behind (y ∷ xs) ys zero n h = cc

@@ -14,7 +14,7 @@ abbrev pub HasPair : Pairs → Value → Value → Type 0
 HasPair no_pairs k v = ⊥
 HasPair (pair l w ps) k v = ((l ≡ k) × (w ≡ v)) ⊎ HasPair ps k v
 
--- the steps lead from the first item to the second, which is it or stands in it
+-- the steps lead from the first item to the second, which is it or is in it
 pub data Leads : Value → List ℕ → Value → Type 0 where
   here : (x : Value) → Leads x [] x
   to_member : (xs : Values) (i : ℕ) (x : Value) (steps : List ℕ) (y : Value) → member_at xs i ≡ Some x → Leads x steps y → Leads (array xs) (member_step i ++ steps) y

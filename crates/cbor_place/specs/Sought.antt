@@ -1,7 +1,7 @@
 -- What a search that counts places down finds.
 use Rattle.std.specs.Prelude.{ℕ, zero, suc, List, [], ◌∷◌, Result, Ok, Err}
 
--- the element at an index of a list, or how far the index lies behind the list's end
+-- the element at an index of a list, or how far the index lies after the list's end
 abbrev pub sought : {A : Type 0} → List A → ℕ → Result A ℕ
 sought [] i = Err i
 sought (x ∷ xs) zero = Ok x

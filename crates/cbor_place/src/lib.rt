@@ -1,4 +1,4 @@
-//! The places of an item of CBOR (RFC 8949): what stands at a place, and the path that leads there. Places number an item
+//! The places of an item of CBOR (RFC 8949): what is at a place, and the path that leads there. Places number an item
 //! and all below it in preorder, a key before its value; the whole is place 0.
 #![tactic(auto)]
 
@@ -20,7 +20,7 @@ pub fn path_of_each_place()
     ensures count { (x : Value) → length (places x) ≡ place_count x }
 {}
 
-/// The path of a place leads to what stands there, step by step, and whatever steps lead to stands at a place with that
+/// The path of a place leads to what is there, step by step, and whatever steps lead to is at a place with that
 /// path.
 pub fn paths_lead_to_places()
     ensures leads { (x : Value) (place : ℕ) (steps : List ℕ) (y : Value) → slice_get (paths x) place ≡ Some steps → slice_get (places x) place ≡ Some y → Leads x steps y }

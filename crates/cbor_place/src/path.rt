@@ -16,7 +16,7 @@ use std::alloc::{AllocError, Global};
 enum Walk {
     // At the place. The steps that lead there are put down, the last one first and each backwards.
     Arrived,
-    // Behind all that was walked, with so many places left. Nothing is put down.
+    // After all that was walked, with so many places left. Nothing is put down.
     Passed(usize),
 }
 

@@ -1,4 +1,4 @@
-//! What stands at a place of an item.
+//! What is at a place of an item.
 
 ghost use Rattle.std.specs.Prelude.{◌≡◌, slice_get};
 ghost use Rattle.std.specs.Option.{option_map};
@@ -9,16 +9,16 @@ ghost use Rattle.cbor_place.specs.Sought.{sought};
 
 use cbor_item::Item;
 
-/// What stands at this place of the item: the item itself or an item in it, where the places number these in preorder, a
+/// What is at this place of the item: the item itself or an item in it, where the places number these in preorder, a
 /// key before its value, from 0 for the whole. None exactly where there is no such place. Takes no memory, and visits no
-/// item behind the one that it lends.
+/// item after the one that it lends.
 pub fn item_at(item: &Item, place: usize) -> Option<&Item>
     ensures { option_map (λ found. view found.now) result ≡ slice_get (places (view item.now)) place }
 {
     seek(item, place).ok()
 }
 
-// What stands at a place of the item, or how many places are left when all of the item's are counted. One walk that counts
+// What is at a place of the item, or how many places are left when all of the item's are counted. One walk that counts
 // down: to count an item's places before going into it would count those below once more at each level.
 #[cycle(seek)]
 fn seek(item: &Item, place: usize) -> Result<&Item, usize>

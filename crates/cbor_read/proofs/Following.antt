@@ -7,11 +7,9 @@ use Rattle.cbor_data.specs.Forms.{IsWellFormed}
 use Rattle.cbor_data.specs.Faults.{Bounds, FaultKind, too_deep, last_offset, IsFaultOf}
 use Rattle.cbor_machine.specs.Machine.{State, item, done, step, step_in, steps_in, refused_kind}
 use Rattle.cbor_machine.specs.Reads.{Reads}
-use Rattle.cbor_machine.proofs.Keeping.{bytes-append}
-use Rattle.cbor_machine.proofs.Shallow.{steps_in-append}
-use Rattle.cbor_machine.proofs.Telling.{tell_form, tell_deep, tell_long, tell_end, tell_long_end, whole}
+use Rattle.cbor_machine.proofs.Lemmas.{bytes-append, steps_in-append, tell_form, tell_deep, tell_long, tell_end, tell_long_end, whole}
 use Rattle.cbor_form.specs.Kinds.{kind_of as malformed_kind}
-use Rattle.cbor_form.specs.Progress.{IsWhole, IsRefused, IsTooDeep}
+use Rattle.cbor_form.specs.Progress.{IsItemEnd, IsRefused, IsTooDeep}
 use Rattle.cbor_form.specs.declared.malformed.Malformed.{Malformed}
 use Rattle.cbor_value.specs.Unread as value
 use Rattle.cbor_read.specs.Told.{kind_of, IsTold}
@@ -21,7 +19,7 @@ use Rattle.cbor_read.specs.declared.fault.FaultKind.TheVariants.{TooDeep, TooLon
 use Rattle.cbor_read.proofs.Meanings.{shallow}
 use Rattle.cbor_read.proofs.Pieces.{bytes-take, bytes_small, cut_at, front_length}
 
--- so many bytes have room behind b
+-- so many bytes have room after b
 pub record HasRoom (l : Bounds) (o : ℕ) (b : List ℕ) (room : ℕ) : Type 0 where
   pub short : length b + room ≤ l.item_bytes
   pub placed : o + (length b + room) ≤ last_offset
@@ -65,7 +63,7 @@ goes_on l o b piece room s t r h bytes few e =
     let same : take room piece ≡ take n piece = take_all room piece few ∙ sym all in
     subst (λ c. Reads l o (b ++ c) t) all (reads_front l o b piece room n s t r h bytes few (omega arith) (ap (steps_in l.depth s) (sym same) ∙ e))
 
-pub ends : (l : Bounds) (o : ℕ) (b piece : List ℕ) (room used : ℕ) (s t : State) → Reads l o b s → HasRoom l o b room → AreBytes piece → l.depth ≤ 256 → IsWhole l.depth s (take room piece) used t → IsEnded l o b piece used t
+pub ends : (l : Bounds) (o : ℕ) (b piece : List ℕ) (room used : ℕ) (s t : State) → Reads l o b s → HasRoom l o b room → AreBytes piece → l.depth ≤ 256 → IsItemEnd l.depth s (take room piece) used t → IsEnded l o b piece used t
 ends l o b piece room used s t r h bytes few w =
     let len : length (take room piece) ≡ min room (length piece) = length-take room piece in
     let within : used ≤ length (take room piece) = w.within in
@@ -137,7 +135,7 @@ past_open l s t (x ∷ []) one bytes live e = record {
 past_open l s t [] one bytes live e = absurd (omega arith)
 past_open l s t (x ∷ y ∷ r) one bytes live e = absurd (omega arith)
 
-pub past_whole : (l : Bounds) (s t : State) (byte : List ℕ) (used : ℕ) → length byte ≡ 1 → AreBytes byte → s ≢ done → IsWhole l.depth s byte used t → IsToldPast l s byte TooLong
+pub past_whole : (l : Bounds) (s t : State) (byte : List ℕ) (used : ℕ) → length byte ≡ 1 → AreBytes byte → s ≢ done → IsItemEnd l.depth s byte used t → IsToldPast l s byte TooLong
 past_whole l s t byte used one bytes live w =
     let some : 0 < used = w.some in
     past_open l s done byte one bytes live (ap (steps_in l.depth s) (sym (take_all used byte (omega arith))) ∙ w.leads)

@@ -1,63 +1,12 @@
--- What the meaning of a well-formed item cannot be, and where its bad text can be.
+-- Where the bad text of a well-formed item can be, and how deep its meaning is.
 use Rattle.std.proofs.Common.{◌≡◌, ℕ, suc, ◌+◌, ◌≤◌, List, [], ◌∷◌, ◌++◌, length, inl, inr, nat_le, cond, Option, Some, None, refl, sym, ap, ◌∙◌, arith, append-nil, length-append}
 use Rattle.std.proofs.lemmas.Bool.Decides.{nat_tests}
-use Rattle.cbor_data.specs.Value.{AreBitsFitting, AreValuesFitting, ArePairsFitting, AreSimplesAssignable, AreValuesAssignable, ArePairsAssignable, depth_of}
-use Rattle.cbor_data.specs.Forms.{Chunk, chunk_bytes, chunks_bytes, head_in, Form, uint_form, nint_form, bytes_form, bytes_chunks, text_form, text_chunks, array_form, array_to_break, pairs_form, pairs_to_break, tag_form, simple_inside, simple_next, float_form, Forms, no_forms, form, PairForms, no_pair_forms, pair_form, forms_len, pair_forms_len, flat, forms_flat, pair_forms_flat, IsOk, AreFormsOk, ArePairFormsOk, meaning, meanings, pair_meanings}
+use Rattle.cbor_data.specs.Value.{depth_of}
+use Rattle.cbor_data.specs.Forms.{Chunk, chunk_bytes, chunks_bytes, head_in, Form, uint_form, nint_form, bytes_form, bytes_chunks, text_form, text_chunks, array_form, array_to_break, pairs_form, pairs_to_break, tag_form, simple_inside, simple_next, float_form, Forms, no_forms, form, PairForms, no_pair_forms, pair_form, forms_len, pair_forms_len, flat, forms_flat, pair_forms_flat, IsOk, meaning}
 use Rattle.cbor_data.specs.Faults.{IsBadChunkAt, IsBadTextAt, IsBadTextAmong, IsBadTextAmongPairs}
 use Rattle.cbor_machine.specs.Machine.{State, item, done, steps_in}
 use Rattle.cbor_machine.specs.Reads.{LeadsWithin}
-use Rattle.cbor_machine.proofs.Keeping.{tested}
-use Rattle.cbor_machine.proofs.Shallow.{item_in}
-
-mutual
-  pub assignable : (f : Form) → IsOk f → AreSimplesAssignable (meaning f)
-  assignable (uint_form p n) ok = tt
-  assignable (nint_form p n) ok = tt
-  assignable (bytes_form p s) ok = tt
-  assignable (bytes_chunks cs) ok = tt
-  assignable (text_form p s) ok = tt
-  assignable (text_chunks cs) ok = tt
-  assignable (array_form p fs) ok = all_assignable fs ok.1
-  assignable (array_to_break fs) ok = all_assignable fs ok
-  assignable (pairs_form p ps) ok = pairs_assignable ps ok.1
-  assignable (pairs_to_break ps) ok = pairs_assignable ps ok
-  assignable (tag_form p n f) ok = assignable f ok.1
-  assignable (simple_inside n) ok = inl ok
-  assignable (simple_next n) ok = inr ok.0
-  assignable (float_form w n) ok = tt
-
-  all_assignable : (fs : Forms) → AreFormsOk fs → AreValuesAssignable (meanings fs)
-  all_assignable no_forms ok = tt
-  all_assignable (form f fs) ok = (assignable f ok.0, all_assignable fs ok.1)
-
-  pairs_assignable : (ps : PairForms) → ArePairFormsOk ps → ArePairsAssignable (pair_meanings ps)
-  pairs_assignable no_pair_forms ok = tt
-  pairs_assignable (pair_form k v ps) ok = (assignable k ok.0, assignable v ok.1, pairs_assignable ps ok.2)
-
-mutual
-  pub fitting : (f : Form) → IsOk f → AreBitsFitting (meaning f)
-  fitting (uint_form p n) ok = tt
-  fitting (nint_form p n) ok = tt
-  fitting (bytes_form p s) ok = tt
-  fitting (bytes_chunks cs) ok = tt
-  fitting (text_form p s) ok = tt
-  fitting (text_chunks cs) ok = tt
-  fitting (array_form p fs) ok = all_fitting fs ok.1
-  fitting (array_to_break fs) ok = all_fitting fs ok
-  fitting (pairs_form p ps) ok = pairs_fitting ps ok.1
-  fitting (pairs_to_break ps) ok = pairs_fitting ps ok
-  fitting (tag_form p n f) ok = fitting f ok.1
-  fitting (simple_inside n) ok = tt
-  fitting (simple_next n) ok = tt
-  fitting (float_form w n) ok = ok
-
-  all_fitting : (fs : Forms) → AreFormsOk fs → AreValuesFitting (meanings fs)
-  all_fitting no_forms ok = tt
-  all_fitting (form f fs) ok = (fitting f ok.0, all_fitting fs ok.1)
-
-  pairs_fitting : (ps : PairForms) → ArePairFormsOk ps → ArePairsFitting (pair_meanings ps)
-  pairs_fitting no_pair_forms ok = tt
-  pairs_fitting (pair_form k v ps) ok = (fitting k ok.0, fitting v ok.1, pairs_fitting ps ok.2)
+use Rattle.cbor_machine.proofs.Lemmas.{tested, item_in}
 
 -- bad text lies in the item
 

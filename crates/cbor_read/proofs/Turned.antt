@@ -5,8 +5,7 @@ use Rattle.cbor_data.specs.Forms.{IsWellFormed}
 use Rattle.cbor_data.specs.Faults.{Bounds, IsClearBefore}
 use Rattle.cbor_machine.specs.Machine.{State, done}
 use Rattle.cbor_machine.specs.Reads.{Reads}
-use Rattle.cbor_machine.proofs.Shallow.{leads_begins_within}
-use Rattle.cbor_machine.proofs.Telling.{clear, unfinished, whole}
+use Rattle.cbor_machine.proofs.Lemmas.{leads_begins_within, clear, unfinished, whole}
 use Rattle.cbor_read.specs.Told.{IsTold}
 use Rattle.cbor_read.specs.Reading.{Reading}
 use Rattle.cbor_read.specs.Answers.{IsAnswer, IsGoingOn, IsUsedUpTo}

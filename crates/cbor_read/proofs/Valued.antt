@@ -1,19 +1,19 @@
 -- What the value of a whole item tells of its bytes.
 use Rattle.std.proofs.Common.{◌≡◌, ℕ, ◌+◌, ◌<◌, ◌≤◌, ◌^◌, List, length, refl, sym, subst}
-use Rattle.cbor_data.specs.Value.{Value, AreBitsFitting, AreSimplesAssignable, depth_of}
+use Rattle.cbor_data.specs.Value.{Value, depth_of}
 use Rattle.cbor_data.specs.Validity.{IsFirstRepeatedKey}
 use Rattle.cbor_data.specs.Sound.{IsSound}
 use Rattle.cbor_data.specs.Forms.{Form, flat, IsOk, HasText, meaning, IsWellFormed}
 use Rattle.cbor_data.specs.Faults.{Bounds, IsBadTextAt, IsItem, of_text, of_key}
 use Rattle.cbor_machine.specs.Machine.{done}
 use Rattle.cbor_machine.specs.Reads.{Reads}
-use Rattle.cbor_machine.proofs.Telling.{whole, whole_front}
+use Rattle.cbor_machine.proofs.Lemmas.{whole, whole_front}
 use Rattle.cbor_value.specs.Unread.{IsWhole}
 use Rattle.cbor_read.specs.Outcomes.{IsOutcome, IsSettled, IsSoundButKeys, IsWrong}
 use Rattle.cbor_read.specs.declared.fault.FaultKind.TheVariants.{BadText, DuplicateKey}
 use Rattle.cbor_read.specs.declared.value.Outcome.{Outcome}
 use Rattle.cbor_read.specs.declared.value.Outcome.TheVariants as outcome
-use Rattle.cbor_read.proofs.Meanings.{assignable, fitting, shallow, text_inside}
+use Rattle.cbor_read.proofs.Meanings.{shallow, text_inside}
 
 -- what is known of the value of the bytes b
 pub record IsValueOf (b : List ℕ) (x : Value) : Type 0 where
@@ -25,8 +25,6 @@ sound_but_keys b x w short v =
     let m = v.means f w.ok w.is in
     record {
       shallow = subst (λ y. depth_of y ≤ 256) (sym m.1) w.shallow;
-      assignable = subst AreSimplesAssignable (sym m.1) (assignable f w.ok);
-      fitting = subst AreBitsFitting (sym m.1) (fitting f w.ok);
       short = record { spelling = b; spells = record { written = f; ok = w.ok; text = m.0; is = w.is; meant = m.1 }; short = short };
     }
 

@@ -21,7 +21,7 @@ pub record IsGoingOn (old : Reading) (piece : List ℕ) (new : Reading) : Type 0
   pub shallow : BeginsWithin old.limits.depth (old.fed ++ piece)
   pub clear : IsClearBefore old.limits old.offset (old.fed ++ piece) (length (old.fed ++ piece))
 
--- The item x ended with byte `used` of the piece, and the next one begins behind it.
+-- The item x ended with byte `used` of the piece, and the next one begins after it.
 pub record IsTaken (old : Reading) (piece : List ℕ) (used : ℕ) (x : Value) (new : Reading) : Type 0 where
   pub some : 0 < used
   pub within : used ≤ length piece

@@ -1,6 +1,6 @@
 -- What the bytes of a whole item come to.
 use Rattle.std.specs.Prelude.{◌≡◌, ℕ, ◌≤◌, List, ◌++◌}
-use Rattle.cbor_data.specs.Value.{Value, AreBitsFitting, AreSimplesAssignable, depth_of}
+use Rattle.cbor_data.specs.Value.{Value, depth_of}
 use Rattle.cbor_data.specs.Validity.{IsFirstRepeatedKey}
 use Rattle.cbor_data.specs.Sound.{IsSound, HasShortSpelling}
 use Rattle.cbor_data.specs.Faults.{Bounds, IsItem}
@@ -29,8 +29,6 @@ IsOutcome l o b (Fault fault) = IsWrong l o b fault
 -- the item is sound unless it repeats a key
 pub record IsSoundButKeys (x : Value) : Type 0 where
   pub shallow : depth_of x ≤ 256
-  pub assignable : AreSimplesAssignable x
-  pub fitting : AreBitsFitting x
   pub short : HasShortSpelling x
 
 -- the item x is sound, or it repeats a key, at this place first

@@ -8,8 +8,8 @@ use Rattle.cbor_read.specs.Told.{IsTold}
 use Rattle.cbor_read.specs.declared.fault.Fault as declared
 use Rattle.cbor_read.specs.declared.fault.FaultKind.{FaultKind}
 use Rattle.cbor_read.specs.declared.fault.FaultKind.TheVariants.{BadText, DuplicateKey}
-use Rattle.cbor_read.specs.declared.follow.Step.{Step}
-use Rattle.cbor_read.specs.declared.follow.Step.TheVariants.{Open, Whole, Fault}
+use Rattle.cbor_read.specs.declared.follow.Advance.{Advance}
+use Rattle.cbor_read.specs.declared.follow.Advance.TheVariants.{Open, Whole, Fault}
 
 -- it is told of a byte, and not of a whole item
 abbrev pub IsOfForm : FaultKind → Type 0
@@ -41,14 +41,14 @@ pub record IsEnded (l : Bounds) (o : ℕ) (seen piece : List ℕ) (used : ℕ) (
   pub whole : IsWhole 256 (seen ++ take used piece)
   pub next : new ≡ item []
 
--- whatever follows, this fault is told, of the byte behind `used` others of the piece
+-- whatever follows, this fault is told, of the byte after `used` others of the piece
 pub record IsHalted (l : Bounds) (o : ℕ) (seen piece : List ℕ) (used : ℕ) (fault : declared.Fault) : Type 0 where
   pub within : used < length piece
   pub form : IsOfForm fault.kind
   pub told : (more : List ℕ) → IsTold l o ((seen ++ piece) ++ more) fault.kind fault.at
   pub place : fault.at ≡ o + length (seen ++ take used piece)
 
-abbrev pub IsFollowed : Bounds → ℕ → List ℕ → List ℕ → Step → State → Type 0
+abbrev pub IsFollowed : Bounds → ℕ → List ℕ → List ℕ → Advance → State → Type 0
 IsFollowed l o seen piece Open new = Reads l o (seen ++ piece) new
 IsFollowed l o seen piece (Whole used) new = IsEnded l o seen piece used new
 IsFollowed l o seen piece (Fault used fault) new = IsHalted l o seen piece used fault

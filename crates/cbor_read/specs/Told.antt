@@ -1,4 +1,4 @@
--- What the reader tells of the bytes that stand where an item should.
+-- What the reader tells of the bytes that are where an item should be.
 use Rattle.std.specs.Prelude.{ℕ, List}
 use Rattle.cbor_data.specs.Faults as faults
 use Rattle.cbor_data.specs.Faults.{Bounds, IsFaultOf}
@@ -17,6 +17,6 @@ kind_of Truncated = faults.truncated
 kind_of BadText = faults.bad_text
 kind_of DuplicateKey = faults.duplicate_key
 
--- What is told of the bytes b at offset o of the stream: a kind of fault, and where it stands.
+-- What is told of the bytes b at offset o of the stream: a kind of fault, and where it is.
 abbrev pub IsTold : Bounds → ℕ → List ℕ → FaultKind → ℕ → Type 0
 IsTold l o b kind at = IsFaultOf l o b (kind_of kind) at

@@ -5,7 +5,7 @@ pub enum FaultKind {
     ReservedInfo,
     /// Additional information 31 on major type 0, 1 or 6 (RFC 8949 section 3.2).
     BadIndefinite,
-    /// A break where none may stand (RFC 8949 section 3.2.1).
+    /// A break where none may be (RFC 8949 section 3.2.1).
     BadBreak,
     /// A string of indefinite length holds something else than definite strings of its major type
     /// (RFC 8949 section 3.2.3).
@@ -24,7 +24,7 @@ pub enum FaultKind {
     DuplicateKey,
 }
 
-/// A fault of the stream, and where it stands.
+/// A fault of the stream, and where it is.
 #[derive(Clone, Copy, Debug, PartialEq, Eq)]
 pub struct Fault {
     /// The offset of a byte in the stream, from 0; for [`FaultKind::DuplicateKey`] a place in the item, in preorder.

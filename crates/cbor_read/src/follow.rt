@@ -5,7 +5,7 @@ ghost use Rattle.cbor_machine.specs.Reads.{Reads};
 ghost use Rattle.cbor_form.specs.Kinds.{kind_of as malformed_kind};
 ghost use Rattle.cbor_read.specs.Told.{kind_of as told_kind, IsTold};
 ghost use Rattle.cbor_read.specs.Steps.{IsFollowed, IsOfForm, IsOpen, IsToldPast};
-ghost use Rattle.cbor_read.specs.declared.follow.Step.TheVariants as step;
+ghost use Rattle.cbor_read.specs.declared.follow.Advance.TheVariants as advance;
 
 use crate::fault::{Fault, FaultKind};
 use crate::limits::Limits;
@@ -14,12 +14,12 @@ use std::alloc::AllocError;
 
 /// Where the form of an item goes in a piece.
 #[derive(Clone, Copy, Debug)]
-pub enum Step {
+pub enum Advance {
     /// Through the whole piece, and on.
     Open,
     /// To its end, with byte `used`.
     Whole { used: usize },
-    /// To a byte that is at fault, behind `used` others.
+    /// To a byte that is at fault, after `used` others.
     Fault { used: usize, fault: Fault },
 }
 
@@ -30,7 +30,7 @@ pub fn follow(
     seen: &[u8],
     form: &mut FormReader,
     piece: &[u8],
-) -> Result<Step, AllocError>
+) -> Result<Advance, AllocError>
     requires live { form.old ≢ done }
     requires reads { Reads limits offset seen.now form.old }
     ensures live { form.new ≢ done }
@@ -42,12 +42,12 @@ pub fn follow(
     match form.read(limits.depth(), front_of(piece, room))? {
         Progress::More => {
             if piece.len() <= room {
-                return Ok(Step::Open);
+                return Ok(Advance::Open);
             }
             let kind = kind_past(limits, form, &piece[room..room + 1])?;
             Ok(fault_at(next, room, kind))
         }
-        Progress::Whole { used } => Ok(Step::Whole { used }),
+        Progress::Whole { used } => Ok(Advance::Whole { used }),
         Progress::Refused { used, kind } => Ok(fault_at(next, used, kind_of(kind))),
         Progress::TooDeep { used } => Ok(fault_at(next, used, FaultKind::TooDeep)),
     }
@@ -101,13 +101,13 @@ fn kind_past(limits: Limits, form: &mut FormReader, byte: &[u8]) -> Result<Fault
     }
 }
 
-// The fault of the byte behind `used` others of a piece whose first byte has the offset `next`.
-fn fault_at(next: u64, used: usize, kind: FaultKind) -> Step
+// The fault of the byte after `used` others of a piece whose first byte has the offset `next`.
+fn fault_at(next: u64, used: usize, kind: FaultKind) -> Advance
     requires { next + used < 2 ^ 64 }
-    ensures { result ≡ step.Fault used (record { at = next + used; kind = kind }) }
+    ensures { result ≡ advance.Fault used (record { at = next + used; kind = kind }) }
 {
     let at = next + used as u64;
-    Step::Fault {
+    Advance::Fault {
         used,
         fault: Fault { at, kind },
     }

@@ -3,14 +3,14 @@ ghost use Rattle.std.specs.Prelude.{IfOk};
 ghost use Rattle.cbor_read.specs.Fronts.{IsFront};
 
 use crate::fault::Fault;
-use crate::follow::{Step, fault_at_end, follow};
+use crate::follow::{Advance, fault_at_end, follow};
 use crate::limits::Limits;
 use crate::value::{Outcome, value_of};
 use cbor_form::FormReader;
 use cbor_item::Sound;
 use std::alloc::{AllocError, Global};
 
-/// What stands at the front of the rest of a stream.
+/// What is at the front of the rest of a stream.
 #[derive(Drop)]
 pub enum Front {
     /// The rest is empty.
@@ -21,7 +21,7 @@ pub enum Front {
     Fault(Fault),
 }
 
-/// What stands at the front of `bytes`, which are all that is left of a stream from this offset on: the plain way, for
+/// What is at the front of `bytes`, which are all that is left of a stream from this offset on: the plain way, for
 /// comparison with [`ItemReader::feed`](crate::ItemReader::feed).
 ///
 /// # Errors
@@ -40,11 +40,11 @@ pub fn read_front(
     }
     let mut form = FormReader::new(alloc);
     match follow(limits, offset, &[], &mut form, bytes)? {
-        Step::Open => Ok(Front::Fault(fault_at_end(limits, offset, bytes))),
-        Step::Whole { used } => match value_of(alloc, offset, &bytes[..used])? {
+        Advance::Open => Ok(Front::Fault(fault_at_end(limits, offset, bytes))),
+        Advance::Whole { used } => match value_of(alloc, offset, &bytes[..used])? {
             Outcome::Item(item) => Ok(Front::Item { length: used, item }),
             Outcome::Fault(fault) => Ok(Front::Fault(fault)),
         },
-        Step::Fault { fault, .. } => Ok(Front::Fault(fault)),
+        Advance::Fault { fault, .. } => Ok(Front::Fault(fault)),
     }
 }

@@ -6,7 +6,7 @@ ghost use Rattle.cbor_read.specs.Answers.{IsAgain, IsAnswer, IsEnd};
 ghost use Rattle.cbor_read.specs.Turns.{IsTurn};
 
 use crate::fault::{Fault, Stop};
-use crate::follow::{Step, fault_at_end, follow};
+use crate::follow::{Advance, fault_at_end, follow};
 use crate::limits::Limits;
 use crate::value::{Outcome, value_of};
 use cbor_form::FormReader;
@@ -20,7 +20,7 @@ use std::marker::Model;
 pub enum Fed {
     /// The whole piece was used, and the item, if one has begun, goes on.
     More,
-    /// The item ended with byte `used` of the piece. What stands behind it is for the next call.
+    /// The item ended with byte `used` of the piece. What is after it is for the next call.
     Item { used: usize, item: Sound },
     /// The stream has a fault. `used` counts the bytes of the piece before the fault's byte, or, where the item is
     /// whole (bad text, a repeated key), those up to its end.
@@ -80,7 +80,7 @@ impl ItemReader {
         ensures { IsAnswer self.old.stopped self.old piece.now result self.new }
     {
         if let Some(stop) = self.stopped {
-            return again(stop);
+            return answer_again(stop);
         }
         self.stopped = Some(Stop::Memory);
         match take_turn(
@@ -131,7 +131,7 @@ impl ItemReader {
 }
 
 // The answer of a reader that has stopped.
-fn again(stop: Stop) -> Result<Fed, AllocError>
+fn answer_again(stop: Stop) -> Result<Fed, AllocError>
     ensures { IsAgain stop result }
 {
     match stop {
@@ -154,17 +154,17 @@ fn take_turn(
     ensures { IfOk result (λ fed. IsTurn limits offset bytes.old.items piece.now fed bytes.new.items form.new) }
 {
     match follow(limits, offset, bytes, form, piece)? {
-        Step::Open => {
+        Advance::Open => {
             bytes.extend_from_slice(piece)?;
             Ok(Fed::More)
         }
-        Step::Whole { used } => {
+        Advance::Whole { used } => {
             bytes.extend_from_slice(&piece[..used])?;
             match value_of(alloc, offset, bytes)? {
                 Outcome::Item(item) => Ok(Fed::Item { used, item }),
                 Outcome::Fault(fault) => Ok(Fed::Fault { used, fault }),
             }
         }
-        Step::Fault { used, fault } => Ok(Fed::Fault { used, fault }),
+        Advance::Fault { used, fault } => Ok(Fed::Fault { used, fault }),
     }
 }

@@ -19,7 +19,7 @@ pub enum Outcome {
     Fault(Fault),
 }
 
-/// Reads the value of the whole item that stands at this offset, which is at most 256 containers deep.
+/// Reads the value of the whole item that is at this offset, which is at most 256 containers deep.
 pub fn value_of(alloc: Global, offset: u64, bytes: &[u8]) -> Result<Outcome, AllocError>
     requires whole { IsWhole 256 bytes.now }
     requires placed { offset + length bytes.now < 2 ^ 64 }
@@ -40,7 +40,7 @@ fn sound_of(alloc: Global, item: Item) -> Result<Outcome, AllocError>
     requires { IsSoundButKeys (view item) }
     ensures { IfOk result (IsSettled (view item)) }
 {
-    match Sound::try_new(alloc, item) {
+    match Sound::try_spelled(alloc, item) {
         Ok(sound) => Ok(Outcome::Item(sound)),
         Err(Unsound::Duplicate(place)) => Ok(Outcome::Fault(Fault {
             at: place as u64,

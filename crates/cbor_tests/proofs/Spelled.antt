@@ -1,15 +1,15 @@
 -- Forms that tests read.
 use Rattle.std.proofs.Common.{◌≡◌, ◌≤◌, ℕ, zero, suc, List, [], ◌∷◌, ◌++◌, replicate, refl, sym, ap, ◌∙◌, arith, append-nil}
 use Rattle.cbor_data.specs.Value.{depth_of}
-use Rattle.cbor_data.specs.Forms.{Place, inside, Form, uint_form, array_form, no_forms, form, Chunk, flat, IsOk, meaning}
+use Rattle.cbor_data.specs.Forms.{ArgumentSize, inside, Form, uint_form, array_form, no_forms, form, Chunk, flat, IsOk, meaning}
 use Rattle.cbor_value.specs.Unread.{IsWhole}
 
 -- the bytes of a form are whole
 pub spelled : (f : Form) → IsOk f → depth_of (meaning f) ≤ 256 → IsWhole 256 (flat f)
 spelled f ok shallow = record { written = f; ok = ok; is = refl; shallow = shallow }
 
-abbrev pub chunk : Place → List ℕ → Chunk
-chunk p s = record { place = p; held = s }
+abbrev pub chunk : ArgumentSize → List ℕ → Chunk
+chunk p s = record { size = p; held = s }
 
 -- an array in an array and so on, round 0
 nest : ℕ → Form

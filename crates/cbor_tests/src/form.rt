@@ -7,7 +7,7 @@ use std::test::Fail;
 
 // Of each table how deep containers may be, and its rows: bytes, and what they lead to.
 
-// Whole items; some of them have bytes behind them.
+// Whole items; some of them have bytes after them.
 static WHOLE: [(u32, &str); 5] = [
     (
         64,

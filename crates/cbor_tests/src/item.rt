@@ -309,7 +309,7 @@ fn items_of_other_forms_are_unequal(rt: HostRuntime) -> Result<(), Fail> {
     Ok(())
 }
 
-// Two pairs with the same key: the map stands at place 0, and its second key at 3.
+// Two pairs with the same key: the map is at place 0, and its second key at 3.
 const REPEATS: Form = Form::Map(&[
     (Form::Uint(1), Form::Uint(2)),
     (Form::Uint(1), Form::Uint(3)),
@@ -429,7 +429,7 @@ fn tagged(alloc: Global, inner: &Form, depth: u32) -> Result<Item, AllocError> {
     Ok(item)
 }
 
-// An item, how many tags stand round it, and what is wrong with it.
+// An item, how many tags are round it, and what is wrong with it.
 type Depth = (Form, u32, Result<(), Unsound>);
 
 static DEPTHS: [Depth; 7] = [

@@ -6,7 +6,7 @@ use std::alloc::{AllocError, Global};
 use std::process::Abort;
 use std::test::Fail;
 
-// The bytes of an item, and of each of its places in order the path, a `|`, and what stands there in diagnostic notation.
+// The bytes of an item, and of each of its places in order the path, a `|`, and what is there in diagnostic notation.
 type Tree = (&'static [u8], &'static str);
 
 static TREES: [Tree; 7] = [

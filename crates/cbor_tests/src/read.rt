@@ -49,6 +49,9 @@ bf616101ff|0: {\"a\": 1}; clean at 5
 a1ff|BadBreak at 1
 a101|Truncated at 2
 a20100180100|DuplicateKey at 3
+a2a1010203a118010204|DuplicateKey at 5
+a1a20100010203|DuplicateKey at 4
+a2a18202030405a18202040406|0: {{[2, 3]: 4}: 5, {[2, 4]: 4}: 6}; clean at 13
 00a201000100|0: 0; DuplicateKey at 3
 81a201000100|DuplicateKey at 4
 a30100010061ff00|BadText at 5

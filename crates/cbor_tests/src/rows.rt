@@ -5,7 +5,7 @@ use hex::FromHexError;
 use std::alloc::{AllocError, Global};
 use std::process::Abort;
 
-// The bytes that a line has in hex, and behind a `|` what is told of them.
+// The bytes that a line has in hex, and after a `|` what is told of them.
 pub(crate) fn row_of<'t>(
     rt: &impl Abort,
     alloc: Global,

@@ -6,36 +6,36 @@ use Rattle.cbor_data.specs.Forms.{head_in, Chunk, chunk_bytes, chunks_bytes, joi
 use Rattle.cbor_data.specs.Faults.{IsBadChunkAt}
 use Rattle.cbor_value.specs.Heads.{StandsHead, IsHead}
 use Rattle.cbor_value.specs.Strings.{StandsChunk, IsChunk, IsChunkRead, StandsChunks}
-use Rattle.cbor_value.proofs.Places.{behind, within, byte_at, byte_within, split, info_below, place_info, head_some, ReadsArgument}
+use Rattle.cbor_value.proofs.Heads.{behind, within, byte_at, byte_within, split, info_below, size_info, head_some, ReadsArgument}
 
 -- one chunk
 
-pub chunk_head : (b : List ℕ) (at m : ℕ) (c : Chunk) (back : List ℕ) → StandsChunk b at m c back → StandsHead b at c.place m (length c.held) (c.held ++ back)
-chunk_head b at m c back s = record { major = s.major; fits = s.fits; is = s.is ∙ append_assoc (head_in c.place m (length c.held)) c.held back }
+pub chunk_head : (b : List ℕ) (at m : ℕ) (c : Chunk) (back : List ℕ) → StandsChunk b at m c back → StandsHead b at c.size m (length c.held) (c.held ++ back)
+chunk_head b at m c back s = record { major = s.major; fits = s.fits; is = s.is ∙ append_assoc (head_in c.size m (length c.held)) c.held back }
 
 pub chunk_is_head : (b : List ℕ) (at : ℕ) → IsChunk b at → IsHead b at
-chunk_is_head b at s = record { place = s.chunk.place; major = s.major; argument = length s.chunk.held; back = s.chunk.held ++ s.back; stands = chunk_head b at s.major s.chunk s.back s.stands }
+chunk_is_head b at s = record { size = s.chunk.size; major = s.major; argument = length s.chunk.held; back = s.chunk.held ++ s.back; stands = chunk_head b at s.major s.chunk s.back s.stands }
 
 chunk_some : (m : ℕ) (c : Chunk) → 0 < length (chunk_bytes m c)
-chunk_some m c = omega (arith, length-append (head_in c.place m (length c.held)) c.held, head_some c.place m (length c.held))
+chunk_some m c = omega (arith, length-append (head_in c.size m (length c.held)) c.held, head_some c.size m (length c.held))
 
 pub chunk_within : (b : List ℕ) (at : ℕ) (r : ℕ × ℕ) → IsChunk b at → ReadsArgument b at r → r.1 + r.0 ≤ length b
 chunk_within b at r s reads =
     let c = s.chunk in
-    let a = reads c.place s.major (length c.held) (c.held ++ s.back) (chunk_head b at s.major c s.back s.stands) in
-    omega (arith, a.value, a.end, length-append (head_in c.place s.major (length c.held)) c.held, within b at (chunk_bytes s.major c) s.back s.stands.is (chunk_some s.major c))
+    let a = reads c.size s.major (length c.held) (c.held ++ s.back) (chunk_head b at s.major c s.back s.stands) in
+    omega (arith, a.value, a.end, length-append (head_in c.size s.major (length c.held)) c.held, within b at (chunk_bytes s.major c) s.back s.stands.is (chunk_some s.major c))
 
 pub chunk_read : (b : List ℕ) (at m : ℕ) (c : Chunk) (back : List ℕ) (r : ℕ × ℕ) (held : List ℕ) → StandsChunk b at m c back → ReadsArgument b at r → held ≡ take r.0 (drop r.1 b) → IsChunkRead at m c held (r.1 + r.0)
 chunk_read b at m c back r held s reads is =
-    let a = reads c.place m (length c.held) (c.held ++ back) (chunk_head b at m c back s) in
+    let a = reads c.size m (length c.held) (c.held ++ back) (chunk_head b at m c back s) in
     record {
       same = is ∙ (ap (take r.0) a.behind ∙ (ap (λ k. take k (c.held ++ back)) a.value ∙ take-append_seam c.held back));
-      placed = omega (arith, a.value, a.end, length-append (head_in c.place m (length c.held)) c.held);
+      placed = omega (arith, a.value, a.end, length-append (head_in c.size m (length c.held)) c.held);
     }
 
 -- chunks one after the other
 
--- these chunks were read, from `start` to `at`, and what they hold is `held`; the others stand there
+-- these chunks were read, from `start` to `at`, and what they hold is `held`; the others are there
 pub record IsJoined (b : List ℕ) (start at m : ℕ) (cs : List Chunk) (rest held : List ℕ) (left : List Chunk) : Type 0 where
   pub stands : StandsChunks b at m left rest
   pub seen : ℕ
@@ -62,15 +62,15 @@ more b start at m cs rest held c left chunk end s r =
 
 chunk_byte : (b : List ℕ) (at m : ℕ) (c : Chunk) (back : List ℕ) → m < 7 → StandsChunk b at m c back → get_or b at 0 < 255
 chunk_byte b at m c back small s =
-    let t = split b at c.place m (length c.held) (c.held ++ back) (chunk_head b at m c back s) in
-    let info : place_info c.place (length c.held) < 28 = info_below c.place (length c.held) s.fits in
+    let t = split b at c.size m (length c.held) (c.held ++ back) (chunk_head b at m c back s) in
+    let info : size_info c.size (length c.held) < 28 = info_below c.size (length c.held) s.fits in
     omega (arith, t.info, t.major)
 
--- a byte stands where the chunks go on
+-- a byte is where the chunks go on
 pub joined_within : (b : List ℕ) (start at m : ℕ) (cs : List Chunk) (back held : List ℕ) (left : List Chunk) → m < 7 → IsJoined b start at m cs (255 ∷ back) held left → at < length b
 joined_within b start at m cs back held [] small s = byte_within b at 255 back s.stands.is
 joined_within b start at m cs back held (c ∷ left) small s =
-    (split b at c.place m (length c.held) (c.held ++ (chunks_bytes m left ++ 255 ∷ back)) (chunk_head b at m c (chunks_bytes m left ++ 255 ∷ back) (first_stands b at m c left (255 ∷ back) (omega arith) s.stands))).few
+    (split b at c.size m (length c.held) (c.held ++ (chunks_bytes m left ++ 255 ∷ back)) (chunk_head b at m c (chunks_bytes m left ++ 255 ∷ back) (first_stands b at m c left (255 ∷ back) (omega arith) s.stands))).few
 
 -- at another byte than the break a chunk is left
 pub record HasNext (b : List ℕ) (start at m : ℕ) (cs : List Chunk) (back held : List ℕ) : Type 0 where

@@ -1,7 +1,7 @@
-pub mod Digits
-pub mod Places
-pub mod Chunks
-pub mod Views
-pub mod Members
-pub mod PairMembers
-pub mod Parts
+mod Digits
+mod Heads
+mod Chunks
+mod Views
+mod Members
+mod PairMembers
+mod Parts

@@ -11,10 +11,10 @@ use Rattle.cbor_value.specs.Heads.{Stands}
 use Rattle.cbor_value.specs.Items.{IsAwaited, IsRead, StandsForms, AreRead}
 use Rattle.cbor_value.specs.declared.value.Unread.{Unread}
 use Rattle.cbor_value.specs.declared.value.Unread.TheVariants.{BadText, Memory}
-use Rattle.cbor_value.proofs.Places.{behind, byte_at, byte_within, first, flat_some}
+use Rattle.cbor_value.proofs.Heads.{behind, byte_at, byte_within, first, flat_some}
 use Rattle.cbor_value.proofs.Views.{values_then, values_then-push, values_then-none}
 
--- the members from `start` to `at` were read as these items; the others stand at `at`
+-- the members from `start` to `at` were read as these items; the others are at `at`
 pub record IsUpTo (b : List ℕ) (start at : ℕ) (fs : Forms) (rest : List ℕ) (items : List Item) (left : Forms) : Type 0 where
   pub stands : StandsForms b at left rest
   pub seen : ℕ
@@ -83,7 +83,7 @@ unbroken_within b start at fs back items s = from s.left s.so_far
 pub next_awaited : (b : List ℕ) (start at : ℕ) (fs : Forms) (rest : List ℕ) (items : List Item) (depth : ℕ) → HasNext b start at fs rest items → values_depth (meanings fs) ≤ depth → IsAwaited depth b at
 next_awaited b start at fs rest items depth n h = record { written = n.next; back = forms_flat n.left ++ rest; stands = n.stands; shallow = omega (arith, n.so_far.shallow) }
 
--- every form that stands there is read so
+-- every form that is there is read so
 abbrev pub Reads : List ℕ → ℕ → Item × ℕ → Type 0
 Reads b at r = (f : Form) (back : List ℕ) → Stands b at f back → IsRead at f (Ok r)
 

@@ -9,11 +9,11 @@ use Rattle.cbor_value.specs.Heads.{Stands}
 use Rattle.cbor_value.specs.Items.{IsAwaited, IsRead, StandsPairs, ArePairsRead}
 use Rattle.cbor_value.specs.declared.value.Unread.{Unread}
 use Rattle.cbor_value.specs.declared.value.Unread.TheVariants.{BadText, Memory}
-use Rattle.cbor_value.proofs.Places.{behind, byte_at, byte_within, first, flat_some}
+use Rattle.cbor_value.proofs.Heads.{behind, byte_at, byte_within, first, flat_some}
 use Rattle.cbor_value.proofs.Members.{Reads}
 use Rattle.cbor_value.proofs.Views.{pairs_then, pairs_then-push, pairs_then-none}
 
--- the pairs from `start` to `at` were read as these pairs of items; the others stand at `at`
+-- the pairs from `start` to `at` were read as these pairs of items; the others are at `at`
 pub record IsUpTo (b : List ℕ) (start at : ℕ) (ps : PairForms) (rest : List ℕ) (items : List (Item × Item)) (left : PairForms) : Type 0 where
   pub stands : StandsPairs b at left rest
   pub seen : ℕ

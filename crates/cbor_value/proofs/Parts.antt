@@ -1,9 +1,9 @@
--- An item from what its head and the bytes behind it say.
+-- An item from what its head and the bytes after it say.
 use Rattle.std.proofs.Common.{◌≡◌, ℕ, suc, ◌+◌, ◌-◌, ◌≤◌, List, [], ◌∷◌, ◌++◌, length, drop, take, Result, Ok, Err, refl, sym, ap, ◌∙◌, subst, arith, append_assoc, length-append}
 use Rattle.std.proofs.Math.Seq.{take-append_seam}
 use Rattle.cbor_data.specs.declared.Width.{Width}
 use Rattle.cbor_data.specs.Value.{uint, nint, simple, float, depth_of}
-use Rattle.cbor_data.specs.Forms.{Place, head_in, Form, uint_form, nint_form, bytes_form, bytes_chunks, text_form, text_chunks, array_form, array_to_break, pairs_form, pairs_to_break, tag_form, simple_inside, simple_next, float_form, Forms, PairForms, Chunk, forms_len, pair_forms_len, flat, forms_flat, pair_forms_flat, chunks_bytes, meaning}
+use Rattle.cbor_data.specs.Forms.{ArgumentSize, head_in, Form, uint_form, nint_form, bytes_form, bytes_chunks, text_form, text_chunks, array_form, array_to_break, pairs_form, pairs_to_break, tag_form, simple_inside, simple_next, float_form, Forms, PairForms, Chunk, forms_len, pair_forms_len, flat, forms_flat, pair_forms_flat, chunks_bytes, meaning}
 use Rattle.cbor_item.specs.declared.item.Item.{Item}
 use Rattle.cbor_item.specs.declared.item.Item.TheVariants as item
 use Rattle.cbor_value.specs.declared.head.Head.{Head}
@@ -13,10 +13,10 @@ use Rattle.cbor_value.specs.declared.value.Unread.TheVariants.{BadText, Memory}
 use Rattle.cbor_value.specs.Heads.{head_of, head_bytes, content, Stands, IsHeaded}
 use Rattle.cbor_value.specs.Strings.{IsBytesRead, IsTextRead, StandsChunks, AreBytesJoined, IsTextJoined}
 use Rattle.cbor_value.specs.Items.{IsAwaited, IsRead, IsTagRead, StandsForms, AreAwaited, AreAwaitedToBreak, AreRead, StandsPairs, ArePairsAwaited, ArePairsAwaitedToBreak, ArePairsRead}
-use Rattle.cbor_value.proofs.Places.{within, flat_some, flat_is}
+use Rattle.cbor_value.proofs.Heads.{within, flat_some, flat_is}
 use Rattle.cbor_value.proofs.Views.{view-Uint, view-Nint, view-Simple, view-Float}
 
--- the head of every form that stands there is read so
+-- the head of every form that is there is read so
 abbrev pub ReadsHead : List ℕ → ℕ → Head × ℕ → Type 0
 ReadsHead b at h = (f : Form) (back : List ℕ) → Stands b at f back → IsHeaded b at f back h
 
@@ -46,7 +46,7 @@ text_within b at f back h len s reads is =
 
 -- text strings
 
-text_form_read : (at start len : ℕ) (p : Place) (s : List ℕ) (r : Result (Item × ℕ) Unread) → start ≡ at + length (head_in p 3 (length s)) → len ≡ length s → IsTextRead s at start len r → IsRead at (text_form p s) r
+text_form_read : (at start len : ℕ) (p : ArgumentSize) (s : List ℕ) (r : Result (Item × ℕ) Unread) → start ≡ at + length (head_in p 3 (length s)) → len ≡ length s → IsTextRead s at start len r → IsRead at (text_form p s) r
 text_form_read at start len p s (Ok r) e l h = (h.2, h.0, omega (arith, h.1, length-append (head_in p 3 (length s)) s))
 text_form_read at start len p s (Err (BadText q)) e l h = (0, omega (arith, h.0), (refl, h.1))
 text_form_read at start len p s (Err Memory) e l h = tt
@@ -70,7 +70,7 @@ chunks_read b at f back h r s headed is reads = absurd (let other : head_of f �
 
 -- arrays
 
-array_form_read : (at start : ℕ) (p : Place) (fs : Forms) (r : Result (Item × ℕ) Unread) → start ≡ at + length (head_in p 4 (forms_len fs)) → AreRead start 0 fs r → IsRead at (array_form p fs) r
+array_form_read : (at start : ℕ) (p : ArgumentSize) (fs : Forms) (r : Result (Item × ℕ) Unread) → start ≡ at + length (head_in p 4 (forms_len fs)) → AreRead start 0 fs r → IsRead at (array_form p fs) r
 array_form_read at start p fs (Ok r) e h = (h.0, h.1, omega (arith, h.2, length-append (head_in p 4 (forms_len fs)) (forms_flat fs)))
 array_form_read at start p fs (Err (BadText q)) e h = (length (head_in p 4 (forms_len fs)) + h.0, omega (arith, h.1), (h.0, refl, h.2))
 array_form_read at start p fs (Err Memory) e h = tt
@@ -94,7 +94,7 @@ unbroken_read b at f back h r s headed is reads = absurd (let other : head_of f 
 
 -- maps
 
-pairs_form_read : (at start : ℕ) (p : Place) (ps : PairForms) (r : Result (Item × ℕ) Unread) → start ≡ at + length (head_in p 5 (pair_forms_len ps)) → ArePairsRead start 0 ps r → IsRead at (pairs_form p ps) r
+pairs_form_read : (at start : ℕ) (p : ArgumentSize) (ps : PairForms) (r : Result (Item × ℕ) Unread) → start ≡ at + length (head_in p 5 (pair_forms_len ps)) → ArePairsRead start 0 ps r → IsRead at (pairs_form p ps) r
 pairs_form_read at start p ps (Ok r) e h = (h.0, h.1, omega (arith, h.2, length-append (head_in p 5 (pair_forms_len ps)) (pair_forms_flat ps)))
 pairs_form_read at start p ps (Err (BadText q)) e h = (length (head_in p 5 (pair_forms_len ps)) + h.0, omega (arith, h.1), (h.0, refl, h.2))
 pairs_form_read at start p ps (Err Memory) e h = tt
@@ -118,7 +118,7 @@ unbroken_map_read b at f back h r s headed is reads = absurd (let other : head_o
 
 -- tags
 
-tag_form_read : (at start : ℕ) (p : Place) (n : ℕ) (f : Form) (r : Result (Item × ℕ) Unread) → start ≡ at + length (head_in p 6 n) → IsTagRead start n f r → IsRead at (tag_form p n f) r
+tag_form_read : (at start : ℕ) (p : ArgumentSize) (n : ℕ) (f : Form) (r : Result (Item × ℕ) Unread) → start ≡ at + length (head_in p 6 n) → IsTagRead start n f r → IsRead at (tag_form p n f) r
 tag_form_read at start p n f (Ok r) e h = (h.0, h.1, omega (arith, h.2, length-append (head_in p 6 n) (flat f)))
 tag_form_read at start p n f (Err (BadText q)) e h = (length (head_in p 6 n) + h.0, omega (arith, h.1), (h.0, refl, h.2))
 tag_form_read at start p n f (Err Memory) e h = tt
@@ -167,7 +167,7 @@ float_read b at f back h w n headed is = absurd (let other : head_of f ≡ head.
 
 -- byte strings
 
-bytes_form_read : (at start len : ℕ) (p : Place) (s : List ℕ) (r : Result (Item × ℕ) Unread) → start ≡ at + length (head_in p 2 (length s)) → len ≡ length s → IsBytesRead s start len r → IsRead at (bytes_form p s) r
+bytes_form_read : (at start len : ℕ) (p : ArgumentSize) (s : List ℕ) (r : Result (Item × ℕ) Unread) → start ≡ at + length (head_in p 2 (length s)) → len ≡ length s → IsBytesRead s start len r → IsRead at (bytes_form p s) r
 bytes_form_read at start len p s (Ok r) e l h = (tt, h.0, omega (arith, h.1, length-append (head_in p 2 (length s)) s))
 bytes_form_read at start len p s (Err (BadText q)) e l h = absurd h
 bytes_form_read at start len p s (Err Memory) e l h = tt

@@ -1,8 +1,8 @@
--- The heads of forms, and what stands where in bytes.
+-- The heads of forms, and what is where in bytes.
 use Rattle.std.specs.Prelude.{◌≡◌, ℕ, ◌+◌, ◌*◌, ◌<◌, ◌==◌, List, [], ◌∷◌, ◌++◌, length, drop, fold, if◌then◌else◌}
 use Rattle.cbor_data.specs.declared.Width.TheVariants.{W16, W32, W64}
 use Rattle.cbor_data.specs.Preferred.{initial, float_bytes}
-use Rattle.cbor_data.specs.Forms.{Place, head_in, FitsPlace, Form, uint_form, nint_form, bytes_form, bytes_chunks, text_form, text_chunks, array_form, array_to_break, pairs_form, pairs_to_break, tag_form, simple_inside, simple_next, float_form, chunks_bytes, forms_len, pair_forms_len, flat, forms_flat, pair_forms_flat, IsOk}
+use Rattle.cbor_data.specs.Forms.{ArgumentSize, head_in, FitsSize, Form, uint_form, nint_form, bytes_form, bytes_chunks, text_form, text_chunks, array_form, array_to_break, pairs_form, pairs_to_break, tag_form, simple_inside, simple_next, float_form, chunks_bytes, forms_len, pair_forms_len, flat, forms_flat, pair_forms_flat, IsOk}
 use Rattle.cbor_value.specs.declared.head.Head.{Head}
 use Rattle.cbor_value.specs.declared.head.Head.TheVariants.{Uint, Nint, Bytes, BytesToBreak, Text, TextToBreak, Array, ArrayToBreak, Map, MapToBreak, Tag, Simple, Float}
 
@@ -40,7 +40,7 @@ head_bytes (simple_inside n) = initial 7 n ∷ []
 head_bytes (simple_next n) = initial 7 24 ∷ n ∷ []
 head_bytes (float_form w n) = float_bytes w n
 
--- the bytes behind it
+-- the bytes after it
 abbrev pub content : Form → List ℕ
 content (bytes_form p s) = s
 content (bytes_chunks cs) = chunks_bytes 2 cs ++ 255 ∷ []
@@ -84,12 +84,12 @@ width i = if i == 24 then 1 else (if i == 25 then 2 else (if i == 26 then 4 else
 abbrev pub number_of : List ℕ → ℕ
 number_of digits = fold (λ n byte. n * 256 + byte) 0 digits
 
--- the form stands in b from `at` on, and then the rest
+-- the form is in b from `at` on, and then the rest
 pub record Stands (b : List ℕ) (at : ℕ) (f : Form) (back : List ℕ) : Type 0 where
   pub ok : IsOk f
   pub is : drop at b ≡ flat f ++ back
 
--- some form stands there
+-- some form is there
 pub record IsForm (b : List ℕ) (at : ℕ) : Type 0 where
   pub written : Form
   pub back : List ℕ
@@ -101,22 +101,22 @@ pub record IsHeaded (b : List ℕ) (at : ℕ) (f : Form) (back : List ℕ) (h : 
   pub end : h.1 ≡ at + length (head_bytes f)
   pub behind : drop h.1 b ≡ content f ++ back
 
--- a definite head stands in b from `at` on, and then the rest
-pub record StandsHead (b : List ℕ) (at : ℕ) (p : Place) (m n : ℕ) (back : List ℕ) : Type 0 where
+-- a definite head is in b from `at` on, and then the rest
+pub record StandsHead (b : List ℕ) (at : ℕ) (p : ArgumentSize) (m n : ℕ) (back : List ℕ) : Type 0 where
   pub major : m < 8
-  pub fits : FitsPlace p n
+  pub fits : FitsSize p n
   pub is : drop at b ≡ head_in p m n ++ back
 
--- some definite head stands there
+-- some definite head is there
 pub record IsHead (b : List ℕ) (at : ℕ) : Type 0 where
-  pub place : Place
+  pub size : ArgumentSize
   pub major : ℕ
   pub argument : ℕ
   pub back : List ℕ
-  pub stands : StandsHead b at place major argument back
+  pub stands : StandsHead b at size major argument back
 
 -- the head's argument, and where it ends
-pub record IsArgument (b : List ℕ) (at : ℕ) (p : Place) (m n : ℕ) (back : List ℕ) (r : ℕ × ℕ) : Type 0 where
+pub record IsArgument (b : List ℕ) (at : ℕ) (p : ArgumentSize) (m n : ℕ) (back : List ℕ) (r : ℕ × ℕ) : Type 0 where
   pub value : r.0 ≡ n
   pub end : r.1 ≡ at + length (head_in p m n)
   pub behind : drop r.1 b ≡ back

@@ -9,7 +9,7 @@ use Rattle.cbor_value.specs.Heads.{Stands}
 use Rattle.cbor_value.specs.declared.value.Unread.{Unread}
 use Rattle.cbor_value.specs.declared.value.Unread.TheVariants.{BadText, Memory}
 
--- some form no deeper than this stands in b from `at` on
+-- some form no deeper than this is in b from `at` on
 pub record IsAwaited (depth : ℕ) (b : List ℕ) (at : ℕ) : Type 0 where
   pub written : Form
   pub back : List ℕ
@@ -28,12 +28,12 @@ IsTagRead start n f (Ok r) = HasText f × (view r.0 ≡ tag n (meaning f)) × (r
 IsTagRead start n f (Err (BadText p)) = (i : ℕ) × (p ≡ start + i) × IsBadTextAt f i
 IsTagRead start n f (Err Memory) = Unit {0}
 
--- forms stand in b from `at` on, and then the rest
+-- forms are in b from `at` on, and then the rest
 pub record StandsForms (b : List ℕ) (at : ℕ) (fs : Forms) (rest : List ℕ) : Type 0 where
   pub ok : AreFormsOk fs
   pub is : drop at b ≡ forms_flat fs ++ rest
 
--- so many forms no deeper than this stand there
+-- so many forms no deeper than this are there
 pub record AreAwaited (depth len : ℕ) (b : List ℕ) (at : ℕ) : Type 0 where
   pub forms : Forms
   pub back : List ℕ
@@ -41,25 +41,25 @@ pub record AreAwaited (depth len : ℕ) (b : List ℕ) (at : ℕ) : Type 0 where
   pub stands : StandsForms b at forms back
   pub shallow : values_depth (meanings forms) ≤ depth
 
--- some forms no deeper than this stand there, up to a break
+-- some forms no deeper than this are there, up to a break
 pub record AreAwaitedToBreak (depth : ℕ) (b : List ℕ) (at : ℕ) : Type 0 where
   pub forms : Forms
   pub back : List ℕ
   pub stands : StandsForms b at forms (255 ∷ back)
   pub shallow : values_depth (meanings forms) ≤ depth
 
--- the array of the forms from `start` on, and where it ends, so many bytes behind them, or its first text that is not UTF-8
+-- the array of the forms from `start` on, and where it ends, so many bytes after them, or its first text that is not UTF-8
 abbrev pub AreRead : ℕ → ℕ → Forms → Result (Item × ℕ) Unread → Type 0
 AreRead start closing fs (Ok r) = HaveText fs × (view r.0 ≡ array (meanings fs)) × (r.1 ≡ start + (length (forms_flat fs) + closing))
 AreRead start closing fs (Err (BadText p)) = (j : ℕ) × (p ≡ start + j) × IsBadTextAmong fs j
 AreRead start closing fs (Err Memory) = Unit {0}
 
--- forms of pairs stand in b from `at` on, and then the rest
+-- forms of pairs are in b from `at` on, and then the rest
 pub record StandsPairs (b : List ℕ) (at : ℕ) (ps : PairForms) (rest : List ℕ) : Type 0 where
   pub ok : ArePairFormsOk ps
   pub is : drop at b ≡ pair_forms_flat ps ++ rest
 
--- so many pairs no deeper than this stand there
+-- so many pairs no deeper than this are there
 pub record ArePairsAwaited (depth len : ℕ) (b : List ℕ) (at : ℕ) : Type 0 where
   pub forms : PairForms
   pub back : List ℕ
@@ -67,14 +67,14 @@ pub record ArePairsAwaited (depth len : ℕ) (b : List ℕ) (at : ℕ) : Type 0 
   pub stands : StandsPairs b at forms back
   pub shallow : pairs_depth (pair_meanings forms) ≤ depth
 
--- some pairs no deeper than this stand there, up to a break
+-- some pairs no deeper than this are there, up to a break
 pub record ArePairsAwaitedToBreak (depth : ℕ) (b : List ℕ) (at : ℕ) : Type 0 where
   pub forms : PairForms
   pub back : List ℕ
   pub stands : StandsPairs b at forms (255 ∷ back)
   pub shallow : pairs_depth (pair_meanings forms) ≤ depth
 
--- the map of the pairs from `start` on, and where it ends, so many bytes behind them, or its first text that is not UTF-8
+-- the map of the pairs from `start` on, and where it ends, so many bytes after them, or its first text that is not UTF-8
 abbrev pub ArePairsRead : ℕ → ℕ → PairForms → Result (Item × ℕ) Unread → Type 0
 ArePairsRead start closing ps (Ok r) = HavePairsText ps × (view r.0 ≡ pairs (pair_meanings ps)) × (r.1 ≡ start + (length (pair_forms_flat ps) + closing))
 ArePairsRead start closing ps (Err (BadText p)) = (j : ℕ) × (p ≡ start + j) × IsBadTextAmongPairs ps j

@@ -1,6 +1,6 @@
 // Heads of items (RFC 8949 section 3).
 ghost use Rattle.std.specs.Prelude.{◌≡◌, ℕ, ◌<◌, ◌≤◌, ◌^◌, List, length};
-ghost use Rattle.cbor_data.specs.Forms.{Form, Place, FitsPlace};
+ghost use Rattle.cbor_data.specs.Forms.{Form, ArgumentSize, FitsSize};
 ghost use Rattle.cbor_value.specs.Heads.{number_of, width, opened_head, definite_head, IsInfo, Stands, IsForm, IsHeaded, StandsHead, IsHead, IsArgument};
 
 use cbor_item::Width;
@@ -39,14 +39,14 @@ pub fn head_at(bytes: &[u8], at: usize) -> (Head, usize)
     let major = bytes[at] / 32;
     let info = bytes[at] % 32;
     if info == 31 {
-        return (opened(major), at + 1);
+        return (head_to_break(major), at + 1);
     }
     let (argument, end) = argument_at(bytes, at);
-    (definite(major, info, argument), end)
+    (head_with_argument(major, info, argument), end)
 }
 
 // An indefinite head of this major type.
-fn opened(major: u8) -> Head
+fn head_to_break(major: u8) -> Head
     ensures { result ≡ opened_head major }
 {
     match major {
@@ -58,7 +58,7 @@ fn opened(major: u8) -> Head
 }
 
 // A head of this major type with its argument, which the additional information tells the width of.
-fn definite(major: u8, info: u8, argument: u64) -> Head
+fn head_with_argument(major: u8, info: u8, argument: u64) -> Head
     requires { IsInfo info argument }
     ensures { result ≡ definite_head major info argument }
 {
@@ -82,7 +82,7 @@ fn definite(major: u8, info: u8, argument: u64) -> Head
 /// The argument of the definite head at `at`, of whatever major type, and where it ends.
 pub fn argument_at(bytes: &[u8], at: usize) -> (u64, usize)
     requires { IsHead bytes.now at }
-    ensures { (p : Place) (m n : ℕ) (back : List ℕ) → StandsHead bytes.now at p m n back → IsArgument bytes.now at p m n back result }
+    ensures { (p : ArgumentSize) (m n : ℕ) (back : List ℕ) → StandsHead bytes.now at p m n back → IsArgument bytes.now at p m n back result }
 {
     let info = bytes[at] % 32;
     if info < 24 {

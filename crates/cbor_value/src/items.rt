@@ -127,7 +127,7 @@ fn map_to_break(
     Ok((Item::Map(pairs), at + 1))
 }
 
-// The tag of this number whose content stands at `start`.
+// The tag of this number whose content is at `start`.
 #[cycle(items)]
 fn tag(
     alloc: Global,

@@ -9,7 +9,7 @@ use cbor_item::Item;
 use std::alloc::Global;
 
 // So many of the bytes from `at` on.
-fn held_at(bytes: &[u8], at: usize, len: u64) -> &[u8]
+fn content_at(bytes: &[u8], at: usize, len: u64) -> &[u8]
     requires { at + len ≤ length bytes.now }
     ensures { result.now ≡ take len (drop at bytes.now) }
 {
@@ -28,7 +28,7 @@ pub fn byte_string(
     requires { start + len ≤ length bytes.now }
     ensures { IsBytesRead (take len (drop start bytes.now)) start len result }
 {
-    let held = held_at(bytes, start, len);
+    let held = content_at(bytes, start, len);
     Ok((
         Item::Bytes(Vec::from_slice(alloc, held)?),
         start + len as usize,
@@ -46,7 +46,7 @@ pub fn text_string(
     requires { start + len ≤ length bytes.now }
     ensures { IsTextRead (take len (drop start bytes.now)) at start len result }
 {
-    match simdutf8::compat::from_utf8(held_at(bytes, start, len)) {
+    match simdutf8::compat::from_utf8(content_at(bytes, start, len)) {
         Ok(text) => Ok((
             Item::Text(String::from_str(alloc, text)?),
             start + len as usize,
@@ -61,10 +61,10 @@ fn chunk_at(bytes: &[u8], at: usize) -> (&[u8], usize)
     ensures { (m : ℕ) (c : Chunk) (back : List ℕ) → StandsChunk bytes.now at m c back → IsChunkRead at m c result.0.now result.1 }
 {
     let (len, start) = argument_at(bytes, at);
-    (held_at(bytes, start, len), start + len as usize)
+    (content_at(bytes, start, len), start + len as usize)
 }
 
-/// The byte string whose chunks stand from `start` on, up to a break, and where it ends.
+/// The byte string whose chunks are from `start` on, up to a break, and where it ends.
 pub fn byte_chunks(alloc: Global, bytes: &[u8], start: usize) -> Result<(Item, usize), Unread>
     requires { AreChunks bytes.now start 2 }
     ensures { (cs : List Chunk) (back : List ℕ) → StandsChunks bytes.now start 2 cs (255 ∷ back) → AreBytesJoined start cs result }
@@ -79,7 +79,7 @@ pub fn byte_chunks(alloc: Global, bytes: &[u8], start: usize) -> Result<(Item, u
     Ok((Item::Bytes(held), at + 1))
 }
 
-/// The text string whose chunks stand from `start` on, up to a break, and where it ends.
+/// The text string whose chunks are from `start` on, up to a break, and where it ends.
 pub fn text_chunks(alloc: Global, bytes: &[u8], start: usize) -> Result<(Item, usize), Unread>
     requires { AreChunks bytes.now start 3 }
     ensures { (cs : List Chunk) (back : List ℕ) → StandsChunks bytes.now start 3 cs (255 ∷ back) → IsTextJoined start cs result }

@@ -15,7 +15,7 @@ use thiserror::Error;
 #[derive(Clone, Copy, Debug, PartialEq, Eq, Error)]
 pub enum Unread {
     /// A text string, or a chunk of one, is not UTF-8 (RFC 8949 section 3.1). The first such one has its head so many
-    /// bytes behind the item's first byte.
+    /// bytes after the item's first byte.
     #[error("text is not UTF-8 at byte {0}")]
     BadText(usize),
     /// An allocation was refused.

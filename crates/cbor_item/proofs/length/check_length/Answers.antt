@@ -1,5 +1,5 @@
 use Rattle.std.proofs.Common.{arith}
-use Rattle.cbor_data.proofs.PreferredLength.{preferred_len}
+use Rattle.cbor_data.proofs.Lemmas.{preferred_len}
 use Rattle.cbor_item.specs.View.{view}
 use Rattle.cbor_item.proofs.length.check_length.Goals as goal
 

@@ -1,6 +1,6 @@
 use Rattle.std.proofs.Common.{arith, ap, length}
 use Rattle.cbor_data.specs.Preferred.{preferred}
-use Rattle.cbor_data.proofs.PreferredLength.{preferred_len}
+use Rattle.cbor_data.proofs.Lemmas.{preferred_len}
 use Rattle.cbor_item.proofs.write.write_item.Goals as goal
 
 pub write_value-requires-clause-room : goal.write_value-requires-clause-room

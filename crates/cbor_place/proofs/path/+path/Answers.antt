@@ -5,8 +5,7 @@ use Rattle.cbor_place.specs.Paths.{paths, members_paths, pairs_paths, behind, co
 use Rattle.cbor_place.specs.Sought.{sought}
 use Rattle.cbor_place.specs.Walked.{Ends, step_bytes}
 use Rattle.cbor_place.specs.declared.path.Walk.TheVariants.{Arrived}
-use Rattle.cbor_item.proofs.Views.{view-Tag}
-use Rattle.cbor_item.proofs.Walks.{values_view-drop, pairs_view-drop}
+use Rattle.cbor_item.proofs.Lemmas.{view-Tag, values_view-drop, pairs_view-drop}
 use Rattle.cbor_place.proofs.Searching.{sought_rest}
 use Rattle.cbor_place.proofs.Arriving.{arrived_behind, passed_behind, arrived_in, passed_on}
 use Rattle.cbor_place.proofs.path.+path.Goals as goal

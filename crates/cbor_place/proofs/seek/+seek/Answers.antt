@@ -1,8 +1,7 @@
 use Rattle.std.proofs.Common.{◌≢◌, ◌+◌, ◌-◌, ◌++◌, drop, sym, ap, ◌∙◌, arith}
 use Rattle.cbor_data.specs.Value.{places, values_places, pairs_places, tag}
 use Rattle.cbor_item.specs.View.{view, values_view, pairs_view}
-use Rattle.cbor_item.proofs.Views.{view-Tag}
-use Rattle.cbor_item.proofs.Walks.{values_view-drop, pairs_view-drop}
+use Rattle.cbor_item.proofs.Lemmas.{view-Tag, values_view-drop, pairs_view-drop}
 use Rattle.cbor_place.specs.Sought.{sought}
 use Rattle.cbor_place.proofs.Searching.{sought_in, sought_behind, sought_rest}
 use Rattle.cbor_place.proofs.seek.+seek.Goals as goal

@@ -1,6 +1,6 @@
 use Rattle.std.proofs.Common.{◌≡◌, ◌+◌, ◌-◌, ◌%◌, take, drop, slice_index_or, refl, ap, ◌∙◌, arith}
 use Rattle.cbor_value.specs.Heads.{number_of, width}
-use Rattle.cbor_value.proofs.Places.{argument_wide, wide_within}
+use Rattle.cbor_value.proofs.Heads.{argument_wide, wide_within}
 use Rattle.cbor_value.proofs.head.argument_at.Goals as goal
 
 pub slice_bounds-number-end : goal.slice_bounds-number-end
@@ -8,7 +8,7 @@ slice_bounds-number-end c =
     let b = c.args.bytes.now in
     let at = c.args.at in
     let r = c.requires in
-    omega (arith, c.width_of.ensures.value, wide_within b at r.place r.major r.argument r.back (slice_index_or b at 0 % 32) r.stands refl c.if-info-lt24.false)
+    omega (arith, c.width_of.ensures.value, wide_within b at r.size r.major r.argument r.back (slice_index_or b at 0 % 32) r.stands refl c.if-info-lt24.false)
 
 pub returns : goal.returns
 returns c = λ p m n back s.
