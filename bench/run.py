@@ -29,7 +29,8 @@ each item, so small numbers make some 25 bytes of output from each byte of input
 other streams' sizes change with it; since an item may have 16 MiB, N is at most 128. --only takes the streams whose
 name has TEXT. The streams are made in bench/data. The status is 1 where a growth is below 1.5 or above 2.6; for the
 maps of many keys above 3.4, since more keys than the processor's caches hold take longer each (pair by pair the growth
-would be 4).
+would be 4). It is 1, too, where an array that is the innermost of many keys takes more than 3 times the processor time of
+the array alone: if each key's bytes were written for each map that it is a key of, that would be a hundred times.
 """
 import argparse
 import os
@@ -41,6 +42,7 @@ from streams import DATA, MIB, STREAMS
 
 RUNS, MOST_RUNS, SECONDS = 3, 15, 5
 LEAST = 1.5
+MOST_BESIDE = 3
 LONG_ITEM = 1 << 16
 SHORT = 0.1
 
@@ -157,7 +159,7 @@ def ratio_to(name, stream, times, there):
 
 
 def measured(program, stream, part, there):
-    """Prints a line for each size, and returns the growth."""
+    """Prints a line for each size, and returns the growth and the processor time of the larger."""
     spec = os.path.join(DATA, f"{stream.kind}.cddl")
     with open(spec, "w", encoding="ascii") as file:
         file.write(f"item = {stream.kind}\n")
@@ -172,7 +174,7 @@ def measured(program, stream, part, there):
         per_byte = f"{most / item:.1f}" if item >= LONG_ITEM else "-"
         print(f"{stream.name:32}{mib:7.1f}{mib / taken:9.1f}{mib / of_cat:11.1f}{taken / of_cat:8.1f}"
               + "".join(f"{cell:>10}" for cell in (*ratios, shown, f"{most / MIB:.1f}", per_byte)), flush=True)
-    return growth
+    return growth, times[1]["program"][1]
 
 
 def main():
@@ -188,10 +190,13 @@ def main():
     there = readers_there()
     print(f"{'stream':32}{'MiB':>7}{'MiB/s':>9}{'cat MiB/s':>11}{'ratio':>8}"
           + "".join(f"{f'to {name}':>10}" for name in READERS) + f"{'growth':>10}{'peak MiB':>10}{'per byte':>10}")
-    growths = [measured(os.path.abspath(given.program), stream, given.mib / 16, there) for stream in streams]
-    uneven = [it.name for it, growth in zip(streams, growths) if not LEAST <= growth <= it.most]
+    found = {it.name: measured(os.path.abspath(given.program), it, given.mib / 16, there) for it in streams}
+    uneven = [it.name for it in streams if not LEAST <= found[it.name][0] <= it.most]
+    slow = [it.name for it in streams if it.beside in found and found[it.name][1] > MOST_BESIDE * found[it.beside][1]]
     print(f"the growth is out of bounds: {', '.join(uneven)}" if uneven else "each growth is within its bounds")
-    return 1 if uneven else 0
+    if slow:
+        print(f"more than {MOST_BESIDE} times the time of the stream beside it: {', '.join(slow)}")
+    return 1 if uneven or slow else 0
 
 
 if __name__ == "__main__":

@@ -29,6 +29,7 @@ class Stream:
     readers: tuple = ()
     writer: tuple = ("cat",)
     most: float = 2.6  # the greatest growth that is taken for 2 within noise
+    beside: str = ""  # the name of a stream with items of the same sizes, whose time bounds this one's
 
     def written(self, count):
         """The files of the stream and of its JSON by the names of what reads them, and the bytes of an item."""
@@ -152,6 +153,15 @@ def deep_key_of_bytes(size):
     return Made(b"\xa1" * DEPTH + encoded(bytes(size)) + b"\x00" * DEPTH)
 
 
+def array_of_empty_strings(count):
+    return Made(head(4, count) + b"\x40" * count)
+
+
+def deep_key_of_empty_strings(count):
+    """The array as the key of a map that is the key of another, and so on."""
+    return Made(b"\xa1" * (DEPTH - 2) + array_of_empty_strings(count).unit + b"\x02" * (DEPTH - 2))
+
+
 def nested_members(count):
     return Made(b"\x9f" + b"\x81\x80" * count + b"\xff", json="[" + ",".join(["[[]]"] * count) + "]\n")
 
@@ -181,6 +191,8 @@ STREAMS = [
     Stream("one item of arrays, 256 deep", "any", deep_in_one, 4096, BOTH),
     Stream("maps as keys, 256 deep", "any", deep_keys, 256, CBOR),
     Stream("the same round a byte string", "any", deep_key_of_bytes, 1_000_000, CBOR),
+    Stream("an array of empty strings", "any", array_of_empty_strings, 1_000_000, CBOR),
+    Stream("the empty strings in 254 keys", "any", deep_key_of_empty_strings, 1_000_000, CBOR, beside="an array of empty strings"),
     Stream("[_ [[]], [[]], ..]", "any", nested_members, 100_000, BOTH),
     Stream("a byte string of 1-byte chunks", "any", chunks_of_bytes, 500_000, CBOR),
     Stream("a text of 1-byte chunks", "any", chunks_of_text, 500_000, CBOR),
