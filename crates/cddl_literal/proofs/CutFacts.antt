@@ -1,4 +1,4 @@
--- What stands in a part of a source is the same in that part alone.
+-- What is in a part of a source is the same in that part alone.
 use Rattle.std.proofs.Common.{◌≡◌, ◌≢◌, ℕ, ◌+◌, ◌-◌, ◌<◌, ◌≤◌, inl, inr, Bool, true, false, List, ◌∷◌, take, drop, length, slice_index, sym, refl, ap, subst, ◌∙◌, ⊎_elim, arith}
 use Rattle.std.proofs.lemmas.Bool.{cases_lt}
 use Rattle.std.proofs.lemmas.Bool.Decides.{nat_tests}
@@ -131,7 +131,7 @@ pub opens_le : (coding : Coding) (s : List ℕ) (a e : ℕ) → Opens coding s a
 opens_le Hex s a e h = omega (arith, h.2)
 opens_le Base64 s a e h = omega (arith, h.4)
 
--- a byte that is not 0 stands inside
+-- a byte that is not 0 is inside
 pub inside : (s : List ℕ) (i : ℕ) → slice_index s i ≢ 0 → i < length s
 inside s i h = ⊎_elim (λ lt. lt) (λ ge. absurd (h (get_or_past s i 0 ge))) (cases_lt i (length s))
 
@@ -149,7 +149,7 @@ part_of s a b le in_source = record {
   whole = length-take-le (b - a) (drop a s) (omega (arith, length-drop a s));
 }
 
--- the places of a string's signs
+-- the offsets of a string's signs
 pub closing_some : (q : Quote) (b : ℕ) → b ≡ closing q → b ≢ 0
 closing_some Double b e = λ z. omega arith
 closing_some Single b e = λ z. omega arith

@@ -1,4 +1,4 @@
--- What is true of each byte from one place to another.
+-- What is true of each byte from one offset to another.
 use Rattle.std.proofs.Common.{◌≡◌, ℕ, ◌+◌, Bool, true, List, slice_index, ap, ◌∙◌, ⊎_elim, arith}
 use Rattle.std.proofs.lemmas.Bool.{cases_lt}
 use Rattle.cddl_literal.specs.Bytes.{Each}

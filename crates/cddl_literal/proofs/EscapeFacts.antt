@@ -1,4 +1,4 @@
--- Which escapes stand at a place.
+-- Which escapes are at an offset.
 use Rattle.std.proofs.Common.{◌<◌, ◌-◌, ◌≡◌, ◌≢◌, ℕ, ◌+◌, ◌≤◌, inl, inr, Bool, true, false, List, Some, slice_index, sym, refl, ap, subst, ◌∙◌, ⊎_elim, arith}
 use Rattle.std.proofs.lemmas.Bool.{false≢true, cases_lt, cases_eq}
 use Rattle.std.proofs.lemmas.Bool.Decides.{nat_tests}
@@ -7,11 +7,11 @@ use Rattle.std.specs.Char.{IsScalar}
 use Rattle.hex.specs.Hex.{is_hex_digit}
 use Rattle.cddl_literal.specs.Bytes.{Each, IsRun}
 use Rattle.cddl_literal.specs.Numbers.{number_in}
-use Rattle.cddl_literal.specs.Escapes.{letter_in, IsUnit, IsHighSurrogate, IsLowSurrogate, joined, Escape, letter, unit, pair, braces}
+use Rattle.cddl_literal.specs.Escapes.{letter_in, IsUnit, IsHighSurrogate, IsLowSurrogate, pair_scalar, Escape, letter, unit, pair, braces}
 use Rattle.cddl_literal.specs.declared.Quote.{Quote}
 use Rattle.cddl_literal.specs.declared.Quote.TheVariants.{Double, Single}
 
--- runs end where the first byte stands that does not pass
+-- runs end where the first byte is that does not pass
 pub run_one : (p : ℕ → Bool) (s : List ℕ) (a j k : ℕ) → Each p s a j → a ≤ j → p (slice_index s j) ≡ false → Each p s a k → a ≤ k → p (slice_index s k) ≡ false → j ≡ k
 run_one p s a j k first from stops second since halts =
     ⊎_elim
@@ -71,7 +71,7 @@ pub record IsPair (s : List ℕ) (i j v : ℕ) : Type 0 where
   pub is_high : IsHighSurrogate high
   pub second : IsUnit s (i + 6) low
   pub is_low : IsLowSurrogate low
-  pub number : v ≡ joined high low
+  pub number : v ≡ pair_scalar high low
   pub ends : j ≡ i + 12
 
 -- the escape is one of `\u` and four digits, or two
@@ -99,7 +99,7 @@ units_one {w = w} (joins p) (alone u c e) = absurd (high_no_scalar p.high p.is_h
 units_one (joins p) (joins r) =
     let high : r.high ≡ p.high = unit_one p.first r.first in
     let low : r.low ≡ p.low = unit_one p.second r.second in
-    (omega (arith, p.ends, r.ends), r.number ∙ ap (λ n. joined n r.low) high ∙ ap (joined p.high) low ∙ sym p.number)
+    (omega (arith, p.ends, r.ends), r.number ∙ ap (λ n. pair_scalar n r.low) high ∙ ap (pair_scalar p.high) low ∙ sym p.number)
 
 braced_one : {s : List ℕ} {i j v k w : ℕ} → IsBraced s i j v → IsBraced s i k w → (k ≡ j) × (w ≡ v)
 braced_one {s} {i} p r =
@@ -109,7 +109,7 @@ braced_one {s} {i} p r =
 some_same : {m n : ℕ} → Some m ≡ Some n → n ≡ m
 some_same e = cc
 
--- one escape at most stands at a place, and it means one character
+-- one escape at most is at an offset, and it means one character
 pub escape_one : {quote : Quote} {s : List ℕ} {i j v k w : ℕ} → Escape quote s i j v → Escape quote s i k w → (k ≡ j) × (w ≡ v)
 escape_one {s} {i} e f =
     elim (cases_eq (slice_index s (i + 1)) 117) [

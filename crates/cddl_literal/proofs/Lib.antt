@@ -1,12 +1,12 @@
-pub mod EachFacts
-pub mod EscapeFacts
-pub mod NumberFacts
-pub mod Ranges
-pub mod StringFacts
-pub mod PrefixedFacts
-pub mod DecodedFacts
-pub mod UintFacts
-pub mod ValueFacts
-pub mod OneMeaning
-pub mod CutFacts
-pub mod EndFacts
+mod EachFacts
+mod EscapeFacts
+mod NumberFacts
+mod RangeFacts
+mod StringFacts
+mod PrefixedFacts
+mod DecodedFacts
+mod UintFacts
+mod ValueFacts
+mod OneMeaning
+mod CutFacts
+mod EndFacts

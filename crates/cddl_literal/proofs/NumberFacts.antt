@@ -1,6 +1,6 @@
 -- The number that digits stand for.
 use Rattle.std.proofs.Common.{◌≡◌, ℕ, ◌+◌, ◌*◌, ◌<◌, ◌≤◌, List, [], ◌∷◌, drop, length, get_or, slice_index, arith, ap, sym, ◌∙◌, add-one, drop-cons}
-use Rattle.cddl_literal.proofs.Ranges.{four_bytes}
+use Rattle.cddl_literal.proofs.RangeFacts.{four_bytes}
 use Rattle.cddl_literal.specs.Numbers.{digit_value, number_after, number_in}
 
 grown : (base n : ℕ) → 1 ≤ base → n ≤ base * n

@@ -1,4 +1,4 @@
--- What stands in a byte string with prefix from a place on.
+-- What is in a byte string with prefix from an offset on.
 use Rattle.std.proofs.Common.{◌≡◌, ◌≢◌, ℕ, ◌+◌, ◌<◌, ◌≤◌, ◌⊎◌, inl, inr, true, false, List, [], ◌∷◌, length, slice_index, sym, ap, subst, ◌∙◌, ⊎_elim, arith}
 use Rattle.std.proofs.lemmas.Bool.{false≢true, cases_lt}
 use Rattle.std.proofs.lemmas.Bool.Decides.{nat_tests}
@@ -99,7 +99,7 @@ after_end {s} {i} here (line c r) = absurd (let zero = get_or_past s i 0 here in
 after_end {s} {i} here (comment m e r) = absurd (let zero = get_or_past s i 0 here in let b = m.begins in omega arith)
 after_end here (other w b n r e) = absurd (omega arith)
 
--- one step of the search for the furthest place: nothing but a comment goes past i
+-- one step of the search for the furthest offset: nothing but a comment goes past i
 here_ends : {s : List ℕ} {i k q : ℕ} → slice_index s i ≢ 59 → k ≡ i → (k ≡ q) ⊎ IsCommentTo s k q → q ≤ i
 here_ends apart e (inl f) = omega arith
 here_ends {s} {i} {k} apart e (inr m) = absurd (apart (ap (λ n. slice_index s n) (sym e) ∙ m.begins))
@@ -150,7 +150,7 @@ left_end {s} {i} here (inr h) = here_ends (λ e. let zero = get_or_past s i 0 he
 pub is_other_from : (b : ℕ) → b ≢ 59 → is_blank b ≡ false → b ≢ 39 → b ≢ 92 → is_other b ≡ true
 is_other_from b semicolon stop quote backslash = grind (arith, nat_tests)
 
--- what stands before the end goes on
+-- what is before the end goes on
 pub moves : {s : List ℕ} {i k j : ℕ} {d : List ℕ} → i < j → Goes s i k j d → Coded s k j d
 moves lt (inl h) = absurd (omega (arith, h.0))
 moves lt (inr r) = r

@@ -1,4 +1,4 @@
--- What characters stand from a place on.
+-- What characters are from an offset on.
 use Rattle.std.proofs.Common.{suc, zero, ⊎_elim, ◌<◌, ◌≡◌, ℕ, ◌+◌, ◌≤◌, ◌⊎◌, inl, inr, true, false, List, [], ◌∷◌, ◌++◌, length, slice_index, sym, refl, ap, subst, ◌∙◌, arith}
 use Rattle.std.proofs.lemmas.Bool.{false≢true, cases_lt}
 use Rattle.std.proofs.lemmas.List.{get_or_past}
@@ -11,7 +11,7 @@ use Rattle.cddl_literal.specs.Strings.{closing, is_plain, Characters, none, plai
 use Rattle.cddl_literal.specs.Prefixed.{IsCrLf}
 use Rattle.cddl_literal.specs.declared.Quote.{Quote}
 use Rattle.cddl_literal.specs.declared.Quote.TheVariants.{Double, Single}
-use Rattle.cddl_literal.proofs.Ranges.{range_none, range_more}
+use Rattle.cddl_literal.proofs.RangeFacts.{range_none, range_more}
 use Rattle.cddl_literal.proofs.EscapeFacts.{escape_backslash, escape_past, escape_one}
 
 plain_other : (q : Quote) (b c : ℕ) → b ≡ c → is_plain q c ≡ false → is_plain q b ≡ true → ⊥
@@ -29,7 +29,7 @@ pub closing_other : (q : Quote) → is_plain q (closing q) ≡ false
 closing_other Double = refl
 closing_other Single = refl
 
--- nothing more, or `front` and what stands from k on
+-- nothing more, or `front` and what is from k on
 abbrev pub Goes : Quote → List ℕ → ℕ → ℕ → ℕ → List ℕ → List ℕ → Type 0
 Goes q s i k p front v = ((p ≡ i) × (v ≡ [])) ⊎ ((w : List ℕ) × Characters q s k p w × (v ≡ front ++ w))
 
@@ -53,7 +53,7 @@ after_line {q} {s} {i} here (plain b r e) = absurd (plain_other q (slice_index s
 after_line here (escape x r e) = absurd (let b = escape_backslash x in omega (arith, here.0))
 after_line here (line {w = w} o c f r e) = inr (w, r, e)
 
--- where no character stands
+-- where no character is
 pub record IsStuck (q : Quote) (s : List ℕ) (i : ℕ) : Type 0 where
   pub plain : is_plain q (slice_index s i) ≡ false
   pub escape : (k c : ℕ) → Escape q s i k c → ⊥
@@ -69,7 +69,7 @@ goes_on : {q : Quote} {s : List ℕ} {i k p : ℕ} (front : List ℕ) {v : List 
 goes_on front le (inl h) = inl (omega (arith, h.0))
 goes_on front le (inr h) = inr (h.0, h.1)
 
--- one step of the search for the furthest place
+-- one step of the search for the furthest offset
 pub left_plain : {q : Quote} {s : List ℕ} {i p : ℕ} → is_plain q (slice_index s i) ≡ true → (p ≤ i) ⊎ HoldsCharacters q s i p → (p ≤ i + 1) ⊎ HoldsCharacters q s (i + 1) p
 left_plain here (inl le) = inl (omega arith)
 left_plain {s = s} {i = i} here (inr h) = goes_on (slice_index s i ∷ []) (omega arith) (after_plain here h.1)
@@ -111,7 +111,7 @@ characters_none (plain b r e) same = absurd (let le = characters_le r in omega a
 characters_none (escape x r e) same = absurd (let le = characters_le r in let past = escape_past x in omega arith)
 characters_none (line o c f r e) same = absurd (let le = characters_le r in omega arith)
 
--- what stands before the end goes on
+-- what is before the end goes on
 pub moves : {q : Quote} {s : List ℕ} {i k j : ℕ} (front : List ℕ) {v : List ℕ} → i < j → Goes q s i k j front v → (w : List ℕ) × Characters q s k j w × (v ≡ front ++ w)
 moves front lt (inl h) = absurd (omega (arith, h.0))
 moves front lt (inr h) = h

@@ -86,7 +86,7 @@ pub large_nint : (n : ℕ) → (n ≤ 2 ^ 64 → ⊥) → None ≡ signed true n
 large_nint zero h = absurd (h (omega arith))
 large_nint (suc n) h = sym (ap (λ b. if b then Some (NintOf n) else None) (nat_lt_no n (2 ^ 64) (omega arith)))
 
--- what is so of each reading with the sign that stands there is so of each
+-- what is so of each reading with the sign that is there is so of each
 pub without_minus : (s : List ℕ) (a b : ℕ) (o : Option Meaning) → slice_index s a ≢ 45 → ((n : ℕ) → IsUint s a b n → o ≡ signed false n) → (minus : Bool) (n : ℕ) → IsSigned minus s a b n → o ≡ signed minus n
 without_minus s a b o sign h false n k = h n k
 without_minus s a b o sign h true n k = absurd (sign k.0)

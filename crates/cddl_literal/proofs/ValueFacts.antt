@@ -27,7 +27,7 @@ base64_only s b v quote other (inl q) = absurd (quote q.opens)
 base64_only s b v quote other (inr (Hex, d, p, e)) = absurd (false≢true (sym other ∙ p.opens.0))
 base64_only s b v quote other (inr (Base64, d, p, e)) = (d, p, e)
 
--- what is so of each reading with the prefix that stands there is so of each; s is t
+-- what is so of each reading with the prefix that is there is so of each; s is t
 pub hex_answer : {V E : Type 0} (items : V → List ℕ) (s t : List ℕ) (r : Result V E) → s ≡ t → is_h (slice_index s 0) ≡ true → ((d v : List ℕ) → IsPrefixed Hex s 0 (length s) d → decoded Hex d ≡ Some v → IfOk r (λ b. items b ≡ v)) → (v : List ℕ) → IsBytes t 0 (length t) v → IfOk r (λ b. items b ≡ v)
 hex_answer items s t r same first h v k = let p = hex_only s (length s) v first (subst (λ l. IsBytes l 0 (length l) v) (sym same) k) in h p.0 v p.1 p.2
 

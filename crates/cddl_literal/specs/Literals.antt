@@ -1,4 +1,4 @@
--- What literals from one place of a source to another stand for.
+-- What literals from one offset of a source to another stand for.
 use Rattle.std.specs.Prelude.{◌≡◌, ℕ, ◌⊎◌, List, Some, None}
 use Rattle.std.specs.String.{string_bytes}
 use Rattle.cddl_literal.specs.Numbers.{Meaning, UintOf, NintOf, TextOf, BytesOf}
@@ -9,19 +9,19 @@ use Rattle.cddl_literal.specs.declared.Coding.{Coding}
 use Rattle.cddl_literal.specs.declared.Literal.{Literal}
 use Rattle.cddl_literal.specs.declared.Literal.TheVariants.{Uint, Nint, Text, Bytes}
 
--- from a to b stands a text string whose UTF-8 is v
+-- from a to b is a text string whose UTF-8 is v
 abbrev pub IsText : List ℕ → ℕ → ℕ → List ℕ → Type 0
 IsText s a b v = IsQuoted Double s a b v
 
--- from a to b stands a byte string with prefix that stands for v
+-- from a to b is a byte string with prefix that stands for v
 abbrev pub IsDecoded : List ℕ → ℕ → ℕ → List ℕ → Type 0
 IsDecoded s a b v = (coding : Coding) × (d : List ℕ) × IsPrefixed coding s a b d × (decoded coding d ≡ Some v)
 
--- from a to b stands a byte string, plain or with a prefix, that stands for v
+-- from a to b is a byte string, plain or with a prefix, that stands for v
 abbrev pub IsBytes : List ℕ → ℕ → ℕ → List ℕ → Type 0
 IsBytes s a b v = IsQuoted Single s a b v ⊎ IsDecoded s a b v
 
--- from a to b stands a closed byte string with prefix that stands for nothing
+-- from a to b is a closed byte string with prefix that stands for nothing
 abbrev pub IsBadBytes : List ℕ → ℕ → ℕ → Type 0
 IsBadBytes s a b = (coding : Coding) × (d : List ℕ) × IsPrefixed coding s a b d × (decoded coding d ≡ None)
 

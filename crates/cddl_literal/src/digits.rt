@@ -1,26 +1,13 @@
-//! Bytes of a source, and the numbers that digits stand for.
+//! The numbers that digits stand for.
 
-ghost use Rattle.std.specs.Prelude.{◌≡◌, ℕ, ◌+◌, ◌<◌, ◌≤◌, ◌^◌, true, false, length, slice_index, SomeIff, IsTrue};
+ghost use Rattle.std.specs.Prelude.{◌≡◌, ℕ, ◌+◌, ◌<◌, ◌≤◌, ◌^◌, true, false, length, slice_index, SomeIff};
 ghost use Rattle.hex.specs.Hex.{is_hex_digit};
 ghost use Rattle.cddl_literal.specs.Bytes.{Each};
 ghost use Rattle.cddl_literal.specs.Numbers.{digit_value, number_after};
-ghost use Rattle.cddl_literal.specs.Prefixed.{IsCrLf};
 
-/// The byte at a place, or 0 past the end.
-pub(crate) fn byte_at(source: &[u8], at: usize) -> u8
-    ensures value { result ≡ slice_index source.now at }
-    ensures inside { 0 < result → at < length source.now }
-{
-    source.get(at).copied().unwrap_or(0)
-}
+use super::bytes::is_hex_digit;
 
-pub(crate) fn is_hex_digit(b: u8) -> bool
-    ensures { result ≡ is_hex_digit b }
-{
-    (b >= b'A' && b <= b'F') || (b >= b'a' && b <= b'f') || (b >= b'0' && b <= b'9')
-}
-
-/// The value of a digit of both cases, or 0.
+/// The value of a hex digit, of either case, or 0.
 #[tactic(auto, unfolding(crate::specs::Numbers::digit_value))]
 pub(crate) fn digit_value(b: u8) -> u32
     ensures value { result ≡ digit_value b }
@@ -50,15 +37,6 @@ pub(crate) fn hex_end(source: &[u8], at: usize) -> usize
         i += 1;
     }
     i
-}
-
-/// Whether a carriage return and a line feed stand here.
-pub(crate) fn is_cr_lf(source: &[u8], at: usize) -> bool
-    ensures yes { IsTrue result → IsCrLf source.now at }
-    ensures inside { IsTrue result → at + 1 < length source.now }
-    ensures no_line { result ≡ false → IsCrLf source.now at → ⊥ }
-{
-    byte_at(source, at) == b'\r' && byte_at(source, at + 1) == b'\n'
 }
 
 /// The number that digits stand for, up to 2^64.

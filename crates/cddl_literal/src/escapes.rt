@@ -2,23 +2,25 @@
 
 ghost use Rattle.std.specs.Prelude.{◌≡◌, ℕ, ◌+◌, ◌<◌, ◌≤◌, length, slice_index, MatchOption, SomeIff, ◌≢◌};
 ghost use Rattle.std.specs.Char.{IsScalar};
+ghost use Rattle.cddl_literal.specs.Bytes.{IsAt};
 ghost use Rattle.cddl_literal.specs.Numbers.{number_after};
 ghost use Rattle.cddl_literal.specs.Escapes.{letter_in, IsUnit};
 ghost use Rattle.cddl_literal.specs.Answers.{IsEscapeAt};
 
 use super::Quote;
-use super::digits::{byte_at, digit_value, hex_end, number};
+use super::bytes::byte_at;
+use super::digits::{digit_value, hex_end, number};
 
 /// An escape in a string.
 #[derive(Clone, Copy, Debug, PartialEq, Eq)]
 pub struct Escape {
-    /// The place behind it.
+    /// The offset after its last byte.
     pub end: usize,
     /// The character that it means.
     pub scalar: char,
 }
 
-/// The character that a letter behind a backslash means.
+/// The character that a letter after a backslash means.
 fn letter_in(quote: Quote, b: u8) -> Option<char>
     ensures { result ≡ letter_in quote b }
 {
@@ -39,7 +41,7 @@ fn letter_in(quote: Quote, b: u8) -> Option<char>
     }
 }
 
-/// The number of `\u` and four hex digits that stand here.
+/// The number of the `\u` and four hex digits that are here.
 fn unit_at(source: &[u8], at: usize) -> Option<u32>
     requires { at ≤ length source.now }
     ensures { MatchOption result ((n : ℕ) → IsUnit source.now at n → ⊥) (λ n. IsUnit source.now at n × (at + 6 ≤ length source.now) × (n < 65536)) }
@@ -66,12 +68,12 @@ fn scalar_of(digits: &[u8]) -> Option<char>
     char::from_u32(code as u32)
 }
 
-/// `\u` with braces, which stands here.
+/// The escape of `\u` with braces that is here.
 fn braced_at(source: &[u8], at: usize, quote: Quote) -> Option<Escape>
     requires within { at + 3 ≤ length source.now }
-    requires backslash { slice_index source.now at ≡ 92 }
-    requires letter { slice_index source.now (at + 1) ≡ 117 }
-    requires brace { slice_index source.now (at + 2) ≡ 123 }
+    requires backslash { IsAt "\\" source.now at }
+    requires letter { IsAt "u" source.now (at + 1) }
+    requires brace { IsAt "{" source.now (at + 2) }
     ensures { IsEscapeAt quote source.now at result }
 {
     let end = hex_end(source, at + 3);
@@ -87,11 +89,11 @@ fn braced_at(source: &[u8], at: usize, quote: Quote) -> Option<Escape>
     }
 }
 
-/// One or two `\u` with four hex digits each, which stand here.
+/// The escape of one or two `\u` with four hex digits each that is here.
 fn units_at(source: &[u8], at: usize, quote: Quote) -> Option<Escape>
     requires within { at + 2 ≤ length source.now }
-    requires backslash { slice_index source.now at ≡ 92 }
-    requires letter { slice_index source.now (at + 1) ≡ 117 }
+    requires backslash { IsAt "\\" source.now at }
+    requires letter { IsAt "u" source.now (at + 1) }
     requires no_brace { slice_index source.now (at + 2) ≢ 123 }
     ensures { IsEscapeAt quote source.now at result }
 {
@@ -116,7 +118,7 @@ fn units_at(source: &[u8], at: usize, quote: Quote) -> Option<Escape>
     })
 }
 
-/// The escape that stands here, in a string in such quotes (RFC 9682, section 2.1).
+/// The escape that is here, in a string in such quotes (RFC 9682, section 2.1).
 pub fn escape_at(source: &[u8], at: usize, quote: Quote) -> Option<Escape>
     ensures { IsEscapeAt quote source.now at result }
 {

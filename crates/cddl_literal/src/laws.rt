@@ -1,7 +1,7 @@
 //! Laws of the definitions, for whoever states more with them.
 
 ghost use Rattle.std.specs.Prelude.{◌≡◌, ℕ, ◌+◌, List, slice_index, slice_range, length};
-ghost use Rattle.cddl_literal.specs.Bytes.{HasAsciiEnds};
+ghost use Rattle.cddl_literal.specs.Bytes.{HasAsciiEnds, IsAt};
 ghost use Rattle.cddl_literal.specs.Escapes.{Escape as MeansAt};
 ghost use Rattle.cddl_literal.specs.Literals.{IsText, IsBytes, IsBadBytes};
 ghost use Rattle.cddl_literal.specs.Numbers.{Meaning, IsUint, IsNumber, IsTooLarge};
@@ -25,7 +25,7 @@ pub fn one_meaning()
 /// A string closes where what it may hold stops.
 pub fn closes_at_stop()
     ensures quoted { (quote : Quote) (s : List ℕ) (a b p : ℕ) (v : List ℕ) → IsQuoted quote s a b v → IsFurthest (HoldsCharacters quote s (a + 1)) p → (b ≡ p + 1) × (slice_index s p ≡ closing quote) }
-    ensures prefixed { (coding : Coding) (s : List ℕ) (a b e p : ℕ) (d : List ℕ) → IsPrefixed coding s a b d → Opens coding s a e → IsFurthest (HoldsCoded s e) p → (b ≡ p + 1) × (slice_index s p ≡ 39) }
+    ensures prefixed { (coding : Coding) (s : List ℕ) (a b e p : ℕ) (d : List ℕ) → IsPrefixed coding s a b d → Opens coding s a e → IsFurthest (HoldsCoded s e) p → (b ≡ p + 1) × IsAt "'" s p }
 {}
 
 /// What a part of a source spells, its bytes alone spell too, with the same meaning.
@@ -35,7 +35,7 @@ pub fn cut_out()
     ensures number { (s : List ℕ) (a b : ℕ) (m : Meaning) → IsNumber s a b m → let part = slice_range s a b in IsNumber part 0 (length part) m }
 {}
 
-/// Literals stand inside their source, and begin and end with ASCII.
+/// Literals are inside their source, and begin and end with ASCII.
 pub fn ends_in_ascii()
     ensures text { (s : List ℕ) (a b : ℕ) (v : List ℕ) → IsText s a b v → HasAsciiEnds s a b }
     ensures byte_string { (s : List ℕ) (a b : ℕ) (v : List ℕ) → IsBytes s a b v → HasAsciiEnds s a b }

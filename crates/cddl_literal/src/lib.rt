@@ -1,9 +1,10 @@
 //! What the literals of CDDL stand for: numbers, text strings and byte strings (RFC 8610, appendix B;
 //! RFC 9682, section 2.1).
 //!
-//! A place is a byte's index in a source. A place past the end reads as 0, which no literal holds.
+//! An offset is a byte's index in a source. A byte past the end reads as 0, which no literal holds.
 #![tactic(auto)]
 
+mod bytes;
 mod digits;
 mod escapes;
 mod laws;
@@ -12,6 +13,10 @@ mod prefixed;
 mod strings;
 mod values;
 
+pub use bytes::{
+    byte_at, is_b, is_binary_digit, is_blank, is_cr_lf, is_digit, is_h, is_hex_digit,
+    is_in_comment, is_x,
+};
 pub use escapes::{Escape, escape_at};
 pub use laws::{closes_at_stop, cut_out, ends_in_ascii, one_meaning};
 pub use numbers::{number_of, number_value, uint_of};
@@ -19,7 +24,7 @@ pub use prefixed::{bytes_between, coded_end};
 pub use strings::{characters_end, text_value};
 pub use values::bytes_value;
 
-/// What stands around a string.
+/// What is around a string.
 #[derive(Clone, Copy, Debug, PartialEq, Eq)]
 pub enum Quote {
     /// `"`, around a text string.

@@ -8,7 +8,7 @@ ghost use Rattle.cddl_literal.specs.Numbers.{Meaning, IsUint, IsSigned, IsNumber
 use super::Literal;
 use super::digits::number;
 
-/// The uint that stands from one place to another, if it is at most 2^64.
+/// The uint from one offset to another, if it is at most 2^64.
 fn magnitude(source: &[u8], from: usize, to: usize) -> Option<u128>
     requires within { to ≤ length source.now }
     requires spelled { (n : ℕ) × IsUint source.now from to n }
@@ -23,7 +23,7 @@ fn magnitude(source: &[u8], from: usize, to: usize) -> Option<u128>
     }
 }
 
-/// The uint that stands from one place to another, if it is below 2^64 (RFC 8610, appendix B).
+/// The uint from one offset to another, if it is below 2^64 (RFC 8610, appendix B).
 pub fn uint_of(source: &[u8], from: usize, to: usize) -> Option<u64>
     requires within { to ≤ length source.now }
     requires spelled { (n : ℕ) × IsUint source.now from to n }
@@ -33,8 +33,8 @@ pub fn uint_of(source: &[u8], from: usize, to: usize) -> Option<u64>
     u64::try_from(number).ok()
 }
 
-/// The number that stands from one place to another, maybe behind a `-`, if it is not too large: from
-/// -2^64 to 2^64 - 1.
+/// The number from one offset to another, maybe with a `-` before it, if it is not too large: from -2^64
+/// to 2^64 - 1.
 pub fn number_of(source: &[u8], from: usize, to: usize) -> Option<Literal>
     requires within { to ≤ length source.now }
     requires spelled { (minus : Bool) × (n : ℕ) × IsSigned minus source.now from to n }

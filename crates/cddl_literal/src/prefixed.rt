@@ -4,32 +4,27 @@ ghost use Rattle.std.specs.Prelude.{◌≡◌, ℕ, ◌+◌, ◌<◌, ◌≤◌,
 ghost use Rattle.std.specs.List.{list_any};
 ghost use Rattle.base64.specs.declared.decode.DecodeAllocError.{DecodeAllocError};
 ghost use Rattle.std.specs.Option.{option_map};
-ghost use Rattle.cddl_literal.specs.Bytes.{is_blank};
+ghost use Rattle.cddl_literal.specs.Bytes.{IsAt};
 ghost use Rattle.cddl_literal.specs.Strings.{IsFurthest};
 ghost use Rattle.cddl_literal.specs.Prefixed.{Coded, HoldsCoded, IsCommentTo, EndsComment, is_in_inner_comment, standard_letter, is_padding, hex_bytes, base64_bytes, decoded};
 
 use super::Coding;
-use super::digits::{byte_at, is_cr_lf};
+use super::bytes::{byte_at, is_blank, is_cr_lf, is_in_comment};
 use base64::DecodeAllocError;
 use base64::engine::general_purpose::{STANDARD, STANDARD_NO_PAD};
 use hex::FromHexError;
 use std::alloc::{AllocError, Global};
 
-fn is_blank(b: u8) -> bool
-    ensures { result ≡ is_blank b }
-{
-    b == b' ' || b == b'\t' || b == b'\n'
-}
-
+/// Whether a comment inside a byte string may hold a byte.
 fn is_in_inner_comment(b: u8) -> bool
     ensures { result ≡ is_in_inner_comment b }
 {
-    (b == b'\t' || (b >= 32 && b != 127)) && b != b'\'' && b != b'\\'
+    is_in_comment(b) && b != b'\'' && b != b'\\'
 }
 
 /// Where the comment that begins here ends, or holds what it may not.
 fn comment_stop(source: &[u8], at: usize) -> usize
-    requires begins { slice_index source.now at ≡ 59 }
+    requires begins { IsAt ";" source.now at }
     requires within { at < length source.now }
     ensures comment { IsCommentTo source.now at result }
     ensures stops { is_in_inner_comment (slice_index source.now result) ≡ false }
@@ -52,13 +47,13 @@ fn ends_comment(source: &[u8], at: usize) -> bool
 }
 
 /// Where what begins here stops, inside a byte string with prefix: where the string closes, at a
-/// backslash, at what a comment may not hold, or at the source's end. White space and comments may stand
+/// backslash, at what a comment may not hold, or at the source's end. White space and comments may be
 /// in it (RFC 8610, section 3.1).
 pub fn coded_end(source: &[u8], at: usize) -> usize
     requires { at ≤ length source.now }
     ensures furthest { IsFurthest (HoldsCoded source.now at) result }
     // A comment that reaches the closing quote ends there.
-    ensures closed { slice_index source.now result ≡ 39 → (d : List ℕ) × Coded source.now at result d }
+    ensures closed { IsAt "'" source.now result → (d : List ℕ) × Coded source.now at result d }
     ensures in_source { result ≤ length source.now }
 {
     let mut i = at;
@@ -83,7 +78,7 @@ pub fn coded_end(source: &[u8], at: usize) -> usize
     i
 }
 
-/// What stands from one place to another, without white space and comments.
+/// What is from one offset to another, without white space and comments.
 fn coded_between(
     alloc: Global,
     source: &[u8],
@@ -112,6 +107,7 @@ fn coded_between(
     Ok(out)
 }
 
+/// A letter of the alphabet for URLs as one of the standard alphabet.
 fn standard_letter(b: u8) -> u8
     ensures { result ≡ standard_letter b }
 {
@@ -174,8 +170,12 @@ fn base64_bytes(alloc: Global, letters: &[u8]) -> Result<Option<Vec<u8>>, AllocE
     }
 }
 
-/// The bytes that stand in a byte string with prefix between its quotes, or none where what stands there
-/// is no hex or base64 (RFC 4648, sections 4, 5 and 8). The only error is want of memory.
+/// The bytes of what is between the quotes of a byte string with prefix, or none where it is no hex or
+/// base64 (RFC 4648, sections 4, 5 and 8).
+///
+/// # Errors
+///
+/// `AllocError` where memory runs out.
 pub fn bytes_between(
     alloc: Global,
     coding: Coding,

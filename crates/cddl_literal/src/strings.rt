@@ -8,7 +8,7 @@ ghost use Rattle.cddl_literal.specs.Bytes.{Each};
 ghost use Rattle.cddl_literal.specs.Strings.{closing, is_plain, Characters, HoldsCharacters, IsFurthest};
 
 use super::Quote;
-use super::digits::is_cr_lf;
+use super::bytes::is_cr_lf;
 use super::escapes::escape_at;
 use std::alloc::{AllocError, Global};
 
@@ -37,7 +37,7 @@ fn plain_end(source: &[u8], at: usize, quote: Quote) -> usize
     i
 }
 
-/// Whether a carriage return and a line feed stand here, in a string that may hold them.
+/// Whether a carriage return and a line feed are here, in a string that may hold them.
 fn is_line(source: &[u8], at: usize, quote: Quote) -> bool
     ensures yes { IsTrue result → (quote ≡ Quote.Single) × IsCrLf source.now at }
     ensures inside { IsTrue result → at + 1 < length source.now }
@@ -72,7 +72,7 @@ pub fn characters_end(source: &[u8], at: usize, quote: Quote) -> usize
     i
 }
 
-/// The value of the characters from one place to another, between quotes.
+/// The value of the characters from one offset to another, between quotes.
 pub(crate) fn characters_between(
     alloc: Global,
     text: &str,
@@ -80,7 +80,7 @@ pub(crate) fn characters_between(
     to: usize,
     quote: Quote,
 ) -> Result<String, AllocError>
-    requires behind { 0 < from }
+    requires inside { 0 < from }
     requires opens { slice_index text.now (from - 1) ≡ closing quote }
     requires closes { slice_index text.now to ≡ closing quote }
     requires within { to < length text.now }
@@ -106,8 +106,11 @@ pub(crate) fn characters_between(
     Ok(out)
 }
 
-/// The characters of a text string, from its opening to its closing quote. The only error is want of
-/// memory.
+/// The characters of a text string, from its opening to its closing quote.
+///
+/// # Errors
+///
+/// `AllocError` where memory runs out.
 pub fn text_value(alloc: Global, text: &str) -> Result<String, AllocError>
     requires { (v : List ℕ) × IsText text.now 0 (length text.now) v }
     ensures { (v : List ℕ) → IsText text.now 0 (length text.now) v → IfOk result (λ t. string_bytes t ≡ v) }

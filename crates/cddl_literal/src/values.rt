@@ -1,11 +1,11 @@
 //! What byte strings stand for, from their opening to their closing sign.
 
 ghost use Rattle.std.specs.Prelude.{◌≡◌, ℕ, ◌+◌, ◌-◌, ◌<◌, ◌≤◌, List, Some, length, slice_index, IfOk};
-ghost use Rattle.cddl_literal.specs.Bytes.{is_h};
 ghost use Rattle.cddl_literal.specs.Strings.{IsQuoted};
 ghost use Rattle.cddl_literal.specs.Prefixed.{Opens, IsPrefixed, decoded};
 ghost use Rattle.cddl_literal.specs.Literals.{IsBytes};
 
+use super::bytes::is_h;
 use super::strings::characters_between;
 use super::{Coding, Quote, bytes_between};
 use std::alloc::{AllocError, Global};
@@ -19,7 +19,7 @@ fn plain_value(alloc: Global, text: &str) -> Result<Vec<u8>, AllocError>
     Ok(characters.into_bytes())
 }
 
-/// The bytes of a byte string with prefix, whose quote stands before `start`.
+/// The bytes of a byte string with prefix, whose quote is before `start`.
 fn prefixed_value(
     alloc: Global,
     coding: Coding,
@@ -36,15 +36,11 @@ fn prefixed_value(
     }
 }
 
-/// `h` or `H`.
-fn is_h(b: u8) -> bool
-    ensures { result ≡ is_h b }
-{
-    b == b'h' || b == b'H'
-}
-
-/// The bytes of a byte string, plain or with a prefix, from its first byte to its closing quote. The only
-/// error is want of memory.
+/// The bytes of a byte string, plain or with a prefix, from its first byte to its closing quote.
+///
+/// # Errors
+///
+/// `AllocError` where memory runs out.
 pub fn bytes_value(alloc: Global, text: &str) -> Result<Vec<u8>, AllocError>
     requires { (v : List ℕ) × IsBytes text.now 0 (length text.now) v }
     ensures { (v : List ℕ) → IsBytes text.now 0 (length text.now) v → IfOk result (λ b. b.items ≡ v) }

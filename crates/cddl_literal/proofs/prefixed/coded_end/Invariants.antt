@@ -5,9 +5,9 @@ use Rattle.cddl_literal.proofs.prefixed.coded_end.Given as goal
 abbrev pub invariant-loop-i : goal.invariant-loop-i
 invariant-loop-i l = record {
   in_source : l.i ≤ length l.source;
-  -- what stands from here on completes what has passed
+  -- what is from here on completes what has passed
   passed : (q : ℕ) (d : List ℕ) → Coded l.source l.i q d → (e : List ℕ) × Coded l.source l.at q e;
-  -- what reaches past this place stands from here on
+  -- what reaches past this offset is from here on
   left : (q : ℕ) → HoldsCoded l.source l.at q → (q ≤ l.i) ⊎ HoldsCoded l.source l.i q;
 }
 

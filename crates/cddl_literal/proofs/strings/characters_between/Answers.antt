@@ -21,7 +21,7 @@ joined_front v out front w out2 rest e f g = e ∙ ap (λ l. out ++ l) f ∙ sym
 pub loop-i-init : goal.loop-i-init
 loop-i-init c =
     let text = c.args.text.now in
-    let before : c.args.from - 1 + 1 ≡ c.args.from = (let some = c.requires.behind in omega arith) in
+    let before : c.args.from - 1 + 1 ≡ c.args.from = (let some = c.requires.inside in omega arith) in
     let in_range : c.args.from ≤ c.args.to = characters_le c.requires.holds.1 in
     record {
       in_range = in_range;
