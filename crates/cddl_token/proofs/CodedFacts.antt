@@ -1,4 +1,4 @@
--- What stands inside byte strings with prefix.
+-- What is inside byte strings with prefix.
 use Rattle.std.proofs.Common.{◌≡◌, ℕ, ◌+◌, ◌<◌, ◌≤◌, List, arith}
 use Rattle.cddl_literal.specs.Prefixed.{Coded, none, blank, line, comment, other}
 

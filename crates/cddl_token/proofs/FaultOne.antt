@@ -20,12 +20,12 @@ use Rattle.cddl_token.specs.declared.Kind.{Kind}
 use Rattle.cddl_token.specs.declared.Kind.TheVariants.{Name, NameOpen, Control, Number, Occur, Text, Bytes, Hash, TagOpen, TagHeadOpen, SimpleHeadOpen, Assign, TypeAssign, GroupAssign, Slash, DoubleSlash, Range, RangeBelow, Arrow, Cut, Colon, Comma, ParenOpen, ParenClose, BracketOpen, BracketClose, BraceOpen, BraceClose, AngleClose, Tilde, Ampersand, End}
 use Rattle.cddl_token.specs.Tokens.{IsLineEnd, StartsNoGap, IsToken, FaultAt, flawed, in_string, in_comment, unknown, Tokenized, ends, more, Refused, here, later, Spanned}
 use Rattle.cddl_token.proofs.Laws.{Laws}
-use Rattle.cddl_token.proofs.Begins.{elsewhere}
+use Rattle.cddl_token.proofs.BeginFacts.{elsewhere}
 use Rattle.cddl_token.proofs.NameFacts.{letter_begins, opens_elsewhere}
 use Rattle.cddl_token.proofs.StringFacts.{opening, opens_one}
-use Rattle.cddl_token.proofs.One.{gap_one, line_end_apart, longest_no_gap, longest_end, longest_one, end_no_gap, nothing_at_end, semicolon}
+use Rattle.cddl_token.proofs.TokenOne.{gap_one, line_end_apart, longest_no_gap, longest_end, longest_one, end_no_gap, nothing_at_end, semicolon}
 
--- the furthest place is one
+-- the furthest offset is one
 furthest_one : {P : ℕ → Type 0} {p r : ℕ} → IsFurthest P p → IsFurthest P r → r ≡ p
 furthest_one {P} {p} {r} h k = let up = h.furthest r k.reached in let down = k.furthest p h.reached in omega arith
 
@@ -100,7 +100,7 @@ module _ (laws : Laws) (s : List ℕ) (a : ℕ) where
       h.1
   quoted_hides Single p first far halt r b h = elsewhere r s a b first refl h
 
-  -- behind a prefix no `<` stands before the quote
+  -- after a prefix no `<` is before the quote
   prefix_no_open : (c : Coding) (p e : ℕ) → Opens c s a p → a < e → slice_index s e ≡ 60 → IsId s a e → ⊥
   prefix_no_open Hex p e opens past sign id =
       ⊎_elim
@@ -153,12 +153,12 @@ string_no_gap : (s : List ℕ) (a : ℕ) → OpensString s a → StartsNoGap s a
 string_no_gap s a h =
     ⊎_elim
     (λ q. ⊎_elim
-    (λ e. record { blank = ap is_blank e; line = λ first second. omega arith; comment = λ k c. let b = c.begins in omega arith })
-    (λ e. record { blank = ap is_blank e; line = λ first second. omega arith; comment = λ k c. let b = c.begins in omega arith })
+    (λ e. record { blank = ap is_blank e; line = λ l. omega (arith, l.0); comment = λ k c. let b = c.begins in omega arith })
+    (λ e. record { blank = ap is_blank e; line = λ l. omega (arith, l.0); comment = λ k c. let b = c.begins in omega arith })
     q)
     (λ p. let letter = (opening p.0 s a p.1 p.2).letter in record {
       blank = letter_blank (slice_index s a) letter;
-      line = λ first second. letter_other (slice_index s a) 13 letter refl first;
+      line = λ l. letter_other (slice_index s a) 13 letter refl l.0;
       comment = λ k c. letter_other (slice_index s a) 59 letter refl c.begins;
     })
     h
@@ -180,7 +180,7 @@ fault_no_gap (flawed e c l) = longest_no_gap l
 fault_no_gap {s} {a} (in_string f) = string_no_gap s a (string_opens f)
 fault_no_gap {s} (in_comment {at = at} e past within holds other no_end) = record {
   blank = ap is_blank e;
-  line = λ first second. omega arith;
+  line = λ l. omega (arith, l.0);
   comment = λ k c. ⊎_elim
       (λ lt. false≢true (sym other ∙ c.holds at (omega arith) lt))
       (λ ge. ⊎_elim

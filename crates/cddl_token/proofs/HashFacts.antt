@@ -1,4 +1,4 @@
--- What can be read where `#` stands.
+-- What can be read where `#` is.
 use Rattle.std.proofs.Common.{◌≡◌, ℕ, ◌+◌, ◌-◌, ◌^◌, ◌<◌, ◌≤◌, ◌⊎◌, inl, inr, Bool, true, false, List, length, slice_index, ap, sym, refl, subst, ◌∙◌, ⊎_elim, arith}
 use Rattle.std.proofs.lemmas.Bool.{cases_lt, false≢true}
 use Rattle.cddl_literal.specs.Bytes.{is_decimal_digit}
@@ -10,7 +10,7 @@ use Rattle.cddl_token.specs.Tokens.{IsToken, IsRead, FaultAt, flawed}
 use Rattle.cddl_token.specs.declared.Code.TheVariants.{NumberTooLarge}
 use Rattle.cddl_token.specs.declared.Kind.{Kind}
 use Rattle.cddl_token.specs.declared.Kind.TheVariants.{Hash, TagOpen, TagHeadOpen, SimpleHeadOpen}
-use Rattle.cddl_token.proofs.Begins.{is_signed, elsewhere, uint_digit, misspelled_begins, float_begins}
+use Rattle.cddl_token.proofs.BeginFacts.{is_signed, elsewhere, uint_digit, misspelled_begins, float_begins}
 use Rattle.cddl_token.proofs.ShapeOne.{not_in_uint, uint_past}
 
 module _ (s : List ℕ) (a : ℕ) (hash : slice_index s a ≡ 35) where
@@ -27,11 +27,11 @@ module _ (s : List ℕ) (a : ℕ) (hash : slice_index s a ≡ 35) where
   no_star : (b low high : ℕ) → IsStar s a b low high → ⊥
   no_star b low high h = ⊎_elim (λ e. let same = h.sign in let here = ap (λ n. slice_index s n) e.0 in omega arith) (λ u. no_uint u) h.before
 
-  -- a uint that is too large stands behind `#d.` here
+  -- a uint that is too large is after `#d.` here
   pub large_hash : (m : ℕ) → HoldsLarge s a m → (n : ℕ) × (IsHashNumber s a m n ⊎ IsTagNumberOpen s a m n) × (2 ^ 64 ≤ n)
   large_hash m h = ⊎_elim (λ x. absurd (no_number x.0 m x.1 x.2)) (λ other. ⊎_elim (λ x. absurd (no_star m x.0 x.1 x.2)) (λ x. x) other) h
 
--- behind `#d.` a uint, up to d
+-- after `#d.` a uint, up to d
 module _ (s : List ℕ) (a d : ℕ) (start : IsHashDot s a) (number : IsLongestBound s (a + 3) d) (some : a + 3 < d) where
   abbrev pub AtHash : ℕ → Type 0
   AtHash m = (m ≤ d) ⊎ ((m ≡ d + 1) × (slice_index s (a + 1) ≡ 54) × (slice_index s d ≡ 40))
@@ -90,7 +90,7 @@ module _ (s : List ℕ) (a d : ℕ) (start : IsHashDot s a) (number : IsLongestB
     pub large_hash_number : 2 ^ 64 ≤ number.number → IsLongest (Bad TooLarge) s a d
     large_hash_number large = record { spelled = inr (inr (number.number, inl the_hash_number, large)); longest = hash_within }
 
--- `#d`, and nothing that goes on behind the `.`
+-- `#d`, and nothing that goes on after the `.`
 module _ (s : List ℕ) (a d : ℕ) (start : IsHashDot s a) (number : IsLongestBound s (a + 3) d) (none : d ≡ a + 3) (no_head : slice_index s (a + 3) ≡ 60 → ⊥) where
   no_number_here : {m n : ℕ} → IsHashNumber s a m n → ⊥
   no_number_here {m} {n} h = let le = number.longest m n (inr h.number) in let past = uint_past s h.number in omega arith

@@ -4,14 +4,14 @@ use Rattle.std.proofs.lemmas.Bool.{false≢true}
 use Rattle.cddl_literal.specs.Bytes.{is_decimal_digit}
 use Rattle.cddl_literal.specs.Numbers.{IsUint, IsNumber, IsTooLarge, Meaning}
 use Rattle.cddl_token.specs.Numbers.{HoldsLarge, IsLargeHash, IsHashNumber, IsTagNumberOpen}
-use Rattle.cddl_token.specs.Spelling.{One, Three, Flaw, Misspelled, Fractional, TooLarge, Reading, Good, Bad, Spells}
+use Rattle.cddl_token.specs.Spelling.{Stands, Flaw, Misspelled, Fractional, TooLarge, Reading, Good, Bad, Spells}
 use Rattle.cddl_token.specs.declared.numbers.Shape.TheVariants as form
 use Rattle.cddl_token.specs.declared.Kind.{Kind}
 use Rattle.cddl_token.specs.declared.Kind.TheVariants.{Name, NameOpen, Control, Number, Occur, Text, Bytes, Hash, TagOpen, TagHeadOpen, SimpleHeadOpen, Assign, TypeAssign, GroupAssign, Slash, DoubleSlash, Range, RangeBelow, Arrow, Cut, Colon, Comma, ParenOpen, ParenClose, BracketOpen, BracketClose, BraceOpen, BraceClose, AngleClose, Tilde, Ampersand, End}
-use Rattle.cddl_token.proofs.Begins.{elsewhere, uint_digit, misspelled_begins, float_begins}
+use Rattle.cddl_token.proofs.BeginFacts.{elsewhere, uint_digit, misspelled_begins, float_begins}
 use Rattle.cddl_token.proofs.ShapeOne.{not_in_uint, uint_same, uint_past}
 use Rattle.cddl_token.proofs.HashFacts.{no_signed, large_hash}
-use Rattle.cddl_token.proofs.NumericOne.{number_no_large, occur_no_large, misspelled_no_large, float_no_large, hash_first, too_large_shape, not_starred, not_numeric}
+use Rattle.cddl_token.proofs.NumberOne.{number_no_large, occur_no_large, misspelled_no_large, float_no_large, hash_first, too_large_shape, not_starred, not_numeric}
 
 module _ (s : List ℕ) (a b : ℕ) where
   number_past : {n : ℕ} → IsHashNumber s a b n → a + 3 < b
@@ -28,10 +28,10 @@ module _ (s : List ℕ) (a b : ℕ) where
       let end = k.ends in
       not_in_uint s 40 refl refl refl refl refl refl refl refl (λ e. omega arith) (λ e. omega arith) h.number k.paren (omega arith) (omega arith) k.opens
 
-  number_no_three : {n : ℕ} → IsHashNumber s a b n → Three 35 54 40 s a b → ⊥
+  number_no_three : {n : ℕ} → IsHashNumber s a b n → Stands "#6(" s a b → ⊥
   number_no_three h k = let dot = h.dot in omega (arith, k.3)
 
-  tag_no_three : {n : ℕ} → IsTagNumberOpen s a b n → Three 35 54 40 s a b → ⊥
+  tag_no_three : {n : ℕ} → IsTagNumberOpen s a b n → Stands "#6(" s a b → ⊥
   tag_no_three h k = let past = tag_past h in omega (arith, k.0)
 
   number_no_head : {n : ℕ} → IsHashNumber s a b n → slice_index s (a + 3) ≡ 60 → ⊥

@@ -5,7 +5,7 @@ use Rattle.std.proofs.lemmas.Bool.Decides.{nat_tests}
 use Rattle.cddl_literal.specs.Bytes.{Each, is_decimal_digit}
 use Rattle.cddl_token.specs.Bytes.{is_ealpha, is_mark, is_id_byte, is_id_end}
 use Rattle.cddl_token.specs.Spelling.{IsId, IdRest, no_more, once_more, IsGrammarId}
-use Rattle.cddl_token.proofs.Each.{each_more}
+use Rattle.cddl_token.proofs.EachFacts.{each_more}
 
 end_no_mark : (b : ℕ) → is_id_end b ≡ true → is_mark b ≡ false
 end_no_mark b h = grind (arith, nat_tests)

@@ -1,21 +1,21 @@
-pub mod Begins
-pub mod CodedFacts
-pub mod Each
-pub mod HashFacts
-pub mod HashOne
-pub mod IdGrammar
-pub mod Laws
-pub mod NameFacts
-pub mod Numeric
-pub mod NumericOne
-pub mod One
-pub mod OneFault
-pub mod ShapeFacts
-pub mod ShapeOne
-pub mod Singles
-pub mod Source
-pub mod Spelled
-pub mod StringFacts
-pub mod Texts
-pub mod UintFacts
-pub mod ValueFacts
+mod BeginFacts
+mod CodedFacts
+mod EachFacts
+mod FaultOne
+mod HashFacts
+mod HashOne
+mod IdFacts
+mod Laws
+mod NameFacts
+mod NumberFacts
+mod NumberOne
+mod ShapeFacts
+mod ShapeOne
+mod SignOne
+mod SourceFacts
+mod SpellingFacts
+mod StringFacts
+mod TextFacts
+mod TokenOne
+mod UintFacts
+mod ValueFacts

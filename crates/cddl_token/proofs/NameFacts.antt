@@ -12,7 +12,7 @@ use Rattle.cddl_token.specs.Bytes.{is_ealpha, is_id_byte, is_mark}
 use Rattle.cddl_token.specs.Strings.{OpensPrefixed, OpensString}
 use Rattle.cddl_token.specs.Spelling.{IsId, Flaw, Misspelled, Fractional, TooLarge, Reading, Good, Bad, Spells, IsLongest}
 use Rattle.cddl_token.specs.Tokens.{IsToken}
-use Rattle.cddl_token.proofs.Begins.{begins, is_signed, elsewhere, begins_so}
+use Rattle.cddl_token.proofs.BeginFacts.{begins, is_signed, elsewhere, begins_so}
 use Rattle.cddl_token.specs.declared.Kind.{Kind}
 use Rattle.cddl_token.specs.declared.Kind.TheVariants.{Name, NameOpen, Control, Number, Occur, Text, Bytes, Hash, TagOpen, TagHeadOpen, SimpleHeadOpen, Assign, TypeAssign, GroupAssign, Slash, DoubleSlash, Range, RangeBelow, Arrow, Cut, Colon, Comma, ParenOpen, ParenClose, BracketOpen, BracketClose, BraceOpen, BraceClose, AngleClose, Tilde, Ampersand, End}
 

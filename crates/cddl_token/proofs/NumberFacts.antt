@@ -1,4 +1,4 @@
--- Nothing longer can be read where a number or an occurrence stands.
+-- Nothing longer can be read where a number or an occurrence is.
 use Rattle.std.proofs.Common.{◌≡◌, ℕ, ◌+◌, ◌-◌, ◌^◌, ◌<◌, ◌≤◌, ◌⊎◌, inl, inr, Bool, true, false, ◌||◌, ◌==◌, List, length, slice_index, Option, Some, None, ap, sym, refl, subst, ◌∙◌, ⊎_elim, arith}
 use Rattle.std.proofs.lemmas.Bool.{cases_lt, false≢true, or_from, ne_eqb}
 use Rattle.std.proofs.lemmas.Bool.Decides.{nat_tests}
@@ -17,7 +17,7 @@ use Rattle.cddl_token.specs.declared.numbers.Shape.TheVariants as form
 use Rattle.cddl_token.specs.declared.Kind.{Kind}
 use Rattle.cddl_token.specs.declared.Kind.TheVariants.{Name, NameOpen, Bytes, Number, Occur, End}
 use Rattle.cddl_token.specs.Tokens.{IsToken}
-use Rattle.cddl_token.proofs.Begins.{begins, is_signed, elsewhere, uint_digit, misspelled_digit, float_digit, misspelled_begins, float_begins}
+use Rattle.cddl_token.proofs.BeginFacts.{begins, is_signed, elsewhere, uint_digit, misspelled_digit, float_digit, misspelled_begins, float_begins}
 use Rattle.cddl_token.proofs.ShapeOne.{no_star, uint_no_misspelled, uint_no_float, uint_past, shape_past}
 
 digit_letter : (b : ℕ) → is_decimal_digit b ≡ true → is_ealpha b ≡ false
@@ -63,7 +63,7 @@ signed_shape false s a b n dash h = absurd (digit_not (slice_index s a) 45 (uint
 signed_shape true s a b n dash h = h.1
 
 module _ (s : List ℕ) (a : ℕ) where
-  -- where a digit stands: a number of some shape, or an occurrence
+  -- where a digit is: a number of some shape, or an occurrence
   abbrev pub AtDigit : ℕ → Type 0
   AtDigit m = ((q : Shape) × IsShape q s a m) ⊎ ((low high : ℕ) × IsStar s a m low high)
 
@@ -86,7 +86,7 @@ module _ (s : List ℕ) (a : ℕ) where
     digit_readings (Bad TooLarge) m h = large_at_digit m h
     digit_readings q m h = absurd (elsewhere q s a m refl (digit_begins q (slice_index s a) digit tt) h)
 
-    -- the `*` of an occurrence stands where the longest shape ends
+    -- the `*` of an occurrence is where the longest shape ends
     star_at_end : (shape : Shape) (d : ℕ) → IsLongestShape shape s a d → (m low high : ℕ) → (h : IsStar s a m low high) → (h.star ≡ d) × IsUint s a d low
     star_at_end shape d long m low high h =
         ⊎_elim
@@ -97,7 +97,7 @@ module _ (s : List ℕ) (a : ℕ) where
         (same, subst (λ n. IsUint s a n low) same u))
         h.before
 
-    -- nothing is longer than the longest shape, if no `*` stands behind it or it is no uint
+    -- nothing is longer than the longest shape, if no `*` is after it or it is no uint
     within_shape : (shape : Shape) (d : ℕ) → IsLongestShape shape s a d → ((low : ℕ) → IsUint s a d low → slice_index s d ≡ 42 → ⊥) → (q : Reading) (m : ℕ) → Spells q s a m → m ≤ d
     within_shape shape d long no_occur q m h =
         ⊎_elim
@@ -116,12 +116,12 @@ module _ (s : List ℕ) (a : ℕ) where
     pub a_number : (d : ℕ) → IsLongestShape Uint s a d → (slice_index s d ≡ 42 → ⊥) → (q : Reading) (m : ℕ) → Spells q s a m → m ≤ d
     a_number d long no_star = within_shape Uint d long (λ low u star. no_star star)
 
-  -- where `-` stands
+  -- where `-` is
   module _ (dash : slice_index s a ≡ 45) where
     no_digit_here : is_decimal_digit (slice_index s a) ≡ true → ⊥
     no_digit_here digit = digit_not (slice_index s a) 45 digit refl dash
 
-    -- `-` alone, or a number of some shape behind it
+    -- `-` alone, or a number of some shape after it
     abbrev pub AtDash : ℕ → Type 0
     AtDash m = (m ≡ a + 1) ⊎ ((q : Shape) × IsShape q s (a + 1) m)
 

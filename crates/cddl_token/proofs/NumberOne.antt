@@ -5,13 +5,13 @@ use Rattle.cddl_literal.specs.Bytes.{is_decimal_digit}
 use Rattle.cddl_literal.specs.Numbers.{IsUint, IsSigned, IsNumber, IsTooLarge, Meaning}
 use Rattle.cddl_token.specs.Numbers.{IsBound, IsStar, HoldsLarge, IsLargeStar, IsLargeHash, IsHashNumber, IsTagNumberOpen}
 use Rattle.cddl_token.specs.Shapes.{IsShape}
-use Rattle.cddl_token.specs.Spelling.{One, Flaw, Misspelled, Fractional, TooLarge, Reading, Good, Bad, Spells}
+use Rattle.cddl_token.specs.Spelling.{Stands, Flaw, Misspelled, Fractional, TooLarge, Reading, Good, Bad, Spells}
 use Rattle.cddl_token.specs.declared.numbers.Shape.{Shape}
 use Rattle.cddl_token.specs.declared.numbers.Shape.TheVariants as form
 use Rattle.cddl_token.specs.declared.Kind.{Kind}
 use Rattle.cddl_token.specs.declared.Kind.TheVariants.{Name, NameOpen, Control, Number, Occur, Text, Bytes, Hash, TagOpen, TagHeadOpen, SimpleHeadOpen, Assign, TypeAssign, GroupAssign, Slash, DoubleSlash, Range, RangeBelow, Arrow, Cut, Colon, Comma, ParenOpen, ParenClose, BracketOpen, BracketClose, BraceOpen, BraceClose, AngleClose, Tilde, Ampersand, End}
-use Rattle.cddl_token.proofs.Begins.{begins, is_signed, elsewhere, uint_digit}
-use Rattle.cddl_token.proofs.Numeric.{IsNoNumber, digit_begins, digit_not}
+use Rattle.cddl_token.proofs.BeginFacts.{begins, is_signed, elsewhere, uint_digit}
+use Rattle.cddl_token.proofs.NumberFacts.{IsNoNumber, digit_begins, digit_not}
 use Rattle.cddl_token.proofs.ShapeOne.{SignedShape, signed_one, signed_no_star, signed_past, signed_no_dash, signed_first, of_signed, no_star, uint_same, uint_past}
 
 -- `-` or `*` begins only numbers and occurrences
@@ -50,7 +50,7 @@ misspelled_of_float e = cc
 
 module _ (s : List ℕ) (a b : ℕ) where
   -- what a faulty number is
-  misspelled_shape : Spells (Bad Misspelled) s a b → One 45 s a b ⊎ SignedShape s form.Misspelled a b
+  misspelled_shape : Spells (Bad Misspelled) s a b → Stands "-" s a b ⊎ SignedShape s form.Misspelled a b
   misspelled_shape h = h
 
   pub not_numeric : (q : Shape) (r : Reading) → IsNoNumber r → SignedShape s q a b → Spells r s a b → ⊥
@@ -78,7 +78,7 @@ module _ (s : List ℕ) (a b : ℕ) where
     pub not_starred : (r : Reading) → IsNoNumber r → Spells r s a b → ⊥
     not_starred r other k = ⊎_elim (λ d. elsewhere r s a b refl (digit_begins r (slice_index s a) d other) k) (λ e. elsewhere r s a b e (star_begins r other) k) star_first
 
-  -- two occurrences have their `*` at one place
+  -- two occurrences have their `*` at one offset
   no_earlier : {low high low2 high2 : ℕ} (h : IsStar s a b low high) (k : IsStar s a b low2 high2) → h.star < k.star → ⊥
   no_earlier h k lt = ⊎_elim (λ e. let le = bound_le h.before in omega (arith, e.0)) (λ u. no_star s form.Uint (_, u) h.star (bound_le h.before) lt h.sign) k.before
 
@@ -100,14 +100,14 @@ module _ (s : List ℕ) (a b : ℕ) where
   small_star : {low high : ℕ} → IsStar s a b low high → low < 2 ^ 64 → high < 2 ^ 64 → IsLargeStar s a b → ⊥
   small_star h small_low small_high large = let same = star_same h large.2 in ⊎_elim (λ l. omega (arith, same.0)) (λ l. omega (arith, same.1)) large.3
 
-  -- none of these is at the same place as `#`
+  -- none of these is at the same offset as `#`
   pub hash_first : IsLargeHash s a b → slice_index s a ≡ 35
   hash_first h = ⊎_elim (λ x. x.hash) (λ x. x.number.hash) h.1
 
   shape_no_hash : (q : Shape) → SignedShape s q a b → slice_index s a ≡ 35 → ⊥
   shape_no_hash q h e = ⊎_elim (λ d. digit_not (slice_index s a) 35 d refl e) (λ f. omega arith) (signed_first s q a b h)
 
-  shape_no_sign : (q : Shape) → SignedShape s q a b → One 43 s a b ⊎ One 63 s a b → ⊥
+  shape_no_sign : (q : Shape) → SignedShape s q a b → Stands "+" s a b ⊎ Stands "?" s a b → ⊥
   shape_no_sign q h one =
       ⊎_elim
       (λ e. ⊎_elim (λ d. digit_not (slice_index s a) 43 d refl e.1) (λ f. omega (arith, e.1)) (signed_first s q a b h))

@@ -1,4 +1,4 @@
--- What can stand where the first digit of a number does.
+-- What can be read where a number begins with a digit.
 use Rattle.std.proofs.Common.{◌≡◌, ℕ, ◌+◌, ◌<◌, ◌≤◌, ◌⊎◌, inl, inr, Bool, true, false, List, length, Option, Some, None, slice_index, ap, sym, refl, subst, ◌∙◌, ⊎_elim, arith}
 use Rattle.std.proofs.lemmas.Bool.{cases_lt, false≢true}
 use Rattle.std.proofs.lemmas.Bool.Decides.{nat_tests}
@@ -11,7 +11,7 @@ use Rattle.cddl_token.specs.Numbers.{IsPrefix, IsMisspelled, zero_first, bare_he
 use Rattle.cddl_token.specs.Shapes.{IsDecimalTail, IsHexFraction, IsHexTail, IsShape, IsLongestShape}
 use Rattle.cddl_token.specs.declared.numbers.Shape.{Shape}
 use Rattle.cddl_token.specs.declared.numbers.Shape.TheVariants.{Uint, Misspelled, Float}
-use Rattle.cddl_token.proofs.Each.{each_within, run_same}
+use Rattle.cddl_token.proofs.EachFacts.{each_within, run_same}
 
 pub x_digit : (b : ℕ) → is_x b ≡ true → is_decimal_digit b ≡ false
 x_digit b h = grind (arith, nat_tests)
@@ -45,14 +45,14 @@ exponent_past (signed l g d e) = omega arith
 sign_digit : (b : ℕ) → is_sign b ≡ true → is_decimal_digit b ≡ true → ⊥
 sign_digit b h k = grind (arith, nat_tests)
 
--- an exponent ends at one place
+-- an exponent ends at one offset
 exponent_one : {letter : ℕ → Bool} {s : List ℕ} {i j k : ℕ} → IsExponent letter s i j → IsExponent letter s i k → k ≡ j
 exponent_one (unsigned l d e) (unsigned l2 d2 e2) = omega arith
 exponent_one {s = s} {i} (unsigned l d e) (signed l2 g2 d2 e2) = absurd (sign_digit (slice_index s (i + 1)) g2 d)
 exponent_one {s = s} {i} (signed l g d e) (unsigned l2 d2 e2) = absurd (sign_digit (slice_index s (i + 1)) g d2)
 exponent_one (signed l g d e) (signed l2 g2 d2 e2) = omega arith
 
--- behind `0x`
+-- after `0x`
 module _ (s : List ℕ) (a : ℕ) (prefix : IsPrefix is_x s a) where
   x_short : {m : ℕ} → IsRun is_decimal_digit s a m → m ≤ a + 1
   x_short run = each_within is_decimal_digit s (let le : a ≤ a + 1 = omega arith in le) (x_digit (slice_index s (a + 1)) prefix.1) run.holds
@@ -123,7 +123,7 @@ module _ (s : List ℕ) (a : ℕ) (prefix : IsPrefix is_x s a) (d : ℕ) (some :
       longest Misspelled n h = hex_misspelled s a prefix d from each stops h
       longest Float n h = absurd (no_tail n (hex_float s a prefix d from each stops h))
 
--- behind `0b`
+-- after `0b`
 module _ (s : List ℕ) (a : ℕ) (prefix : IsPrefix is_b s a) where
   b_short : {m : ℕ} → IsRun is_decimal_digit s a m → m ≤ a + 1
   b_short run = each_within is_decimal_digit s (let le : a ≤ a + 1 = omega arith in le) (b_digit (slice_index s (a + 1)) prefix.1) run.holds
@@ -211,7 +211,7 @@ module _ (s : List ℕ) (a : ℕ) (no_hex : IsPrefix is_x s a → ⊥) (no_binar
     pub decimal_is_misspelled : slice_index s a ≡ 48 → a + 1 < d → IsLongestShape Misspelled s a d
     decimal_is_misspelled zero longer = record { spelled = zero_first decimal_run zero longer; longest = decimal_longest }
 
--- where a digit stands, the digits end behind it
+-- where a digit is, the digits end after it
 pub past_first : (s : List ℕ) (a d : ℕ) → a ≤ d → is_decimal_digit (slice_index s a) ≡ true → is_decimal_digit (slice_index s d) ≡ false → a < d
 past_first s a d from digit stops = ⊎_elim (λ lt. lt) (λ ge. let same : d ≡ a = omega arith in absurd (false≢true (sym stops ∙ ap (λ n. is_decimal_digit (slice_index s n)) same ∙ digit))) (cases_lt a d)
 
@@ -224,7 +224,7 @@ pub hex_tail_from : (s : List ℕ) (d : ℕ) (r : Option ℕ) → ((m : ℕ) →
 hex_tail_from s d None no_exponent none = λ m tail. ⊎_elim (λ x. no_exponent m x) (λ x. none m x) tail
 hex_tail_from s d (Some e) no_exponent some = (inr some.0, some.1)
 
--- hex digits behind a `.`, and the exponent behind them
+-- hex digits after a `.`, and the exponent after them
 pub hex_fraction_from : (s : List ℕ) (d e : ℕ) (r : Option ℕ) → d + 1 < e → Each is_hex_digit s (d + 1) e → is_hex_digit (slice_index s e) ≡ false → slice_index s d ≡ 46 → MatchOption r ((m : ℕ) → IsExponent is_p s e m → ⊥) (λ j. IsExponent is_p s e j × (j ≤ length s)) → MatchOption r ((m : ℕ) → IsHexFraction s d m → ⊥) (λ j. IsHexFraction s d j × (j ≤ length s))
 hex_fraction_from s d e None some each stops dot none = λ m h.
     let same : h.0 ≡ e = run_same is_hex_digit s (let le : d + 1 ≤ e = omega arith in le) each stops h.2 (p_hex (slice_index s h.0) (marked h.3)) in

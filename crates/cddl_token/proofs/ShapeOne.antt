@@ -4,7 +4,7 @@ use Rattle.std.proofs.lemmas.Bool.{cases_lt, false≢true}
 use Rattle.hex.specs.Hex.{is_hex_digit}
 use Rattle.cddl_literal.specs.Bytes.{Each, IsRun, is_decimal_digit, is_binary_digit, is_x, is_b}
 use Rattle.cddl_literal.specs.Numbers.{IsUint, decimal, hexadecimal, binary, number_in, IsSigned}
-use Rattle.cddl_token.proofs.Begins.{uint_digit, misspelled_digit, float_digit}
+use Rattle.cddl_token.proofs.BeginFacts.{uint_digit, misspelled_digit, float_digit}
 use Rattle.cddl_token.specs.Bytes.{is_e, is_p, is_sign}
 use Rattle.cddl_token.specs.Numbers.{IsPrefix, IsMisspelled, zero_first, bare_hexadecimal, bare_binary, IsExponent, unsigned, signed, IsFloat, fraction, exponent, hex_exponent, hex_fraction}
 use Rattle.cddl_token.specs.Shapes.{IsShape}
@@ -57,7 +57,7 @@ module _ (s : List ℕ) where
   pub no_star : (q : Shape) {a b : ℕ} → IsShape q s a b → (i : ℕ) → a ≤ i → i < b → slice_index s i ≡ 42 → ⊥
   no_star q h i low high e = not_in_shape 42 refl refl refl refl refl refl refl refl (λ e. omega arith) (λ e. omega arith) q h i low high e
 
-  -- a decimal that reaches past its first byte has no letter behind it
+  -- a decimal that reaches past its first byte has no letter after it
   decimal_no_x : {a b : ℕ} → IsRun is_decimal_digit s a b → a + 1 < b → is_x (slice_index s (a + 1)) ≡ true → ⊥
   decimal_no_x {a} run past x = false≢true (sym (x_digit (slice_index s (a + 1)) x) ∙ run.holds (a + 1) (omega arith) past)
 
@@ -82,7 +82,7 @@ module _ (s : List ℕ) where
   digits_no_float run (hex_exponent p more exp) = let some = more.nonempty in let past = exponent_past exp in decimal_no_x run (omega arith) p.1
   digits_no_float run (hex_fraction p more dot last exp) = let some = more.nonempty in let rest = last.nonempty in let past = exponent_past exp in decimal_no_x run (omega arith) p.1
 
-  -- behind `0x` no decimal float
+  -- after `0x` no decimal float
   x_fraction : {a d : ℕ} → IsPrefix is_x s a → IsRun is_decimal_digit s a d → slice_index s d ≡ 46 → ⊥
   x_fraction {a} p run dot = let same = x_one s a p run in false≢true (sym (ap is_x dot) ∙ ap (λ n. is_x (slice_index s n)) same ∙ p.1)
 

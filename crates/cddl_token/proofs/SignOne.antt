@@ -1,7 +1,7 @@
 -- Bytes that spell a sign spell nothing else.
 use Rattle.std.proofs.Common.{◌≡◌, ℕ, ◌+◌, ◌-◌, ◌<◌, ◌≤◌, ◌⊎◌, true, false, List, slice_index, sym, refl, ap, ◌∙◌, ⊎_elim, arith}
 use Rattle.cddl_token.specs.Spelling.{Reading, Good, Bad, Spells}
-use Rattle.cddl_token.proofs.Begins.{elsewhere}
+use Rattle.cddl_token.proofs.BeginFacts.{elsewhere}
 use Rattle.cddl_token.specs.declared.Kind.{Kind}
 use Rattle.cddl_token.specs.declared.Kind.TheVariants.{Name, NameOpen, Control, Number, Occur, Text, Bytes, Hash, TagOpen, TagHeadOpen, SimpleHeadOpen, Assign, TypeAssign, GroupAssign, Slash, DoubleSlash, Range, RangeBelow, Arrow, Cut, Colon, Comma, ParenOpen, ParenClose, BracketOpen, BracketClose, BraceOpen, BraceClose, AngleClose, Tilde, Ampersand, End}
 

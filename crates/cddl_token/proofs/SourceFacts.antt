@@ -9,9 +9,9 @@ use Rattle.std.proofs.lemmas.List.Elements.{All-weaker}
 use Rattle.cddl_token.specs.declared.Token.{Token}
 use Rattle.cddl_token.specs.Answers.{span, IsTokenized, IsRefused, IsReadFrom, IsAnswered, StopsScan, InOrder}
 use Rattle.cddl_token.proofs.Laws.{Laws}
-use Rattle.cddl_token.proofs.One.{tokenized_one, gap_le}
-use Rattle.cddl_token.proofs.OneFault.{not_both, refused_one}
-use Rattle.cddl_token.proofs.Spelled.{spelled_past}
+use Rattle.cddl_token.proofs.TokenOne.{tokenized_one, gap_le}
+use Rattle.cddl_token.proofs.FaultOne.{not_both, refused_one}
+use Rattle.cddl_token.proofs.SpellingFacts.{spelled_past}
 
 pub one_list : Laws → {s : List ℕ} {ts us : List Spanned} → IsTokenized s ts → IsTokenized s us → us ≡ ts
 one_list laws first second = tokenized_one laws first.1 second.1
@@ -36,7 +36,7 @@ never_both laws found refused =
 at_end : (s : List ℕ) (i : ℕ) → i ≤ length s → InOrder i (length s) (token End (length s) (length s) ∷ [])
 at_end s i le = (le, omega arith, omega arith)
 
--- tokens stand in order
+-- tokens are in order
 pub tokenized_order : {s : List ℕ} {i : ℕ} {ts : List Spanned} → Tokenized s i ts → InOrder i (length s) ts
 tokenized_order {s} {i} (ends g e) = subst (InOrder i (length s)) (sym e) (at_end s i (gap_le g))
 tokenized_order {s} (more {a = a} {b = b} {kind = k} g t r) =

@@ -17,12 +17,12 @@ use Rattle.cddl_token.specs.Numbers.{IsBound, IsStar}
 use Rattle.cddl_token.specs.Spelling.{IsId, Reading, Good, Bad, Spells}
 use Rattle.cddl_token.specs.declared.Kind.{Kind}
 use Rattle.cddl_token.specs.declared.Kind.TheVariants.{Name, NameOpen, Control, Number, Occur, Text, Bytes, Hash, TagOpen, TagHeadOpen, SimpleHeadOpen, Assign, TypeAssign, GroupAssign, Slash, DoubleSlash, Range, RangeBelow, Arrow, Cut, Colon, Comma, ParenOpen, ParenClose, BracketOpen, BracketClose, BraceOpen, BraceClose, AngleClose, Tilde, Ampersand, End}
-use Rattle.cddl_token.proofs.Begins.{begins, begins_so}
+use Rattle.cddl_token.proofs.BeginFacts.{begins, begins_so}
 use Rattle.cddl_token.proofs.ShapeOne.{uint_past}
 use Rattle.cddl_token.proofs.NameFacts.{id_last}
 use Rattle.cddl_token.proofs.CodedFacts.{coded_le}
 
--- ASCII at one place is ASCII at the same place
+-- ASCII at one offset is ASCII at the same offset
 same_ascii : (s : List ℕ) (i j : ℕ) → i ≡ j → slice_index s j < 128 → slice_index s i < 128
 same_ascii s i j e h = subst (λ n. slice_index s n < 128) (sym e) h
 

@@ -12,21 +12,21 @@ use Rattle.cddl_literal.specs.declared.Coding.{Coding}
 use Rattle.cddl_literal.specs.declared.Coding.TheVariants.{Hex, Base64}
 use Rattle.cddl_token.specs.Strings.{OpensString}
 use Rattle.cddl_token.specs.Bytes.{is_ealpha, is_id_byte}
-use Rattle.cddl_token.proofs.Each.{each_within}
+use Rattle.cddl_token.proofs.EachFacts.{each_within}
 use Rattle.cddl_token.proofs.NameFacts.{letter_begins}
 use Rattle.std.proofs.lemmas.Bool.Decides.{nat_tests}
 use Rattle.cddl_token.specs.Spelling.{IsId, Reading, Good, Bad, Spells, IsLongest}
 use Rattle.cddl_token.specs.declared.Kind.{Kind}
 use Rattle.cddl_token.specs.declared.Kind.TheVariants.{Name, NameOpen, Text, Bytes}
 use Rattle.cddl_token.specs.Tokens.{IsToken}
-use Rattle.cddl_token.proofs.Begins.{elsewhere}
+use Rattle.cddl_token.proofs.BeginFacts.{elsewhere}
 
--- no prefix opens where another byte stands
+-- no prefix opens where another byte is
 pub opens_apart : (coding : Coding) (s : List ℕ) (a p : ℕ) → is_h (slice_index s a) ≡ false → is_b (slice_index s a) ≡ false → Opens coding s a p → ⊥
 opens_apart Hex s a p no_h no_b h = false≢true (sym no_h ∙ h.0)
 opens_apart Base64 s a p no_h no_b h = false≢true (sym no_b ∙ h.0)
 
--- a string in quotes ends at the furthest place that its characters reach
+-- a string in quotes ends at the furthest offset that its characters reach
 pub quoted_within : (q : Quote) (s : List ℕ) (a p m : ℕ) (v : List ℕ) → IsFurthest (HoldsCharacters q s (a + 1)) p → IsQuoted q s a m v → m ≤ p + 1
 quoted_within q s a p m v far h = let le = far.furthest h.end (v, h.holds) in omega (arith, h.ends)
 
@@ -49,7 +49,7 @@ quote_positive : (q : Quote) → 0 < closing q
 quote_positive Double = omega arith
 quote_positive Single = omega arith
 
--- where a quote stands the source goes on
+-- where a quote is the source goes on
 pub closed_within : (q : Quote) (s : List ℕ) (p : ℕ) → slice_index s p ≡ closing q → p + 1 ≤ length s
 closed_within q s p close =
     ⊎_elim (λ lt. omega arith) (λ ge. let zero = get_or_past s p 0 ge in let some = quote_positive q in absurd (omega arith)) (cases_lt p (length s))
@@ -82,7 +82,7 @@ pub opening : (coding : Coding) (s : List ℕ) (a p : ℕ) → Opens coding s a 
 opening Hex s a p h = record { letter = h_letter (slice_index s a) h.0; past = omega (arith, h.2); quote = ap (λ n. slice_index s n) (let same : p - 1 ≡ a + 1 = omega (arith, h.2) in same) ∙ h.1 }
 opening Base64 s a p h = record { letter = b_letter (slice_index s a) h.0; past = omega (arith, h.4); quote = ap (λ n. slice_index s n) (let same : p - 1 ≡ a + 3 = omega (arith, h.4) in same) ∙ h.3 }
 
--- one prefix opens at a place
+-- one prefix opens at an offset
 pub opens_one : (c d : Coding) (s : List ℕ) (a p r : ℕ) → Opens c s a p → Opens d s a r → (d ≡ c) × (r ≡ p)
 opens_one Hex Hex s a p r h k = (refl, omega (arith, h.2, k.2))
 opens_one Hex Base64 s a p r h k = absurd (h_b (slice_index s a) h.0 k.0)
@@ -111,7 +111,7 @@ module _ (coding : Coding) (s : List ℕ) (a start p : ℕ) (opens : Opens codin
   pub prefixed_token : (d v : List ℕ) → Coded s start p d → slice_index s p ≡ 39 → decoded coding d ≡ Some v → IsToken Bytes s a (p + 1)
   prefixed_token d v held close value = record { longest = record { spelled = (v, inr (coding, d, record { start = start; end = p; opens = opens; holds = held; closes = close; ends = refl }, value)); longest = prefixed_longest }; allowed = tt }
 
--- no string opens where no letter and no quote stands
+-- no string opens where no letter and no quote is
 pub opens_nothing : (s : List ℕ) (a : ℕ) → is_ealpha (slice_index s a) ≡ false → (slice_index s a ≡ 34 → ⊥) → (slice_index s a ≡ 39 → ⊥) → OpensString s a → ⊥
 opens_nothing s a other double single h =
     ⊎_elim (λ q. ⊎_elim (λ e. double e) (λ e. single e) q) (λ p. false≢true (sym other ∙ (opening p.0 s a p.1 p.2).letter)) h

@@ -12,11 +12,11 @@ use Rattle.cddl_token.specs.Tokens.{IsLineEnd, IsComment, GapFrom, none, blank, 
 use Rattle.cddl_token.specs.declared.Kind.{Kind}
 use Rattle.cddl_token.specs.declared.Kind.TheVariants.{Name, NameOpen, Control, Number, Occur, Text, Bytes, Hash, TagOpen, TagHeadOpen, SimpleHeadOpen, Assign, TypeAssign, GroupAssign, Slash, DoubleSlash, Range, RangeBelow, Arrow, Cut, Colon, Comma, ParenOpen, ParenClose, BracketOpen, BracketClose, BraceOpen, BraceClose, AngleClose, Tilde, Ampersand, End}
 use Rattle.cddl_token.proofs.Laws.{Laws}
-use Rattle.cddl_token.proofs.Begins.{begins, elsewhere, begins_nothing}
+use Rattle.cddl_token.proofs.BeginFacts.{begins, elsewhere, begins_nothing}
 use Rattle.cddl_token.proofs.NameFacts.{name_one, name_open_one, control_one, range_one, range_below_one, letter_begins, IsNoName, bytes_last, id_last}
-use Rattle.cddl_token.proofs.NumericOne.{number_one, occur_one, misspelled_one, float_one}
+use Rattle.cddl_token.proofs.NumberOne.{number_one, occur_one, misspelled_one, float_one}
 use Rattle.cddl_token.proofs.HashOne.{hash_one, tag_open_one, tag_head_one, simple_head_one, too_large_one}
-use Rattle.cddl_token.proofs.Singles as sign
+use Rattle.cddl_token.proofs.SignOne as sign
 use Rattle.cddl_token.proofs.StringFacts.{opening}
 
 -- a comment doesn't hold the end of a line
@@ -29,25 +29,25 @@ comment_within {s} {i} {j} {k} first second = ⊎_elim (λ lt. absurd (false≢t
 pub gap_le : {s : List ℕ} {i j : ℕ} → GapFrom s i j → i ≤ j
 gap_le (none e) = omega arith
 gap_le (blank p r) = let le = gap_le r in omega arith
-gap_le (line p q r) = let le = gap_le r in omega arith
+gap_le (line p r) = let le = gap_le r in omega arith
 gap_le (comment p r) = let le = gap_le r in let past = p.past in omega arith
 
 gap_within : {s : List ℕ} {i j k : ℕ} → GapFrom s i j → GapFrom s i k → StartsNoGap s j → k ≤ j
 gap_within (none e) (none f) stop = omega arith
 gap_within {s} (none e) (blank p r) stop = absurd (false≢true (sym stop.blank ∙ ap (λ n. is_blank (slice_index s n)) (sym e) ∙ p))
-gap_within {s} (none e) (line p q r) stop = absurd (stop.line (ap (λ n. slice_index s n) (sym e) ∙ p) (ap (λ n. slice_index s (n + 1)) (sym e) ∙ q))
+gap_within {s} (none e) (line p r) stop = absurd (stop.line (ap (λ n. slice_index s n) (sym e) ∙ p.0, ap (λ n. slice_index s (n + 1)) (sym e) ∙ p.1))
 gap_within {s} (none e) (comment {k = l} p r) stop = absurd (stop.comment l (subst (λ n. IsComment s n l) e p))
 gap_within (blank p r) (none e) stop = let le = gap_le r in omega arith
 gap_within (blank p r) (blank q r2) stop = gap_within r r2 stop
-gap_within (blank p r) (line q q2 r2) stop = absurd (false≢true (rw q at p))
+gap_within (blank p r) (line q r2) stop = absurd (false≢true (rw q.0 at p))
 gap_within (blank p r) (comment q r2) stop = absurd (false≢true (let e = q.begins in rw e at p))
-gap_within (line p p2 r) (none e) stop = let le = gap_le r in omega arith
-gap_within (line p p2 r) (blank q r2) stop = absurd (false≢true (rw p at q))
-gap_within (line p p2 r) (line q q2 r2) stop = gap_within r r2 stop
-gap_within (line p p2 r) (comment q r2) stop = absurd (let e = q.begins in omega arith)
+gap_within (line p r) (none e) stop = let le = gap_le r in omega arith
+gap_within (line p r) (blank q r2) stop = absurd (false≢true (rw p.0 at q))
+gap_within (line p r) (line q r2) stop = gap_within r r2 stop
+gap_within (line p r) (comment q r2) stop = absurd (let e = q.begins in omega (arith, p.0))
 gap_within (comment p r) (none e) stop = let le = gap_le r in let past = p.past in omega arith
 gap_within (comment p r) (blank q r2) stop = absurd (false≢true (let e = p.begins in rw e at q))
-gap_within (comment p r) (line q q2 r2) stop = absurd (let e = p.begins in omega arith)
+gap_within (comment p r) (line q r2) stop = absurd (let e = p.begins in omega (arith, q.0))
 gap_within {s} {j = j} {k = k} (comment {k = l} p r) (comment {k = m} q r2) stop =
     let upper = comment_within p q in
     let lower = comment_within q p in
@@ -76,7 +76,7 @@ blank_begins q b h = begins_nothing b (letter_blank b h) (digit_blank b h) (sing
 pub byte_begins : (q : Reading) (s : List ℕ) (a b k : ℕ) → slice_index s a ≡ k → ((q : Reading) → begins q k ≡ false) → Spells q s a b → ⊥
 byte_begins q s a b k e no_one h = elsewhere q s a b e (no_one q) h
 
--- nothing begins with `;`, a carriage return, or behind the end
+-- nothing begins with `;`, a carriage return, or after the end
 pub semicolon : (q : Reading) (s : List ℕ) (a b : ℕ) → slice_index s a ≡ 59 → Spells q s a b → ⊥
 semicolon q s a b e h = byte_begins q s a b 59 e (begins_nothing 59 refl refl refl (λ e. omega arith) (λ e. omega arith) (λ e. omega arith) (λ e. omega arith) (λ e. omega arith) (λ e. omega arith) (λ e. omega arith) (λ e. omega arith)) h
 
@@ -89,14 +89,14 @@ nothing_at_end q s a b e h = byte_begins q s a b 0 (get_or_past s a 0 (omega ari
 spelled_no_gap : (q : Reading) (s : List ℕ) (a b : ℕ) → Spells q s a b → StartsNoGap s a
 spelled_no_gap q s a b h = record {
   blank = ⊎_elim (λ yes. absurd (elsewhere q s a b refl (blank_begins q _ yes) h)) (λ otherwise. otherwise) (cases_Bool (is_blank (slice_index s a)));
-  line = λ first second. return_begins q s a b first h;
+  line = λ l. return_begins q s a b l.0 h;
   comment = λ k c. semicolon q s a b c.begins h;
 }
 
 pub end_no_gap : (s : List ℕ) → StartsNoGap s (length s)
 end_no_gap s = let zero = get_or_past s (length s) 0 (omega arith) in record {
   blank = ap is_blank zero;
-  line = λ first second. omega arith;
+  line = λ l. omega (arith, l.0);
   comment = λ k c. let e = c.begins in omega arith;
 }
 

@@ -9,7 +9,7 @@ use Rattle.cddl_token.specs.Numbers.{IsPrefix, IsBound}
 use Rattle.cddl_token.specs.Shapes.{is_digit_in, marks_radix, IsLongestBound}
 use Rattle.cddl_token.specs.declared.numbers.Radix.{Radix}
 use Rattle.cddl_token.specs.declared.numbers.Radix.TheVariants.{Binary, Decimal, Hexadecimal}
-use Rattle.cddl_token.proofs.Each.{each_within}
+use Rattle.cddl_token.proofs.EachFacts.{each_within}
 use Rattle.cddl_token.proofs.ShapeFacts.{x_b, zero_run}
 
 module _ (s : List ℕ) (a : ℕ) where

@@ -20,11 +20,11 @@ use Rattle.std.specs.Str.Lossy.{utf8_valid_len}
 abbrev pub span : Token → Spanned
 span t = record { kind = t.kind; start = t.start; end = t.end }
 
--- the token's text is the part of the source where it stands
+-- the token's text is its part of the source
 abbrev pub IsCut : List ℕ → Token → Type 0
 IsCut s t = t.text.now ≡ slice_range s t.start t.end
 
--- the token is read where it stands in s, or ends it
+-- the token is read from its part of s, or ends s
 abbrev pub IsReadFrom : List ℕ → Token → Type 0
 IsReadFrom s t = IsCut s t × ((t.kind ≡ End) ⊎ Spells (Good t.kind) s t.start t.end)
 
@@ -32,7 +32,7 @@ IsReadFrom s t = IsCut s t × ((t.kind ≡ End) ⊎ Spells (Good t.kind) s t.sta
 abbrev pub IsAnswered : Token → Type 0
 IsAnswered t = (s : List ℕ) × IsReadFrom s t
 
--- each begins at `at` or later, behind the one before, and ends at `end` or earlier
+-- each begins at `at` or later, after the one before, and ends at `end` or earlier
 abbrev pub InOrder : ℕ → ℕ → List Spanned → Type 0
 InOrder at end [] = at ≤ end
 InOrder at end (t ∷ ts) = (at ≤ t.start) × (t.start ≤ t.end) × InOrder t.end end ts
@@ -54,7 +54,7 @@ abbrev pub Refuses : List ℕ → Refusal → Type 0
 Refuses s (At code at) = IsRefused s code at
 Refuses s Memory = Unit {0}
 
--- the refusal is why no token can be read at some place, or memory ran out
+-- the refusal is why no token can be read at some offset, or memory ran out
 abbrev pub StopsScan : List ℕ → Refusal → Type 0
 StopsScan s (At code at) = Refused s 0 code at
 StopsScan s Memory = Unit {0}

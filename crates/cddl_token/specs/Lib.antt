@@ -1,5 +1,6 @@
 pub mod Answers
 pub mod Bytes
+pub mod Messages
 pub mod Numbers
 pub mod Shapes
 pub mod Signs

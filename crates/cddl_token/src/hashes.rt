@@ -1,25 +1,25 @@
 //! What begins with `#`.
 
 ghost use Rattle.std.specs.Prelude.{◌≡◌, ℕ, ◌+◌, ◌<◌, ◌≤◌, true, false, length, slice_index, IsTrue};
-ghost use Rattle.cddl_literal.specs.Bytes.{is_decimal_digit};
+ghost use Rattle.cddl_literal.specs.Bytes.{IsAt};
 ghost use Rattle.cddl_token.specs.Numbers.{IsHashNumber, IsBound};
 ghost use Rattle.cddl_token.specs.Shapes.{IsLongestBound, IsHashDot};
 ghost use Rattle.cddl_token.specs.Tokens.{IsToken, IsRead};
 
-use crate::bytes::{byte_at, is_digit};
 use crate::uints::{fits, uint_end};
 use crate::{Code, Fault, Kind};
+use cddl_literal::{byte_at, is_digit};
 
-/// Whether `6` stands behind `#`, and `(` here.
+/// Whether `6` is after `#`, and `(` is here.
 fn opens_tag(source: &[u8], at: usize, here: usize) -> bool
     requires { at < length source.now }
-    ensures yes { IsTrue result → (slice_index source.now (at + 1) ≡ 54) × (slice_index source.now here ≡ 40) × (here < length source.now) }
-    ensures otherwise { result ≡ false → slice_index source.now (at + 1) ≡ 54 → slice_index source.now here ≡ 40 → ⊥ }
+    ensures yes { IsTrue result → IsAt "6" source.now (at + 1) × IsAt "(" source.now here × (here < length source.now) }
+    ensures otherwise { result ≡ false → IsAt "6" source.now (at + 1) → IsAt "(" source.now here → ⊥ }
 {
     byte_at(source, at + 1) == b'6' && byte_at(source, here) == b'('
 }
 
-/// What stands behind `#d.`, the uint up to `end`.
+/// What begins with `#d.` and the uint up to `end`.
 fn hash_number_at(source: &[u8], at: usize, end: usize) -> Result<(Kind, usize), Fault>
     requires begins { IsHashDot source.now at }
     requires number { IsLongestBound source.now (at + 3) end }
@@ -61,7 +61,7 @@ fn hash_dot_at(source: &[u8], at: usize) -> Result<(Kind, usize), Fault>
 /// The token that begins with `#`, a digit, `.` and `<`.
 fn head_at(source: &[u8], at: usize) -> (Kind, usize)
     requires begins { IsHashDot source.now at }
-    requires sign { slice_index source.now (at + 3) ≡ 60 }
+    requires sign { IsAt "<" source.now (at + 3) }
     requires within { at + 4 ≤ length source.now }
     ensures token { IsToken result.0 source.now at result.1 }
     ensures in_source { result.1 ≤ length source.now }
@@ -75,7 +75,7 @@ fn head_at(source: &[u8], at: usize) -> (Kind, usize)
 
 /// The token that begins with `#`.
 pub(crate) fn hash_at(source: &[u8], at: usize) -> Result<(Kind, usize), Fault>
-    requires begins { slice_index source.now at ≡ 35 }
+    requires begins { IsAt "#" source.now at }
     requires within { at < length source.now }
     ensures { IsRead source.now at result }
 {

@@ -1,12 +1,13 @@
 //! The tokens of a CDDL specification (RFC 8610, appendix B, with the updates of RFC 9682).
 //!
-//! A source is gaps (white space and comments) and tokens by turns. At each place the longest
-//! token is taken. [`tokens`] answers them with their places, or why there are none, and where.
+//! A source is gaps (white space and comments) and tokens by turns. At each offset the longest
+//! token is taken. [`tokens`] answers them with their offsets, or why there are none, and where.
 #![tactic(auto)]
 
-ghost use Rattle.std.specs.Prelude.{◌≡◌, ◌≢◌, ℕ, ◌<◌, ◌≤◌, ◌↔◌, ◌⊎◌, List, map, length, All, IsUtf8, IfOk, IfErr, IsOk, MatchResult};
+ghost use Rattle.std.specs.Prelude.{◌≡◌, ◌≢◌, ℕ, ◌<◌, ◌≤◌, ◌↔◌, ◌⊎◌, List, map, length, All, IsUtf8, IfOk, IfErr, IsOk, MatchResult, Some};
 ghost use Rattle.std.specs.Str.Lossy.{utf8_valid_len};
 ghost use Rattle.cddl_token.specs.Answers.{span, IsAnswered, IsReadFrom, InOrder, IsTokenized, IsRefused, Refuses, StandsFor};
+ghost use Rattle.cddl_token.specs.Messages.{code_text, refusal_text};
 ghost use Rattle.cddl_token.specs.Spelling.{IsId, IsGrammarId};
 ghost use Rattle.cddl_token.specs.Tokens.{Spanned, Tokenized, Refused};
 ghost use Rattle.cddl_token.specs.declared.Code.{Code};
@@ -43,7 +44,7 @@ pub enum Kind {
     Occur,
     /// A text string in `"`.
     Text,
-    /// A byte string in `'`, plain or behind `h` or `b64`.
+    /// A byte string in `'`, plain or after `h` or `b64`.
     Bytes,
     /// `#`, `#d` or `#d.n`, d one digit and n a uint.
     Hash,
@@ -97,14 +98,14 @@ pub enum Kind {
     End,
 }
 
-/// A token, and where it stands in its source.
+/// A token, and where it is in its source.
 #[derive(Clone, Copy, Debug, PartialEq, Eq)]
 pub struct Token<'s> {
     /// What it is.
     pub kind: Kind,
     /// The offset of its first byte.
     pub start: usize,
-    /// The offset behind its last byte.
+    /// The offset after its last byte.
     pub end: usize,
     /// The source from `start` to `end`.
     pub text: &'s str,
@@ -125,7 +126,7 @@ pub enum Code {
     BadNumber,
     /// S6: a float literal.
     FloatLiteral,
-    /// S7: a uint over 2^64 - 1; behind `-` over 2^64.
+    /// S7: a uint over 2^64 - 1; after `-` one over 2^64.
     NumberTooLarge,
     /// S8: a byte string in hex or base64 that stands for no bytes.
     BadBytes,
@@ -183,6 +184,8 @@ pub enum Refusal {
 }
 
 impl fmt::Display for Code {
+    ghost output = { λ code. Some (code_text code) };
+
     /// The number and the name, as `S4 BadEscape`.
     fn fmt<W: fmt::Write>(&self, f: &mut fmt::Formatter<W>) -> fmt::Result {
         f.write_str(label(*self))
@@ -190,6 +193,8 @@ impl fmt::Display for Code {
 }
 
 impl fmt::Display for Refusal {
+    ghost output = { λ refusal. Some (refusal_text refusal) };
+
     /// The line that says so, as `refused: S4 BadEscape at byte 5`.
     fn fmt<W: fmt::Write>(&self, f: &mut fmt::Formatter<W>) -> fmt::Result {
         match self {
@@ -218,7 +223,9 @@ impl<T: Drop> From<AllocFailed<T>> for Refusal {
 }
 
 /// The number and the name of a code.
-fn label(code: Code) -> &'static str {
+fn label(code: Code) -> &'static str
+    ensures { result.now ≡ code_text code }
+{
     match code {
         Code::NotUtf8 => "S1 NotUtf8",
         Code::BadCharacter => "S2 BadCharacter",
@@ -266,9 +273,11 @@ pub const SOURCE_LIMIT: usize = 1_048_576;
 
 /// The tokens of a source, with [`Kind::End`] last (RFC 8610, appendix B; RFC 9682).
 ///
-/// Errors: `At` with the code of the first fault and the offset where it shows. A source over
-/// [`SOURCE_LIMIT`] comes before one that is not UTF-8, and that before the others. `Memory` where
-/// a growth was refused.
+/// # Errors
+///
+/// `At` with the code of the first fault and the offset where it shows. That a source is over
+/// [`SOURCE_LIMIT`] comes first, then that it is not UTF-8, then all others. `Memory` where a growth
+/// was refused.
 pub fn tokens<'s>(alloc: Global, source: &'s [u8]) -> Result<Vec<Token<'s>>, Refusal>
     // What is answered are the source's tokens.
     ensures found { IfOk result (λ v. IsTokenized source.now (map span v.items)) }
@@ -276,7 +285,7 @@ pub fn tokens<'s>(alloc: Global, source: &'s [u8]) -> Result<Vec<Token<'s>>, Ref
     ensures each { IfOk result (λ v. All (IsReadFrom source.now) v.items) }
     // So each may be asked for its value.
     ensures answered { IfOk result (λ v. All IsAnswered v.items) }
-    // They stand in order, within the source, and do not overlap.
+    // They are in order, within the source, and do not overlap.
     ensures in_order { IfOk result (λ v. InOrder 0 (length source.now) (map span v.items)) }
     // Where the source has tokens, they are the answer, unless memory runs out.
     ensures only { (ts : List Spanned) → IsTokenized source.now ts → MatchResult result (λ v. map span v.items ≡ ts) (λ e. e ≡ Refusal.Memory) }
@@ -300,8 +309,11 @@ pub fn tokens<'s>(alloc: Global, source: &'s [u8]) -> Result<Vec<Token<'s>>, Ref
 
 /// What a number, a text or a byte string stands for; nothing for other tokens.
 ///
-/// It asks for a token that [`tokens`] answered. It fails only where a growth was refused, and never at a token that is
-/// neither a text nor a byte string.
+/// It asks for a token that [`tokens`] answered.
+///
+/// # Errors
+///
+/// `AllocError` where a growth was refused, and never at a token that is neither a text nor a byte string.
 pub fn value(alloc: Global, token: &Token<'_>) -> Result<Option<Literal>, AllocError>
     requires { IsAnswered token.now }
     // Of whatever source it is a token, that is what it stands for there.
@@ -318,7 +330,7 @@ pub fn value(alloc: Global, token: &Token<'_>) -> Result<Option<Literal>, AllocE
     }
 }
 
-/// A source has one list of tokens, or is refused for one fault at one place, and never both.
+/// A source has one list of tokens, or is refused for one fault at one offset, and never both.
 pub fn one_answer()
     ensures tokens { (s : List ℕ) (ts us : List Spanned) → IsTokenized s ts → IsTokenized s us → us ≡ ts }
     ensures fault { (s : List ℕ) (c d : Code) (p q : ℕ) → IsRefused s c p → IsRefused s d q → (d ≡ c) × (q ≡ p) }

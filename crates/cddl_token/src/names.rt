@@ -1,13 +1,15 @@
 //! Names, and what begins with `.`.
 
 ghost use Rattle.std.specs.Prelude.{◌≡◌, ℕ, ◌+◌, ◌-◌, ◌<◌, ◌≤◌, true, false, length, slice_index};
+ghost use Rattle.cddl_literal.specs.Bytes.{IsAt};
 ghost use Rattle.cddl_token.specs.Bytes.{is_ealpha};
 ghost use Rattle.cddl_token.specs.Spelling.{IsId};
 ghost use Rattle.cddl_token.specs.Strings.{OpensPrefixed};
 ghost use Rattle.cddl_token.specs.Tokens.{IsToken, IsRead, StartsNoGap};
 
-use crate::bytes::{byte_at, is_ealpha, is_id_byte, is_mark};
+use crate::bytes::{is_ealpha, is_id_byte, is_mark};
 use crate::{Code, Fault, Kind};
+use cddl_literal::byte_at;
 
 /// Where the id that begins here ends.
 pub(crate) fn id_end(source: &[u8], at: usize) -> usize
@@ -51,7 +53,7 @@ pub(crate) fn name_at(source: &[u8], at: usize) -> (Kind, usize)
 
 /// The control or the dots that begin here, and their end.
 pub(crate) fn dot_at(source: &[u8], at: usize) -> Result<(Kind, usize), Fault>
-    requires begins { slice_index source.now at ≡ 46 }
+    requires begins { IsAt "." source.now at }
     requires within { at < length source.now }
     requires no_gap { StartsNoGap source.now at }
     ensures { IsRead source.now at result }

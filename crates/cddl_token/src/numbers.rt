@@ -1,13 +1,12 @@
 //! The digits of numbers, and what is spelled wrongly among them.
 
 ghost use Rattle.std.specs.Prelude.{◌≡◌, ℕ, ◌+◌, ◌<◌, ◌≤◌, true, false, length, slice_index, MatchOption, IsTrue};
-ghost use Rattle.hex.specs.Hex.{is_hex_digit as is_hex_byte};
-ghost use Rattle.cddl_literal.specs.Bytes.{Each, is_decimal_digit, is_binary_digit as is_binary_byte, is_x as is_x_byte, is_b as is_b_byte};
+ghost use Rattle.cddl_literal.specs.Bytes.{Each, IsAt, is_b, is_decimal_digit, is_x};
 ghost use Rattle.cddl_token.specs.Bytes.{is_e, is_p, is_sign};
 ghost use Rattle.cddl_token.specs.Numbers.{IsPrefix, IsExponent};
 ghost use Rattle.cddl_token.specs.Shapes.{is_digit_in, marks_exponent, IsDecimalTail, IsHexFraction, IsHexTail, IsLongestShape};
 
-use crate::bytes::{byte_at, is_digit};
+use cddl_literal::{byte_at, is_b, is_binary_digit, is_digit, is_hex_digit, is_x};
 
 /// What the digits of a number begin with says how they are read.
 #[derive(Clone, Copy, Debug, PartialEq, Eq)]
@@ -17,7 +16,7 @@ pub(crate) enum Radix {
     Hexadecimal,
 }
 
-/// What stands where a digit begins something.
+/// What may begin with a digit.
 #[derive(Clone, Copy, Debug, PartialEq, Eq)]
 pub(crate) enum Shape {
     Uint,
@@ -30,16 +29,10 @@ fn is_digit_in(radix: Radix, b: u8) -> bool
     ensures { result ≡ is_digit_in radix b }
 {
     match radix {
-        Radix::Binary => b == b'0' || b == b'1',
+        Radix::Binary => is_binary_digit(b),
         Radix::Decimal => is_digit(b),
         Radix::Hexadecimal => is_hex_digit(b),
     }
-}
-
-fn is_hex_digit(b: u8) -> bool
-    ensures { result ≡ is_hex_byte b }
-{
-    (b >= b'A' && b <= b'F') || (b >= b'a' && b <= b'f') || (b >= b'0' && b <= b'9')
 }
 
 /// Whether a byte begins the exponent of a number in this radix.
@@ -52,22 +45,11 @@ fn marks_exponent(radix: Radix, b: u8) -> bool
     }
 }
 
+/// Whether a byte is `+` or `-`.
 fn is_sign(b: u8) -> bool
     ensures { result ≡ is_sign b }
 {
     b == b'+' || b == b'-'
-}
-
-pub(crate) fn is_x(b: u8) -> bool
-    ensures { result ≡ is_x_byte b }
-{
-    b == b'x' || b == b'X'
-}
-
-pub(crate) fn is_b(b: u8) -> bool
-    ensures { result ≡ is_b_byte b }
-{
-    b == b'b' || b == b'B'
 }
 
 /// Where the digits that begin here end.
@@ -103,10 +85,10 @@ fn exponent_end(source: &[u8], at: usize, radix: Radix) -> Option<usize>
     None
 }
 
-/// Where a `.` and a digit end that stand here.
+/// Where the `.` and the digit end that are here.
 fn fraction_end(source: &[u8], at: usize) -> Option<usize>
     requires { at ≤ length source.now }
-    ensures { MatchOption result ((slice_index source.now at ≡ 46) → is_decimal_digit (slice_index source.now (at + 1)) ≡ true → ⊥) (λ e. (slice_index source.now at ≡ 46) × (is_decimal_digit (slice_index source.now (at + 1)) ≡ true) × (e ≡ at + 2) × (e ≤ length source.now)) }
+    ensures { MatchOption result (IsAt "." source.now at → is_decimal_digit (slice_index source.now (at + 1)) ≡ true → ⊥) (λ e. IsAt "." source.now at × (is_decimal_digit (slice_index source.now (at + 1)) ≡ true) × (e ≡ at + 2) × (e ≤ length source.now)) }
 {
     if byte_at(source, at) == b'.' && is_digit(byte_at(source, at + 1)) {
         Some(at + 2)
@@ -115,7 +97,7 @@ fn fraction_end(source: &[u8], at: usize) -> Option<usize>
     }
 }
 
-/// Where what shows a float behind a decimal ends.
+/// Where what shows a float after a decimal ends.
 fn decimal_tail_end(source: &[u8], at: usize) -> Option<usize>
     requires { at ≤ length source.now }
     ensures { MatchOption result ((m : ℕ) → IsDecimalTail source.now at m → ⊥) (λ e. IsDecimalTail source.now at e × (e ≤ length source.now)) }
@@ -126,7 +108,7 @@ fn decimal_tail_end(source: &[u8], at: usize) -> Option<usize>
     }
 }
 
-/// Where the `.`, hex digits and exponent end that stand here.
+/// Where the `.`, hex digits and exponent end that are here.
 fn hex_fraction_end(source: &[u8], at: usize) -> Option<usize>
     requires { at ≤ length source.now }
     ensures { MatchOption result ((m : ℕ) → IsHexFraction source.now at m → ⊥) (λ e. IsHexFraction source.now at e × (e ≤ length source.now)) }
@@ -141,7 +123,7 @@ fn hex_fraction_end(source: &[u8], at: usize) -> Option<usize>
     exponent_end(source, end, Radix::Hexadecimal)
 }
 
-/// Where what shows a float behind hex digits ends.
+/// Where what shows a float after hex digits ends.
 fn hex_tail_end(source: &[u8], at: usize) -> Option<usize>
     requires { at ≤ length source.now }
     ensures { MatchOption result ((m : ℕ) → IsHexTail source.now at m → ⊥) (λ e. IsHexTail source.now at e × (e ≤ length source.now)) }
@@ -152,9 +134,9 @@ fn hex_tail_end(source: &[u8], at: usize) -> Option<usize>
     }
 }
 
-/// What stands behind `0x`, and its end.
+/// What begins with `0x`, and its end.
 fn hex_shape_at(source: &[u8], at: usize) -> (Shape, usize)
-    requires begins { IsPrefix is_x_byte source.now at }
+    requires begins { IsPrefix is_x source.now at }
     requires within { at + 2 ≤ length source.now }
     ensures longest { IsLongestShape result.0 source.now at result.1 }
     ensures in_source { result.1 ≤ length source.now }
@@ -169,9 +151,9 @@ fn hex_shape_at(source: &[u8], at: usize) -> (Shape, usize)
     }
 }
 
-/// What stands behind `0b`, and its end.
+/// What begins with `0b`, and its end.
 fn binary_shape_at(source: &[u8], at: usize) -> (Shape, usize)
-    requires begins { IsPrefix is_b_byte source.now at }
+    requires begins { IsPrefix is_b source.now at }
     requires within { at + 2 ≤ length source.now }
     ensures longest { IsLongestShape result.0 source.now at result.1 }
     ensures in_source { result.1 ≤ length source.now }
@@ -188,17 +170,17 @@ fn binary_shape_at(source: &[u8], at: usize) -> (Shape, usize)
 fn has_zero_first(source: &[u8], from: usize, end: usize) -> bool
     requires some { from < end }
     requires within { end ≤ length source.now }
-    ensures yes { IsTrue result → (slice_index source.now from ≡ 48) × (from + 1 < end) }
-    ensures otherwise { result ≡ false → slice_index source.now from ≡ 48 → end ≡ from + 1 }
+    ensures yes { IsTrue result → IsAt "0" source.now from × (from + 1 < end) }
+    ensures otherwise { result ≡ false → IsAt "0" source.now from → end ≡ from + 1 }
 {
     source[from] == b'0' && from + 1 < end
 }
 
-/// What stands where a decimal begins, and its end.
+/// What begins with a decimal, and its end.
 fn decimal_shape_at(source: &[u8], at: usize) -> (Shape, usize)
     requires begins { is_decimal_digit (slice_index source.now at) ≡ true }
-    requires no_hex { IsPrefix is_x_byte source.now at → ⊥ }
-    requires no_binary { IsPrefix is_b_byte source.now at → ⊥ }
+    requires no_hex { IsPrefix is_x source.now at → ⊥ }
+    requires no_binary { IsPrefix is_b source.now at → ⊥ }
     requires within { at < length source.now }
     ensures longest { IsLongestShape result.0 source.now at result.1 }
     ensures in_source { result.1 ≤ length source.now }
@@ -216,7 +198,7 @@ fn decimal_shape_at(source: &[u8], at: usize) -> (Shape, usize)
     }
 }
 
-/// What stands where a digit begins it, and its end.
+/// What begins with a digit, and its end.
 pub(crate) fn shape_at(source: &[u8], at: usize) -> (Shape, usize)
     requires begins { is_decimal_digit (slice_index source.now at) ≡ true }
     requires within { at < length source.now }

@@ -1,11 +1,12 @@
 //! The scanner: gaps and tokens by turns.
 
-ghost use Rattle.std.specs.Prelude.{◌≡◌, ℕ, ◌+◌, ◌-◌, ◌<◌, ◌≤◌, ◌≢◌, false, true, length, slice_index, slice_range, map, All, MatchResult};
+ghost use Rattle.std.specs.Prelude.{◌≡◌, ℕ, ◌+◌, ◌-◌, ◌<◌, ◌≤◌, false, true, length, slice_index, slice_range, map, All, MatchResult};
+ghost use Rattle.cddl_literal.specs.Bytes.{IsAt};
 ghost use Rattle.cddl_token.specs.Bytes.{is_ealpha};
 ghost use Rattle.cddl_token.specs.Tokens.{StartsNoGap, IsRead, IsFound, Tokenized};
 ghost use Rattle.cddl_token.specs.Answers.{span, IsReadFrom, StopsScan};
 
-use crate::bytes::{is_digit, is_ealpha};
+use crate::bytes::is_ealpha;
 use crate::gaps::gap_end;
 use crate::hashes::hash_at;
 use crate::names::{dot_at, name_at};
@@ -13,7 +14,7 @@ use crate::signs::{equals_at, single_at, slash_at};
 use crate::strings::{prefix_at, prefixed_at, quoted_at};
 use crate::uints::{digit_at, negative_at, occur_at};
 use crate::{Code, Fault, Kind, Refusal, Token};
-use cddl_literal::Quote;
+use cddl_literal::{Quote, is_digit};
 use std::alloc::Global;
 
 /// The name or the byte string with prefix that begins here, and its end.
@@ -32,7 +33,7 @@ fn word_at(alloc: Global, source: &[u8], at: usize) -> Result<(Kind, usize), Ref
 fn sign_at(source: &[u8], at: usize) -> Result<(Kind, usize), Fault>
     requires within { at < length source.now }
     requires no_gap { StartsNoGap source.now at }
-    requires no_comment { slice_index source.now at ≢ 59 }
+    requires no_comment { IsAt ";" source.now at → ⊥ }
     requires no_letter { is_ealpha (slice_index source.now at) ≡ false }
     ensures { IsRead source.now at result }
 {
@@ -63,7 +64,7 @@ fn sign_at(source: &[u8], at: usize) -> Result<(Kind, usize), Fault>
 fn token_at(alloc: Global, source: &[u8], at: usize) -> Result<(Kind, usize), Refusal>
     requires within { at < length source.now }
     requires no_gap { StartsNoGap source.now at }
-    requires no_comment { slice_index source.now at ≢ 59 }
+    requires no_comment { IsAt ";" source.now at → ⊥ }
     ensures { IsFound source.now at result }
 {
     if is_ealpha(source[at]) {
@@ -75,8 +76,8 @@ fn token_at(alloc: Global, source: &[u8], at: usize) -> Result<(Kind, usize), Re
     }
 }
 
-/// The part of a text from one place to another, with ASCII on the inner side of both.
-fn cut(text: &str, start: usize, end: usize) -> &str
+/// The part of a text from one offset to another, with ASCII on the inner side of both.
+fn text_between(text: &str, start: usize, end: usize) -> &str
     requires past { start < end }
     requires within { end ≤ length text.now }
     requires first { slice_index text.now start < 128 }
@@ -118,7 +119,7 @@ pub(crate) fn scan<'s>(
             Ok(found) => found,
             Err(refusal) => return Err(refusal),
         };
-        let part = cut(text, start, end);
+        let part = text_between(text, start, end);
         match out.push(Token {
             kind,
             start,

@@ -1,15 +1,16 @@
 //! Signs of one to three bytes.
 
 ghost use Rattle.std.specs.Prelude.{◌≡◌, ℕ, ◌+◌, ◌<◌, ◌≤◌, ◌⊎◌, true, false, length, slice_index, MatchOption};
+ghost use Rattle.cddl_literal.specs.Bytes.{IsAt};
 ghost use Rattle.cddl_token.specs.Tokens.{IsToken};
 ghost use Rattle.cddl_token.specs.Signs.{is_single};
 
 use crate::Kind;
-use crate::bytes::byte_at;
+use cddl_literal::byte_at;
 
 /// The sign with `/` that begins here, and its end.
 pub(crate) fn slash_at(source: &[u8], at: usize) -> (Kind, usize)
-    requires begins { slice_index source.now at ≡ 47 }
+    requires begins { IsAt "/" source.now at }
     requires within { at < length source.now }
     ensures token { IsToken result.0 source.now at result.1 }
     ensures in_source { result.1 ≤ length source.now }
@@ -28,7 +29,7 @@ pub(crate) fn slash_at(source: &[u8], at: usize) -> (Kind, usize)
 
 /// `=` or `=>`, and its end.
 pub(crate) fn equals_at(source: &[u8], at: usize) -> (Kind, usize)
-    requires begins { slice_index source.now at ≡ 61 }
+    requires begins { IsAt "=" source.now at }
     requires within { at < length source.now }
     ensures token { IsToken result.0 source.now at result.1 }
     ensures in_source { result.1 ≤ length source.now }

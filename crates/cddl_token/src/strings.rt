@@ -1,16 +1,15 @@
 //! Strings.
 
 ghost use Rattle.std.specs.Prelude.{◌≡◌, ℕ, ◌+◌, ◌<◌, ◌≤◌, true, false, length, slice_index, IsTrue, MatchOption};
-ghost use Rattle.cddl_literal.specs.Bytes.{is_h, is_b};
+ghost use Rattle.cddl_literal.specs.Bytes.{IsAt};
 ghost use Rattle.cddl_literal.specs.Strings.{closing};
 ghost use Rattle.cddl_literal.specs.Prefixed.{Opens};
 ghost use Rattle.cddl_literal.specs.declared.Coding.TheVariants.{Hex, Base64};
 ghost use Rattle.cddl_token.specs.Strings.{StopsAt, OpensPrefixed};
 ghost use Rattle.cddl_token.specs.Tokens.{IsRead, IsFound};
 
-use crate::bytes::byte_at;
 use crate::{Code, Fault, Kind, Refusal};
-use cddl_literal::{Coding, Quote, bytes_between, characters_end, coded_end};
+use cddl_literal::{Coding, Quote, byte_at, bytes_between, characters_end, coded_end, is_b, is_h};
 use std::alloc::Global;
 
 /// The quote that closes a string.
@@ -62,38 +61,36 @@ pub(crate) fn quoted_at(source: &[u8], at: usize, quote: Quote) -> Result<(Kind,
     }
 }
 
-/// Whether `h'` stands here.
+/// Whether `h'` is here.
 fn opens_hex(source: &[u8], at: usize) -> bool
     requires { at < length source.now }
     ensures yes { IsTrue result → Opens Hex source.now at (at + 2) × (at + 2 ≤ length source.now) }
     ensures otherwise { result ≡ false → (p : ℕ) → Opens Hex source.now at p → ⊥ }
 {
-    let first = source[at];
-    (first == b'h' || first == b'H') && byte_at(source, at + 1) == b'\''
+    is_h(source[at]) && byte_at(source, at + 1) == b'\''
 }
 
-/// Whether `64'` stands here.
+/// Whether `64'` is here.
 fn has_64(source: &[u8], at: usize) -> bool
     requires { at ≤ length source.now }
-    ensures yes { IsTrue result → (slice_index source.now at ≡ 54) × (slice_index source.now (at + 1) ≡ 52) × (slice_index source.now (at + 2) ≡ 39) × (at + 3 ≤ length source.now) }
-    ensures otherwise { result ≡ false → slice_index source.now at ≡ 54 → slice_index source.now (at + 1) ≡ 52 → slice_index source.now (at + 2) ≡ 39 → ⊥ }
+    ensures yes { IsTrue result → IsAt "6" source.now at × IsAt "4" source.now (at + 1) × IsAt "'" source.now (at + 2) × (at + 3 ≤ length source.now) }
+    ensures otherwise { result ≡ false → IsAt "6" source.now at → IsAt "4" source.now (at + 1) → IsAt "'" source.now (at + 2) → ⊥ }
 {
     byte_at(source, at) == b'6'
         && byte_at(source, at + 1) == b'4'
         && byte_at(source, at + 2) == b'\''
 }
 
-/// Whether `b64'` stands here.
+/// Whether `b64'` is here.
 fn opens_base64(source: &[u8], at: usize) -> bool
     requires { at < length source.now }
     ensures yes { IsTrue result → Opens Base64 source.now at (at + 4) × (at + 4 ≤ length source.now) }
     ensures otherwise { result ≡ false → (p : ℕ) → Opens Base64 source.now at p → ⊥ }
 {
-    let first = source[at];
-    (first == b'b' || first == b'B') && has_64(source, at + 1)
+    is_b(source[at]) && has_64(source, at + 1)
 }
 
-/// The prefix of a byte string that stands here, and the place behind its quote.
+/// The prefix of a byte string that is here, and the offset after its quote.
 pub(crate) fn prefix_at(source: &[u8], at: usize) -> Option<(Coding, usize)>
     requires { at < length source.now }
     ensures { MatchOption result (OpensPrefixed source.now at → ⊥) (λ p. Opens p.0 source.now at p.1 × (p.1 ≤ length source.now)) }

@@ -1,19 +1,18 @@
 //! Numbers and occurrences.
 
 ghost use Rattle.std.specs.Prelude.{◌≡◌, ℕ, Bool, ◌+◌, ◌^◌, ◌<◌, ◌≤◌, ◌⊎◌, true, false, length, slice_index, IsTrue};
-ghost use Rattle.cddl_literal.specs.Bytes.{is_decimal_digit};
+ghost use Rattle.cddl_literal.specs.Bytes.{IsAt, is_decimal_digit};
 ghost use Rattle.cddl_literal.specs.Numbers.{Meaning, IsSigned, IsNumber, IsTooLarge};
 ghost use Rattle.cddl_token.specs.Numbers.{IsPrefix, IsBound};
 ghost use Rattle.cddl_token.specs.Shapes.{marks_radix, IsLongestBound, BeginsOccur};
 ghost use Rattle.cddl_token.specs.Spelling.{Reading, Spells};
 ghost use Rattle.cddl_token.specs.Tokens.{IsRead};
 
-use crate::bytes::{byte_at, is_digit};
-use crate::numbers::{Radix, Shape, digits_end, is_b, is_x, shape_at};
+use crate::numbers::{Radix, Shape, digits_end, shape_at};
 use crate::{Code, Fault, Kind};
-use cddl_literal::{number_of, uint_of};
+use cddl_literal::{byte_at, is_b, is_digit, is_x, number_of, uint_of};
 
-/// Where the uint behind a prefix ends. Without digits it is the prefix's `0` alone.
+/// Where the uint with a prefix ends that begins here. Without digits it is the prefix's `0` alone.
 fn prefixed_uint_end(source: &[u8], at: usize, radix: Radix) -> usize
     requires begins { IsPrefix (marks_radix radix) source.now at }
     requires within { at + 2 ≤ length source.now }
@@ -24,7 +23,7 @@ fn prefixed_uint_end(source: &[u8], at: usize, radix: Radix) -> usize
     if end == at + 2 { at + 1 } else { end }
 }
 
-/// Where the uint that begins here ends, or this place where none does.
+/// Where the uint that begins here ends, or this offset where none does.
 pub(crate) fn uint_end(source: &[u8], at: usize) -> usize
     requires { at ≤ length source.now }
     ensures bound { IsLongestBound source.now at result }
@@ -74,10 +73,10 @@ fn both_fit(source: &[u8], at: usize, star: usize, end: usize) -> bool
     fits(source, star + 1, end)
 }
 
-/// The occurrence whose `*` stands at `star`.
+/// The occurrence whose `*` is at `star`.
 pub(crate) fn occur_at(source: &[u8], at: usize, star: usize) -> Result<(Kind, usize), Fault>
     requires within { star < length source.now }
-    requires sign { slice_index source.now star ≡ 42 }
+    requires sign { IsAt "*" source.now star }
     requires before { BeginsOccur source.now at star }
     ensures { IsRead source.now at result }
 {
@@ -102,7 +101,7 @@ fn number_fits(source: &[u8], from: usize, to: usize) -> bool
     number_of(source, from, to).is_some()
 }
 
-/// The number that stands here, if it is not too large.
+/// The number that is here, if it is not too large.
 fn number_or_fault(source: &[u8], at: usize, end: usize) -> Result<(Kind, usize), Fault>
     requires within { end ≤ length source.now }
     requires spelled { (minus : Bool) × (n : ℕ) × IsSigned minus source.now at end n }
@@ -121,7 +120,7 @@ fn number_or_fault(source: &[u8], at: usize, end: usize) -> Result<(Kind, usize)
 
 /// What begins with `-`.
 pub(crate) fn negative_at(source: &[u8], at: usize) -> Result<(Kind, usize), Fault>
-    requires begins { slice_index source.now at ≡ 45 }
+    requires begins { IsAt "-" source.now at }
     requires within { at < length source.now }
     ensures { IsRead source.now at result }
 {

@@ -1,4 +1,4 @@
-use Rattle.cddl_token.proofs.IdGrammar.{to_grammar, from_grammar}
+use Rattle.cddl_token.proofs.IdFacts.{to_grammar, from_grammar}
 use Rattle.cddl_token.proofs.id_by_grammar.Goals as goal
 
 pub returns : goal.returns

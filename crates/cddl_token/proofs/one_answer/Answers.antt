@@ -1,5 +1,5 @@
 use Rattle.cddl_token.proofs.Laws.{Laws}
-use Rattle.cddl_token.proofs.Source.{one_list, one_refusal, never_both}
+use Rattle.cddl_token.proofs.SourceFacts.{one_list, one_refusal, never_both}
 use Rattle.cddl_token.proofs.one_answer.Goals as goal
 
 pub returns : goal.returns

@@ -1,5 +1,5 @@
 use Rattle.cddl_token.specs.Answers.{span}
-use Rattle.cddl_token.proofs.Source.{all_answered, all_in_order}
+use Rattle.cddl_token.proofs.SourceFacts.{all_answered, all_in_order}
 use Rattle.cddl_token.proofs.tokens.Goals as goal
 
 pub returns-in-Ok-clause-answered : goal.returns-in-Ok-clause-answered

@@ -10,10 +10,10 @@ loop-i-preserved-then-is_blank c = record {
 }
 
 pub loop-i-preserved-then-is_cr_lf : goal.loop-i-preserved-then-is_cr_lf
-loop-i-preserved-then-is_cr_lf c = let found = c.is_cr_lf.ensures.yes c.if-is_cr_lf.true in record {
+loop-i-preserved-then-is_cr_lf c = record {
   from = omega arith;
-  in_source = omega (arith, found.2);
-  passed = λ k rest. c.loop-i.invariant.passed k (line found.0 found.1 rest);
+  in_source = omega (arith, c.is_cr_lf.ensures.inside c.if-is_cr_lf.true);
+  passed = λ k rest. c.loop-i.invariant.passed k (line (c.is_cr_lf.ensures.yes c.if-is_cr_lf.true) rest);
 }
 
 pub loop-i-preserved : goal.loop-i-preserved
@@ -37,7 +37,7 @@ returns-else-b-eq59 c = (
   λ within. (
     record {
       blank = sym c.is_blank.ensures ∙ c.if-is_blank.false;
-      line = c.is_cr_lf.ensures.no_one c.if-is_cr_lf.false;
+      line = c.is_cr_lf.ensures.no_line c.if-is_cr_lf.false;
       comment = λ k comment. c.if-b-eq59.false comment.begins;
     },
     c.if-b-eq59.false,

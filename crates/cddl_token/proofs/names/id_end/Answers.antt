@@ -1,7 +1,7 @@
 use Rattle.std.proofs.Common.{◌≡◌, ◌+◌, ◌-◌, slice_index, sym, ap, ◌∙◌, arith, true}
 use Rattle.std.proofs.lemmas.Bool.{or_right}
 use Rattle.cddl_token.specs.Bytes.{is_mark, is_id_byte}
-use Rattle.cddl_token.proofs.Each.{each_more}
+use Rattle.cddl_token.proofs.EachFacts.{each_more}
 use Rattle.cddl_token.proofs.NameFacts.{letter_no_mark, letter_of_id, id_ends}
 use Rattle.cddl_token.proofs.names.id_end.Goals as goal
 

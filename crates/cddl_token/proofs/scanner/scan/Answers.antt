@@ -5,9 +5,9 @@ use Rattle.cddl_token.specs.declared.Kind.TheVariants.{End}
 use Rattle.cddl_token.specs.declared.Token.{Token}
 use Rattle.cddl_token.specs.Answers.{span, IsReadFrom}
 use Rattle.cddl_token.specs.Tokens.{GapFrom, Tokenized, Refused, ends, more, here, later, token}
-use Rattle.cddl_token.proofs.Spelled.{spelled_past}
-use Rattle.cddl_token.proofs.Spelled.{spelled_ascii}
-use Rattle.cddl_token.proofs.Texts.{pushed, pushed_last, no_bytes, ap_below, stops_scan}
+use Rattle.cddl_token.proofs.SpellingFacts.{spelled_past}
+use Rattle.cddl_token.proofs.SpellingFacts.{spelled_ascii}
+use Rattle.cddl_token.proofs.TextFacts.{pushed, pushed_last, no_bytes, ap_below, stops_scan}
 use Rattle.cddl_token.proofs.scanner.scan.Goals as goal
 
 pub returns-in-Err : goal.returns-in-Err
@@ -28,7 +28,7 @@ loop-start-preserved c =
     record {
       in_source = found.1;
       found = λ ts rest. subst (λ xs. Tokenized c.args.source.now 0 (map span xs ++ ts)) (sym c.in-Ok-push-2.ensures.items) (pushed c.args.source.now c.loop-start.out.items _ ts (c.loop-start.invariant.found _ (more c.in-Ok.ensures.0 found.0 rest)));
-      each = subst (All (IsReadFrom c.args.source.now)) (sym c.in-Ok-push-2.ensures.items) (All-push (IsReadFrom c.args.source.now) c.loop-start.out.items _ c.loop-start.invariant.each (c.cut-part.ensures ∙ ap (λ s. slice_range s c.in-Ok.start c.in-Ok-token_at.found.1) c.requires, inr found.0.longest.spelled));
+      each = subst (All (IsReadFrom c.args.source.now)) (sym c.in-Ok-push-2.ensures.items) (All-push (IsReadFrom c.args.source.now) c.loop-start.out.items _ c.loop-start.invariant.each (c.text_between-part.ensures ∙ ap (λ s. slice_range s c.in-Ok.start c.in-Ok-token_at.found.1) c.requires, inr found.0.longest.spelled));
       refused = λ code place rest. c.loop-start.invariant.refused code place (later c.in-Ok.ensures.0 found.0 rest);
     }
 
@@ -40,8 +40,8 @@ returns-in-Ok-push c =
       subst (All (IsReadFrom c.args.source.now)) (sym c.in-Ok-push.ensures.items) (All-push (IsReadFrom c.args.source.now) c.loop-start.out.items _ c.loop-start.invariant.each (no_bytes c.args.source.now c.in-Ok.start, inl refl)),
     )
 
-pub cut-part-requires-clause-past : goal.cut-part-requires-clause-past
-cut-part-requires-clause-past c = spelled_past _ _ _ _ c.in-Ok-token_at.ensures.0.longest.spelled
+pub text_between-part-requires-clause-past : goal.text_between-part-requires-clause-past
+text_between-part-requires-clause-past c = spelled_past _ _ _ _ c.in-Ok-token_at.ensures.0.longest.spelled
 
-pub cut-part-requires-clause-last : goal.cut-part-requires-clause-last
-cut-part-requires-clause-last c = ap_below (λ s. slice_index s (c.in-Ok-token_at.found.1 - 1)) (sym c.requires) (spelled_ascii _ _ _ _ c.in-Ok-token_at.ensures.0.longest.spelled).1
+pub text_between-part-requires-clause-last : goal.text_between-part-requires-clause-last
+text_between-part-requires-clause-last c = ap_below (λ s. slice_index s (c.in-Ok-token_at.found.1 - 1)) (sym c.requires) (spelled_ascii _ _ _ _ c.in-Ok-token_at.ensures.0.longest.spelled).1

@@ -5,7 +5,7 @@ use Rattle.cddl_token.specs.Answers.{span, IsReadFrom}
 use Rattle.cddl_token.specs.Tokens.{Spanned, Tokenized, Refused}
 use Rattle.cddl_token.proofs.scanner.scan.Given as goal
 
--- what is so of the source from here on is so of all of it, behind the tokens so far
+-- what is so of the source from here on is so of all of it, after the tokens so far
 abbrev pub invariant-loop-start : goal.invariant-loop-start
 invariant-loop-start l = record {
   in_source : l.at ≤ length l.source;

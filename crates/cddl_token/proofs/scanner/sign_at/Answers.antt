@@ -1,6 +1,6 @@
 use Rattle.std.proofs.Common.{◌≡◌, slice_index, refl, sym, ap, ◌∙◌, arith}
 use Rattle.cddl_token.specs.Tokens.{unknown}
-use Rattle.cddl_token.proofs.Begins.{begins_nothing, elsewhere}
+use Rattle.cddl_token.proofs.BeginFacts.{begins_nothing, elsewhere}
 use Rattle.cddl_token.proofs.StringFacts.{opens_nothing}
 use Rattle.cddl_token.proofs.scanner.sign_at.Goals as goal
 

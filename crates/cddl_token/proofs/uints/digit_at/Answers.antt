@@ -1,7 +1,7 @@
 use Rattle.std.proofs.Common.{◌≡◌, refl, sym, ◌∙◌, subst}
 use Rattle.cddl_token.specs.Tokens.{flawed}
 use Rattle.cddl_token.specs.Shapes.{IsLongestShape}
-use Rattle.cddl_token.proofs.Numeric.{a_number, a_misspelled, a_float}
+use Rattle.cddl_token.proofs.NumberFacts.{a_number, a_misspelled, a_float}
 use Rattle.cddl_token.proofs.uints.digit_at.Goals as goal
 
 pub number_or_fault-requires-clause-longest : goal.number_or_fault-requires-clause-longest

@@ -2,7 +2,7 @@ use Rattle.std.proofs.Common.{◌≡◌, ◌+◌, refl, sym, ◌∙◌, ap, subs
 use Rattle.cddl_literal.specs.Bytes.{is_decimal_digit}
 use Rattle.cddl_token.specs.Tokens.{flawed}
 use Rattle.cddl_token.specs.Shapes.{IsLongestShape}
-use Rattle.cddl_token.proofs.Numeric.{lone_dash, dash_within, negative_misspelled, negative_float}
+use Rattle.cddl_token.proofs.NumberFacts.{lone_dash, dash_within, negative_misspelled, negative_float}
 use Rattle.cddl_token.proofs.uints.negative_at.Goals as goal
 
 pub returns-then-not-is_digit : goal.returns-then-not-is_digit

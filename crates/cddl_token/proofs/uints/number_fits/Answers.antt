@@ -1,5 +1,5 @@
 use Rattle.std.proofs.Common.{sym, ◌∙◌}
-use Rattle.cddl_token.proofs.Numeric.{number_found, number_missed}
+use Rattle.cddl_token.proofs.NumberFacts.{number_found, number_missed}
 use Rattle.cddl_token.proofs.uints.number_fits.Goals as goal
 
 pub returns-clause-yes : goal.returns-clause-yes

@@ -1,6 +1,6 @@
 use Rattle.std.proofs.Common.{refl}
 use Rattle.cddl_token.specs.Tokens.{flawed}
-use Rattle.cddl_token.proofs.Numeric.{an_occur, a_large_occur}
+use Rattle.cddl_token.proofs.NumberFacts.{an_occur, a_large_occur}
 use Rattle.cddl_token.proofs.uints.occur_at.Goals as goal
 
 pub returns-then-both_fit : goal.returns-then-both_fit
