@@ -1,4 +1,5 @@
-pub mod Judged
-pub mod Lists
+pub mod Lemmas
+mod Lists
+mod Turns
+mod Verdicts
 pub mod Room
-pub mod Turns

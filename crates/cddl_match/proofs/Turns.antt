@@ -1,64 +1,65 @@
--- Each turn keeps what the open questions lead to.
+-- Each turn keeps what the pending questions lead to.
 use Rattle.std.proofs.Common.{◌≡◌, ℕ, suc, ◌+◌, ◌<◌, List, [], ◌∷◌, ◌++◌, length, map, reverse, refl, ap, subst, ◌∙◌, arith}
 use Rattle.std.proofs.lemmas.List.{map-append, reverse-append}
 use Rattle.cddl_meaning.specs.Forms.{Language}
-use Rattle.cddl_meaning.specs.Judges.{Outcome}
-use Rattle.cddl_meaning.specs.Moves.{Ask, Open, InRef, Move, Answered, Asks, Replies, replies, Ends, at_once, after, opened, resumed}
+use Rattle.cddl_meaning.specs.Judges.{Reply}
+use Rattle.cddl_meaning.specs.Moves.{Question, InRef, Move, Answered, Asks, Replies, replies, LeadsTo, at_once, after, first_move, next_move}
+use Rattle.cddl_meaning.specs.Moves as M
 use Rattle.cddl_match.specs.Unwinding.{Unwinds, IsOnTheWay, stack_of}
-use Rattle.cddl_match.specs.Views.{frame_view}
-use Rattle.cddl_match.specs.declared.questions.Frame.{Frame}
+use Rattle.cddl_match.specs.Views.{pending_view}
+use Rattle.cddl_match.specs.declared.questions.Pending.{Pending}
 
-pub stack_push : (fs : List Frame) (f : Frame) → stack_of (fs ++ f ∷ []) ≡ frame_view f ∷ stack_of fs
-stack_push fs f = ap reverse (map-append frame_view fs (f ∷ [])) ∙ reverse-append (map frame_view fs) (frame_view f ∷ [])
+pub stack_push : (fs : List Pending) (f : Pending) → stack_of (fs ++ f ∷ []) ≡ pending_view f ∷ stack_of fs
+stack_push fs f = ap reverse (map-append pending_view fs (f ∷ [])) ∙ reverse-append (map pending_view fs) (pending_view f ∷ [])
 
 pub none_left : {A : Type 0} (xs : List A) → length xs ≡ 0 → xs ≡ []
 none_left [] h = refl
 none_left (x ∷ xs) h = absurd (omega (arith, h))
 
 -- so many steps are left
-pub in_steps : {N G : Type 0} {l : Language N G} {first : Ask N G} {m n : ℕ} {os : List (Open N G)} {o : Move N G} → m ≡ n → IsOnTheWay l first m os o → IsOnTheWay l first n os o
+pub in_steps : {N G : Type 0} {l : Language N G} {first : Question N G} {m n : ℕ} {os : List (M.Pending N G)} {o : Move N G} → m ≡ n → IsOnTheWay l first m os o → IsOnTheWay l first n os o
 in_steps {l = l} {first = first} {os = os} {o = o} e h = subst (λ n. IsOnTheWay l first n os o) e h
 
 module _ {N G : Type 0} (l : Language N G) where
   -- before anything is asked
-  pub begun : (q : Ask N G) → IsOnTheWay l q 0 [] (Asks q InRef)
+  pub begun : (q : Question N G) → IsOnTheWay l q 0 [] (Asks q InRef)
   begun q = record { leads = leads; comes = comes }
     where
-      leads : (r : Outcome) (u : ℕ) → Ends l (Asks q InRef) r u → Replies l q r (0 + u)
+      leads : (r : Reply) (u : ℕ) → LeadsTo l (Asks q InRef) r u → Replies l q r (0 + u)
       leads r u (after d at_once) = subst (λ n. Replies l q r n) (omega arith) d
 
-      comes : (r : Outcome) (w : ℕ) → Replies l q r w → (u : ℕ) × Ends l (Asks q InRef) r u × (w ≡ 0 + u)
+      comes : (r : Reply) (w : ℕ) → Replies l q r w → (u : ℕ) × LeadsTo l (Asks q InRef) r u × (w ≡ 0 + u)
       comes r w d = (w + 0, after d at_once, omega arith)
 
   -- a question is asked
-  asked_leads : (q : Ask N G) (o : Open N G) (os : List (Open N G)) (r : Outcome) (u : ℕ) → Unwinds l (o ∷ os) (opened l q) r u → Unwinds l os (Asks q o) r (suc u)
-  asked_leads q o [] r u (s, v, w, e, f, is) = subst (λ n. Ends l (Asks q o) r n) (omega (arith, is)) (after (replies e) f)
+  asked_leads : (q : Question N G) (o : M.Pending N G) (os : List (M.Pending N G)) (r : Reply) (u : ℕ) → Unwinds l (o ∷ os) (first_move l q) r u → Unwinds l os (Asks q o) r (suc u)
+  asked_leads q o [] r u (s, v, w, e, f, is) = subst (λ n. LeadsTo l (Asks q o) r n) (omega (arith, is)) (after (replies e) f)
   asked_leads q o (p ∷ os) r u (s, v, w, e, (t, v2, w2, f, g, is2), is) = (t, suc v + v2, w2, after (replies e) f, g, omega (arith, is, is2))
 
-  asked_comes : (q : Ask N G) (o : Open N G) (os : List (Open N G)) (r : Outcome) (u : ℕ) → Unwinds l os (Asks q o) r u → (n : ℕ) × Unwinds l (o ∷ os) (opened l q) r n × (u ≡ suc n)
+  asked_comes : (q : Question N G) (o : M.Pending N G) (os : List (M.Pending N G)) (r : Reply) (u : ℕ) → Unwinds l os (Asks q o) r u → (n : ℕ) × Unwinds l (o ∷ os) (first_move l q) r n × (u ≡ suc n)
   asked_comes q o [] r u (after {s = s} {w = w} (replies {w = v} e) f) = (v + w, (s, v, w, e, f, refl), omega arith)
   asked_comes q o (p ∷ os) r u (t, x, w2, after {s = s} {w = w} (replies {w = v} e) f, g, is) = (v + (w + w2), (s, v, w + w2, e, (t, w, w2, f, g, refl), refl), omega (arith, is))
 
-  pub asked : {first : Ask N G} {taken : ℕ} {os : List (Open N G)} {q : Ask N G} {o : Open N G} → IsOnTheWay l first taken os (Asks q o) → IsOnTheWay l first (taken + 1) (o ∷ os) (opened l q)
+  pub asked : {first : Question N G} {taken : ℕ} {os : List (M.Pending N G)} {q : Question N G} {o : M.Pending N G} → IsOnTheWay l first taken os (Asks q o) → IsOnTheWay l first (taken + 1) (o ∷ os) (first_move l q)
   asked {first = first} {taken = taken} {os = os} {q = q} {o = o} old = record {
     leads = λ r u d. subst (λ n. Replies l first r n) (omega arith) (old.leads r (suc u) (asked_leads q o os r u d));
     comes = λ r w d. let c = old.comes r w d in let a = asked_comes q o os r c.0 c.1 in (a.0, a.1, omega (arith, a.2, c.2));
   }
 
   -- a question is answered, and the one that asked it goes on
-  answered_comes : (o : Open N G) (os : List (Open N G)) (s r : Outcome) (u : ℕ) → Unwinds l (o ∷ os) (Answered s) r u → (n : ℕ) × Unwinds l os (resumed o s) r n × (u ≡ n)
+  answered_comes : (o : M.Pending N G) (os : List (M.Pending N G)) (s r : Reply) (u : ℕ) → Unwinds l (o ∷ os) (Answered s) r u → (n : ℕ) × Unwinds l os (next_move o s) r n × (u ≡ n)
   answered_comes o os s r u (t, v, w, at_once, f, is) = (w, f, omega (arith, is))
 
-  pub answered : {first : Ask N G} {taken : ℕ} {os : List (Open N G)} {o : Open N G} {s : Outcome} → IsOnTheWay l first taken (o ∷ os) (Answered s) → IsOnTheWay l first taken os (resumed o s)
+  pub answered : {first : Question N G} {taken : ℕ} {os : List (M.Pending N G)} {o : M.Pending N G} {s : Reply} → IsOnTheWay l first taken (o ∷ os) (Answered s) → IsOnTheWay l first taken os (next_move o s)
   answered {os = os} {o = o} {s = s} old = record {
     leads = λ r u d. old.leads r u (s, 0, u, at_once, d, omega arith);
     comes = λ r w d. let c = old.comes r w d in let a = answered_comes o os s r c.0 c.1 in (a.0, a.1, omega (arith, a.2, c.2));
   }
 
   -- the first question is answered
-  pub finished : {first : Ask N G} {taken : ℕ} {s : Outcome} → IsOnTheWay l first taken [] (Answered s) → Replies l first s taken
+  pub finished : {first : Question N G} {taken : ℕ} {s : Reply} → IsOnTheWay l first taken [] (Answered s) → Replies l first s taken
   finished {first = first} {taken = taken} {s = s} old = subst (λ n. Replies l first s n) (omega arith) (old.leads s 0 at_once)
 
   -- one more question is asked in any case
-  pub heavier : {first : Ask N G} {taken : ℕ} {os : List (Open N G)} {q : Ask N G} {o : Open N G} → IsOnTheWay l first taken os (Asks q o) → (r : Outcome) (w : ℕ) → Replies l first r w → taken < w
+  pub heavier : {first : Question N G} {taken : ℕ} {os : List (M.Pending N G)} {q : Question N G} {o : M.Pending N G} → IsOnTheWay l first taken os (Asks q o) → (r : Reply) (w : ℕ) → Replies l first r w → taken < w
   heavier {os = os} {q = q} {o = o} old r w d = let c = old.comes r w d in let a = asked_comes q o os r c.0 c.1 in omega (arith, a.2, c.2)

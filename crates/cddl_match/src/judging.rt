@@ -1,14 +1,14 @@
-//! What a type says of an item, within a number of steps. The questions that wait stand in a `Vec`, so types may nest as
+//! What a type says of an item, within a number of steps. The questions that wait are in a `Vec`, so types may nest as
 //! they like.
 
 ghost use Rattle.std.specs.Prelude.{◌≡◌, ◌<◌, ◌≤◌, ℕ};
 ghost use Rattle.cddl_meaning.specs.Judges.{Answer};
-ghost use Rattle.cddl_match.specs.Views.{reply_view, verdict_of as verdict_of_reply};
+ghost use Rattle.cddl_match.specs.Views.{reply_view, verdict_of};
 ghost use Rattle.cddl_table.specs.Language.{RootSays};
 
 use crate::answers::Verdict;
-use crate::moves::{open, resume};
-use crate::questions::{Frame, Move, Question, Reply, Subject};
+use crate::moves::{first_move, next_move};
+use crate::questions::{Move, Pending, Question, Reply, Subject};
 use cbor_item::Sound;
 use cddl_table::Table;
 use std::alloc::{AllocError, Global};
@@ -34,25 +34,29 @@ pub fn verdict(
     ensures spent { result ≡ Ok Verdict.Spent → (a : Answer) (w : ℕ) → RootSays table.now item.now a w → steps < w }
 {
     let mut left = steps;
-    let mut waiting: Vec<Frame<'_, '_>> = Vec::new(alloc);
+    let mut waiting: Vec<Pending<'_, '_>> = Vec::new(alloc);
     let mut next = Move::Asks(
-        Question::OfType(table.root(), 0, Subject::Item(item.item())),
-        Frame::Ref,
+        Question::OfType {
+            node: table.root(),
+            place: 0,
+            subject: Subject::Item(item.item()),
+        },
+        Pending::Ref,
     );
     loop {
         match next {
-            Move::Asks(question, frame) => {
-                // one question more would be one too many
+            Move::Asks(question, pending) => {
+                // One question more would be one too many.
                 if left == 0 {
                     return Ok(Verdict::Spent);
                 }
                 left -= 1;
-                waiting.push(frame)?;
-                next = open(table, question);
+                waiting.push(pending)?;
+                next = first_move(table, question);
             }
             Move::Answered(reply) => match waiting.pop() {
                 None => return Ok(verdict_of(reply)),
-                Some(frame) => next = resume(frame, reply),
+                Some(pending) => next = next_move(pending, reply),
             },
         }
     }
@@ -60,10 +64,10 @@ pub fn verdict(
 
 /// What a type's reply says: only a group's leaves items.
 fn verdict_of(reply: Reply<'_>) -> Verdict
-    ensures { result ≡ verdict_of_reply (reply_view reply.entry) }
+    ensures { result ≡ verdict_of (reply_view reply.entry) }
 {
     match reply {
-        Reply::Takes(_, _, _) => Verdict::Yes,
-        Reply::Fails(place) => Verdict::No { place },
+        Reply::Takes { .. } => Verdict::Yes,
+        Reply::Fails { far } => Verdict::No { place: far },
     }
 }

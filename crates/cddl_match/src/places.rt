@@ -3,52 +3,52 @@
 ghost use Rattle.std.specs.Prelude.{◌≡◌};
 ghost use Rattle.cbor_data.specs.Value.{place_count, values_place_count, pairs_place_count};
 ghost use Rattle.cbor_item.specs.View.{view, values_view, pairs_view};
-ghost use Rattle.cddl_meaning.specs.Moves.{plus as plus_of};
+ghost use Rattle.cddl_meaning.specs.Moves.{plus};
 
 use cbor_item::Item;
 
 /// A sum that stays at the greatest number, which no place of a sound item reaches.
 pub(crate) fn plus(a: usize, b: usize) -> usize
-    ensures { result ≡ plus_of a b }
+    ensures { result ≡ plus a b }
 {
     a.saturating_add(b)
 }
 
-/// The place behind an item that stands at this place, as far as 2^64 - 1.
-#[cycle(behind)]
-pub(crate) fn place_behind(item: &Item, place: usize) -> usize
-    ensures { result ≡ plus_of place (place_count (view item.now)) }
+/// The place after an item that is at this place, as far as 2^64 - 1.
+#[cycle(after)]
+pub(crate) fn place_after(item: &Item, place: usize) -> usize
+    ensures { result ≡ plus place (place_count (view item.now)) }
 {
     let next = plus(place, 1);
     match item {
-        Item::Array(items) => behind_all(items, next),
-        Item::Map(pairs) => behind_pairs(pairs, next),
-        Item::Tag(_, content) => place_behind(content, next),
+        Item::Array(items) => place_after_items(items, next),
+        Item::Map(pairs) => place_after_pairs(pairs, next),
+        Item::Tag(_, content) => place_after(content, next),
         _ => next,
     }
 }
 
-/// The place behind items, of which the first stands at this place.
-#[cycle(behind)]
-fn behind_all(items: &Vec<Item>, place: usize) -> usize
-    ensures { result ≡ plus_of place (values_place_count (values_view items.now.items)) }
+/// The place after items, of which the first is at this place.
+#[cycle(after)]
+fn place_after_items(items: &Vec<Item>, place: usize) -> usize
+    ensures { result ≡ plus place (values_place_count (values_view items.now.items)) }
 {
     let mut next = place;
     for item in items {
-        next = place_behind(item, next);
+        next = place_after(item, next);
     }
     next
 }
 
-/// The place behind pairs, of which the first key stands at this place.
-#[cycle(behind)]
-fn behind_pairs(pairs: &Vec<(Item, Item)>, place: usize) -> usize
-    ensures { result ≡ plus_of place (pairs_place_count (pairs_view pairs.now.items)) }
+/// The place after pairs, of which the first key is at this place.
+#[cycle(after)]
+fn place_after_pairs(pairs: &Vec<(Item, Item)>, place: usize) -> usize
+    ensures { result ≡ plus place (pairs_place_count (pairs_view pairs.now.items)) }
 {
     let mut next = place;
     for (key, value) in pairs {
-        next = place_behind(key, next);
-        next = place_behind(value, next);
+        next = place_after(key, next);
+        next = place_after(value, next);
     }
     next
 }

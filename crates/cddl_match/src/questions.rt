@@ -3,54 +3,102 @@
 use cbor_item::Item;
 use cddl_table::{GroupId, Most, TypeId};
 
-/// What a type is asked of: an item, or the number of a tag or of a simple value as an unsigned item.
+/// What a type is asked of.
 #[derive(Clone, Copy)]
 pub(crate) enum Subject<'i> {
     Item(&'i Item),
-    /// No item of the stream: it is made when a test asks for it.
+    /// The number of a tag or of a simple value, as an unsigned item. It is no item of the stream, and is made when a test
+    /// asks for it.
     Number(u64),
 }
 
-/// A type asked of an item at a place; or a group asked of items, the first at a place, of the array at a base.
+/// A type asked of an item, or a group asked of items.
 #[derive(Clone, Copy)]
 pub(crate) enum Question<'i> {
-    /// The type, the place, and what it is asked of.
-    OfType(TypeId, usize, Subject<'i>),
-    /// The group, the base, the place, and the items.
-    OfGroup(GroupId, usize, usize, &'i [Item]),
+    OfType {
+        node: TypeId,
+        place: usize,
+        subject: Subject<'i>,
+    },
+    OfGroup {
+        group: GroupId,
+        /// The place of the array.
+        base: usize,
+        /// The place of the first of the items.
+        place: usize,
+        items: &'i [Item],
+    },
 }
 
-/// What a group does: it takes items, and tells what is left and the place behind; or it fails. With the greatest place of
-/// the trials that failed. A type that says yes leaves nothing, and tells the place behind the item.
+/// What a group does: it takes items, or fails. A type that says yes leaves nothing.
 #[derive(Clone, Copy)]
 pub(crate) enum Reply<'i> {
-    /// The items that are left, the place of the first of them, and the greatest place that failed.
-    Takes(&'i [Item], usize, usize),
-    /// The greatest place that failed.
-    Fails(usize),
+    Takes {
+        left: &'i [Item],
+        /// The place after what was taken: that of the first item that is left.
+        next: usize,
+        /// The greatest place of the trials that failed.
+        far: usize,
+    },
+    Fails {
+        /// The greatest place of the trials that failed.
+        far: usize,
+    },
 }
 
-/// A question that waits for the reply to the one that it asked.
+/// What waits for the reply to the question that it asked. `far` is the greatest place that failed so far.
 #[derive(Clone, Copy)]
-pub(crate) enum Frame<'t, 'i> {
+pub(crate) enum Pending<'t, 'i> {
     /// The reply is this one's, too.
     Ref,
-    /// The members of a choice that are left; the place, what they are asked of, and the greatest place so far.
-    Choice(&'t [TypeId], usize, Subject<'i>, usize),
-    /// All items are to be taken.
+    /// A choice, and its members that are left.
+    Choice {
+        members: &'t [TypeId],
+        place: usize,
+        subject: Subject<'i>,
+        far: usize,
+    },
+    /// An array, whose group has to take all items.
     Array,
-    /// The content of a tag, whose number was asked about.
-    Head(TypeId, usize, &'i Item),
-    /// A simple value at this place, whose number was asked about.
-    Simple(usize),
-    /// An entry in the array at a base; the items behind the one that it may take.
-    Entry(usize, &'i [Item]),
-    /// The parts of a sequence that are left; the base, and the greatest place so far.
-    Sequence(&'t [GroupId], usize, usize),
-    /// The alternatives that are left; the base, the place, the items, and the greatest place so far.
-    Alternatives(&'t [GroupId], usize, usize, &'i [Item], usize),
-    /// At least and at most so many more rounds of a group; the base, the place, the items, and the greatest place so far.
-    Repeat(u64, Most, GroupId, usize, usize, &'i [Item], usize),
+    /// A tag whose number was asked about, and its content.
+    Head {
+        node: TypeId,
+        place: usize,
+        content: &'i Item,
+    },
+    /// A simple value whose number was asked about.
+    Simple {
+        place: usize,
+    },
+    /// An entry in the array at a base, and the items after the one that it may take.
+    Entry {
+        base: usize,
+        rest: &'i [Item],
+    },
+    /// A sequence, and its parts that are left.
+    Sequence {
+        parts: &'t [GroupId],
+        base: usize,
+        far: usize,
+    },
+    /// A choice of groups, its parts that are left, and the items that each of them is asked of.
+    Alternatives {
+        parts: &'t [GroupId],
+        base: usize,
+        place: usize,
+        items: &'i [Item],
+        far: usize,
+    },
+    /// A repetition, and how many more rounds it takes at least and at most, with the one that was asked about.
+    Repeat {
+        least: u64,
+        most: Most,
+        group: GroupId,
+        base: usize,
+        place: usize,
+        items: &'i [Item],
+        far: usize,
+    },
 }
 
 /// Either the reply, or what is asked first.
@@ -58,5 +106,5 @@ pub(crate) enum Frame<'t, 'i> {
 pub(crate) enum Move<'t, 'i> {
     Answered(Reply<'i>),
     /// What is asked, and what waits for its reply.
-    Asks(Question<'i>, Frame<'t, 'i>),
+    Asks(Question<'i>, Pending<'t, 'i>),
 }

@@ -2,7 +2,7 @@
 
 ghost use Rattle.std.specs.Prelude.{◌≡◌};
 ghost use Rattle.cbor_item.specs.View.{view};
-ghost use Rattle.cddl_meaning.specs.Forms.{is_below as is_below_of, is_up_to as is_up_to_of, is_simple as is_simple_of, is_float as is_float_of, major_of as major_of_value, passes as passes_of};
+ghost use Rattle.cddl_meaning.specs.Forms.{is_below, is_float, is_simple, is_up_to, major_of, passes};
 ghost use Rattle.cddl_table.specs.Language.{test_view, whole_view};
 
 use cbor_data::Width;
@@ -11,7 +11,7 @@ use cddl_table::{Test, Whole};
 
 /// The major type of an item (RFC 8949 section 3.1).
 fn major_of(item: &Item) -> u8
-    ensures { result ≡ major_of_value (view item.now) }
+    ensures { result ≡ major_of (view item.now) }
 {
     match item {
         Item::Uint(_) => 0,
@@ -27,7 +27,7 @@ fn major_of(item: &Item) -> u8
 
 /// Whether an item is the simple value of this number.
 fn is_simple(number: u8, item: &Item) -> bool
-    ensures { result ≡ is_simple_of number (view item.now) }
+    ensures { result ≡ is_simple number (view item.now) }
 {
     match item {
         Item::Simple(n) => *n == number,
@@ -37,7 +37,7 @@ fn is_simple(number: u8, item: &Item) -> bool
 
 /// Whether an item is a float of this width.
 fn is_float(width: Width, item: &Item) -> bool
-    ensures { result ≡ is_float_of width (view item.now) }
+    ensures { result ≡ is_float width (view item.now) }
 {
     match item {
         Item::Float(w, _) => width == *w,
@@ -47,7 +47,7 @@ fn is_float(width: Width, item: &Item) -> bool
 
 /// Whether an item is a whole number from this one on.
 fn is_from(least: Whole, item: &Item) -> bool
-    ensures { result ≡ is_up_to_of (whole_view least) (view item.now) }
+    ensures { result ≡ is_up_to (whole_view least) (view item.now) }
 {
     match (least, item) {
         (Whole::Uint(m), Item::Uint(n)) => m <= *n,
@@ -59,7 +59,7 @@ fn is_from(least: Whole, item: &Item) -> bool
 
 /// Whether an item is a whole number up to this one.
 fn is_up_to(item: &Item, last: Whole) -> bool
-    ensures { result ≡ is_up_to_of (view item.now) (whole_view last) }
+    ensures { result ≡ is_up_to (view item.now) (whole_view last) }
 {
     match (item, last) {
         (Item::Uint(m), Whole::Uint(n)) => *m <= n,
@@ -71,7 +71,7 @@ fn is_up_to(item: &Item, last: Whole) -> bool
 
 /// Whether an item is a whole number below this one.
 fn is_below(item: &Item, last: Whole) -> bool
-    ensures { result ≡ is_below_of (view item.now) (whole_view last) }
+    ensures { result ≡ is_below (view item.now) (whole_view last) }
 {
     match (item, last) {
         (Item::Uint(m), Whole::Uint(n)) => *m < n,
@@ -83,7 +83,7 @@ fn is_below(item: &Item, last: Whole) -> bool
 
 /// Whether an item passes a test.
 pub(crate) fn passes(test: &Test, item: &Item) -> bool
-    ensures { result ≡ passes_of (test_view test.now) (view item.now) }
+    ensures { result ≡ passes (test_view test.now) (view item.now) }
 {
     match test {
         Test::Anything => true,

@@ -1,13 +1,13 @@
 -- Languages that are alike say the same of each item, at the same place, with the same weight.
 use Rattle.std.proofs.Common.{ℕ, List}
 use Rattle.cbor_data.specs.Value.{Value}
-use Rattle.cddl_meaning.specs.Forms.{TagNumber, TypeForm, Most, GroupForm, Language}
-use Rattle.cddl_meaning.specs.Judges.{Answer, Outcome, Says, passed, missed, ref, choice, no_array, array, no_tag, tagged, other_tag, no_simple, simple_such, other_simple, Numbers, whichever, this_number, other_number, by_head, Chooses, no_more, this_one, not_this, Does, missing, matches, differs, group_ref, sequence, alternatives, repeat, DoesEach, all_done, one_fails, and_then, DoesFirst, all_fail, one_takes, or_else, Repeats, full, too_few, enough, empty_round, round}
+use Rattle.cddl_meaning.specs.Forms.{TagNumber, Node, Most, Group, Language}
+use Rattle.cddl_meaning.specs.Judges.{Answer, Reply, Says, passed, missed, ref, choice, no_array, array, no_tag, tagged, other_tag, no_simple, simple_such, other_simple, Numbers, whichever, this_number, other_number, by_head, Chooses, no_more, this_one, not_this, Does, missing, matches, differs, group_ref, sequence, alternatives, repeat, DoesEach, all_done, one_fails, and_then, DoesFirst, all_fail, one_takes, or_else, Repeats, full, too_few, enough, empty_round, round}
 use Rattle.cddl_meaning.specs.Alike.{flipped, AlikeAll, none, both, AlikeNumbers, any_numbers, same_number, heads, AlikeTypes, plain, refs, choices, arrays, tags, simples, AlikeGroups, entries, group_refs, sequences, alternates, repeats, AreAlike}
 
 module _ {N G M H : Type 0} (l : Language N G) (k : Language M H) (R : N → M → Type 0) (S : G → H → Type 0) (i : AreAlike l k R S) where
   mutual
-    pub says_too : {f : TypeForm N G} {e : TypeForm M H} {p w : ℕ} {x : Value} {a : Answer} → Says l f p x a w → AlikeTypes R S f e → Says k e p x a w
+    pub says_too : {f : Node N G} {e : Node M H} {p w : ℕ} {x : Value} {a : Answer} → Says l f p x a w → AlikeTypes R S f e → Says k e p x a w
     says_too (passed h) plain = passed h
     says_too (missed h) plain = missed h
     says_too (ref {m = n} d) (refs {m = m} r) = ref (says_too d (i.types n m r))
@@ -32,7 +32,7 @@ module _ {N G M H : Type 0} (l : Language N G) (k : Language M H) (R : N → M �
     chooses_too (this_one d) (both {n = n} {m = m} r rs) = this_one (says_too d (i.types n m r))
     chooses_too (not_this d e) (both {n = n} {m = m} r rs) = not_this (says_too d (i.types n m r)) (chooses_too e rs)
 
-    pub does_too : {f : GroupForm N G} {e : GroupForm M H} {p q w : ℕ} {xs : List Value} {r : Outcome} → Does l f p q xs r w → AlikeGroups R S f e → Does k e p q xs r w
+    pub does_too : {f : Group N G} {e : Group M H} {p q w : ℕ} {xs : List Value} {r : Reply} → Does l f p q xs r w → AlikeGroups R S f e → Does k e p q xs r w
     does_too missing (entries r) = missing
     does_too (matches d) (entries {n = n} {m = m} r) = matches (says_too d (i.types n m r))
     does_too (differs d) (entries {n = n} {m = m} r) = differs (says_too d (i.types n m r))
@@ -41,17 +41,17 @@ module _ {N G M H : Type 0} (l : Language N G) (k : Language M H) (R : N → M �
     does_too (alternatives d) (alternates r) = alternatives (first_too d r)
     does_too (repeat d) (repeats r) = repeat (repeats_too d r)
 
-    pub each_too : {gs : List G} {hs : List H} {p q far w : ℕ} {xs : List Value} {r : Outcome} → DoesEach l gs p q xs far r w → AlikeAll S gs hs → DoesEach k hs p q xs far r w
+    pub each_too : {gs : List G} {hs : List H} {p q far w : ℕ} {xs : List Value} {r : Reply} → DoesEach l gs p q xs far r w → AlikeAll S gs hs → DoesEach k hs p q xs far r w
     each_too all_done none = all_done
     each_too (one_fails d) (both {n = g} {m = h} r rs) = one_fails (does_too d (i.groups g h r))
     each_too (and_then d e) (both {n = g} {m = h} r rs) = and_then (does_too d (i.groups g h r)) (each_too e rs)
 
-    pub first_too : {gs : List G} {hs : List H} {p q far w : ℕ} {xs : List Value} {r : Outcome} → DoesFirst l gs p q xs far r w → AlikeAll S gs hs → DoesFirst k hs p q xs far r w
+    pub first_too : {gs : List G} {hs : List H} {p q far w : ℕ} {xs : List Value} {r : Reply} → DoesFirst l gs p q xs far r w → AlikeAll S gs hs → DoesFirst k hs p q xs far r w
     first_too all_fail none = all_fail
     first_too (one_takes d) (both {n = g} {m = h} r rs) = one_takes (does_too d (i.groups g h r))
     first_too (or_else d e) (both {n = g} {m = h} r rs) = or_else (does_too d (i.groups g h r)) (first_too e rs)
 
-    pub repeats_too : {least : ℕ} {most : Most} {g : G} {h : H} {p q far w : ℕ} {xs : List Value} {r : Outcome} → Repeats l least most g p q xs far r w → S g h → Repeats k least most h p q xs far r w
+    pub repeats_too : {least : ℕ} {most : Most} {g : G} {h : H} {p q far w : ℕ} {xs : List Value} {r : Reply} → Repeats l least most g p q xs far r w → S g h → Repeats k least most h p q xs far r w
     repeats_too (full b) s = full b
     repeats_too {g = g} {h = h} (too_few b d) s = too_few b (does_too d (i.groups g h s))
     repeats_too {g = g} {h = h} (enough b d) s = enough b (does_too d (i.groups g h s))
@@ -67,7 +67,7 @@ flip_numbers R any_numbers = any_numbers
 flip_numbers R same_number = same_number
 flip_numbers R (heads r) = heads r
 
-flip_types : {N G M H : Type 0} (R : N → M → Type 0) (S : G → H → Type 0) {f : TypeForm N G} {e : TypeForm M H} → AlikeTypes R S f e → AlikeTypes (flipped R) (flipped S) e f
+flip_types : {N G M H : Type 0} (R : N → M → Type 0) (S : G → H → Type 0) {f : Node N G} {e : Node M H} → AlikeTypes R S f e → AlikeTypes (flipped R) (flipped S) e f
 flip_types R S plain = plain
 flip_types R S (refs r) = refs r
 flip_types R S (choices r) = choices (flip_all R r)
@@ -75,7 +75,7 @@ flip_types R S (arrays r) = arrays r
 flip_types R S (tags t r) = tags (flip_numbers R t) r
 flip_types R S (simples r) = simples r
 
-flip_groups : {N G M H : Type 0} (R : N → M → Type 0) (S : G → H → Type 0) {f : GroupForm N G} {e : GroupForm M H} → AlikeGroups R S f e → AlikeGroups (flipped R) (flipped S) e f
+flip_groups : {N G M H : Type 0} (R : N → M → Type 0) (S : G → H → Type 0) {f : Group N G} {e : Group M H} → AlikeGroups R S f e → AlikeGroups (flipped R) (flipped S) e f
 flip_groups R S (entries r) = entries r
 flip_groups R S (group_refs r) = group_refs r
 flip_groups R S (sequences r) = sequences (flip_all S r)
@@ -90,5 +90,5 @@ module _ {N G M H : Type 0} (l : Language N G) (k : Language M H) (R : N → M �
   pub said_before : {n : N} {m : M} {p w : ℕ} {x : Value} {a : Answer} → R n m → Says k (k.type_at m) p x a w → Says l (l.type_at n) p x a w
   said_before {n = n} {m = m} r d = let j = flip l k R S i in says_too k l (flipped R) (flipped S) j d (j.types m n r)
 
-  pub did_before : {g : G} {h : H} {p q w : ℕ} {xs : List Value} {r : Outcome} → S g h → Does k (k.group_at h) p q xs r w → Does l (l.group_at g) p q xs r w
+  pub did_before : {g : G} {h : H} {p q w : ℕ} {xs : List Value} {r : Reply} → S g h → Does k (k.group_at h) p q xs r w → Does l (l.group_at g) p q xs r w
   did_before {g = g} {h = h} s d = let j = flip l k R S i in does_too k l (flipped R) (flipped S) j d (j.groups h g s)

@@ -1,7 +1,7 @@
 -- What a group takes ends where it says.
 use Rattle.std.proofs.Common.{◌≡◌, ℕ, suc, ◌+◌, ◌≤◌, List, [], ◌∷◌, refl, sym, ap, arith}
 use Rattle.cbor_data.specs.Value.{Value, uint, nint, bytes, text, array, pairs, tag, simple, float, Values, no_values, value, place_count, values_place_count}
-use Rattle.cddl_meaning.specs.Forms.{list_of, members_in, tag_in, simple_in, GroupForm, Most, Language}
+use Rattle.cddl_meaning.specs.Forms.{list_of, members_in, tag_in, simple_in, Group, Most, Language}
 use Rattle.cddl_meaning.specs.Judges.{Takes, Does, matches, group_ref, sequence, alternatives, repeat, DoesEach, all_done, and_then, DoesFirst, one_takes, or_else, Repeats, full, enough, empty_round, round}
 use Rattle.std.specs.Prelude.{Option, Some, None}
 
@@ -49,7 +49,7 @@ simple_places _ n e = refl
 
 module _ {N G : Type 0} (l : Language N G) where
   mutual
-    pub covers : {f : GroupForm N G} {p q b far w : ℕ} {xs left : List Value} → Does l f p q xs (Takes left b far) w → b + places_of left ≡ q + places_of xs
+    pub covers : {f : Group N G} {p q b far w : ℕ} {xs left : List Value} → Does l f p q xs (Takes left b far) w → b + places_of left ≡ q + places_of xs
     covers (matches d) = omega arith
     covers (group_ref d) = covers d
     covers (sequence d) = covers_each d

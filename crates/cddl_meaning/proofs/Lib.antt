@@ -1,6 +1,7 @@
-pub mod Covers
+pub mod Lemmas
+mod Alike
+mod Covers
+mod Means
+mod Once
 pub mod Inside
-pub mod Once
 pub mod Matches
-pub mod Means
-pub mod Alike

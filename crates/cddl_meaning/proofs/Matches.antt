@@ -2,9 +2,9 @@
 use Rattle.std.proofs.Common.{◌≡◌, ◌≢◌, ℕ, suc, ◌+◌, ◌-◌, ◌<◌, ◌≤◌, ◌^◌, max, length, List, [], Some, true, false, nat_eq, refl, subst, sym, ap, ◌∙◌, arith}
 use Rattle.std.proofs.lemmas.Bool.Decides.{nat_tests}
 use Rattle.cbor_data.specs.Value.{Value, place_count}
-use Rattle.cddl_meaning.specs.Forms.{members_in, tag_in, simple_in, TagNumber, TypeForm, Most, GroupForm, Language}
-use Rattle.cddl_meaning.specs.Judges.{Answer, Yes, No, Outcome, Takes, Fails, ArraySays, whole, over, failed, one_less, Says, passed, missed, ref, choice, no_array, array, no_tag, tagged, other_tag, no_simple, simple_such, other_simple, Numbers, whichever, this_number, other_number, by_head, Chooses, no_more, this_one, not_this, Does, missing, matches, differs, group_ref, sequence, alternatives, repeat, DoesEach, all_done, one_fails, and_then, DoesFirst, all_fail, one_takes, or_else, Repeats, full, too_few, enough, empty_round, round}
-use Rattle.cddl_meaning.specs.Moves.{Ask, OfType, OfGroup, Open, InRef, InRepeat, Move, Answered, Asks, plus, yes, reply_of, test_reply, choose, each, first_of_these, repetition, behind_round, tag_of, open_type, open_group, opened, array_reply, resumed, Replies, replies, Ends, at_once, after}
+use Rattle.cddl_meaning.specs.Forms.{members_in, tag_in, simple_in, TagNumber, Node, Most, Group, Language}
+use Rattle.cddl_meaning.specs.Judges.{Answer, Yes, No, Reply, Takes, Fails, ArraySays, whole, over, failed, one_less, Says, passed, missed, ref, choice, no_array, array, no_tag, tagged, other_tag, no_simple, simple_such, other_simple, Numbers, whichever, this_number, other_number, by_head, Chooses, no_more, this_one, not_this, Does, missing, matches, differs, group_ref, sequence, alternatives, repeat, DoesEach, all_done, one_fails, and_then, DoesFirst, all_fail, one_takes, or_else, Repeats, full, too_few, enough, empty_round, round}
+use Rattle.cddl_meaning.specs.Moves.{Question, OfType, OfGroup, Pending, InRef, InRepeat, Move, Answered, Asks, plus, yes_reply, reply_of, test_reply, next_member, next_part, next_alternative, repetition, after_round, tag_move, type_move, group_move, first_move, array_reply, next_move, Replies, replies, LeadsTo, at_once, after}
 use Rattle.cddl_meaning.proofs.Once.{ends_once}
 use Rattle.cddl_meaning.proofs.Covers.{places_of, covers, any_places, array_places, tag_places, simple_places}
 
@@ -30,10 +30,10 @@ same_answer p x Yes (No far) e = cc
 same_answer p x (No far) Yes e = cc
 same_answer p x (No m) (No n) e = ap No (cc e)
 
-pub array_covers : {N G : Type 0} (l : Language N G) {f : GroupForm N G} {p w b far : ℕ} (x : Value) (xs : List Value) → Fits p (place_count x) → members_in x ≡ Some xs → Does l f p (suc p) xs (Takes [] b far) w → b ≡ plus p (place_count x)
+pub array_covers : {N G : Type 0} (l : Language N G) {f : Group N G} {p w b far : ℕ} (x : Value) (xs : List Value) → Fits p (place_count x) → members_in x ≡ Some xs → Does l f p (suc p) xs (Takes [] b far) w → b ≡ plus p (place_count x)
 array_covers l {p = p} x xs h e d = (omega (arith, covers l d, array_places x xs e)) ∙ sym (plus_is p (place_count x) h)
 
-array_says : {N G : Type 0} (l : Language N G) {f : GroupForm N G} {p w : ℕ} (x : Value) {xs : List Value} {r : Outcome} {a : Answer} → Fits p (place_count x) → members_in x ≡ Some xs → Does l f p (suc p) xs r w → ArraySays r a → array_reply r ≡ reply_of p x a
+array_says : {N G : Type 0} (l : Language N G) {f : Group N G} {p w : ℕ} (x : Value) {xs : List Value} {r : Reply} {a : Answer} → Fits p (place_count x) → members_in x ≡ Some xs → Does l f p (suc p) xs r w → ArraySays r a → array_reply r ≡ reply_of p x a
 array_says l x {xs = xs} h e d whole = ap (λ b. Takes [] b 0) (array_covers l x xs h e d)
 array_says l x h e d over = refl
 array_says l x h e d failed = refl
@@ -45,34 +45,34 @@ tag_reply p n x y (No far) h e = refl
 pub next_place : (p n : ℕ) → 1 ≤ n → Fits p n → plus p 1 ≡ suc p
 next_place p n k h = plus_is p 1 (omega (arith, h, k)) ∙ omega arith
 
-pub simple_reply : (p n : ℕ) (x : Value) → simple_in x ≡ Some n → Takes [] (plus p 1) 0 ≡ yes p x
+pub simple_reply : (p n : ℕ) (x : Value) → simple_in x ≡ Some n → Takes [] (plus p 1) 0 ≡ yes_reply p x
 simple_reply p n x e = ap (λ n. Takes [] (plus p n) 0) (sym (simple_places x n e))
 
 module _ {N G : Type 0} (l : Language N G) where
   -- the move ends with this reply, where the question itself weighs one
-  record EndsBy (m : Move N G) (r : Outcome) (w : ℕ) : Type 0 where
+  record LeadsBy (m : Move N G) (r : Reply) (w : ℕ) : Type 0 where
     weight : ℕ
     one_more : suc weight ≡ w
-    ends : Ends l m r weight
+    ends : LeadsTo l m r weight
 
-  ask_by : {q : Ask N G} {r : Outcome} {w : ℕ} → EndsBy (opened l q) r w → Replies l q r w
+  ask_by : {q : Question N G} {r : Reply} {w : ℕ} → LeadsBy (first_move l q) r w → Replies l q r w
   ask_by {q = q} {r = r} e = subst (λ n. Replies l q r n) e.one_more (replies e.ends)
 
-  after_that : {q : Ask N G} {o : Open N G} {s r : Outcome} {w : ℕ} → Replies l q s w → resumed o s ≡ Answered r → Ends l (Asks q o) r w
-  after_that {q = q} {o = o} {s = s} {r = r} {w = w} d e = subst (λ n. Ends l (Asks q o) r n) (omega arith) (after d (subst (λ m. Ends l m r 0) (sym e) at_once))
+  after_that : {q : Question N G} {o : Pending N G} {s r : Reply} {w : ℕ} → Replies l q s w → next_move o s ≡ Answered r → LeadsTo l (Asks q o) r w
+  after_that {q = q} {o = o} {s = s} {r = r} {w = w} d e = subst (λ n. LeadsTo l (Asks q o) r n) (omega arith) (after d (subst (λ m. LeadsTo l m r 0) (sym e) at_once))
 
-  at_end : {r s : Outcome} → r ≡ s → EndsBy (Answered r) s 1
-  at_end {r = r} e = record { weight = 0; one_more = refl; ends = subst (λ x. Ends l (Answered r) x 0) e at_once }
+  at_end : {r s : Reply} → r ≡ s → LeadsBy (Answered r) s 1
+  at_end {r = r} e = record { weight = 0; one_more = refl; ends = subst (λ x. LeadsTo l (Answered r) x 0) e at_once }
 
-  less : {m : Move N G} {r : Outcome} {w : ℕ} → Ends l m r w → Ends l m r (0 + w)
-  less {m = m} {r = r} {w = w} d = subst (λ n. Ends l m r n) (omega arith) d
+  less : {m : Move N G} {r : Reply} {w : ℕ} → LeadsTo l m r w → LeadsTo l m r (0 + w)
+  less {m = m} {r = r} {w = w} d = subst (λ n. LeadsTo l m r n) (omega arith) d
 
-  after_round : {least : ℕ} {most : Most} {g : G} {p q b far later v w : ℕ} {xs left : List Value} {r : Outcome} → nat_eq (length left) (length xs) ≡ false → Replies l (OfGroup g p q xs) (Takes left b later) v → Ends l (repetition (least - 1) (one_less most) g p b left (max far later)) r w → Ends l (Asks (OfGroup g p q xs) (InRepeat least most g p q xs far)) r (v + w)
-  after_round {least = least} {most = most} {g = g} {p = p} {q = q} {b = b} {far = far} {later = later} {w = w} {xs = xs} {left = left} {r = r} n d e =
-      after d (subst (λ c. Ends l (behind_round c least most g p q xs (max far later) left b) r w) (sym n) e)
+  round_leads : {least : ℕ} {most : Most} {g : G} {p q b far later v w : ℕ} {xs left : List Value} {r : Reply} → nat_eq (length left) (length xs) ≡ false → Replies l (OfGroup g p q xs) (Takes left b later) v → LeadsTo l (repetition (least - 1) (one_less most) g p b left (max far later)) r w → LeadsTo l (Asks (OfGroup g p q xs) (InRepeat least most g p q xs far)) r (v + w)
+  round_leads {least = least} {most = most} {g = g} {p = p} {q = q} {b = b} {far = far} {later = later} {w = w} {xs = xs} {left = left} {r = r} n d e =
+      after d (subst (λ c. LeadsTo l (after_round c least most g p q xs (max far later) left b) r w) (sym n) e)
 
   mutual
-    says_ends : {f : TypeForm N G} {p w : ℕ} {x : Value} {a : Answer} → Fits p (place_count x) → Says l f p x a w → EndsBy (open_type f p x) (reply_of p x a) w
+    says_ends : {f : Node N G} {p w : ℕ} {x : Value} {a : Answer} → Fits p (place_count x) → Says l f p x a w → LeadsBy (type_move f p x) (reply_of p x a) w
     says_ends h (passed {p = p} {x = x} e) = at_end (ap (test_reply p x) e)
     says_ends h (missed {p = p} {x = x} e) = at_end (ap (test_reply p x) e)
     says_ends h (ref d) = record { weight = _; one_more = refl; ends = after_that (ask_by (says_ends h d)) refl }
@@ -87,21 +87,21 @@ module _ {N G : Type 0} (l : Language N G) where
     says_ends h (other_simple {x = x} e d) = record { weight = _; one_more = refl; ends = rw e (after_that (ask_by (says_ends (omega (arith, h, any_places x)) d)) refl) }
 
     -- the number is meant, and the content goes on
-    number_ends : {t : TagNumber N} {m : N} {p n v w : ℕ} {y : Value} {r : Outcome} → Fits p 1 → Numbers l t p n Yes v → Ends l (Asks (OfType m (plus p 1) y) InRef) r w → Ends l (tag_of t m p (Some (n, y))) r (v + w)
+    number_ends : {t : TagNumber N} {m : N} {p n v w : ℕ} {y : Value} {r : Reply} → Fits p 1 → Numbers l t p n Yes v → LeadsTo l (Asks (OfType m (plus p 1) y) InRef) r w → LeadsTo l (tag_move t m p (Some (n, y))) r (v + w)
     number_ends h whichever d = less d
     number_ends {n = n} h this_number d = rw (equal_number n) (less d)
     number_ends h (by_head k) d = after (ask_by (says_ends h k)) d
 
-    number_fails : {t : TagNumber N} (m : N) {p n far w : ℕ} (y : Value) → Fits p 1 → Numbers l t p n (No far) w → Ends l (tag_of t m p (Some (n, y))) (Fails p) w
+    number_fails : {t : TagNumber N} (m : N) {p n far w : ℕ} (y : Value) → Fits p 1 → Numbers l t p n (No far) w → LeadsTo l (tag_move t m p (Some (n, y))) (Fails p) w
     number_fails _ _ h (other_number {m = m} {n = n} k) = rw (unequal_number m n k) at_once
     number_fails _ _ h (by_head k) = after_that (ask_by (says_ends h k)) refl
 
-    chooses_ends : {ms : List N} {p far w : ℕ} {x : Value} {a : Answer} → Fits p (place_count x) → Chooses l ms p x far a w → Ends l (choose ms p x far) (reply_of p x a) w
+    chooses_ends : {ms : List N} {p far w : ℕ} {x : Value} {a : Answer} → Fits p (place_count x) → Chooses l ms p x far a w → LeadsTo l (next_member ms p x far) (reply_of p x a) w
     chooses_ends h no_more = at_once
     chooses_ends h (this_one d) = after_that (ask_by (says_ends h d)) refl
     chooses_ends h (not_this d e) = after (ask_by (says_ends h d)) (chooses_ends h e)
 
-    does_ends : {f : GroupForm N G} {p q w : ℕ} {xs : List Value} {r : Outcome} → Fits q (places_of xs) → Does l f p q xs r w → EndsBy (open_group f p q xs) r w
+    does_ends : {f : Group N G} {p q w : ℕ} {xs : List Value} {r : Reply} → Fits q (places_of xs) → Does l f p q xs r w → LeadsBy (group_move f p q xs) r w
     does_ends h missing = record { weight = 0; one_more = refl; ends = at_once }
     does_ends h (matches {p = p} {q = q} {x = x} {xs = xs} d) = record { weight = _; one_more = refl; ends = after_that (ask_by (says_ends (omega (arith, h)) d)) (ap (λ b. Answered (Takes xs b p)) (plus_is q (place_count x) (omega (arith, h)))) }
     does_ends h (differs d) = record { weight = _; one_more = refl; ends = after_that (ask_by (says_ends (omega (arith, h)) d)) refl }
@@ -110,24 +110,24 @@ module _ {N G : Type 0} (l : Language N G) where
     does_ends h (alternatives d) = record { weight = _; one_more = refl; ends = first_ends h d }
     does_ends h (repeat d) = record { weight = _; one_more = refl; ends = repeats_ends h d }
 
-    each_ends : {gs : List G} {p q far w : ℕ} {xs : List Value} {r : Outcome} → Fits q (places_of xs) → DoesEach l gs p q xs far r w → Ends l (each gs p q xs far) r w
+    each_ends : {gs : List G} {p q far w : ℕ} {xs : List Value} {r : Reply} → Fits q (places_of xs) → DoesEach l gs p q xs far r w → LeadsTo l (next_part gs p q xs far) r w
     each_ends h all_done = at_once
     each_ends h (one_fails d) = after_that (ask_by (does_ends h d)) refl
     each_ends h (and_then d e) = after (ask_by (does_ends h d)) (each_ends (omega (arith, h, covers l d)) e)
 
-    first_ends : {gs : List G} {p q far w : ℕ} {xs : List Value} {r : Outcome} → Fits q (places_of xs) → DoesFirst l gs p q xs far r w → Ends l (first_of_these gs p q xs far) r w
+    first_ends : {gs : List G} {p q far w : ℕ} {xs : List Value} {r : Reply} → Fits q (places_of xs) → DoesFirst l gs p q xs far r w → LeadsTo l (next_alternative gs p q xs far) r w
     first_ends h all_fail = at_once
     first_ends h (one_takes d) = after_that (ask_by (does_ends h d)) refl
     first_ends h (or_else d e) = after (ask_by (does_ends h d)) (first_ends h e)
 
-    repeats_ends : {least : ℕ} {most : Most} {g : G} {p q far w : ℕ} {xs : List Value} {r : Outcome} → Fits q (places_of xs) → Repeats l least most g p q xs far r w → Ends l (repetition least most g p q xs far) r w
+    repeats_ends : {least : ℕ} {most : Most} {g : G} {p q far w : ℕ} {xs : List Value} {r : Reply} → Fits q (places_of xs) → Repeats l least most g p q xs far r w → LeadsTo l (repetition least most g p q xs far) r w
     repeats_ends h (full e) = rw e at_once
     repeats_ends h (too_few e d) = rw e (after_that (ask_by (does_ends h d)) refl)
     repeats_ends h (enough e d) = rw e (after_that (ask_by (does_ends h d)) refl)
     repeats_ends h (empty_round {xs = xs} {left = left} e d n) = rw e (after_that (ask_by (does_ends h d)) (rw (same_number (length left) (length xs) n) refl))
-    repeats_ends h (round {xs = xs} {left = left} e d n f) = rw e (after_round (unequal_number (length left) (length xs) n) (ask_by (does_ends h d)) (repeats_ends (omega (arith, h, covers l d)) f))
+    repeats_ends h (round {xs = xs} {left = left} e d n f) = rw e (round_leads (unequal_number (length left) (length xs) n) (ask_by (does_ends h d)) (repeats_ends (omega (arith, h, covers l d)) f))
 
-  pub one_saying : {f : TypeForm N G} {p v w : ℕ} {x : Value} {a b : Answer} → Fits p (place_count x) → Says l f p x a v → Says l f p x b w → (b ≡ a) × (w ≡ v)
+  pub one_saying : {f : Node N G} {p v w : ℕ} {x : Value} {a b : Answer} → Fits p (place_count x) → Says l f p x a v → Says l f p x b w → (b ≡ a) × (w ≡ v)
   one_saying {p = p} {x = x} {a = a} {b = b} k d e =
       let h = says_ends k d in
       let i = says_ends k e in
@@ -137,5 +137,5 @@ module _ {N G : Type 0} (l : Language N G) where
   pub said : {n : N} {p w : ℕ} {x : Value} {a : Answer} → Fits p (place_count x) → Says l (l.type_at n) p x a w → Replies l (OfType n p x) (reply_of p x a) w
   said h d = ask_by (says_ends h d)
 
-  pub did : {g : G} {p q w : ℕ} {xs : List Value} {r : Outcome} → Fits q (places_of xs) → Does l (l.group_at g) p q xs r w → Replies l (OfGroup g p q xs) r w
+  pub did : {g : G} {p q w : ℕ} {xs : List Value} {r : Reply} → Fits q (places_of xs) → Does l (l.group_at g) p q xs r w → Replies l (OfGroup g p q xs) r w
   did h d = ask_by (does_ends h d)

@@ -2,11 +2,11 @@
 use Rattle.std.proofs.Common.{◌≡◌, ◌≢◌, ℕ, zero, suc, ◌+◌, ◌-◌, ◌≤◌, max, length, List, [], ◌∷◌, Option, Some, None, Bool, true, false, nat_eq, refl, subst, sym, ap, ◌∙◌, arith}
 use Rattle.std.proofs.lemmas.Bool.Decides.{nat_tests}
 use Rattle.cbor_data.specs.Value.{Value, place_count}
-use Rattle.cddl_meaning.specs.Forms.{Test, passes, members_in, tag_in, simple_in, TagNumber, any_number, exactly, such_as, TypeForm, Plain, Ref, Choice, ArrayOf, TagOf, SimpleBy, Most, GroupForm, Entry, GroupRef, Sequence, Alternatives, Repeat, Language}
-use Rattle.cddl_meaning.specs.Judges.{Answer, Yes, No, Outcome, Takes, Fails, whole, over, failed, is_over, one_less, Says, passed, missed, ref, choice, no_array, array, no_tag, tagged, other_tag, no_simple, simple_such, other_simple, Numbers, whichever, this_number, other_number, by_head, Chooses, no_more, this_one, not_this, Does, missing, matches, differs, group_ref, sequence, alternatives, repeat, DoesEach, all_done, one_fails, and_then, DoesFirst, all_fail, one_takes, or_else, Repeats, full, too_few, enough, empty_round, round}
+use Rattle.cddl_meaning.specs.Forms.{Test, passes, members_in, tag_in, simple_in, TagNumber, any_number, exactly, such_as, Node, Plain, Ref, Choice, ArrayOf, TagOf, SimpleBy, Most, Group, Entry, GroupRef, Sequence, Alternatives, Repeat, Language}
+use Rattle.cddl_meaning.specs.Judges.{Answer, Yes, No, Reply, Takes, Fails, whole, over, failed, is_over, one_less, Says, passed, missed, ref, choice, no_array, array, no_tag, tagged, other_tag, no_simple, simple_such, other_simple, Numbers, whichever, this_number, other_number, by_head, Chooses, no_more, this_one, not_this, Does, missing, matches, differs, group_ref, sequence, alternatives, repeat, DoesEach, all_done, one_fails, and_then, DoesFirst, all_fail, one_takes, or_else, Repeats, full, too_few, enough, empty_round, round}
 use Rattle.cddl_meaning.proofs.Covers.{places_of, covers, any_places, array_places, tag_places}
 use Rattle.cddl_meaning.proofs.Matches.{Fits, plus_is, next_place, array_covers, tag_reply, simple_reply}
-use Rattle.cddl_meaning.specs.Moves.{Ask, OfType, OfGroup, InRef, Answered, Asks, plus, reply_of, test_reply, choose, each, first_of_these, next_round, repetition, behind_round, end_of_rounds, array_of, content_of, tag_of, simple_of, open_type, open_group, Replies, replies, Ends, at_once, after}
+use Rattle.cddl_meaning.specs.Moves.{Question, OfType, OfGroup, InRef, Answered, Asks, plus, reply_of, test_reply, next_member, next_part, next_alternative, next_round, repetition, after_round, end_of_rounds, array_move, content_move, tag_move, simple_move, type_move, group_move, Replies, replies, LeadsTo, at_once, after}
 
 is_equal : (m n : ℕ) → nat_eq m n ≡ true → m ≡ n
 is_equal m n h = grind (arith, nat_tests)
@@ -25,24 +25,24 @@ more v e = omega (arith, e)
 
 module _ {N G : Type 0} (l : Language N G) where
   -- a reply that is an answer of the form
-  pub record SaysIt (f : TypeForm N G) (p : ℕ) (x : Value) (r : Outcome) (w : ℕ) : Type 0 where
+  pub record SaysIt (f : Node N G) (p : ℕ) (x : Value) (r : Reply) (w : ℕ) : Type 0 where
     pub answer : Answer
     pub is : r ≡ reply_of p x answer
     pub says : Says l f p x answer w
 
-  record ChoosesIt (ms : List N) (p : ℕ) (x : Value) (far : ℕ) (r : Outcome) (w : ℕ) : Type 0 where
+  record ChoosesIt (ms : List N) (p : ℕ) (x : Value) (far : ℕ) (r : Reply) (w : ℕ) : Type 0 where
     answer : Answer
     is : r ≡ reply_of p x answer
     chooses : Chooses l ms p x far answer w
 
-  yes_of : {f : TypeForm N G} {p w b far : ℕ} {x : Value} {left : List Value} → SaysIt f p x (Takes left b far) w → Says l f p x Yes w
+  yes_of : {f : Node N G} {p w b far : ℕ} {x : Value} {left : List Value} → SaysIt f p x (Takes left b far) w → Says l f p x Yes w
   yes_of {f = f} {p = p} {w = w} {x = x} s = by s.answer s.is s.says
     where
       by : {b far : ℕ} {left : List Value} (a : Answer) → Takes left b far ≡ reply_of p x a → Says l f p x a w → Says l f p x Yes w
       by Yes e d = d
       by (No f) e d = cc
 
-  no_of : {f : TypeForm N G} {p w far : ℕ} {x : Value} → SaysIt f p x (Fails far) w → Says l f p x (No far) w
+  no_of : {f : Node N G} {p w far : ℕ} {x : Value} → SaysIt f p x (Fails far) w → Says l f p x (No far) w
   no_of {f = f} {p = p} {w = w} {far = far} {x = x} s = by s.answer s.is s.says
     where
       by : (a : Answer) → Fails far ≡ reply_of p x a → Says l f p x a w → Says l f p x (No far) w
@@ -53,27 +53,27 @@ module _ {N G : Type 0} (l : Language N G) where
   plain_says true e = record { answer = Yes; is = refl; says = passed e }
   plain_says {p = p} false e = record { answer = No p; is = refl; says = missed e }
 
-  -- a type's yes tells the place behind the item
-  behind_of : {f : TypeForm N G} {p w b far : ℕ} {x : Value} {left : List Value} → SaysIt f p x (Takes left b far) w → b ≡ plus p (place_count x)
-  behind_of {p = p} {x = x} s = by s.answer s.is
+  -- a type's yes tells the place after the item
+  next_of : {f : Node N G} {p w b far : ℕ} {x : Value} {left : List Value} → SaysIt f p x (Takes left b far) w → b ≡ plus p (place_count x)
+  next_of {p = p} {x = x} s = by s.answer s.is
     where
       by : {b far : ℕ} {left : List Value} (a : Answer) → Takes left b far ≡ reply_of p x a → b ≡ plus p (place_count x)
       by Yes e = cc e
       by (No f) e = cc
 
-  ended : {s r : Outcome} {w : ℕ} → Ends l (Answered s) r w → (r ≡ s) × (w ≡ 0)
+  ended : {s r : Reply} {w : ℕ} → LeadsTo l (Answered s) r w → (r ≡ s) × (w ≡ 0)
   ended at_once = (refl, refl)
 
-  positive : {q : Ask N G} {r : Outcome} {w : ℕ} → Replies l q r w → 1 ≤ w
+  positive : {q : Question N G} {r : Reply} {w : ℕ} → Replies l q r w → 1 ≤ w
   positive (replies e) = omega arith
 
-  plain_tag_says : {m : N} {p n v : ℕ} {x y : Value} {r : Outcome} → Fits p (place_count x) → tag_in x ≡ Some (n, y) → SaysIt (l.type_at m) (suc p) y r v → SaysIt (TagOf any_number m) p x r (suc (v + 0))
+  plain_tag_says : {m : N} {p n v : ℕ} {x y : Value} {r : Reply} → Fits p (place_count x) → tag_in x ≡ Some (n, y) → SaysIt (l.type_at m) (suc p) y r v → SaysIt (TagOf any_number m) p x r (suc (v + 0))
   plain_tag_says {m = m} {p = p} {n = n} {x = x} {y = y} h i s = record { answer = s.answer; is = s.is ∙ tag_reply p n x y s.answer h i; says = subst (λ w. Says l (TagOf any_number m) p x s.answer w) (omega arith) (tagged i whichever s.says) }
 
-  exact_says : {k n : ℕ} {m : N} {p v : ℕ} {x y : Value} {r : Outcome} → Fits p (place_count x) → k ≡ n → tag_in x ≡ Some (n, y) → SaysIt (l.type_at m) (suc p) y r v → SaysIt (TagOf (exactly k) m) p x r (suc (v + 0))
+  exact_says : {k n : ℕ} {m : N} {p v : ℕ} {x y : Value} {r : Reply} → Fits p (place_count x) → k ≡ n → tag_in x ≡ Some (n, y) → SaysIt (l.type_at m) (suc p) y r v → SaysIt (TagOf (exactly k) m) p x r (suc (v + 0))
   exact_says {k = k} {n = n} {m = m} {p = p} {x = x} {y = y} h e i s = record { answer = s.answer; is = s.is ∙ tag_reply p n x y s.answer h i; says = subst (λ w. Says l (TagOf (exactly k) m) p x s.answer w) (omega arith) (tagged i (subst (λ n. Numbers l (exactly k) p n Yes 0) e this_number) s.says) }
 
-  rounds_end : {most : Most} {g : G} {p q far later v w : ℕ} {xs : List Value} {r : Outcome} (least : ℕ) → is_over most ≡ false → Does l (l.group_at g) p q xs (Fails later) v → Ends l (end_of_rounds least xs q (max far later)) r w → Repeats l least most g p q xs far r (v + w)
+  rounds_end : {most : Most} {g : G} {p q far later v w : ℕ} {xs : List Value} {r : Reply} (least : ℕ) → is_over most ≡ false → Does l (l.group_at g) p q xs (Fails later) v → LeadsTo l (end_of_rounds least xs q (max far later)) r w → Repeats l least most g p q xs far r (v + w)
   rounds_end {most = most} {g = g} {p = p} {q = q} {far = far} {later = later} {v = v} {w = u} {xs = xs} zero i d e =
       let z = ended e in
       subst (λ r. Repeats l 0 most g p q xs far r (v + u)) (sym z.0) (subst (λ w. Repeats l 0 most g p q xs far (Takes xs q (max far later)) w) (same v z.1) (enough i d))
@@ -81,29 +81,29 @@ module _ {N G : Type 0} (l : Language N G) where
       let z = ended e in
       subst (λ r. Repeats l (suc least) most g p q xs far r (v + u)) (sym z.0) (subst (λ w. Repeats l (suc least) most g p q xs far (Fails (max far later)) w) (same v z.1) (too_few i d))
 
-  -- at the place behind a tag's or an array's head
-  stepped : {n : N} {p v : ℕ} (x : Value) {y : Value} {r : Outcome} → Fits p (place_count x) → Replies l (OfType n (plus p 1) y) r v → Replies l (OfType n (suc p) y) r v
+  -- at the place after a tag's or an array's head
+  stepped : {n : N} {p v : ℕ} (x : Value) {y : Value} {r : Reply} → Fits p (place_count x) → Replies l (OfType n (plus p 1) y) r v → Replies l (OfType n (suc p) y) r v
   stepped {n = n} {p = p} {v = v} x {y = y} {r = r} h d = subst (λ q. Replies l (OfType n q y) r v) (next_place p (place_count x) (any_places x) h) d
 
-  stepped_in : {g : G} {p v : ℕ} (x : Value) {xs : List Value} {r : Outcome} → Fits p (place_count x) → Replies l (OfGroup g p (plus p 1) xs) r v → Replies l (OfGroup g p (suc p) xs) r v
+  stepped_in : {g : G} {p v : ℕ} (x : Value) {xs : List Value} {r : Reply} → Fits p (place_count x) → Replies l (OfGroup g p (plus p 1) xs) r v → Replies l (OfGroup g p (suc p) xs) r v
   stepped_in {g = g} {p = p} {v = v} x {xs = xs} {r = r} h d = subst (λ q. Replies l (OfGroup g p q xs) r v) (next_place p (place_count x) (any_places x) h) d
 
   -- the questions of weight k at most have the definition's replies
   record Known (k : ℕ) : Type 0 where
-    types : {n : N} {p w : ℕ} {x : Value} {r : Outcome} → Fits p (place_count x) → w ≤ k → Replies l (OfType n p x) r w → SaysIt (l.type_at n) p x r w
-    groups : {g : G} {p q w : ℕ} {xs : List Value} {r : Outcome} → Fits q (places_of xs) → w ≤ k → Replies l (OfGroup g p q xs) r w → Does l (l.group_at g) p q xs r w
+    types : {n : N} {p w : ℕ} {x : Value} {r : Reply} → Fits p (place_count x) → w ≤ k → Replies l (OfType n p x) r w → SaysIt (l.type_at n) p x r w
+    groups : {g : G} {p q w : ℕ} {xs : List Value} {r : Reply} → Fits q (places_of xs) → w ≤ k → Replies l (OfGroup g p q xs) r w → Does l (l.group_at g) p q xs r w
 
   module _ (k : ℕ) (known : Known k) where
-    choose_from : (ms : List N) {p far w : ℕ} {x : Value} {r : Outcome} → Fits p (place_count x) → w ≤ k → Ends l (choose ms p x far) r w → ChoosesIt ms p x far r w
+    choose_from : (ms : List N) {p far w : ℕ} {x : Value} {r : Reply} → Fits p (place_count x) → w ≤ k → LeadsTo l (next_member ms p x far) r w → ChoosesIt ms p x far r w
     choose_from [] {far = far} f h at_once = record { answer = No far; is = refl; chooses = no_more }
     choose_from (m ∷ ms) {p = p} {far = far} {x = x} f h (after {s = Takes left b later} d at_once) =
         let t = known.types f (omega (arith, h)) d in
-        record { answer = Yes; is = ap (λ b. Takes [] b 0) (behind_of t); chooses = subst (λ w. Chooses l (m ∷ ms) p x far Yes w) (omega arith) (this_one (yes_of t)) }
+        record { answer = Yes; is = ap (λ b. Takes [] b 0) (next_of t); chooses = subst (λ w. Chooses l (m ∷ ms) p x far Yes w) (omega arith) (this_one (yes_of t)) }
     choose_from (m ∷ ms) f h (after {s = Fails later} d e) =
         let s = choose_from ms f (omega (arith, h)) e in
         record { answer = s.answer; is = s.is; chooses = not_this (no_of (known.types f (omega (arith, h)) d)) s.chooses }
 
-    array_from : {g : G} {p w : ℕ} {x : Value} {r : Outcome} (o : Option (List Value)) → members_in x ≡ o → Fits p (place_count x) → w ≤ k → Ends l (array_of g p o) r w → SaysIt (ArrayOf g) p x r (suc w)
+    array_from : {g : G} {p w : ℕ} {x : Value} {r : Reply} (o : Option (List Value)) → members_in x ≡ o → Fits p (place_count x) → w ≤ k → LeadsTo l (array_move g p o) r w → SaysIt (ArrayOf g) p x r (suc w)
     array_from {p = p} None i f h at_once = record { answer = No p; is = refl; says = no_array i }
     array_from {g = g} {p = p} {x = x} (Some xs) i f h (after {s = Takes [] b far} d at_once) =
         let t = known.groups (omega (arith, f, array_places x xs i)) (omega (arith, h)) (stepped_in x f d) in
@@ -116,16 +116,16 @@ module _ {N G : Type 0} (l : Language N G) where
         let t = known.groups (omega (arith, f, array_places x xs i)) (omega (arith, h)) (stepped_in x f d) in
         record { answer = No far; is = refl; says = subst (λ w. Says l (ArrayOf g) p x (No far) w) (omega arith) (array i t failed) }
 
-    content_from : {t : TagNumber N} {m : N} {p n v w : ℕ} {x y : Value} {r : Outcome} → Fits p (place_count x) → tag_in x ≡ Some (n, y) → Numbers l t p n Yes v → w ≤ k → Ends l (Asks (OfType m (plus p 1) y) InRef) r w → SaysIt (TagOf t m) p x r (suc (v + w))
+    content_from : {t : TagNumber N} {m : N} {p n v w : ℕ} {x y : Value} {r : Reply} → Fits p (place_count x) → tag_in x ≡ Some (n, y) → Numbers l t p n Yes v → w ≤ k → LeadsTo l (Asks (OfType m (plus p 1) y) InRef) r w → SaysIt (TagOf t m) p x r (suc (v + w))
     content_from {t = t} {m = m} {p = p} {n = n} {x = x} {y = y} f i u h (after d at_once) =
         let s = known.types (omega (arith, f, tag_places x y n i)) (omega (arith, h)) (stepped x f d) in
         record { answer = s.answer; is = s.is ∙ tag_reply p n x y s.answer f i; says = subst (λ w. Says l (TagOf t m) p x s.answer w) (omega arith) (tagged i u s.says) }
 
-    exact_from : {j : ℕ} {m : N} {p n w : ℕ} {x y : Value} {r : Outcome} (b : Bool) → nat_eq j n ≡ b → Fits p (place_count x) → tag_in x ≡ Some (n, y) → w ≤ k → Ends l (content_of m p y b) r w → SaysIt (TagOf (exactly j) m) p x r (suc w)
+    exact_from : {j : ℕ} {m : N} {p n w : ℕ} {x y : Value} {r : Reply} (b : Bool) → nat_eq j n ≡ b → Fits p (place_count x) → tag_in x ≡ Some (n, y) → w ≤ k → LeadsTo l (content_move m p y b) r w → SaysIt (TagOf (exactly j) m) p x r (suc w)
     exact_from {j = j} {n = n} {x = x} {y = y} true e f i h (after d at_once) = exact_says f (is_equal j n e) i (known.types (omega (arith, f, tag_places x y n i)) (omega (arith, h)) (stepped x f d))
     exact_from {j = j} {p = p} {n = n} false e f i h at_once = record { answer = No p; is = refl; says = other_tag i (other_number (is_unequal j n e)) }
 
-    tag_from : {t : TagNumber N} {m : N} {p w : ℕ} {x : Value} {r : Outcome} (o : Option (ℕ × Value)) → tag_in x ≡ o → Fits p (place_count x) → w ≤ k → Ends l (tag_of t m p o) r w → SaysIt (TagOf t m) p x r (suc w)
+    tag_from : {t : TagNumber N} {m : N} {p w : ℕ} {x : Value} {r : Reply} (o : Option (ℕ × Value)) → tag_in x ≡ o → Fits p (place_count x) → w ≤ k → LeadsTo l (tag_move t m p o) r w → SaysIt (TagOf t m) p x r (suc w)
     tag_from {p = p} None i f h at_once = record { answer = No p; is = refl; says = no_tag i }
     tag_from {t = any_number} {x = x} (Some (n, y)) i f h (after d at_once) = plain_tag_says f i (known.types (omega (arith, f, tag_places x y n i)) (omega (arith, h)) (stepped x f d))
     tag_from {t = exactly j} (Some (n, y)) i f h e = exact_from (nat_eq j n) refl f i h e
@@ -133,14 +133,14 @@ module _ {N G : Type 0} (l : Language N G) where
     tag_from {t = such_as t} {m = m} {p = p} {x = x} (Some (n, y)) i f h (after {s = Fails later} d at_once) =
         record { answer = No p; is = refl; says = subst (λ w. Says l (TagOf (such_as t) m) p x (No p) w) (omega arith) (other_tag i (by_head (no_of (known.types (omega (arith, f, any_places x)) (omega (arith, h)) d)))) }
 
-    simple_from : {m : N} {p w : ℕ} {x : Value} {r : Outcome} (o : Option ℕ) → simple_in x ≡ o → Fits p (place_count x) → w ≤ k → Ends l (simple_of m p o) r w → SaysIt (SimpleBy m) p x r (suc w)
+    simple_from : {m : N} {p w : ℕ} {x : Value} {r : Reply} (o : Option ℕ) → simple_in x ≡ o → Fits p (place_count x) → w ≤ k → LeadsTo l (simple_move m p o) r w → SaysIt (SimpleBy m) p x r (suc w)
     simple_from {p = p} None i f h at_once = record { answer = No p; is = refl; says = no_simple i }
     simple_from {m = m} {p = p} {x = x} (Some n) i f h (after {s = Takes left b later} d at_once) =
         record { answer = Yes; is = simple_reply p n x i; says = subst (λ w. Says l (SimpleBy m) p x Yes w) (omega arith) (simple_such i (yes_of (known.types (omega (arith, f, any_places x)) (omega (arith, h)) d))) }
     simple_from {m = m} {p = p} {x = x} (Some n) i f h (after {s = Fails later} d at_once) =
         record { answer = No p; is = refl; says = subst (λ w. Says l (SimpleBy m) p x (No p) w) (omega arith) (other_simple i (no_of (known.types (omega (arith, f, any_places x)) (omega (arith, h)) d))) }
 
-    form_from : (t : TypeForm N G) {p w : ℕ} {x : Value} {r : Outcome} → Fits p (place_count x) → w ≤ k → Ends l (open_type t p x) r w → SaysIt t p x r (suc w)
+    form_from : (t : Node N G) {p w : ℕ} {x : Value} {r : Reply} → Fits p (place_count x) → w ≤ k → LeadsTo l (type_move t p x) r w → SaysIt t p x r (suc w)
     form_from (Plain t) {x = x} f h at_once = plain_says (passes t x) refl
     form_from (Ref m) {p = p} {x = x} f h (after d at_once) =
         let s = known.types f (omega (arith, h)) d in
@@ -150,7 +150,7 @@ module _ {N G : Type 0} (l : Language N G) where
     form_from (TagOf t m) {x = x} f h e = tag_from (tag_in x) refl f h e
     form_from (SimpleBy m) {x = x} f h e = simple_from (simple_in x) refl f h e
 
-    each_from : (gs : List G) {p q far w : ℕ} {xs : List Value} {r : Outcome} → Fits q (places_of xs) → w ≤ k → Ends l (each gs p q xs far) r w → DoesEach l gs p q xs far r w
+    each_from : (gs : List G) {p q far w : ℕ} {xs : List Value} {r : Reply} → Fits q (places_of xs) → w ≤ k → LeadsTo l (next_part gs p q xs far) r w → DoesEach l gs p q xs far r w
     each_from [] f h at_once = all_done
     each_from (g ∷ gs) f h (after {s = Takes left b later} d e) =
         let t = known.groups f (omega (arith, h)) d in
@@ -159,21 +159,21 @@ module _ {N G : Type 0} (l : Language N G) where
         let z = ended e in
         subst (λ r. DoesEach l (g ∷ gs) p q xs far r (v + u)) (sym z.0) (subst (λ w. DoesEach l (g ∷ gs) p q xs far (Fails (max far later)) w) (same v z.1) (one_fails (known.groups f (omega (arith, h)) d)))
 
-    first_from : (gs : List G) {p q far w : ℕ} {xs : List Value} {r : Outcome} → Fits q (places_of xs) → w ≤ k → Ends l (first_of_these gs p q xs far) r w → DoesFirst l gs p q xs far r w
+    first_from : (gs : List G) {p q far w : ℕ} {xs : List Value} {r : Reply} → Fits q (places_of xs) → w ≤ k → LeadsTo l (next_alternative gs p q xs far) r w → DoesFirst l gs p q xs far r w
     first_from [] f h at_once = all_fail
     first_from (g ∷ gs) {p = p} {q = q} {far = far} {xs = xs} f h (after {s = Takes left b later} {v = v} {w = u} d e) =
         let z = ended e in
         subst (λ r. DoesFirst l (g ∷ gs) p q xs far r (v + u)) (sym z.0) (subst (λ w. DoesFirst l (g ∷ gs) p q xs far (Takes left b (max far later)) w) (same v z.1) (one_takes (known.groups f (omega (arith, h)) d)))
     first_from (g ∷ gs) f h (after {s = Fails later} d e) = or_else (known.groups f (omega (arith, h)) d) (first_from gs f (omega (arith, h)) e)
 
-    round_from : {least : ℕ} {most : Most} {g : G} {p q far b later v w : ℕ} {xs left : List Value} {r : Outcome} (c : Bool) → nat_eq (length left) (length xs) ≡ c → is_over most ≡ false → Does l (l.group_at g) p q xs (Takes left b later) v → (Ends l (repetition (least - 1) (one_less most) g p b left (max far later)) r w → Repeats l (least - 1) (one_less most) g p b left (max far later) r w) → Ends l (behind_round c least most g p q xs (max far later) left b) r w → Repeats l least most g p q xs far r (v + w)
+    round_from : {least : ℕ} {most : Most} {g : G} {p q far b later v w : ℕ} {xs left : List Value} {r : Reply} (c : Bool) → nat_eq (length left) (length xs) ≡ c → is_over most ≡ false → Does l (l.group_at g) p q xs (Takes left b later) v → (LeadsTo l (repetition (least - 1) (one_less most) g p b left (max far later)) r w → Repeats l (least - 1) (one_less most) g p b left (max far later) r w) → LeadsTo l (after_round c least most g p q xs (max far later) left b) r w → Repeats l least most g p q xs far r (v + w)
     round_from {least = least} {most = most} {g = g} {p = p} {q = q} {far = far} {later = later} {v = v} {w = u} {xs = xs} {left = left} true c i t rest e =
         let z = ended e in
         subst (λ r. Repeats l least most g p q xs far r (v + u)) (sym z.0) (subst (λ w. Repeats l least most g p q xs far (Takes xs q (max far later)) w) (same v z.1) (empty_round i t (is_equal (length left) (length xs) c)))
     round_from {xs = xs} {left = left} false c i t rest e = round i t (is_unequal (length left) (length xs) c) (rest e)
 
     -- by the weight, of which each round takes one or more
-    rounds_from : (j : ℕ) {least : ℕ} {most : Most} {g : G} {p q far w : ℕ} {xs : List Value} {r : Outcome} (b : Bool) → is_over most ≡ b → Fits q (places_of xs) → w ≤ j → w ≤ k → Ends l (next_round b least most g p q xs far) r w → Repeats l least most g p q xs far r w
+    rounds_from : (j : ℕ) {least : ℕ} {most : Most} {g : G} {p q far w : ℕ} {xs : List Value} {r : Reply} (b : Bool) → is_over most ≡ b → Fits q (places_of xs) → w ≤ j → w ≤ k → LeadsTo l (next_round b least most g p q xs far) r w → Repeats l least most g p q xs far r w
     rounds_from j true i f i' h at_once = full i
     rounds_from zero false i f i' h (after d e) = absurd (omega (arith, i', positive d))
     rounds_from (suc j) {most = most} {xs = xs} false i f i' h (after {s = Takes left b later} d e) =
@@ -181,11 +181,11 @@ module _ {N G : Type 0} (l : Language N G) where
         round_from (nat_eq (length left) (length xs)) refl i t (λ e. rounds_from j (is_over (one_less most)) refl (omega (arith, f, covers l t)) (omega (arith, i', positive d)) (omega (arith, h)) e) e
     rounds_from (suc j) {least = least} false i f i' h (after {s = Fails later} d e) = rounds_end least i (known.groups f (omega (arith, h)) d) e
 
-    group_form_from : (t : GroupForm N G) {p q w : ℕ} {xs : List Value} {r : Outcome} → Fits q (places_of xs) → w ≤ k → Ends l (open_group t p q xs) r w → Does l t p q xs r (suc w)
+    group_form_from : (t : Group N G) {p q w : ℕ} {xs : List Value} {r : Reply} → Fits q (places_of xs) → w ≤ k → LeadsTo l (group_move t p q xs) r w → Does l t p q xs r (suc w)
     group_form_from (Entry m) {xs = []} f h at_once = missing
     group_form_from (Entry m) {p = p} {q = q} {xs = x ∷ xs} f h (after {s = Takes left b later} {v = v} d at_once) =
         let t = known.types (omega (arith, f)) (omega (arith, h)) d in
-        subst (λ b. Does l (Entry m) p q (x ∷ xs) (Takes xs b p) (suc (v + 0))) (sym (behind_of t ∙ plus_is q (place_count x) (omega (arith, f)))) (subst (λ w. Does l (Entry m) p q (x ∷ xs) (Takes xs (q + place_count x) p) w) (omega arith) (matches (yes_of t)))
+        subst (λ b. Does l (Entry m) p q (x ∷ xs) (Takes xs b p) (suc (v + 0))) (sym (next_of t ∙ plus_is q (place_count x) (omega (arith, f)))) (subst (λ w. Does l (Entry m) p q (x ∷ xs) (Takes xs (q + place_count x) p) w) (omega arith) (matches (yes_of t)))
     group_form_from (Entry m) {p = p} {q = q} {xs = x ∷ xs} f h (after {s = Fails later} {v = v} {w = u} d e) =
         let z = ended e in
         subst (λ r. Does l (Entry m) p q (x ∷ xs) r (suc (v + u))) (sym z.0) (subst (λ w. Does l (Entry m) p q (x ∷ xs) (Fails (max p later)) w) (more v z.1) (differs (no_of (known.types (omega (arith, f)) (omega (arith, h)) d))))
@@ -195,16 +195,16 @@ module _ {N G : Type 0} (l : Language N G) where
     group_form_from (Repeat least most g) f h e = repeat (rounds_from k (is_over most) refl f h h e)
 
   mutual
-    type_within : (k : ℕ) {n : N} {p w : ℕ} {x : Value} {r : Outcome} → Fits p (place_count x) → w ≤ k → Replies l (OfType n p x) r w → SaysIt (l.type_at n) p x r w
+    type_within : (k : ℕ) {n : N} {p w : ℕ} {x : Value} {r : Reply} → Fits p (place_count x) → w ≤ k → Replies l (OfType n p x) r w → SaysIt (l.type_at n) p x r w
     type_within zero f h (replies e) = absurd (omega (arith, h))
     type_within (suc k) {n = n} f h (replies e) = form_from k (record { types = type_within k; groups = group_within k }) (l.type_at n) f (omega (arith, h)) e
 
-    group_within : (k : ℕ) {g : G} {p q w : ℕ} {xs : List Value} {r : Outcome} → Fits q (places_of xs) → w ≤ k → Replies l (OfGroup g p q xs) r w → Does l (l.group_at g) p q xs r w
+    group_within : (k : ℕ) {g : G} {p q w : ℕ} {xs : List Value} {r : Reply} → Fits q (places_of xs) → w ≤ k → Replies l (OfGroup g p q xs) r w → Does l (l.group_at g) p q xs r w
     group_within zero f h (replies e) = absurd (omega (arith, h))
     group_within (suc k) {g = g} f h (replies e) = group_form_from k (record { types = type_within k; groups = group_within k }) (l.group_at g) f (omega (arith, h)) e
 
-  pub means : {n : N} {p w : ℕ} {x : Value} {r : Outcome} → Fits p (place_count x) → Replies l (OfType n p x) r w → SaysIt (l.type_at n) p x r w
+  pub means : {n : N} {p w : ℕ} {x : Value} {r : Reply} → Fits p (place_count x) → Replies l (OfType n p x) r w → SaysIt (l.type_at n) p x r w
   means {w = w} f d = type_within w f (omega arith) d
 
-  pub does : {g : G} {p q w : ℕ} {xs : List Value} {r : Outcome} → Fits q (places_of xs) → Replies l (OfGroup g p q xs) r w → Does l (l.group_at g) p q xs r w
+  pub does : {g : G} {p q w : ℕ} {xs : List Value} {r : Reply} → Fits q (places_of xs) → Replies l (OfGroup g p q xs) r w → Does l (l.group_at g) p q xs r w
   does {w = w} f d = group_within w f (omega arith) d

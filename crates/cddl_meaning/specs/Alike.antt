@@ -3,7 +3,7 @@
 -- So one specification may have several tables: equal types are one row in the one and two in the other. R relates the
 -- names of types, S those of groups.
 use Rattle.std.specs.Prelude.{ℕ, List, [], ◌∷◌}
-use Rattle.cddl_meaning.specs.Forms.{Test, TagNumber, any_number, exactly, such_as, TypeForm, Plain, Ref, Choice, ArrayOf, TagOf, SimpleBy, Most, GroupForm, Entry, GroupRef, Sequence, Alternatives, Repeat, Language}
+use Rattle.cddl_meaning.specs.Forms.{Test, TagNumber, any_number, exactly, such_as, Node, Plain, Ref, Choice, ArrayOf, TagOf, SimpleBy, Most, Group, Entry, GroupRef, Sequence, Alternatives, Repeat, Language}
 
 -- as many names, related one by one in their order
 pub data AlikeAll {N M : Type 0} (R : N → M → Type 0) : List N → List M → Type 0 where
@@ -17,7 +17,7 @@ pub data AlikeNumbers {N M : Type 0} (R : N → M → Type 0) : TagNumber N → 
   heads : {n : N} {m : M} → R n m → AlikeNumbers R (such_as n) (such_as m)
 
 -- the same form of type, of related parts
-pub data AlikeTypes {N G M H : Type 0} (R : N → M → Type 0) (S : G → H → Type 0) : TypeForm N G → TypeForm M H → Type 0 where
+pub data AlikeTypes {N G M H : Type 0} (R : N → M → Type 0) (S : G → H → Type 0) : Node N G → Node M H → Type 0 where
   plain : {t : Test} → AlikeTypes R S (Plain t) (Plain t)
   refs : {n : N} {m : M} → R n m → AlikeTypes R S (Ref n) (Ref m)
   choices : {ns : List N} {ms : List M} → AlikeAll R ns ms → AlikeTypes R S (Choice ns) (Choice ms)
@@ -26,7 +26,7 @@ pub data AlikeTypes {N G M H : Type 0} (R : N → M → Type 0) (S : G → H →
   simples : {n : N} {m : M} → R n m → AlikeTypes R S (SimpleBy n) (SimpleBy m)
 
 -- the same form of group, of related parts, and as often
-pub data AlikeGroups {N G M H : Type 0} (R : N → M → Type 0) (S : G → H → Type 0) : GroupForm N G → GroupForm M H → Type 0 where
+pub data AlikeGroups {N G M H : Type 0} (R : N → M → Type 0) (S : G → H → Type 0) : Group N G → Group M H → Type 0 where
   entries : {n : N} {m : M} → R n m → AlikeGroups R S (Entry n) (Entry m)
   group_refs : {g : G} {h : H} → S g h → AlikeGroups R S (GroupRef g) (GroupRef h)
   sequences : {gs : List G} {hs : List H} → AlikeAll S gs hs → AlikeGroups R S (Sequence gs) (Sequence hs)

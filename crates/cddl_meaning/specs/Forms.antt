@@ -13,7 +13,7 @@ pub data Test : Type 0 where
   simple_value : ℕ → Test
   float_of : Width → Test
   equals : Value → Test
-  -- from one whole number to another: with the last in `a..b`, without it in `a...b`
+  -- from one whole number to another, with the last in `a..b`, without it in `a...b`
   between : (least last : Value) → (closed : Bool) → Test
 
 -- the major type (RFC 8949 section 3.1)
@@ -28,7 +28,7 @@ major_of (tag n x) = 6
 major_of (simple n) = 7
 major_of (float w n) = 7
 
--- The order of whole numbers, which other items are in no part of: the first is less than the second.
+-- The first whole number is less than the second. Other items have no part in this order.
 abbrev pub is_below : Value → Value → Bool
 is_below (uint m) (uint n) = nat_lt m n
 is_below (nint m) (uint n) = true
@@ -89,19 +89,19 @@ pub data TagNumber (N : Type 0) : Type 0 where
   exactly : ℕ → TagNumber N
   such_as : N → TagNumber N
 
--- A type whose parts are types named by N and groups named by G.
-pub data TypeForm (N G : Type 0) : Type 0 where
-  Plain : Test → TypeForm N G
+-- A node is a type whose parts are types named by N and groups named by G.
+pub data Node (N G : Type 0) : Type 0 where
+  Plain : Test → Node N G
   -- what another type says
-  Ref : N → TypeForm N G
+  Ref : N → Node N G
   -- `a / b / ..` (section 2.2.2): the first that says yes
-  Choice : List N → TypeForm N G
+  Choice : List N → Node N G
   -- `[ group ]` (section 3.4)
-  ArrayOf : G → TypeForm N G
+  ArrayOf : G → Node N G
   -- `#6.n(type)` (section 3.6)
-  TagOf : TagNumber N → N → TypeForm N G
+  TagOf : TagNumber N → N → Node N G
   -- `#7.<type>`: the simple values to whose number the type says yes
-  SimpleBy : N → TypeForm N G
+  SimpleBy : N → Node N G
 
 -- how often at most: `a*b`, or `a*` with no end (section 3.2)
 pub data Most : Type 0 where
@@ -109,19 +109,19 @@ pub data Most : Type 0 where
   any_number_of : Most
 
 -- A group, asked of a list of items: the members of an array from one of them on.
-pub data GroupForm (N G : Type 0) : Type 0 where
+pub data Group (N G : Type 0) : Type 0 where
   -- one item, of this type
-  Entry : N → GroupForm N G
+  Entry : N → Group N G
   -- what another group does
-  GroupRef : G → GroupForm N G
+  GroupRef : G → Group N G
   -- `a, b, ..` (section 2.1): each with what the one before left
-  Sequence : List G → GroupForm N G
+  Sequence : List G → Group N G
   -- `a // b // ..` (section 2.2.2): the first that does not fail
-  Alternatives : List G → GroupForm N G
+  Alternatives : List G → Group N G
   -- an occurrence (section 3.2)
-  Repeat : (least : ℕ) → Most → G → GroupForm N G
+  Repeat : (least : ℕ) → Most → G → Group N G
 
 -- what each name stands for
 pub record Language (N G : Type 0) : Type 0 where
-  pub type_at : N → TypeForm N G
-  pub group_at : G → GroupForm N G
+  pub type_at : N → Node N G
+  pub group_at : G → Group N G

@@ -2,39 +2,39 @@
 --
 -- Choices are ordered, as in a parsing expression grammar: the first member that says yes, the first group that does not
 -- fail, and no other is asked then. A group takes items from the front, as many rounds as an occurrence can, or fails and
--- takes none; what it has taken it never gives back, whatever fails behind it.
+-- takes none; what it has taken it never gives back, whatever fails after it.
 --
 -- Each derivation has a weight, the number of its judgements: a type said something of an item, or a group did something
 -- with a list. A place is an item's number in preorder, a key before its value.
 use Rattle.std.specs.Prelude.{◌≡◌, ◌≢◌, ℕ, zero, suc, ◌+◌, ◌-◌, max, length, List, [], ◌∷◌, Some, None, Bool, true, false}
 use Rattle.cbor_data.specs.Value.{Value, uint, place_count}
-use Rattle.cddl_meaning.specs.Forms.{Test, passes, members_in, tag_in, simple_in, TagNumber, any_number, exactly, such_as, TypeForm, Plain, Ref, Choice, ArrayOf, TagOf, SimpleBy, Most, at_most, any_number_of, GroupForm, Entry, GroupRef, Sequence, Alternatives, Repeat, Language}
+use Rattle.cddl_meaning.specs.Forms.{Test, passes, members_in, tag_in, simple_in, TagNumber, any_number, exactly, such_as, Node, Plain, Ref, Choice, ArrayOf, TagOf, SimpleBy, Most, at_most, any_number_of, Group, Entry, GroupRef, Sequence, Alternatives, Repeat, Language}
 
--- yes; or no, with the place where it shows: the greatest of all trials that failed, but for those of types that then
--- said yes
+-- What a type says: yes; or no, with the place where it shows. That is the greatest place of all trials that failed, but for
+-- those of types that then said yes.
 pub data Answer : Type 0 where
   Yes : Answer
   No : (far : ℕ) → Answer
 
--- Items are taken, after which these are left, the first of them at `behind`; or the group fails. With the greatest
--- place of all trials that failed, as above; the array's own place, where none did.
-pub data Outcome : Type 0 where
-  Takes : (left : List Value) → (behind far : ℕ) → Outcome
-  Fails : (far : ℕ) → Outcome
+-- What a group does: it takes items, after which these are left, the first of them at the place `next`; or it fails. `far`
+-- is the greatest place of all trials that failed, as above, and the array's own place where none did.
+pub data Reply : Type 0 where
+  Takes : (left : List Value) → (next far : ℕ) → Reply
+  Fails : (far : ℕ) → Reply
 
--- the array whose group does this says that: all of its items are to be taken (section 3.4)
-pub data ArraySays : Outcome → Answer → Type 0 where
-  whole : {behind far : ℕ} → ArraySays (Takes [] behind far) Yes
-  over : {behind far : ℕ} {x : Value} {xs : List Value} → ArraySays (Takes (x ∷ xs) behind far) (No (max far behind))
+-- An array whose group does this says that: the group has to take all of its items (section 3.4).
+pub data ArraySays : Reply → Answer → Type 0 where
+  whole : {next far : ℕ} → ArraySays (Takes [] next far) Yes
+  over : {next far : ℕ} {x : Value} {xs : List Value} → ArraySays (Takes (x ∷ xs) next far) (No (max far next))
   failed : {far : ℕ} → ArraySays (Fails far) (No far)
 
--- no round may follow: an occurrence takes so many rounds at most (section 3.2)
+-- No round may follow: an occurrence takes so many rounds at most (section 3.2).
 abbrev pub is_over : Most → Bool
 is_over (at_most zero) = true
 is_over (at_most (suc n)) = false
 is_over any_number_of = false
 
--- the rounds that may follow behind one more
+-- the rounds that may follow after one more
 abbrev pub one_less : Most → Most
 one_less (at_most zero) = at_most zero
 one_less (at_most (suc n)) = at_most n
@@ -42,14 +42,14 @@ one_less any_number_of = any_number_of
 
 mutual
   -- The type says this of the item x at the place p. A no shows at the item itself, or, in a choice, an array or a tag,
-  -- wherever a part of it shows its own; the number of a tag or of a simple value has the place of its item.
-  pub data Says {N G : Type 0} (l : Language N G) : TypeForm N G → ℕ → Value → Answer → ℕ → Type 0 where
+  -- wherever a part of it shows its own. The number of a tag or of a simple value has the place of its item.
+  pub data Says {N G : Type 0} (l : Language N G) : Node N G → ℕ → Value → Answer → ℕ → Type 0 where
     passed : {t : Test} {p : ℕ} {x : Value} → passes t x ≡ true → Says l (Plain t) p x Yes 1
     missed : {t : Test} {p : ℕ} {x : Value} → passes t x ≡ false → Says l (Plain t) p x (No p) 1
     ref : {m : N} {p w : ℕ} {x : Value} {a : Answer} → Says l (l.type_at m) p x a w → Says l (Ref m) p x a (suc w)
     choice : {ms : List N} {p w : ℕ} {x : Value} {a : Answer} → Chooses l ms p x p a w → Says l (Choice ms) p x a (suc w)
     no_array : {g : G} {p : ℕ} {x : Value} → members_in x ≡ None → Says l (ArrayOf g) p x (No p) 1
-    array : {g : G} {p w : ℕ} {x : Value} {xs : List Value} {r : Outcome} {a : Answer} → members_in x ≡ Some xs → Does l (l.group_at g) p (suc p) xs r w → ArraySays r a → Says l (ArrayOf g) p x a (suc w)
+    array : {g : G} {p w : ℕ} {x : Value} {xs : List Value} {r : Reply} {a : Answer} → members_in x ≡ Some xs → Does l (l.group_at g) p (suc p) xs r w → ArraySays r a → Says l (ArrayOf g) p x a (suc w)
     no_tag : {t : TagNumber N} {m : N} {p : ℕ} {x : Value} → tag_in x ≡ None → Says l (TagOf t m) p x (No p) 1
     tagged : {t : TagNumber N} {m : N} {p n v w : ℕ} {x y : Value} {a : Answer} → tag_in x ≡ Some (n, y) → Numbers l t p n Yes v → Says l (l.type_at m) (suc p) y a w → Says l (TagOf t m) p x a (suc (v + w))
     other_tag : {t : TagNumber N} {m : N} {p n far w : ℕ} {x y : Value} → tag_in x ≡ Some (n, y) → Numbers l t p n (No far) w → Says l (TagOf t m) p x (No p) (suc w)
@@ -57,14 +57,14 @@ mutual
     simple_such : {m : N} {p n w : ℕ} {x : Value} → simple_in x ≡ Some n → Says l (l.type_at m) p (uint n) Yes w → Says l (SimpleBy m) p x Yes (suc w)
     other_simple : {m : N} {p n far w : ℕ} {x : Value} → simple_in x ≡ Some n → Says l (l.type_at m) p (uint n) (No far) w → Says l (SimpleBy m) p x (No p) (suc w)
 
-  -- the number n of a tag at p is meant, or not
+  -- The number n of a tag at p is meant, or not.
   pub data Numbers {N G : Type 0} (l : Language N G) : TagNumber N → ℕ → ℕ → Answer → ℕ → Type 0 where
     whichever : {p n : ℕ} → Numbers l any_number p n Yes 0
     this_number : {p n : ℕ} → Numbers l (exactly n) p n Yes 0
     other_number : {p m n : ℕ} → m ≢ n → Numbers l (exactly m) p n (No p) 0
     by_head : {m : N} {p n w : ℕ} {a : Answer} → Says l (l.type_at m) p (uint n) a w → Numbers l (such_as m) p n a w
 
-  -- the ordered choice of types: the first yes; else no, with the greatest of `far` and of their places
+  -- The ordered choice of types says the first yes, else no, with the greatest of `far` and of their places.
   pub data Chooses {N G : Type 0} (l : Language N G) : List N → ℕ → Value → ℕ → Answer → ℕ → Type 0 where
     no_more : {p far : ℕ} {x : Value} → Chooses l [] p x far (No far) 0
     this_one : {m : N} {p far w : ℕ} {ms : List N} {x : Value} → Says l (l.type_at m) p x Yes w → Chooses l (m ∷ ms) p x far Yes w
@@ -72,32 +72,32 @@ mutual
 
   -- The group does this with the items xs, the first of them at q, of the array at p. Where no item is left for an entry,
   -- it fails at the array.
-  pub data Does {N G : Type 0} (l : Language N G) : GroupForm N G → ℕ → ℕ → List Value → Outcome → ℕ → Type 0 where
+  pub data Does {N G : Type 0} (l : Language N G) : Group N G → ℕ → ℕ → List Value → Reply → ℕ → Type 0 where
     missing : {m : N} {p q : ℕ} → Does l (Entry m) p q [] (Fails p) 1
     matches : {m : N} {p q w : ℕ} {x : Value} {xs : List Value} → Says l (l.type_at m) q x Yes w → Does l (Entry m) p q (x ∷ xs) (Takes xs (q + place_count x) p) (suc w)
     differs : {m : N} {p q far w : ℕ} {x : Value} {xs : List Value} → Says l (l.type_at m) q x (No far) w → Does l (Entry m) p q (x ∷ xs) (Fails (max p far)) (suc w)
-    group_ref : {g : G} {p q w : ℕ} {xs : List Value} {r : Outcome} → Does l (l.group_at g) p q xs r w → Does l (GroupRef g) p q xs r (suc w)
-    sequence : {gs : List G} {p q w : ℕ} {xs : List Value} {r : Outcome} → DoesEach l gs p q xs p r w → Does l (Sequence gs) p q xs r (suc w)
-    alternatives : {gs : List G} {p q w : ℕ} {xs : List Value} {r : Outcome} → DoesFirst l gs p q xs p r w → Does l (Alternatives gs) p q xs r (suc w)
-    repeat : {least : ℕ} {most : Most} {g : G} {p q w : ℕ} {xs : List Value} {r : Outcome} → Repeats l least most g p q xs p r w → Does l (Repeat least most g) p q xs r (suc w)
+    group_ref : {g : G} {p q w : ℕ} {xs : List Value} {r : Reply} → Does l (l.group_at g) p q xs r w → Does l (GroupRef g) p q xs r (suc w)
+    sequence : {gs : List G} {p q w : ℕ} {xs : List Value} {r : Reply} → DoesEach l gs p q xs p r w → Does l (Sequence gs) p q xs r (suc w)
+    alternatives : {gs : List G} {p q w : ℕ} {xs : List Value} {r : Reply} → DoesFirst l gs p q xs p r w → Does l (Alternatives gs) p q xs r (suc w)
+    repeat : {least : ℕ} {most : Most} {g : G} {p q w : ℕ} {xs : List Value} {r : Reply} → Repeats l least most g p q xs p r w → Does l (Repeat least most g) p q xs r (suc w)
 
-  -- each of these groups in turn, after trials that failed at `far` at most
-  pub data DoesEach {N G : Type 0} (l : Language N G) : List G → ℕ → ℕ → List Value → ℕ → Outcome → ℕ → Type 0 where
+  -- Each of these groups is asked in turn, after trials that failed at `far` at most.
+  pub data DoesEach {N G : Type 0} (l : Language N G) : List G → ℕ → ℕ → List Value → ℕ → Reply → ℕ → Type 0 where
     all_done : {p q far : ℕ} {xs : List Value} → DoesEach l [] p q xs far (Takes xs q far) 0
     one_fails : {g : G} {p q far later w : ℕ} {gs : List G} {xs : List Value} → Does l (l.group_at g) p q xs (Fails later) w → DoesEach l (g ∷ gs) p q xs far (Fails (max far later)) w
-    and_then : {g : G} {p q far behind later v w : ℕ} {gs : List G} {xs left : List Value} {r : Outcome} → Does l (l.group_at g) p q xs (Takes left behind later) v → DoesEach l gs p behind left (max far later) r w → DoesEach l (g ∷ gs) p q xs far r (v + w)
+    and_then : {g : G} {p q far next later v w : ℕ} {gs : List G} {xs left : List Value} {r : Reply} → Does l (l.group_at g) p q xs (Takes left next later) v → DoesEach l gs p next left (max far later) r w → DoesEach l (g ∷ gs) p q xs far r (v + w)
 
-  -- the ordered choice of groups: the first that does not fail; all are asked of the same items
-  pub data DoesFirst {N G : Type 0} (l : Language N G) : List G → ℕ → ℕ → List Value → ℕ → Outcome → ℕ → Type 0 where
+  -- The ordered choice of groups does what the first does that does not fail. All are asked of the same items.
+  pub data DoesFirst {N G : Type 0} (l : Language N G) : List G → ℕ → ℕ → List Value → ℕ → Reply → ℕ → Type 0 where
     all_fail : {p q far : ℕ} {xs : List Value} → DoesFirst l [] p q xs far (Fails far) 0
-    one_takes : {g : G} {p q far behind later w : ℕ} {gs : List G} {xs left : List Value} → Does l (l.group_at g) p q xs (Takes left behind later) w → DoesFirst l (g ∷ gs) p q xs far (Takes left behind (max far later)) w
-    or_else : {g : G} {p q far later v w : ℕ} {gs : List G} {xs : List Value} {r : Outcome} → Does l (l.group_at g) p q xs (Fails later) v → DoesFirst l gs p q xs (max far later) r w → DoesFirst l (g ∷ gs) p q xs far r (v + w)
+    one_takes : {g : G} {p q far next later w : ℕ} {gs : List G} {xs left : List Value} → Does l (l.group_at g) p q xs (Takes left next later) w → DoesFirst l (g ∷ gs) p q xs far (Takes left next (max far later)) w
+    or_else : {g : G} {p q far later v w : ℕ} {gs : List G} {xs : List Value} {r : Reply} → Does l (l.group_at g) p q xs (Fails later) v → DoesFirst l gs p q xs (max far later) r w → DoesFirst l (g ∷ gs) p q xs far r (v + w)
 
-  -- an occurrence: the group again and again, at least `least` more times and at most `most` more, until it fails
-  pub data Repeats {N G : Type 0} (l : Language N G) : (least : ℕ) → Most → G → ℕ → ℕ → List Value → (far : ℕ) → Outcome → ℕ → Type 0 where
+  -- An occurrence asks the group again and again, at least `least` more times and at most `most` more, until it fails.
+  pub data Repeats {N G : Type 0} (l : Language N G) : (least : ℕ) → Most → G → ℕ → ℕ → List Value → (far : ℕ) → Reply → ℕ → Type 0 where
     full : {least : ℕ} {most : Most} {g : G} {p q far : ℕ} {xs : List Value} → is_over most ≡ true → Repeats l least most g p q xs far (Takes xs q far) 0
     too_few : {least : ℕ} {most : Most} {g : G} {p q far later w : ℕ} {xs : List Value} → is_over most ≡ false → Does l (l.group_at g) p q xs (Fails later) w → Repeats l (suc least) most g p q xs far (Fails (max far later)) w
     enough : {most : Most} {g : G} {p q far later w : ℕ} {xs : List Value} → is_over most ≡ false → Does l (l.group_at g) p q xs (Fails later) w → Repeats l 0 most g p q xs far (Takes xs q (max far later)) w
-    -- a round that takes no item ends the repetition and meets the rest of the minimum
-    empty_round : {least : ℕ} {most : Most} {g : G} {p q far behind later w : ℕ} {xs left : List Value} → is_over most ≡ false → Does l (l.group_at g) p q xs (Takes left behind later) w → length left ≡ length xs → Repeats l least most g p q xs far (Takes xs q (max far later)) w
-    round : {least : ℕ} {most : Most} {g : G} {p q far behind later v w : ℕ} {xs left : List Value} {r : Outcome} → is_over most ≡ false → Does l (l.group_at g) p q xs (Takes left behind later) v → length left ≢ length xs → Repeats l (least - 1) (one_less most) g p behind left (max far later) r w → Repeats l least most g p q xs far r (v + w)
+    -- A round that takes no item ends the repetition and meets the rest of the minimum.
+    empty_round : {least : ℕ} {most : Most} {g : G} {p q far next later w : ℕ} {xs left : List Value} → is_over most ≡ false → Does l (l.group_at g) p q xs (Takes left next later) w → length left ≡ length xs → Repeats l least most g p q xs far (Takes xs q (max far later)) w
+    round : {least : ℕ} {most : Most} {g : G} {p q far next later v w : ℕ} {xs left : List Value} {r : Reply} → is_over most ≡ false → Does l (l.group_at g) p q xs (Takes left next later) v → length left ≢ length xs → Repeats l (least - 1) (one_less most) g p next left (max far later) r w → Repeats l least most g p q xs far r (v + w)

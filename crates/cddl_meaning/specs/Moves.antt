@@ -1,174 +1,174 @@
--- What is asked next: a matcher's steps, as functions. They reply just what the definition says, wherever places have
--- numbers below 2^64.
+-- The moves of a matcher, as functions: each is a reply, or a question and what waits for its reply. They reply just what
+-- the definition says, wherever places have numbers below 2^64.
 use Rattle.std.specs.Prelude.{ℕ, zero, suc, ◌+◌, ◌-◌, ◌^◌, min, max, length, List, [], ◌∷◌, Option, Some, None, Bool, true, false, nat_eq}
 use Rattle.cbor_data.specs.Value.{Value, uint, place_count}
-use Rattle.cddl_meaning.specs.Forms.{passes, members_in, tag_in, simple_in, TagNumber, any_number, exactly, such_as, TypeForm, Plain, Ref, Choice, ArrayOf, TagOf, SimpleBy, Most, GroupForm, Entry, GroupRef, Sequence, Alternatives, Repeat, Language}
-use Rattle.cddl_meaning.specs.Judges.{Answer, Yes, No, Outcome, Takes, Fails, is_over, one_less}
+use Rattle.cddl_meaning.specs.Forms.{passes, members_in, tag_in, simple_in, TagNumber, any_number, exactly, such_as, Node, Plain, Ref, Choice, ArrayOf, TagOf, SimpleBy, Most, Group, Entry, GroupRef, Sequence, Alternatives, Repeat, Language}
+use Rattle.cddl_meaning.specs.Judges.{Answer, Yes, No, Reply, Takes, Fails, is_over, one_less}
 
--- a type asked of an item at a place; or a group asked of items, the first at a place, of the array at a base
-pub data Ask (N G : Type 0) : Type 0 where
-  OfType : N → (place : ℕ) → Value → Ask N G
-  OfGroup : G → (base place : ℕ) → List Value → Ask N G
+-- A question asks a type of an item at a place, or a group of items, the first of them at a place, of the array at a base.
+pub data Question (N G : Type 0) : Type 0 where
+  OfType : N → (place : ℕ) → Value → Question N G
+  OfGroup : G → (base place : ℕ) → List Value → Question N G
 
--- a question that waits for the reply to the one that it asked
-pub data Open (N G : Type 0) : Type 0 where
-  -- the reply is this question's, too
-  InRef : Open N G
+-- what waits for the reply to the question that it asked
+pub data Pending (N G : Type 0) : Type 0 where
+  -- The reply is this question's, too.
+  InRef : Pending N G
   -- the members that are left, what they are asked of, and the greatest place so far
-  InChoice : List N → (place : ℕ) → Value → (far : ℕ) → Open N G
-  -- all items are to be taken
-  InArray : Open N G
+  InChoice : List N → (place : ℕ) → Value → (far : ℕ) → Pending N G
+  -- The group has to take all items.
+  InArray : Pending N G
   -- the content, and its type, of a tag whose number is asked about
-  InHead : N → (place : ℕ) → Value → Open N G
+  InHead : N → (place : ℕ) → Value → Pending N G
   -- the simple value whose number is asked about
-  InSimple : (place : ℕ) → Open N G
-  -- the items behind the one that is asked about
-  InEntry : (base : ℕ) → List Value → Open N G
+  InSimple : (place : ℕ) → Pending N G
+  -- the items after the one that is asked about
+  InEntry : (base : ℕ) → List Value → Pending N G
   -- the groups that are left
-  InSequence : List G → (base far : ℕ) → Open N G
+  InSequence : List G → (base far : ℕ) → Pending N G
   -- the groups that are left, and the items that each of them is asked of
-  InAlternatives : List G → (base place : ℕ) → List Value → (far : ℕ) → Open N G
+  InAlternatives : List G → (base place : ℕ) → List Value → (far : ℕ) → Pending N G
   -- the rounds that are left, with the one that is asked about
-  InRepeat : (least : ℕ) → Most → G → (base place : ℕ) → List Value → (far : ℕ) → Open N G
+  InRepeat : (least : ℕ) → Most → G → (base place : ℕ) → List Value → (far : ℕ) → Pending N G
 
 -- either the reply, or what is asked first
 pub data Move (N G : Type 0) : Type 0 where
-  Answered : Outcome → Move N G
-  Asks : Ask N G → Open N G → Move N G
+  Answered : Reply → Move N G
+  Asks : Question N G → Pending N G → Move N G
 
 -- a sum that stays at the greatest number; a sound item has fewer places
 abbrev pub plus : ℕ → ℕ → ℕ
 plus a b = min (a + b) (2 ^ 64 - 1)
 
--- a type's yes to the item x at the place p: it takes nothing from a list, and tells the place behind the item
-abbrev pub yes : ℕ → Value → Outcome
-yes p x = Takes [] (plus p (place_count x)) 0
+-- a type's yes to the item x at the place p: it takes nothing from a list, and tells the place after the item
+abbrev pub yes_reply : ℕ → Value → Reply
+yes_reply p x = Takes [] (plus p (place_count x)) 0
 
 -- a type's answer for the item x at the place p, as a reply
-abbrev pub reply_of : ℕ → Value → Answer → Outcome
-reply_of p x Yes = yes p x
+abbrev pub reply_of : ℕ → Value → Answer → Reply
+reply_of p x Yes = yes_reply p x
 reply_of p x (No far) = Fails far
 
--- a test's, which fails at the item
-abbrev pub test_reply : ℕ → Value → Bool → Outcome
-test_reply p x true = yes p x
+-- a test's reply: it fails at the item
+abbrev pub test_reply : ℕ → Value → Bool → Reply
+test_reply p x true = yes_reply p x
 test_reply p x false = Fails p
 
--- an array's, by what its group did: the first item that is left shows a no
-abbrev pub array_reply : Outcome → Outcome
-array_reply (Takes [] behind far) = Takes [] behind 0
-array_reply (Takes (x ∷ xs) behind far) = Fails (max far behind)
+-- An array's reply, by what its group did: the first item that is left shows a no.
+abbrev pub array_reply : Reply → Reply
+array_reply (Takes [] next far) = Takes [] next 0
+array_reply (Takes (x ∷ xs) next far) = Fails (max far next)
 array_reply (Fails far) = Fails far
 
 module _ {N G : Type 0} where
   -- the next member of a choice of types
-  abbrev pub choose : List N → ℕ → Value → ℕ → Move N G
-  choose [] p x far = Answered (Fails far)
-  choose (m ∷ ms) p x far = Asks (OfType m p x) (InChoice ms p x far)
+  abbrev pub next_member : List N → ℕ → Value → ℕ → Move N G
+  next_member [] p x far = Answered (Fails far)
+  next_member (m ∷ ms) p x far = Asks (OfType m p x) (InChoice ms p x far)
 
   -- the next group of a sequence
-  abbrev pub each : List G → ℕ → ℕ → List Value → ℕ → Move N G
-  each [] base q xs far = Answered (Takes xs q far)
-  each (g ∷ gs) base q xs far = Asks (OfGroup g base q xs) (InSequence gs base far)
+  abbrev pub next_part : List G → ℕ → ℕ → List Value → ℕ → Move N G
+  next_part [] base q xs far = Answered (Takes xs q far)
+  next_part (g ∷ gs) base q xs far = Asks (OfGroup g base q xs) (InSequence gs base far)
 
   -- the next group of a choice of groups
-  abbrev pub first_of_these : List G → ℕ → ℕ → List Value → ℕ → Move N G
-  first_of_these [] base q xs far = Answered (Fails far)
-  first_of_these (g ∷ gs) base q xs far = Asks (OfGroup g base q xs) (InAlternatives gs base q xs far)
+  abbrev pub next_alternative : List G → ℕ → ℕ → List Value → ℕ → Move N G
+  next_alternative [] base q xs far = Answered (Fails far)
+  next_alternative (g ∷ gs) base q xs far = Asks (OfGroup g base q xs) (InAlternatives gs base q xs far)
 
-  -- another round, unless there were as many as may be
+  -- Another round is asked for, unless there were as many as may be.
   abbrev pub next_round : Bool → ℕ → Most → G → ℕ → ℕ → List Value → ℕ → Move N G
   next_round true least most g base q xs far = Answered (Takes xs q far)
   next_round false least most g base q xs far = Asks (OfGroup g base q xs) (InRepeat least most g base q xs far)
 
-  -- a repetition, before its first round or behind another
+  -- a repetition, before its first round or after another
   abbrev pub repetition : ℕ → Most → G → ℕ → ℕ → List Value → ℕ → Move N G
   repetition least most g base q xs far = next_round (is_over most) least most g base q xs far
 
-  -- a round has taken what it has; was it any item?
-  abbrev pub behind_round : Bool → ℕ → Most → G → ℕ → ℕ → List Value → ℕ → List Value → ℕ → Move N G
-  behind_round true least most g base q xs far left behind = Answered (Takes xs q far)
-  behind_round false least most g base q xs far left behind = repetition (least - 1) (one_less most) g base behind left far
+  -- A round has taken items, or none, which ends the repetition.
+  abbrev pub after_round : Bool → ℕ → Most → G → ℕ → ℕ → List Value → ℕ → List Value → ℕ → Move N G
+  after_round true least most g base q xs far left next = Answered (Takes xs q far)
+  after_round false least most g base q xs far left next = repetition (least - 1) (one_less most) g base next left far
 
-  -- a round has failed: were there enough?
+  -- A round has failed, and there were enough of them or not.
   abbrev pub end_of_rounds : ℕ → List Value → ℕ → ℕ → Move N G
   end_of_rounds zero xs q far = Answered (Takes xs q far)
   end_of_rounds (suc least) xs q far = Answered (Fails far)
 
-  -- an array asks its group of all of its items, the first behind its head
-  abbrev pub array_of : G → ℕ → Option (List Value) → Move N G
-  array_of g p None = Answered (Fails p)
-  array_of g p (Some xs) = Asks (OfGroup g p (plus p 1) xs) InArray
+  -- An array asks its group of all of its items, the first of them at the place after its own.
+  abbrev pub array_move : G → ℕ → Option (List Value) → Move N G
+  array_move g p None = Answered (Fails p)
+  array_move g p (Some xs) = Asks (OfGroup g p (plus p 1) xs) InArray
 
-  -- a tag, once its number is known to be meant or not, asks about its content
-  abbrev pub content_of : N → ℕ → Value → Bool → Move N G
-  content_of m p y true = Asks (OfType m (plus p 1) y) InRef
-  content_of m p y false = Answered (Fails p)
+  -- A tag whose number is known to be meant asks about its content.
+  abbrev pub content_move : N → ℕ → Value → Bool → Move N G
+  content_move m p y true = Asks (OfType m (plus p 1) y) InRef
+  content_move m p y false = Answered (Fails p)
 
-  -- a tag: its number first
-  abbrev pub tag_of : TagNumber N → N → ℕ → Option (ℕ × Value) → Move N G
-  tag_of t m p None = Answered (Fails p)
-  tag_of any_number m p (Some (n, y)) = content_of m p y true
-  tag_of (exactly k) m p (Some (n, y)) = content_of m p y (nat_eq k n)
-  tag_of (such_as h) m p (Some (n, y)) = Asks (OfType h p (uint n)) (InHead m p y)
+  -- A tag asks about its number first.
+  abbrev pub tag_move : TagNumber N → N → ℕ → Option (ℕ × Value) → Move N G
+  tag_move t m p None = Answered (Fails p)
+  tag_move any_number m p (Some (n, y)) = content_move m p y true
+  tag_move (exactly k) m p (Some (n, y)) = content_move m p y (nat_eq k n)
+  tag_move (such_as h) m p (Some (n, y)) = Asks (OfType h p (uint n)) (InHead m p y)
 
-  -- a simple value asks about its number
-  abbrev pub simple_of : N → ℕ → Option ℕ → Move N G
-  simple_of m p None = Answered (Fails p)
-  simple_of m p (Some n) = Asks (OfType m p (uint n)) (InSimple p)
+  -- A simple value asks about its number.
+  abbrev pub simple_move : N → ℕ → Option ℕ → Move N G
+  simple_move m p None = Answered (Fails p)
+  simple_move m p (Some n) = Asks (OfType m p (uint n)) (InSimple p)
 
   -- what a type asks first
-  abbrev pub open_type : TypeForm N G → ℕ → Value → Move N G
-  open_type (Plain t) p x = Answered (test_reply p x (passes t x))
-  open_type (Ref m) p x = Asks (OfType m p x) InRef
-  open_type (Choice ms) p x = choose ms p x p
-  open_type (ArrayOf g) p x = array_of g p (members_in x)
-  open_type (TagOf t m) p x = tag_of t m p (tag_in x)
-  open_type (SimpleBy m) p x = simple_of m p (simple_in x)
+  abbrev pub type_move : Node N G → ℕ → Value → Move N G
+  type_move (Plain t) p x = Answered (test_reply p x (passes t x))
+  type_move (Ref m) p x = Asks (OfType m p x) InRef
+  type_move (Choice ms) p x = next_member ms p x p
+  type_move (ArrayOf g) p x = array_move g p (members_in x)
+  type_move (TagOf t m) p x = tag_move t m p (tag_in x)
+  type_move (SimpleBy m) p x = simple_move m p (simple_in x)
 
-  -- an entry asks about the first item
-  abbrev pub entry_of : N → ℕ → ℕ → List Value → Move N G
-  entry_of m base q [] = Answered (Fails base)
-  entry_of m base q (x ∷ xs) = Asks (OfType m q x) (InEntry base xs)
+  -- An entry asks about the first item.
+  abbrev pub entry_move : N → ℕ → ℕ → List Value → Move N G
+  entry_move m base q [] = Answered (Fails base)
+  entry_move m base q (x ∷ xs) = Asks (OfType m q x) (InEntry base xs)
 
   -- what a group asks first
-  abbrev pub open_group : GroupForm N G → ℕ → ℕ → List Value → Move N G
-  open_group (Entry m) base q xs = entry_of m base q xs
-  open_group (GroupRef g) base q xs = Asks (OfGroup g base q xs) InRef
-  open_group (Sequence gs) base q xs = each gs base q xs base
-  open_group (Alternatives gs) base q xs = first_of_these gs base q xs base
-  open_group (Repeat least most g) base q xs = repetition least most g base q xs base
+  abbrev pub group_move : Group N G → ℕ → ℕ → List Value → Move N G
+  group_move (Entry m) base q xs = entry_move m base q xs
+  group_move (GroupRef g) base q xs = Asks (OfGroup g base q xs) InRef
+  group_move (Sequence gs) base q xs = next_part gs base q xs base
+  group_move (Alternatives gs) base q xs = next_alternative gs base q xs base
+  group_move (Repeat least most g) base q xs = repetition least most g base q xs base
 
   -- what a question asks first, or its reply
-  abbrev pub opened : Language N G → Ask N G → Move N G
-  opened l (OfType n p x) = open_type (l.type_at n) p x
-  opened l (OfGroup g base q xs) = open_group (l.group_at g) base q xs
+  abbrev pub first_move : Language N G → Question N G → Move N G
+  first_move l (OfType n p x) = type_move (l.type_at n) p x
+  first_move l (OfGroup g base q xs) = group_move (l.group_at g) base q xs
 
-  -- what an open question asks next, or its reply, once what it asked has this reply
-  abbrev pub resumed : Open N G → Outcome → Move N G
-  resumed InRef r = Answered r
-  resumed (InChoice ms p x far) (Takes left behind later) = Answered (Takes [] behind 0)
-  resumed (InChoice ms p x far) (Fails later) = choose ms p x (max far later)
-  resumed InArray r = Answered (array_reply r)
-  resumed (InHead m p y) (Takes left behind later) = content_of m p y true
-  resumed (InHead m p y) (Fails later) = Answered (Fails p)
-  resumed (InSimple p) (Takes left behind later) = Answered (Takes [] (plus p 1) 0)
-  resumed (InSimple p) (Fails later) = Answered (Fails p)
-  resumed (InEntry base xs) (Takes left behind later) = Answered (Takes xs behind base)
-  resumed (InEntry base xs) (Fails later) = Answered (Fails (max base later))
-  resumed (InSequence gs base far) (Takes left behind later) = each gs base behind left (max far later)
-  resumed (InSequence gs base far) (Fails later) = Answered (Fails (max far later))
-  resumed (InAlternatives gs base q xs far) (Takes left behind later) = Answered (Takes left behind (max far later))
-  resumed (InAlternatives gs base q xs far) (Fails later) = first_of_these gs base q xs (max far later)
-  resumed (InRepeat least most g base q xs far) (Takes left behind later) = behind_round (nat_eq (length left) (length xs)) least most g base q xs (max far later) left behind
-  resumed (InRepeat least most g base q xs far) (Fails later) = end_of_rounds least xs q (max far later)
+  -- what a pending question asks next, or its reply, once what it asked has this reply
+  abbrev pub next_move : Pending N G → Reply → Move N G
+  next_move InRef r = Answered r
+  next_move (InChoice ms p x far) (Takes left next later) = Answered (Takes [] next 0)
+  next_move (InChoice ms p x far) (Fails later) = next_member ms p x (max far later)
+  next_move InArray r = Answered (array_reply r)
+  next_move (InHead m p y) (Takes left next later) = content_move m p y true
+  next_move (InHead m p y) (Fails later) = Answered (Fails p)
+  next_move (InSimple p) (Takes left next later) = Answered (Takes [] (plus p 1) 0)
+  next_move (InSimple p) (Fails later) = Answered (Fails p)
+  next_move (InEntry base xs) (Takes left next later) = Answered (Takes xs next base)
+  next_move (InEntry base xs) (Fails later) = Answered (Fails (max base later))
+  next_move (InSequence gs base far) (Takes left next later) = next_part gs base next left (max far later)
+  next_move (InSequence gs base far) (Fails later) = Answered (Fails (max far later))
+  next_move (InAlternatives gs base q xs far) (Takes left next later) = Answered (Takes left next (max far later))
+  next_move (InAlternatives gs base q xs far) (Fails later) = next_alternative gs base q xs (max far later)
+  next_move (InRepeat least most g base q xs far) (Takes left next later) = after_round (nat_eq (length left) (length xs)) least most g base q xs (max far later) left next
+  next_move (InRepeat least most g base q xs far) (Fails later) = end_of_rounds least xs q (max far later)
 
   -- A question's reply by the moves, with the number of questions that are asked on the way.
   mutual
-    pub data Replies (l : Language N G) : Ask N G → Outcome → ℕ → Type 0 where
-      replies : {q : Ask N G} {r : Outcome} {w : ℕ} → Ends l (opened l q) r w → Replies l q r (suc w)
+    pub data Replies (l : Language N G) : Question N G → Reply → ℕ → Type 0 where
+      replies : {q : Question N G} {r : Reply} {w : ℕ} → LeadsTo l (first_move l q) r w → Replies l q r (suc w)
 
     -- what a move comes to, in so many questions more
-    pub data Ends (l : Language N G) : Move N G → Outcome → ℕ → Type 0 where
-      at_once : {r : Outcome} → Ends l (Answered r) r 0
-      after : {q : Ask N G} {o : Open N G} {s r : Outcome} {v w : ℕ} → Replies l q s v → Ends l (resumed o s) r w → Ends l (Asks q o) r (v + w)
+    pub data LeadsTo (l : Language N G) : Move N G → Reply → ℕ → Type 0 where
+      at_once : {r : Reply} → LeadsTo l (Answered r) r 0
+      after : {q : Question N G} {o : Pending N G} {s r : Reply} {v w : ℕ} → Replies l q s v → LeadsTo l (next_move o s) r w → LeadsTo l (Asks q o) r (v + w)

@@ -3,7 +3,7 @@ use Rattle.std.specs.Prelude.{ℕ, List, [], Option, Some, None, slice_get}
 use Rattle.cbor_data.specs.Value.{Value, uint, nint}
 use Rattle.cbor_item.specs.View.{view}
 use Rattle.cddl_meaning.specs.Forms as F
-use Rattle.cddl_meaning.specs.Forms.{TypeForm, GroupForm, Language}
+use Rattle.cddl_meaning.specs.Forms.{Language}
 use Rattle.cddl_meaning.specs.Judges.{Answer, Says}
 use Rattle.cddl_table.specs.declared.nodes.TypeId.{TypeId}
 use Rattle.cddl_table.specs.declared.nodes.GroupId.{GroupId}
@@ -26,7 +26,7 @@ abbrev pub whole_view : Whole → Value
 whole_view (W.Uint n) = uint n
 whole_view (W.Nint n) = nint n
 
--- a test, whose literals count by their values
+-- a test; of a literal only its value counts
 abbrev pub test_view : Test → F.Test
 test_view T.Anything = F.anything
 test_view (T.Major m) = F.of_major m
@@ -47,7 +47,7 @@ most_view (M.AtMost n) = F.at_most n
 most_view M.Any = F.any_number_of
 
 -- the form of a type
-abbrev pub type_view : Node → TypeForm TypeId GroupId
+abbrev pub type_view : Node → F.Node TypeId GroupId
 type_view (N.Plain t) = F.Plain (test_view t)
 type_view (N.Ref m) = F.Ref m
 type_view (N.Choice ms) = F.Choice ms.items
@@ -56,23 +56,23 @@ type_view (N.TagOf t m) = F.TagOf (tag_number_view t) m
 type_view (N.SimpleBy m) = F.SimpleBy m
 
 -- the form of a group
-abbrev pub group_view : Group → GroupForm TypeId GroupId
+abbrev pub group_view : Group → F.Group TypeId GroupId
 group_view (G.Entry m) = F.Entry m
 group_view (G.Ref g) = F.GroupRef g
 group_view (G.Sequence gs) = F.Sequence gs.items
 group_view (G.Alternatives gs) = F.Alternatives gs.items
 group_view (G.Repeat least most g) = F.Repeat least (most_view most) g
 
--- what is not there says no to every item, or fails
-abbrev pub type_or_none : Option Node → TypeForm TypeId GroupId
+-- A type that is not there says no to every item, and a group that is not there fails.
+abbrev pub type_or_none : Option Node → F.Node TypeId GroupId
 type_or_none (Some n) = type_view n
 type_or_none None = F.Choice []
 
-abbrev pub group_or_none : Option Group → GroupForm TypeId GroupId
+abbrev pub group_or_none : Option Group → F.Group TypeId GroupId
 group_or_none (Some g) = group_view g
 group_or_none None = F.Alternatives []
 
--- the language of such lists, a type or a group at each number
+-- the language of these lists: a type or a group at each number
 abbrev pub language_in : List Node → List Group → Language TypeId GroupId
 language_in types groups = record { type_at = λ n. type_or_none (slice_get types n.number); group_at = λ g. group_or_none (slice_get groups g.number) }
 
@@ -84,9 +84,9 @@ abbrev pub root_of : Table → TypeId
 root_of t = t.root
 
 -- the form of the root type
-abbrev pub root_form : Table → TypeForm TypeId GroupId
+abbrev pub root_form : Table → F.Node TypeId GroupId
 root_form t = (language_of t).type_at (root_of t)
 
--- the root type says this of the item, in so many judgements
+-- The root type says this of the item, in so many judgements.
 abbrev pub RootSays : Table → Value → Answer → ℕ → Type 0
 RootSays t x a w = Says (language_of t) (root_form t) 0 x a w

@@ -1,9 +1,9 @@
 use Rattle.std.proofs.Common.{◌≡◌, [], sym, ◌∙◌, arith}
 use Rattle.cddl_table.specs.Language.{language_of, root_of}
 use Rattle.cddl_meaning.specs.Moves.{OfType}
-use Rattle.cddl_meaning.proofs.Matches.{said}
+use Rattle.cddl_meaning.proofs.Lemmas.{said}
 use Rattle.cddl_match.proofs.Turns.{begun, asked, answered, finished, heavier, in_steps, stack_push, none_left}
-use Rattle.cddl_match.proofs.Judged.{said_yes, said_no}
+use Rattle.cddl_match.proofs.Verdicts.{said_yes, said_no}
 use Rattle.cddl_match.proofs.Room.{room}
 use Rattle.cddl_match.proofs.judging.verdict.Goals as goal
 
@@ -24,7 +24,7 @@ loop-next-preserved-in-Asks c =
     let i = rw c.in-Asks.is at c.loop-next.invariant.leads in
     record {
       within = omega (arith, c.loop-next.invariant.within);
-      leads = rw (c.in_ok-push-in-Asks.ensures.items, stack_push, c.open-next.ensures) (in_steps (omega (arith, c.loop-next.invariant.within, c.if-left-eq0.false)) (asked (language_of c.args.table.now) i));
+      leads = rw (c.in_ok-push-in-Asks.ensures.items, stack_push, c.first_move-next.ensures) (in_steps (omega (arith, c.loop-next.invariant.within, c.if-left-eq0.false)) (asked (language_of c.args.table.now) i));
     }
 
 pub loop-next-preserved : goal.loop-next-preserved
@@ -32,7 +32,7 @@ loop-next-preserved c =
     let i = rw (c.in-Answered.is, c.in-Some.ensures.items, stack_push) at c.loop-next.invariant.leads in
     record {
       within = c.loop-next.invariant.within;
-      leads = rw c.resume-next.ensures (answered (language_of c.args.table.now) i);
+      leads = rw c.next_move-next.ensures (answered (language_of c.args.table.now) i);
     }
 
 pub returns-in-None-clause-yes : goal.returns-in-None-clause-yes
