@@ -2,15 +2,17 @@
 //! they like.
 
 ghost use Rattle.std.specs.Prelude.{◌≡◌, ◌<◌, ◌≤◌, ℕ};
+ghost use Rattle.cbor_item.specs.View.{view};
 ghost use Rattle.cddl_meaning.specs.Judges.{Answer};
-ghost use Rattle.cddl_match.specs.Views.{reply_view, verdict_of};
+ghost use Rattle.cddl_meaning.specs.Moves.{OfType};
+ghost use Rattle.cddl_match.specs.Views.{question_view, reply_view, verdict_of};
 ghost use Rattle.cddl_table.specs.Language.{RootSays};
 
 use crate::answers::Verdict;
 use crate::moves::{first_move, next_move};
 use crate::questions::{Move, Pending, Question, Reply, Subject};
-use cbor_item::Sound;
-use cddl_table::Table;
+use cbor_item::{Item, Sound};
+use cddl_table::{Table, TypeId};
 use std::alloc::{AllocError, Global};
 
 /// What the root type of the table says of the item.
@@ -35,14 +37,7 @@ pub fn verdict(
 {
     let mut left = steps;
     let mut waiting: Vec<Pending<'_, '_>> = Vec::new(alloc);
-    let mut next = Move::Asks(
-        Question::OfType {
-            node: table.root(),
-            place: 0,
-            subject: Subject::Item(item.item()),
-        },
-        Pending::Ref,
-    );
+    let mut next = Move::Asks(first_question(table.root(), item.item()), Pending::Ref);
     loop {
         match next {
             Move::Asks(question, pending) => {
@@ -59,6 +54,17 @@ pub fn verdict(
                 Some(pending) => next = next_move(pending, reply),
             },
         }
+    }
+}
+
+/// What is asked first: a type, of an item, whose place is 0.
+fn first_question<'i>(node: TypeId, item: &'i Item) -> Question<'i>
+    ensures { question_view result ≡ OfType node 0 (view item.now) }
+{
+    Question::OfType {
+        node,
+        place: 0,
+        subject: Subject::Item(item),
     }
 }
 

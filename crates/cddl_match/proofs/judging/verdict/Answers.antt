@@ -10,7 +10,7 @@ use Rattle.cddl_match.proofs.judging.verdict.Goals as goal
 pub loop-next-init : goal.loop-next-init
 loop-next-init c = record {
   within = omega arith;
-  leads = rw (c.new-waiting.ensures.items, c.item.ensures.same, c.root.ensures) (in_steps (omega arith) (begun (language_of c.args.table.now) (OfType (root_of c.args.table.now) 0 c.args.item.now)));
+  leads = rw (c.new-waiting.ensures.items, c.first_question.ensures, c.item.ensures.same, c.root.ensures) (in_steps (omega arith) (begun (language_of c.args.table.now) (OfType (root_of c.args.table.now) 0 c.args.item.now)));
 }
 
 pub returns-then-left-eq0-clause-spent : goal.returns-then-left-eq0-clause-spent
