@@ -1,48 +1,23 @@
 ghost use Rattle.std.specs.Prelude.{◌≡◌, ℕ, ◌+◌, ◌<◌, ◌≤◌, Bool, length, slice_index, IsTrue};
-ghost use Rattle.cddl_literal.specs.Bytes.{Each, is_decimal_digit, is_binary_digit, is_x, is_b};
+ghost use Rattle.cddl_literal.specs.Bytes.{Each, is_decimal_digit, is_binary_digit};
 ghost use Rattle.cddl_literal.specs.Numbers.{IsUint, IsSigned};
 ghost use Rattle.hex.specs.Hex.{is_hex_digit};
 
 use cddl_literal::{
-    Coding, Escape, Literal, Quote, bytes_between, bytes_value, characters_end, coded_end,
-    escape_at, number_of, text_value,
+    Coding, Escape, Literal, Quote, byte_at, bytes_between, bytes_value, characters_end, coded_end,
+    escape_at, is_b, is_binary_digit, is_digit, is_hex_digit, is_x, number_of, text_value,
 };
 use std::alloc::{AllocError, Global};
 use std::process::Abort;
 use std::test::Fail;
 
-/// The byte at a place, or 0 past the end.
-fn byte_at(source: &[u8], at: usize) -> u8
-    ensures value { result ≡ slice_index source.now at }
-    ensures inside { 0 < result → at < length source.now }
-{
-    source.get(at).copied().unwrap_or(0)
-}
-
-fn is_hex_digit(b: u8) -> bool
-    ensures { result ≡ is_hex_digit b }
-{
-    (b >= b'A' && b <= b'F') || (b >= b'a' && b <= b'f') || (b >= b'0' && b <= b'9')
-}
-
-fn is_decimal_digit(b: u8) -> bool
-    ensures { result ≡ is_decimal_digit b }
-{
-    b >= b'0' && b <= b'9'
-}
-
-fn is_binary_digit(b: u8) -> bool
-    ensures { result ≡ is_binary_digit b }
-{
-    b == b'0' || b == b'1'
-}
-
+/// Whether digits are from here to the end.
 fn are_decimal(source: &[u8], from: usize) -> bool
     ensures { IsTrue result → Each is_decimal_digit source.now from (length source.now) }
 {
     let mut i = from;
     while i < source.len() {
-        if !is_decimal_digit(source[i]) {
+        if !is_digit(source[i]) {
             return false;
         }
         i += 1;
@@ -50,6 +25,7 @@ fn are_decimal(source: &[u8], from: usize) -> bool
     true
 }
 
+/// Whether hex digits are from here to the end.
 fn are_hex(source: &[u8], from: usize) -> bool
     ensures { IsTrue result → Each is_hex_digit source.now from (length source.now) }
 {
@@ -63,6 +39,7 @@ fn are_hex(source: &[u8], from: usize) -> bool
     true
 }
 
+/// Whether binary digits are from here to the end.
 fn are_binary(source: &[u8], from: usize) -> bool
     ensures { IsTrue result → Each is_binary_digit source.now from (length source.now) }
 {
@@ -76,19 +53,7 @@ fn are_binary(source: &[u8], from: usize) -> bool
     true
 }
 
-fn is_x(b: u8) -> bool
-    ensures { result ≡ is_x b }
-{
-    b == b'x' || b == b'X'
-}
-
-fn is_b(b: u8) -> bool
-    ensures { result ≡ is_b b }
-{
-    b == b'b' || b == b'B'
-}
-
-/// Whether a uint stands from here to the end.
+/// Whether a uint is from here to the end.
 fn is_uint(source: &[u8], from: usize) -> bool
     requires { from < length source.now }
     ensures { IsTrue result → (n : ℕ) × IsUint source.now from (length source.now) n }
@@ -459,7 +424,7 @@ fn expect_none(
     Ok(())
 }
 
-/// What stands between the quotes of a string in hex, and its bytes.
+/// What is between the quotes of a string in hex, and its bytes.
 static HEX: [(&str, &[u8]); 6] = [
     ("'", b""),
     ("00'", b"\x00"),
@@ -481,7 +446,7 @@ fn hex(rt: HostRuntime) -> Result<(), Fail> {
     Ok(())
 }
 
-/// What stands between the quotes of a string in base64, and its bytes.
+/// What is between the quotes of a string in base64, and its bytes.
 static BASE64: [(&str, &[u8]); 12] = [
     ("'", b""),
     ("Zg=='", b"f"),
@@ -525,7 +490,7 @@ fn base64(rt: HostRuntime) -> Result<(), Fail> {
     Ok(())
 }
 
-/// The letter's six bits stand in the first byte's last two and the second byte's first four.
+/// The letter's six bits are the first byte's last two and the second byte's first four.
 fn bits_of(rt: &impl Abort, alloc: Global, letter: u8) -> Result<usize, AllocError> {
     let source = [b'A', letter, b'A', b'A', b'\''];
     let bytes = between(alloc, Coding::Base64, &source)?.expect(rt, "bytes");

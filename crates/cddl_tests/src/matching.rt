@@ -147,7 +147,7 @@ fn table_of(
 }
 
 /// What the root of a table says of an item, within so many steps.
-fn told(alloc: Global, table: &Table, form: &Form, steps: u64) -> Result<Verdict, Fail> {
+fn verdict_in(alloc: Global, table: &Table, form: &Form, steps: u64) -> Result<Verdict, Fail> {
     let item = Sound::try_new(alloc, item_of(alloc, form)?)?;
     Ok(verdict(alloc, table, &item, steps)?)
 }
@@ -162,7 +162,7 @@ fn check_rows(
     for (number, form, wanted) in rows {
         let table = table_of(alloc, kinds, parts, *number)?;
         assert_eq!(rt;
-            told(alloc, &table, form, 1000)?,
+            verdict_in(alloc, &table, form, 1000)?,
             *wanted,
             "of type {number}"
         );
@@ -250,14 +250,14 @@ static ARRAY_ROWS: [Row; 18] = [
     ),
     (0, Form::Nint(0), YES),
     (0, Form::Empty, Verdict::No { place: 0 }),
-    // of a choice's trials the greatest place counts
+    // Of a choice's trials the greatest place counts.
     (
         9,
         Form::Array(&[ONE, Form::Empty]),
         Verdict::No { place: 2 },
     ),
     (9, Form::Array(&[Form::Nint(0)]), YES),
-    // the place behind an item is behind all that is in it
+    // The place after an item is after all that is in it.
     (
         10,
         Form::Array(&[Form::Array(&[ONE]), Form::Empty]),
@@ -321,7 +321,7 @@ fn judges_heads(rt: HostRuntime) -> Result<(), Fail> {
 static STEPS: [(usize, Form, u64); 4] = [
     // int, uint, nint
     (0, Form::Nint(0), 3),
-    // the array, both groups, the repetition, an entry in a round and one behind
+    // The array, both groups, the repetition, an entry in a round and one after it.
     (3, Form::Array(&[]), 5),
     // and an entry, int and uint for each item
     (3, Form::Array(&[ONE]), 8),
@@ -346,8 +346,8 @@ fn check_steps(
     form: &Form,
     steps: u64,
 ) -> Result<(), Fail> {
-    let enough = told(alloc, table, form, steps)?;
-    let fewer = told(alloc, table, form, steps.saturating_sub(1))?;
+    let enough = verdict_in(alloc, table, form, steps)?;
+    let fewer = verdict_in(alloc, table, form, steps.saturating_sub(1))?;
     assert!(rt;
         enough != Verdict::Spent && fewer == Verdict::Spent,
         "of type {number} in {steps}"
@@ -356,7 +356,7 @@ fn check_steps(
 }
 
 /// What a type says of an item, and None where there is no memory.
-fn judged(alloc: Global, number: usize, form: &Form) -> Option<Verdict> {
+fn verdict_or_none(alloc: Global, number: usize, form: &Form) -> Option<Verdict> {
     let table = table_of(alloc, &KINDS, &PARTS, number).ok()?;
     let item = Sound::try_new(alloc, item_of(alloc, form).ok()?).ok()?;
     verdict(alloc, &table, &item, 1000).ok()
@@ -365,6 +365,6 @@ fn judged(alloc: Global, number: usize, form: &Form) -> Option<Verdict> {
 // Run with each allocation refused in turn (`rt try --test --fail-alloc N`), this finds no third answer.
 #[test]
 fn judges_or_wants_memory(rt: HostRuntime) {
-    let verdict = judged(rt.alloc(), 7, &TWO_ONES);
+    let verdict = verdict_or_none(rt.alloc(), 7, &TWO_ONES);
     assert!(rt; matches!(verdict, None | Some(Verdict::Yes)));
 }

@@ -15,7 +15,7 @@ use rows::{ROWS_1, ROWS_2, ROWS_3, ROWS_4, ROWS_5, ROWS_6, ROWS_7, ROWS_8, VALUE
 use texts::{COSE, EXAMPLES};
 
 /// The kinds of the tokens, or the line of the refusal.
-fn told(alloc: Global, source: &[u8]) -> Result<String, AllocError> {
+fn kinds_or_refusal(alloc: Global, source: &[u8]) -> Result<String, AllocError> {
     match tokens(alloc, source) {
         Ok(found) => kinds(alloc, &found),
         Err(refusal) => refusal.to_string(alloc),
@@ -53,7 +53,7 @@ fn values(alloc: Global, found: &Vec<Token<'_>>) -> Result<String, AllocError>
 }
 
 /// What the literals of a source stand for, or the line of the refusal.
-fn told_values(alloc: Global, source: &str) -> Result<String, AllocError> {
+fn values_or_refusal(alloc: Global, source: &str) -> Result<String, AllocError> {
     match tokens(alloc, source.as_bytes()) {
         Ok(found) => values(alloc, &found),
         Err(refusal) => refusal.to_string(alloc),
@@ -62,7 +62,11 @@ fn told_values(alloc: Global, source: &str) -> Result<String, AllocError> {
 
 fn check_rows(rt: &impl Abort, alloc: Global, rows: &[(&[u8], &str)]) -> Result<(), Fail> {
     for (source, want) in rows {
-        assert_eq!(rt; told(alloc, *source)?.as_str(), *want, "at {source:?}");
+        assert_eq!(rt;
+            kinds_or_refusal(alloc, *source)?.as_str(),
+            *want,
+            "at {source:?}"
+        );
     }
     Ok(())
 }
@@ -109,7 +113,11 @@ fn tells_rows_8(rt: HostRuntime) -> Result<(), Fail> {
 
 fn check_values(rt: &impl Abort, alloc: Global, rows: &[(&str, &str)]) -> Result<(), Fail> {
     for (source, want) in rows {
-        assert_eq!(rt; told_values(alloc, *source)?.as_str(), *want, "at {source}");
+        assert_eq!(rt;
+            values_or_refusal(alloc, *source)?.as_str(),
+            *want,
+            "at {source}"
+        );
     }
     Ok(())
 }
@@ -119,7 +127,7 @@ fn gives_values(rt: HostRuntime) -> Result<(), Fail> {
     check_values(&rt, rt.alloc(), &VALUES)
 }
 
-/// How many `=` stand in a source, and None where it has no tokens.
+/// How many `=` are in a source, and None where it has no tokens.
 fn rules(alloc: Global, source: &str) -> Option<usize> {
     let found = tokens(alloc, source.as_bytes()).ok()?;
     Some(
@@ -142,7 +150,7 @@ fn reads_specifications_of_rfcs(rt: HostRuntime) {
     expect_rules(&rt, rt.alloc(), &COSE);
 }
 
-/// Bytes, how often each stands in a source, and what is told of it.
+/// Bytes, how often each is in a source, and what is told of it.
 static LENGTHS: [(u8, usize, &str); 4] = [
     (b' ', 1_048_576, "End "),
     (b' ', 1_048_577, "refused: S9 SourceTooLong at byte 1048576"),
@@ -154,7 +162,7 @@ static LENGTHS: [(u8, usize, &str); 4] = [
 fn limits_the_length(rt: HostRuntime) -> Result<(), Fail> {
     for (byte, count, want) in LENGTHS.iter() {
         let source = vec![in rt.alloc(); *byte; *count]?;
-        assert_eq!(rt; told(rt.alloc(), &source)?.as_str(), *want);
+        assert_eq!(rt; kinds_or_refusal(rt.alloc(), &source)?.as_str(), *want);
     }
     Ok(())
 }
