@@ -115,16 +115,12 @@ pub(crate) fn scan<'s>(
                 Err(_) => return Err(Refusal::Memory),
             }
         }
-        let (kind, end) = match token_at(alloc, source, start) {
-            Ok(found) => found,
-            Err(refusal) => return Err(refusal),
-        };
-        let part = text_between(text, start, end);
+        let (kind, end) = token_at(alloc, source, start)?;
         match out.push(Token {
             kind,
             start,
             end,
-            text: part,
+            text: text_between(text, start, end),
         }) {
             Ok(()) => at = end,
             Err(_) => return Err(Refusal::Memory),
