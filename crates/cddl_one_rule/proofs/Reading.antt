@@ -46,32 +46,32 @@ gap_alone : (gap : List ℕ) → gap ≡ gap ++ []
 gap_alone [] = refl
 gap_alone (b ∷ bs) = ap (λ (xs : List ℕ). b ∷ xs) (gap_alone bs)
 
--- the rest of a specification behind its name
-abbrev pub behind_name : {text : List ℕ} {type : NamedType} → IsRule text type → List ℕ
-behind_name {type = type} s = s.gap_after_name ++ (61 ∷ (s.gap_after_equals ++ (type_name type ++ s.gap_behind)))
+-- the rest of a specification after its name
+abbrev pub after_name : {text : List ℕ} {type : NamedType} → IsRule text type → List ℕ
+after_name {type = type} s = s.gap_after_name ++ (61 ∷ (s.gap_after_equals ++ (type_name type ++ s.gap_after_type)))
 
 pub name_first : {text : List ℕ} {type : NamedType} (s : IsRule text type) {gap after name rest : List ℕ} → IsFront IsGapByte text gap after → IsFront IsLetter after name rest →
-    (name ≡ s.name) × (rest ≡ behind_name s)
+    (name ≡ s.name) × (rest ≡ after_name s)
 name_first s {gap} {after} {name} {rest} f g =
-    let gaps = one_front IsGapByte gap after s.gap_before (s.name ++ behind_name s) f.each f.stops s.gaps.0 (letters_no_gap s.name (behind_name s) s.named s.letters) (sym f.whole ∙ s.is) in
-    let stop : BeginsOtherwise IsLetter (behind_name s) = gap_no_letter s.gap_after_name _ s.gaps.1 equals_no_letter in
-    one_front IsLetter name rest s.name (behind_name s) g.each g.stops s.letters stop (sym g.whole ∙ gaps.1)
+    let gaps = one_front IsGapByte gap after s.gap_before (s.name ++ after_name s) f.each f.stops s.gaps.0 (letters_no_gap s.name (after_name s) s.named s.letters) (sym f.whole ∙ s.is) in
+    let stop : BeginsOtherwise IsLetter (after_name s) = gap_no_letter s.gap_after_name _ s.gaps.1 equals_no_letter in
+    one_front IsLetter name rest s.name (after_name s) g.each g.stops s.letters stop (sym g.whole ∙ gaps.1)
 
-pub equals_next : {text : List ℕ} {type : NamedType} (s : IsRule text type) {before gap rest : List ℕ} → before ≡ behind_name s → IsFront IsGapByte before gap rest →
-    rest ≡ 61 ∷ (s.gap_after_equals ++ (type_name type ++ s.gap_behind))
+pub equals_next : {text : List ℕ} {type : NamedType} (s : IsRule text type) {before gap rest : List ℕ} → before ≡ after_name s → IsFront IsGapByte before gap rest →
+    rest ≡ 61 ∷ (s.gap_after_equals ++ (type_name type ++ s.gap_after_type))
 equals_next s {before} {gap} {rest} e f =
     (one_front IsGapByte gap rest s.gap_after_name _ f.each f.stops s.gaps.1 equals_no_gap (sym f.whole ∙ e)).1
 
-pub type_next : {text : List ℕ} {type : NamedType} (s : IsRule text type) {before gap after name rest : List ℕ} → before ≡ s.gap_after_equals ++ (type_name type ++ s.gap_behind) →
-    IsFront IsGapByte before gap after → IsFront IsLetter after name rest → (name ≡ type_name type) × (rest ≡ s.gap_behind)
+pub type_next : {text : List ℕ} {type : NamedType} (s : IsRule text type) {before gap after name rest : List ℕ} → before ≡ s.gap_after_equals ++ (type_name type ++ s.gap_after_type) →
+    IsFront IsGapByte before gap after → IsFront IsLetter after name rest → (name ≡ type_name type) × (rest ≡ s.gap_after_type)
 type_next {type = type} s {before} {gap} {after} {name} {rest} e f g =
-    let gaps = one_front IsGapByte gap after s.gap_after_equals (type_name type ++ s.gap_behind) f.each f.stops s.gaps.2 (letters_no_gap (type_name type) s.gap_behind (has_name type) (type_letters type)) (sym f.whole ∙ e) in
-    let stop : BeginsOtherwise IsLetter s.gap_behind = subst (BeginsOtherwise IsLetter) (sym (gap_alone s.gap_behind)) (gap_no_letter s.gap_behind [] s.gaps.3 tt) in
-    one_front IsLetter name rest (type_name type) s.gap_behind g.each g.stops (type_letters type) stop (sym g.whole ∙ gaps.1)
+    let gaps = one_front IsGapByte gap after s.gap_after_equals (type_name type ++ s.gap_after_type) f.each f.stops s.gaps.2 (letters_no_gap (type_name type) s.gap_after_type (has_name type) (type_letters type)) (sym f.whole ∙ e) in
+    let stop : BeginsOtherwise IsLetter s.gap_after_type = subst (BeginsOtherwise IsLetter) (sym (gap_alone s.gap_after_type)) (gap_no_letter s.gap_after_type [] s.gaps.3 tt) in
+    one_front IsLetter name rest (type_name type) s.gap_after_type g.each g.stops (type_letters type) stop (sym g.whole ∙ gaps.1)
 
-pub nothing_behind : {text : List ℕ} {type : NamedType} (s : IsRule text type) {before gap rest : List ℕ} → before ≡ s.gap_behind → IsFront IsGapByte before gap rest → rest ≡ []
-nothing_behind s {before} {gap} {rest} e f =
-    (one_front IsGapByte gap rest s.gap_behind [] f.each f.stops s.gaps.3 tt (sym f.whole ∙ (e ∙ gap_alone s.gap_behind))).1
+pub nothing_after : {text : List ℕ} {type : NamedType} (s : IsRule text type) {before gap rest : List ℕ} → before ≡ s.gap_after_type → IsFront IsGapByte before gap rest → rest ≡ []
+nothing_after s {before} {gap} {rest} e f =
+    (one_front IsGapByte gap rest s.gap_after_type [] f.each f.stops s.gaps.3 tt (sym f.whole ∙ (e ∙ gap_alone s.gap_after_type))).1
 
 -- an answer that is there says which type's name it is
 pub named_type : (o : Option NamedType) (name : List ℕ) → IfSome o (λ t. name ≡ type_name t) → is_some o ≡ true → (t : NamedType) × (name ≡ type_name t)

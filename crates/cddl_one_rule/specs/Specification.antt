@@ -41,12 +41,12 @@ pub record IsRule (text : List ℕ) (type : NamedType) : Type 0 where
   pub name : List ℕ
   pub gap_after_name : List ℕ
   pub gap_after_equals : List ℕ
-  pub gap_behind : List ℕ
-  pub gaps : Each IsGapByte gap_before × Each IsGapByte gap_after_name × Each IsGapByte gap_after_equals × Each IsGapByte gap_behind
+  pub gap_after_type : List ℕ
+  pub gaps : Each IsGapByte gap_before × Each IsGapByte gap_after_name × Each IsGapByte gap_after_equals × Each IsGapByte gap_after_type
   pub letters : Each IsLetter name
   pub named : name ≢ []
   pub free : (other : NamedType) → name ≢ type_name other
-  pub is : text ≡ gap_before ++ (name ++ (gap_after_name ++ (61 ∷ (gap_after_equals ++ (type_name type ++ gap_behind)))))
+  pub is : text ≡ gap_before ++ (name ++ (gap_after_name ++ (61 ∷ (gap_after_equals ++ (type_name type ++ gap_after_type)))))
 
 -- The text is such a rule, and the root type of the table is the type that it names.
 pub record IsSpecification (text : List ℕ) (table : Table) : Type 0 where

@@ -108,7 +108,7 @@ fn is_letter(byte: u8) -> bool
     byte.is_ascii_alphabetic()
 }
 
-// The rest behind the `=` that the text begins with.
+// The rest after the `=` that the text begins with.
 fn split_equals(text: &[u8]) -> Option<&[u8]>
     ensures found { IfSome result (λ rest. text.now ≡ 61 ∷ rest.now) }
     ensures none { IfNone result ((rest : List ℕ) → text.now ≢ 61 ∷ rest) }
