@@ -3,3 +3,4 @@ mod Pieces
 mod Following
 mod Valued
 mod Turned
+mod SameTold

@@ -4,11 +4,13 @@
 mod fault;
 mod follow;
 mod front;
+mod laws;
 mod limits;
 mod reader;
 mod value;
 
 pub use fault::{Fault, FaultKind, Stop};
 pub use front::{Front, read_front};
-pub use limits::Limits;
+pub use laws::one_fault;
+pub use limits::{Limits, MOST_DEPTH, MOST_ITEM_BYTES};
 pub use reader::{Fed, ItemReader};

@@ -2,6 +2,12 @@ ghost use Rattle.std.specs.Prelude.{◌≡◌, ◌≤◌, ◌⊎◌, ◌<◌, If
 
 use std::marker::Model;
 
+/// The greatest depth of an item that may be allowed.
+pub const MOST_DEPTH: u32 = 256;
+
+/// The most bytes of an item that may be allowed.
+pub const MOST_ITEM_BYTES: u32 = 16_777_216;
+
 /// What an item may have: its greatest depth, and the most bytes.
 #[derive(Clone, Copy, Debug)]
 pub struct Limits {
