@@ -24,7 +24,7 @@ seven_parts o p q r s t u v a b c d e f g h i j k l m n = rw (n, m, l, k, j, i, 
 pub from_nothing : (o text all : List ℕ) → o ≡ [] → text ≡ o ++ all → text ≡ all
 from_nothing o text all e f = f ∙ ap (λ (b : List ℕ). b ++ all) e
 
--- what stands at a place, shown
+-- what is at a place, shown
 pub shown_there : (found : Option (Bor Item)) (there : Option Value) → option_map (λ (item : Bor Item). view item.now) found ≡ there → option_map (λ (item : Bor Item). notation (view item.now)) found ≡ option_map notation there
 shown_there None there e = ap (option_map notation) e
 shown_there (Some item) there e = ap (option_map notation) e

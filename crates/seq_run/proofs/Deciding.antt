@@ -11,9 +11,9 @@ use Rattle.seq_run.specs.declared.end.End.{End}
 use Rattle.seq_run.specs.declared.end.End.TheVariants.{Clean, Failed}
 use Rattle.seq_run.specs.Ends.{Accepts, Misses, Overruns, Ends, IsAccepted, IsMissed, EndsFreely, IsDecisive, end_of}
 use Rattle.seq_run.proofs.Ending.{clean_run, fault_run, other_run}
-use Rattle.seq_run.proofs.Verdicts.{never_both}
+use Rattle.seq_run.proofs.Verdicts.{OneAnswer, never_both}
 
-module _ (judge : Judge) (l : Bounds) where
+module _ (one : OneAnswer) (judge : Judge) (l : Bounds) where
   takes_freely : {o : ℕ} {b : List ℕ} {found : List Found} {rest : List ℕ} → Takes l (Accepts judge) o b found rest → Takes l (IsAccepted judge.table) o b found rest
   takes_freely none = none
   takes_freely (next x front back e i c t) = next x front back e i (c.0, c.1) (takes_freely t)
@@ -24,7 +24,7 @@ module _ (judge : Judge) (l : Bounds) where
   ends_freely {b} {found} (at_fault {o = o} {k = k} {at = at} rest run some placed told) not =
       at_fault rest (fault_run l (IsAccepted judge.table) b found rest o k at (takes_freely run.takes) placed told) some placed told
   ends_freely {b} {found} (at_mismatch {o = o} {place = place} rest x front back run placed parts item misses) not =
-      at_mismatch rest x front back (other_run l (IsAccepted judge.table) b found rest o x front back (takes_freely run.takes) placed parts item (λ c accepted. never_both judge.table item accepted.1 misses.1)) placed parts item (misses.0, misses.1)
+      at_mismatch rest x front back (other_run l (IsAccepted judge.table) b found rest o x front back (takes_freely run.takes) placed parts item (λ c accepted. never_both one judge.table item accepted.1 misses.1)) placed parts item (misses.0, misses.1)
   ends_freely {found = found} (at_spent {o = o} rest x front back run placed parts item over) not = absurd (not (length found) o refl)
 
   never_spent : (end : End) → IsDecisive end → (n o : ℕ) → end_of end ≡ failed n o spent → ⊥

@@ -19,7 +19,7 @@ use Rattle.seq_run.specs.Answers.{IsUndecided}
 use Rattle.cbor_data.proofs.Unique.{unfinished_no_front}
 use Rattle.seq_run.proofs.Fronts.{formed, fault_no_item, clear_end}
 use Rattle.seq_run.proofs.Runs.{EndsHere, item_some, same_front, run_of}
-use Rattle.seq_run.proofs.Verdicts.{never_both, yes_overruns}
+use Rattle.seq_run.proofs.Verdicts.{OneAnswer, never_both, yes_overruns}
 
 take_whole : (b : List ℕ) → take (length b + 1) b ≡ b
 take_whole [] = refl
@@ -27,7 +27,7 @@ take_whole (y ∷ ys) =
     let more : suc (length ys) + 1 ≡ suc (length ys + 1) = omega arith in
     ap (λ n. take n (y ∷ ys)) more ∙ ap (λ (xs : List ℕ). y ∷ xs) (take_whole ys)
 
--- what stands at the end of the bytes that an unfinished item has
+-- what is told at the end of the bytes that an unfinished item has
 pub too_long_end : (l : Bounds) (o : ℕ) (b : List ℕ) → IsUnfinished b → BeginsWithin l.depth b → IsClearBefore l o b (length b) → length b ≡ l.item_bytes → IsTold l o b TooLong (o + length b)
 too_long_end l o b u shallow clear full =
     let within : BeginsWithin l.depth (take (length b + 1) b) = subst (BeginsWithin l.depth) (sym (take_whole b)) shallow in
@@ -78,13 +78,13 @@ module _ (judge : Judge) (l : Bounds) where
       at_fault rest (fault_run l (Accepts judge) stream found rest o k at t placed told) some placed told
 
   -- the end of a stream with an item that does not match
-  pub missed_end : (stream : List ℕ) (found : List Found) (rest : List ℕ) (o : ℕ) (x : Value) (front back : List ℕ) (place : ℕ) → BeginsWith judge l stream found rest → o + length rest ≡ length stream →
+  pub missed_end : OneAnswer → (stream : List ℕ) (found : List Found) (rest : List ℕ) (o : ℕ) (x : Value) (front back : List ℕ) (place : ℕ) → BeginsWith judge l stream found rest → o + length rest ≡ length stream →
       rest ≡ front ++ back → IsItem l o x front → Misses judge x front place →
       Ends judge l stream found (Failed (length found) o (Mismatch place)) × IsNext judge l stream found x
-  missed_end stream found rest o x front back place t placed e item misses =
-      let run : IsRun judge l stream found rest = other_run l (Accepts judge) stream found rest o x front back t placed e item (λ b accepts. never_both judge.table item accepts.1 misses.1) in (
+  missed_end one stream found rest o x front back place t placed e item misses =
+      let run : IsRun judge l stream found rest = other_run l (Accepts judge) stream found rest o x front back t placed e item (λ b accepts. never_both one judge.table item accepts.1 misses.1) in (
         at_mismatch rest x front back run placed e item misses,
-        record { rest = rest; offset = o; front = front; back = back; run = run; placed = placed; parts = e; item = item },
+        record { rest = rest; offset = o; front = front; back = back; run = run; offset_is = placed; parts = e; item = item },
       )
 
   -- the end of a stream with an item for which the steps are not enough

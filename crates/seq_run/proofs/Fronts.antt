@@ -13,7 +13,7 @@ use Rattle.cbor_data.proofs.BadText.{good_text}
 pub formed : {x : Value} {b : List ℕ} → Spells x b → IsWellFormed b
 formed s = record { written = s.written; ok = s.ok; is = s.is }
 
--- the front of an item, and what the item has behind it
+-- the front of an item, and what comes after the item
 take_inside : (p : ℕ) (front back : List ℕ) → p < length front → take (p + 1) (front ++ back) ++ drop (p + 1) front ≡ front
 take_inside p front back h =
     let within : p + 1 ≤ length front = omega arith in
@@ -24,7 +24,7 @@ take_past p front back h =
     let parts : p ≡ length front + (p - length front) = omega arith in
     ap (λ n. take n (front ++ back)) parts ∙ take-append-add front back (p - length front)
 
--- an item that has this byte makes what stands at it wrong impossible
+-- an item that has this byte makes it impossible that it is wrong
 record IsAround (l : Bounds) (o p : ℕ) (b front : List ℕ) : Type 0 where
   written : Form
   rest : List ℕ
@@ -100,18 +100,18 @@ clear_placed l o b below u clear =
       | inr h ↦ omega (arith, h, below)
     ]
 
-nothing_behind : (l : Bounds) (o : ℕ) (b : List ℕ) (q : ℕ) (k : FaultKind) → StandsAt l o b q k → length b ≤ q → (q ≡ l.item_bytes → ⊥) → ⊥
-nothing_behind l o b q k (malformed within not kind) above some = omega (arith, within, above)
-nothing_behind l o b q k (deep within begins not) above some = omega (arith, within, above)
-nothing_behind l o b q k (long within (inl e)) above some = some e
-nothing_behind l o b q k (long within (inr e)) above some = omega (arith, e.0, above)
+nothing_after : (l : Bounds) (o : ℕ) (b : List ℕ) (q : ℕ) (k : FaultKind) → StandsAt l o b q k → length b ≤ q → (q ≡ l.item_bytes → ⊥) → ⊥
+nothing_after l o b q k (malformed within not kind) above some = omega (arith, within, above)
+nothing_after l o b q k (deep within begins not) above some = omega (arith, within, above)
+nothing_after l o b q k (long within (inl e)) above some = some e
+nothing_after l o b q k (long within (inr e)) above some = omega (arith, e.0, above)
 
--- nothing that stands in sight or just behind is wrong, where the item has not all its bytes
+-- nothing in sight or just after it is wrong, where the item has not all its bytes
 pub clear_end : (l : Bounds) (o : ℕ) (b : List ℕ) → IsClearBefore l o b (length b) → (length b ≡ l.item_bytes → ⊥) → IsClearBefore l o b (suc (length b))
 clear_end l o b clear some q k h s =
     elim (cases_lt q (length b)) [
       | inl below ↦ clear q k below s
       | inr above ↦
           let at : q ≡ length b = omega (arith, h, above) in
-          nothing_behind l o b q k s above (λ e. some (sym at ∙ e))
+          nothing_after l o b q k s above (λ e. some (sym at ∙ e))
     ]

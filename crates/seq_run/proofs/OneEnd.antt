@@ -1,14 +1,11 @@
 -- A stream has one run, and one end.
 use Rattle.std.proofs.Common.{◌≡◌, ℕ, ◌<◌, ◌≤◌, List, [], ◌∷◌, ◌++◌, length, refl, sym, ap, ap₂, ◌∙◌, subst, arith, length-append}
 use Rattle.cbor_data.specs.Value.{Value, AreBytes}
-use Rattle.cbor_data.specs.Faults as faults
 use Rattle.cbor_data.specs.Faults.{Bounds, IsItem}
 use Rattle.cbor_data.specs.Sequence as sequence
 use Rattle.cbor_data.specs.Sequence.{Found, Takes, none, next, IsRunOf, EndsBy, cleanly, at_fault, at_mismatch, at_spent, failed, fault, mismatch, spent}
-use Rattle.cbor_machine.proofs.OneFault.{one}
 use Rattle.cbor_read.specs.Told.{IsTold, kind_of}
 use Rattle.cbor_read.specs.declared.fault.FaultKind.{FaultKind}
-use Rattle.cbor_read.specs.declared.fault.FaultKind.TheVariants.{ReservedInfo, BadIndefinite, BadBreak, BadChunk, BadSimple, TooDeep, TooLong, Truncated, BadText, DuplicateKey}
 use Rattle.cddl_table.specs.declared.table.Table.{Table}
 use Rattle.seq_run.specs.Judge.{Judge}
 use Rattle.seq_run.specs.declared.end.Cause.{Cause}
@@ -18,7 +15,7 @@ use Rattle.seq_run.specs.declared.end.End.TheVariants.{Clean, Failed}
 use Rattle.seq_run.specs.Ends.{Accepts, Misses, Overruns, Ends, IsAccepted, IsMissed, EndsFreely, cause_of, end_of}
 use Rattle.seq_run.proofs.Fronts.{fault_no_item}
 use Rattle.seq_run.proofs.Runs.{same_front, same_takes, item_some}
-use Rattle.seq_run.proofs.Verdicts.{one_place, no_overruns}
+use Rattle.seq_run.proofs.Verdicts.{OneAnswer, one_place, no_overruns}
 
 same_runs : (l : Bounds) (accepts : Value → List ℕ → Type 0) (b : List ℕ) (found others : List Found) (rest left : List ℕ) → IsRunOf l accepts b found rest → IsRunOf l accepts b others left → (found ≡ others) × (rest ≡ left)
 same_runs l accepts b found others rest left r s =
@@ -45,48 +42,21 @@ one_clean {accepts = accepts} {l = l} {b = b} {found = found} {others = others} 
 one_clean {accepts = accepts} {l = l} {b = b} {found = found} {others = others} (at_spent {o = o} rest x front back run placed parts item over) r =
     absurd (item_left l o x front rest back item parts (same_runs l accepts b found others rest [] run r).1)
 
-bytes_behind : (front back : List ℕ) → AreBytes (front ++ back) → AreBytes back
-bytes_behind [] back are = are
-bytes_behind (x ∷ front) back are = bytes_behind front back are.1
+bytes_after : (front back : List ℕ) → AreBytes (front ++ back) → AreBytes back
+bytes_after [] back are = are
+bytes_after (x ∷ front) back are = bytes_after front back are.1
 
 rest_bytes : {l : Bounds} {accepts : Value → List ℕ → Type 0} {o : ℕ} {b : List ℕ} {found : List Found} {rest : List ℕ} → Takes l accepts o b found rest → AreBytes b → AreBytes rest
 rest_bytes none are = are
-rest_bytes (next x front back e i c t) are = rest_bytes t (bytes_behind front back (subst AreBytes e are))
+rest_bytes (next x front back e i c t) are = rest_bytes t (bytes_after front back (subst AreBytes e are))
 
--- what is told is what is so
+-- the law of the reader that a rest has one fault at most
+abbrev pub OneFault : Type 0
+OneFault = (l : Bounds) (o : ℕ) (b : List ℕ) (j k : FaultKind) (at to : ℕ) → AreBytes b → IsTold l o b j at → IsTold l o b k to → (j ≡ k) × (at ≡ to)
 
-abbrev told_kind : faults.FaultKind → FaultKind
-told_kind faults.reserved_info = ReservedInfo
-told_kind faults.bad_indefinite = BadIndefinite
-told_kind faults.bad_break = BadBreak
-told_kind faults.bad_chunk = BadChunk
-told_kind faults.bad_simple = BadSimple
-told_kind faults.too_deep = TooDeep
-told_kind faults.too_long = TooLong
-told_kind faults.truncated = Truncated
-told_kind faults.bad_text = BadText
-told_kind faults.duplicate_key = DuplicateKey
-
-told_again : (k : FaultKind) → told_kind (kind_of k) ≡ k
-told_again ReservedInfo = refl
-told_again BadIndefinite = refl
-told_again BadBreak = refl
-told_again BadChunk = refl
-told_again BadSimple = refl
-told_again TooDeep = refl
-told_again TooLong = refl
-told_again Truncated = refl
-told_again BadText = refl
-told_again DuplicateKey = refl
-
-same_told : (j k : FaultKind) → kind_of j ≡ kind_of k → j ≡ k
-same_told j k e = sym (told_again j) ∙ (ap told_kind e ∙ told_again k)
-
-one_told : {l : Bounds} {o p : ℕ} {rest left : List ℕ} {at to : ℕ} (j k : FaultKind) → o ≡ p → rest ≡ left → AreBytes rest → IsTold l o rest j at → IsTold l p left k to → (j ≡ k) × (at ≡ to)
-one_told {l} {o} {p} {rest} {left} {at} {to} j k place same are s t =
-    let other : IsTold l o rest k to = subst (λ n. IsTold l n rest k to) (sym place) (subst (λ (b : List ℕ). IsTold l p b k to) (sym same) t) in
-    let both = one l o rest (kind_of j) (kind_of k) at to are s other in
-    (same_told j k both.0, both.1)
+one_told : OneFault → {l : Bounds} {o p : ℕ} {rest left : List ℕ} {at to : ℕ} (j k : FaultKind) → o ≡ p → rest ≡ left → AreBytes rest → IsTold l o rest j at → IsTold l p left k to → (j ≡ k) × (at ≡ to)
+one_told one {l} {o} {p} {rest} {left} {at} {to} j k place same are s t =
+    one l o rest j k at to are s (subst (λ n. IsTold l n rest k to) (sym place) (subst (λ (b : List ℕ). IsTold l p b k to) (sym same) t))
 
 told_no_item : {l : Bounds} {o p : ℕ} {rest left : List ℕ} {at : ℕ} (k : FaultKind) (x : Value) (front back : List ℕ) → o ≡ p → rest ≡ left → IsTold l o rest k at → left ≡ front ++ back → IsItem l p x front → ⊥
 told_no_item {l} {o} {p} {rest} {left} {at} k x front back place same told parts item =
@@ -100,12 +70,12 @@ pub record AreApart (misses : Value → List ℕ → ℕ → Type 0) (overruns :
   pub one_place : {l : Bounds} {o p q : ℕ} {x : Value} {a : List ℕ} → IsItem l o x a → misses x a p → misses x a q → p ≡ q
   pub not_both : (x : Value) (place : ℕ) (a : List ℕ) → overruns x a → misses x a place → ⊥
 
-module _ (l : Bounds) (accepts : Value → List ℕ → Type 0) (misses : Value → List ℕ → ℕ → Type 0) (overruns : Value → List ℕ → Type 0) (apart : AreApart misses overruns) where
+module _ (one_fault : OneFault) (l : Bounds) (accepts : Value → List ℕ → Type 0) (misses : Value → List ℕ → ℕ → Type 0) (overruns : Value → List ℕ → Type 0) (apart : AreApart misses overruns) where
   -- EndsBy, of what is told here
   abbrev EndsAs : List ℕ → List Found → sequence.End FaultKind → Type 0
   EndsAs b found e = EndsBy l accepts (IsTold l) misses overruns b found e
 
-  -- what stands behind the run is one item
+  -- what comes after the run is one item
   same_item : (o p : ℕ) (x y : Value) (a r b s rest left : List ℕ) → rest ≡ a ++ r → left ≡ b ++ s → rest ≡ left → IsItem l o x a → IsItem l p y b → (a ≡ b) × (r ≡ s) × (x ≡ y)
   same_item o p x y a r b s rest left e f same i j = same_front l l o p x y a r b s i j (sym e ∙ (same ∙ f))
 
@@ -125,7 +95,7 @@ module _ (l : Bounds) (accepts : Value → List ℕ → Type 0) (misses : Value 
   one_way b {found} {others} are (at_fault {o = o} {k = j} rest run some placed told) (at_fault {o = p} {k = k} left other any put tell) =
       let same = same_runs l accepts b found others rest left run other in
       let offset : o ≡ p = omega (arith, placed, put, ap length same.1) in
-      let both = one_told j k offset same.1 (rest_bytes run.takes are) told tell in
+      let both = one_told one_fault j k offset same.1 (rest_bytes run.takes are) told tell in
       (same.0, same_failed (ap length same.0) offset (ap₂ fault both.0 both.1))
   one_way b {found} {others} are (at_fault {o = o} {k = j} rest run some placed told) (at_mismatch {o = p} left x front back other put parts item misses) =
       let same = same_runs l accepts b found others rest left run other in
@@ -181,18 +151,19 @@ end_again (Failed items offset cause) = ap (Failed items offset) (cause_again ca
 same_end : (end other : End) → end_of end ≡ end_of other → end ≡ other
 same_end end other e = sym (end_again end) ∙ (ap end_as e ∙ end_again other)
 
-judged_apart : (judge : Judge) → AreApart (Misses judge) (Overruns judge)
-judged_apart judge = record { one_place = λ item m n. one_place judge.table item m.1 n.1; not_both = λ x place a over m. no_overruns judge x place a a over m }
+module _ (one_fault : OneFault) (one_answer : OneAnswer) where
+  judged_apart : (judge : Judge) → AreApart (Misses judge) (Overruns judge)
+  judged_apart judge = record { one_place = λ item m n. one_place one_answer judge.table item m.1 n.1; not_both = λ x place a over m. no_overruns judge x place a a over m }
 
-missed_apart : (table : Table) → AreApart (IsMissed table) (λ x b. ⊥)
-missed_apart table = record { one_place = λ item m n. one_place table item m.1 n.1; not_both = λ x place a over m. over }
+  missed_apart : (table : Table) → AreApart (IsMissed table) (λ x b. ⊥)
+  missed_apart table = record { one_place = λ item m n. one_place one_answer table item m.1 n.1; not_both = λ x place a over m. over }
 
-pub one_end : (judge : Judge) (l : Bounds) (stream : List ℕ) (found others : List Found) (end other : End) → AreBytes stream → Ends judge l stream found end → Ends judge l stream others other → (found ≡ others) × (end ≡ other)
-one_end judge l stream found others end other are ends also =
-    let same = one_way l (Accepts judge) (Misses judge) (Overruns judge) (judged_apart judge) stream are ends also in
-    (same.0, same_end end other same.1)
+  pub one_end : (judge : Judge) (l : Bounds) (stream : List ℕ) (found others : List Found) (end other : End) → AreBytes stream → Ends judge l stream found end → Ends judge l stream others other → (found ≡ others) × (end ≡ other)
+  one_end judge l stream found others end other are ends also =
+      let same = one_way one_fault l (Accepts judge) (Misses judge) (Overruns judge) (judged_apart judge) stream are ends also in
+      (same.0, same_end end other same.1)
 
-pub one_free_end : (table : Table) (l : Bounds) (stream : List ℕ) (found others : List Found) (end other : End) → AreBytes stream → EndsFreely table l stream found end → EndsFreely table l stream others other → (found ≡ others) × (end ≡ other)
-one_free_end table l stream found others end other are ends also =
-    let same = one_way l (IsAccepted table) (IsMissed table) (λ x b. ⊥) (missed_apart table) stream are ends also in
-    (same.0, same_end end other same.1)
+  pub one_free_end : (table : Table) (l : Bounds) (stream : List ℕ) (found others : List Found) (end other : End) → AreBytes stream → EndsFreely table l stream found end → EndsFreely table l stream others other → (found ≡ others) × (end ≡ other)
+  one_free_end table l stream found others end other are ends also =
+      let same = one_way one_fault l (IsAccepted table) (IsMissed table) (λ x b. ⊥) (missed_apart table) stream are ends also in
+      (same.0, same_end end other same.1)

@@ -11,16 +11,16 @@ use Rattle.seq_run.specs.Judge.{Judge}
 use Rattle.seq_run.specs.declared.end.Cause.TheVariants.{Fault, Mismatch, Spent}
 use Rattle.seq_run.specs.declared.end.End.{End}
 use Rattle.seq_run.specs.declared.end.End.TheVariants.{Clean, Failed}
-use Rattle.seq_run.specs.declared.session.Step.{Step}
-use Rattle.seq_run.specs.declared.session.Step.TheVariants as step
+use Rattle.seq_run.specs.declared.session.Advance.{Advance}
+use Rattle.seq_run.specs.declared.session.Advance.TheVariants as advance
 use Rattle.seq_run.specs.Ends.{Accepts, Misses, Overruns, Ends}
 use Rattle.seq_run.specs.Progress.{Progress}
 use Rattle.seq_run.specs.Standing.{IsNext, IsRejected}
-use Rattle.seq_run.specs.Answers.{IsOpen, IsEnded, IsLent, IsStep, IsStepAnswer}
+use Rattle.seq_run.specs.Answers.{IsOpen, IsEnded, IsLent, IsAdvance, IsAdvanceAnswer}
 use Rattle.seq_run.specs.Report.{item_line, item_lines, IsShown}
 use Rattle.seq_run.specs.Running.{Adds, IsSettled}
 use Rattle.seq_run.proofs.Runs.{same_front, same_takes}
-use Rattle.seq_run.proofs.Verdicts.{shown_inside}
+use Rattle.seq_run.proofs.Verdicts.{ShowsInside}
 
 -- one line more
 pub item_lines_more : (n : ℕ) (fs : List Found) (f : Found) → item_lines n (fs ++ f ∷ []) ≡ item_lines n fs ++ item_line (n + length fs) f
@@ -43,31 +43,31 @@ pub begin_reporting : (old : Progress) (piece lines : List ℕ) → old.stopped 
 begin_reporting old piece lines e = record { fed = refl; going = e; added = []; taken = sym (append-nil old.taken); written = sym (append-nil lines); judge = refl; limits = refl }
 
 module _ (old : Progress) (piece lines : List ℕ) (now : Progress) (rest lines_now : List ℕ) (r : IsReporting old piece lines now rest lines_now) (new : Progress) (out_new : List Value) where
-  step_of : (result : Result Step AllocError) → IsStepAnswer now.stopped now rest [] result new out_new → IsStep now rest [] result new out_new
-  step_of result s = subst (λ v. IsStepAnswer v now rest [] result new out_new) r.going s
+  step_of : (result : Result Advance AllocError) → IsAdvanceAnswer now.stopped now rest [] result new out_new → IsAdvance now rest [] result new out_new
+  step_of result s = subst (λ v. IsAdvanceAnswer v now rest [] result new out_new) r.going s
 
   adds : new.fed ≡ now.fed ++ rest → new.taken ≡ now.taken → new.judge ≡ now.judge → new.limits ≡ now.limits → Adds old piece lines new lines_now
   adds f t u v = record { fed = f ∙ r.fed; added = r.added; taken = t ∙ r.taken; written = r.written; judge = u ∙ r.judge; limits = v ∙ r.limits }
 
-  pub reported_more : IsStepAnswer now.stopped now rest [] (Ok step.More) new out_new → Adds old piece lines new lines_now × IsOpen new
+  pub reported_more : IsAdvanceAnswer now.stopped now rest [] (Ok advance.More) new out_new → Adds old piece lines new lines_now × IsOpen new
   reported_more a =
-      let s : IsStep now rest [] (Ok step.More) new out_new = step_of (Ok step.More) a in
+      let s : IsAdvance now rest [] (Ok advance.More) new out_new = step_of (Ok advance.More) a in
       (adds (ap (λ (p : Progress). p.fed) s.0) (ap (λ (p : Progress). p.taken) s.0) (ap (λ (p : Progress). p.judge) s.0) (ap (λ (p : Progress). p.limits) s.0), s.2)
 
-  pub reported_ended : (end : End) → IsStepAnswer now.stopped now rest [] (Ok (step.Ended end)) new out_new → Adds old piece lines new lines_now × IsEnded new end
+  pub reported_ended : (end : End) → IsAdvanceAnswer now.stopped now rest [] (Ok (advance.Ended end)) new out_new → Adds old piece lines new lines_now × IsEnded new end
   reported_ended end a =
-      let s : IsStep now rest [] (Ok (step.Ended end)) new out_new = step_of (Ok (step.Ended end)) a in
+      let s : IsAdvance now rest [] (Ok (advance.Ended end)) new out_new = step_of (Ok (advance.Ended end)) a in
       (adds (ap (λ (p : Progress). p.fed) s.0) (ap (λ (p : Progress). p.taken) s.0) (ap (λ (p : Progress). p.judge) s.0) (ap (λ (p : Progress). p.limits) s.0), s.2)
 
-  pub item_there : (used number offset : ℕ) → IsStepAnswer now.stopped now rest [] (Ok (step.Item used number offset)) new out_new → length out_new ≡ 1
+  pub item_there : (used number offset : ℕ) → IsAdvanceAnswer now.stopped now rest [] (Ok (advance.Item used number offset)) new out_new → length out_new ≡ 1
   item_there used number offset a =
-      let s : IsStep now rest [] (Ok (step.Item used number offset)) new out_new = step_of (Ok (step.Item used number offset)) a in
+      let s : IsAdvance now rest [] (Ok (advance.Item used number offset)) new out_new = step_of (Ok (advance.Item used number offset)) a in
       ap length s.3.2
 
-  pub reported_item : (used number offset : ℕ) (y : Value) (lines_new : List ℕ) → IsStepAnswer now.stopped now rest [] (Ok (step.Item used number offset)) new out_new → y ≡ get_or out_new 0 y →
+  pub reported_item : (used number offset : ℕ) (y : Value) (lines_new : List ℕ) → IsAdvanceAnswer now.stopped now rest [] (Ok (advance.Item used number offset)) new out_new → y ≡ get_or out_new 0 y →
       lines_new ≡ lines_now ++ item_line number (record { offset = offset; item = y }) → IsReporting old piece lines new (drop used rest) lines_new × (0 < used) × (used ≤ length rest)
   reported_item used number offset y lines_new a item written =
-      let s : IsStep now rest [] (Ok (step.Item used number offset)) new out_new = step_of (Ok (step.Item used number offset)) a in
+      let s : IsAdvance now rest [] (Ok (advance.Item used number offset)) new out_new = step_of (Ok (advance.Item used number offset)) a in
       let x = s.3.0 in
       let more : Found = record { offset = offset; item = x } in
       let same : y ≡ x = item ∙ ap (λ (xs : List Value). get_or xs 0 y) s.3.2 in
@@ -89,39 +89,39 @@ module _ (old : Progress) (piece lines : List ℕ) (now : Progress) (rest lines_
         s.1,
       )
 
--- the item behind the run is one
+-- the item after the run is one
 pub same_next : (judge : Judge) (l : Bounds) (stream : List ℕ) (found : List Found) (x y : Value) → IsNext judge l stream found x → IsNext judge l stream found y → x ≡ y
 same_next judge l stream found x y a b =
     let rests = same_takes l (Accepts judge) a.run.takes b.run.takes refl in
     let parts : a.front ++ a.back ≡ b.front ++ b.back = sym a.parts ∙ (rests.1 ∙ b.parts) in
     (same_front l l a.offset b.offset x y a.front a.back b.front b.back a.item b.item parts).2
 
--- a mismatch shows at a place of the item behind the run
-missed_there : (judge : Judge) {l : Bounds} {kind : Type 0} {told : ℕ → List ℕ → kind → ℕ → Type 0} {stream : List ℕ} {found : List Found} {e : sequence.End kind} (x : Value) →
+-- a mismatch shows at a place of the item after the run
+missed_there : ShowsInside → (judge : Judge) {l : Bounds} {kind : Type 0} {told : ℕ → List ℕ → kind → ℕ → Type 0} {stream : List ℕ} {found : List Found} {e : sequence.End kind} (x : Value) →
     EndsBy l (Accepts judge) told (Misses judge) (Overruns judge) stream found e → IsNext judge l stream found x → (n o place : ℕ) → e ≡ sequence.failed n o (sequence.mismatch place) → place < place_count x
-missed_there judge x (cleanly run) is n o place e = absurd (cc)
-missed_there judge x (at_fault rest run some placed told) is n o place e = absurd (cc)
-missed_there judge {l} {stream = stream} {found = found} x (at_mismatch {o = p} {place = there} rest y front back run placed parts item misses) is n o place e =
+missed_there inside judge x (cleanly run) is n o place e = absurd (cc)
+missed_there inside judge x (at_fault rest run some placed told) is n o place e = absurd (cc)
+missed_there inside judge {l} {stream = stream} {found = found} x (at_mismatch {o = p} {place = there} rest y front back run placed parts item misses) is n o place e =
     let same : there ≡ place = cc in
-    let next : IsNext judge l stream found y = record { rest = rest; offset = p; front = front; back = back; run = run; placed = placed; parts = parts; item = item } in
-    subst (λ v. place < place_count v) (same_next judge l stream found y x next is) (subst (λ m. m < place_count y) same (shown_inside judge.table misses.1))
-missed_there judge x (at_spent rest y front back run placed parts item over) is n o place e = absurd (cc)
+    let next : IsNext judge l stream found y = record { rest = rest; offset = p; front = front; back = back; run = run; offset_is = placed; parts = parts; item = item } in
+    subst (λ v. place < place_count v) (same_next judge l stream found y x next is) (subst (λ m. m < place_count y) same (inside judge.table y there misses.0 misses.1))
+missed_there inside judge x (at_spent rest y front back run placed parts item over) is n o place e = absurd (cc)
 
 -- the end of a stream can be shown
-pub shown : (judge : Judge) (l : Bounds) (stream : List ℕ) (found : List Found) (end : End) (rejected : Option Value) → Ends judge l stream found end → IsRejected judge l stream found end rejected → IsShown end rejected
-shown judge l stream found (Clean items bytes) rejected ends r = tt
-shown judge l stream found (Failed items offset (Fault f)) rejected ends r = tt
-shown judge l stream found (Failed items offset (Mismatch place)) (Some x) ends r = missed_there judge x ends r items offset place refl
-shown judge l stream found (Failed items offset (Mismatch place)) None ends r = r
-shown judge l stream found (Failed items offset Spent) rejected ends r = tt
+pub shown : ShowsInside → (judge : Judge) (l : Bounds) (stream : List ℕ) (found : List Found) (end : End) (rejected : Option Value) → Ends judge l stream found end → IsRejected judge l stream found end rejected → IsShown end rejected
+shown inside judge l stream found (Clean items bytes) rejected ends r = tt
+shown inside judge l stream found (Failed items offset (Fault f)) rejected ends r = tt
+shown inside judge l stream found (Failed items offset (Mismatch place)) (Some x) ends r = missed_there inside judge x ends r items offset place refl
+shown inside judge l stream found (Failed items offset (Mismatch place)) None ends r = r
+shown inside judge l stream found (Failed items offset Spent) rejected ends r = tt
 
 -- the rest from a place on
 pub range_from : (n : ℕ) (xs : List ℕ) → take (length xs - n) (drop n xs) ≡ drop n xs
 range_from n xs = ap (λ k. take k (drop n xs)) (sym (length-drop n xs)) ∙ take-length (drop n xs)
 
 -- the item that a settled session lends can be shown with its end
-pub shown_lent : (piece : List ℕ) (new : Progress) (end : End) (lent : Option Value) → IsSettled end piece new → IsLent new.stopped new lent → IsShown end lent
-shown_lent piece new end lent s lends =
+pub shown_lent : ShowsInside → (piece : List ℕ) (new : Progress) (end : End) (lent : Option Value) → IsSettled end piece new → IsLent new.stopped new lent → IsShown end lent
+shown_lent inside piece new end lent s lends =
     let ends : Ends new.judge new.limits new.fed new.taken end = subst (λ (b : List ℕ). Ends new.judge new.limits b new.taken end) (append-nil new.fed) (s.ends [] (λ e. refl)) in
     let rejects : IsRejected new.judge new.limits new.fed new.taken end lent = subst (λ v. IsLent v new lent) s.stopped lends in
-    shown new.judge new.limits new.fed new.taken end lent ends rejects
+    shown inside new.judge new.limits new.fed new.taken end lent ends rejects

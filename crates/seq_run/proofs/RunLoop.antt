@@ -18,7 +18,7 @@ use Rattle.seq_run.specs.Progress.{Progress}
 use Rattle.seq_run.specs.Standing.{IsNext, IsRejected}
 use Rattle.seq_run.specs.Answers.{IsOpen, IsLent}
 use Rattle.seq_run.specs.Report.{item_line, item_lines, end_line}
-use Rattle.seq_run.specs.Running.{IsReported, IsWhole, IsBeginning, WritesFirst, WritesItems, WritesRun, IsSettled, IsLast, IsPieceDone}
+use Rattle.seq_run.specs.Running.{IsReported, IsWholeReport, IsBeginning, WritesFirst, WritesItems, WritesRun, IsSettled, IsLast, IsPieceDone}
 use Rattle.seq_run.proofs.Ending.{open_end}
 use Rattle.seq_run.proofs.Reporting.{same_next}
 use Rattle.seq_run.proofs.Runs.{same_takes, takes_extend, begins_run}
@@ -93,7 +93,7 @@ module _ (judge : Judge) (l : Bounds) where
         front = n.front;
         back = n.back ++ more;
         run = run;
-        placed = omega (arith, n.placed, ap length rests.1, length-append n.rest more, length-append fed more);
+        offset_is = omega (arith, n.offset_is, ap length rests.1, length-append n.rest more, length-append fed more);
         parts = rests.1 ∙ (ap (λ (b : List ℕ). b ++ more) n.parts ∙ append_assoc n.front n.back more);
         item = n.item;
       }
@@ -120,8 +120,8 @@ pub lines_begin : (judge : Judge) (l : Bounds) (stream : List ℕ) (found : List
 lines_begin judge l stream found rest out t is others end rejected e r =
     let run = ends_of e in
     let more = begins_run l (Accepts judge) t run.1.takes (run.1.longest found rest t) in
-    let behind = item_lines (1 + length found) more.0 ++ end_line end rejected in
-    (behind, ap (λ (fs : List Found). item_lines 1 fs ++ end_line end rejected) more.1 ∙ (ap (λ (b : List ℕ). b ++ end_line end rejected) (item_lines-append 1 found more.0) ∙ (append_assoc (item_lines 1 found) (item_lines (1 + length found) more.0) (end_line end rejected) ∙ ap (λ (b : List ℕ). b ++ behind) (sym is))))
+    let after = item_lines (1 + length found) more.0 ++ end_line end rejected in
+    (after, ap (λ (fs : List Found). item_lines 1 fs ++ end_line end rejected) more.1 ∙ (ap (λ (b : List ℕ). b ++ end_line end rejected) (item_lines-append 1 found more.0) ∙ (append_assoc (item_lines 1 found) (item_lines (1 + length found) more.0) (end_line end rejected) ∙ ap (λ (b : List ℕ). b ++ after) (sym is))))
 
 some_byte : (piece : List ℕ) → piece ≢ [] → 0 < length piece
 some_byte [] h = absurd (h refl)
@@ -186,7 +186,7 @@ module _ (judge : Judge) (l : Bounds) (in_old in_now out_old out_now : Option (L
     rejects e a r = subst (λ (t : Judge). IsRejected t l new.fed new.taken e a) judge_new (subst (λ (m : Bounds). IsRejected new.judge m new.fed new.taken e a) limits_new r)
 
     front_of : (last : List ℕ) (e : Option End) → IsLast e piece new last → (left : List ℕ) → (piece ≡ [] → left ≡ []) →
-        IsWhole judge l (new.fed ++ left) (item_lines 1 new.taken ++ last) ⊎ IsBeginning judge l (new.fed ++ left) (item_lines 1 new.taken ++ last)
+        IsWholeReport judge l (new.fed ++ left) (item_lines 1 new.taken ++ last) ⊎ IsBeginning judge l (new.fed ++ left) (item_lines 1 new.taken ++ last)
     front_of last None h left bare =
         let open_new = h.2 in
         let here : Ends judge l new.fed new.taken open_new.end = subst (λ (t : Judge). Ends t l new.fed new.taken open_new.end) judge_new (subst (λ (m : Bounds). Ends new.judge m new.fed new.taken open_new.end) limits_new open_new.ends) in
@@ -208,7 +208,7 @@ module _ (judge : Judge) (l : Bounds) (in_old in_now out_old out_now : Option (L
               let front_there = front_of d.last end d.line left bare in
               record {
                 out = out;
-                front = subst (λ (b : List ℕ). IsWhole judge l (new.fed ++ left) b ⊎ IsBeginning judge l (new.fed ++ left) b) (sym all_lines) front_there;
+                front = subst (λ (b : List ℕ). IsWholeReport judge l (new.fed ++ left) b ⊎ IsBeginning judge l (new.fed ++ left) b) (sym all_lines) front_there;
                 short = below;
                 written = all;
               }),

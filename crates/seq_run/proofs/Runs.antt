@@ -18,7 +18,7 @@ formed_some (b ∷ bs) w = omega arith
 pub item_some : (l : Bounds) (o : ℕ) (x : Value) (front : List ℕ) → IsItem l o x front → 0 < length front
 item_some l o x front item = formed_some front (formed item.spells)
 
--- one item at most stands at a front
+-- one item at most is at a front
 pub same_front : (l m : Bounds) (o p : ℕ) (x y : Value) (a r b s : List ℕ) → IsItem l o x a → IsItem m p y b → a ++ r ≡ b ++ s → (a ≡ b) × (r ≡ s) × (x ≡ y)
 same_front l m o p x y a r b s i j e =
     let fronts = unique_front a r b s (formed i.spells) (formed j.spells) e in
@@ -59,7 +59,7 @@ module _ (l : Bounds) (accepts : Value → List ℕ → Type 0) where
       let first : Value → Found = λ v. record { offset = o; item = v } in
       (ap₂ (λ (v : Value) (fs : List Found). first v ∷ fs) same.2 rest_same.0, rest_same.1)
 
-  -- more bytes come behind the rest
+  -- more bytes come after the rest
   pub takes_extend : {o : ℕ} {b : List ℕ} {found : List Found} {rest : List ℕ} (more : List ℕ) → Takes l accepts o b found rest → Takes l accepts o (b ++ more) found (rest ++ more)
   takes_extend more none = none
   takes_extend more (next x front back e i c t) = next x front (back ++ more) (ap (λ a. a ++ more) e ∙ append_assoc front back more) i c (takes_extend more t)

@@ -18,20 +18,21 @@ use Rattle.seq_run.specs.declared.end.End.{End}
 use Rattle.seq_run.specs.declared.end.End.TheVariants.{Clean, Failed}
 use Rattle.seq_run.specs.declared.end.Stopped.{Stopped}
 use Rattle.seq_run.specs.declared.end.Stopped.TheVariants.{Ended, Memory}
-use Rattle.seq_run.specs.declared.session.Placed.{Placed}
-use Rattle.seq_run.specs.declared.session.Step.{Step}
-use Rattle.seq_run.specs.declared.session.Step.TheVariants as step
+use Rattle.seq_run.specs.declared.session.FoundItem.{FoundItem}
+use Rattle.seq_run.specs.declared.session.Advance.{Advance}
+use Rattle.seq_run.specs.declared.session.Advance.TheVariants as advance
 use Rattle.seq_run.specs.Ends.{Accepts, BeginsWith, Ends}
 use Rattle.seq_run.specs.Judged.{IsFailing}
-use Rattle.seq_run.specs.Placed.{found_of}
+use Rattle.seq_run.specs.FoundItem.{found_of}
 use Rattle.seq_run.specs.Progress.{Progress}
 use Rattle.seq_run.specs.Standing.{IsRejected, IsRunning, IsStanding}
-use Rattle.seq_run.specs.Answers.{IsOpen, IsEnded, IsCutShort, IsStep, IsStepAnswer, IsFinish}
+use Rattle.seq_run.specs.Answers.{IsOpen, IsEnded, IsCutShort, IsAdvance, IsAdvanceAnswer, IsFinish}
 use Rattle.seq_run.proofs.Ending.{clean_end, fault_end}
+use Rattle.seq_run.proofs.Verdicts.{OneAnswer}
 use Rattle.seq_run.proofs.Transitions.{grows, going_on, opened, took, missed, overrun, faulted, cut_short, counts_below}
 
 -- an item more is noted
-pub noted : (taken : List Placed) (p : Placed) (after : List Placed) → after ≡ taken ++ p ∷ [] → map found_of after ≡ map found_of taken ++ found_of p ∷ []
+pub noted : (taken : List FoundItem) (p : FoundItem) (after : List FoundItem) → after ≡ taken ++ p ∷ [] → map found_of after ≡ map found_of taken ++ found_of p ∷ []
 noted [] p after e = ap (map found_of) e
 noted (q ∷ qs) p after e = ap (map found_of) e ∙ ap (λ (fs : List Found). found_of q ∷ fs) (noted qs p (qs ++ p ∷ []) refl)
 
@@ -40,9 +41,9 @@ pub kept_items : {T E : Type 0} (result : Result T E) (new longer old : List Val
 kept_items (Ok x) new longer old e f = absurd (cc)
 kept_items (Err x) new longer old e f = e
 
-answered : (now : Progress) (piece : List ℕ) (out : List Value) (result : Result Step AllocError) (new : Progress) (out_new : List Value) → now.stopped ≡ None → IsStep now piece out result new out_new →
-    IsStepAnswer now.stopped now piece out result new out_new
-answered now piece out result new out_new e s = subst (λ v. IsStepAnswer v now piece out result new out_new) (sym e) s
+pub answered : (now : Progress) (piece : List ℕ) (out : List Value) (result : Result Advance AllocError) (new : Progress) (out_new : List Value) → now.stopped ≡ None → IsAdvance now piece out result new out_new →
+    IsAdvanceAnswer now.stopped now piece out result new out_new
+answered now piece out result new out_new e s = subst (λ v. IsAdvanceAnswer v now piece out result new out_new) (sym e) s
 
 module _ (judge : Judge) (fed : List ℕ) (taken : List Found) (r : Reading) (items offset bytes : ℕ) (stopped : Option Stopped) (rejected : Option Value)
     (is : stopped ≡ None) (standing : IsStanding stopped judge r.limits fed taken r items offset bytes rejected) where
@@ -68,25 +69,23 @@ module _ (judge : Judge) (fed : List ℕ) (taken : List Found) (r : Reading) (it
   more_kept piece new fed' e g = subst (λ v. IsStanding v judge new.limits fed' taken new items offset (bytes + length piece) rejected) (sym is) (more_running piece new fed' e g)
 
   pub more_step : (now : Progress) → old ≡ now → (piece : List ℕ) (out : List Value) (new : Reading) (fed' : List ℕ) → fed' ≡ fed ++ piece → IsGoingOn r piece new →
-      IsStepAnswer now.stopped now piece out (Ok step.More) (record { judge = judge; limits = new.limits; fed = fed'; taken = taken; stopped = stopped }) out
+      IsAdvance now piece out (Ok advance.More) (record { judge = judge; limits = new.limits; fed = fed'; taken = taken; stopped = stopped }) out
   more_step now same piece out new fed' e g =
       let limits : new.limits ≡ r.limits = ap (λ (v : Reading). v.limits) g.next in
       let next = more_running piece new fed' e g in
       let after : Progress = record { judge = judge; limits = new.limits; fed = fed'; taken = taken; stopped = stopped } in
       let open_now : IsOpen after = opened judge new.limits fed' taken new items offset (bytes + length piece) rejected next stopped is in
       let moved : after ≡ record old { fed = fed ++ piece } = rw (limits, e) refl in
-      answered now piece out (Ok step.More) after out (ap (λ (p : Progress). p.stopped) (sym same) ∙ is)
       (subst (λ (p : Progress). after ≡ record p { fed = p.fed ++ piece }) same moved, refl, open_now)
 
   -- whatever follows the piece, the stream has this end
   ended_step : (now : Progress) → old ≡ now → (piece : List ℕ) (out : List Value) (end : End) (limits : Bounds) (fed' : List ℕ) → limits ≡ r.limits → fed' ≡ fed ++ piece →
       ((more : List ℕ) → Ends judge r.limits ((fed ++ piece) ++ more) taken end) →
-      IsStepAnswer now.stopped now piece out (Ok (step.Ended end)) (record { judge = judge; limits = limits; fed = fed'; taken = taken; stopped = Some (Ended end) }) out
+      IsAdvance now piece out (Ok (advance.Ended end)) (record { judge = judge; limits = limits; fed = fed'; taken = taken; stopped = Some (Ended end) }) out
   ended_step now same piece out end limits fed' bounds e ends =
       let after : Progress = record { judge = judge; limits = limits; fed = fed'; taken = taken; stopped = Some (Ended end) } in
       let ended : IsEnded after end = record { ends = λ more. rw (bounds, e) (ends more); stopped = refl } in
       let moved : after ≡ record old { fed = fed ++ piece; stopped = Some (Ended end) } = rw (bounds, e) refl in
-      answered now piece out (Ok (step.Ended end)) after out (ap (λ (p : Progress). p.stopped) (sym same) ∙ is)
       (subst (λ (p : Progress). after ≡ record p { fed = p.fed ++ piece; stopped = Some (Ended end) }) same moved, refl, ended)
 
   -- an item was accepted
@@ -107,41 +106,40 @@ module _ (judge : Judge) (fed : List ℕ) (taken : List Found) (r : Reading) (it
       rw (is, e, f, running.none) there
 
   -- what comes fails, whatever follows
-  failing : (piece : List ℕ) (cause : Cause) (left : Option Value) (new : Reading) (more : List ℕ) → IsFailing judge r piece cause left new →
+  failing : OneAnswer → (piece : List ℕ) (cause : Cause) (left : Option Value) (new : Reading) (more : List ℕ) → IsFailing judge r piece cause left new →
       Ends judge r.limits ((fed ++ piece) ++ more) taken (Failed items offset cause) × IsRejected judge r.limits ((fed ++ piece) ++ more) taken (Failed items offset cause) left
-  failing piece (Fault f) left new more (used, refused, none) = (faulted judge r.limits fed taken r items offset bytes rejected running piece used f new more refused, none)
-  failing piece (Mismatch place) left new more (used, x, t, misses, is) =
-      let both = missed judge r.limits fed taken r items offset bytes rejected running piece used x new more t place misses in
+  failing one piece (Fault f) left new more (used, refused, none) = (faulted judge r.limits fed taken r items offset bytes rejected running piece used f new more refused, none)
+  failing one piece (Mismatch place) left new more (used, x, t, misses, is) =
+      let both = missed judge r.limits fed taken r items offset bytes rejected running piece used x new more t one place misses in
       (both.0, subst (λ (v : Option Value). IsRejected judge r.limits ((fed ++ piece) ++ more) taken (Failed items offset (Mismatch place)) v) (sym is) both.1)
-  failing piece Spent left new more (used, x, t, over, none) = (overrun judge r.limits fed taken r items offset bytes rejected running piece used x new more t over, none)
+  failing one piece Spent left new more (used, x, t, over, none) = (overrun judge r.limits fed taken r items offset bytes rejected running piece used x new more t over, none)
 
   failing_limits : (piece : List ℕ) (cause : Cause) (left : Option Value) (new : Reading) → IsFailing judge r piece cause left new → new.limits ≡ r.limits
   failing_limits piece (Fault f) left new (used, refused, none) = ap (λ (v : Reading). v.limits) refused.next
   failing_limits piece (Mismatch place) left new (used, x, t, misses, is) = ap (λ (v : Reading). v.limits) t.next
   failing_limits piece Spent left new (used, x, t, over, none) = ap (λ (v : Reading). v.limits) t.next
 
-  pub stopped_kept : (piece : List ℕ) (cause : Cause) (left : Option Value) (new : Reading) (fed' : List ℕ) → fed' ≡ fed ++ piece → IsFailing judge r piece cause left new →
+  pub stopped_kept : OneAnswer → (piece : List ℕ) (cause : Cause) (left : Option Value) (new : Reading) (fed' : List ℕ) → fed' ≡ fed ++ piece → IsFailing judge r piece cause left new →
       Ends judge new.limits fed' taken (Failed items offset cause) × IsRejected judge new.limits fed' taken (Failed items offset cause) left
-  stopped_kept piece cause left new fed' e f =
+  stopped_kept one piece cause left new fed' e f =
       let whole : fed' ≡ (fed ++ piece) ++ [] = e ∙ sym (append-nil (fed ++ piece)) in
       let end = Failed items offset cause in
       subst (λ (l : Bounds). Ends judge l fed' taken end × IsRejected judge l fed' taken end left) (sym (failing_limits piece cause left new f))
-      (subst (λ (b : List ℕ). Ends judge r.limits b taken end × IsRejected judge r.limits b taken end left) (sym whole) (failing piece cause left new [] f))
+      (subst (λ (b : List ℕ). Ends judge r.limits b taken end × IsRejected judge r.limits b taken end left) (sym whole) (failing one piece cause left new [] f))
 
-  pub stopped_step : (now : Progress) → old ≡ now → (piece : List ℕ) (out : List Value) (cause : Cause) (left : Option Value) (new : Reading) (fed' : List ℕ) → fed' ≡ fed ++ piece → IsFailing judge r piece cause left new →
-      IsStepAnswer now.stopped now piece out (Ok (step.Ended (Failed items offset cause)))
+  pub stopped_step : OneAnswer → (now : Progress) → old ≡ now → (piece : List ℕ) (out : List Value) (cause : Cause) (left : Option Value) (new : Reading) (fed' : List ℕ) → fed' ≡ fed ++ piece → IsFailing judge r piece cause left new →
+      IsAdvance now piece out (Ok (advance.Ended (Failed items offset cause)))
       (record { judge = judge; limits = new.limits; fed = fed'; taken = taken; stopped = Some (Ended (Failed items offset cause)) }) out
-  stopped_step now same piece out cause left new fed' e f =
-      ended_step now same piece out (Failed items offset cause) new.limits fed' (failing_limits piece cause left new f) e (λ more. (failing piece cause left new more f).0)
+  stopped_step one now same piece out cause left new fed' e f =
+      ended_step now same piece out (Failed items offset cause) new.limits fed' (failing_limits piece cause left new f) e (λ more. (failing one piece cause left new more f).0)
 
   -- there was no memory
   pub cut_step : (now : Progress) → old ≡ now → (piece : List ℕ) (out out_new : List Value) (error : AllocError) (limits : Bounds) (fed' : List ℕ) → limits ≡ r.limits → fed' ≡ fed ++ piece → out_new ≡ out →
-      IsStepAnswer now.stopped now piece out (Err error) (record { judge = judge; limits = limits; fed = fed'; taken = taken; stopped = Some Memory }) out_new
+      IsAdvance now piece out (Err error) (record { judge = judge; limits = limits; fed = fed'; taken = taken; stopped = Some Memory }) out_new
   cut_step now same piece out out_new error limits fed' bounds e kept =
       let after : Progress = record { judge = judge; limits = limits; fed = fed'; taken = taken; stopped = Some Memory } in
       let short : IsCutShort after = rw (bounds, e) (cut_short judge r.limits fed taken r items offset bytes rejected running piece) in
       let moved : after ≡ record old { fed = fed ++ piece; stopped = Some Memory } = rw (bounds, e) refl in
-      answered now piece out (Err error) after out_new (ap (λ (p : Progress). p.stopped) (sym same) ∙ is)
       (subst (λ (p : Progress). after ≡ record p { fed = p.fed ++ piece; stopped = Some Memory }) same moved, kept, short)
 
   -- the end of the bytes fed
@@ -162,7 +160,7 @@ module _ (judge : Judge) (fed : List ℕ) (taken : List Found) (r : Reading) (it
   failed_kept end result fault a err e =
       let told : (r.fed ≢ []) × IsTold r.limits r.offset r.fed fault.kind fault.at = subst (λ v. reader.IsEnd None r v) err (end_told result a) in
       let at : IsTold r.limits offset r.fed fault.kind fault.at = subst (λ n. IsTold r.limits n r.fed fault.kind fault.at) (sym running.offset_is) told.1 in
-      let placed : offset + length r.fed ≡ length fed = running.placed ∙ running.bytes_is in
+      let placed : offset + length r.fed ≡ length fed = running.reaches ∙ running.bytes_is in
       let failed : Ends judge r.limits fed taken (Failed items offset (Fault fault)) = rw running.items_is (fault_end judge r.limits fed taken r.fed offset fault.kind fault.at running.takes placed told.0 at) in
       rw e (failed, running.none)
 

@@ -15,24 +15,25 @@ use Rattle.seq_run.specs.declared.end.Cause.TheVariants.{Fault, Mismatch, Spent}
 use Rattle.seq_run.specs.declared.end.End.TheVariants.{Failed}
 use Rattle.seq_run.specs.declared.end.Stopped.{Stopped}
 use Rattle.seq_run.specs.declared.end.Stopped.TheVariants.{Memory}
-use Rattle.seq_run.specs.declared.session.Placed.{Placed}
+use Rattle.seq_run.specs.declared.session.FoundItem.{FoundItem}
 use Rattle.seq_run.specs.Ends.{Accepts, Misses, Overruns, BeginsWith, Ends}
-use Rattle.seq_run.specs.Placed.{found_of}
+use Rattle.seq_run.specs.FoundItem.{found_of}
 use Rattle.seq_run.specs.Standing.{IsHeld, IsNext, IsRunning}
 use Rattle.seq_run.specs.Answers.{IsOpen, IsCutShort}
 use Rattle.seq_run.proofs.Fronts.{clear_placed}
 use Rattle.seq_run.proofs.Runs.{takes_extend, takes_snoc, takes_count, formed_some}
 use Rattle.seq_run.proofs.Ending.{fault_end, missed_end, spent_end, open_end}
+use Rattle.seq_run.proofs.Verdicts.{OneAnswer}
 
 -- a new session
-pub started : (judge : Judge) (reader : Reading) (fed : List ℕ) (taken : List Placed) (l : Bounds) → reader ≡ record { limits = l; offset = 0; fed = []; stopped = None } → fed ≡ [] → taken ≡ [] →
+pub started : (judge : Judge) (reader : Reading) (fed : List ℕ) (taken : List FoundItem) (l : Bounds) → reader ≡ record { limits = l; offset = 0; fed = []; stopped = None } → fed ≡ [] → taken ≡ [] →
     IsRunning judge reader.limits fed (map found_of taken) reader 0 0 0 None
 started judge reader fed taken l r f t = rw (r, f, t) (record {
   takes = none;
   items_is = refl;
   offset_is = refl;
   bytes_is = refl;
-  placed = refl;
+  reaches = refl;
   short = omega arith;
   limits = refl;
   going = refl;
@@ -58,7 +59,7 @@ module _ (judge : Judge) (l : Bounds) (fed : List ℕ) (taken : List Found) (rea
   extended piece = takes_extend l (Accepts judge) piece s.takes
 
   placed_at : (piece : List ℕ) → reader.offset + length (reader.fed ++ piece) ≡ length (fed ++ piece)
-  placed_at piece = omega (arith, s.placed, s.bytes_is, s.offset_is, length-append reader.fed piece, length-append fed piece)
+  placed_at piece = omega (arith, s.reaches, s.bytes_is, s.offset_is, length-append reader.fed piece, length-append fed piece)
 
   pub counts_below : items ≤ bytes
   counts_below = omega (arith, takes_count l (Accepts judge) s.takes, s.items_is, s.bytes_is)
@@ -66,7 +67,7 @@ module _ (judge : Judge) (l : Bounds) (fed : List ℕ) (taken : List Found) (rea
   -- the piece was used, and the item goes on
   pub grows : (piece : List ℕ) (new : Reading) → IsGoingOn reader piece new → bytes + length piece ≤ last_offset
   grows piece new g =
-      let below : reader.offset ≤ last_offset = omega (arith, s.offset_is, s.placed, s.short) in
+      let below : reader.offset ≤ last_offset = omega (arith, s.offset_is, s.reaches, s.short) in
       let end = clear_placed reader.limits reader.offset (reader.fed ++ piece) below g.unfinished g.clear in
       omega (arith, end, placed_at piece, s.bytes_is, length-append fed piece)
 
@@ -76,7 +77,7 @@ module _ (judge : Judge) (l : Bounds) (fed : List ℕ) (taken : List Found) (rea
     items_is = s.items_is;
     offset_is = s.offset_is;
     bytes_is = omega (arith, s.bytes_is, length-append fed piece);
-    placed = omega (arith, s.placed, length-append reader.fed piece);
+    reaches = omega (arith, s.reaches, length-append reader.fed piece);
     short = grows piece new g;
     limits = s.limits;
     going = s.going;
@@ -88,7 +89,7 @@ module _ (judge : Judge) (l : Bounds) (fed : List ℕ) (taken : List Found) (rea
   pub opened : (stopped : Option Stopped) → stopped ≡ None → IsOpen (record { judge = judge; limits = l; fed = fed; taken = taken; stopped = stopped })
   opened stopped going =
       let held : IsHeld l reader.offset reader.fed = s.held in
-      let at : reader.offset + length reader.fed ≡ length fed = omega (arith, s.placed, s.bytes_is, s.offset_is) in
+      let at : reader.offset + length reader.fed ≡ length fed = omega (arith, s.reaches, s.bytes_is, s.offset_is) in
       let end = open_end judge l fed taken reader.offset reader.fed s.takes at held in
       record { end = end.end; ends = end.ends; undecided = end.undecided; short = omega (arith, s.bytes_is, s.short); going = going }
 
@@ -100,15 +101,15 @@ module _ (judge : Judge) (l : Bounds) (fed : List ℕ) (taken : List Found) (rea
       let item : IsItem l reader.offset x front = subst (λ (m : Bounds). IsItem m reader.offset x front) s.limits t.item in
       let used_is : length (take used piece) ≡ used = length-take-le used piece t.within in
       let at : offset + length front ≡ length (fed ++ take used piece) = omega (arith, placed_at (take used piece), s.offset_is) in
-      let short : bytes + used ≤ last_offset = omega (arith, item.placed, s.offset_is, s.placed, used_is, length-append reader.fed (take used piece)) in
+      let short : bytes + used ≤ last_offset = omega (arith, item.placed, s.offset_is, s.reaches, used_is, length-append reader.fed (take used piece)) in
       let begins : BeginsWith judge l (fed ++ take used piece) (taken ++ record { offset = offset; item = x } ∷ []) [] =
       takes_snoc l (Accepts judge) offset x front [] (extended (take used piece)) (omega (arith, at)) (sym (append-nil front)) (subst (λ n. IsItem l n x front) (sym s.offset_is) item) accepts in
       let running : IsRunning judge l (fed ++ take used piece) (taken ++ record { offset = offset; item = x } ∷ []) (record { limits = reader.limits; offset = reader.offset + length front; fed = []; stopped = None }) (items + 1) (bytes + used) (bytes + used) None = record {
         takes = begins;
         items_is = omega (arith, s.items_is, length-append taken (record { offset = offset; item = x } ∷ []));
-        offset_is = omega (arith, s.offset_is, s.placed, used_is, length-append reader.fed (take used piece));
+        offset_is = omega (arith, s.offset_is, s.reaches, used_is, length-append reader.fed (take used piece));
         bytes_is = omega (arith, s.bytes_is, used_is, length-append fed (take used piece));
-        placed = omega arith;
+        reaches = omega arith;
         short = short;
         limits = s.limits;
         going = refl;
@@ -117,7 +118,7 @@ module _ (judge : Judge) (l : Bounds) (fed : List ℕ) (taken : List Found) (rea
       } in
       (short, subst (λ (r : Reading). IsRunning judge l (fed ++ take used piece) (taken ++ record { offset = offset; item = x } ∷ []) r (items + 1) (bytes + used) (bytes + used) None) (sym t.next) running)
 
-  -- the bytes behind the run, whatever follows
+  -- the bytes after the run, whatever follows
   rest_of : (piece more : List ℕ) → BeginsWith judge l ((fed ++ piece) ++ more) taken ((reader.fed ++ piece) ++ more)
   rest_of piece more = takes_extend l (Accepts judge) more (extended piece)
 
@@ -138,10 +139,10 @@ module _ (judge : Judge) (l : Bounds) (fed : List ℕ) (taken : List Found) (rea
     read_parts : (reader.fed ++ piece) ++ more ≡ front ++ back
     read_parts = ap (λ b. b ++ more) (split_piece used reader.fed piece) ∙ append_assoc front (drop used piece) more
 
-    pub missed : (place : ℕ) → Misses judge x front place →
+    pub missed : OneAnswer → (place : ℕ) → Misses judge x front place →
         Ends judge l ((fed ++ piece) ++ more) taken (Failed items offset (Mismatch place)) × IsNext judge l ((fed ++ piece) ++ more) taken x
-    missed place misses =
-        let both = missed_end judge l ((fed ++ piece) ++ more) taken ((reader.fed ++ piece) ++ more) offset x front back place (rest_of piece more) (rest_placed piece more) read_parts read_item misses in
+    missed one place misses =
+        let both = missed_end judge l one ((fed ++ piece) ++ more) taken ((reader.fed ++ piece) ++ more) offset x front back place (rest_of piece more) (rest_placed piece more) read_parts read_item misses in
         (subst (λ n. Ends judge l ((fed ++ piece) ++ more) taken (Failed n offset (Mismatch place))) (sym s.items_is) both.0, both.1)
 
     pub overrun : Overruns judge x front → Ends judge l ((fed ++ piece) ++ more) taken (Failed items offset Spent)

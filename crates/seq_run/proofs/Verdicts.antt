@@ -1,34 +1,36 @@
 -- What a table says of an item of a stream is one thing.
-use Rattle.std.proofs.Common.{◌≡◌, ℕ, ◌+◌, ◌<◌, ◌^◌, List, arith}
+use Rattle.std.proofs.Common.{◌≡◌, ℕ, ◌<◌, ◌^◌, List, arith}
 use Rattle.cbor_data.specs.Value.{Value, place_count}
 use Rattle.cbor_data.specs.Faults.{Bounds, IsItem}
 use Rattle.cddl_meaning.specs.Judges.{Answer, Yes, No}
-use Rattle.cddl_meaning.proofs.Inside.{says_inside}
-use Rattle.cddl_meaning.proofs.Matches.{one_saying}
 use Rattle.cddl_match.proofs.Room.{places_spelled}
-use Rattle.cddl_table.specs.Language.{language_of, RootSays}
+use Rattle.cddl_table.specs.Language.{RootSays}
 use Rattle.cddl_table.specs.declared.table.Table.{Table}
 use Rattle.seq_run.specs.Judge.{Judge}
 use Rattle.seq_run.specs.Ends.{Accepts, Misses, Overruns}
 
+-- the laws of the matcher that a session rests on
+abbrev pub OneAnswer : Type 0
+OneAnswer = (table : Table) (x : Value) (a b : Answer) (v w : ℕ) → place_count x < 2 ^ 64 → RootSays table x a v → RootSays table x b w → (b ≡ a) × (w ≡ v)
+
+abbrev pub ShowsInside : Type 0
+ShowsInside = (table : Table) (x : Value) (place w : ℕ) → RootSays table x (No place) w → place < place_count x
+
 -- its places have numbers below 2^64
-item_room : (l : Bounds) (o : ℕ) (x : Value) (b : List ℕ) → IsItem l o x b → 0 + place_count x < 2 ^ 64
+item_room : (l : Bounds) (o : ℕ) (x : Value) (b : List ℕ) → IsItem l o x b → place_count x < 2 ^ 64
 item_room l o x b item = omega (arith, places_spelled x b item.spells, item.placed)
 
-one_answer : (table : Table) {l : Bounds} {o v w : ℕ} {x : Value} {b : List ℕ} {a c : Answer} → IsItem l o x b → RootSays table x a v → RootSays table x c w → c ≡ a
-one_answer table {l} {o} {x = x} {b = b} item d e = (one_saying (language_of table) (item_room l o x b item) d e).0
+module _ (one : OneAnswer) where
+  same_answer : (table : Table) {l : Bounds} {o v w : ℕ} {x : Value} {b : List ℕ} {a c : Answer} → IsItem l o x b → RootSays table x a v → RootSays table x c w → c ≡ a
+  same_answer table {l} {o} {v} {w} {x} {b} {a} {c} item d e = (one table x a c v w (item_room l o x b item) d e).0
 
--- yes, or no
-pub never_both : (table : Table) {l : Bounds} {o v w place : ℕ} {x : Value} {b : List ℕ} → IsItem l o x b → RootSays table x Yes v → RootSays table x (No place) w → ⊥
-never_both table {place = place} item d e = let same : No place ≡ Yes = one_answer table item d e in cc
+  -- yes, or no
+  pub never_both : (table : Table) {l : Bounds} {o v w place : ℕ} {x : Value} {b : List ℕ} → IsItem l o x b → RootSays table x Yes v → RootSays table x (No place) w → ⊥
+  never_both table {place = place} item d e = let same : No place ≡ Yes = same_answer table item d e in cc
 
--- a no at one place
-pub one_place : (table : Table) {l : Bounds} {o v w p q : ℕ} {x : Value} {b : List ℕ} → IsItem l o x b → RootSays table x (No p) v → RootSays table x (No q) w → p ≡ q
-one_place table {p = p} {q = q} item d e = let same : No q ≡ No p = one_answer table item d e in cc
-
--- which is a place of the item
-pub shown_inside : (table : Table) {w place : ℕ} {x : Value} → RootSays table x (No place) w → place < place_count x
-shown_inside table d = let inside = says_inside (language_of table) d in omega (arith, inside.1)
+  -- a no at one place
+  pub one_place : (table : Table) {l : Bounds} {o v w p q : ℕ} {x : Value} {b : List ℕ} → IsItem l o x b → RootSays table x (No p) v → RootSays table x (No q) w → p ≡ q
+  one_place table {p = p} {q = q} item d e = let same : No q ≡ No p = same_answer table item d e in cc
 
 -- what is said in the steps does not overrun them
 pub yes_overruns : (judge : Judge) (x : Value) (a b : List ℕ) → Overruns judge x a → Accepts judge x b → ⊥

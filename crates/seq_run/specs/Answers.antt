@@ -13,8 +13,8 @@ use Rattle.seq_run.specs.declared.end.State.{State}
 use Rattle.seq_run.specs.declared.end.State.TheVariants as state
 use Rattle.seq_run.specs.declared.end.Stopped.{Stopped}
 use Rattle.seq_run.specs.declared.end.Stopped.TheVariants.{Ended, Memory}
-use Rattle.seq_run.specs.declared.session.Step.{Step}
-use Rattle.seq_run.specs.declared.session.Step.TheVariants as step
+use Rattle.seq_run.specs.declared.session.Advance.{Advance}
+use Rattle.seq_run.specs.declared.session.Advance.TheVariants as advance
 use Rattle.seq_run.specs.Ends.{BeginsWith, Ends}
 use Rattle.seq_run.specs.Standing.{IsRejected}
 use Rattle.seq_run.specs.Progress.{Progress}
@@ -22,7 +22,7 @@ use Rattle.seq_run.specs.Progress.{Progress}
 abbrev pub items_of : List Found → List Value
 items_of found = map (λ f. f.item) found
 
--- a fault that stands behind the last byte of a stream, for want of more
+-- a fault that is told after the last byte of a stream, for want of more
 abbrev pub IsAtEndKind : FaultKind → Type 0
 IsAtEndKind kind.Truncated = Unit {0}
 IsAtEndKind kind.TooLong = Unit {0}
@@ -88,20 +88,20 @@ abbrev pub IsLent : Option Stopped → Progress → Option Value → Type 0
 IsLent (Some (Ended end)) p rejected = IsRejected p.judge p.limits p.fed p.taken end rejected
 IsLent _ p rejected = rejected ≡ None
 
--- one step of a session that has not stopped
-abbrev pub IsStep : Progress → List ℕ → List Value → Result Step AllocError → Progress → List Value → Type 0
-IsStep old piece out (Ok step.More) new out_new =
+-- one call of a session that has not stopped
+abbrev pub IsAdvance : Progress → List ℕ → List Value → Result Advance AllocError → Progress → List Value → Type 0
+IsAdvance old piece out (Ok advance.More) new out_new =
     (new ≡ record old { fed = old.fed ++ piece }) × (out_new ≡ out) × IsOpen new
-IsStep old piece out (Ok (step.Item used number offset)) new out_new =
+IsAdvance old piece out (Ok (advance.Item used number offset)) new out_new =
     (0 < used) × (used ≤ length piece) × (number ≡ length new.taken) × ((x : Value)
     × (new ≡ record old { fed = old.fed ++ take used piece; taken = old.taken ++ record { offset = offset; item = x } ∷ [] })
     × (out_new ≡ out ++ x ∷ []))
-IsStep old piece out (Ok (step.Ended end)) new out_new =
+IsAdvance old piece out (Ok (advance.Ended end)) new out_new =
     (new ≡ record old { fed = old.fed ++ piece; stopped = Some (Ended end) }) × (out_new ≡ out) × IsEnded new end
-IsStep old piece out (Err e) new out_new =
+IsAdvance old piece out (Err e) new out_new =
     (new ≡ record old { fed = old.fed ++ piece; stopped = Some Memory }) × (out_new ≡ out) × IsCutShort new
 
-abbrev pub IsStepAnswer : Option Stopped → Progress → List ℕ → List Value → Result Step AllocError → Progress → List Value → Type 0
-IsStepAnswer None old piece out result new out_new = IsStep old piece out result new out_new
-IsStepAnswer (Some (Ended end)) old piece out result new out_new = (result ≡ Ok (step.Ended end)) × (new ≡ old) × (out_new ≡ out)
-IsStepAnswer (Some Memory) old piece out result new out_new = (result ≡ Err alloc_error) × (new ≡ old) × (out_new ≡ out)
+abbrev pub IsAdvanceAnswer : Option Stopped → Progress → List ℕ → List Value → Result Advance AllocError → Progress → List Value → Type 0
+IsAdvanceAnswer None old piece out result new out_new = IsAdvance old piece out result new out_new
+IsAdvanceAnswer (Some (Ended end)) old piece out result new out_new = (result ≡ Ok (advance.Ended end)) × (new ≡ old) × (out_new ≡ out)
+IsAdvanceAnswer (Some Memory) old piece out result new out_new = (result ≡ Err alloc_error) × (new ≡ old) × (out_new ≡ out)

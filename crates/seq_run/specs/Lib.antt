@@ -2,7 +2,7 @@ pub mod Judge
 pub mod Ends
 pub mod Judged
 pub mod Progress
-pub mod Placed
+pub mod FoundItem
 pub mod Standing
 pub mod Answers
 pub mod Report

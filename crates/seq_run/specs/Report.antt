@@ -39,7 +39,7 @@ abbrev pub or_nothing : Option (List ℕ) → List ℕ
 or_nothing (Some text) = text
 or_nothing None = []
 
--- of an item that does not match: the path of the place where it shows, and what stands there
+-- of an item that does not match: the path of the place where it shows, and what is there
 abbrev pub mismatch_text : ℕ → Value → List ℕ
 mismatch_text place x = codes "mismatch at " ++ (or_nothing (path x place) ++ (codes ": " ++ or_nothing (option_map notation (slice_get (places x) place))))
 
@@ -59,7 +59,7 @@ end_line (Failed items offset cause) rejected =
 abbrev pub report : List Found → End → Option Value → List ℕ
 report found end rejected = item_lines 1 found ++ end_line end rejected
 
--- A mismatch comes with its item, in which the place stands.
+-- A mismatch comes with its item, and its place is one of that item's places.
 abbrev pub IsShown : End → Option Value → Type 0
 IsShown (Failed items offset (Mismatch place)) (Some x) = place < place_count x
 IsShown (Failed items offset (Mismatch place)) None = ⊥

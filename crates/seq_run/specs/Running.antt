@@ -26,7 +26,7 @@ pub record IsReported (judge : Judge) (l : Bounds) (stream : List ℕ) (before a
   pub written : bytes.Appends before after (report found end rejected)
 
 -- The bytes are the whole report of the stream.
-pub record IsWhole (judge : Judge) (l : Bounds) (stream out : List ℕ) : Type 0 where
+pub record IsWholeReport (judge : Judge) (l : Bounds) (stream out : List ℕ) : Type 0 where
   pub found : List Found
   pub end : End
   pub rejected : Option Value
@@ -37,12 +37,12 @@ pub record IsWhole (judge : Judge) (l : Bounds) (stream out : List ℕ) : Type 0
 -- The bytes begin the report of the stream, whatever its end is.
 abbrev pub IsBeginning : Judge → Bounds → List ℕ → List ℕ → Type 0
 IsBeginning judge l stream out = (found : List Found) (end : End) (rejected : Option Value) → Ends judge l stream found end → IsRejected judge l stream found end rejected →
-    (behind : List ℕ) × (report found end rejected ≡ out ++ behind)
+    (after : List ℕ) × (report found end rejected ≡ out ++ after)
 
 -- Exactly the first k bytes of the stream's report went out.
 pub record WritesFirst (judge : Judge) (l : Bounds) (stream : List ℕ) (before after : Option (List ℕ)) (k : ℕ) : Type 0 where
   pub out : List ℕ
-  pub front : IsWhole judge l stream out ⊎ IsBeginning judge l stream out
+  pub front : IsWholeReport judge l stream out ⊎ IsBeginning judge l stream out
   pub short : k < length out
   pub written : bytes.Appends before after (take k out)
 

@@ -17,14 +17,14 @@ use Rattle.seq_run.specs.Ends.{BeginsWith, IsRun, Ends}
 abbrev pub IsHeld : Bounds → ℕ → List ℕ → Type 0
 IsHeld l o rest = (rest ≡ []) ⊎ (IsUnfinished rest × BeginsWithin l.depth rest × IsClearBefore l o rest (length rest))
 
--- Behind the items of the stream's run comes this one.
+-- After the items of the stream's run comes this one.
 pub record IsNext (judge : Judge) (l : Bounds) (stream : List ℕ) (found : List Found) (x : Value) : Type 0 where
   pub rest : List ℕ
   pub offset : ℕ
   pub front : List ℕ
   pub back : List ℕ
   pub run : IsRun judge l stream found rest
-  pub placed : offset + length rest ≡ length stream
+  pub offset_is : offset + length rest ≡ length stream
   pub parts : rest ≡ front ++ back
   pub item : IsItem l offset x front
 
@@ -40,7 +40,7 @@ pub record IsRunning (judge : Judge) (l : Bounds) (fed : List ℕ) (taken : List
   pub items_is : items ≡ length taken
   pub offset_is : offset ≡ reader.offset
   pub bytes_is : bytes ≡ length fed
-  pub placed : offset + length reader.fed ≡ bytes
+  pub reaches : offset + length reader.fed ≡ bytes
   pub short : bytes ≤ last_offset
   pub limits : reader.limits ≡ l
   pub going : reader.stopped ≡ None

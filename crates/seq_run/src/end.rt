@@ -5,12 +5,12 @@ use cbor_read::Fault;
 /// Why a stream failed.
 #[derive(Clone, Copy, Debug, PartialEq, Eq)]
 pub enum Cause {
-    /// The bytes behind the accepted items have this fault.
+    /// The bytes after the accepted items have this fault.
     Fault(Fault),
-    /// The item behind the accepted ones does not match the specification. The place in it, in preorder from 0, is where
+    /// The item after the accepted ones does not match the specification. The place in it, in preorder from 0, is where
     /// that shows.
     Mismatch(usize),
-    /// The steps do not tell whether the item behind the accepted ones matches the specification.
+    /// The steps do not tell whether the item after the accepted ones matches the specification.
     Spent,
 }
 

@@ -10,6 +10,10 @@ ghost use Rattle.seq_run.specs.Ends.{Accepts, Ends, EndsFreely, IsAccepted, IsDe
 ghost use Rattle.seq_run.specs.Judge.{Judge};
 ghost use Rattle.seq_run.specs.Written.{AreWritable, clean_end, found_from, written};
 
+use cbor_data::preferred_spells;
+use cbor_read::one_fault;
+use cddl_match::one_answer;
+
 /// Any list of sound items that are accepted and are within the limits as they are written, all their bytes together no
 /// more than a stream may have: the run of their preferred bytes is that list, and its end is clean. It does nothing.
 pub fn written_is_read_back()
@@ -17,19 +21,26 @@ pub fn written_is_read_back()
         EndsFreely table l (written items) (found_from 0 items) (clean_end items) }
     ensures within { (judge : Judge) (l : Bounds) (items : List Value) → AreWritable (Accepts judge) l items → length (written items) ≤ last_offset →
         Ends judge l (written items) (found_from 0 items) (clean_end items) }
-{}
+{
+    preferred_spells();
+}
 
-/// A stream has one end, and its run is one list of items.
+/// A stream has one end, and its run is one list of items. It does nothing.
 pub fn one_end()
     ensures within { (judge : Judge) (l : Bounds) (stream : List ℕ) (found others : List Found) (end other : End) → AreBytes stream →
         Ends judge l stream found end → Ends judge l stream others other → (found ≡ others) × (end ≡ other) }
     ensures freely { (table : Table) (l : Bounds) (stream : List ℕ) (found others : List Found) (end other : End) → AreBytes stream →
         EndsFreely table l stream found end → EndsFreely table l stream others other → (found ≡ others) × (end ≡ other) }
-{}
+{
+    one_fault();
+    one_answer();
+}
 
 /// An end that is no want of steps is the stream's end by the specification alone, and its run has no other items. It does
 /// nothing.
 pub fn decisive_end()
     ensures { (judge : Judge) (l : Bounds) (stream : List ℕ) (found : List Found) (end : End) → Ends judge l stream found end → IsDecisive end →
         EndsFreely judge.table l stream found end }
-{}
+{
+    one_answer();
+}

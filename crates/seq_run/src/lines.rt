@@ -15,7 +15,7 @@ use itoa::Buffer;
 use std::alloc::{AllocError, Global};
 
 /// The last line of a report, its line feed with it: `clean: N items, B bytes`, or `failed: N items, offset O:` and the
-/// cause. For a mismatch it asks for the item that failed, in which the place stands.
+/// cause. For a mismatch the item that failed has to be given, and the place is one of its places.
 ///
 /// # Errors
 ///
@@ -51,8 +51,8 @@ pub fn end_line(alloc: Global, end: &End, rejected: Option<&Sound>) -> Result<Ve
     }
 }
 
-// `item N at OFFSET: DIAG` and a line feed.
-pub fn push_item_line(
+// Appends the line of an item: `item N at OFFSET: DIAG` and a line feed.
+pub(crate) fn push_item_line(
     alloc: Global,
     lines: &mut Vec<u8>,
     number: u64,
@@ -92,7 +92,7 @@ fn push_cause(
     }
 }
 
-// The path of the place, and what stands there.
+// Appends the path of the place, and what is there.
 fn push_mismatch(
     alloc: Global,
     line: &mut Vec<u8>,

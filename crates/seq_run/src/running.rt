@@ -10,10 +10,12 @@ ghost use Rattle.seq_run.specs.Running.{Adds, IsDecided, IsFault, IsPieceDone, I
 ghost use Rattle.seq_run.specs.Written.{IsReadBack, IsWrittenStream};
 
 use crate::end::{End, State};
+use crate::laws::{decisive_end, written_is_read_back};
 use crate::lines::{end_line, push_item_line};
-use crate::session::{Session, Step};
+use crate::session::{Advance, Session};
 use cbor_item::{Counted, Sound, write_bytes};
 use cbor_read::Limits;
+use cddl_match::shows_inside;
 use cddl_table::Table;
 use std::alloc::{AllocError, Global};
 use std::io::{Read, Write};
@@ -78,6 +80,8 @@ pub fn run<R: Read, W: Write>(
         }
         written += lines.len() as u128;
         if let Some(end) = end {
+            written_is_read_back();
+            decisive_end();
             return Ok((end, session.into_rejected()));
         }
         reported = session.items();
@@ -99,6 +103,7 @@ fn report_piece(
     match take_piece(alloc, session, piece, lines)? {
         State::Open => Ok(None),
         State::Ended(end) => {
+            shows_inside();
             let line = end_line(alloc, &end, session.rejected())?;
             lines.extend_from_slice(line.as_slice())?;
             Ok(Some(end))
@@ -139,9 +144,9 @@ fn report_items(
     let mut items = Vec::new(alloc);
     'steps: loop {
         match session.feed_one(rest, &mut items)? {
-            Step::More => return Ok(State::Open),
-            Step::Ended(end) => return Ok(State::Ended(end)),
-            Step::Item {
+            Advance::More => return Ok(State::Open),
+            Advance::Ended(end) => return Ok(State::Ended(end)),
+            Advance::Item {
                 used,
                 number,
                 offset,

@@ -1,32 +1,81 @@
 //! A session: the run of a stream that comes in pieces.
 
-ghost use Rattle.std.specs.Prelude.{◌≡◌, [], length, None, option_copied};
-ghost use Rattle.seq_run.specs.Answers.{Appends, IsAnswer, IsFinish, IsLent, IsStepAnswer};
+ghost use Rattle.std.specs.Prelude.{◌≡◌, ◌+◌, ◌<◌, ◌^◌, [], length, None, option_copied};
+ghost use Rattle.seq_run.specs.Answers.{Appends, IsAdvance, IsAdvanceAnswer, IsAnswer, IsFinish, IsLent};
 ghost use Rattle.seq_run.specs.Judge.{judge_of};
 ghost use Rattle.seq_run.specs.Judged.{IsJudged};
 
 use crate::end::{Cause, End, State, Stopped};
 use cbor_item::Sound;
 use cbor_read::{Fed, ItemReader, Limits, Stop};
-use cddl_match::{Verdict, verdict};
+use cddl_match::{Verdict, one_answer, verdict};
 use cddl_table::Table;
 use history::History;
 use std::alloc::{AllocError, Global};
 use std::marker::Model;
 
-/// An item, and the offset of its first byte.
+// An item, and the offset of its first byte.
 #[derive(Drop)]
-struct Placed {
+struct FoundItem {
     offset: u64,
     item: Sound,
 }
 
-/// What one step of a session led to.
+// How far a session has come: how many items it has accepted, the offset of the next one, and how many bytes it has taken.
+#[derive(Drop)]
+struct Count {
+    items: u64,
+    offset: u64,
+    bytes: u64,
+}
+
+impl Count {
+    // The end of a stream that has no more bytes.
+    fn clean_end(&self) -> End
+        ensures { result ≡ End.Clean self.now.items self.now.bytes }
+    {
+        End::Clean {
+            items: self.items,
+            bytes: self.bytes,
+        }
+    }
+
+    // The end of a stream whose next item fails.
+    fn failed_end(&self, cause: Cause) -> End
+        ensures { result ≡ End.Failed self.now.items self.now.offset cause }
+    {
+        End::Failed {
+            items: self.items,
+            offset: self.offset,
+            cause,
+        }
+    }
+
+    // Counts one more item, which ends with byte `used` of a piece.
+    fn add_item(&mut self, used: usize) -> Advance
+        requires items { self.old.items + 1 < 2 ^ 64 }
+        requires bytes { self.old.bytes + used < 2 ^ 64 }
+        ensures count { self.new ≡ record { items = self.old.items + 1; offset = self.old.bytes + used; bytes = self.old.bytes + used } }
+        ensures advance { result ≡ Advance.Item used (self.old.items + 1) self.old.offset }
+    {
+        let offset = self.offset;
+        self.items += 1;
+        self.bytes += used as u64;
+        self.offset = self.bytes;
+        Advance::Item {
+            used,
+            number: self.items,
+            offset,
+        }
+    }
+}
+
+// How far one call takes a session.
 #[derive(Clone, Copy, Debug)]
-pub enum Step {
-    /// The whole piece was used.
+pub(crate) enum Advance {
+    // The whole piece was used.
     More,
-    /// An item was accepted with byte `used` of the piece: its number, from 1, and the offset of its first byte.
+    // An item was accepted with byte `used` of the piece: its number, from 1, and the offset of its first byte.
     Item {
         used: usize,
         number: u64,
@@ -35,17 +84,17 @@ pub enum Step {
     Ended(End),
 }
 
-/// What a piece led to, by the reader and the specification.
+// What a piece led to, by the reader and the specification.
 #[derive(Drop)]
 enum Judged {
-    /// The whole piece was used, and no item is whole.
+    // The whole piece was used, and no item is whole.
     More,
-    /// An item is accepted, whose last byte is byte `used` of the piece.
+    // An item is accepted, whose last byte is byte `used` of the piece.
     Accepted {
         used: usize,
         item: Sound,
     },
-    /// What comes behind the accepted items fails, with the item where it does not match.
+    // What comes after the accepted items fails, with the item where it does not match.
     Failed {
         cause: Cause,
         rejected: Option<Sound>,
@@ -62,19 +111,17 @@ pub struct Session<'t> {
     table: &'t Table,
     steps: u64,
     reader: ItemReader,
-    items: u64,
-    offset: u64,
-    bytes: u64,
+    count: Count,
     stopped: Option<Stopped>,
     rejected: Option<Sound>,
     fed: History<u8>,
-    taken: History<Placed>,
+    taken: History<FoundItem>,
 }
 
 impl<'t> Model for Session<'t> {
     ghost use Rattle.std.specs.Prelude.{map};
     ghost use Rattle.seq_run.specs.Progress.{Progress, coded_progress};
-    ghost use Rattle.seq_run.specs.Placed.{found_of};
+    ghost use Rattle.seq_run.specs.FoundItem.{found_of};
     ghost use Rattle.seq_run.specs.Standing.{IsStanding};
     ghost use Rattle.seq_run.specs.Judge.{judge_of};
 
@@ -84,7 +131,7 @@ impl<'t> Model for Session<'t> {
 
     ghost view = { λ s. record { judge = judge_of s.table.now s.steps; limits = s.reader.limits; fed = s.fed; taken = map found_of s.taken; stopped = s.stopped } };
 
-    ghost invariant = { λ s. IsStanding s.stopped (judge_of s.table.now s.steps) s.reader.limits s.fed (map found_of s.taken) s.reader s.items s.offset s.bytes s.rejected };
+    ghost invariant = { λ s. IsStanding s.stopped (judge_of s.table.now s.steps) s.reader.limits s.fed (map found_of s.taken) s.reader s.count.items s.count.offset s.count.bytes s.rejected };
 }
 
 impl<'t> Session<'t> {
@@ -98,9 +145,11 @@ impl<'t> Session<'t> {
             table,
             steps,
             reader: ItemReader::new(alloc, limits),
-            items: 0,
-            offset: 0,
-            bytes: 0,
+            count: Count {
+                items: 0,
+                offset: 0,
+                bytes: 0,
+            },
             stopped: None,
             rejected: None,
             fed: History::new(),
@@ -123,9 +172,9 @@ impl<'t> Session<'t> {
         let mut rest = piece;
         'steps: loop {
             match self.feed_one(rest, out)? {
-                Step::More => return Ok(State::Open),
-                Step::Ended(end) => return Ok(State::Ended(end)),
-                Step::Item { used, .. } => rest = &rest[used..],
+                Advance::More => return Ok(State::Open),
+                Advance::Ended(end) => return Ok(State::Ended(end)),
+                Advance::Item { used, .. } => rest = &rest[used..],
             }
         }
     }
@@ -144,15 +193,8 @@ impl<'t> Session<'t> {
             None => {}
         }
         let end = match self.reader.at_end() {
-            Ok(()) => End::Clean {
-                items: self.items,
-                bytes: self.bytes,
-            },
-            Err(Stop::Fault(fault)) => End::Failed {
-                items: self.items,
-                offset: self.offset,
-                cause: Cause::Fault(fault),
-            },
+            Ok(()) => self.count.clean_end(),
+            Err(Stop::Fault(fault)) => self.count.failed_end(Cause::Fault(fault)),
             Err(Stop::Memory) => return Err(AllocError),
         };
         self.stopped = Some(Stopped::Ended(end));
@@ -166,72 +208,68 @@ impl<'t> Session<'t> {
         self.rejected.as_ref()
     }
 
-    /// How many items were taken of a stream that has not ended.
+    // How many items were taken of a stream that has not ended.
     pub(crate) fn items(&self) -> u64
         ensures { self.now.stopped ≡ None → result ≡ length self.now.taken }
     {
-        self.items
+        self.count.items
     }
 
-    /// The item that does not match, exactly where the session has ended by that.
+    // The item that does not match, exactly where the session has ended by that.
     pub(crate) fn into_rejected(self) -> Option<Sound>
         ensures { IsLent self.entry.stopped self.entry result }
     {
         self.rejected
     }
 
-    /// Takes the piece as far as the end of an item, which it appends.
+    // Takes the piece as far as the end of an item, which it appends.
     pub(crate) fn feed_one(
         &mut self,
         piece: &[u8],
         out: &mut Vec<Sound>,
-    ) -> Result<Step, AllocError>
-        ensures { IsStepAnswer self.old.stopped self.old piece.now out.old.items result self.new out.new.items }
+    ) -> Result<Advance, AllocError>
+        ensures { IsAdvanceAnswer self.old.stopped self.old piece.now out.old.items result self.new out.new.items }
     {
         match self.stopped {
-            Some(Stopped::Ended(end)) => return Ok(Step::Ended(end)),
-            Some(Stopped::Memory) => return Err(AllocError),
-            None => {}
+            Some(Stopped::Ended(end)) => Ok(Advance::Ended(end)),
+            Some(Stopped::Memory) => Err(AllocError),
+            None => self.take_next(piece, out),
         }
+    }
+
+    // The same for a session that has not stopped.
+    fn take_next(&mut self, piece: &[u8], out: &mut Vec<Sound>) -> Result<Advance, AllocError>
+        requires { self.old.stopped ≡ None }
+        ensures { IsAdvance self.old piece.now out.old.items result self.new out.new.items }
+    {
+        one_answer();
         match judge_next(self.alloc, self.table, self.steps, &mut self.reader, piece) {
             Ok(Judged::More) => {
                 self.fed.extend(piece);
-                self.bytes += piece.len() as u64;
-                Ok(Step::More)
+                self.count.bytes += piece.len() as u64;
+                Ok(Advance::More)
             }
             Ok(Judged::Accepted { used, item }) => {
-                let placed = Placed {
-                    offset: self.offset,
+                let found = FoundItem {
+                    offset: self.count.offset,
                     item,
                 };
-                let taken = self.taken.with(&placed);
-                if out.push(placed.item).is_err() {
+                let taken = self.taken.with(&found);
+                if out.push(found.item).is_err() {
                     self.fed.extend(piece);
                     self.stopped = Some(Stopped::Memory);
                     return Err(AllocError);
                 }
-                let offset = self.offset;
                 self.taken = taken;
                 self.fed.extend(&piece[..used]);
-                self.items += 1;
-                self.bytes += used as u64;
-                self.offset = self.bytes;
-                Ok(Step::Item {
-                    used,
-                    number: self.items,
-                    offset,
-                })
+                Ok(self.count.add_item(used))
             }
             Ok(Judged::Failed { cause, rejected }) => {
+                let end = self.count.failed_end(cause);
                 self.fed.extend(piece);
-                let end = End::Failed {
-                    items: self.items,
-                    offset: self.offset,
-                    cause,
-                };
                 self.rejected = rejected;
                 self.stopped = Some(Stopped::Ended(end));
-                Ok(Step::Ended(end))
+                Ok(Advance::Ended(end))
             }
             Err(error) => {
                 self.fed.extend(piece);

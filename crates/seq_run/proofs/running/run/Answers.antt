@@ -41,7 +41,7 @@ returns-in-Some-clause-reported g c =
 
 pub returns-in-Some-clause-read_back : goal.returns-in-Some-clause-read_back
 returns-in-Some-clause-read_back g c =
-    read_back (judge_of c.args.table.now c.args.steps) c.args.limits (g.R.Read.remaining (device_of c.args.input.now)) (g.W.Write.contents (device_of c.args.output.now)) (g.W.Write.contents (device_of c.write_bytes.new.out))
+    read_back c.written_is_read_back.ensures.freely c.decisive_end.ensures (judge_of c.args.table.now c.args.steps) c.args.limits (g.R.Read.remaining (device_of c.args.input.now)) (g.W.Write.contents (device_of c.args.output.now)) (g.W.Write.contents (device_of c.write_bytes.new.out))
     c.in-Some.end c.into_rejected.result (returns-in-Some-clause-reported g c)
 
 pub pieces-preserved : goal.pieces-preserved
