@@ -9,7 +9,7 @@ A row is one case, with these fields. Whatever it expects comes from the rules t
 from what the program printed.
 
   name                  what the row shows, in words
-  words                 the words behind the program's name. The program runs in an empty folder; SPEC names a file there
+  words                 the words after the program's name. The program runs in an empty folder; SPEC names a file there
                         with the row's specification
   spec, spec_hex        the specification: a text, or bytes in hex. Without either there is no such file
   spec_file             the same, as a file of this repository
@@ -31,7 +31,7 @@ through a pipe byte by byte, each given only once the program has taken the one 
 pieces of 1,021 bytes); 'file', as a file that is named as the last word. These fields add to that:
 
   ways                  the ways to take in place of these three
-  tells_at_once         true: also 'open', where the pipe is left open behind the stream; the program has to end by itself
+  tells_at_once         true: also 'open', where the pipe is left open after the stream; the program has to end by itself
   each_write_fails      true: also with a standard output that takes only its first k bytes, for each k below the
                         length of what has to come: exactly these k bytes come, and 'write failed after k bytes'
   after_stream          'reset': standard input is a socket, whose read fails once the stream is taken
