@@ -17,7 +17,7 @@ import os
 import re
 import sys
 
-from run_grammar import lines_of, printed, read_answers, selected, shown, text_of, write_texts
+from run_grammar import TREE, lines_of, printed, read_answers, selected, shown, text_of, write_texts
 
 BYTES_PER_RUN = 30000
 UNEXPECTED = "S10 Unexpected"
@@ -264,7 +264,7 @@ def faults_of(cases, output, wrong):
         return [wrong or f"{len(lines)} lines for {len(cases)} texts"]
     faults = []
     for (text, at), line in zip(cases, lines):
-        want = "Tree {" if at is None else f"refused: {UNEXPECTED} at byte {at}"
+        want = TREE if at is None else f"refused: {UNEXPECTED} at byte {at}"
         if line != want and not (at is None and line.startswith(want)):
             faults.append(f"{shown(text)!r}: {line[:80]}, wanted {'a tree' if at is None else want}")
     return faults

@@ -39,49 +39,15 @@ TOP = os.path.dirname(os.path.dirname(os.path.abspath(__file__)))
 SECONDS = 60
 TEXTS_PER_RUN = 50
 
-# How the nodes of a tree are told. Those with one part and no name for it are told as that part.
-FORMS = {
-    "TypeRule": "type {name} {assign} {types}",
-    "GroupRule": "group {name} {assign} {grpent}",
-    "Generic": "{opening}{parameters}{closing}",
-    "GenericParm": "{first}{others}",
-    "Parameter": "{comma} {name}",
-    "Types": "{first}{others}",
-    "Further": "{sign} {type1}",
-    "Operation": "op({left} {operator} {right})",
-    "Parens": "type{opening}{types}{closing}",
-    "MapOf": "{opening}{group}{closing}",
-    "ArrayOf": "{opening}{group}{closing}",
-    "Unwrapped": "{tilde}{name}",
-    "ChoiceOf": "{ampersand}{opening}{group}{closing}",
-    "ChoiceOfName": "{ampersand}{name}",
-    "Tagged": "{opening}{types}{closing}",
-    "TaggedBy": "{opening}{head}{angle}{paren}{types}{closing}",
-    "SimpleBy": "{opening}{head}{closing}",
-    "Applied": "{opening}{arguments}{closing}",
-    "GenericArg": "{first}{others}",
-    "Group": "{first}{others}",
-    "GrpChoice": " {slashes} {entries}",
-    "Entry": "{grpent}{comma}",
-    "Typed": "{occur}{types}",
-    "Keyed": "{occur}{key}{types}",
-    "Grouped": "{occur}group{opening}{group}{closing}",
-    "TypeKey": "key {type1} {cut}{arrow} ",
-    "Bareword": "bareword {name}{colon} ",
-    "ValueKey": "value {value}{colon} ",
-    "Token": "{text}",
-}
+TREE = "tree: "
 # The kind of token that each node of one token holds.
 LEAVES = {
     "Plain": "Name", "Name": "Name", "Hash": "Hash", "Number": "Number", "Text": "Text", "Bytes": "Bytes",
     "Range": "Range", "RangeBelow": "RangeBelow", "Control": "Control",
     "TypeIs": "Assign", "TypeOr": "TypeAssign", "GroupIs": "Assign", "GroupOr": "GroupAssign",
 }
-QUOTED = r'"((?:[^"\\]|\\.)*)"'
-PIECE = re.compile(
-    rf"(?P<text>{QUOTED})|(?P<opened>\w* ?[{{(\[])|(?P<closed>[)\]}}])|(?P<label>\w+):|(?P<word>\w+)")
-TOKEN = re.compile(rf"Token {{ kind: (\w+), start: (\d+), end: (\d+), text: {QUOTED} }}")
-LEAF = re.compile(r"(\w+)\(Token { kind: (\w+)")
+# A token in a line that the program prints: its node, where it is all of one; its kind, start, end and text.
+TOKEN = re.compile(r'\{(\w*) (\w+) (\d+) (\d+) "((?:[^"\\]|\\.)*)"\}')
 ESCAPE = re.compile(r"\\(?:u\{([0-9a-f]+)\}|(.))")
 GAP = re.compile(rb"(?:[ \t\n]|\r\n|;[^\n]*(?:\n|$))*")
 
@@ -92,49 +58,21 @@ def unescaped(text):
     return ESCAPE.sub(lambda it: chr(int(it[1], 16)) if it[1] else letters.get(it[2], it[2]), text)
 
 
-def told(name, parts):
-    """The sketch of a node from those of its parts; of a list, a list."""
-    if not name:
-        return list(parts.values())
-    if name == "Tree":
-        return parts["rules"]
-    for label, part in parts.items():
-        if isinstance(part, list):
-            parts[label] = (" | " if label in ("first", "entries") else "").join(part)
-        elif part and label in ("occur", "cut"):
-            parts[label] = f"{part} "
-    before = " " if name == "Further" and parts["sign"] == "/" else ""
-    return before + FORMS.get(name, "{part0}").format(**parts)
+def sketch_of(line):
+    """The sketch in a line: its tokens stand there as they are spelled."""
+    return TOKEN.sub(lambda it: unescaped(it[5]), line[len(TREE):])
 
 
-def rules_of(line):
-    """The sketches of the rules of a tree that is printed by {:?}."""
-    nodes, label = [("", {}, "")], ""
-    for piece in PIECE.finditer(line):
-        kind, word = piece.lastgroup, piece[piece.lastgroup]
-        if kind == "label":
-            label = word
-            continue
-        if kind == "opened":
-            nodes.append((word.rstrip(" {(["), {}, label))
-            label = ""
-            continue
-        value = "" if word == "None" else word
-        if kind == "text":
-            value = unescaped(word[1:-1])
-        if kind == "closed":
-            name, parts, label = nodes.pop()
-            value = told(name, parts)
-        above = nodes[-1][1]
-        above[label or f"part{len(above)}"] = value
-        label = ""
-    return nodes[0][1]["part0"]
+def rules_in(line):
+    """How many rules the tree of a line has."""
+    words = TOKEN.sub("", line[len(TREE):])
+    return words.count(";") + 1 if words else 0
 
 
 def is_printed_by(line, text):
-    """Whether a text is just the tokens of a tree that is printed by {:?}, with gaps between them."""
+    """Whether a text is just the tokens of a line, with gaps between them."""
     at, kind = 0, ""
-    for kind, start, end, token in TOKEN.findall(line):
+    for _, kind, start, end, token in TOKEN.findall(line):
         start, end = int(start), int(end)
         if not GAP.fullmatch(text, at, start) or text[start:end] != unescaped(token).encode():
             return False
@@ -143,8 +81,8 @@ def is_printed_by(line, text):
 
 
 def has_its_kinds(line):
-    """Whether the nodes of one token, in a tree that is printed by {:?}, hold tokens of the right kinds."""
-    return all(LEAVES.get(name) == kind for name, kind in LEAF.findall(line) if name != "Some")
+    """Whether the nodes of one token hold tokens of the right kinds."""
+    return all(LEAVES.get(node) == kind for node, kind, *_ in TOKEN.findall(line) if node)
 
 
 def joined(parts):
@@ -190,14 +128,10 @@ def fault_of(text, answer, line):
     """What is wrong with the line that came for a text; None where nothing is."""
     if line is None:
         return "no line came"
-    if not line.startswith("Tree {"):
+    if not line.startswith(TREE):
         is_wanted = line == answer and line.startswith("refused: ")
         return None if is_wanted else f"{shown(line)!r}, wanted {shown(str(answer))!r}"
-    try:
-        rules = rules_of(line)
-    except (KeyError, ValueError, IndexError, TypeError):
-        return f"no tree can be read from {shown(line)}"
-    got = len(rules) if isinstance(answer, int) else "; ".join(rules)
+    got = rules_in(line) if isinstance(answer, int) else sketch_of(line)
     if got != answer:
         return f"{shown(str(got))!r}, wanted {shown(str(answer))!r}"
     if not has_its_kinds(line):

@@ -1,20 +1,19 @@
 //! Prints the trees of the specifications on standard input: what `tests/run_grammar.py` reads.
 //!
-//! A zero byte stands behind each text; the last needs none. Each text has one line: its tree, or why it has none.
+//! A zero byte stands behind each text; the last needs none. Each text has one line: `tree: ` and the sketch of its
+//! tree, which `tests/run_grammar.py` explains, or why it has none. A token stands in a sketch as
+//! `{Node Kind start end "text"}`, without the node where it is not all of one.
 #![tactic(auto)]
 
-use cddl_parse::{parse, tokens_end};
-use cddl_token::{Refusal, tokens};
-use cddl_tree::Tree;
-use std::alloc::Global;
-use std::io::Read;
+ghost use Rattle.cddl_parse.specs.States.{EndsInEnd};
 
-/// The tree of a text.
-fn parsed<'s>(alloc: Global, text: &'s [u8]) -> Result<Tree<'s>, Refusal> {
-    tokens_end();
-    let found = tokens(alloc, text)?;
-    parse(alloc, found.as_slice())
-}
+mod sketch;
+
+use crate::sketch::{Piece, Sketch};
+use cddl_parse::{parse, tokens_end};
+use cddl_token::{Token, tokens};
+use cddl_tree::{Rule, Tree};
+use std::io::Read;
 
 /// A text without the zero byte behind it.
 fn unended(text: &[u8]) -> &[u8] {
@@ -24,18 +23,81 @@ fn unended(text: &[u8]) -> &[u8] {
     }
 }
 
+/// Prints the line of a text.
+fn print_line(rt: &HostRuntime, text: &[u8]) -> anyhow::Result<()> {
+    tokens_end();
+    match tokens(rt.alloc(), text) {
+        Ok(found) => print_answer(rt, found.as_slice()),
+        Err(refusal) => {
+            println!(rt; "{refusal}")?;
+            Ok(())
+        }
+    }
+}
+
+fn print_answer<'s>(rt: &HostRuntime, found: &'s [Token<'s>]) -> anyhow::Result<()>
+    requires { EndsInEnd found.now }
+{
+    match parse(rt.alloc(), found) {
+        Ok(tree) => {
+            let printed = print_tree(rt, &tree);
+            drop(tree);
+            printed
+        }
+        Err(refusal) => {
+            println!(rt; "{refusal}")?;
+            Ok(())
+        }
+    }
+}
+
+fn print_tree(rt: &HostRuntime, tree: &Tree<'_>) -> anyhow::Result<()> {
+    print!(rt; "tree: ")?;
+    print_rules(rt, tree.rules.as_slice())?;
+    print_token(rt, "", tree.end)?;
+    println!(rt; "")?;
+    Ok(())
+}
+
+fn print_rules(rt: &HostRuntime, rules: &[Rule<'_>]) -> anyhow::Result<()> {
+    let mut sketch = Sketch::of(rt.alloc(), rules)?;
+    for _ in 0..u64::MAX {
+        match sketch.next() {
+            None => break,
+            Some(piece) => print_piece(rt, &mut sketch, piece)?,
+        }
+    }
+    Ok(())
+}
+
+/// Prints a word or a token, and opens what is neither.
+fn print_piece<'t, 's>(
+    rt: &HostRuntime,
+    sketch: &mut Sketch<'t, 's>,
+    piece: Piece<'t, 's>,
+) -> anyhow::Result<()> {
+    match piece {
+        Piece::Word(word) => print!(rt; "{word}")?,
+        Piece::Leaf(node, token) => print_token(rt, node, token)?,
+        piece => sketch.open(piece)?,
+    }
+    Ok(())
+}
+
+fn print_token(rt: &HostRuntime, node: &str, token: &Token<'_>) -> anyhow::Result<()> {
+    let kind = token.kind;
+    let start = token.start;
+    let end = token.end;
+    let text = token.text;
+    print!(rt; "{{{node} {kind:?} {start} {end} {text:?}}}")?;
+    Ok(())
+}
+
 fn main(rt: HostRuntime) -> anyhow::Result<()> {
     let mut source = Vec::new(rt.alloc());
     rt.stdin().read_to_end(&mut source)?;
     for text in source.as_slice().split_inclusive(|byte| *byte == 0) {
-        match parsed(rt.alloc(), unended(text)) {
-            Ok(tree) => {
-                let printed = println!(rt; "{tree:?}");
-                drop(tree);
-                printed?;
-            }
-            Err(refusal) => println!(rt; "{refusal}")?,
-        }
+        print_line(&rt, unended(text))?;
     }
     Ok(())
 }

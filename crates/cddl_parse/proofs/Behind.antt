@@ -1,23 +1,23 @@
 -- What the machine does where the frames fit, in the forms that the code's steps have.
-use Rattle.std.proofs.Common.{◌≡◌, ◌≢◌, Option, Some, None, refl, sym, subst, Box, Global}
+use Rattle.std.proofs.Common.{◌≡◌, ◌≢◌, Option, Some, None, refl, sym, subst, Box, Global, Bor}
 use Rattle.cddl_token.specs.declared.Token.{Token}
 use Rattle.cddl_token.specs.declared.Kind.{Kind}
 use Rattle.cddl_token.specs.declared.Kind.TheVariants as K
-use Rattle.cddl_frames.specs.declared.frames.Home.{Home}
-use Rattle.cddl_frames.specs.declared.frames.Before.{Before}
-use Rattle.cddl_frames.specs.declared.frames.Before.TheVariants as B
-use Rattle.cddl_frames.specs.declared.frames.Arguments.{Arguments}
-use Rattle.cddl_frames.specs.declared.frames.AtType2.{AtType2}
-use Rattle.cddl_frames.specs.declared.frames.Prefix.{Prefix}
-use Rattle.cddl_frames.specs.declared.frames.TypeOpening.{TypeOpening}
+use Rattle.cddl_parse.specs.declared.frames.Home.{Home}
+use Rattle.cddl_parse.specs.declared.frames.Before.{Before}
+use Rattle.cddl_parse.specs.declared.frames.Before.TheVariants as B
+use Rattle.cddl_parse.specs.declared.frames.Arguments.{Arguments}
+use Rattle.cddl_parse.specs.declared.frames.AtType2.{AtType2}
+use Rattle.cddl_parse.specs.declared.frames.Prefix.{Prefix}
+use Rattle.cddl_parse.specs.declared.frames.TypeOpening.{TypeOpening}
 use Rattle.cddl_tree.specs.declared.tree.RuleName.{RuleName}
-use Rattle.cddl_frames.specs.declared.frames.Frame.{Frame}
-use Rattle.cddl_frames.specs.declared.frames.Frame.TheVariants as F
+use Rattle.cddl_parse.specs.declared.frames.Frame.{Frame}
+use Rattle.cddl_parse.specs.declared.frames.Frame.TheVariants as F
 use Rattle.cddl_tree.specs.declared.tree.Types.{Types}
 use Rattle.cddl_syntax.specs.Syntax as S
 use Rattle.cddl_syntax.specs.Machine as M
-use Rattle.cddl_tree.specs.View.{view_types}
-use Rattle.cddl_frames.specs.Frames.{on, made, Below, nowhere, types, reference, entry, group, as_types, as_entry, as_group, as_argument, as_reference, view_home, view_at_type2, view_arguments, view_alternatives, view_entries, view_prefix, view_type_opening, view_group_opening, type1_at, inside_at, within_at, reference_at, in_entry_at, member_at, above}
+use Rattle.cddl_tree.specs.View.{leaf, view_types}
+use Rattle.cddl_parse.specs.Frames.{on, made, Below, nowhere, types, reference, entry, group, as_types, as_entry, as_group, as_argument, as_reference, view_home, view_at_type2, view_arguments, view_alternatives, view_entries, view_prefix, view_type_opening, view_group_opening, type1_at, inside_at, within_at, reference_at, in_entry_at, member_at, above}
 
 pub on_made : {A B : Type 0} (f : A → B) (q : Option A) (P : B → Type 0) → on q (λ x. P (f x)) → on (made f q) P
 on_made f None P h = tt
@@ -34,8 +34,8 @@ type1_more_at : (q : Option M.AtTypes) (P : M.State → Type 0) (us : S.Types) (
 type1_more_at None P us s r i t h = tt
 type1_more_at (Some k) P us s r i t h = h
 
-pub type1_more : (b : Below) (h : Home) (bf : Before) (P : M.State → Type 0) (us : Box Types Global) (s : Token) (ts : S.Types) (r : S.Type1) (i : Kind) (t : Token) → bf ≡ B.Choices us s → ts ≡ S.or (view_types us.value) s r → on (view_home b h) (λ k. P (M.after_types k ts i t)) → on (type1_at b h bf) (λ k. P (M.after_type1 k r i t))
-type1_more b h bf P us s ts r i t e f g = rw e (type1_more_at (view_home b h) P (view_types us.value) s r i t (rw f at g))
+pub type1_more : (b : Below) (h : Home) (bf : Before) (P : M.State → Type 0) (us : Box Types Global) (s : Bor Token) (ts : S.Types) (r : S.Type1) (i : Kind) (t : Token) → bf ≡ B.Choices us s → ts ≡ S.or (view_types us.value) s.now r → on (view_home b h) (λ k. P (M.after_types k ts i t)) → on (type1_at b h bf) (λ k. P (M.after_type1 k r i t))
+type1_more b h bf P us s ts r i t e f g = rw e (type1_more_at (view_home b h) P (view_types us.value) s.now r i t (rw f at g))
 
 type1_argument_at : (b : Below) (P : M.State → Type 0) (a : M.ArgBefore) (x : S.GenericArg) (r : S.Type1) (i : Kind) (t : Token) → x ≡ M.arg_of a r → on (as_reference b) (λ y. P (M.after_argument y.0 y.1 y.2 x i t)) → on (as_argument b a) (λ k. P (M.after_type1 k r i t))
 type1_argument_at nowhere P a x r i t e h = tt
@@ -68,7 +68,7 @@ pub body_ended : (b : Below) (rs : S.Rules) (n : S.RuleName) (a : Token) (ts : S
 body_ended b rs n a ts i t P e h = rw e h
 
 -- other frames are no arguments' and no type's
-pub no_reference : (rs : S.Rules) (b : Below) (f : Frame) → ((k : AtType2) (p : Prefix) (o : Token) → f ≢ F.Reference k p o) → as_reference (above rs b f) ≡ None
+pub no_reference : (rs : S.Rules) (b : Below) (f : Frame) → ((k : AtType2) (p : Prefix) (o : Bor Token) → f ≢ F.Reference k p o) → as_reference (above rs b f) ≡ None
 no_reference rs b (F.TypeBody n a) h = refl
 no_reference rs b (F.GroupBody n a) h = refl
 no_reference rs b (F.Types k o) h = shut (view_at_type2 b k) (view_type_opening o)
@@ -84,7 +84,7 @@ no_reference rs b (F.Group k o) h = shut (view_at_type2 b k) (view_group_opening
 no_reference rs b (F.Reference k p o) h = absurd (h k p o refl)
 no_reference rs b (F.Entry oc o) h = shut (as_entry b)
   where
-    shut : (q : Option M.AtEntry) → as_reference (in_entry_at q oc o) ≡ None
+    shut : (q : Option M.AtEntry) → as_reference (in_entry_at q (leaf oc) o.now) ≡ None
     shut None = refl
     shut (Some k) = refl
 no_reference rs b (F.Member before es) h = shut (as_group b) (view_alternatives before) (view_entries es.items)
@@ -93,7 +93,7 @@ no_reference rs b (F.Member before es) h = shut (as_group b) (view_alternatives 
     shut None bf es = refl
     shut (Some k) bf es = refl
 
-pub no_types : (rs : S.Rules) (b : Below) (f : Frame) → ((n : RuleName) (a : Token) → f ≢ F.TypeBody n a) → ((k : AtType2) (o : TypeOpening) → f ≢ F.Types k o) → as_types (above rs b f) ≡ None
+pub no_types : (rs : S.Rules) (b : Below) (f : Frame) → ((n : RuleName) (a : Bor Token) → f ≢ F.TypeBody n a) → ((k : AtType2) (o : TypeOpening) → f ≢ F.Types k o) → as_types (above rs b f) ≡ None
 no_types rs b (F.TypeBody n a) g h = absurd (g n a refl)
 no_types rs b (F.GroupBody n a) g h = refl
 no_types rs b (F.Types k o) g h = absurd (h k o refl)
@@ -104,12 +104,12 @@ no_types rs b (F.Group k o) g h = shut (view_at_type2 b k) (view_group_opening o
     shut (Some k) o = refl
 no_types rs b (F.Reference k p o) g h = shut (view_at_type2 b k) (view_prefix p)
   where
-    shut : (q : Option M.AtType2) (p : M.Prefix) → as_types (reference_at q p o) ≡ None
+    shut : (q : Option M.AtType2) (p : M.Prefix) → as_types (reference_at q p o.now) ≡ None
     shut None p = refl
     shut (Some k) p = refl
 no_types rs b (F.Entry oc o) g h = shut (as_entry b)
   where
-    shut : (q : Option M.AtEntry) → as_types (in_entry_at q oc o) ≡ None
+    shut : (q : Option M.AtEntry) → as_types (in_entry_at q (leaf oc) o.now) ≡ None
     shut None = refl
     shut (Some k) = refl
 no_types rs b (F.Member before es) g h = shut (as_group b) (view_alternatives before) (view_entries es.items)

@@ -1,5 +1,5 @@
 -- What the machine does behind an entry, between the rules and in the head of a rule.
-use Rattle.std.proofs.Common.{◌≡◌, ◌≢◌, List, [], ◌∷◌, ◌++◌, Option, Some, None, Result, Ok, Err, refl, sym, ap, ◌∙◌, subst, Box, Vec, Global}
+use Rattle.std.proofs.Common.{◌≡◌, ◌≢◌, List, [], ◌∷◌, ◌++◌, Option, Some, None, Result, Ok, Err, refl, sym, ap, ◌∙◌, subst, Box, Vec, Global, Bor}
 use Rattle.cddl_token.specs.declared.Token.{Token}
 use Rattle.cddl_token.specs.declared.Kind.{Kind}
 use Rattle.cddl_token.specs.declared.Kind.TheVariants as K
@@ -11,20 +11,21 @@ use Rattle.cddl_tree.specs.declared.tree.RuleName.{RuleName}
 use Rattle.cddl_tree.specs.declared.tree.AssignG.{AssignG}
 use Rattle.cddl_tree.specs.declared.tree.Rule.{Rule}
 use Rattle.cddl_tree.specs.declared.tree.Entry.{Entry}
-use Rattle.cddl_frames.specs.declared.frames.Alternatives.{Alternatives}
-use Rattle.cddl_frames.specs.declared.frames.Home.{Home}
-use Rattle.cddl_frames.specs.declared.frames.Prefix.{Prefix}
-use Rattle.cddl_frames.specs.declared.frames.Prefix.TheVariants as P
-use Rattle.cddl_frames.specs.declared.frames.Frame.{Frame}
-use Rattle.cddl_frames.specs.declared.frames.Frame.TheVariants as F
-use Rattle.cddl_frames.specs.declared.frames.Now.{Now}
-use Rattle.cddl_frames.specs.declared.frames.Now.TheVariants as N
+use Rattle.cddl_parse.specs.declared.frames.Alternatives.{Alternatives}
+use Rattle.cddl_parse.specs.declared.frames.Home.{Home}
+use Rattle.cddl_parse.specs.declared.frames.Prefix.{Prefix}
+use Rattle.cddl_parse.specs.declared.frames.Prefix.TheVariants as P
+use Rattle.cddl_parse.specs.declared.frames.Frame.{Frame}
+use Rattle.cddl_parse.specs.declared.frames.Frame.TheVariants as F
+use Rattle.cddl_parse.specs.declared.frames.Now.{Now}
+use Rattle.cddl_parse.specs.declared.frames.Now.TheVariants as N
 use Rattle.cddl_parse.specs.declared.state.State.{State}
+use Rattle.cddl_tree.specs.View.{leaf}
 use Rattle.cddl_syntax.specs.Syntax as S
 use Rattle.cddl_syntax.specs.Machine as M
 use Rattle.cddl_parse.specs.Kinds.{IsNoOperand, IsNoHead}
-use Rattle.cddl_frames.proofs.Steps.{on_all, refuses, popped, bottom}
-use Rattle.cddl_frames.specs.Frames.{on, made, Below, nowhere, as_entry, view_home, view_at_type2, view_prefix, view_type_opening, view_group_opening, inside_at, within_at, reference_at, in_entry_at, above, below, view_now, Comes, Refused}
+use Rattle.cddl_parse.proofs.Steps.{on_all, refuses, popped, bottom}
+use Rattle.cddl_parse.specs.Frames.{on, made, Below, nowhere, as_entry, view_home, view_at_type2, view_prefix, view_type_opening, view_group_opening, inside_at, within_at, reference_at, in_entry_at, above, below, view_now, Comes, Refused}
 use Rattle.cddl_parse.proofs.Behind.{on_made}
 use Rattle.cddl_parse.specs.States.{view_rules, view_state, BeginsBody, GivesState}
 
@@ -88,7 +89,7 @@ want_ends k i t h n1 n2 n3 n4 n5 = refl
 
 -- Where a reference is awaited.
 
-pub no_choice : (k : M.AtType2) (p : Prefix) (t : Token) → ((a : Token) → p ≢ P.Ampersand a) → M.open_choice k (view_prefix p) t ≡ M.stuck
+pub no_choice : (k : M.AtType2) (p : Prefix) (t : Token) → ((a : Bor Token) → p ≢ P.Ampersand a) → M.open_choice k (view_prefix p) t ≡ M.stuck
 no_choice k P.Bare t e = refl
 no_choice k (P.Tilde u) t e = refl
 no_choice k (P.Ampersand a) t e = absurd (e a refl)
@@ -114,12 +115,12 @@ other_entry rs b (F.Group k o) g h = shut (view_at_type2 b k) (view_group_openin
     shut (Some k) o = refl
 other_entry rs b (F.Reference k p o) g h = shut (view_at_type2 b k) (view_prefix p)
   where
-    shut : (q : Option M.AtType2) (p : M.Prefix) → as_entry (reference_at q p o) ≡ None
+    shut : (q : Option M.AtType2) (p : M.Prefix) → as_entry (reference_at q p o.now) ≡ None
     shut None p = refl
     shut (Some k) p = refl
 other_entry rs b (F.Entry oc o) g h = shut (as_entry b)
   where
-    shut : (q : Option M.AtEntry) → as_entry (in_entry_at q oc o) ≡ None
+    shut : (q : Option M.AtEntry) → as_entry (in_entry_at q (leaf oc) o.now) ≡ None
     shut None = refl
     shut (Some k) = refl
 other_entry rs b (F.Member bf es) g h = absurd (h bf es refl)

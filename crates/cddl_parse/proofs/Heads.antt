@@ -6,7 +6,7 @@ use Rattle.cddl_token.specs.declared.Kind.TheVariants as K
 use Rattle.cddl_syntax.specs.Syntax as S
 use Rattle.cddl_syntax.specs.Machine as M
 use Rattle.cddl_parse.specs.Kinds.{IsNoOperator}
-use Rattle.cddl_frames.specs.Frames.{on, made, Below, entry, as_entry, member_at, IsChoice}
+use Rattle.cddl_parse.specs.Frames.{on, made, Below, entry, as_entry, member_at, IsChoice}
 
 -- Behind a type at the head of an entry.
 

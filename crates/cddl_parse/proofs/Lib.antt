@@ -1,6 +1,12 @@
-pub mod Adding
-pub mod Behind
-pub mod Bodies
-pub mod Ending
-pub mod Heads
-pub mod Whole
+mod Adding
+mod Behind
+mod Bodies
+mod Closing
+mod Contents
+mod Elsewhere
+mod Ending
+mod Ends
+mod Heads
+mod Pushing
+mod Steps
+mod Whole

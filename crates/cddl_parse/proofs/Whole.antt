@@ -13,9 +13,9 @@ use Rattle.cddl_syntax.specs.Machine as M
 use Rattle.cddl_syntax.specs.Answers.{lexeme, lexemes, Prints, Begins, nesting_limit, opened, open_after, deepest, IsTreeOf, Reaches, IsUnexpected, IsTooNested, IsRefused}
 use Rattle.cddl_tree.specs.declared.tree.Tree.{Tree}
 use Rattle.cddl_tree.specs.View.{view}
-use Rattle.cddl_frames.specs.declared.frames.Now.{Now}
-use Rattle.cddl_frames.specs.declared.frames.Now.TheVariants as N
-use Rattle.cddl_frames.specs.Frames.{on, made, Below, below, as_entry, view_at_type1, view_at_type2, view_now}
+use Rattle.cddl_parse.specs.declared.frames.Now.{Now}
+use Rattle.cddl_parse.specs.declared.frames.Now.TheVariants as N
+use Rattle.cddl_parse.specs.Frames.{on, made, Below, below, as_entry, view_at_type1, view_at_type2, view_now}
 use Rattle.cddl_parse.specs.declared.state.State.{State}
 use Rattle.cddl_parse.specs.declared.state.State.TheVariants as St
 use Rattle.cddl_parse.specs.declared.state.Progress.{Progress}

@@ -1,5 +1,5 @@
 -- What a state of the parser stands for.
-use Rattle.cddl_frames.specs.Frames.{made, below, view_parameters, view_now, Refused}
+use Rattle.cddl_parse.specs.Frames.{made, below, view_parameters, view_now, Refused}
 use Rattle.std.specs.Prelude.{◌≡◌, ◌≤◌, List, [], ◌∷◌, ◌++◌, Option, Some, None, Result, Ok, Err}
 use Rattle.cddl_token.specs.declared.Token.{Token}
 use Rattle.cddl_token.specs.declared.Kind.TheVariants.{End}
@@ -20,8 +20,8 @@ view_rules rs = with_rules S.no_rules rs
 
 abbrev pub view_state : State → Option M.State
 view_state St.Begin = Some M.begin
-view_state (St.WantParm rs o before) = Some (M.awaits_parm (view_rules rs.items) o (view_parameters before))
-view_state (St.HaveParm rs o p) = Some (M.have_parm (view_rules rs.items) o (view_parm p))
+view_state (St.WantParm rs o before) = Some (M.awaits_parm (view_rules rs.items) o.now (view_parameters before))
+view_state (St.HaveParm rs o p) = Some (M.have_parm (view_rules rs.items) o.now (view_parm p))
 view_state (St.WantAssign rs n) = Some (M.awaits_assign (view_rules rs.items) (view_name n))
 view_state (St.Body rs fs now) = view_now (below (view_rules rs.items) fs.items) now.value
 view_state (St.Done t) = Some (M.done (view t))

@@ -42,10 +42,10 @@ fn opened(kind: Kind, count: usize) -> usize
 fn advance<'s>(
     alloc: Global,
     progress: Progress<'s>,
-    token: Token<'s>,
+    token: &'s Token<'s>,
 ) -> Result<Progress<'s>, Refusal>
     requires { progress.count < 129 }
-    ensures { (ts : List Token) → Stands progress.entry ts → Advances ts token.entry result }
+    ensures { (ts : List Token) → Stands progress.entry ts → Advances ts token.now result }
 {
     goes_on();
     is_stuck();
@@ -90,7 +90,7 @@ pub fn tokens_end()
 /// offset of the first opening token that has [`NESTING_LIMIT`] others open around it. `Memory`
 /// where a growth was refused.
 #[tactic(auto)]
-pub fn parse<'s>(alloc: Global, tokens: &[Token<'s>]) -> Result<Tree<'s>, Refusal>
+pub fn parse<'s>(alloc: Global, tokens: &'s [Token<'s>]) -> Result<Tree<'s>, Refusal>
     // The last token is the source's end.
     requires { EndsInEnd tokens.now }
     // The tree's tokens are these, and it nests within the limit.
@@ -110,7 +110,7 @@ pub fn parse<'s>(alloc: Global, tokens: &[Token<'s>]) -> Result<Tree<'s>, Refusa
         count: 0,
     };
     for token in tokens {
-        progress = match advance(alloc, progress, *token) {
+        progress = match advance(alloc, progress, token) {
             Ok(next) => next,
             Err(refusal) => return Err(refusal),
         };

@@ -1,21 +1,24 @@
 //! What a token does between the rules and in the head of a rule.
 ghost use Rattle.std.specs.Prelude.{◌≡◌, MatchResult};
 ghost use Rattle.cddl_syntax.specs.Machine as M;
-ghost use Rattle.cddl_frames.specs.Frames.{on, nowhere, above, below, view_home, view_now, Gives};
-ghost use Rattle.cddl_parse.specs.States.{view_rules, view_state, BeginsBody, GivesState};
-ghost use Rattle.cddl_tree.specs.View.{view_name, view_parm};
+ghost use Rattle.cddl_tree.specs.View.{view_parm, view_name};
+ghost use Rattle.cddl_parse.specs.Frames.{nowhere, on, view_home, above, below, view_now, Gives};
+ghost use Rattle.cddl_parse.specs.States.{view_rules, view_state, GivesState, BeginsBody};
 
-use crate::entries::step_body;
+use crate::body::step_body;
+use crate::build::{parm_of, unexpected};
+use crate::frames::{Frame, Home, Now, Parameters};
+use crate::memory::{boxed, pushed};
+use crate::places::type_at;
 use crate::state::State;
-use cddl_frames::{Frame, Home, Now, Parameters, parm_of, type_at, unexpected};
 use cddl_token::{Kind, Refusal, Token};
 use cddl_tree::{AssignG, GenericParm, Rule, RuleName, Tree};
 use std::alloc::Global;
 
 /// A token behind whole rules.
 #[tactic(none)]
-pub(crate) fn next_rule<'s>(rules: Vec<Rule<'s>>, token: Token<'s>) -> Result<State<'s>, Refusal>
-    ensures { GivesState token.entry result (M.next_rule (view_rules rules.entry.items) token.entry.kind token.entry) }
+fn next_rule<'s>(rules: Vec<Rule<'s>>, token: &'s Token<'s>) -> Result<State<'s>, Refusal>
+    ensures { GivesState token.now result (M.next_rule (view_rules rules.entry.items) token.now.kind token.now) }
 {
     match token.kind {
         Kind::Name => Ok(State::WantAssign(rules, RuleName::Plain(token))),
@@ -30,13 +33,13 @@ pub(crate) fn next_rule<'s>(rules: Vec<Rule<'s>>, token: Token<'s>) -> Result<St
 
 /// A token behind a parameter.
 #[tactic(none)]
-pub(crate) fn after_parm<'s>(
+fn after_parm<'s>(
     rules: Vec<Rule<'s>>,
-    opening: Token<'s>,
+    opening: &'s Token<'s>,
     parameters: GenericParm<'s>,
-    token: Token<'s>,
+    token: &'s Token<'s>,
 ) -> Result<State<'s>, Refusal>
-    ensures { GivesState token.entry result (M.after_parm (view_rules rules.entry.items) opening.entry (view_parm parameters.entry) token.entry.kind token.entry) }
+    ensures { GivesState token.now result (M.after_parm (view_rules rules.entry.items) opening.now (view_parm parameters.entry) token.now.kind token.now) }
 {
     match token.kind {
         Kind::Comma => {
@@ -62,13 +65,13 @@ pub(crate) fn after_parm<'s>(
 
 /// An assignment, or what stands in its place.
 #[tactic(none)]
-pub(crate) fn assigned<'s>(
+fn assigned<'s>(
     alloc: Global,
     rules: Vec<Rule<'s>>,
     name: RuleName<'s>,
-    token: Token<'s>,
+    token: &'s Token<'s>,
 ) -> Result<State<'s>, Refusal>
-    ensures { GivesState token.entry result (M.assigned (view_rules rules.entry.items) (view_name name.entry) token.entry.kind token.entry) }
+    ensures { GivesState token.now result (M.assigned (view_rules rules.entry.items) (view_name name.entry) token.now.kind token.now) }
 {
     match token.kind {
         Kind::Assign => {
@@ -93,7 +96,7 @@ pub(crate) fn assigned<'s>(
 
 /// Begins the body of a rule, whose head is the frame.
 #[tactic(none)]
-pub(crate) fn begin_body<'s>(
+fn begin_body<'s>(
     alloc: Global,
     rules: Vec<Rule<'s>>,
     frame: Frame<'s>,
@@ -102,7 +105,7 @@ pub(crate) fn begin_body<'s>(
     ensures { BeginsBody result (view_home (above (view_rules rules.entry.items) nowhere frame.entry) home.entry) }
 {
     let mut frames = Vec::new(alloc);
-    match frames.push(frame) {
+    match pushed(&mut frames, frame) {
         Ok(()) => in_body(alloc, rules, frames, Now::Want(type_at(home))),
         Err(error) => {
             drop(error);
@@ -116,7 +119,7 @@ pub(crate) fn begin_body<'s>(
 
 /// The state within a rule's body.
 #[tactic(none)]
-pub(crate) fn in_body<'s>(
+fn in_body<'s>(
     alloc: Global,
     rules: Vec<Rule<'s>>,
     frames: Vec<Frame<'s>>,
@@ -124,7 +127,7 @@ pub(crate) fn in_body<'s>(
 ) -> Result<State<'s>, Refusal>
     ensures { MatchResult result (λ s. view_state s ≡ view_now (below (view_rules rules.entry.items) frames.entry.items) now.entry) (λ e. e ≡ Refusal.Memory) }
 {
-    match Box::new(alloc, now) {
+    match boxed(alloc, now) {
         Ok(now) => Ok(State::Body(rules, frames, now)),
         Err(error) => {
             drop(error);
@@ -137,21 +140,21 @@ pub(crate) fn in_body<'s>(
 
 /// The state behind a token of a rule's body.
 #[tactic(none)]
-pub(crate) fn after_body<'s>(
+fn after_body<'s>(
     alloc: Global,
     rules: Vec<Rule<'s>>,
     frames: Vec<Frame<'s>>,
     now: Result<Now<'s>, Refusal>,
-    token: Token<'s>,
+    token: &'s Token<'s>,
 ) -> Result<State<'s>, Refusal>
-    ensures { (m : M.State) → Gives token.entry (view_rules rules.entry.items) (below (view_rules rules.entry.items) frames.entry.items) now.entry m → GivesState token.entry result m }
+    ensures { (m : M.State) → Gives token.now (view_rules rules.entry.items) (below (view_rules rules.entry.items) frames.entry.items) now.entry m → GivesState token.now result m }
 {
     match now {
         Ok(now) => match now {
             Now::Ended(rule) => {
                 drop(frames);
                 let mut rules = rules;
-                match rules.push(Box::into_inner(rule)) {
+                match pushed(&mut rules, Box::into_inner(rule)) {
                     Ok(()) => next_rule(rules, token),
                     Err(error) => {
                         drop(error);
@@ -175,9 +178,9 @@ pub(crate) fn after_body<'s>(
 pub(crate) fn step<'s>(
     alloc: Global,
     state: State<'s>,
-    token: Token<'s>,
+    token: &'s Token<'s>,
 ) -> Result<State<'s>, Refusal>
-    ensures { on (view_state state.entry) (λ m. GivesState token.entry result (M.step m token.entry.kind token.entry)) }
+    ensures { on (view_state state.entry) (λ m. GivesState token.now result (M.step m token.now.kind token.now)) }
 {
     match state {
         State::Begin => next_rule(Vec::new(alloc), token),

@@ -1,5 +1,5 @@
 //! Where the parser is between two tokens.
-use cddl_frames::{Frame, Now, Parameters};
+use crate::frames::{Frame, Now, Parameters};
 use cddl_token::Token;
 use cddl_tree::{GenericParm, Rule, RuleName, Tree};
 
@@ -8,8 +8,8 @@ use cddl_tree::{GenericParm, Rule, RuleName, Tree};
 pub(crate) enum State<'s> {
     Begin,
     /// The name of a parameter is awaited.
-    WantParm(Vec<Rule<'s>>, Token<'s>, Option<Parameters<'s>>),
-    HaveParm(Vec<Rule<'s>>, Token<'s>, GenericParm<'s>),
+    WantParm(Vec<Rule<'s>>, &'s Token<'s>, Option<Parameters<'s>>),
+    HaveParm(Vec<Rule<'s>>, &'s Token<'s>, GenericParm<'s>),
     /// An assignment is awaited.
     WantAssign(Vec<Rule<'s>>, RuleName<'s>),
     Body(Vec<Rule<'s>>, Vec<Frame<'s>>, Box<Now<'s>>),

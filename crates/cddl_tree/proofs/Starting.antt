@@ -25,7 +25,7 @@ with_arguments_start t (x ∷ xs) n h = with_arguments_start (S.arguments t x.0 
 
 with_parameters_start : (t : S.GenericParm) (xs : List Parameter) (n : ℕ) → StartsAt (S.flat_parm t) n → StartsAt (S.flat_parm (with_parameters t xs)) n
 with_parameters_start t [] n h = h
-with_parameters_start t (x ∷ xs) n h = with_parameters_start (S.parameters t x.comma x.name) xs n (starts_append (S.flat_parm t) _ n h)
+with_parameters_start t (x ∷ xs) n h = with_parameters_start (S.parameters t x.comma.now x.name.now) xs n (starts_append (S.flat_parm t) _ n h)
 
 pub types_start : (t : Types) (n : ℕ) → StartsAt (S.flat_type1 (view_type1 (out-Types t).first)) n → StartsAt (S.flat_types (view_types t)) n
 types_start t n h = subst (λ (x : S.Types). StartsAt (S.flat_types x) n) (sym (view_out-Types t)) (with_types_start (S.only (view_type1 (out-Types t).first)) (map view_further (out-Types t).others.items) n h)
@@ -33,8 +33,8 @@ types_start t n h = subst (λ (x : S.Types). StartsAt (S.flat_types x) n) (sym (
 pub arg_start : (t : GenericArg) (n : ℕ) → StartsAt (S.flat_type1 (view_type1 (out-GenericArg t).first)) n → StartsAt (S.flat_arg (view_arg t)) n
 arg_start t n h = subst (λ (x : S.GenericArg). StartsAt (S.flat_arg x) n) (sym (view_out-GenericArg t)) (with_arguments_start (S.argument (view_type1 (out-GenericArg t).first)) (map view_further (out-GenericArg t).others.items) n h)
 
-pub parm_start : (p : GenericParm) (n : ℕ) → n ≡ p.first.start → StartsAt (S.flat_parm (view_parm p)) n
-parm_start p n h = with_parameters_start (S.parameter p.first) p.others.items n h
+pub parm_start : (p : GenericParm) (n : ℕ) → n ≡ p.first.now.start → StartsAt (S.flat_parm (view_parm p)) n
+parm_start p n h = with_parameters_start (S.parameter p.first.now) p.others.items n h
 
 pub operation_start : (x : S.Type2) (o : S.Operator) (y : S.Type2) (n : ℕ) → StartsAt (S.flat_type2 x) n → StartsAt (S.flat_type1 (S.operation x o y)) n
 operation_start x o y n h = starts_append (S.flat_type2 x) (S.flat_operator o ∷ S.flat_type2 y) n h

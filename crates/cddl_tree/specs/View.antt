@@ -1,5 +1,6 @@
 -- What a tree of the code stands for.
-use Rattle.std.specs.Prelude.{◌≡◌, ℕ, List, [], ◌∷◌, Option}
+use Rattle.std.specs.Prelude.{◌≡◌, ℕ, List, [], ◌∷◌, Option, Some, None}
+use Rattle.std.specs.Borrow.{Bor}
 use Rattle.cddl_token.specs.declared.Token.{Token}
 use Rattle.cddl_tree.specs.declared.tree.GrpEnt.{GrpEnt}
 use Rattle.cddl_tree.specs.declared.tree.MemberKey.{MemberKey}
@@ -31,15 +32,20 @@ use Rattle.cddl_tree.specs.declared.tree.GrpEnt.TheFolds.{fold-GrpEnt, fold-Memb
 use Rattle.cddl_tree.specs.declared.tree.GrpEnt.TheOpen.{GrpEnt-F, MemberKey-F, Ref-F, Type1-F, Type2-F, Entry-F, Further-F, GenericArg-F, Group-F, GrpChoice-F, Types-F}
 use Rattle.cddl_syntax.specs.Syntax as S
 
+-- the token of a leaf that may be missing
+abbrev pub leaf : Option (Bor Token) → Option Token
+leaf None = None
+leaf (Some t) = Some t.now
+
 abbrev pub view_value : Value → S.Value
-view_value (ValueV.Number t) = S.number t
-view_value (ValueV.Text t) = S.text t
-view_value (ValueV.Bytes t) = S.bytes t
+view_value (ValueV.Number t) = S.number t.now
+view_value (ValueV.Text t) = S.text t.now
+view_value (ValueV.Bytes t) = S.bytes t.now
 
 abbrev pub view_operator : Operator → S.Operator
-view_operator (OperatorV.Range t) = S.range t
-view_operator (OperatorV.RangeBelow t) = S.range_below t
-view_operator (OperatorV.Control t) = S.control t
+view_operator (OperatorV.Range t) = S.range t.now
+view_operator (OperatorV.RangeBelow t) = S.range_below t.now
+view_operator (OperatorV.Control t) = S.control t.now
 
 -- a choice with further ones
 abbrev pub with_types : S.Types → List (Token × S.Type1) → S.Types
@@ -61,18 +67,18 @@ with_choices g (x ∷ xs) = with_choices (S.orelse g x.0 x.1) xs
 -- What a node is made of, from what its parts stand for.
 
 abbrev pub grpent_step : GrpEnt-F S.GrpEnt S.MemberKey S.Ref S.Type1 S.Type2 (S.GrpEnt × Option Token) (Token × S.Type1) S.GenericArg S.Group (Token × S.GrpChoice) S.Types → S.GrpEnt
-grpent_step (GrpEnt-F.Typed o t) = S.typed o t
-grpent_step (GrpEnt-F.Keyed o k t) = S.keyed o k t
-grpent_step (GrpEnt-F.Grouped o p g c) = S.grouped o p g c
+grpent_step (GrpEnt-F.Typed o t) = S.typed (leaf o) t
+grpent_step (GrpEnt-F.Keyed o k t) = S.keyed (leaf o) k.value t
+grpent_step (GrpEnt-F.Grouped o p g c) = S.grouped (leaf o) p.now g c.now
 
 abbrev pub key_step : MemberKey-F S.GrpEnt S.MemberKey S.Ref S.Type1 S.Type2 (S.GrpEnt × Option Token) (Token × S.Type1) S.GenericArg S.Group (Token × S.GrpChoice) S.Types → S.MemberKey
-key_step (MemberKey-F.TypeKey r u a) = S.type_key r u a
-key_step (MemberKey-F.Bareword n c) = S.bareword n c
-key_step (MemberKey-F.ValueKey v c) = S.value_key (view_value v) c
+key_step (MemberKey-F.TypeKey r u a) = S.type_key r (leaf u) a.now
+key_step (MemberKey-F.Bareword n c) = S.bareword n.now c.now
+key_step (MemberKey-F.ValueKey v c) = S.value_key (view_value v) c.now
 
 abbrev pub ref_step : Ref-F S.GrpEnt S.MemberKey S.Ref S.Type1 S.Type2 (S.GrpEnt × Option Token) (Token × S.Type1) S.GenericArg S.Group (Token × S.GrpChoice) S.Types → S.Ref
-ref_step (Ref-F.Name t) = S.name t
-ref_step (Ref-F.Applied o a c) = S.applied o a.value c
+ref_step (Ref-F.Name t) = S.name t.now
+ref_step (Ref-F.Applied o a c) = S.applied o.now a.value c.now
 
 abbrev pub type1_step : Type1-F S.GrpEnt S.MemberKey S.Ref S.Type1 S.Type2 (S.GrpEnt × Option Token) (Token × S.Type1) S.GenericArg S.Group (Token × S.GrpChoice) S.Types → S.Type1
 type1_step (Type1-F.One x) = S.one x.value
@@ -81,22 +87,22 @@ type1_step (Type1-F.Operation x o y) = S.operation x.value (view_operator o) y.v
 abbrev pub type2_step : Type2-F S.GrpEnt S.MemberKey S.Ref S.Type1 S.Type2 (S.GrpEnt × Option Token) (Token × S.Type1) S.GenericArg S.Group (Token × S.GrpChoice) S.Types → S.Type2
 type2_step (Type2-F.Literal v) = S.literal (view_value v)
 type2_step (Type2-F.Typename r) = S.typename r
-type2_step (Type2-F.Parens o t c) = S.parens o t.value c
-type2_step (Type2-F.MapOf o g c) = S.map_of o g.value c
-type2_step (Type2-F.ArrayOf o g c) = S.array_of o g.value c
-type2_step (Type2-F.Unwrapped u r) = S.unwrapped u r
-type2_step (Type2-F.ChoiceOf a o g c) = S.choice_of a o g.value c
-type2_step (Type2-F.ChoiceOfName a r) = S.choice_of_name a r
-type2_step (Type2-F.Tagged o t c) = S.tagged o t.value c
-type2_step (Type2-F.TaggedBy o h a p t c) = S.tagged_by o h.value a p t.value c
-type2_step (Type2-F.SimpleBy o h c) = S.simple_by o h.value c
-type2_step (Type2-F.Hash t) = S.hash t
+type2_step (Type2-F.Parens o t c) = S.parens o.now t.value c.now
+type2_step (Type2-F.MapOf o g c) = S.map_of o.now g c.now
+type2_step (Type2-F.ArrayOf o g c) = S.array_of o.now g c.now
+type2_step (Type2-F.Unwrapped u r) = S.unwrapped u.now r
+type2_step (Type2-F.ChoiceOf a o g c) = S.choice_of a.now o.now g c.now
+type2_step (Type2-F.ChoiceOfName a r) = S.choice_of_name a.now r
+type2_step (Type2-F.Tagged o t c) = S.tagged o.now t.value c.now
+type2_step (Type2-F.TaggedBy o h a p t c) = S.tagged_by o.now h.value a.now p.now t.value c.now
+type2_step (Type2-F.SimpleBy o h c) = S.simple_by o.now h.value c.now
+type2_step (Type2-F.Hash t) = S.hash t.now
 
 abbrev pub entry_step : Entry-F S.GrpEnt S.MemberKey S.Ref S.Type1 S.Type2 (S.GrpEnt × Option Token) (Token × S.Type1) S.GenericArg S.Group (Token × S.GrpChoice) S.Types → S.GrpEnt × Option Token
-entry_step e = (e.grpent, e.comma)
+entry_step e = (e.grpent, leaf e.comma)
 
 abbrev pub further_step : Further-F S.GrpEnt S.MemberKey S.Ref S.Type1 S.Type2 (S.GrpEnt × Option Token) (Token × S.Type1) S.GenericArg S.Group (Token × S.GrpChoice) S.Types → Token × S.Type1
-further_step x = (x.sign, x.type1)
+further_step x = (x.sign.now, x.type1)
 
 abbrev pub arg_step : GenericArg-F S.GrpEnt S.MemberKey S.Ref S.Type1 S.Type2 (S.GrpEnt × Option Token) (Token × S.Type1) S.GenericArg S.Group (Token × S.GrpChoice) S.Types → S.GenericArg
 arg_step a = with_arguments (S.argument a.first) a.others.items
@@ -105,7 +111,7 @@ abbrev pub group_step : Group-F S.GrpEnt S.MemberKey S.Ref S.Type1 S.Type2 (S.Gr
 group_step g = with_choices (S.sole (with_entries S.no_entries g.first.items)) g.others.items
 
 abbrev pub choice_step : GrpChoice-F S.GrpEnt S.MemberKey S.Ref S.Type1 S.Type2 (S.GrpEnt × Option Token) (Token × S.Type1) S.GenericArg S.Group (Token × S.GrpChoice) S.Types → Token × S.GrpChoice
-choice_step c = (c.slashes, with_entries S.no_entries c.entries.items)
+choice_step c = (c.slashes.now, with_entries S.no_entries c.entries.items)
 
 abbrev pub types_step : Types-F S.GrpEnt S.MemberKey S.Ref S.Type1 S.Type2 (S.GrpEnt × Option Token) (Token × S.Type1) S.GenericArg S.Group (Token × S.GrpChoice) S.Types → S.Types
 types_step t = with_types (S.only t.first) t.others.items
@@ -147,22 +153,22 @@ view_types = fold-Types S.GrpEnt S.MemberKey S.Ref S.Type1 S.Type2 (S.GrpEnt × 
 
 abbrev pub with_parameters : S.GenericParm → List Parameter → S.GenericParm
 with_parameters p [] = p
-with_parameters p (x ∷ xs) = with_parameters (S.parameters p x.comma x.name) xs
+with_parameters p (x ∷ xs) = with_parameters (S.parameters p x.comma.now x.name.now) xs
 
 abbrev pub view_parm : GenericParm → S.GenericParm
-view_parm p = with_parameters (S.parameter p.first) p.others.items
+view_parm p = with_parameters (S.parameter p.first.now) p.others.items
 
 abbrev pub view_name : RuleName → S.RuleName
-view_name (RuleNameV.Plain t) = S.plain t
-view_name (RuleNameV.Generic o p c) = S.generic o (view_parm p) c
+view_name (RuleNameV.Plain t) = S.plain t.now
+view_name (RuleNameV.Generic o p c) = S.generic o.now (view_parm p) c.now
 
 abbrev pub view_assignt : AssignT → S.AssignT
-view_assignt (AssignTV.TypeIs t) = S.type_is t
-view_assignt (AssignTV.TypeOr t) = S.type_or t
+view_assignt (AssignTV.TypeIs t) = S.type_is t.now
+view_assignt (AssignTV.TypeOr t) = S.type_or t.now
 
 abbrev pub view_assigng : AssignG → S.AssignG
-view_assigng (AssignGV.GroupIs t) = S.group_is t
-view_assigng (AssignGV.GroupOr t) = S.group_or t
+view_assigng (AssignGV.GroupIs t) = S.group_is t.now
+view_assigng (AssignGV.GroupOr t) = S.group_or t.now
 
 abbrev pub view_rule : Rule → S.Rule
 view_rule (RuleV.TypeRule n a t) = S.type_rule (view_name n) (view_assignt a) (view_types t)
@@ -173,7 +179,7 @@ with_rules rs [] = rs
 with_rules rs (r ∷ more) = with_rules (S.rules rs (view_rule r)) more
 
 abbrev pub view : Tree → S.Cddl
-view t = S.cddl (with_rules S.no_rules t.rules.items) t.end
+view t = S.cddl (with_rules S.no_rules t.rules.items) t.end.now
 
 -- the first of the tokens begins there
 abbrev pub StartsAt : List S.Lexeme → ℕ → Type 0

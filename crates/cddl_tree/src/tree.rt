@@ -1,27 +1,27 @@
 use cddl_token::Token;
 
 /// value: a literal.
-#[derive(Clone, Copy, Debug)]
+#[derive(Clone, Copy)]
 pub enum Value<'s> {
-    Number(Token<'s>),
-    Text(Token<'s>),
-    Bytes(Token<'s>),
+    Number(&'s Token<'s>),
+    Text(&'s Token<'s>),
+    Bytes(&'s Token<'s>),
 }
 
 /// rangeop or ctlop: what stands between two operands.
-#[derive(Clone, Copy, Debug)]
+#[derive(Clone, Copy)]
 pub enum Operator<'s> {
     /// `..`, with both ends.
-    Range(Token<'s>),
+    Range(&'s Token<'s>),
     /// `...`, without the upper end.
-    RangeBelow(Token<'s>),
+    RangeBelow(&'s Token<'s>),
     /// A control, as `.size`.
-    Control(Token<'s>),
+    Control(&'s Token<'s>),
 }
 
 /// type: a choice of one type1 or more.
 #[cycle(tree)]
-#[derive(Debug, Drop)]
+#[derive(Drop)]
 pub struct Types<'s> {
     pub first: Type1<'s>,
     /// The others, each behind its `/`.
@@ -30,16 +30,16 @@ pub struct Types<'s> {
 
 /// A further type1 and the sign before it.
 #[cycle(tree)]
-#[derive(Debug, Drop)]
+#[derive(Drop)]
 pub struct Further<'s> {
     /// `/` in a type, `,` in a genericarg.
-    pub sign: Token<'s>,
+    pub sign: &'s Token<'s>,
     pub type1: Type1<'s>,
 }
 
 /// type1: an operand, or two and what stands between them.
 #[cycle(tree)]
-#[derive(Debug, Drop)]
+#[derive(Drop)]
 pub enum Type1<'s> {
     One(Box<Type2<'s>>),
     Operation {
@@ -51,86 +51,86 @@ pub enum Type1<'s> {
 
 /// type2: an operand.
 #[cycle(tree)]
-#[derive(Debug, Drop)]
+#[derive(Drop)]
 pub enum Type2<'s> {
     Literal(Value<'s>),
     /// A typename; in an entry perhaps a groupname.
     Typename(Ref<'s>),
     /// `( type )`
     Parens {
-        opening: Token<'s>,
+        opening: &'s Token<'s>,
         types: Box<Types<'s>>,
-        closing: Token<'s>,
+        closing: &'s Token<'s>,
     },
     /// `{ group }`
     MapOf {
-        opening: Token<'s>,
-        group: Box<Group<'s>>,
-        closing: Token<'s>,
+        opening: &'s Token<'s>,
+        group: Group<'s>,
+        closing: &'s Token<'s>,
     },
     /// `[ group ]`
     ArrayOf {
-        opening: Token<'s>,
-        group: Box<Group<'s>>,
-        closing: Token<'s>,
+        opening: &'s Token<'s>,
+        group: Group<'s>,
+        closing: &'s Token<'s>,
     },
     /// `~ name`
     Unwrapped {
-        tilde: Token<'s>,
+        tilde: &'s Token<'s>,
         name: Ref<'s>,
     },
     /// `& ( group )`
     ChoiceOf {
-        ampersand: Token<'s>,
-        opening: Token<'s>,
-        group: Box<Group<'s>>,
-        closing: Token<'s>,
+        ampersand: &'s Token<'s>,
+        opening: &'s Token<'s>,
+        group: Group<'s>,
+        closing: &'s Token<'s>,
     },
     /// `& name`
     ChoiceOfName {
-        ampersand: Token<'s>,
+        ampersand: &'s Token<'s>,
         name: Ref<'s>,
     },
     /// `#6.n( type )`
     Tagged {
-        opening: Token<'s>,
+        opening: &'s Token<'s>,
         types: Box<Types<'s>>,
-        closing: Token<'s>,
+        closing: &'s Token<'s>,
     },
     /// `#6.< type > ( type )`
     TaggedBy {
-        opening: Token<'s>,
+        opening: &'s Token<'s>,
         head: Box<Types<'s>>,
-        angle: Token<'s>,
-        paren: Token<'s>,
+        angle: &'s Token<'s>,
+        paren: &'s Token<'s>,
         types: Box<Types<'s>>,
-        closing: Token<'s>,
+        closing: &'s Token<'s>,
     },
     /// `#7.< type >`
     SimpleBy {
-        opening: Token<'s>,
+        opening: &'s Token<'s>,
         head: Box<Types<'s>>,
-        closing: Token<'s>,
+        closing: &'s Token<'s>,
     },
     /// `#`, `#d` or `#d.n`
-    Hash(Token<'s>),
+    Hash(&'s Token<'s>),
 }
 
 /// A typename or groupname that is used, with its genericarg if it has one.
 #[cycle(tree)]
-#[derive(Debug, Drop)]
+#[derive(Drop)]
 pub enum Ref<'s> {
-    Name(Token<'s>),
+    Name(&'s Token<'s>),
     Applied {
-        opening: Token<'s>,
+        opening: &'s Token<'s>,
         arguments: Box<GenericArg<'s>>,
-        closing: Token<'s>,
+        closing: &'s Token<'s>,
     },
 }
 
 /// genericarg, between its angles: one type1 or more.
 #[cycle(tree)]
-#[derive(Debug, Drop)]
+#[derive(Drop)]
 pub struct GenericArg<'s> {
     pub first: Type1<'s>,
     /// The others, each behind its `,`.
@@ -139,7 +139,7 @@ pub struct GenericArg<'s> {
 
 /// group: a choice of one grpchoice or more, of which any may be empty.
 #[cycle(tree)]
-#[derive(Debug, Drop)]
+#[derive(Drop)]
 pub struct Group<'s> {
     pub first: Vec<Entry<'s>>,
     pub others: Vec<GrpChoice<'s>>,
@@ -147,110 +147,110 @@ pub struct Group<'s> {
 
 /// A further grpchoice, behind its `//`.
 #[cycle(tree)]
-#[derive(Debug, Drop)]
+#[derive(Drop)]
 pub struct GrpChoice<'s> {
-    pub slashes: Token<'s>,
+    pub slashes: &'s Token<'s>,
     pub entries: Vec<Entry<'s>>,
 }
 
 /// A grpent and its optcom.
 #[cycle(tree)]
-#[derive(Debug, Drop)]
+#[derive(Drop)]
 pub struct Entry<'s> {
     pub grpent: GrpEnt<'s>,
-    pub comma: Option<Token<'s>>,
+    pub comma: Option<&'s Token<'s>>,
 }
 
 /// grpent
 #[cycle(tree)]
-#[derive(Debug, Drop)]
+#[derive(Drop)]
 pub enum GrpEnt<'s> {
     /// A type; or a reference to a group.
     Typed {
-        occur: Option<Token<'s>>,
+        occur: Option<&'s Token<'s>>,
         types: Types<'s>,
     },
     Keyed {
-        occur: Option<Token<'s>>,
-        key: MemberKey<'s>,
+        occur: Option<&'s Token<'s>>,
+        key: Box<MemberKey<'s>>,
         types: Types<'s>,
     },
     /// `( group )` that is no type in parentheses.
     Grouped {
-        occur: Option<Token<'s>>,
-        opening: Token<'s>,
+        occur: Option<&'s Token<'s>>,
+        opening: &'s Token<'s>,
         group: Group<'s>,
-        closing: Token<'s>,
+        closing: &'s Token<'s>,
     },
 }
 
 /// memberkey
 #[cycle(tree)]
-#[derive(Debug, Drop)]
+#[derive(Drop)]
 pub enum MemberKey<'s> {
     /// `type1 =>` or `type1 ^ =>`
     TypeKey {
         type1: Type1<'s>,
-        cut: Option<Token<'s>>,
-        arrow: Token<'s>,
+        cut: Option<&'s Token<'s>>,
+        arrow: &'s Token<'s>,
     },
     /// `bareword :`
     Bareword {
-        name: Token<'s>,
-        colon: Token<'s>,
+        name: &'s Token<'s>,
+        colon: &'s Token<'s>,
     },
     /// `value :`
     ValueKey {
         value: Value<'s>,
-        colon: Token<'s>,
+        colon: &'s Token<'s>,
     },
 }
 
 /// genericparm, between its angles: one name or more.
-#[derive(Debug, Drop)]
+#[derive(Drop)]
 pub struct GenericParm<'s> {
-    pub first: Token<'s>,
+    pub first: &'s Token<'s>,
     pub others: Vec<Parameter<'s>>,
 }
 
 /// A further parameter, behind its `,`.
-#[derive(Clone, Copy, Debug)]
+#[derive(Clone, Copy)]
 pub struct Parameter<'s> {
-    pub comma: Token<'s>,
-    pub name: Token<'s>,
+    pub comma: &'s Token<'s>,
+    pub name: &'s Token<'s>,
 }
 
 /// A typename or groupname that is defined, with its genericparm if it has one.
-#[derive(Debug, Drop)]
+#[derive(Drop)]
 pub enum RuleName<'s> {
-    Plain(Token<'s>),
+    Plain(&'s Token<'s>),
     Generic {
-        opening: Token<'s>,
+        opening: &'s Token<'s>,
         parameters: GenericParm<'s>,
-        closing: Token<'s>,
+        closing: &'s Token<'s>,
     },
 }
 
 /// assignt: what makes a type rule.
-#[derive(Clone, Copy, Debug)]
+#[derive(Clone, Copy)]
 pub enum AssignT<'s> {
     /// `=`
-    TypeIs(Token<'s>),
+    TypeIs(&'s Token<'s>),
     /// `/=`
-    TypeOr(Token<'s>),
+    TypeOr(&'s Token<'s>),
 }
 
 /// assigng: what makes a group rule.
-#[derive(Clone, Copy, Debug)]
+#[derive(Clone, Copy)]
 pub enum AssignG<'s> {
     /// `=`
-    GroupIs(Token<'s>),
+    GroupIs(&'s Token<'s>),
     /// `//=`
-    GroupOr(Token<'s>),
+    GroupOr(&'s Token<'s>),
 }
 
 /// rule
-#[derive(Debug, Drop)]
+#[derive(Drop)]
 pub enum Rule<'s> {
     TypeRule {
         name: RuleName<'s>,
@@ -265,8 +265,8 @@ pub enum Rule<'s> {
 }
 
 /// cddl: the rules of a specification, and the end of its source.
-#[derive(Debug, Drop)]
+#[derive(Drop)]
 pub struct Tree<'s> {
     pub rules: Vec<Rule<'s>>,
-    pub end: Token<'s>,
+    pub end: &'s Token<'s>,
 }

@@ -3,19 +3,19 @@ use Rattle.cddl_syntax.specs.Syntax as S
 use Rattle.cddl_tree.specs.declared.tree.Rule.{Rule}
 use Rattle.cddl_tree.specs.View.{view_rule}
 use Rattle.cddl_parse.proofs.rules.after_body.Goals as goal
-use Rattle.cddl_frames.specs.Frames.{below}
+use Rattle.cddl_parse.specs.Frames.{below}
 use Rattle.cddl_parse.specs.States.{view_rules}
 use Rattle.cddl_parse.proofs.Bodies.{ended, goes_on, stays}
 use Rattle.cddl_parse.proofs.Adding.{view_rules-push}
 
-pub returns-in-Ok-push : goal.returns-in-Ok-push
-returns-in-Ok-push c m h = ended c.args.token c.next_rule.result (view_rules c.args.rules.items) (view_rules c.push.new.self.items) (view_rule c.in-Ended.rule.value) m (ap view_rules c.in-Ok-push.ensures.items ∙ view_rules-push c.args.rules.items c.into_inner.result ∙ ap (λ (r : Rule). S.rules (view_rules c.args.rules.items) (view_rule r)) c.into_inner.ensures) (rw (c.in-Ok.is, c.in-Ended.is) at h) c.next_rule.ensures
+pub returns-in-Ok-pushed : goal.returns-in-Ok-pushed
+returns-in-Ok-pushed c m h = ended c.args.token.now c.next_rule.result (view_rules c.args.rules.items) (view_rules c.pushed.new.list.items) (view_rule c.in-Ended.rule.value) m (ap view_rules c.in-Ok-pushed.ensures.items ∙ view_rules-push c.args.rules.items c.into_inner.result ∙ ap (λ (r : Rule). S.rules (view_rules c.args.rules.items) (view_rule r)) c.into_inner.ensures) (rw (c.in-Ok.is, c.in-Ended.is) at h) c.next_rule.ensures
 
-pub returns-in-Err-push : goal.returns-in-Err-push
-returns-in-Err-push c m h = tt
+pub returns-in-Err-pushed : goal.returns-in-Err-pushed
+returns-in-Err-pushed c m h = tt
 
 pub returns-in_default : goal.returns-in_default
-returns-in_default c m h = stays c.args.token c.in_body.result _ m c.in_body.ensures (goes_on c.args.token (view_rules c.args.rules.items) (below (view_rules c.args.rules.items) c.args.frames.items) c.in-Ok.now m c.in_default.not-Ended (rw c.in-Ok.is at h))
+returns-in_default c m h = stays c.args.token.now c.in_body.result _ m c.in_body.ensures (goes_on c.args.token.now (view_rules c.args.rules.items) (below (view_rules c.args.rules.items) c.args.frames.items) c.in-Ok.now m c.in_default.not-Ended (rw c.in-Ok.is at h))
 
 pub returns-in-Err : goal.returns-in-Err
 returns-in-Err c m h = rw c.in-Err.is at h

@@ -2,7 +2,7 @@ use Rattle.std.proofs.Common.{refl}
 use Rattle.cddl_parse.specs.States.{view_rules}
 use Rattle.cddl_tree.specs.View.{view_parm}
 use Rattle.cddl_parse.proofs.rules.after_parm.Goals as goal
-use Rattle.cddl_frames.proofs.Steps.{refuses}
+use Rattle.cddl_parse.proofs.Steps.{refuses}
 use Rattle.cddl_parse.proofs.Bodies.{parm_other}
 
 pub returns-in-Comma : goal.returns-in-Comma
@@ -12,4 +12,4 @@ pub returns-in-AngleClose : goal.returns-in-AngleClose
 returns-in-AngleClose c = rw c.in-AngleClose.is refl
 
 pub returns-in_default : goal.returns-in_default
-returns-in_default c = refuses c.args.token _ _ c.unexpected.ensures (parm_other (view_rules c.args.rules.items) c.args.opening (view_parm c.args.parameters) c.args.token.kind c.args.token c.in_default.not-Comma c.in_default.not-AngleClose)
+returns-in_default c = refuses c.args.token.now _ _ c.unexpected.ensures (parm_other (view_rules c.args.rules.items) c.args.opening.now (view_parm c.args.parameters) c.args.token.now.kind c.args.token.now c.in_default.not-Comma c.in_default.not-AngleClose)

@@ -1,6 +1,6 @@
 use Rattle.std.proofs.Common.{ap, refl}
 use Rattle.cddl_parse.proofs.rules.in_body.Goals as goal
-use Rattle.cddl_frames.specs.Frames.{below, view_now}
+use Rattle.cddl_parse.specs.Frames.{below, view_now}
 use Rattle.cddl_parse.specs.States.{view_rules}
 
 pub returns-in-Ok : goal.returns-in-Ok

@@ -2,31 +2,31 @@ use Rattle.std.proofs.Common.{◌≡◌, ◌∙◌, ap, refl, sym, Some}
 use Rattle.cddl_syntax.specs.Machine as M
 use Rattle.cddl_tree.specs.View.{view_name, view_parm, view}
 use Rattle.cddl_parse.proofs.rules.step.Goals as goal
-use Rattle.cddl_frames.proofs.Steps.{on_all, refuses}
-use Rattle.cddl_frames.specs.Frames.{below, view_now, view_parameters, Gives, Refused}
+use Rattle.cddl_parse.proofs.Steps.{on_all, refuses}
+use Rattle.cddl_parse.specs.Frames.{below, view_now, view_parameters, Gives, Refused}
 use Rattle.cddl_parse.proofs.Bodies.{now_at, on_through, parm_named, awaited_parm, begin_next}
 use Rattle.cddl_parse.specs.States.{view_rules, view_state, GivesState}
 
 pub returns-in-Begin : goal.returns-in-Begin
-returns-in-Begin c = now_at (view_state c.args.state) M.begin (λ (m : M.State). GivesState c.args.token c.next_rule.result (M.step m c.args.token.kind c.args.token)) (ap view_state c.in-Begin.is) (begin_next c.args.token c.next_rule.result c.new.result.items c.new.ensures.items c.next_rule.ensures)
+returns-in-Begin c = now_at (view_state c.args.state) M.begin (λ (m : M.State). GivesState c.args.token.now c.next_rule.result (M.step m c.args.token.now.kind c.args.token.now)) (ap view_state c.in-Begin.is) (begin_next c.args.token.now c.next_rule.result c.new.result.items c.new.ensures.items c.next_rule.ensures)
 
 pub returns-in-Ok : goal.returns-in-Ok
-returns-in-Ok c = now_at (view_state c.args.state) (M.awaits_parm (view_rules c.in-WantParm.rules.items) c.in-WantParm.opening (view_parameters c.in-WantParm.before)) (λ (m : M.State). Some (M.have_parm (view_rules c.in-WantParm.rules.items) c.in-WantParm.opening (view_parm c.in-Ok.parameters)) ≡ Some (M.step m c.args.token.kind c.args.token)) (ap view_state c.in-WantParm.is) (parm_named _ _ _ _ c.args.token.kind c.args.token c.in-Name.is c.in-Ok.ensures)
+returns-in-Ok c = now_at (view_state c.args.state) (M.awaits_parm (view_rules c.in-WantParm.rules.items) c.in-WantParm.opening.now (view_parameters c.in-WantParm.before)) (λ (m : M.State). Some (M.have_parm (view_rules c.in-WantParm.rules.items) c.in-WantParm.opening.now (view_parm c.in-Ok.parameters)) ≡ Some (M.step m c.args.token.now.kind c.args.token.now)) (ap view_state c.in-WantParm.is) (parm_named _ _ _ _ c.args.token.now.kind c.args.token.now c.in-Name.is c.in-Ok.ensures)
 
 pub returns-in-Err : goal.returns-in-Err
 returns-in-Err c = on_all (view_state c.args.state) _ (λ m. tt)
 
 pub returns-in_default : goal.returns-in_default
-returns-in_default c = now_at (view_state c.args.state) (M.awaits_parm (view_rules c.in-WantParm.rules.items) c.in-WantParm.opening (view_parameters c.in-WantParm.before)) (λ (m : M.State). Refused c.args.token c.unexpected.result (M.step m c.args.token.kind c.args.token)) (ap view_state c.in-WantParm.is) (refuses c.args.token _ _ c.unexpected.ensures (awaited_parm _ _ _ _ c.args.token c.in_default.not-Name))
+returns-in_default c = now_at (view_state c.args.state) (M.awaits_parm (view_rules c.in-WantParm.rules.items) c.in-WantParm.opening.now (view_parameters c.in-WantParm.before)) (λ (m : M.State). Refused c.args.token.now c.unexpected.result (M.step m c.args.token.now.kind c.args.token.now)) (ap view_state c.in-WantParm.is) (refuses c.args.token.now _ _ c.unexpected.ensures (awaited_parm _ _ _ _ c.args.token.now c.in_default.not-Name))
 
 pub returns-in-HaveParm : goal.returns-in-HaveParm
-returns-in-HaveParm c = now_at (view_state c.args.state) (M.have_parm (view_rules c.in-HaveParm.rules.items) c.in-HaveParm.opening (view_parm c.in-HaveParm.parameters)) (λ (m : M.State). GivesState c.args.token c.after_parm.result (M.step m c.args.token.kind c.args.token)) (ap view_state c.in-HaveParm.is) c.after_parm.ensures
+returns-in-HaveParm c = now_at (view_state c.args.state) (M.have_parm (view_rules c.in-HaveParm.rules.items) c.in-HaveParm.opening.now (view_parm c.in-HaveParm.parameters)) (λ (m : M.State). GivesState c.args.token.now c.after_parm.result (M.step m c.args.token.now.kind c.args.token.now)) (ap view_state c.in-HaveParm.is) c.after_parm.ensures
 
 pub returns-in-WantAssign : goal.returns-in-WantAssign
-returns-in-WantAssign c = now_at (view_state c.args.state) (M.awaits_assign (view_rules c.in-WantAssign.rules.items) (view_name c.in-WantAssign.name)) (λ (m : M.State). GivesState c.args.token c.assigned.result (M.step m c.args.token.kind c.args.token)) (ap view_state c.in-WantAssign.is) c.assigned.ensures
+returns-in-WantAssign c = now_at (view_state c.args.state) (M.awaits_assign (view_rules c.in-WantAssign.rules.items) (view_name c.in-WantAssign.name)) (λ (m : M.State). GivesState c.args.token.now c.assigned.result (M.step m c.args.token.now.kind c.args.token.now)) (ap view_state c.in-WantAssign.is) c.assigned.ensures
 
 pub returns-in-Body : goal.returns-in-Body
-returns-in-Body c = on_through (view_state c.args.state) (view_now (below (view_rules c.in-Body.rules.items) c.in-Body.frames.items) c.into_inner.result) (λ (m : M.State). Gives c.args.token (view_rules c.in-Body.rules.items) (below (view_rules c.in-Body.rules.items) c.step_body-now.new.frames.items) c.step_body-now.result (M.step m c.args.token.kind c.args.token)) (λ (m : M.State). GivesState c.args.token c.after_body.result (M.step m c.args.token.kind c.args.token)) (ap view_state c.in-Body.is ∙ ap (view_now (below (view_rules c.in-Body.rules.items) c.in-Body.frames.items)) (sym c.into_inner.ensures)) (λ m. c.after_body.ensures (M.step m c.args.token.kind c.args.token)) (c.step_body-now.ensures (view_rules c.in-Body.rules.items))
+returns-in-Body c = on_through (view_state c.args.state) (view_now (below (view_rules c.in-Body.rules.items) c.in-Body.frames.items) c.into_inner.result) (λ (m : M.State). Gives c.args.token.now (view_rules c.in-Body.rules.items) (below (view_rules c.in-Body.rules.items) c.step_body-now.new.frames.items) c.step_body-now.result (M.step m c.args.token.now.kind c.args.token.now)) (λ (m : M.State). GivesState c.args.token.now c.after_body.result (M.step m c.args.token.now.kind c.args.token.now)) (ap view_state c.in-Body.is ∙ ap (view_now (below (view_rules c.in-Body.rules.items) c.in-Body.frames.items)) (sym c.into_inner.ensures)) (λ m. c.after_body.ensures (M.step m c.args.token.now.kind c.args.token.now)) (c.step_body-now.ensures (view_rules c.in-Body.rules.items))
 
 pub returns-in-Done : goal.returns-in-Done
-returns-in-Done c = now_at (view_state c.args.state) (M.done (view c.in-Done.tree)) (λ (m : M.State). Refused c.args.token c.unexpected-in-Done.result (M.step m c.args.token.kind c.args.token)) (ap view_state c.in-Done.is) (refuses c.args.token _ _ c.unexpected-in-Done.ensures refl)
+returns-in-Done c = now_at (view_state c.args.state) (M.done (view c.in-Done.tree)) (λ (m : M.State). Refused c.args.token.now c.unexpected-in-Done.result (M.step m c.args.token.now.kind c.args.token.now)) (ap view_state c.in-Done.is) (refuses c.args.token.now _ _ c.unexpected-in-Done.ensures refl)

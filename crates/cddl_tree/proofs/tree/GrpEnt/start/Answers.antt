@@ -1,4 +1,7 @@
-use Rattle.cddl_tree.specs.View.{view_types}
+use Rattle.std.proofs.Common.{subst}
+use Rattle.cddl_syntax.specs.Syntax as S
+use Rattle.cddl_tree.specs.declared.tree.MemberKey.{MemberKey}
+use Rattle.cddl_tree.specs.View.{view_key, view_types, StartsAt}
 use Rattle.cddl_tree.proofs.Starting.{keyed_start}
 use Rattle.cddl_tree.proofs.Viewing.{views}
 use Rattle.cddl_tree.proofs.tree.GrpEnt.start.Goals as goal
@@ -13,7 +16,7 @@ pub returns-in-Some-occur : goal.returns-in-Some-occur
 returns-in-Some-occur c = simp (c.in-Keyed.is, c.in-Some-occur.is, views)
 
 pub returns-in-None-occur : goal.returns-in-None-occur
-returns-in-None-occur c = simp (c.in-Keyed.is, c.in-None-occur.is, views) (keyed_start _ (view_types c.in-Keyed.types) _ c.start-in-None-occur.ensures)
+returns-in-None-occur c = simp (c.in-Keyed.is, c.in-None-occur.is, views) (keyed_start _ (view_types c.in-Keyed.types) _ (subst (λ (x : MemberKey). StartsAt (S.flat_key (view_key x)) c.start-in-None-occur.result) c.deref.ensures c.start-in-None-occur.ensures))
 
 pub returns-in-Some-occur-2 : goal.returns-in-Some-occur-2
 returns-in-Some-occur-2 c = simp (c.in-Grouped.is, c.in-Some-occur-2.is, views)

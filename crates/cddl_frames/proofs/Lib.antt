@@ -1,6 +1,0 @@
-mod Closing
-pub mod Contents
-mod Elsewhere
-mod Ends
-mod Pushing
-pub mod Steps

@@ -1,9 +1,0 @@
-use Rattle.cddl_tree.proofs.Viewing.{view_out-GenericArg}
-use Rattle.cddl_frames.proofs.Pushing.{views}
-use Rattle.cddl_frames.proofs.build.arg_of.Goals as goal
-
-pub returns-in-None : goal.returns-in-None
-returns-in-None c = simp (c.in-None.is, views, c.new.ensures.items)
-
-pub returns-in-Ok : goal.returns-in-Ok
-returns-in-Ok c = simp (c.in-Some.is, views, c.in-Ok.ensures.items, c.into_inner-first.ensures, view_out-GenericArg)

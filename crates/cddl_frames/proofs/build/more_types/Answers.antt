@@ -1,6 +1,0 @@
-use Rattle.cddl_tree.proofs.Viewing.{view_out-Types}
-use Rattle.cddl_frames.proofs.Pushing.{views}
-use Rattle.cddl_frames.proofs.build.more_types.Goals as goal
-
-pub returns-in-Ok : goal.returns-in-Ok
-returns-in-Ok c = simp (views, c.in-Ok.ensures.items, c.into_inner-first.ensures, view_out-Types)

@@ -1,5 +1,0 @@
-use Rattle.cddl_frames.proofs.Pushing.{views}
-use Rattle.cddl_frames.proofs.build.one_type.Goals as goal
-
-pub returns : goal.returns
-returns c = simp (views, c.new.ensures.items)

@@ -1,0 +1,104 @@
+-- What the machine does where a bracket closes, where one opens, and at an entry's head.
+use Rattle.std.proofs.Common.{◌≡◌, ◌≢◌, false, Option, Some, None, refl, sym, subst}
+use Rattle.cddl_token.specs.declared.Token.{Token}
+use Rattle.cddl_token.specs.declared.Kind.{Kind}
+use Rattle.cddl_token.specs.declared.Kind.TheVariants as K
+use Rattle.cddl_syntax.specs.Syntax as S
+use Rattle.cddl_syntax.specs.Machine as M
+use Rattle.cddl_parse.specs.Frames.{on, made, Below, nowhere, types, reference, entry, group, as_types, as_entry, as_group, as_argument, as_reference, inside_at, within_at, reference_at, in_entry_at, member_at, IsElsewhere, IsChoice}
+
+-- Behind a type in brackets.
+
+pub shut_other : (k : M.AtType2) (o : M.TypeOpening) (ts : S.Types) (i : Kind) (t : Token) → i ≢ K.ParenClose → i ≢ K.AngleClose → M.shut_types k o ts i t ≡ M.stuck
+shut_other k (M.paren o) ts K.ParenClose t e f = absurd (e refl)
+shut_other k (M.tag o) ts K.ParenClose t e f = absurd (e refl)
+shut_other k (M.tag_head o) ts K.AngleClose t e f = absurd (f refl)
+shut_other k (M.tag_content o h a p) ts K.ParenClose t e f = absurd (e refl)
+shut_other k (M.simple_head o) ts K.AngleClose t e f = absurd (f refl)
+shut_other k o ts i t e f = refl
+
+-- Behind a type at the head of an entry.
+
+pub arrow_several : (p : M.AtEntry) (oc : Option Token) (ts : S.Types) (t : Token) → IsChoice ts → M.arrow p oc ts t ≡ M.stuck
+arrow_several p oc (S.only r) t h = absurd h
+arrow_several p oc (S.or ts s r) t h = refl
+
+pub colon_several : (p : M.AtEntry) (oc : Option Token) (ts : S.Types) (t : Token) → IsChoice ts → M.colon p oc ts t ≡ M.stuck
+colon_several p oc (S.only r) t h = absurd h
+colon_several p oc (S.or ts s r) t h = refl
+
+pub value_opened : (q : Option M.AtEntry) (w : Option M.AtType2) (oc : Option Token) (m n : S.MemberKey) → m ≡ n → w ≡ made (λ k. M.lower (M.head k)) (made (λ p. M.value_of p oc m) q) → on q (λ p. made M.want w ≡ Some (M.open_value p oc n))
+value_opened None w oc m n e f = tt
+value_opened (Some p) w oc m n e f = rw (f, e) refl
+
+pub arrow_taken : (q : Option M.AtEntry) (P : M.State → Type 0) (oc : Option Token) (ts : S.Types) (r : S.Type1) (m : S.MemberKey) (t : Token) → ts ≡ S.only r → m ≡ S.type_key r None t → on q (λ p. P (M.open_value p oc m)) → on q (λ p. P (M.arrow p oc ts t))
+arrow_taken None P oc ts r m t e f h = tt
+arrow_taken (Some p) P oc ts r m t e f h = rw e (rw f at h)
+
+pub colon_taken : (q : Option M.AtEntry) (P : M.State → Type 0) (oc : Option Token) (ts : S.Types) (r : S.Type1) (m : S.MemberKey) (t : Token) → ts ≡ S.only r → ((p : M.AtEntry) → M.colon p oc (S.only r) t ≡ M.open_value p oc m) → on q (λ p. P (M.open_value p oc m)) → on q (λ p. P (M.colon p oc ts t))
+colon_taken None P oc ts r m t e f h = tt
+colon_taken (Some p) P oc ts r m t e f h = rw e (subst P (sym (f p)) h)
+
+-- Behind an argument and a comma.
+
+argument_comma_at : (b : Below) (a : S.GenericArg) (t : Token) → on (as_reference b) (λ y. made M.want (made M.lower (as_argument b (M.behind_arg a t))) ≡ Some (M.after_argument y.0 y.1 y.2 a K.Comma t))
+argument_comma_at nowhere a t = tt
+argument_comma_at (types k) a t = tt
+argument_comma_at (reference k p o) a t = refl
+argument_comma_at (entry k) a t = tt
+argument_comma_at (group k) a t = tt
+
+pub argument_comma : (b : Below) (w : Option M.AtType2) (x a : S.GenericArg) (t : Token) → x ≡ a → w ≡ made M.lower (as_argument b (M.behind_arg x t)) → on (as_reference b) (λ y. made M.want w ≡ Some (M.after_argument y.0 y.1 y.2 a K.Comma t))
+argument_comma b w x a t e f = rw (f, e) (argument_comma_at b a t)
+
+-- Behind the choices of a type and a `/`.
+
+pub choice_opened : (q : Option M.AtTypes) (us ts : S.Types) (s : Token) → us ≡ ts → on q (λ k. made M.want (made M.lower (made (λ j. M.next j us s) q)) ≡ Some (M.want (M.lower (M.next k ts s))))
+choice_opened None us ts s e = tt
+choice_opened (Some k) us ts s e = rw e refl
+
+-- Where a bracket opens.
+
+pub inside_opened : (q : Option M.AtType2) (b : Below) (o : M.TypeOpening) (w : Option M.AtType2) → b ≡ inside_at q o → w ≡ made (λ k. M.lower (M.head k)) (as_types b) → on q (λ k. made M.want w ≡ Some (M.open_types (M.inside k o)))
+inside_opened None b o w e f = tt
+inside_opened (Some k) b o w e f = rw (f, e) refl
+
+pub reference_opened : (q : Option M.AtType2) (b : Below) (p : M.Prefix) (o : Token) (w : Option M.AtType2) → b ≡ reference_at q p o → w ≡ made M.lower (as_argument b M.no_arg) → on q (λ k. made M.want w ≡ Some (M.open_argument k p o M.no_arg))
+reference_opened None b p o w e f = tt
+reference_opened (Some k) b p o w e f = rw (f, e) refl
+
+pub member_opened : (q : Option M.AtGroup) (b : Below) (bf : M.Before) (es : S.GrpChoice) (w : Option M.AtType2) → b ≡ member_at q bf es → w ≡ made (λ k. M.lower (M.head k)) (made (λ p. M.start p None) (as_entry b)) → on q (λ k. made M.want w ≡ Some (M.open_entry (M.member k bf es)))
+member_opened None b bf es w e f = tt
+member_opened (Some k) b bf es w e f = rw (f, e) refl
+
+pub group_opened : (q : Option M.AtType2) (b : Below) (o : M.GroupOpening) (P : M.State → Type 0) → b ≡ within_at q o → on (as_group b) (λ k. P (M.open_entry (M.member k M.nothing S.no_entries))) → on q (λ k. P (M.open_group (M.within k o)))
+group_opened None b o P e h = tt
+group_opened (Some k) b o P e h = rw e at h
+
+pub entry_opened : (q : Option M.AtEntry) (b : Below) (oc : Option Token) (o : Token) (P : M.State → Type 0) → b ≡ in_entry_at q oc o → on (as_group b) (λ k. P (M.open_entry (M.member k M.nothing S.no_entries))) → on q (λ p. P (M.open_group (M.in_entry p oc o)))
+entry_opened None b oc o P e h = tt
+entry_opened (Some p) b oc o P e h = rw e at h
+
+-- At the head of an entry, and elsewhere.
+
+pub head_at : (q : Option M.AtType2) (e : Option M.AtEntry) (oc : Option Token) (P : M.AtType2 → Type 0) → q ≡ made (λ p. M.lower (M.head (M.start p oc))) e → on e (λ p. P (M.lower (M.head (M.start p oc)))) → on q P
+head_at q None oc P f h = rw f tt
+head_at q (Some p) oc P f h = rw f h
+
+pub open_paren_elsewhere : (k : M.AtType2) (t : Token) → IsElsewhere k → M.open_paren k t ≡ M.open_types (M.inside k (M.paren t))
+open_paren_elsewhere (M.lower (M.head (M.start p oc))) t h = absurd h
+open_paren_elsewhere k t h = refl
+
+pub occur_elsewhere : (k : M.AtType2) (t : Token) → IsElsewhere k → M.occur_want k t ≡ M.stuck
+occur_elsewhere (M.lower (M.head (M.start p oc))) t h = absurd h
+occur_elsewhere k t h = refl
+
+pub occur_taken : (q : Option M.AtEntry) (w : Option M.AtType2) (t : Token) → w ≡ made (λ k. M.lower (M.head k)) (made (λ p. M.start p (Some t)) q) → on q (λ p. made M.want w ≡ Some (M.occur_want (M.lower (M.head (M.start p None))) t))
+occur_taken None w t e = tt
+occur_taken (Some p) w t e = rw e refl
+
+-- what parentheses at the head of an entry come to
+
+pub paren_group : (p : M.AtEntry) (oc : Option Token) (o : Token) (g : S.Group) (t : Token) → S.is_type g ≡ false → M.shut_paren p oc o g t ≡ M.have_group p (S.grouped oc o g t)
+paren_group p oc o (S.sole (S.entries S.no_entries (S.typed None ts) None)) t e = cc
+paren_group p oc o g t e = refl

@@ -1,0 +1,118 @@
+-- What a list of parts comes to that is empty, and that is not.
+use Rattle.std.proofs.Common.{◌≡◌, ◌≢◌, ℕ, Bool, true, false, List, [], ◌∷◌, ◌++◌, length, Option, Some, None, refl, sym, ap, ◌∙◌, map, Vec, Global, arith, ◌==◌, subst, Bor}
+use Rattle.std.proofs.lemmas.Bool.Decides.{nat_tests}
+use Rattle.cddl_token.specs.declared.Token.{Token}
+use Rattle.cddl_tree.specs.declared.tree.Entry.{Entry}
+use Rattle.cddl_tree.specs.declared.tree.Further.{Further}
+use Rattle.cddl_tree.specs.declared.tree.GrpChoice.{GrpChoice}
+use Rattle.cddl_tree.specs.declared.tree.Group.{Group}
+use Rattle.cddl_tree.specs.declared.tree.Types.{Types}
+use Rattle.cddl_tree.specs.declared.tree.GrpEnt.{GrpEnt}
+use Rattle.cddl_tree.specs.declared.tree.GrpEnt.TheViews.{out-Types, out-Group}
+use Rattle.cddl_tree.specs.declared.tree.MemberKey.{MemberKey}
+use Rattle.cddl_syntax.specs.Syntax as S
+use Rattle.cddl_tree.specs.View.{view_types, view_type1, view_group, view_grpent, view_entry, view_further, view_choice, with_types, with_entries, with_choices, leaf}
+use Rattle.cddl_tree.proofs.Viewing.{view_out-Types, view_out-Group}
+use Rattle.cddl_parse.specs.Frames.{view_entries, IsChoice, IsKeyOf}
+use Rattle.cddl_parse.proofs.Pushing.{with_entries-push}
+
+pub empty_items : {A : Type 0} (v : Vec A Global) → v.len ≡ 0 → v.items ≡ []
+empty_items v h = nothing v.items (sym v.ok.0 ∙ h)
+  where
+    nothing : {A : Type 0} (xs : List A) → length xs ≡ 0 → xs ≡ []
+    nothing [] h = refl
+    nothing (x ∷ xs) h = absurd (omega (arith, h))
+
+some_items : {A : Type 0} (v : Vec A Global) → (v.len ≡ 0 → ⊥) → v.items ≢ []
+some_items v h e = h (v.ok.0 ∙ ap length e)
+
+-- a test for emptiness, in the way that code makes it
+pub full : {A : Type 0} (v : Vec A Global) (r : Bool) → r ≡ (v.len == 0) → r ≡ false → v.items ≢ []
+full v r e f = some_items v (λ h. let g : (v.len == 0) ≡ true = rw h refl in cc)
+
+pub empty : {A : Type 0} (v : Vec A Global) (r : Bool) → r ≡ (v.len == 0) → r ≡ true → v.items ≡ []
+empty v r e f = empty_items v (zero v.len (sym e ∙ f))
+  where
+    zero : (n : ℕ) → (n == 0) ≡ true → n ≡ 0
+    zero n h = grind (arith, nat_tests)
+
+pub types_only : (t : Types) → (out-Types t).others.items ≡ [] → view_types t ≡ S.only (view_type1 (out-Types t).first)
+types_only t h = view_out-Types t ∙ ap (λ (xs : List Further). with_types (S.only (view_type1 (out-Types t).first)) (map view_further xs)) h
+
+longer : (t : S.Types) (xs : List (Token × S.Type1)) → IsChoice t → IsChoice (with_types t xs)
+longer t [] h = h
+longer t (x ∷ xs) h = longer (S.or t x.0 x.1) xs tt
+
+along : (t u : S.Types) → t ≡ u → IsChoice u → IsChoice t
+along t u e h = rw e h
+
+types_or : (r : S.Types) (xs : List Further) → xs ≢ [] → IsChoice (with_types r (map view_further xs))
+types_or r [] h = absurd (h refl)
+types_or r (x ∷ xs) h = longer (S.or r (view_further x).0 (view_further x).1) (map view_further xs) tt
+
+pub types_several : (t : Types) → (out-Types t).others.items ≢ [] → IsChoice (view_types t)
+types_several t h = along _ _ (view_out-Types t) (types_or _ _ h)
+
+pub view_entries-push : (xs : List Entry) (e : GrpEnt) (c : Option (Bor Token)) → view_entries (xs ++ (record { grpent = e; comma = c }) ∷ []) ≡ S.entries (view_entries xs) (view_grpent e) (leaf c)
+view_entries-push xs e c = with_entries-push S.no_entries xs e c
+
+-- entries that are not none
+abbrev IsMore : S.GrpChoice → Type 0
+IsMore S.no_entries = ⊥
+IsMore (S.entries es e c) = Unit {0}
+
+more : (es : S.GrpChoice) (xs : List (S.GrpEnt × Option Token)) → IsMore es → IsMore (with_entries es xs)
+more es [] h = h
+more es (x ∷ xs) h = more (S.entries es x.0 x.1) xs tt
+
+more_no_type : (es : S.GrpChoice) (e : S.GrpEnt) (c : Option Token) → IsMore es → S.is_type (S.sole (S.entries es e c)) ≡ false
+more_no_type S.no_entries e c h = absurd h
+more_no_type (S.entries es x y) e c h = refl
+
+-- several entries are no type
+pub several_no_type : (xs : List Entry) (e : S.GrpEnt) (c : Option Token) → xs ≢ [] → S.is_type (S.sole (S.entries (view_entries xs) e c)) ≡ false
+several_no_type [] e c h = absurd (h refl)
+several_no_type (x ∷ xs) e c h = more_no_type _ e c (more _ (map view_entry xs) tt)
+
+-- nor is one with a comma
+pub comma_no_type : (es : S.GrpChoice) (e : S.GrpEnt) (c : Token) → S.is_type (S.sole (S.entries es e (Some c))) ≡ false
+comma_no_type S.no_entries (S.typed None t) c = refl
+comma_no_type S.no_entries (S.typed (Some o) t) c = refl
+comma_no_type S.no_entries (S.keyed o k t) c = refl
+comma_no_type S.no_entries (S.grouped o p g q) c = refl
+comma_no_type (S.entries es x y) e c = refl
+
+-- nor is an entry that is none
+pub other_no_type : (e : S.GrpEnt) → S.is_bare e ≡ false → S.is_type (S.sole (S.entries S.no_entries e None)) ≡ false
+other_no_type (S.typed None t) h = cc
+other_no_type (S.typed (Some o) t) h = refl
+other_no_type (S.keyed o k t) h = refl
+other_no_type (S.grouped o p g q) h = refl
+
+-- alternatives that are more than one
+abbrev IsOr : S.Group → Type 0
+IsOr (S.sole es) = ⊥
+IsOr (S.orelse g s es) = Unit {0}
+
+longer_group : (g : S.Group) (xs : List (Token × S.GrpChoice)) → IsOr g → IsOr (with_choices g xs)
+longer_group g [] h = h
+longer_group g (x ∷ xs) h = longer_group (S.orelse g x.0 x.1) xs tt
+
+or_no_type : (g : S.Group) → IsOr g → S.is_type g ≡ false
+or_no_type (S.sole es) h = absurd h
+or_no_type (S.orelse g s es) h = refl
+
+choices_no_type : (g : S.Group) (xs : List GrpChoice) → xs ≢ [] → S.is_type (with_choices g (map view_choice xs)) ≡ false
+choices_no_type g [] h = absurd (h refl)
+choices_no_type g (x ∷ xs) h = or_no_type _ (longer_group (S.orelse g (view_choice x).0 (view_choice x).1) (map view_choice xs) tt)
+
+-- several alternatives are no type
+pub group_several : (g : Group) → (out-Group g).others.items ≢ [] → S.is_type (view_group g) ≡ false
+group_several g h = rw (view_out-Group g) (choices_no_type _ _ h)
+
+pub group_sole : (g : Group) → (out-Group g).others.items ≡ [] → view_group g ≡ S.sole (view_entries (out-Group g).first.items)
+group_sole g h = view_out-Group g ∙ ap (λ (xs : List GrpChoice). with_choices (S.sole (view_entries (out-Group g).first.items)) (map view_choice xs)) h
+
+-- the key of the same type1
+pub along_key : (o : Option MemberKey) (r s : S.Type1) (c : Token) → r ≡ s → IsKeyOf o s c → IsKeyOf o r c
+along_key o r s c e h = subst (λ (x : S.Type1). IsKeyOf o x c) (sym e) h

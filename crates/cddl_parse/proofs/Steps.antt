@@ -1,0 +1,153 @@
+-- What the machine does where the frames fit, in the forms that the code's steps have.
+use Rattle.std.proofs.Common.{◌≡◌, ◌≢◌, List, [], ◌∷◌, ◌++◌, Option, Some, None, refl, sym, ap, ◌∙◌, subst, Box, Global, Bor}
+use Rattle.cddl_token.specs.declared.Token.{Token}
+use Rattle.cddl_token.specs.declared.Kind.{Kind}
+use Rattle.cddl_token.specs.declared.Kind.TheVariants as K
+use Rattle.cddl_token.specs.declared.Refusal.{Refusal}
+use Rattle.cddl_token.specs.declared.Refusal.TheVariants.{At}
+use Rattle.cddl_token.specs.declared.Code.TheVariants.{Unexpected}
+use Rattle.cddl_parse.specs.declared.frames.Home.{Home}
+use Rattle.cddl_parse.specs.declared.frames.Before.{Before}
+use Rattle.cddl_parse.specs.declared.frames.Before.TheVariants as B
+use Rattle.cddl_parse.specs.declared.frames.Left.{Left}
+use Rattle.cddl_parse.specs.declared.frames.Arguments.{Arguments}
+use Rattle.cddl_parse.specs.declared.frames.TypeOpening.{TypeOpening}
+use Rattle.cddl_parse.specs.declared.frames.TypeOpening.TheVariants as O
+use Rattle.cddl_parse.specs.declared.frames.Frame.{Frame}
+use Rattle.cddl_tree.specs.declared.tree.Types.{Types}
+use Rattle.cddl_syntax.specs.Syntax as S
+use Rattle.cddl_syntax.specs.Machine as M
+use Rattle.cddl_tree.specs.View.{view_operator, view_types, view_type2}
+use Rattle.cddl_parse.specs.Frames.{on, made, Below, nowhere, types, reference, entry, group, as_argument, view_home, view_arguments, view_type_opening, type1_at, type2_at, joined_to, above, below, Refused}
+use Rattle.cddl_parse.proofs.Pushing.{below-push, below-empty}
+
+pub on_all : {A : Type 0} (q : Option A) (P : A → Type 0) → ((x : A) → P x) → on q P
+on_all None P h = tt
+on_all (Some x) P h = h x
+
+pub made_made : {A B C : Type 0} (f : A → B) (g : B → C) (q : Option A) → made g (made f q) ≡ made (λ x. g (f x)) q
+made_made f g None = refl
+made_made f g (Some x) = refl
+
+pub refuses : (t : Token) (e : Refusal) (m : M.State) → e ≡ At Unexpected t.start → m ≡ M.stuck → Refused t e m
+refuses t e m f g = rw f (g, refl)
+
+-- a refusal wherever the machine is stuck
+pub refused_on : {A : Type 0} (q : Option A) (t : Token) (e : Refusal) (f : A → M.State) → e ≡ At Unexpected t.start → ((x : A) → f x ≡ M.stuck) → on q (λ x. Refused t e (f x))
+refused_on q t e f h g = on_all q _ (λ x. refuses t e _ h (g x))
+
+pub popped : (rs : S.Rules) (old new : List Frame) (f : Frame) → old ≡ new ++ f ∷ [] → below rs old ≡ above rs (below rs new) f
+popped rs old new f e = ap (below rs) e ∙ below-push rs new f
+
+pub bottom : (rs : S.Rules) (old : List Frame) → old ≡ [] → below rs old ≡ nowhere
+bottom rs old e = ap (below rs) e ∙ below-empty rs
+
+-- What is in a box is what was put into it.
+
+pub made_same : {A B C : Type 0} (f : C → A → B) (q : Option A) (x y : C) → x ≡ y → on q (λ k. made (f x) q ≡ Some (f y k))
+made_same f None x y e = tt
+made_same f (Some k) x y e = rw e refl
+
+pub on_with : {A : Type 0} (q : Option A) (P R : A → Type 0) → ((x : A) → P x → R x) → on q P → on q R
+on_with None P R f h = tt
+on_with (Some x) P R f h = f x h
+
+-- At the head of an entry that has no occurrence.
+
+pub head_none : (q : Option M.AtType2) (x : Option M.AtEntry) (oc : Option Token) (P : M.AtType2 → Type 0) → oc ≡ None → q ≡ made (λ p. M.lower (M.head (M.start p oc))) x → on x (λ p. P (M.lower (M.head (M.start p None)))) → on q P
+head_none q None oc P e f h = rw f tt
+head_none q (Some p) oc P e f h = rw (f, e) h
+
+-- Behind an operand.
+
+pub got_joined : (q : Option M.AtType1) (l : Option Left) (P : M.State → Type 0) (r : S.Type1) (x : S.Type2) → r ≡ joined_to l x → on q (λ k. P (M.have k r)) → on (type2_at l q) (λ k. P (M.got k x))
+got_joined None None P r x e h = tt
+got_joined None (Some l) P r x e h = tt
+got_joined (Some k) None P r x e h = rw e at h
+got_joined (Some k) (Some l) P r x e h = rw e at h
+
+pub joined_none : (l : Option Left) (r : S.Type1) (x : S.Type2) → l ≡ None → r ≡ S.one x → r ≡ joined_to l x
+joined_none l r x e f = rw (e, f) refl
+
+pub joined_some : (l : Option Left) (y : Left) (r : S.Type1) (x : S.Type2) → l ≡ Some y → r ≡ S.operation (view_type2 y.type2.value) (view_operator y.operator) x → r ≡ joined_to l x
+joined_some l y r x e f = rw (e, f) refl
+
+pub operated_one : (q : Option M.AtType1) (r : S.Type1) (x : S.Type2) (o : S.Operator) → r ≡ S.one x → on q (λ k. made M.want (made (λ j. M.upper j x o) q) ≡ Some (M.operated k r o))
+operated_one None r x o e = tt
+operated_one (Some k) r x o e = rw e refl
+
+pub operated_two : (r : S.Type1) (x y : S.Type2) (p o : S.Operator) (k : M.AtType1) → r ≡ S.operation x p y → M.operated k r o ≡ M.stuck
+operated_two r x y p o k e = rw e refl
+
+-- Behind a type1.
+
+slash_first_at : (q : Option M.AtTypes) (P : M.State → Type 0) (r : S.Type1) (t : Token) → on q (λ k. P (M.want (M.lower (M.next k (S.only r) t)))) → on (made M.head q) (λ k. P (M.slash k r t))
+slash_first_at None P r t h = tt
+slash_first_at (Some k) P r t h = h
+
+pub slash_first : (b : Below) (h : Home) (bf : Before) (P : M.State → Type 0) (ts : S.Types) (r : S.Type1) (t : Token) → bf ≡ B.Nothing → ts ≡ S.only r → on (view_home b h) (λ k. P (M.want (M.lower (M.next k ts t)))) → on (type1_at b h bf) (λ k. P (M.slash k r t))
+slash_first b h bf P ts r t e f g = rw e (slash_first_at (view_home b h) P r t (rw f at g))
+
+slash_more_at : (q : Option M.AtTypes) (P : M.State → Type 0) (us : S.Types) (s : Token) (r : S.Type1) (t : Token) → on q (λ k. P (M.want (M.lower (M.next k (S.or us s r) t)))) → on (made (λ k. M.next k us s) q) (λ k. P (M.slash k r t))
+slash_more_at None P us s r t h = tt
+slash_more_at (Some k) P us s r t h = h
+
+pub slash_more : (b : Below) (h : Home) (bf : Before) (P : M.State → Type 0) (us : Box Types Global) (s : Bor Token) (ts : S.Types) (r : S.Type1) (t : Token) → bf ≡ B.Choices us s → ts ≡ S.or (view_types us.value) s.now r → on (view_home b h) (λ k. P (M.want (M.lower (M.next k ts t)))) → on (type1_at b h bf) (λ k. P (M.slash k r t))
+slash_more b h bf P us s ts r t e f g = rw e (slash_more_at (view_home b h) P (view_types us.value) s.now r t (rw f at g))
+
+slash_argument_at : (b : Below) (a : M.ArgBefore) (r : S.Type1) (t : Token) → on (as_argument b a) (λ k. M.slash k r t ≡ M.stuck)
+slash_argument_at nowhere a r t = tt
+slash_argument_at (types k) a r t = tt
+slash_argument_at (reference k p o) a r t = refl
+slash_argument_at (entry k) a r t = tt
+slash_argument_at (group k) a r t = tt
+
+pub slash_argument : (b : Below) (h : Home) (bf : Before) (a : Option Arguments) (r : S.Type1) (t : Token) (e : Refusal) → bf ≡ B.Arguments a → e ≡ At Unexpected t.start → on (type1_at b h bf) (λ k. Refused t e (M.slash k r t))
+slash_argument b h bf a r t e f g = rw f (along (as_argument b (view_arguments a)) (slash_argument_at b (view_arguments a) r t))
+  where
+    along : (q : Option M.AtType1) → on q (λ k. M.slash k r t ≡ M.stuck) → on q (λ k. Refused t e (M.slash k r t))
+    along None i = tt
+    along (Some k) i = refuses t e _ g i
+
+-- Behind a type.
+
+pub on_kind : {A : Type 0} (q : Option A) (P : M.State → Type 0) (f : A → Kind → M.State) (i j : Kind) → i ≡ j → on q (λ x. P (f x j)) → on q (λ x. P (f x i))
+on_kind q P f i j e h = subst (λ (l : Kind). on q (λ x. P (f x l))) (sym e) h
+
+pub on_same : {A : Type 0} (q : Option A) (P : M.State → Type 0) (f g : A → M.State) → ((x : A) → f x ≡ g x) → on q (λ x. P (g x)) → on q (λ x. P (f x))
+on_same None P f g e h = tt
+on_same (Some x) P f g e h = subst P (sym (e x)) h
+
+-- the step at the kind that the token has, and the type that was put into a box
+pub shut_by : (q : Option M.AtType2) (P : M.State → Type 0) (o : M.TypeOpening) (us ts : S.Types) (i j : Kind) (t : Token) → i ≡ j → us ≡ ts → on q (λ k. P (M.shut_types k o us j t)) → on q (λ k. P (M.shut_types k o ts i t))
+shut_by q P o us ts i j t d e h = rw (d, ← e) h
+
+pub head_shut : (q : Option M.AtType2) (u : M.TypeOpening) (o : Token) (ts : S.Types) (t : Token) → u ≡ M.tag_head o → on q (λ k. made (λ j. M.want_content j o ts t) q ≡ Some (M.shut_types k u ts K.AngleClose t))
+head_shut None u o ts t e = tt
+head_shut (Some k) u o ts t e = rw e refl
+
+pub simple_shut : (u : M.TypeOpening) (o : Token) (ts : S.Types) (t : Token) (x : S.Type2) → u ≡ M.simple_head o → x ≡ S.simple_by o ts t → (k : M.AtType2) → M.shut_types k u ts K.AngleClose t ≡ M.got k x
+simple_shut u o ts t x e f k = rw (e, f) refl
+
+pub paren_shut : (u : M.TypeOpening) (o : Token) (ts : S.Types) (t : Token) (x : S.Type2) → u ≡ M.paren o → x ≡ S.parens o ts t → (k : M.AtType2) → M.shut_types k u ts K.ParenClose t ≡ M.got k x
+paren_shut u o ts t x e f k = rw (e, f) refl
+
+pub tag_shut : (u : M.TypeOpening) (o : Token) (ts : S.Types) (t : Token) (x : S.Type2) → u ≡ M.tag o → x ≡ S.tagged o ts t → (k : M.AtType2) → M.shut_types k u ts K.ParenClose t ≡ M.got k x
+tag_shut u o ts t x e f k = rw (e, f) refl
+
+pub content_shut : (u : M.TypeOpening) (o : Token) (h : S.Types) (a p : Token) (ts : S.Types) (t : Token) (x : S.Type2) → u ≡ M.tag_content o h a p → x ≡ S.tagged_by o h a p ts t → (k : M.AtType2) → M.shut_types k u ts K.ParenClose t ≡ M.got k x
+content_shut u o h a p ts t x e f k = rw (e, f) refl
+
+pub no_parens : (u : TypeOpening) (ts : S.Types) (t : Token) → ((o : Bor Token) → u ≢ O.Paren o) → ((o : Bor Token) → u ≢ O.Tag o) → ((o : Bor Token) (h : Box Types Global) (a p : Bor Token) → u ≢ O.TagContent o h a p) → (k : M.AtType2) → M.shut_types k (view_type_opening u) ts K.ParenClose t ≡ M.stuck
+no_parens (O.Paren o) ts t e f g k = absurd (e o refl)
+no_parens (O.Tag o) ts t e f g k = absurd (f o refl)
+no_parens (O.TagHead o) ts t e f g k = refl
+no_parens (O.TagContent o h a p) ts t e f g k = absurd (g o h a p refl)
+no_parens (O.SimpleHead o) ts t e f g k = refl
+
+pub no_angles : (u : TypeOpening) (ts : S.Types) (t : Token) → ((o : Bor Token) → u ≢ O.TagHead o) → ((o : Bor Token) → u ≢ O.SimpleHead o) → (k : M.AtType2) → M.shut_types k (view_type_opening u) ts K.AngleClose t ≡ M.stuck
+no_angles (O.Paren o) ts t e f k = refl
+no_angles (O.Tag o) ts t e f k = refl
+no_angles (O.TagHead o) ts t e f k = absurd (e o refl)
+no_angles (O.TagContent o h a p) ts t e f k = refl
+no_angles (O.SimpleHead o) ts t e f k = absurd (f o refl)

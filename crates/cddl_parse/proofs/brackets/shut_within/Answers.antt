@@ -1,0 +1,12 @@
+use Rattle.cddl_syntax.specs.Machine as M
+use Rattle.cddl_parse.specs.Frames.{view_at_type2, Gives}
+use Rattle.cddl_parse.proofs.Steps.{on_all, on_same, refuses}
+use Rattle.cddl_parse.proofs.Elsewhere.{closed, not_closed, got_as}
+use Rattle.std.proofs.Common.{sym, ◌∙◌}
+use Rattle.cddl_parse.proofs.brackets.shut_within.Goals as goal
+
+pub returns-then-closes : goal.returns-then-closes
+returns-then-closes c rs b = on_same (view_at_type2 b c.args.at) (λ (m : M.State). Gives c.args.token.now rs b c.got.result m) _ _ (λ k. closed k _ _ _ c.args.token.now (sym c.closes.ensures ∙ c.if-closes.true)) (got_as (view_at_type2 b c.args.at) _ _ (λ (m : M.State). Gives c.args.token.now rs b c.got.result m) c.in_brackets.ensures (c.got.ensures c.args.token.now rs b))
+
+pub returns-else-closes : goal.returns-else-closes
+returns-else-closes c rs b = on_all (view_at_type2 b c.args.at) _ (λ k. refuses c.args.token.now _ _ c.unexpected.ensures (not_closed k _ _ _ c.args.token.now (sym c.closes.ensures ∙ c.if-closes.false)))

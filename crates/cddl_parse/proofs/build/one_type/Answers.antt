@@ -1,0 +1,5 @@
+use Rattle.cddl_parse.proofs.Pushing.{views}
+use Rattle.cddl_parse.proofs.build.one_type.Goals as goal
+
+pub returns : goal.returns
+returns c = simp (views, c.new.ensures.items)

@@ -1,0 +1,11 @@
+use Rattle.std.proofs.Common.{◌∙◌, ap, List, map}
+use Rattle.cddl_syntax.specs.Syntax as S
+use Rattle.cddl_tree.specs.declared.tree.GrpChoice.{GrpChoice}
+use Rattle.cddl_parse.specs.Frames.{view_entries}
+use Rattle.cddl_tree.specs.View.{with_choices, view_choice}
+use Rattle.cddl_tree.proofs.Viewing.{view-Group}
+use Rattle.cddl_parse.proofs.Contents.{view_entries-push}
+use Rattle.cddl_parse.proofs.build.whole.Goals as goal
+
+pub returns-in-Ok : goal.returns-in-Ok
+returns-in-Ok c = (view-Group _ _ ∙ (ap (λ (xs : List GrpChoice). with_choices (S.sole (view_entries c.pushed.new.list.items)) (map view_choice xs)) c.requires.alone ∙ ap S.sole (ap view_entries c.in-Ok.ensures.items ∙ view_entries-push c.args.first.items c.args.grpent c.args.comma)), c.requires.group)

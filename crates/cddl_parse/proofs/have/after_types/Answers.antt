@@ -1,0 +1,18 @@
+use Rattle.std.proofs.Common.{ap, sym}
+use Rattle.cddl_syntax.specs.Syntax as S
+use Rattle.cddl_syntax.specs.Machine as M
+use Rattle.cddl_tree.specs.View.{leaf, view_types, view_key}
+use Rattle.cddl_tree.proofs.Viewing.{view-Keyed}
+use Rattle.cddl_parse.proofs.have.after_types.Goals as goal
+use Rattle.cddl_parse.proofs.Steps.{on_same}
+use Rattle.cddl_parse.specs.Frames.{below, as_entry, Gives}
+use Rattle.cddl_parse.proofs.Behind.{on_made, on_home}
+
+pub returns-in-Inside : goal.returns-in-Inside
+returns-in-Inside c rs = on_home (below rs c.args.frames.now.items) _ _ _ c.in-Inside.is (c.after_inside.ensures rs)
+
+pub returns-in-Start : goal.returns-in-Start
+returns-in-Start c rs = on_home (below rs c.args.frames.now.items) _ _ _ c.in-Start.is (on_made (λ (p : M.AtEntry). M.start p (leaf c.in-Start.occur)) (as_entry (below rs c.args.frames.now.items)) (λ (k : M.AtTypes). Gives c.args.token.now rs (below rs c.after_start.new.frames.items) c.after_start.result (M.after_types k (view_types c.args.types) c.args.token.now.kind c.args.token.now)) (c.after_start.ensures rs))
+
+pub returns-in-ValueOf : goal.returns-in-ValueOf
+returns-in-ValueOf c rs = on_home (below rs c.args.frames.now.items) _ _ _ c.in-ValueOf.is (on_made (λ (p : M.AtEntry). M.value_of p (leaf c.in-ValueOf.occur) (view_key c.in-ValueOf.key.value)) (as_entry (below rs c.args.frames.now.items)) (λ (k : M.AtTypes). Gives c.args.token.now rs (below rs c.after_entry.new.frames.items) c.after_entry.result (M.after_types k (view_types c.args.types) c.args.token.now.kind c.args.token.now)) (on_same (as_entry (below rs c.args.frames.now.items)) (λ (m : M.State). Gives c.args.token.now rs (below rs c.after_entry.new.frames.items) c.after_entry.result m) _ _ (λ (p : M.AtEntry). ap (λ (e : S.GrpEnt). M.after_entry p e c.args.token.now.kind c.args.token.now) (sym (view-Keyed _ _ _))) (c.after_entry.ensures rs)))

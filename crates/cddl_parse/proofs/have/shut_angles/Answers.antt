@@ -1,0 +1,15 @@
+use Rattle.std.proofs.Common.{ap}
+use Rattle.cddl_syntax.specs.Machine as M
+use Rattle.cddl_parse.specs.Frames.{view_at_type2, view_type_opening, Gives}
+use Rattle.cddl_parse.proofs.Steps.{refused_on, on_same, head_shut, simple_shut, no_angles}
+use Rattle.cddl_tree.proofs.Viewing.{view-SimpleBy}
+use Rattle.cddl_parse.proofs.have.shut_angles.Goals as goal
+
+pub returns-in-TagHead : goal.returns-in-TagHead
+returns-in-TagHead c rs b = head_shut (view_at_type2 b c.args.at) _ _ _ c.args.token.now (ap view_type_opening c.in-TagHead.is)
+
+pub returns-in-SimpleHead : goal.returns-in-SimpleHead
+returns-in-SimpleHead c rs b = on_same (view_at_type2 b c.args.at) (λ (m : M.State). Gives c.args.token.now rs b c.got.result m) _ _ (simple_shut _ _ _ c.args.token.now _ (ap view_type_opening c.in-SimpleHead.is) (view-SimpleBy _ _ _)) (c.got.ensures c.args.token.now rs b)
+
+pub returns-in_default : goal.returns-in_default
+returns-in_default c rs b = refused_on (view_at_type2 b c.args.at) c.args.token.now _ _ c.unexpected.ensures (no_angles _ _ c.args.token.now c.in_default.not-TagHead c.in_default.not-SimpleHead)

@@ -1,0 +1,13 @@
+use Rattle.std.proofs.Common.{ap}
+use Rattle.cddl_syntax.specs.Machine as M
+use Rattle.cddl_parse.specs.Frames.{as_entry, below, view_entries, Gives}
+use Rattle.cddl_parse.proofs.Steps.{on_all, popped}
+use Rattle.cddl_parse.proofs.Closing.{entry_opened}
+use Rattle.cddl_parse.proofs.Elsewhere.{fresh}
+use Rattle.cddl_parse.proofs.open.open_entry.Goals as goal
+
+pub returns-in-Ok : goal.returns-in-Ok
+returns-in-Ok c t rs = entry_opened (as_entry (below rs c.args.frames.now.items)) _ _ _ (λ (m : M.State). Gives t rs (below rs c.open_member.new.frames.items) c.open_member.result m) (popped rs _ _ _ c.in-Ok.ensures.items) (fresh _ _ _ (λ (m : M.State). Gives t rs (below rs c.open_member.new.frames.items) c.open_member.result m) (ap view_entries c.new.ensures.items) (c.open_member.ensures t rs))
+
+pub returns-in-Err : goal.returns-in-Err
+returns-in-Err c t rs = on_all (as_entry (below rs c.args.frames.now.items)) _ (λ k. tt)

@@ -1,0 +1,9 @@
+use Rattle.cddl_tree.proofs.Viewing.{view-One, view-Operation}
+use Rattle.cddl_parse.proofs.Steps.{joined_none, joined_some}
+use Rattle.cddl_parse.proofs.places.joined.Goals as goal
+
+pub returns-in-None : goal.returns-in-None
+returns-in-None c = joined_none c.args.left _ _ c.in-None.is (view-One _)
+
+pub returns-in-Some : goal.returns-in-Some
+returns-in-Some c = joined_some c.args.left _ _ _ c.in-Some.is (view-Operation _ _ _)

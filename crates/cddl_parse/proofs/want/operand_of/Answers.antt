@@ -1,0 +1,27 @@
+use Rattle.std.proofs.Common.{◌∙◌, ap, sym}
+use Rattle.cddl_token.specs.declared.Kind.{Kind}
+use Rattle.cddl_syntax.specs.Syntax as S
+use Rattle.cddl_syntax.specs.Machine as M
+use Rattle.cddl_tree.specs.declared.tree.Value.TheVariants as V
+use Rattle.cddl_tree.specs.declared.tree.Ref.TheVariants as R
+use Rattle.cddl_tree.proofs.Viewing.{view-Literal, view-Typename, view-Name, view-Hash}
+use Rattle.cddl_parse.proofs.Bodies.{no_operand}
+use Rattle.cddl_parse.proofs.want.operand_of.Goals as goal
+
+pub returns-in-Number : goal.returns-in-Number
+returns-in-Number c k = ap (λ (i : Kind). M.step_want k i c.args.token.now) c.in-Number.is ∙ ap (M.got k) (sym (view-Literal (V.Number c.args.token)))
+
+pub returns-in-Text : goal.returns-in-Text
+returns-in-Text c k = ap (λ (i : Kind). M.step_want k i c.args.token.now) c.in-Text.is ∙ ap (M.got k) (sym (view-Literal (V.Text c.args.token)))
+
+pub returns-in-Bytes : goal.returns-in-Bytes
+returns-in-Bytes c k = ap (λ (i : Kind). M.step_want k i c.args.token.now) c.in-Bytes.is ∙ ap (M.got k) (sym (view-Literal (V.Bytes c.args.token)))
+
+pub returns-in-Name : goal.returns-in-Name
+returns-in-Name c k = ap (λ (i : Kind). M.step_want k i c.args.token.now) c.in-Name.is ∙ ap (M.got k) (sym (view-Typename (R.Name c.args.token) ∙ ap S.typename (view-Name c.args.token)))
+
+pub returns-in-Hash : goal.returns-in-Hash
+returns-in-Hash c k = ap (λ (i : Kind). M.step_want k i c.args.token.now) c.in-Hash.is ∙ ap (M.got k) (sym (view-Hash c.args.token))
+
+pub returns-in_default : goal.returns-in_default
+returns-in_default c = no_operand c.args.token.now.kind c.in_default.not-Number c.in_default.not-Text c.in_default.not-Bytes c.in_default.not-Name c.in_default.not-Hash

@@ -1,0 +1,115 @@
+//! What a token does behind a group in brackets, or in parentheses at the head of an entry.
+ghost use Rattle.std.specs.Prelude.{◌≡◌};
+ghost use Rattle.cddl_syntax.specs.Machine as M;
+ghost use Rattle.cddl_syntax.specs.Syntax as S;
+ghost use Rattle.cddl_tree.specs.View.{leaf, view_type2, view_group};
+ghost use Rattle.cddl_parse.specs.Frames.{on, view_group_opening, bracketed, is_closed_by, as_entry, view_at_type2, Gives, Below};
+
+use crate::build::{content_of, unexpected};
+use crate::frames::{AtType2, Content, GroupOpening, Home, Now};
+use crate::memory::boxed;
+use crate::places::{got, have_group, type_at};
+use cddl_token::{Kind, Refusal, Token};
+use cddl_tree::{Group, GrpEnt, Type2};
+use std::alloc::Global;
+
+/// A token that can only close a group in brackets.
+#[tactic(none)]
+pub(crate) fn shut_within<'s>(
+    alloc: Global,
+    at: AtType2<'s>,
+    opening: GroupOpening<'s>,
+    group: Group<'s>,
+    token: &'s Token<'s>,
+) -> Result<Now<'s>, Refusal>
+    ensures { (rs : S.Rules) (b : Below) → on (view_at_type2 b at.entry) (λ k. Gives token.now rs b result (M.shut_group (M.within k (view_group_opening opening.entry)) (view_group group.entry) token.now.kind token.now)) }
+{
+    if closes(opening, token.kind) {
+        got(alloc, at, in_brackets(opening, group, token))
+    } else {
+        drop(at);
+        drop(group);
+        Err(unexpected(token))
+    }
+}
+
+/// Whether the token is the bracket that closes what was opened so.
+fn closes(opening: GroupOpening<'_>, kind: Kind) -> bool
+    ensures { result ≡ is_closed_by (view_group_opening opening.entry) kind }
+{
+    match opening {
+        GroupOpening::Brace(_) => matches!(kind, Kind::BraceClose),
+        GroupOpening::Bracket(_) => matches!(kind, Kind::BracketClose),
+        GroupOpening::Choice(_, _) => matches!(kind, Kind::ParenClose),
+    }
+}
+
+/// A group in brackets.
+fn in_brackets<'s>(opening: GroupOpening<'s>, group: Group<'s>, closing: &'s Token<'s>) -> Type2<'s>
+    ensures { view_type2 result ≡ bracketed (view_group_opening opening.entry) (view_group group.entry) closing.now }
+{
+    match opening {
+        GroupOpening::Brace(opening) => Type2::MapOf {
+            opening,
+            group,
+            closing,
+        },
+        GroupOpening::Bracket(opening) => Type2::ArrayOf {
+            opening,
+            group,
+            closing,
+        },
+        GroupOpening::Choice(ampersand, opening) => Type2::ChoiceOf {
+            ampersand,
+            opening,
+            group,
+            closing,
+        },
+    }
+}
+
+/// A `)` behind a group at the head of an entry.
+#[tactic(none)]
+pub(crate) fn shut_entry<'s>(
+    alloc: Global,
+    occur: Option<&'s Token<'s>>,
+    opening: &'s Token<'s>,
+    group: Group<'s>,
+    token: &'s Token<'s>,
+) -> Result<Now<'s>, Refusal>
+    ensures { (rs : S.Rules) (b : Below) → on (as_entry b) (λ p. Gives token.now rs b result (M.shut_paren p (leaf occur.entry) opening.now (view_group group.entry) token.now)) }
+{
+    let closing = token;
+    match content_of(group) {
+        Ok(content) => match content {
+            Content::Type(types) => match boxed(alloc, types) {
+                Ok(boxed) => got(
+                    alloc,
+                    type_at(Home::Start(occur)),
+                    Type2::Parens {
+                        opening,
+                        types: boxed,
+                        closing,
+                    },
+                ),
+                Err(error) => {
+                    drop(error);
+                    Err(Refusal::Memory)
+                }
+            },
+            Content::Group(group) => {
+                let grpent = GrpEnt::Grouped {
+                    occur,
+                    opening,
+                    group,
+                    closing,
+                };
+                have_group(alloc, grpent)
+            }
+        },
+        Err(error) => {
+            drop(error);
+            Err(Refusal::Memory)
+        }
+    }
+}

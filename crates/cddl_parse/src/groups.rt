@@ -1,0 +1,119 @@
+//! What a token does where only an alternative of a group can end.
+ghost use Rattle.std.specs.Prelude.{None};
+ghost use Rattle.cddl_syntax.specs.Machine as M;
+ghost use Rattle.cddl_syntax.specs.Syntax as S;
+ghost use Rattle.cddl_tree.specs.View.{view_group};
+ghost use Rattle.cddl_parse.specs.Frames.{on, view_alternatives, view_entries, as_entry, as_group, view_at_type2, below, Gives};
+
+use crate::brackets::{shut_entry, shut_within};
+use crate::build::{group_of, unexpected};
+use crate::frames::{Alternatives, AtType2, Frame, Now};
+use crate::open::{entry_head, open_member};
+use cddl_token::{Kind, Refusal, Token};
+use cddl_tree::{Entry, Group};
+use std::alloc::Global;
+
+/// A token that can only end an alternative, where a type2 is awaited.
+#[tactic(none)]
+pub(crate) fn ends_want<'s>(
+    alloc: Global,
+    frames: &mut Vec<Frame<'s>>,
+    at: AtType2<'s>,
+    token: &'s Token<'s>,
+) -> Result<Now<'s>, Refusal>
+    ensures { (rs : S.Rules) → on (view_at_type2 (below rs frames.old.items) at.entry) (λ k. Gives token.now rs (below rs frames.new.items) result (M.ends_want k token.now.kind token.now)) }
+{
+    match entry_head(at) {
+        Ok(occur) => match occur {
+            None => ends_start(alloc, frames, token),
+            Some(_) => Err(unexpected(token)),
+        },
+        Err(at) => {
+            drop(at);
+            Err(unexpected(token))
+        }
+    }
+}
+
+/// The same at the head of an entry.
+#[tactic(none)]
+fn ends_start<'s>(
+    alloc: Global,
+    frames: &mut Vec<Frame<'s>>,
+    token: &'s Token<'s>,
+) -> Result<Now<'s>, Refusal>
+    ensures { (rs : S.Rules) → on (as_entry (below rs frames.old.items)) (λ p. Gives token.now rs (below rs frames.new.items) result (M.ends_want (M.lower (M.head (M.start p None))) token.now.kind token.now)) }
+{
+    match frames.pop() {
+        None => Err(unexpected(token)),
+        Some(frame) => match frame {
+            Frame::Member(before, entries) => ends(alloc, frames, before, entries, token),
+            frame => {
+                drop(frame);
+                Err(unexpected(token))
+            }
+        },
+    }
+}
+
+/// A token behind the entries of an alternative.
+#[tactic(none)]
+fn ends<'s>(
+    alloc: Global,
+    frames: &mut Vec<Frame<'s>>,
+    before: Option<Alternatives<'s>>,
+    entries: Vec<Entry<'s>>,
+    token: &'s Token<'s>,
+) -> Result<Now<'s>, Refusal>
+    ensures { (rs : S.Rules) → on (as_group (below rs frames.old.items)) (λ k. Gives token.now rs (below rs frames.new.items) result (M.ends k (view_alternatives before.entry) (view_entries entries.entry.items) token.now.kind token.now)) }
+{
+    match group_of(alloc, before, entries) {
+        Ok(group) => match token.kind {
+            Kind::DoubleSlash => {
+                let before = Alternatives {
+                    group,
+                    slashes: token,
+                };
+                open_member(frames, Some(before), Vec::new(alloc))
+            }
+            _ => shut_group(alloc, frames, group, token),
+        },
+        Err(error) => {
+            drop(error);
+            Err(Refusal::Memory)
+        }
+    }
+}
+
+/// A token that can only close a group.
+#[tactic(none)]
+fn shut_group<'s>(
+    alloc: Global,
+    frames: &mut Vec<Frame<'s>>,
+    group: Group<'s>,
+    token: &'s Token<'s>,
+) -> Result<Now<'s>, Refusal>
+    ensures { (rs : S.Rules) → on (as_group (below rs frames.old.items)) (λ k. Gives token.now rs (below rs frames.new.items) result (M.shut_group k (view_group group.entry) token.now.kind token.now)) }
+{
+    match frames.pop() {
+        None => {
+            drop(group);
+            Err(unexpected(token))
+        }
+        Some(frame) => match frame {
+            Frame::Group(at, opening) => shut_within(alloc, at, opening, group, token),
+            Frame::Entry(occur, opening) => match token.kind {
+                Kind::ParenClose => shut_entry(alloc, occur, opening, group, token),
+                _ => {
+                    drop(group);
+                    Err(unexpected(token))
+                }
+            },
+            frame => {
+                drop(frame);
+                drop(group);
+                Err(unexpected(token))
+            }
+        },
+    }
+}

@@ -1,0 +1,434 @@
+//! What a token does behind a type1, behind an argument, and behind a type.
+ghost use Rattle.cddl_token.specs.declared.Kind.TheVariants.{ParenClose, AngleClose};
+ghost use Rattle.cddl_syntax.specs.Machine as M;
+ghost use Rattle.cddl_syntax.specs.Syntax as S;
+ghost use Rattle.cddl_tree.specs.View.{leaf, view_operator, view_type1, view_arg, view_types};
+ghost use Rattle.cddl_parse.specs.Frames.{on, view_type_opening, as_types, as_entry, as_reference, view_home, view_at_type1, view_at_type2, below, Gives, Below};
+ghost use Rattle.cddl_parse.specs.Kinds.{IsOperatorOf};
+
+use crate::build::{arg_of, more_types, one_type, prefixed, simple_key, sole_type1, unexpected};
+use crate::entry::after_entry;
+use crate::frames::{AtType1, AtType2, Before, Frame, Home, Left, Now, TypeOpening};
+use crate::memory::boxed;
+use crate::places::{ended, got, next_argument, next_choice, value_at, want_arrow};
+use cddl_token::{Kind, Refusal, Token};
+use cddl_tree::{AssignT, GenericArg, GrpEnt, MemberKey, Operator, Ref, Rule, Type1, Type2, Types};
+use std::alloc::Global;
+
+/// A token behind a type1.
+#[tactic(none)]
+pub(crate) fn step_have<'s>(
+    alloc: Global,
+    frames: &mut Vec<Frame<'s>>,
+    at: AtType1<'s>,
+    type1: Type1<'s>,
+    token: &'s Token<'s>,
+) -> Result<Now<'s>, Refusal>
+    ensures { (rs : S.Rules) → on (view_at_type1 (below rs frames.old.items) at.entry) (λ k. Gives token.now rs (below rs frames.new.items) result (M.step_have k (view_type1 type1.entry) token.now.kind token.now)) }
+{
+    match operator_of(token) {
+        Some(operator) => operated(at, type1, operator, token),
+        None => match token.kind {
+            Kind::Slash => slash(alloc, at, type1, token),
+            _ => after_type1(alloc, frames, at, type1, token),
+        },
+    }
+}
+
+/// The operator that the token is, if it is one.
+#[tactic(none)]
+fn operator_of<'s>(token: &'s Token<'s>) -> Option<Operator<'s>>
+    ensures { IsOperatorOf result token.now }
+{
+    match token.kind {
+        Kind::Range => Some(Operator::Range(token)),
+        Kind::RangeBelow => Some(Operator::RangeBelow(token)),
+        Kind::Control => Some(Operator::Control(token)),
+        _ => None,
+    }
+}
+
+/// An operator behind a type1, which has to be one operand.
+#[tactic(none)]
+fn operated<'s>(
+    at: AtType1<'s>,
+    type1: Type1<'s>,
+    operator: Operator<'s>,
+    token: &'s Token<'s>,
+) -> Result<Now<'s>, Refusal>
+    ensures { (rs : S.Rules) (b : Below) → on (view_at_type1 b at.entry) (λ k. Gives token.now rs b result (M.operated k (view_type1 type1.entry) (view_operator operator.entry))) }
+{
+    match type1 {
+        Type1::One(type2) => Ok(Now::Want(AtType2 {
+            at,
+            left: Some(Left { type2, operator }),
+        })),
+        Type1::Operation { left, right, .. } => {
+            drop(left);
+            drop(right);
+            drop(at);
+            Err(unexpected(token))
+        }
+    }
+}
+
+/// A `/` behind a type1.
+#[tactic(none)]
+fn slash<'s>(
+    alloc: Global,
+    at: AtType1<'s>,
+    type1: Type1<'s>,
+    token: &'s Token<'s>,
+) -> Result<Now<'s>, Refusal>
+    ensures { (rs : S.Rules) (b : Below) → on (view_at_type1 b at.entry) (λ k. Gives token.now rs b result (M.slash k (view_type1 type1.entry) token.now)) }
+{
+    let AtType1 { home, before } = at;
+    match before {
+        Before::Nothing => next_choice(alloc, home, one_type(alloc, type1), token),
+        Before::Choices(types, slash) => match more_types(types, slash, type1) {
+            Ok(types) => next_choice(alloc, home, types, token),
+            Err(error) => {
+                drop(error);
+                drop(home);
+                Err(Refusal::Memory)
+            }
+        },
+        Before::Arguments(before) => {
+            drop(before);
+            drop(home);
+            drop(type1);
+            Err(unexpected(token))
+        }
+    }
+}
+
+/// A token behind a type1 that is neither `/` nor an operator.
+#[tactic(none)]
+fn after_type1<'s>(
+    alloc: Global,
+    frames: &mut Vec<Frame<'s>>,
+    at: AtType1<'s>,
+    type1: Type1<'s>,
+    token: &'s Token<'s>,
+) -> Result<Now<'s>, Refusal>
+    ensures { (rs : S.Rules) → on (view_at_type1 (below rs frames.old.items) at.entry) (λ k. Gives token.now rs (below rs frames.new.items) result (M.after_type1 k (view_type1 type1.entry) token.now.kind token.now)) }
+{
+    let AtType1 { home, before } = at;
+    match before {
+        Before::Nothing => after_types(alloc, frames, home, one_type(alloc, type1), token),
+        Before::Choices(types, slash) => match more_types(types, slash, type1) {
+            Ok(types) => after_types(alloc, frames, home, types, token),
+            Err(error) => {
+                drop(error);
+                drop(home);
+                Err(Refusal::Memory)
+            }
+        },
+        Before::Arguments(before) => {
+            drop(home);
+            match arg_of(alloc, before, type1) {
+                Ok(arguments) => after_argument(alloc, frames, arguments, token),
+                Err(error) => {
+                    drop(error);
+                    Err(Refusal::Memory)
+                }
+            }
+        }
+    }
+}
+
+/// A token behind an argument.
+#[tactic(none)]
+fn after_argument<'s>(
+    alloc: Global,
+    frames: &mut Vec<Frame<'s>>,
+    arguments: GenericArg<'s>,
+    token: &'s Token<'s>,
+) -> Result<Now<'s>, Refusal>
+    ensures { (rs : S.Rules) → on (as_reference (below rs frames.old.items)) (λ r. Gives token.now rs (below rs frames.new.items) result (M.after_argument r.0 r.1 r.2 (view_arg arguments.entry) token.now.kind token.now)) }
+{
+    match token.kind {
+        Kind::Comma => next_argument(alloc, arguments, token),
+        Kind::AngleClose => shut_arguments(alloc, frames, arguments, token),
+        _ => {
+            drop(arguments);
+            Err(unexpected(token))
+        }
+    }
+}
+
+/// A `>` behind the arguments of a name.
+#[tactic(none)]
+fn shut_arguments<'s>(
+    alloc: Global,
+    frames: &mut Vec<Frame<'s>>,
+    arguments: GenericArg<'s>,
+    token: &'s Token<'s>,
+) -> Result<Now<'s>, Refusal>
+    ensures { (rs : S.Rules) → on (as_reference (below rs frames.old.items)) (λ r. Gives token.now rs (below rs frames.new.items) result (M.after_argument r.0 r.1 r.2 (view_arg arguments.entry) AngleClose token.now)) }
+{
+    let closing = token;
+    match frames.pop() {
+        None => {
+            drop(arguments);
+            Err(unexpected(token))
+        }
+        Some(frame) => match frame {
+            Frame::Reference(at, prefix, opening) => match boxed(alloc, arguments) {
+                Ok(arguments) => {
+                    let reference = Ref::Applied {
+                        opening,
+                        arguments,
+                        closing,
+                    };
+                    got(alloc, at, prefixed(prefix, reference))
+                }
+                Err(error) => {
+                    drop(error);
+                    drop(at);
+                    Err(Refusal::Memory)
+                }
+            },
+            frame => {
+                drop(frame);
+                drop(arguments);
+                Err(unexpected(token))
+            }
+        },
+    }
+}
+
+/// A token behind a type that is neither `/` nor an operator.
+#[tactic(none)]
+fn after_types<'s>(
+    alloc: Global,
+    frames: &mut Vec<Frame<'s>>,
+    home: Home<'s>,
+    types: Types<'s>,
+    token: &'s Token<'s>,
+) -> Result<Now<'s>, Refusal>
+    ensures { (rs : S.Rules) → on (view_home (below rs frames.old.items) home.entry) (λ k. Gives token.now rs (below rs frames.new.items) result (M.after_types k (view_types types.entry) token.now.kind token.now)) }
+{
+    match home {
+        Home::Inside => after_inside(alloc, frames, types, token),
+        Home::Start(occur) => after_start(alloc, frames, occur, types, token),
+        Home::ValueOf(occur, key) => {
+            after_entry(alloc, frames, GrpEnt::Keyed { occur, key, types }, token)
+        }
+    }
+}
+
+/// A token behind a rule's type, or behind a type in brackets.
+#[tactic(none)]
+fn after_inside<'s>(
+    alloc: Global,
+    frames: &mut Vec<Frame<'s>>,
+    types: Types<'s>,
+    token: &'s Token<'s>,
+) -> Result<Now<'s>, Refusal>
+    ensures { (rs : S.Rules) → on (as_types (below rs frames.old.items)) (λ k. Gives token.now rs (below rs frames.new.items) result (M.after_types k (view_types types.entry) token.now.kind token.now)) }
+{
+    match frames.pop() {
+        None => {
+            drop(types);
+            Err(unexpected(token))
+        }
+        Some(frame) => match frame {
+            Frame::TypeBody(name, assign) => {
+                let assign = AssignT::TypeOr(assign);
+                ended(
+                    alloc,
+                    Rule::TypeRule {
+                        name,
+                        assign,
+                        types,
+                    },
+                )
+            }
+            Frame::Types(at, opening) => shut_types(alloc, at, opening, types, token),
+            frame => {
+                drop(frame);
+                drop(types);
+                Err(unexpected(token))
+            }
+        },
+    }
+}
+
+/// A token behind a type in brackets.
+#[tactic(none)]
+fn shut_types<'s>(
+    alloc: Global,
+    at: AtType2<'s>,
+    opening: TypeOpening<'s>,
+    types: Types<'s>,
+    token: &'s Token<'s>,
+) -> Result<Now<'s>, Refusal>
+    ensures { (rs : S.Rules) (b : Below) → on (view_at_type2 b at.entry) (λ k. Gives token.now rs b result (M.shut_types k (view_type_opening opening.entry) (view_types types.entry) token.now.kind token.now)) }
+{
+    match boxed(alloc, types) {
+        Ok(types) => match token.kind {
+            Kind::ParenClose => shut_parens(alloc, at, opening, types, token),
+            Kind::AngleClose => shut_angles(alloc, at, opening, types, token),
+            _ => {
+                drop(at);
+                drop(opening);
+                drop(types);
+                Err(unexpected(token))
+            }
+        },
+        Err(error) => {
+            drop(error);
+            drop(opening);
+            drop(at);
+            Err(Refusal::Memory)
+        }
+    }
+}
+
+/// A `)` behind a type in brackets.
+#[tactic(none)]
+fn shut_parens<'s>(
+    alloc: Global,
+    at: AtType2<'s>,
+    opening: TypeOpening<'s>,
+    types: Box<Types<'s>>,
+    token: &'s Token<'s>,
+) -> Result<Now<'s>, Refusal>
+    ensures { (rs : S.Rules) (b : Below) → on (view_at_type2 b at.entry) (λ k. Gives token.now rs b result (M.shut_types k (view_type_opening opening.entry) (view_types types.entry.value) ParenClose token.now)) }
+{
+    let closing = token;
+    match opening {
+        TypeOpening::Paren(opening) => got(
+            alloc,
+            at,
+            Type2::Parens {
+                opening,
+                types,
+                closing,
+            },
+        ),
+        TypeOpening::Tag(opening) => got(
+            alloc,
+            at,
+            Type2::Tagged {
+                opening,
+                types,
+                closing,
+            },
+        ),
+        TypeOpening::TagContent(opening, head, angle, paren) => got(
+            alloc,
+            at,
+            Type2::TaggedBy {
+                opening,
+                head,
+                angle,
+                paren,
+                types,
+                closing,
+            },
+        ),
+        opening => {
+            drop(opening);
+            drop(types);
+            drop(at);
+            Err(unexpected(token))
+        }
+    }
+}
+
+/// A `>` behind a type in angles.
+#[tactic(none)]
+fn shut_angles<'s>(
+    alloc: Global,
+    at: AtType2<'s>,
+    opening: TypeOpening<'s>,
+    types: Box<Types<'s>>,
+    token: &'s Token<'s>,
+) -> Result<Now<'s>, Refusal>
+    ensures { (rs : S.Rules) (b : Below) → on (view_at_type2 b at.entry) (λ k. Gives token.now rs b result (M.shut_types k (view_type_opening opening.entry) (view_types types.entry.value) AngleClose token.now)) }
+{
+    match opening {
+        TypeOpening::TagHead(opening) => Ok(Now::WantContent(at, opening, types, token)),
+        TypeOpening::SimpleHead(opening) => got(
+            alloc,
+            at,
+            Type2::SimpleBy {
+                opening,
+                head: types,
+                closing: token,
+            },
+        ),
+        opening => {
+            drop(opening);
+            drop(types);
+            drop(at);
+            Err(unexpected(token))
+        }
+    }
+}
+
+/// A token behind a type at the head of an entry, where a key may end.
+#[tactic(none)]
+fn after_start<'s>(
+    alloc: Global,
+    frames: &mut Vec<Frame<'s>>,
+    occur: Option<&'s Token<'s>>,
+    types: Types<'s>,
+    token: &'s Token<'s>,
+) -> Result<Now<'s>, Refusal>
+    ensures { (rs : S.Rules) → on (as_entry (below rs frames.old.items)) (λ p. Gives token.now rs (below rs frames.new.items) result (M.after_start p (leaf occur.entry) (view_types types.entry) token.now.kind token.now)) }
+{
+    match token.kind {
+        Kind::Arrow => arrow(alloc, occur, types, token),
+        Kind::Cut => match sole_type1(types) {
+            Ok(type1) => want_arrow(alloc, occur, type1, token),
+            Err(()) => Err(unexpected(token)),
+        },
+        Kind::Colon => colon(alloc, occur, types, token),
+        _ => after_entry(alloc, frames, GrpEnt::Typed { occur, types }, token),
+    }
+}
+
+/// A `=>` behind a type at the head of an entry.
+#[tactic(none)]
+fn arrow<'s>(
+    alloc: Global,
+    occur: Option<&'s Token<'s>>,
+    types: Types<'s>,
+    token: &'s Token<'s>,
+) -> Result<Now<'s>, Refusal>
+    ensures { (rs : S.Rules) (b : Below) → on (as_entry b) (λ p. Gives token.now rs b result (M.arrow p (leaf occur.entry) (view_types types.entry) token.now)) }
+{
+    match sole_type1(types) {
+        Ok(type1) => {
+            let key = MemberKey::TypeKey {
+                type1,
+                cut: None,
+                arrow: token,
+            };
+            value_at(alloc, occur, key)
+        }
+        Err(()) => Err(unexpected(token)),
+    }
+}
+
+/// A `:` behind a type at the head of an entry.
+#[tactic(none)]
+fn colon<'s>(
+    alloc: Global,
+    occur: Option<&'s Token<'s>>,
+    types: Types<'s>,
+    token: &'s Token<'s>,
+) -> Result<Now<'s>, Refusal>
+    ensures { (rs : S.Rules) (b : Below) → on (as_entry b) (λ p. Gives token.now rs b result (M.colon p (leaf occur.entry) (view_types types.entry) token.now)) }
+{
+    match sole_type1(types) {
+        Ok(type1) => match simple_key(type1, token) {
+            Some(key) => value_at(alloc, occur, key),
+            None => Err(unexpected(token)),
+        },
+        Err(()) => Err(unexpected(token)),
+    }
+}
