@@ -1,4 +1,4 @@
--- Behind the end of the source the machine is stuck or done.
+-- After the end of the source the machine is stuck or done.
 use Rattle.std.proofs.Common.{◌≡◌, ◌⊎◌, inl, inr, None, refl}
 use Rattle.cddl_token.specs.declared.Token.{Token}
 use Rattle.cddl_token.specs.declared.Kind.TheVariants.{End}

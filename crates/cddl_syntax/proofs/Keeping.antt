@@ -6,7 +6,7 @@ use Rattle.cddl_token.specs.declared.Kind.TheVariants.{Name, NameOpen, Control, 
 use Rattle.cddl_syntax.specs.Syntax.{Lexeme, number, text, bytes, Operator, range, range_below, control, Types, only, or, Type1, one, Type2, literal, typename, parens, map_of, array_of, choice_of, tagged, tagged_by, simple_by, hash, Ref, name, applied, GenericArg, Group, sole, GrpChoice, no_entries, entries, GrpEnt, typed, keyed, GenericParm, RuleName, type_or, AssignG, group_is, group_or, type_rule, Rules, no_rules, rules, Cddl, optional, flat_operator, flat_types, flat_type1, flat_type2, flat_ref, flat_arg, flat_group, flat_choice, flat_entry, flat_key, flat_parm, flat_name, flat_assigng, flat_rule, flat_rules, flat, NormalTypes, NormalType1, NormalType2, NormalRef, NormalArg, NormalGroup, NormalChoice, NormalEntry, NormalKey, NormalRule, NormalRules, Normal}
 use Rattle.cddl_syntax.specs.Machine.{Before, nothing, behind, ArgBefore, no_arg, behind_arg, ParmBefore, no_parm, behind_parm, Prefix, bare, tilde, ampersand, TypeOpening, paren, tag, tag_head, tag_content, simple_head, GroupOpening, brace, bracket, choice, AtType2, lower, upper, AtType1, head, next, argument_of, AtTypes, body, inside, start, value_of, AtEntry, group_body, member, AtGroup, within, in_entry, State, begin, awaits_parm, have_parm, awaits_assign, want, want_ref, want_content, have, want_arrow, have_group, done, stuck, got, open_entry, open_group, group_of, arg_of, parm_of, prefixed, rule_of, next_rule, after_parm, assigned, shut_paren, shut_group, ends, ends_want, occur_want, open_paren, step_want, open_choice, step_want_ref, after_entry, arrow, cut, colon, shut_types, after_start, after_types, after_argument, slash, operated, after_type1, step_have, step, run}
 
--- The tokens of what stands left of a place.
+-- The tokens of what is left of a place.
 
 abbrev text_before : Before → List Lexeme
 text_before nothing = []
@@ -112,7 +112,7 @@ Keeps (have_group p e) ts = (text_at_entry p ++ flat_entry e ≡ ts) × NormalAt
 Keeps (done x) ts = (flat x ≡ ts) × Normal x
 Keeps stuck ts = Unit {0}
 
--- what a tree's part has over what stands left of it
+-- A part of a tree has these tokens after those of what is left of it.
 
 flat_group_of : (b : Before) (es : GrpChoice) → flat_group (group_of b es) ≡ text_before b ++ flat_choice es
 flat_group_of nothing es = refl
@@ -345,5 +345,5 @@ keeps_run s ts [] h = rw append-nil h
 keeps_run s ts (u ∷ us) h = let g = keeps_run (step s u.0 u.1) (ts ++ u ∷ []) us (keeps_step s u.0 u.1 ts h) in rw append_assoc at g
 
 -- a tree that the machine makes is of the tokens
-pub made : (ts : List Lexeme) (x : Cddl) → run begin ts ≡ done x → (flat x ≡ ts) × Normal x
-made ts x e = let P : State → Type 0 = λ s. Keeps s ts in subst P e (keeps_run begin [] ts refl)
+pub done_prints : (ts : List Lexeme) (x : Cddl) → run begin ts ≡ done x → (flat x ≡ ts) × Normal x
+done_prints ts x e = let P : State → Type 0 = λ s. Keeps s ts in subst P e (keeps_run begin [] ts refl)

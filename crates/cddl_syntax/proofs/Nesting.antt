@@ -6,7 +6,7 @@ use Rattle.cddl_token.specs.declared.Kind.TheVariants.{Name, NameOpen, Control, 
 use Rattle.cddl_syntax.specs.Syntax.{Lexeme, Value, number, text, bytes, Operator, range, range_below, control, Types, only, or, Type1, one, operation, Type2, literal, typename, parens, map_of, array_of, unwrapped, choice_of, choice_of_name, tagged, tagged_by, simple_by, hash, Ref, name, applied, GenericArg, argument, arguments, Group, sole, orelse, GrpChoice, no_entries, entries, GrpEnt, typed, keyed, grouped, MemberKey, type_key, bareword, value_key, GenericParm, parameter, parameters, RuleName, plain, generic, AssignT, type_is, type_or, AssignG, group_is, group_or, Rule, type_rule, group_rule, Rules, no_rules, rules, Cddl, cddl, optional, flat_value, flat_operator, flat_types, flat_type1, flat_type2, flat_ref, flat_arg, flat_group, flat_choice, flat_entry, flat_key, flat_parm, flat_name, flat_assignt, flat_assigng, flat_rule, flat_rules, flat, nesting_types, nesting_type1, nesting_type2, nesting_ref, nesting_arg, nesting_group, nesting_choice, nesting_entry, nesting_key, nesting_name, nesting_rule, nesting_rules, nesting}
 use Rattle.cddl_syntax.specs.Answers.{opened, open_after, deepest}
 
--- behind the tokens as many are open as before them, and at most m more on the way
+-- After the tokens as many are open as before them, and at most m more on the way.
 abbrev Nests : List Lexeme → ℕ → Type 0
 Nests ts m = (n : ℕ) → (open_after n ts ≡ n) × (deepest n ts ≡ n + m)
 

@@ -10,9 +10,9 @@ pub run-append : (s : State) (a b : List Lexeme) → run s (a ++ b) ≡ run (run
 run-append s [] b = refl
 run-append s (t ∷ a) b = run-append (step s t.0 t.1) a b
 
--- a run in two parts
-pub two : (s m : State) (a b : List Lexeme) → run s a ≡ m → run s (a ++ b) ≡ run m b
-two s m a b e = run-append s a b ∙ ap (λ (x : State). run x b) e
+-- A run over two lists, where the run over the first is known.
+pub run_in_parts : (s m : State) (a b : List Lexeme) → run s a ≡ m → run s (a ++ b) ≡ run m b
+run_in_parts s m a b e = run-append s a b ∙ ap (λ (x : State). run x b) e
 
 -- after a type, after arguments, after an entry, after entries, after a group
 abbrev pub got_types : AtTypes → Types → State
@@ -118,7 +118,7 @@ starts_entry (keyed (Some o) k t) = tt
 starts_entry (grouped None o g c) = tt
 starts_entry (grouped (Some oc) o g c) = tt
 
--- behind a type1 that is not gone on with
+-- After a type1 with which nothing goes on.
 past_type1 : (k : AtType1) (r : Type1) (q : Kind) (t : Token) → IsPast q → step (have k r) q t ≡ after_type1 k r q t
 past_type1 k r Range t h = absurd h
 past_type1 k r RangeBelow t h = absurd h
@@ -136,7 +136,7 @@ past_start p oc s Cut t h = absurd h
 past_start p oc s Colon t h = absurd h
 past_start p oc s q t h = refl
 
--- behind an entry that is not gone on with
+-- After an entry with which nothing goes on.
 pub past_entry : (p : AtEntry) (e : GrpEnt) (q : Kind) (t : Token) → IsPast q → step (got_entry p e) q t ≡ after_entry p e q t
 past_entry p (typed oc s) q t h = past_types (start p oc) s q t h ∙ past_start p oc s q t h
 past_entry p (keyed oc m s) q t h = past_types (value_of p oc m) s q t h
@@ -157,7 +157,7 @@ fresh_past Cut h = h
 fresh_past Colon h = h
 fresh_past q h = tt
 
--- behind the entries of an alternative it is as at the head of a further one
+-- After the entries of an alternative it is as at the beginning of a further one.
 pub same_step : (k : AtGroup) (b : Before) (es : GrpChoice) (q : Kind) (t : Token) → IsFresh q → step (got_choice k b es) q t ≡ step (open_entry (member k b es)) q t
 same_step k b no_entries q t h = refl
 same_step k b (entries es e None) q t h = past_entry (member k b es) e q t (fresh_past q h) ∙ no_comma k b es e q t h
@@ -240,22 +240,22 @@ takes_arrow p oc r (Some u) a = refl
 
 reads_parens : (k : AtType2) (o : Token) (t : Types) (c : Token) → ((j : AtTypes) → run (open_types j) (flat_types t) ≡ got_types j t) → run (open_paren k o) (flat_types t ++ (ParenClose, c) ∷ []) ≡ got k (parens o t c)
 reads_parens (lower (head (start p oc))) o t c h =
-    two _ _ (flat_types t) ((ParenClose, c) ∷ []) (h (start (member (in_entry p oc o) nothing no_entries) None))
+    run_in_parts _ _ (flat_types t) ((ParenClose, c) ∷ []) (h (start (member (in_entry p oc o) nothing no_entries) None))
     ∙ takes_paren p oc o (sole (entries no_entries (typed None t) None)) c
-reads_parens k o t c h = two _ _ (flat_types t) ((ParenClose, c) ∷ []) (h (inside k (paren o))) ∙ takes_shut k (paren o) t ParenClose c tt
+reads_parens k o t c h = run_in_parts _ _ (flat_types t) ((ParenClose, c) ∷ []) (h (inside k (paren o))) ∙ takes_shut k (paren o) t ParenClose c tt
 
 mutual
   pub reads_types : (t : Types) → NormalTypes t → (k : AtTypes) → run (open_types k) (flat_types t) ≡ got_types k t
   reads_types (only r) n k = reads_type1 r n (head k)
   reads_types (or t s r) n k =
-      two _ _ (flat_types t) ((Slash, s) ∷ flat_type1 r) (reads_types t n.0 k)
+      run_in_parts _ _ (flat_types t) ((Slash, s) ∷ flat_type1 r) (reads_types t n.0 k)
       ∙ ap (λ (x : State). run x (flat_type1 r)) (takes_slash k t s)
       ∙ reads_type1 r n.1 (next k t s)
 
   pub reads_type1 : (r : Type1) → NormalType1 r → (k : AtType1) → run (want (lower k)) (flat_type1 r) ≡ have k r
   reads_type1 (one x) n k = reads_type2 x n (lower k)
   reads_type1 (operation x o y) n k =
-      two _ _ (flat_type2 x) (flat_operator o ∷ flat_type2 y) (reads_type2 x n.0 (lower k))
+      run_in_parts _ _ (flat_type2 x) (flat_operator o ∷ flat_type2 y) (reads_type2 x n.0 (lower k))
       ∙ takes_operator k x o (flat_type2 y)
       ∙ reads_type2 y n.1 (upper k x o)
 
@@ -263,62 +263,62 @@ mutual
   reads_type2 (literal v) n k = takes_value k v []
   reads_type2 (typename r) n k = reads_ref r n k bare
   reads_type2 (parens o t c) n k = reads_parens k o t c (reads_types t n)
-  reads_type2 (map_of o g c) n k = two _ _ (flat_group g) ((BraceClose, c) ∷ []) (reads_group g n (within k (brace o))) ∙ takes_brace k o g c
-  reads_type2 (array_of o g c) n k = two _ _ (flat_group g) ((BracketClose, c) ∷ []) (reads_group g n (within k (bracket o))) ∙ takes_bracket k o g c
+  reads_type2 (map_of o g c) n k = run_in_parts _ _ (flat_group g) ((BraceClose, c) ∷ []) (reads_group g n (within k (brace o))) ∙ takes_brace k o g c
+  reads_type2 (array_of o g c) n k = run_in_parts _ _ (flat_group g) ((BracketClose, c) ∷ []) (reads_group g n (within k (bracket o))) ∙ takes_bracket k o g c
   reads_type2 (unwrapped u r) n k = reads_ref r n k (tilde u)
-  reads_type2 (choice_of a o g c) n k = two _ _ (flat_group g) ((ParenClose, c) ∷ []) (reads_group g n (within k (choice a o))) ∙ takes_choice k a o g c
+  reads_type2 (choice_of a o g c) n k = run_in_parts _ _ (flat_group g) ((ParenClose, c) ∷ []) (reads_group g n (within k (choice a o))) ∙ takes_choice k a o g c
   reads_type2 (choice_of_name a r) n k = reads_ref r n k (ampersand a)
-  reads_type2 (tagged o t c) n k = two _ _ (flat_types t) ((ParenClose, c) ∷ []) (reads_types t n (inside k (tag o))) ∙ takes_shut k (tag o) t ParenClose c tt
+  reads_type2 (tagged o t c) n k = run_in_parts _ _ (flat_types t) ((ParenClose, c) ∷ []) (reads_types t n (inside k (tag o))) ∙ takes_shut k (tag o) t ParenClose c tt
   reads_type2 (tagged_by o h a p t c) n k =
-      two _ _ (flat_types h) ((AngleClose, a) ∷ (ParenOpen, p) ∷ (flat_types t ++ (ParenClose, c) ∷ [])) (reads_types h n.0 (inside k (tag_head o)))
+      run_in_parts _ _ (flat_types h) ((AngleClose, a) ∷ (ParenOpen, p) ∷ (flat_types t ++ (ParenClose, c) ∷ [])) (reads_types h n.0 (inside k (tag_head o)))
       ∙ ap (λ (x : State). run (step x ParenOpen p) (flat_types t ++ (ParenClose, c) ∷ [])) (takes_shut k (tag_head o) h AngleClose a tt)
-      ∙ two _ _ (flat_types t) ((ParenClose, c) ∷ []) (reads_types t n.1 (inside k (tag_content o h a p)))
+      ∙ run_in_parts _ _ (flat_types t) ((ParenClose, c) ∷ []) (reads_types t n.1 (inside k (tag_content o h a p)))
       ∙ takes_shut k (tag_content o h a p) t ParenClose c tt
-  reads_type2 (simple_by o h c) n k = two _ _ (flat_types h) ((AngleClose, c) ∷ []) (reads_types h n (inside k (simple_head o))) ∙ takes_shut k (simple_head o) h AngleClose c tt
+  reads_type2 (simple_by o h c) n k = run_in_parts _ _ (flat_types h) ((AngleClose, c) ∷ []) (reads_types h n (inside k (simple_head o))) ∙ takes_shut k (simple_head o) h AngleClose c tt
   reads_type2 (hash t) n k = refl
 
   pub reads_ref : (r : Ref) → NormalRef r → (k : AtType2) (p : Prefix) → run (at_ref k p) (flat_ref r) ≡ got k (prefixed p r)
   reads_ref (name t) n k p = takes_name k p t
   reads_ref (applied o a c) n k p =
       ap (λ (x : State). run x (flat_arg a ++ (AngleClose, c) ∷ [])) (takes_name_open k p o)
-      ∙ two _ _ (flat_arg a) ((AngleClose, c) ∷ []) (reads_arg a n k p o)
+      ∙ run_in_parts _ _ (flat_arg a) ((AngleClose, c) ∷ []) (reads_arg a n k p o)
       ∙ takes_angle k p o a c
 
   pub reads_arg : (a : GenericArg) → NormalArg a → (k : AtType2) (p : Prefix) (o : Token) → run (open_argument k p o no_arg) (flat_arg a) ≡ got_arg k p o a
   reads_arg (argument r) n k p o = reads_type1 r n (argument_of k p o no_arg)
   reads_arg (arguments a c r) n k p o =
-      two _ _ (flat_arg a) ((Comma, c) ∷ flat_type1 r) (reads_arg a n.0 k p o)
+      run_in_parts _ _ (flat_arg a) ((Comma, c) ∷ flat_type1 r) (reads_arg a n.0 k p o)
       ∙ ap (λ (x : State). run x (flat_type1 r)) (takes_arg k p o a c)
       ∙ reads_type1 r n.1 (argument_of k p o (behind_arg a c))
 
   pub reads_group : (g : Group) → NormalGroup g → (k : AtGroup) → run (open_group k) (flat_group g) ≡ got_group k g
   reads_group (sole es) n k = reads_choice es n k nothing
   reads_group (orelse g s es) n k =
-      two _ _ (flat_group g) ((DoubleSlash, s) ∷ flat_choice es) (reads_group g n.0 k)
+      run_in_parts _ _ (flat_group g) ((DoubleSlash, s) ∷ flat_choice es) (reads_group g n.0 k)
       ∙ ap (λ (x : State). run x (flat_choice es)) (takes_slashes k g s)
       ∙ reads_choice es n.1 k (behind g s)
 
   pub reads_choice : (es : GrpChoice) → NormalChoice es → (k : AtGroup) (b : Before) → run (open_entry (member k b no_entries)) (flat_choice es) ≡ got_choice k b es
   reads_choice no_entries n k b = refl
   reads_choice (entries es e c) n k b =
-      two _ _ (flat_choice es) (flat_entry e ++ optional Comma c) (reads_choice es n.0 k b)
-      ∙ two _ _ (flat_entry e) (optional Comma c) (same_run k b es (flat_entry e) (starts_entry e) ∙ reads_entry e n.1 (member k b es))
+      run_in_parts _ _ (flat_choice es) (flat_entry e ++ optional Comma c) (reads_choice es n.0 k b)
+      ∙ run_in_parts _ _ (flat_entry e) (optional Comma c) (same_run k b es (flat_entry e) (starts_entry e) ∙ reads_entry e n.1 (member k b es))
       ∙ takes_comma k b es e c
 
   pub reads_entry : (e : GrpEnt) → NormalEntry e → (p : AtEntry) → run (open_entry p) (flat_entry e) ≡ got_entry p e
-  reads_entry (typed o t) n p = two _ _ (optional Occur o) (flat_types t) (takes_occur p o) ∙ reads_types t n (start p o)
+  reads_entry (typed o t) n p = run_in_parts _ _ (optional Occur o) (flat_types t) (takes_occur p o) ∙ reads_types t n (start p o)
   reads_entry (keyed o k t) n p =
-      two _ _ (optional Occur o) (flat_key k ++ flat_types t) (takes_occur p o)
-      ∙ two _ _ (flat_key k) (flat_types t) (reads_key k n.0 p o)
+      run_in_parts _ _ (optional Occur o) (flat_key k ++ flat_types t) (takes_occur p o)
+      ∙ run_in_parts _ _ (flat_key k) (flat_types t) (reads_key k n.0 p o)
       ∙ reads_types t n.1 (value_of p o k)
   reads_entry (grouped o q g c) n p =
-      two _ _ (optional Occur o) ((ParenOpen, q) ∷ (flat_group g ++ (ParenClose, c) ∷ [])) (takes_occur p o)
-      ∙ two _ _ (flat_group g) ((ParenClose, c) ∷ []) (reads_group g n.1 (in_entry p o q))
+      run_in_parts _ _ (optional Occur o) ((ParenOpen, q) ∷ (flat_group g ++ (ParenClose, c) ∷ [])) (takes_occur p o)
+      ∙ run_in_parts _ _ (flat_group g) ((ParenClose, c) ∷ []) (reads_group g n.1 (in_entry p o q))
       ∙ takes_paren p o q g c
       ∙ shuts_group p o q g c n.0
 
   pub reads_key : (k : MemberKey) → NormalKey k → (p : AtEntry) (oc : Option Token) → run (open_types (start p oc)) (flat_key k) ≡ open_value p oc k
-  reads_key (type_key r u a) n p oc = two _ _ (flat_type1 r) (optional Cut u ++ (Arrow, a) ∷ []) (reads_type1 r n (head (start p oc))) ∙ takes_arrow p oc r u a
+  reads_key (type_key r u a) n p oc = run_in_parts _ _ (flat_type1 r) (optional Cut u ++ (Arrow, a) ∷ []) (reads_type1 r n (head (start p oc))) ∙ takes_arrow p oc r u a
   reads_key (bareword m c) n p oc = refl
   reads_key (value_key v c) n p oc = takes_value (lower (head (start p oc))) v ((Colon, c) ∷ [])
 
@@ -350,28 +350,28 @@ past_rules (rules rs r) q t h p = past_rule rs r q t h.1 p
 
 reads_parm : (rs : Rules) (o : Token) (p : GenericParm) → run (awaits_parm rs o no_parm) (flat_parm p) ≡ have_parm rs o p
 reads_parm rs o (parameter n) = refl
-reads_parm rs o (parameters p c n) = two _ _ (flat_parm p) ((Comma, c) ∷ (Name, n) ∷ []) (reads_parm rs o p)
+reads_parm rs o (parameters p c n) = run_in_parts _ _ (flat_parm p) ((Comma, c) ∷ (Name, n) ∷ []) (reads_parm rs o p)
 
 reads_name : (rs : Rules) → NormalRules rs → (n : RuleName) → run (after_rules rs) (flat_name n) ≡ awaits_assign rs n
 reads_name rs h (plain n) = past_rules rs Name n h tt
 reads_name rs h (generic o p c) =
     ap (λ (x : State). run x (flat_parm p ++ (AngleClose, c) ∷ [])) (past_rules rs NameOpen o h tt)
-    ∙ two _ _ (flat_parm p) ((AngleClose, c) ∷ []) (reads_parm rs o p)
+    ∙ run_in_parts _ _ (flat_parm p) ((AngleClose, c) ∷ []) (reads_parm rs o p)
 
 reads_rule : (rs : Rules) → NormalRules rs → (r : Rule) → NormalRule r → run (after_rules rs) (flat_rule r) ≡ after_rule rs r
 reads_rule rs h (type_rule n (type_is a) t) m =
-    two _ _ (flat_name n) ((Assign, a) ∷ flat_types t) (reads_name rs h n) ∙ reads_types t m (start (group_body rs n (group_is a)) None)
+    run_in_parts _ _ (flat_name n) ((Assign, a) ∷ flat_types t) (reads_name rs h n) ∙ reads_types t m (start (group_body rs n (group_is a)) None)
 reads_rule rs h (type_rule n (type_or a) t) m =
-    two _ _ (flat_name n) ((TypeAssign, a) ∷ flat_types t) (reads_name rs h n) ∙ reads_types t m (body rs n a)
+    run_in_parts _ _ (flat_name n) ((TypeAssign, a) ∷ flat_types t) (reads_name rs h n) ∙ reads_types t m (body rs n a)
 reads_rule rs h (group_rule n (group_is a) e) m =
-    two _ _ (flat_name n) ((Assign, a) ∷ flat_entry e) (reads_name rs h n) ∙ reads_entry e m.1 (group_body rs n (group_is a))
+    run_in_parts _ _ (flat_name n) ((Assign, a) ∷ flat_entry e) (reads_name rs h n) ∙ reads_entry e m.1 (group_body rs n (group_is a))
 reads_rule rs h (group_rule n (group_or a) e) m =
-    two _ _ (flat_name n) ((GroupAssign, a) ∷ flat_entry e) (reads_name rs h n) ∙ reads_entry e m (group_body rs n (group_or a))
+    run_in_parts _ _ (flat_name n) ((GroupAssign, a) ∷ flat_entry e) (reads_name rs h n) ∙ reads_entry e m (group_body rs n (group_or a))
 
 reads_rules : (rs : Rules) → NormalRules rs → run begin (flat_rules rs) ≡ after_rules rs
 reads_rules no_rules h = refl
-reads_rules (rules rs r) h = two _ _ (flat_rules rs) (flat_rule r) (reads_rules rs h.0) ∙ reads_rule rs h.0 r h.1
+reads_rules (rules rs r) h = run_in_parts _ _ (flat_rules rs) (flat_rule r) (reads_rules rs h.0) ∙ reads_rule rs h.0 r h.1
 
 -- the machine reads the tokens of each tree to its end
 pub reads : (x : Cddl) → Normal x → run begin (flat x) ≡ done x
-reads (cddl rs e) h = two _ _ (flat_rules rs) ((End, e) ∷ []) (reads_rules rs h) ∙ past_rules rs End e h tt
+reads (cddl rs e) h = run_in_parts _ _ (flat_rules rs) ((End, e) ∷ []) (reads_rules rs h) ∙ past_rules rs End e h tt

@@ -8,7 +8,7 @@ use Rattle.cddl_syntax.specs.Syntax.{Lexeme, Cddl, flat, nesting}
 use Rattle.cddl_syntax.specs.Machine.{State, begin, done, stuck, step, run, open_in}
 use Rattle.cddl_syntax.specs.Answers.{lexeme, lexemes, Prints, Begins, nesting_limit, open_after, deepest, IsTreeOf, Reaches, IsRefused}
 use Rattle.cddl_syntax.proofs.Reading.{reads, run-append}
-use Rattle.cddl_syntax.proofs.Keeping.{made}
+use Rattle.cddl_syntax.proofs.Keeping.{done_prints}
 use Rattle.cddl_syntax.proofs.Closing.{closes}
 use Rattle.std.proofs.lemmas.Bool.{cases_lt}
 use Rattle.cddl_syntax.proofs.Ending.{ends_at}
@@ -22,7 +22,7 @@ run-stuck (u ∷ us) = run-stuck us
 -- what the machine makes is the tree, and there is no other
 
 pub sound : (ts : List Lexeme) (x : Cddl) → run begin ts ≡ done x → Prints x ts
-sound ts x e = let m = made ts x e in record { normal = m.1; tokens = m.0 }
+sound ts x e = let m = done_prints ts x e in record { normal = m.1; tokens = m.0 }
 
 pub complete : (ts : List Lexeme) (x : Cddl) → Prints x ts → run begin ts ≡ done x
 complete ts x h = ap (run begin) (sym h.tokens) ∙ reads x h.normal
@@ -32,13 +32,13 @@ one_tree ts x y h k = let e = complete ts x h in let f = complete ts y k in cc
 
 -- where the machine goes on, the tokens begin a tree's; where it is stuck, they do not
 
-pub alive : (d : Token) (ts : List Lexeme) → run begin ts ≢ stuck → Begins ts
-alive d ts h =
+pub live_begins : (d : Token) (ts : List Lexeme) → run begin ts ≢ stuck → Begins ts
+live_begins d ts h =
     let c = closes d (run begin ts) h in
     (c.1, c.0, sound (ts ++ c.0) c.1 (run-append begin ts c.0 ∙ c.2))
 
-pub dead : (ts : List Lexeme) → run begin ts ≡ stuck → Begins ts → ⊥
-dead ts h b =
+pub stuck_begins_nothing : (ts : List Lexeme) → run begin ts ≡ stuck → Begins ts → ⊥
+stuck_begins_nothing ts h b =
     let e = complete (ts ++ b.1) b.0 b.2 in
     let f = run-append begin ts b.1 in
     let g : run (run begin ts) b.1 ≡ stuck = rw h (run-stuck b.1) in
@@ -104,7 +104,7 @@ apart ts x code at h r =
     let good = front_of_tree x ts h in
     never_bad (bad.0 ++ bad.1 ∷ []) back code (subst (λ us. Begins (lexemes us)) is good.0) (subst (λ us. deepest 0 (lexemes us) ≤ nesting_limit) is good.1) bad.3
 
--- two places in one list: the same, or one behind the other
+-- Two places in one list: the same, or one after the other.
 abbrev Split : List Token → Token → List Token → Token → Type 0
 Split f t g u = ((f ≡ g) × (t ≡ u)) ⊎ (((r : List Token) × (g ≡ (f ++ t ∷ []) ++ r)) ⊎ ((r : List Token) × (f ≡ (g ++ u ∷ []) ++ r)))
 
@@ -167,7 +167,7 @@ abbrev HasRefusal : List Token → Type 0
 HasRefusal ts = (c : Code) × (p : ℕ) × IsRefused ts c p
 
 reached : (front : List Token) (t : Token) (back : List Token) → IsGood front → Reaches (front ++ t ∷ back) front t t.start
-reached front t back g = record { back = back; parts = refl; place = refl; begins = alive t (lexemes front) g.live; within = g.within }
+reached front t back g = record { back = back; parts = refl; place = refl; begins = live_begins t (lexemes front) g.live; within = g.within }
 
 one_deeper : (front : List Token) (t : Token) → deepest 0 (lexemes front) ≤ nesting_limit → open_after 0 (lexemes (front ++ t ∷ [])) ≤ nesting_limit → deepest 0 (lexemes (front ++ t ∷ [])) ≤ nesting_limit
 one_deeper front t h k =
@@ -181,9 +181,9 @@ next_token : (front : List Token) (t : Token) (back : List Token) → IsGood fro
 next_token front t back g =
     let ts = lexemes (front ++ t ∷ []) in
     elim (stuck_or_live (run begin ts)) [
-      | inl e ↦ inr (Unexpected, t.start, record { front = front; token = t; reaches = reached front t back g; wrong = dead ts e })
+      | inl e ↦ inr (Unexpected, t.start, record { front = front; token = t; reaches = reached front t back g; wrong = stuck_begins_nothing ts e })
       | inr live ↦ elim (cases_lt nesting_limit (open_after 0 ts)) [
-        | inl over ↦ inr (TooNested, t.start, record { front = front; token = t; reaches = reached front t back g; begins = alive t ts live; over = over })
+        | inl over ↦ inr (TooNested, t.start, record { front = front; token = t; reaches = reached front t back g; begins = live_begins t ts live; over = over })
         | inr few ↦ inl (record { live = live; within = one_deeper front t g.within few })
       ]
     ]

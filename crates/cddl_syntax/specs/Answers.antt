@@ -14,7 +14,7 @@ abbrev pub lexemes : List Token → List Lexeme
 lexemes [] = []
 lexemes (t ∷ ts) = lexeme t ∷ lexemes ts
 
--- the tokens are those of the tree, which is in normal form
+-- The tokens are those of the tree, which is in normal form.
 pub record Prints (x : Cddl) (ts : List Lexeme) : Type 0 where
   pub normal : Normal x
   pub tokens : flat x ≡ ts
@@ -23,11 +23,11 @@ pub record Prints (x : Cddl) (ts : List Lexeme) : Type 0 where
 abbrev pub Begins : List Lexeme → Type 0
 Begins ts = (x : Cddl) × (us : List Lexeme) × Prints x (ts ++ us)
 
--- the number of opening tokens that may be open at once
+-- How many opening tokens may be open at once.
 abbrev pub nesting_limit : ℕ
 nesting_limit = 128
 
--- how many are open behind a token, of n before it
+-- How many are open after a token of this kind, where n were open before it.
 abbrev pub opened : Kind → ℕ → ℕ
 opened ParenOpen n = suc n
 opened BracketOpen n = suc n
@@ -42,12 +42,12 @@ opened BraceClose (suc n) = n
 opened AngleClose (suc n) = n
 opened _ n = n
 
--- how many are open behind the tokens
+-- How many are open after the tokens, where n were open before them.
 abbrev pub open_after : ℕ → List Lexeme → ℕ
 open_after n [] = n
 open_after n (t ∷ ts) = open_after (opened t.0 n) ts
 
--- how many are open at once, at most
+-- How many are open at once, at most.
 abbrev pub deepest : ℕ → List Lexeme → ℕ
 deepest n [] = n
 deepest n (t ∷ ts) = max n (deepest (opened t.0 n) ts)
@@ -57,7 +57,7 @@ pub record IsTreeOf (x : Cddl) (ts : List Token) : Type 0 where
   pub prints : Prints x (lexemes ts)
   pub within : nesting x ≤ nesting_limit
 
--- Up to the token t, which stands at `at` in its source, the tokens begin a specification.
+-- The tokens before the token t begin a specification, and t is at the offset `at` of its source.
 pub record Reaches (ts front : List Token) (t : Token) (at : ℕ) : Type 0 where
   pub back : List Token
   pub parts : ts ≡ front ++ t ∷ back
@@ -65,14 +65,14 @@ pub record Reaches (ts front : List Token) (t : Token) (at : ℕ) : Type 0 where
   pub begins : Begins (lexemes front)
   pub within : deepest 0 (lexemes front) ≤ nesting_limit
 
--- with t they begin no tree
+-- With the token they begin no tree.
 pub record IsUnexpected (ts : List Token) (at : ℕ) : Type 0 where
   pub front : List Token
   pub token : Token
   pub reaches : Reaches ts front token at
   pub wrong : Begins (lexemes (front ++ token ∷ [])) → ⊥
 
--- with t they begin a tree, and one too many is open
+-- With the token they begin a tree, and one bracket too many is open.
 pub record IsTooNested (ts : List Token) (at : ℕ) : Type 0 where
   pub front : List Token
   pub token : Token
@@ -80,7 +80,7 @@ pub record IsTooNested (ts : List Token) (at : ℕ) : Type 0 where
   pub begins : Begins (lexemes (front ++ token ∷ []))
   pub over : nesting_limit < open_after 0 (lexemes (front ++ token ∷ []))
 
--- why the tokens are no specification
+-- Why the tokens are no specification: the code, and the offset where that shows.
 abbrev pub IsRefused : List Token → Code → ℕ → Type 0
 IsRefused ts Unexpected at = IsUnexpected ts at
 IsRefused ts TooNested at = IsTooNested ts at

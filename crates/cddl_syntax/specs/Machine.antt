@@ -5,12 +5,12 @@ use Rattle.cddl_token.specs.declared.Kind.{Kind}
 use Rattle.cddl_token.specs.declared.Kind.TheVariants.{Name, NameOpen, Control, Number, Occur, Text, Bytes, Hash, TagOpen, TagHeadOpen, SimpleHeadOpen, Assign, TypeAssign, GroupAssign, Slash, DoubleSlash, Range, RangeBelow, Arrow, Cut, Colon, Comma, ParenOpen, ParenClose, BracketOpen, BracketClose, BraceOpen, BraceClose, AngleClose, Tilde, Ampersand, End}
 use Rattle.cddl_syntax.specs.Syntax.{Lexeme, number, text, bytes, Operator, range, range_below, control, Types, only, or, Type1, one, operation, Type2, literal, typename, parens, map_of, array_of, unwrapped, choice_of, choice_of_name, tagged, tagged_by, simple_by, hash, Ref, name, applied, GenericArg, argument, arguments, Group, sole, orelse, GrpChoice, no_entries, entries, GrpEnt, typed, keyed, grouped, MemberKey, type_key, bareword, value_key, GenericParm, parameter, parameters, RuleName, plain, generic, type_is, type_or, AssignG, group_is, group_or, Rule, type_rule, group_rule, Rules, no_rules, rules, Cddl, cddl}
 
--- the alternatives of a group before the one that is open
+-- The alternatives of a group before the one that is open, and the `//` after them.
 pub data Before : Type 0 where
   nothing : Before
   behind : Group → Token → Before
 
--- the arguments, or the parameters, before the one that is open
+-- The arguments, or the parameters, before the one that is open, and the comma after them.
 pub data ArgBefore : Type 0 where
   no_arg : ArgBefore
   behind_arg : GenericArg → Token → ArgBefore
@@ -19,13 +19,13 @@ pub data ParmBefore : Type 0 where
   no_parm : ParmBefore
   behind_parm : GenericParm → Token → ParmBefore
 
--- what stands directly before a reference
+-- What is directly before a reference.
 pub data Prefix : Type 0 where
   bare : Prefix
   tilde : Token → Prefix
   ampersand : Token → Prefix
 
--- what opened a type in brackets
+-- What opened a type in brackets.
 pub data TypeOpening : Type 0 where
   paren : Token → TypeOpening
   tag : Token → TypeOpening
@@ -33,13 +33,13 @@ pub data TypeOpening : Type 0 where
   tag_content : Token → Types → Token → Token → TypeOpening
   simple_head : Token → TypeOpening
 
--- what opened a group in brackets
+-- What opened a group in brackets.
 pub data GroupOpening : Type 0 where
   brace : Token → GroupOpening
   bracket : Token → GroupOpening
   choice : Token → Token → GroupOpening
 
--- What stands left of a type2, a type1, a type, an entry, an alternative.
+-- What is left of a type2, a type1, a type, an entry, an alternative: all that is open, and what is whole in it.
 mutual
   pub data AtType2 : Type 0 where
     lower : AtType1 → AtType2
@@ -51,16 +51,16 @@ mutual
     argument_of : AtType2 → Prefix → Token → ArgBefore → AtType1
 
   pub data AtTypes : Type 0 where
-    body : Rules → RuleName → Token → AtTypes  -- behind `/=`
+    body : Rules → RuleName → Token → AtTypes  -- after `/=`
     inside : AtType2 → TypeOpening → AtTypes
-    start : AtEntry → Option Token → AtTypes  -- at the head of an entry, where a key may come
+    start : AtEntry → Option Token → AtTypes  -- at the beginning of an entry, where a key may come
     value_of : AtEntry → Option Token → MemberKey → AtTypes
 
   pub data AtEntry : Type 0 where
     group_body : Rules → RuleName → AssignG → AtEntry
     member : AtGroup → Before → GrpChoice → AtEntry
 
-  -- inside a bracket, or inside parentheses at the head of an entry
+  -- inside a bracket, or inside parentheses at the beginning of an entry
   pub data AtGroup : Type 0 where
     within : AtType2 → GroupOpening → AtGroup
     in_entry : AtEntry → Option Token → Token → AtGroup
@@ -70,11 +70,11 @@ pub data State : Type 0 where
   awaits_parm : Rules → Token → ParmBefore → State
   have_parm : Rules → Token → GenericParm → State
   awaits_assign : Rules → RuleName → State
-  want : AtType2 → State  -- a type2
+  want : AtType2 → State  -- awaits a type2
   want_ref : AtType2 → Prefix → State
-  want_content : AtType2 → Token → Types → Token → State  -- the `(` behind `#6.<` and its `>`
+  want_content : AtType2 → Token → Types → Token → State  -- awaits the `(` after `#6.<`, a type and `>`
   have : AtType1 → Type1 → State
-  want_arrow : AtEntry → Option Token → Type1 → Token → State  -- the `=>` behind `^`
+  want_arrow : AtEntry → Option Token → Type1 → Token → State  -- awaits the `=>` after `^`
   have_group : AtEntry → GrpEnt → State
   done : Cddl → State
   stuck : State
@@ -86,7 +86,7 @@ got (upper k x o) y = have k (operation x o y)
 abbrev pub open_types : AtTypes → State
 open_types k = want (lower (head k))
 
--- the place of an entry
+-- An entry is awaited: it begins with a type, unless a parenthesis or an occur comes.
 abbrev pub open_entry : AtEntry → State
 open_entry p = open_types (start p None)
 
@@ -116,12 +116,12 @@ prefixed bare r = typename r
 prefixed (tilde u) r = unwrapped u r
 prefixed (ampersand a) r = choice_of_name a r
 
--- a body behind `=` that is a type makes a type rule
+-- A body after `=` that is a type makes a type rule.
 abbrev pub rule_of : RuleName → AssignG → GrpEnt → Rule
 rule_of n (group_is a) (typed None t) = type_rule n (type_is a) t
 rule_of n a e = group_rule n a e
 
--- a token behind whole rules
+-- A token after whole rules.
 abbrev pub next_rule : Rules → Kind → Token → State
 next_rule rs Name t = awaits_assign rs (plain t)
 next_rule rs NameOpen t = awaits_parm rs t no_parm
@@ -139,12 +139,12 @@ assigned rs n TypeAssign t = open_types (body rs n t)
 assigned rs n GroupAssign t = open_entry (group_body rs n (group_or t))
 assigned rs n _ t = stuck
 
--- a closing parenthesis behind a group at the head of an entry
+-- A closing parenthesis after a group at the beginning of an entry.
 abbrev pub shut_paren : AtEntry → Option Token → Token → Group → Token → State
 shut_paren p oc o (sole (entries no_entries (typed None t) None)) c = got (lower (head (start p oc))) (parens o t c)
 shut_paren p oc o g c = have_group p (grouped oc o g c)
 
--- a closing token behind a group
+-- A closing token after a group.
 abbrev pub shut_group : AtGroup → Group → Kind → Token → State
 shut_group (within k (brace o)) g BraceClose c = got k (map_of o g c)
 shut_group (within k (bracket o)) g BracketClose c = got k (array_of o g c)
@@ -152,7 +152,7 @@ shut_group (within k (choice a o)) g ParenClose c = got k (choice_of a o g c)
 shut_group (in_entry p oc o) g ParenClose c = shut_paren p oc o g c
 shut_group _ g _ c = stuck
 
--- a token behind the entries of an alternative
+-- A token after the entries of an alternative.
 abbrev pub ends : AtGroup → Before → GrpChoice → Kind → Token → State
 ends k b es DoubleSlash t = open_entry (member k (behind (group_of b es) t) no_entries)
 ends k b es q t = shut_group k (group_of b es) q t
@@ -165,7 +165,7 @@ abbrev pub occur_want : AtType2 → Token → State
 occur_want (lower (head (start p None))) t = open_types (start p (Some t))
 occur_want _ t = stuck
 
--- an opening parenthesis where a type2 is awaited
+-- An opening parenthesis where a type2 is awaited.
 abbrev pub open_paren : AtType2 → Token → State
 open_paren (lower (head (start p oc))) t = open_group (in_entry p oc t)
 open_paren k t = open_types (inside k (paren t))
@@ -188,7 +188,7 @@ step_want k SimpleHeadOpen t = open_types (inside k (simple_head t))
 step_want k Occur t = occur_want k t
 step_want k q t = ends_want k q t
 
--- a parenthesis behind `&`
+-- A parenthesis after `&`.
 abbrev pub open_choice : AtType2 → Prefix → Token → State
 open_choice k (ampersand a) t = open_group (within k (choice a t))
 open_choice k _ t = stuck
@@ -199,13 +199,13 @@ step_want_ref k p NameOpen t = open_argument k p t no_arg
 step_want_ref k p ParenOpen t = open_choice k p t
 step_want_ref k p _ t = stuck
 
--- a token behind an entry
+-- A token after an entry.
 abbrev pub after_entry : AtEntry → GrpEnt → Kind → Token → State
 after_entry (group_body rs n a) e q t = next_rule (rules rs (rule_of n a e)) q t
 after_entry (member k b es) e Comma t = open_entry (member k b (entries es e (Some t)))
 after_entry (member k b es) e q t = step_want (lower (head (start (member k b (entries es e None)) None))) q t
 
--- what is before an arrow is a type1
+-- What is before an arrow is a type1.
 abbrev pub arrow : AtEntry → Option Token → Types → Token → State
 arrow p oc (only r) t = open_value p oc (type_key r None t)
 arrow p oc _ t = stuck
@@ -214,13 +214,13 @@ abbrev pub cut : AtEntry → Option Token → Types → Token → State
 cut p oc (only r) t = want_arrow p oc r t
 cut p oc _ t = stuck
 
--- what is before a colon is a name or a value
+-- What is before a colon is a name or a value.
 abbrev pub colon : AtEntry → Option Token → Types → Token → State
 colon p oc (only (one (typename (name n)))) t = open_value p oc (bareword n t)
 colon p oc (only (one (literal v))) t = open_value p oc (value_key v t)
 colon p oc _ t = stuck
 
--- a closing token behind a type in brackets
+-- A closing token after a type in brackets.
 abbrev pub shut_types : AtType2 → TypeOpening → Types → Kind → Token → State
 shut_types k (paren o) ts ParenClose t = got k (parens o ts t)
 shut_types k (tag o) ts ParenClose t = got k (tagged o ts t)
@@ -229,7 +229,7 @@ shut_types k (tag_content o h a p) ts ParenClose t = got k (tagged_by o h a p ts
 shut_types k (simple_head o) ts AngleClose t = got k (simple_by o ts t)
 shut_types k _ ts _ t = stuck
 
--- a token behind a type at the head of an entry
+-- A token after a type at the beginning of an entry.
 abbrev pub after_start : AtEntry → Option Token → Types → Kind → Token → State
 after_start p oc ts Arrow t = arrow p oc ts t
 after_start p oc ts Cut t = cut p oc ts t

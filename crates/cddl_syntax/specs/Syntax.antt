@@ -4,7 +4,7 @@ use Rattle.cddl_token.specs.declared.Token.{Token}
 use Rattle.cddl_token.specs.declared.Kind.{Kind}
 use Rattle.cddl_token.specs.declared.Kind.TheVariants.{Name, NameOpen, Control, Number, Occur, Text, Bytes, Hash, TagOpen, TagHeadOpen, SimpleHeadOpen, Assign, TypeAssign, GroupAssign, Slash, DoubleSlash, Range, RangeBelow, Arrow, Cut, Colon, Comma, ParenOpen, ParenClose, BracketOpen, BracketClose, BraceOpen, BraceClose, AngleClose, Tilde, Ampersand, End}
 
--- a token, and the kind that stands at its place
+-- A token, and the kind that the grammar has at its place.
 abbrev pub Lexeme : Type 0
 Lexeme = Kind × Token
 
@@ -205,12 +205,12 @@ flat (cddl rs e) = flat_rules rs ++ (End, e) ∷ []
 
 -- The normal form: of two trees for the same tokens it has the one with the type.
 
--- an entry that is a type, without occurrence and key
+-- An entry that is a type, without occur and key.
 abbrev pub is_bare : GrpEnt → Bool
 is_bare (typed None t) = true
 is_bare _ = false
 
--- one bare entry without a comma: in parentheses it is a type
+-- One bare entry without a comma: in parentheses it is a type.
 abbrev pub is_type : Group → Bool
 is_type (sole (entries no_entries (typed None t) None)) = true
 is_type _ = false
@@ -265,7 +265,7 @@ abbrev mutual
   NormalKey (bareword n c) = Unit {0}
   NormalKey (value_key v c) = Unit {0}
 
--- A body behind `=` that is a type makes a type rule.
+-- A body after `=` that is a type makes a type rule.
 abbrev pub NormalRule : Rule → Type 0
 NormalRule (type_rule n a t) = NormalTypes t
 NormalRule (group_rule n (group_is a) e) = (is_bare e ≡ false) × NormalEntry e

@@ -15,7 +15,7 @@ pub fn one_tree()
     ensures { (ts : List Lexeme) (x y : Cddl) → Prints x ts → Prints y ts → y ≡ x }
 {}
 
-/// The machine is done exactly behind the tokens of a tree, and with that tree.
+/// The machine is done exactly after the tokens of a tree, and with that tree.
 pub fn makes_trees()
     ensures sound { (ts : List Lexeme) (x : Cddl) → run begin ts ≡ done x → Prints x ts }
     ensures complete { (ts : List Lexeme) (x : Cddl) → Prints x ts → run begin ts ≡ done x }

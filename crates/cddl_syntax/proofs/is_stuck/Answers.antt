@@ -1,5 +1,5 @@
-use Rattle.cddl_syntax.proofs.Verdict.{dead}
+use Rattle.cddl_syntax.proofs.Verdict.{stuck_begins_nothing}
 use Rattle.cddl_syntax.proofs.is_stuck.Goals as goal
 
 pub returns : goal.returns
-returns c = dead
+returns c = stuck_begins_nothing
