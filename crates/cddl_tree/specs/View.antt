@@ -32,7 +32,7 @@ use Rattle.cddl_tree.specs.declared.tree.GrpEnt.TheFolds.{fold-GrpEnt, fold-Memb
 use Rattle.cddl_tree.specs.declared.tree.GrpEnt.TheOpen.{GrpEnt-F, MemberKey-F, Ref-F, Type1-F, Type2-F, Entry-F, Further-F, GenericArg-F, Group-F, GrpChoice-F, Types-F}
 use Rattle.cddl_syntax.specs.Syntax as S
 
--- the token of a leaf that may be missing
+-- The token of a leaf that may be missing.
 abbrev pub leaf : Option (Bor Token) → Option Token
 leaf None = None
 leaf (Some t) = Some t.now
@@ -47,7 +47,7 @@ view_operator (OperatorV.Range t) = S.range t.now
 view_operator (OperatorV.RangeBelow t) = S.range_below t.now
 view_operator (OperatorV.Control t) = S.control t.now
 
--- a choice with further ones
+-- A list with further parts at its end, each after its sign.
 abbrev pub with_types : S.Types → List (Token × S.Type1) → S.Types
 with_types t [] = t
 with_types t (x ∷ xs) = with_types (S.or t x.0 x.1) xs
@@ -64,27 +64,31 @@ abbrev pub with_choices : S.Group → List (Token × S.GrpChoice) → S.Group
 with_choices g [] = g
 with_choices g (x ∷ xs) = with_choices (S.orelse g x.0 x.1) xs
 
--- What a node is made of, from what its parts stand for.
+-- One level of a node, whose parts are given by what they stand for.
+abbrev pub Opened : (Type 0 → Type 0 → Type 0 → Type 0 → Type 0 → Type 0 → Type 0 → Type 0 → Type 0 → Type 0 → Type 0 → Type 0) → Type 0
+Opened F = F S.GrpEnt S.MemberKey S.Ref S.Type1 S.Type2 (S.GrpEnt × Option Token) (Token × S.Type1) S.GenericArg S.Group (Token × S.GrpChoice) S.Types
 
-abbrev pub grpent_step : GrpEnt-F S.GrpEnt S.MemberKey S.Ref S.Type1 S.Type2 (S.GrpEnt × Option Token) (Token × S.Type1) S.GenericArg S.Group (Token × S.GrpChoice) S.Types → S.GrpEnt
+-- What a node stands for, from what its parts stand for.
+
+abbrev pub grpent_step : Opened GrpEnt-F → S.GrpEnt
 grpent_step (GrpEnt-F.Typed o t) = S.typed (leaf o) t
 grpent_step (GrpEnt-F.Keyed o k t) = S.keyed (leaf o) k.value t
 grpent_step (GrpEnt-F.Grouped o p g c) = S.grouped (leaf o) p.now g c.now
 
-abbrev pub key_step : MemberKey-F S.GrpEnt S.MemberKey S.Ref S.Type1 S.Type2 (S.GrpEnt × Option Token) (Token × S.Type1) S.GenericArg S.Group (Token × S.GrpChoice) S.Types → S.MemberKey
+abbrev pub key_step : Opened MemberKey-F → S.MemberKey
 key_step (MemberKey-F.TypeKey r u a) = S.type_key r (leaf u) a.now
 key_step (MemberKey-F.Bareword n c) = S.bareword n.now c.now
 key_step (MemberKey-F.ValueKey v c) = S.value_key (view_value v) c.now
 
-abbrev pub ref_step : Ref-F S.GrpEnt S.MemberKey S.Ref S.Type1 S.Type2 (S.GrpEnt × Option Token) (Token × S.Type1) S.GenericArg S.Group (Token × S.GrpChoice) S.Types → S.Ref
+abbrev pub ref_step : Opened Ref-F → S.Ref
 ref_step (Ref-F.Name t) = S.name t.now
 ref_step (Ref-F.Applied o a c) = S.applied o.now a.value c.now
 
-abbrev pub type1_step : Type1-F S.GrpEnt S.MemberKey S.Ref S.Type1 S.Type2 (S.GrpEnt × Option Token) (Token × S.Type1) S.GenericArg S.Group (Token × S.GrpChoice) S.Types → S.Type1
+abbrev pub type1_step : Opened Type1-F → S.Type1
 type1_step (Type1-F.One x) = S.one x.value
 type1_step (Type1-F.Operation x o y) = S.operation x.value (view_operator o) y.value
 
-abbrev pub type2_step : Type2-F S.GrpEnt S.MemberKey S.Ref S.Type1 S.Type2 (S.GrpEnt × Option Token) (Token × S.Type1) S.GenericArg S.Group (Token × S.GrpChoice) S.Types → S.Type2
+abbrev pub type2_step : Opened Type2-F → S.Type2
 type2_step (Type2-F.Literal v) = S.literal (view_value v)
 type2_step (Type2-F.Typename r) = S.typename r
 type2_step (Type2-F.Parens o t c) = S.parens o.now t.value c.now
@@ -98,22 +102,22 @@ type2_step (Type2-F.TaggedBy o h a p t c) = S.tagged_by o.now h.value a.now p.no
 type2_step (Type2-F.SimpleBy o h c) = S.simple_by o.now h.value c.now
 type2_step (Type2-F.Hash t) = S.hash t.now
 
-abbrev pub entry_step : Entry-F S.GrpEnt S.MemberKey S.Ref S.Type1 S.Type2 (S.GrpEnt × Option Token) (Token × S.Type1) S.GenericArg S.Group (Token × S.GrpChoice) S.Types → S.GrpEnt × Option Token
+abbrev pub entry_step : Opened Entry-F → S.GrpEnt × Option Token
 entry_step e = (e.grpent, leaf e.comma)
 
-abbrev pub further_step : Further-F S.GrpEnt S.MemberKey S.Ref S.Type1 S.Type2 (S.GrpEnt × Option Token) (Token × S.Type1) S.GenericArg S.Group (Token × S.GrpChoice) S.Types → Token × S.Type1
+abbrev pub further_step : Opened Further-F → Token × S.Type1
 further_step x = (x.sign.now, x.type1)
 
-abbrev pub arg_step : GenericArg-F S.GrpEnt S.MemberKey S.Ref S.Type1 S.Type2 (S.GrpEnt × Option Token) (Token × S.Type1) S.GenericArg S.Group (Token × S.GrpChoice) S.Types → S.GenericArg
+abbrev pub arg_step : Opened GenericArg-F → S.GenericArg
 arg_step a = with_arguments (S.argument a.first) a.others.items
 
-abbrev pub group_step : Group-F S.GrpEnt S.MemberKey S.Ref S.Type1 S.Type2 (S.GrpEnt × Option Token) (Token × S.Type1) S.GenericArg S.Group (Token × S.GrpChoice) S.Types → S.Group
+abbrev pub group_step : Opened Group-F → S.Group
 group_step g = with_choices (S.sole (with_entries S.no_entries g.first.items)) g.others.items
 
-abbrev pub choice_step : GrpChoice-F S.GrpEnt S.MemberKey S.Ref S.Type1 S.Type2 (S.GrpEnt × Option Token) (Token × S.Type1) S.GenericArg S.Group (Token × S.GrpChoice) S.Types → Token × S.GrpChoice
+abbrev pub choice_step : Opened GrpChoice-F → Token × S.GrpChoice
 choice_step c = (c.slashes.now, with_entries S.no_entries c.entries.items)
 
-abbrev pub types_step : Types-F S.GrpEnt S.MemberKey S.Ref S.Type1 S.Type2 (S.GrpEnt × Option Token) (Token × S.Type1) S.GenericArg S.Group (Token × S.GrpChoice) S.Types → S.Types
+abbrev pub types_step : Opened Types-F → S.Types
 types_step t = with_types (S.only t.first) t.others.items
 
 -- What a node stands for.
@@ -181,7 +185,7 @@ with_rules rs (r ∷ more) = with_rules (S.rules rs (view_rule r)) more
 abbrev pub view : Tree → S.Cddl
 view t = S.cddl (with_rules S.no_rules t.rules.items) t.end.now
 
--- the first of the tokens begins there
+-- The first of the tokens begins there.
 abbrev pub StartsAt : List S.Lexeme → ℕ → Type 0
 StartsAt [] at = ⊥
 StartsAt (t ∷ ts) at = at ≡ t.1.start

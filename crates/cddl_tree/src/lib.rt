@@ -8,5 +8,5 @@ mod tree;
 
 pub use crate::tree::{
     AssignG, AssignT, Entry, Further, GenericArg, GenericParm, Group, GrpChoice, GrpEnt, MemberKey,
-    Operator, Parameter, Ref, Rule, RuleName, Tree, Type1, Type2, Types, Value,
+    Operator, Parameter, Ref, Rule, RuleName, Tree, Type1, Type2, Types, Value, discard,
 };

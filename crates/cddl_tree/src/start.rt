@@ -40,7 +40,8 @@ impl Types<'_> {
     pub fn start(&self) -> usize
         ensures { StartsAt (S.flat_types (view_types self.now)) result }
     {
-        self.first.start()
+        let Types { first, .. } = self;
+        first.start()
     }
 }
 
@@ -96,7 +97,8 @@ impl GenericArg<'_> {
     pub fn start(&self) -> usize
         ensures { StartsAt (S.flat_arg (view_arg self.now)) result }
     {
-        self.first.start()
+        let GenericArg { first, .. } = self;
+        first.start()
     }
 }
 
@@ -141,7 +143,8 @@ impl GenericParm<'_> {
     pub fn start(&self) -> usize
         ensures { StartsAt (S.flat_parm (view_parm self.now)) result }
     {
-        self.first.start
+        let GenericParm { first, .. } = self;
+        first.start
     }
 }
 

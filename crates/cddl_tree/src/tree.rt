@@ -8,7 +8,7 @@ pub enum Value<'s> {
     Bytes(&'s Token<'s>),
 }
 
-/// rangeop or ctlop: what stands between two operands.
+/// rangeop or ctlop: what is between two operands.
 #[derive(Clone, Copy)]
 pub enum Operator<'s> {
     /// `..`, with both ends.
@@ -24,7 +24,7 @@ pub enum Operator<'s> {
 #[derive(Drop)]
 pub struct Types<'s> {
     pub first: Type1<'s>,
-    /// The others, each behind its `/`.
+    /// The others, each after its `/`.
     pub others: Vec<Further<'s>>,
 }
 
@@ -37,7 +37,7 @@ pub struct Further<'s> {
     pub type1: Type1<'s>,
 }
 
-/// type1: an operand, or two and what stands between them.
+/// type1: an operand, or two and what is between them.
 #[cycle(tree)]
 #[derive(Drop)]
 pub enum Type1<'s> {
@@ -133,7 +133,7 @@ pub enum Ref<'s> {
 #[derive(Drop)]
 pub struct GenericArg<'s> {
     pub first: Type1<'s>,
-    /// The others, each behind its `,`.
+    /// The others, each after its `,`.
     pub others: Vec<Further<'s>>,
 }
 
@@ -145,7 +145,7 @@ pub struct Group<'s> {
     pub others: Vec<GrpChoice<'s>>,
 }
 
-/// A further grpchoice, behind its `//`.
+/// A further grpchoice, after its `//`.
 #[cycle(tree)]
 #[derive(Drop)]
 pub struct GrpChoice<'s> {
@@ -213,7 +213,7 @@ pub struct GenericParm<'s> {
     pub others: Vec<Parameter<'s>>,
 }
 
-/// A further parameter, behind its `,`.
+/// A further parameter, after its `,`.
 #[derive(Clone, Copy)]
 pub struct Parameter<'s> {
     pub comma: &'s Token<'s>,
@@ -269,4 +269,10 @@ pub enum Rule<'s> {
 pub struct Tree<'s> {
     pub rules: Vec<Rule<'s>>,
     pub end: &'s Token<'s>,
+}
+
+/// Lets go of a tree. It goes down one level of the program's stack for each bracket that is open,
+/// of which the parser has 128 at most.
+pub fn discard(tree: Tree<'_>) {
+    drop(tree);
 }
