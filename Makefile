@@ -26,8 +26,8 @@ quick:
 
 bench: build
 	@$(PYTHON) bench/run.py build/cddlseq
-	cd crates/cddl_scan && $(RT) run < /dev/null > /dev/null
-	@$(PYTHON) bench/tokens.py crates/cddl_scan/out/cddl_scan
+	cd crates/cddl_count && $(RT) run < /dev/null > /dev/null
+	@$(PYTHON) bench/tokens.py crates/cddl_count/out/cddl_count
 
 install: build
 	install -D -m 755 build/cddlseq "$(DESTDIR)$(PREFIX)/bin/cddlseq"

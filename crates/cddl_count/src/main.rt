@@ -3,6 +3,7 @@
 
 use cddl_parse::{parse, tokens_end};
 use cddl_token::{Refusal, tokens};
+use cddl_tree::discard;
 use std::alloc::Global;
 use std::io::Read;
 
@@ -12,7 +13,7 @@ fn counts(alloc: Global, source: &[u8]) -> Result<(usize, usize), Refusal> {
     let found = tokens(alloc, source)?;
     let tree = parse(alloc, found.as_slice())?;
     let rules = tree.rules.len();
-    drop(tree);
+    discard(tree);
     Ok((found.len(), rules))
 }
 
