@@ -1,18 +1,20 @@
 //! Prints the trees of the specifications on standard input: what `tests/run_grammar.py` reads.
 //!
-//! A zero byte stands behind each text; the last needs none. Each text has one line: `tree: ` and the sketch of its
-//! tree, which `tests/run_grammar.py` explains, or why it has none. A token stands in a sketch as
+//! A zero byte is after each text; the last needs none. Each text has one line: `tree: ` and the sketch of its
+//! tree, which `tests/run_grammar.py` explains, or why it has none. A token is in a sketch as
 //! `{Node Kind start end "text"}`, without the node where it is not all of one.
 #![tactic(auto)]
 
 ghost use Rattle.cddl_parse.specs.States.{EndsInEnd};
 
+mod nodes;
 mod sketch;
 
 use crate::sketch::{Piece, Sketch};
 use cddl_parse::{parse, tokens_end};
 use cddl_token::{Token, tokens};
-use cddl_tree::{Rule, Tree};
+use cddl_tree::{Tree, discard};
+use std::io;
 use std::io::Read;
 
 /// A text without the zero byte behind it.
@@ -24,7 +26,7 @@ fn unended(text: &[u8]) -> &[u8] {
 }
 
 /// Prints the line of a text.
-fn print_line(rt: &HostRuntime, text: &[u8]) -> anyhow::Result<()> {
+fn print_line(rt: &HostRuntime, text: &[u8]) -> io::Result<()> {
     tokens_end();
     match tokens(rt.alloc(), text) {
         Ok(found) => print_answer(rt, found.as_slice()),
@@ -35,13 +37,13 @@ fn print_line(rt: &HostRuntime, text: &[u8]) -> anyhow::Result<()> {
     }
 }
 
-fn print_answer<'s>(rt: &HostRuntime, found: &'s [Token<'s>]) -> anyhow::Result<()>
+fn print_answer<'s>(rt: &HostRuntime, found: &'s [Token<'s>]) -> io::Result<()>
     requires { EndsInEnd found.now }
 {
     match parse(rt.alloc(), found) {
         Ok(tree) => {
             let printed = print_tree(rt, &tree);
-            drop(tree);
+            discard(tree);
             printed
         }
         Err(refusal) => {
@@ -51,40 +53,38 @@ fn print_answer<'s>(rt: &HostRuntime, found: &'s [Token<'s>]) -> anyhow::Result<
     }
 }
 
-fn print_tree(rt: &HostRuntime, tree: &Tree<'_>) -> anyhow::Result<()> {
-    print!(rt; "tree: ")?;
-    print_rules(rt, tree.rules.as_slice())?;
-    print_token(rt, "", tree.end)?;
-    println!(rt; "")?;
-    Ok(())
+fn print_tree(rt: &HostRuntime, tree: &Tree<'_>) -> io::Result<()> {
+    let mut sketch = Sketch::of(rt.alloc(), tree);
+    print_sketch(rt, &mut sketch)
 }
 
-fn print_rules(rt: &HostRuntime, rules: &[Rule<'_>]) -> anyhow::Result<()> {
-    let mut sketch = Sketch::of(rt.alloc(), rules)?;
+fn print_sketch(rt: &HostRuntime, sketch: &mut Sketch<'_, '_>) -> io::Result<()> {
     for _ in 0..u64::MAX {
         match sketch.next() {
             None => break,
-            Some(piece) => print_piece(rt, &mut sketch, piece)?,
+            Some(piece) => print_piece(rt, sketch, piece)?,
         }
     }
+    sketch.memory()?;
     Ok(())
 }
 
-/// Prints a word or a token, and opens what is neither.
+/// Prints a word or a token, or opens a node.
 fn print_piece<'t, 's>(
     rt: &HostRuntime,
     sketch: &mut Sketch<'t, 's>,
     piece: Piece<'t, 's>,
-) -> anyhow::Result<()> {
+) -> io::Result<()> {
     match piece {
         Piece::Word(word) => print!(rt; "{word}")?,
         Piece::Leaf(node, token) => print_token(rt, node, token)?,
-        piece => sketch.open(piece)?,
+        Piece::Type2(type2) => sketch.open_type2(type2),
+        Piece::Group(group) => sketch.open_group(group),
     }
     Ok(())
 }
 
-fn print_token(rt: &HostRuntime, node: &str, token: &Token<'_>) -> anyhow::Result<()> {
+fn print_token(rt: &HostRuntime, node: &str, token: &Token<'_>) -> io::Result<()> {
     let kind = token.kind;
     let start = token.start;
     let end = token.end;

@@ -1,0 +1,342 @@
+//! The pieces that each node is made of. A type2 or a group in it is one piece.
+//!
+//! Boxes and lists are passed on as they are: each place that looks into one costs the check seconds.
+use crate::sketch::Sketch;
+use cddl_token::{Kind, Token};
+use cddl_tree::{
+    AssignG, AssignT, Entry, Further, GenericArg, Group, GrpChoice, GrpEnt, MemberKey, Operator,
+    Parameter, Ref, Rule, RuleName, Tree, Type1, Type2, Types, Value,
+};
+
+impl<'t, 's> Sketch<'t, 's> {
+    pub(crate) fn tree(&mut self, tree: &'t Tree<'s>) {
+        self.word("tree: ");
+        self.rules(&tree.rules);
+        self.token(tree.end);
+        self.word("\n");
+    }
+
+    fn rules(&mut self, rules: &'t Vec<Rule<'s>>) {
+        if let [first, others @ ..] = rules.as_slice() {
+            self.rule(first);
+            for rule in others {
+                self.word("; ");
+                self.rule(rule);
+            }
+        }
+    }
+
+    fn rule(&mut self, rule: &'t Rule<'s>) {
+        match rule {
+            Rule::TypeRule {
+                name,
+                assign,
+                types,
+            } => {
+                self.word("type ");
+                self.name(name);
+                self.type_sign(assign);
+                self.types(types);
+            }
+            Rule::GroupRule {
+                name,
+                assign,
+                grpent,
+            } => {
+                self.word("group ");
+                self.name(name);
+                self.group_sign(assign);
+                self.grpent(grpent);
+            }
+        }
+    }
+
+    fn name(&mut self, name: &'t RuleName<'s>) {
+        match name {
+            RuleName::Plain(token) => self.leaf("Plain", *token),
+            RuleName::Generic {
+                opening,
+                parameters,
+                closing,
+            } => {
+                self.token(*opening);
+                self.token(parameters.first);
+                self.parameters(parameters.others.as_slice());
+                self.token(*closing);
+            }
+        }
+    }
+
+    fn parameters(&mut self, parameters: &'t [Parameter<'s>]) {
+        for parameter in parameters {
+            self.token(parameter.comma);
+            self.word(" ");
+            self.token(parameter.name);
+        }
+    }
+
+    fn type_sign(&mut self, assign: &AssignT<'s>) {
+        match assign {
+            AssignT::TypeIs(token) => self.sign("TypeIs", *token),
+            AssignT::TypeOr(token) => self.sign("TypeOr", *token),
+        }
+    }
+
+    fn group_sign(&mut self, assign: &AssignG<'s>) {
+        match assign {
+            AssignG::GroupIs(token) => self.sign("GroupIs", *token),
+            AssignG::GroupOr(token) => self.sign("GroupOr", *token),
+        }
+    }
+
+    /// A token between two spaces.
+    fn sign(&mut self, node: &'static str, token: &'s Token<'s>) {
+        self.word(" ");
+        self.leaf(node, token);
+        self.word(" ");
+    }
+
+    fn types(&mut self, types: &'t Types<'s>) {
+        self.type1(&types.first);
+        for further in &types.others {
+            self.further(further);
+        }
+    }
+
+    fn further(&mut self, further: &'t Further<'s>) {
+        self.further_sign(further.sign);
+        self.type1(&further.type1);
+    }
+
+    /// A `/` between two spaces, or a comma before one.
+    fn further_sign(&mut self, token: &'s Token<'s>) {
+        match token.kind {
+            Kind::Slash => self.sign("", token),
+            _ => {
+                self.token(token);
+                self.word(" ");
+            }
+        }
+    }
+
+    fn type1(&mut self, type1: &'t Type1<'s>) {
+        match type1 {
+            Type1::One(type2) => self.type2(type2),
+            Type1::Operation {
+                left,
+                operator,
+                right,
+            } => {
+                self.word("op(");
+                self.type2(left);
+                self.operator(operator);
+                self.type2(right);
+                self.word(")");
+            }
+        }
+    }
+
+    fn operator(&mut self, operator: &Operator<'s>) {
+        match operator {
+            Operator::Range(token) => self.sign("Range", *token),
+            Operator::RangeBelow(token) => self.sign("RangeBelow", *token),
+            Operator::Control(token) => self.sign("Control", *token),
+        }
+    }
+
+    pub(crate) fn in_type2(&mut self, type2: &'t Type2<'s>) {
+        match type2 {
+            Type2::Literal(value) => self.value(value),
+            Type2::Typename(name) => self.reference(name),
+            Type2::Parens {
+                opening,
+                types,
+                closing,
+            } => {
+                self.word("type");
+                self.enclosed(*opening, types, *closing);
+            }
+            Type2::MapOf {
+                opening,
+                group,
+                closing,
+            } => self.grouped(*opening, group, *closing),
+            Type2::ArrayOf {
+                opening,
+                group,
+                closing,
+            } => self.grouped(*opening, group, *closing),
+            Type2::Unwrapped { tilde, name } => self.prefixed(*tilde, name),
+            Type2::ChoiceOf {
+                ampersand,
+                opening,
+                group,
+                closing,
+            } => {
+                self.token(*ampersand);
+                self.grouped(*opening, group, *closing);
+            }
+            Type2::ChoiceOfName { ampersand, name } => self.prefixed(*ampersand, name),
+            Type2::Tagged {
+                opening,
+                types,
+                closing,
+            } => self.enclosed(*opening, types, *closing),
+            Type2::TaggedBy {
+                opening,
+                head,
+                angle,
+                paren,
+                types,
+                closing,
+            } => {
+                self.enclosed(*opening, head, *angle);
+                self.enclosed(*paren, types, *closing);
+            }
+            Type2::SimpleBy {
+                opening,
+                head,
+                closing,
+            } => self.enclosed(*opening, head, *closing),
+            Type2::Hash(token) => self.leaf("Hash", *token),
+        }
+    }
+
+    fn value(&mut self, value: &Value<'s>) {
+        match value {
+            Value::Number(token) => self.leaf("Number", *token),
+            Value::Text(token) => self.leaf("Text", *token),
+            Value::Bytes(token) => self.leaf("Bytes", *token),
+        }
+    }
+
+    fn reference(&mut self, name: &'t Ref<'s>) {
+        match name {
+            Ref::Name(token) => self.leaf("Name", *token),
+            Ref::Applied {
+                opening,
+                arguments,
+                closing,
+            } => {
+                self.token(*opening);
+                self.arguments(arguments);
+                self.token(*closing);
+            }
+        }
+    }
+
+    fn arguments(&mut self, arguments: &'t GenericArg<'s>) {
+        self.type1(&arguments.first);
+        for further in &arguments.others {
+            self.further(further);
+        }
+    }
+
+    fn prefixed(&mut self, prefix: &'s Token<'s>, name: &'t Ref<'s>) {
+        self.token(prefix);
+        self.reference(name);
+    }
+
+    /// A type in brackets.
+    fn enclosed(
+        &mut self,
+        opening: &'s Token<'s>,
+        types: &'t Box<Types<'s>>,
+        closing: &'s Token<'s>,
+    ) {
+        self.token(opening);
+        self.types(types);
+        self.token(closing);
+    }
+
+    /// A group in brackets.
+    fn grouped(&mut self, opening: &'s Token<'s>, group: &'t Group<'s>, closing: &'s Token<'s>) {
+        self.token(opening);
+        self.group(group);
+        self.token(closing);
+    }
+
+    pub(crate) fn in_group(&mut self, group: &'t Group<'s>) {
+        self.entries(&group.first);
+        for choice in &group.others {
+            self.choice(choice);
+        }
+    }
+
+    fn choice(&mut self, choice: &'t GrpChoice<'s>) {
+        self.sign("", choice.slashes);
+        self.entries(&choice.entries);
+    }
+
+    fn entries(&mut self, entries: &'t Vec<Entry<'s>>) {
+        if let [first, others @ ..] = entries.as_slice() {
+            self.entry(first);
+            for entry in others {
+                self.word(" | ");
+                self.entry(entry);
+            }
+        }
+    }
+
+    fn entry(&mut self, entry: &'t Entry<'s>) {
+        self.grpent(&entry.grpent);
+        if let Some(comma) = entry.comma {
+            self.token(comma);
+        }
+    }
+
+    fn grpent(&mut self, grpent: &'t GrpEnt<'s>) {
+        match grpent {
+            GrpEnt::Typed { occur, types } => {
+                self.optional(*occur);
+                self.types(types);
+            }
+            GrpEnt::Keyed { occur, key, types } => {
+                self.optional(*occur);
+                self.key(key);
+                self.types(types);
+            }
+            GrpEnt::Grouped {
+                occur,
+                opening,
+                group,
+                closing,
+            } => {
+                self.optional(*occur);
+                self.word("group");
+                self.grouped(*opening, group, *closing);
+            }
+        }
+    }
+
+    /// A token and a space, if there is one.
+    fn optional(&mut self, token: Option<&'s Token<'s>>) {
+        if let Some(token) = token {
+            self.token(token);
+            self.word(" ");
+        }
+    }
+
+    fn key(&mut self, key: &'t MemberKey<'s>) {
+        match key {
+            MemberKey::TypeKey { type1, cut, arrow } => {
+                self.word("key ");
+                self.type1(type1);
+                self.word(" ");
+                self.optional(*cut);
+                self.token(*arrow);
+            }
+            MemberKey::Bareword { name, colon } => {
+                self.word("bareword ");
+                self.token(*name);
+                self.token(*colon);
+            }
+            MemberKey::ValueKey { value, colon } => {
+                self.word("value ");
+                self.value(value);
+                self.token(*colon);
+            }
+        }
+        self.word(" ");
+    }
+}
