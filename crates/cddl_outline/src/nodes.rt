@@ -144,6 +144,7 @@ impl<'t, 's> Sketch<'t, 's> {
         }
     }
 
+    /// What a type2 is made of.
     pub(crate) fn in_type2(&mut self, type2: &'t Type2<'s>) {
         match type2 {
             Type2::Literal(value) => self.value(value),
@@ -256,6 +257,7 @@ impl<'t, 's> Sketch<'t, 's> {
         self.token(closing);
     }
 
+    /// What a group is made of.
     pub(crate) fn in_group(&mut self, group: &'t Group<'s>) {
         self.entries(&group.first);
         for choice in &group.others {

@@ -62,6 +62,7 @@ impl<'t, 's> Sketch<'t, 's> {
         self.turn();
     }
 
+    /// Puts the parts of a node before what is left.
     fn turn(&mut self) {
         self.parts.reverse();
         if self.left.append(&mut self.parts).is_err() {
