@@ -3,10 +3,8 @@ use Rattle.std.proofs.Common.{◌≡◌, ◌≢◌, List, [], ◌∷◌, ◌++�
 use Rattle.cddl_token.specs.declared.Token.{Token}
 use Rattle.cddl_token.specs.declared.Kind.{Kind}
 use Rattle.cddl_token.specs.declared.Kind.TheVariants as K
-use Rattle.cddl_token.specs.declared.Refusal.{Refusal}
-use Rattle.cddl_token.specs.declared.Refusal.TheVariants.{At, Memory}
-use Rattle.std.specs.Prelude.{MatchResult}
-use Rattle.cddl_token.specs.declared.Code.TheVariants.{Unexpected}
+use Rattle.cddl_parse.specs.declared.frames.Stop.{Stop}
+use Rattle.cddl_parse.specs.declared.frames.Stop.TheVariants.{Unexpected, Memory}
 use Rattle.cddl_tree.specs.declared.tree.RuleName.{RuleName}
 use Rattle.cddl_tree.specs.declared.tree.AssignG.{AssignG}
 use Rattle.cddl_tree.specs.declared.tree.Rule.{Rule}
@@ -29,12 +27,7 @@ use Rattle.cddl_parse.specs.Frames.{on, made, Below, nowhere, as_entry, view_hom
 use Rattle.cddl_parse.proofs.Behind.{on_made}
 use Rattle.cddl_parse.specs.States.{view_rules, view_state, BeginsBody, GivesState}
 
--- what is made of the place is what is made of it
-pub made_on : {A B : Type 0} (f : A → B) (q : Option A) → on q (λ x. made f q ≡ Some (f x))
-made_on f None = tt
-made_on f (Some x) = refl
-
-pub refused_at : {A : Type 0} (q : Option A) (t : Token) (e : Refusal) (f : A → M.State) → e ≡ At Unexpected t.start → ((x : A) → f x ≡ M.stuck) → on q (λ x. Refused t e (f x))
+pub refused_at : {A : Type 0} (q : Option A) (t : Token) (e : Stop) (f : A → M.State) → e ≡ Unexpected t.start → ((x : A) → f x ≡ M.stuck) → on q (λ x. Refused t e (f x))
 refused_at q t e f h g = on_all q _ (λ x. refuses t e _ h (g x))
 
 -- Where a type2 is awaited.
@@ -158,9 +151,6 @@ awaited_parm rs o b i t e = refl
 pub now_made : {A : Type 0} (f : A → M.State) (q : Option A) (v : Option M.State) (P : M.State → Type 0) → v ≡ made f q → on q (λ x. P (f x)) → on v P
 now_made f q v P e h = rw e (on_made f q P h)
 
-pub now_none : (v : Option M.State) (P : M.State → Type 0) → v ≡ None → on v P
-now_none v P e = rw e tt
-
 pub content_other : (k : M.AtType2) (o : Token) (h : S.Types) (a : Token) (i : Kind) (t : Token) → i ≢ K.ParenOpen → M.step (M.want_content k o h a) i t ≡ M.stuck
 content_other k o h a K.ParenOpen t e = absurd (e refl)
 content_other k o h a i t e = refl
@@ -171,7 +161,7 @@ arrow_other p oc r u i t e = refl
 
 -- A body.
 
-pub begun : (t : Token) (r : Result State Refusal) (k : M.AtTypes) (m : M.State) → m ≡ M.open_types k → BeginsBody r (Some k) → GivesState t r m
+pub begun : (t : Token) (r : Result State Stop) (k : M.AtTypes) (m : M.State) → m ≡ M.open_types k → BeginsBody r (Some k) → GivesState t r m
 begun t (Ok s) k m e h = h ∙ ap Some (sym e)
 begun t (Err x) k m e h = rw h tt
 
@@ -185,25 +175,7 @@ body_begun rs old new f h w e g i = ap (made M.want) (i ∙ ap (λ (b : Below). 
     here : below rs new ≡ above rs nowhere f
     here = popped rs new old f g ∙ ap (λ (b : Below). above rs b f) (bottom rs old e)
 
-pub begins : (r : Result State Refusal) (v : Option M.State) (k : Option M.AtTypes) → MatchResult r (λ s. view_state s ≡ v) (λ e. e ≡ Memory) → v ≡ made M.open_types k → BeginsBody r k
-begins (Ok s) v k h e = h ∙ e
-begins (Err x) v k h e = h
-
-pub stays : (t : Token) (r : Result State Refusal) (v : Option M.State) (m : M.State) → MatchResult r (λ s. view_state s ≡ v) (λ e. e ≡ Memory) → v ≡ Some m → GivesState t r m
-stays t (Ok s) v m h e = h ∙ e
-stays t (Err x) v m h e = rw h tt
-
--- what is no rule's end goes on
-pub goes_on : (t : Token) (rs : S.Rules) (b : Below) (now : Now) (m : M.State) → ((r : Box Rule Global) → now ≢ N.Ended r) → Comes t rs b now m → view_now b now ≡ Some m
-goes_on t rs b (N.Want at) m e h = h
-goes_on t rs b (N.WantRef at p) m e h = h
-goes_on t rs b (N.WantContent at o x a) m e h = h
-goes_on t rs b (N.Have at r) m e h = h
-goes_on t rs b (N.WantArrow oc r u) m e h = h
-goes_on t rs b (N.HaveGroup x) m e h = h
-goes_on t rs b (N.Ended r) m e h = absurd (e r refl)
-
-pub ended : (t : Token) (r : Result State Refusal) (old new : S.Rules) (x : S.Rule) (m : M.State) → new ≡ S.rules old x → m ≡ M.next_rule (S.rules old x) t.kind t → GivesState t r (M.next_rule new t.kind t) → GivesState t r m
+pub ended : (t : Token) (r : Result State Stop) (old new : S.Rules) (x : S.Rule) (m : M.State) → new ≡ S.rules old x → m ≡ M.next_rule (S.rules old x) t.kind t → GivesState t r (M.next_rule new t.kind t) → GivesState t r m
 ended t r old new x m e f h = rw (f, ← e) h
 
 -- Within the rules.
@@ -221,5 +193,5 @@ on_through v w P R e f h = rw e (along w h)
 pub parm_named : (rs : S.Rules) (o : Token) (b : M.ParmBefore) (p : S.GenericParm) (i : Kind) (t : Token) → i ≡ K.Name → p ≡ M.parm_of b t → Some (M.have_parm rs o p) ≡ Some (M.step (M.awaits_parm rs o b) i t)
 parm_named rs o b p i t e f = rw (e, f) refl
 
-pub begin_next : (t : Token) (r : Result State Refusal) (xs : List Rule) → xs ≡ [] → GivesState t r (M.next_rule (view_rules xs) t.kind t) → GivesState t r (M.next_rule S.no_rules t.kind t)
+pub begin_next : (t : Token) (r : Result State Stop) (xs : List Rule) → xs ≡ [] → GivesState t r (M.next_rule (view_rules xs) t.kind t) → GivesState t r (M.next_rule S.no_rules t.kind t)
 begin_next t r xs e h = rw e at h

@@ -27,9 +27,9 @@ pub colon_several : (p : M.AtEntry) (oc : Option Token) (ts : S.Types) (t : Toke
 colon_several p oc (S.only r) t h = absurd h
 colon_several p oc (S.or ts s r) t h = refl
 
-pub value_opened : (q : Option M.AtEntry) (w : Option M.AtType2) (oc : Option Token) (m n : S.MemberKey) → m ≡ n → w ≡ made (λ k. M.lower (M.head k)) (made (λ p. M.value_of p oc m) q) → on q (λ p. made M.want w ≡ Some (M.open_value p oc n))
-value_opened None w oc m n e f = tt
-value_opened (Some p) w oc m n e f = rw (f, e) refl
+pub value_opened : (q : Option M.AtEntry) (oc : Option Token) (m n : S.MemberKey) (P : M.State → Type 0) → m ≡ n → on (made (λ p. M.value_of p oc m) q) (λ k. P (M.open_types k)) → on q (λ p. P (M.open_value p oc n))
+value_opened None oc m n P e h = tt
+value_opened (Some p) oc m n P e h = rw e at h
 
 pub arrow_taken : (q : Option M.AtEntry) (P : M.State → Type 0) (oc : Option Token) (ts : S.Types) (r : S.Type1) (m : S.MemberKey) (t : Token) → ts ≡ S.only r → m ≡ S.type_key r None t → on q (λ p. P (M.open_value p oc m)) → on q (λ p. P (M.arrow p oc ts t))
 arrow_taken None P oc ts r m t e f h = tt
@@ -41,35 +41,45 @@ colon_taken (Some p) P oc ts r m t e f h = rw e (subst P (sym (f p)) h)
 
 -- Behind an argument and a comma.
 
-argument_comma_at : (b : Below) (a : S.GenericArg) (t : Token) → on (as_reference b) (λ y. made M.want (made M.lower (as_argument b (M.behind_arg a t))) ≡ Some (M.after_argument y.0 y.1 y.2 a K.Comma t))
-argument_comma_at nowhere a t = tt
-argument_comma_at (types k) a t = tt
-argument_comma_at (reference k p o) a t = refl
-argument_comma_at (entry k) a t = tt
-argument_comma_at (group k) a t = tt
+argument_comma_at : (b : Below) (a : S.GenericArg) (t : Token) (P : M.State → Type 0) → on (as_argument b (M.behind_arg a t)) (λ k. P (M.want (M.lower k))) → on (as_reference b) (λ y. P (M.after_argument y.0 y.1 y.2 a K.Comma t))
+argument_comma_at nowhere a t P h = tt
+argument_comma_at (types k) a t P h = tt
+argument_comma_at (reference k p o) a t P h = h
+argument_comma_at (entry k) a t P h = tt
+argument_comma_at (group k) a t P h = tt
 
-pub argument_comma : (b : Below) (w : Option M.AtType2) (x a : S.GenericArg) (t : Token) → x ≡ a → w ≡ made M.lower (as_argument b (M.behind_arg x t)) → on (as_reference b) (λ y. made M.want w ≡ Some (M.after_argument y.0 y.1 y.2 a K.Comma t))
-argument_comma b w x a t e f = rw (f, e) (argument_comma_at b a t)
+pub argument_comma : (b : Below) (x a : S.GenericArg) (t : Token) (P : M.State → Type 0) → x ≡ a → on (as_argument b (M.behind_arg x t)) (λ k. P (M.want (M.lower k))) → on (as_reference b) (λ y. P (M.after_argument y.0 y.1 y.2 a K.Comma t))
+argument_comma b x a t P e h = argument_comma_at b a t P (rw e at h)
 
 -- Behind the choices of a type and a `/`.
 
-pub choice_opened : (q : Option M.AtTypes) (us ts : S.Types) (s : Token) → us ≡ ts → on q (λ k. made M.want (made M.lower (made (λ j. M.next j us s) q)) ≡ Some (M.want (M.lower (M.next k ts s))))
-choice_opened None us ts s e = tt
-choice_opened (Some k) us ts s e = rw e refl
+pub choice_opened : (q : Option M.AtTypes) (us ts : S.Types) (s : Token) (w : Option M.AtType1) (P : M.State → Type 0) → us ≡ ts → w ≡ made (λ j. M.next j us s) q → on (made M.lower w) (λ k. P (M.want k)) → on q (λ k. P (M.want (M.lower (M.next k ts s))))
+choice_opened None us ts s w P e f h = tt
+choice_opened (Some k) us ts s w P e f h = rw (f, e) at h
+
+-- Where a type or an argument is awaited.
+
+pub type_opened : (q : Option M.AtTypes) (w : Option M.AtType2) (P : M.State → Type 0) → w ≡ made (λ k. M.lower (M.head k)) q → on w (λ k. P (M.want k)) → on q (λ k. P (M.open_types k))
+type_opened None w P e h = tt
+type_opened (Some k) w P e h = rw e at h
+
+pub argument_opened : (q w : Option M.AtType1) (P : M.State → Type 0) → w ≡ q → on (made M.lower w) (λ k. P (M.want k)) → on q (λ k. P (M.want (M.lower k)))
+argument_opened None w P e h = tt
+argument_opened (Some k) w P e h = rw e at h
 
 -- Where a bracket opens.
 
-pub inside_opened : (q : Option M.AtType2) (b : Below) (o : M.TypeOpening) (w : Option M.AtType2) → b ≡ inside_at q o → w ≡ made (λ k. M.lower (M.head k)) (as_types b) → on q (λ k. made M.want w ≡ Some (M.open_types (M.inside k o)))
-inside_opened None b o w e f = tt
-inside_opened (Some k) b o w e f = rw (f, e) refl
+pub inside_opened : (q : Option M.AtType2) (b : Below) (o : M.TypeOpening) (P : M.State → Type 0) → b ≡ inside_at q o → on (as_types b) (λ k. P (M.open_types k)) → on q (λ k. P (M.open_types (M.inside k o)))
+inside_opened None b o P e h = tt
+inside_opened (Some k) b o P e h = rw e at h
 
-pub reference_opened : (q : Option M.AtType2) (b : Below) (p : M.Prefix) (o : Token) (w : Option M.AtType2) → b ≡ reference_at q p o → w ≡ made M.lower (as_argument b M.no_arg) → on q (λ k. made M.want w ≡ Some (M.open_argument k p o M.no_arg))
-reference_opened None b p o w e f = tt
-reference_opened (Some k) b p o w e f = rw (f, e) refl
+pub reference_opened : (q : Option M.AtType2) (b : Below) (p : M.Prefix) (o : Token) (P : M.State → Type 0) → b ≡ reference_at q p o → on (as_argument b M.no_arg) (λ k. P (M.want (M.lower k))) → on q (λ k. P (M.open_argument k p o M.no_arg))
+reference_opened None b p o P e h = tt
+reference_opened (Some k) b p o P e h = rw e at h
 
-pub member_opened : (q : Option M.AtGroup) (b : Below) (bf : M.Before) (es : S.GrpChoice) (w : Option M.AtType2) → b ≡ member_at q bf es → w ≡ made (λ k. M.lower (M.head k)) (made (λ p. M.start p None) (as_entry b)) → on q (λ k. made M.want w ≡ Some (M.open_entry (M.member k bf es)))
-member_opened None b bf es w e f = tt
-member_opened (Some k) b bf es w e f = rw (f, e) refl
+pub member_opened : (q : Option M.AtGroup) (b : Below) (bf : M.Before) (es : S.GrpChoice) (P : M.State → Type 0) → b ≡ member_at q bf es → on (made (λ p. M.start p None) (as_entry b)) (λ k. P (M.open_types k)) → on q (λ k. P (M.open_entry (M.member k bf es)))
+member_opened None b bf es P e h = tt
+member_opened (Some k) b bf es P e h = rw e at h
 
 pub group_opened : (q : Option M.AtType2) (b : Below) (o : M.GroupOpening) (P : M.State → Type 0) → b ≡ within_at q o → on (as_group b) (λ k. P (M.open_entry (M.member k M.nothing S.no_entries))) → on q (λ k. P (M.open_group (M.within k o)))
 group_opened None b o P e h = tt
@@ -93,9 +103,9 @@ pub occur_elsewhere : (k : M.AtType2) (t : Token) → IsElsewhere k → M.occur_
 occur_elsewhere (M.lower (M.head (M.start p oc))) t h = absurd h
 occur_elsewhere k t h = refl
 
-pub occur_taken : (q : Option M.AtEntry) (w : Option M.AtType2) (t : Token) → w ≡ made (λ k. M.lower (M.head k)) (made (λ p. M.start p (Some t)) q) → on q (λ p. made M.want w ≡ Some (M.occur_want (M.lower (M.head (M.start p None))) t))
-occur_taken None w t e = tt
-occur_taken (Some p) w t e = rw e refl
+pub occur_taken : (q : Option M.AtEntry) (t : Token) (P : M.State → Type 0) → on (made (λ p. M.start p (Some t)) q) (λ k. P (M.open_types k)) → on q (λ p. P (M.occur_want (M.lower (M.head (M.start p None))) t))
+occur_taken None t P h = tt
+occur_taken (Some p) t P h = h
 
 -- what parentheses at the head of an entry come to
 

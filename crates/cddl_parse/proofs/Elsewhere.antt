@@ -1,16 +1,18 @@
 -- Places that are not the head of an entry, and frames that are none of an entry or a group.
-use Rattle.std.proofs.Common.{◌≡◌, Option, Some, None, refl, sym, subst, Bor}
+use Rattle.std.proofs.Common.{◌≡◌, Option, Some, None, refl, sym, subst, Box, Global, Bor}
 use Rattle.cddl_token.specs.declared.Token.{Token}
 use Rattle.cddl_token.specs.declared.Kind.{Kind}
 use Rattle.cddl_token.specs.declared.Kind.TheVariants as K
-use Rattle.cddl_token.specs.declared.Refusal.{Refusal}
-use Rattle.cddl_token.specs.declared.Refusal.TheVariants.{At}
-use Rattle.cddl_token.specs.declared.Code.TheVariants.{Unexpected}
+use Rattle.cddl_parse.specs.declared.frames.Stop.{Stop}
+use Rattle.cddl_parse.specs.declared.frames.Stop.TheVariants.{Unexpected}
 use Rattle.cddl_parse.specs.declared.frames.Home.{Home}
 use Rattle.cddl_parse.specs.declared.frames.Home.TheVariants as H
 use Rattle.cddl_parse.specs.declared.frames.Before.{Before}
 use Rattle.cddl_parse.specs.declared.frames.Before.TheVariants as B
 use Rattle.cddl_parse.specs.declared.frames.Left.{Left}
+use Rattle.cddl_parse.specs.declared.frames.Arguments.{Arguments}
+use Rattle.cddl_tree.specs.declared.tree.MemberKey.{MemberKey}
+use Rattle.cddl_parse.specs.declared.frames.AtType1.{AtType1}
 use Rattle.cddl_parse.specs.declared.frames.AtType2.{AtType2}
 use Rattle.cddl_parse.specs.declared.frames.GroupOpening.{GroupOpening}
 use Rattle.cddl_parse.specs.declared.frames.GroupOpening.TheVariants as G
@@ -22,23 +24,9 @@ use Rattle.cddl_tree.specs.View.{view_types, view_group, leaf}
 use Rattle.std.proofs.Common.{true, false}
 use Rattle.cddl_syntax.specs.Syntax as S
 use Rattle.cddl_syntax.specs.Machine as M
-use Rattle.cddl_parse.specs.Frames.{on, made, Below, nowhere, types, reference, entry, group, as_types, as_entry, as_argument, view_at_type2, view_group_opening, bracketed, is_closed_by, Refused, IsElsewhere, IsContent}
+use Rattle.cddl_parse.specs.Frames.{on, made, Below, nowhere, types, reference, entry, group, as_types, as_entry, as_argument, view_home, view_at_type1, view_at_type2, view_group_opening, bracketed, is_closed_by, Refused, IsElsewhere, IsStart, IsHead, IsContent}
 use Rattle.cddl_parse.proofs.Steps.{refuses}
 use Rattle.cddl_parse.proofs.Closing.{open_paren_elsewhere, occur_elsewhere, paren_group}
-
--- A place's parts, put together again.
-
-pub same_left : (x : AtType2) (m : Option Left) → x.left ≡ m → x ≡ record { at = x.at; left = m }
-same_left x m e = rw (← e) refl
-
-whole_at : (x : AtType2) (h : Home) (bf : Before) (l : Option Left) → x.left ≡ l → x.at.before ≡ bf → x.at.home ≡ h → x ≡ record { at = record { home = h; before = bf }; left = l }
-whole_at x h bf l e f g = rw (← e, ← f, ← g) refl
-
-pub same_before : (x : AtType2) (bf : Before) → x.left ≡ None → x.at.before ≡ bf → x ≡ record { at = record { home = x.at.home; before = bf }; left = None }
-same_before x bf e f = whole_at x x.at.home bf None e f refl
-
-pub same_home : (x : AtType2) (h : Home) → x.left ≡ None → x.at.before ≡ B.Nothing → x.at.home ≡ h → x ≡ record { at = record { home = h; before = B.Nothing }; left = None }
-same_home x h e f g = whole_at x h B.Nothing None e f g
 
 -- The first place of a type.
 
@@ -46,29 +34,59 @@ start_place : (q : Option M.AtEntry) (oc : Option Token) → made M.lower (made 
 start_place None oc = refl
 start_place (Some p) oc = refl
 
-pub head_place : (b : Below) (x : AtType2) (oc : Option (Bor Token)) → x.left ≡ None → x.at.before ≡ B.Nothing → x.at.home ≡ H.Start oc → view_at_type2 b x ≡ made (λ p. M.lower (M.head (M.start p (leaf oc)))) (as_entry b)
-head_place b x oc e f g = rw (e, f, g) (start_place (as_entry b) (leaf oc))
+pub start_here : (b : Below) (x : AtType1) (oc : Option (Bor Token)) → x.before ≡ B.Nothing → x.home ≡ H.Start oc → made M.lower (view_at_type1 b x) ≡ made (λ p. M.lower (M.head (M.start p (leaf oc)))) (as_entry b)
+start_here b x oc f g = rw (f, g) (start_place (as_entry b) (leaf oc))
+
+-- at a place with no operand before it
+pub first_place : (r : Option (Option (Bor Token))) (x : AtType2) (y : AtType1) → x.left ≡ None → y ≡ x.at.value → IsStart r y → IsHead r x
+first_place (Some oc) x y e f h = λ b. rw (e, ← f) (h b)
+first_place None x y e f h = λ b. rw (e, ← f) (h b)
 
 -- Places elsewhere.
 
-pub upper_elsewhere : (q : Option M.AtType1) (x : S.Type2) (o : S.Operator) → on (made (λ k. M.upper k x o) q) IsElsewhere
+upper_elsewhere : (q : Option M.AtType1) (x : S.Type2) (o : S.Operator) → on (made (λ k. M.upper k x o) q) IsElsewhere
 upper_elsewhere None x o = tt
 upper_elsewhere (Some k) x o = tt
 
-pub value_elsewhere : (q : Option M.AtEntry) (oc : Option Token) (m : S.MemberKey) → on (made M.lower (made M.head (made (λ p. M.value_of p oc m) q))) IsElsewhere
+value_elsewhere : (q : Option M.AtEntry) (oc : Option Token) (m : S.MemberKey) → on (made M.lower (made M.head (made (λ p. M.value_of p oc m) q))) IsElsewhere
 value_elsewhere None oc m = tt
 value_elsewhere (Some p) oc m = tt
 
-pub next_elsewhere : (q : Option M.AtTypes) (ts : S.Types) (s : Token) → on (made M.lower (made (λ k. M.next k ts s) q)) IsElsewhere
+next_elsewhere : (q : Option M.AtTypes) (ts : S.Types) (s : Token) → on (made M.lower (made (λ k. M.next k ts s) q)) IsElsewhere
 next_elsewhere None ts s = tt
 next_elsewhere (Some k) ts s = tt
 
-pub argument_elsewhere : (b : Below) (a : M.ArgBefore) → on (made M.lower (as_argument b a)) IsElsewhere
+argument_elsewhere : (b : Below) (a : M.ArgBefore) → on (made M.lower (as_argument b a)) IsElsewhere
 argument_elsewhere nowhere a = tt
 argument_elsewhere (types k) a = tt
 argument_elsewhere (reference k p o) a = tt
 argument_elsewhere (entry p) a = tt
 argument_elsewhere (group k) a = tt
+
+inside_elsewhere : (b : Below) → on (made M.lower (made M.head (as_types b))) IsElsewhere
+inside_elsewhere nowhere = tt
+inside_elsewhere (types (M.body rs n a)) = tt
+inside_elsewhere (types (M.inside k o)) = tt
+inside_elsewhere (types (M.start p oc)) = tt
+inside_elsewhere (types (M.value_of p oc m)) = tt
+inside_elsewhere (reference k p o) = tt
+inside_elsewhere (entry p) = tt
+inside_elsewhere (group k) = tt
+
+pub left_place : (b : Below) (x : AtType2) (l : Box Left Global) → x.left ≡ Some l → on (view_at_type2 b x) IsElsewhere
+left_place b x l e = rw e (upper_elsewhere (view_at_type1 b x.at.value) _ _)
+
+pub inside_place : (b : Below) (x : AtType1) → x.before ≡ B.Nothing → x.home ≡ H.Inside → on (made M.lower (view_at_type1 b x)) IsElsewhere
+inside_place b x f g = rw (f, g) (inside_elsewhere b)
+
+pub value_place : (b : Below) (x : AtType1) (oc : Option (Bor Token)) (m : Box MemberKey Global) → x.before ≡ B.Nothing → x.home ≡ H.ValueOf oc m → on (made M.lower (view_at_type1 b x)) IsElsewhere
+value_place b x oc m f g = rw (f, g) (value_elsewhere (as_entry b) _ _)
+
+pub choices_place : (b : Below) (x : AtType1) (ts : Box Types Global) (s : Bor Token) → x.before ≡ B.Choices ts s → on (made M.lower (view_at_type1 b x)) IsElsewhere
+choices_place b x ts s f = rw f (next_elsewhere (view_home b x.home) _ _)
+
+pub argument_place : (b : Below) (x : AtType1) (a : Option Arguments) → x.before ≡ B.Arguments a → on (made M.lower (view_at_type1 b x)) IsElsewhere
+argument_place b x a f = rw f (argument_elsewhere b _)
 
 -- A bracket that its opening fits, and one that it does not.
 
@@ -91,17 +109,17 @@ fresh q bf es P e h = rw e at h
 
 -- At the head of an entry, and elsewhere.
 
-pub occur_twice : (q : Option M.AtType2) (x : Option M.AtEntry) (oc : Option Token) (o t : Token) (e : Refusal) → oc ≡ Some o → q ≡ made (λ p. M.lower (M.head (M.start p oc))) x → e ≡ At Unexpected t.start → on q (λ k. Refused t e (M.occur_want k t))
+pub occur_twice : (q : Option M.AtType2) (x : Option M.AtEntry) (oc : Option Token) (o t : Token) (e : Stop) → oc ≡ Some o → q ≡ made (λ p. M.lower (M.head (M.start p oc))) x → e ≡ Unexpected t.start → on q (λ k. Refused t e (M.occur_want k t))
 occur_twice q None oc o t e f g h = rw g tt
 occur_twice q (Some p) oc o t e f g h = rw (g, f) (refuses t e _ h refl)
 
-pub occur_refused : (q r : Option M.AtType2) (t : Token) (e : Refusal) → q ≡ r → on r IsElsewhere → e ≡ At Unexpected t.start → on q (λ k. Refused t e (M.occur_want k t))
-occur_refused q None t e f g h = rw f tt
-occur_refused q (Some k) t e f g h = rw f (refuses t e _ h (occur_elsewhere k t g))
+pub occur_refused : (q : Option M.AtType2) (t : Token) (e : Stop) → on q IsElsewhere → e ≡ Unexpected t.start → on q (λ k. Refused t e (M.occur_want k t))
+occur_refused None t e g h = tt
+occur_refused (Some k) t e g h = refuses t e _ h (occur_elsewhere k t g)
 
-pub paren_elsewhere : (q r : Option M.AtType2) (t : Token) (P : M.State → Type 0) → q ≡ r → on r IsElsewhere → on r (λ k. P (M.open_types (M.inside k (M.paren t)))) → on q (λ k. P (M.open_paren k t))
-paren_elsewhere q None t P e h g = rw e tt
-paren_elsewhere q (Some k) t P e h g = rw e (subst P (sym (open_paren_elsewhere k t h)) g)
+pub paren_elsewhere : (q : Option M.AtType2) (t : Token) (P : M.State → Type 0) → on q IsElsewhere → on q (λ k. P (M.open_types (M.inside k (M.paren t)))) → on q (λ k. P (M.open_paren k t))
+paren_elsewhere None t P h g = tt
+paren_elsewhere (Some k) t P h g = subst P (sym (open_paren_elsewhere k t h)) g
 
 -- Behind a group.
 
@@ -130,13 +148,3 @@ paren_got (Some p) w oc o t g ts x P d e f h = rw e (rw (d, f) at h)
 pub paren_have : (q : Option M.AtEntry) (oc : Option Token) (o t : Token) (g h : S.Group) (x : S.GrpEnt) (P : M.State → Type 0) → x ≡ S.grouped oc o h t → h ≡ g → S.is_type g ≡ false → on q (λ p. P (M.have_group p x)) → on q (λ p. P (M.shut_paren p oc o g t))
 paren_have None oc o t g h x P e f n i = tt
 paren_have (Some p) oc o t g h x P e f n i = subst P (sym (paren_group p oc o g t n)) (rw (e, f) at i)
-
-pub inside_elsewhere : (b : Below) → on (made M.lower (made M.head (as_types b))) IsElsewhere
-inside_elsewhere nowhere = tt
-inside_elsewhere (types (M.body rs n a)) = tt
-inside_elsewhere (types (M.inside k o)) = tt
-inside_elsewhere (types (M.start p oc)) = tt
-inside_elsewhere (types (M.value_of p oc m)) = tt
-inside_elsewhere (reference k p o) = tt
-inside_elsewhere (entry p) = tt
-inside_elsewhere (group k) = tt

@@ -3,9 +3,8 @@ use Rattle.std.proofs.Common.{◌≡◌, ◌≢◌, Option, Some, None, refl, sy
 use Rattle.cddl_token.specs.declared.Token.{Token}
 use Rattle.cddl_token.specs.declared.Kind.{Kind}
 use Rattle.cddl_token.specs.declared.Kind.TheVariants as K
-use Rattle.cddl_token.specs.declared.Refusal.{Refusal}
-use Rattle.cddl_token.specs.declared.Refusal.TheVariants.{At}
-use Rattle.cddl_token.specs.declared.Code.TheVariants.{Unexpected}
+use Rattle.cddl_parse.specs.declared.frames.Stop.{Stop}
+use Rattle.cddl_parse.specs.declared.frames.Stop.TheVariants.{Unexpected}
 use Rattle.cddl_parse.specs.declared.frames.AtType2.{AtType2}
 use Rattle.cddl_parse.specs.declared.frames.GroupOpening.{GroupOpening}
 use Rattle.cddl_parse.specs.declared.frames.Frame.{Frame}
@@ -60,7 +59,7 @@ nothing_entry b P e = rw e tt
 pub nothing_group : (b : Below) (P : M.AtGroup → Type 0) → b ≡ nowhere → on (as_group b) P
 nothing_group b P e = rw e tt
 
-ends_no_member : (rs : S.Rules) (b : Below) (f : Frame) (i : Kind) (t : Token) (e : Refusal) → e ≡ At Unexpected t.start → ((x : Option Alternatives) (es : Vec Entry Global) → f ≢ F.Member x es) → on (as_entry (above rs b f)) (λ p. Refused t e (M.ends_want (M.lower (M.head (M.start p None))) i t))
+ends_no_member : (rs : S.Rules) (b : Below) (f : Frame) (i : Kind) (t : Token) (e : Stop) → e ≡ Unexpected t.start → ((x : Option Alternatives) (es : Vec Entry Global) → f ≢ F.Member x es) → on (as_entry (above rs b f)) (λ p. Refused t e (M.ends_want (M.lower (M.head (M.start p None))) i t))
 ends_no_member rs b (F.TypeBody n a) i t e g h = tt
 ends_no_member rs b (F.GroupBody n a) i t e g h = refuses t e _ g refl
 ends_no_member rs b (F.Types k o) i t e g h = shut (view_at_type2 b k) (view_type_opening o)
@@ -86,7 +85,7 @@ ends_no_member rs b (F.Entry oc o) i t e g h = shut (as_entry b)
 ends_no_member rs b (F.Member x es) i t e g h = absurd (h x es refl)
 
 -- behind no open alternative the token is refused
-pub ends_default : (a : Below) (rs : S.Rules) (b : Below) (f : Frame) (i : Kind) (t : Token) (e : Refusal) → a ≡ above rs b f → e ≡ At Unexpected t.start → ((x : Option Alternatives) (es : Vec Entry Global) → f ≢ F.Member x es) → on (as_entry a) (λ p. Refused t e (M.ends_want (M.lower (M.head (M.start p None))) i t))
+pub ends_default : (a : Below) (rs : S.Rules) (b : Below) (f : Frame) (i : Kind) (t : Token) (e : Stop) → a ≡ above rs b f → e ≡ Unexpected t.start → ((x : Option Alternatives) (es : Vec Entry Global) → f ≢ F.Member x es) → on (as_entry a) (λ p. Refused t e (M.ends_want (M.lower (M.head (M.start p None))) i t))
 ends_default a rs b f i t e d g h = rw d (ends_no_member rs b f i t e g h)
 
 no_group : (rs : S.Rules) (b : Below) (f : Frame) → ((k : AtType2) (o : GroupOpening) → f ≢ F.Group k o) → ((oc : Option (Bor Token)) (o : Bor Token) → f ≢ F.Entry oc o) → as_group (above rs b f) ≡ None
@@ -117,13 +116,13 @@ none_holds q P e = rw e tt
 pub group_default : (a : Below) (rs : S.Rules) (b : Below) (f : Frame) (P : M.AtGroup → Type 0) → a ≡ above rs b f → ((k : AtType2) (o : GroupOpening) → f ≢ F.Group k o) → ((oc : Option (Bor Token)) (o : Bor Token) → f ≢ F.Entry oc o) → on (as_group a) P
 group_default a rs b f P d g h = none_holds (as_group a) P (ap as_group d ∙ no_group rs b f g h)
 
-pub ends_twice : (q : Option M.AtType2) (x : Option M.AtEntry) (oc : Option Token) (o : Token) (i : Kind) (t : Token) (e : Refusal) → oc ≡ Some o → q ≡ made (λ p. M.lower (M.head (M.start p oc))) x → e ≡ At Unexpected t.start → on q (λ k. Refused t e (M.ends_want k i t))
+pub ends_twice : (q : Option M.AtType2) (x : Option M.AtEntry) (oc : Option Token) (o : Token) (i : Kind) (t : Token) (e : Stop) → oc ≡ Some o → q ≡ made (λ p. M.lower (M.head (M.start p oc))) x → e ≡ Unexpected t.start → on q (λ k. Refused t e (M.ends_want k i t))
 ends_twice q None oc o i t e f g h = rw g tt
 ends_twice q (Some p) oc o i t e f g h = rw (g, f) (refuses t e _ h (ends_occur p o i t))
 
-pub ends_refused : (q r : Option M.AtType2) (i : Kind) (t : Token) (e : Refusal) → q ≡ r → on r IsElsewhere → e ≡ At Unexpected t.start → on q (λ k. Refused t e (M.ends_want k i t))
-ends_refused q None i t e f g h = rw f tt
-ends_refused q (Some k) i t e f g h = rw f (refuses t e _ h (ends_elsewhere k i t g))
+pub ends_refused : (q : Option M.AtType2) (i : Kind) (t : Token) (e : Stop) → on q IsElsewhere → e ≡ Unexpected t.start → on q (λ k. Refused t e (M.ends_want k i t))
+ends_refused None i t e f h = tt
+ends_refused (Some k) i t e f h = refuses t e _ h (ends_elsewhere k i t f)
 
 -- Behind the entries of an alternative.
 

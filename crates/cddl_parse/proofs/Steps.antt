@@ -3,12 +3,12 @@ use Rattle.std.proofs.Common.{◌≡◌, ◌≢◌, List, [], ◌∷◌, ◌++�
 use Rattle.cddl_token.specs.declared.Token.{Token}
 use Rattle.cddl_token.specs.declared.Kind.{Kind}
 use Rattle.cddl_token.specs.declared.Kind.TheVariants as K
-use Rattle.cddl_token.specs.declared.Refusal.{Refusal}
-use Rattle.cddl_token.specs.declared.Refusal.TheVariants.{At}
-use Rattle.cddl_token.specs.declared.Code.TheVariants.{Unexpected}
+use Rattle.cddl_parse.specs.declared.frames.Stop.{Stop}
+use Rattle.cddl_parse.specs.declared.frames.Stop.TheVariants.{Unexpected}
 use Rattle.cddl_parse.specs.declared.frames.Home.{Home}
 use Rattle.cddl_parse.specs.declared.frames.Before.{Before}
 use Rattle.cddl_parse.specs.declared.frames.Before.TheVariants as B
+use Rattle.cddl_parse.specs.declared.frames.AtType1.{AtType1}
 use Rattle.cddl_parse.specs.declared.frames.Left.{Left}
 use Rattle.cddl_parse.specs.declared.frames.Arguments.{Arguments}
 use Rattle.cddl_parse.specs.declared.frames.TypeOpening.{TypeOpening}
@@ -18,7 +18,7 @@ use Rattle.cddl_tree.specs.declared.tree.Types.{Types}
 use Rattle.cddl_syntax.specs.Syntax as S
 use Rattle.cddl_syntax.specs.Machine as M
 use Rattle.cddl_tree.specs.View.{view_operator, view_types, view_type2}
-use Rattle.cddl_parse.specs.Frames.{on, made, Below, nowhere, types, reference, entry, group, as_argument, view_home, view_arguments, view_type_opening, type1_at, type2_at, joined_to, above, below, Refused}
+use Rattle.cddl_parse.specs.Frames.{on, made, Below, nowhere, types, reference, entry, group, as_argument, view_home, view_arguments, view_type_opening, type1_at, type2_at, view_at_type1, joined_to, above, below, Refused}
 use Rattle.cddl_parse.proofs.Pushing.{below-push, below-empty}
 
 pub on_all : {A : Type 0} (q : Option A) (P : A → Type 0) → ((x : A) → P x) → on q P
@@ -29,11 +29,11 @@ pub made_made : {A B C : Type 0} (f : A → B) (g : B → C) (q : Option A) → 
 made_made f g None = refl
 made_made f g (Some x) = refl
 
-pub refuses : (t : Token) (e : Refusal) (m : M.State) → e ≡ At Unexpected t.start → m ≡ M.stuck → Refused t e m
+pub refuses : (t : Token) (e : Stop) (m : M.State) → e ≡ Unexpected t.start → m ≡ M.stuck → Refused t e m
 refuses t e m f g = rw f (g, refl)
 
 -- a refusal wherever the machine is stuck
-pub refused_on : {A : Type 0} (q : Option A) (t : Token) (e : Refusal) (f : A → M.State) → e ≡ At Unexpected t.start → ((x : A) → f x ≡ M.stuck) → on q (λ x. Refused t e (f x))
+pub refused_on : {A : Type 0} (q : Option A) (t : Token) (e : Stop) (f : A → M.State) → e ≡ Unexpected t.start → ((x : A) → f x ≡ M.stuck) → on q (λ x. Refused t e (f x))
 refused_on q t e f h g = on_all q _ (λ x. refuses t e _ h (g x))
 
 pub popped : (rs : S.Rules) (old new : List Frame) (f : Frame) → old ≡ new ++ f ∷ [] → below rs old ≡ above rs (below rs new) f
@@ -44,13 +44,18 @@ bottom rs old e = ap (below rs) e ∙ below-empty rs
 
 -- What is in a box is what was put into it.
 
-pub made_same : {A B C : Type 0} (f : C → A → B) (q : Option A) (x y : C) → x ≡ y → on q (λ k. made (f x) q ≡ Some (f y k))
-made_same f None x y e = tt
-made_same f (Some k) x y e = rw e refl
+-- where the view is what the place makes, it is the state there
+pub stands_at : {A : Type 0} (f : A → M.State) (q : Option A) (v : Option M.State) → v ≡ made f q → on q (λ x. v ≡ Some (f x))
+stands_at f None v e = tt
+stands_at f (Some x) v e = e
 
 pub on_with : {A : Type 0} (q : Option A) (P R : A → Type 0) → ((x : A) → P x → R x) → on q P → on q R
 on_with None P R f h = tt
 on_with (Some x) P R f h = f x h
+
+-- what holds of what is in a box holds of the box
+pub at_same : (b : Below) (x y : AtType1) (P : M.AtType1 → Type 0) → x ≡ y → on (view_at_type1 b x) P → on (view_at_type1 b y) P
+at_same b x y P e h = subst (λ (z : AtType1). on (view_at_type1 b z) P) e h
 
 -- At the head of an entry that has no occurrence.
 
@@ -60,21 +65,21 @@ head_none q (Some p) oc P e f h = rw (f, e) h
 
 -- Behind an operand.
 
-pub got_joined : (q : Option M.AtType1) (l : Option Left) (P : M.State → Type 0) (r : S.Type1) (x : S.Type2) → r ≡ joined_to l x → on q (λ k. P (M.have k r)) → on (type2_at l q) (λ k. P (M.got k x))
+pub got_joined : (q : Option M.AtType1) (l : Option (Box Left Global)) (P : M.State → Type 0) (r : S.Type1) (x : S.Type2) → r ≡ joined_to l x → on q (λ k. P (M.have k r)) → on (type2_at l q) (λ k. P (M.got k x))
 got_joined None None P r x e h = tt
 got_joined None (Some l) P r x e h = tt
 got_joined (Some k) None P r x e h = rw e at h
 got_joined (Some k) (Some l) P r x e h = rw e at h
 
-pub joined_none : (l : Option Left) (r : S.Type1) (x : S.Type2) → l ≡ None → r ≡ S.one x → r ≡ joined_to l x
+pub joined_none : (l : Option (Box Left Global)) (r : S.Type1) (x : S.Type2) → l ≡ None → r ≡ S.one x → r ≡ joined_to l x
 joined_none l r x e f = rw (e, f) refl
 
-pub joined_some : (l : Option Left) (y : Left) (r : S.Type1) (x : S.Type2) → l ≡ Some y → r ≡ S.operation (view_type2 y.type2.value) (view_operator y.operator) x → r ≡ joined_to l x
-joined_some l y r x e f = rw (e, f) refl
+pub joined_some : (l : Option (Box Left Global)) (w : Box Left Global) (y : Left) (r : S.Type1) (x : S.Type2) → l ≡ Some w → y ≡ w.value → r ≡ S.operation (view_type2 y.type2.value) (view_operator y.operator) x → r ≡ joined_to l x
+joined_some l w y r x e d f = rw (e, ← d, f) refl
 
-pub operated_one : (q : Option M.AtType1) (r : S.Type1) (x : S.Type2) (o : S.Operator) → r ≡ S.one x → on q (λ k. made M.want (made (λ j. M.upper j x o) q) ≡ Some (M.operated k r o))
-operated_one None r x o e = tt
-operated_one (Some k) r x o e = rw e refl
+pub operated_one : (q : Option M.AtType1) (l : Box Left Global) (r : S.Type1) (x : S.Type2) (o : S.Operator) (P : M.State → Type 0) → view_type2 l.value.type2.value ≡ x → view_operator l.value.operator ≡ o → r ≡ S.one x → on (type2_at (Some l) q) (λ k. P (M.want k)) → on q (λ k. P (M.operated k r o))
+operated_one None l r x o P f g e h = tt
+operated_one (Some k) l r x o P f g e h = rw e (rw (f, g) at h)
 
 pub operated_two : (r : S.Type1) (x y : S.Type2) (p o : S.Operator) (k : M.AtType1) → r ≡ S.operation x p y → M.operated k r o ≡ M.stuck
 operated_two r x y p o k e = rw e refl
@@ -102,7 +107,7 @@ slash_argument_at (reference k p o) a r t = refl
 slash_argument_at (entry k) a r t = tt
 slash_argument_at (group k) a r t = tt
 
-pub slash_argument : (b : Below) (h : Home) (bf : Before) (a : Option Arguments) (r : S.Type1) (t : Token) (e : Refusal) → bf ≡ B.Arguments a → e ≡ At Unexpected t.start → on (type1_at b h bf) (λ k. Refused t e (M.slash k r t))
+pub slash_argument : (b : Below) (h : Home) (bf : Before) (a : Option Arguments) (r : S.Type1) (t : Token) (e : Stop) → bf ≡ B.Arguments a → e ≡ Unexpected t.start → on (type1_at b h bf) (λ k. Refused t e (M.slash k r t))
 slash_argument b h bf a r t e f g = rw f (along (as_argument b (view_arguments a)) (slash_argument_at b (view_arguments a) r t))
   where
     along : (q : Option M.AtType1) → on q (λ k. M.slash k r t ≡ M.stuck) → on q (λ k. Refused t e (M.slash k r t))
@@ -122,9 +127,8 @@ on_same (Some x) P f g e h = subst P (sym (e x)) h
 pub shut_by : (q : Option M.AtType2) (P : M.State → Type 0) (o : M.TypeOpening) (us ts : S.Types) (i j : Kind) (t : Token) → i ≡ j → us ≡ ts → on q (λ k. P (M.shut_types k o us j t)) → on q (λ k. P (M.shut_types k o ts i t))
 shut_by q P o us ts i j t d e h = rw (d, ← e) h
 
-pub head_shut : (q : Option M.AtType2) (u : M.TypeOpening) (o : Token) (ts : S.Types) (t : Token) → u ≡ M.tag_head o → on q (λ k. made (λ j. M.want_content j o ts t) q ≡ Some (M.shut_types k u ts K.AngleClose t))
-head_shut None u o ts t e = tt
-head_shut (Some k) u o ts t e = rw e refl
+pub head_shut : (u : M.TypeOpening) (o : Token) (ts : S.Types) (t : Token) → u ≡ M.tag_head o → (k : M.AtType2) → M.shut_types k u ts K.AngleClose t ≡ M.want_content k o ts t
+head_shut u o ts t e k = rw e refl
 
 pub simple_shut : (u : M.TypeOpening) (o : Token) (ts : S.Types) (t : Token) (x : S.Type2) → u ≡ M.simple_head o → x ≡ S.simple_by o ts t → (k : M.AtType2) → M.shut_types k u ts K.AngleClose t ≡ M.got k x
 simple_shut u o ts t x e f k = rw (e, f) refl

@@ -7,6 +7,8 @@ use Rattle.cddl_token.specs.declared.Kind.TheVariants.{End}
 use Rattle.cddl_token.specs.declared.Refusal.{Refusal}
 use Rattle.cddl_token.specs.declared.Refusal.TheVariants.{At, Memory}
 use Rattle.cddl_token.specs.declared.Code.{Code}
+use Rattle.cddl_parse.specs.declared.frames.Stop.{Stop}
+use Rattle.cddl_parse.specs.declared.frames.Stop.TheVariants as Stops
 use Rattle.cddl_token.specs.declared.Code.TheVariants.{Unexpected, TooNested}
 use Rattle.cddl_syntax.specs.Syntax.{Lexeme, Cddl, flat, nesting}
 use Rattle.cddl_syntax.specs.Machine as M
@@ -19,7 +21,7 @@ use Rattle.cddl_parse.specs.Frames.{on, made, Below, below, as_entry, view_at_ty
 use Rattle.cddl_parse.specs.declared.state.State.{State}
 use Rattle.cddl_parse.specs.declared.state.State.TheVariants as St
 use Rattle.cddl_parse.specs.declared.state.Progress.{Progress}
-use Rattle.cddl_parse.specs.States.{view_rules, view_state, tree_in, GivesState, EndsInEnd, Refuses, Stands}
+use Rattle.cddl_parse.specs.States.{view_rules, view_state, tree_in, refusal_of, GivesState, EndsInEnd, Refuses, Stands}
 
 -- One token more.
 
@@ -50,10 +52,9 @@ now_goes : (b : Below) (x : Now) → view_now b x ≢ Some M.stuck
 now_goes b (N.Want at) e = made_goes _ (view_at_type2 b at) (λ k i. cc) e
 now_goes b (N.WantRef at p) e = made_goes _ (view_at_type2 b at) (λ k i. cc) e
 now_goes b (N.WantContent at o h a) e = made_goes _ (view_at_type2 b at) (λ k i. cc) e
-now_goes b (N.Have at r) e = made_goes _ (view_at_type1 b at) (λ k i. cc) e
+now_goes b (N.Have at r) e = made_goes _ (view_at_type1 b at.value) (λ k i. cc) e
 now_goes b (N.WantArrow oc r u) e = made_goes _ (as_entry b) (λ k i. cc) e
 now_goes b (N.HaveGroup x) e = made_goes _ (as_entry b) (λ k i. cc) e
-now_goes b (N.Ended r) e = cc
 
 goes : (s : State) → view_state s ≢ Some M.stuck
 goes St.Begin e = cc
@@ -76,10 +77,10 @@ pub stands_first : Stands (record { state = St.Begin; count = 0 }) []
 stands_first = record { place = refl; count = refl; within = omega arith }
 
 -- the step that the code makes at the token t
-abbrev pub Stepped : State → Token → Result State Refusal → Type 0
+abbrev pub Stepped : State → Token → Result State Stop → Type 0
 Stepped s t r = on (view_state s) (λ m. GivesState t r (M.step m t.kind t))
 
-stepped : (p : Progress) (ts : List Token) (t : Token) (r : Result State Refusal) → Stands p ts → Stepped p.state t r → GivesState t r (M.step (M.run M.begin (lexemes ts)) t.kind t)
+stepped : (p : Progress) (ts : List Token) (t : Token) (r : Result State Stop) → Stands p ts → Stepped p.state t r → GivesState t r (M.step (M.run M.begin (lexemes ts)) t.kind t)
 stepped p ts t r h g = at_place (view_state p.state) (M.run M.begin (lexemes ts)) (λ m. GivesState t r (M.step m t.kind t)) h.place g
 
 pub stands_next : (p : Progress) (s : State) (n : ℕ) (ts : List Token) (t : Token) → Stands p ts → Stepped p.state t (Ok s) → n ≡ opened t.kind p.count → n ≤ nesting_limit → Stands (record { state = s; count = n }) (ts ++ t ∷ [])
@@ -125,13 +126,12 @@ unexpected go stop p front back t n h e f = rw f (record {
   wrong = stop (lexemes (front ++ t ∷ [])) (run-push M.begin front t ∙ e);
 })
 
-right : Going → Stuck → (p : Progress) (front back : List Token) (t : Token) (e : Refusal) → Stands p front → GivesState t (Err e) (M.step (M.run M.begin (lexemes front)) t.kind t) → Refuses (front ++ t ∷ back) e
-right go stop p front back t Memory h g = tt
-right go stop p front back t (At Unexpected n) h g = unexpected go stop p front back t n h g.0 g.1
-right go stop p front back t (At c n) h g = absurd g
+right : Going → Stuck → (p : Progress) (front back : List Token) (t : Token) (e : Stop) → Stands p front → GivesState t (Err e) (M.step (M.run M.begin (lexemes front)) t.kind t) → Refuses (front ++ t ∷ back) (refusal_of e)
+right go stop p front back t Stops.Memory h g = tt
+right go stop p front back t (Stops.Unexpected n) h g = unexpected go stop p front back t n h g.0 g.1
 
-pub refused : Going → Stuck → (p : Progress) (ts : List Token) (t : Token) (e : Refusal) → Stands p ts → Stepped p.state t (Err e) → (back : List Token) → Refuses (ts ++ t ∷ back) e
-refused go stop p ts t e h g back = right go stop p ts back t e h (stepped p ts t (Err e) h g)
+pub refused : Going → Stuck → (p : Progress) (ts : List Token) (t : Token) (e : Stop) (r : Refusal) → Stands p ts → Stepped p.state t (Err e) → r ≡ refusal_of e → (back : List Token) → Refuses (ts ++ t ∷ back) r
+refused go stop p ts t e r h g f back = rw f (right go stop p ts back t e h (stepped p ts t (Err e) h g))
 
 pub too_nested : Going → (p : Progress) (s : State) (n : ℕ) (ts : List Token) (t : Token) → Stands p ts → Stepped p.state t (Ok s) → n ≡ opened t.kind p.count → nesting_limit < n → (back : List Token) → IsTooNested (ts ++ t ∷ back) t.start
 too_nested go p s n ts t h g e w back =
@@ -201,10 +201,9 @@ not_over (St.Body rs fs now) x e f = body (below (view_rules rs.items) fs.items)
     body b (N.Want at) i = never _ (view_at_type2 b at) (λ k j. cc) i
     body b (N.WantRef at p) i = never _ (view_at_type2 b at) (λ k j. cc) i
     body b (N.WantContent at o h a) i = never _ (view_at_type2 b at) (λ k j. cc) i
-    body b (N.Have at r) i = never _ (view_at_type1 b at) (λ k j. cc) i
+    body b (N.Have at r) i = never _ (view_at_type1 b at.value) (λ k j. cc) i
     body b (N.WantArrow oc r u) i = never _ (as_entry b) (λ k j. cc) i
     body b (N.HaveGroup g) i = never _ (as_entry b) (λ k j. cc) i
-    body b (N.Ended r) i = cc
 not_over (St.Done t) x e f = cc
 
 pub is_done : Going → ((ts : List Lexeme) (x : Cddl) → Prints x ts → M.run M.begin ts ≡ M.done x) → Answered → (ts : List Token) (p : Progress) → EndsInEnd ts → Stands p ts → None ≡ tree_in p.state → ⊥

@@ -1,11 +1,10 @@
 -- What the frames stand for. Frames that do not fit what is below them stand for nothing.
-use Rattle.std.specs.Prelude.{◌≡◌, List, [], ◌∷◌, Option, Some, None, map, Bool, true, false, Result, Ok, Err}
+use Rattle.std.specs.Prelude.{◌≡◌, List, [], ◌∷◌, Option, Some, None, map, Bool, true, false, Result, Ok, Err, Box}
+use Rattle.std.specs.Borrow.{Bor}
+use Rattle.std.specs.declared.alloc.Global.{Global}
 use Rattle.cddl_token.specs.declared.Token.{Token}
 use Rattle.cddl_token.specs.declared.Kind.{Kind}
 use Rattle.cddl_token.specs.declared.Kind.TheVariants as K
-use Rattle.cddl_token.specs.declared.Refusal.{Refusal}
-use Rattle.cddl_token.specs.declared.Refusal.TheVariants.{At, Memory}
-use Rattle.cddl_token.specs.declared.Code.TheVariants.{Unexpected}
 use Rattle.cddl_tree.specs.declared.tree.Entry.{Entry}
 use Rattle.cddl_tree.specs.declared.tree.MemberKey.{MemberKey}
 use Rattle.cddl_parse.specs.declared.frames.Alternatives.{Alternatives}
@@ -28,8 +27,12 @@ use Rattle.cddl_parse.specs.declared.frames.Frame.{Frame}
 use Rattle.cddl_parse.specs.declared.frames.Frame.TheVariants as F
 use Rattle.cddl_parse.specs.declared.frames.Now.{Now}
 use Rattle.cddl_parse.specs.declared.frames.Now.TheVariants as N
+use Rattle.cddl_parse.specs.declared.frames.Next.{Next}
+use Rattle.cddl_parse.specs.declared.frames.Next.TheVariants as X
 use Rattle.cddl_parse.specs.declared.frames.Content.{Content}
 use Rattle.cddl_parse.specs.declared.frames.Content.TheVariants as C
+use Rattle.cddl_parse.specs.declared.frames.Stop.{Stop}
+use Rattle.cddl_parse.specs.declared.frames.Stop.TheVariants.{Unexpected, Memory}
 use Rattle.cddl_syntax.specs.Syntax as S
 use Rattle.cddl_syntax.specs.Machine as M
 use Rattle.cddl_tree.specs.View.{view_operator, view_types, view_type1, view_type2, view_arg, view_group, view_grpent, view_entry, view_key, view_parm, view_name, view_assigng, view_rule, with_entries, leaf}
@@ -90,9 +93,9 @@ is_closed_by (M.choice a o) K.ParenClose = true
 is_closed_by _ i = false
 
 -- the type1 that an operand ends
-abbrev pub joined_to : Option Left → S.Type2 → S.Type1
+abbrev pub joined_to : Option (Box Left Global) → S.Type2 → S.Type1
 joined_to None x = S.one x
-joined_to (Some l) x = S.operation (view_type2 l.type2.value) (view_operator l.operator) x
+joined_to (Some l) x = S.operation (view_type2 l.value.type2.value) (view_operator l.value.operator) x
 
 -- What the frames stand for, by what may stand over them.
 pub data Below : Type 0 where
@@ -138,12 +141,12 @@ type1_at b home (B.Arguments before) = as_argument b (view_arguments before)
 abbrev pub view_at_type1 : Below → AtType1 → Option M.AtType1
 view_at_type1 b at = type1_at b at.home at.before
 
-abbrev pub type2_at : Option Left → Option M.AtType1 → Option M.AtType2
+abbrev pub type2_at : Option (Box Left Global) → Option M.AtType1 → Option M.AtType2
 type2_at None q = made M.lower q
-type2_at (Some l) q = made (λ k. M.upper k (view_type2 l.type2.value) (view_operator l.operator)) q
+type2_at (Some l) q = made (λ k. M.upper k (view_type2 l.value.type2.value) (view_operator l.value.operator)) q
 
 abbrev pub view_at_type2 : Below → AtType2 → Option M.AtType2
-view_at_type2 b at = type2_at at.left (view_at_type1 b at.at)
+view_at_type2 b at = type2_at at.left (view_at_type1 b at.at.value)
 
 abbrev pub inside_at : Option M.AtType2 → M.TypeOpening → Below
 inside_at None o = nowhere
@@ -186,31 +189,39 @@ abbrev pub view_now : Below → Now → Option M.State
 view_now b (N.Want at) = made M.want (view_at_type2 b at)
 view_now b (N.WantRef at p) = made (λ k. M.want_ref k (view_prefix p)) (view_at_type2 b at)
 view_now b (N.WantContent at o h a) = made (λ k. M.want_content k o.now (view_types h.value) a.now) (view_at_type2 b at)
-view_now b (N.Have at r) = made (λ k. M.have k (view_type1 r.value)) (view_at_type1 b at)
+view_now b (N.Have at r) = made (λ k. M.have k (view_type1 r.value)) (view_at_type1 b at.value)
 view_now b (N.WantArrow oc r u) = made (λ p. M.want_arrow p (leaf oc) (view_type1 r.value) u.now) (as_entry b)
 view_now b (N.HaveGroup e) = made (λ p. M.have_group p (view_grpent e.value)) (as_entry b)
-view_now b (N.Ended r) = None
 
 -- where the code refuses the token, the machine is stuck
-abbrev pub Refused : Token → Refusal → M.State → Type 0
+abbrev pub Refused : Token → Stop → M.State → Type 0
 Refused t Memory m = Unit {0}
-Refused t (At Unexpected n) m = (m ≡ M.stuck) × (n ≡ t.start)
-Refused t (At _ n) m = ⊥
+Refused t (Unexpected n) m = (m ≡ M.stuck) × (n ≡ t.start)
 
 -- the code comes to the machine's state m over these frames
-abbrev pub Comes : Token → S.Rules → Below → Now → M.State → Type 0
-Comes t rs b (N.Ended r) m = m ≡ M.next_rule (S.rules rs (view_rule r.value)) t.kind t
-Comes t rs b now m = view_now b now ≡ Some m
+abbrev pub Comes : Token → S.Rules → Below → Next → M.State → Type 0
+Comes t rs b (X.Within now) m = view_now b now.value ≡ Some m
+Comes t rs b (X.Ended r) m = m ≡ M.next_rule (S.rules rs (view_rule r.value)) t.kind t
 
 -- the code does the machine's step to m at the token, or refuses it
-abbrev pub Gives : Token → S.Rules → Below → Result Now Refusal → M.State → Type 0
-Gives t rs b (Ok now) m = Comes t rs b now m
+abbrev pub Gives : Token → S.Rules → Below → Result Next Stop → M.State → Type 0
+Gives t rs b (Ok next) m = Comes t rs b next m
 Gives t rs b (Err e) m = Refused t e m
 
 -- a place that is not the head of an entry
 abbrev pub IsElsewhere : M.AtType2 → Type 0
 IsElsewhere (M.lower (M.head (M.start p oc))) = ⊥
 IsElsewhere _ = Unit {0}
+
+-- the occurrence before the first operand there, where that is the head of an entry
+abbrev pub IsStart : Option (Option (Bor Token)) → AtType1 → Type 0
+IsStart (Some oc) x = (b : Below) → made M.lower (view_at_type1 b x) ≡ made (λ p. M.lower (M.head (M.start p (leaf oc)))) (as_entry b)
+IsStart None x = (b : Below) → on (made M.lower (view_at_type1 b x)) IsElsewhere
+
+-- the occurrence before the place, where that is the head of an entry
+abbrev pub IsHead : Option (Option (Bor Token)) → AtType2 → Type 0
+IsHead (Some oc) x = (b : Below) → view_at_type2 b x ≡ made (λ p. M.lower (M.head (M.start p (leaf oc)))) (as_entry b)
+IsHead None x = (b : Below) → on (view_at_type2 b x) IsElsewhere
 
 -- a choice of more than one type1
 abbrev pub IsChoice : S.Types → Type 0

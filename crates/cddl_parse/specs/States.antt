@@ -5,6 +5,9 @@ use Rattle.cddl_token.specs.declared.Token.{Token}
 use Rattle.cddl_token.specs.declared.Kind.TheVariants.{End}
 use Rattle.cddl_token.specs.declared.Refusal.{Refusal}
 use Rattle.cddl_token.specs.declared.Refusal.TheVariants.{At, Memory}
+use Rattle.cddl_token.specs.declared.Code.TheVariants.{Unexpected}
+use Rattle.cddl_parse.specs.declared.frames.Stop.{Stop}
+use Rattle.cddl_parse.specs.declared.frames.Stop.TheVariants as Stops
 use Rattle.cddl_parse.specs.declared.state.State.{State}
 use Rattle.cddl_parse.specs.declared.state.Progress.{Progress}
 use Rattle.cddl_tree.specs.declared.tree.Rule.{Rule}
@@ -26,18 +29,23 @@ view_state (St.WantAssign rs n) = Some (M.awaits_assign (view_rules rs.items) (v
 view_state (St.Body rs fs now) = view_now (below (view_rules rs.items) fs.items) now.value
 view_state (St.Done t) = Some (M.done (view t))
 
-abbrev pub GivesState : Token → Result State Refusal → M.State → Type 0
+abbrev pub GivesState : Token → Result State Stop → M.State → Type 0
 GivesState t (Ok s) m = view_state s ≡ Some m
 GivesState t (Err e) m = Refused t e m
 
 -- a body that is awaited at the place, or memory ran out
-abbrev pub BeginsBody : Result State Refusal → Option M.AtTypes → Type 0
+abbrev pub BeginsBody : Result State Stop → Option M.AtTypes → Type 0
 BeginsBody (Ok s) k = view_state s ≡ made M.open_types k
-BeginsBody (Err e) k = e ≡ Memory
+BeginsBody (Err e) k = e ≡ Stops.Memory
 
 -- the source's end is the last token
 abbrev pub EndsInEnd : List Token → Type 0
 EndsInEnd ts = (front : List Token) × (e : Token) × (ts ≡ front ++ e ∷ []) × (e.kind ≡ End)
+
+-- what the caller is told of it
+abbrev pub refusal_of : Stop → Refusal
+refusal_of (Stops.Unexpected n) = At Unexpected n
+refusal_of Stops.Memory = Memory
 
 -- the refusal is why the tokens are no specification, or memory ran out
 abbrev pub Refuses : List Token → Refusal → Type 0

@@ -6,10 +6,10 @@ ghost use Rattle.cddl_tree.specs.View.{leaf, view_type2, view_group};
 ghost use Rattle.cddl_parse.specs.Frames.{on, view_group_opening, bracketed, is_closed_by, as_entry, view_at_type2, Gives, Below};
 
 use crate::build::{content_of, unexpected};
-use crate::frames::{AtType2, Content, GroupOpening, Home, Now};
+use crate::frames::{AtType2, Content, GroupOpening, Home, Next, Stop};
 use crate::memory::boxed;
 use crate::places::{got, have_group, type_at};
-use cddl_token::{Kind, Refusal, Token};
+use cddl_token::{Kind, Token};
 use cddl_tree::{Group, GrpEnt, Type2};
 use std::alloc::Global;
 
@@ -21,7 +21,7 @@ pub(crate) fn shut_within<'s>(
     opening: GroupOpening<'s>,
     group: Group<'s>,
     token: &'s Token<'s>,
-) -> Result<Now<'s>, Refusal>
+) -> Result<Next<'s>, Stop>
     ensures { (rs : S.Rules) (b : Below) → on (view_at_type2 b at.entry) (λ k. Gives token.now rs b result (M.shut_group (M.within k (view_group_opening opening.entry)) (view_group group.entry) token.now.kind token.now)) }
 {
     if closes(opening, token.kind) {
@@ -76,25 +76,30 @@ pub(crate) fn shut_entry<'s>(
     opening: &'s Token<'s>,
     group: Group<'s>,
     token: &'s Token<'s>,
-) -> Result<Now<'s>, Refusal>
+) -> Result<Next<'s>, Stop>
     ensures { (rs : S.Rules) (b : Below) → on (as_entry b) (λ p. Gives token.now rs b result (M.shut_paren p (leaf occur.entry) opening.now (view_group group.entry) token.now)) }
 {
     let closing = token;
     match content_of(group) {
         Ok(content) => match content {
             Content::Type(types) => match boxed(alloc, types) {
-                Ok(boxed) => got(
-                    alloc,
-                    type_at(Home::Start(occur)),
-                    Type2::Parens {
-                        opening,
-                        types: boxed,
-                        closing,
-                    },
-                ),
+                Ok(types) => match type_at(alloc, Home::Start(occur)) {
+                    Ok(at) => {
+                        let type2 = Type2::Parens {
+                            opening,
+                            types,
+                            closing,
+                        };
+                        got(alloc, at, type2)
+                    }
+                    Err(_) => {
+                        drop(types);
+                        Err(Stop::Memory)
+                    }
+                },
                 Err(error) => {
                     drop(error);
-                    Err(Refusal::Memory)
+                    Err(Stop::Memory)
                 }
             },
             Content::Group(group) => {
@@ -109,7 +114,7 @@ pub(crate) fn shut_entry<'s>(
         },
         Err(error) => {
             drop(error);
-            Err(Refusal::Memory)
+            Err(Stop::Memory)
         }
     }
 }

@@ -5,9 +5,9 @@ ghost use Rattle.cddl_syntax.specs.Syntax as S;
 ghost use Rattle.cddl_tree.specs.View.{leaf, view_grpent, view_ref, view_type1, view_type2, view_arg, view_group, view_types, view_parm};
 ghost use Rattle.cddl_parse.specs.Frames.{view_alternatives, view_arguments, view_parameters, view_prefix, view_entries, IsChoice, IsKeyOf, IsContent};
 
-use crate::frames::{Alternatives, Arguments, Content, Parameters, Prefix};
+use crate::frames::{Alternatives, Arguments, Content, Parameters, Prefix, Stop};
 use crate::memory::pushed;
-use cddl_token::{Code, Refusal, Token};
+use cddl_token::Token;
 use cddl_tree::{
     Entry, Further, GenericArg, GenericParm, Group, GrpChoice, GrpEnt, MemberKey, Parameter, Ref,
     Type1, Type2, Types,
@@ -15,18 +15,18 @@ use cddl_tree::{
 use std::alloc::Global;
 
 /// The refusal of a token.
-pub(crate) fn unexpected(token: &Token<'_>) -> Refusal
-    ensures { result ≡ Refusal.At Code.Unexpected token.now.start }
+pub(crate) fn unexpected(token: &Token<'_>) -> Stop
+    ensures { result ≡ Stop.Unexpected token.now.start }
 {
-    Refusal::At(Code::Unexpected, token.start)
+    Stop::Unexpected(token.start)
 }
 
 /// A type of one type1.
-pub(crate) fn one_type<'s>(alloc: Global, type1: Type1<'s>) -> Types<'s>
-    ensures { view_types result ≡ S.only (view_type1 type1.entry) }
+pub(crate) fn one_type<'s>(alloc: Global, type1: Box<Type1<'s>>) -> Types<'s>
+    ensures { view_types result ≡ S.only (view_type1 type1.entry.value) }
 {
     Types {
-        first: type1,
+        first: Box::into_inner(type1),
         others: Vec::new(alloc),
     }
 }
@@ -35,18 +35,19 @@ pub(crate) fn one_type<'s>(alloc: Global, type1: Type1<'s>) -> Types<'s>
 pub(crate) fn more_types<'s>(
     types: Box<Types<'s>>,
     slash: &'s Token<'s>,
-    type1: Type1<'s>,
-) -> Result<Types<'s>, Refusal>
-    ensures { MatchResult result (λ t. view_types t ≡ S.or (view_types types.entry.value) slash.now (view_type1 type1.entry)) (λ e. e ≡ Refusal.Memory) }
+    type1: Box<Type1<'s>>,
+) -> Result<Types<'s>, Stop>
+    ensures { MatchResult result (λ t. view_types t ≡ S.or (view_types types.entry.value) slash.now (view_type1 type1.entry.value)) (λ e. e ≡ Stop.Memory) }
 {
     let Types { first, mut others } = Box::into_inner(types);
+    let type1 = Box::into_inner(type1);
     match pushed(&mut others, Further { sign: slash, type1 }) {
         Ok(()) => Ok(Types { first, others }),
         Err(error) => {
             drop(error);
             drop(first);
             drop(others);
-            Err(Refusal::Memory)
+            Err(Stop::Memory)
         }
     }
 }
@@ -56,8 +57,8 @@ pub(crate) fn group_of<'s>(
     alloc: Global,
     before: Option<Alternatives<'s>>,
     entries: Vec<Entry<'s>>,
-) -> Result<Group<'s>, Refusal>
-    ensures { MatchResult result (λ g. view_group g ≡ M.group_of (view_alternatives before.entry) (view_entries entries.entry.items)) (λ e. e ≡ Refusal.Memory) }
+) -> Result<Group<'s>, Stop>
+    ensures { MatchResult result (λ g. view_group g ≡ M.group_of (view_alternatives before.entry) (view_entries entries.entry.items)) (λ e. e ≡ Stop.Memory) }
 {
     match before {
         None => Ok(Group {
@@ -73,7 +74,7 @@ pub(crate) fn group_of<'s>(
                     drop(error);
                     drop(first);
                     drop(others);
-                    Err(Refusal::Memory)
+                    Err(Stop::Memory)
                 }
             }
         }
@@ -84,10 +85,11 @@ pub(crate) fn group_of<'s>(
 pub(crate) fn arg_of<'s>(
     alloc: Global,
     before: Option<Arguments<'s>>,
-    type1: Type1<'s>,
-) -> Result<GenericArg<'s>, Refusal>
-    ensures { MatchResult result (λ a. view_arg a ≡ M.arg_of (view_arguments before.entry) (view_type1 type1.entry)) (λ e. e ≡ Refusal.Memory) }
+    type1: Box<Type1<'s>>,
+) -> Result<GenericArg<'s>, Stop>
+    ensures { MatchResult result (λ a. view_arg a ≡ M.arg_of (view_arguments before.entry) (view_type1 type1.entry.value)) (λ e. e ≡ Stop.Memory) }
 {
+    let type1 = Box::into_inner(type1);
     match before {
         None => Ok(GenericArg {
             first: type1,
@@ -102,7 +104,7 @@ pub(crate) fn arg_of<'s>(
                     drop(error);
                     drop(first);
                     drop(others);
-                    Err(Refusal::Memory)
+                    Err(Stop::Memory)
                 }
             }
         }
@@ -114,8 +116,8 @@ pub(crate) fn parm_of<'s>(
     alloc: Global,
     before: Option<Parameters<'s>>,
     name: &'s Token<'s>,
-) -> Result<GenericParm<'s>, Refusal>
-    ensures { MatchResult result (λ p. view_parm p ≡ M.parm_of (view_parameters before.entry) name.now) (λ e. e ≡ Refusal.Memory) }
+) -> Result<GenericParm<'s>, Stop>
+    ensures { MatchResult result (λ p. view_parm p ≡ M.parm_of (view_parameters before.entry) name.now) (λ e. e ≡ Stop.Memory) }
 {
     match before {
         None => Ok(GenericParm {
@@ -130,7 +132,7 @@ pub(crate) fn parm_of<'s>(
                 Err(error) => {
                     drop(error);
                     drop(others);
-                    Err(Refusal::Memory)
+                    Err(Stop::Memory)
                 }
             }
         }
@@ -238,8 +240,8 @@ fn name_key<'s>(name: Ref<'s>, colon: &'s Token<'s>) -> Option<MemberKey<'s>>
 }
 
 /// What a group in parentheses stands for.
-pub(crate) fn content_of(group: Group<'_>) -> Result<Content<'_>, Refusal>
-    ensures { MatchResult result (λ x. IsContent x (view_group group.entry)) (λ e. e ≡ Refusal.Memory) }
+pub(crate) fn content_of(group: Group<'_>) -> Result<Content<'_>, Stop>
+    ensures { MatchResult result (λ x. IsContent x (view_group group.entry)) (λ e. e ≡ Stop.Memory) }
 {
     let Group { first, others } = group;
     if others.is_empty() {
@@ -250,12 +252,9 @@ pub(crate) fn content_of(group: Group<'_>) -> Result<Content<'_>, Refusal>
 }
 
 /// The same for one alternative.
-fn sole_content<'s>(
-    first: Vec<Entry<'s>>,
-    others: Vec<GrpChoice<'s>>,
-) -> Result<Content<'s>, Refusal>
+fn sole_content<'s>(first: Vec<Entry<'s>>, others: Vec<GrpChoice<'s>>) -> Result<Content<'s>, Stop>
     requires { others.items ≡ [] }
-    ensures { MatchResult result (λ x. IsContent x (S.sole (view_entries first.entry.items))) (λ e. e ≡ Refusal.Memory) }
+    ensures { MatchResult result (λ x. IsContent x (S.sole (view_entries first.entry.items))) (λ e. e ≡ Stop.Memory) }
 {
     let mut first = first;
     match first.pop() {
@@ -286,10 +285,10 @@ fn whole<'s>(
     grpent: GrpEnt<'s>,
     comma: Option<&'s Token<'s>>,
     others: Vec<GrpChoice<'s>>,
-) -> Result<Content<'s>, Refusal>
+) -> Result<Content<'s>, Stop>
     requires group { S.is_type (S.sole (S.entries (view_entries first.items) (view_grpent grpent) (leaf comma))) ≡ false }
     requires alone { others.items ≡ [] }
-    ensures { MatchResult result (λ x. IsContent x (S.sole (S.entries (view_entries first.entry.items) (view_grpent grpent.entry) (leaf comma.entry)))) (λ e. e ≡ Refusal.Memory) }
+    ensures { MatchResult result (λ x. IsContent x (S.sole (S.entries (view_entries first.entry.items) (view_grpent grpent.entry) (leaf comma.entry)))) (λ e. e ≡ Stop.Memory) }
 {
     let mut first = first;
     match pushed(&mut first, Entry { grpent, comma }) {
@@ -298,7 +297,7 @@ fn whole<'s>(
             drop(error);
             drop(first);
             drop(others);
-            Err(Refusal::Memory)
+            Err(Stop::Memory)
         }
     }
 }

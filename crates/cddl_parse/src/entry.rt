@@ -6,12 +6,12 @@ ghost use Rattle.cddl_tree.specs.View.{leaf, view_grpent, view_name, view_assign
 ghost use Rattle.cddl_parse.specs.Frames.{on, view_alternatives, view_entries, as_entry, as_group, below, Gives};
 
 use crate::build::{lone_type, unexpected};
-use crate::frames::{Alternatives, Frame, Home, Now};
+use crate::frames::{Alternatives, Frame, Home, Next, Stop};
 use crate::memory::pushed;
 use crate::open::open_member;
 use crate::places::{ended, type_at};
 use crate::want::step_want;
-use cddl_token::{Kind, Refusal, Token};
+use cddl_token::{Kind, Token};
 use cddl_tree::{AssignG, AssignT, Entry, GrpEnt, Rule, RuleName};
 use std::alloc::Global;
 
@@ -22,7 +22,7 @@ pub(crate) fn after_entry<'s>(
     frames: &mut Vec<Frame<'s>>,
     grpent: GrpEnt<'s>,
     token: &'s Token<'s>,
-) -> Result<Now<'s>, Refusal>
+) -> Result<Next<'s>, Stop>
     ensures { (rs : S.Rules) → on (as_entry (below rs frames.old.items)) (λ p. Gives token.now rs (below rs frames.new.items) result (M.after_entry p (view_grpent grpent.entry) token.now.kind token.now)) }
 {
     match frames.pop() {
@@ -79,30 +79,33 @@ fn after_member<'s>(
     entries: Vec<Entry<'s>>,
     grpent: GrpEnt<'s>,
     token: &'s Token<'s>,
-) -> Result<Now<'s>, Refusal>
+) -> Result<Next<'s>, Stop>
     ensures { (rs : S.Rules) → on (as_group (below rs frames.old.items)) (λ k. Gives token.now rs (below rs frames.new.items) result (M.after_entry (M.member k (view_alternatives before.entry) (view_entries entries.entry.items)) (view_grpent grpent.entry) token.now.kind token.now)) }
 {
     match token.kind {
         Kind::Comma => match with_entry(entries, grpent, Some(token)) {
-            Ok(entries) => open_member(frames, before, entries),
+            Ok(entries) => open_member(alloc, frames, before, entries),
             Err(error) => {
                 drop(error);
                 drop(before);
-                Err(Refusal::Memory)
+                Err(Stop::Memory)
             }
         },
         _ => match with_entry(entries, grpent, None) {
             Ok(entries) => match pushed(frames, Frame::Member(before, entries)) {
-                Ok(()) => step_want(alloc, frames, type_at(Home::Start(None)), token),
+                Ok(()) => match type_at(alloc, Home::Start(None)) {
+                    Ok(at) => step_want(alloc, frames, at, token),
+                    Err(_) => Err(Stop::Memory),
+                },
                 Err(error) => {
                     drop(error);
-                    Err(Refusal::Memory)
+                    Err(Stop::Memory)
                 }
             },
             Err(error) => {
                 drop(error);
                 drop(before);
-                Err(Refusal::Memory)
+                Err(Stop::Memory)
             }
         },
     }
@@ -114,7 +117,7 @@ fn with_entry<'s>(
     entries: Vec<Entry<'s>>,
     grpent: GrpEnt<'s>,
     comma: Option<&'s Token<'s>>,
-) -> Result<Vec<Entry<'s>>, Refusal>
+) -> Result<Vec<Entry<'s>>, Stop>
     ensures { IfOk result (λ es. view_entries es.items ≡ S.entries (view_entries entries.entry.items) (view_grpent grpent.entry) (leaf comma.entry)) }
 {
     let mut entries = entries;
@@ -123,7 +126,7 @@ fn with_entry<'s>(
         Err(error) => {
             drop(error);
             drop(entries);
-            Err(Refusal::Memory)
+            Err(Stop::Memory)
         }
     }
 }

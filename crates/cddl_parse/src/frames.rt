@@ -90,8 +90,8 @@ pub(crate) struct AtType1<'s> {
 /// What stands left of a type2.
 #[derive(Drop)]
 pub(crate) struct AtType2<'s> {
-    pub(crate) at: AtType1<'s>,
-    pub(crate) left: Option<Left<'s>>,
+    pub(crate) at: Box<AtType1<'s>>,
+    pub(crate) left: Option<Box<Left<'s>>>,
 }
 
 /// What stands between the frames below and a place above.
@@ -113,7 +113,7 @@ pub(crate) enum Frame<'s> {
     Member(Option<Alternatives<'s>>, Vec<Entry<'s>>),
 }
 
-/// Where the parser is within a rule's body, or at its end.
+/// Where the parser is within a rule's body.
 #[derive(Drop)]
 pub(crate) enum Now<'s> {
     /// A type2 is awaited.
@@ -122,10 +122,16 @@ pub(crate) enum Now<'s> {
     WantRef(AtType2<'s>, Prefix<'s>),
     /// The `(` behind `#6.<` and its `>` is awaited.
     WantContent(AtType2<'s>, &'s Token<'s>, Box<Types<'s>>, &'s Token<'s>),
-    Have(AtType1<'s>, Box<Type1<'s>>),
+    Have(Box<AtType1<'s>>, Box<Type1<'s>>),
     /// The `=>` behind `^` is awaited.
     WantArrow(Option<&'s Token<'s>>, Box<Type1<'s>>, &'s Token<'s>),
     HaveGroup(Box<GrpEnt<'s>>),
+}
+
+/// Where a token leads within a rule's body.
+#[derive(Drop)]
+pub(crate) enum Next<'s> {
+    Within(Box<Now<'s>>),
     /// The rule is whole; the token is behind it.
     Ended(Box<Rule<'s>>),
 }
@@ -135,4 +141,13 @@ pub(crate) enum Now<'s> {
 pub(crate) enum Content<'s> {
     Type(Types<'s>),
     Group(Group<'s>),
+}
+
+/// Why the parser stops at a token.
+#[derive(Clone, Copy)]
+pub(crate) enum Stop {
+    /// It can't follow the tokens before it. It begins at this offset.
+    Unexpected(usize),
+    /// Memory ran out.
+    Memory,
 }

@@ -7,9 +7,9 @@ ghost use Rattle.cddl_parse.specs.Frames.{on, view_alternatives, view_entries, a
 
 use crate::brackets::{shut_entry, shut_within};
 use crate::build::{group_of, unexpected};
-use crate::frames::{Alternatives, AtType2, Frame, Now};
+use crate::frames::{Alternatives, AtType2, Frame, Next, Stop};
 use crate::open::{entry_head, open_member};
-use cddl_token::{Kind, Refusal, Token};
+use cddl_token::{Kind, Token};
 use cddl_tree::{Entry, Group};
 use std::alloc::Global;
 
@@ -20,18 +20,17 @@ pub(crate) fn ends_want<'s>(
     frames: &mut Vec<Frame<'s>>,
     at: AtType2<'s>,
     token: &'s Token<'s>,
-) -> Result<Now<'s>, Refusal>
+) -> Result<Next<'s>, Stop>
     ensures { (rs : S.Rules) → on (view_at_type2 (below rs frames.old.items) at.entry) (λ k. Gives token.now rs (below rs frames.new.items) result (M.ends_want k token.now.kind token.now)) }
 {
-    match entry_head(at) {
-        Ok(occur) => match occur {
+    let head = entry_head(&at);
+    drop(at);
+    match head {
+        Some(occur) => match occur {
             None => ends_start(alloc, frames, token),
             Some(_) => Err(unexpected(token)),
         },
-        Err(at) => {
-            drop(at);
-            Err(unexpected(token))
-        }
+        None => Err(unexpected(token)),
     }
 }
 
@@ -41,7 +40,7 @@ fn ends_start<'s>(
     alloc: Global,
     frames: &mut Vec<Frame<'s>>,
     token: &'s Token<'s>,
-) -> Result<Now<'s>, Refusal>
+) -> Result<Next<'s>, Stop>
     ensures { (rs : S.Rules) → on (as_entry (below rs frames.old.items)) (λ p. Gives token.now rs (below rs frames.new.items) result (M.ends_want (M.lower (M.head (M.start p None))) token.now.kind token.now)) }
 {
     match frames.pop() {
@@ -64,7 +63,7 @@ fn ends<'s>(
     before: Option<Alternatives<'s>>,
     entries: Vec<Entry<'s>>,
     token: &'s Token<'s>,
-) -> Result<Now<'s>, Refusal>
+) -> Result<Next<'s>, Stop>
     ensures { (rs : S.Rules) → on (as_group (below rs frames.old.items)) (λ k. Gives token.now rs (below rs frames.new.items) result (M.ends k (view_alternatives before.entry) (view_entries entries.entry.items) token.now.kind token.now)) }
 {
     match group_of(alloc, before, entries) {
@@ -74,13 +73,13 @@ fn ends<'s>(
                     group,
                     slashes: token,
                 };
-                open_member(frames, Some(before), Vec::new(alloc))
+                open_member(alloc, frames, Some(before), Vec::new(alloc))
             }
             _ => shut_group(alloc, frames, group, token),
         },
         Err(error) => {
             drop(error);
-            Err(Refusal::Memory)
+            Err(Stop::Memory)
         }
     }
 }
@@ -92,7 +91,7 @@ fn shut_group<'s>(
     frames: &mut Vec<Frame<'s>>,
     group: Group<'s>,
     token: &'s Token<'s>,
-) -> Result<Now<'s>, Refusal>
+) -> Result<Next<'s>, Stop>
     ensures { (rs : S.Rules) → on (as_group (below rs frames.old.items)) (λ k. Gives token.now rs (below rs frames.new.items) result (M.shut_group k (view_group group.entry) token.now.kind token.now)) }
 {
     match frames.pop() {

@@ -8,10 +8,12 @@ ghost use Rattle.cddl_parse.specs.Kinds.{IsOperatorOf};
 
 use crate::build::{arg_of, more_types, one_type, prefixed, simple_key, sole_type1, unexpected};
 use crate::entry::after_entry;
-use crate::frames::{AtType1, AtType2, Before, Frame, Home, Left, Now, TypeOpening};
+use crate::frames::{AtType1, AtType2, Before, Frame, Home, Left, Next, Stop, TypeOpening};
 use crate::memory::boxed;
-use crate::places::{ended, got, next_argument, next_choice, value_at, want_arrow};
-use cddl_token::{Kind, Refusal, Token};
+use crate::places::{
+    ended, got, next_argument, next_choice, value_at, want, want_arrow, want_content,
+};
+use cddl_token::{Kind, Token};
 use cddl_tree::{AssignT, GenericArg, GrpEnt, MemberKey, Operator, Ref, Rule, Type1, Type2, Types};
 use std::alloc::Global;
 
@@ -20,14 +22,14 @@ use std::alloc::Global;
 pub(crate) fn step_have<'s>(
     alloc: Global,
     frames: &mut Vec<Frame<'s>>,
-    at: AtType1<'s>,
-    type1: Type1<'s>,
+    at: Box<AtType1<'s>>,
+    type1: Box<Type1<'s>>,
     token: &'s Token<'s>,
-) -> Result<Now<'s>, Refusal>
-    ensures { (rs : S.Rules) → on (view_at_type1 (below rs frames.old.items) at.entry) (λ k. Gives token.now rs (below rs frames.new.items) result (M.step_have k (view_type1 type1.entry) token.now.kind token.now)) }
+) -> Result<Next<'s>, Stop>
+    ensures { (rs : S.Rules) → on (view_at_type1 (below rs frames.old.items) at.entry.value) (λ k. Gives token.now rs (below rs frames.new.items) result (M.step_have k (view_type1 type1.entry.value) token.now.kind token.now)) }
 {
     match operator_of(token) {
-        Some(operator) => operated(at, type1, operator, token),
+        Some(operator) => operated(alloc, at, type1, operator, token),
         None => match token.kind {
             Kind::Slash => slash(alloc, at, type1, token),
             _ => after_type1(alloc, frames, at, type1, token),
@@ -51,18 +53,26 @@ fn operator_of<'s>(token: &'s Token<'s>) -> Option<Operator<'s>>
 /// An operator behind a type1, which has to be one operand.
 #[tactic(none)]
 fn operated<'s>(
-    at: AtType1<'s>,
-    type1: Type1<'s>,
+    alloc: Global,
+    at: Box<AtType1<'s>>,
+    type1: Box<Type1<'s>>,
     operator: Operator<'s>,
     token: &'s Token<'s>,
-) -> Result<Now<'s>, Refusal>
-    ensures { (rs : S.Rules) (b : Below) → on (view_at_type1 b at.entry) (λ k. Gives token.now rs b result (M.operated k (view_type1 type1.entry) (view_operator operator.entry))) }
+) -> Result<Next<'s>, Stop>
+    ensures { (rs : S.Rules) (b : Below) → on (view_at_type1 b at.entry.value) (λ k. Gives token.now rs b result (M.operated k (view_type1 type1.entry.value) (view_operator operator.entry))) }
 {
-    match type1 {
-        Type1::One(type2) => Ok(Now::Want(AtType2 {
-            at,
-            left: Some(Left { type2, operator }),
-        })),
+    match Box::into_inner(type1) {
+        Type1::One(type2) => match boxed(alloc, Left { type2, operator }) {
+            Ok(left) => {
+                let left = Some(left);
+                want(alloc, AtType2 { at, left })
+            }
+            Err(error) => {
+                drop(error);
+                drop(at);
+                Err(Stop::Memory)
+            }
+        },
         Type1::Operation { left, right, .. } => {
             drop(left);
             drop(right);
@@ -76,13 +86,13 @@ fn operated<'s>(
 #[tactic(none)]
 fn slash<'s>(
     alloc: Global,
-    at: AtType1<'s>,
-    type1: Type1<'s>,
+    at: Box<AtType1<'s>>,
+    type1: Box<Type1<'s>>,
     token: &'s Token<'s>,
-) -> Result<Now<'s>, Refusal>
-    ensures { (rs : S.Rules) (b : Below) → on (view_at_type1 b at.entry) (λ k. Gives token.now rs b result (M.slash k (view_type1 type1.entry) token.now)) }
+) -> Result<Next<'s>, Stop>
+    ensures { (rs : S.Rules) (b : Below) → on (view_at_type1 b at.entry.value) (λ k. Gives token.now rs b result (M.slash k (view_type1 type1.entry.value) token.now)) }
 {
-    let AtType1 { home, before } = at;
+    let AtType1 { home, before } = Box::into_inner(at);
     match before {
         Before::Nothing => next_choice(alloc, home, one_type(alloc, type1), token),
         Before::Choices(types, slash) => match more_types(types, slash, type1) {
@@ -90,7 +100,7 @@ fn slash<'s>(
             Err(error) => {
                 drop(error);
                 drop(home);
-                Err(Refusal::Memory)
+                Err(Stop::Memory)
             }
         },
         Before::Arguments(before) => {
@@ -107,13 +117,13 @@ fn slash<'s>(
 fn after_type1<'s>(
     alloc: Global,
     frames: &mut Vec<Frame<'s>>,
-    at: AtType1<'s>,
-    type1: Type1<'s>,
+    at: Box<AtType1<'s>>,
+    type1: Box<Type1<'s>>,
     token: &'s Token<'s>,
-) -> Result<Now<'s>, Refusal>
-    ensures { (rs : S.Rules) → on (view_at_type1 (below rs frames.old.items) at.entry) (λ k. Gives token.now rs (below rs frames.new.items) result (M.after_type1 k (view_type1 type1.entry) token.now.kind token.now)) }
+) -> Result<Next<'s>, Stop>
+    ensures { (rs : S.Rules) → on (view_at_type1 (below rs frames.old.items) at.entry.value) (λ k. Gives token.now rs (below rs frames.new.items) result (M.after_type1 k (view_type1 type1.entry.value) token.now.kind token.now)) }
 {
-    let AtType1 { home, before } = at;
+    let AtType1 { home, before } = Box::into_inner(at);
     match before {
         Before::Nothing => after_types(alloc, frames, home, one_type(alloc, type1), token),
         Before::Choices(types, slash) => match more_types(types, slash, type1) {
@@ -121,7 +131,7 @@ fn after_type1<'s>(
             Err(error) => {
                 drop(error);
                 drop(home);
-                Err(Refusal::Memory)
+                Err(Stop::Memory)
             }
         },
         Before::Arguments(before) => {
@@ -130,7 +140,7 @@ fn after_type1<'s>(
                 Ok(arguments) => after_argument(alloc, frames, arguments, token),
                 Err(error) => {
                     drop(error);
-                    Err(Refusal::Memory)
+                    Err(Stop::Memory)
                 }
             }
         }
@@ -144,7 +154,7 @@ fn after_argument<'s>(
     frames: &mut Vec<Frame<'s>>,
     arguments: GenericArg<'s>,
     token: &'s Token<'s>,
-) -> Result<Now<'s>, Refusal>
+) -> Result<Next<'s>, Stop>
     ensures { (rs : S.Rules) → on (as_reference (below rs frames.old.items)) (λ r. Gives token.now rs (below rs frames.new.items) result (M.after_argument r.0 r.1 r.2 (view_arg arguments.entry) token.now.kind token.now)) }
 {
     match token.kind {
@@ -164,7 +174,7 @@ fn shut_arguments<'s>(
     frames: &mut Vec<Frame<'s>>,
     arguments: GenericArg<'s>,
     token: &'s Token<'s>,
-) -> Result<Now<'s>, Refusal>
+) -> Result<Next<'s>, Stop>
     ensures { (rs : S.Rules) → on (as_reference (below rs frames.old.items)) (λ r. Gives token.now rs (below rs frames.new.items) result (M.after_argument r.0 r.1 r.2 (view_arg arguments.entry) AngleClose token.now)) }
 {
     let closing = token;
@@ -186,7 +196,7 @@ fn shut_arguments<'s>(
                 Err(error) => {
                     drop(error);
                     drop(at);
-                    Err(Refusal::Memory)
+                    Err(Stop::Memory)
                 }
             },
             frame => {
@@ -206,7 +216,7 @@ fn after_types<'s>(
     home: Home<'s>,
     types: Types<'s>,
     token: &'s Token<'s>,
-) -> Result<Now<'s>, Refusal>
+) -> Result<Next<'s>, Stop>
     ensures { (rs : S.Rules) → on (view_home (below rs frames.old.items) home.entry) (λ k. Gives token.now rs (below rs frames.new.items) result (M.after_types k (view_types types.entry) token.now.kind token.now)) }
 {
     match home {
@@ -225,7 +235,7 @@ fn after_inside<'s>(
     frames: &mut Vec<Frame<'s>>,
     types: Types<'s>,
     token: &'s Token<'s>,
-) -> Result<Now<'s>, Refusal>
+) -> Result<Next<'s>, Stop>
     ensures { (rs : S.Rules) → on (as_types (below rs frames.old.items)) (λ k. Gives token.now rs (below rs frames.new.items) result (M.after_types k (view_types types.entry) token.now.kind token.now)) }
 {
     match frames.pop() {
@@ -263,7 +273,7 @@ fn shut_types<'s>(
     opening: TypeOpening<'s>,
     types: Types<'s>,
     token: &'s Token<'s>,
-) -> Result<Now<'s>, Refusal>
+) -> Result<Next<'s>, Stop>
     ensures { (rs : S.Rules) (b : Below) → on (view_at_type2 b at.entry) (λ k. Gives token.now rs b result (M.shut_types k (view_type_opening opening.entry) (view_types types.entry) token.now.kind token.now)) }
 {
     match boxed(alloc, types) {
@@ -281,7 +291,7 @@ fn shut_types<'s>(
             drop(error);
             drop(opening);
             drop(at);
-            Err(Refusal::Memory)
+            Err(Stop::Memory)
         }
     }
 }
@@ -294,7 +304,7 @@ fn shut_parens<'s>(
     opening: TypeOpening<'s>,
     types: Box<Types<'s>>,
     token: &'s Token<'s>,
-) -> Result<Now<'s>, Refusal>
+) -> Result<Next<'s>, Stop>
     ensures { (rs : S.Rules) (b : Below) → on (view_at_type2 b at.entry) (λ k. Gives token.now rs b result (M.shut_types k (view_type_opening opening.entry) (view_types types.entry.value) ParenClose token.now)) }
 {
     let closing = token;
@@ -346,11 +356,11 @@ fn shut_angles<'s>(
     opening: TypeOpening<'s>,
     types: Box<Types<'s>>,
     token: &'s Token<'s>,
-) -> Result<Now<'s>, Refusal>
+) -> Result<Next<'s>, Stop>
     ensures { (rs : S.Rules) (b : Below) → on (view_at_type2 b at.entry) (λ k. Gives token.now rs b result (M.shut_types k (view_type_opening opening.entry) (view_types types.entry.value) AngleClose token.now)) }
 {
     match opening {
-        TypeOpening::TagHead(opening) => Ok(Now::WantContent(at, opening, types, token)),
+        TypeOpening::TagHead(opening) => want_content(alloc, at, opening, types, token),
         TypeOpening::SimpleHead(opening) => got(
             alloc,
             at,
@@ -377,7 +387,7 @@ fn after_start<'s>(
     occur: Option<&'s Token<'s>>,
     types: Types<'s>,
     token: &'s Token<'s>,
-) -> Result<Now<'s>, Refusal>
+) -> Result<Next<'s>, Stop>
     ensures { (rs : S.Rules) → on (as_entry (below rs frames.old.items)) (λ p. Gives token.now rs (below rs frames.new.items) result (M.after_start p (leaf occur.entry) (view_types types.entry) token.now.kind token.now)) }
 {
     match token.kind {
@@ -398,7 +408,7 @@ fn arrow<'s>(
     occur: Option<&'s Token<'s>>,
     types: Types<'s>,
     token: &'s Token<'s>,
-) -> Result<Now<'s>, Refusal>
+) -> Result<Next<'s>, Stop>
     ensures { (rs : S.Rules) (b : Below) → on (as_entry b) (λ p. Gives token.now rs b result (M.arrow p (leaf occur.entry) (view_types types.entry) token.now)) }
 {
     match sole_type1(types) {
@@ -421,7 +431,7 @@ fn colon<'s>(
     occur: Option<&'s Token<'s>>,
     types: Types<'s>,
     token: &'s Token<'s>,
-) -> Result<Now<'s>, Refusal>
+) -> Result<Next<'s>, Stop>
     ensures { (rs : S.Rules) (b : Below) → on (as_entry b) (λ p. Gives token.now rs b result (M.colon p (leaf occur.entry) (view_types types.entry) token.now)) }
 {
     match sole_type1(types) {

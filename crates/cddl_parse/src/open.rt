@@ -4,32 +4,34 @@ ghost use Rattle.cddl_token.specs.declared.Token as T;
 ghost use Rattle.cddl_syntax.specs.Machine as M;
 ghost use Rattle.cddl_syntax.specs.Syntax as S;
 ghost use Rattle.cddl_tree.specs.View.{leaf};
-ghost use Rattle.cddl_parse.specs.Frames.{on, made, view_alternatives, view_prefix, view_type_opening, view_group_opening, view_entries, as_entry, as_group, view_at_type2, below, Gives, IsElsewhere, Below};
+ghost use Rattle.cddl_parse.specs.Frames.{on, made, view_alternatives, view_prefix, view_type_opening, view_group_opening, view_entries, as_entry, as_group, view_at_type2, below, Gives, IsHead, IsStart, Below};
 
 use crate::build::unexpected;
 use crate::frames::{
-    Alternatives, AtType1, AtType2, Before, Frame, GroupOpening, Home, Now, Prefix, TypeOpening,
+    Alternatives, AtType1, AtType2, Before, Frame, GroupOpening, Home, Next, Prefix, Stop,
+    TypeOpening,
 };
 use crate::memory::pushed;
-use crate::places::{argument_at, type_at};
-use cddl_token::{Refusal, Token};
+use crate::places::{open_argument, open_type};
+use cddl_token::Token;
 use cddl_tree::Entry;
 use std::alloc::Global;
 
 /// Opens a type in brackets.
 #[tactic(none)]
 pub(crate) fn open_inside<'s>(
+    alloc: Global,
     frames: &mut Vec<Frame<'s>>,
     at: AtType2<'s>,
     opening: TypeOpening<'s>,
-) -> Result<Now<'s>, Refusal>
+) -> Result<Next<'s>, Stop>
     ensures { (t : T.Token) (rs : S.Rules) → on (view_at_type2 (below rs frames.old.items) at.entry) (λ k. Gives t rs (below rs frames.new.items) result (M.open_types (M.inside k (view_type_opening opening.entry)))) }
 {
     match pushed(frames, Frame::Types(at, opening)) {
-        Ok(()) => Ok(Now::Want(type_at(Home::Inside))),
+        Ok(()) => open_type(alloc, Home::Inside),
         Err(error) => {
             drop(error);
-            Err(Refusal::Memory)
+            Err(Stop::Memory)
         }
     }
 }
@@ -37,18 +39,19 @@ pub(crate) fn open_inside<'s>(
 /// Opens the arguments of a name.
 #[tactic(none)]
 pub(crate) fn open_reference<'s>(
+    alloc: Global,
     frames: &mut Vec<Frame<'s>>,
     at: AtType2<'s>,
     prefix: Prefix<'s>,
     opening: &'s Token<'s>,
-) -> Result<Now<'s>, Refusal>
+) -> Result<Next<'s>, Stop>
     ensures { (t : T.Token) (rs : S.Rules) → on (view_at_type2 (below rs frames.old.items) at.entry) (λ k. Gives t rs (below rs frames.new.items) result (M.open_argument k (view_prefix prefix.entry) opening.now M.no_arg)) }
 {
     match pushed(frames, Frame::Reference(at, prefix, opening)) {
-        Ok(()) => Ok(Now::Want(argument_at(None))),
+        Ok(()) => open_argument(alloc, None),
         Err(error) => {
             drop(error);
-            Err(Refusal::Memory)
+            Err(Stop::Memory)
         }
     }
 }
@@ -56,17 +59,18 @@ pub(crate) fn open_reference<'s>(
 /// Opens an alternative of a group, behind what it has already.
 #[tactic(none)]
 pub(crate) fn open_member<'s>(
+    alloc: Global,
     frames: &mut Vec<Frame<'s>>,
     before: Option<Alternatives<'s>>,
     entries: Vec<Entry<'s>>,
-) -> Result<Now<'s>, Refusal>
+) -> Result<Next<'s>, Stop>
     ensures { (t : T.Token) (rs : S.Rules) → on (as_group (below rs frames.old.items)) (λ k. Gives t rs (below rs frames.new.items) result (M.open_entry (M.member k (view_alternatives before.entry) (view_entries entries.entry.items)))) }
 {
     match pushed(frames, Frame::Member(before, entries)) {
-        Ok(()) => Ok(Now::Want(type_at(Home::Start(None)))),
+        Ok(()) => open_type(alloc, Home::Start(None)),
         Err(error) => {
             drop(error);
-            Err(Refusal::Memory)
+            Err(Stop::Memory)
         }
     }
 }
@@ -78,14 +82,14 @@ pub(crate) fn open_group<'s>(
     frames: &mut Vec<Frame<'s>>,
     at: AtType2<'s>,
     opening: GroupOpening<'s>,
-) -> Result<Now<'s>, Refusal>
+) -> Result<Next<'s>, Stop>
     ensures { (t : T.Token) (rs : S.Rules) → on (view_at_type2 (below rs frames.old.items) at.entry) (λ k. Gives t rs (below rs frames.new.items) result (M.open_group (M.within k (view_group_opening opening.entry)))) }
 {
     match pushed(frames, Frame::Group(at, opening)) {
-        Ok(()) => open_member(frames, None, Vec::new(alloc)),
+        Ok(()) => open_member(alloc, frames, None, Vec::new(alloc)),
         Err(error) => {
             drop(error);
-            Err(Refusal::Memory)
+            Err(Stop::Memory)
         }
     }
 }
@@ -97,67 +101,42 @@ fn open_entry<'s>(
     frames: &mut Vec<Frame<'s>>,
     occur: Option<&'s Token<'s>>,
     opening: &'s Token<'s>,
-) -> Result<Now<'s>, Refusal>
+) -> Result<Next<'s>, Stop>
     ensures { (t : T.Token) (rs : S.Rules) → on (as_entry (below rs frames.old.items)) (λ p. Gives t rs (below rs frames.new.items) result (M.open_group (M.in_entry p (leaf occur.entry) opening.now))) }
 {
     match pushed(frames, Frame::Entry(occur, opening)) {
-        Ok(()) => open_member(frames, None, Vec::new(alloc)),
+        Ok(()) => open_member(alloc, frames, None, Vec::new(alloc)),
         Err(error) => {
             drop(error);
-            Err(Refusal::Memory)
+            Err(Stop::Memory)
         }
     }
 }
 
-/// The occurrence before the place, where that is the head of an entry; or the place as it was.
+/// The occurrence before the place, where that is the head of an entry.
 #[tactic(none)]
-pub(crate) fn entry_head<'s>(at: AtType2<'s>) -> Result<Option<&'s Token<'s>>, AtType2<'s>>
-    ensures head { IfOk result (λ oc. (b : Below) → view_at_type2 b at.entry ≡ made (λ p. M.lower (M.head (M.start p (leaf oc)))) (as_entry b)) }
-    ensures same { IfErr result (λ k. at.entry ≡ k) }
-    ensures elsewhere { IfErr result (λ k. (b : Below) → on (view_at_type2 b k) IsElsewhere) }
+pub(crate) fn entry_head<'s>(at: &AtType2<'s>) -> Option<Option<&'s Token<'s>>>
+    ensures { IsHead result at.now }
 {
-    let AtType2 { at, left } = at;
-    match left {
-        Some(left) => Err(AtType2 {
-            at,
-            left: Some(left),
-        }),
-        None => {
-            let AtType1 { home, before } = at;
-            match before {
-                Before::Nothing => match home {
-                    Home::Start(occur) => Ok(occur),
-                    Home::Inside => Err(AtType2 {
-                        at: AtType1 {
-                            home: Home::Inside,
-                            before: Before::Nothing,
-                        },
-                        left: None,
-                    }),
-                    Home::ValueOf(occur, key) => Err(AtType2 {
-                        at: AtType1 {
-                            home: Home::ValueOf(occur, key),
-                            before: Before::Nothing,
-                        },
-                        left: None,
-                    }),
-                },
-                Before::Choices(types, slash) => Err(AtType2 {
-                    at: AtType1 {
-                        home,
-                        before: Before::Choices(types, slash),
-                    },
-                    left: None,
-                }),
-                Before::Arguments(before) => Err(AtType2 {
-                    at: AtType1 {
-                        home,
-                        before: Before::Arguments(before),
-                    },
-                    left: None,
-                }),
-            }
-        }
+    match at.left {
+        Some(_) => None,
+        None => start_of(&at.at),
+    }
+}
+
+/// The same for a place with no operand before it.
+#[tactic(none)]
+fn start_of<'s>(at: &AtType1<'s>) -> Option<Option<&'s Token<'s>>>
+    ensures { IsStart result at.now }
+{
+    match at.before {
+        Before::Nothing => match at.home {
+            Home::Start(occur) => Some(occur),
+            Home::Inside => None,
+            Home::ValueOf(_, _) => None,
+        },
+        Before::Choices(_, _) => None,
+        Before::Arguments(_) => None,
     }
 }
 
@@ -168,28 +147,34 @@ pub(crate) fn open_paren<'s>(
     frames: &mut Vec<Frame<'s>>,
     at: AtType2<'s>,
     token: &'s Token<'s>,
-) -> Result<Now<'s>, Refusal>
+) -> Result<Next<'s>, Stop>
     ensures { (t : T.Token) (rs : S.Rules) → on (view_at_type2 (below rs frames.old.items) at.entry) (λ k. Gives t rs (below rs frames.new.items) result (M.open_paren k token.now)) }
 {
-    match entry_head(at) {
-        Ok(occur) => open_entry(alloc, frames, occur, token),
-        Err(at) => open_inside(frames, at, TypeOpening::Paren(token)),
+    match entry_head(&at) {
+        Some(occur) => {
+            drop(at);
+            open_entry(alloc, frames, occur, token)
+        }
+        None => open_inside(alloc, frames, at, TypeOpening::Paren(token)),
     }
 }
 
 /// An occurrence where a type2 is awaited.
 #[tactic(none)]
-pub(crate) fn occur_want<'s>(at: AtType2<'s>, token: &'s Token<'s>) -> Result<Now<'s>, Refusal>
+pub(crate) fn occur_want<'s>(
+    alloc: Global,
+    at: AtType2<'s>,
+    token: &'s Token<'s>,
+) -> Result<Next<'s>, Stop>
     ensures { (rs : S.Rules) (b : Below) → on (view_at_type2 b at.entry) (λ k. Gives token.now rs b result (M.occur_want k token.now)) }
 {
-    match entry_head(at) {
-        Ok(occur) => match occur {
-            None => Ok(Now::Want(type_at(Home::Start(Some(token))))),
+    let head = entry_head(&at);
+    drop(at);
+    match head {
+        Some(occur) => match occur {
+            None => open_type(alloc, Home::Start(Some(token))),
             Some(_) => Err(unexpected(token)),
         },
-        Err(at) => {
-            drop(at);
-            Err(unexpected(token))
-        }
+        None => Err(unexpected(token)),
     }
 }

@@ -5,8 +5,9 @@ ghost use Rattle.cddl_token.specs.Answers.{span, IsTokenized};
 ghost use Rattle.cddl_syntax.specs.Answers.{opened as opened_after, IsTreeOf};
 ghost use Rattle.cddl_syntax.specs.Syntax.{Cddl};
 ghost use Rattle.cddl_tree.specs.View.{view};
-ghost use Rattle.cddl_parse.specs.States.{tree_in, EndsInEnd, Refuses, Stands, Advances};
+ghost use Rattle.cddl_parse.specs.States.{tree_in, refusal_of, EndsInEnd, Refuses, Stands, Advances};
 
+use crate::frames::Stop;
 use crate::rules::step;
 use crate::state::{Progress, State};
 use cddl_syntax::{goes_on, is_balanced, is_stuck, makes_trees, one_tree, some_answer};
@@ -59,7 +60,17 @@ fn advance<'s>(
             }
             Ok(Progress { state, count })
         }
-        Err(refusal) => Err(refusal),
+        Err(stop) => Err(refusal(stop)),
+    }
+}
+
+/// What the caller is told of it.
+fn refusal(stop: Stop) -> Refusal
+    ensures { result ≡ refusal_of stop }
+{
+    match stop {
+        Stop::Unexpected(start) => Refusal::At(Code::Unexpected, start),
+        Stop::Memory => Refusal::Memory,
     }
 }
 

@@ -1,23 +1,22 @@
 //! What a token does between the rules and in the head of a rule.
-ghost use Rattle.std.specs.Prelude.{◌≡◌, MatchResult};
 ghost use Rattle.cddl_syntax.specs.Machine as M;
 ghost use Rattle.cddl_tree.specs.View.{view_parm, view_name};
-ghost use Rattle.cddl_parse.specs.Frames.{nowhere, on, view_home, above, below, view_now, Gives};
+ghost use Rattle.cddl_parse.specs.Frames.{nowhere, on, view_parameters, view_home, above, below, view_now, Gives};
 ghost use Rattle.cddl_parse.specs.States.{view_rules, view_state, GivesState, BeginsBody};
 
 use crate::body::step_body;
 use crate::build::{parm_of, unexpected};
-use crate::frames::{Frame, Home, Now, Parameters};
-use crate::memory::{boxed, pushed};
-use crate::places::type_at;
+use crate::frames::{Frame, Home, Next, Now, Parameters, Stop};
+use crate::memory::pushed;
+use crate::places::{awaited, type_at};
 use crate::state::State;
-use cddl_token::{Kind, Refusal, Token};
+use cddl_token::{Kind, Token};
 use cddl_tree::{AssignG, GenericParm, Rule, RuleName, Tree};
 use std::alloc::Global;
 
 /// A token behind whole rules.
 #[tactic(none)]
-fn next_rule<'s>(rules: Vec<Rule<'s>>, token: &'s Token<'s>) -> Result<State<'s>, Refusal>
+fn next_rule<'s>(rules: Vec<Rule<'s>>, token: &'s Token<'s>) -> Result<State<'s>, Stop>
     ensures { GivesState token.now result (M.next_rule (view_rules rules.entry.items) token.now.kind token.now) }
 {
     match token.kind {
@@ -38,7 +37,7 @@ fn after_parm<'s>(
     opening: &'s Token<'s>,
     parameters: GenericParm<'s>,
     token: &'s Token<'s>,
-) -> Result<State<'s>, Refusal>
+) -> Result<State<'s>, Stop>
     ensures { GivesState token.now result (M.after_parm (view_rules rules.entry.items) opening.now (view_parm parameters.entry) token.now.kind token.now) }
 {
     match token.kind {
@@ -70,7 +69,7 @@ fn assigned<'s>(
     rules: Vec<Rule<'s>>,
     name: RuleName<'s>,
     token: &'s Token<'s>,
-) -> Result<State<'s>, Refusal>
+) -> Result<State<'s>, Stop>
     ensures { GivesState token.now result (M.assigned (view_rules rules.entry.items) (view_name name.entry) token.now.kind token.now) }
 {
     match token.kind {
@@ -101,39 +100,32 @@ fn begin_body<'s>(
     rules: Vec<Rule<'s>>,
     frame: Frame<'s>,
     home: Home<'s>,
-) -> Result<State<'s>, Refusal>
+) -> Result<State<'s>, Stop>
     ensures { BeginsBody result (view_home (above (view_rules rules.entry.items) nowhere frame.entry) home.entry) }
 {
     let mut frames = Vec::new(alloc);
     match pushed(&mut frames, frame) {
-        Ok(()) => in_body(alloc, rules, frames, Now::Want(type_at(home))),
+        Ok(()) => match type_at(alloc, home) {
+            Ok(at) => match awaited(alloc, at) {
+                Ok(now) => Ok(State::Body(rules, frames, now)),
+                Err(_) => {
+                    drop(frames);
+                    drop(rules);
+                    Err(Stop::Memory)
+                }
+            },
+            Err(_) => {
+                drop(frames);
+                drop(rules);
+                Err(Stop::Memory)
+            }
+        },
         Err(error) => {
             drop(error);
             drop(frames);
             drop(home);
             drop(rules);
-            Err(Refusal::Memory)
-        }
-    }
-}
-
-/// The state within a rule's body.
-#[tactic(none)]
-fn in_body<'s>(
-    alloc: Global,
-    rules: Vec<Rule<'s>>,
-    frames: Vec<Frame<'s>>,
-    now: Now<'s>,
-) -> Result<State<'s>, Refusal>
-    ensures { MatchResult result (λ s. view_state s ≡ view_now (below (view_rules rules.entry.items) frames.entry.items) now.entry) (λ e. e ≡ Refusal.Memory) }
-{
-    match boxed(alloc, now) {
-        Ok(now) => Ok(State::Body(rules, frames, now)),
-        Err(error) => {
-            drop(error);
-            drop(frames);
-            drop(rules);
-            Err(Refusal::Memory)
+            Err(Stop::Memory)
         }
     }
 }
@@ -141,17 +133,17 @@ fn in_body<'s>(
 /// The state behind a token of a rule's body.
 #[tactic(none)]
 fn after_body<'s>(
-    alloc: Global,
     rules: Vec<Rule<'s>>,
     frames: Vec<Frame<'s>>,
-    now: Result<Now<'s>, Refusal>,
+    next: Result<Next<'s>, Stop>,
     token: &'s Token<'s>,
-) -> Result<State<'s>, Refusal>
-    ensures { (m : M.State) → Gives token.now (view_rules rules.entry.items) (below (view_rules rules.entry.items) frames.entry.items) now.entry m → GivesState token.now result m }
+) -> Result<State<'s>, Stop>
+    ensures { (m : M.State) → Gives token.now (view_rules rules.entry.items) (below (view_rules rules.entry.items) frames.entry.items) next.entry m → GivesState token.now result m }
 {
-    match now {
-        Ok(now) => match now {
-            Now::Ended(rule) => {
+    match next {
+        Ok(next) => match next {
+            Next::Within(now) => Ok(State::Body(rules, frames, now)),
+            Next::Ended(rule) => {
                 drop(frames);
                 let mut rules = rules;
                 match pushed(&mut rules, Box::into_inner(rule)) {
@@ -159,16 +151,58 @@ fn after_body<'s>(
                     Err(error) => {
                         drop(error);
                         drop(rules);
-                        Err(Refusal::Memory)
+                        Err(Stop::Memory)
                     }
                 }
             }
-            now => in_body(alloc, rules, frames, now),
         },
         Err(refusal) => {
             drop(frames);
             drop(rules);
             Err(refusal)
+        }
+    }
+}
+
+/// A token within a rule's body.
+#[tactic(none)]
+fn in_body<'s>(
+    alloc: Global,
+    rules: Vec<Rule<'s>>,
+    frames: Vec<Frame<'s>>,
+    now: Box<Now<'s>>,
+    token: &'s Token<'s>,
+) -> Result<State<'s>, Stop>
+    ensures { on (view_now (below (view_rules rules.entry.items) frames.entry.items) now.entry.value) (λ m. GivesState token.now result (M.step m token.now.kind token.now)) }
+{
+    let mut frames = frames;
+    let next = step_body(alloc, &mut frames, now, token);
+    after_body(rules, frames, next, token)
+}
+
+/// A token where a parameter is awaited.
+#[tactic(none)]
+fn parameter<'s>(
+    alloc: Global,
+    rules: Vec<Rule<'s>>,
+    opening: &'s Token<'s>,
+    before: Option<Parameters<'s>>,
+    token: &'s Token<'s>,
+) -> Result<State<'s>, Stop>
+    ensures { GivesState token.now result (M.step (M.awaits_parm (view_rules rules.entry.items) opening.now (view_parameters before.entry)) token.now.kind token.now) }
+{
+    match token.kind {
+        Kind::Name => match parm_of(alloc, before, token) {
+            Ok(parameters) => Ok(State::HaveParm(rules, opening, parameters)),
+            Err(_) => {
+                drop(rules);
+                Err(Stop::Memory)
+            }
+        },
+        _ => {
+            drop(rules);
+            drop(before);
+            Err(unexpected(token))
         }
     }
 }
@@ -179,35 +213,19 @@ pub(crate) fn step<'s>(
     alloc: Global,
     state: State<'s>,
     token: &'s Token<'s>,
-) -> Result<State<'s>, Refusal>
+) -> Result<State<'s>, Stop>
     ensures { on (view_state state.entry) (λ m. GivesState token.now result (M.step m token.now.kind token.now)) }
 {
     match state {
         State::Begin => next_rule(Vec::new(alloc), token),
-        State::WantParm(rules, opening, before) => match token.kind {
-            Kind::Name => match parm_of(alloc, before, token) {
-                Ok(parameters) => Ok(State::HaveParm(rules, opening, parameters)),
-                Err(error) => {
-                    drop(error);
-                    drop(rules);
-                    Err(Refusal::Memory)
-                }
-            },
-            _ => {
-                drop(rules);
-                drop(before);
-                Err(unexpected(token))
-            }
-        },
+        State::WantParm(rules, opening, before) => {
+            parameter(alloc, rules, opening, before, token)
+        }
         State::HaveParm(rules, opening, parameters) => {
             after_parm(rules, opening, parameters, token)
         }
         State::WantAssign(rules, name) => assigned(alloc, rules, name, token),
-        State::Body(rules, frames, now) => {
-            let mut frames = frames;
-            let now = step_body(alloc, &mut frames, Box::into_inner(now), token);
-            after_body(alloc, rules, frames, now, token)
-        }
+        State::Body(rules, frames, now) => in_body(alloc, rules, frames, now, token),
         State::Done(tree) => {
             drop(tree);
             Err(unexpected(token))

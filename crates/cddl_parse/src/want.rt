@@ -5,11 +5,11 @@ ghost use Rattle.cddl_parse.specs.Frames.{on, view_prefix, view_at_type2, below,
 ghost use Rattle.cddl_parse.specs.Kinds.{IsNoOperand, IsNoHead, IsOperandOf};
 
 use crate::build::{prefixed, unexpected};
-use crate::frames::{AtType2, Frame, GroupOpening, Now, Prefix, TypeOpening};
+use crate::frames::{AtType2, Frame, GroupOpening, Next, Prefix, Stop, TypeOpening};
 use crate::groups::ends_want;
 use crate::open::{occur_want, open_group, open_inside, open_paren, open_reference};
-use crate::places::got;
-use cddl_token::{Kind, Refusal, Token};
+use crate::places::{got, want_ref};
+use cddl_token::{Kind, Token};
 use cddl_tree::{Ref, Type2, Value};
 use std::alloc::Global;
 
@@ -20,7 +20,7 @@ pub(crate) fn step_want<'s>(
     frames: &mut Vec<Frame<'s>>,
     at: AtType2<'s>,
     token: &'s Token<'s>,
-) -> Result<Now<'s>, Refusal>
+) -> Result<Next<'s>, Stop>
     ensures { (rs : S.Rules) → on (view_at_type2 (below rs frames.old.items) at.entry) (λ k. Gives token.now rs (below rs frames.new.items) result (M.step_want k token.now.kind token.now)) }
 {
     match operand_of(token) {
@@ -51,16 +51,16 @@ fn head_want<'s>(
     frames: &mut Vec<Frame<'s>>,
     at: AtType2<'s>,
     token: &'s Token<'s>,
-) -> Result<Now<'s>, Refusal>
+) -> Result<Next<'s>, Stop>
     requires { IsNoOperand token.now.kind }
     ensures { (rs : S.Rules) → on (view_at_type2 (below rs frames.old.items) at.entry) (λ k. Gives token.now rs (below rs frames.new.items) result (M.step_want k token.now.kind token.now)) }
 {
     match token.kind {
-        Kind::NameOpen => open_reference(frames, at, Prefix::Bare, token),
-        Kind::Tilde => Ok(Now::WantRef(at, Prefix::Tilde(token))),
-        Kind::Ampersand => Ok(Now::WantRef(at, Prefix::Ampersand(token))),
+        Kind::NameOpen => open_reference(alloc, frames, at, Prefix::Bare, token),
+        Kind::Tilde => want_ref(alloc, at, Prefix::Tilde(token)),
+        Kind::Ampersand => want_ref(alloc, at, Prefix::Ampersand(token)),
         Kind::ParenOpen => open_paren(alloc, frames, at, token),
-        Kind::Occur => occur_want(at, token),
+        Kind::Occur => occur_want(alloc, at, token),
         _ => bracket_want(alloc, frames, at, token),
     }
 }
@@ -72,16 +72,16 @@ fn bracket_want<'s>(
     frames: &mut Vec<Frame<'s>>,
     at: AtType2<'s>,
     token: &'s Token<'s>,
-) -> Result<Now<'s>, Refusal>
+) -> Result<Next<'s>, Stop>
     requires { IsNoHead token.now.kind }
     ensures { (rs : S.Rules) → on (view_at_type2 (below rs frames.old.items) at.entry) (λ k. Gives token.now rs (below rs frames.new.items) result (M.step_want k token.now.kind token.now)) }
 {
     match token.kind {
         Kind::BraceOpen => open_group(alloc, frames, at, GroupOpening::Brace(token)),
         Kind::BracketOpen => open_group(alloc, frames, at, GroupOpening::Bracket(token)),
-        Kind::TagOpen => open_inside(frames, at, TypeOpening::Tag(token)),
-        Kind::TagHeadOpen => open_inside(frames, at, TypeOpening::TagHead(token)),
-        Kind::SimpleHeadOpen => open_inside(frames, at, TypeOpening::SimpleHead(token)),
+        Kind::TagOpen => open_inside(alloc, frames, at, TypeOpening::Tag(token)),
+        Kind::TagHeadOpen => open_inside(alloc, frames, at, TypeOpening::TagHead(token)),
+        Kind::SimpleHeadOpen => open_inside(alloc, frames, at, TypeOpening::SimpleHead(token)),
         _ => ends_want(alloc, frames, at, token),
     }
 }
@@ -94,12 +94,12 @@ pub(crate) fn step_want_ref<'s>(
     at: AtType2<'s>,
     prefix: Prefix<'s>,
     token: &'s Token<'s>,
-) -> Result<Now<'s>, Refusal>
+) -> Result<Next<'s>, Stop>
     ensures { (rs : S.Rules) → on (view_at_type2 (below rs frames.old.items) at.entry) (λ k. Gives token.now rs (below rs frames.new.items) result (M.step_want_ref k (view_prefix prefix.entry) token.now.kind token.now)) }
 {
     match token.kind {
         Kind::Name => got(alloc, at, prefixed(prefix, Ref::Name(token))),
-        Kind::NameOpen => open_reference(frames, at, prefix, token),
+        Kind::NameOpen => open_reference(alloc, frames, at, prefix, token),
         Kind::ParenOpen => match prefix {
             Prefix::Ampersand(ampersand) => open_group(
                 alloc,

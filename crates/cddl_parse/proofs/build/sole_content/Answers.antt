@@ -1,7 +1,7 @@
 use Rattle.std.proofs.Common.{◌≡◌, ◌∙◌, ap, sym, Option, None, List, map, subst}
 use Rattle.std.specs.Prelude.{MatchResult}
-use Rattle.cddl_token.specs.declared.Refusal.{Refusal}
-use Rattle.cddl_token.specs.declared.Refusal.TheVariants.{Memory}
+use Rattle.cddl_parse.specs.declared.frames.Stop.{Stop}
+use Rattle.cddl_parse.specs.declared.frames.Stop.TheVariants.{Memory}
 use Rattle.cddl_syntax.specs.Syntax as S
 use Rattle.cddl_token.specs.declared.Token.{Token}
 use Rattle.cddl_tree.specs.declared.tree.GrpEnt.{GrpEnt}
@@ -21,10 +21,10 @@ pub whole-requires-clause-group : goal.whole-requires-clause-group
 whole-requires-clause-group c = several_no_type _ _ _ (full c.pop.new.self _ c.is_empty.ensures c.if-not-is_empty.true)
 
 pub returns-then-not-is_empty : goal.returns-then-not-is_empty
-returns-then-not-is_empty c = subst (λ (g : S.GrpChoice). MatchResult c.whole.result (λ (x : Content). IsContent x (S.sole g)) (λ (e : Refusal). e ≡ Memory)) (sym (ap view_entries c.in-Some.ensures.items ∙ view_entries-push c.pop.new.self.items c.in-Some.entry.grpent c.in-Some.entry.comma)) c.whole.ensures
+returns-then-not-is_empty c = subst (λ (g : S.GrpChoice). MatchResult c.whole.result (λ (x : Content). IsContent x (S.sole g)) (λ (e : Stop). e ≡ Memory)) (sym (ap view_entries c.in-Some.ensures.items ∙ view_entries-push c.pop.new.self.items c.in-Some.entry.grpent c.in-Some.entry.comma)) c.whole.ensures
 
 pub returns-in-Some-comma : goal.returns-in-Some-comma
-returns-in-Some-comma c = subst (λ (g : S.GrpChoice). MatchResult c.whole-in-Some-comma.result (λ (x : Content). IsContent x (S.sole g)) (λ (e : Refusal). e ≡ Memory)) (sym (ap view_entries c.in-Some.ensures.items ∙ view_entries-push c.pop.new.self.items c.in-Some.entry.grpent c.in-Some.entry.comma ∙ ap (λ (o : Option Token). S.entries (view_entries c.pop.new.self.items) (view_grpent c.in-Some.entry.grpent) o) (ap leaf c.in-Some-comma.is))) c.whole-in-Some-comma.ensures
+returns-in-Some-comma c = subst (λ (g : S.GrpChoice). MatchResult c.whole-in-Some-comma.result (λ (x : Content). IsContent x (S.sole g)) (λ (e : Stop). e ≡ Memory)) (sym (ap view_entries c.in-Some.ensures.items ∙ view_entries-push c.pop.new.self.items c.in-Some.entry.grpent c.in-Some.entry.comma ∙ ap (λ (o : Option Token). S.entries (view_entries c.pop.new.self.items) (view_grpent c.in-Some.entry.grpent) o) (ap leaf c.in-Some-comma.is))) c.whole-in-Some-comma.ensures
 
 pub whole-requires-in-Some-comma-clause-group : goal.whole-requires-in-Some-comma-clause-group
 whole-requires-in-Some-comma-clause-group c = comma_no_type (view_entries c.pop.new.self.items) (view_grpent c.in-Some.entry.grpent) c.in-Some-comma.comma.now
@@ -33,4 +33,4 @@ pub returns-in-Ok : goal.returns-in-Ok
 returns-in-Ok c = let e = empty c.pop.new.self _ c.is_empty.ensures c.if-not-is_empty.false in ap S.sole (ap view_entries c.in-Some.ensures.items ∙ view_entries-push c.pop.new.self.items c.in-Some.entry.grpent c.in-Some.entry.comma ∙ (ap (λ (xs : List Entry). S.entries (view_entries xs) (view_grpent c.in-Some.entry.grpent) (leaf c.in-Some.entry.comma)) e ∙ (ap (λ (x : S.GrpEnt). S.entries S.no_entries x (leaf c.in-Some.entry.comma)) c.in-Ok.ensures.bare ∙ ap (λ (o : Option Token). S.entries S.no_entries (S.typed None (view_types c.in-Ok.types)) o) (ap leaf c.in-None-comma.is))))
 
 pub returns-in-Err : goal.returns-in-Err
-returns-in-Err c = subst (λ (g : S.GrpChoice). MatchResult c.whole-in-Err.result (λ (x : Content). IsContent x (S.sole g)) (λ (e : Refusal). e ≡ Memory)) (sym (ap view_entries c.in-Some.ensures.items ∙ view_entries-push c.pop.new.self.items c.in-Some.entry.grpent c.in-Some.entry.comma ∙ (ap (λ (x : GrpEnt). S.entries (view_entries c.pop.new.self.items) (view_grpent x) (leaf c.in-Some.entry.comma)) (sym c.in-Err.ensures.other.0) ∙ ap (λ (o : Option Token). S.entries (view_entries c.pop.new.self.items) (view_grpent c.in-Err.grpent) o) (ap leaf c.in-None-comma.is)))) c.whole-in-Err.ensures
+returns-in-Err c = subst (λ (g : S.GrpChoice). MatchResult c.whole-in-Err.result (λ (x : Content). IsContent x (S.sole g)) (λ (e : Stop). e ≡ Memory)) (sym (ap view_entries c.in-Some.ensures.items ∙ view_entries-push c.pop.new.self.items c.in-Some.entry.grpent c.in-Some.entry.comma ∙ (ap (λ (x : GrpEnt). S.entries (view_entries c.pop.new.self.items) (view_grpent x) (leaf c.in-Some.entry.comma)) (sym c.in-Err.ensures.other.0) ∙ ap (λ (o : Option Token). S.entries (view_entries c.pop.new.self.items) (view_grpent c.in-Err.grpent) o) (ap leaf c.in-None-comma.is)))) c.whole-in-Err.ensures

@@ -12,8 +12,11 @@ returns-in-Ok c rs = on_along (as_group (below rs c.args.frames.now.items)) (λ 
 pub returns-in-Err : goal.returns-in-Err
 returns-in-Err c rs = on_all (as_group (below rs c.args.frames.now.items)) _ (λ k. tt)
 
-pub returns-in-Ok-pushed : goal.returns-in-Ok-pushed
-returns-in-Ok-pushed c rs = on_along (as_group (below rs c.args.frames.now.items)) (λ (m : M.State). Gives c.args.token.now rs (below rs c.step_want.new.frames.items) c.step_want.result m) (λ (k : M.AtGroup). M.after_entry (M.member k (view_alternatives c.args.before) (view_entries c.args.entries.items)) (view_grpent c.args.grpent) c.args.token.now.kind c.args.token.now) (λ (k : M.AtGroup). M.step_want (M.lower (M.head (M.start (M.member k (view_alternatives c.args.before) (view_entries c.in-Ok-with_entry.entries.items)) None))) c.args.token.now.kind c.args.token.now) (λ k. entry_other k _ _ _ _ _ c.args.token.now c.in_default.not-Comma c.in-Ok-with_entry.ensures) (entry_want (as_group (below rs c.args.frames.now.items)) (below rs c.pushed.new.list.items) (view_alternatives c.args.before) (view_entries c.in-Ok-with_entry.entries.items) (view_at_type2 (below rs c.pushed.new.list.items) c.type_at.result) (λ (k : M.AtType2). Gives c.args.token.now rs (below rs c.step_want.new.frames.items) c.step_want.result (M.step_want k c.args.token.now.kind c.args.token.now)) (popped rs c.pushed.new.list.items c.args.frames.now.items _ c.in-Ok-pushed.ensures.items) (c.type_at.ensures (below rs c.pushed.new.list.items)) (c.step_want.ensures rs))
+pub returns-in-Ok-type_at : goal.returns-in-Ok-type_at
+returns-in-Ok-type_at c rs = on_along (as_group (below rs c.args.frames.now.items)) (λ (m : M.State). Gives c.args.token.now rs (below rs c.step_want.new.frames.items) c.step_want.result m) (λ (k : M.AtGroup). M.after_entry (M.member k (view_alternatives c.args.before) (view_entries c.args.entries.items)) (view_grpent c.args.grpent) c.args.token.now.kind c.args.token.now) (λ (k : M.AtGroup). M.step_want (M.lower (M.head (M.start (M.member k (view_alternatives c.args.before) (view_entries c.in-Ok-with_entry.entries.items)) None))) c.args.token.now.kind c.args.token.now) (λ k. entry_other k _ _ _ _ _ c.args.token.now c.in_default.not-Comma c.in-Ok-with_entry.ensures) (entry_want (as_group (below rs c.args.frames.now.items)) (below rs c.pushed.new.list.items) (view_alternatives c.args.before) (view_entries c.in-Ok-with_entry.entries.items) (view_at_type2 (below rs c.pushed.new.list.items) c.in-Ok-type_at.at) (λ (k : M.AtType2). Gives c.args.token.now rs (below rs c.step_want.new.frames.items) c.step_want.result (M.step_want k c.args.token.now.kind c.args.token.now)) (popped rs c.pushed.new.list.items c.args.frames.now.items _ c.in-Ok-pushed.ensures.items) (c.in-Ok-type_at.ensures (below rs c.pushed.new.list.items)) (c.step_want.ensures rs))
+
+pub returns-in-Err-type_at : goal.returns-in-Err-type_at
+returns-in-Err-type_at c rs = on_all (as_group (below rs c.args.frames.now.items)) _ (λ k. tt)
 
 pub returns-in-Err-pushed : goal.returns-in-Err-pushed
 returns-in-Err-pushed c rs = on_all (as_group (below rs c.args.frames.now.items)) _ (λ k. tt)

@@ -1,12 +1,17 @@
 use Rattle.cddl_tree.proofs.Viewing.{view-One, view-Operation}
-use Rattle.std.proofs.Common.{◌∙◌, ap}
-use Rattle.cddl_tree.specs.View.{view_type1}
-use Rattle.cddl_parse.specs.Frames.{view_at_type1}
+use Rattle.std.proofs.Common.{◌∙◌, ap, sym}
+use Rattle.cddl_parse.specs.declared.frames.Left.{Left}
+use Rattle.cddl_tree.specs.View.{view_type1, view_type2, view_operator}
+use Rattle.cddl_syntax.specs.Machine as M
+use Rattle.cddl_parse.specs.Frames.{view_at_type1, Gives}
 use Rattle.cddl_parse.proofs.Steps.{operated_one, operated_two, on_all, refuses}
 use Rattle.cddl_parse.proofs.have.operated.Goals as goal
 
-pub returns-in-One : goal.returns-in-One
-returns-in-One c rs b = operated_one (view_at_type1 b c.args.at) _ _ _ (ap view_type1 c.in-One.is ∙ view-One _)
+pub returns-in-Ok : goal.returns-in-Ok
+returns-in-Ok c rs b = operated_one (view_at_type1 b c.args.at.value) c.in-Ok.left _ _ _ (λ (m : M.State). Gives c.args.token.now rs b c.want.result m) (ap (λ (l : Left). view_type2 l.type2.value) c.in-Ok.ensures.ok) (ap (λ (l : Left). view_operator l.operator) c.in-Ok.ensures.ok) (ap view_type1 (sym c.into_inner.ensures ∙ c.in-One.is) ∙ view-One _) (c.want.ensures c.args.token.now rs b)
+
+pub returns-in-Err : goal.returns-in-Err
+returns-in-Err c rs b = on_all (view_at_type1 b c.args.at.value) _ (λ k. tt)
 
 pub returns-in-Operation : goal.returns-in-Operation
-returns-in-Operation c rs b = on_all (view_at_type1 b c.args.at) _ (λ k. refuses c.args.token.now _ _ c.unexpected.ensures (operated_two _ _ _ _ _ k (ap view_type1 c.in-Operation.is ∙ view-Operation _ _ _)))
+returns-in-Operation c rs b = on_all (view_at_type1 b c.args.at.value) _ (λ k. refuses c.args.token.now _ _ c.unexpected.ensures (operated_two _ _ _ _ _ k (ap view_type1 (sym c.into_inner.ensures ∙ c.in-Operation.is) ∙ view-Operation _ _ _)))

@@ -6,7 +6,7 @@ use Rattle.cddl_tree.proofs.Viewing.{view-SimpleBy}
 use Rattle.cddl_parse.proofs.have.shut_angles.Goals as goal
 
 pub returns-in-TagHead : goal.returns-in-TagHead
-returns-in-TagHead c rs b = head_shut (view_at_type2 b c.args.at) _ _ _ c.args.token.now (ap view_type_opening c.in-TagHead.is)
+returns-in-TagHead c rs b = on_same (view_at_type2 b c.args.at) (λ (m : M.State). Gives c.args.token.now rs b c.want_content.result m) _ _ (head_shut _ _ _ c.args.token.now (ap view_type_opening c.in-TagHead.is)) (c.want_content.ensures c.args.token.now rs b)
 
 pub returns-in-SimpleHead : goal.returns-in-SimpleHead
 returns-in-SimpleHead c rs b = on_same (view_at_type2 b c.args.at) (λ (m : M.State). Gives c.args.token.now rs b c.got.result m) _ _ (simple_shut _ _ _ c.args.token.now _ (ap view_type_opening c.in-SimpleHead.is) (view-SimpleBy _ _ _)) (c.got.ensures c.args.token.now rs b)

@@ -1,10 +1,11 @@
-use Rattle.cddl_parse.specs.Frames.{as_group, below}
+use Rattle.cddl_syntax.specs.Machine as M
+use Rattle.cddl_parse.specs.Frames.{as_group, below, Gives}
 use Rattle.cddl_parse.proofs.Steps.{on_all, popped}
 use Rattle.cddl_parse.proofs.Closing.{member_opened}
 use Rattle.cddl_parse.proofs.open.open_member.Goals as goal
 
 pub returns-in-Ok : goal.returns-in-Ok
-returns-in-Ok c t rs = member_opened (as_group (below rs c.args.frames.now.items)) _ _ _ _ (popped rs _ _ _ c.in-Ok.ensures.items) (c.type_at.ensures _)
+returns-in-Ok c t rs = member_opened (as_group (below rs c.args.frames.now.items)) _ _ _ (λ (m : M.State). Gives t rs (below rs c.pushed.new.list.items) c.open_type.result m) (popped rs _ _ _ c.in-Ok.ensures.items) (c.open_type.ensures t rs _)
 
 pub returns-in-Err : goal.returns-in-Err
 returns-in-Err c t rs = on_all (as_group (below rs c.args.frames.now.items)) _ (λ k. tt)

@@ -12,4 +12,4 @@ pub returns-then-count-gt-NESTING_LIMIT : goal.returns-then-count-gt-NESTING_LIM
 returns-then-count-gt-NESTING_LIMIT c ts h = too_nested c.goes_on.ensures c.args.progress c.in-Ok.state c.opened-count.result ts c.args.token.now h c.in-Ok.ensures c.opened-count.ensures c.if-count-gt-NESTING_LIMIT.true
 
 pub returns-in-Err : goal.returns-in-Err
-returns-in-Err c ts h = refused c.goes_on.ensures c.is_stuck.ensures c.args.progress ts c.args.token.now c.in-Err.refusal h c.in-Err.ensures
+returns-in-Err c ts h = refused c.goes_on.ensures c.is_stuck.ensures c.args.progress ts c.args.token.now c.in-Err.stop c.refusal.result h c.in-Err.ensures c.refusal.ensures

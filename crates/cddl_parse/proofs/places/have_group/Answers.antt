@@ -1,13 +1,16 @@
-use Rattle.std.proofs.Common.{ap}
-use Rattle.cddl_syntax.specs.Syntax as S
+use Rattle.std.proofs.Common.{◌∙◌, ap}
 use Rattle.cddl_syntax.specs.Machine as M
+use Rattle.cddl_tree.specs.declared.tree.GrpEnt.{GrpEnt}
 use Rattle.cddl_tree.specs.View.{view_grpent}
-use Rattle.cddl_parse.specs.Frames.{as_entry}
-use Rattle.cddl_parse.proofs.Steps.{made_same, on_all}
+use Rattle.cddl_parse.specs.Frames.{made, as_entry, view_now}
+use Rattle.cddl_parse.proofs.Steps.{stands_at, on_all}
 use Rattle.cddl_parse.proofs.places.have_group.Goals as goal
 
-pub returns-in-Ok : goal.returns-in-Ok
-returns-in-Ok c t rs b = made_same (λ (x : S.GrpEnt) (p : M.AtEntry). M.have_group p x) (as_entry b) _ _ (ap view_grpent c.in-Ok.ensures.ok)
+pub returns-in-Ok-boxed : goal.returns-in-Ok-boxed
+returns-in-Ok-boxed c t rs b = stands_at (λ (p : M.AtEntry). M.have_group p (view_grpent c.args.grpent)) (as_entry b) _ (ap (view_now b) c.in-Ok-boxed.ensures.ok ∙ ap (λ (r : GrpEnt). made (λ (p : M.AtEntry). M.have_group p (view_grpent r)) (as_entry b)) c.in-Ok.ensures.ok)
 
 pub returns-in-Err : goal.returns-in-Err
-returns-in-Err c t rs b = on_all (as_entry b) _ (λ p. tt)
+returns-in-Err c t rs b = on_all (as_entry b) _ (λ k. tt)
+
+pub returns-in-Err-boxed : goal.returns-in-Err-boxed
+returns-in-Err-boxed c t rs b = on_all (as_entry b) _ (λ k. tt)

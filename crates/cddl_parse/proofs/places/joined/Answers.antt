@@ -6,4 +6,4 @@ pub returns-in-None : goal.returns-in-None
 returns-in-None c = joined_none c.args.left _ _ c.in-None.is (view-One _)
 
 pub returns-in-Some : goal.returns-in-Some
-returns-in-Some c = joined_some c.args.left _ _ _ c.in-Some.is (view-Operation _ _ _)
+returns-in-Some c = joined_some c.args.left _ c.into_inner-left.result _ _ c.in-Some.is c.into_inner-left.ensures (view-Operation _ _ _)

@@ -1,12 +1,13 @@
 use Rattle.std.proofs.Common.{ap}
 use Rattle.cddl_tree.specs.View.{view_arg}
-use Rattle.cddl_parse.specs.Frames.{as_reference}
+use Rattle.cddl_syntax.specs.Machine as M
+use Rattle.cddl_parse.specs.Frames.{as_reference, Gives}
 use Rattle.cddl_parse.proofs.Steps.{on_all}
 use Rattle.cddl_parse.proofs.Closing.{argument_comma}
 use Rattle.cddl_parse.proofs.places.next_argument.Goals as goal
 
 pub returns-in-Ok : goal.returns-in-Ok
-returns-in-Ok c t rs b = argument_comma b _ (view_arg c.in-Ok.arguments.value) (view_arg c.args.arguments) c.args.comma.now (ap view_arg c.in-Ok.ensures.ok) (c.argument_at.ensures b)
+returns-in-Ok c t rs b = argument_comma b (view_arg c.in-Ok.arguments.value) (view_arg c.args.arguments) c.args.comma.now (λ (m : M.State). Gives t rs b c.open_argument.result m) (ap view_arg c.in-Ok.ensures.ok) (c.open_argument.ensures t rs b)
 
 pub returns-in-Err : goal.returns-in-Err
 returns-in-Err c t rs b = on_all (as_reference b) _ (λ y. tt)

@@ -3,9 +3,8 @@ use Rattle.cddl_syntax.specs.Syntax as S
 use Rattle.cddl_tree.specs.declared.tree.Rule.{Rule}
 use Rattle.cddl_tree.specs.View.{view_rule}
 use Rattle.cddl_parse.proofs.rules.after_body.Goals as goal
-use Rattle.cddl_parse.specs.Frames.{below}
 use Rattle.cddl_parse.specs.States.{view_rules}
-use Rattle.cddl_parse.proofs.Bodies.{ended, goes_on, stays}
+use Rattle.cddl_parse.proofs.Bodies.{ended}
 use Rattle.cddl_parse.proofs.Adding.{view_rules-push}
 
 pub returns-in-Ok-pushed : goal.returns-in-Ok-pushed
@@ -14,8 +13,8 @@ returns-in-Ok-pushed c m h = ended c.args.token.now c.next_rule.result (view_rul
 pub returns-in-Err-pushed : goal.returns-in-Err-pushed
 returns-in-Err-pushed c m h = tt
 
-pub returns-in_default : goal.returns-in_default
-returns-in_default c m h = stays c.args.token.now c.in_body.result _ m c.in_body.ensures (goes_on c.args.token.now (view_rules c.args.rules.items) (below (view_rules c.args.rules.items) c.args.frames.items) c.in-Ok.now m c.in_default.not-Ended (rw c.in-Ok.is at h))
+pub returns-in-Within : goal.returns-in-Within
+returns-in-Within c m h = rw (c.in-Ok.is, c.in-Within.is) at h
 
 pub returns-in-Err : goal.returns-in-Err
 returns-in-Err c m h = rw c.in-Err.is at h

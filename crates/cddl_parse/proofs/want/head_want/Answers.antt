@@ -1,20 +1,17 @@
 use Rattle.cddl_token.specs.declared.Kind.{Kind}
 use Rattle.cddl_syntax.specs.Machine as M
-use Rattle.std.proofs.Common.{Ok}
-use Rattle.cddl_parse.specs.declared.frames.Now.TheVariants as N
-use Rattle.cddl_parse.specs.declared.frames.Prefix.TheVariants as P
 use Rattle.cddl_parse.proofs.want.head_want.Goals as goal
 use Rattle.cddl_parse.specs.Frames.{below, view_at_type2, Gives}
-use Rattle.cddl_parse.proofs.Bodies.{at_kind, made_on, no_head}
+use Rattle.cddl_parse.proofs.Bodies.{at_kind, no_head}
 
 pub returns-in-NameOpen : goal.returns-in-NameOpen
 returns-in-NameOpen c rs = at_kind (view_at_type2 (below rs c.args.frames.now.items) c.args.at) (λ (m : M.State). Gives c.args.token.now rs (below rs c.open_reference.new.frames.items) c.open_reference.result m) (λ (k : M.AtType2) (i : Kind). M.step_want k i c.args.token.now) _ _ c.in-NameOpen.is (c.open_reference.ensures c.args.token.now rs)
 
 pub returns-in-Tilde : goal.returns-in-Tilde
-returns-in-Tilde c rs = at_kind (view_at_type2 (below rs c.args.frames.now.items) c.args.at) (λ (m : M.State). Gives c.args.token.now rs (below rs c.args.frames.now.items) (Ok (N.WantRef c.args.at (P.Tilde c.args.token))) m) (λ (k : M.AtType2) (i : Kind). M.step_want k i c.args.token.now) _ _ c.in-Tilde.is (made_on (λ (j : M.AtType2). M.want_ref j (M.tilde c.args.token.now)) (view_at_type2 (below rs c.args.frames.now.items) c.args.at))
+returns-in-Tilde c rs = at_kind (view_at_type2 (below rs c.args.frames.now.items) c.args.at) (λ (m : M.State). Gives c.args.token.now rs (below rs c.args.frames.now.items) c.want_ref.result m) (λ (k : M.AtType2) (i : Kind). M.step_want k i c.args.token.now) _ _ c.in-Tilde.is (c.want_ref.ensures c.args.token.now rs (below rs c.args.frames.now.items))
 
 pub returns-in-Ampersand : goal.returns-in-Ampersand
-returns-in-Ampersand c rs = at_kind (view_at_type2 (below rs c.args.frames.now.items) c.args.at) (λ (m : M.State). Gives c.args.token.now rs (below rs c.args.frames.now.items) (Ok (N.WantRef c.args.at (P.Ampersand c.args.token))) m) (λ (k : M.AtType2) (i : Kind). M.step_want k i c.args.token.now) _ _ c.in-Ampersand.is (made_on (λ (j : M.AtType2). M.want_ref j (M.ampersand c.args.token.now)) (view_at_type2 (below rs c.args.frames.now.items) c.args.at))
+returns-in-Ampersand c rs = at_kind (view_at_type2 (below rs c.args.frames.now.items) c.args.at) (λ (m : M.State). Gives c.args.token.now rs (below rs c.args.frames.now.items) c.want_ref-in-Ampersand.result m) (λ (k : M.AtType2) (i : Kind). M.step_want k i c.args.token.now) _ _ c.in-Ampersand.is (c.want_ref-in-Ampersand.ensures c.args.token.now rs (below rs c.args.frames.now.items))
 
 pub returns-in-ParenOpen : goal.returns-in-ParenOpen
 returns-in-ParenOpen c rs = at_kind (view_at_type2 (below rs c.args.frames.now.items) c.args.at) (λ (m : M.State). Gives c.args.token.now rs (below rs c.open_paren.new.frames.items) c.open_paren.result m) (λ (k : M.AtType2) (i : Kind). M.step_want k i c.args.token.now) _ _ c.in-ParenOpen.is (c.open_paren.ensures c.args.token.now rs)
