@@ -1,5 +1,6 @@
 -- What the machine does behind an entry, between the rules and in the head of a rule.
 use Rattle.std.proofs.Common.{◌≡◌, ◌≢◌, List, [], ◌∷◌, ◌++◌, Option, Some, None, Result, Ok, Err, refl, sym, ap, ◌∙◌, subst, Box, Vec, Global, Bor}
+use Rattle.std.specs.Prelude.{MatchResult}
 use Rattle.cddl_token.specs.declared.Token.{Token}
 use Rattle.cddl_token.specs.declared.Kind.{Kind}
 use Rattle.cddl_token.specs.declared.Kind.TheVariants as K
@@ -161,9 +162,18 @@ arrow_other p oc r u i t e = refl
 
 -- A body.
 
-pub begun : (t : Token) (r : Result State Stop) (k : M.AtTypes) (m : M.State) → m ≡ M.open_types k → BeginsBody r (Some k) → GivesState t r m
+pub begun : (t : Token) (r : Result (Box State Global) Stop) (k : M.AtTypes) (m : M.State) → m ≡ M.open_types k → BeginsBody r (Some k) → GivesState t r m
 begun t (Ok s) k m e h = h ∙ ap Some (sym e)
 begun t (Err x) k m e h = rw h tt
+
+-- what stands in the box is what was put into it
+pub given : (t : Token) (r : Result (Box State Global) Stop) (x : State) (m : M.State) → MatchResult r (λ s. s.value ≡ x) (λ e. e ≡ Memory) → view_state x ≡ Some m → GivesState t r m
+given t (Ok s) x m h e = ap view_state h ∙ e
+given t (Err y) x m h e = rw h tt
+
+pub begins : (r : Result (Box State Global) Stop) (x : State) (k : Option M.AtTypes) → MatchResult r (λ s. s.value ≡ x) (λ e. e ≡ Memory) → view_state x ≡ made M.open_types k → BeginsBody r k
+begins (Ok s) x k h e = ap view_state h ∙ e
+begins (Err y) x k h e = h
 
 made_twice : (q : Option M.AtTypes) → made M.want (made (λ k. M.lower (M.head k)) q) ≡ made M.open_types q
 made_twice None = refl
@@ -175,7 +185,7 @@ body_begun rs old new f h w e g i = ap (made M.want) (i ∙ ap (λ (b : Below). 
     here : below rs new ≡ above rs nowhere f
     here = popped rs new old f g ∙ ap (λ (b : Below). above rs b f) (bottom rs old e)
 
-pub ended : (t : Token) (r : Result State Stop) (old new : S.Rules) (x : S.Rule) (m : M.State) → new ≡ S.rules old x → m ≡ M.next_rule (S.rules old x) t.kind t → GivesState t r (M.next_rule new t.kind t) → GivesState t r m
+pub ended : (t : Token) (r : Result (Box State Global) Stop) (old new : S.Rules) (x : S.Rule) (m : M.State) → new ≡ S.rules old x → m ≡ M.next_rule (S.rules old x) t.kind t → GivesState t r (M.next_rule new t.kind t) → GivesState t r m
 ended t r old new x m e f h = rw (f, ← e) h
 
 -- Within the rules.
@@ -193,5 +203,5 @@ on_through v w P R e f h = rw e (along w h)
 pub parm_named : (rs : S.Rules) (o : Token) (b : M.ParmBefore) (p : S.GenericParm) (i : Kind) (t : Token) → i ≡ K.Name → p ≡ M.parm_of b t → Some (M.have_parm rs o p) ≡ Some (M.step (M.awaits_parm rs o b) i t)
 parm_named rs o b p i t e f = rw (e, f) refl
 
-pub begin_next : (t : Token) (r : Result State Stop) (xs : List Rule) → xs ≡ [] → GivesState t r (M.next_rule (view_rules xs) t.kind t) → GivesState t r (M.next_rule S.no_rules t.kind t)
+pub begin_next : (t : Token) (r : Result (Box State Global) Stop) (xs : List Rule) → xs ≡ [] → GivesState t r (M.next_rule (view_rules xs) t.kind t) → GivesState t r (M.next_rule S.no_rules t.kind t)
 begin_next t r xs e h = rw e at h

@@ -1,5 +1,5 @@
 -- What the parser's state says of the tokens behind it.
-use Rattle.std.proofs.Common.{◌≡◌, ◌≢◌, ℕ, suc, max, ◌≤◌, ◌<◌, ◌+◌, ◌⊎◌, List, [], ◌∷◌, ◌++◌, length, take, drop, get_or, Option, Some, None, Result, Ok, Err, refl, sym, ap, ◌∙◌, subst, ⊎_elim, arith, add-one, append-nil}
+use Rattle.std.proofs.Common.{◌≡◌, ◌≢◌, ℕ, suc, max, ◌≤◌, ◌<◌, ◌+◌, ◌⊎◌, inl, inr, List, [], ◌∷◌, ◌++◌, length, take, drop, get_or, Option, Some, None, Result, Ok, Err, refl, sym, ap, ◌∙◌, subst, ⊎_elim, arith, add-one, append-nil, Box, Global}
 use Rattle.std.proofs.Math.Seq.{take-suc, drop-cons}
 use Rattle.std.proofs.lemmas.List.{take-append-drop}
 use Rattle.cddl_token.specs.declared.Token.{Token}
@@ -65,7 +65,7 @@ goes (St.Body rs fs x) e = now_goes (below (view_rules rs.items) fs.items) x.val
 goes (St.Done t) e = cc
 
 pub live : (p : Progress) (ts : List Token) → Stands p ts → M.run M.begin (lexemes ts) ≢ M.stuck
-live p ts h e = goes p.state (h.place ∙ ap Some e)
+live p ts h e = goes p.state.value (h.place ∙ ap Some e)
 
 -- From token to token.
 
@@ -73,17 +73,17 @@ live p ts h e = goes p.state (h.place ∙ ap Some e)
 at_place : (v : Option M.State) (m : M.State) (P : M.State → Type 0) → v ≡ Some m → on v P → P m
 at_place v m P e h = rw e at h
 
-pub stands_first : Stands (record { state = St.Begin; count = 0 }) []
-stands_first = record { place = refl; count = refl; within = omega arith }
+pub stands_first : (s : Box State Global) → s.value ≡ St.Begin → Stands (record { state = s; count = 0 }) []
+stands_first s e = record { place = ap view_state e; count = refl; within = omega arith }
 
 -- the step that the code makes at the token t
-abbrev pub Stepped : State → Token → Result State Stop → Type 0
-Stepped s t r = on (view_state s) (λ m. GivesState t r (M.step m t.kind t))
+abbrev pub Stepped : Box State Global → Token → Result (Box State Global) Stop → Type 0
+Stepped s t r = on (view_state s.value) (λ m. GivesState t r (M.step m t.kind t))
 
-stepped : (p : Progress) (ts : List Token) (t : Token) (r : Result State Stop) → Stands p ts → Stepped p.state t r → GivesState t r (M.step (M.run M.begin (lexemes ts)) t.kind t)
-stepped p ts t r h g = at_place (view_state p.state) (M.run M.begin (lexemes ts)) (λ m. GivesState t r (M.step m t.kind t)) h.place g
+stepped : (p : Progress) (ts : List Token) (t : Token) (r : Result (Box State Global) Stop) → Stands p ts → Stepped p.state t r → GivesState t r (M.step (M.run M.begin (lexemes ts)) t.kind t)
+stepped p ts t r h g = at_place (view_state p.state.value) (M.run M.begin (lexemes ts)) (λ m. GivesState t r (M.step m t.kind t)) h.place g
 
-pub stands_next : (p : Progress) (s : State) (n : ℕ) (ts : List Token) (t : Token) → Stands p ts → Stepped p.state t (Ok s) → n ≡ opened t.kind p.count → n ≤ nesting_limit → Stands (record { state = s; count = n }) (ts ++ t ∷ [])
+pub stands_next : (p : Progress) (s : Box State Global) (n : ℕ) (ts : List Token) (t : Token) → Stands p ts → Stepped p.state t (Ok s) → n ≡ opened t.kind p.count → n ≤ nesting_limit → Stands (record { state = s; count = n }) (ts ++ t ∷ [])
 stands_next p s n ts t h g e w =
     let c : n ≡ opened t.kind (open_after 0 (lexemes ts)) = e ∙ ap (opened t.kind) h.count in
     let d = deepest-push 0 ts t in
@@ -133,7 +133,7 @@ right go stop p front back t (Stops.Unexpected n) h g = unexpected go stop p fro
 pub refused : Going → Stuck → (p : Progress) (ts : List Token) (t : Token) (e : Stop) (r : Refusal) → Stands p ts → Stepped p.state t (Err e) → r ≡ refusal_of e → (back : List Token) → Refuses (ts ++ t ∷ back) r
 refused go stop p ts t e r h g f back = rw f (right go stop p ts back t e h (stepped p ts t (Err e) h g))
 
-pub too_nested : Going → (p : Progress) (s : State) (n : ℕ) (ts : List Token) (t : Token) → Stands p ts → Stepped p.state t (Ok s) → n ≡ opened t.kind p.count → nesting_limit < n → (back : List Token) → IsTooNested (ts ++ t ∷ back) t.start
+pub too_nested : Going → (p : Progress) (s : Box State Global) (n : ℕ) (ts : List Token) (t : Token) → Stands p ts → Stepped p.state t (Ok s) → n ≡ opened t.kind p.count → nesting_limit < n → (back : List Token) → IsTooNested (ts ++ t ∷ back) t.start
 too_nested go p s n ts t h g e w back =
     let i = stepped p ts t (Ok s) h g ∙ ap Some (sym (run-push M.begin ts t)) in
     let c : n ≡ open_after 0 (lexemes (ts ++ t ∷ [])) = e ∙ ap (opened t.kind) h.count ∙ sym (open-push 0 ts t) in
@@ -141,7 +141,7 @@ too_nested go p s n ts t h g e w back =
       front = ts;
       token = t;
       reaches = reached go p ts back t h;
-      begins = go t (lexemes (ts ++ t ∷ [])) (λ j. goes s (i ∙ ap Some j));
+      begins = go t (lexemes (ts ++ t ∷ [])) (λ j. goes s.value (i ∙ ap Some j));
       over = omega arith;
     }
 
@@ -162,8 +162,8 @@ done_place (St.Body rs fs now) t e = cc
 done_place (St.Done u) t e = let f : t ≡ u = cc in ap (λ (x : Tree). Some (M.done (view x))) (sym f)
 
 -- behind all tokens the state holds their tree
-pub done_behind : (p : Progress) (ts : List Token) (t : Tree) → Some t ≡ tree_in p.state → Stands p ts → M.run M.begin (lexemes ts) ≡ M.done (view t)
-done_behind p ts t e h = let f = h.place in let g = done_place p.state t e in cc
+pub done_behind : (p : Progress) (ts : List Token) (t : Tree) → Some t ≡ tree_in p.state.value → Stands p ts → M.run M.begin (lexemes ts) ≡ M.done (view t)
+done_behind p ts t e h = let f = h.place in let g = done_place p.state.value t e in cc
 
 lexemes-front : (a b : List Token) (us : List Lexeme) → lexemes (a ++ b) ++ us ≡ lexemes a ++ (lexemes b ++ us)
 lexemes-front [] b us = refl
@@ -206,11 +206,11 @@ not_over (St.Body rs fs now) x e f = body (below (view_rules rs.items) fs.items)
     body b (N.HaveGroup g) i = never _ (as_entry b) (λ k j. cc) i
 not_over (St.Done t) x e f = cc
 
-pub is_done : Going → ((ts : List Lexeme) (x : Cddl) → Prints x ts → M.run M.begin ts ≡ M.done x) → Answered → (ts : List Token) (p : Progress) → EndsInEnd ts → Stands p ts → None ≡ tree_in p.state → ⊥
+pub is_done : Going → ((ts : List Lexeme) (x : Cddl) → Prints x ts → M.run M.begin ts ≡ M.done x) → Answered → (ts : List Token) (p : Progress) → EndsInEnd ts → Stands p ts → None ≡ tree_in p.state.value → ⊥
 is_done go complete answered ts p e h f =
     let k : Stands p (e.0 ++ e.1 ∷ []) = subst (Stands p) e.2 h in
     ⊎_elim
-    (λ y. not_over p.state y.0 (k.place ∙ ap Some (complete (lexemes (e.0 ++ e.1 ∷ [])) y.0 y.1.prints)) f)
+    (λ y. not_over p.state.value y.0 (k.place ∙ ap Some (complete (lexemes (e.0 ++ e.1 ∷ [])) y.0 y.1.prints)) f)
     (λ y. not_refused (e.0 ++ e.1 ∷ []) y.0 y.1 (go e.1 (lexemes (e.0 ++ e.1 ∷ [])) (live p (e.0 ++ e.1 ∷ []) k)) k.within y.2)
     (answered e.0 e.1 e.3)
 
@@ -225,3 +225,21 @@ not_done (St.HaveParm rs o p) f = refl
 not_done (St.WantAssign rs n) f = refl
 not_done (St.Body rs fs now) f = refl
 not_done (St.Done t) f = absurd (f t refl)
+
+-- The one answer.
+
+abbrev pub Apart : Type 0
+Apart = (ts : List Token) (x : Cddl) (c : Code) (p : ℕ) → IsTreeOf x ts → IsRefused ts c p → ⊥
+
+abbrev pub OneRefusal : Type 0
+OneRefusal = (ts : List Token) (c d : Code) (p q : ℕ) → IsRefused ts c p → IsRefused ts d q → (d ≡ c) × (q ≡ p)
+
+-- what has a tree is refused for want of memory alone
+pub no_refusal : Apart → (ts : List Token) (x : Cddl) (e : Refusal) → IsTreeOf x ts → Refuses ts e → e ≡ Memory
+no_refusal apart ts x Memory h r = refl
+no_refusal apart ts x (At c p) h r = absurd (apart ts x c p h r)
+
+-- what is refused is refused for this reason, or for want of memory
+pub same_refusal : OneRefusal → (ts : List Token) (c : Code) (p : ℕ) (e : Refusal) → IsRefused ts c p → Refuses ts e → (e ≡ At c p) ⊎ (e ≡ Memory)
+same_refusal one ts c p Memory h r = inr refl
+same_refusal one ts c p (At d q) h r = let i = one ts c d p q h r in inl (ap (λ (x : Code). At x q) i.0 ∙ ap (At c) i.1)

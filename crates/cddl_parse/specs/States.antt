@@ -1,6 +1,7 @@
 -- What a state of the parser stands for.
 use Rattle.cddl_parse.specs.Frames.{made, below, view_parameters, view_now, Refused}
-use Rattle.std.specs.Prelude.{◌≡◌, ◌≤◌, List, [], ◌∷◌, ◌++◌, Option, Some, None, Result, Ok, Err}
+use Rattle.std.specs.Prelude.{◌≡◌, ◌≤◌, List, [], ◌∷◌, ◌++◌, Option, Some, None, Result, Ok, Err, Box}
+use Rattle.std.specs.declared.alloc.Global.{Global}
 use Rattle.cddl_token.specs.declared.Token.{Token}
 use Rattle.cddl_token.specs.declared.Kind.TheVariants.{End}
 use Rattle.cddl_token.specs.declared.Refusal.{Refusal}
@@ -29,13 +30,13 @@ view_state (St.WantAssign rs n) = Some (M.awaits_assign (view_rules rs.items) (v
 view_state (St.Body rs fs now) = view_now (below (view_rules rs.items) fs.items) now.value
 view_state (St.Done t) = Some (M.done (view t))
 
-abbrev pub GivesState : Token → Result State Stop → M.State → Type 0
-GivesState t (Ok s) m = view_state s ≡ Some m
+abbrev pub GivesState : Token → Result (Box State Global) Stop → M.State → Type 0
+GivesState t (Ok s) m = view_state s.value ≡ Some m
 GivesState t (Err e) m = Refused t e m
 
 -- a body that is awaited at the place, or memory ran out
-abbrev pub BeginsBody : Result State Stop → Option M.AtTypes → Type 0
-BeginsBody (Ok s) k = view_state s ≡ made M.open_types k
+abbrev pub BeginsBody : Result (Box State Global) Stop → Option M.AtTypes → Type 0
+BeginsBody (Ok s) k = view_state s.value ≡ made M.open_types k
 BeginsBody (Err e) k = e ≡ Stops.Memory
 
 -- the source's end is the last token
@@ -54,7 +55,7 @@ Refuses ts Memory = Unit {0}
 
 -- The parser behind the tokens, which nest within the limit.
 pub record Stands (p : Progress) (ts : List Token) : Type 0 where
-  pub place : view_state p.state ≡ Some (M.run M.begin (lexemes ts))
+  pub place : view_state p.state.value ≡ Some (M.run M.begin (lexemes ts))
   pub count : p.count ≡ open_after 0 (lexemes ts)
   pub within : deepest 0 (lexemes ts) ≤ nesting_limit
 

@@ -1,16 +1,17 @@
 //! From tokens to their tree.
-ghost use Rattle.std.specs.Prelude.{◌≡◌, ℕ, ◌<◌, List, map, IfOk, IfErr};
+ghost use Rattle.std.specs.Prelude.{◌≡◌, ℕ, ◌<◌, ◌⊎◌, List, map, IfOk, IfErr, MatchResult};
+ghost use Rattle.cddl_token.specs.declared.Code.{Code};
 ghost use Rattle.cddl_token.specs.declared.Token.{Token};
 ghost use Rattle.cddl_token.specs.Answers.{span, IsTokenized};
-ghost use Rattle.cddl_syntax.specs.Answers.{opened as opened_after, IsTreeOf};
+ghost use Rattle.cddl_syntax.specs.Answers.{opened as opened_after, IsTreeOf, IsRefused};
 ghost use Rattle.cddl_syntax.specs.Syntax.{Cddl};
 ghost use Rattle.cddl_tree.specs.View.{view};
 ghost use Rattle.cddl_parse.specs.States.{tree_in, refusal_of, EndsInEnd, Refuses, Stands, Advances};
 
 use crate::frames::Stop;
-use crate::rules::step;
+use crate::rules::{placed, step};
 use crate::state::{Progress, State};
-use cddl_syntax::{goes_on, is_balanced, is_stuck, makes_trees, one_tree, some_answer};
+use cddl_syntax::{goes_on, is_balanced, is_stuck, makes_trees, one_answer, one_tree, some_answer};
 use cddl_token::{Code, Kind, Refusal, Token};
 use cddl_tree::Tree;
 use std::alloc::Global;
@@ -76,10 +77,10 @@ fn refusal(stop: Stop) -> Refusal
 
 /// The tree, behind the last token.
 #[tactic(none)]
-fn finished<'s>(state: State<'s>) -> Option<Tree<'s>>
-    ensures { result ≡ tree_in state.entry }
+fn finished<'s>(state: Box<State<'s>>) -> Option<Tree<'s>>
+    ensures { result ≡ tree_in state.entry.value }
 {
-    match state {
+    match Box::into_inner(state) {
         State::Done(tree) => Some(tree),
         state => {
             drop(state);
@@ -110,16 +111,22 @@ pub fn parse<'s>(alloc: Global, tokens: &'s [Token<'s>]) -> Result<Tree<'s>, Ref
     ensures only { IfOk result (λ t. (x : Cddl) → IsTreeOf x tokens.now → x ≡ view t) }
     // A refusal says why they have none, and where.
     ensures refused { IfErr result (λ e. Refuses tokens.now e) }
+    // Where they have a tree, it is the answer, unless memory runs out.
+    ensures answered { (x : Cddl) → IsTreeOf x tokens.now → MatchResult result (λ t. view t ≡ x) (λ e. e ≡ Refusal.Memory) }
+    // Where they have none for this reason, this is the answer, unless memory runs out.
+    ensures only_refused { (code : Code) (at : ℕ) → IsRefused tokens.now code at → MatchResult result (λ t. ⊥) (λ e. (e ≡ Refusal.At code at) ⊎ (e ≡ Refusal.Memory)) }
 {
     one_tree();
     makes_trees();
     goes_on();
     is_balanced();
     some_answer();
-    let mut progress = Progress {
-        state: State::Begin,
-        count: 0,
+    one_answer();
+    let state = match placed(alloc, State::Begin) {
+        Ok(state) => state,
+        Err(_) => return Err(Refusal::Memory),
     };
+    let mut progress = Progress { state, count: 0 };
     for token in tokens {
         progress = match advance(alloc, progress, token) {
             Ok(next) => next,

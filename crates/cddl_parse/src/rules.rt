@@ -1,4 +1,5 @@
 //! What a token does between the rules and in the head of a rule.
+ghost use Rattle.std.specs.Prelude.{◌≡◌, MatchResult};
 ghost use Rattle.cddl_syntax.specs.Machine as M;
 ghost use Rattle.cddl_tree.specs.View.{view_parm, view_name};
 ghost use Rattle.cddl_parse.specs.Frames.{nowhere, on, view_parameters, view_home, above, below, view_now, Gives};
@@ -7,22 +8,39 @@ ghost use Rattle.cddl_parse.specs.States.{view_rules, view_state, GivesState, Be
 use crate::body::step_body;
 use crate::build::{parm_of, unexpected};
 use crate::frames::{Frame, Home, Next, Now, Parameters, Stop};
-use crate::memory::pushed;
+use crate::memory::{boxed, pushed};
 use crate::places::{awaited, type_at};
 use crate::state::State;
 use cddl_token::{Kind, Token};
 use cddl_tree::{AssignG, GenericParm, Rule, RuleName, Tree};
 use std::alloc::Global;
 
+/// The state in a box.
+pub(crate) fn placed<'s>(alloc: Global, state: State<'s>) -> Result<Box<State<'s>>, Stop>
+    ensures { MatchResult result (λ s. s.value ≡ state.entry) (λ e. e ≡ Stop.Memory) }
+{
+    match boxed(alloc, state) {
+        Ok(state) => Ok(state),
+        Err(error) => {
+            drop(error);
+            Err(Stop::Memory)
+        }
+    }
+}
+
 /// A token behind whole rules.
 #[tactic(none)]
-fn next_rule<'s>(rules: Vec<Rule<'s>>, token: &'s Token<'s>) -> Result<State<'s>, Stop>
+fn next_rule<'s>(
+    alloc: Global,
+    rules: Vec<Rule<'s>>,
+    token: &'s Token<'s>,
+) -> Result<Box<State<'s>>, Stop>
     ensures { GivesState token.now result (M.next_rule (view_rules rules.entry.items) token.now.kind token.now) }
 {
     match token.kind {
-        Kind::Name => Ok(State::WantAssign(rules, RuleName::Plain(token))),
-        Kind::NameOpen => Ok(State::WantParm(rules, token, None)),
-        Kind::End => Ok(State::Done(Tree { rules, end: token })),
+        Kind::Name => placed(alloc, State::WantAssign(rules, RuleName::Plain(token))),
+        Kind::NameOpen => placed(alloc, State::WantParm(rules, token, None)),
+        Kind::End => placed(alloc, State::Done(Tree { rules, end: token })),
         _ => {
             drop(rules);
             Err(unexpected(token))
@@ -33,18 +51,19 @@ fn next_rule<'s>(rules: Vec<Rule<'s>>, token: &'s Token<'s>) -> Result<State<'s>
 /// A token behind a parameter.
 #[tactic(none)]
 fn after_parm<'s>(
+    alloc: Global,
     rules: Vec<Rule<'s>>,
     opening: &'s Token<'s>,
     parameters: GenericParm<'s>,
     token: &'s Token<'s>,
-) -> Result<State<'s>, Stop>
+) -> Result<Box<State<'s>>, Stop>
     ensures { GivesState token.now result (M.after_parm (view_rules rules.entry.items) opening.now (view_parm parameters.entry) token.now.kind token.now) }
 {
     match token.kind {
         Kind::Comma => {
             let comma = token;
             let before = Parameters { parameters, comma };
-            Ok(State::WantParm(rules, opening, Some(before)))
+            placed(alloc, State::WantParm(rules, opening, Some(before)))
         }
         Kind::AngleClose => {
             let name = RuleName::Generic {
@@ -52,7 +71,7 @@ fn after_parm<'s>(
                 parameters,
                 closing: token,
             };
-            Ok(State::WantAssign(rules, name))
+            placed(alloc, State::WantAssign(rules, name))
         }
         _ => {
             drop(rules);
@@ -69,7 +88,7 @@ fn assigned<'s>(
     rules: Vec<Rule<'s>>,
     name: RuleName<'s>,
     token: &'s Token<'s>,
-) -> Result<State<'s>, Stop>
+) -> Result<Box<State<'s>>, Stop>
     ensures { GivesState token.now result (M.assigned (view_rules rules.entry.items) (view_name name.entry) token.now.kind token.now) }
 {
     match token.kind {
@@ -100,14 +119,14 @@ fn begin_body<'s>(
     rules: Vec<Rule<'s>>,
     frame: Frame<'s>,
     home: Home<'s>,
-) -> Result<State<'s>, Stop>
+) -> Result<Box<State<'s>>, Stop>
     ensures { BeginsBody result (view_home (above (view_rules rules.entry.items) nowhere frame.entry) home.entry) }
 {
     let mut frames = Vec::new(alloc);
     match pushed(&mut frames, frame) {
         Ok(()) => match type_at(alloc, home) {
             Ok(at) => match awaited(alloc, at) {
-                Ok(now) => Ok(State::Body(rules, frames, now)),
+                Ok(now) => placed(alloc, State::Body(rules, frames, now)),
                 Err(_) => {
                     drop(frames);
                     drop(rules);
@@ -133,21 +152,22 @@ fn begin_body<'s>(
 /// The state behind a token of a rule's body.
 #[tactic(none)]
 fn after_body<'s>(
+    alloc: Global,
     rules: Vec<Rule<'s>>,
     frames: Vec<Frame<'s>>,
     next: Result<Next<'s>, Stop>,
     token: &'s Token<'s>,
-) -> Result<State<'s>, Stop>
+) -> Result<Box<State<'s>>, Stop>
     ensures { (m : M.State) → Gives token.now (view_rules rules.entry.items) (below (view_rules rules.entry.items) frames.entry.items) next.entry m → GivesState token.now result m }
 {
     match next {
         Ok(next) => match next {
-            Next::Within(now) => Ok(State::Body(rules, frames, now)),
+            Next::Within(now) => placed(alloc, State::Body(rules, frames, now)),
             Next::Ended(rule) => {
                 drop(frames);
                 let mut rules = rules;
                 match pushed(&mut rules, Box::into_inner(rule)) {
-                    Ok(()) => next_rule(rules, token),
+                    Ok(()) => next_rule(alloc, rules, token),
                     Err(error) => {
                         drop(error);
                         drop(rules);
@@ -172,12 +192,12 @@ fn in_body<'s>(
     frames: Vec<Frame<'s>>,
     now: Box<Now<'s>>,
     token: &'s Token<'s>,
-) -> Result<State<'s>, Stop>
+) -> Result<Box<State<'s>>, Stop>
     ensures { on (view_now (below (view_rules rules.entry.items) frames.entry.items) now.entry.value) (λ m. GivesState token.now result (M.step m token.now.kind token.now)) }
 {
     let mut frames = frames;
     let next = step_body(alloc, &mut frames, now, token);
-    after_body(rules, frames, next, token)
+    after_body(alloc, rules, frames, next, token)
 }
 
 /// A token where a parameter is awaited.
@@ -188,12 +208,12 @@ fn parameter<'s>(
     opening: &'s Token<'s>,
     before: Option<Parameters<'s>>,
     token: &'s Token<'s>,
-) -> Result<State<'s>, Stop>
+) -> Result<Box<State<'s>>, Stop>
     ensures { GivesState token.now result (M.step (M.awaits_parm (view_rules rules.entry.items) opening.now (view_parameters before.entry)) token.now.kind token.now) }
 {
     match token.kind {
         Kind::Name => match parm_of(alloc, before, token) {
-            Ok(parameters) => Ok(State::HaveParm(rules, opening, parameters)),
+            Ok(parameters) => placed(alloc, State::HaveParm(rules, opening, parameters)),
             Err(_) => {
                 drop(rules);
                 Err(Stop::Memory)
@@ -211,18 +231,18 @@ fn parameter<'s>(
 #[tactic(none)]
 pub(crate) fn step<'s>(
     alloc: Global,
-    state: State<'s>,
+    state: Box<State<'s>>,
     token: &'s Token<'s>,
-) -> Result<State<'s>, Stop>
-    ensures { on (view_state state.entry) (λ m. GivesState token.now result (M.step m token.now.kind token.now)) }
+) -> Result<Box<State<'s>>, Stop>
+    ensures { on (view_state state.entry.value) (λ m. GivesState token.now result (M.step m token.now.kind token.now)) }
 {
-    match state {
-        State::Begin => next_rule(Vec::new(alloc), token),
+    match Box::into_inner(state) {
+        State::Begin => next_rule(alloc, Vec::new(alloc), token),
         State::WantParm(rules, opening, before) => {
             parameter(alloc, rules, opening, before, token)
         }
         State::HaveParm(rules, opening, parameters) => {
-            after_parm(rules, opening, parameters, token)
+            after_parm(alloc, rules, opening, parameters, token)
         }
         State::WantAssign(rules, name) => assigned(alloc, rules, name, token),
         State::Body(rules, frames, now) => in_body(alloc, rules, frames, now, token),

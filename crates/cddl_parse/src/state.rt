@@ -19,7 +19,7 @@ pub(crate) enum State<'s> {
 /// The parser between two tokens.
 #[derive(Drop)]
 pub(crate) struct Progress<'s> {
-    pub(crate) state: State<'s>,
+    pub(crate) state: Box<State<'s>>,
     /// How many opening tokens are open.
     pub(crate) count: usize,
 }

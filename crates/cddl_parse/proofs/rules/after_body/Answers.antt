@@ -4,7 +4,7 @@ use Rattle.cddl_tree.specs.declared.tree.Rule.{Rule}
 use Rattle.cddl_tree.specs.View.{view_rule}
 use Rattle.cddl_parse.proofs.rules.after_body.Goals as goal
 use Rattle.cddl_parse.specs.States.{view_rules}
-use Rattle.cddl_parse.proofs.Bodies.{ended}
+use Rattle.cddl_parse.proofs.Bodies.{ended, given}
 use Rattle.cddl_parse.proofs.Adding.{view_rules-push}
 
 pub returns-in-Ok-pushed : goal.returns-in-Ok-pushed
@@ -14,7 +14,7 @@ pub returns-in-Err-pushed : goal.returns-in-Err-pushed
 returns-in-Err-pushed c m h = tt
 
 pub returns-in-Within : goal.returns-in-Within
-returns-in-Within c m h = rw (c.in-Ok.is, c.in-Within.is) at h
+returns-in-Within c m h = given c.args.token.now c.placed.result _ _ c.placed.ensures (rw (c.in-Ok.is, c.in-Within.is) at h)
 
 pub returns-in-Err : goal.returns-in-Err
 returns-in-Err c m h = rw c.in-Err.is at h

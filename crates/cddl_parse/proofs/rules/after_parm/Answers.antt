@@ -3,13 +3,13 @@ use Rattle.cddl_parse.specs.States.{view_rules}
 use Rattle.cddl_tree.specs.View.{view_parm}
 use Rattle.cddl_parse.proofs.rules.after_parm.Goals as goal
 use Rattle.cddl_parse.proofs.Steps.{refuses}
-use Rattle.cddl_parse.proofs.Bodies.{parm_other}
+use Rattle.cddl_parse.proofs.Bodies.{given, parm_other}
 
 pub returns-in-Comma : goal.returns-in-Comma
-returns-in-Comma c = rw c.in-Comma.is refl
+returns-in-Comma c = given c.args.token.now c.placed.result _ _ c.placed.ensures (rw c.in-Comma.is refl)
 
 pub returns-in-AngleClose : goal.returns-in-AngleClose
-returns-in-AngleClose c = rw c.in-AngleClose.is refl
+returns-in-AngleClose c = given c.args.token.now c.placed-in-AngleClose.result _ _ c.placed-in-AngleClose.ensures (rw c.in-AngleClose.is refl)
 
 pub returns-in_default : goal.returns-in_default
 returns-in_default c = refuses c.args.token.now _ _ c.unexpected.ensures (parm_other (view_rules c.args.rules.items) c.args.opening.now (view_parm c.args.parameters) c.args.token.now.kind c.args.token.now c.in_default.not-Comma c.in_default.not-AngleClose)
