@@ -4,7 +4,7 @@ use Rattle.cbor_data.specs.Value.{Value, array, values_of}
 use Rattle.cbor_item.specs.View.{view}
 use Rattle.cbor_item.specs.declared.item.Item.{Item}
 use Rattle.cbor_item.specs.declared.item.Item.TheVariants.{Array}
-use Rattle.cbor_item.proofs.Views.{view-Array}
+use Rattle.cbor_item.proofs.Lemmas.{view-Array}
 use Rattle.std.specs.declared.vec.Vec.{Vec}
 use Rattle.std.specs.declared.alloc.Global.{Global}
 use Rattle.cddl_match.specs.Views.{values}

@@ -4,7 +4,7 @@ use Rattle.cbor_data.specs.declared.Width.TheVariants.{W16, W32, W64}
 use Rattle.cbor_data.specs.Value.{Value, place_count, values_place_count, pairs_place_count}
 use Rattle.cbor_data.specs.Sound.{IsSound}
 use Rattle.cbor_data.specs.Forms.{Form, uint_form, nint_form, bytes_form, bytes_chunks, text_form, text_chunks, array_form, array_to_break, pairs_form, pairs_to_break, tag_form, simple_inside, simple_next, float_form, Forms, no_forms, form, PairForms, no_pair_forms, pair_form, chunks_bytes, flat, forms_flat, pair_forms_flat, forms_len, pair_forms_len, meaning, meanings, pair_meanings, Spells, head_in}
-use Rattle.cbor_data.proofs.PreferredSpells.{broken_len, head_some}
+use Rattle.cbor_data.proofs.Lemmas.{broken_len, head_some}
 
 mutual
   form_places : (f : Form) → place_count (meaning f) ≤ length (flat f)

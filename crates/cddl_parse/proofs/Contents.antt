@@ -12,7 +12,7 @@ use Rattle.cddl_tree.specs.declared.tree.GrpEnt.TheViews.{out-Types, out-Group}
 use Rattle.cddl_tree.specs.declared.tree.MemberKey.{MemberKey}
 use Rattle.cddl_syntax.specs.Syntax as S
 use Rattle.cddl_tree.specs.View.{view_types, view_type1, view_group, view_grpent, view_entry, view_further, view_choice, with_types, with_entries, with_choices, leaf}
-use Rattle.cddl_tree.proofs.Viewing.{view_out-Types, view_out-Group}
+use Rattle.cddl_tree.proofs.Lemmas.{view_out-Types, view_out-Group}
 use Rattle.cddl_parse.specs.Frames.{view_entries, IsChoice, IsKeyOf}
 use Rattle.cddl_parse.proofs.Pushing.{with_entries-push}
 

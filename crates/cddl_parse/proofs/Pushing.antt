@@ -12,7 +12,7 @@ use Rattle.cddl_parse.specs.Frames.{Below, over, above, below, nowhere}
 use Rattle.cddl_tree.specs.declared.tree.GrpEnt.TheViews.{roll-GrpChoice}
 use Rattle.cddl_syntax.specs.Syntax as S
 use Rattle.cddl_tree.specs.View.{with_types, with_arguments, with_entries, with_choices, with_parameters, leaf, view_type1, view_grpent, view_entry, view_further, view_choice}
-use Rattle.cddl_tree.proofs.Viewing.{view-Name, view-Applied, view-One, view-Operation, view-Literal, view-Typename, view-Parens, view-MapOf, view-ArrayOf, view-Unwrapped, view-ChoiceOf, view-ChoiceOfName, view-Tagged, view-TaggedBy, view-SimpleBy, view-Hash, view-Typed, view-Keyed, view-Grouped, view-TypeKey, view-Bareword, view-ValueKey, view-Types, view-GenericArg, view-Group, view-GrpChoice, view-Entry, view-Further}
+use Rattle.cddl_tree.proofs.Lemmas.{view-Name, view-Applied, view-One, view-Operation, view-Literal, view-Typename, view-Parens, view-MapOf, view-ArrayOf, view-Unwrapped, view-ChoiceOf, view-ChoiceOfName, view-Tagged, view-TaggedBy, view-SimpleBy, view-Hash, view-Typed, view-Keyed, view-Grouped, view-TypeKey, view-Bareword, view-ValueKey, view-Types, view-GenericArg, view-Group, view-GrpChoice, view-Entry, view-Further}
 
 pub with_types-push : (t : S.Types) (xs : List Further) (s : Bor Token) (r : Type1) → with_types t (map view_further (xs ++ (record { sign = s; type1 = r }) ∷ [])) ≡ S.or (with_types t (map view_further xs)) s.now (view_type1 r)
 with_types-push t [] s r = rw view-Further refl

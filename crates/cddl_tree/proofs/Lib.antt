@@ -1,2 +1,2 @@
 pub mod Starting
-pub mod Viewing
+pub mod Lemmas

@@ -9,7 +9,7 @@ use Rattle.cddl_tree.specs.declared.tree.GrpEnt.TheViews.{out-Types, out-Generic
 use Rattle.cddl_token.specs.declared.Kind.TheVariants.{Cut, Arrow}
 use Rattle.cddl_syntax.specs.Syntax as S
 use Rattle.cddl_tree.specs.View.{view_types, view_type1, view_arg, view_parm, view_further, with_types, with_arguments, with_parameters, StartsAt}
-use Rattle.cddl_tree.proofs.Viewing.{view_out-Types, view_out-GenericArg}
+use Rattle.cddl_tree.proofs.Lemmas.{view_out-Types, view_out-GenericArg}
 
 pub starts_append : (xs ys : List S.Lexeme) (n : ℕ) → StartsAt xs n → StartsAt (xs ++ ys) n
 starts_append [] ys n h = absurd h

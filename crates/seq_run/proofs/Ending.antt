@@ -16,7 +16,7 @@ use Rattle.seq_run.specs.declared.end.End.TheVariants.{Clean, Failed}
 use Rattle.seq_run.specs.Ends.{Accepts, Misses, Overruns, BeginsWith, IsRun, Ends}
 use Rattle.seq_run.specs.Standing.{IsHeld, IsNext}
 use Rattle.seq_run.specs.Answers.{IsUndecided}
-use Rattle.cbor_data.proofs.Unique.{unfinished_no_front}
+use Rattle.cbor_data.proofs.Lemmas.{unfinished_no_front}
 use Rattle.seq_run.proofs.Fronts.{formed, fault_no_item, clear_end}
 use Rattle.seq_run.proofs.Runs.{EndsHere, item_some, same_front, run_of}
 use Rattle.seq_run.proofs.Verdicts.{OneAnswer, never_both, yes_overruns}

@@ -7,8 +7,8 @@ use Rattle.cbor_data.specs.Value.{Value, depth_of}
 use Rattle.cbor_data.specs.Validity.{IsValid}
 use Rattle.cbor_data.specs.Forms.{Form, flat, IsOk, meaning, HasText, IsWellFormed, Spells, Begins, IsUnfinished}
 use Rattle.cbor_data.specs.Faults.{Bounds, last_offset, FaultKind, too_deep, too_long, BeginsWithin, StandsAt, malformed, deep, long, IsClearBefore, IsFaultOf, of_form, of_end, of_text, of_key, IsItem}
-use Rattle.cbor_data.proofs.Unique.{one_form, unfinished_no_front}
-use Rattle.cbor_data.proofs.BadText.{good_text}
+use Rattle.cbor_data.proofs.Lemmas.{one_form, unfinished_no_front}
+use Rattle.cbor_data.proofs.Lemmas.{good_text}
 
 pub formed : {x : Value} {b : List ℕ} → Spells x b → IsWellFormed b
 formed s = record { written = s.written; ok = s.ok; is = s.is }

@@ -4,7 +4,7 @@ use Rattle.cbor_data.specs.Value.{Value}
 use Rattle.cbor_data.specs.Forms.{inside, uint_form, IsWellFormed}
 use Rattle.cbor_data.specs.Faults.{Bounds, IsItem}
 use Rattle.cbor_data.specs.Sequence.{Found, Takes, none, next, IsRunOf}
-use Rattle.cbor_data.proofs.Unique.{unique, unique_front}
+use Rattle.cbor_data.proofs.Lemmas.{unique, unique_front}
 use Rattle.seq_run.proofs.Fronts.{formed}
 
 -- no item has no bytes

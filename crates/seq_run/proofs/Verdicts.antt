@@ -3,7 +3,7 @@ use Rattle.std.proofs.Common.{◌≡◌, ℕ, ◌<◌, ◌^◌, List, arith}
 use Rattle.cbor_data.specs.Value.{Value, place_count}
 use Rattle.cbor_data.specs.Faults.{Bounds, IsItem}
 use Rattle.cddl_meaning.specs.Judges.{Answer, Yes, No}
-use Rattle.cddl_match.proofs.Room.{places_spelled}
+use Rattle.cddl_match.proofs.Lemmas.{places_spelled}
 use Rattle.cddl_table.specs.Language.{RootSays}
 use Rattle.cddl_table.specs.declared.table.Table.{Table}
 use Rattle.seq_run.specs.Judge.{Judge}

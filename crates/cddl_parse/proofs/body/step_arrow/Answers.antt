@@ -3,7 +3,7 @@ use Rattle.cddl_syntax.specs.Machine as M
 use Rattle.cddl_syntax.specs.Syntax as S
 use Rattle.cddl_tree.specs.declared.tree.Type1.{Type1}
 use Rattle.cddl_tree.specs.View.{leaf, view_type1}
-use Rattle.cddl_tree.proofs.Viewing.{view-TypeKey}
+use Rattle.cddl_tree.proofs.Lemmas.{view-TypeKey}
 use Rattle.cddl_parse.proofs.body.step_arrow.Goals as goal
 use Rattle.cddl_parse.specs.Frames.{as_entry, Gives}
 use Rattle.cddl_parse.proofs.Heads.{arrow_behind_cut}

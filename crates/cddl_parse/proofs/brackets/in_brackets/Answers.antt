@@ -1,5 +1,5 @@
 use Rattle.std.proofs.Common.{◌∙◌, refl}
-use Rattle.cddl_tree.proofs.Viewing.{view-MapOf, view-ArrayOf, view-ChoiceOf}
+use Rattle.cddl_tree.proofs.Lemmas.{view-MapOf, view-ArrayOf, view-ChoiceOf}
 use Rattle.cddl_parse.proofs.Elsewhere.{map_bracketed, array_bracketed, choice_bracketed}
 use Rattle.cddl_parse.proofs.brackets.in_brackets.Goals as goal
 

@@ -5,7 +5,7 @@ use Rattle.cddl_tree.specs.declared.tree.Types.{Types}
 use Rattle.cddl_tree.specs.View.{view_types}
 use Rattle.cddl_parse.specs.Frames.{as_entry, Gives}
 use Rattle.cddl_parse.proofs.Steps.{on_all}
-use Rattle.cddl_tree.proofs.Viewing.{view-Parens, view-Grouped}
+use Rattle.cddl_tree.proofs.Lemmas.{view-Parens, view-Grouped}
 use Rattle.cddl_parse.proofs.Elsewhere.{content_type, content_group, paren_got, paren_have}
 use Rattle.cddl_parse.proofs.brackets.shut_entry.Goals as goal
 

@@ -1,4 +1,4 @@
-use Rattle.cddl_tree.proofs.Viewing.{view_out-GenericArg}
+use Rattle.cddl_tree.proofs.Lemmas.{view_out-GenericArg}
 use Rattle.cddl_parse.proofs.Pushing.{views}
 use Rattle.cddl_parse.proofs.build.arg_of.Goals as goal
 

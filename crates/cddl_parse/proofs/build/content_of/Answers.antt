@@ -6,7 +6,7 @@ use Rattle.cddl_syntax.specs.Syntax as S
 use Rattle.cddl_parse.specs.declared.frames.Content.{Content}
 use Rattle.cddl_tree.specs.declared.tree.GrpEnt.TheViews.{out-Group}
 use Rattle.cddl_parse.specs.Frames.{IsContent}
-use Rattle.cddl_tree.proofs.Viewing.{view-Group, view_out-Group}
+use Rattle.cddl_tree.proofs.Lemmas.{view-Group, view_out-Group}
 use Rattle.cddl_parse.proofs.Contents.{empty, full, group_sole, group_several}
 use Rattle.cddl_parse.proofs.build.content_of.Goals as goal
 

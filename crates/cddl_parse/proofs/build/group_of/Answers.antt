@@ -1,4 +1,4 @@
-use Rattle.cddl_tree.proofs.Viewing.{view_out-Group}
+use Rattle.cddl_tree.proofs.Lemmas.{view_out-Group}
 use Rattle.cddl_parse.proofs.Pushing.{views}
 use Rattle.cddl_parse.proofs.build.group_of.Goals as goal
 

@@ -1,4 +1,4 @@
-use Rattle.cddl_tree.proofs.Viewing.{view_out-Types}
+use Rattle.cddl_tree.proofs.Lemmas.{view_out-Types}
 use Rattle.cddl_parse.proofs.Pushing.{views}
 use Rattle.cddl_parse.proofs.build.more_types.Goals as goal
 

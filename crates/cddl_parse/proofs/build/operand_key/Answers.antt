@@ -1,7 +1,7 @@
 use Rattle.std.proofs.Common.{◌∙◌, ap}
 use Rattle.cddl_syntax.specs.Syntax as S
 use Rattle.cddl_tree.specs.View.{view_type2}
-use Rattle.cddl_tree.proofs.Viewing.{view-Typename}
+use Rattle.cddl_tree.proofs.Lemmas.{view-Typename}
 use Rattle.cddl_parse.proofs.Pushing.{views}
 use Rattle.cddl_parse.proofs.Contents.{along_key}
 use Rattle.cddl_parse.proofs.build.operand_key.Goals as goal

@@ -2,7 +2,7 @@ use Rattle.std.proofs.Common.{◌∙◌, ap, sym}
 use Rattle.cddl_syntax.specs.Syntax as S
 use Rattle.cddl_tree.specs.declared.tree.Type2.{Type2}
 use Rattle.cddl_tree.specs.View.{view_type1, view_type2}
-use Rattle.cddl_tree.proofs.Viewing.{view-One}
+use Rattle.cddl_tree.proofs.Lemmas.{view-One}
 use Rattle.cddl_parse.proofs.Pushing.{views}
 use Rattle.cddl_parse.proofs.Contents.{along_key}
 use Rattle.cddl_parse.proofs.build.simple_key.Goals as goal

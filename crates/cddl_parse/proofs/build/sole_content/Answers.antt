@@ -10,7 +10,7 @@ use Rattle.cddl_tree.specs.declared.tree.Entry.{Entry}
 use Rattle.cddl_tree.specs.declared.tree.GrpChoice.{GrpChoice}
 use Rattle.cddl_parse.specs.Frames.{view_entries, IsContent}
 use Rattle.cddl_tree.specs.View.{leaf, with_choices, view_choice, view_grpent, view_types}
-use Rattle.cddl_tree.proofs.Viewing.{view-Group}
+use Rattle.cddl_tree.proofs.Lemmas.{view-Group}
 use Rattle.cddl_parse.proofs.Contents.{view_entries-push, empty_items, empty, full, several_no_type, comma_no_type}
 use Rattle.cddl_parse.proofs.build.sole_content.Goals as goal
 

@@ -3,7 +3,7 @@ use Rattle.cddl_syntax.specs.Syntax as S
 use Rattle.cddl_tree.specs.declared.tree.GrpChoice.{GrpChoice}
 use Rattle.cddl_parse.specs.Frames.{view_entries}
 use Rattle.cddl_tree.specs.View.{with_choices, view_choice}
-use Rattle.cddl_tree.proofs.Viewing.{view-Group}
+use Rattle.cddl_tree.proofs.Lemmas.{view-Group}
 use Rattle.cddl_parse.proofs.Contents.{view_entries-push}
 use Rattle.cddl_parse.proofs.build.whole.Goals as goal
 

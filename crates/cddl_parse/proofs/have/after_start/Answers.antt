@@ -3,7 +3,7 @@ use Rattle.cddl_syntax.specs.Syntax as S
 use Rattle.cddl_syntax.specs.Machine as M
 use Rattle.cddl_token.specs.declared.Kind.{Kind}
 use Rattle.cddl_tree.specs.View.{leaf, view_types}
-use Rattle.cddl_tree.proofs.Viewing.{view-Typed}
+use Rattle.cddl_tree.proofs.Lemmas.{view-Typed}
 use Rattle.cddl_parse.proofs.have.after_start.Goals as goal
 use Rattle.cddl_parse.proofs.Steps.{refused_on, on_kind, on_same}
 use Rattle.cddl_parse.specs.Frames.{below, as_entry, Gives, Refused}

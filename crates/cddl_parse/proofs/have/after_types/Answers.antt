@@ -2,7 +2,7 @@ use Rattle.std.proofs.Common.{ap, sym}
 use Rattle.cddl_syntax.specs.Syntax as S
 use Rattle.cddl_syntax.specs.Machine as M
 use Rattle.cddl_tree.specs.View.{leaf, view_types, view_key}
-use Rattle.cddl_tree.proofs.Viewing.{view-Keyed}
+use Rattle.cddl_tree.proofs.Lemmas.{view-Keyed}
 use Rattle.cddl_parse.proofs.have.after_types.Goals as goal
 use Rattle.cddl_parse.proofs.Steps.{on_same}
 use Rattle.cddl_parse.specs.Frames.{below, as_entry, Gives}

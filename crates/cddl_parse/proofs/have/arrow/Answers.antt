@@ -2,7 +2,7 @@ use Rattle.cddl_syntax.specs.Machine as M
 use Rattle.cddl_parse.specs.Frames.{as_entry, Gives}
 use Rattle.cddl_parse.proofs.Steps.{refused_on}
 use Rattle.cddl_parse.proofs.Closing.{arrow_taken, arrow_several}
-use Rattle.cddl_tree.proofs.Viewing.{view-TypeKey}
+use Rattle.cddl_tree.proofs.Lemmas.{view-TypeKey}
 use Rattle.cddl_parse.proofs.have.arrow.Goals as goal
 
 pub returns-in-Ok : goal.returns-in-Ok

@@ -1,4 +1,4 @@
-use Rattle.cddl_tree.proofs.Viewing.{view-One, view-Operation}
+use Rattle.cddl_tree.proofs.Lemmas.{view-One, view-Operation}
 use Rattle.std.proofs.Common.{◌∙◌, ap, sym}
 use Rattle.cddl_parse.specs.declared.frames.Left.{Left}
 use Rattle.cddl_tree.specs.View.{view_type1, view_type2, view_operator}

@@ -2,7 +2,7 @@ use Rattle.std.proofs.Common.{ap}
 use Rattle.cddl_syntax.specs.Machine as M
 use Rattle.cddl_parse.specs.Frames.{view_at_type2, view_type_opening, Gives}
 use Rattle.cddl_parse.proofs.Steps.{refused_on, on_same, head_shut, simple_shut, no_angles}
-use Rattle.cddl_tree.proofs.Viewing.{view-SimpleBy}
+use Rattle.cddl_tree.proofs.Lemmas.{view-SimpleBy}
 use Rattle.cddl_parse.proofs.have.shut_angles.Goals as goal
 
 pub returns-in-TagHead : goal.returns-in-TagHead

@@ -3,7 +3,7 @@ use Rattle.cddl_syntax.specs.Syntax as S
 use Rattle.cddl_syntax.specs.Machine as M
 use Rattle.cddl_tree.specs.declared.tree.GenericArg.{GenericArg}
 use Rattle.cddl_tree.specs.View.{view_arg}
-use Rattle.cddl_tree.proofs.Viewing.{view-Applied}
+use Rattle.cddl_tree.proofs.Lemmas.{view-Applied}
 use Rattle.cddl_parse.proofs.have.shut_arguments.Goals as goal
 use Rattle.cddl_parse.proofs.Contents.{empty_items}
 use Rattle.cddl_parse.proofs.Steps.{popped, bottom, on_all}

@@ -2,7 +2,7 @@ use Rattle.std.proofs.Common.{ap}
 use Rattle.cddl_syntax.specs.Machine as M
 use Rattle.cddl_parse.specs.Frames.{view_at_type2, view_type_opening, Gives}
 use Rattle.cddl_parse.proofs.Steps.{refused_on, on_same, paren_shut, tag_shut, content_shut, no_parens}
-use Rattle.cddl_tree.proofs.Viewing.{view-Parens, view-Tagged, view-TaggedBy}
+use Rattle.cddl_tree.proofs.Lemmas.{view-Parens, view-Tagged, view-TaggedBy}
 use Rattle.cddl_parse.proofs.have.shut_parens.Goals as goal
 
 pub returns-in-Paren : goal.returns-in-Paren

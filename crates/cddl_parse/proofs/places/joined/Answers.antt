@@ -1,4 +1,4 @@
-use Rattle.cddl_tree.proofs.Viewing.{view-One, view-Operation}
+use Rattle.cddl_tree.proofs.Lemmas.{view-One, view-Operation}
 use Rattle.cddl_parse.proofs.Steps.{joined_none, joined_some}
 use Rattle.cddl_parse.proofs.places.joined.Goals as goal
 

@@ -4,7 +4,7 @@ use Rattle.cddl_syntax.specs.Syntax as S
 use Rattle.cddl_syntax.specs.Machine as M
 use Rattle.cddl_tree.specs.declared.tree.Value.TheVariants as V
 use Rattle.cddl_tree.specs.declared.tree.Ref.TheVariants as R
-use Rattle.cddl_tree.proofs.Viewing.{view-Literal, view-Typename, view-Name, view-Hash}
+use Rattle.cddl_tree.proofs.Lemmas.{view-Literal, view-Typename, view-Name, view-Hash}
 use Rattle.cddl_parse.proofs.Bodies.{no_operand}
 use Rattle.cddl_parse.proofs.want.operand_of.Goals as goal
 

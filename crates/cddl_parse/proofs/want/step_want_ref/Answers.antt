@@ -1,7 +1,7 @@
 use Rattle.std.proofs.Common.{◌∙◌, ap, refl}
 use Rattle.cddl_token.specs.declared.Kind.{Kind}
 use Rattle.cddl_syntax.specs.Machine as M
-use Rattle.cddl_tree.proofs.Viewing.{view-Name}
+use Rattle.cddl_tree.proofs.Lemmas.{view-Name}
 use Rattle.cddl_parse.specs.declared.frames.Prefix.{Prefix}
 use Rattle.cddl_parse.proofs.want.step_want_ref.Goals as goal
 use Rattle.cddl_parse.specs.Frames.{below, view_at_type2, view_prefix, Gives}

@@ -3,7 +3,7 @@ use Rattle.cddl_syntax.specs.Syntax as S
 use Rattle.cddl_tree.specs.declared.tree.MemberKey.{MemberKey}
 use Rattle.cddl_tree.specs.View.{view_key, view_types, StartsAt}
 use Rattle.cddl_tree.proofs.Starting.{keyed_start}
-use Rattle.cddl_tree.proofs.Viewing.{views}
+use Rattle.cddl_tree.proofs.Lemmas.{views}
 use Rattle.cddl_tree.proofs.tree.GrpEnt.start.Goals as goal
 
 pub returns-in-Some : goal.returns-in-Some

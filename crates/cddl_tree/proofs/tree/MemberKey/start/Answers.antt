@@ -1,5 +1,5 @@
 use Rattle.cddl_tree.proofs.Starting.{type_key_start}
-use Rattle.cddl_tree.proofs.Viewing.{views}
+use Rattle.cddl_tree.proofs.Lemmas.{views}
 use Rattle.cddl_tree.proofs.tree.MemberKey.start.Goals as goal
 
 pub returns-in-Bareword : goal.returns-in-Bareword

@@ -1,4 +1,4 @@
-use Rattle.cddl_tree.proofs.Viewing.{views}
+use Rattle.cddl_tree.proofs.Lemmas.{views}
 use Rattle.cddl_tree.proofs.tree.Ref.start.Goals as goal
 
 pub returns-in-Name : goal.returns-in-Name

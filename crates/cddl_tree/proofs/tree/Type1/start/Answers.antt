@@ -3,7 +3,7 @@ use Rattle.cddl_syntax.specs.Syntax as S
 use Rattle.cddl_tree.specs.View.{view_type2, StartsAt}
 use Rattle.cddl_tree.specs.declared.tree.Type2.{Type2}
 use Rattle.cddl_tree.proofs.Starting.{operation_start}
-use Rattle.cddl_tree.proofs.Viewing.{views}
+use Rattle.cddl_tree.proofs.Lemmas.{views}
 use Rattle.cddl_tree.proofs.tree.Type1.start.Goals as goal
 
 pub returns-in-One : goal.returns-in-One

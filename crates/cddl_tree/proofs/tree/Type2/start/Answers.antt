@@ -1,4 +1,4 @@
-use Rattle.cddl_tree.proofs.Viewing.{views}
+use Rattle.cddl_tree.proofs.Lemmas.{views}
 use Rattle.cddl_tree.proofs.tree.Type2.start.Goals as goal
 
 pub returns-in-Parens : goal.returns-in-Parens

@@ -1,4 +1,4 @@
--- The equations of the view.
+-- What callers' proofs may name of this crate: the equations of the view.
 use Rattle.std.proofs.Common.{◌≡◌, Option, sym, ap, ◌∙◌, map, Box, Vec, Global, Bor}
 use Rattle.cddl_token.specs.declared.Token.{Token}
 use Rattle.cddl_tree.specs.declared.tree.GrpEnt.{GrpEnt}
