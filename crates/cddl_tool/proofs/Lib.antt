@@ -1,3 +1,4 @@
 pub mod Commands
 pub mod Devices
 pub mod Meeting
+pub mod Limiting

@@ -63,8 +63,7 @@ chosen_of words task rows o taken met read = record {
   task = ap (option_map (λ (p : Text × List Row). p.0)) met.found ∙ ap (λ (t : Task). Some (task_name t)) (sym read.task_is);
   spec = read.spec ∙ sym (ap (option_and_then (λ (p : Text × List Row). first_of (codes "spec") p.1)) met.found);
   file = read.file ∙ sym (ap (option_and_then (λ (p : Text × List Row). first_of (codes "file") p.1)) met.found);
-  depth = rw met.found read.depth;
-  item_bytes = rw met.found read.item_bytes;
+  limits = rw met.found read.limits;
 }
 
 same_name : (s t : Task) → task_name s ≡ task_name t → s ≡ t
@@ -81,8 +80,7 @@ read_of words task rows o met c =
       task_is = same_name o.task task (let e : task_name o.task ≡ task_name task = cc in e);
       spec = c.spec ∙ ap (option_and_then (λ (p : Text × List Row). first_of (codes "spec") p.1)) met.found;
       file = c.file ∙ ap (option_and_then (λ (p : Text × List Row). first_of (codes "file") p.1)) met.found;
-      depth = rw met.found at c.depth;
-      item_bytes = rw met.found at c.item_bytes;
+      limits = rw met.found at c.limits;
     }
 
 pub unread : (task : Task) (rows : List Row) (u : Use) → ((o : Options) → AreRead task rows o → ⊥) → AreUnread task rows u

@@ -6,12 +6,8 @@ use Rattle.seq_run.specs.declared.end.End.{End}
 use Rattle.seq_run.specs.declared.end.End.TheVariants.{Clean, Failed}
 use Rattle.seq_run.specs.Judge.{Judge}
 use Rattle.seq_run.specs.Running.{IsReported}
-use Rattle.cddl_tool.specs.declared.choice.Options.{Options}
 use Rattle.cddl_tool.specs.declared.choice.Task.{Task}
 use Rattle.cddl_tool.specs.declared.choice.Task.TheVariants.{Validate, Show}
-
-abbrev pub bounds_of : Options → Bounds
-bounds_of o = record { depth = o.depth; item_bytes = o.item_bytes }
 
 -- the specification of a task: to show a stream, that of any item
 abbrev pub specification_of : Task → List ℕ → List ℕ

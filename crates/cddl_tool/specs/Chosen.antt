@@ -1,6 +1,8 @@
 -- The command line that the program reads, and what it gives.
 use Rattle.std.specs.Prelude.{◌≡◌, ℕ, ◌≤◌, pos, true, List, [], ◌∷◌, codes, Option, Some, None, option_and_then, option_map, string_bytes}
 use Rattle.std.specs.Str.Parse.{IsNumeral, digits_value, without_leading_plus}
+use Rattle.cbor_data.specs.Faults.{Bounds}
+use Rattle.cbor_read.specs.declared.limits.TheConstants.{MOST_DEPTH, MOST_ITEM_BYTES}
 use Rattle.clap.specs.Words.{App, Row, Rule, Text, fault_of, new_app, new_rule, with_rule, with_subcommand, subcommand_of, first_of, one_of}
 use Rattle.clap.specs.declared.builder.value_parser.ValueParser.TheVariants.{Signed}
 use Rattle.cddl_tool.specs.declared.choice.Options.{Options}
@@ -21,10 +23,10 @@ number_rule name most default =
     record (new_rule name) { long = Some name; value_names = 1; defaults = default ∷ []; parser = Some (Signed (pos 1) (pos most)) }
 
 abbrev pub depth_rule : Rule
-depth_rule = number_rule (codes "depth") 256 (codes "256")
+depth_rule = number_rule (codes "depth") MOST_DEPTH (codes "256")
 
 abbrev pub item_bytes_rule : Rule
-item_bytes_rule = number_rule (codes "item-bytes") 16777216 (codes "16777216")
+item_bytes_rule = number_rule (codes "item-bytes") MOST_ITEM_BYTES (codes "16777216")
 
 -- a command with `[FILE]`, `--depth N` and `--item-bytes N`, which both commands take
 abbrev pub stream_app : App → App
@@ -66,13 +68,17 @@ abbrev pub IsNumber : ℕ → Option Text → ℕ → Type 0
 IsNumber most None n = ⊥
 IsNumber most (Some text) n = IsNumeral 10 (without_leading_plus text) × (n ≡ digits_value 10 (without_leading_plus text)) × (1 ≤ n) × (n ≤ most)
 
+-- These texts are the two numbers of the limits.
+pub record AreLimits (depth_text item_bytes_text : Option Text) (limits : Bounds) : Type 0 where
+  pub depth : IsNumber MOST_DEPTH depth_text limits.depth
+  pub item_bytes : IsNumber MOST_ITEM_BYTES item_bytes_text limits.item_bytes
+
 -- what the rows of a subcommand's matches give
 pub record AreRead (task : Task) (rows : List Row) (o : Options) : Type 0 where
   pub task_is : o.task ≡ task
   pub spec : option_map (λ s. string_bytes s) o.spec ≡ first_of (codes "spec") rows
   pub file : option_map (λ s. string_bytes s) o.file ≡ first_of (codes "file") rows
-  pub depth : IsNumber 256 (one_of (codes "depth") rows) o.depth
-  pub item_bytes : IsNumber 16777216 (one_of (codes "item-bytes") rows) o.item_bytes
+  pub limits : AreLimits (one_of (codes "depth") rows) (one_of (codes "item-bytes") rows) o.limits
 
 abbrev pub AreUnread : Task → List Row → Use → Type 0
 AreUnread task rows (Words e) = (o : Options) → AreRead task rows o → ⊥
@@ -84,8 +90,7 @@ pub record AreChosen (o : Options) (words : List Text) : Type 0 where
   pub task : named words ≡ Some (task_name o.task)
   pub spec : option_map (λ s. string_bytes s) o.spec ≡ given (codes "spec") words
   pub file : option_map (λ s. string_bytes s) o.file ≡ given (codes "file") words
-  pub depth : IsNumber 256 (number_given (codes "depth") words) o.depth
-  pub item_bytes : IsNumber 16777216 (number_given (codes "item-bytes") words) o.item_bytes
+  pub limits : AreLimits (number_given (codes "depth") words) (number_given (codes "item-bytes") words) o.limits
 
 -- Where the words are refused they give no options.
 abbrev pub IsMisuse : List Text → Use → Type 0

@@ -7,13 +7,12 @@ ghost use Rattle.cddl_one_rule.specs.declared.named.NamedType.{NamedType as Name
 ghost use Rattle.seq_run.specs.Judge.{judge_of};
 ghost use Rattle.seq_run.specs.Running.{IsFault};
 ghost use Rattle.seq_run.specs.declared.running.RunFault.{RunFault as RunFaults};
-ghost use Rattle.cddl_tool.specs.Acting.{bounds_of, specification_of, status_for, IsAnswered};
+ghost use Rattle.cddl_tool.specs.Acting.{specification_of, status_for, IsAnswered};
 
 use crate::choice::{Options, Task};
 use crate::lines::{say, say_of_file};
 use crate::status::{BROKEN, FAILED, REFUSED};
 use cbor_item::Counted;
-use cbor_read::Limits;
 use cddl_one_rule::read_specification;
 use cddl_table::Table;
 use seq_run::{End, RunFault, run};
@@ -23,8 +22,12 @@ use std::io::{ErrorKind, Read, Write};
 /// How many questions a specification may ask of one item.
 pub const STEPS: u64 = 10_000_000;
 
-/// Reads the text of a specification: all that is left in its file. A file that cannot be read is told on `err`, by its
-/// name, and the status is answered.
+/// Reads the text of a specification: all that is left in its file.
+///
+/// # Errors
+///
+/// [`BROKEN`], with a line on `err`, where the file cannot be read, which is told by its name, or an allocation was
+/// refused.
 pub fn read_text<R: Read, E: Write>(
     alloc: Global,
     file: &mut R,
@@ -46,8 +49,12 @@ pub fn read_text<R: Read, E: Write>(
     }
 }
 
-/// Reads the specification: `spec`, or to show a stream `a = any`. A refused one, and want of memory, is told on `err`, and
-/// the status is answered.
+/// Reads the specification: `spec`, or to show a stream `a = any`.
+///
+/// # Errors
+///
+/// The exit status, with a line on `err`: [`REFUSED`] where the text is no specification, [`BROKEN`] where an allocation
+/// was refused.
 pub fn ready<E: Write>(
     alloc: Global,
     options: &Options,
@@ -92,17 +99,17 @@ pub fn act<R: Read, W: Write, E: Write>(
     out: &mut Counted<W>,
     err: &mut Counted<E>,
 ) -> u8
-    requires depth { (1 ≤ options.now.depth) × (options.now.depth ≤ 256) }
-    requires item_bytes { (1 ≤ options.now.item_bytes) × (options.now.item_bytes ≤ 16777216) }
     ensures answered { result ≢ BROKEN → IfSome (R.remaining (device_of input.old)) (λ stream.
-        IsAnswered (judge_of table.now STEPS) (bounds_of options.now) stream (W.contents (device_of out.old)) (W.contents (device_of out.new)) result) }
-    ensures broken { result ≡ BROKEN → (fault : RunFaults) × IsFault (judge_of table.now STEPS) (bounds_of options.now)
+        IsAnswered (judge_of table.now STEPS) options.now.limits stream (W.contents (device_of out.old)) (W.contents (device_of out.new)) result) }
+    ensures broken { result ≡ BROKEN → (fault : RunFaults) × IsFault (judge_of table.now STEPS) options.now.limits
         (R.remaining (device_of input.old)) (R.remaining (device_of input.new)) (W.contents (device_of out.old)) (W.contents (device_of out.new))
         (failures_of input.old) (failures_of input.new) (failures_of out.old) (failures_of out.new) fault }
 {
-    let limits = Limits::try_new(options.depth, options.item_bytes).unwrap();
-    match run(alloc, table, limits, STEPS, input, out) {
-        Ok((end, _)) => status_of(&end),
+    match run(alloc, table, options.limits, STEPS, input, out) {
+        Ok((end, rejected)) => {
+            drop(rejected);
+            status_of(&end)
+        }
         Err(fault) => {
             say_fault(alloc, fault, err);
             BROKEN

@@ -4,6 +4,7 @@ ghost use Rattle.std.specs.Prelude.{◌≡◌};
 ghost use Rattle.cddl_tool.specs.Errors.{IsUseOf};
 ghost use Rattle.cddl_tool.specs.declared.choice.Use.TheVariants.{Memory as OutOfMemory};
 
+use cbor_read::Limits;
 use clap::Error;
 use clap::error::ErrorKind;
 use std::alloc::AllocError;
@@ -26,10 +27,8 @@ pub struct Options {
     pub spec: Option<String>,
     /// The name of the file with the stream. Without it standard input is read.
     pub file: Option<String>,
-    /// The greatest depth of an item, from 1 to 256.
-    pub depth: u32,
-    /// The most bytes of an item, from 1 to 16,777,216.
-    pub item_bytes: u32,
+    /// The greatest depth of an item, and the most bytes of one.
+    pub limits: Limits,
 }
 
 /// Why the words say nothing.

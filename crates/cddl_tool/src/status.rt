@@ -6,5 +6,5 @@ pub const FAILED: u8 = 1;
 /// The status of a specification that was refused.
 pub const REFUSED: u8 = 2;
 
-/// The status of a use, a file or a growth that failed.
+/// The status where the words are wrong, a file or a device failed, or an allocation was refused.
 pub const BROKEN: u8 = 3;

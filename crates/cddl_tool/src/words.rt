@@ -1,18 +1,21 @@
 //! The words of the command line.
 
-ghost use Rattle.std.specs.Prelude.{◌≡◌, ℕ, false, map, IfOk, IfErr, IfSome, IfNone, option_map, string_bytes};
+ghost use Rattle.std.specs.Prelude.{◌≡◌, ℕ, codes, false, map, IfOk, IfErr, IfSome, IfNone, option_map, string_bytes};
+ghost use Rattle.cbor_data.specs.Faults.{Bounds};
 ghost use Rattle.clap.specs.Words.{app_of, first_value, found_of, one_text, rows_of, rule_of};
 ghost use Rattle.clap.specs.declared.builder.command.Command.TheViews.{out-Command};
-ghost use Rattle.cddl_tool.specs.Chosen.{file_rule, number_rule, program_app, show_app, spec_rule, stream_app, top_app, validate_app, AreChosen, AreRead, AreUnread, IsMisuse, IsNumber};
+ghost use Rattle.cddl_tool.specs.Chosen.{file_rule, number_rule, program_app, show_app, spec_rule, stream_app, top_app, validate_app, AreChosen, AreLimits, AreRead, AreUnread, IsMisuse, IsNumber};
 
 use crate::choice::{Options, Task, Use};
+use cbor_read::{Limits, MOST_DEPTH, MOST_ITEM_BYTES};
 use clap::builder::ValueParser;
 use clap::error::ErrorKind;
 use clap::{Arg, ArgMatches, Command, Error};
 use std::alloc::{AllocError, Global};
 
 /// Reads the words of the command line, the program's name first: `validate SPEC [FILE]` or `show [FILE]`, with
-/// `--depth N` (1 to 256, 256 if it is absent) and `--item-bytes N` (1 to 16777216, which it is if it is absent).
+/// `--depth N`, from 1 to [`MOST_DEPTH`], and `--item-bytes N`, from 1 to [`MOST_ITEM_BYTES`]. The greatest number of each
+/// is its default.
 ///
 /// # Errors
 ///
@@ -38,22 +41,28 @@ fn options_of(alloc: Global, task: Task, given: &ArgMatches<'_>) -> Result<Optio
 {
     let spec = value(alloc, given, "spec")?;
     let file = value(alloc, given, "file")?;
-    let Some(depth) = number(given, "depth", 256) else {
-        return Err(out_of_range(alloc));
-    };
-    let Some(item_bytes) = number(given, "item-bytes", 16_777_216) else {
-        return Err(out_of_range(alloc));
+    let Some(limits) = limits_of(given) else {
+        return Err(range_error(alloc));
     };
     Ok(Options {
         task,
         spec,
         file,
-        depth,
-        item_bytes,
+        limits,
     })
 }
 
-fn out_of_range(alloc: Global) -> Use {
+// The limits that the options with a number give, if each number is in its range.
+fn limits_of(given: &ArgMatches<'_>) -> Option<Limits>
+    ensures some { IfSome result (AreLimits (one_text (found_of given.now) (codes "depth")) (one_text (found_of given.now) (codes "item-bytes"))) }
+    ensures none { IfNone result ((limits : Bounds) → AreLimits (one_text (found_of given.now) (codes "depth")) (one_text (found_of given.now) (codes "item-bytes")) limits → ⊥) }
+{
+    let depth = number(given, "depth", MOST_DEPTH)?;
+    let item_bytes = number(given, "item-bytes", MOST_ITEM_BYTES)?;
+    Limits::try_new(depth, item_bytes)
+}
+
+fn range_error(alloc: Global) -> Use {
     misuse(
         alloc,
         ErrorKind::ValueValidation,
@@ -63,7 +72,7 @@ fn out_of_range(alloc: Global) -> Use {
 
 // The error of words that give no options.
 fn misuse(alloc: Global, kind: ErrorKind, message: &str) -> Use {
-    match refused(alloc, kind, message) {
+    match words_error(alloc, kind, message) {
         Ok(error) => Use::Words(error),
         Err(_) => Use::Memory,
     }
@@ -119,14 +128,14 @@ fn with_stream<'a>(alloc: Global, command: Command<'a>) -> Result<Command<'a>, A
             alloc,
             "depth",
             "The greatest depth of an item, 1 to 256",
-            256,
+            MOST_DEPTH,
             "256",
         ))?
         .arg(number_arg(
             alloc,
             "item-bytes",
             "The most bytes of an item, 1 to 16777216",
-            16_777_216,
+            MOST_ITEM_BYTES,
             "16777216",
         ))
 }
@@ -187,6 +196,6 @@ fn number(given: &ArgMatches<'_>, name: &str, most: u32) -> Option<u32>
     if n >= 1 && n <= most { Some(n) } else { None }
 }
 
-fn refused(alloc: Global, kind: ErrorKind, message: &str) -> Result<Error, AllocError> {
+fn words_error(alloc: Global, kind: ErrorKind, message: &str) -> Result<Error, AllocError> {
     command(alloc)?.error(kind, message)
 }

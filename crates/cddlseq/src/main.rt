@@ -2,8 +2,6 @@
 //! status; what it does with them is in `cddl_tool`.
 #![tactic(auto)]
 
-ghost use Rattle.std.specs.Prelude.{◌≤◌, IfOk};
-
 use cbor_item::Counted;
 use cddl_table::Table;
 use cddl_tool::{BROKEN, Options, Use, act, options, read_text, ready, say, say_of_file};
@@ -31,7 +29,7 @@ fn arguments(rt: &HostRuntime) -> io::Result<Vec<String>> {
 
 // Does what the words say, and answers the exit status.
 fn program<E: Write>(rt: &HostRuntime, words: &[String], err: &mut Counted<E>) -> u8 {
-    match chosen(rt.alloc(), words) {
+    match options_of(rt.alloc(), words) {
         Ok(options) => perform(rt, &options, err),
         Err(Use::Words(error)) => {
             let _ = error.print(rt);
@@ -41,10 +39,7 @@ fn program<E: Write>(rt: &HostRuntime, words: &[String], err: &mut Counted<E>) -
     }
 }
 
-fn chosen(alloc: Global, words: &[String]) -> Result<Options, Use>
-    ensures depth { IfOk result (λ o. (1 ≤ o.depth) × (o.depth ≤ 256)) }
-    ensures item_bytes { IfOk result (λ o. (1 ≤ o.item_bytes) × (o.item_bytes ≤ 16777216)) }
-{
+fn options_of(alloc: Global, words: &[String]) -> Result<Options, Use> {
     let mut texts = Vec::new(alloc);
     for word in words {
         texts.push(word.as_str()).map_err(AllocError::from)?;
@@ -53,10 +48,7 @@ fn chosen(alloc: Global, words: &[String]) -> Result<Options, Use>
 }
 
 // Reads the specification, if there is one to read, and then the stream.
-fn perform<E: Write>(rt: &HostRuntime, options: &Options, err: &mut Counted<E>) -> u8
-    requires depth { (1 ≤ options.now.depth) × (options.now.depth ≤ 256) }
-    requires item_bytes { (1 ≤ options.now.item_bytes) × (options.now.item_bytes ≤ 16777216) }
-{
+fn perform<E: Write>(rt: &HostRuntime, options: &Options, err: &mut Counted<E>) -> u8 {
     let text = match text_of(rt, options, err) {
         Ok(text) => text,
         Err(status) => return status,
@@ -88,10 +80,7 @@ fn validate<E: Write>(
     options: &Options,
     table: &Table,
     err: &mut Counted<E>,
-) -> u8
-    requires depth { (1 ≤ options.now.depth) × (options.now.depth ≤ 256) }
-    requires item_bytes { (1 ≤ options.now.item_bytes) × (options.now.item_bytes ≤ 16777216) }
-{
+) -> u8 {
     let Some(name) = &options.file else {
         return validate_from(rt, options, table, rt.stdin(), err);
     };
@@ -107,10 +96,7 @@ fn validate_from<R: Read + Drop, E: Write>(
     table: &Table,
     device: R,
     err: &mut Counted<E>,
-) -> u8
-    requires depth { (1 ≤ options.now.depth) × (options.now.depth ≤ 256) }
-    requires item_bytes { (1 ≤ options.now.item_bytes) × (options.now.item_bytes ≤ 16777216) }
-{
+) -> u8 {
     let mut input = Counted::new(device);
     let mut output = Counted::new(rt.stdout());
     act(rt.alloc(), options, table, &mut input, &mut output, err)
