@@ -52,7 +52,7 @@ fn has_names(options: &Options, row: &Row) -> bool {
 }
 
 fn has_numbers(options: &Options, row: &Row) -> bool {
-    options.depth == row.depth && options.item_bytes == row.item_bytes
+    options.limits.depth() == row.depth && options.limits.item_bytes() == row.item_bytes
 }
 
 #[test]
