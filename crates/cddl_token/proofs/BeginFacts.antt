@@ -1,19 +1,17 @@
 -- With which bytes what can be read begins.
-use Rattle.std.proofs.Common.{◌≡◌, ℕ, ◌+◌, ◌-◌, ◌<◌, ◌≤◌, ◌⊎◌, Bool, true, false, inl, inr, ◌||◌, ◌==◌, List, slice_index, sym, refl, ap, ◌∙◌, ⊎_elim, arith}
-use Rattle.std.proofs.lemmas.Bool.{false≢true, or_from, or_left, or_right, or_cases, eq-eqb, ne_eqb}
+use Rattle.std.proofs.Common.{◌≡◌, ℕ, ◌⊎◌, Bool, true, false, inl, inr, ◌||◌, ◌==◌, List, slice_index, sym, refl, ap, ◌∙◌, ⊎_elim, arith}
+use Rattle.std.proofs.lemmas.Bool.{false≢true, or_from, or_left, or_right, eq-eqb, ne_eqb}
 use Rattle.std.proofs.lemmas.Bool.Decides.{nat_tests}
 use Rattle.cddl_literal.specs.Bytes.{IsRun, is_decimal_digit, is_h, is_b}
 use Rattle.cddl_literal.specs.Numbers.{IsUint, decimal, hexadecimal, binary, IsSigned}
-use Rattle.cddl_literal.specs.Strings.{IsQuoted}
-use Rattle.cddl_literal.specs.Prefixed.{Opens, IsPrefixed}
+use Rattle.cddl_literal.specs.Prefixed.{Opens}
 use Rattle.cddl_literal.specs.Literals.{IsBytes}
 use Rattle.cddl_literal.specs.declared.Coding.{Coding}
 use Rattle.cddl_literal.specs.declared.Coding.TheVariants.{Hex, Base64}
 use Rattle.cddl_token.specs.Bytes.{is_ealpha}
-use Rattle.cddl_token.specs.Numbers.{IsMisspelled, zero_first, bare_hexadecimal, bare_binary, IsFloat, fraction, exponent, hex_exponent, hex_fraction, MaybeNegative, IsBound, IsStar, HoldsLarge}
+use Rattle.cddl_token.specs.Numbers.{IsMisspelled, zero_first, bare_hexadecimal, bare_binary, IsFloat, fraction, exponent, hex_exponent, hex_fraction, IsStar, HoldsLarge}
 use Rattle.cddl_token.specs.Signs.{is_single}
-use Rattle.cddl_token.specs.Spelling.{Flaw, Misspelled, Fractional, TooLarge, Reading, Good, Bad, Spells}
-use Rattle.cddl_token.specs.declared.Kind.{Kind}
+use Rattle.cddl_token.specs.Spelling.{Misspelled, Fractional, TooLarge, Reading, Good, Bad, Spells}
 use Rattle.cddl_token.specs.declared.Kind.TheVariants.{Name, NameOpen, Control, Number, Occur, Text, Bytes, Hash, TagOpen, TagHeadOpen, SimpleHeadOpen, Assign, TypeAssign, GroupAssign, Slash, DoubleSlash, Range, RangeBelow, Arrow, Cut, Colon, Comma, ParenOpen, ParenClose, BracketOpen, BracketClose, BraceOpen, BraceClose, AngleClose, Tilde, Ampersand, End}
 
 -- a digit or `-`

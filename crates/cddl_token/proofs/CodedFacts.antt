@@ -1,5 +1,5 @@
 -- What is inside byte strings with prefix.
-use Rattle.std.proofs.Common.{◌≡◌, ℕ, ◌+◌, ◌<◌, ◌≤◌, List, arith}
+use Rattle.std.proofs.Common.{ℕ, ◌≤◌, List, arith}
 use Rattle.cddl_literal.specs.Prefixed.{Coded, none, blank, line, comment, other}
 
 pub coded_le : {s : List ℕ} {i j : ℕ} {d : List ℕ} → Coded s i j d → i ≤ j

@@ -1,23 +1,22 @@
 -- A source that is refused is refused for one fault, and has no tokens.
-use Rattle.std.proofs.Common.{◌≡◌, ℕ, ◌+◌, ◌-◌, ◌<◌, ◌≤◌, ◌⊎◌, inl, inr, List, length, slice_index, true, false, sym, refl, ap, subst, ◌∙◌, ⊎_elim, arith}
+use Rattle.std.proofs.Common.{◌≡◌, ℕ, ◌+◌, ◌<◌, ◌≤◌, inl, inr, List, length, slice_index, true, false, sym, refl, ap, subst, ◌∙◌, ⊎_elim, arith}
 use Rattle.std.proofs.lemmas.Bool.{false≢true, cases_lt}
 use Rattle.std.proofs.lemmas.Bool.Decides.{nat_tests}
 use Rattle.std.proofs.lemmas.List.{get_or_past}
 use Rattle.cddl_literal.specs.Bytes.{Each, is_in_comment, is_blank}
-use Rattle.cddl_literal.specs.Strings.{closing, IsFurthest, HoldsCharacters, IsQuoted}
+use Rattle.cddl_literal.specs.Strings.{closing, IsFurthest, HoldsCharacters}
 use Rattle.cddl_literal.specs.Prefixed.{Opens, HoldsCoded, IsPrefixed}
-use Rattle.cddl_literal.specs.Literals.{IsBytes, IsBadBytes}
+use Rattle.cddl_literal.specs.Literals.{IsBytes}
 use Rattle.cddl_literal.specs.declared.Quote.{Quote}
 use Rattle.cddl_literal.specs.declared.Quote.TheVariants.{Double, Single}
 use Rattle.cddl_literal.specs.declared.Coding.{Coding}
 use Rattle.cddl_literal.specs.declared.Coding.TheVariants.{Hex, Base64}
 use Rattle.cddl_token.specs.Bytes.{is_ealpha, is_id_byte}
 use Rattle.cddl_token.specs.declared.Code.{Code}
-use Rattle.cddl_token.specs.declared.Code.TheVariants.{BadCharacter, Unclosed, BadEscape, BadBytes, BadNumber, FloatLiteral, NumberTooLarge}
-use Rattle.cddl_token.specs.Strings.{StopsAt, unclosed, bad_escape, bad_character, StringFault, quoted, prefixed, bad_bytes, OpensString, OpensPrefixed}
+use Rattle.cddl_token.specs.Strings.{StopsAt, unclosed, bad_escape, bad_character, StringFault, quoted, prefixed, bad_bytes, OpensString}
 use Rattle.cddl_token.specs.Spelling.{IsId, Flaw, flaw_code, Reading, Good, Bad, Spells, IsLongest}
 use Rattle.cddl_token.specs.declared.Kind.{Kind}
-use Rattle.cddl_token.specs.declared.Kind.TheVariants.{Name, NameOpen, Control, Number, Occur, Text, Bytes, Hash, TagOpen, TagHeadOpen, SimpleHeadOpen, Assign, TypeAssign, GroupAssign, Slash, DoubleSlash, Range, RangeBelow, Arrow, Cut, Colon, Comma, ParenOpen, ParenClose, BracketOpen, BracketClose, BraceOpen, BraceClose, AngleClose, Tilde, Ampersand, End}
+use Rattle.cddl_token.specs.declared.Kind.TheVariants.{Name, NameOpen, Text, Bytes}
 use Rattle.cddl_token.specs.Tokens.{IsLineEnd, StartsNoGap, IsToken, FaultAt, flawed, in_string, in_comment, unknown, Tokenized, ends, more, Refused, here, later, Spanned}
 use Rattle.cddl_token.proofs.Laws.{Laws}
 use Rattle.cddl_token.proofs.BeginFacts.{elsewhere}

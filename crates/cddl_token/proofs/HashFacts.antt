@@ -1,14 +1,12 @@
 -- What can be read where `#` is.
-use Rattle.std.proofs.Common.{◌≡◌, ℕ, ◌+◌, ◌-◌, ◌^◌, ◌<◌, ◌≤◌, ◌⊎◌, inl, inr, Bool, true, false, List, length, slice_index, ap, sym, refl, subst, ◌∙◌, ⊎_elim, arith}
+use Rattle.std.proofs.Common.{◌≡◌, ℕ, ◌+◌, ◌^◌, ◌<◌, ◌≤◌, ◌⊎◌, inl, inr, Bool, true, false, List, slice_index, ap, sym, refl, ◌∙◌, ⊎_elim, arith}
 use Rattle.std.proofs.lemmas.Bool.{cases_lt, false≢true}
 use Rattle.cddl_literal.specs.Bytes.{is_decimal_digit}
 use Rattle.cddl_literal.specs.Numbers.{IsUint, IsSigned}
-use Rattle.cddl_token.specs.Numbers.{IsBound, IsStar, HoldsLarge, IsHashNumber, IsTagNumberOpen}
+use Rattle.cddl_token.specs.Numbers.{IsStar, HoldsLarge, IsHashNumber, IsTagNumberOpen}
 use Rattle.cddl_token.specs.Shapes.{IsLongestBound, IsHashDot}
-use Rattle.cddl_token.specs.Spelling.{Flaw, Misspelled, Fractional, TooLarge, Reading, Good, Bad, Spells, IsLongest}
-use Rattle.cddl_token.specs.Tokens.{IsToken, IsRead, FaultAt, flawed}
-use Rattle.cddl_token.specs.declared.Code.TheVariants.{NumberTooLarge}
-use Rattle.cddl_token.specs.declared.Kind.{Kind}
+use Rattle.cddl_token.specs.Spelling.{Misspelled, Fractional, TooLarge, Reading, Good, Bad, Spells, IsLongest}
+use Rattle.cddl_token.specs.Tokens.{IsToken}
 use Rattle.cddl_token.specs.declared.Kind.TheVariants.{Hash, TagOpen, TagHeadOpen, SimpleHeadOpen}
 use Rattle.cddl_token.proofs.BeginFacts.{is_signed, elsewhere, uint_digit, misspelled_begins, float_begins}
 use Rattle.cddl_token.proofs.ShapeOne.{not_in_uint, uint_past}

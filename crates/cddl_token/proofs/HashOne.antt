@@ -1,13 +1,12 @@
 -- Bytes that begin with `#`, or spell a uint that is too large, spell one thing.
-use Rattle.std.proofs.Common.{◌≡◌, ℕ, ◌+◌, ◌-◌, ◌^◌, ◌<◌, ◌≤◌, ◌⊎◌, inl, inr, Bool, true, false, List, length, slice_index, ap, sym, refl, subst, ◌∙◌, ⊎_elim, arith}
+use Rattle.std.proofs.Common.{◌≡◌, ℕ, ◌+◌, ◌<◌, List, slice_index, ap, sym, refl, subst, ◌∙◌, ⊎_elim, arith}
 use Rattle.std.proofs.lemmas.Bool.{false≢true}
 use Rattle.cddl_literal.specs.Bytes.{is_decimal_digit}
 use Rattle.cddl_literal.specs.Numbers.{IsUint, IsNumber, IsTooLarge, Meaning}
 use Rattle.cddl_token.specs.Numbers.{HoldsLarge, IsLargeHash, IsHashNumber, IsTagNumberOpen}
-use Rattle.cddl_token.specs.Spelling.{Stands, Flaw, Misspelled, Fractional, TooLarge, Reading, Good, Bad, Spells}
+use Rattle.cddl_token.specs.Spelling.{Stands, Misspelled, Fractional, TooLarge, Reading, Good, Bad, Spells}
 use Rattle.cddl_token.specs.declared.numbers.Shape.TheVariants as form
-use Rattle.cddl_token.specs.declared.Kind.{Kind}
-use Rattle.cddl_token.specs.declared.Kind.TheVariants.{Name, NameOpen, Control, Number, Occur, Text, Bytes, Hash, TagOpen, TagHeadOpen, SimpleHeadOpen, Assign, TypeAssign, GroupAssign, Slash, DoubleSlash, Range, RangeBelow, Arrow, Cut, Colon, Comma, ParenOpen, ParenClose, BracketOpen, BracketClose, BraceOpen, BraceClose, AngleClose, Tilde, Ampersand, End}
+use Rattle.cddl_token.specs.declared.Kind.TheVariants.{Number, Occur, Hash, TagOpen, TagHeadOpen, SimpleHeadOpen}
 use Rattle.cddl_token.proofs.BeginFacts.{elsewhere, uint_digit, misspelled_begins, float_begins}
 use Rattle.cddl_token.proofs.ShapeOne.{not_in_uint, uint_same, uint_past}
 use Rattle.cddl_token.proofs.HashFacts.{no_signed, large_hash}

@@ -1,8 +1,8 @@
 -- The two ways to say what an id is.
-use Rattle.std.proofs.Common.{◌≡◌, ℕ, zero, suc, ◌+◌, ◌-◌, ◌<◌, ◌≤◌, Bool, true, false, ◌||◌, List, slice_index, sym, refl, ap, subst, ◌∙◌, ⊎_elim, arith}
+use Rattle.std.proofs.Common.{◌≡◌, ℕ, zero, suc, ◌+◌, ◌-◌, ◌<◌, ◌≤◌, true, false, List, slice_index, sym, ap, ◌∙◌, ⊎_elim, arith}
 use Rattle.std.proofs.lemmas.Bool.{false≢true, cases_lt, cases_Bool, or_left, or_right, or_cases}
 use Rattle.std.proofs.lemmas.Bool.Decides.{nat_tests}
-use Rattle.cddl_literal.specs.Bytes.{Each, is_decimal_digit}
+use Rattle.cddl_literal.specs.Bytes.{Each}
 use Rattle.cddl_token.specs.Bytes.{is_ealpha, is_mark, is_id_byte, is_id_end}
 use Rattle.cddl_token.specs.Spelling.{IsId, IdRest, no_more, once_more, IsGrammarId}
 use Rattle.cddl_token.proofs.EachFacts.{each_more}

@@ -1,20 +1,18 @@
 -- Nothing that can be read where an id begins is longer.
-use Rattle.std.proofs.Common.{◌≡◌, ℕ, ◌+◌, ◌-◌, ◌<◌, ◌≤◌, ◌⊎◌, Bool, true, false, inl, inr, ◌||◌, ◌==◌, List, length, slice_index, sym, refl, ap, ◌∙◌, ⊎_elim, arith}
+use Rattle.std.proofs.Common.{◌≡◌, ℕ, ◌+◌, ◌-◌, ◌<◌, ◌≤◌, Bool, true, false, ◌||◌, ◌==◌, List, slice_index, sym, refl, ap, ◌∙◌, ⊎_elim, arith}
 use Rattle.std.proofs.lemmas.Bool.{false≢true, cases_lt, or_from, or_left, or_right, ne_eqb}
 use Rattle.std.proofs.lemmas.Bool.Decides.{nat_tests}
 use Rattle.cddl_literal.specs.Bytes.{Each, is_decimal_digit, is_h, is_b}
-use Rattle.cddl_literal.specs.Strings.{IsQuoted}
 use Rattle.cddl_literal.specs.Prefixed.{Opens}
 use Rattle.cddl_literal.specs.declared.Coding.{Coding}
 use Rattle.cddl_literal.specs.declared.Coding.TheVariants.{Hex, Base64}
 use Rattle.cddl_literal.specs.Literals.{IsBytes}
 use Rattle.cddl_token.specs.Bytes.{is_ealpha, is_id_byte, is_mark}
 use Rattle.cddl_token.specs.Strings.{OpensPrefixed, OpensString}
-use Rattle.cddl_token.specs.Spelling.{IsId, Flaw, Misspelled, Fractional, TooLarge, Reading, Good, Bad, Spells, IsLongest}
+use Rattle.cddl_token.specs.Spelling.{IsId, Reading, Good, Bad, Spells}
 use Rattle.cddl_token.specs.Tokens.{IsToken}
-use Rattle.cddl_token.proofs.BeginFacts.{begins, is_signed, elsewhere, begins_so}
-use Rattle.cddl_token.specs.declared.Kind.{Kind}
-use Rattle.cddl_token.specs.declared.Kind.TheVariants.{Name, NameOpen, Control, Number, Occur, Text, Bytes, Hash, TagOpen, TagHeadOpen, SimpleHeadOpen, Assign, TypeAssign, GroupAssign, Slash, DoubleSlash, Range, RangeBelow, Arrow, Cut, Colon, Comma, ParenOpen, ParenClose, BracketOpen, BracketClose, BraceOpen, BraceClose, AngleClose, Tilde, Ampersand, End}
+use Rattle.cddl_token.proofs.BeginFacts.{begins, is_signed, elsewhere}
+use Rattle.cddl_token.specs.declared.Kind.TheVariants.{Name, NameOpen, Control, Number, Occur, Bytes, Range, RangeBelow, End}
 
 letter_signed : (b : ℕ) → is_ealpha b ≡ true → is_signed b ≡ false
 letter_signed b h = grind (arith, nat_tests)

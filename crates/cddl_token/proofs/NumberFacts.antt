@@ -1,20 +1,19 @@
 -- Nothing longer can be read where a number or an occurrence is.
-use Rattle.std.proofs.Common.{◌≡◌, ℕ, ◌+◌, ◌-◌, ◌^◌, ◌<◌, ◌≤◌, ◌⊎◌, inl, inr, Bool, true, false, ◌||◌, ◌==◌, List, length, slice_index, Option, Some, None, ap, sym, refl, subst, ◌∙◌, ⊎_elim, arith}
+use Rattle.std.proofs.Common.{◌≡◌, ℕ, ◌+◌, ◌^◌, ◌<◌, ◌≤◌, ◌⊎◌, inl, inr, Bool, true, false, ◌==◌, List, slice_index, Option, Some, None, ap, sym, refl, subst, ◌∙◌, ⊎_elim, arith}
 use Rattle.std.proofs.lemmas.Bool.{cases_lt, false≢true, or_from, ne_eqb}
 use Rattle.std.proofs.lemmas.Bool.Decides.{nat_tests}
 use Rattle.cddl_literal.specs.Bytes.{is_decimal_digit, is_h, is_b}
 use Rattle.std.specs.Option.{option_map, is_some}
-use Rattle.cddl_literal.specs.Numbers.{IsUint, IsSigned, IsNumber, IsTooLarge, Meaning}
+use Rattle.cddl_literal.specs.Numbers.{IsUint, IsSigned, Meaning}
 use Rattle.cddl_literal.specs.Literals.{view}
 use Rattle.cddl_literal.specs.declared.Literal.{Literal}
 use Rattle.cddl_token.specs.Bytes.{is_ealpha}
-use Rattle.cddl_token.specs.Numbers.{MaybeNegative, IsBound, IsStar, HoldsLarge, IsMisspelled, IsFloat}
+use Rattle.cddl_token.specs.Numbers.{IsBound, IsStar, HoldsLarge}
 use Rattle.cddl_token.specs.Shapes.{IsShape, IsLongestShape, IsLongestBound, BeginsOccur}
-use Rattle.cddl_token.specs.Spelling.{Flaw, Misspelled, Fractional, TooLarge, Reading, Good, Bad, Spells, IsLongest}
+use Rattle.cddl_token.specs.Spelling.{Misspelled, Fractional, TooLarge, Reading, Good, Bad, Spells, IsLongest}
 use Rattle.cddl_token.specs.declared.numbers.Shape.{Shape}
 use Rattle.cddl_token.specs.declared.numbers.Shape.TheVariants.{Uint, Float}
 use Rattle.cddl_token.specs.declared.numbers.Shape.TheVariants as form
-use Rattle.cddl_token.specs.declared.Kind.{Kind}
 use Rattle.cddl_token.specs.declared.Kind.TheVariants.{Name, NameOpen, Bytes, Number, Occur, End}
 use Rattle.cddl_token.specs.Tokens.{IsToken}
 use Rattle.cddl_token.proofs.BeginFacts.{begins, is_signed, elsewhere, uint_digit, misspelled_digit, float_digit, misspelled_begins, float_begins}

@@ -1,18 +1,16 @@
 -- Bytes that spell a number or an occurrence spell nothing else.
-use Rattle.std.proofs.Common.{◌≡◌, ℕ, ◌+◌, ◌-◌, ◌^◌, ◌<◌, ◌≤◌, ◌⊎◌, inl, inr, Bool, true, false, ◌||◌, ◌==◌, List, length, slice_index, ap, sym, refl, subst, ◌∙◌, ⊎_elim, arith}
-use Rattle.std.proofs.lemmas.Bool.{cases_lt, false≢true}
+use Rattle.std.proofs.Common.{◌≡◌, ℕ, ◌+◌, ◌^◌, ◌<◌, ◌≤◌, ◌⊎◌, inl, inr, true, false, List, slice_index, ap, sym, refl, subst, ◌∙◌, ⊎_elim, arith}
+use Rattle.std.proofs.lemmas.Bool.{cases_lt}
 use Rattle.cddl_literal.specs.Bytes.{is_decimal_digit}
-use Rattle.cddl_literal.specs.Numbers.{IsUint, IsSigned, IsNumber, IsTooLarge, Meaning}
-use Rattle.cddl_token.specs.Numbers.{IsBound, IsStar, HoldsLarge, IsLargeStar, IsLargeHash, IsHashNumber, IsTagNumberOpen}
-use Rattle.cddl_token.specs.Shapes.{IsShape}
-use Rattle.cddl_token.specs.Spelling.{Stands, Flaw, Misspelled, Fractional, TooLarge, Reading, Good, Bad, Spells}
+use Rattle.cddl_literal.specs.Numbers.{IsNumber, IsTooLarge, Meaning}
+use Rattle.cddl_token.specs.Numbers.{IsBound, IsStar, IsLargeStar, IsLargeHash}
+use Rattle.cddl_token.specs.Spelling.{Stands, Misspelled, Fractional, TooLarge, Reading, Good, Bad, Spells}
 use Rattle.cddl_token.specs.declared.numbers.Shape.{Shape}
 use Rattle.cddl_token.specs.declared.numbers.Shape.TheVariants as form
-use Rattle.cddl_token.specs.declared.Kind.{Kind}
-use Rattle.cddl_token.specs.declared.Kind.TheVariants.{Name, NameOpen, Control, Number, Occur, Text, Bytes, Hash, TagOpen, TagHeadOpen, SimpleHeadOpen, Assign, TypeAssign, GroupAssign, Slash, DoubleSlash, Range, RangeBelow, Arrow, Cut, Colon, Comma, ParenOpen, ParenClose, BracketOpen, BracketClose, BraceOpen, BraceClose, AngleClose, Tilde, Ampersand, End}
-use Rattle.cddl_token.proofs.BeginFacts.{begins, is_signed, elsewhere, uint_digit}
+use Rattle.cddl_token.specs.declared.Kind.TheVariants.{Number, Occur}
+use Rattle.cddl_token.proofs.BeginFacts.{begins, elsewhere, uint_digit}
 use Rattle.cddl_token.proofs.NumberFacts.{IsNoNumber, digit_begins, digit_not}
-use Rattle.cddl_token.proofs.ShapeOne.{SignedShape, signed_one, signed_no_star, signed_past, signed_no_dash, signed_first, of_signed, no_star, uint_same, uint_past}
+use Rattle.cddl_token.proofs.ShapeOne.{SignedShape, signed_one, signed_no_star, signed_no_dash, signed_first, of_signed, no_star, uint_same, uint_past}
 
 -- `-` or `*` begins only numbers and occurrences
 dash_begins : (q : Reading) → IsNoNumber q → begins q 45 ≡ false

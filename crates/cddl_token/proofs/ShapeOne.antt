@@ -1,9 +1,9 @@
 -- Bytes that spell a number spell it in one way.
-use Rattle.std.proofs.Common.{◌≡◌, ℕ, ◌+◌, ◌<◌, ◌≤◌, ◌⊎◌, inl, inr, Bool, true, false, List, slice_index, slice_range, ap, sym, refl, subst, ◌∙◌, ⊎_elim, arith}
+use Rattle.std.proofs.Common.{◌≡◌, ℕ, ◌+◌, ◌<◌, ◌≤◌, ◌⊎◌, inl, inr, Bool, true, false, List, slice_index, ap, sym, refl, ◌∙◌, ⊎_elim, arith}
 use Rattle.std.proofs.lemmas.Bool.{cases_lt, false≢true}
 use Rattle.hex.specs.Hex.{is_hex_digit}
-use Rattle.cddl_literal.specs.Bytes.{Each, IsRun, is_decimal_digit, is_binary_digit, is_x, is_b}
-use Rattle.cddl_literal.specs.Numbers.{IsUint, decimal, hexadecimal, binary, number_in, IsSigned}
+use Rattle.cddl_literal.specs.Bytes.{IsRun, is_decimal_digit, is_binary_digit, is_x, is_b}
+use Rattle.cddl_literal.specs.Numbers.{IsUint, decimal, hexadecimal, binary, IsSigned}
 use Rattle.cddl_token.proofs.BeginFacts.{uint_digit, misspelled_digit, float_digit}
 use Rattle.cddl_token.specs.Bytes.{is_e, is_p, is_sign}
 use Rattle.cddl_token.specs.Numbers.{IsPrefix, IsMisspelled, zero_first, bare_hexadecimal, bare_binary, IsExponent, unsigned, signed, IsFloat, fraction, exponent, hex_exponent, hex_fraction}

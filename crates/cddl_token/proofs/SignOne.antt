@@ -1,9 +1,8 @@
 -- Bytes that spell a sign spell nothing else.
-use Rattle.std.proofs.Common.{◌≡◌, ℕ, ◌+◌, ◌-◌, ◌<◌, ◌≤◌, ◌⊎◌, true, false, List, slice_index, sym, refl, ap, ◌∙◌, ⊎_elim, arith}
-use Rattle.cddl_token.specs.Spelling.{Reading, Good, Bad, Spells}
+use Rattle.std.proofs.Common.{◌≡◌, ℕ, ◌+◌, List, slice_index, refl, arith}
+use Rattle.cddl_token.specs.Spelling.{Reading, Good, Spells}
 use Rattle.cddl_token.proofs.BeginFacts.{elsewhere}
-use Rattle.cddl_token.specs.declared.Kind.{Kind}
-use Rattle.cddl_token.specs.declared.Kind.TheVariants.{Name, NameOpen, Control, Number, Occur, Text, Bytes, Hash, TagOpen, TagHeadOpen, SimpleHeadOpen, Assign, TypeAssign, GroupAssign, Slash, DoubleSlash, Range, RangeBelow, Arrow, Cut, Colon, Comma, ParenOpen, ParenClose, BracketOpen, BracketClose, BraceOpen, BraceClose, AngleClose, Tilde, Ampersand, End}
+use Rattle.cddl_token.specs.declared.Kind.TheVariants.{Assign, TypeAssign, GroupAssign, Slash, DoubleSlash, Arrow, Cut, Colon, Comma, ParenOpen, ParenClose, BracketOpen, BracketClose, BraceOpen, BraceClose, AngleClose, Tilde, Ampersand}
 
 -- It begins with b, which nothing else begins with but what is named.
 module _ (s : List ℕ) (a m : ℕ) where

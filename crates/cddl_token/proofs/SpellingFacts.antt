@@ -1,20 +1,20 @@
 -- What is read has bytes, and begins and ends with ASCII.
-use Rattle.std.proofs.Common.{◌≡◌, ℕ, ◌+◌, ◌-◌, ◌<◌, ◌≤◌, ◌⊎◌, Bool, true, false, ◌||◌, ◌==◌, List, slice_index, sym, refl, ap, subst, ◌∙◌, ⊎_elim, arith}
+use Rattle.std.proofs.Common.{◌≡◌, ℕ, ◌+◌, ◌-◌, ◌<◌, ◌≤◌, Bool, true, false, List, slice_index, sym, subst, ⊎_elim, arith}
 use Rattle.std.proofs.lemmas.Bool.Decides.{nat_tests}
 use Rattle.hex.specs.Hex.{is_hex_digit}
-use Rattle.cddl_literal.specs.Bytes.{IsRun, is_decimal_digit, is_binary_digit, is_h, is_b}
+use Rattle.cddl_literal.specs.Bytes.{IsRun, is_decimal_digit, is_binary_digit}
 use Rattle.cddl_literal.specs.Numbers.{IsUint, decimal, hexadecimal, binary, IsSigned}
-use Rattle.cddl_literal.specs.Strings.{IsQuoted, closing, Characters, none, plain, escape, line}
+use Rattle.cddl_literal.specs.Strings.{IsQuoted, Characters, none, plain, escape, line}
 use Rattle.cddl_literal.specs.Escapes.{Escape, letter, unit, pair, braces}
-use Rattle.cddl_literal.specs.Prefixed.{Opens, IsPrefixed}
-use Rattle.cddl_literal.specs.Literals.{IsBytes, IsText}
+use Rattle.cddl_literal.specs.Prefixed.{Opens}
+use Rattle.cddl_literal.specs.Literals.{IsBytes}
 use Rattle.cddl_literal.specs.declared.Coding.{Coding}
 use Rattle.cddl_literal.specs.declared.Coding.TheVariants.{Hex, Base64}
 use Rattle.cddl_literal.specs.declared.Quote.{Quote}
 use Rattle.cddl_literal.specs.declared.Quote.TheVariants.{Double, Single}
 use Rattle.cddl_token.specs.Bytes.{is_ealpha, is_id_byte}
 use Rattle.cddl_token.specs.Numbers.{IsBound, IsStar}
-use Rattle.cddl_token.specs.Spelling.{IsId, Reading, Good, Bad, Spells}
+use Rattle.cddl_token.specs.Spelling.{IsId, Good, Spells}
 use Rattle.cddl_token.specs.declared.Kind.{Kind}
 use Rattle.cddl_token.specs.declared.Kind.TheVariants.{Name, NameOpen, Control, Number, Occur, Text, Bytes, Hash, TagOpen, TagHeadOpen, SimpleHeadOpen, Assign, TypeAssign, GroupAssign, Slash, DoubleSlash, Range, RangeBelow, Arrow, Cut, Colon, Comma, ParenOpen, ParenClose, BracketOpen, BracketClose, BraceOpen, BraceClose, AngleClose, Tilde, Ampersand, End}
 use Rattle.cddl_token.proofs.BeginFacts.{begins, begins_so}

@@ -1,11 +1,10 @@
 -- Nothing that can be read where a string opens is longer.
-use Rattle.std.proofs.Common.{◌≡◌, ℕ, ◌+◌, ◌-◌, ◌<◌, ◌≤◌, ◌⊎◌, inl, inr, true, false, List, [], Some, length, slice_index, sym, refl, ap, subst, ◌∙◌, ⊎_elim, arith}
+use Rattle.std.proofs.Common.{◌≡◌, ℕ, ◌+◌, ◌-◌, ◌<◌, ◌≤◌, inl, inr, true, false, List, [], Some, length, slice_index, sym, refl, ap, subst, ◌∙◌, ⊎_elim, arith}
 use Rattle.std.proofs.lemmas.Bool.{false≢true, cases_lt}
 use Rattle.std.proofs.lemmas.List.{get_or_past}
 use Rattle.cddl_literal.specs.Bytes.{is_h, is_b}
 use Rattle.cddl_literal.specs.Strings.{closing, HoldsCharacters, IsFurthest, IsQuoted}
 use Rattle.cddl_literal.specs.Prefixed.{Opens, IsPrefixed, HoldsCoded, Coded, none, decoded}
-use Rattle.cddl_literal.specs.Literals.{IsBytes, IsDecoded}
 use Rattle.cddl_literal.specs.declared.Quote.{Quote}
 use Rattle.cddl_literal.specs.declared.Quote.TheVariants.{Double, Single}
 use Rattle.cddl_literal.specs.declared.Coding.{Coding}
@@ -15,8 +14,7 @@ use Rattle.cddl_token.specs.Bytes.{is_ealpha, is_id_byte}
 use Rattle.cddl_token.proofs.EachFacts.{each_within}
 use Rattle.cddl_token.proofs.NameFacts.{letter_begins}
 use Rattle.std.proofs.lemmas.Bool.Decides.{nat_tests}
-use Rattle.cddl_token.specs.Spelling.{IsId, Reading, Good, Bad, Spells, IsLongest}
-use Rattle.cddl_token.specs.declared.Kind.{Kind}
+use Rattle.cddl_token.specs.Spelling.{IsId, Reading, Good, Spells}
 use Rattle.cddl_token.specs.declared.Kind.TheVariants.{Name, NameOpen, Text, Bytes}
 use Rattle.cddl_token.specs.Tokens.{IsToken}
 use Rattle.cddl_token.proofs.BeginFacts.{elsewhere}

@@ -1,5 +1,5 @@
 -- There is one way to read a source.
-use Rattle.std.proofs.Common.{◌≡◌, ℕ, ◌+◌, ◌-◌, ◌<◌, ◌≤◌, ◌⊎◌, inl, inr, Bool, true, false, ◌||◌, ◌==◌, List, [], ◌∷◌, length, slice_index, sym, refl, ap, subst, ◌∙◌, ⊎_elim, arith}
+use Rattle.std.proofs.Common.{◌≡◌, ℕ, ◌+◌, ◌-◌, ◌≤◌, true, false, List, ◌∷◌, length, slice_index, sym, refl, ap, subst, ◌∙◌, ⊎_elim, arith}
 use Rattle.std.proofs.lemmas.Bool.{false≢true, cases_lt, cases_Bool}
 use Rattle.std.proofs.lemmas.Bool.Decides.{nat_tests}
 use Rattle.std.proofs.lemmas.List.{get_or_past}
@@ -7,13 +7,13 @@ use Rattle.cddl_literal.specs.Bytes.{is_decimal_digit, is_blank, is_in_comment}
 use Rattle.cddl_literal.specs.Literals.{IsBytes}
 use Rattle.cddl_token.specs.Bytes.{is_ealpha, is_id_byte}
 use Rattle.cddl_token.specs.Signs.{is_single}
-use Rattle.cddl_token.specs.Spelling.{IsId, Flaw, Misspelled, Fractional, TooLarge, Reading, Good, Bad, Spells, IsLongest}
-use Rattle.cddl_token.specs.Tokens.{IsLineEnd, IsComment, GapFrom, none, blank, line, comment, StartsNoGap, IsToken, Tokenized, ends, more, token, Spanned}
+use Rattle.cddl_token.specs.Spelling.{Misspelled, Fractional, TooLarge, Reading, Good, Bad, Spells, IsLongest}
+use Rattle.cddl_token.specs.Tokens.{IsLineEnd, IsComment, GapFrom, none, blank, line, comment, StartsNoGap, Tokenized, ends, more, token, Spanned}
 use Rattle.cddl_token.specs.declared.Kind.{Kind}
 use Rattle.cddl_token.specs.declared.Kind.TheVariants.{Name, NameOpen, Control, Number, Occur, Text, Bytes, Hash, TagOpen, TagHeadOpen, SimpleHeadOpen, Assign, TypeAssign, GroupAssign, Slash, DoubleSlash, Range, RangeBelow, Arrow, Cut, Colon, Comma, ParenOpen, ParenClose, BracketOpen, BracketClose, BraceOpen, BraceClose, AngleClose, Tilde, Ampersand, End}
 use Rattle.cddl_token.proofs.Laws.{Laws}
 use Rattle.cddl_token.proofs.BeginFacts.{begins, elsewhere, begins_nothing}
-use Rattle.cddl_token.proofs.NameFacts.{name_one, name_open_one, control_one, range_one, range_below_one, letter_begins, IsNoName, bytes_last, id_last}
+use Rattle.cddl_token.proofs.NameFacts.{name_one, name_open_one, control_one, range_one, range_below_one, letter_begins, bytes_last, id_last}
 use Rattle.cddl_token.proofs.NumberOne.{number_one, occur_one, misspelled_one, float_one}
 use Rattle.cddl_token.proofs.HashOne.{hash_one, tag_open_one, tag_head_one, simple_head_one, too_large_one}
 use Rattle.cddl_token.proofs.SignOne as sign

@@ -1,9 +1,8 @@
 -- Uints that no longer one hides.
-use Rattle.std.proofs.Common.{◌≡◌, ℕ, ◌+◌, ◌<◌, ◌≤◌, ◌⊎◌, inl, inr, Bool, true, false, List, slice_index, slice_range, ap, sym, refl, subst, ◌∙◌, ⊎_elim, arith}
+use Rattle.std.proofs.Common.{◌≡◌, ℕ, ◌+◌, ◌<◌, ◌≤◌, ◌⊎◌, inl, inr, false, List, slice_index, sym, refl, ◌∙◌, ⊎_elim, arith}
 use Rattle.std.proofs.lemmas.Bool.{cases_lt, false≢true}
-use Rattle.std.proofs.lemmas.Bool.Decides.{nat_tests}
 use Rattle.hex.specs.Hex.{is_hex_digit}
-use Rattle.cddl_literal.specs.Bytes.{Each, IsRun, is_decimal_digit, is_binary_digit, is_x, is_b}
+use Rattle.cddl_literal.specs.Bytes.{Each, is_decimal_digit, is_binary_digit, is_x, is_b}
 use Rattle.cddl_literal.specs.Numbers.{IsUint, decimal, hexadecimal, binary}
 use Rattle.cddl_token.specs.Numbers.{IsPrefix, IsBound}
 use Rattle.cddl_token.specs.Shapes.{is_digit_in, marks_radix, IsLongestBound}

@@ -1,7 +1,6 @@
 -- What a token stands for, its text alone stands for too.
-use Rattle.std.proofs.Common.{◌≡◌, ℕ, ◌⊎◌, List, length, Option, Some, None, sym, refl, ap, subst, ◌∙◌, ⊎_elim}
+use Rattle.std.proofs.Common.{◌≡◌, ℕ, List, length, Some, sym, ap, subst, ◌∙◌, ⊎_elim}
 use Rattle.std.specs.Prelude.{slice_range}
-use Rattle.std.specs.String.{string_bytes}
 use Rattle.cddl_literal.specs.Numbers.{Meaning, TextOf, BytesOf, IsNumber}
 use Rattle.cddl_literal.specs.Literals.{IsText, IsBytes, view}
 use Rattle.cddl_literal.specs.declared.Literal.{Literal}

@@ -1,5 +1,5 @@
 -- What the code's tokens and refusals say.
-use Rattle.std.specs.Prelude.{◌≡◌, ℕ, ◌<◌, ◌≤◌, ◌^◌, List, [], ◌∷◌, length, slice_range, IsUtf8, ◌⊎◌, Result, Ok, Err, map, All}
+use Rattle.std.specs.Prelude.{◌≡◌, ℕ, ◌<◌, ◌≤◌, List, [], ◌∷◌, length, slice_range, IsUtf8, ◌⊎◌}
 use Rattle.cddl_token.specs.declared.Code.{Code}
 use Rattle.cddl_token.specs.declared.Code.TheVariants.{NotUtf8, SourceTooLong}
 use Rattle.std.specs.Prelude.{Option, Some, None}
@@ -10,7 +10,7 @@ use Rattle.cddl_literal.specs.declared.Literal.{Literal}
 use Rattle.cddl_token.specs.declared.Token.{Token}
 use Rattle.cddl_token.specs.declared.Kind.{Kind}
 use Rattle.cddl_token.specs.declared.Kind.TheVariants.{Number, Text, Bytes, End}
-use Rattle.cddl_token.specs.Spelling.{Good, Spells, IsId, IsGrammarId}
+use Rattle.cddl_token.specs.Spelling.{Good, Spells}
 use Rattle.cddl_token.specs.declared.Refusal.{Refusal}
 use Rattle.cddl_token.specs.declared.Refusal.TheVariants.{At, Memory}
 use Rattle.cddl_token.specs.Tokens.{Spanned, Tokenized, Refused}

@@ -1,5 +1,5 @@
 -- What a number may be that begins with a digit, and how the scanner takes it apart.
-use Rattle.std.specs.Prelude.{◌≡◌, ℕ, ◌+◌, ◌<◌, ◌≤◌, ◌⊎◌, Bool, true, false, List, slice_index}
+use Rattle.std.specs.Prelude.{◌≡◌, ℕ, ◌+◌, ◌≤◌, ◌⊎◌, Bool, true, false, List, slice_index}
 use Rattle.hex.specs.Hex.{is_hex_digit}
 use Rattle.cddl_literal.specs.Bytes.{IsAt, IsRun, is_decimal_digit, is_binary_digit, is_x, is_b}
 use Rattle.cddl_literal.specs.Numbers.{IsUint}

@@ -1,5 +1,5 @@
 -- What the bytes of a source from one offset to another spell (RFC 8610 Appendix B, RFC 9682).
-use Rattle.std.specs.Prelude.{◌≡◌, ℕ, ◌+◌, ◌-◌, ◌*◌, ◌^◌, ◌<◌, ◌≤◌, ◌⊎◌, Bool, true, false, List, [], ◌∷◌, length, slice_index, slice_range, codes}
+use Rattle.std.specs.Prelude.{◌≡◌, ℕ, ◌+◌, ◌-◌, ◌^◌, ◌<◌, ◌≤◌, ◌⊎◌, true, false, List, [], ◌∷◌, slice_index, codes}
 use Prim.Native.String.{String}
 use Rattle.cddl_literal.specs.Bytes.{Each, IsAt, is_decimal_digit}
 use Rattle.cddl_literal.specs.Numbers.{Meaning, IsNumber}

@@ -5,7 +5,6 @@ use Rattle.cddl_literal.specs.Strings.{closing, HoldsCharacters, IsFurthest}
 use Rattle.cddl_literal.specs.Prefixed.{Opens, HoldsCoded}
 use Rattle.cddl_literal.specs.Literals.{IsBadBytes}
 use Rattle.cddl_literal.specs.declared.Quote.{Quote}
-use Rattle.cddl_literal.specs.declared.Quote.TheVariants.{Single, Double}
 use Rattle.cddl_literal.specs.declared.Coding.{Coding}
 use Rattle.cddl_token.specs.declared.Code.{Code}
 use Rattle.cddl_token.specs.declared.Code.TheVariants.{BadCharacter, Unclosed, BadEscape, BadBytes}

@@ -1,4 +1,3 @@
-use Rattle.cddl_token.specs.Answers.{span}
 use Rattle.cddl_token.proofs.SourceFacts.{all_answered, all_in_order}
 use Rattle.cddl_token.proofs.tokens.Goals as goal
 

@@ -1,5 +1,5 @@
-use Rattle.std.proofs.Common.{◌≡◌, ℕ, ◌+◌, slice_index, length, sym, refl, ap, ◌∙◌, ⊎_elim, arith}
-use Rattle.cddl_token.specs.Tokens.{FaultAt, in_comment}
+use Rattle.std.proofs.Common.{sym, ◌∙◌, ⊎_elim, arith}
+use Rattle.cddl_token.specs.Tokens.{in_comment}
 use Rattle.cddl_token.proofs.gaps.comment_end.Goals as goal
 
 pub returns-then-not-is_in_comment : goal.returns-then-not-is_in_comment

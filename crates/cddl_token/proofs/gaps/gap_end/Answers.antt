@@ -1,5 +1,5 @@
-use Rattle.std.proofs.Common.{◌≡◌, ℕ, ◌+◌, ◌≤◌, slice_index, length, sym, refl, ap, ◌∙◌, arith}
-use Rattle.cddl_token.specs.Tokens.{GapFrom, none, blank, line, comment}
+use Rattle.std.proofs.Common.{sym, refl, ◌∙◌, arith}
+use Rattle.cddl_token.specs.Tokens.{none, blank, line, comment}
 use Rattle.cddl_token.proofs.gaps.gap_end.Goals as goal
 
 pub loop-i-preserved-then-is_blank : goal.loop-i-preserved-then-is_blank

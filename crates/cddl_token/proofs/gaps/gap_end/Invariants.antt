@@ -1,4 +1,4 @@
-use Rattle.std.proofs.Common.{length, ℕ, ◌-◌, ◌+◌, ◌<◌, ◌≤◌}
+use Rattle.std.proofs.Common.{length, ℕ, ◌-◌, ◌≤◌}
 use Rattle.cddl_token.specs.Tokens.{GapFrom}
 use Rattle.cddl_token.proofs.gaps.gap_end.Given as goal
 

@@ -1,4 +1,4 @@
-use Rattle.std.proofs.Common.{◌≡◌, ◌∙◌, arith}
+use Rattle.std.proofs.Common.{◌∙◌, arith}
 use Rattle.cddl_token.proofs.HashFacts.{digit_token}
 use Rattle.cddl_token.proofs.hashes.hash_dot_at.Goals as goal
 

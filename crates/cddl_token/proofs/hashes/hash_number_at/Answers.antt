@@ -1,4 +1,4 @@
-use Rattle.std.proofs.Common.{◌≡◌, ◌+◌, refl, arith, ⊎_elim}
+use Rattle.std.proofs.Common.{refl, arith, ⊎_elim}
 use Rattle.std.proofs.lemmas.Bool.{cases_Bool}
 use Rattle.cddl_token.specs.Tokens.{flawed}
 use Rattle.cddl_token.proofs.HashFacts.{tag_open_token, large_tag, hash_token, large_hash_number}

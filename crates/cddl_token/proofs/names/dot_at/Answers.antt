@@ -1,4 +1,4 @@
-use Rattle.std.proofs.Common.{◌≡◌, ◌+◌, slice_index, refl, sym, ap, ◌∙◌, arith}
+use Rattle.std.proofs.Common.{refl, sym, ap, ◌∙◌, arith}
 use Rattle.cddl_token.specs.Bytes.{is_ealpha}
 use Rattle.cddl_token.specs.Tokens.{unknown}
 use Rattle.cddl_token.proofs.NameFacts.{lone_dot, control_token, dot_opens, range_token, range_below_token}

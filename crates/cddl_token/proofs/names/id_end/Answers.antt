@@ -1,4 +1,4 @@
-use Rattle.std.proofs.Common.{◌≡◌, ◌+◌, ◌-◌, slice_index, sym, ap, ◌∙◌, arith, true}
+use Rattle.std.proofs.Common.{slice_index, sym, ap, ◌∙◌, arith}
 use Rattle.std.proofs.lemmas.Bool.{or_right}
 use Rattle.cddl_token.specs.Bytes.{is_mark, is_id_byte}
 use Rattle.cddl_token.proofs.EachFacts.{each_more}

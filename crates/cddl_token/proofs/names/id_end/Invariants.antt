@@ -1,4 +1,4 @@
-use Rattle.std.proofs.Common.{length, ◌-◌, ◌≡◌, ◌+◌, ◌<◌, ◌≤◌, true, false, slice_index}
+use Rattle.std.proofs.Common.{length, ◌-◌, ◌≡◌, ◌<◌, ◌≤◌, false, slice_index}
 use Rattle.cddl_literal.specs.Bytes.{Each}
 use Rattle.cddl_token.specs.Bytes.{is_mark, is_id_byte}
 use Rattle.cddl_token.proofs.names.id_end.Given as goal

@@ -1,4 +1,4 @@
-use Rattle.std.proofs.Common.{◌≡◌, ◌+◌, sym, ◌∙◌, arith}
+use Rattle.std.proofs.Common.{sym, ◌∙◌}
 use Rattle.cddl_token.proofs.NameFacts.{name_token, name_open_token}
 use Rattle.cddl_token.proofs.names.name_at.Goals as goal
 

@@ -1,4 +1,4 @@
-use Rattle.std.proofs.Common.{◌+◌, ◌<◌, refl, arith}
+use Rattle.std.proofs.Common.{refl}
 use Rattle.cddl_literal.specs.Numbers.{decimal}
 use Rattle.cddl_token.proofs.ShapeFacts.{decimal_is_uint, decimal_is_float, decimal_is_misspelled, past_first}
 use Rattle.cddl_token.proofs.numbers.decimal_shape_at.Goals as goal

@@ -1,4 +1,3 @@
-use Rattle.std.proofs.Common.{⊎_elim, inr}
 use Rattle.cddl_token.proofs.ShapeFacts.{decimal_tail_from}
 use Rattle.cddl_token.proofs.numbers.decimal_tail_end.Goals as goal
 

@@ -1,10 +1,9 @@
-use Rattle.std.proofs.Common.{◌≡◌, ℕ, ◌+◌, ◌-◌, ◌<◌, List, [], ◌∷◌, ◌++◌, length, slice_index, refl, sym, ◌∙◌, ap, subst, inl, inr, arith, rules, append_assoc}
+use Rattle.std.proofs.Common.{◌≡◌, ◌-◌, [], ◌∷◌, ◌++◌, length, slice_index, refl, sym, ◌∙◌, ap, subst, inl, inr, arith, rules}
 use Rattle.std.specs.Prelude.{All, Err, MatchResult, map, slice_range}
 use Rattle.std.proofs.lemmas.List.Elements.{All-push}
 use Rattle.cddl_token.specs.declared.Kind.TheVariants.{End}
-use Rattle.cddl_token.specs.declared.Token.{Token}
 use Rattle.cddl_token.specs.Answers.{span, IsReadFrom, StopsScan}
-use Rattle.cddl_token.specs.Tokens.{GapFrom, Tokenized, Refused, ends, more, here, later, token}
+use Rattle.cddl_token.specs.Tokens.{GapFrom, Tokenized, ends, more, here, later, token}
 use Rattle.cddl_token.proofs.SpellingFacts.{spelled_past}
 use Rattle.cddl_token.proofs.SpellingFacts.{spelled_ascii}
 use Rattle.cddl_token.proofs.TextFacts.{pushed, pushed_last, no_bytes, ap_below, stops_scan}

@@ -1,4 +1,4 @@
-use Rattle.std.proofs.Common.{◌≡◌, slice_index, refl, sym, ap, ◌∙◌, arith}
+use Rattle.std.proofs.Common.{slice_index, refl, sym, ◌∙◌, arith}
 use Rattle.cddl_token.specs.Tokens.{unknown}
 use Rattle.cddl_token.proofs.BeginFacts.{begins_nothing, elsewhere}
 use Rattle.cddl_token.proofs.StringFacts.{opens_nothing}

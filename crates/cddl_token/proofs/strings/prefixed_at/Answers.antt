@@ -1,4 +1,4 @@
-use Rattle.std.proofs.Common.{◌≡◌, ◌+◌, ◌∙◌, refl, sym}
+use Rattle.std.proofs.Common.{◌+◌, ◌∙◌, refl, sym}
 use Rattle.cddl_literal.specs.declared.Quote.TheVariants.{Single}
 use Rattle.cddl_token.specs.Tokens.{in_string}
 use Rattle.cddl_token.specs.Strings.{prefixed, bad_bytes}

@@ -1,4 +1,4 @@
-use Rattle.std.proofs.Common.{◌≡◌, ◌+◌, slice_index, refl, sym, ap, ◌∙◌, arith}
+use Rattle.std.proofs.Common.{sym, ◌∙◌}
 use Rattle.cddl_token.specs.Tokens.{in_string}
 use Rattle.cddl_token.specs.Strings.{quoted}
 use Rattle.cddl_token.proofs.StringFacts.{text_found, plain_found}

@@ -1,4 +1,4 @@
-use Rattle.std.proofs.Common.{◌≡◌, refl, sym, ◌∙◌, subst}
+use Rattle.std.proofs.Common.{refl, ◌∙◌, subst}
 use Rattle.cddl_token.specs.Tokens.{flawed}
 use Rattle.cddl_token.specs.Shapes.{IsLongestShape}
 use Rattle.cddl_token.proofs.NumberFacts.{a_number, a_misspelled, a_float}

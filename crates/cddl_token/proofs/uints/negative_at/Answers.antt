@@ -1,4 +1,4 @@
-use Rattle.std.proofs.Common.{◌≡◌, ◌+◌, refl, sym, ◌∙◌, ap, subst}
+use Rattle.std.proofs.Common.{◌+◌, refl, sym, ◌∙◌, ap, subst}
 use Rattle.cddl_literal.specs.Bytes.{is_decimal_digit}
 use Rattle.cddl_token.specs.Tokens.{flawed}
 use Rattle.cddl_token.specs.Shapes.{IsLongestShape}

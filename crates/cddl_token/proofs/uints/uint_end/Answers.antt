@@ -1,4 +1,4 @@
-use Rattle.std.proofs.Common.{◌≡◌, sym, ap, ◌∙◌, arith}
+use Rattle.std.proofs.Common.{sym, ap, ◌∙◌}
 use Rattle.cddl_literal.specs.Bytes.{is_x, is_b}
 use Rattle.cddl_token.proofs.UintFacts.{plain_bound, zero_bound}
 use Rattle.cddl_token.proofs.uints.uint_end.Goals as goal
