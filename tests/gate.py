@@ -1,6 +1,6 @@
 #!/usr/bin/env python3
-"""The whole gate: every proof and test from nothing by 'rt ci', then the wrong bodies that are tried many in one check,
-and the rows on the programs that were built.
+"""The whole gate: what crates name of one another's proofs, every proof and test from nothing by 'rt ci', then the wrong
+bodies that are tried many in one check, and the rows on the programs that were built.
 
     gate.py [--rt COMMAND] [--quick]
 
@@ -25,6 +25,7 @@ from concurrent.futures import ThreadPoolExecutor
 import recognizer
 from run_grammar import run_grammar
 from run_rows import TOP, run_rows
+from test_imports import are_imports_clean
 from test_wrong_edits import run_tests
 from wrong_edits import run_wrong
 
@@ -135,6 +136,8 @@ def main():
     words.add_argument("--rt", default="rt", help="the command of the Rattle toolchain")
     words.add_argument("--quick", action="store_true", help="over what earlier checks kept, and without edits")
     words = words.parse_args()
+    clean = are_imports_clean()
+    print(f"names of other crates' proofs: {'passed' if clean else 'FAILED'}", flush=True)
     passed, failed = told("proofs and tests", lambda: kept_proofs(words.rt) if words.quick else proofs(words.rt))
     # 'rt ci' set aside what earlier runs built, so these are the programs that were proved just now
     if failed or not (os.path.isfile(PROVED) and os.path.isfile(OUTLINE)):
@@ -146,6 +149,7 @@ def main():
             passed, failed = passed + more, failed + bad
         more, bad = told("rows", rows)
         passed, failed = passed + more, failed + bad
+    passed, failed = passed + clean, failed + (not clean)
     print(f"{passed} passed, {failed} failed")
     return 1 if failed else 0
 
