@@ -11,6 +11,7 @@ use Rattle.cddl_tree.specs.declared.tree.AssignG.{AssignG}
 use Rattle.cddl_tree.specs.declared.tree.Rule.{Rule}
 use Rattle.cddl_tree.specs.declared.tree.Entry.{Entry}
 use Rattle.cddl_parse.specs.declared.frames.Alternatives.{Alternatives}
+use Rattle.cddl_parse.specs.declared.frames.AtType2.{AtType2}
 use Rattle.cddl_parse.specs.declared.frames.Home.{Home}
 use Rattle.cddl_parse.specs.declared.frames.Prefix.{Prefix}
 use Rattle.cddl_parse.specs.declared.frames.Prefix.TheVariants as P
@@ -171,9 +172,17 @@ pub given : (t : Token) (r : Result (Box State Global) Stop) (x : State) (m : M.
 given t (Ok s) x m h e = ap view_state h ∙ e
 given t (Err y) x m h e = rw h tt
 
-pub begins : (r : Result (Box State Global) Stop) (x : State) (k : Option M.AtTypes) → MatchResult r (λ s. s.value ≡ x) (λ e. e ≡ Memory) → view_state x ≡ made M.open_types k → BeginsBody r k
-begins (Ok s) x k h e = ap view_state h ∙ e
-begins (Err y) x k h e = h
+pub begins : (r : Result (Box State Global) Stop) (v : Option M.State) (k : Option M.AtTypes) → MatchResult r (λ s. view_state s.value ≡ v) (λ e. e ≡ Memory) → v ≡ made M.open_types k → BeginsBody r k
+begins (Ok s) v k h e = h ∙ e
+begins (Err y) v k h e = h
+
+pub stays : (t : Token) (r : Result (Box State Global) Stop) (v : Option M.State) (m : M.State) → MatchResult r (λ s. view_state s.value ≡ v) (λ e. e ≡ Memory) → v ≡ Some m → GivesState t r m
+stays t (Ok s) v m h e = h ∙ e
+stays t (Err y) v m h e = rw h tt
+
+pub awaited_at : (r : Result (Box Now Global) Stop) (x : AtType2) (f : Below → Option M.AtType2) → ((b : Below) → view_at_type2 b x ≡ f b) → MatchResult r (λ now. (b : Below) → view_now b now.value ≡ made M.want (view_at_type2 b x)) (λ e. e ≡ Memory) → MatchResult r (λ now. (b : Below) → view_now b now.value ≡ made M.want (f b)) (λ e. e ≡ Memory)
+awaited_at (Ok now) x f e h = λ b. h b ∙ ap (made M.want) (e b)
+awaited_at (Err y) x f e h = h
 
 made_twice : (q : Option M.AtTypes) → made M.want (made (λ k. M.lower (M.head k)) q) ≡ made M.open_types q
 made_twice None = refl

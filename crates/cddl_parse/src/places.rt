@@ -30,7 +30,7 @@ pub(crate) fn type_at<'s>(alloc: Global, home: Home<'s>) -> Result<AtType2<'s>, 
 
 /// A place where a type2 is awaited.
 #[tactic(none)]
-pub(crate) fn awaited<'s>(alloc: Global, at: AtType2<'s>) -> Result<Box<Now<'s>>, Stop>
+fn awaited<'s>(alloc: Global, at: AtType2<'s>) -> Result<Box<Now<'s>>, Stop>
     ensures { MatchResult result (λ now. (b : Below) → view_now b now.value ≡ made M.want (view_at_type2 b at.entry)) (λ e. e ≡ Stop.Memory) }
 {
     match boxed(alloc, Now::Want(at)) {
@@ -39,6 +39,17 @@ pub(crate) fn awaited<'s>(alloc: Global, at: AtType2<'s>) -> Result<Box<Now<'s>>
             drop(error);
             Err(Stop::Memory)
         }
+    }
+}
+
+/// A place where a type is awaited.
+#[tactic(none)]
+pub(crate) fn awaited_type<'s>(alloc: Global, home: Home<'s>) -> Result<Box<Now<'s>>, Stop>
+    ensures { MatchResult result (λ now. (b : Below) → view_now b now.value ≡ made M.want (made (λ k. M.lower (M.head k)) (view_home b home.entry))) (λ e. e ≡ Stop.Memory) }
+{
+    match type_at(alloc, home) {
+        Ok(at) => awaited(alloc, at),
+        Err(_) => Err(Stop::Memory),
     }
 }
 

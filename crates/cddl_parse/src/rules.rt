@@ -1,7 +1,8 @@
 //! What a token does between the rules and in the head of a rule.
-ghost use Rattle.std.specs.Prelude.{◌≡◌, MatchResult};
+ghost use Rattle.std.specs.Prelude.{◌≡◌, MatchResult, [], ◌∷◌};
 ghost use Rattle.cddl_syntax.specs.Machine as M;
-ghost use Rattle.cddl_tree.specs.View.{view_parm, view_name};
+ghost use Rattle.cddl_syntax.specs.Syntax as S;
+ghost use Rattle.cddl_tree.specs.View.{view_parm, view_name, view_rule};
 ghost use Rattle.cddl_parse.specs.Frames.{nowhere, on, view_parameters, view_home, above, below, view_now, Gives};
 ghost use Rattle.cddl_parse.specs.States.{view_rules, view_state, GivesState, BeginsBody};
 
@@ -9,7 +10,7 @@ use crate::body::step_body;
 use crate::build::{parm_of, unexpected};
 use crate::frames::{Frame, Home, Next, Now, Parameters, Stop};
 use crate::memory::{boxed, pushed};
-use crate::places::{awaited, type_at};
+use crate::places::awaited_type;
 use crate::state::State;
 use cddl_token::{Kind, Token};
 use cddl_tree::{AssignG, GenericParm, Rule, RuleName, Tree};
@@ -122,27 +123,68 @@ fn begin_body<'s>(
 ) -> Result<Box<State<'s>>, Stop>
     ensures { BeginsBody result (view_home (above (view_rules rules.entry.items) nowhere frame.entry) home.entry) }
 {
-    let mut frames = Vec::new(alloc);
-    match pushed(&mut frames, frame) {
-        Ok(()) => match type_at(alloc, home) {
-            Ok(at) => match awaited(alloc, at) {
-                Ok(now) => placed(alloc, State::Body(rules, frames, now)),
-                Err(_) => {
-                    drop(frames);
-                    drop(rules);
-                    Err(Stop::Memory)
-                }
-            },
+    match first_frame(alloc, frame) {
+        Ok(frames) => match awaited_type(alloc, home) {
+            Ok(now) => within(alloc, rules, frames, now),
             Err(_) => {
                 drop(frames);
                 drop(rules);
                 Err(Stop::Memory)
             }
         },
+        Err(_) => {
+            drop(home);
+            drop(rules);
+            Err(Stop::Memory)
+        }
+    }
+}
+
+/// Frames of which this is the only one.
+#[tactic(none)]
+fn first_frame<'s>(alloc: Global, frame: Frame<'s>) -> Result<Vec<Frame<'s>>, Stop>
+    ensures { MatchResult result (λ fs. fs.items ≡ frame.entry ∷ []) (λ e. e ≡ Stop.Memory) }
+{
+    let mut frames = Vec::new(alloc);
+    match pushed(&mut frames, frame) {
+        Ok(()) => Ok(frames),
         Err(error) => {
             drop(error);
             drop(frames);
-            drop(home);
+            Err(Stop::Memory)
+        }
+    }
+}
+
+/// The state within a rule's body.
+#[tactic(none)]
+fn within<'s>(
+    alloc: Global,
+    rules: Vec<Rule<'s>>,
+    frames: Vec<Frame<'s>>,
+    now: Box<Now<'s>>,
+) -> Result<Box<State<'s>>, Stop>
+    ensures { MatchResult result (λ s. view_state s.value ≡ view_now (below (view_rules rules.entry.items) frames.entry.items) now.entry.value) (λ e. e ≡ Stop.Memory) }
+{
+    match boxed(alloc, State::Body(rules, frames, now)) {
+        Ok(state) => Ok(state),
+        Err(error) => {
+            drop(error);
+            Err(Stop::Memory)
+        }
+    }
+}
+
+/// The rules with one more.
+#[tactic(none)]
+fn with_rule<'s>(rules: Vec<Rule<'s>>, rule: Box<Rule<'s>>) -> Result<Vec<Rule<'s>>, Stop>
+    ensures { MatchResult result (λ rs. view_rules rs.items ≡ S.rules (view_rules rules.entry.items) (view_rule rule.entry.value)) (λ e. e ≡ Stop.Memory) }
+{
+    let mut rules = rules;
+    match pushed(&mut rules, Box::into_inner(rule)) {
+        Ok(()) => Ok(rules),
+        Err(error) => {
+            drop(error);
             drop(rules);
             Err(Stop::Memory)
         }
@@ -162,24 +204,19 @@ fn after_body<'s>(
 {
     match next {
         Ok(next) => match next {
-            Next::Within(now) => placed(alloc, State::Body(rules, frames, now)),
+            Next::Within(now) => within(alloc, rules, frames, now),
             Next::Ended(rule) => {
                 drop(frames);
-                let mut rules = rules;
-                match pushed(&mut rules, Box::into_inner(rule)) {
-                    Ok(()) => next_rule(alloc, rules, token),
-                    Err(error) => {
-                        drop(error);
-                        drop(rules);
-                        Err(Stop::Memory)
-                    }
+                match with_rule(rules, rule) {
+                    Ok(rules) => next_rule(alloc, rules, token),
+                    Err(_) => Err(Stop::Memory),
                 }
             }
         },
-        Err(refusal) => {
+        Err(stop) => {
             drop(frames);
             drop(rules);
-            Err(refusal)
+            Err(stop)
         }
     }
 }

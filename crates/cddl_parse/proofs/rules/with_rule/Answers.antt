@@ -1,0 +1,13 @@
+use Rattle.std.proofs.Common.{◌∙◌, ap, refl}
+use Rattle.cddl_syntax.specs.Syntax as S
+use Rattle.cddl_tree.specs.declared.tree.Rule.{Rule}
+use Rattle.cddl_tree.specs.View.{view_rule}
+use Rattle.cddl_parse.proofs.rules.with_rule.Goals as goal
+use Rattle.cddl_parse.specs.States.{view_rules}
+use Rattle.cddl_parse.proofs.Adding.{view_rules-push}
+
+pub returns-in-Ok : goal.returns-in-Ok
+returns-in-Ok c = ap view_rules c.in-Ok.ensures.items ∙ view_rules-push c.args.rules.items c.into_inner.result ∙ ap (λ (r : Rule). S.rules (view_rules c.args.rules.items) (view_rule r)) c.into_inner.ensures
+
+pub returns-in-Err : goal.returns-in-Err
+returns-in-Err c = refl
