@@ -1,7 +1,7 @@
-pub mod Unique
-pub mod PreferredSpells
+mod Unique
+mod PreferredSpells
 mod PreferredLength
 mod Spelled
-pub mod BadText
+mod BadText
 mod SameLaws
 pub mod Lemmas

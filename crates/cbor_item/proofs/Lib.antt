@@ -4,7 +4,7 @@ mod Going
 mod Walks
 mod Commas
 mod Goes
-pub mod Views
+mod Views
 mod Counts
 mod Keys
 mod Plain

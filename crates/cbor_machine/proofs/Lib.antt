@@ -3,5 +3,5 @@ mod Keeping
 mod Refusing
 mod Shallow
 mod Telling
-pub mod OneFault
+mod OneFault
 pub mod Lemmas

@@ -2,4 +2,4 @@ pub mod Lemmas
 mod Lists
 mod Turns
 mod Verdicts
-pub mod Room
+mod Room

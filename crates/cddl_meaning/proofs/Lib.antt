@@ -3,5 +3,5 @@ mod Alike
 mod Covers
 mod Means
 mod Once
-pub mod Inside
-pub mod Matches
+mod Inside
+mod Matches
