@@ -56,12 +56,12 @@ invariant_of-self-in-Ok-Accepted c =
 pub invariant_of-self-in-Ok-Failed : goal.invariant_of-self-in-Ok-Failed
 invariant_of-self-in-Ok-Failed c =
     let s = c.self.inside in
-    rw c.failed_end-end.ensures (stopped_kept (judge_of s.table.now s.steps) s.fed (map found_of s.taken) s.reader s.count.items s.count.offset s.count.bytes s.stopped s.rejected (ap (λ (p : Progress). p.stopped) c.self.view_is ∙ c.requires) c.self.invariant c.one_answer.ensures c.args.piece.now c.in-Ok-Failed.cause c.in-Ok-Failed.rejected c.judge_next.new.reader c.extend-in-Ok-Failed.new.self c.extend-in-Ok-Failed.ensures (rw c.in-Ok-Failed.field-0-is at c.in-Ok-Failed.ensures))
+    rw c.failed_end-end.ensures (stopped_kept (judge_of s.table.now s.steps) s.fed (map found_of s.taken) s.reader s.count.items s.count.offset s.count.bytes s.stopped s.rejected (ap (λ (p : Progress). p.stopped) c.self.view_is ∙ c.requires) c.self.invariant c.one_answer.ensures.table c.args.piece.now c.in-Ok-Failed.cause c.in-Ok-Failed.rejected c.judge_next.new.reader c.extend-in-Ok-Failed.new.self c.extend-in-Ok-Failed.ensures (rw c.in-Ok-Failed.field-0-is at c.in-Ok-Failed.ensures))
 
 pub returns-in-Ok-Failed : goal.returns-in-Ok-Failed
 returns-in-Ok-Failed c =
     let s = c.self.inside in
-    rw c.failed_end-end.ensures (stopped_step (judge_of s.table.now s.steps) s.fed (map found_of s.taken) s.reader s.count.items s.count.offset s.count.bytes s.stopped s.rejected (ap (λ (p : Progress). p.stopped) c.self.view_is ∙ c.requires) c.self.invariant c.one_answer.ensures c.args.self.now c.self.view_is c.args.piece.now c.args.out.now.items c.in-Ok-Failed.cause c.in-Ok-Failed.rejected c.judge_next.new.reader c.extend-in-Ok-Failed.new.self c.extend-in-Ok-Failed.ensures (rw c.in-Ok-Failed.field-0-is at c.in-Ok-Failed.ensures))
+    rw c.failed_end-end.ensures (stopped_step (judge_of s.table.now s.steps) s.fed (map found_of s.taken) s.reader s.count.items s.count.offset s.count.bytes s.stopped s.rejected (ap (λ (p : Progress). p.stopped) c.self.view_is ∙ c.requires) c.self.invariant c.one_answer.ensures.table c.args.self.now c.self.view_is c.args.piece.now c.args.out.now.items c.in-Ok-Failed.cause c.in-Ok-Failed.rejected c.judge_next.new.reader c.extend-in-Ok-Failed.new.self c.extend-in-Ok-Failed.ensures (rw c.in-Ok-Failed.field-0-is at c.in-Ok-Failed.ensures))
 
 pub returns-in-Err : goal.returns-in-Err
 returns-in-Err c =
