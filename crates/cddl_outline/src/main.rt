@@ -17,7 +17,7 @@ use cddl_tree::{Tree, discard};
 use std::io;
 use std::io::Read;
 
-/// A text without the zero byte behind it.
+/// A text without the zero byte after it.
 fn unended(text: &[u8]) -> &[u8] {
     match text.split_last() {
         Some((0, front)) => front,

@@ -47,7 +47,7 @@ type1_argument_at (group k) P a x r i t e h = tt
 pub type1_argument : (b : Below) (h : Home) (bf : Before) (P : M.State → Type 0) (a : Option Arguments) (x : S.GenericArg) (r : S.Type1) (i : Kind) (t : Token) → bf ≡ B.Arguments a → x ≡ M.arg_of (view_arguments a) r → on (as_reference b) (λ y. P (M.after_argument y.0 y.1 y.2 x i t)) → on (type1_at b h bf) (λ k. P (M.after_type1 k r i t))
 type1_argument b h bf P a x r i t e f g = rw e (type1_argument_at b P (view_arguments a) x r i t f g)
 
--- Behind an argument.
+-- After an argument.
 
 pub argument_other : (k : M.AtType2) (p : M.Prefix) (o : Token) (a : S.GenericArg) (i : Kind) (t : Token) → i ≢ K.Comma → i ≢ K.AngleClose → M.after_argument k p o a i t ≡ M.stuck
 argument_other k p o a K.Comma t e f = absurd (e refl)
@@ -58,7 +58,7 @@ pub argument_shut : (b : Below) (q : Option M.AtType2) (p : M.Prefix) (o : Token
 argument_shut b None p o a t x P e f h = rw e tt
 argument_shut b (Some k) p o a t x P e f h = rw e (rw f at h)
 
--- Behind a type.
+-- After a type.
 
 pub inside_shut : (b : Below) (q : Option M.AtType2) (o : M.TypeOpening) (ts : S.Types) (i : Kind) (t : Token) (P : M.State → Type 0) → b ≡ inside_at q o → on q (λ k. P (M.shut_types k o ts i t)) → on (as_types b) (λ k. P (M.after_types k ts i t))
 inside_shut b None o ts i t P e h = rw e tt

@@ -1,4 +1,4 @@
--- What the machine does behind an entry, between the rules and in the head of a rule.
+-- What the machine does after an entry, between the rules and in the head of a rule.
 use Rattle.std.proofs.Common.{◌≡◌, ◌≢◌, List, [], ◌∷◌, ◌++◌, Option, Some, None, Result, Ok, Err, refl, sym, ap, ◌∙◌, subst, Box, Vec, Global, Bor}
 use Rattle.std.specs.Prelude.{MatchResult}
 use Rattle.cddl_token.specs.declared.Token.{Token}
@@ -89,7 +89,7 @@ no_choice k P.Bare t e = refl
 no_choice k (P.Tilde u) t e = refl
 no_choice k (P.Ampersand a) t e = absurd (e a refl)
 
--- Behind an entry.
+-- After an entry.
 
 pub nowhere_entry : (b : Below) (P : M.AtEntry → Type 0) → b ≡ nowhere → on (as_entry b) P
 nowhere_entry b P e = rw e tt
@@ -120,7 +120,7 @@ other_entry rs b (F.Entry oc o) g h = shut (as_entry b)
     shut (Some k) = refl
 other_entry rs b (F.Member bf es) g h = absurd (h bf es refl)
 
--- so nothing is said behind them
+-- so nothing is said after them
 pub other_frame : (rs : S.Rules) (b b' : Below) (f : Frame) (P : M.AtEntry → Type 0) → b ≡ above rs b' f → ((n : RuleName) (a : AssignG) → f ≢ F.GroupBody n a) → ((bf : Option Alternatives) (es : Vec Entry Global) → f ≢ F.Member bf es) → on (as_entry b) P
 other_frame rs b b' f P e g h = rw (e, other_entry rs b' f g h) tt
 

@@ -7,7 +7,7 @@ use Rattle.cddl_syntax.specs.Syntax as S
 use Rattle.cddl_syntax.specs.Machine as M
 use Rattle.cddl_parse.specs.Frames.{on, made, Below, nowhere, types, reference, entry, group, as_types, as_entry, as_group, as_argument, as_reference, inside_at, within_at, reference_at, in_entry_at, member_at, IsElsewhere, IsChoice}
 
--- Behind a type in brackets.
+-- After a type in brackets.
 
 pub shut_other : (k : M.AtType2) (o : M.TypeOpening) (ts : S.Types) (i : Kind) (t : Token) → i ≢ K.ParenClose → i ≢ K.AngleClose → M.shut_types k o ts i t ≡ M.stuck
 shut_other k (M.paren o) ts K.ParenClose t e f = absurd (e refl)
@@ -17,7 +17,7 @@ shut_other k (M.tag_content o h a p) ts K.ParenClose t e f = absurd (e refl)
 shut_other k (M.simple_head o) ts K.AngleClose t e f = absurd (f refl)
 shut_other k o ts i t e f = refl
 
--- Behind a type at the head of an entry.
+-- After a type at the head of an entry.
 
 pub arrow_several : (p : M.AtEntry) (oc : Option Token) (ts : S.Types) (t : Token) → IsChoice ts → M.arrow p oc ts t ≡ M.stuck
 arrow_several p oc (S.only r) t h = absurd h
@@ -39,7 +39,7 @@ pub colon_taken : (q : Option M.AtEntry) (P : M.State → Type 0) (oc : Option T
 colon_taken None P oc ts r m t e f h = tt
 colon_taken (Some p) P oc ts r m t e f h = rw e (subst P (sym (f p)) h)
 
--- Behind an argument and a comma.
+-- After an argument and a comma.
 
 argument_comma_at : (b : Below) (a : S.GenericArg) (t : Token) (P : M.State → Type 0) → on (as_argument b (M.behind_arg a t)) (λ k. P (M.want (M.lower k))) → on (as_reference b) (λ y. P (M.after_argument y.0 y.1 y.2 a K.Comma t))
 argument_comma_at nowhere a t P h = tt
@@ -51,7 +51,7 @@ argument_comma_at (group k) a t P h = tt
 pub argument_comma : (b : Below) (x a : S.GenericArg) (t : Token) (P : M.State → Type 0) → x ≡ a → on (as_argument b (M.behind_arg x t)) (λ k. P (M.want (M.lower k))) → on (as_reference b) (λ y. P (M.after_argument y.0 y.1 y.2 a K.Comma t))
 argument_comma b x a t P e h = argument_comma_at b a t P (rw e at h)
 
--- Behind the choices of a type and a `/`.
+-- After the choices of a type and a `/`.
 
 pub choice_opened : (q : Option M.AtTypes) (us ts : S.Types) (s : Token) (w : Option M.AtType1) (P : M.State → Type 0) → us ≡ ts → w ≡ made (λ j. M.next j us s) q → on (made M.lower w) (λ k. P (M.want k)) → on q (λ k. P (M.want (M.lower (M.next k ts s))))
 choice_opened None us ts s w P e f h = tt

@@ -121,7 +121,7 @@ pub paren_elsewhere : (q : Option M.AtType2) (t : Token) (P : M.State → Type 0
 paren_elsewhere None t P h g = tt
 paren_elsewhere (Some k) t P h g = subst P (sym (open_paren_elsewhere k t h)) g
 
--- Behind a group.
+-- After a group.
 
 pub got_as : (q : Option M.AtType2) (x y : S.Type2) (P : M.State → Type 0) → x ≡ y → on q (λ k. P (M.got k x)) → on q (λ k. P (M.got k y))
 got_as q x y P e h = subst (λ (z : S.Type2). on q (λ k. P (M.got k z))) e h

@@ -1,4 +1,4 @@
--- What the machine does behind a group, and frames that are none of an entry or a group.
+-- What the machine does after a group, and frames that are none of an entry or a group.
 use Rattle.std.proofs.Common.{◌≡◌, ◌≢◌, Option, Some, None, refl, sym, ap, ◌∙◌, subst}
 use Rattle.cddl_token.specs.declared.Token.{Token}
 use Rattle.cddl_token.specs.declared.Kind.{Kind}
@@ -84,7 +84,7 @@ ends_no_member rs b (F.Entry oc o) i t e g h = shut (as_entry b)
     shut (Some x) = tt
 ends_no_member rs b (F.Member x es) i t e g h = absurd (h x es refl)
 
--- behind no open alternative the token is refused
+-- where no alternative is open the token is refused
 pub ends_default : (a : Below) (rs : S.Rules) (b : Below) (f : Frame) (i : Kind) (t : Token) (e : Stop) → a ≡ above rs b f → e ≡ Unexpected t.start → ((x : Option Alternatives) (es : Vec Entry Global) → f ≢ F.Member x es) → on (as_entry a) (λ p. Refused t e (M.ends_want (M.lower (M.head (M.start p None))) i t))
 ends_default a rs b f i t e d g h = rw d (ends_no_member rs b f i t e g h)
 
@@ -112,7 +112,7 @@ no_group rs b (F.Member before es) g h = shut (as_group b) (view_alternatives be
 none_holds : {A : Type 0} (q : Option A) (P : A → Type 0) → q ≡ None → on q P
 none_holds q P e = rw e tt
 
--- behind no open group anything holds
+-- where no group is open anything holds
 pub group_default : (a : Below) (rs : S.Rules) (b : Below) (f : Frame) (P : M.AtGroup → Type 0) → a ≡ above rs b f → ((k : AtType2) (o : GroupOpening) → f ≢ F.Group k o) → ((oc : Option (Bor Token)) (o : Bor Token) → f ≢ F.Entry oc o) → on (as_group a) P
 group_default a rs b f P d g h = none_holds (as_group a) P (ap as_group d ∙ no_group rs b f g h)
 
@@ -124,7 +124,7 @@ pub ends_refused : (q : Option M.AtType2) (i : Kind) (t : Token) (e : Stop) → 
 ends_refused None i t e f h = tt
 ends_refused (Some k) i t e f h = refuses t e _ h (ends_elsewhere k i t f)
 
--- Behind the entries of an alternative.
+-- After the entries of an alternative.
 
 pub slashes_opened : (q : Option M.AtGroup) (bf : M.Before) (es : S.GrpChoice) (g : S.Group) (xs : S.GrpChoice) (i : Kind) (t : Token) (P : M.State → Type 0) → i ≡ K.DoubleSlash → g ≡ M.group_of bf es → xs ≡ S.no_entries → on q (λ k. P (M.open_entry (M.member k (M.behind g t) xs))) → on q (λ k. P (M.ends k bf es i t))
 slashes_opened None bf es g xs i t P e f n h = tt
@@ -134,7 +134,7 @@ pub ends_shut : (q : Option M.AtGroup) (bf : M.Before) (es : S.GrpChoice) (g : S
 ends_shut None bf es g i t P e f h = tt
 ends_shut (Some k) bf es g i t P e f h = subst P (sym (ends_other k bf es g i t e f)) h
 
--- Behind a group.
+-- After a group.
 
 pub entry_shut : (b : Below) (q : Option M.AtEntry) (oc : Option Token) (o : Token) (g : S.Group) (i : Kind) (t : Token) (P : M.State → Type 0) → b ≡ in_entry_at q oc o → i ≡ K.ParenClose → on q (λ p. P (M.shut_paren p oc o g t)) → on (as_group b) (λ k. P (M.shut_group k g i t))
 entry_shut b q oc o g i t P e f h = in_entry_shut b q oc o g i t P e (rw f h)

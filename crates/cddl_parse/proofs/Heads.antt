@@ -1,4 +1,4 @@
--- What the machine does behind a type at an entry's head, behind an entry, and where a part is awaited.
+-- What the machine does after a type at an entry's head, after an entry, and where a part is awaited.
 use Rattle.std.proofs.Common.{◌≡◌, ◌≢◌, false, Option, Some, None, refl}
 use Rattle.cddl_token.specs.declared.Token.{Token}
 use Rattle.cddl_token.specs.declared.Kind.{Kind}
@@ -8,7 +8,7 @@ use Rattle.cddl_syntax.specs.Machine as M
 use Rattle.cddl_parse.specs.Kinds.{IsNoOperator}
 use Rattle.cddl_parse.specs.Frames.{on, made, Below, entry, as_entry, member_at, IsChoice}
 
--- Behind a type at the head of an entry.
+-- After a type at the head of an entry.
 
 pub start_other : (p : M.AtEntry) (oc : Option Token) (ts : S.Types) (i : Kind) (t : Token) → i ≢ K.Arrow → i ≢ K.Cut → i ≢ K.Colon → M.after_start p oc ts i t ≡ M.after_entry p (S.typed oc ts) i t
 start_other p oc ts K.Arrow t e f g = absurd (e refl)
@@ -20,7 +20,7 @@ pub cut_several : (p : M.AtEntry) (oc : Option Token) (ts : S.Types) (t : Token)
 cut_several p oc (S.only r) t h = absurd h
 cut_several p oc (S.or ts s r) t h = refl
 
--- the place of a value behind its key
+-- the place of a value after its key
 pub arrow_behind_cut : (q : Option M.AtEntry) (P : M.State → Type 0) (oc : Option Token) (r : S.Type1) (u : Token) (m : S.MemberKey) (i : Kind) (t : Token) → i ≡ K.Arrow → m ≡ S.type_key r (Some u) t → on q (λ p. P (M.open_value p oc m)) → on q (λ p. P (M.step (M.want_arrow p oc r u) i t))
 arrow_behind_cut None P oc r u m i t e f h = tt
 arrow_behind_cut (Some p) P oc r u m i t e f h = rw e (rw f at h)
@@ -34,7 +34,7 @@ pub on_along : {A : Type 0} (q : Option A) (P : M.State → Type 0) (f g : A →
 on_along None P f g e h = tt
 on_along (Some x) P f g e h = rw (e x) h
 
--- Behind an entry.
+-- After an entry.
 
 pub body_entry : (b : Below) (rs : S.Rules) (n : S.RuleName) (a : S.AssignG) (x : S.GrpEnt) (r : S.Rule) (i : Kind) (t : Token) → b ≡ entry (M.group_body rs n a) → r ≡ M.rule_of n a x → on (as_entry b) (λ p. M.after_entry p x i t ≡ M.next_rule (S.rules rs r) i t)
 body_entry b rs n a x r i t e f = rw (e, f) refl
@@ -77,7 +77,7 @@ ref_other k p K.NameOpen t e f g = absurd (f refl)
 ref_other k p K.ParenOpen t e f g = absurd (g refl)
 ref_other k p i t e f g = refl
 
--- Where a type2 is awaited, and behind a type1.
+-- Where a type2 is awaited, and after a type1.
 
 pub no_operator : (i : Kind) → i ≢ K.Range → i ≢ K.RangeBelow → i ≢ K.Control → IsNoOperator i
 no_operator K.Range e f g = absurd (e refl)

@@ -63,7 +63,7 @@ pub head_none : (q : Option M.AtType2) (x : Option M.AtEntry) (oc : Option Token
 head_none q None oc P e f h = rw f tt
 head_none q (Some p) oc P e f h = rw (f, e) h
 
--- Behind an operand.
+-- After an operand.
 
 pub got_joined : (q : Option M.AtType1) (l : Option (Box Left Global)) (P : M.State → Type 0) (r : S.Type1) (x : S.Type2) → r ≡ joined_to l x → on q (λ k. P (M.have k r)) → on (type2_at l q) (λ k. P (M.got k x))
 got_joined None None P r x e h = tt
@@ -84,7 +84,7 @@ operated_one (Some k) l r x o P f g e h = rw e (rw (f, g) at h)
 pub operated_two : (r : S.Type1) (x y : S.Type2) (p o : S.Operator) (k : M.AtType1) → r ≡ S.operation x p y → M.operated k r o ≡ M.stuck
 operated_two r x y p o k e = rw e refl
 
--- Behind a type1.
+-- After a type1.
 
 slash_first_at : (q : Option M.AtTypes) (P : M.State → Type 0) (r : S.Type1) (t : Token) → on q (λ k. P (M.want (M.lower (M.next k (S.only r) t)))) → on (made M.head q) (λ k. P (M.slash k r t))
 slash_first_at None P r t h = tt
@@ -114,7 +114,7 @@ slash_argument b h bf a r t e f g = rw f (along (as_argument b (view_arguments a
     along None i = tt
     along (Some k) i = refuses t e _ g i
 
--- Behind a type.
+-- After a type.
 
 pub on_kind : {A : Type 0} (q : Option A) (P : M.State → Type 0) (f : A → Kind → M.State) (i j : Kind) → i ≡ j → on q (λ x. P (f x j)) → on q (λ x. P (f x i))
 on_kind q P f i j e h = subst (λ (l : Kind). on q (λ x. P (f x l))) (sym e) h

@@ -1,4 +1,4 @@
--- What the parser's state says of the tokens behind it.
+-- What the parser's state says of the tokens that were read.
 use Rattle.std.proofs.Common.{◌≡◌, ◌≢◌, ℕ, suc, max, ◌≤◌, ◌<◌, ◌+◌, ◌⊎◌, inl, inr, List, [], ◌∷◌, ◌++◌, length, take, drop, get_or, Option, Some, None, Result, Ok, Err, refl, sym, ap, ◌∙◌, subst, ⊎_elim, arith, add-one, append-nil, Box, Global}
 use Rattle.std.proofs.Math.Seq.{take-suc, drop-cons}
 use Rattle.std.proofs.lemmas.List.{take-append-drop}
@@ -161,7 +161,7 @@ done_place (St.WantAssign rs n) t e = cc
 done_place (St.Body rs fs now) t e = cc
 done_place (St.Done u) t e = let f : t ≡ u = cc in ap (λ (x : Tree). Some (M.done (view x))) (sym f)
 
--- behind all tokens the state holds their tree
+-- after all tokens the state holds their tree
 pub done_behind : (p : Progress) (ts : List Token) (t : Tree) → Some t ≡ tree_in p.state.value → Stands p ts → M.run M.begin (lexemes ts) ≡ M.done (view t)
 done_behind p ts t e h = let f = h.place in let g = done_place p.state.value t e in cc
 

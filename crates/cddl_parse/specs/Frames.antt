@@ -168,7 +168,7 @@ abbrev pub member_at : Option M.AtGroup → M.Before → S.GrpChoice → Below
 member_at None b es = nowhere
 member_at (Some k) b es = entry (M.member k b es)
 
--- with one frame more, in a rule behind the rules
+-- with one frame more, in a rule after the rules
 abbrev pub above : S.Rules → Below → Frame → Below
 above rs b (F.TypeBody n a) = types (M.body rs (view_name n) a.now)
 above rs b (F.GroupBody n a) = entry (M.group_body rs (view_name n) (view_assigng a))

@@ -1,4 +1,4 @@
--- Kinds of tokens, by what they are where a type2 is awaited, and behind a type1.
+-- Kinds of tokens, by what they are where a type2 is awaited, and after a type1.
 use Rattle.std.specs.Prelude.{◌≡◌, Option, Some, None}
 use Rattle.cddl_token.specs.declared.Token.{Token}
 use Rattle.cddl_token.specs.declared.Kind.{Kind}

@@ -53,13 +53,13 @@ abbrev pub Refuses : List Token → Refusal → Type 0
 Refuses ts (At code at) = IsRefused ts code at
 Refuses ts Memory = Unit {0}
 
--- The parser behind the tokens, which nest within the limit.
+-- The parser after the tokens, which nest within the limit.
 pub record Stands (p : Progress) (ts : List Token) : Type 0 where
   pub place : view_state p.state.value ≡ Some (M.run M.begin (lexemes ts))
   pub count : p.count ≡ open_after 0 (lexemes ts)
   pub within : deepest 0 (lexemes ts) ≤ nesting_limit
 
--- it comes behind the token, or all tokens that begin so are refused
+-- it comes after the token, or all tokens that begin so are refused
 abbrev pub Advances : List Token → Token → Result Progress Refusal → Type 0
 Advances ts t (Ok p) = Stands p (ts ++ t ∷ [])
 Advances ts t (Err e) = (back : List Token) → Refuses (ts ++ t ∷ back) e

@@ -37,7 +37,7 @@ pub(crate) fn step_body<'s>(
     }
 }
 
-/// A token behind `#6.<`, a type and its `>`.
+/// A token after `#6.<`, a type and its `>`.
 #[tactic(none)]
 fn step_content<'s>(
     alloc: Global,
@@ -63,7 +63,7 @@ fn step_content<'s>(
     }
 }
 
-/// A token behind the `^` of a key.
+/// A token after the `^` of a key.
 #[tactic(none)]
 fn step_arrow<'s>(
     alloc: Global,
@@ -90,7 +90,7 @@ fn step_arrow<'s>(
     }
 }
 
-/// A token behind a group in parentheses that is an entry.
+/// A token after a group in parentheses that is an entry.
 #[tactic(none)]
 fn after_group<'s>(
     alloc: Global,

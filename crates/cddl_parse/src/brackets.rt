@@ -1,4 +1,4 @@
-//! What a token does behind a group in brackets, or in parentheses at the head of an entry.
+//! What a token does after a group in brackets, or in parentheses at the head of an entry.
 ghost use Rattle.std.specs.Prelude.{◌≡◌};
 ghost use Rattle.cddl_syntax.specs.Machine as M;
 ghost use Rattle.cddl_syntax.specs.Syntax as S;
@@ -68,7 +68,7 @@ fn in_brackets<'s>(opening: GroupOpening<'s>, group: Group<'s>, closing: &'s Tok
     }
 }
 
-/// A `)` behind a group at the head of an entry.
+/// A `)` after a group at the head of an entry.
 #[tactic(none)]
 pub(crate) fn shut_entry<'s>(
     alloc: Global,

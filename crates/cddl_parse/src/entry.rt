@@ -1,4 +1,4 @@
-//! What a token does behind an entry.
+//! What a token does after an entry.
 ghost use Rattle.std.specs.Prelude.{◌≡◌, IfOk};
 ghost use Rattle.cddl_syntax.specs.Machine as M;
 ghost use Rattle.cddl_syntax.specs.Syntax as S;
@@ -15,7 +15,7 @@ use cddl_token::{Kind, Token};
 use cddl_tree::{AssignG, AssignT, Entry, GrpEnt, Rule, RuleName};
 use std::alloc::Global;
 
-/// A token behind an entry.
+/// A token after an entry.
 #[tactic(none)]
 pub(crate) fn after_entry<'s>(
     alloc: Global,
@@ -44,7 +44,7 @@ pub(crate) fn after_entry<'s>(
     }
 }
 
-/// The rule with this body. One that is a type behind `=` makes a type rule.
+/// The rule with this body. One that is a type after `=` makes a type rule.
 #[tactic(none)]
 fn rule_of<'s>(name: RuleName<'s>, assign: AssignG<'s>, grpent: GrpEnt<'s>) -> Rule<'s>
     ensures { view_rule result ≡ M.rule_of (view_name name.entry) (view_assigng assign.entry) (view_grpent grpent.entry) }
@@ -70,7 +70,7 @@ fn rule_of<'s>(name: RuleName<'s>, assign: AssignG<'s>, grpent: GrpEnt<'s>) -> R
     }
 }
 
-/// A token behind an entry of a group.
+/// A token after an entry of a group.
 #[tactic(none)]
 fn after_member<'s>(
     alloc: Global,

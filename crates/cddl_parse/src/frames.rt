@@ -107,7 +107,7 @@ pub(crate) enum Frame<'s> {
     Group(AtType2<'s>, GroupOpening<'s>),
     /// A name with arguments.
     Reference(AtType2<'s>, Prefix<'s>, &'s Token<'s>),
-    /// Parentheses at the head of an entry, behind its occurrence.
+    /// Parentheses at the head of an entry, after its occurrence.
     Entry(Option<&'s Token<'s>>, &'s Token<'s>),
     /// The open alternative of a group.
     Member(Option<Alternatives<'s>>, Vec<Entry<'s>>),
@@ -120,10 +120,10 @@ pub(crate) enum Now<'s> {
     Want(AtType2<'s>),
     /// A reference is awaited.
     WantRef(AtType2<'s>, Prefix<'s>),
-    /// The `(` behind `#6.<` and its `>` is awaited.
+    /// The `(` after `#6.<` and its `>` is awaited.
     WantContent(AtType2<'s>, &'s Token<'s>, Box<Types<'s>>, &'s Token<'s>),
     Have(Box<AtType1<'s>>, Box<Type1<'s>>),
-    /// The `=>` behind `^` is awaited.
+    /// The `=>` after `^` is awaited.
     WantArrow(Option<&'s Token<'s>>, Box<Type1<'s>>, &'s Token<'s>),
     HaveGroup(Box<GrpEnt<'s>>),
 }
@@ -132,7 +132,7 @@ pub(crate) enum Now<'s> {
 #[derive(Drop)]
 pub(crate) enum Next<'s> {
     Within(Box<Now<'s>>),
-    /// The rule is whole; the token is behind it.
+    /// The rule is whole, and the token comes after it.
     Ended(Box<Rule<'s>>),
 }
 

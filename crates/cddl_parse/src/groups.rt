@@ -55,7 +55,7 @@ fn ends_start<'s>(
     }
 }
 
-/// A token behind the entries of an alternative.
+/// A token after the entries of an alternative.
 #[tactic(none)]
 fn ends<'s>(
     alloc: Global,

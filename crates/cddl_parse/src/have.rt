@@ -1,4 +1,4 @@
-//! What a token does behind a type1, behind an argument, and behind a type.
+//! What a token does after a type1, after an argument, and after a type.
 ghost use Rattle.cddl_token.specs.declared.Kind.TheVariants.{ParenClose, AngleClose};
 ghost use Rattle.cddl_syntax.specs.Machine as M;
 ghost use Rattle.cddl_syntax.specs.Syntax as S;
@@ -17,7 +17,7 @@ use cddl_token::{Kind, Token};
 use cddl_tree::{AssignT, GenericArg, GrpEnt, MemberKey, Operator, Ref, Rule, Type1, Type2, Types};
 use std::alloc::Global;
 
-/// A token behind a type1.
+/// A token after a type1.
 #[tactic(none)]
 pub(crate) fn step_have<'s>(
     alloc: Global,
@@ -50,7 +50,7 @@ fn operator_of<'s>(token: &'s Token<'s>) -> Option<Operator<'s>>
     }
 }
 
-/// An operator behind a type1, which has to be one operand.
+/// An operator after a type1, which has to be one operand.
 #[tactic(none)]
 fn operated<'s>(
     alloc: Global,
@@ -82,7 +82,7 @@ fn operated<'s>(
     }
 }
 
-/// A `/` behind a type1.
+/// A `/` after a type1.
 #[tactic(none)]
 fn slash<'s>(
     alloc: Global,
@@ -112,7 +112,7 @@ fn slash<'s>(
     }
 }
 
-/// A token behind a type1 that is neither `/` nor an operator.
+/// A token after a type1 that is neither `/` nor an operator.
 #[tactic(none)]
 fn after_type1<'s>(
     alloc: Global,
@@ -147,7 +147,7 @@ fn after_type1<'s>(
     }
 }
 
-/// A token behind an argument.
+/// A token after an argument.
 #[tactic(none)]
 fn after_argument<'s>(
     alloc: Global,
@@ -167,7 +167,7 @@ fn after_argument<'s>(
     }
 }
 
-/// A `>` behind the arguments of a name.
+/// A `>` after the arguments of a name.
 #[tactic(none)]
 fn shut_arguments<'s>(
     alloc: Global,
@@ -208,7 +208,7 @@ fn shut_arguments<'s>(
     }
 }
 
-/// A token behind a type that is neither `/` nor an operator.
+/// A token after a type that is neither `/` nor an operator.
 #[tactic(none)]
 fn after_types<'s>(
     alloc: Global,
@@ -228,7 +228,7 @@ fn after_types<'s>(
     }
 }
 
-/// A token behind a rule's type, or behind a type in brackets.
+/// A token after a rule's type, or after a type in brackets.
 #[tactic(none)]
 fn after_inside<'s>(
     alloc: Global,
@@ -265,7 +265,7 @@ fn after_inside<'s>(
     }
 }
 
-/// A token behind a type in brackets.
+/// A token after a type in brackets.
 #[tactic(none)]
 fn shut_types<'s>(
     alloc: Global,
@@ -296,7 +296,7 @@ fn shut_types<'s>(
     }
 }
 
-/// A `)` behind a type in brackets.
+/// A `)` after a type in brackets.
 #[tactic(none)]
 fn shut_parens<'s>(
     alloc: Global,
@@ -348,7 +348,7 @@ fn shut_parens<'s>(
     }
 }
 
-/// A `>` behind a type in angles.
+/// A `>` after a type in angles.
 #[tactic(none)]
 fn shut_angles<'s>(
     alloc: Global,
@@ -379,7 +379,7 @@ fn shut_angles<'s>(
     }
 }
 
-/// A token behind a type at the head of an entry, where a key may end.
+/// A token after a type at the head of an entry, where a key may end.
 #[tactic(none)]
 fn after_start<'s>(
     alloc: Global,
@@ -401,7 +401,7 @@ fn after_start<'s>(
     }
 }
 
-/// A `=>` behind a type at the head of an entry.
+/// A `=>` after a type at the head of an entry.
 #[tactic(none)]
 fn arrow<'s>(
     alloc: Global,
@@ -424,7 +424,7 @@ fn arrow<'s>(
     }
 }
 
-/// A `:` behind a type at the head of an entry.
+/// A `:` after a type at the head of an entry.
 #[tactic(none)]
 fn colon<'s>(
     alloc: Global,

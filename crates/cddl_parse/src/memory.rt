@@ -16,7 +16,7 @@ pub(crate) fn boxed<T: Drop>(alloc: Global, value: T) -> Result<Box<T>, AllocErr
     }
 }
 
-/// Puts the value behind the others. There is room for one at first, since most lists of a tree
+/// Puts the value after the others. There is room for one at first, since most lists of a tree
 /// have one part or none, and then for a quarter as many again.
 pub(crate) fn pushed<T: Drop>(list: &mut Vec<T>, value: T) -> Result<(), AllocError>
     ensures items { IfOk result (λ _. list.new.items ≡ list.old.items ++ value ∷ []) }

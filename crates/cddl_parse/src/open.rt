@@ -56,7 +56,7 @@ pub(crate) fn open_reference<'s>(
     }
 }
 
-/// Opens an alternative of a group, behind what it has already.
+/// Opens an alternative of a group, after what it has already.
 #[tactic(none)]
 pub(crate) fn open_member<'s>(
     alloc: Global,

@@ -19,7 +19,7 @@ use std::alloc::Global;
 /// The number of opening tokens that may be open at once.
 pub const NESTING_LIMIT: usize = 128;
 
-/// How many are open behind a token, of `count` before it.
+/// How many are open after a token, of `count` before it.
 fn opened(kind: Kind, count: usize) -> usize
     requires { count < 129 }
     ensures { result ≡ opened_after kind count }
@@ -39,7 +39,7 @@ fn opened(kind: Kind, count: usize) -> usize
     }
 }
 
-/// The parser behind one token more.
+/// The parser after one token more.
 #[tactic(none)]
 fn advance<'s>(
     alloc: Global,
@@ -75,7 +75,7 @@ fn refusal(stop: Stop) -> Refusal
     }
 }
 
-/// The tree, behind the last token.
+/// The tree, after the last token.
 #[tactic(none)]
 fn finished<'s>(state: Box<State<'s>>) -> Option<Tree<'s>>
     ensures { result ≡ tree_in state.entry.value }

@@ -112,7 +112,7 @@ pub(crate) fn want_ref<'s>(
     }
 }
 
-/// Behind `#6.<`, a type and its `>`.
+/// After `#6.<`, a type and its `>`.
 #[tactic(none)]
 pub(crate) fn want_content<'s>(
     alloc: Global,
@@ -132,7 +132,7 @@ pub(crate) fn want_content<'s>(
     }
 }
 
-/// Behind a type1.
+/// After a type1.
 #[tactic(none)]
 fn have<'s>(alloc: Global, at: Box<AtType1<'s>>, type1: Type1<'s>) -> Result<Next<'s>, Stop>
     ensures { (t : T.Token) (rs : S.Rules) (b : Below) → on (view_at_type1 b at.entry.value) (λ k. Gives t rs b result (M.have k (view_type1 type1.entry))) }
@@ -153,7 +153,7 @@ fn have<'s>(alloc: Global, at: Box<AtType1<'s>>, type1: Type1<'s>) -> Result<Nex
     }
 }
 
-/// A type2 behind what stands left of it.
+/// A type2 after what stands left of it.
 #[tactic(none)]
 pub(crate) fn got<'s>(alloc: Global, at: AtType2<'s>, type2: Type2<'s>) -> Result<Next<'s>, Stop>
     ensures { (t : T.Token) (rs : S.Rules) (b : Below) → on (view_at_type2 b at.entry) (λ k. Gives t rs b result (M.got k (view_type2 type2.entry))) }
@@ -171,7 +171,7 @@ pub(crate) fn got<'s>(alloc: Global, at: AtType2<'s>, type2: Type2<'s>) -> Resul
     }
 }
 
-/// The type1 that an operand ends, behind what stands left of it.
+/// The type1 that an operand ends, after what stands left of it.
 fn joined<'s>(left: Option<Box<Left<'s>>>, type2: Box<Type2<'s>>) -> Type1<'s>
     ensures { view_type1 result ≡ joined_to left.entry (view_type2 type2.entry.value) }
 {
@@ -191,7 +191,7 @@ fn joined<'s>(left: Option<Box<Left<'s>>>, type2: Box<Type2<'s>>) -> Type1<'s>
     }
 }
 
-/// Behind the choices of a type and a `/`.
+/// After the choices of a type and a `/`.
 #[tactic(none)]
 pub(crate) fn next_choice<'s>(
     alloc: Global,
@@ -220,7 +220,7 @@ pub(crate) fn next_choice<'s>(
     }
 }
 
-/// Behind arguments and a comma.
+/// After arguments and a comma.
 #[tactic(none)]
 pub(crate) fn next_argument<'s>(
     alloc: Global,
@@ -238,7 +238,7 @@ pub(crate) fn next_argument<'s>(
     }
 }
 
-/// Behind the key of an entry.
+/// After the key of an entry.
 #[tactic(none)]
 pub(crate) fn value_at<'s>(
     alloc: Global,
@@ -256,7 +256,7 @@ pub(crate) fn value_at<'s>(
     }
 }
 
-/// Behind the `^` of a key.
+/// After the `^` of a key.
 #[tactic(none)]
 pub(crate) fn want_arrow<'s>(
     alloc: Global,
@@ -281,7 +281,7 @@ pub(crate) fn want_arrow<'s>(
     }
 }
 
-/// Behind a group in parentheses that is an entry.
+/// After a group in parentheses that is an entry.
 #[tactic(none)]
 pub(crate) fn have_group<'s>(alloc: Global, grpent: GrpEnt<'s>) -> Result<Next<'s>, Stop>
     ensures { (t : T.Token) (rs : S.Rules) (b : Below) → on (as_entry b) (λ p. Gives t rs b result (M.have_group p (view_grpent grpent.entry))) }
@@ -301,7 +301,7 @@ pub(crate) fn have_group<'s>(alloc: Global, grpent: GrpEnt<'s>) -> Result<Next<'
     }
 }
 
-/// Behind a whole rule.
+/// After a whole rule.
 #[tactic(none)]
 pub(crate) fn ended<'s>(alloc: Global, rule: Rule<'s>) -> Result<Next<'s>, Stop>
     ensures { (t : T.Token) (rs : S.Rules) (b : Below) (m : M.State) → m ≡ M.next_rule (S.rules rs (view_rule rule.entry)) t.kind t → Gives t rs b result m }

@@ -29,7 +29,7 @@ pub(crate) fn placed<'s>(alloc: Global, state: State<'s>) -> Result<Box<State<'s
     }
 }
 
-/// A token behind whole rules.
+/// A token after whole rules.
 #[tactic(none)]
 fn next_rule<'s>(
     alloc: Global,
@@ -49,7 +49,7 @@ fn next_rule<'s>(
     }
 }
 
-/// A token behind a parameter.
+/// A token after a parameter.
 #[tactic(none)]
 fn after_parm<'s>(
     alloc: Global,
@@ -191,7 +191,7 @@ fn with_rule<'s>(rules: Vec<Rule<'s>>, rule: Box<Rule<'s>>) -> Result<Vec<Rule<'
     }
 }
 
-/// The state behind a token of a rule's body.
+/// The state after a token of a rule's body.
 #[tactic(none)]
 fn after_body<'s>(
     alloc: Global,
@@ -264,7 +264,7 @@ fn parameter<'s>(
     }
 }
 
-/// The state behind a token.
+/// The state after a token.
 #[tactic(none)]
 pub(crate) fn step<'s>(
     alloc: Global,
