@@ -13,7 +13,7 @@ pub struct Source<'a> {
 
 impl<'a> Source<'a> {
     /// Gives the bytes in two pieces, or in one where the cut is their end.
-    pub fn cut(bytes: &'a [u8], cut: usize) -> Source<'a> {
+    pub(crate) fn cut(bytes: &'a [u8], cut: usize) -> Source<'a> {
         Source {
             bytes,
             piece: cut,
@@ -24,7 +24,7 @@ impl<'a> Source<'a> {
     }
 
     /// Gives one byte in each of so many reads, and then fails.
-    pub fn failing(bytes: &'a [u8], reads: usize, fault: ErrorKind) -> Source<'a> {
+    pub(crate) fn failing(bytes: &'a [u8], reads: usize, fault: ErrorKind) -> Source<'a> {
         Source {
             bytes,
             piece: 1,
@@ -59,7 +59,7 @@ pub struct Sink {
 }
 
 impl Sink {
-    pub fn new(alloc: Global, room: usize, fails: bool) -> Sink {
+    pub(crate) fn new(alloc: Global, room: usize, fails: bool) -> Sink {
         Sink {
             taken: Vec::new(alloc),
             room,
@@ -67,7 +67,7 @@ impl Sink {
         }
     }
 
-    pub fn into_taken(self) -> Vec<u8> {
+    pub(crate) fn into_taken(self) -> Vec<u8> {
         self.taken
     }
 }
