@@ -55,14 +55,16 @@ fn print_answer<'s>(rt: &HostRuntime, found: &'s [Token<'s>]) -> io::Result<()>
 
 fn print_tree(rt: &HostRuntime, tree: &Tree<'_>) -> io::Result<()> {
     let mut sketch = Sketch::of(rt.alloc(), tree);
-    print_sketch(rt, &mut sketch)
+    print_sketch(rt, tree, &mut sketch)?;
+    print_token(rt, "", tree.end)?;
+    println!(rt; "")
 }
 
-fn print_sketch(rt: &HostRuntime, sketch: &mut Sketch<'_, '_>) -> io::Result<()> {
+fn print_sketch(rt: &HostRuntime, tree: &Tree<'_>, sketch: &mut Sketch<'_>) -> io::Result<()> {
     for _ in 0..u64::MAX {
         match sketch.next() {
             None => break,
-            Some(piece) => print_piece(rt, sketch, piece)?,
+            Some(piece) => print_piece(rt, tree, sketch, piece)?,
         }
     }
     sketch.memory()?;
@@ -70,14 +72,15 @@ fn print_sketch(rt: &HostRuntime, sketch: &mut Sketch<'_, '_>) -> io::Result<()>
 }
 
 /// Prints a word or a token, or opens a node.
-fn print_piece<'t, 's>(
+fn print_piece<'t>(
     rt: &HostRuntime,
-    sketch: &mut Sketch<'t, 's>,
-    piece: Piece<'t, 's>,
+    tree: &Tree<'_>,
+    sketch: &mut Sketch<'t>,
+    piece: Piece<'t>,
 ) -> io::Result<()> {
     match piece {
         Piece::Word(word) => print!(rt; "{word}")?,
-        Piece::Leaf(node, token) => print_token(rt, node, token)?,
+        Piece::Leaf(node, leaf) => print_token(rt, node, tree.token(leaf))?,
         Piece::Type2(type2) => sketch.open_type2(type2),
         Piece::Group(group) => sketch.open_group(group),
     }

@@ -2,21 +2,18 @@
 //!
 //! Boxes and lists are passed on as they are: each place that looks into one costs the check seconds.
 use crate::sketch::Sketch;
-use cddl_token::{Kind, Token};
 use cddl_tree::{
-    AssignG, AssignT, Entry, Further, GenericArg, Group, GrpChoice, GrpEnt, MemberKey, Operator,
+    AssignG, AssignT, Entry, GenericArg, Group, GrpChoice, GrpEnt, Leaf, MemberKey, Operator,
     Parameter, Ref, Rule, RuleName, Tree, Type1, Type2, Types, Value,
 };
 
-impl<'t, 's> Sketch<'t, 's> {
-    pub(crate) fn tree(&mut self, tree: &'t Tree<'s>) {
+impl<'t> Sketch<'t> {
+    pub(crate) fn tree(&mut self, tree: &'t Tree<'_>) {
         self.word("tree: ");
         self.rules(&tree.rules);
-        self.token(tree.end);
-        self.word("\n");
     }
 
-    fn rules(&mut self, rules: &'t Vec<Rule<'s>>) {
+    fn rules(&mut self, rules: &'t Vec<Rule>) {
         if let [first, others @ ..] = rules.as_slice() {
             self.rule(first);
             for rule in others {
@@ -26,7 +23,7 @@ impl<'t, 's> Sketch<'t, 's> {
         }
     }
 
-    fn rule(&mut self, rule: &'t Rule<'s>) {
+    fn rule(&mut self, rule: &'t Rule) {
         match rule {
             Rule::TypeRule {
                 name,
@@ -51,7 +48,7 @@ impl<'t, 's> Sketch<'t, 's> {
         }
     }
 
-    fn name(&mut self, name: &'t RuleName<'s>) {
+    fn name(&mut self, name: &'t RuleName) {
         match name {
             RuleName::Plain(token) => self.leaf("Plain", *token),
             RuleName::Generic {
@@ -67,7 +64,7 @@ impl<'t, 's> Sketch<'t, 's> {
         }
     }
 
-    fn parameters(&mut self, parameters: &'t [Parameter<'s>]) {
+    fn parameters(&mut self, parameters: &'t [Parameter]) {
         for parameter in parameters {
             self.token(parameter.comma);
             self.word(" ");
@@ -75,14 +72,14 @@ impl<'t, 's> Sketch<'t, 's> {
         }
     }
 
-    fn type_sign(&mut self, assign: &AssignT<'s>) {
+    fn type_sign(&mut self, assign: &AssignT) {
         match assign {
             AssignT::TypeIs(token) => self.sign("TypeIs", *token),
             AssignT::TypeOr(token) => self.sign("TypeOr", *token),
         }
     }
 
-    fn group_sign(&mut self, assign: &AssignG<'s>) {
+    fn group_sign(&mut self, assign: &AssignG) {
         match assign {
             AssignG::GroupIs(token) => self.sign("GroupIs", *token),
             AssignG::GroupOr(token) => self.sign("GroupOr", *token),
@@ -90,36 +87,21 @@ impl<'t, 's> Sketch<'t, 's> {
     }
 
     /// A token between two spaces.
-    fn sign(&mut self, node: &'static str, token: &'s Token<'s>) {
+    fn sign(&mut self, node: &'static str, token: Leaf) {
         self.word(" ");
         self.leaf(node, token);
         self.word(" ");
     }
 
-    fn types(&mut self, types: &'t Types<'s>) {
+    fn types(&mut self, types: &'t Types) {
         self.type1(&types.first);
         for further in &types.others {
-            self.further(further);
+            self.sign("", further.sign);
+            self.type1(&further.type1);
         }
     }
 
-    fn further(&mut self, further: &'t Further<'s>) {
-        self.further_sign(further.sign);
-        self.type1(&further.type1);
-    }
-
-    /// A `/` between two spaces, or a comma before one.
-    fn further_sign(&mut self, token: &'s Token<'s>) {
-        match token.kind {
-            Kind::Slash => self.sign("", token),
-            _ => {
-                self.token(token);
-                self.word(" ");
-            }
-        }
-    }
-
-    fn type1(&mut self, type1: &'t Type1<'s>) {
+    fn type1(&mut self, type1: &'t Type1) {
         match type1 {
             Type1::One(type2) => self.type2(type2),
             Type1::Operation {
@@ -136,7 +118,7 @@ impl<'t, 's> Sketch<'t, 's> {
         }
     }
 
-    fn operator(&mut self, operator: &Operator<'s>) {
+    fn operator(&mut self, operator: &Operator) {
         match operator {
             Operator::Range(token) => self.sign("Range", *token),
             Operator::RangeBelow(token) => self.sign("RangeBelow", *token),
@@ -145,7 +127,7 @@ impl<'t, 's> Sketch<'t, 's> {
     }
 
     /// What a type2 is made of.
-    pub(crate) fn in_type2(&mut self, type2: &'t Type2<'s>) {
+    pub(crate) fn in_type2(&mut self, type2: &'t Type2) {
         match type2 {
             Type2::Literal(value) => self.value(value),
             Type2::Typename(name) => self.reference(name),
@@ -161,13 +143,20 @@ impl<'t, 's> Sketch<'t, 's> {
                 opening,
                 group,
                 closing,
-            } => self.grouped(*opening, group, *closing),
-            Type2::ArrayOf {
+            }
+            | Type2::ArrayOf {
                 opening,
                 group,
                 closing,
             } => self.grouped(*opening, group, *closing),
-            Type2::Unwrapped { tilde, name } => self.prefixed(*tilde, name),
+            Type2::Unwrapped {
+                tilde: prefix,
+                name,
+            }
+            | Type2::ChoiceOfName {
+                ampersand: prefix,
+                name,
+            } => self.prefixed(*prefix, name),
             Type2::ChoiceOf {
                 ampersand,
                 opening,
@@ -177,12 +166,16 @@ impl<'t, 's> Sketch<'t, 's> {
                 self.token(*ampersand);
                 self.grouped(*opening, group, *closing);
             }
-            Type2::ChoiceOfName { ampersand, name } => self.prefixed(*ampersand, name),
             Type2::Tagged {
                 opening,
                 types,
                 closing,
-            } => self.enclosed(*opening, types, *closing),
+            }
+            | Type2::SimpleBy {
+                opening,
+                head: types,
+                closing,
+            } => { self.enclosed(*opening, types, *closing) }
             Type2::TaggedBy {
                 opening,
                 head,
@@ -194,16 +187,11 @@ impl<'t, 's> Sketch<'t, 's> {
                 self.enclosed(*opening, head, *angle);
                 self.enclosed(*paren, types, *closing);
             }
-            Type2::SimpleBy {
-                opening,
-                head,
-                closing,
-            } => self.enclosed(*opening, head, *closing),
             Type2::Hash(token) => self.leaf("Hash", *token),
         }
     }
 
-    fn value(&mut self, value: &Value<'s>) {
+    fn value(&mut self, value: &Value) {
         match value {
             Value::Number(token) => self.leaf("Number", *token),
             Value::Text(token) => self.leaf("Text", *token),
@@ -211,7 +199,7 @@ impl<'t, 's> Sketch<'t, 's> {
         }
     }
 
-    fn reference(&mut self, name: &'t Ref<'s>) {
+    fn reference(&mut self, name: &'t Ref) {
         match name {
             Ref::Name(token) => self.leaf("Name", *token),
             Ref::Applied {
@@ -226,51 +214,48 @@ impl<'t, 's> Sketch<'t, 's> {
         }
     }
 
-    fn arguments(&mut self, arguments: &'t GenericArg<'s>) {
+    fn arguments(&mut self, arguments: &'t GenericArg) {
         self.type1(&arguments.first);
         for further in &arguments.others {
-            self.further(further);
+            self.token(further.sign);
+            self.word(" ");
+            self.type1(&further.type1);
         }
     }
 
-    fn prefixed(&mut self, prefix: &'s Token<'s>, name: &'t Ref<'s>) {
+    fn prefixed(&mut self, prefix: Leaf, name: &'t Ref) {
         self.token(prefix);
         self.reference(name);
     }
 
     /// A type in brackets.
-    fn enclosed(
-        &mut self,
-        opening: &'s Token<'s>,
-        types: &'t Box<Types<'s>>,
-        closing: &'s Token<'s>,
-    ) {
+    fn enclosed(&mut self, opening: Leaf, types: &'t Box<Types>, closing: Leaf) {
         self.token(opening);
         self.types(types);
         self.token(closing);
     }
 
     /// A group in brackets.
-    fn grouped(&mut self, opening: &'s Token<'s>, group: &'t Group<'s>, closing: &'s Token<'s>) {
+    fn grouped(&mut self, opening: Leaf, group: &'t Group, closing: Leaf) {
         self.token(opening);
         self.group(group);
         self.token(closing);
     }
 
     /// What a group is made of.
-    pub(crate) fn in_group(&mut self, group: &'t Group<'s>) {
+    pub(crate) fn in_group(&mut self, group: &'t Group) {
         self.entries(&group.first);
         for choice in &group.others {
             self.choice(choice);
         }
     }
 
-    fn choice(&mut self, choice: &'t GrpChoice<'s>) {
+    fn choice(&mut self, choice: &'t GrpChoice) {
         self.sign("", choice.slashes);
         self.entries(&choice.entries);
     }
 
-    fn entries(&mut self, entries: &'t Vec<Entry<'s>>) {
+    fn entries(&mut self, entries: &'t Vec<Entry>) {
         if let [first, others @ ..] = entries.as_slice() {
             self.entry(first);
             for entry in others {
@@ -280,14 +265,14 @@ impl<'t, 's> Sketch<'t, 's> {
         }
     }
 
-    fn entry(&mut self, entry: &'t Entry<'s>) {
+    fn entry(&mut self, entry: &'t Entry) {
         self.grpent(&entry.grpent);
         if let Some(comma) = entry.comma {
             self.token(comma);
         }
     }
 
-    fn grpent(&mut self, grpent: &'t GrpEnt<'s>) {
+    fn grpent(&mut self, grpent: &'t GrpEnt) {
         match grpent {
             GrpEnt::Typed { occur, types } => {
                 self.optional(*occur);
@@ -312,14 +297,14 @@ impl<'t, 's> Sketch<'t, 's> {
     }
 
     /// A token and a space, if there is one.
-    fn optional(&mut self, token: Option<&'s Token<'s>>) {
+    fn optional(&mut self, token: Option<Leaf>) {
         if let Some(token) = token {
             self.token(token);
             self.word(" ");
         }
     }
 
-    fn key(&mut self, key: &'t MemberKey<'s>) {
+    fn key(&mut self, key: &'t MemberKey) {
         match key {
             MemberKey::TypeKey { type1, cut, arrow } => {
                 self.word("key ");

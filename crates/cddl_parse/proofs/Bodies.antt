@@ -1,5 +1,6 @@
 -- What the machine does after an entry, between the rules and in the head of a rule.
-use Rattle.std.proofs.Common.{◌≡◌, ◌≢◌, List, [], ◌∷◌, ◌++◌, Option, Some, None, Result, Ok, Err, refl, sym, ap, ◌∙◌, subst, Box, Vec, Global, Bor}
+use Rattle.std.proofs.Common.{◌≡◌, ℕ, ◌≢◌, List, [], ◌∷◌, ◌++◌, Option, Some, None, Result, Ok, Err, refl, sym, ap, ◌∙◌, subst, Box, Vec, Global}
+use Rattle.cddl_tree.specs.declared.tree.Leaf.{Leaf}
 use Rattle.std.specs.Prelude.{MatchResult}
 use Rattle.cddl_token.specs.declared.Token.{Token}
 use Rattle.cddl_token.specs.declared.Kind.{Kind}
@@ -18,19 +19,18 @@ use Rattle.cddl_parse.specs.declared.frames.Prefix.TheVariants as P
 use Rattle.cddl_parse.specs.declared.frames.Frame.{Frame}
 use Rattle.cddl_parse.specs.declared.frames.Frame.TheVariants as F
 use Rattle.cddl_parse.specs.declared.frames.Now.{Now}
-use Rattle.cddl_parse.specs.declared.frames.Now.TheVariants as N
 use Rattle.cddl_parse.specs.declared.state.State.{State}
 use Rattle.cddl_tree.specs.View.{leaf}
 use Rattle.cddl_syntax.specs.Syntax as S
 use Rattle.cddl_syntax.specs.Machine as M
 use Rattle.cddl_parse.specs.Kinds.{IsNoOperand, IsNoHead}
 use Rattle.cddl_parse.proofs.Steps.{on_all, refuses, popped, bottom}
-use Rattle.cddl_parse.specs.Frames.{on, made, Below, nowhere, as_entry, view_home, view_at_type2, view_prefix, view_type_opening, view_group_opening, inside_at, within_at, reference_at, in_entry_at, above, below, view_now, Comes, Refused}
-use Rattle.cddl_parse.proofs.Behind.{on_made}
+use Rattle.cddl_parse.specs.Frames.{on, made, Below, nowhere, as_entry, view_home, view_at_type2, view_prefix, view_type_opening, view_group_opening, inside_at, within_at, reference_at, in_entry_at, above, below, view_now, Refused}
+use Rattle.cddl_parse.proofs.After.{on_made}
 use Rattle.cddl_parse.specs.States.{view_rules, view_state, BeginsBody, GivesState}
 
-pub refused_at : {A : Type 0} (q : Option A) (t : Token) (e : Stop) (f : A → M.State) → e ≡ Unexpected t.start → ((x : A) → f x ≡ M.stuck) → on q (λ x. Refused t e (f x))
-refused_at q t e f h g = on_all q _ (λ x. refuses t e _ h (g x))
+pub refused_at : {A : Type 0} (q : Option A) (start : ℕ) (e : Stop) (f : A → M.State) → e ≡ Unexpected start → ((x : A) → f x ≡ M.stuck) → on q (λ x. Refused start e (f x))
+refused_at q start e f h g = on_all q _ (λ x. refuses start e _ h (g x))
 
 -- Where a type2 is awaited.
 
@@ -84,10 +84,10 @@ want_ends k i t h n1 n2 n3 n4 n5 = refl
 
 -- Where a reference is awaited.
 
-pub no_choice : (k : M.AtType2) (p : Prefix) (t : Token) → ((a : Bor Token) → p ≢ P.Ampersand a) → M.open_choice k (view_prefix p) t ≡ M.stuck
-no_choice k P.Bare t e = refl
-no_choice k (P.Tilde u) t e = refl
-no_choice k (P.Ampersand a) t e = absurd (e a refl)
+pub no_choice : (read : Leaf → Token) (k : M.AtType2) (p : Prefix) (t : Token) → ((a : Leaf) → p ≢ P.Ampersand a) → M.open_choice k (view_prefix read p) t ≡ M.stuck
+no_choice read k P.Bare t e = refl
+no_choice read k (P.Tilde u) t e = refl
+no_choice read k (P.Ampersand a) t e = absurd (e a refl)
 
 -- After an entry.
 
@@ -95,34 +95,34 @@ pub nowhere_entry : (b : Below) (P : M.AtEntry → Type 0) → b ≡ nowhere →
 nowhere_entry b P e = rw e tt
 
 -- other frames are no entry's
-pub other_entry : (rs : S.Rules) (b : Below) (f : Frame) → ((n : RuleName) (a : AssignG) → f ≢ F.GroupBody n a) → ((bf : Option Alternatives) (es : Vec Entry Global) → f ≢ F.Member bf es) → as_entry (above rs b f) ≡ None
-other_entry rs b (F.TypeBody n a) g h = refl
-other_entry rs b (F.GroupBody n a) g h = absurd (g n a refl)
-other_entry rs b (F.Types k o) g h = shut (view_at_type2 b k) (view_type_opening o)
+pub other_entry : (read : Leaf → Token) (rs : S.Rules) (b : Below) (f : Frame) → ((n : RuleName) (a : AssignG) → f ≢ F.GroupBody n a) → ((bf : Option Alternatives) (es : Vec Entry Global) → f ≢ F.Member bf es) → as_entry (above read rs b f) ≡ None
+other_entry read rs b (F.TypeBody n a) g h = refl
+other_entry read rs b (F.GroupBody n a) g h = absurd (g n a refl)
+other_entry read rs b (F.Types k o) g h = shut (view_at_type2 read b k) (view_type_opening read o)
   where
     shut : (q : Option M.AtType2) (o : M.TypeOpening) → as_entry (inside_at q o) ≡ None
     shut None o = refl
     shut (Some k) o = refl
-other_entry rs b (F.Group k o) g h = shut (view_at_type2 b k) (view_group_opening o)
+other_entry read rs b (F.Group k o) g h = shut (view_at_type2 read b k) (view_group_opening read o)
   where
     shut : (q : Option M.AtType2) (o : M.GroupOpening) → as_entry (within_at q o) ≡ None
     shut None o = refl
     shut (Some k) o = refl
-other_entry rs b (F.Reference k p o) g h = shut (view_at_type2 b k) (view_prefix p)
+other_entry read rs b (F.Reference k p o) g h = shut (view_at_type2 read b k) (view_prefix read p)
   where
-    shut : (q : Option M.AtType2) (p : M.Prefix) → as_entry (reference_at q p o.now) ≡ None
+    shut : (q : Option M.AtType2) (p : M.Prefix) → as_entry (reference_at q p (read o)) ≡ None
     shut None p = refl
     shut (Some k) p = refl
-other_entry rs b (F.Entry oc o) g h = shut (as_entry b)
+other_entry read rs b (F.Entry oc o) g h = shut (as_entry b)
   where
-    shut : (q : Option M.AtEntry) → as_entry (in_entry_at q (leaf oc) o.now) ≡ None
+    shut : (q : Option M.AtEntry) → as_entry (in_entry_at q (leaf read oc) (read o)) ≡ None
     shut None = refl
     shut (Some k) = refl
-other_entry rs b (F.Member bf es) g h = absurd (h bf es refl)
+other_entry read rs b (F.Member bf es) g h = absurd (h bf es refl)
 
 -- so nothing is said after them
-pub other_frame : (rs : S.Rules) (b b' : Below) (f : Frame) (P : M.AtEntry → Type 0) → b ≡ above rs b' f → ((n : RuleName) (a : AssignG) → f ≢ F.GroupBody n a) → ((bf : Option Alternatives) (es : Vec Entry Global) → f ≢ F.Member bf es) → on (as_entry b) P
-other_frame rs b b' f P e g h = rw (e, other_entry rs b' f g h) tt
+pub other_frame : (read : Leaf → Token) (rs : S.Rules) (b b' : Below) (f : Frame) (P : M.AtEntry → Type 0) → b ≡ above read rs b' f → ((n : RuleName) (a : AssignG) → f ≢ F.GroupBody n a) → ((bf : Option Alternatives) (es : Vec Entry Global) → f ≢ F.Member bf es) → on (as_entry b) P
+other_frame read rs b b' f P e g h = rw (e, other_entry read rs b' f g h) tt
 
 -- Between the rules.
 
@@ -163,39 +163,39 @@ arrow_other p oc r u i t e = refl
 
 -- A body.
 
-pub begun : (t : Token) (r : Result (Box State Global) Stop) (k : M.AtTypes) (m : M.State) → m ≡ M.open_types k → BeginsBody r (Some k) → GivesState t r m
-begun t (Ok s) k m e h = h ∙ ap Some (sym e)
-begun t (Err x) k m e h = rw h tt
+pub begun : (read : Leaf → Token) (start : ℕ) (r : Result (Box State Global) Stop) (k : M.AtTypes) (m : M.State) → m ≡ M.open_types k → BeginsBody read r (Some k) → GivesState read start r m
+begun read start (Ok s) k m e h = h ∙ ap Some (sym e)
+begun read start (Err x) k m e h = rw h tt
 
 -- what stands in the box is what was put into it
-pub given : (t : Token) (r : Result (Box State Global) Stop) (x : State) (m : M.State) → MatchResult r (λ s. s.value ≡ x) (λ e. e ≡ Memory) → view_state x ≡ Some m → GivesState t r m
-given t (Ok s) x m h e = ap view_state h ∙ e
-given t (Err y) x m h e = rw h tt
+pub given : (read : Leaf → Token) (start : ℕ) (r : Result (Box State Global) Stop) (x : State) (m : M.State) → MatchResult r (λ s. s.value ≡ x) (λ e. e ≡ Memory) → view_state read x ≡ Some m → GivesState read start r m
+given read start (Ok s) x m h e = ap (view_state read) h ∙ e
+given read start (Err y) x m h e = rw h tt
 
-pub begins : (r : Result (Box State Global) Stop) (v : Option M.State) (k : Option M.AtTypes) → MatchResult r (λ s. view_state s.value ≡ v) (λ e. e ≡ Memory) → v ≡ made M.open_types k → BeginsBody r k
-begins (Ok s) v k h e = h ∙ e
-begins (Err y) v k h e = h
+pub begins : (read : Leaf → Token) (r : Result (Box State Global) Stop) (v : (Leaf → Token) → Option M.State) (k : Option M.AtTypes) → MatchResult r (λ s. (read : Leaf → Token) → view_state read s.value ≡ v read) (λ e. e ≡ Memory) → v read ≡ made M.open_types k → BeginsBody read r k
+begins read (Ok s) v k h e = h read ∙ e
+begins read (Err y) v k h e = h
 
-pub stays : (t : Token) (r : Result (Box State Global) Stop) (v : Option M.State) (m : M.State) → MatchResult r (λ s. view_state s.value ≡ v) (λ e. e ≡ Memory) → v ≡ Some m → GivesState t r m
-stays t (Ok s) v m h e = h ∙ e
-stays t (Err y) v m h e = rw h tt
+pub stays : (read : Leaf → Token) (start : ℕ) (r : Result (Box State Global) Stop) (v : (Leaf → Token) → Option M.State) (m : M.State) → MatchResult r (λ s. (read : Leaf → Token) → view_state read s.value ≡ v read) (λ e. e ≡ Memory) → v read ≡ Some m → GivesState read start r m
+stays read start (Ok s) v m h e = h read ∙ e
+stays read start (Err y) v m h e = rw h tt
 
-pub awaited_at : (r : Result (Box Now Global) Stop) (x : AtType2) (f : Below → Option M.AtType2) → ((b : Below) → view_at_type2 b x ≡ f b) → MatchResult r (λ now. (b : Below) → view_now b now.value ≡ made M.want (view_at_type2 b x)) (λ e. e ≡ Memory) → MatchResult r (λ now. (b : Below) → view_now b now.value ≡ made M.want (f b)) (λ e. e ≡ Memory)
-awaited_at (Ok now) x f e h = λ b. h b ∙ ap (made M.want) (e b)
+pub awaited_at : (r : Result (Box Now Global) Stop) (x : AtType2) (f : (Leaf → Token) → Below → Option M.AtType2) → ((read : Leaf → Token) (b : Below) → view_at_type2 read b x ≡ f read b) → MatchResult r (λ now. (read : Leaf → Token) (b : Below) → view_now read b now.value ≡ made M.want (view_at_type2 read b x)) (λ e. e ≡ Memory) → MatchResult r (λ now. (read : Leaf → Token) (b : Below) → view_now read b now.value ≡ made M.want (f read b)) (λ e. e ≡ Memory)
+awaited_at (Ok now) x f e h = λ read b. h read b ∙ ap (made M.want) (e read b)
 awaited_at (Err y) x f e h = h
 
 made_twice : (q : Option M.AtTypes) → made M.want (made (λ k. M.lower (M.head k)) q) ≡ made M.open_types q
 made_twice None = refl
 made_twice (Some k) = refl
 
-pub body_begun : (rs : S.Rules) (old new : List Frame) (f : Frame) (h : Home) (w : Option M.AtType2) → old ≡ [] → new ≡ old ++ f ∷ [] → w ≡ made (λ k. M.lower (M.head k)) (view_home (below rs new) h) → made M.want w ≡ made M.open_types (view_home (above rs nowhere f) h)
-body_begun rs old new f h w e g i = ap (made M.want) (i ∙ ap (λ (b : Below). made (λ k. M.lower (M.head k)) (view_home b h)) here) ∙ made_twice (view_home (above rs nowhere f) h)
+pub body_begun : (read : Leaf → Token) (rs : S.Rules) (old new : List Frame) (f : Frame) (h : Home) (w : Option M.AtType2) → old ≡ [] → new ≡ old ++ f ∷ [] → w ≡ made (λ k. M.lower (M.head k)) (view_home read (below read rs new) h) → made M.want w ≡ made M.open_types (view_home read (above read rs nowhere f) h)
+body_begun read rs old new f h w e g i = ap (made M.want) (i ∙ ap (λ (b : Below). made (λ k. M.lower (M.head k)) (view_home read b h)) here) ∙ made_twice (view_home read (above read rs nowhere f) h)
   where
-    here : below rs new ≡ above rs nowhere f
-    here = popped rs new old f g ∙ ap (λ (b : Below). above rs b f) (bottom rs old e)
+    here : below read rs new ≡ above read rs nowhere f
+    here = popped read rs new old f g ∙ ap (λ (b : Below). above read rs b f) (bottom read rs old e)
 
-pub ended : (t : Token) (r : Result (Box State Global) Stop) (old new : S.Rules) (x : S.Rule) (m : M.State) → new ≡ S.rules old x → m ≡ M.next_rule (S.rules old x) t.kind t → GivesState t r (M.next_rule new t.kind t) → GivesState t r m
-ended t r old new x m e f h = rw (f, ← e) h
+pub ended : (read : Leaf → Token) (start : ℕ) (i : Kind) (t : Token) (r : Result (Box State Global) Stop) (old new : S.Rules) (x : S.Rule) (m : M.State) → new ≡ S.rules old x → m ≡ M.next_rule (S.rules old x) i t → GivesState read start r (M.next_rule new i t) → GivesState read start r m
+ended read start i t r old new x m e f h = rw (f, ← e) h
 
 -- Within the rules.
 
@@ -212,5 +212,5 @@ on_through v w P R e f h = rw e (along w h)
 pub parm_named : (rs : S.Rules) (o : Token) (b : M.ParmBefore) (p : S.GenericParm) (i : Kind) (t : Token) → i ≡ K.Name → p ≡ M.parm_of b t → Some (M.have_parm rs o p) ≡ Some (M.step (M.awaits_parm rs o b) i t)
 parm_named rs o b p i t e f = rw (e, f) refl
 
-pub begin_next : (t : Token) (r : Result (Box State Global) Stop) (xs : List Rule) → xs ≡ [] → GivesState t r (M.next_rule (view_rules xs) t.kind t) → GivesState t r (M.next_rule S.no_rules t.kind t)
-begin_next t r xs e h = rw e at h
+pub begin_next : (read : Leaf → Token) (start : ℕ) (i : Kind) (t : Token) (r : Result (Box State Global) Stop) (xs : List Rule) → xs ≡ [] → GivesState read start r (M.next_rule (view_rules read xs) i t) → GivesState read start r (M.next_rule S.no_rules i t)
+begin_next read start i t r xs e h = rw e at h

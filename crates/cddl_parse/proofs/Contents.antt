@@ -1,5 +1,6 @@
 -- What a list of parts comes to that is empty, and that is not.
-use Rattle.std.proofs.Common.{◌≡◌, ◌≢◌, ℕ, Bool, true, false, List, [], ◌∷◌, ◌++◌, length, Option, Some, None, refl, sym, ap, ◌∙◌, map, Vec, Global, arith, ◌==◌, subst, Bor}
+use Rattle.std.proofs.Common.{◌≡◌, ◌≢◌, ℕ, Bool, true, false, List, [], ◌∷◌, ◌++◌, length, Option, Some, None, Result, Ok, Err, refl, sym, ap, ◌∙◌, map, Vec, Global, arith, ◌==◌, subst}
+use Rattle.cddl_tree.specs.declared.tree.Leaf.{Leaf}
 use Rattle.std.proofs.lemmas.Bool.Decides.{nat_tests}
 use Rattle.cddl_token.specs.declared.Token.{Token}
 use Rattle.cddl_tree.specs.declared.tree.Entry.{Entry}
@@ -13,7 +14,11 @@ use Rattle.cddl_tree.specs.declared.tree.MemberKey.{MemberKey}
 use Rattle.cddl_syntax.specs.Syntax as S
 use Rattle.cddl_tree.specs.View.{view_types, view_type1, view_group, view_grpent, view_entry, view_further, view_choice, with_types, with_entries, with_choices, leaf}
 use Rattle.cddl_tree.proofs.Lemmas.{view_out-Types, view_out-Group}
-use Rattle.cddl_parse.specs.Frames.{view_entries, IsChoice, IsKeyOf}
+use Rattle.std.specs.Prelude.{MatchResult}
+use Rattle.cddl_parse.specs.declared.frames.Stop.{Stop}
+use Rattle.cddl_parse.specs.declared.frames.Stop.TheVariants.{Memory}
+use Rattle.cddl_parse.specs.declared.frames.Content.{Content}
+use Rattle.cddl_parse.specs.Frames.{view_entries, IsChoice, IsKeyOf, IsContent}
 use Rattle.cddl_parse.proofs.Pushing.{with_entries-push}
 
 pub empty_items : {A : Type 0} (v : Vec A Global) → v.len ≡ 0 → v.items ≡ []
@@ -36,8 +41,8 @@ empty v r e f = empty_items v (zero v.len (sym e ∙ f))
     zero : (n : ℕ) → (n == 0) ≡ true → n ≡ 0
     zero n h = grind (arith, nat_tests)
 
-pub types_only : (t : Types) → (out-Types t).others.items ≡ [] → view_types t ≡ S.only (view_type1 (out-Types t).first)
-types_only t h = view_out-Types t ∙ ap (λ (xs : List Further). with_types (S.only (view_type1 (out-Types t).first)) (map view_further xs)) h
+pub types_only : (read : Leaf → Token) (t : Types) → (out-Types t).others.items ≡ [] → view_types read t ≡ S.only (view_type1 read (out-Types t).first)
+types_only read t h = view_out-Types read t ∙ ap (λ (xs : List Further). with_types (S.only (view_type1 read (out-Types t).first)) (map (view_further read) xs)) h
 
 longer : (t : S.Types) (xs : List (Token × S.Type1)) → IsChoice t → IsChoice (with_types t xs)
 longer t [] h = h
@@ -46,15 +51,15 @@ longer t (x ∷ xs) h = longer (S.or t x.0 x.1) xs tt
 along : (t u : S.Types) → t ≡ u → IsChoice u → IsChoice t
 along t u e h = rw e h
 
-types_or : (r : S.Types) (xs : List Further) → xs ≢ [] → IsChoice (with_types r (map view_further xs))
-types_or r [] h = absurd (h refl)
-types_or r (x ∷ xs) h = longer (S.or r (view_further x).0 (view_further x).1) (map view_further xs) tt
+types_or : (read : Leaf → Token) (r : S.Types) (xs : List Further) → xs ≢ [] → IsChoice (with_types r (map (view_further read) xs))
+types_or read r [] h = absurd (h refl)
+types_or read r (x ∷ xs) h = longer (S.or r (view_further read x).0 (view_further read x).1) (map (view_further read) xs) tt
 
-pub types_several : (t : Types) → (out-Types t).others.items ≢ [] → IsChoice (view_types t)
-types_several t h = along _ _ (view_out-Types t) (types_or _ _ h)
+pub types_several : (read : Leaf → Token) (t : Types) → (out-Types t).others.items ≢ [] → IsChoice (view_types read t)
+types_several read t h = along _ _ (view_out-Types read t) (types_or read _ _ h)
 
-pub view_entries-push : (xs : List Entry) (e : GrpEnt) (c : Option (Bor Token)) → view_entries (xs ++ (record { grpent = e; comma = c }) ∷ []) ≡ S.entries (view_entries xs) (view_grpent e) (leaf c)
-view_entries-push xs e c = with_entries-push S.no_entries xs e c
+pub view_entries-push : (read : Leaf → Token) (xs : List Entry) (e : GrpEnt) (c : Option Leaf) → view_entries read (xs ++ (record { grpent = e; comma = c }) ∷ []) ≡ S.entries (view_entries read xs) (view_grpent read e) (leaf read c)
+view_entries-push read xs e c = with_entries-push read S.no_entries xs e c
 
 -- entries that are not none
 abbrev IsMore : S.GrpChoice → Type 0
@@ -70,9 +75,9 @@ more_no_type S.no_entries e c h = absurd h
 more_no_type (S.entries es x y) e c h = refl
 
 -- several entries are no type
-pub several_no_type : (xs : List Entry) (e : S.GrpEnt) (c : Option Token) → xs ≢ [] → S.is_type (S.sole (S.entries (view_entries xs) e c)) ≡ false
-several_no_type [] e c h = absurd (h refl)
-several_no_type (x ∷ xs) e c h = more_no_type _ e c (more _ (map view_entry xs) tt)
+pub several_no_type : (read : Leaf → Token) (xs : List Entry) (e : S.GrpEnt) (c : Option Token) → xs ≢ [] → S.is_type (S.sole (S.entries (view_entries read xs) e c)) ≡ false
+several_no_type read [] e c h = absurd (h refl)
+several_no_type read (x ∷ xs) e c h = more_no_type _ e c (more _ (map (view_entry read) xs) tt)
 
 -- nor is one with a comma
 pub comma_no_type : (es : S.GrpChoice) (e : S.GrpEnt) (c : Token) → S.is_type (S.sole (S.entries es e (Some c))) ≡ false
@@ -102,17 +107,22 @@ or_no_type : (g : S.Group) → IsOr g → S.is_type g ≡ false
 or_no_type (S.sole es) h = absurd h
 or_no_type (S.orelse g s es) h = refl
 
-choices_no_type : (g : S.Group) (xs : List GrpChoice) → xs ≢ [] → S.is_type (with_choices g (map view_choice xs)) ≡ false
-choices_no_type g [] h = absurd (h refl)
-choices_no_type g (x ∷ xs) h = or_no_type _ (longer_group (S.orelse g (view_choice x).0 (view_choice x).1) (map view_choice xs) tt)
+choices_no_type : (read : Leaf → Token) (g : S.Group) (xs : List GrpChoice) → xs ≢ [] → S.is_type (with_choices g (map (view_choice read) xs)) ≡ false
+choices_no_type read g [] h = absurd (h refl)
+choices_no_type read g (x ∷ xs) h = or_no_type _ (longer_group (S.orelse g (view_choice read x).0 (view_choice read x).1) (map (view_choice read) xs) tt)
 
 -- several alternatives are no type
-pub group_several : (g : Group) → (out-Group g).others.items ≢ [] → S.is_type (view_group g) ≡ false
-group_several g h = rw (view_out-Group g) (choices_no_type _ _ h)
+pub group_several : (read : Leaf → Token) (g : Group) → (out-Group g).others.items ≢ [] → S.is_type (view_group read g) ≡ false
+group_several read g h = rw (view_out-Group read g) (choices_no_type read _ _ h)
 
-pub group_sole : (g : Group) → (out-Group g).others.items ≡ [] → view_group g ≡ S.sole (view_entries (out-Group g).first.items)
-group_sole g h = view_out-Group g ∙ ap (λ (xs : List GrpChoice). with_choices (S.sole (view_entries (out-Group g).first.items)) (map view_choice xs)) h
+pub group_sole : (read : Leaf → Token) (g : Group) → (out-Group g).others.items ≡ [] → view_group read g ≡ S.sole (view_entries read (out-Group g).first.items)
+group_sole read g h = view_out-Group read g ∙ ap (λ (xs : List GrpChoice). with_choices (S.sole (view_entries read (out-Group g).first.items)) (map (view_choice read) xs)) h
 
 -- the key of the same type1
-pub along_key : (o : Option MemberKey) (r s : S.Type1) (c : Token) → r ≡ s → IsKeyOf o s c → IsKeyOf o r c
-along_key o r s c e h = subst (λ (x : S.Type1). IsKeyOf o x c) (sym e) h
+pub along_key : (read : Leaf → Token) (o : Option MemberKey) (r s : S.Type1) (c : Token) → r ≡ s → IsKeyOf read o s c → IsKeyOf read o r c
+along_key read o r s c e h = subst (λ (x : S.Type1). IsKeyOf read o x c) (sym e) h
+
+-- what is the same group under every reading has the same contents
+pub along_groups : (r : Result Content Stop) (g h : (Leaf → Token) → S.Group) → ((read : Leaf → Token) → h read ≡ g read) → MatchResult r (λ x. (read : Leaf → Token) → IsContent read x (g read)) (λ e. e ≡ Memory) → MatchResult r (λ x. (read : Leaf → Token) → IsContent read x (h read)) (λ e. e ≡ Memory)
+along_groups (Ok x) g h e i = λ read. subst (IsContent read x) (sym (e read)) (i read)
+along_groups (Err y) g h e i = i

@@ -1,13 +1,12 @@
 -- Places that are not the head of an entry, and frames that are none of an entry or a group.
-use Rattle.std.proofs.Common.{◌≡◌, Option, Some, None, refl, sym, subst, Box, Global, Bor}
+use Rattle.std.proofs.Common.{◌≡◌, ℕ, Option, Some, None, refl, sym, subst, Box, Global}
+use Rattle.cddl_tree.specs.declared.tree.Leaf.{Leaf}
 use Rattle.cddl_token.specs.declared.Token.{Token}
 use Rattle.cddl_token.specs.declared.Kind.{Kind}
 use Rattle.cddl_token.specs.declared.Kind.TheVariants as K
 use Rattle.cddl_parse.specs.declared.frames.Stop.{Stop}
 use Rattle.cddl_parse.specs.declared.frames.Stop.TheVariants.{Unexpected}
-use Rattle.cddl_parse.specs.declared.frames.Home.{Home}
 use Rattle.cddl_parse.specs.declared.frames.Home.TheVariants as H
-use Rattle.cddl_parse.specs.declared.frames.Before.{Before}
 use Rattle.cddl_parse.specs.declared.frames.Before.TheVariants as B
 use Rattle.cddl_parse.specs.declared.frames.Left.{Left}
 use Rattle.cddl_parse.specs.declared.frames.Arguments.{Arguments}
@@ -34,13 +33,13 @@ start_place : (q : Option M.AtEntry) (oc : Option Token) → made M.lower (made 
 start_place None oc = refl
 start_place (Some p) oc = refl
 
-pub start_here : (b : Below) (x : AtType1) (oc : Option (Bor Token)) → x.before ≡ B.Nothing → x.home ≡ H.Start oc → made M.lower (view_at_type1 b x) ≡ made (λ p. M.lower (M.head (M.start p (leaf oc)))) (as_entry b)
-start_here b x oc f g = rw (f, g) (start_place (as_entry b) (leaf oc))
+pub start_here : (read : Leaf → Token) (b : Below) (x : AtType1) (oc : Option Leaf) → x.before ≡ B.Nothing → x.home ≡ H.Start oc → made M.lower (view_at_type1 read b x) ≡ made (λ p. M.lower (M.head (M.start p (leaf read oc)))) (as_entry b)
+start_here read b x oc f g = rw (f, g) (start_place (as_entry b) (leaf read oc))
 
 -- at a place with no operand before it
-pub first_place : (r : Option (Option (Bor Token))) (x : AtType2) (y : AtType1) → x.left ≡ None → y ≡ x.at.value → IsStart r y → IsHead r x
-first_place (Some oc) x y e f h = λ b. rw (e, ← f) (h b)
-first_place None x y e f h = λ b. rw (e, ← f) (h b)
+pub first_place : (read : Leaf → Token) (r : Option (Option Leaf)) (x : AtType2) (y : AtType1) → x.left ≡ None → y ≡ x.at.value → IsStart read r y → IsHead read r x
+first_place read (Some oc) x y e f h = λ b. rw (e, ← f) (h b)
+first_place read None x y e f h = λ b. rw (e, ← f) (h b)
 
 -- Places elsewhere.
 
@@ -73,20 +72,20 @@ inside_elsewhere (reference k p o) = tt
 inside_elsewhere (entry p) = tt
 inside_elsewhere (group k) = tt
 
-pub left_place : (b : Below) (x : AtType2) (l : Box Left Global) → x.left ≡ Some l → on (view_at_type2 b x) IsElsewhere
-left_place b x l e = rw e (upper_elsewhere (view_at_type1 b x.at.value) _ _)
+pub left_place : (read : Leaf → Token) (b : Below) (x : AtType2) (l : Box Left Global) → x.left ≡ Some l → on (view_at_type2 read b x) IsElsewhere
+left_place read b x l e = rw e (upper_elsewhere (view_at_type1 read b x.at.value) _ _)
 
-pub inside_place : (b : Below) (x : AtType1) → x.before ≡ B.Nothing → x.home ≡ H.Inside → on (made M.lower (view_at_type1 b x)) IsElsewhere
-inside_place b x f g = rw (f, g) (inside_elsewhere b)
+pub inside_place : (read : Leaf → Token) (b : Below) (x : AtType1) → x.before ≡ B.Nothing → x.home ≡ H.Inside → on (made M.lower (view_at_type1 read b x)) IsElsewhere
+inside_place read b x f g = rw (f, g) (inside_elsewhere b)
 
-pub value_place : (b : Below) (x : AtType1) (oc : Option (Bor Token)) (m : Box MemberKey Global) → x.before ≡ B.Nothing → x.home ≡ H.ValueOf oc m → on (made M.lower (view_at_type1 b x)) IsElsewhere
-value_place b x oc m f g = rw (f, g) (value_elsewhere (as_entry b) _ _)
+pub value_place : (read : Leaf → Token) (b : Below) (x : AtType1) (oc : Option Leaf) (m : Box MemberKey Global) → x.before ≡ B.Nothing → x.home ≡ H.ValueOf oc m → on (made M.lower (view_at_type1 read b x)) IsElsewhere
+value_place read b x oc m f g = rw (f, g) (value_elsewhere (as_entry b) _ _)
 
-pub choices_place : (b : Below) (x : AtType1) (ts : Box Types Global) (s : Bor Token) → x.before ≡ B.Choices ts s → on (made M.lower (view_at_type1 b x)) IsElsewhere
-choices_place b x ts s f = rw f (next_elsewhere (view_home b x.home) _ _)
+pub choices_place : (read : Leaf → Token) (b : Below) (x : AtType1) (ts : Box Types Global) (s : Leaf) → x.before ≡ B.Choices ts s → on (made M.lower (view_at_type1 read b x)) IsElsewhere
+choices_place read b x ts s f = rw f (next_elsewhere (view_home read b x.home) _ _)
 
-pub argument_place : (b : Below) (x : AtType1) (a : Option Arguments) → x.before ≡ B.Arguments a → on (made M.lower (view_at_type1 b x)) IsElsewhere
-argument_place b x a f = rw f (argument_elsewhere b _)
+pub argument_place : (read : Leaf → Token) (b : Below) (x : AtType1) (a : Option Arguments) → x.before ≡ B.Arguments a → on (made M.lower (view_at_type1 read b x)) IsElsewhere
+argument_place read b x a f = rw f (argument_elsewhere b _)
 
 -- A bracket that its opening fits, and one that it does not.
 
@@ -109,13 +108,13 @@ fresh q bf es P e h = rw e at h
 
 -- At the head of an entry, and elsewhere.
 
-pub occur_twice : (q : Option M.AtType2) (x : Option M.AtEntry) (oc : Option Token) (o t : Token) (e : Stop) → oc ≡ Some o → q ≡ made (λ p. M.lower (M.head (M.start p oc))) x → e ≡ Unexpected t.start → on q (λ k. Refused t e (M.occur_want k t))
-occur_twice q None oc o t e f g h = rw g tt
-occur_twice q (Some p) oc o t e f g h = rw (g, f) (refuses t e _ h refl)
+pub occur_twice : (q : Option M.AtType2) (x : Option M.AtEntry) (oc : Option Token) (o t : Token) (start : ℕ) (e : Stop) → oc ≡ Some o → q ≡ made (λ p. M.lower (M.head (M.start p oc))) x → e ≡ Unexpected start → on q (λ k. Refused start e (M.occur_want k t))
+occur_twice q None oc o t start e f g h = rw g tt
+occur_twice q (Some p) oc o t start e f g h = rw (g, f) (refuses start e _ h refl)
 
-pub occur_refused : (q : Option M.AtType2) (t : Token) (e : Stop) → on q IsElsewhere → e ≡ Unexpected t.start → on q (λ k. Refused t e (M.occur_want k t))
-occur_refused None t e g h = tt
-occur_refused (Some k) t e g h = refuses t e _ h (occur_elsewhere k t g)
+pub occur_refused : (q : Option M.AtType2) (t : Token) (start : ℕ) (e : Stop) → on q IsElsewhere → e ≡ Unexpected start → on q (λ k. Refused start e (M.occur_want k t))
+occur_refused None t start e g h = tt
+occur_refused (Some k) t start e g h = refuses start e _ h (occur_elsewhere k t g)
 
 pub paren_elsewhere : (q : Option M.AtType2) (t : Token) (P : M.State → Type 0) → on q IsElsewhere → on q (λ k. P (M.open_types (M.inside k (M.paren t)))) → on q (λ k. P (M.open_paren k t))
 paren_elsewhere None t P h g = tt
@@ -126,20 +125,20 @@ paren_elsewhere (Some k) t P h g = subst P (sym (open_paren_elsewhere k t h)) g
 pub got_as : (q : Option M.AtType2) (x y : S.Type2) (P : M.State → Type 0) → x ≡ y → on q (λ k. P (M.got k x)) → on q (λ k. P (M.got k y))
 got_as q x y P e h = subst (λ (z : S.Type2). on q (λ k. P (M.got k z))) e h
 
-pub map_bracketed : (o : GroupOpening) (p : Bor Token) (c : Token) (g h : S.Group) → o ≡ G.Brace p → g ≡ h → S.map_of p.now g c ≡ bracketed (view_group_opening o) h c
-map_bracketed o p c g h e f = rw (e, f) refl
+pub map_bracketed : (read : Leaf → Token) (o : GroupOpening) (p : Leaf) (c : Token) (g h : S.Group) → o ≡ G.Brace p → g ≡ h → S.map_of (read p) g c ≡ bracketed (view_group_opening read o) h c
+map_bracketed read o p c g h e f = rw (e, f) refl
 
-pub array_bracketed : (o : GroupOpening) (p : Bor Token) (c : Token) (g h : S.Group) → o ≡ G.Bracket p → g ≡ h → S.array_of p.now g c ≡ bracketed (view_group_opening o) h c
-array_bracketed o p c g h e f = rw (e, f) refl
+pub array_bracketed : (read : Leaf → Token) (o : GroupOpening) (p : Leaf) (c : Token) (g h : S.Group) → o ≡ G.Bracket p → g ≡ h → S.array_of (read p) g c ≡ bracketed (view_group_opening read o) h c
+array_bracketed read o p c g h e f = rw (e, f) refl
 
-pub choice_bracketed : (o : GroupOpening) (a p : Bor Token) (c : Token) (g h : S.Group) → o ≡ G.Choice a p → g ≡ h → S.choice_of a.now p.now g c ≡ bracketed (view_group_opening o) h c
-choice_bracketed o a p c g h e f = rw (e, f) refl
+pub choice_bracketed : (read : Leaf → Token) (o : GroupOpening) (a p : Leaf) (c : Token) (g h : S.Group) → o ≡ G.Choice a p → g ≡ h → S.choice_of (read a) (read p) g c ≡ bracketed (view_group_opening read o) h c
+choice_bracketed read o a p c g h e f = rw (e, f) refl
 
-pub content_type : (x : Content) (ts : Types) (g : S.Group) → x ≡ C.Type ts → IsContent x g → g ≡ S.sole (S.entries S.no_entries (S.typed None (view_types ts)) None)
-content_type x ts g e h = rw e at h
+pub content_type : (read : Leaf → Token) (x : Content) (ts : Types) (g : S.Group) → x ≡ C.Type ts → IsContent read x g → g ≡ S.sole (S.entries S.no_entries (S.typed None (view_types read ts)) None)
+content_type read x ts g e h = rw e at h
 
-pub content_group : (x : Content) (y : Group) (g : S.Group) → x ≡ C.Group y → IsContent x g → (view_group y ≡ g) × (S.is_type g ≡ false)
-content_group x y g e h = rw e at h
+pub content_group : (read : Leaf → Token) (x : Content) (y : Group) (g : S.Group) → x ≡ C.Group y → IsContent read x g → (view_group read y ≡ g) × (S.is_type g ≡ false)
+content_group read x y g e h = rw e at h
 
 pub paren_got : (q : Option M.AtEntry) (w : Option M.AtType2) (oc : Option Token) (o t : Token) (g : S.Group) (ts : S.Types) (x : S.Type2) (P : M.State → Type 0) → w ≡ made (λ k. M.lower (M.head k)) (made (λ p. M.start p oc) q) → g ≡ S.sole (S.entries S.no_entries (S.typed None ts) None) → x ≡ S.parens o ts t → on w (λ k. P (M.got k x)) → on q (λ p. P (M.shut_paren p oc o g t))
 paren_got None w oc o t g ts x P d e f h = tt

@@ -16,8 +16,8 @@ one_token [] x k e = absurd cc
 one_token (t ∷ []) x k e = ([], t, refl, ap kind_of e ∙ k)
 one_token (t ∷ u ∷ ts) x k e = absurd cc
 
-behind : (t : Token) (ts : List Token) → EndsInEnd ts → EndsInEnd (t ∷ ts)
-behind t ts h = (t ∷ h.0, h.1, ap (λ (us : List Token). t ∷ us) h.2, h.3)
+one_more : (t : Token) (ts : List Token) → EndsInEnd ts → EndsInEnd (t ∷ ts)
+one_more t ts h = (t ∷ h.0, h.1, ap (λ (us : List Token). t ∷ us) h.2, h.3)
 
 abbrev rest_of : List Spanned → List Spanned
 rest_of [] = []
@@ -26,4 +26,4 @@ rest_of (x ∷ xs) = xs
 pub tokens_end : (s : List ℕ) (i : ℕ) (xs : List Spanned) → Tokenized s i xs → (ts : List Token) → map span ts ≡ xs → EndsInEnd ts
 tokens_end s i xs (ends g e) ts f = one_token ts (token End (length s) (length s)) refl (f ∙ e)
 tokens_end s i _ (more g h k) [] f = absurd cc
-tokens_end s i _ (more g h k) (t ∷ ts) f = behind t ts (tokens_end s _ _ k ts (ap rest_of f))
+tokens_end s i _ (more g h k) (t ∷ ts) f = one_more t ts (tokens_end s _ _ k ts (ap rest_of f))

@@ -1,5 +1,6 @@
 -- What the machine does after a group, and frames that are none of an entry or a group.
-use Rattle.std.proofs.Common.{◌≡◌, ◌≢◌, Option, Some, None, refl, sym, ap, ◌∙◌, subst}
+use Rattle.std.proofs.Common.{◌≡◌, ℕ, ◌≢◌, Option, Some, None, refl, sym, ap, ◌∙◌, subst}
+use Rattle.cddl_tree.specs.declared.tree.Leaf.{Leaf}
 use Rattle.cddl_token.specs.declared.Token.{Token}
 use Rattle.cddl_token.specs.declared.Kind.{Kind}
 use Rattle.cddl_token.specs.declared.Kind.TheVariants as K
@@ -11,7 +12,7 @@ use Rattle.cddl_parse.specs.declared.frames.Frame.{Frame}
 use Rattle.cddl_parse.specs.declared.frames.Frame.TheVariants as F
 use Rattle.cddl_parse.specs.declared.frames.Alternatives.{Alternatives}
 use Rattle.cddl_tree.specs.declared.tree.Entry.{Entry}
-use Rattle.std.proofs.Common.{Vec, Global, Bor}
+use Rattle.std.proofs.Common.{Vec, Global}
 use Rattle.cddl_tree.specs.View.{leaf}
 use Rattle.cddl_syntax.specs.Syntax as S
 use Rattle.cddl_syntax.specs.Machine as M
@@ -59,51 +60,51 @@ nothing_entry b P e = rw e tt
 pub nothing_group : (b : Below) (P : M.AtGroup → Type 0) → b ≡ nowhere → on (as_group b) P
 nothing_group b P e = rw e tt
 
-ends_no_member : (rs : S.Rules) (b : Below) (f : Frame) (i : Kind) (t : Token) (e : Stop) → e ≡ Unexpected t.start → ((x : Option Alternatives) (es : Vec Entry Global) → f ≢ F.Member x es) → on (as_entry (above rs b f)) (λ p. Refused t e (M.ends_want (M.lower (M.head (M.start p None))) i t))
-ends_no_member rs b (F.TypeBody n a) i t e g h = tt
-ends_no_member rs b (F.GroupBody n a) i t e g h = refuses t e _ g refl
-ends_no_member rs b (F.Types k o) i t e g h = shut (view_at_type2 b k) (view_type_opening o)
+ends_no_member : (read : Leaf → Token) (rs : S.Rules) (b : Below) (f : Frame) (i : Kind) (t : Token) (start : ℕ) (e : Stop) → e ≡ Unexpected start → ((x : Option Alternatives) (es : Vec Entry Global) → f ≢ F.Member x es) → on (as_entry (above read rs b f)) (λ p. Refused start e (M.ends_want (M.lower (M.head (M.start p None))) i t))
+ends_no_member read rs b (F.TypeBody n a) i t start e g h = tt
+ends_no_member read rs b (F.GroupBody n a) i t start e g h = refuses start e _ g refl
+ends_no_member read rs b (F.Types k o) i t start e g h = shut (view_at_type2 read b k) (view_type_opening read o)
   where
-    shut : (q : Option M.AtType2) (u : M.TypeOpening) → on (as_entry (inside_at q u)) (λ p. Refused t e (M.ends_want (M.lower (M.head (M.start p None))) i t))
+    shut : (q : Option M.AtType2) (u : M.TypeOpening) → on (as_entry (inside_at q u)) (λ p. Refused start e (M.ends_want (M.lower (M.head (M.start p None))) i t))
     shut None u = tt
     shut (Some x) u = tt
-ends_no_member rs b (F.Group k o) i t e g h = shut (view_at_type2 b k) (view_group_opening o)
+ends_no_member read rs b (F.Group k o) i t start e g h = shut (view_at_type2 read b k) (view_group_opening read o)
   where
-    shut : (q : Option M.AtType2) (u : M.GroupOpening) → on (as_entry (within_at q u)) (λ p. Refused t e (M.ends_want (M.lower (M.head (M.start p None))) i t))
+    shut : (q : Option M.AtType2) (u : M.GroupOpening) → on (as_entry (within_at q u)) (λ p. Refused start e (M.ends_want (M.lower (M.head (M.start p None))) i t))
     shut None u = tt
     shut (Some x) u = tt
-ends_no_member rs b (F.Reference k p o) i t e g h = shut (view_at_type2 b k) (view_prefix p)
+ends_no_member read rs b (F.Reference k p o) i t start e g h = shut (view_at_type2 read b k) (view_prefix read p)
   where
-    shut : (q : Option M.AtType2) (u : M.Prefix) → on (as_entry (reference_at q u o.now)) (λ p. Refused t e (M.ends_want (M.lower (M.head (M.start p None))) i t))
+    shut : (q : Option M.AtType2) (u : M.Prefix) → on (as_entry (reference_at q u (read o))) (λ p. Refused start e (M.ends_want (M.lower (M.head (M.start p None))) i t))
     shut None u = tt
     shut (Some x) u = tt
-ends_no_member rs b (F.Entry oc o) i t e g h = shut (as_entry b)
+ends_no_member read rs b (F.Entry oc o) i t start e g h = shut (as_entry b)
   where
-    shut : (q : Option M.AtEntry) → on (as_entry (in_entry_at q (leaf oc) o.now)) (λ p. Refused t e (M.ends_want (M.lower (M.head (M.start p None))) i t))
+    shut : (q : Option M.AtEntry) → on (as_entry (in_entry_at q (leaf read oc) (read o))) (λ p. Refused start e (M.ends_want (M.lower (M.head (M.start p None))) i t))
     shut None = tt
     shut (Some x) = tt
-ends_no_member rs b (F.Member x es) i t e g h = absurd (h x es refl)
+ends_no_member read rs b (F.Member x es) i t start e g h = absurd (h x es refl)
 
 -- where no alternative is open the token is refused
-pub ends_default : (a : Below) (rs : S.Rules) (b : Below) (f : Frame) (i : Kind) (t : Token) (e : Stop) → a ≡ above rs b f → e ≡ Unexpected t.start → ((x : Option Alternatives) (es : Vec Entry Global) → f ≢ F.Member x es) → on (as_entry a) (λ p. Refused t e (M.ends_want (M.lower (M.head (M.start p None))) i t))
-ends_default a rs b f i t e d g h = rw d (ends_no_member rs b f i t e g h)
+pub ends_default : (read : Leaf → Token) (a : Below) (rs : S.Rules) (b : Below) (f : Frame) (i : Kind) (t : Token) (start : ℕ) (e : Stop) → a ≡ above read rs b f → e ≡ Unexpected start → ((x : Option Alternatives) (es : Vec Entry Global) → f ≢ F.Member x es) → on (as_entry a) (λ p. Refused start e (M.ends_want (M.lower (M.head (M.start p None))) i t))
+ends_default read a rs b f i t start e d g h = rw d (ends_no_member read rs b f i t start e g h)
 
-no_group : (rs : S.Rules) (b : Below) (f : Frame) → ((k : AtType2) (o : GroupOpening) → f ≢ F.Group k o) → ((oc : Option (Bor Token)) (o : Bor Token) → f ≢ F.Entry oc o) → as_group (above rs b f) ≡ None
-no_group rs b (F.TypeBody n a) g h = refl
-no_group rs b (F.GroupBody n a) g h = refl
-no_group rs b (F.Types k o) g h = shut (view_at_type2 b k) (view_type_opening o)
+no_group : (read : Leaf → Token) (rs : S.Rules) (b : Below) (f : Frame) → ((k : AtType2) (o : GroupOpening) → f ≢ F.Group k o) → ((oc : Option Leaf) (o : Leaf) → f ≢ F.Entry oc o) → as_group (above read rs b f) ≡ None
+no_group read rs b (F.TypeBody n a) g h = refl
+no_group read rs b (F.GroupBody n a) g h = refl
+no_group read rs b (F.Types k o) g h = shut (view_at_type2 read b k) (view_type_opening read o)
   where
     shut : (q : Option M.AtType2) (u : M.TypeOpening) → as_group (inside_at q u) ≡ None
     shut None u = refl
     shut (Some x) u = refl
-no_group rs b (F.Group k o) g h = absurd (g k o refl)
-no_group rs b (F.Reference k p o) g h = shut (view_at_type2 b k) (view_prefix p)
+no_group read rs b (F.Group k o) g h = absurd (g k o refl)
+no_group read rs b (F.Reference k p o) g h = shut (view_at_type2 read b k) (view_prefix read p)
   where
-    shut : (q : Option M.AtType2) (u : M.Prefix) → as_group (reference_at q u o.now) ≡ None
+    shut : (q : Option M.AtType2) (u : M.Prefix) → as_group (reference_at q u (read o)) ≡ None
     shut None u = refl
     shut (Some x) u = refl
-no_group rs b (F.Entry oc o) g h = absurd (h oc o refl)
-no_group rs b (F.Member before es) g h = shut (as_group b) (view_alternatives before) (view_entries es.items)
+no_group read rs b (F.Entry oc o) g h = absurd (h oc o refl)
+no_group read rs b (F.Member before es) g h = shut (as_group b) (view_alternatives read before) (view_entries read es.items)
   where
     shut : (q : Option M.AtGroup) (bf : M.Before) (xs : S.GrpChoice) → as_group (member_at q bf xs) ≡ None
     shut None bf xs = refl
@@ -113,16 +114,16 @@ none_holds : {A : Type 0} (q : Option A) (P : A → Type 0) → q ≡ None → o
 none_holds q P e = rw e tt
 
 -- where no group is open anything holds
-pub group_default : (a : Below) (rs : S.Rules) (b : Below) (f : Frame) (P : M.AtGroup → Type 0) → a ≡ above rs b f → ((k : AtType2) (o : GroupOpening) → f ≢ F.Group k o) → ((oc : Option (Bor Token)) (o : Bor Token) → f ≢ F.Entry oc o) → on (as_group a) P
-group_default a rs b f P d g h = none_holds (as_group a) P (ap as_group d ∙ no_group rs b f g h)
+pub group_default : (read : Leaf → Token) (a : Below) (rs : S.Rules) (b : Below) (f : Frame) (P : M.AtGroup → Type 0) → a ≡ above read rs b f → ((k : AtType2) (o : GroupOpening) → f ≢ F.Group k o) → ((oc : Option Leaf) (o : Leaf) → f ≢ F.Entry oc o) → on (as_group a) P
+group_default read a rs b f P d g h = none_holds (as_group a) P (ap as_group d ∙ no_group read rs b f g h)
 
-pub ends_twice : (q : Option M.AtType2) (x : Option M.AtEntry) (oc : Option Token) (o : Token) (i : Kind) (t : Token) (e : Stop) → oc ≡ Some o → q ≡ made (λ p. M.lower (M.head (M.start p oc))) x → e ≡ Unexpected t.start → on q (λ k. Refused t e (M.ends_want k i t))
-ends_twice q None oc o i t e f g h = rw g tt
-ends_twice q (Some p) oc o i t e f g h = rw (g, f) (refuses t e _ h (ends_occur p o i t))
+pub ends_twice : (q : Option M.AtType2) (x : Option M.AtEntry) (oc : Option Token) (o : Token) (i : Kind) (t : Token) (start : ℕ) (e : Stop) → oc ≡ Some o → q ≡ made (λ p. M.lower (M.head (M.start p oc))) x → e ≡ Unexpected start → on q (λ k. Refused start e (M.ends_want k i t))
+ends_twice q None oc o i t start e f g h = rw g tt
+ends_twice q (Some p) oc o i t start e f g h = rw (g, f) (refuses start e _ h (ends_occur p o i t))
 
-pub ends_refused : (q : Option M.AtType2) (i : Kind) (t : Token) (e : Stop) → on q IsElsewhere → e ≡ Unexpected t.start → on q (λ k. Refused t e (M.ends_want k i t))
-ends_refused None i t e f h = tt
-ends_refused (Some k) i t e f h = refuses t e _ h (ends_elsewhere k i t f)
+pub ends_refused : (q : Option M.AtType2) (i : Kind) (t : Token) (start : ℕ) (e : Stop) → on q IsElsewhere → e ≡ Unexpected start → on q (λ k. Refused start e (M.ends_want k i t))
+ends_refused None i t start e f h = tt
+ends_refused (Some k) i t start e f h = refuses start e _ h (ends_elsewhere k i t f)
 
 -- After the entries of an alternative.
 

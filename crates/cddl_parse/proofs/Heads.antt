@@ -21,9 +21,9 @@ cut_several p oc (S.only r) t h = absurd h
 cut_several p oc (S.or ts s r) t h = refl
 
 -- the place of a value after its key
-pub arrow_behind_cut : (q : Option M.AtEntry) (P : M.State → Type 0) (oc : Option Token) (r : S.Type1) (u : Token) (m : S.MemberKey) (i : Kind) (t : Token) → i ≡ K.Arrow → m ≡ S.type_key r (Some u) t → on q (λ p. P (M.open_value p oc m)) → on q (λ p. P (M.step (M.want_arrow p oc r u) i t))
-arrow_behind_cut None P oc r u m i t e f h = tt
-arrow_behind_cut (Some p) P oc r u m i t e f h = rw e (rw f at h)
+pub arrow_after_cut : (q : Option M.AtEntry) (P : M.State → Type 0) (oc : Option Token) (r : S.Type1) (u : Token) (m : S.MemberKey) (i : Kind) (t : Token) → i ≡ K.Arrow → m ≡ S.type_key r (Some u) t → on q (λ p. P (M.open_value p oc m)) → on q (λ p. P (M.step (M.want_arrow p oc r u) i t))
+arrow_after_cut None P oc r u m i t e f h = tt
+arrow_after_cut (Some p) P oc r u m i t e f h = rw e (rw f at h)
 
 pub cut_taken : (q : Option M.AtEntry) (P : M.State → Type 0) (oc : Option Token) (ts : S.Types) (r : S.Type1) (t : Token) → ts ≡ S.only r → on q (λ p. P (M.want_arrow p oc r t)) → on q (λ p. P (M.cut p oc ts t))
 cut_taken None P oc ts r t e h = tt

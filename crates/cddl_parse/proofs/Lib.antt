@@ -1,5 +1,5 @@
 mod Adding
-mod Behind
+mod After
 mod Bodies
 mod Closing
 mod Contents

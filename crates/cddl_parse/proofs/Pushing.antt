@@ -1,5 +1,6 @@
 -- One more at the end of a list of parts.
-use Rattle.std.proofs.Common.{◌≡◌, List, [], ◌∷◌, ◌++◌, Option, refl, map, Vec, Global, Bor}
+use Rattle.std.proofs.Common.{◌≡◌, List, [], ◌∷◌, ◌++◌, Option, refl, map, Vec, Global}
+use Rattle.cddl_tree.specs.declared.tree.Leaf.{Leaf}
 use Rattle.cddl_token.specs.declared.Token.{Token}
 use Rattle.cddl_tree.specs.declared.tree.Type1.{Type1}
 use Rattle.cddl_tree.specs.declared.tree.GrpEnt.{GrpEnt}
@@ -14,36 +15,36 @@ use Rattle.cddl_syntax.specs.Syntax as S
 use Rattle.cddl_tree.specs.View.{with_types, with_arguments, with_entries, with_choices, with_parameters, leaf, view_type1, view_grpent, view_entry, view_further, view_choice}
 use Rattle.cddl_tree.proofs.Lemmas.{view-Name, view-Applied, view-One, view-Operation, view-Literal, view-Typename, view-Parens, view-MapOf, view-ArrayOf, view-Unwrapped, view-ChoiceOf, view-ChoiceOfName, view-Tagged, view-TaggedBy, view-SimpleBy, view-Hash, view-Typed, view-Keyed, view-Grouped, view-TypeKey, view-Bareword, view-ValueKey, view-Types, view-GenericArg, view-Group, view-GrpChoice, view-Entry, view-Further}
 
-pub with_types-push : (t : S.Types) (xs : List Further) (s : Bor Token) (r : Type1) → with_types t (map view_further (xs ++ (record { sign = s; type1 = r }) ∷ [])) ≡ S.or (with_types t (map view_further xs)) s.now (view_type1 r)
-with_types-push t [] s r = rw view-Further refl
-with_types-push t (x ∷ xs) s r = with_types-push (S.or t (view_further x).0 (view_further x).1) xs s r
+pub with_types-push : (read : Leaf → Token) (t : S.Types) (xs : List Further) (s : Leaf) (r : Type1) → with_types t (map (view_further read) (xs ++ (record { sign = s; type1 = r }) ∷ [])) ≡ S.or (with_types t (map (view_further read) xs)) (read s) (view_type1 read r)
+with_types-push read t [] s r = rw view-Further refl
+with_types-push read t (x ∷ xs) s r = with_types-push read (S.or t (view_further read x).0 (view_further read x).1) xs s r
 
-pub with_arguments-push : (t : S.GenericArg) (xs : List Further) (s : Bor Token) (r : Type1) → with_arguments t (map view_further (xs ++ (record { sign = s; type1 = r }) ∷ [])) ≡ S.arguments (with_arguments t (map view_further xs)) s.now (view_type1 r)
-with_arguments-push t [] s r = rw view-Further refl
-with_arguments-push t (x ∷ xs) s r = with_arguments-push (S.arguments t (view_further x).0 (view_further x).1) xs s r
+pub with_arguments-push : (read : Leaf → Token) (t : S.GenericArg) (xs : List Further) (s : Leaf) (r : Type1) → with_arguments t (map (view_further read) (xs ++ (record { sign = s; type1 = r }) ∷ [])) ≡ S.arguments (with_arguments t (map (view_further read) xs)) (read s) (view_type1 read r)
+with_arguments-push read t [] s r = rw view-Further refl
+with_arguments-push read t (x ∷ xs) s r = with_arguments-push read (S.arguments t (view_further read x).0 (view_further read x).1) xs s r
 
-pub with_entries-push : (t : S.GrpChoice) (xs : List Entry) (e : GrpEnt) (c : Option (Bor Token)) → with_entries t (map view_entry (xs ++ (record { grpent = e; comma = c }) ∷ [])) ≡ S.entries (with_entries t (map view_entry xs)) (view_grpent e) (leaf c)
-with_entries-push t [] e c = rw view-Entry refl
-with_entries-push t (x ∷ xs) e c = with_entries-push (S.entries t (view_entry x).0 (view_entry x).1) xs e c
+pub with_entries-push : (read : Leaf → Token) (t : S.GrpChoice) (xs : List Entry) (e : GrpEnt) (c : Option Leaf) → with_entries t (map (view_entry read) (xs ++ (record { grpent = e; comma = c }) ∷ [])) ≡ S.entries (with_entries t (map (view_entry read) xs)) (view_grpent read e) (leaf read c)
+with_entries-push read t [] e c = rw view-Entry refl
+with_entries-push read t (x ∷ xs) e c = with_entries-push read (S.entries t (view_entry read x).0 (view_entry read x).1) xs e c
 
-pub with_choices-push : (t : S.Group) (xs : List GrpChoice) (s : Bor Token) (es : Vec Entry Global) → with_choices t (map view_choice (xs ++ roll-GrpChoice (record { slashes = s; entries = es }) ∷ [])) ≡ S.orelse (with_choices t (map view_choice xs)) s.now (with_entries S.no_entries (map view_entry es.items))
-with_choices-push t [] s es = rw view-GrpChoice refl
-with_choices-push t (x ∷ xs) s es = with_choices-push (S.orelse t (view_choice x).0 (view_choice x).1) xs s es
+pub with_choices-push : (read : Leaf → Token) (t : S.Group) (xs : List GrpChoice) (s : Leaf) (es : Vec Entry Global) → with_choices t (map (view_choice read) (xs ++ roll-GrpChoice (record { slashes = s; entries = es }) ∷ [])) ≡ S.orelse (with_choices t (map (view_choice read) xs)) (read s) (with_entries S.no_entries (map (view_entry read) es.items))
+with_choices-push read t [] s es = rw view-GrpChoice refl
+with_choices-push read t (x ∷ xs) s es = with_choices-push read (S.orelse t (view_choice read x).0 (view_choice read x).1) xs s es
 
-pub with_parameters-push : (p : S.GenericParm) (xs : List Parameter) (c n : Bor Token) → with_parameters p (xs ++ (record { comma = c; name = n }) ∷ []) ≡ S.parameters (with_parameters p xs) c.now n.now
-with_parameters-push p [] c n = refl
-with_parameters-push p (x ∷ xs) c n = with_parameters-push (S.parameters p x.comma.now x.name.now) xs c n
+pub with_parameters-push : (read : Leaf → Token) (p : S.GenericParm) (xs : List Parameter) (c n : Leaf) → with_parameters read p (xs ++ (record { comma = c; name = n }) ∷ []) ≡ S.parameters (with_parameters read p xs) (read c) (read n)
+with_parameters-push read p [] c n = refl
+with_parameters-push read p (x ∷ xs) c n = with_parameters-push read (S.parameters p (read x.comma) (read x.name)) xs c n
 
-over-push : (rs : S.Rules) (b : Below) (fs : List Frame) (f : Frame) → over rs b (fs ++ f ∷ []) ≡ above rs (over rs b fs) f
-over-push rs b [] f = refl
-over-push rs b (g ∷ fs) f = over-push rs (above rs b g) fs f
+over-push : (read : Leaf → Token) (rs : S.Rules) (b : Below) (fs : List Frame) (f : Frame) → over read rs b (fs ++ f ∷ []) ≡ above read rs (over read rs b fs) f
+over-push read rs b [] f = refl
+over-push read rs b (g ∷ fs) f = over-push read rs (above read rs b g) fs f
 
-pub below-push : (rs : S.Rules) (fs : List Frame) (f : Frame) → below rs (fs ++ f ∷ []) ≡ above rs (below rs fs) f
+pub below-push : (read : Leaf → Token) (rs : S.Rules) (fs : List Frame) (f : Frame) → below read rs (fs ++ f ∷ []) ≡ above read rs (below read rs fs) f
 unfolding below
-below-push rs fs f = over-push rs nowhere fs f
+below-push read rs fs f = over-push read rs nowhere fs f
 
-pub below-empty : (rs : S.Rules) → below rs [] ≡ nowhere
+pub below-empty : (read : Leaf → Token) (rs : S.Rules) → below read rs [] ≡ nowhere
 unfolding below
-below-empty rs = refl
+below-empty read rs = refl
 
 pub ruleset views = (view-Name, view-Applied, view-One, view-Operation, view-Literal, view-Typename, view-Parens, view-MapOf, view-ArrayOf, view-Unwrapped, view-ChoiceOf, view-ChoiceOfName, view-Tagged, view-TaggedBy, view-SimpleBy, view-Hash, view-Typed, view-Keyed, view-Grouped, view-TypeKey, view-Bareword, view-ValueKey, view-Types, view-GenericArg, view-Group, view-GrpChoice, view-Entry, view-Further, with_types-push, with_arguments-push, with_entries-push, with_choices-push, with_parameters-push)

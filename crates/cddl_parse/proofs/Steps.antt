@@ -1,5 +1,6 @@
 -- What the machine does where the frames fit, in the forms that the code's steps have.
-use Rattle.std.proofs.Common.{◌≡◌, ◌≢◌, List, [], ◌∷◌, ◌++◌, Option, Some, None, refl, sym, ap, ◌∙◌, subst, Box, Global, Bor}
+use Rattle.std.proofs.Common.{◌≡◌, ℕ, ◌≢◌, List, [], ◌∷◌, ◌++◌, Option, Some, None, refl, sym, ap, ◌∙◌, subst, Box, Global}
+use Rattle.cddl_tree.specs.declared.tree.Leaf.{Leaf}
 use Rattle.cddl_token.specs.declared.Token.{Token}
 use Rattle.cddl_token.specs.declared.Kind.{Kind}
 use Rattle.cddl_token.specs.declared.Kind.TheVariants as K
@@ -29,18 +30,18 @@ pub made_made : {A B C : Type 0} (f : A → B) (g : B → C) (q : Option A) → 
 made_made f g None = refl
 made_made f g (Some x) = refl
 
-pub refuses : (t : Token) (e : Stop) (m : M.State) → e ≡ Unexpected t.start → m ≡ M.stuck → Refused t e m
-refuses t e m f g = rw f (g, refl)
+pub refuses : (start : ℕ) (e : Stop) (m : M.State) → e ≡ Unexpected start → m ≡ M.stuck → Refused start e m
+refuses start e m f g = rw f (g, refl)
 
 -- a refusal wherever the machine is stuck
-pub refused_on : {A : Type 0} (q : Option A) (t : Token) (e : Stop) (f : A → M.State) → e ≡ Unexpected t.start → ((x : A) → f x ≡ M.stuck) → on q (λ x. Refused t e (f x))
-refused_on q t e f h g = on_all q _ (λ x. refuses t e _ h (g x))
+pub refused_on : {A : Type 0} (q : Option A) (start : ℕ) (e : Stop) (f : A → M.State) → e ≡ Unexpected start → ((x : A) → f x ≡ M.stuck) → on q (λ x. Refused start e (f x))
+refused_on q start e f h g = on_all q _ (λ x. refuses start e _ h (g x))
 
-pub popped : (rs : S.Rules) (old new : List Frame) (f : Frame) → old ≡ new ++ f ∷ [] → below rs old ≡ above rs (below rs new) f
-popped rs old new f e = ap (below rs) e ∙ below-push rs new f
+pub popped : (read : Leaf → Token) (rs : S.Rules) (old new : List Frame) (f : Frame) → old ≡ new ++ f ∷ [] → below read rs old ≡ above read rs (below read rs new) f
+popped read rs old new f e = ap (below read rs) e ∙ below-push read rs new f
 
-pub bottom : (rs : S.Rules) (old : List Frame) → old ≡ [] → below rs old ≡ nowhere
-bottom rs old e = ap (below rs) e ∙ below-empty rs
+pub bottom : (read : Leaf → Token) (rs : S.Rules) (old : List Frame) → old ≡ [] → below read rs old ≡ nowhere
+bottom read rs old e = ap (below read rs) e ∙ below-empty read rs
 
 -- What is in a box is what was put into it.
 
@@ -54,8 +55,8 @@ on_with None P R f h = tt
 on_with (Some x) P R f h = f x h
 
 -- what holds of what is in a box holds of the box
-pub at_same : (b : Below) (x y : AtType1) (P : M.AtType1 → Type 0) → x ≡ y → on (view_at_type1 b x) P → on (view_at_type1 b y) P
-at_same b x y P e h = subst (λ (z : AtType1). on (view_at_type1 b z) P) e h
+pub at_same : (read : Leaf → Token) (b : Below) (x y : AtType1) (P : M.AtType1 → Type 0) → x ≡ y → on (view_at_type1 read b x) P → on (view_at_type1 read b y) P
+at_same read b x y P e h = subst (λ (z : AtType1). on (view_at_type1 read b z) P) e h
 
 -- At the head of an entry that has no occurrence.
 
@@ -65,21 +66,21 @@ head_none q (Some p) oc P e f h = rw (f, e) h
 
 -- After an operand.
 
-pub got_joined : (q : Option M.AtType1) (l : Option (Box Left Global)) (P : M.State → Type 0) (r : S.Type1) (x : S.Type2) → r ≡ joined_to l x → on q (λ k. P (M.have k r)) → on (type2_at l q) (λ k. P (M.got k x))
-got_joined None None P r x e h = tt
-got_joined None (Some l) P r x e h = tt
-got_joined (Some k) None P r x e h = rw e at h
-got_joined (Some k) (Some l) P r x e h = rw e at h
+pub got_joined : (read : Leaf → Token) (q : Option M.AtType1) (l : Option (Box Left Global)) (P : M.State → Type 0) (r : S.Type1) (x : S.Type2) → r ≡ joined_to read l x → on q (λ k. P (M.have k r)) → on (type2_at read l q) (λ k. P (M.got k x))
+got_joined read None None P r x e h = tt
+got_joined read None (Some l) P r x e h = tt
+got_joined read (Some k) None P r x e h = rw e at h
+got_joined read (Some k) (Some l) P r x e h = rw e at h
 
-pub joined_none : (l : Option (Box Left Global)) (r : S.Type1) (x : S.Type2) → l ≡ None → r ≡ S.one x → r ≡ joined_to l x
-joined_none l r x e f = rw (e, f) refl
+pub joined_none : (read : Leaf → Token) (l : Option (Box Left Global)) (r : S.Type1) (x : S.Type2) → l ≡ None → r ≡ S.one x → r ≡ joined_to read l x
+joined_none read l r x e f = rw (e, f) refl
 
-pub joined_some : (l : Option (Box Left Global)) (w : Box Left Global) (y : Left) (r : S.Type1) (x : S.Type2) → l ≡ Some w → y ≡ w.value → r ≡ S.operation (view_type2 y.type2.value) (view_operator y.operator) x → r ≡ joined_to l x
-joined_some l w y r x e d f = rw (e, ← d, f) refl
+pub joined_some : (read : Leaf → Token) (l : Option (Box Left Global)) (w : Box Left Global) (y : Left) (r : S.Type1) (x : S.Type2) → l ≡ Some w → y ≡ w.value → r ≡ S.operation (view_type2 read y.type2.value) (view_operator read y.operator) x → r ≡ joined_to read l x
+joined_some read l w y r x e d f = rw (e, ← d, f) refl
 
-pub operated_one : (q : Option M.AtType1) (l : Box Left Global) (r : S.Type1) (x : S.Type2) (o : S.Operator) (P : M.State → Type 0) → view_type2 l.value.type2.value ≡ x → view_operator l.value.operator ≡ o → r ≡ S.one x → on (type2_at (Some l) q) (λ k. P (M.want k)) → on q (λ k. P (M.operated k r o))
-operated_one None l r x o P f g e h = tt
-operated_one (Some k) l r x o P f g e h = rw e (rw (f, g) at h)
+pub operated_one : (read : Leaf → Token) (q : Option M.AtType1) (l : Box Left Global) (r : S.Type1) (x : S.Type2) (o : S.Operator) (P : M.State → Type 0) → view_type2 read l.value.type2.value ≡ x → view_operator read l.value.operator ≡ o → r ≡ S.one x → on (type2_at read (Some l) q) (λ k. P (M.want k)) → on q (λ k. P (M.operated k r o))
+operated_one read None l r x o P f g e h = tt
+operated_one read (Some k) l r x o P f g e h = rw e (rw (f, g) at h)
 
 pub operated_two : (r : S.Type1) (x y : S.Type2) (p o : S.Operator) (k : M.AtType1) → r ≡ S.operation x p y → M.operated k r o ≡ M.stuck
 operated_two r x y p o k e = rw e refl
@@ -90,15 +91,15 @@ slash_first_at : (q : Option M.AtTypes) (P : M.State → Type 0) (r : S.Type1) (
 slash_first_at None P r t h = tt
 slash_first_at (Some k) P r t h = h
 
-pub slash_first : (b : Below) (h : Home) (bf : Before) (P : M.State → Type 0) (ts : S.Types) (r : S.Type1) (t : Token) → bf ≡ B.Nothing → ts ≡ S.only r → on (view_home b h) (λ k. P (M.want (M.lower (M.next k ts t)))) → on (type1_at b h bf) (λ k. P (M.slash k r t))
-slash_first b h bf P ts r t e f g = rw e (slash_first_at (view_home b h) P r t (rw f at g))
+pub slash_first : (read : Leaf → Token) (b : Below) (h : Home) (bf : Before) (P : M.State → Type 0) (ts : S.Types) (r : S.Type1) (t : Token) → bf ≡ B.Nothing → ts ≡ S.only r → on (view_home read b h) (λ k. P (M.want (M.lower (M.next k ts t)))) → on (type1_at read b h bf) (λ k. P (M.slash k r t))
+slash_first read b h bf P ts r t e f g = rw e (slash_first_at (view_home read b h) P r t (rw f at g))
 
 slash_more_at : (q : Option M.AtTypes) (P : M.State → Type 0) (us : S.Types) (s : Token) (r : S.Type1) (t : Token) → on q (λ k. P (M.want (M.lower (M.next k (S.or us s r) t)))) → on (made (λ k. M.next k us s) q) (λ k. P (M.slash k r t))
 slash_more_at None P us s r t h = tt
 slash_more_at (Some k) P us s r t h = h
 
-pub slash_more : (b : Below) (h : Home) (bf : Before) (P : M.State → Type 0) (us : Box Types Global) (s : Bor Token) (ts : S.Types) (r : S.Type1) (t : Token) → bf ≡ B.Choices us s → ts ≡ S.or (view_types us.value) s.now r → on (view_home b h) (λ k. P (M.want (M.lower (M.next k ts t)))) → on (type1_at b h bf) (λ k. P (M.slash k r t))
-slash_more b h bf P us s ts r t e f g = rw e (slash_more_at (view_home b h) P (view_types us.value) s.now r t (rw f at g))
+pub slash_more : (read : Leaf → Token) (b : Below) (h : Home) (bf : Before) (P : M.State → Type 0) (us : Box Types Global) (s : Leaf) (ts : S.Types) (r : S.Type1) (t : Token) → bf ≡ B.Choices us s → ts ≡ S.or (view_types read us.value) (read s) r → on (view_home read b h) (λ k. P (M.want (M.lower (M.next k ts t)))) → on (type1_at read b h bf) (λ k. P (M.slash k r t))
+slash_more read b h bf P us s ts r t e f g = rw e (slash_more_at (view_home read b h) P (view_types read us.value) (read s) r t (rw f at g))
 
 slash_argument_at : (b : Below) (a : M.ArgBefore) (r : S.Type1) (t : Token) → on (as_argument b a) (λ k. M.slash k r t ≡ M.stuck)
 slash_argument_at nowhere a r t = tt
@@ -107,12 +108,12 @@ slash_argument_at (reference k p o) a r t = refl
 slash_argument_at (entry k) a r t = tt
 slash_argument_at (group k) a r t = tt
 
-pub slash_argument : (b : Below) (h : Home) (bf : Before) (a : Option Arguments) (r : S.Type1) (t : Token) (e : Stop) → bf ≡ B.Arguments a → e ≡ Unexpected t.start → on (type1_at b h bf) (λ k. Refused t e (M.slash k r t))
-slash_argument b h bf a r t e f g = rw f (along (as_argument b (view_arguments a)) (slash_argument_at b (view_arguments a) r t))
+pub slash_argument : (read : Leaf → Token) (b : Below) (h : Home) (bf : Before) (a : Option Arguments) (r : S.Type1) (t : Token) (start : ℕ) (e : Stop) → bf ≡ B.Arguments a → e ≡ Unexpected start → on (type1_at read b h bf) (λ k. Refused start e (M.slash k r t))
+slash_argument read b h bf a r t start e f g = rw f (along (as_argument b (view_arguments read a)) (slash_argument_at b (view_arguments read a) r t))
   where
-    along : (q : Option M.AtType1) → on q (λ k. M.slash k r t ≡ M.stuck) → on q (λ k. Refused t e (M.slash k r t))
+    along : (q : Option M.AtType1) → on q (λ k. M.slash k r t ≡ M.stuck) → on q (λ k. Refused start e (M.slash k r t))
     along None i = tt
-    along (Some k) i = refuses t e _ g i
+    along (Some k) i = refuses start e _ g i
 
 -- After a type.
 
@@ -142,16 +143,16 @@ tag_shut u o ts t x e f k = rw (e, f) refl
 pub content_shut : (u : M.TypeOpening) (o : Token) (h : S.Types) (a p : Token) (ts : S.Types) (t : Token) (x : S.Type2) → u ≡ M.tag_content o h a p → x ≡ S.tagged_by o h a p ts t → (k : M.AtType2) → M.shut_types k u ts K.ParenClose t ≡ M.got k x
 content_shut u o h a p ts t x e f k = rw (e, f) refl
 
-pub no_parens : (u : TypeOpening) (ts : S.Types) (t : Token) → ((o : Bor Token) → u ≢ O.Paren o) → ((o : Bor Token) → u ≢ O.Tag o) → ((o : Bor Token) (h : Box Types Global) (a p : Bor Token) → u ≢ O.TagContent o h a p) → (k : M.AtType2) → M.shut_types k (view_type_opening u) ts K.ParenClose t ≡ M.stuck
-no_parens (O.Paren o) ts t e f g k = absurd (e o refl)
-no_parens (O.Tag o) ts t e f g k = absurd (f o refl)
-no_parens (O.TagHead o) ts t e f g k = refl
-no_parens (O.TagContent o h a p) ts t e f g k = absurd (g o h a p refl)
-no_parens (O.SimpleHead o) ts t e f g k = refl
+pub no_parens : (read : Leaf → Token) (u : TypeOpening) (ts : S.Types) (t : Token) → ((o : Leaf) → u ≢ O.Paren o) → ((o : Leaf) → u ≢ O.Tag o) → ((o : Leaf) (h : Box Types Global) (a p : Leaf) → u ≢ O.TagContent o h a p) → (k : M.AtType2) → M.shut_types k (view_type_opening read u) ts K.ParenClose t ≡ M.stuck
+no_parens read (O.Paren o) ts t e f g k = absurd (e o refl)
+no_parens read (O.Tag o) ts t e f g k = absurd (f o refl)
+no_parens read (O.TagHead o) ts t e f g k = refl
+no_parens read (O.TagContent o h a p) ts t e f g k = absurd (g o h a p refl)
+no_parens read (O.SimpleHead o) ts t e f g k = refl
 
-pub no_angles : (u : TypeOpening) (ts : S.Types) (t : Token) → ((o : Bor Token) → u ≢ O.TagHead o) → ((o : Bor Token) → u ≢ O.SimpleHead o) → (k : M.AtType2) → M.shut_types k (view_type_opening u) ts K.AngleClose t ≡ M.stuck
-no_angles (O.Paren o) ts t e f k = refl
-no_angles (O.Tag o) ts t e f k = refl
-no_angles (O.TagHead o) ts t e f k = absurd (e o refl)
-no_angles (O.TagContent o h a p) ts t e f k = refl
-no_angles (O.SimpleHead o) ts t e f k = absurd (f o refl)
+pub no_angles : (read : Leaf → Token) (u : TypeOpening) (ts : S.Types) (t : Token) → ((o : Leaf) → u ≢ O.TagHead o) → ((o : Leaf) → u ≢ O.SimpleHead o) → (k : M.AtType2) → M.shut_types k (view_type_opening read u) ts K.AngleClose t ≡ M.stuck
+no_angles read (O.Paren o) ts t e f k = refl
+no_angles read (O.Tag o) ts t e f k = refl
+no_angles read (O.TagHead o) ts t e f k = absurd (e o refl)
+no_angles read (O.TagContent o h a p) ts t e f k = refl
+no_angles read (O.SimpleHead o) ts t e f k = absurd (f o refl)

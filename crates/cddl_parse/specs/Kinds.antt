@@ -1,10 +1,12 @@
 -- Kinds of tokens, by what they are where a type2 is awaited, and after a type1.
-use Rattle.std.specs.Prelude.{◌≡◌, Option, Some, None}
+use Rattle.std.specs.Prelude.{◌≡◌}
 use Rattle.cddl_token.specs.declared.Token.{Token}
 use Rattle.cddl_token.specs.declared.Kind.{Kind}
 use Rattle.cddl_token.specs.declared.Kind.TheVariants as K
+use Rattle.cddl_tree.specs.declared.tree.Leaf.{Leaf}
 use Rattle.cddl_tree.specs.declared.tree.Type2.{Type2}
 use Rattle.cddl_tree.specs.declared.tree.Operator.{Operator}
+use Rattle.cddl_parse.specs.declared.frames.Current.{Current}
 use Rattle.cddl_tree.specs.View.{view_type2, view_operator}
 use Rattle.cddl_syntax.specs.Machine as M
 use Rattle.cddl_syntax.specs.Syntax as S
@@ -32,10 +34,9 @@ IsNoHead K.ParenOpen = ⊥
 IsNoHead K.Occur = ⊥
 IsNoHead _ = Unit {0}
 
--- the operand of one token that the machine gets, or the token is none
-abbrev pub IsOperandOf : Option Type2 → Token → Type 0
-IsOperandOf None t = IsNoOperand t.kind
-IsOperandOf (Some x) t = (k : M.AtType2) → M.step_want k t.kind t ≡ M.got k (view_type2 x)
+-- the operand of one token that the machine gets
+abbrev pub IsOperandOf : (Leaf → Token) → Type2 → Current → Type 0
+IsOperandOf read x t = (k : M.AtType2) → M.step_want k t.kind (read t.leaf) ≡ M.got k (view_type2 read x)
 
 abbrev pub IsNoOperator : Kind → Type 0
 IsNoOperator K.Range = ⊥
@@ -43,7 +44,6 @@ IsNoOperator K.RangeBelow = ⊥
 IsNoOperator K.Control = ⊥
 IsNoOperator _ = Unit {0}
 
--- the operator that the machine takes, or the token is none
-abbrev pub IsOperatorOf : Option Operator → Token → Type 0
-IsOperatorOf None t = IsNoOperator t.kind
-IsOperatorOf (Some o) t = (k : M.AtType1) → (r : S.Type1) → M.step_have k r t.kind t ≡ M.operated k r (view_operator o)
+-- the operator that the machine takes
+abbrev pub IsOperatorOf : (Leaf → Token) → Operator → Current → Type 0
+IsOperatorOf read o t = (k : M.AtType1) → (r : S.Type1) → M.step_have k r t.kind (read t.leaf) ≡ M.operated k r (view_operator read o)

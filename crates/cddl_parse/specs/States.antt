@@ -1,6 +1,6 @@
 -- What a state of the parser stands for.
 use Rattle.cddl_parse.specs.Frames.{made, below, view_parameters, view_now, Refused}
-use Rattle.std.specs.Prelude.{◌≡◌, ◌≤◌, List, [], ◌∷◌, ◌++◌, Option, Some, None, Result, Ok, Err, Box}
+use Rattle.std.specs.Prelude.{◌≡◌, ℕ, ◌≤◌, List, [], ◌∷◌, ◌++◌, Option, Some, None, Result, Ok, Err, Box, Vec}
 use Rattle.std.specs.declared.alloc.Global.{Global}
 use Rattle.cddl_token.specs.declared.Token.{Token}
 use Rattle.cddl_token.specs.declared.Kind.TheVariants.{End}
@@ -12,32 +12,33 @@ use Rattle.cddl_parse.specs.declared.frames.Stop.TheVariants as Stops
 use Rattle.cddl_parse.specs.declared.state.State.{State}
 use Rattle.cddl_parse.specs.declared.state.Progress.{Progress}
 use Rattle.cddl_tree.specs.declared.tree.Rule.{Rule}
-use Rattle.cddl_tree.specs.declared.tree.Tree.{Tree}
+use Rattle.cddl_tree.specs.declared.tree.Leaf.{Leaf}
+use Rattle.cddl_parse.specs.declared.frames.Current.{Current}
 use Rattle.cddl_parse.specs.declared.state.State.TheVariants as St
 use Rattle.cddl_syntax.specs.Machine as M
 use Rattle.cddl_syntax.specs.Syntax as S
 use Rattle.cddl_syntax.specs.Answers.{lexemes, nesting_limit, open_after, deepest, IsRefused}
-use Rattle.cddl_tree.specs.View.{view_parm, view_name, view, with_rules}
+use Rattle.cddl_tree.specs.View.{view_parm, view_name, with_rules}
 
-abbrev pub view_rules : List Rule → S.Rules
-view_rules rs = with_rules S.no_rules rs
+abbrev pub view_rules : (Leaf → Token) → List Rule → S.Rules
+view_rules read rs = with_rules read S.no_rules rs
 
-abbrev pub view_state : State → Option M.State
-view_state St.Begin = Some M.begin
-view_state (St.WantParm rs o before) = Some (M.awaits_parm (view_rules rs.items) o.now (view_parameters before))
-view_state (St.HaveParm rs o p) = Some (M.have_parm (view_rules rs.items) o.now (view_parm p))
-view_state (St.WantAssign rs n) = Some (M.awaits_assign (view_rules rs.items) (view_name n))
-view_state (St.Body rs fs now) = view_now (below (view_rules rs.items) fs.items) now.value
-view_state (St.Done t) = Some (M.done (view t))
+abbrev pub view_state : (Leaf → Token) → State → Option M.State
+view_state read St.Begin = Some M.begin
+view_state read (St.WantParm rs o before) = Some (M.awaits_parm (view_rules read rs.items) (read o) (view_parameters read before))
+view_state read (St.HaveParm rs o p) = Some (M.have_parm (view_rules read rs.items) (read o) (view_parm read p))
+view_state read (St.WantAssign rs n) = Some (M.awaits_assign (view_rules read rs.items) (view_name read n))
+view_state read (St.Body rs fs now) = view_now read (below read (view_rules read rs.items) fs.items) now.value
+view_state read (St.Done rs end) = Some (M.done (S.cddl (view_rules read rs.items) (read end)))
 
-abbrev pub GivesState : Token → Result (Box State Global) Stop → M.State → Type 0
-GivesState t (Ok s) m = view_state s.value ≡ Some m
-GivesState t (Err e) m = Refused t e m
+abbrev pub GivesState : (Leaf → Token) → ℕ → Result (Box State Global) Stop → M.State → Type 0
+GivesState read start (Ok s) m = view_state read s.value ≡ Some m
+GivesState read start (Err e) m = Refused start e m
 
 -- a body that is awaited at the place, or memory ran out
-abbrev pub BeginsBody : Result (Box State Global) Stop → Option M.AtTypes → Type 0
-BeginsBody (Ok s) k = view_state s.value ≡ made M.open_types k
-BeginsBody (Err e) k = e ≡ Stops.Memory
+abbrev pub BeginsBody : (Leaf → Token) → Result (Box State Global) Stop → Option M.AtTypes → Type 0
+BeginsBody read (Ok s) k = view_state read s.value ≡ made M.open_types k
+BeginsBody read (Err e) k = e ≡ Stops.Memory
 
 -- the source's end is the last token
 abbrev pub EndsInEnd : List Token → Type 0
@@ -54,16 +55,21 @@ Refuses ts (At code at) = IsRefused ts code at
 Refuses ts Memory = Unit {0}
 
 -- The parser after the tokens, which nest within the limit.
-pub record Stands (p : Progress) (ts : List Token) : Type 0 where
-  pub place : view_state p.state.value ≡ Some (M.run M.begin (lexemes ts))
+pub record Stands (read : Leaf → Token) (p : Progress) (ts : List Token) : Type 0 where
+  pub place : view_state read p.state.value ≡ Some (M.run M.begin (lexemes ts))
   pub count : p.count ≡ open_after 0 (lexemes ts)
   pub within : deepest 0 (lexemes ts) ≤ nesting_limit
 
 -- it comes after the token, or all tokens that begin so are refused
-abbrev pub Advances : List Token → Token → Result Progress Refusal → Type 0
-Advances ts t (Ok p) = Stands p (ts ++ t ∷ [])
-Advances ts t (Err e) = (back : List Token) → Refuses (ts ++ t ∷ back) e
+abbrev pub Advances : (Leaf → Token) → List Token → Token → Result Progress Refusal → Type 0
+Advances read ts t (Ok p) = Stands read p (ts ++ t ∷ [])
+Advances read ts t (Err e) = (back : List Token) → Refuses (ts ++ t ∷ back) e
 
-abbrev pub tree_in : State → Option Tree
-tree_in (St.Done t) = Some t
-tree_in _ = None
+-- the rules, where the parser is after the end
+abbrev pub rules_in : State → Option (Vec Rule Global)
+rules_in (St.Done rs end) = Some rs
+rules_in _ = None
+
+-- what is told of a token is what is read there
+abbrev pub IsRead : (Leaf → Token) → Current → Type 0
+IsRead read t = ((read t.leaf).kind ≡ t.kind) × ((read t.leaf).start ≡ t.start)

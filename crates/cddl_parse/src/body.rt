@@ -1,4 +1,6 @@
 //! What a token does within a rule's body.
+ghost use Rattle.cddl_token.specs.declared.Token.{Token};
+ghost use Rattle.cddl_tree.specs.declared.tree.Leaf.{Leaf};
 ghost use Rattle.cddl_syntax.specs.Machine as M;
 ghost use Rattle.cddl_syntax.specs.Syntax as S;
 ghost use Rattle.cddl_tree.specs.View.{leaf, view_grpent, view_type1, view_types};
@@ -6,24 +8,24 @@ ghost use Rattle.cddl_parse.specs.Frames.{on, as_entry, below, view_at_type2, vi
 
 use crate::build::unexpected;
 use crate::entry::after_entry;
-use crate::frames::{AtType2, Frame, Next, Now, Stop, TypeOpening};
+use crate::frames::{AtType2, Current, Frame, Next, Now, Stop, TypeOpening};
 use crate::have::step_have;
 use crate::open::open_inside;
 use crate::places::value_at;
 use crate::want::{step_want, step_want_ref};
-use cddl_token::{Kind, Token};
-use cddl_tree::{GrpEnt, MemberKey, Type1, Types};
+use cddl_token::Kind;
+use cddl_tree::{GrpEnt, Leaf, MemberKey, Type1, Types};
 use std::alloc::Global;
 
 /// A token within a rule's body.
 #[tactic(none)]
-pub(crate) fn step_body<'s>(
+pub(crate) fn step_body(
     alloc: Global,
-    frames: &mut Vec<Frame<'s>>,
-    now: Box<Now<'s>>,
-    token: &'s Token<'s>,
-) -> Result<Next<'s>, Stop>
-    ensures { (rs : S.Rules) → on (view_now (below rs frames.old.items) now.entry.value) (λ m. Gives token.now rs (below rs frames.new.items) result (M.step m token.now.kind token.now)) }
+    frames: &mut Vec<Frame>,
+    now: Box<Now>,
+    token: Current,
+) -> Result<Next, Stop>
+    ensures { (read : Leaf → Token) (rs : S.Rules) → on (view_now read (below read rs frames.old.items) now.value) (λ m. Gives read token rs (below read rs frames.new.items) result (M.step m token.kind (read token.leaf))) }
 {
     match Box::into_inner(now) {
         Now::Want(at) => step_want(alloc, frames, at, token),
@@ -39,20 +41,20 @@ pub(crate) fn step_body<'s>(
 
 /// A token after `#6.<`, a type and its `>`.
 #[tactic(none)]
-fn step_content<'s>(
+fn step_content(
     alloc: Global,
-    frames: &mut Vec<Frame<'s>>,
-    at: AtType2<'s>,
-    opening: &'s Token<'s>,
-    head: Box<Types<'s>>,
-    angle: &'s Token<'s>,
-    token: &'s Token<'s>,
-) -> Result<Next<'s>, Stop>
-    ensures { (rs : S.Rules) → on (view_at_type2 (below rs frames.old.items) at.entry) (λ k. Gives token.now rs (below rs frames.new.items) result (M.step (M.want_content k opening.now (view_types head.entry.value) angle.now) token.now.kind token.now)) }
+    frames: &mut Vec<Frame>,
+    at: AtType2,
+    opening: Leaf,
+    head: Box<Types>,
+    angle: Leaf,
+    token: Current,
+) -> Result<Next, Stop>
+    ensures { (read : Leaf → Token) (rs : S.Rules) → on (view_at_type2 read (below read rs frames.old.items) at) (λ k. Gives read token rs (below read rs frames.new.items) result (M.step (M.want_content k (read opening) (view_types read head.value) (read angle)) token.kind (read token.leaf))) }
 {
     match token.kind {
         Kind::ParenOpen => {
-            let opening = TypeOpening::TagContent(opening, head, angle, token);
+            let opening = TypeOpening::TagContent(opening, head, angle, token.leaf);
             open_inside(alloc, frames, at, opening)
         }
         _ => {
@@ -65,21 +67,21 @@ fn step_content<'s>(
 
 /// A token after the `^` of a key.
 #[tactic(none)]
-fn step_arrow<'s>(
+fn step_arrow(
     alloc: Global,
-    occur: Option<&'s Token<'s>>,
-    type1: Box<Type1<'s>>,
-    cut: &'s Token<'s>,
-    token: &'s Token<'s>,
-) -> Result<Next<'s>, Stop>
-    ensures { (rs : S.Rules) (b : Below) → on (as_entry b) (λ p. Gives token.now rs b result (M.step (M.want_arrow p (leaf occur.entry) (view_type1 type1.entry.value) cut.now) token.now.kind token.now)) }
+    occur: Option<Leaf>,
+    type1: Box<Type1>,
+    cut: Leaf,
+    token: Current,
+) -> Result<Next, Stop>
+    ensures { (read : Leaf → Token) (rs : S.Rules) (b : Below) → on (as_entry b) (λ p. Gives read token rs b result (M.step (M.want_arrow p (leaf read occur) (view_type1 read type1.value) (read cut)) token.kind (read token.leaf))) }
 {
     match token.kind {
         Kind::Arrow => {
             let key = MemberKey::TypeKey {
                 type1: Box::into_inner(type1),
                 cut: Some(cut),
-                arrow: token,
+                arrow: token.leaf,
             };
             value_at(alloc, occur, key)
         }
@@ -92,13 +94,13 @@ fn step_arrow<'s>(
 
 /// A token after a group in parentheses that is an entry.
 #[tactic(none)]
-fn after_group<'s>(
+fn after_group(
     alloc: Global,
-    frames: &mut Vec<Frame<'s>>,
-    grpent: Box<GrpEnt<'s>>,
-    token: &'s Token<'s>,
-) -> Result<Next<'s>, Stop>
-    ensures { (rs : S.Rules) → on (as_entry (below rs frames.old.items)) (λ p. Gives token.now rs (below rs frames.new.items) result (M.after_entry p (view_grpent grpent.entry.value) token.now.kind token.now)) }
+    frames: &mut Vec<Frame>,
+    grpent: Box<GrpEnt>,
+    token: Current,
+) -> Result<Next, Stop>
+    ensures { (read : Leaf → Token) (rs : S.Rules) → on (as_entry (below read rs frames.old.items)) (λ p. Gives read token rs (below read rs frames.new.items) result (M.after_entry p (view_grpent read grpent.value) token.kind (read token.leaf))) }
 {
     after_entry(alloc, frames, Box::into_inner(grpent), token)
 }

@@ -1,31 +1,33 @@
 //! What a token does after a group in brackets, or in parentheses at the head of an entry.
 ghost use Rattle.std.specs.Prelude.{◌≡◌};
+ghost use Rattle.cddl_token.specs.declared.Token.{Token};
+ghost use Rattle.cddl_tree.specs.declared.tree.Leaf.{Leaf};
 ghost use Rattle.cddl_syntax.specs.Machine as M;
 ghost use Rattle.cddl_syntax.specs.Syntax as S;
 ghost use Rattle.cddl_tree.specs.View.{leaf, view_type2, view_group};
 ghost use Rattle.cddl_parse.specs.Frames.{on, view_group_opening, bracketed, is_closed_by, as_entry, view_at_type2, Gives, Below};
 
 use crate::build::{content_of, unexpected};
-use crate::frames::{AtType2, Content, GroupOpening, Home, Next, Stop};
+use crate::frames::{AtType2, Content, Current, GroupOpening, Home, Next, Stop};
 use crate::memory::boxed;
 use crate::places::{got, have_group, type_at};
-use cddl_token::{Kind, Token};
-use cddl_tree::{Group, GrpEnt, Type2};
+use cddl_token::Kind;
+use cddl_tree::{Group, GrpEnt, Leaf, Type2};
 use std::alloc::Global;
 
 /// A token that can only close a group in brackets.
 #[tactic(none)]
-pub(crate) fn shut_within<'s>(
+pub(crate) fn shut_within(
     alloc: Global,
-    at: AtType2<'s>,
-    opening: GroupOpening<'s>,
-    group: Group<'s>,
-    token: &'s Token<'s>,
-) -> Result<Next<'s>, Stop>
-    ensures { (rs : S.Rules) (b : Below) → on (view_at_type2 b at.entry) (λ k. Gives token.now rs b result (M.shut_group (M.within k (view_group_opening opening.entry)) (view_group group.entry) token.now.kind token.now)) }
+    at: AtType2,
+    opening: GroupOpening,
+    group: Group,
+    token: Current,
+) -> Result<Next, Stop>
+    ensures { (read : Leaf → Token) (rs : S.Rules) (b : Below) → on (view_at_type2 read b at) (λ k. Gives read token rs b result (M.shut_group (M.within k (view_group_opening read opening)) (view_group read group) token.kind (read token.leaf))) }
 {
     if closes(opening, token.kind) {
-        got(alloc, at, in_brackets(opening, group, token))
+        got(alloc, at, in_brackets(opening, group, token.leaf))
     } else {
         drop(at);
         drop(group);
@@ -34,8 +36,8 @@ pub(crate) fn shut_within<'s>(
 }
 
 /// Whether the token is the bracket that closes what was opened so.
-fn closes(opening: GroupOpening<'_>, kind: Kind) -> bool
-    ensures { result ≡ is_closed_by (view_group_opening opening.entry) kind }
+fn closes(opening: GroupOpening, kind: Kind) -> bool
+    ensures { (read : Leaf → Token) → result ≡ is_closed_by (view_group_opening read opening) kind }
 {
     match opening {
         GroupOpening::Brace(_) => matches!(kind, Kind::BraceClose),
@@ -45,8 +47,8 @@ fn closes(opening: GroupOpening<'_>, kind: Kind) -> bool
 }
 
 /// A group in brackets.
-fn in_brackets<'s>(opening: GroupOpening<'s>, group: Group<'s>, closing: &'s Token<'s>) -> Type2<'s>
-    ensures { view_type2 result ≡ bracketed (view_group_opening opening.entry) (view_group group.entry) closing.now }
+fn in_brackets(opening: GroupOpening, group: Group, closing: Leaf) -> Type2
+    ensures { (read : Leaf → Token) → view_type2 read result ≡ bracketed (view_group_opening read opening) (view_group read group) (read closing) }
 {
     match opening {
         GroupOpening::Brace(opening) => Type2::MapOf {
@@ -70,16 +72,16 @@ fn in_brackets<'s>(opening: GroupOpening<'s>, group: Group<'s>, closing: &'s Tok
 
 /// A `)` after a group at the head of an entry.
 #[tactic(none)]
-pub(crate) fn shut_entry<'s>(
+pub(crate) fn shut_entry(
     alloc: Global,
-    occur: Option<&'s Token<'s>>,
-    opening: &'s Token<'s>,
-    group: Group<'s>,
-    token: &'s Token<'s>,
-) -> Result<Next<'s>, Stop>
-    ensures { (rs : S.Rules) (b : Below) → on (as_entry b) (λ p. Gives token.now rs b result (M.shut_paren p (leaf occur.entry) opening.now (view_group group.entry) token.now)) }
+    occur: Option<Leaf>,
+    opening: Leaf,
+    group: Group,
+    token: Current,
+) -> Result<Next, Stop>
+    ensures { (read : Leaf → Token) (rs : S.Rules) (b : Below) → on (as_entry b) (λ p. Gives read token rs b result (M.shut_paren p (leaf read occur) (read opening) (view_group read group) (read token.leaf))) }
 {
-    let closing = token;
+    let closing = token.leaf;
     match content_of(group) {
         Ok(content) => match content {
             Content::Type(types) => match boxed(alloc, types) {

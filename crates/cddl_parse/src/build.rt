@@ -1,29 +1,30 @@
 //! The parts of a tree, put where they belong.
 ghost use Rattle.std.specs.Prelude.{◌≡◌, false, None, IfOk, IfErr, MatchResult, []};
+ghost use Rattle.cddl_token.specs.declared.Token.{Token};
+ghost use Rattle.cddl_tree.specs.declared.tree.Leaf.{Leaf};
 ghost use Rattle.cddl_syntax.specs.Machine as M;
 ghost use Rattle.cddl_syntax.specs.Syntax as S;
 ghost use Rattle.cddl_tree.specs.View.{leaf, view_grpent, view_ref, view_type1, view_type2, view_arg, view_group, view_types, view_parm};
 ghost use Rattle.cddl_parse.specs.Frames.{view_alternatives, view_arguments, view_parameters, view_prefix, view_entries, IsChoice, IsKeyOf, IsContent};
 
-use crate::frames::{Alternatives, Arguments, Content, Parameters, Prefix, Stop};
+use crate::frames::{Alternatives, Arguments, Content, Current, Parameters, Prefix, Stop};
 use crate::memory::pushed;
-use cddl_token::Token;
 use cddl_tree::{
-    Entry, Further, GenericArg, GenericParm, Group, GrpChoice, GrpEnt, MemberKey, Parameter, Ref,
-    Type1, Type2, Types,
+    Entry, Further, GenericArg, GenericParm, Group, GrpChoice, GrpEnt, Leaf, MemberKey, Parameter,
+    Ref, Type1, Type2, Types,
 };
 use std::alloc::Global;
 
 /// The refusal of a token.
-pub(crate) fn unexpected(token: &Token<'_>) -> Stop
-    ensures { result ≡ Stop.Unexpected token.now.start }
+pub(crate) fn unexpected(token: Current) -> Stop
+    ensures { result ≡ Stop.Unexpected token.start }
 {
     Stop::Unexpected(token.start)
 }
 
 /// A type of one type1.
-pub(crate) fn one_type<'s>(alloc: Global, type1: Box<Type1<'s>>) -> Types<'s>
-    ensures { view_types result ≡ S.only (view_type1 type1.entry.value) }
+pub(crate) fn one_type(alloc: Global, type1: Box<Type1>) -> Types
+    ensures { (read : Leaf → Token) → view_types read result ≡ S.only (view_type1 read type1.value) }
 {
     Types {
         first: Box::into_inner(type1),
@@ -32,12 +33,8 @@ pub(crate) fn one_type<'s>(alloc: Global, type1: Box<Type1<'s>>) -> Types<'s>
 }
 
 /// A type with one type1 more.
-pub(crate) fn more_types<'s>(
-    types: Box<Types<'s>>,
-    slash: &'s Token<'s>,
-    type1: Box<Type1<'s>>,
-) -> Result<Types<'s>, Stop>
-    ensures { MatchResult result (λ t. view_types t ≡ S.or (view_types types.entry.value) slash.now (view_type1 type1.entry.value)) (λ e. e ≡ Stop.Memory) }
+pub(crate) fn more_types(types: Box<Types>, slash: Leaf, type1: Box<Type1>) -> Result<Types, Stop>
+    ensures { MatchResult result (λ t. (read : Leaf → Token) → view_types read t ≡ S.or (view_types read types.value) (read slash) (view_type1 read type1.value)) (λ e. e ≡ Stop.Memory) }
 {
     let Types { first, mut others } = Box::into_inner(types);
     let type1 = Box::into_inner(type1);
@@ -53,12 +50,12 @@ pub(crate) fn more_types<'s>(
 }
 
 /// The group that the open alternative ends.
-pub(crate) fn group_of<'s>(
+pub(crate) fn group_of(
     alloc: Global,
-    before: Option<Alternatives<'s>>,
-    entries: Vec<Entry<'s>>,
-) -> Result<Group<'s>, Stop>
-    ensures { MatchResult result (λ g. view_group g ≡ M.group_of (view_alternatives before.entry) (view_entries entries.entry.items)) (λ e. e ≡ Stop.Memory) }
+    before: Option<Alternatives>,
+    entries: Vec<Entry>,
+) -> Result<Group, Stop>
+    ensures { MatchResult result (λ g. (read : Leaf → Token) → view_group read g ≡ M.group_of (view_alternatives read before) (view_entries read entries.items)) (λ e. e ≡ Stop.Memory) }
 {
     match before {
         None => Ok(Group {
@@ -82,12 +79,12 @@ pub(crate) fn group_of<'s>(
 }
 
 /// The arguments with the one that was open.
-pub(crate) fn arg_of<'s>(
+pub(crate) fn arg_of(
     alloc: Global,
-    before: Option<Arguments<'s>>,
-    type1: Box<Type1<'s>>,
-) -> Result<GenericArg<'s>, Stop>
-    ensures { MatchResult result (λ a. view_arg a ≡ M.arg_of (view_arguments before.entry) (view_type1 type1.entry.value)) (λ e. e ≡ Stop.Memory) }
+    before: Option<Arguments>,
+    type1: Box<Type1>,
+) -> Result<GenericArg, Stop>
+    ensures { MatchResult result (λ a. (read : Leaf → Token) → view_arg read a ≡ M.arg_of (view_arguments read before) (view_type1 read type1.value)) (λ e. e ≡ Stop.Memory) }
 {
     let type1 = Box::into_inner(type1);
     match before {
@@ -112,12 +109,12 @@ pub(crate) fn arg_of<'s>(
 }
 
 /// The parameters with the one that was open.
-pub(crate) fn parm_of<'s>(
+pub(crate) fn parm_of(
     alloc: Global,
-    before: Option<Parameters<'s>>,
-    name: &'s Token<'s>,
-) -> Result<GenericParm<'s>, Stop>
-    ensures { MatchResult result (λ p. view_parm p ≡ M.parm_of (view_parameters before.entry) name.now) (λ e. e ≡ Stop.Memory) }
+    before: Option<Parameters>,
+    name: Leaf,
+) -> Result<GenericParm, Stop>
+    ensures { MatchResult result (λ p. (read : Leaf → Token) → view_parm read p ≡ M.parm_of (view_parameters read before) (read name)) (λ e. e ≡ Stop.Memory) }
 {
     match before {
         None => Ok(GenericParm {
@@ -140,8 +137,8 @@ pub(crate) fn parm_of<'s>(
 }
 
 /// A reference and what stands directly before it.
-pub(crate) fn prefixed<'s>(prefix: Prefix<'s>, name: Ref<'s>) -> Type2<'s>
-    ensures { view_type2 result ≡ M.prefixed (view_prefix prefix.entry) (view_ref name.entry) }
+pub(crate) fn prefixed(prefix: Prefix, name: Ref) -> Type2
+    ensures { (read : Leaf → Token) → view_type2 read result ≡ M.prefixed (view_prefix read prefix) (view_ref read name) }
 {
     match prefix {
         Prefix::Bare => Type2::Typename(name),
@@ -151,9 +148,9 @@ pub(crate) fn prefixed<'s>(prefix: Prefix<'s>, name: Ref<'s>) -> Type2<'s>
 }
 
 /// The type1 of a type that has no other.
-pub(crate) fn sole_type1(types: Types<'_>) -> Result<Type1<'_>, ()>
-    ensures sole { IfOk result (λ r. view_types types.entry ≡ S.only (view_type1 r)) }
-    ensures several { IfErr result (λ _. IsChoice (view_types types.entry)) }
+pub(crate) fn sole_type1(types: Types) -> Result<Type1, ()>
+    ensures sole { IfOk result (λ r. (read : Leaf → Token) → view_types read types ≡ S.only (view_type1 read r)) }
+    ensures several { IfErr result (λ _. (read : Leaf → Token) → IsChoice (view_types read types)) }
 {
     let Types { first, others } = types;
     if others.is_empty() {
@@ -167,8 +164,8 @@ pub(crate) fn sole_type1(types: Types<'_>) -> Result<Type1<'_>, ()>
 }
 
 /// The key before a colon: a name or a value.
-pub(crate) fn simple_key<'s>(type1: Type1<'s>, colon: &'s Token<'s>) -> Option<MemberKey<'s>>
-    ensures { IsKeyOf result (view_type1 type1.entry) colon.now }
+pub(crate) fn simple_key(type1: Type1, colon: Leaf) -> Option<MemberKey>
+    ensures { (read : Leaf → Token) → IsKeyOf read result (view_type1 read type1) (read colon) }
 {
     match type1 {
         Type1::One(type2) => operand_key(Box::into_inner(type2), colon),
@@ -180,8 +177,8 @@ pub(crate) fn simple_key<'s>(type1: Type1<'s>, colon: &'s Token<'s>) -> Option<M
     }
 }
 
-fn operand_key<'s>(type2: Type2<'s>, colon: &'s Token<'s>) -> Option<MemberKey<'s>>
-    ensures { IsKeyOf result (S.one (view_type2 type2.entry)) colon.now }
+fn operand_key(type2: Type2, colon: Leaf) -> Option<MemberKey>
+    ensures { (read : Leaf → Token) → IsKeyOf read result (S.one (view_type2 read type2)) (read colon) }
 {
     match type2 {
         Type2::Typename(name) => name_key(name, colon),
@@ -227,8 +224,8 @@ fn operand_key<'s>(type2: Type2<'s>, colon: &'s Token<'s>) -> Option<MemberKey<'
     }
 }
 
-fn name_key<'s>(name: Ref<'s>, colon: &'s Token<'s>) -> Option<MemberKey<'s>>
-    ensures { IsKeyOf result (S.one (S.typename (view_ref name.entry))) colon.now }
+fn name_key(name: Ref, colon: Leaf) -> Option<MemberKey>
+    ensures { (read : Leaf → Token) → IsKeyOf read result (S.one (S.typename (view_ref read name))) (read colon) }
 {
     match name {
         Ref::Name(name) => Some(MemberKey::Bareword { name, colon }),
@@ -240,8 +237,8 @@ fn name_key<'s>(name: Ref<'s>, colon: &'s Token<'s>) -> Option<MemberKey<'s>>
 }
 
 /// What a group in parentheses stands for.
-pub(crate) fn content_of(group: Group<'_>) -> Result<Content<'_>, Stop>
-    ensures { MatchResult result (λ x. IsContent x (view_group group.entry)) (λ e. e ≡ Stop.Memory) }
+pub(crate) fn content_of(group: Group) -> Result<Content, Stop>
+    ensures { MatchResult result (λ x. (read : Leaf → Token) → IsContent read x (view_group read group)) (λ e. e ≡ Stop.Memory) }
 {
     let Group { first, others } = group;
     if others.is_empty() {
@@ -252,9 +249,9 @@ pub(crate) fn content_of(group: Group<'_>) -> Result<Content<'_>, Stop>
 }
 
 /// The same for one alternative.
-fn sole_content<'s>(first: Vec<Entry<'s>>, others: Vec<GrpChoice<'s>>) -> Result<Content<'s>, Stop>
+fn sole_content(first: Vec<Entry>, others: Vec<GrpChoice>) -> Result<Content, Stop>
     requires { others.items ≡ [] }
-    ensures { MatchResult result (λ x. IsContent x (S.sole (view_entries first.entry.items))) (λ e. e ≡ Stop.Memory) }
+    ensures { MatchResult result (λ x. (read : Leaf → Token) → IsContent read x (S.sole (view_entries read first.items))) (λ e. e ≡ Stop.Memory) }
 {
     let mut first = first;
     match first.pop() {
@@ -280,15 +277,15 @@ fn sole_content<'s>(first: Vec<Entry<'s>>, others: Vec<GrpChoice<'s>>) -> Result
 }
 
 /// The group with its last entry.
-fn whole<'s>(
-    first: Vec<Entry<'s>>,
-    grpent: GrpEnt<'s>,
-    comma: Option<&'s Token<'s>>,
-    others: Vec<GrpChoice<'s>>,
-) -> Result<Content<'s>, Stop>
-    requires group { S.is_type (S.sole (S.entries (view_entries first.items) (view_grpent grpent) (leaf comma))) ≡ false }
+fn whole(
+    first: Vec<Entry>,
+    grpent: GrpEnt,
+    comma: Option<Leaf>,
+    others: Vec<GrpChoice>,
+) -> Result<Content, Stop>
+    requires group { (read : Leaf → Token) → S.is_type (S.sole (S.entries (view_entries read first.items) (view_grpent read grpent) (leaf read comma))) ≡ false }
     requires alone { others.items ≡ [] }
-    ensures { MatchResult result (λ x. IsContent x (S.sole (S.entries (view_entries first.entry.items) (view_grpent grpent.entry) (leaf comma.entry)))) (λ e. e ≡ Stop.Memory) }
+    ensures { MatchResult result (λ x. (read : Leaf → Token) → IsContent read x (S.sole (S.entries (view_entries read first.items) (view_grpent read grpent) (leaf read comma)))) (λ e. e ≡ Stop.Memory) }
 {
     let mut first = first;
     match pushed(&mut first, Entry { grpent, comma }) {
@@ -303,9 +300,9 @@ fn whole<'s>(
 }
 
 /// The type that an entry is, or the entry.
-pub(crate) fn lone_type(grpent: GrpEnt<'_>) -> Result<Types<'_>, GrpEnt<'_>>
-    ensures bare { IfOk result (λ t. view_grpent grpent.entry ≡ S.typed None (view_types t)) }
-    ensures other { IfErr result (λ e. (e ≡ grpent.entry) × (S.is_bare (view_grpent e) ≡ false)) }
+pub(crate) fn lone_type(grpent: GrpEnt) -> Result<Types, GrpEnt>
+    ensures bare { IfOk result (λ t. (read : Leaf → Token) → view_grpent read grpent ≡ S.typed None (view_types read t)) }
+    ensures other { IfErr result (λ e. (e ≡ grpent) × ((read : Leaf → Token) → S.is_bare (view_grpent read e) ≡ false)) }
 {
     match grpent {
         GrpEnt::Typed { occur, types } => match occur {

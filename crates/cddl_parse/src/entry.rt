@@ -1,29 +1,31 @@
 //! What a token does after an entry.
 ghost use Rattle.std.specs.Prelude.{◌≡◌, IfOk};
+ghost use Rattle.cddl_token.specs.declared.Token.{Token};
+ghost use Rattle.cddl_tree.specs.declared.tree.Leaf.{Leaf};
 ghost use Rattle.cddl_syntax.specs.Machine as M;
 ghost use Rattle.cddl_syntax.specs.Syntax as S;
 ghost use Rattle.cddl_tree.specs.View.{leaf, view_grpent, view_name, view_assigng, view_rule};
 ghost use Rattle.cddl_parse.specs.Frames.{on, view_alternatives, view_entries, as_entry, as_group, below, Gives};
 
 use crate::build::{lone_type, unexpected};
-use crate::frames::{Alternatives, Frame, Home, Next, Stop};
+use crate::frames::{Alternatives, Current, Frame, Home, Next, Stop};
 use crate::memory::pushed;
 use crate::open::open_member;
 use crate::places::{ended, type_at};
 use crate::want::step_want;
-use cddl_token::{Kind, Token};
-use cddl_tree::{AssignG, AssignT, Entry, GrpEnt, Rule, RuleName};
+use cddl_token::Kind;
+use cddl_tree::{AssignG, AssignT, Entry, GrpEnt, Leaf, Rule, RuleName};
 use std::alloc::Global;
 
 /// A token after an entry.
 #[tactic(none)]
-pub(crate) fn after_entry<'s>(
+pub(crate) fn after_entry(
     alloc: Global,
-    frames: &mut Vec<Frame<'s>>,
-    grpent: GrpEnt<'s>,
-    token: &'s Token<'s>,
-) -> Result<Next<'s>, Stop>
-    ensures { (rs : S.Rules) → on (as_entry (below rs frames.old.items)) (λ p. Gives token.now rs (below rs frames.new.items) result (M.after_entry p (view_grpent grpent.entry) token.now.kind token.now)) }
+    frames: &mut Vec<Frame>,
+    grpent: GrpEnt,
+    token: Current,
+) -> Result<Next, Stop>
+    ensures { (read : Leaf → Token) (rs : S.Rules) → on (as_entry (below read rs frames.old.items)) (λ p. Gives read token rs (below read rs frames.new.items) result (M.after_entry p (view_grpent read grpent) token.kind (read token.leaf))) }
 {
     match frames.pop() {
         None => {
@@ -46,8 +48,8 @@ pub(crate) fn after_entry<'s>(
 
 /// The rule with this body. One that is a type after `=` makes a type rule.
 #[tactic(none)]
-fn rule_of<'s>(name: RuleName<'s>, assign: AssignG<'s>, grpent: GrpEnt<'s>) -> Rule<'s>
-    ensures { view_rule result ≡ M.rule_of (view_name name.entry) (view_assigng assign.entry) (view_grpent grpent.entry) }
+fn rule_of(name: RuleName, assign: AssignG, grpent: GrpEnt) -> Rule
+    ensures { (read : Leaf → Token) → view_rule read result ≡ M.rule_of (view_name read name) (view_assigng read assign) (view_grpent read grpent) }
 {
     match assign {
         AssignG::GroupOr(_) => Rule::GroupRule {
@@ -72,18 +74,18 @@ fn rule_of<'s>(name: RuleName<'s>, assign: AssignG<'s>, grpent: GrpEnt<'s>) -> R
 
 /// A token after an entry of a group.
 #[tactic(none)]
-fn after_member<'s>(
+fn after_member(
     alloc: Global,
-    frames: &mut Vec<Frame<'s>>,
-    before: Option<Alternatives<'s>>,
-    entries: Vec<Entry<'s>>,
-    grpent: GrpEnt<'s>,
-    token: &'s Token<'s>,
-) -> Result<Next<'s>, Stop>
-    ensures { (rs : S.Rules) → on (as_group (below rs frames.old.items)) (λ k. Gives token.now rs (below rs frames.new.items) result (M.after_entry (M.member k (view_alternatives before.entry) (view_entries entries.entry.items)) (view_grpent grpent.entry) token.now.kind token.now)) }
+    frames: &mut Vec<Frame>,
+    before: Option<Alternatives>,
+    entries: Vec<Entry>,
+    grpent: GrpEnt,
+    token: Current,
+) -> Result<Next, Stop>
+    ensures { (read : Leaf → Token) (rs : S.Rules) → on (as_group (below read rs frames.old.items)) (λ k. Gives read token rs (below read rs frames.new.items) result (M.after_entry (M.member k (view_alternatives read before) (view_entries read entries.items)) (view_grpent read grpent) token.kind (read token.leaf))) }
 {
     match token.kind {
-        Kind::Comma => match with_entry(entries, grpent, Some(token)) {
+        Kind::Comma => match with_entry(entries, grpent, Some(token.leaf)) {
             Ok(entries) => open_member(alloc, frames, before, entries),
             Err(error) => {
                 drop(error);
@@ -113,12 +115,8 @@ fn after_member<'s>(
 
 /// The entries with one more.
 #[tactic(none)]
-fn with_entry<'s>(
-    entries: Vec<Entry<'s>>,
-    grpent: GrpEnt<'s>,
-    comma: Option<&'s Token<'s>>,
-) -> Result<Vec<Entry<'s>>, Stop>
-    ensures { IfOk result (λ es. view_entries es.items ≡ S.entries (view_entries entries.entry.items) (view_grpent grpent.entry) (leaf comma.entry)) }
+fn with_entry(entries: Vec<Entry>, grpent: GrpEnt, comma: Option<Leaf>) -> Result<Vec<Entry>, Stop>
+    ensures { IfOk result (λ es. (read : Leaf → Token) → view_entries read es.items ≡ S.entries (view_entries read entries.items) (view_grpent read grpent) (leaf read comma)) }
 {
     let mut entries = entries;
     match pushed(&mut entries, Entry { grpent, comma }) {

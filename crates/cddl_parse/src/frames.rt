@@ -1,146 +1,155 @@
-//! What stands left of the place where the parser is. The frames say what each open bracket stands in.
-use cddl_token::Token;
+//! What comes before the place where the parser is. The frames say what each open bracket is in.
+use cddl_token::Kind;
 use cddl_tree::{
-    AssignG, Entry, GenericArg, GenericParm, Group, GrpEnt, MemberKey, Operator, Rule, RuleName,
-    Type1, Type2, Types,
+    AssignG, Entry, GenericArg, GenericParm, Group, GrpEnt, Leaf, MemberKey, Operator, Rule,
+    RuleName, Type1, Type2, Types,
 };
+
+/// The token that the parser is at.
+#[derive(Clone, Copy)]
+pub(crate) struct Current {
+    pub(crate) kind: Kind,
+    /// The offset of its first byte.
+    pub(crate) start: usize,
+    pub(crate) leaf: Leaf,
+}
 
 /// The alternatives of a group before the one that is open.
 #[derive(Drop)]
-pub(crate) struct Alternatives<'s> {
-    pub(crate) group: Group<'s>,
-    pub(crate) slashes: &'s Token<'s>,
+pub(crate) struct Alternatives {
+    pub(crate) group: Group,
+    pub(crate) slashes: Leaf,
 }
 
 /// The arguments before the one that is open.
 #[derive(Drop)]
-pub(crate) struct Arguments<'s> {
-    pub(crate) arguments: Box<GenericArg<'s>>,
-    pub(crate) comma: &'s Token<'s>,
+pub(crate) struct Arguments {
+    pub(crate) arguments: Box<GenericArg>,
+    pub(crate) comma: Leaf,
 }
 
 /// The parameters before the one that is open.
 #[derive(Drop)]
-pub(crate) struct Parameters<'s> {
-    pub(crate) parameters: GenericParm<'s>,
-    pub(crate) comma: &'s Token<'s>,
+pub(crate) struct Parameters {
+    pub(crate) parameters: GenericParm,
+    pub(crate) comma: Leaf,
 }
 
-/// What stands directly before a reference.
+/// What comes directly before a reference.
 #[derive(Clone, Copy)]
-pub(crate) enum Prefix<'s> {
+pub(crate) enum Prefix {
     Bare,
-    Tilde(&'s Token<'s>),
-    Ampersand(&'s Token<'s>),
+    Tilde(Leaf),
+    Ampersand(Leaf),
 }
 
 /// What opened a type in brackets.
 #[derive(Drop)]
-pub(crate) enum TypeOpening<'s> {
-    Paren(&'s Token<'s>),
-    Tag(&'s Token<'s>),
-    TagHead(&'s Token<'s>),
-    TagContent(&'s Token<'s>, Box<Types<'s>>, &'s Token<'s>, &'s Token<'s>),
-    SimpleHead(&'s Token<'s>),
+pub(crate) enum TypeOpening {
+    Paren(Leaf),
+    Tag(Leaf),
+    TagHead(Leaf),
+    TagContent(Leaf, Box<Types>, Leaf, Leaf),
+    SimpleHead(Leaf),
 }
 
 /// What opened a group in brackets.
 #[derive(Clone, Copy)]
-pub(crate) enum GroupOpening<'s> {
-    Brace(&'s Token<'s>),
-    Bracket(&'s Token<'s>),
-    Choice(&'s Token<'s>, &'s Token<'s>),
+pub(crate) enum GroupOpening {
+    Brace(Leaf),
+    Bracket(Leaf),
+    Choice(Leaf, Leaf),
 }
 
-/// What stands left of a type.
+/// What comes before a type.
 #[derive(Drop)]
-pub(crate) enum Home<'s> {
+pub(crate) enum Home {
     /// The last frame: an opening, or the assignment of a rule.
     Inside,
     /// An entry's occurrence. A key may come.
-    Start(Option<&'s Token<'s>>),
+    Start(Option<Leaf>),
     /// An entry's occurrence and key.
-    ValueOf(Option<&'s Token<'s>>, Box<MemberKey<'s>>),
+    ValueOf(Option<Leaf>, Box<MemberKey>),
 }
 
-/// What stands left of a type1 in its type.
+/// What comes before a type1 in its type.
 #[derive(Drop)]
-pub(crate) enum Before<'s> {
+pub(crate) enum Before {
     Nothing,
     /// The choices before it, and a `/`.
-    Choices(Box<Types<'s>>, &'s Token<'s>),
+    Choices(Box<Types>, Leaf),
     /// It is an argument: those before it, if there are any.
-    Arguments(Option<Arguments<'s>>),
+    Arguments(Option<Arguments>),
 }
 
-/// What stands left of a type2 in its type1.
+/// What comes before a type2 in its type1.
 #[derive(Drop)]
-pub(crate) struct Left<'s> {
-    pub(crate) type2: Box<Type2<'s>>,
-    pub(crate) operator: Operator<'s>,
+pub(crate) struct Left {
+    pub(crate) type2: Box<Type2>,
+    pub(crate) operator: Operator,
 }
 
-/// What stands left of a type1.
+/// What comes before a type1.
 #[derive(Drop)]
-pub(crate) struct AtType1<'s> {
-    pub(crate) home: Home<'s>,
-    pub(crate) before: Before<'s>,
+pub(crate) struct AtType1 {
+    pub(crate) home: Home,
+    pub(crate) before: Before,
 }
 
-/// What stands left of a type2.
+/// What comes before a type2.
 #[derive(Drop)]
-pub(crate) struct AtType2<'s> {
-    pub(crate) at: Box<AtType1<'s>>,
-    pub(crate) left: Option<Box<Left<'s>>>,
+pub(crate) struct AtType2 {
+    pub(crate) at: Box<AtType1>,
+    pub(crate) left: Option<Box<Left>>,
 }
 
-/// What stands between the frames below and a place above.
+/// What is between the frames below and a place above.
 #[derive(Drop)]
-pub(crate) enum Frame<'s> {
+pub(crate) enum Frame {
     /// The head of a rule, up to `/=`.
-    TypeBody(RuleName<'s>, &'s Token<'s>),
+    TypeBody(RuleName, Leaf),
     /// The head of a rule, up to `=` or `//=`.
-    GroupBody(RuleName<'s>, AssignG<'s>),
+    GroupBody(RuleName, AssignG),
     /// A type in brackets.
-    Types(AtType2<'s>, TypeOpening<'s>),
+    Types(AtType2, TypeOpening),
     /// A group in brackets.
-    Group(AtType2<'s>, GroupOpening<'s>),
+    Group(AtType2, GroupOpening),
     /// A name with arguments.
-    Reference(AtType2<'s>, Prefix<'s>, &'s Token<'s>),
+    Reference(AtType2, Prefix, Leaf),
     /// Parentheses at the head of an entry, after its occurrence.
-    Entry(Option<&'s Token<'s>>, &'s Token<'s>),
+    Entry(Option<Leaf>, Leaf),
     /// The open alternative of a group.
-    Member(Option<Alternatives<'s>>, Vec<Entry<'s>>),
+    Member(Option<Alternatives>, Vec<Entry>),
 }
 
 /// Where the parser is within a rule's body.
 #[derive(Drop)]
-pub(crate) enum Now<'s> {
+pub(crate) enum Now {
     /// A type2 is awaited.
-    Want(AtType2<'s>),
+    Want(AtType2),
     /// A reference is awaited.
-    WantRef(AtType2<'s>, Prefix<'s>),
+    WantRef(AtType2, Prefix),
     /// The `(` after `#6.<` and its `>` is awaited.
-    WantContent(AtType2<'s>, &'s Token<'s>, Box<Types<'s>>, &'s Token<'s>),
-    Have(Box<AtType1<'s>>, Box<Type1<'s>>),
+    WantContent(AtType2, Leaf, Box<Types>, Leaf),
+    Have(Box<AtType1>, Box<Type1>),
     /// The `=>` after `^` is awaited.
-    WantArrow(Option<&'s Token<'s>>, Box<Type1<'s>>, &'s Token<'s>),
-    HaveGroup(Box<GrpEnt<'s>>),
+    WantArrow(Option<Leaf>, Box<Type1>, Leaf),
+    HaveGroup(Box<GrpEnt>),
 }
 
 /// Where a token leads within a rule's body.
 #[derive(Drop)]
-pub(crate) enum Next<'s> {
-    Within(Box<Now<'s>>),
+pub(crate) enum Next {
+    Within(Box<Now>),
     /// The rule is whole, and the token comes after it.
-    Ended(Box<Rule<'s>>),
+    Ended(Box<Rule>),
 }
 
-/// What stands in parentheses.
+/// What is in parentheses.
 #[derive(Drop)]
-pub(crate) enum Content<'s> {
-    Type(Types<'s>),
-    Group(Group<'s>),
+pub(crate) enum Content {
+    Type(Types),
+    Group(Group),
 }
 
 /// Why the parser stops at a token.

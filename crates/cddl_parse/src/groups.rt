@@ -1,5 +1,7 @@
 //! What a token does where only an alternative of a group can end.
 ghost use Rattle.std.specs.Prelude.{None};
+ghost use Rattle.cddl_token.specs.declared.Token.{Token};
+ghost use Rattle.cddl_tree.specs.declared.tree.Leaf.{Leaf};
 ghost use Rattle.cddl_syntax.specs.Machine as M;
 ghost use Rattle.cddl_syntax.specs.Syntax as S;
 ghost use Rattle.cddl_tree.specs.View.{view_group};
@@ -7,21 +9,21 @@ ghost use Rattle.cddl_parse.specs.Frames.{on, view_alternatives, view_entries, a
 
 use crate::brackets::{shut_entry, shut_within};
 use crate::build::{group_of, unexpected};
-use crate::frames::{Alternatives, AtType2, Frame, Next, Stop};
+use crate::frames::{Alternatives, AtType2, Current, Frame, Next, Stop};
 use crate::open::{entry_head, open_member};
-use cddl_token::{Kind, Token};
+use cddl_token::Kind;
 use cddl_tree::{Entry, Group};
 use std::alloc::Global;
 
 /// A token that can only end an alternative, where a type2 is awaited.
 #[tactic(none)]
-pub(crate) fn ends_want<'s>(
+pub(crate) fn ends_want(
     alloc: Global,
-    frames: &mut Vec<Frame<'s>>,
-    at: AtType2<'s>,
-    token: &'s Token<'s>,
-) -> Result<Next<'s>, Stop>
-    ensures { (rs : S.Rules) → on (view_at_type2 (below rs frames.old.items) at.entry) (λ k. Gives token.now rs (below rs frames.new.items) result (M.ends_want k token.now.kind token.now)) }
+    frames: &mut Vec<Frame>,
+    at: AtType2,
+    token: Current,
+) -> Result<Next, Stop>
+    ensures { (read : Leaf → Token) (rs : S.Rules) → on (view_at_type2 read (below read rs frames.old.items) at) (λ k. Gives read token rs (below read rs frames.new.items) result (M.ends_want k token.kind (read token.leaf))) }
 {
     let head = entry_head(&at);
     drop(at);
@@ -36,12 +38,8 @@ pub(crate) fn ends_want<'s>(
 
 /// The same at the head of an entry.
 #[tactic(none)]
-fn ends_start<'s>(
-    alloc: Global,
-    frames: &mut Vec<Frame<'s>>,
-    token: &'s Token<'s>,
-) -> Result<Next<'s>, Stop>
-    ensures { (rs : S.Rules) → on (as_entry (below rs frames.old.items)) (λ p. Gives token.now rs (below rs frames.new.items) result (M.ends_want (M.lower (M.head (M.start p None))) token.now.kind token.now)) }
+fn ends_start(alloc: Global, frames: &mut Vec<Frame>, token: Current) -> Result<Next, Stop>
+    ensures { (read : Leaf → Token) (rs : S.Rules) → on (as_entry (below read rs frames.old.items)) (λ p. Gives read token rs (below read rs frames.new.items) result (M.ends_want (M.lower (M.head (M.start p None))) token.kind (read token.leaf))) }
 {
     match frames.pop() {
         None => Err(unexpected(token)),
@@ -57,21 +55,21 @@ fn ends_start<'s>(
 
 /// A token after the entries of an alternative.
 #[tactic(none)]
-fn ends<'s>(
+fn ends(
     alloc: Global,
-    frames: &mut Vec<Frame<'s>>,
-    before: Option<Alternatives<'s>>,
-    entries: Vec<Entry<'s>>,
-    token: &'s Token<'s>,
-) -> Result<Next<'s>, Stop>
-    ensures { (rs : S.Rules) → on (as_group (below rs frames.old.items)) (λ k. Gives token.now rs (below rs frames.new.items) result (M.ends k (view_alternatives before.entry) (view_entries entries.entry.items) token.now.kind token.now)) }
+    frames: &mut Vec<Frame>,
+    before: Option<Alternatives>,
+    entries: Vec<Entry>,
+    token: Current,
+) -> Result<Next, Stop>
+    ensures { (read : Leaf → Token) (rs : S.Rules) → on (as_group (below read rs frames.old.items)) (λ k. Gives read token rs (below read rs frames.new.items) result (M.ends k (view_alternatives read before) (view_entries read entries.items) token.kind (read token.leaf))) }
 {
     match group_of(alloc, before, entries) {
         Ok(group) => match token.kind {
             Kind::DoubleSlash => {
                 let before = Alternatives {
                     group,
-                    slashes: token,
+                    slashes: token.leaf,
                 };
                 open_member(alloc, frames, Some(before), Vec::new(alloc))
             }
@@ -86,13 +84,13 @@ fn ends<'s>(
 
 /// A token that can only close a group.
 #[tactic(none)]
-fn shut_group<'s>(
+fn shut_group(
     alloc: Global,
-    frames: &mut Vec<Frame<'s>>,
-    group: Group<'s>,
-    token: &'s Token<'s>,
-) -> Result<Next<'s>, Stop>
-    ensures { (rs : S.Rules) → on (as_group (below rs frames.old.items)) (λ k. Gives token.now rs (below rs frames.new.items) result (M.shut_group k (view_group group.entry) token.now.kind token.now)) }
+    frames: &mut Vec<Frame>,
+    group: Group,
+    token: Current,
+) -> Result<Next, Stop>
+    ensures { (read : Leaf → Token) (rs : S.Rules) → on (as_group (below read rs frames.old.items)) (λ k. Gives read token rs (below read rs frames.new.items) result (M.shut_group k (view_group read group) token.kind (read token.leaf))) }
 {
     match frames.pop() {
         None => {

@@ -1,32 +1,39 @@
 //! What a token does after a type1, after an argument, and after a type.
+ghost use Rattle.std.specs.Prelude.{MatchOption};
 ghost use Rattle.cddl_token.specs.declared.Kind.TheVariants.{ParenClose, AngleClose};
+ghost use Rattle.cddl_token.specs.declared.Token.{Token};
+ghost use Rattle.cddl_tree.specs.declared.tree.Leaf.{Leaf};
 ghost use Rattle.cddl_syntax.specs.Machine as M;
 ghost use Rattle.cddl_syntax.specs.Syntax as S;
 ghost use Rattle.cddl_tree.specs.View.{leaf, view_operator, view_type1, view_arg, view_types};
 ghost use Rattle.cddl_parse.specs.Frames.{on, view_type_opening, as_types, as_entry, as_reference, view_home, view_at_type1, view_at_type2, below, Gives, Below};
-ghost use Rattle.cddl_parse.specs.Kinds.{IsOperatorOf};
+ghost use Rattle.cddl_parse.specs.Kinds.{IsNoOperator, IsOperatorOf};
 
 use crate::build::{arg_of, more_types, one_type, prefixed, simple_key, sole_type1, unexpected};
 use crate::entry::after_entry;
-use crate::frames::{AtType1, AtType2, Before, Frame, Home, Left, Next, Stop, TypeOpening};
+use crate::frames::{
+    AtType1, AtType2, Before, Current, Frame, Home, Left, Next, Stop, TypeOpening,
+};
 use crate::memory::boxed;
 use crate::places::{
     ended, got, next_argument, next_choice, value_at, want, want_arrow, want_content,
 };
-use cddl_token::{Kind, Token};
-use cddl_tree::{AssignT, GenericArg, GrpEnt, MemberKey, Operator, Ref, Rule, Type1, Type2, Types};
+use cddl_token::Kind;
+use cddl_tree::{
+    AssignT, GenericArg, GrpEnt, Leaf, MemberKey, Operator, Ref, Rule, Type1, Type2, Types,
+};
 use std::alloc::Global;
 
 /// A token after a type1.
 #[tactic(none)]
-pub(crate) fn step_have<'s>(
+pub(crate) fn step_have(
     alloc: Global,
-    frames: &mut Vec<Frame<'s>>,
-    at: Box<AtType1<'s>>,
-    type1: Box<Type1<'s>>,
-    token: &'s Token<'s>,
-) -> Result<Next<'s>, Stop>
-    ensures { (rs : S.Rules) → on (view_at_type1 (below rs frames.old.items) at.entry.value) (λ k. Gives token.now rs (below rs frames.new.items) result (M.step_have k (view_type1 type1.entry.value) token.now.kind token.now)) }
+    frames: &mut Vec<Frame>,
+    at: Box<AtType1>,
+    type1: Box<Type1>,
+    token: Current,
+) -> Result<Next, Stop>
+    ensures { (read : Leaf → Token) (rs : S.Rules) → on (view_at_type1 read (below read rs frames.old.items) at.value) (λ k. Gives read token rs (below read rs frames.new.items) result (M.step_have k (view_type1 read type1.value) token.kind (read token.leaf))) }
 {
     match operator_of(token) {
         Some(operator) => operated(alloc, at, type1, operator, token),
@@ -39,27 +46,27 @@ pub(crate) fn step_have<'s>(
 
 /// The operator that the token is, if it is one.
 #[tactic(none)]
-fn operator_of<'s>(token: &'s Token<'s>) -> Option<Operator<'s>>
-    ensures { IsOperatorOf result token.now }
+fn operator_of(token: Current) -> Option<Operator>
+    ensures { MatchOption result (IsNoOperator token.kind) (λ o. (read : Leaf → Token) → IsOperatorOf read o token) }
 {
     match token.kind {
-        Kind::Range => Some(Operator::Range(token)),
-        Kind::RangeBelow => Some(Operator::RangeBelow(token)),
-        Kind::Control => Some(Operator::Control(token)),
+        Kind::Range => Some(Operator::Range(token.leaf)),
+        Kind::RangeBelow => Some(Operator::RangeBelow(token.leaf)),
+        Kind::Control => Some(Operator::Control(token.leaf)),
         _ => None,
     }
 }
 
 /// An operator after a type1, which has to be one operand.
 #[tactic(none)]
-fn operated<'s>(
+fn operated(
     alloc: Global,
-    at: Box<AtType1<'s>>,
-    type1: Box<Type1<'s>>,
-    operator: Operator<'s>,
-    token: &'s Token<'s>,
-) -> Result<Next<'s>, Stop>
-    ensures { (rs : S.Rules) (b : Below) → on (view_at_type1 b at.entry.value) (λ k. Gives token.now rs b result (M.operated k (view_type1 type1.entry.value) (view_operator operator.entry))) }
+    at: Box<AtType1>,
+    type1: Box<Type1>,
+    operator: Operator,
+    token: Current,
+) -> Result<Next, Stop>
+    ensures { (read : Leaf → Token) (rs : S.Rules) (b : Below) → on (view_at_type1 read b at.value) (λ k. Gives read token rs b result (M.operated k (view_type1 read type1.value) (view_operator read operator))) }
 {
     match Box::into_inner(type1) {
         Type1::One(type2) => match boxed(alloc, Left { type2, operator }) {
@@ -84,19 +91,14 @@ fn operated<'s>(
 
 /// A `/` after a type1.
 #[tactic(none)]
-fn slash<'s>(
-    alloc: Global,
-    at: Box<AtType1<'s>>,
-    type1: Box<Type1<'s>>,
-    token: &'s Token<'s>,
-) -> Result<Next<'s>, Stop>
-    ensures { (rs : S.Rules) (b : Below) → on (view_at_type1 b at.entry.value) (λ k. Gives token.now rs b result (M.slash k (view_type1 type1.entry.value) token.now)) }
+fn slash(alloc: Global, at: Box<AtType1>, type1: Box<Type1>, token: Current) -> Result<Next, Stop>
+    ensures { (read : Leaf → Token) (rs : S.Rules) (b : Below) → on (view_at_type1 read b at.value) (λ k. Gives read token rs b result (M.slash k (view_type1 read type1.value) (read token.leaf))) }
 {
     let AtType1 { home, before } = Box::into_inner(at);
     match before {
-        Before::Nothing => next_choice(alloc, home, one_type(alloc, type1), token),
+        Before::Nothing => next_choice(alloc, home, one_type(alloc, type1), token.leaf),
         Before::Choices(types, slash) => match more_types(types, slash, type1) {
-            Ok(types) => next_choice(alloc, home, types, token),
+            Ok(types) => next_choice(alloc, home, types, token.leaf),
             Err(error) => {
                 drop(error);
                 drop(home);
@@ -114,14 +116,14 @@ fn slash<'s>(
 
 /// A token after a type1 that is neither `/` nor an operator.
 #[tactic(none)]
-fn after_type1<'s>(
+fn after_type1(
     alloc: Global,
-    frames: &mut Vec<Frame<'s>>,
-    at: Box<AtType1<'s>>,
-    type1: Box<Type1<'s>>,
-    token: &'s Token<'s>,
-) -> Result<Next<'s>, Stop>
-    ensures { (rs : S.Rules) → on (view_at_type1 (below rs frames.old.items) at.entry.value) (λ k. Gives token.now rs (below rs frames.new.items) result (M.after_type1 k (view_type1 type1.entry.value) token.now.kind token.now)) }
+    frames: &mut Vec<Frame>,
+    at: Box<AtType1>,
+    type1: Box<Type1>,
+    token: Current,
+) -> Result<Next, Stop>
+    ensures { (read : Leaf → Token) (rs : S.Rules) → on (view_at_type1 read (below read rs frames.old.items) at.value) (λ k. Gives read token rs (below read rs frames.new.items) result (M.after_type1 k (view_type1 read type1.value) token.kind (read token.leaf))) }
 {
     let AtType1 { home, before } = Box::into_inner(at);
     match before {
@@ -149,16 +151,16 @@ fn after_type1<'s>(
 
 /// A token after an argument.
 #[tactic(none)]
-fn after_argument<'s>(
+fn after_argument(
     alloc: Global,
-    frames: &mut Vec<Frame<'s>>,
-    arguments: GenericArg<'s>,
-    token: &'s Token<'s>,
-) -> Result<Next<'s>, Stop>
-    ensures { (rs : S.Rules) → on (as_reference (below rs frames.old.items)) (λ r. Gives token.now rs (below rs frames.new.items) result (M.after_argument r.0 r.1 r.2 (view_arg arguments.entry) token.now.kind token.now)) }
+    frames: &mut Vec<Frame>,
+    arguments: GenericArg,
+    token: Current,
+) -> Result<Next, Stop>
+    ensures { (read : Leaf → Token) (rs : S.Rules) → on (as_reference (below read rs frames.old.items)) (λ r. Gives read token rs (below read rs frames.new.items) result (M.after_argument r.0 r.1 r.2 (view_arg read arguments) token.kind (read token.leaf))) }
 {
     match token.kind {
-        Kind::Comma => next_argument(alloc, arguments, token),
+        Kind::Comma => next_argument(alloc, arguments, token.leaf),
         Kind::AngleClose => shut_arguments(alloc, frames, arguments, token),
         _ => {
             drop(arguments);
@@ -169,15 +171,15 @@ fn after_argument<'s>(
 
 /// A `>` after the arguments of a name.
 #[tactic(none)]
-fn shut_arguments<'s>(
+fn shut_arguments(
     alloc: Global,
-    frames: &mut Vec<Frame<'s>>,
-    arguments: GenericArg<'s>,
-    token: &'s Token<'s>,
-) -> Result<Next<'s>, Stop>
-    ensures { (rs : S.Rules) → on (as_reference (below rs frames.old.items)) (λ r. Gives token.now rs (below rs frames.new.items) result (M.after_argument r.0 r.1 r.2 (view_arg arguments.entry) AngleClose token.now)) }
+    frames: &mut Vec<Frame>,
+    arguments: GenericArg,
+    token: Current,
+) -> Result<Next, Stop>
+    ensures { (read : Leaf → Token) (rs : S.Rules) → on (as_reference (below read rs frames.old.items)) (λ r. Gives read token rs (below read rs frames.new.items) result (M.after_argument r.0 r.1 r.2 (view_arg read arguments) AngleClose (read token.leaf))) }
 {
-    let closing = token;
+    let closing = token.leaf;
     match frames.pop() {
         None => {
             drop(arguments);
@@ -210,14 +212,14 @@ fn shut_arguments<'s>(
 
 /// A token after a type that is neither `/` nor an operator.
 #[tactic(none)]
-fn after_types<'s>(
+fn after_types(
     alloc: Global,
-    frames: &mut Vec<Frame<'s>>,
-    home: Home<'s>,
-    types: Types<'s>,
-    token: &'s Token<'s>,
-) -> Result<Next<'s>, Stop>
-    ensures { (rs : S.Rules) → on (view_home (below rs frames.old.items) home.entry) (λ k. Gives token.now rs (below rs frames.new.items) result (M.after_types k (view_types types.entry) token.now.kind token.now)) }
+    frames: &mut Vec<Frame>,
+    home: Home,
+    types: Types,
+    token: Current,
+) -> Result<Next, Stop>
+    ensures { (read : Leaf → Token) (rs : S.Rules) → on (view_home read (below read rs frames.old.items) home) (λ k. Gives read token rs (below read rs frames.new.items) result (M.after_types k (view_types read types) token.kind (read token.leaf))) }
 {
     match home {
         Home::Inside => after_inside(alloc, frames, types, token),
@@ -230,13 +232,13 @@ fn after_types<'s>(
 
 /// A token after a rule's type, or after a type in brackets.
 #[tactic(none)]
-fn after_inside<'s>(
+fn after_inside(
     alloc: Global,
-    frames: &mut Vec<Frame<'s>>,
-    types: Types<'s>,
-    token: &'s Token<'s>,
-) -> Result<Next<'s>, Stop>
-    ensures { (rs : S.Rules) → on (as_types (below rs frames.old.items)) (λ k. Gives token.now rs (below rs frames.new.items) result (M.after_types k (view_types types.entry) token.now.kind token.now)) }
+    frames: &mut Vec<Frame>,
+    types: Types,
+    token: Current,
+) -> Result<Next, Stop>
+    ensures { (read : Leaf → Token) (rs : S.Rules) → on (as_types (below read rs frames.old.items)) (λ k. Gives read token rs (below read rs frames.new.items) result (M.after_types k (view_types read types) token.kind (read token.leaf))) }
 {
     match frames.pop() {
         None => {
@@ -267,14 +269,14 @@ fn after_inside<'s>(
 
 /// A token after a type in brackets.
 #[tactic(none)]
-fn shut_types<'s>(
+fn shut_types(
     alloc: Global,
-    at: AtType2<'s>,
-    opening: TypeOpening<'s>,
-    types: Types<'s>,
-    token: &'s Token<'s>,
-) -> Result<Next<'s>, Stop>
-    ensures { (rs : S.Rules) (b : Below) → on (view_at_type2 b at.entry) (λ k. Gives token.now rs b result (M.shut_types k (view_type_opening opening.entry) (view_types types.entry) token.now.kind token.now)) }
+    at: AtType2,
+    opening: TypeOpening,
+    types: Types,
+    token: Current,
+) -> Result<Next, Stop>
+    ensures { (read : Leaf → Token) (rs : S.Rules) (b : Below) → on (view_at_type2 read b at) (λ k. Gives read token rs b result (M.shut_types k (view_type_opening read opening) (view_types read types) token.kind (read token.leaf))) }
 {
     match boxed(alloc, types) {
         Ok(types) => match token.kind {
@@ -298,16 +300,16 @@ fn shut_types<'s>(
 
 /// A `)` after a type in brackets.
 #[tactic(none)]
-fn shut_parens<'s>(
+fn shut_parens(
     alloc: Global,
-    at: AtType2<'s>,
-    opening: TypeOpening<'s>,
-    types: Box<Types<'s>>,
-    token: &'s Token<'s>,
-) -> Result<Next<'s>, Stop>
-    ensures { (rs : S.Rules) (b : Below) → on (view_at_type2 b at.entry) (λ k. Gives token.now rs b result (M.shut_types k (view_type_opening opening.entry) (view_types types.entry.value) ParenClose token.now)) }
+    at: AtType2,
+    opening: TypeOpening,
+    types: Box<Types>,
+    token: Current,
+) -> Result<Next, Stop>
+    ensures { (read : Leaf → Token) (rs : S.Rules) (b : Below) → on (view_at_type2 read b at) (λ k. Gives read token rs b result (M.shut_types k (view_type_opening read opening) (view_types read types.value) ParenClose (read token.leaf))) }
 {
-    let closing = token;
+    let closing = token.leaf;
     match opening {
         TypeOpening::Paren(opening) => got(
             alloc,
@@ -350,24 +352,24 @@ fn shut_parens<'s>(
 
 /// A `>` after a type in angles.
 #[tactic(none)]
-fn shut_angles<'s>(
+fn shut_angles(
     alloc: Global,
-    at: AtType2<'s>,
-    opening: TypeOpening<'s>,
-    types: Box<Types<'s>>,
-    token: &'s Token<'s>,
-) -> Result<Next<'s>, Stop>
-    ensures { (rs : S.Rules) (b : Below) → on (view_at_type2 b at.entry) (λ k. Gives token.now rs b result (M.shut_types k (view_type_opening opening.entry) (view_types types.entry.value) AngleClose token.now)) }
+    at: AtType2,
+    opening: TypeOpening,
+    types: Box<Types>,
+    token: Current,
+) -> Result<Next, Stop>
+    ensures { (read : Leaf → Token) (rs : S.Rules) (b : Below) → on (view_at_type2 read b at) (λ k. Gives read token rs b result (M.shut_types k (view_type_opening read opening) (view_types read types.value) AngleClose (read token.leaf))) }
 {
     match opening {
-        TypeOpening::TagHead(opening) => want_content(alloc, at, opening, types, token),
+        TypeOpening::TagHead(opening) => want_content(alloc, at, opening, types, token.leaf),
         TypeOpening::SimpleHead(opening) => got(
             alloc,
             at,
             Type2::SimpleBy {
                 opening,
                 head: types,
-                closing: token,
+                closing: token.leaf,
             },
         ),
         opening => {
@@ -381,19 +383,19 @@ fn shut_angles<'s>(
 
 /// A token after a type at the head of an entry, where a key may end.
 #[tactic(none)]
-fn after_start<'s>(
+fn after_start(
     alloc: Global,
-    frames: &mut Vec<Frame<'s>>,
-    occur: Option<&'s Token<'s>>,
-    types: Types<'s>,
-    token: &'s Token<'s>,
-) -> Result<Next<'s>, Stop>
-    ensures { (rs : S.Rules) → on (as_entry (below rs frames.old.items)) (λ p. Gives token.now rs (below rs frames.new.items) result (M.after_start p (leaf occur.entry) (view_types types.entry) token.now.kind token.now)) }
+    frames: &mut Vec<Frame>,
+    occur: Option<Leaf>,
+    types: Types,
+    token: Current,
+) -> Result<Next, Stop>
+    ensures { (read : Leaf → Token) (rs : S.Rules) → on (as_entry (below read rs frames.old.items)) (λ p. Gives read token rs (below read rs frames.new.items) result (M.after_start p (leaf read occur) (view_types read types) token.kind (read token.leaf))) }
 {
     match token.kind {
         Kind::Arrow => arrow(alloc, occur, types, token),
         Kind::Cut => match sole_type1(types) {
-            Ok(type1) => want_arrow(alloc, occur, type1, token),
+            Ok(type1) => want_arrow(alloc, occur, type1, token.leaf),
             Err(()) => Err(unexpected(token)),
         },
         Kind::Colon => colon(alloc, occur, types, token),
@@ -403,20 +405,15 @@ fn after_start<'s>(
 
 /// A `=>` after a type at the head of an entry.
 #[tactic(none)]
-fn arrow<'s>(
-    alloc: Global,
-    occur: Option<&'s Token<'s>>,
-    types: Types<'s>,
-    token: &'s Token<'s>,
-) -> Result<Next<'s>, Stop>
-    ensures { (rs : S.Rules) (b : Below) → on (as_entry b) (λ p. Gives token.now rs b result (M.arrow p (leaf occur.entry) (view_types types.entry) token.now)) }
+fn arrow(alloc: Global, occur: Option<Leaf>, types: Types, token: Current) -> Result<Next, Stop>
+    ensures { (read : Leaf → Token) (rs : S.Rules) (b : Below) → on (as_entry b) (λ p. Gives read token rs b result (M.arrow p (leaf read occur) (view_types read types) (read token.leaf))) }
 {
     match sole_type1(types) {
         Ok(type1) => {
             let key = MemberKey::TypeKey {
                 type1,
                 cut: None,
-                arrow: token,
+                arrow: token.leaf,
             };
             value_at(alloc, occur, key)
         }
@@ -426,16 +423,11 @@ fn arrow<'s>(
 
 /// A `:` after a type at the head of an entry.
 #[tactic(none)]
-fn colon<'s>(
-    alloc: Global,
-    occur: Option<&'s Token<'s>>,
-    types: Types<'s>,
-    token: &'s Token<'s>,
-) -> Result<Next<'s>, Stop>
-    ensures { (rs : S.Rules) (b : Below) → on (as_entry b) (λ p. Gives token.now rs b result (M.colon p (leaf occur.entry) (view_types types.entry) token.now)) }
+fn colon(alloc: Global, occur: Option<Leaf>, types: Types, token: Current) -> Result<Next, Stop>
+    ensures { (read : Leaf → Token) (rs : S.Rules) (b : Below) → on (as_entry b) (λ p. Gives read token rs b result (M.colon p (leaf read occur) (view_types read types) (read token.leaf))) }
 {
     match sole_type1(types) {
-        Ok(type1) => match simple_key(type1, token) {
+        Ok(type1) => match simple_key(type1, token.leaf) {
             Some(key) => value_at(alloc, occur, key),
             None => Err(unexpected(token)),
         },

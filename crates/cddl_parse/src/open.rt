@@ -1,6 +1,8 @@
 //! What opens: a type, an entry, a bracket.
 ghost use Rattle.std.specs.Prelude.{◌≡◌, IfOk, IfErr};
-ghost use Rattle.cddl_token.specs.declared.Token as T;
+ghost use Rattle.cddl_token.specs.declared.Token.{Token};
+ghost use Rattle.cddl_tree.specs.declared.tree.Leaf.{Leaf};
+ghost use Rattle.cddl_parse.specs.declared.frames.Current.{Current};
 ghost use Rattle.cddl_syntax.specs.Machine as M;
 ghost use Rattle.cddl_syntax.specs.Syntax as S;
 ghost use Rattle.cddl_tree.specs.View.{leaf};
@@ -8,24 +10,23 @@ ghost use Rattle.cddl_parse.specs.Frames.{on, made, view_alternatives, view_pref
 
 use crate::build::unexpected;
 use crate::frames::{
-    Alternatives, AtType1, AtType2, Before, Frame, GroupOpening, Home, Next, Prefix, Stop,
+    Alternatives, AtType1, AtType2, Before, Current, Frame, GroupOpening, Home, Next, Prefix, Stop,
     TypeOpening,
 };
 use crate::memory::pushed;
 use crate::places::{open_argument, open_type};
-use cddl_token::Token;
-use cddl_tree::Entry;
+use cddl_tree::{Entry, Leaf};
 use std::alloc::Global;
 
 /// Opens a type in brackets.
 #[tactic(none)]
-pub(crate) fn open_inside<'s>(
+pub(crate) fn open_inside(
     alloc: Global,
-    frames: &mut Vec<Frame<'s>>,
-    at: AtType2<'s>,
-    opening: TypeOpening<'s>,
-) -> Result<Next<'s>, Stop>
-    ensures { (t : T.Token) (rs : S.Rules) → on (view_at_type2 (below rs frames.old.items) at.entry) (λ k. Gives t rs (below rs frames.new.items) result (M.open_types (M.inside k (view_type_opening opening.entry)))) }
+    frames: &mut Vec<Frame>,
+    at: AtType2,
+    opening: TypeOpening,
+) -> Result<Next, Stop>
+    ensures { (read : Leaf → Token) (t : Current) (rs : S.Rules) → on (view_at_type2 read (below read rs frames.old.items) at) (λ k. Gives read t rs (below read rs frames.new.items) result (M.open_types (M.inside k (view_type_opening read opening)))) }
 {
     match pushed(frames, Frame::Types(at, opening)) {
         Ok(()) => open_type(alloc, Home::Inside),
@@ -38,14 +39,14 @@ pub(crate) fn open_inside<'s>(
 
 /// Opens the arguments of a name.
 #[tactic(none)]
-pub(crate) fn open_reference<'s>(
+pub(crate) fn open_reference(
     alloc: Global,
-    frames: &mut Vec<Frame<'s>>,
-    at: AtType2<'s>,
-    prefix: Prefix<'s>,
-    opening: &'s Token<'s>,
-) -> Result<Next<'s>, Stop>
-    ensures { (t : T.Token) (rs : S.Rules) → on (view_at_type2 (below rs frames.old.items) at.entry) (λ k. Gives t rs (below rs frames.new.items) result (M.open_argument k (view_prefix prefix.entry) opening.now M.no_arg)) }
+    frames: &mut Vec<Frame>,
+    at: AtType2,
+    prefix: Prefix,
+    opening: Leaf,
+) -> Result<Next, Stop>
+    ensures { (read : Leaf → Token) (t : Current) (rs : S.Rules) → on (view_at_type2 read (below read rs frames.old.items) at) (λ k. Gives read t rs (below read rs frames.new.items) result (M.open_argument k (view_prefix read prefix) (read opening) M.no_arg)) }
 {
     match pushed(frames, Frame::Reference(at, prefix, opening)) {
         Ok(()) => open_argument(alloc, None),
@@ -58,13 +59,13 @@ pub(crate) fn open_reference<'s>(
 
 /// Opens an alternative of a group, after what it has already.
 #[tactic(none)]
-pub(crate) fn open_member<'s>(
+pub(crate) fn open_member(
     alloc: Global,
-    frames: &mut Vec<Frame<'s>>,
-    before: Option<Alternatives<'s>>,
-    entries: Vec<Entry<'s>>,
-) -> Result<Next<'s>, Stop>
-    ensures { (t : T.Token) (rs : S.Rules) → on (as_group (below rs frames.old.items)) (λ k. Gives t rs (below rs frames.new.items) result (M.open_entry (M.member k (view_alternatives before.entry) (view_entries entries.entry.items)))) }
+    frames: &mut Vec<Frame>,
+    before: Option<Alternatives>,
+    entries: Vec<Entry>,
+) -> Result<Next, Stop>
+    ensures { (read : Leaf → Token) (t : Current) (rs : S.Rules) → on (as_group (below read rs frames.old.items)) (λ k. Gives read t rs (below read rs frames.new.items) result (M.open_entry (M.member k (view_alternatives read before) (view_entries read entries.items)))) }
 {
     match pushed(frames, Frame::Member(before, entries)) {
         Ok(()) => open_type(alloc, Home::Start(None)),
@@ -77,13 +78,13 @@ pub(crate) fn open_member<'s>(
 
 /// Opens a group in brackets.
 #[tactic(none)]
-pub(crate) fn open_group<'s>(
+pub(crate) fn open_group(
     alloc: Global,
-    frames: &mut Vec<Frame<'s>>,
-    at: AtType2<'s>,
-    opening: GroupOpening<'s>,
-) -> Result<Next<'s>, Stop>
-    ensures { (t : T.Token) (rs : S.Rules) → on (view_at_type2 (below rs frames.old.items) at.entry) (λ k. Gives t rs (below rs frames.new.items) result (M.open_group (M.within k (view_group_opening opening.entry)))) }
+    frames: &mut Vec<Frame>,
+    at: AtType2,
+    opening: GroupOpening,
+) -> Result<Next, Stop>
+    ensures { (read : Leaf → Token) (t : Current) (rs : S.Rules) → on (view_at_type2 read (below read rs frames.old.items) at) (λ k. Gives read t rs (below read rs frames.new.items) result (M.open_group (M.within k (view_group_opening read opening)))) }
 {
     match pushed(frames, Frame::Group(at, opening)) {
         Ok(()) => open_member(alloc, frames, None, Vec::new(alloc)),
@@ -96,13 +97,13 @@ pub(crate) fn open_group<'s>(
 
 /// Opens parentheses at the head of an entry.
 #[tactic(none)]
-fn open_entry<'s>(
+fn open_entry(
     alloc: Global,
-    frames: &mut Vec<Frame<'s>>,
-    occur: Option<&'s Token<'s>>,
-    opening: &'s Token<'s>,
-) -> Result<Next<'s>, Stop>
-    ensures { (t : T.Token) (rs : S.Rules) → on (as_entry (below rs frames.old.items)) (λ p. Gives t rs (below rs frames.new.items) result (M.open_group (M.in_entry p (leaf occur.entry) opening.now))) }
+    frames: &mut Vec<Frame>,
+    occur: Option<Leaf>,
+    opening: Leaf,
+) -> Result<Next, Stop>
+    ensures { (read : Leaf → Token) (t : Current) (rs : S.Rules) → on (as_entry (below read rs frames.old.items)) (λ p. Gives read t rs (below read rs frames.new.items) result (M.open_group (M.in_entry p (leaf read occur) (read opening)))) }
 {
     match pushed(frames, Frame::Entry(occur, opening)) {
         Ok(()) => open_member(alloc, frames, None, Vec::new(alloc)),
@@ -115,8 +116,8 @@ fn open_entry<'s>(
 
 /// The occurrence before the place, where that is the head of an entry.
 #[tactic(none)]
-pub(crate) fn entry_head<'s>(at: &AtType2<'s>) -> Option<Option<&'s Token<'s>>>
-    ensures { IsHead result at.now }
+pub(crate) fn entry_head(at: &AtType2) -> Option<Option<Leaf>>
+    ensures { (read : Leaf → Token) → IsHead read result at.now }
 {
     match at.left {
         Some(_) => None,
@@ -126,8 +127,8 @@ pub(crate) fn entry_head<'s>(at: &AtType2<'s>) -> Option<Option<&'s Token<'s>>>
 
 /// The same for a place with no operand before it.
 #[tactic(none)]
-fn start_of<'s>(at: &AtType1<'s>) -> Option<Option<&'s Token<'s>>>
-    ensures { IsStart result at.now }
+fn start_of(at: &AtType1) -> Option<Option<Leaf>>
+    ensures { (read : Leaf → Token) → IsStart read result at.now }
 {
     match at.before {
         Before::Nothing => match at.home {
@@ -142,37 +143,33 @@ fn start_of<'s>(at: &AtType1<'s>) -> Option<Option<&'s Token<'s>>>
 
 /// A `(` where a type2 is awaited.
 #[tactic(none)]
-pub(crate) fn open_paren<'s>(
+pub(crate) fn open_paren(
     alloc: Global,
-    frames: &mut Vec<Frame<'s>>,
-    at: AtType2<'s>,
-    token: &'s Token<'s>,
-) -> Result<Next<'s>, Stop>
-    ensures { (t : T.Token) (rs : S.Rules) → on (view_at_type2 (below rs frames.old.items) at.entry) (λ k. Gives t rs (below rs frames.new.items) result (M.open_paren k token.now)) }
+    frames: &mut Vec<Frame>,
+    at: AtType2,
+    opening: Leaf,
+) -> Result<Next, Stop>
+    ensures { (read : Leaf → Token) (t : Current) (rs : S.Rules) → on (view_at_type2 read (below read rs frames.old.items) at) (λ k. Gives read t rs (below read rs frames.new.items) result (M.open_paren k (read opening))) }
 {
     match entry_head(&at) {
         Some(occur) => {
             drop(at);
-            open_entry(alloc, frames, occur, token)
+            open_entry(alloc, frames, occur, opening)
         }
-        None => open_inside(alloc, frames, at, TypeOpening::Paren(token)),
+        None => open_inside(alloc, frames, at, TypeOpening::Paren(opening)),
     }
 }
 
 /// An occurrence where a type2 is awaited.
 #[tactic(none)]
-pub(crate) fn occur_want<'s>(
-    alloc: Global,
-    at: AtType2<'s>,
-    token: &'s Token<'s>,
-) -> Result<Next<'s>, Stop>
-    ensures { (rs : S.Rules) (b : Below) → on (view_at_type2 b at.entry) (λ k. Gives token.now rs b result (M.occur_want k token.now)) }
+pub(crate) fn occur_want(alloc: Global, at: AtType2, token: Current) -> Result<Next, Stop>
+    ensures { (read : Leaf → Token) (rs : S.Rules) (b : Below) → on (view_at_type2 read b at) (λ k. Gives read token rs b result (M.occur_want k (read token.leaf))) }
 {
     let head = entry_head(&at);
     drop(at);
     match head {
         Some(occur) => match occur {
-            None => open_type(alloc, Home::Start(Some(token))),
+            None => open_type(alloc, Home::Start(Some(token.leaf))),
             Some(_) => Err(unexpected(token)),
         },
         None => Err(unexpected(token)),

@@ -5,15 +5,16 @@ ghost use Rattle.cddl_token.specs.declared.Token.{Token};
 ghost use Rattle.cddl_token.specs.Answers.{span, IsTokenized};
 ghost use Rattle.cddl_syntax.specs.Answers.{opened as opened_after, IsTreeOf, IsRefused};
 ghost use Rattle.cddl_syntax.specs.Syntax.{Cddl};
+ghost use Rattle.cddl_tree.specs.declared.tree.Leaf.{Leaf};
 ghost use Rattle.cddl_tree.specs.View.{view};
-ghost use Rattle.cddl_parse.specs.States.{tree_in, refusal_of, EndsInEnd, Refuses, Stands, Advances};
+ghost use Rattle.cddl_parse.specs.States.{rules_in, refusal_of, IsRead, EndsInEnd, Refuses, Stands, Advances};
 
-use crate::frames::Stop;
+use crate::frames::{Current, Stop};
 use crate::rules::{placed, step};
 use crate::state::{Progress, State};
 use cddl_syntax::{goes_on, is_balanced, is_stuck, makes_trees, one_answer, one_tree, some_answer};
 use cddl_token::{Code, Kind, Refusal, Token};
-use cddl_tree::Tree;
+use cddl_tree::{Leaf, Rule, Tree};
 use std::alloc::Global;
 
 /// The number of opening tokens that may be open at once.
@@ -41,13 +42,9 @@ fn opened(kind: Kind, count: usize) -> usize
 
 /// The parser after one token more.
 #[tactic(none)]
-fn advance<'s>(
-    alloc: Global,
-    progress: Progress<'s>,
-    token: &'s Token<'s>,
-) -> Result<Progress<'s>, Refusal>
+fn advance(alloc: Global, progress: Progress, token: Current) -> Result<Progress, Refusal>
     requires { progress.count < 129 }
-    ensures { (ts : List Token) → Stands progress.entry ts → Advances ts token.now result }
+    ensures { (read : Leaf → Token) (ts : List Token) → IsRead read token → Stands read progress ts → Advances read ts (read token.leaf) result }
 {
     goes_on();
     is_stuck();
@@ -75,13 +72,13 @@ fn refusal(stop: Stop) -> Refusal
     }
 }
 
-/// The tree, after the last token.
+/// The rules, after the last token.
 #[tactic(none)]
-fn finished<'s>(state: Box<State<'s>>) -> Option<Tree<'s>>
-    ensures { result ≡ tree_in state.entry.value }
+fn finished(state: Box<State>) -> Option<Vec<Rule>>
+    ensures { result ≡ rules_in state.value }
 {
     match Box::into_inner(state) {
-        State::Done(tree) => Some(tree),
+        State::Done(rules, _) => Some(rules),
         state => {
             drop(state);
             None
@@ -100,7 +97,8 @@ pub fn tokens_end()
 /// Errors: `At` with [`Code::Unexpected`] and the offset of the first token with which the tokens
 /// so far begin no specification; or, where it comes earlier, with [`Code::TooNested`] and the
 /// offset of the first opening token that has [`NESTING_LIMIT`] others open around it. `Memory`
-/// where a growth was refused.
+/// where a growth was refused, or where there are more than 4,294,967,295 tokens, which no source
+/// has that [`cddl_token::tokens`] takes.
 #[tactic(auto)]
 pub fn parse<'s>(alloc: Global, tokens: &'s [Token<'s>]) -> Result<Tree<'s>, Refusal>
     // The last token is the source's end.
@@ -122,20 +120,34 @@ pub fn parse<'s>(alloc: Global, tokens: &'s [Token<'s>]) -> Result<Tree<'s>, Ref
     is_balanced();
     some_answer();
     one_answer();
+    let Some(end) = tokens.last() else {
+        unreachable!()
+    };
     let state = match placed(alloc, State::Begin) {
         Ok(state) => state,
         Err(_) => return Err(Refusal::Memory),
     };
     let mut progress = Progress { state, count: 0 };
+    let mut index = 0;
     for token in tokens {
+        let Token { kind, start, .. } = *token;
+        let leaf = Leaf { index };
+        let token = Current { kind, start, leaf };
         progress = match advance(alloc, progress, token) {
             Ok(next) => next,
             Err(refusal) => return Err(refusal),
         };
+        index = match u32::checked_add(index, 1) {
+            Some(next) => next,
+            None => {
+                drop(progress);
+                return Err(Refusal::Memory);
+            }
+        };
     }
     let Progress { state, count: _ } = progress;
     match finished(state) {
-        Some(tree) => Ok(tree),
+        Some(rules) => Ok(Tree { tokens, rules, end }),
         None => unreachable!(),
     }
 }

@@ -1,7 +1,9 @@
 //! Where the parser comes to: places that hold a part of the tree, which stands in a box.
 ghost use Rattle.std.specs.Prelude.{◌≡◌, MatchResult};
-ghost use Rattle.cddl_token.specs.declared.Token as T;
 ghost use Rattle.cddl_token.specs.declared.Kind.TheVariants.{Comma};
+ghost use Rattle.cddl_token.specs.declared.Token.{Token};
+ghost use Rattle.cddl_tree.specs.declared.tree.Leaf.{Leaf};
+ghost use Rattle.cddl_parse.specs.declared.frames.Current.{Current};
 ghost use Rattle.cddl_syntax.specs.Machine as M;
 ghost use Rattle.cddl_syntax.specs.Syntax as S;
 ghost use Rattle.cddl_tree.specs.View.{leaf, view_grpent, view_key, view_type1, view_type2, view_arg, view_types, view_rule};
@@ -9,14 +11,13 @@ ghost use Rattle.cddl_parse.specs.Frames.{on, made, view_now, view_prefix, view_
 
 use crate::frames::{Arguments, AtType1, AtType2, Before, Home, Left, Next, Now, Prefix, Stop};
 use crate::memory::boxed;
-use cddl_token::Token;
-use cddl_tree::{GenericArg, GrpEnt, MemberKey, Rule, Type1, Type2, Types};
+use cddl_tree::{GenericArg, GrpEnt, Leaf, MemberKey, Rule, Type1, Type2, Types};
 use std::alloc::Global;
 
 /// The place of the first type2 of a type.
 #[tactic(none)]
-pub(crate) fn type_at<'s>(alloc: Global, home: Home<'s>) -> Result<AtType2<'s>, Stop>
-    ensures { MatchResult result (λ at. (b : Below) → view_at_type2 b at ≡ made (λ k. M.lower (M.head k)) (view_home b home.entry)) (λ e. e ≡ Stop.Memory) }
+pub(crate) fn type_at(alloc: Global, home: Home) -> Result<AtType2, Stop>
+    ensures { MatchResult result (λ at. (read : Leaf → Token) → (b : Below) → view_at_type2 read b at ≡ made (λ k. M.lower (M.head k)) (view_home read b home)) (λ e. e ≡ Stop.Memory) }
 {
     let before = Before::Nothing;
     match boxed(alloc, AtType1 { home, before }) {
@@ -30,8 +31,8 @@ pub(crate) fn type_at<'s>(alloc: Global, home: Home<'s>) -> Result<AtType2<'s>, 
 
 /// A place where a type2 is awaited.
 #[tactic(none)]
-fn awaited<'s>(alloc: Global, at: AtType2<'s>) -> Result<Box<Now<'s>>, Stop>
-    ensures { MatchResult result (λ now. (b : Below) → view_now b now.value ≡ made M.want (view_at_type2 b at.entry)) (λ e. e ≡ Stop.Memory) }
+fn awaited(alloc: Global, at: AtType2) -> Result<Box<Now>, Stop>
+    ensures { MatchResult result (λ now. (read : Leaf → Token) → (b : Below) → view_now read b now.value ≡ made M.want (view_at_type2 read b at)) (λ e. e ≡ Stop.Memory) }
 {
     match boxed(alloc, Now::Want(at)) {
         Ok(now) => Ok(now),
@@ -44,8 +45,8 @@ fn awaited<'s>(alloc: Global, at: AtType2<'s>) -> Result<Box<Now<'s>>, Stop>
 
 /// A place where a type is awaited.
 #[tactic(none)]
-pub(crate) fn awaited_type<'s>(alloc: Global, home: Home<'s>) -> Result<Box<Now<'s>>, Stop>
-    ensures { MatchResult result (λ now. (b : Below) → view_now b now.value ≡ made M.want (made (λ k. M.lower (M.head k)) (view_home b home.entry))) (λ e. e ≡ Stop.Memory) }
+pub(crate) fn awaited_type(alloc: Global, home: Home) -> Result<Box<Now>, Stop>
+    ensures { MatchResult result (λ now. (read : Leaf → Token) → (b : Below) → view_now read b now.value ≡ made M.want (made (λ k. M.lower (M.head k)) (view_home read b home))) (λ e. e ≡ Stop.Memory) }
 {
     match type_at(alloc, home) {
         Ok(at) => awaited(alloc, at),
@@ -55,8 +56,8 @@ pub(crate) fn awaited_type<'s>(alloc: Global, home: Home<'s>) -> Result<Box<Now<
 
 /// Where a type2 is awaited.
 #[tactic(none)]
-pub(crate) fn want<'s>(alloc: Global, at: AtType2<'s>) -> Result<Next<'s>, Stop>
-    ensures { (t : T.Token) (rs : S.Rules) (b : Below) → on (view_at_type2 b at.entry) (λ k. Gives t rs b result (M.want k)) }
+pub(crate) fn want(alloc: Global, at: AtType2) -> Result<Next, Stop>
+    ensures { (read : Leaf → Token) (t : Current) (rs : S.Rules) (b : Below) → on (view_at_type2 read b at) (λ k. Gives read t rs b result (M.want k)) }
 {
     match awaited(alloc, at) {
         Ok(now) => Ok(Next::Within(now)),
@@ -66,8 +67,8 @@ pub(crate) fn want<'s>(alloc: Global, at: AtType2<'s>) -> Result<Next<'s>, Stop>
 
 /// Where a type is awaited.
 #[tactic(none)]
-pub(crate) fn open_type<'s>(alloc: Global, home: Home<'s>) -> Result<Next<'s>, Stop>
-    ensures { (t : T.Token) (rs : S.Rules) (b : Below) → on (view_home b home.entry) (λ k. Gives t rs b result (M.open_types k)) }
+pub(crate) fn open_type(alloc: Global, home: Home) -> Result<Next, Stop>
+    ensures { (read : Leaf → Token) (t : Current) (rs : S.Rules) (b : Below) → on (view_home read b home) (λ k. Gives read t rs b result (M.open_types k)) }
 {
     match type_at(alloc, home) {
         Ok(at) => want(alloc, at),
@@ -77,11 +78,8 @@ pub(crate) fn open_type<'s>(alloc: Global, home: Home<'s>) -> Result<Next<'s>, S
 
 /// Where an argument is awaited.
 #[tactic(none)]
-pub(crate) fn open_argument<'s>(
-    alloc: Global,
-    before: Option<Arguments<'s>>,
-) -> Result<Next<'s>, Stop>
-    ensures { (t : T.Token) (rs : S.Rules) (b : Below) → on (as_argument b (view_arguments before.entry)) (λ k. Gives t rs b result (M.want (M.lower k))) }
+pub(crate) fn open_argument(alloc: Global, before: Option<Arguments>) -> Result<Next, Stop>
+    ensures { (read : Leaf → Token) (t : Current) (rs : S.Rules) (b : Below) → on (as_argument b (view_arguments read before)) (λ k. Gives read t rs b result (M.want (M.lower k))) }
 {
     let home = Home::Inside;
     let before = Before::Arguments(before);
@@ -96,12 +94,8 @@ pub(crate) fn open_argument<'s>(
 
 /// Where a reference is awaited.
 #[tactic(none)]
-pub(crate) fn want_ref<'s>(
-    alloc: Global,
-    at: AtType2<'s>,
-    prefix: Prefix<'s>,
-) -> Result<Next<'s>, Stop>
-    ensures { (t : T.Token) (rs : S.Rules) (b : Below) → on (view_at_type2 b at.entry) (λ k. Gives t rs b result (M.want_ref k (view_prefix prefix.entry))) }
+pub(crate) fn want_ref(alloc: Global, at: AtType2, prefix: Prefix) -> Result<Next, Stop>
+    ensures { (read : Leaf → Token) (t : Current) (rs : S.Rules) (b : Below) → on (view_at_type2 read b at) (λ k. Gives read t rs b result (M.want_ref k (view_prefix read prefix))) }
 {
     match boxed(alloc, Now::WantRef(at, prefix)) {
         Ok(now) => Ok(Next::Within(now)),
@@ -114,14 +108,14 @@ pub(crate) fn want_ref<'s>(
 
 /// After `#6.<`, a type and its `>`.
 #[tactic(none)]
-pub(crate) fn want_content<'s>(
+pub(crate) fn want_content(
     alloc: Global,
-    at: AtType2<'s>,
-    opening: &'s Token<'s>,
-    head: Box<Types<'s>>,
-    angle: &'s Token<'s>,
-) -> Result<Next<'s>, Stop>
-    ensures { (t : T.Token) (rs : S.Rules) (b : Below) → on (view_at_type2 b at.entry) (λ k. Gives t rs b result (M.want_content k opening.now (view_types head.entry.value) angle.now)) }
+    at: AtType2,
+    opening: Leaf,
+    head: Box<Types>,
+    angle: Leaf,
+) -> Result<Next, Stop>
+    ensures { (read : Leaf → Token) (t : Current) (rs : S.Rules) (b : Below) → on (view_at_type2 read b at) (λ k. Gives read t rs b result (M.want_content k (read opening) (view_types read head.value) (read angle))) }
 {
     match boxed(alloc, Now::WantContent(at, opening, head, angle)) {
         Ok(now) => Ok(Next::Within(now)),
@@ -134,8 +128,8 @@ pub(crate) fn want_content<'s>(
 
 /// After a type1.
 #[tactic(none)]
-fn have<'s>(alloc: Global, at: Box<AtType1<'s>>, type1: Type1<'s>) -> Result<Next<'s>, Stop>
-    ensures { (t : T.Token) (rs : S.Rules) (b : Below) → on (view_at_type1 b at.entry.value) (λ k. Gives t rs b result (M.have k (view_type1 type1.entry))) }
+fn have(alloc: Global, at: Box<AtType1>, type1: Type1) -> Result<Next, Stop>
+    ensures { (read : Leaf → Token) (t : Current) (rs : S.Rules) (b : Below) → on (view_at_type1 read b at.value) (λ k. Gives read t rs b result (M.have k (view_type1 read type1))) }
 {
     match boxed(alloc, type1) {
         Ok(type1) => match boxed(alloc, Now::Have(at, type1)) {
@@ -153,10 +147,10 @@ fn have<'s>(alloc: Global, at: Box<AtType1<'s>>, type1: Type1<'s>) -> Result<Nex
     }
 }
 
-/// A type2 after what stands left of it.
+/// A type2 after what comes before it.
 #[tactic(none)]
-pub(crate) fn got<'s>(alloc: Global, at: AtType2<'s>, type2: Type2<'s>) -> Result<Next<'s>, Stop>
-    ensures { (t : T.Token) (rs : S.Rules) (b : Below) → on (view_at_type2 b at.entry) (λ k. Gives t rs b result (M.got k (view_type2 type2.entry))) }
+pub(crate) fn got(alloc: Global, at: AtType2, type2: Type2) -> Result<Next, Stop>
+    ensures { (read : Leaf → Token) (t : Current) (rs : S.Rules) (b : Below) → on (view_at_type2 read b at) (λ k. Gives read t rs b result (M.got k (view_type2 read type2))) }
 {
     match boxed(alloc, type2) {
         Ok(type2) => {
@@ -171,9 +165,9 @@ pub(crate) fn got<'s>(alloc: Global, at: AtType2<'s>, type2: Type2<'s>) -> Resul
     }
 }
 
-/// The type1 that an operand ends, after what stands left of it.
-fn joined<'s>(left: Option<Box<Left<'s>>>, type2: Box<Type2<'s>>) -> Type1<'s>
-    ensures { view_type1 result ≡ joined_to left.entry (view_type2 type2.entry.value) }
+/// The type1 that an operand ends, with what comes before it.
+fn joined(left: Option<Box<Left>>, type2: Box<Type2>) -> Type1
+    ensures { (read : Leaf → Token) → view_type1 read result ≡ joined_to read left (view_type2 read type2.value) }
 {
     match left {
         None => Type1::One(type2),
@@ -193,13 +187,13 @@ fn joined<'s>(left: Option<Box<Left<'s>>>, type2: Box<Type2<'s>>) -> Type1<'s>
 
 /// After the choices of a type and a `/`.
 #[tactic(none)]
-pub(crate) fn next_choice<'s>(
+pub(crate) fn next_choice(
     alloc: Global,
-    home: Home<'s>,
-    types: Types<'s>,
-    slash: &'s Token<'s>,
-) -> Result<Next<'s>, Stop>
-    ensures { (t : T.Token) (rs : S.Rules) (b : Below) → on (view_home b home.entry) (λ k. Gives t rs b result (M.want (M.lower (M.next k (view_types types.entry) slash.now)))) }
+    home: Home,
+    types: Types,
+    slash: Leaf,
+) -> Result<Next, Stop>
+    ensures { (read : Leaf → Token) (t : Current) (rs : S.Rules) (b : Below) → on (view_home read b home) (λ k. Gives read t rs b result (M.want (M.lower (M.next k (view_types read types) (read slash))))) }
 {
     match boxed(alloc, types) {
         Ok(types) => {
@@ -222,12 +216,8 @@ pub(crate) fn next_choice<'s>(
 
 /// After arguments and a comma.
 #[tactic(none)]
-pub(crate) fn next_argument<'s>(
-    alloc: Global,
-    arguments: GenericArg<'s>,
-    comma: &'s Token<'s>,
-) -> Result<Next<'s>, Stop>
-    ensures { (t : T.Token) (rs : S.Rules) (b : Below) → on (as_reference b) (λ r. Gives t rs b result (M.after_argument r.0 r.1 r.2 (view_arg arguments.entry) Comma comma.now)) }
+pub(crate) fn next_argument(alloc: Global, arguments: GenericArg, comma: Leaf) -> Result<Next, Stop>
+    ensures { (read : Leaf → Token) (t : Current) (rs : S.Rules) (b : Below) → on (as_reference b) (λ r. Gives read t rs b result (M.after_argument r.0 r.1 r.2 (view_arg read arguments) Comma (read comma))) }
 {
     match boxed(alloc, arguments) {
         Ok(arguments) => open_argument(alloc, Some(Arguments { arguments, comma })),
@@ -240,12 +230,8 @@ pub(crate) fn next_argument<'s>(
 
 /// After the key of an entry.
 #[tactic(none)]
-pub(crate) fn value_at<'s>(
-    alloc: Global,
-    occur: Option<&'s Token<'s>>,
-    key: MemberKey<'s>,
-) -> Result<Next<'s>, Stop>
-    ensures { (t : T.Token) (rs : S.Rules) (b : Below) → on (as_entry b) (λ p. Gives t rs b result (M.open_value p (leaf occur.entry) (view_key key.entry))) }
+pub(crate) fn value_at(alloc: Global, occur: Option<Leaf>, key: MemberKey) -> Result<Next, Stop>
+    ensures { (read : Leaf → Token) (t : Current) (rs : S.Rules) (b : Below) → on (as_entry b) (λ p. Gives read t rs b result (M.open_value p (leaf read occur) (view_key read key))) }
 {
     match boxed(alloc, key) {
         Ok(key) => open_type(alloc, Home::ValueOf(occur, key)),
@@ -258,13 +244,13 @@ pub(crate) fn value_at<'s>(
 
 /// After the `^` of a key.
 #[tactic(none)]
-pub(crate) fn want_arrow<'s>(
+pub(crate) fn want_arrow(
     alloc: Global,
-    occur: Option<&'s Token<'s>>,
-    type1: Type1<'s>,
-    cut: &'s Token<'s>,
-) -> Result<Next<'s>, Stop>
-    ensures { (t : T.Token) (rs : S.Rules) (b : Below) → on (as_entry b) (λ p. Gives t rs b result (M.want_arrow p (leaf occur.entry) (view_type1 type1.entry) cut.now)) }
+    occur: Option<Leaf>,
+    type1: Type1,
+    cut: Leaf,
+) -> Result<Next, Stop>
+    ensures { (read : Leaf → Token) (t : Current) (rs : S.Rules) (b : Below) → on (as_entry b) (λ p. Gives read t rs b result (M.want_arrow p (leaf read occur) (view_type1 read type1) (read cut))) }
 {
     match boxed(alloc, type1) {
         Ok(type1) => match boxed(alloc, Now::WantArrow(occur, type1, cut)) {
@@ -283,8 +269,8 @@ pub(crate) fn want_arrow<'s>(
 
 /// After a group in parentheses that is an entry.
 #[tactic(none)]
-pub(crate) fn have_group<'s>(alloc: Global, grpent: GrpEnt<'s>) -> Result<Next<'s>, Stop>
-    ensures { (t : T.Token) (rs : S.Rules) (b : Below) → on (as_entry b) (λ p. Gives t rs b result (M.have_group p (view_grpent grpent.entry))) }
+pub(crate) fn have_group(alloc: Global, grpent: GrpEnt) -> Result<Next, Stop>
+    ensures { (read : Leaf → Token) (t : Current) (rs : S.Rules) (b : Below) → on (as_entry b) (λ p. Gives read t rs b result (M.have_group p (view_grpent read grpent))) }
 {
     match boxed(alloc, grpent) {
         Ok(grpent) => match boxed(alloc, Now::HaveGroup(grpent)) {
@@ -303,8 +289,8 @@ pub(crate) fn have_group<'s>(alloc: Global, grpent: GrpEnt<'s>) -> Result<Next<'
 
 /// After a whole rule.
 #[tactic(none)]
-pub(crate) fn ended<'s>(alloc: Global, rule: Rule<'s>) -> Result<Next<'s>, Stop>
-    ensures { (t : T.Token) (rs : S.Rules) (b : Below) (m : M.State) → m ≡ M.next_rule (S.rules rs (view_rule rule.entry)) t.kind t → Gives t rs b result m }
+pub(crate) fn ended(alloc: Global, rule: Rule) -> Result<Next, Stop>
+    ensures { (read : Leaf → Token) (t : Current) (rs : S.Rules) (b : Below) (m : M.State) → m ≡ M.next_rule (S.rules rs (view_rule read rule)) t.kind (read t.leaf) → Gives read t rs b result m }
 {
     match boxed(alloc, rule) {
         Ok(rule) => Ok(Next::Ended(rule)),

@@ -1,5 +1,7 @@
 //! What a token does between the rules and in the head of a rule.
 ghost use Rattle.std.specs.Prelude.{◌≡◌, MatchResult, [], ◌∷◌};
+ghost use Rattle.cddl_token.specs.declared.Token.{Token};
+ghost use Rattle.cddl_tree.specs.declared.tree.Leaf.{Leaf};
 ghost use Rattle.cddl_syntax.specs.Machine as M;
 ghost use Rattle.cddl_syntax.specs.Syntax as S;
 ghost use Rattle.cddl_tree.specs.View.{view_parm, view_name, view_rule};
@@ -8,17 +10,17 @@ ghost use Rattle.cddl_parse.specs.States.{view_rules, view_state, GivesState, Be
 
 use crate::body::step_body;
 use crate::build::{parm_of, unexpected};
-use crate::frames::{Frame, Home, Next, Now, Parameters, Stop};
+use crate::frames::{Current, Frame, Home, Next, Now, Parameters, Stop};
 use crate::memory::{boxed, pushed};
 use crate::places::awaited_type;
 use crate::state::State;
-use cddl_token::{Kind, Token};
-use cddl_tree::{AssignG, GenericParm, Rule, RuleName, Tree};
+use cddl_token::Kind;
+use cddl_tree::{AssignG, GenericParm, Leaf, Rule, RuleName};
 use std::alloc::Global;
 
 /// The state in a box.
-pub(crate) fn placed<'s>(alloc: Global, state: State<'s>) -> Result<Box<State<'s>>, Stop>
-    ensures { MatchResult result (λ s. s.value ≡ state.entry) (λ e. e ≡ Stop.Memory) }
+pub(crate) fn placed(alloc: Global, state: State) -> Result<Box<State>, Stop>
+    ensures { MatchResult result (λ s. s.value ≡ state) (λ e. e ≡ Stop.Memory) }
 {
     match boxed(alloc, state) {
         Ok(state) => Ok(state),
@@ -31,17 +33,13 @@ pub(crate) fn placed<'s>(alloc: Global, state: State<'s>) -> Result<Box<State<'s
 
 /// A token after whole rules.
 #[tactic(none)]
-fn next_rule<'s>(
-    alloc: Global,
-    rules: Vec<Rule<'s>>,
-    token: &'s Token<'s>,
-) -> Result<Box<State<'s>>, Stop>
-    ensures { GivesState token.now result (M.next_rule (view_rules rules.entry.items) token.now.kind token.now) }
+fn next_rule(alloc: Global, rules: Vec<Rule>, token: Current) -> Result<Box<State>, Stop>
+    ensures { (read : Leaf → Token) → GivesState read token.start result (M.next_rule (view_rules read rules.items) token.kind (read token.leaf)) }
 {
     match token.kind {
-        Kind::Name => placed(alloc, State::WantAssign(rules, RuleName::Plain(token))),
-        Kind::NameOpen => placed(alloc, State::WantParm(rules, token, None)),
-        Kind::End => placed(alloc, State::Done(Tree { rules, end: token })),
+        Kind::Name => placed(alloc, State::WantAssign(rules, RuleName::Plain(token.leaf))),
+        Kind::NameOpen => placed(alloc, State::WantParm(rules, token.leaf, None)),
+        Kind::End => placed(alloc, State::Done(rules, token.leaf)),
         _ => {
             drop(rules);
             Err(unexpected(token))
@@ -51,18 +49,18 @@ fn next_rule<'s>(
 
 /// A token after a parameter.
 #[tactic(none)]
-fn after_parm<'s>(
+fn after_parm(
     alloc: Global,
-    rules: Vec<Rule<'s>>,
-    opening: &'s Token<'s>,
-    parameters: GenericParm<'s>,
-    token: &'s Token<'s>,
-) -> Result<Box<State<'s>>, Stop>
-    ensures { GivesState token.now result (M.after_parm (view_rules rules.entry.items) opening.now (view_parm parameters.entry) token.now.kind token.now) }
+    rules: Vec<Rule>,
+    opening: Leaf,
+    parameters: GenericParm,
+    token: Current,
+) -> Result<Box<State>, Stop>
+    ensures { (read : Leaf → Token) → GivesState read token.start result (M.after_parm (view_rules read rules.items) (read opening) (view_parm read parameters) token.kind (read token.leaf)) }
 {
     match token.kind {
         Kind::Comma => {
-            let comma = token;
+            let comma = token.leaf;
             let before = Parameters { parameters, comma };
             placed(alloc, State::WantParm(rules, opening, Some(before)))
         }
@@ -70,7 +68,7 @@ fn after_parm<'s>(
             let name = RuleName::Generic {
                 opening,
                 parameters,
-                closing: token,
+                closing: token.leaf,
             };
             placed(alloc, State::WantAssign(rules, name))
         }
@@ -84,25 +82,25 @@ fn after_parm<'s>(
 
 /// An assignment, or what stands in its place.
 #[tactic(none)]
-fn assigned<'s>(
+fn assigned(
     alloc: Global,
-    rules: Vec<Rule<'s>>,
-    name: RuleName<'s>,
-    token: &'s Token<'s>,
-) -> Result<Box<State<'s>>, Stop>
-    ensures { GivesState token.now result (M.assigned (view_rules rules.entry.items) (view_name name.entry) token.now.kind token.now) }
+    rules: Vec<Rule>,
+    name: RuleName,
+    token: Current,
+) -> Result<Box<State>, Stop>
+    ensures { (read : Leaf → Token) → GivesState read token.start result (M.assigned (view_rules read rules.items) (view_name read name) token.kind (read token.leaf)) }
 {
     match token.kind {
         Kind::Assign => {
-            let frame = Frame::GroupBody(name, AssignG::GroupIs(token));
+            let frame = Frame::GroupBody(name, AssignG::GroupIs(token.leaf));
             begin_body(alloc, rules, frame, Home::Start(None))
         }
         Kind::TypeAssign => {
-            let frame = Frame::TypeBody(name, token);
+            let frame = Frame::TypeBody(name, token.leaf);
             begin_body(alloc, rules, frame, Home::Inside)
         }
         Kind::GroupAssign => {
-            let frame = Frame::GroupBody(name, AssignG::GroupOr(token));
+            let frame = Frame::GroupBody(name, AssignG::GroupOr(token.leaf));
             begin_body(alloc, rules, frame, Home::Start(None))
         }
         _ => {
@@ -115,13 +113,8 @@ fn assigned<'s>(
 
 /// Begins the body of a rule, whose head is the frame.
 #[tactic(none)]
-fn begin_body<'s>(
-    alloc: Global,
-    rules: Vec<Rule<'s>>,
-    frame: Frame<'s>,
-    home: Home<'s>,
-) -> Result<Box<State<'s>>, Stop>
-    ensures { BeginsBody result (view_home (above (view_rules rules.entry.items) nowhere frame.entry) home.entry) }
+fn begin_body(alloc: Global, rules: Vec<Rule>, frame: Frame, home: Home) -> Result<Box<State>, Stop>
+    ensures { (read : Leaf → Token) → BeginsBody read result (view_home read (above read (view_rules read rules.items) nowhere frame) home) }
 {
     match first_frame(alloc, frame) {
         Ok(frames) => match awaited_type(alloc, home) {
@@ -142,8 +135,8 @@ fn begin_body<'s>(
 
 /// Frames of which this is the only one.
 #[tactic(none)]
-fn first_frame<'s>(alloc: Global, frame: Frame<'s>) -> Result<Vec<Frame<'s>>, Stop>
-    ensures { MatchResult result (λ fs. fs.items ≡ frame.entry ∷ []) (λ e. e ≡ Stop.Memory) }
+fn first_frame(alloc: Global, frame: Frame) -> Result<Vec<Frame>, Stop>
+    ensures { MatchResult result (λ fs. fs.items ≡ frame ∷ []) (λ e. e ≡ Stop.Memory) }
 {
     let mut frames = Vec::new(alloc);
     match pushed(&mut frames, frame) {
@@ -158,13 +151,13 @@ fn first_frame<'s>(alloc: Global, frame: Frame<'s>) -> Result<Vec<Frame<'s>>, St
 
 /// The state within a rule's body.
 #[tactic(none)]
-fn within<'s>(
+fn within(
     alloc: Global,
-    rules: Vec<Rule<'s>>,
-    frames: Vec<Frame<'s>>,
-    now: Box<Now<'s>>,
-) -> Result<Box<State<'s>>, Stop>
-    ensures { MatchResult result (λ s. view_state s.value ≡ view_now (below (view_rules rules.entry.items) frames.entry.items) now.entry.value) (λ e. e ≡ Stop.Memory) }
+    rules: Vec<Rule>,
+    frames: Vec<Frame>,
+    now: Box<Now>,
+) -> Result<Box<State>, Stop>
+    ensures { MatchResult result (λ s. (read : Leaf → Token) → view_state read s.value ≡ view_now read (below read (view_rules read rules.items) frames.items) now.value) (λ e. e ≡ Stop.Memory) }
 {
     match boxed(alloc, State::Body(rules, frames, now)) {
         Ok(state) => Ok(state),
@@ -177,8 +170,8 @@ fn within<'s>(
 
 /// The rules with one more.
 #[tactic(none)]
-fn with_rule<'s>(rules: Vec<Rule<'s>>, rule: Box<Rule<'s>>) -> Result<Vec<Rule<'s>>, Stop>
-    ensures { MatchResult result (λ rs. view_rules rs.items ≡ S.rules (view_rules rules.entry.items) (view_rule rule.entry.value)) (λ e. e ≡ Stop.Memory) }
+fn with_rule(rules: Vec<Rule>, rule: Box<Rule>) -> Result<Vec<Rule>, Stop>
+    ensures { MatchResult result (λ rs. (read : Leaf → Token) → view_rules read rs.items ≡ S.rules (view_rules read rules.items) (view_rule read rule.value)) (λ e. e ≡ Stop.Memory) }
 {
     let mut rules = rules;
     match pushed(&mut rules, Box::into_inner(rule)) {
@@ -193,14 +186,14 @@ fn with_rule<'s>(rules: Vec<Rule<'s>>, rule: Box<Rule<'s>>) -> Result<Vec<Rule<'
 
 /// The state after a token of a rule's body.
 #[tactic(none)]
-fn after_body<'s>(
+fn after_body(
     alloc: Global,
-    rules: Vec<Rule<'s>>,
-    frames: Vec<Frame<'s>>,
-    next: Result<Next<'s>, Stop>,
-    token: &'s Token<'s>,
-) -> Result<Box<State<'s>>, Stop>
-    ensures { (m : M.State) → Gives token.now (view_rules rules.entry.items) (below (view_rules rules.entry.items) frames.entry.items) next.entry m → GivesState token.now result m }
+    rules: Vec<Rule>,
+    frames: Vec<Frame>,
+    next: Result<Next, Stop>,
+    token: Current,
+) -> Result<Box<State>, Stop>
+    ensures { (read : Leaf → Token) (m : M.State) → Gives read token (view_rules read rules.items) (below read (view_rules read rules.items) frames.items) next m → GivesState read token.start result m }
 {
     match next {
         Ok(next) => match next {
@@ -223,14 +216,14 @@ fn after_body<'s>(
 
 /// A token within a rule's body.
 #[tactic(none)]
-fn in_body<'s>(
+fn in_body(
     alloc: Global,
-    rules: Vec<Rule<'s>>,
-    frames: Vec<Frame<'s>>,
-    now: Box<Now<'s>>,
-    token: &'s Token<'s>,
-) -> Result<Box<State<'s>>, Stop>
-    ensures { on (view_now (below (view_rules rules.entry.items) frames.entry.items) now.entry.value) (λ m. GivesState token.now result (M.step m token.now.kind token.now)) }
+    rules: Vec<Rule>,
+    frames: Vec<Frame>,
+    now: Box<Now>,
+    token: Current,
+) -> Result<Box<State>, Stop>
+    ensures { (read : Leaf → Token) → on (view_now read (below read (view_rules read rules.items) frames.items) now.value) (λ m. GivesState read token.start result (M.step m token.kind (read token.leaf))) }
 {
     let mut frames = frames;
     let next = step_body(alloc, &mut frames, now, token);
@@ -239,17 +232,17 @@ fn in_body<'s>(
 
 /// A token where a parameter is awaited.
 #[tactic(none)]
-fn parameter<'s>(
+fn parameter(
     alloc: Global,
-    rules: Vec<Rule<'s>>,
-    opening: &'s Token<'s>,
-    before: Option<Parameters<'s>>,
-    token: &'s Token<'s>,
-) -> Result<Box<State<'s>>, Stop>
-    ensures { GivesState token.now result (M.step (M.awaits_parm (view_rules rules.entry.items) opening.now (view_parameters before.entry)) token.now.kind token.now) }
+    rules: Vec<Rule>,
+    opening: Leaf,
+    before: Option<Parameters>,
+    token: Current,
+) -> Result<Box<State>, Stop>
+    ensures { (read : Leaf → Token) → GivesState read token.start result (M.step (M.awaits_parm (view_rules read rules.items) (read opening) (view_parameters read before)) token.kind (read token.leaf)) }
 {
     match token.kind {
-        Kind::Name => match parm_of(alloc, before, token) {
+        Kind::Name => match parm_of(alloc, before, token.leaf) {
             Ok(parameters) => placed(alloc, State::HaveParm(rules, opening, parameters)),
             Err(_) => {
                 drop(rules);
@@ -266,12 +259,8 @@ fn parameter<'s>(
 
 /// The state after a token.
 #[tactic(none)]
-pub(crate) fn step<'s>(
-    alloc: Global,
-    state: Box<State<'s>>,
-    token: &'s Token<'s>,
-) -> Result<Box<State<'s>>, Stop>
-    ensures { on (view_state state.entry.value) (λ m. GivesState token.now result (M.step m token.now.kind token.now)) }
+pub(crate) fn step(alloc: Global, state: Box<State>, token: Current) -> Result<Box<State>, Stop>
+    ensures { (read : Leaf → Token) → on (view_state read state.value) (λ m. GivesState read token.start result (M.step m token.kind (read token.leaf))) }
 {
     match Box::into_inner(state) {
         State::Begin => next_rule(alloc, Vec::new(alloc), token),
@@ -283,8 +272,8 @@ pub(crate) fn step<'s>(
         }
         State::WantAssign(rules, name) => assigned(alloc, rules, name, token),
         State::Body(rules, frames, now) => in_body(alloc, rules, frames, now, token),
-        State::Done(tree) => {
-            drop(tree);
+        State::Done(rules, _) => {
+            drop(rules);
             Err(unexpected(token))
         }
     }

@@ -5,6 +5,7 @@ use Rattle.cddl_tree.specs.declared.tree.Types.{Types}
 use Rattle.cddl_tree.specs.declared.tree.GenericArg.{GenericArg}
 use Rattle.cddl_tree.specs.declared.tree.GenericParm.{GenericParm}
 use Rattle.cddl_tree.specs.declared.tree.Parameter.{Parameter}
+use Rattle.cddl_tree.specs.declared.tree.Leaf.{Leaf}
 use Rattle.cddl_tree.specs.declared.tree.GrpEnt.TheViews.{out-Types, out-GenericArg}
 use Rattle.cddl_token.specs.declared.Kind.TheVariants.{Cut, Arrow}
 use Rattle.cddl_syntax.specs.Syntax as S
@@ -23,18 +24,18 @@ with_arguments_start : (t : S.GenericArg) (xs : List (Token × S.Type1)) (n : �
 with_arguments_start t [] n h = h
 with_arguments_start t (x ∷ xs) n h = with_arguments_start (S.arguments t x.0 x.1) xs n (starts_append (S.flat_arg t) _ n h)
 
-with_parameters_start : (t : S.GenericParm) (xs : List Parameter) (n : ℕ) → StartsAt (S.flat_parm t) n → StartsAt (S.flat_parm (with_parameters t xs)) n
-with_parameters_start t [] n h = h
-with_parameters_start t (x ∷ xs) n h = with_parameters_start (S.parameters t x.comma.now x.name.now) xs n (starts_append (S.flat_parm t) _ n h)
+with_parameters_start : (read : Leaf → Token) (t : S.GenericParm) (xs : List Parameter) (n : ℕ) → StartsAt (S.flat_parm t) n → StartsAt (S.flat_parm (with_parameters read t xs)) n
+with_parameters_start read t [] n h = h
+with_parameters_start read t (x ∷ xs) n h = with_parameters_start read (S.parameters t (read x.comma) (read x.name)) xs n (starts_append (S.flat_parm t) _ n h)
 
-pub types_start : (t : Types) (n : ℕ) → StartsAt (S.flat_type1 (view_type1 (out-Types t).first)) n → StartsAt (S.flat_types (view_types t)) n
-types_start t n h = subst (λ (x : S.Types). StartsAt (S.flat_types x) n) (sym (view_out-Types t)) (with_types_start (S.only (view_type1 (out-Types t).first)) (map view_further (out-Types t).others.items) n h)
+pub types_start : (read : Leaf → Token) (t : Types) (n : ℕ) → StartsAt (S.flat_type1 (view_type1 read (out-Types t).first)) n → StartsAt (S.flat_types (view_types read t)) n
+types_start read t n h = subst (λ (x : S.Types). StartsAt (S.flat_types x) n) (sym (view_out-Types read t)) (with_types_start (S.only (view_type1 read (out-Types t).first)) (map (view_further read) (out-Types t).others.items) n h)
 
-pub arg_start : (t : GenericArg) (n : ℕ) → StartsAt (S.flat_type1 (view_type1 (out-GenericArg t).first)) n → StartsAt (S.flat_arg (view_arg t)) n
-arg_start t n h = subst (λ (x : S.GenericArg). StartsAt (S.flat_arg x) n) (sym (view_out-GenericArg t)) (with_arguments_start (S.argument (view_type1 (out-GenericArg t).first)) (map view_further (out-GenericArg t).others.items) n h)
+pub arg_start : (read : Leaf → Token) (t : GenericArg) (n : ℕ) → StartsAt (S.flat_type1 (view_type1 read (out-GenericArg t).first)) n → StartsAt (S.flat_arg (view_arg read t)) n
+arg_start read t n h = subst (λ (x : S.GenericArg). StartsAt (S.flat_arg x) n) (sym (view_out-GenericArg read t)) (with_arguments_start (S.argument (view_type1 read (out-GenericArg t).first)) (map (view_further read) (out-GenericArg t).others.items) n h)
 
-pub parm_start : (p : GenericParm) (n : ℕ) → n ≡ p.first.now.start → StartsAt (S.flat_parm (view_parm p)) n
-parm_start p n h = with_parameters_start (S.parameter p.first.now) p.others.items n h
+pub parm_start : (read : Leaf → Token) (p : GenericParm) (n : ℕ) → n ≡ (read p.first).start → StartsAt (S.flat_parm (view_parm read p)) n
+parm_start read p n h = with_parameters_start read (S.parameter (read p.first)) p.others.items n h
 
 pub operation_start : (x : S.Type2) (o : S.Operator) (y : S.Type2) (n : ℕ) → StartsAt (S.flat_type2 x) n → StartsAt (S.flat_type1 (S.operation x o y)) n
 operation_start x o y n h = starts_append (S.flat_type2 x) (S.flat_operator o ∷ S.flat_type2 y) n h

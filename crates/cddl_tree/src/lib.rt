@@ -7,6 +7,6 @@ mod start;
 mod tree;
 
 pub use crate::tree::{
-    AssignG, AssignT, Entry, Further, GenericArg, GenericParm, Group, GrpChoice, GrpEnt, MemberKey,
-    Operator, Parameter, Ref, Rule, RuleName, Tree, Type1, Type2, Types, Value, discard,
+    AssignG, AssignT, Entry, Further, GenericArg, GenericParm, Group, GrpChoice, GrpEnt, Leaf,
+    MemberKey, Operator, Parameter, Ref, Rule, RuleName, Tree, Type1, Type2, Types, Value, discard,
 };

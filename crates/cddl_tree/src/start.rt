@@ -1,197 +1,205 @@
 //! Where a node's first token begins.
 ghost use Rattle.std.specs.Prelude.{◌≡◌, [], ◌∷◌};
 ghost use Rattle.cddl_syntax.specs.Syntax as S;
-ghost use Rattle.cddl_tree.specs.View.{view_value, view_operator, view_types, view_type1, view_type2, view_ref, view_arg, view_grpent, view_key, view_parm, view_name, view_assignt, view_assigng, view_rule, StartsAt};
+ghost use Rattle.cddl_tree.specs.View.{view_value, view_operator, view_types, view_type1, view_type2, view_ref, view_arg, view_grpent, view_key, view_parm, view_name, view_assignt, view_assigng, view_rule, token_of, StartsAt};
 
 use crate::tree::{
-    AssignG, AssignT, GenericArg, GenericParm, GrpEnt, MemberKey, Operator, Ref, Rule, RuleName,
-    Type1, Type2, Types, Value,
+    AssignG, AssignT, GenericArg, GenericParm, GrpEnt, Leaf, MemberKey, Operator, Ref, Rule,
+    RuleName, Tree, Type1, Type2, Types, Value,
 };
 
-impl Value<'_> {
+impl Tree<'_> {
+    /// The offset of a leaf's token.
+    fn start_of(&self, leaf: Leaf) -> usize
+        ensures { result ≡ (token_of self.now leaf).start }
+    {
+        self.token(leaf).start
+    }
+}
+
+impl Value {
     /// The offset of its token.
-    pub fn start(&self) -> usize
-        ensures { StartsAt (S.flat_value (view_value self.now) ∷ []) result }
+    pub fn start(&self, tree: &Tree<'_>) -> usize
+        ensures { StartsAt (S.flat_value (view_value (token_of tree.now) self.now) ∷ []) result }
     {
         match self {
-            Value::Number(token) => token.start,
-            Value::Text(token) => token.start,
-            Value::Bytes(token) => token.start,
+            Value::Number(token) => tree.start_of(*token),
+            Value::Text(token) => tree.start_of(*token),
+            Value::Bytes(token) => tree.start_of(*token),
         }
     }
 }
 
-impl Operator<'_> {
+impl Operator {
     /// The offset of its token.
-    pub fn start(&self) -> usize
-        ensures { StartsAt (S.flat_operator (view_operator self.now) ∷ []) result }
+    pub fn start(&self, tree: &Tree<'_>) -> usize
+        ensures { StartsAt (S.flat_operator (view_operator (token_of tree.now) self.now) ∷ []) result }
     {
         match self {
-            Operator::Range(token) => token.start,
-            Operator::RangeBelow(token) => token.start,
-            Operator::Control(token) => token.start,
+            Operator::Range(token) => tree.start_of(*token),
+            Operator::RangeBelow(token) => tree.start_of(*token),
+            Operator::Control(token) => tree.start_of(*token),
         }
     }
 }
 
-impl Types<'_> {
+impl Types {
     /// The offset of its first token.
     #[tactic(auto, using(crate::proofs::Starting::types_start))]
-    pub fn start(&self) -> usize
-        ensures { StartsAt (S.flat_types (view_types self.now)) result }
+    pub fn start(&self, tree: &Tree<'_>) -> usize
+        ensures { StartsAt (S.flat_types (view_types (token_of tree.now) self.now)) result }
     {
         let Types { first, .. } = self;
-        first.start()
+        first.start(tree)
     }
 }
 
-impl Type1<'_> {
+impl Type1 {
     /// The offset of its first token.
-    pub fn start(&self) -> usize
-        ensures { StartsAt (S.flat_type1 (view_type1 self.now)) result }
+    pub fn start(&self, tree: &Tree<'_>) -> usize
+        ensures { StartsAt (S.flat_type1 (view_type1 (token_of tree.now) self.now)) result }
     {
         match self {
-            Type1::One(operand) => operand.start(),
-            Type1::Operation { left, .. } => left.start(),
+            Type1::One(operand) => operand.start(tree),
+            Type1::Operation { left, .. } => left.start(tree),
         }
     }
 }
 
-impl Type2<'_> {
+impl Type2 {
     /// The offset of its first token.
-    pub fn start(&self) -> usize
-        ensures { StartsAt (S.flat_type2 (view_type2 self.now)) result }
+    pub fn start(&self, tree: &Tree<'_>) -> usize
+        ensures { StartsAt (S.flat_type2 (view_type2 (token_of tree.now) self.now)) result }
     {
         match self {
-            Type2::Literal(value) => value.start(),
-            Type2::Typename(name) => name.start(),
-            Type2::Parens { opening, .. } => opening.start,
-            Type2::MapOf { opening, .. } => opening.start,
-            Type2::ArrayOf { opening, .. } => opening.start,
-            Type2::Unwrapped { tilde, .. } => tilde.start,
-            Type2::ChoiceOf { ampersand, .. } => ampersand.start,
-            Type2::ChoiceOfName { ampersand, .. } => ampersand.start,
-            Type2::Tagged { opening, .. } => opening.start,
-            Type2::TaggedBy { opening, .. } => opening.start,
-            Type2::SimpleBy { opening, .. } => opening.start,
-            Type2::Hash(token) => token.start,
+            Type2::Literal(value) => value.start(tree),
+            Type2::Typename(name) => name.start(tree),
+            Type2::Parens { opening, .. } => tree.start_of(*opening),
+            Type2::MapOf { opening, .. } => tree.start_of(*opening),
+            Type2::ArrayOf { opening, .. } => tree.start_of(*opening),
+            Type2::Unwrapped { tilde, .. } => tree.start_of(*tilde),
+            Type2::ChoiceOf { ampersand, .. } => tree.start_of(*ampersand),
+            Type2::ChoiceOfName { ampersand, .. } => tree.start_of(*ampersand),
+            Type2::Tagged { opening, .. } => tree.start_of(*opening),
+            Type2::TaggedBy { opening, .. } => tree.start_of(*opening),
+            Type2::SimpleBy { opening, .. } => tree.start_of(*opening),
+            Type2::Hash(token) => tree.start_of(*token),
         }
     }
 }
 
-impl Ref<'_> {
+impl Ref {
     /// The offset of its first token.
-    pub fn start(&self) -> usize
-        ensures { StartsAt (S.flat_ref (view_ref self.now)) result }
+    pub fn start(&self, tree: &Tree<'_>) -> usize
+        ensures { StartsAt (S.flat_ref (view_ref (token_of tree.now) self.now)) result }
     {
         match self {
-            Ref::Name(token) => token.start,
-            Ref::Applied { opening, .. } => opening.start,
+            Ref::Name(token) => tree.start_of(*token),
+            Ref::Applied { opening, .. } => tree.start_of(*opening),
         }
     }
 }
 
-impl GenericArg<'_> {
+impl GenericArg {
     /// The offset of its first token.
     #[tactic(auto, using(crate::proofs::Starting::arg_start))]
-    pub fn start(&self) -> usize
-        ensures { StartsAt (S.flat_arg (view_arg self.now)) result }
+    pub fn start(&self, tree: &Tree<'_>) -> usize
+        ensures { StartsAt (S.flat_arg (view_arg (token_of tree.now) self.now)) result }
     {
         let GenericArg { first, .. } = self;
-        first.start()
+        first.start(tree)
     }
 }
 
-impl GrpEnt<'_> {
+impl GrpEnt {
     /// The offset of its first token: that of the occur, where it has one.
-    pub fn start(&self) -> usize
-        ensures { StartsAt (S.flat_entry (view_grpent self.now)) result }
+    pub fn start(&self, tree: &Tree<'_>) -> usize
+        ensures { StartsAt (S.flat_entry (view_grpent (token_of tree.now) self.now)) result }
     {
         match self {
             GrpEnt::Typed { occur, types } => match occur {
-                Some(token) => token.start,
-                None => types.start(),
+                Some(token) => tree.start_of(*token),
+                None => types.start(tree),
             },
             GrpEnt::Keyed { occur, key, .. } => match occur {
-                Some(token) => token.start,
-                None => key.start(),
+                Some(token) => tree.start_of(*token),
+                None => key.start(tree),
             },
             GrpEnt::Grouped { occur, opening, .. } => match occur {
-                Some(token) => token.start,
-                None => opening.start,
+                Some(token) => tree.start_of(*token),
+                None => tree.start_of(*opening),
             },
         }
     }
 }
 
-impl MemberKey<'_> {
+impl MemberKey {
     /// The offset of its first token.
-    pub fn start(&self) -> usize
-        ensures { StartsAt (S.flat_key (view_key self.now)) result }
+    pub fn start(&self, tree: &Tree<'_>) -> usize
+        ensures { StartsAt (S.flat_key (view_key (token_of tree.now) self.now)) result }
     {
         match self {
-            MemberKey::TypeKey { type1, .. } => type1.start(),
-            MemberKey::Bareword { name, .. } => name.start,
-            MemberKey::ValueKey { value, .. } => value.start(),
+            MemberKey::TypeKey { type1, .. } => type1.start(tree),
+            MemberKey::Bareword { name, .. } => tree.start_of(*name),
+            MemberKey::ValueKey { value, .. } => value.start(tree),
         }
     }
 }
 
-impl GenericParm<'_> {
+impl GenericParm {
     /// The offset of its first token.
-    #[tactic(auto, using(crate::proofs::Starting::parm_start))]
-    pub fn start(&self) -> usize
-        ensures { StartsAt (S.flat_parm (view_parm self.now)) result }
+    pub fn start(&self, tree: &Tree<'_>) -> usize
+        ensures { StartsAt (S.flat_parm (view_parm (token_of tree.now) self.now)) result }
     {
         let GenericParm { first, .. } = self;
-        first.start
+        tree.start_of(*first)
     }
 }
 
-impl RuleName<'_> {
+impl RuleName {
     /// The offset of its first token.
-    pub fn start(&self) -> usize
-        ensures { StartsAt (S.flat_name (view_name self.now)) result }
+    pub fn start(&self, tree: &Tree<'_>) -> usize
+        ensures { StartsAt (S.flat_name (view_name (token_of tree.now) self.now)) result }
     {
         match self {
-            RuleName::Plain(token) => token.start,
-            RuleName::Generic { opening, .. } => opening.start,
+            RuleName::Plain(token) => tree.start_of(*token),
+            RuleName::Generic { opening, .. } => tree.start_of(*opening),
         }
     }
 }
 
-impl AssignT<'_> {
+impl AssignT {
     /// The offset of its token.
-    pub fn start(&self) -> usize
-        ensures { StartsAt (S.flat_assignt (view_assignt self.now) ∷ []) result }
+    pub fn start(&self, tree: &Tree<'_>) -> usize
+        ensures { StartsAt (S.flat_assignt (view_assignt (token_of tree.now) self.now) ∷ []) result }
     {
         match self {
-            AssignT::TypeIs(token) => token.start,
-            AssignT::TypeOr(token) => token.start,
+            AssignT::TypeIs(token) => tree.start_of(*token),
+            AssignT::TypeOr(token) => tree.start_of(*token),
         }
     }
 }
 
-impl AssignG<'_> {
+impl AssignG {
     /// The offset of its token.
-    pub fn start(&self) -> usize
-        ensures { StartsAt (S.flat_assigng (view_assigng self.now) ∷ []) result }
+    pub fn start(&self, tree: &Tree<'_>) -> usize
+        ensures { StartsAt (S.flat_assigng (view_assigng (token_of tree.now) self.now) ∷ []) result }
     {
         match self {
-            AssignG::GroupIs(token) => token.start,
-            AssignG::GroupOr(token) => token.start,
+            AssignG::GroupIs(token) => tree.start_of(*token),
+            AssignG::GroupOr(token) => tree.start_of(*token),
         }
     }
 }
 
-impl Rule<'_> {
+impl Rule {
     /// The offset of its first token: that of its name.
-    pub fn start(&self) -> usize
-        ensures { StartsAt (S.flat_rule (view_rule self.now)) result }
+    pub fn start(&self, tree: &Tree<'_>) -> usize
+        ensures { StartsAt (S.flat_rule (view_rule (token_of tree.now) self.now)) result }
     {
         match self {
-            Rule::TypeRule { name, .. } => name.start(),
-            Rule::GroupRule { name, .. } => name.start(),
+            Rule::TypeRule { name, .. } => name.start(tree),
+            Rule::GroupRule { name, .. } => name.start(tree),
         }
     }
 }

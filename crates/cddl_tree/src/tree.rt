@@ -1,274 +1,294 @@
+ghost use Rattle.std.specs.Prelude.{◌≡◌};
+ghost use Rattle.cddl_tree.specs.View.{token_of};
+
 use cddl_token::Token;
+
+/// A leaf: the place of its token in the tree's list of tokens.
+#[derive(Clone, Copy)]
+pub struct Leaf {
+    pub index: u32,
+}
 
 /// value: a literal.
 #[derive(Clone, Copy)]
-pub enum Value<'s> {
-    Number(&'s Token<'s>),
-    Text(&'s Token<'s>),
-    Bytes(&'s Token<'s>),
+pub enum Value {
+    Number(Leaf),
+    Text(Leaf),
+    Bytes(Leaf),
 }
 
 /// rangeop or ctlop: what is between two operands.
 #[derive(Clone, Copy)]
-pub enum Operator<'s> {
+pub enum Operator {
     /// `..`, with both ends.
-    Range(&'s Token<'s>),
+    Range(Leaf),
     /// `...`, without the upper end.
-    RangeBelow(&'s Token<'s>),
+    RangeBelow(Leaf),
     /// A control, as `.size`.
-    Control(&'s Token<'s>),
+    Control(Leaf),
 }
 
 /// type: a choice of one type1 or more.
 #[cycle(tree)]
 #[derive(Drop)]
-pub struct Types<'s> {
-    pub first: Type1<'s>,
+pub struct Types {
+    pub first: Type1,
     /// The others, each after its `/`.
-    pub others: Vec<Further<'s>>,
+    pub others: Vec<Further>,
 }
 
 /// A further type1 and the sign before it.
 #[cycle(tree)]
 #[derive(Drop)]
-pub struct Further<'s> {
+pub struct Further {
     /// `/` in a type, `,` in a genericarg.
-    pub sign: &'s Token<'s>,
-    pub type1: Type1<'s>,
+    pub sign: Leaf,
+    pub type1: Type1,
 }
 
 /// type1: an operand, or two and what is between them.
 #[cycle(tree)]
 #[derive(Drop)]
-pub enum Type1<'s> {
-    One(Box<Type2<'s>>),
+pub enum Type1 {
+    One(Box<Type2>),
     Operation {
-        left: Box<Type2<'s>>,
-        operator: Operator<'s>,
-        right: Box<Type2<'s>>,
+        left: Box<Type2>,
+        operator: Operator,
+        right: Box<Type2>,
     },
 }
 
 /// type2: an operand.
 #[cycle(tree)]
 #[derive(Drop)]
-pub enum Type2<'s> {
-    Literal(Value<'s>),
+pub enum Type2 {
+    Literal(Value),
     /// A typename; in an entry perhaps a groupname.
-    Typename(Ref<'s>),
+    Typename(Ref),
     /// `( type )`
     Parens {
-        opening: &'s Token<'s>,
-        types: Box<Types<'s>>,
-        closing: &'s Token<'s>,
+        opening: Leaf,
+        types: Box<Types>,
+        closing: Leaf,
     },
     /// `{ group }`
     MapOf {
-        opening: &'s Token<'s>,
-        group: Group<'s>,
-        closing: &'s Token<'s>,
+        opening: Leaf,
+        group: Group,
+        closing: Leaf,
     },
     /// `[ group ]`
     ArrayOf {
-        opening: &'s Token<'s>,
-        group: Group<'s>,
-        closing: &'s Token<'s>,
+        opening: Leaf,
+        group: Group,
+        closing: Leaf,
     },
     /// `~ name`
     Unwrapped {
-        tilde: &'s Token<'s>,
-        name: Ref<'s>,
+        tilde: Leaf,
+        name: Ref,
     },
     /// `& ( group )`
     ChoiceOf {
-        ampersand: &'s Token<'s>,
-        opening: &'s Token<'s>,
-        group: Group<'s>,
-        closing: &'s Token<'s>,
+        ampersand: Leaf,
+        opening: Leaf,
+        group: Group,
+        closing: Leaf,
     },
     /// `& name`
     ChoiceOfName {
-        ampersand: &'s Token<'s>,
-        name: Ref<'s>,
+        ampersand: Leaf,
+        name: Ref,
     },
     /// `#6.n( type )`
     Tagged {
-        opening: &'s Token<'s>,
-        types: Box<Types<'s>>,
-        closing: &'s Token<'s>,
+        opening: Leaf,
+        types: Box<Types>,
+        closing: Leaf,
     },
     /// `#6.< type > ( type )`
     TaggedBy {
-        opening: &'s Token<'s>,
-        head: Box<Types<'s>>,
-        angle: &'s Token<'s>,
-        paren: &'s Token<'s>,
-        types: Box<Types<'s>>,
-        closing: &'s Token<'s>,
+        opening: Leaf,
+        head: Box<Types>,
+        angle: Leaf,
+        paren: Leaf,
+        types: Box<Types>,
+        closing: Leaf,
     },
     /// `#7.< type >`
     SimpleBy {
-        opening: &'s Token<'s>,
-        head: Box<Types<'s>>,
-        closing: &'s Token<'s>,
+        opening: Leaf,
+        head: Box<Types>,
+        closing: Leaf,
     },
     /// `#`, `#d` or `#d.n`
-    Hash(&'s Token<'s>),
+    Hash(Leaf),
 }
 
 /// A typename or groupname that is used, with its genericarg if it has one.
 #[cycle(tree)]
 #[derive(Drop)]
-pub enum Ref<'s> {
-    Name(&'s Token<'s>),
+pub enum Ref {
+    Name(Leaf),
     Applied {
-        opening: &'s Token<'s>,
-        arguments: Box<GenericArg<'s>>,
-        closing: &'s Token<'s>,
+        opening: Leaf,
+        arguments: Box<GenericArg>,
+        closing: Leaf,
     },
 }
 
 /// genericarg, between its angles: one type1 or more.
 #[cycle(tree)]
 #[derive(Drop)]
-pub struct GenericArg<'s> {
-    pub first: Type1<'s>,
+pub struct GenericArg {
+    pub first: Type1,
     /// The others, each after its `,`.
-    pub others: Vec<Further<'s>>,
+    pub others: Vec<Further>,
 }
 
 /// group: a choice of one grpchoice or more, of which any may be empty.
 #[cycle(tree)]
 #[derive(Drop)]
-pub struct Group<'s> {
-    pub first: Vec<Entry<'s>>,
-    pub others: Vec<GrpChoice<'s>>,
+pub struct Group {
+    pub first: Vec<Entry>,
+    pub others: Vec<GrpChoice>,
 }
 
 /// A further grpchoice, after its `//`.
 #[cycle(tree)]
 #[derive(Drop)]
-pub struct GrpChoice<'s> {
-    pub slashes: &'s Token<'s>,
-    pub entries: Vec<Entry<'s>>,
+pub struct GrpChoice {
+    pub slashes: Leaf,
+    pub entries: Vec<Entry>,
 }
 
 /// A grpent and its optcom.
 #[cycle(tree)]
 #[derive(Drop)]
-pub struct Entry<'s> {
-    pub grpent: GrpEnt<'s>,
-    pub comma: Option<&'s Token<'s>>,
+pub struct Entry {
+    pub grpent: GrpEnt,
+    pub comma: Option<Leaf>,
 }
 
 /// grpent
 #[cycle(tree)]
 #[derive(Drop)]
-pub enum GrpEnt<'s> {
+pub enum GrpEnt {
     /// A type; or a reference to a group.
     Typed {
-        occur: Option<&'s Token<'s>>,
-        types: Types<'s>,
+        occur: Option<Leaf>,
+        types: Types,
     },
     Keyed {
-        occur: Option<&'s Token<'s>>,
-        key: Box<MemberKey<'s>>,
-        types: Types<'s>,
+        occur: Option<Leaf>,
+        key: Box<MemberKey>,
+        types: Types,
     },
     /// `( group )` that is no type in parentheses.
     Grouped {
-        occur: Option<&'s Token<'s>>,
-        opening: &'s Token<'s>,
-        group: Group<'s>,
-        closing: &'s Token<'s>,
+        occur: Option<Leaf>,
+        opening: Leaf,
+        group: Group,
+        closing: Leaf,
     },
 }
 
 /// memberkey
 #[cycle(tree)]
 #[derive(Drop)]
-pub enum MemberKey<'s> {
+pub enum MemberKey {
     /// `type1 =>` or `type1 ^ =>`
     TypeKey {
-        type1: Type1<'s>,
-        cut: Option<&'s Token<'s>>,
-        arrow: &'s Token<'s>,
+        type1: Type1,
+        cut: Option<Leaf>,
+        arrow: Leaf,
     },
     /// `bareword :`
     Bareword {
-        name: &'s Token<'s>,
-        colon: &'s Token<'s>,
+        name: Leaf,
+        colon: Leaf,
     },
     /// `value :`
     ValueKey {
-        value: Value<'s>,
-        colon: &'s Token<'s>,
+        value: Value,
+        colon: Leaf,
     },
 }
 
 /// genericparm, between its angles: one name or more.
 #[derive(Drop)]
-pub struct GenericParm<'s> {
-    pub first: &'s Token<'s>,
-    pub others: Vec<Parameter<'s>>,
+pub struct GenericParm {
+    pub first: Leaf,
+    pub others: Vec<Parameter>,
 }
 
 /// A further parameter, after its `,`.
 #[derive(Clone, Copy)]
-pub struct Parameter<'s> {
-    pub comma: &'s Token<'s>,
-    pub name: &'s Token<'s>,
+pub struct Parameter {
+    pub comma: Leaf,
+    pub name: Leaf,
 }
 
 /// A typename or groupname that is defined, with its genericparm if it has one.
 #[derive(Drop)]
-pub enum RuleName<'s> {
-    Plain(&'s Token<'s>),
+pub enum RuleName {
+    Plain(Leaf),
     Generic {
-        opening: &'s Token<'s>,
-        parameters: GenericParm<'s>,
-        closing: &'s Token<'s>,
+        opening: Leaf,
+        parameters: GenericParm,
+        closing: Leaf,
     },
 }
 
 /// assignt: what makes a type rule.
 #[derive(Clone, Copy)]
-pub enum AssignT<'s> {
+pub enum AssignT {
     /// `=`
-    TypeIs(&'s Token<'s>),
+    TypeIs(Leaf),
     /// `/=`
-    TypeOr(&'s Token<'s>),
+    TypeOr(Leaf),
 }
 
 /// assigng: what makes a group rule.
 #[derive(Clone, Copy)]
-pub enum AssignG<'s> {
+pub enum AssignG {
     /// `=`
-    GroupIs(&'s Token<'s>),
+    GroupIs(Leaf),
     /// `//=`
-    GroupOr(&'s Token<'s>),
+    GroupOr(Leaf),
 }
 
 /// rule
 #[derive(Drop)]
-pub enum Rule<'s> {
+pub enum Rule {
     TypeRule {
-        name: RuleName<'s>,
-        assign: AssignT<'s>,
-        types: Types<'s>,
+        name: RuleName,
+        assign: AssignT,
+        types: Types,
     },
     GroupRule {
-        name: RuleName<'s>,
-        assign: AssignG<'s>,
-        grpent: GrpEnt<'s>,
+        name: RuleName,
+        assign: AssignG,
+        grpent: GrpEnt,
     },
 }
 
-/// cddl: the rules of a specification, and the end of its source.
+/// cddl: the rules of a specification, and the tokens of its source.
 #[derive(Drop)]
 pub struct Tree<'s> {
-    pub rules: Vec<Rule<'s>>,
+    pub tokens: &'s [Token<'s>],
+    pub rules: Vec<Rule>,
+    /// The last token, which is the end of the source.
     pub end: &'s Token<'s>,
+}
+
+impl<'s> Tree<'s> {
+    /// The token of a leaf; the end, where the leaf is of no token of this tree.
+    pub fn token(&self, leaf: Leaf) -> &'s Token<'s>
+        ensures { result.now ≡ token_of self.now leaf }
+    {
+        self.tokens.get(leaf.index as usize).unwrap_or(self.end)
+    }
 }
 
 /// Lets go of a tree. It goes down one level of the program's stack for each bracket that is open,

@@ -6,4 +6,4 @@ use Rattle.cddl_parse.proofs.body.after_group.Goals as goal
 use Rattle.cddl_parse.specs.Frames.{on, as_entry, below, Gives}
 
 pub returns : goal.returns
-returns c rs = subst (λ (x : GrpEnt). on (as_entry (below rs c.args.frames.now.items)) (λ p. Gives c.args.token.now rs (below rs c.after_entry.new.frames.items) c.after_entry.result (M.after_entry p (view_grpent x) c.args.token.now.kind c.args.token.now))) c.into_inner.ensures (c.after_entry.ensures rs)
+returns c read rs = subst (λ (x : GrpEnt). on (as_entry (below read rs c.args.frames.now.items)) (λ p. Gives read c.args.token rs (below read rs c.after_entry.new.frames.items) c.after_entry.result (M.after_entry p (view_grpent read x) c.args.token.kind (read c.args.token.leaf)))) c.into_inner.ensures (c.after_entry.ensures read rs)

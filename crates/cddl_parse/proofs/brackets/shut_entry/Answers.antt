@@ -10,16 +10,16 @@ use Rattle.cddl_parse.proofs.Elsewhere.{content_type, content_group, paren_got, 
 use Rattle.cddl_parse.proofs.brackets.shut_entry.Goals as goal
 
 pub returns-in-Ok-type_at : goal.returns-in-Ok-type_at
-returns-in-Ok-type_at c rs b = paren_got (as_entry b) _ _ _ c.args.token.now _ _ _ (λ (m : M.State). Gives c.args.token.now rs b c.got.result m) (c.in-Ok-type_at.ensures b) (content_type _ _ _ c.in-Type.is c.in-Ok.ensures) (view-Parens _ _ _ ∙ ap (λ (x : Types). S.parens c.args.opening.now (view_types x) c.args.token.now) c.in-Ok-boxed.ensures.ok) (c.got.ensures c.args.token.now rs b)
+returns-in-Ok-type_at c read rs b = paren_got (as_entry b) _ _ _ (read c.args.token.leaf) _ _ _ (λ (m : M.State). Gives read c.args.token rs b c.got.result m) (c.in-Ok-type_at.ensures read b) (content_type read _ _ _ c.in-Type.is (c.in-Ok.ensures read)) (view-Parens read _ _ _ ∙ ap (λ (x : Types). S.parens (read c.args.opening) (view_types read x) (read c.args.token.leaf)) c.in-Ok-boxed.ensures.ok) (c.got.ensures read c.args.token rs b)
 
 pub returns-in-Err : goal.returns-in-Err
-returns-in-Err c rs b = on_all (as_entry b) _ (λ p. tt)
+returns-in-Err c read rs b = on_all (as_entry b) _ (λ p. tt)
 
 pub returns-in-Err-type_at : goal.returns-in-Err-type_at
-returns-in-Err-type_at c rs b = on_all (as_entry b) _ (λ p. tt)
+returns-in-Err-type_at c read rs b = on_all (as_entry b) _ (λ p. tt)
 
 pub returns-in-Group : goal.returns-in-Group
-returns-in-Group c rs b = paren_have (as_entry b) _ _ c.args.token.now _ _ _ (λ (m : M.State). Gives c.args.token.now rs b c.have_group.result m) (view-Grouped _ _ _ _) (content_group _ _ _ c.in-Group.is c.in-Ok.ensures).0 (content_group _ _ _ c.in-Group.is c.in-Ok.ensures).1 (c.have_group.ensures c.args.token.now rs b)
+returns-in-Group c read rs b = paren_have (as_entry b) _ _ (read c.args.token.leaf) _ _ _ (λ (m : M.State). Gives read c.args.token rs b c.have_group.result m) (view-Grouped read _ _ _ _) (content_group read _ _ _ c.in-Group.is (c.in-Ok.ensures read)).0 (content_group read _ _ _ c.in-Group.is (c.in-Ok.ensures read)).1 (c.have_group.ensures read c.args.token rs b)
 
 pub returns-in-Err-boxed : goal.returns-in-Err-boxed
-returns-in-Err-boxed c rs b = on_all (as_entry b) _ (λ p. tt)
+returns-in-Err-boxed c read rs b = on_all (as_entry b) _ (λ p. tt)

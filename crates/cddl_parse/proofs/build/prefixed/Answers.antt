@@ -2,10 +2,10 @@ use Rattle.cddl_parse.proofs.Pushing.{views}
 use Rattle.cddl_parse.proofs.build.prefixed.Goals as goal
 
 pub returns-in-Bare : goal.returns-in-Bare
-returns-in-Bare c = simp (c.in-Bare.is, views)
+returns-in-Bare c read = simp (c.in-Bare.is, views)
 
 pub returns-in-Tilde : goal.returns-in-Tilde
-returns-in-Tilde c = simp (c.in-Tilde.is, views)
+returns-in-Tilde c read = simp (c.in-Tilde.is, views)
 
 pub returns-in-Ampersand : goal.returns-in-Ampersand
-returns-in-Ampersand c = simp (c.in-Ampersand.is, views)
+returns-in-Ampersand c read = simp (c.in-Ampersand.is, views)

@@ -8,7 +8,7 @@ use Rattle.cddl_parse.proofs.Contents.{along_key}
 use Rattle.cddl_parse.proofs.build.simple_key.Goals as goal
 
 pub returns-in-One : goal.returns-in-One
-returns-in-One c = along_key _ _ _ c.args.colon.now (ap view_type1 c.in-One.is ∙ view-One _ ∙ ap (λ (x : Type2). S.one (view_type2 x)) (sym c.into_inner.ensures)) c.operand_key.ensures
+returns-in-One c read = along_key read _ _ _ (read c.args.colon) (ap (view_type1 read) c.in-One.is ∙ view-One read _ ∙ ap (λ (x : Type2). S.one (view_type2 read x)) (sym c.into_inner.ensures)) (c.operand_key.ensures read)
 
 pub returns-in-Operation : goal.returns-in-Operation
-returns-in-Operation c p oc = simp (c.in-Operation.is, views)
+returns-in-Operation c read p oc = simp (c.in-Operation.is, views)

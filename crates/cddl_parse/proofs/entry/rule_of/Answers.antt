@@ -1,15 +1,16 @@
 use Rattle.std.proofs.Common.{◌∙◌, ap}
 use Rattle.cddl_syntax.specs.Machine as M
+use Rattle.cddl_syntax.specs.Syntax as S
 use Rattle.cddl_tree.specs.declared.tree.GrpEnt.{GrpEnt}
-use Rattle.cddl_tree.specs.View.{view_grpent, view_name, view_assigng}
+use Rattle.cddl_tree.specs.View.{view_grpent, view_name}
 use Rattle.cddl_parse.proofs.entry.rule_of.Goals as goal
 use Rattle.cddl_parse.proofs.Heads.{rule_typed, rule_grouped, rule_or}
 
 pub returns-in-GroupOr : goal.returns-in-GroupOr
-returns-in-GroupOr c = rw c.in-GroupOr.is (rule_or _ _ _)
+returns-in-GroupOr c read = rw c.in-GroupOr.is (rule_or _ _ _)
 
 pub returns-in-Ok : goal.returns-in-Ok
-returns-in-Ok c = rw c.in-GroupIs.is (rule_typed _ _ _ _ c.in-Ok.ensures.bare)
+returns-in-Ok c read = rw c.in-GroupIs.is (rule_typed _ _ _ _ (c.in-Ok.ensures.bare read))
 
 pub returns-in-Err : goal.returns-in-Err
-returns-in-Err c = rule_grouped (view_name c.args.name) (view_assigng c.args.assign) (view_grpent c.in-Err.grpent) c.in-Err.ensures.other.1 ∙ ap (λ (g : GrpEnt). M.rule_of (view_name c.args.name) (view_assigng c.args.assign) (view_grpent g)) c.in-Err.ensures.other.0
+returns-in-Err c read = rw c.in-GroupIs.is (rule_grouped (view_name read c.args.name) _ (view_grpent read c.in-Err.grpent) (c.in-Err.ensures.other.1 read) ∙ ap (λ (g : GrpEnt). M.rule_of (view_name read c.args.name) (S.group_is (read c.in-GroupIs.token)) (view_grpent read g)) c.in-Err.ensures.other.0)

@@ -6,10 +6,10 @@ use Rattle.cddl_parse.specs.Frames.{as_group, below, view_entries, Gives}
 use Rattle.cddl_parse.proofs.Ends.{slashes_opened, ends_shut}
 
 pub returns-in-DoubleSlash : goal.returns-in-DoubleSlash
-returns-in-DoubleSlash c rs = slashes_opened (as_group (below rs c.args.frames.now.items)) _ _ _ _ c.args.token.now.kind c.args.token.now (λ (m : M.State). Gives c.args.token.now rs (below rs c.open_member.new.frames.items) c.open_member.result m) c.in-DoubleSlash.is c.in-Ok.ensures (ap view_entries c.new.ensures.items) (c.open_member.ensures c.args.token.now rs)
+returns-in-DoubleSlash c read rs = slashes_opened (as_group (below read rs c.args.frames.now.items)) _ _ _ _ c.args.token.kind (read c.args.token.leaf) (λ (m : M.State). Gives read c.args.token rs (below read rs c.open_member.new.frames.items) c.open_member.result m) c.in-DoubleSlash.is (c.in-Ok.ensures read) (ap (view_entries read) c.new.ensures.items) (c.open_member.ensures read c.args.token rs)
 
 pub returns-in_default : goal.returns-in_default
-returns-in_default c rs = ends_shut (as_group (below rs c.args.frames.now.items)) _ _ _ c.args.token.now.kind c.args.token.now (λ (m : M.State). Gives c.args.token.now rs (below rs c.shut_group.new.frames.items) c.shut_group.result m) c.in_default.not-DoubleSlash c.in-Ok.ensures (c.shut_group.ensures rs)
+returns-in_default c read rs = ends_shut (as_group (below read rs c.args.frames.now.items)) _ _ _ c.args.token.kind (read c.args.token.leaf) (λ (m : M.State). Gives read c.args.token rs (below read rs c.shut_group.new.frames.items) c.shut_group.result m) c.in_default.not-DoubleSlash (c.in-Ok.ensures read) (c.shut_group.ensures read rs)
 
 pub returns-in-Err : goal.returns-in-Err
-returns-in-Err c rs = on_all (as_group (below rs c.args.frames.now.items)) _ (λ k. tt)
+returns-in-Err c read rs = on_all (as_group (below read rs c.args.frames.now.items)) _ (λ k. tt)

@@ -5,13 +5,13 @@ use Rattle.cddl_parse.proofs.Heads.{no_operator}
 use Rattle.cddl_parse.proofs.have.operator_of.Goals as goal
 
 pub returns-in-Range : goal.returns-in-Range
-returns-in-Range c k r = ap (λ (i : Kind). M.step_have k r i c.args.token.now) c.in-Range.is
+returns-in-Range c read k r = ap (λ (i : Kind). M.step_have k r i (read c.args.token.leaf)) c.in-Range.is
 
 pub returns-in-RangeBelow : goal.returns-in-RangeBelow
-returns-in-RangeBelow c k r = ap (λ (i : Kind). M.step_have k r i c.args.token.now) c.in-RangeBelow.is
+returns-in-RangeBelow c read k r = ap (λ (i : Kind). M.step_have k r i (read c.args.token.leaf)) c.in-RangeBelow.is
 
 pub returns-in-Control : goal.returns-in-Control
-returns-in-Control c k r = ap (λ (i : Kind). M.step_have k r i c.args.token.now) c.in-Control.is
+returns-in-Control c read k r = ap (λ (i : Kind). M.step_have k r i (read c.args.token.leaf)) c.in-Control.is
 
 pub returns-in_default : goal.returns-in_default
-returns-in_default c = no_operator c.args.token.now.kind c.in_default.not-Range c.in_default.not-RangeBelow c.in_default.not-Control
+returns-in_default c = no_operator c.args.token.kind c.in_default.not-Range c.in_default.not-RangeBelow c.in_default.not-Control

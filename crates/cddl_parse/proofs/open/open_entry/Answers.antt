@@ -7,7 +7,7 @@ use Rattle.cddl_parse.proofs.Elsewhere.{fresh}
 use Rattle.cddl_parse.proofs.open.open_entry.Goals as goal
 
 pub returns-in-Ok : goal.returns-in-Ok
-returns-in-Ok c t rs = entry_opened (as_entry (below rs c.args.frames.now.items)) _ _ _ (λ (m : M.State). Gives t rs (below rs c.open_member.new.frames.items) c.open_member.result m) (popped rs _ _ _ c.in-Ok.ensures.items) (fresh _ _ _ (λ (m : M.State). Gives t rs (below rs c.open_member.new.frames.items) c.open_member.result m) (ap view_entries c.new.ensures.items) (c.open_member.ensures t rs))
+returns-in-Ok c read t rs = entry_opened (as_entry (below read rs c.args.frames.now.items)) _ _ _ (λ (m : M.State). Gives read t rs (below read rs c.open_member.new.frames.items) c.open_member.result m) (popped read rs _ _ _ c.in-Ok.ensures.items) (fresh _ _ _ (λ (m : M.State). Gives read t rs (below read rs c.open_member.new.frames.items) c.open_member.result m) (ap (view_entries read) c.new.ensures.items) (c.open_member.ensures read t rs))
 
 pub returns-in-Err : goal.returns-in-Err
-returns-in-Err c t rs = on_all (as_entry (below rs c.args.frames.now.items)) _ (λ k. tt)
+returns-in-Err c read t rs = on_all (as_entry (below read rs c.args.frames.now.items)) _ (λ k. tt)

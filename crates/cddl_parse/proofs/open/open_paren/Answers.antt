@@ -5,7 +5,7 @@ use Rattle.cddl_parse.proofs.Elsewhere.{paren_elsewhere}
 use Rattle.cddl_parse.proofs.open.open_paren.Goals as goal
 
 pub returns-in-Some : goal.returns-in-Some
-returns-in-Some c t rs = head_at (view_at_type2 (below rs c.args.frames.now.items) c.args.at) (as_entry (below rs c.args.frames.now.items)) _ (λ (k : M.AtType2). Gives t rs (below rs c.open_entry.new.frames.items) c.open_entry.result (M.open_paren k c.args.token.now)) (c.in-Some.ensures _) (c.open_entry.ensures t rs)
+returns-in-Some c read t rs = head_at (view_at_type2 read (below read rs c.args.frames.now.items) c.args.at) (as_entry (below read rs c.args.frames.now.items)) _ (λ (k : M.AtType2). Gives read t rs (below read rs c.open_entry.new.frames.items) c.open_entry.result (M.open_paren k (read c.args.opening))) (c.in-Some.ensures read _) (c.open_entry.ensures read t rs)
 
 pub returns-in-None : goal.returns-in-None
-returns-in-None c t rs = paren_elsewhere (view_at_type2 (below rs c.args.frames.now.items) c.args.at) c.args.token.now (λ (m : M.State). Gives t rs (below rs c.open_inside.new.frames.items) c.open_inside.result m) (c.in-None.ensures (below rs c.args.frames.now.items)) (c.open_inside.ensures t rs)
+returns-in-None c read t rs = paren_elsewhere (view_at_type2 read (below read rs c.args.frames.now.items) c.args.at) (read c.args.opening) (λ (m : M.State). Gives read t rs (below read rs c.open_inside.new.frames.items) c.open_inside.result m) (c.in-None.ensures read (below read rs c.args.frames.now.items)) (c.open_inside.ensures read t rs)

@@ -6,7 +6,7 @@ use Rattle.cddl_tree.specs.View.{view_rule}
 use Rattle.cddl_parse.proofs.places.ended.Goals as goal
 
 pub returns-in-Ok : goal.returns-in-Ok
-returns-in-Ok c t rs b m h = h ∙ ap (λ (r : Rule). M.next_rule (S.rules rs (view_rule r)) t.kind t) (sym c.in-Ok.ensures.ok)
+returns-in-Ok c read t rs b m h = h ∙ ap (λ (r : Rule). M.next_rule (S.rules rs (view_rule read r)) t.kind (read t.leaf)) (sym c.in-Ok.ensures.ok)
 
 pub returns-in-Err : goal.returns-in-Err
-returns-in-Err c t rs b m h = tt
+returns-in-Err c read t rs b m h = tt

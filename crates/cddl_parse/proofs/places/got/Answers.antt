@@ -7,7 +7,7 @@ use Rattle.cddl_parse.proofs.Steps.{got_joined, on_all}
 use Rattle.cddl_parse.proofs.places.got.Goals as goal
 
 pub returns-in-Ok : goal.returns-in-Ok
-returns-in-Ok c t rs b = got_joined (view_at_type1 b c.args.at.at.value) c.args.at.left (λ (m : M.State). Gives t rs b c.have.result m) _ _ (c.joined.ensures ∙ ap (λ (x : Type2). joined_to c.args.at.left (view_type2 x)) c.in-Ok.ensures.ok) (c.have.ensures t rs b)
+returns-in-Ok c read t rs b = got_joined read (view_at_type1 read b c.args.at.at.value) c.args.at.left (λ (m : M.State). Gives read t rs b c.have.result m) _ _ (c.joined.ensures read ∙ ap (λ (x : Type2). joined_to read c.args.at.left (view_type2 read x)) c.in-Ok.ensures.ok) (c.have.ensures read t rs b)
 
 pub returns-in-Err : goal.returns-in-Err
-returns-in-Err c t rs b = on_all (view_at_type2 b c.args.at) _ (λ k. tt)
+returns-in-Err c read t rs b = on_all (view_at_type2 read b c.args.at) _ (λ k. tt)

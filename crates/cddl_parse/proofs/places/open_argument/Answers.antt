@@ -6,7 +6,7 @@ use Rattle.cddl_parse.proofs.Closing.{argument_opened}
 use Rattle.cddl_parse.proofs.places.open_argument.Goals as goal
 
 pub returns-in-Ok : goal.returns-in-Ok
-returns-in-Ok c t rs b = argument_opened (as_argument b (view_arguments c.args.before)) _ (λ (m : M.State). Gives t rs b c.want.result m) (ap (view_at_type1 b) c.in-Ok.ensures.ok) (c.want.ensures t rs b)
+returns-in-Ok c read t rs b = argument_opened (as_argument b (view_arguments read c.args.before)) _ (λ (m : M.State). Gives read t rs b c.want.result m) (ap (view_at_type1 read b) c.in-Ok.ensures.ok) (c.want.ensures read t rs b)
 
 pub returns-in-Err : goal.returns-in-Err
-returns-in-Err c t rs b = on_all (as_argument b (view_arguments c.args.before)) _ (λ k. tt)
+returns-in-Err c read t rs b = on_all (as_argument b (view_arguments read c.args.before)) _ (λ k. tt)

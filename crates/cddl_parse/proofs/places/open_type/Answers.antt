@@ -5,7 +5,7 @@ use Rattle.cddl_parse.proofs.Closing.{type_opened}
 use Rattle.cddl_parse.proofs.places.open_type.Goals as goal
 
 pub returns-in-Ok : goal.returns-in-Ok
-returns-in-Ok c t rs b = type_opened (view_home b c.args.home) _ (λ (m : M.State). Gives t rs b c.want.result m) (c.in-Ok.ensures b) (c.want.ensures t rs b)
+returns-in-Ok c read t rs b = type_opened (view_home read b c.args.home) _ (λ (m : M.State). Gives read t rs b c.want.result m) (c.in-Ok.ensures read b) (c.want.ensures read t rs b)
 
 pub returns-in-Err : goal.returns-in-Err
-returns-in-Err c t rs b = on_all (view_home b c.args.home) _ (λ k. tt)
+returns-in-Err c read t rs b = on_all (view_home read b c.args.home) _ (λ k. tt)

@@ -6,7 +6,7 @@ use Rattle.cddl_parse.proofs.Steps.{made_made}
 use Rattle.cddl_parse.proofs.places.type_at.Goals as goal
 
 pub returns-in-Ok : goal.returns-in-Ok
-returns-in-Ok c b = ap (λ (x : AtType1). made M.lower (view_at_type1 b x)) c.in-Ok.ensures.ok ∙ made_made M.head M.lower (view_home b c.args.home)
+returns-in-Ok c read b = ap (λ (x : AtType1). made M.lower (view_at_type1 read b x)) c.in-Ok.ensures.ok ∙ made_made M.head M.lower (view_home read b c.args.home)
 
 pub returns-in-Err : goal.returns-in-Err
 returns-in-Err c = refl

@@ -7,7 +7,7 @@ use Rattle.cddl_parse.proofs.Closing.{value_opened}
 use Rattle.cddl_parse.proofs.places.value_at.Goals as goal
 
 pub returns-in-Ok : goal.returns-in-Ok
-returns-in-Ok c t rs b = value_opened (as_entry b) (leaf c.args.occur) (view_key c.in-Ok.key.value) (view_key c.args.key) (λ (m : M.State). Gives t rs b c.open_type.result m) (ap view_key c.in-Ok.ensures.ok) (c.open_type.ensures t rs b)
+returns-in-Ok c read t rs b = value_opened (as_entry b) (leaf read c.args.occur) (view_key read c.in-Ok.key.value) (view_key read c.args.key) (λ (m : M.State). Gives read t rs b c.open_type.result m) (ap (view_key read) c.in-Ok.ensures.ok) (c.open_type.ensures read t rs b)
 
 pub returns-in-Err : goal.returns-in-Err
-returns-in-Err c t rs b = on_all (as_entry b) _ (λ p. tt)
+returns-in-Err c read t rs b = on_all (as_entry b) _ (λ p. tt)

@@ -4,7 +4,7 @@ use Rattle.cddl_parse.proofs.Steps.{stands_at, on_all}
 use Rattle.cddl_parse.proofs.places.want.Goals as goal
 
 pub returns-in-Ok : goal.returns-in-Ok
-returns-in-Ok c t rs b = stands_at M.want (view_at_type2 b c.args.at) _ (c.in-Ok.ensures b)
+returns-in-Ok c read t rs b = stands_at M.want (view_at_type2 read b c.args.at) _ (c.in-Ok.ensures read b)
 
 pub returns-in-Err : goal.returns-in-Err
-returns-in-Err c t rs b = on_all (view_at_type2 b c.args.at) _ (λ k. tt)
+returns-in-Err c read t rs b = on_all (view_at_type2 read b c.args.at) _ (λ k. tt)

@@ -7,10 +7,10 @@ use Rattle.cddl_parse.proofs.Steps.{stands_at, on_all}
 use Rattle.cddl_parse.proofs.places.want_arrow.Goals as goal
 
 pub returns-in-Ok-boxed : goal.returns-in-Ok-boxed
-returns-in-Ok-boxed c t rs b = stands_at (λ (p : M.AtEntry). M.want_arrow p (leaf c.args.occur) (view_type1 c.args.type1) c.args.cut.now) (as_entry b) _ (ap (view_now b) c.in-Ok-boxed.ensures.ok ∙ ap (λ (r : Type1). made (λ (p : M.AtEntry). M.want_arrow p (leaf c.args.occur) (view_type1 r) c.args.cut.now) (as_entry b)) c.in-Ok.ensures.ok)
+returns-in-Ok-boxed c read t rs b = stands_at (λ (p : M.AtEntry). M.want_arrow p (leaf read c.args.occur) (view_type1 read c.args.type1) (read c.args.cut)) (as_entry b) _ (ap (view_now read b) c.in-Ok-boxed.ensures.ok ∙ ap (λ (r : Type1). made (λ (p : M.AtEntry). M.want_arrow p (leaf read c.args.occur) (view_type1 read r) (read c.args.cut)) (as_entry b)) c.in-Ok.ensures.ok)
 
 pub returns-in-Err : goal.returns-in-Err
-returns-in-Err c t rs b = on_all (as_entry b) _ (λ k. tt)
+returns-in-Err c read t rs b = on_all (as_entry b) _ (λ k. tt)
 
 pub returns-in-Err-boxed : goal.returns-in-Err-boxed
-returns-in-Err-boxed c t rs b = on_all (as_entry b) _ (λ k. tt)
+returns-in-Err-boxed c read t rs b = on_all (as_entry b) _ (λ k. tt)

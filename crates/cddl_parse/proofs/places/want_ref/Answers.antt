@@ -5,7 +5,7 @@ use Rattle.cddl_parse.proofs.Steps.{stands_at, on_all}
 use Rattle.cddl_parse.proofs.places.want_ref.Goals as goal
 
 pub returns-in-Ok : goal.returns-in-Ok
-returns-in-Ok c t rs b = stands_at (λ (k : M.AtType2). M.want_ref k (view_prefix c.args.prefix)) (view_at_type2 b c.args.at) _ (ap (view_now b) c.in-Ok.ensures.ok)
+returns-in-Ok c read t rs b = stands_at (λ (k : M.AtType2). M.want_ref k (view_prefix read c.args.prefix)) (view_at_type2 read b c.args.at) _ (ap (view_now read b) c.in-Ok.ensures.ok)
 
 pub returns-in-Err : goal.returns-in-Err
-returns-in-Err c t rs b = on_all (view_at_type2 b c.args.at) _ (λ k. tt)
+returns-in-Err c read t rs b = on_all (view_at_type2 read b c.args.at) _ (λ k. tt)

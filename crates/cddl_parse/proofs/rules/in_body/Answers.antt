@@ -5,4 +5,4 @@ use Rattle.cddl_parse.proofs.Steps.{on_with}
 use Rattle.cddl_parse.specs.States.{view_rules, GivesState}
 
 pub returns : goal.returns
-returns c = on_with (view_now (below (view_rules c.args.rules.items) c.args.frames.items) c.args.now.value) (λ (m : M.State). Gives c.args.token.now (view_rules c.args.rules.items) (below (view_rules c.args.rules.items) c.step_body-next.new.frames.items) c.step_body-next.result (M.step m c.args.token.now.kind c.args.token.now)) (λ (m : M.State). GivesState c.args.token.now c.after_body.result (M.step m c.args.token.now.kind c.args.token.now)) (λ m. c.after_body.ensures (M.step m c.args.token.now.kind c.args.token.now)) (c.step_body-next.ensures (view_rules c.args.rules.items))
+returns c read = on_with (view_now read (below read (view_rules read c.args.rules.items) c.args.frames.items) c.args.now.value) (λ (m : M.State). Gives read c.args.token (view_rules read c.args.rules.items) (below read (view_rules read c.args.rules.items) c.step_body-next.new.frames.items) c.step_body-next.result (M.step m c.args.token.kind (read c.args.token.leaf))) (λ (m : M.State). GivesState read c.args.token.start c.after_body.result (M.step m c.args.token.kind (read c.args.token.leaf))) (λ m. (c.after_body.ensures read) (M.step m c.args.token.kind (read c.args.token.leaf))) (c.step_body-next.ensures read (view_rules read c.args.rules.items))

@@ -7,7 +7,7 @@ use Rattle.cddl_parse.specs.States.{view_rules}
 use Rattle.cddl_parse.proofs.Adding.{view_rules-push}
 
 pub returns-in-Ok : goal.returns-in-Ok
-returns-in-Ok c = ap view_rules c.in-Ok.ensures.items ∙ view_rules-push c.args.rules.items c.into_inner.result ∙ ap (λ (r : Rule). S.rules (view_rules c.args.rules.items) (view_rule r)) c.into_inner.ensures
+returns-in-Ok c read = ap (view_rules read) c.in-Ok.ensures.items ∙ view_rules-push read c.args.rules.items c.into_inner.result ∙ ap (λ (r : Rule). S.rules (view_rules read c.args.rules.items) (view_rule read r)) c.into_inner.ensures
 
 pub returns-in-Err : goal.returns-in-Err
 returns-in-Err c = refl

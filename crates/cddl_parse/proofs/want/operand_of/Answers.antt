@@ -9,19 +9,19 @@ use Rattle.cddl_parse.proofs.Bodies.{no_operand}
 use Rattle.cddl_parse.proofs.want.operand_of.Goals as goal
 
 pub returns-in-Number : goal.returns-in-Number
-returns-in-Number c k = ap (λ (i : Kind). M.step_want k i c.args.token.now) c.in-Number.is ∙ ap (M.got k) (sym (view-Literal (V.Number c.args.token)))
+returns-in-Number c read k = ap (λ (i : Kind). M.step_want k i (read c.args.token.leaf)) c.in-Number.is ∙ ap (M.got k) (sym (view-Literal read (V.Number c.args.token.leaf)))
 
 pub returns-in-Text : goal.returns-in-Text
-returns-in-Text c k = ap (λ (i : Kind). M.step_want k i c.args.token.now) c.in-Text.is ∙ ap (M.got k) (sym (view-Literal (V.Text c.args.token)))
+returns-in-Text c read k = ap (λ (i : Kind). M.step_want k i (read c.args.token.leaf)) c.in-Text.is ∙ ap (M.got k) (sym (view-Literal read (V.Text c.args.token.leaf)))
 
 pub returns-in-Bytes : goal.returns-in-Bytes
-returns-in-Bytes c k = ap (λ (i : Kind). M.step_want k i c.args.token.now) c.in-Bytes.is ∙ ap (M.got k) (sym (view-Literal (V.Bytes c.args.token)))
+returns-in-Bytes c read k = ap (λ (i : Kind). M.step_want k i (read c.args.token.leaf)) c.in-Bytes.is ∙ ap (M.got k) (sym (view-Literal read (V.Bytes c.args.token.leaf)))
 
 pub returns-in-Name : goal.returns-in-Name
-returns-in-Name c k = ap (λ (i : Kind). M.step_want k i c.args.token.now) c.in-Name.is ∙ ap (M.got k) (sym (view-Typename (R.Name c.args.token) ∙ ap S.typename (view-Name c.args.token)))
+returns-in-Name c read k = ap (λ (i : Kind). M.step_want k i (read c.args.token.leaf)) c.in-Name.is ∙ ap (M.got k) (sym (view-Typename read (R.Name c.args.token.leaf) ∙ ap S.typename (view-Name read c.args.token.leaf)))
 
 pub returns-in-Hash : goal.returns-in-Hash
-returns-in-Hash c k = ap (λ (i : Kind). M.step_want k i c.args.token.now) c.in-Hash.is ∙ ap (M.got k) (sym (view-Hash c.args.token))
+returns-in-Hash c read k = ap (λ (i : Kind). M.step_want k i (read c.args.token.leaf)) c.in-Hash.is ∙ ap (M.got k) (sym (view-Hash read c.args.token.leaf))
 
 pub returns-in_default : goal.returns-in_default
-returns-in_default c = no_operand c.args.token.now.kind c.in_default.not-Number c.in_default.not-Text c.in_default.not-Bytes c.in_default.not-Name c.in_default.not-Hash
+returns-in_default c = no_operand c.args.token.kind c.in_default.not-Number c.in_default.not-Text c.in_default.not-Bytes c.in_default.not-Name c.in_default.not-Hash

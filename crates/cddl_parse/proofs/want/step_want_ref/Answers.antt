@@ -9,16 +9,16 @@ use Rattle.cddl_parse.proofs.Heads.{on_along, ref_other}
 use Rattle.cddl_parse.proofs.Bodies.{at_kind, got_at, refused_at, no_choice}
 
 pub returns-in-Name : goal.returns-in-Name
-returns-in-Name c rs = got_at (view_at_type2 (below rs c.args.frames.now.items) c.args.at) (λ (m : M.State). Gives c.args.token.now rs (below rs c.args.frames.now.items) c.got.result m) (λ (k : M.AtType2) (i : Kind). M.step_want_ref k (view_prefix c.args.prefix) i c.args.token.now) _ _ _ _ c.in-Name.is (c.prefixed.ensures ∙ ap (M.prefixed (view_prefix c.args.prefix)) (view-Name c.args.token)) (λ k. refl) (c.got.ensures c.args.token.now rs (below rs c.args.frames.now.items))
+returns-in-Name c read rs = got_at (view_at_type2 read (below read rs c.args.frames.now.items) c.args.at) (λ (m : M.State). Gives read c.args.token rs (below read rs c.args.frames.now.items) c.got.result m) (λ (k : M.AtType2) (i : Kind). M.step_want_ref k (view_prefix read c.args.prefix) i (read c.args.token.leaf)) _ _ _ _ c.in-Name.is (c.prefixed.ensures read ∙ ap (M.prefixed (view_prefix read c.args.prefix)) (view-Name read c.args.token.leaf)) (λ k. refl) (c.got.ensures read c.args.token rs (below read rs c.args.frames.now.items))
 
 pub returns-in-NameOpen : goal.returns-in-NameOpen
-returns-in-NameOpen c rs = at_kind (view_at_type2 (below rs c.args.frames.now.items) c.args.at) (λ (m : M.State). Gives c.args.token.now rs (below rs c.open_reference.new.frames.items) c.open_reference.result m) (λ (k : M.AtType2) (i : Kind). M.step_want_ref k (view_prefix c.args.prefix) i c.args.token.now) _ _ c.in-NameOpen.is (c.open_reference.ensures c.args.token.now rs)
+returns-in-NameOpen c read rs = at_kind (view_at_type2 read (below read rs c.args.frames.now.items) c.args.at) (λ (m : M.State). Gives read c.args.token rs (below read rs c.open_reference.new.frames.items) c.open_reference.result m) (λ (k : M.AtType2) (i : Kind). M.step_want_ref k (view_prefix read c.args.prefix) i (read c.args.token.leaf)) _ _ c.in-NameOpen.is (c.open_reference.ensures read c.args.token rs)
 
 pub returns-in-Ampersand : goal.returns-in-Ampersand
-returns-in-Ampersand c rs = on_along (view_at_type2 (below rs c.args.frames.now.items) c.args.at) (λ (m : M.State). Gives c.args.token.now rs (below rs c.open_group.new.frames.items) c.open_group.result m) (λ (k : M.AtType2). M.step_want_ref k (view_prefix c.args.prefix) c.args.token.now.kind c.args.token.now) (λ (k : M.AtType2). M.open_group (M.within k (M.choice c.in-Ampersand.ampersand.now c.args.token.now))) (λ k. ap (λ (i : Kind). M.step_want_ref k (view_prefix c.args.prefix) i c.args.token.now) c.in-ParenOpen.is ∙ ap (λ (p : Prefix). M.open_choice k (view_prefix p) c.args.token.now) c.in-Ampersand.is) (c.open_group.ensures c.args.token.now rs)
+returns-in-Ampersand c read rs = on_along (view_at_type2 read (below read rs c.args.frames.now.items) c.args.at) (λ (m : M.State). Gives read c.args.token rs (below read rs c.open_group.new.frames.items) c.open_group.result m) (λ (k : M.AtType2). M.step_want_ref k (view_prefix read c.args.prefix) c.args.token.kind (read c.args.token.leaf)) (λ (k : M.AtType2). M.open_group (M.within k (M.choice (read c.in-Ampersand.ampersand) (read c.args.token.leaf)))) (λ k. ap (λ (i : Kind). M.step_want_ref k (view_prefix read c.args.prefix) i (read c.args.token.leaf)) c.in-ParenOpen.is ∙ ap (λ (p : Prefix). M.open_choice k (view_prefix read p) (read c.args.token.leaf)) c.in-Ampersand.is) (c.open_group.ensures read c.args.token rs)
 
 pub returns-in_default-prefix : goal.returns-in_default-prefix
-returns-in_default-prefix c rs = refused_at (view_at_type2 (below rs c.args.frames.now.items) c.args.at) c.args.token.now _ (λ (k : M.AtType2). M.step_want_ref k (view_prefix c.args.prefix) c.args.token.now.kind c.args.token.now) c.unexpected.ensures (λ k. ap (λ (i : Kind). M.step_want_ref k (view_prefix c.args.prefix) i c.args.token.now) c.in-ParenOpen.is ∙ no_choice k c.args.prefix c.args.token.now c.in_default-prefix.not-Ampersand)
+returns-in_default-prefix c read rs = refused_at (view_at_type2 read (below read rs c.args.frames.now.items) c.args.at) c.args.token.start _ (λ (k : M.AtType2). M.step_want_ref k (view_prefix read c.args.prefix) c.args.token.kind (read c.args.token.leaf)) c.unexpected.ensures (λ k. ap (λ (i : Kind). M.step_want_ref k (view_prefix read c.args.prefix) i (read c.args.token.leaf)) c.in-ParenOpen.is ∙ no_choice read k c.args.prefix (read c.args.token.leaf) c.in_default-prefix.not-Ampersand)
 
 pub returns-in_default : goal.returns-in_default
-returns-in_default c rs = refused_at (view_at_type2 (below rs c.args.frames.now.items) c.args.at) c.args.token.now _ (λ (k : M.AtType2). M.step_want_ref k (view_prefix c.args.prefix) c.args.token.now.kind c.args.token.now) c.unexpected-in_default.ensures (λ k. ref_other k (view_prefix c.args.prefix) c.args.token.now.kind c.args.token.now c.in_default.not-Name c.in_default.not-NameOpen c.in_default.not-ParenOpen)
+returns-in_default c read rs = refused_at (view_at_type2 read (below read rs c.args.frames.now.items) c.args.at) c.args.token.start _ (λ (k : M.AtType2). M.step_want_ref k (view_prefix read c.args.prefix) c.args.token.kind (read c.args.token.leaf)) c.unexpected-in_default.ensures (λ k. ref_other k (view_prefix read c.args.prefix) c.args.token.kind (read c.args.token.leaf) c.in_default.not-Name c.in_default.not-NameOpen c.in_default.not-ParenOpen)

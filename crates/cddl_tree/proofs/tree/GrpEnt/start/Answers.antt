@@ -1,25 +1,25 @@
 use Rattle.std.proofs.Common.{subst}
 use Rattle.cddl_syntax.specs.Syntax as S
 use Rattle.cddl_tree.specs.declared.tree.MemberKey.{MemberKey}
-use Rattle.cddl_tree.specs.View.{view_key, view_types, StartsAt}
+use Rattle.cddl_tree.specs.View.{view_key, view_types, token_of, StartsAt}
 use Rattle.cddl_tree.proofs.Starting.{keyed_start}
 use Rattle.cddl_tree.proofs.Lemmas.{views}
 use Rattle.cddl_tree.proofs.tree.GrpEnt.start.Goals as goal
 
 pub returns-in-Some : goal.returns-in-Some
-returns-in-Some c = simp (c.in-Typed.is, c.in-Some.is, views)
+returns-in-Some c = simp (c.in-Typed.is, c.in-Some.is, views) c.start_of.ensures
 
 pub returns-in-None : goal.returns-in-None
 returns-in-None c = simp (c.in-Typed.is, c.in-None.is, views) c.start.ensures
 
 pub returns-in-Some-occur : goal.returns-in-Some-occur
-returns-in-Some-occur c = simp (c.in-Keyed.is, c.in-Some-occur.is, views)
+returns-in-Some-occur c = simp (c.in-Keyed.is, c.in-Some-occur.is, views) c.start_of-in-Some-occur.ensures
 
 pub returns-in-None-occur : goal.returns-in-None-occur
-returns-in-None-occur c = simp (c.in-Keyed.is, c.in-None-occur.is, views) (keyed_start _ (view_types c.in-Keyed.types) _ (subst (λ (x : MemberKey). StartsAt (S.flat_key (view_key x)) c.start-in-None-occur.result) c.deref.ensures c.start-in-None-occur.ensures))
+returns-in-None-occur c = simp (c.in-Keyed.is, c.in-None-occur.is, views) (keyed_start _ (view_types (token_of c.args.tree.now) c.in-Keyed.types) _ (subst (λ (x : MemberKey). StartsAt (S.flat_key (view_key (token_of c.args.tree.now) x)) c.start-in-None-occur.result) c.deref.ensures c.start-in-None-occur.ensures))
 
 pub returns-in-Some-occur-2 : goal.returns-in-Some-occur-2
-returns-in-Some-occur-2 c = simp (c.in-Grouped.is, c.in-Some-occur-2.is, views)
+returns-in-Some-occur-2 c = simp (c.in-Grouped.is, c.in-Some-occur-2.is, views) c.start_of-in-Some-occur-2.ensures
 
 pub returns-in-None-occur-2 : goal.returns-in-None-occur-2
-returns-in-None-occur-2 c = simp (c.in-Grouped.is, c.in-None-occur-2.is, views)
+returns-in-None-occur-2 c = simp (c.in-Grouped.is, c.in-None-occur-2.is, views) c.start_of-in-None-occur-2.ensures

@@ -3,7 +3,7 @@ use Rattle.cddl_tree.proofs.Lemmas.{views}
 use Rattle.cddl_tree.proofs.tree.MemberKey.start.Goals as goal
 
 pub returns-in-Bareword : goal.returns-in-Bareword
-returns-in-Bareword c = simp (c.in-Bareword.is, views)
+returns-in-Bareword c = simp (c.in-Bareword.is, views) c.start_of.ensures
 
 pub returns-in-TypeKey : goal.returns-in-TypeKey
 returns-in-TypeKey c = simp (c.in-TypeKey.is, views) (type_key_start _ _ _ _ c.start.ensures)
