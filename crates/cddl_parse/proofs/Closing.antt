@@ -41,14 +41,14 @@ colon_taken (Some p) P oc ts r m t e f h = rw e (subst P (sym (f p)) h)
 
 -- After an argument and a comma.
 
-argument_comma_at : (b : Below) (a : S.GenericArg) (t : Token) (P : M.State → Type 0) → on (as_argument b (M.behind_arg a t)) (λ k. P (M.want (M.lower k))) → on (as_reference b) (λ y. P (M.after_argument y.0 y.1 y.2 a K.Comma t))
+argument_comma_at : (b : Below) (a : S.GenericArg) (t : Token) (P : M.State → Type 0) → on (as_argument b (M.earlier_arg a t)) (λ k. P (M.want (M.lower k))) → on (as_reference b) (λ y. P (M.after_argument y.0 y.1 y.2 a K.Comma t))
 argument_comma_at nowhere a t P h = tt
 argument_comma_at (types k) a t P h = tt
 argument_comma_at (reference k p o) a t P h = h
 argument_comma_at (entry k) a t P h = tt
 argument_comma_at (group k) a t P h = tt
 
-pub argument_comma : (b : Below) (x a : S.GenericArg) (t : Token) (P : M.State → Type 0) → x ≡ a → on (as_argument b (M.behind_arg x t)) (λ k. P (M.want (M.lower k))) → on (as_reference b) (λ y. P (M.after_argument y.0 y.1 y.2 a K.Comma t))
+pub argument_comma : (b : Below) (x a : S.GenericArg) (t : Token) (P : M.State → Type 0) → x ≡ a → on (as_argument b (M.earlier_arg x t)) (λ k. P (M.want (M.lower k))) → on (as_reference b) (λ y. P (M.after_argument y.0 y.1 y.2 a K.Comma t))
 argument_comma b x a t P e h = argument_comma_at b a t P (rw e at h)
 
 -- After the choices of a type and a `/`.

@@ -33,7 +33,7 @@ pub ends_member : (b : Below) (q : Option M.AtGroup) (bf : M.Before) (es : S.Grp
 ends_member b None bf es i t P e h = rw e tt
 ends_member b (Some k) bf es i t P e h = rw e h
 
-pub ends_slashes : (k : M.AtGroup) (bf : M.Before) (es : S.GrpChoice) (g : S.Group) (i : Kind) (t : Token) → i ≡ K.DoubleSlash → g ≡ M.group_of bf es → M.ends k bf es i t ≡ M.open_entry (M.member k (M.behind g t) S.no_entries)
+pub ends_slashes : (k : M.AtGroup) (bf : M.Before) (es : S.GrpChoice) (g : S.Group) (i : Kind) (t : Token) → i ≡ K.DoubleSlash → g ≡ M.group_of bf es → M.ends k bf es i t ≡ M.open_entry (M.member k (M.earlier g t) S.no_entries)
 ends_slashes k bf es g i t e f = rw (e, f) refl
 
 pub ends_other : (k : M.AtGroup) (bf : M.Before) (es : S.GrpChoice) (g : S.Group) (i : Kind) (t : Token) → i ≢ K.DoubleSlash → g ≡ M.group_of bf es → M.ends k bf es i t ≡ M.shut_group k g i t
@@ -127,7 +127,7 @@ ends_refused (Some k) i t start e f h = refuses start e _ h (ends_elsewhere k i 
 
 -- After the entries of an alternative.
 
-pub slashes_opened : (q : Option M.AtGroup) (bf : M.Before) (es : S.GrpChoice) (g : S.Group) (xs : S.GrpChoice) (i : Kind) (t : Token) (P : M.State → Type 0) → i ≡ K.DoubleSlash → g ≡ M.group_of bf es → xs ≡ S.no_entries → on q (λ k. P (M.open_entry (M.member k (M.behind g t) xs))) → on q (λ k. P (M.ends k bf es i t))
+pub slashes_opened : (q : Option M.AtGroup) (bf : M.Before) (es : S.GrpChoice) (g : S.Group) (xs : S.GrpChoice) (i : Kind) (t : Token) (P : M.State → Type 0) → i ≡ K.DoubleSlash → g ≡ M.group_of bf es → xs ≡ S.no_entries → on q (λ k. P (M.open_entry (M.member k (M.earlier g t) xs))) → on q (λ k. P (M.ends k bf es i t))
 slashes_opened None bf es g xs i t P e f n h = tt
 slashes_opened (Some k) bf es g xs i t P e f n h = subst P (sym (ends_slashes k bf es g i t e f)) (rw n at h)
 

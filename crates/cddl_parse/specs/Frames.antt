@@ -50,15 +50,15 @@ made f (Some x) = Some (f x)
 
 abbrev pub view_alternatives : (Leaf → Token) → Option Alternatives → M.Before
 view_alternatives read None = M.nothing
-view_alternatives read (Some b) = M.behind (view_group read b.group) (read b.slashes)
+view_alternatives read (Some b) = M.earlier (view_group read b.group) (read b.slashes)
 
 abbrev pub view_arguments : (Leaf → Token) → Option Arguments → M.ArgBefore
 view_arguments read None = M.no_arg
-view_arguments read (Some b) = M.behind_arg (view_arg read b.arguments.value) (read b.comma)
+view_arguments read (Some b) = M.earlier_arg (view_arg read b.arguments.value) (read b.comma)
 
 abbrev pub view_parameters : (Leaf → Token) → Option Parameters → M.ParmBefore
 view_parameters read None = M.no_parm
-view_parameters read (Some b) = M.behind_parm (view_parm read b.parameters) (read b.comma)
+view_parameters read (Some b) = M.earlier_parm (view_parm read b.parameters) (read b.comma)
 
 abbrev pub view_prefix : (Leaf → Token) → Prefix → M.Prefix
 view_prefix read P.Bare = M.bare

@@ -4,21 +4,21 @@ use Rattle.cddl_token.specs.declared.Token.{Token}
 use Rattle.cddl_token.specs.declared.Kind.{Kind}
 use Rattle.cddl_token.specs.declared.Kind.TheVariants.{Name, NameOpen, Control, Number, Occur, Text, Bytes, Hash, TagOpen, TagHeadOpen, SimpleHeadOpen, Assign, TypeAssign, GroupAssign, Slash, DoubleSlash, Range, RangeBelow, Arrow, Cut, Colon, Comma, ParenOpen, ParenClose, BracketOpen, BracketClose, BraceOpen, BraceClose, AngleClose, Tilde, Ampersand, End}
 use Rattle.cddl_syntax.specs.Syntax.{Lexeme, number, text, bytes, Operator, range, range_below, control, Types, only, or, Type1, one, Type2, literal, typename, parens, map_of, array_of, choice_of, tagged, tagged_by, simple_by, hash, Ref, name, applied, GenericArg, Group, sole, GrpChoice, no_entries, entries, GrpEnt, typed, keyed, GenericParm, RuleName, type_or, AssignG, group_is, group_or, type_rule, Rules, no_rules, rules, Cddl, optional, flat_operator, flat_types, flat_type1, flat_type2, flat_ref, flat_arg, flat_group, flat_choice, flat_entry, flat_key, flat_parm, flat_name, flat_assigng, flat_rule, flat_rules, flat, NormalTypes, NormalType1, NormalType2, NormalRef, NormalArg, NormalGroup, NormalChoice, NormalEntry, NormalKey, NormalRule, NormalRules, Normal}
-use Rattle.cddl_syntax.specs.Machine.{Before, nothing, behind, ArgBefore, no_arg, behind_arg, ParmBefore, no_parm, behind_parm, Prefix, bare, tilde, ampersand, TypeOpening, paren, tag, tag_head, tag_content, simple_head, GroupOpening, brace, bracket, choice, AtType2, lower, upper, AtType1, head, next, argument_of, AtTypes, body, inside, start, value_of, AtEntry, group_body, member, AtGroup, within, in_entry, State, begin, awaits_parm, have_parm, awaits_assign, want, want_ref, want_content, have, want_arrow, have_group, done, stuck, got, open_entry, open_group, group_of, arg_of, parm_of, prefixed, rule_of, next_rule, after_parm, assigned, shut_paren, shut_group, ends, ends_want, occur_want, open_paren, step_want, open_choice, step_want_ref, after_entry, arrow, cut, colon, shut_types, after_start, after_types, after_argument, slash, operated, after_type1, step_have, step, run}
+use Rattle.cddl_syntax.specs.Machine.{Before, nothing, earlier, ArgBefore, no_arg, earlier_arg, ParmBefore, no_parm, earlier_parm, Prefix, bare, tilde, ampersand, TypeOpening, paren, tag, tag_head, tag_content, simple_head, GroupOpening, brace, bracket, choice, AtType2, lower, upper, AtType1, head, next, argument_of, AtTypes, body, inside, start, value_of, AtEntry, group_body, member, AtGroup, within, in_entry, State, begin, awaits_parm, have_parm, awaits_assign, want, want_ref, want_content, have, want_arrow, have_group, done, stuck, got, open_entry, open_group, group_of, arg_of, parm_of, prefixed, rule_of, next_rule, after_parm, assigned, shut_paren, shut_group, ends, ends_want, occur_want, open_paren, step_want, open_choice, step_want_ref, after_entry, arrow, cut, colon, shut_types, after_start, after_types, after_argument, slash, operated, after_type1, step_have, step, run}
 
 -- The tokens of what is left of a place.
 
 abbrev text_before : Before → List Lexeme
 text_before nothing = []
-text_before (behind g s) = flat_group g ++ (DoubleSlash, s) ∷ []
+text_before (earlier g s) = flat_group g ++ (DoubleSlash, s) ∷ []
 
 abbrev text_arg_before : ArgBefore → List Lexeme
 text_arg_before no_arg = []
-text_arg_before (behind_arg a c) = flat_arg a ++ (Comma, c) ∷ []
+text_arg_before (earlier_arg a c) = flat_arg a ++ (Comma, c) ∷ []
 
 abbrev text_parm_before : ParmBefore → List Lexeme
 text_parm_before no_parm = []
-text_parm_before (behind_parm p c) = flat_parm p ++ (Comma, c) ∷ []
+text_parm_before (earlier_parm p c) = flat_parm p ++ (Comma, c) ∷ []
 
 abbrev text_prefix : Prefix → List Lexeme
 text_prefix bare = []
@@ -63,11 +63,11 @@ abbrev mutual
 
 abbrev NormalBefore : Before → Type 0
 NormalBefore nothing = Unit {0}
-NormalBefore (behind g s) = NormalGroup g
+NormalBefore (earlier g s) = NormalGroup g
 
 abbrev NormalArgBefore : ArgBefore → Type 0
 NormalArgBefore no_arg = Unit {0}
-NormalArgBefore (behind_arg a c) = NormalArg a
+NormalArgBefore (earlier_arg a c) = NormalArg a
 
 abbrev NormalTypeOpening : TypeOpening → Type 0
 NormalTypeOpening (tag_content o h a p) = NormalTypes h
@@ -116,23 +116,23 @@ Keeps stuck ts = Unit {0}
 
 flat_group_of : (b : Before) (es : GrpChoice) → flat_group (group_of b es) ≡ text_before b ++ flat_choice es
 flat_group_of nothing es = refl
-flat_group_of (behind g s) es = sym (append_assoc (flat_group g) ((DoubleSlash, s) ∷ []) (flat_choice es))
+flat_group_of (earlier g s) es = sym (append_assoc (flat_group g) ((DoubleSlash, s) ∷ []) (flat_choice es))
 
 normal_group_of : (b : Before) (es : GrpChoice) → NormalBefore b → NormalChoice es → NormalGroup (group_of b es)
 normal_group_of nothing es n m = m
-normal_group_of (behind g s) es n m = (n, m)
+normal_group_of (earlier g s) es n m = (n, m)
 
 flat_arg_of : (b : ArgBefore) (r : Type1) → flat_arg (arg_of b r) ≡ text_arg_before b ++ flat_type1 r
 flat_arg_of no_arg r = refl
-flat_arg_of (behind_arg a c) r = sym (append_assoc (flat_arg a) ((Comma, c) ∷ []) (flat_type1 r))
+flat_arg_of (earlier_arg a c) r = sym (append_assoc (flat_arg a) ((Comma, c) ∷ []) (flat_type1 r))
 
 normal_arg_of : (b : ArgBefore) (r : Type1) → NormalArgBefore b → NormalType1 r → NormalArg (arg_of b r)
 normal_arg_of no_arg r n m = m
-normal_arg_of (behind_arg a c) r n m = (n, m)
+normal_arg_of (earlier_arg a c) r n m = (n, m)
 
 flat_parm_of : (b : ParmBefore) (n : Token) → flat_parm (parm_of b n) ≡ text_parm_before b ++ (Name, n) ∷ []
 flat_parm_of no_parm n = refl
-flat_parm_of (behind_parm p c) n = sym (append_assoc (flat_parm p) ((Comma, c) ∷ []) ((Name, n) ∷ []))
+flat_parm_of (earlier_parm p c) n = sym (append_assoc (flat_parm p) ((Comma, c) ∷ []) ((Name, n) ∷ []))
 
 flat_prefixed : (p : Prefix) (r : Ref) → flat_type2 (prefixed p r) ≡ text_prefix p ++ flat_ref r
 flat_prefixed bare r = refl
@@ -198,7 +198,7 @@ keeps_shut_group _ g _ c ts n h e = tt
 keeps_ends : (k : AtGroup) (b : Before) (es : GrpChoice) (q : Kind) (t : Token) (ts : List Lexeme) → NormalAtGroup k → NormalBefore b → NormalChoice es
     → text_at_group k ++ (text_before b ++ (flat_choice es ++ (q, t) ∷ [])) ≡ ts → Keeps (ends k b es q t) ts
 keeps_ends k b es DoubleSlash t ts n m l e =
-    keeps_open_entry (member k (behind (group_of b es) t) no_entries) ts (n, normal_group_of b es m l, tt)
+    keeps_open_entry (member k (earlier (group_of b es) t) no_entries) ts (n, normal_group_of b es m l, tt)
     (rw flat_group_of (simp (append_assoc, append-nil) e))
 keeps_ends k b es q t ts n m l e =
     keeps_shut_group k (group_of b es) q t ts n (normal_group_of b es m l) (rw flat_group_of (simp append_assoc e))

@@ -41,8 +41,8 @@ nests_append a b m k h i n = (
   deepest-append n a b ∙ ap (λ j. max (deepest n a) (deepest j b)) (h n).0 ∙ (let d = (h n).1 in let e = (i n).1 in omega arith),
 )
 
-nests_behind : (a b : List Lexeme) (m : ℕ) → Nests a m → Nests b 0 → Nests (a ++ b) m
-nests_behind a b m h i = subst (Nests (a ++ b)) (let e : max m 0 ≡ m = omega arith in e) (nests_append a b m 0 h i)
+nests_after : (a b : List Lexeme) (m : ℕ) → Nests a m → Nests b 0 → Nests (a ++ b) m
+nests_after a b m h i = subst (Nests (a ++ b)) (let e : max m 0 ≡ m = omega arith in e) (nests_append a b m 0 h i)
 
 nests_inside : (q r : Kind) (o c : Token) (ts : List Lexeme) (m : ℕ) → ((n : ℕ) → opened q n ≡ suc n) → ((n : ℕ) → opened r (suc n) ≡ n) → Nests ts m → Nests ((q, o) ∷ (ts ++ (r, c) ∷ [])) (suc m)
 nests_inside q r o c ts m h i b n = (
@@ -113,8 +113,8 @@ mutual
 
   nests_choice : (es : GrpChoice) → Nests (flat_choice es) (nesting_choice es)
   nests_choice no_entries = nests_none
-  nests_choice (entries es e None) = nests_append (flat_choice es) (flat_entry e ++ []) (nesting_choice es) (nesting_entry e) (nests_choice es) (nests_behind (flat_entry e) [] (nesting_entry e) (nests_entry e) nests_none)
-  nests_choice (entries es e (Some c)) = nests_append (flat_choice es) (flat_entry e ++ (Comma, c) ∷ []) (nesting_choice es) (nesting_entry e) (nests_choice es) (nests_behind (flat_entry e) ((Comma, c) ∷ []) (nesting_entry e) (nests_entry e) (nests_more Comma c [] 0 same nests_none))
+  nests_choice (entries es e None) = nests_append (flat_choice es) (flat_entry e ++ []) (nesting_choice es) (nesting_entry e) (nests_choice es) (nests_after (flat_entry e) [] (nesting_entry e) (nests_entry e) nests_none)
+  nests_choice (entries es e (Some c)) = nests_append (flat_choice es) (flat_entry e ++ (Comma, c) ∷ []) (nesting_choice es) (nesting_entry e) (nests_choice es) (nests_after (flat_entry e) ((Comma, c) ∷ []) (nesting_entry e) (nests_entry e) (nests_more Comma c [] 0 same nests_none))
 
   nests_entry : (e : GrpEnt) → Nests (flat_entry e) (nesting_entry e)
   nests_entry (typed o t) = nests_optional Occur o (flat_types t) (nesting_types t) same (nests_types t)
@@ -122,13 +122,13 @@ mutual
   nests_entry (grouped o p g c) = nests_optional Occur o ((ParenOpen, p) ∷ (flat_group g ++ (ParenClose, c) ∷ [])) (suc (nesting_group g)) same (nests_inside ParenOpen ParenClose p c (flat_group g) (nesting_group g) one_more same (nests_group g))
 
   nests_key : (k : MemberKey) → Nests (flat_key k) (nesting_key k)
-  nests_key (type_key r u a) = nests_behind (flat_type1 r) (optional Cut u ++ (Arrow, a) ∷ []) (nesting_type1 r) (nests_type1 r) (nests_optional Cut u ((Arrow, a) ∷ []) 0 same (nests_more Arrow a [] 0 same nests_none))
+  nests_key (type_key r u a) = nests_after (flat_type1 r) (optional Cut u ++ (Arrow, a) ∷ []) (nesting_type1 r) (nests_type1 r) (nests_optional Cut u ((Arrow, a) ∷ []) 0 same (nests_more Arrow a [] 0 same nests_none))
   nests_key (bareword n c) = nests_more Name n ((Colon, c) ∷ []) 0 same (nests_more Colon c [] 0 same nests_none)
   nests_key (value_key v c) = nests_value v ((Colon, c) ∷ []) 0 (nests_more Colon c [] 0 same nests_none)
 
 nests_parm : (p : GenericParm) → Nests (flat_parm p) 0
 nests_parm (parameter n) = nests_more Name n [] 0 same nests_none
-nests_parm (parameters p c n) = nests_behind (flat_parm p) ((Comma, c) ∷ (Name, n) ∷ []) 0 (nests_parm p) (nests_more Comma c ((Name, n) ∷ []) 0 same (nests_more Name n [] 0 same nests_none))
+nests_parm (parameters p c n) = nests_after (flat_parm p) ((Comma, c) ∷ (Name, n) ∷ []) 0 (nests_parm p) (nests_more Comma c ((Name, n) ∷ []) 0 same (nests_more Name n [] 0 same nests_none))
 
 nests_name : (n : RuleName) → Nests (flat_name n) (nesting_name n)
 nests_name (plain n) = nests_more Name n [] 0 same nests_none
@@ -151,4 +151,4 @@ nests_rules no_rules = nests_none
 nests_rules (rules rs r) = nests_append (flat_rules rs) (flat_rule r) (nesting_rules rs) (nesting_rule r) (nests_rules rs) (nests_rule r)
 
 pub nests : (x : Cddl) → Nests (flat x) (nesting x)
-nests (cddl rs e) = nests_behind (flat_rules rs) ((End, e) ∷ []) (nesting_rules rs) (nests_rules rs) (nests_more End e [] 0 same nests_none)
+nests (cddl rs e) = nests_after (flat_rules rs) ((End, e) ∷ []) (nesting_rules rs) (nests_rules rs) (nests_more End e [] 0 same nests_none)

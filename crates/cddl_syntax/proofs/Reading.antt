@@ -4,7 +4,7 @@ use Rattle.cddl_token.specs.declared.Token.{Token}
 use Rattle.cddl_token.specs.declared.Kind.{Kind}
 use Rattle.cddl_token.specs.declared.Kind.TheVariants.{Name, NameOpen, Control, Occur, Assign, TypeAssign, GroupAssign, Slash, DoubleSlash, Range, RangeBelow, Arrow, Cut, Colon, Comma, ParenOpen, ParenClose, BracketClose, BraceClose, AngleClose, End}
 use Rattle.cddl_syntax.specs.Syntax.{Lexeme, Value, number, text, bytes, Operator, range, range_below, control, Types, only, or, Type1, one, operation, Type2, literal, typename, parens, map_of, array_of, unwrapped, choice_of, choice_of_name, tagged, tagged_by, simple_by, hash, Ref, name, applied, GenericArg, argument, arguments, Group, sole, orelse, GrpChoice, no_entries, entries, GrpEnt, typed, keyed, grouped, MemberKey, type_key, bareword, value_key, GenericParm, parameter, parameters, RuleName, plain, generic, type_is, type_or, group_is, group_or, Rule, type_rule, group_rule, Rules, no_rules, rules, Cddl, cddl, optional, flat_value, flat_operator, flat_types, flat_type1, flat_type2, flat_ref, flat_arg, flat_group, flat_choice, flat_entry, flat_key, flat_parm, flat_name, flat_rule, flat_rules, flat, is_bare, is_type, NormalTypes, NormalType1, NormalType2, NormalRef, NormalArg, NormalGroup, NormalChoice, NormalEntry, NormalKey, NormalRule, NormalRules, Normal}
-use Rattle.cddl_syntax.specs.Machine.{Before, nothing, behind, no_arg, behind_arg, no_parm, Prefix, bare, tilde, ampersand, TypeOpening, paren, tag, tag_head, tag_content, simple_head, brace, bracket, choice, AtType2, lower, upper, AtType1, head, next, argument_of, AtTypes, body, inside, start, value_of, AtEntry, group_body, member, AtGroup, within, in_entry, State, begin, awaits_parm, have_parm, awaits_assign, want, want_ref, have, have_group, done, got, open_types, open_entry, open_group, open_argument, open_value, prefixed, rule_of, next_rule, shut_paren, open_paren, after_entry, shut_types, after_start, after_types, after_type1, step, run}
+use Rattle.cddl_syntax.specs.Machine.{Before, nothing, earlier, no_arg, earlier_arg, no_parm, Prefix, bare, tilde, ampersand, TypeOpening, paren, tag, tag_head, tag_content, simple_head, brace, bracket, choice, AtType2, lower, upper, AtType1, head, next, argument_of, AtTypes, body, inside, start, value_of, AtEntry, group_body, member, AtGroup, within, in_entry, State, begin, awaits_parm, have_parm, awaits_assign, want, want_ref, have, have_group, done, got, open_types, open_entry, open_group, open_argument, open_value, prefixed, rule_of, next_rule, shut_paren, open_paren, after_entry, shut_types, after_start, after_types, after_type1, step, run}
 
 pub run-append : (s : State) (a b : List Lexeme) → run s (a ++ b) ≡ run (run s a) b
 run-append s [] b = refl
@@ -21,7 +21,7 @@ got_types k (or ts s r) = have (next k ts s) r
 
 abbrev pub got_arg : AtType2 → Prefix → Token → GenericArg → State
 got_arg k p o (argument r) = have (argument_of k p o no_arg) r
-got_arg k p o (arguments a c r) = have (argument_of k p o (behind_arg a c)) r
+got_arg k p o (arguments a c r) = have (argument_of k p o (earlier_arg a c)) r
 
 abbrev pub got_entry : AtEntry → GrpEnt → State
 got_entry p (typed oc t) = got_types (start p oc) t
@@ -35,7 +35,7 @@ got_choice k b (entries es e (Some c)) = open_entry (member k b (entries es e (S
 
 abbrev pub got_group : AtGroup → Group → State
 got_group k (sole es) = got_choice k nothing es
-got_group k (orelse g s es) = got_choice k (behind g s) es
+got_group k (orelse g s es) = got_choice k (earlier g s) es
 
 -- where a reference is awaited
 abbrev pub at_ref : AtType2 → Prefix → State
@@ -171,25 +171,25 @@ takes_comma : (k : AtGroup) (b : Before) (es : GrpChoice) (e : GrpEnt) (c : Opti
 takes_comma k b es e None = refl
 takes_comma k b es e (Some c) = past_entry (member k b es) e Comma c tt
 
-takes_slashes : (k : AtGroup) (g : Group) (s : Token) → step (got_group k g) DoubleSlash s ≡ open_entry (member k (behind g s) no_entries)
+takes_slashes : (k : AtGroup) (g : Group) (s : Token) → step (got_group k g) DoubleSlash s ≡ open_entry (member k (earlier g s) no_entries)
 takes_slashes k (sole es) s = same_step k nothing es DoubleSlash s tt
-takes_slashes k (orelse g p es) s = same_step k (behind g p) es DoubleSlash s tt
+takes_slashes k (orelse g p es) s = same_step k (earlier g p) es DoubleSlash s tt
 
 takes_brace : (k : AtType2) (o : Token) (g : Group) (c : Token) → step (got_group (within k (brace o)) g) BraceClose c ≡ got k (map_of o g c)
 takes_brace k o (sole es) c = same_step (within k (brace o)) nothing es BraceClose c tt
-takes_brace k o (orelse g p es) c = same_step (within k (brace o)) (behind g p) es BraceClose c tt
+takes_brace k o (orelse g p es) c = same_step (within k (brace o)) (earlier g p) es BraceClose c tt
 
 takes_bracket : (k : AtType2) (o : Token) (g : Group) (c : Token) → step (got_group (within k (bracket o)) g) BracketClose c ≡ got k (array_of o g c)
 takes_bracket k o (sole es) c = same_step (within k (bracket o)) nothing es BracketClose c tt
-takes_bracket k o (orelse g p es) c = same_step (within k (bracket o)) (behind g p) es BracketClose c tt
+takes_bracket k o (orelse g p es) c = same_step (within k (bracket o)) (earlier g p) es BracketClose c tt
 
 takes_choice : (k : AtType2) (a o : Token) (g : Group) (c : Token) → step (got_group (within k (choice a o)) g) ParenClose c ≡ got k (choice_of a o g c)
 takes_choice k a o (sole es) c = same_step (within k (choice a o)) nothing es ParenClose c tt
-takes_choice k a o (orelse g p es) c = same_step (within k (choice a o)) (behind g p) es ParenClose c tt
+takes_choice k a o (orelse g p es) c = same_step (within k (choice a o)) (earlier g p) es ParenClose c tt
 
 takes_paren : (p : AtEntry) (oc : Option Token) (o : Token) (g : Group) (c : Token) → step (got_group (in_entry p oc o) g) ParenClose c ≡ shut_paren p oc o g c
 takes_paren p oc o (sole es) c = same_step (in_entry p oc o) nothing es ParenClose c tt
-takes_paren p oc o (orelse g s es) c = same_step (in_entry p oc o) (behind g s) es ParenClose c tt
+takes_paren p oc o (orelse g s es) c = same_step (in_entry p oc o) (earlier g s) es ParenClose c tt
 
 shuts_group : (p : AtEntry) (oc : Option Token) (o : Token) (g : Group) (c : Token) → is_type g ≡ false → shut_paren p oc o g c ≡ have_group p (grouped oc o g c)
 shuts_group p oc o (sole (entries no_entries (typed None t) None)) c h = cc
@@ -216,7 +216,7 @@ takes_value k (number t) ts = refl
 takes_value k (text t) ts = refl
 takes_value k (bytes t) ts = refl
 
-takes_arg : (k : AtType2) (p : Prefix) (o : Token) (a : GenericArg) (c : Token) → step (got_arg k p o a) Comma c ≡ open_argument k p o (behind_arg a c)
+takes_arg : (k : AtType2) (p : Prefix) (o : Token) (a : GenericArg) (c : Token) → step (got_arg k p o a) Comma c ≡ open_argument k p o (earlier_arg a c)
 takes_arg k p o (argument r) c = refl
 takes_arg k p o (arguments a d r) c = refl
 
@@ -289,14 +289,14 @@ mutual
   reads_arg (arguments a c r) n k p o =
       run_in_parts _ _ (flat_arg a) ((Comma, c) ∷ flat_type1 r) (reads_arg a n.0 k p o)
       ∙ ap (λ (x : State). run x (flat_type1 r)) (takes_arg k p o a c)
-      ∙ reads_type1 r n.1 (argument_of k p o (behind_arg a c))
+      ∙ reads_type1 r n.1 (argument_of k p o (earlier_arg a c))
 
   pub reads_group : (g : Group) → NormalGroup g → (k : AtGroup) → run (open_group k) (flat_group g) ≡ got_group k g
   reads_group (sole es) n k = reads_choice es n k nothing
   reads_group (orelse g s es) n k =
       run_in_parts _ _ (flat_group g) ((DoubleSlash, s) ∷ flat_choice es) (reads_group g n.0 k)
       ∙ ap (λ (x : State). run x (flat_choice es)) (takes_slashes k g s)
-      ∙ reads_choice es n.1 k (behind g s)
+      ∙ reads_choice es n.1 k (earlier g s)
 
   pub reads_choice : (es : GrpChoice) → NormalChoice es → (k : AtGroup) (b : Before) → run (open_entry (member k b no_entries)) (flat_choice es) ≡ got_choice k b es
   reads_choice no_entries n k b = refl

@@ -8,16 +8,16 @@ use Rattle.cddl_syntax.specs.Syntax.{Lexeme, number, text, bytes, Operator, rang
 -- The alternatives of a group before the one that is open, and the `//` after them.
 pub data Before : Type 0 where
   nothing : Before
-  behind : Group → Token → Before
+  earlier : Group → Token → Before
 
 -- The arguments, or the parameters, before the one that is open, and the comma after them.
 pub data ArgBefore : Type 0 where
   no_arg : ArgBefore
-  behind_arg : GenericArg → Token → ArgBefore
+  earlier_arg : GenericArg → Token → ArgBefore
 
 pub data ParmBefore : Type 0 where
   no_parm : ParmBefore
-  behind_parm : GenericParm → Token → ParmBefore
+  earlier_parm : GenericParm → Token → ParmBefore
 
 -- What is directly before a reference.
 pub data Prefix : Type 0 where
@@ -101,15 +101,15 @@ open_value p oc m = open_types (value_of p oc m)
 
 abbrev pub group_of : Before → GrpChoice → Group
 group_of nothing es = sole es
-group_of (behind g s) es = orelse g s es
+group_of (earlier g s) es = orelse g s es
 
 abbrev pub arg_of : ArgBefore → Type1 → GenericArg
 arg_of no_arg r = argument r
-arg_of (behind_arg a c) r = arguments a c r
+arg_of (earlier_arg a c) r = arguments a c r
 
 abbrev pub parm_of : ParmBefore → Token → GenericParm
 parm_of no_parm n = parameter n
-parm_of (behind_parm p c) n = parameters p c n
+parm_of (earlier_parm p c) n = parameters p c n
 
 abbrev pub prefixed : Prefix → Ref → Type2
 prefixed bare r = typename r
@@ -129,7 +129,7 @@ next_rule rs End t = done (cddl rs t)
 next_rule rs _ t = stuck
 
 abbrev pub after_parm : Rules → Token → GenericParm → Kind → Token → State
-after_parm rs o p Comma t = awaits_parm rs o (behind_parm p t)
+after_parm rs o p Comma t = awaits_parm rs o (earlier_parm p t)
 after_parm rs o p AngleClose t = awaits_assign rs (generic o p t)
 after_parm rs o p _ t = stuck
 
@@ -154,7 +154,7 @@ shut_group _ g _ c = stuck
 
 -- A token after the entries of an alternative.
 abbrev pub ends : AtGroup → Before → GrpChoice → Kind → Token → State
-ends k b es DoubleSlash t = open_entry (member k (behind (group_of b es) t) no_entries)
+ends k b es DoubleSlash t = open_entry (member k (earlier (group_of b es) t) no_entries)
 ends k b es q t = shut_group k (group_of b es) q t
 
 abbrev pub ends_want : AtType2 → Kind → Token → State
@@ -243,7 +243,7 @@ after_types (start p oc) ts q t = after_start p oc ts q t
 after_types (value_of p oc m) ts q t = after_entry p (keyed oc m ts) q t
 
 abbrev pub after_argument : AtType2 → Prefix → Token → GenericArg → Kind → Token → State
-after_argument k p o a Comma t = open_argument k p o (behind_arg a t)
+after_argument k p o a Comma t = open_argument k p o (earlier_arg a t)
 after_argument k p o a AngleClose t = got k (prefixed p (applied o a t))
 after_argument k p o a _ t = stuck
 
