@@ -149,7 +149,7 @@ awaited_parm rs o b i t e = refl
 
 -- Within a body.
 
--- what holds of the state that the place makes
+-- what holds of the state that the position makes
 pub now_made : {A : Type 0} (f : A → M.State) (q : Option A) (v : Option M.State) (P : M.State → Type 0) → v ≡ made f q → on q (λ x. P (f x)) → on v P
 now_made f q v P e h = rw e (on_made f q P h)
 

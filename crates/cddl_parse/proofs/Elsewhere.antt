@@ -27,19 +27,19 @@ use Rattle.cddl_parse.specs.Frames.{on, made, Below, nowhere, types, reference, 
 use Rattle.cddl_parse.proofs.Steps.{refuses}
 use Rattle.cddl_parse.proofs.Closing.{open_paren_elsewhere, occur_elsewhere, paren_group}
 
--- The first place of a type.
+-- The first position of a type.
 
-start_place : (q : Option M.AtEntry) (oc : Option Token) → made M.lower (made M.head (made (λ p. M.start p oc) q)) ≡ made (λ p. M.lower (M.head (M.start p oc))) q
-start_place None oc = refl
-start_place (Some p) oc = refl
+start_position : (q : Option M.AtEntry) (oc : Option Token) → made M.lower (made M.head (made (λ p. M.start p oc) q)) ≡ made (λ p. M.lower (M.head (M.start p oc))) q
+start_position None oc = refl
+start_position (Some p) oc = refl
 
 pub start_here : (read : Leaf → Token) (b : Below) (x : AtType1) (oc : Option Leaf) → x.before ≡ B.Nothing → x.home ≡ H.Start oc → made M.lower (view_at_type1 read b x) ≡ made (λ p. M.lower (M.head (M.start p (leaf read oc)))) (as_entry b)
-start_here read b x oc f g = rw (f, g) (start_place (as_entry b) (leaf read oc))
+start_here read b x oc f g = rw (f, g) (start_position (as_entry b) (leaf read oc))
 
--- at a place with no operand before it
-pub first_place : (read : Leaf → Token) (r : Option (Option Leaf)) (x : AtType2) (y : AtType1) → x.left ≡ None → y ≡ x.at.value → IsStart read r y → IsHead read r x
-first_place read (Some oc) x y e f h = λ b. rw (e, ← f) (h b)
-first_place read None x y e f h = λ b. rw (e, ← f) (h b)
+-- at a position with no operand before it
+pub first_position : (read : Leaf → Token) (r : Option (Option Leaf)) (x : AtType2) (y : AtType1) → x.left ≡ None → y ≡ x.at.value → IsStart read r y → IsHead read r x
+first_position read (Some oc) x y e f h = λ b. rw (e, ← f) (h b)
+first_position read None x y e f h = λ b. rw (e, ← f) (h b)
 
 -- Places elsewhere.
 
@@ -72,20 +72,20 @@ inside_elsewhere (reference k p o) = tt
 inside_elsewhere (entry p) = tt
 inside_elsewhere (group k) = tt
 
-pub left_place : (read : Leaf → Token) (b : Below) (x : AtType2) (l : Box Left Global) → x.left ≡ Some l → on (view_at_type2 read b x) IsElsewhere
-left_place read b x l e = rw e (upper_elsewhere (view_at_type1 read b x.at.value) _ _)
+pub left_position : (read : Leaf → Token) (b : Below) (x : AtType2) (l : Box Left Global) → x.left ≡ Some l → on (view_at_type2 read b x) IsElsewhere
+left_position read b x l e = rw e (upper_elsewhere (view_at_type1 read b x.at.value) _ _)
 
-pub inside_place : (read : Leaf → Token) (b : Below) (x : AtType1) → x.before ≡ B.Nothing → x.home ≡ H.Inside → on (made M.lower (view_at_type1 read b x)) IsElsewhere
-inside_place read b x f g = rw (f, g) (inside_elsewhere b)
+pub inside_position : (read : Leaf → Token) (b : Below) (x : AtType1) → x.before ≡ B.Nothing → x.home ≡ H.Inside → on (made M.lower (view_at_type1 read b x)) IsElsewhere
+inside_position read b x f g = rw (f, g) (inside_elsewhere b)
 
-pub value_place : (read : Leaf → Token) (b : Below) (x : AtType1) (oc : Option Leaf) (m : Box MemberKey Global) → x.before ≡ B.Nothing → x.home ≡ H.ValueOf oc m → on (made M.lower (view_at_type1 read b x)) IsElsewhere
-value_place read b x oc m f g = rw (f, g) (value_elsewhere (as_entry b) _ _)
+pub value_position : (read : Leaf → Token) (b : Below) (x : AtType1) (oc : Option Leaf) (m : Box MemberKey Global) → x.before ≡ B.Nothing → x.home ≡ H.ValueOf oc m → on (made M.lower (view_at_type1 read b x)) IsElsewhere
+value_position read b x oc m f g = rw (f, g) (value_elsewhere (as_entry b) _ _)
 
-pub choices_place : (read : Leaf → Token) (b : Below) (x : AtType1) (ts : Box Types Global) (s : Leaf) → x.before ≡ B.Choices ts s → on (made M.lower (view_at_type1 read b x)) IsElsewhere
-choices_place read b x ts s f = rw f (next_elsewhere (view_home read b x.home) _ _)
+pub choices_position : (read : Leaf → Token) (b : Below) (x : AtType1) (ts : Box Types Global) (s : Leaf) → x.before ≡ B.Choices ts s → on (made M.lower (view_at_type1 read b x)) IsElsewhere
+choices_position read b x ts s f = rw f (next_elsewhere (view_home read b x.home) _ _)
 
-pub argument_place : (read : Leaf → Token) (b : Below) (x : AtType1) (a : Option Arguments) → x.before ≡ B.Arguments a → on (made M.lower (view_at_type1 read b x)) IsElsewhere
-argument_place read b x a f = rw f (argument_elsewhere b _)
+pub argument_position : (read : Leaf → Token) (b : Below) (x : AtType1) (a : Option Arguments) → x.before ≡ B.Arguments a → on (made M.lower (view_at_type1 read b x)) IsElsewhere
+argument_position read b x a f = rw f (argument_elsewhere b _)
 
 -- A bracket that its opening fits, and one that it does not.
 

@@ -20,7 +20,7 @@ pub cut_several : (p : M.AtEntry) (oc : Option Token) (ts : S.Types) (t : Token)
 cut_several p oc (S.only r) t h = absurd h
 cut_several p oc (S.or ts s r) t h = refl
 
--- the place of a value after its key
+-- the position of a value after its key
 pub arrow_after_cut : (q : Option M.AtEntry) (P : M.State → Type 0) (oc : Option Token) (r : S.Type1) (u : Token) (m : S.MemberKey) (i : Kind) (t : Token) → i ≡ K.Arrow → m ≡ S.type_key r (Some u) t → on q (λ p. P (M.open_value p oc m)) → on q (λ p. P (M.step (M.want_arrow p oc r u) i t))
 arrow_after_cut None P oc r u m i t e f h = tt
 arrow_after_cut (Some p) P oc r u m i t e f h = rw e (rw f at h)
@@ -29,7 +29,7 @@ pub cut_taken : (q : Option M.AtEntry) (P : M.State → Type 0) (oc : Option Tok
 cut_taken None P oc ts r t e h = tt
 cut_taken (Some p) P oc ts r t e h = rw e h
 
--- one place's step is another's
+-- one position's step is another's
 pub on_along : {A : Type 0} (q : Option A) (P : M.State → Type 0) (f g : A → M.State) → ((x : A) → f x ≡ g x) → on q (λ x. P (g x)) → on q (λ x. P (f x))
 on_along None P f g e h = tt
 on_along (Some x) P f g e h = rw (e x) h

@@ -45,7 +45,7 @@ bottom read rs old e = ap (below read rs) e ∙ below-empty read rs
 
 -- What is in a box is what was put into it.
 
--- where the view is what the place makes, it is the state there
+-- where the view is what the position makes, it is the state there
 pub stands_at : {A : Type 0} (f : A → M.State) (q : Option A) (v : Option M.State) → v ≡ made f q → on q (λ x. v ≡ Some (f x))
 stands_at f None v e = tt
 stands_at f (Some x) v e = e

@@ -69,7 +69,7 @@ goes read (St.Body rs fs x) e = now_goes read (below read (view_rules read rs.it
 goes read (St.Done rs o) e = cc
 
 pub live : (read : Leaf → Token) (p : Progress) (ts : List Token) → Stands read p ts → M.run M.begin (lexemes ts) ≢ M.stuck
-live read p ts h e = goes read p.state.value (h.place ∙ ap Some e)
+live read p ts h e = goes read p.state.value (h.position ∙ ap Some e)
 
 -- From token to token.
 
@@ -78,11 +78,11 @@ abbrev pub reading : List Token → Token → Leaf → Token
 reading ts end l = get_or ts l.index end
 
 -- what the step says at the state's view
-at_place : (v : Option M.State) (m : M.State) (P : M.State → Type 0) → v ≡ Some m → on v P → P m
-at_place v m P e h = rw e at h
+at_position : (v : Option M.State) (m : M.State) (P : M.State → Type 0) → v ≡ Some m → on v P → P m
+at_position v m P e h = rw e at h
 
 pub stands_first : (read : Leaf → Token) (s : Box State Global) → s.value ≡ St.Begin → Stands read (record { state = s; count = 0 }) []
-stands_first read s e = record { place = ap (view_state read) e; count = refl; within = omega arith }
+stands_first read s e = record { position = ap (view_state read) e; count = refl; within = omega arith }
 
 -- the step that the code makes at the token t
 abbrev pub Stepped : (Leaf → Token) → Box State Global → Token → Result (Box State Global) Stop → Type 0
@@ -93,7 +93,7 @@ pub told : (read : Leaf → Token) (t : Current) (s : Box State Global) (r : Res
 told read t s r i h = subst (λ (k : Kind). on (view_state read s.value) (λ m. GivesState read (read t.leaf).start r (M.step m k (read t.leaf)))) (sym i.0) (subst (λ (n : ℕ). on (view_state read s.value) (λ m. GivesState read n r (M.step m t.kind (read t.leaf)))) (sym i.1) h)
 
 stepped : (read : Leaf → Token) (p : Progress) (ts : List Token) (t : Token) (r : Result (Box State Global) Stop) → Stands read p ts → Stepped read p.state t r → GivesState read t.start r (M.step (M.run M.begin (lexemes ts)) t.kind t)
-stepped read p ts t r h g = at_place (view_state read p.state.value) (M.run M.begin (lexemes ts)) (λ m. GivesState read t.start r (M.step m t.kind t)) h.place g
+stepped read p ts t r h g = at_position (view_state read p.state.value) (M.run M.begin (lexemes ts)) (λ m. GivesState read t.start r (M.step m t.kind t)) h.position g
 
 pub stands_next : (read : Leaf → Token) (p : Progress) (s : Box State Global) (n : ℕ) (ts : List Token) (t : Token) → Stands read p ts → Stepped read p.state t (Ok s) → n ≡ opened t.kind p.count → n ≤ nesting_limit → Stands read (record { state = s; count = n }) (ts ++ t ∷ [])
 stands_next read p s n ts t h g e w =
@@ -101,7 +101,7 @@ stands_next read p s n ts t h g e w =
     let d = deepest-push 0 ts t in
     let i = h.within in
     record {
-      place = stepped read p ts t (Ok s) h g ∙ ap Some (sym (run-push M.begin ts t));
+      position = stepped read p ts t (Ok s) h g ∙ ap Some (sym (run-push M.begin ts t));
       count = c ∙ sym (open-push 0 ts t);
       within = omega arith;
     }
@@ -136,7 +136,7 @@ Answered = (front : List Token) (e : Token) → e.kind ≡ End → ((x : Cddl) �
 -- A refusal.
 
 reached : (read : Leaf → Token) → Going → (p : Progress) (front back : List Token) (t : Token) → Stands read p front → Reaches (front ++ t ∷ back) front t t.start
-reached read go p front back t h = record { back = back; parts = refl; place = refl; begins = go t (lexemes front) (live read p front h); within = h.within }
+reached read go p front back t h = record { back = back; parts = refl; offset = refl; begins = go t (lexemes front) (live read p front h); within = h.within }
 
 unexpected : (read : Leaf → Token) → Going → Stuck → (p : Progress) (front back : List Token) (t : Token) (n : ℕ) → Stands read p front → M.step (M.run M.begin (lexemes front)) t.kind t ≡ M.stuck → n ≡ t.start → IsUnexpected (front ++ t ∷ back) n
 unexpected read go stop p front back t n h e f = rw f (record {
@@ -173,17 +173,17 @@ refused_whole xs i j d e f l h = subst (λ (ys : List Token). Refuses ys e) (ap 
 
 -- The end.
 
-done_place : (read : Leaf → Token) (s : State) (rs : Vec Rule Global) → Some rs ≡ rules_in s → (o : Leaf) × (view_state read s ≡ Some (M.done (cddl (view_rules read rs.items) (read o))))
-done_place read St.Begin rs e = cc
-done_place read (St.WantParm us o p) rs e = cc
-done_place read (St.HaveParm us o p) rs e = cc
-done_place read (St.WantAssign us n) rs e = cc
-done_place read (St.Body us fs now) rs e = cc
-done_place read (St.Done us o) rs e = let f : rs ≡ us = cc in (o, ap (λ (x : Vec Rule Global). Some (M.done (cddl (view_rules read x.items) (read o)))) (sym f))
+done_position : (read : Leaf → Token) (s : State) (rs : Vec Rule Global) → Some rs ≡ rules_in s → (o : Leaf) × (view_state read s ≡ Some (M.done (cddl (view_rules read rs.items) (read o))))
+done_position read St.Begin rs e = cc
+done_position read (St.WantParm us o p) rs e = cc
+done_position read (St.HaveParm us o p) rs e = cc
+done_position read (St.WantAssign us n) rs e = cc
+done_position read (St.Body us fs now) rs e = cc
+done_position read (St.Done us o) rs e = let f : rs ≡ us = cc in (o, ap (λ (x : Vec Rule Global). Some (M.done (cddl (view_rules read x.items) (read o)))) (sym f))
 
 -- after all tokens the state holds the rules of their tree
 done_after : (read : Leaf → Token) (p : Progress) (ts : List Token) (rs : Vec Rule Global) → Some rs ≡ rules_in p.state.value → Stands read p ts → (x : Token) × (M.run M.begin (lexemes ts) ≡ M.done (cddl (view_rules read rs.items) x))
-done_after read p ts rs e h = let f = h.place in let d = done_place read p.state.value rs e in let g = d.1 in (read d.0, cc)
+done_after read p ts rs e h = let f = h.position in let d = done_position read p.state.value rs e in let g = d.1 in (read d.0, cc)
 
 -- the last token is the end that is printed last
 last_printed : (us : List Lexeme) (ts : List Token) (n : ℕ) (x end : Token) → us ++ (End, x) ∷ [] ≡ lexemes ts → n + 1 ≡ length ts → slice_get ts n ≡ Some end → x ≡ end
@@ -252,7 +252,7 @@ pub is_done : (read : Leaf → Token) → Going → ((ts : List Lexeme) (x : Cdd
 is_done read go complete answered ts p e h f =
     let k : (Stands read) p (e.0 ++ e.1 ∷ []) = subst (Stands read p) e.2 h in
     ⊎_elim
-    (λ y. not_over read p.state.value y.0 (k.place ∙ ap Some (complete (lexemes (e.0 ++ e.1 ∷ [])) y.0 y.1.prints)) f)
+    (λ y. not_over read p.state.value y.0 (k.position ∙ ap Some (complete (lexemes (e.0 ++ e.1 ∷ [])) y.0 y.1.prints)) f)
     (λ y. not_refused (e.0 ++ e.1 ∷ []) y.0 y.1 (go e.1 (lexemes (e.0 ++ e.1 ∷ [])) (live read p (e.0 ++ e.1 ∷ []) k)) k.within y.2)
     (answered e.0 e.1 e.3)
 

@@ -209,7 +209,7 @@ abbrev pub Gives : (Leaf → Token) → Current → S.Rules → Below → Result
 Gives read t rs b (Ok next) m = Comes read t rs b next m
 Gives read t rs b (Err e) m = Refused t.start e m
 
--- a place that is not the head of an entry
+-- a position that is not the head of an entry
 abbrev pub IsElsewhere : M.AtType2 → Type 0
 IsElsewhere (M.lower (M.head (M.start p oc))) = ⊥
 IsElsewhere _ = Unit {0}
@@ -219,7 +219,7 @@ abbrev pub IsStart : (Leaf → Token) → Option (Option Leaf) → AtType1 → T
 IsStart read (Some oc) x = (b : Below) → made M.lower (view_at_type1 read b x) ≡ made (λ p. M.lower (M.head (M.start p (leaf read oc)))) (as_entry b)
 IsStart read None x = (b : Below) → on (made M.lower (view_at_type1 read b x)) IsElsewhere
 
--- the occurrence before the place, where that is the head of an entry
+-- the occurrence before the position, where that is the head of an entry
 abbrev pub IsHead : (Leaf → Token) → Option (Option Leaf) → AtType2 → Type 0
 IsHead read (Some oc) x = (b : Below) → view_at_type2 read b x ≡ made (λ p. M.lower (M.head (M.start p (leaf read oc)))) (as_entry b)
 IsHead read None x = (b : Below) → on (view_at_type2 read b x) IsElsewhere

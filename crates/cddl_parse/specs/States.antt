@@ -35,7 +35,7 @@ abbrev pub GivesState : (Leaf → Token) → ℕ → Result (Box State Global) S
 GivesState read start (Ok s) m = view_state read s.value ≡ Some m
 GivesState read start (Err e) m = Refused start e m
 
--- a body that is awaited at the place, or memory ran out
+-- a body that is awaited at the position, or memory ran out
 abbrev pub BeginsBody : (Leaf → Token) → Result (Box State Global) Stop → Option M.AtTypes → Type 0
 BeginsBody read (Ok s) k = view_state read s.value ≡ made M.open_types k
 BeginsBody read (Err e) k = e ≡ Stops.Memory
@@ -56,7 +56,7 @@ Refuses ts Memory = Unit {0}
 
 -- The parser after the tokens, which nest within the limit.
 pub record Stands (read : Leaf → Token) (p : Progress) (ts : List Token) : Type 0 where
-  pub place : view_state read p.state.value ≡ Some (M.run M.begin (lexemes ts))
+  pub position : view_state read p.state.value ≡ Some (M.run M.begin (lexemes ts))
   pub count : p.count ≡ open_after 0 (lexemes ts)
   pub within : deepest 0 (lexemes ts) ≤ nesting_limit
 

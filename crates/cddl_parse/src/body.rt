@@ -11,7 +11,7 @@ use crate::entry::after_entry;
 use crate::frames::{AtType2, Current, Frame, Next, Now, Stop, TypeOpening};
 use crate::have::step_have;
 use crate::open::open_inside;
-use crate::places::value_at;
+use crate::positions::value_at;
 use crate::want::{step_want, step_want_ref};
 use cddl_token::Kind;
 use cddl_tree::{GrpEnt, Leaf, MemberKey, Type1, Types};

@@ -10,7 +10,7 @@ ghost use Rattle.cddl_parse.specs.Frames.{on, view_group_opening, bracketed, is_
 use crate::build::{content_of, unexpected};
 use crate::frames::{AtType2, Content, Current, GroupOpening, Home, Next, Stop};
 use crate::memory::boxed;
-use crate::places::{got, have_group, type_at};
+use crate::positions::{got, have_group, type_at};
 use cddl_token::Kind;
 use cddl_tree::{Group, GrpEnt, Leaf, Type2};
 use std::alloc::Global;

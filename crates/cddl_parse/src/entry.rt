@@ -11,7 +11,7 @@ use crate::build::{lone_type, unexpected};
 use crate::frames::{Alternatives, Current, Frame, Home, Next, Stop};
 use crate::memory::pushed;
 use crate::open::open_member;
-use crate::places::{ended, type_at};
+use crate::positions::{ended, type_at};
 use crate::want::step_want;
 use cddl_token::Kind;
 use cddl_tree::{AssignG, AssignT, Entry, GrpEnt, Leaf, Rule, RuleName};

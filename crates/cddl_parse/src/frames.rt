@@ -1,4 +1,4 @@
-//! What comes before the place where the parser is. The frames say what each open bracket is in.
+//! What comes before the position where the parser is. The frames say what each open bracket is in.
 use cddl_token::Kind;
 use cddl_tree::{
     AssignG, Entry, GenericArg, GenericParm, Group, GrpEnt, Leaf, MemberKey, Operator, Rule,
@@ -103,7 +103,7 @@ pub(crate) struct AtType2 {
     pub(crate) left: Option<Box<Left>>,
 }
 
-/// What is between the frames below and a place above.
+/// What is between the frames below and a position above.
 #[derive(Drop)]
 pub(crate) enum Frame {
     /// The head of a rule, up to `/=`.

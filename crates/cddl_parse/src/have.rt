@@ -15,7 +15,7 @@ use crate::frames::{
     AtType1, AtType2, Before, Current, Frame, Home, Left, Next, Stop, TypeOpening,
 };
 use crate::memory::boxed;
-use crate::places::{
+use crate::positions::{
     ended, got, next_argument, next_choice, value_at, want, want_arrow, want_content,
 };
 use cddl_token::Kind;

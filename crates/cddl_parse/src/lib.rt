@@ -1,7 +1,7 @@
 //! The parser of CDDL (RFC 8610, appendix B).
 //!
 //! What it holds between two tokens stands for a state of the machine of `cddl_syntax`, and its steps are that
-//! machine's. Each module tells the steps of the places where the parser may be, and calls those above it alone.
+//! machine's. Each module tells the steps of the positions where the parser may be, and calls those above it alone.
 #![tactic(auto)]
 
 mod body;
@@ -14,7 +14,7 @@ mod have;
 mod memory;
 mod open;
 mod parser;
-mod places;
+mod positions;
 mod rules;
 mod state;
 mod want;

@@ -14,7 +14,7 @@ use crate::frames::{
     TypeOpening,
 };
 use crate::memory::pushed;
-use crate::places::{open_argument, open_type};
+use crate::positions::{open_argument, open_type};
 use cddl_tree::{Entry, Leaf};
 use std::alloc::Global;
 
@@ -114,7 +114,7 @@ fn open_entry(
     }
 }
 
-/// The occurrence before the place, where that is the head of an entry.
+/// The occurrence before the position, where that is the head of an entry.
 #[tactic(none)]
 pub(crate) fn entry_head(at: &AtType2) -> Option<Option<Leaf>>
     ensures { (read : Leaf → Token) → IsHead read result at.now }
@@ -125,7 +125,7 @@ pub(crate) fn entry_head(at: &AtType2) -> Option<Option<Leaf>>
     }
 }
 
-/// The same for a place with no operand before it.
+/// The same for a position with no operand before it.
 #[tactic(none)]
 fn start_of(at: &AtType1) -> Option<Option<Leaf>>
     ensures { (read : Leaf → Token) → IsStart read result at.now }

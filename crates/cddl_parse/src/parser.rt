@@ -10,7 +10,7 @@ ghost use Rattle.cddl_tree.specs.View.{view};
 ghost use Rattle.cddl_parse.specs.States.{rules_in, refusal_of, IsRead, EndsInEnd, Refuses, Stands, Advances};
 
 use crate::frames::{Current, Stop};
-use crate::rules::{placed, step};
+use crate::rules::{boxed_state, step};
 use crate::state::{Progress, State};
 use cddl_syntax::{goes_on, is_balanced, is_stuck, makes_trees, one_answer, one_tree, some_answer};
 use cddl_token::{Code, Kind, Refusal, Token};
@@ -123,7 +123,7 @@ pub fn parse<'s>(alloc: Global, tokens: &'s [Token<'s>]) -> Result<Tree<'s>, Ref
     let Some(end) = tokens.last() else {
         unreachable!()
     };
-    let state = match placed(alloc, State::Begin) {
+    let state = match boxed_state(alloc, State::Begin) {
         Ok(state) => state,
         Err(_) => return Err(Refusal::Memory),
     };

@@ -12,14 +12,14 @@ use crate::body::step_body;
 use crate::build::{parm_of, unexpected};
 use crate::frames::{Current, Frame, Home, Next, Now, Parameters, Stop};
 use crate::memory::{boxed, pushed};
-use crate::places::awaited_type;
+use crate::positions::awaited_type;
 use crate::state::State;
 use cddl_token::Kind;
 use cddl_tree::{AssignG, GenericParm, Leaf, Rule, RuleName};
 use std::alloc::Global;
 
 /// The state in a box.
-pub(crate) fn placed(alloc: Global, state: State) -> Result<Box<State>, Stop>
+pub(crate) fn boxed_state(alloc: Global, state: State) -> Result<Box<State>, Stop>
     ensures { MatchResult result (λ s. s.value ≡ state) (λ e. e ≡ Stop.Memory) }
 {
     match boxed(alloc, state) {
@@ -37,9 +37,9 @@ fn next_rule(alloc: Global, rules: Vec<Rule>, token: Current) -> Result<Box<Stat
     ensures { (read : Leaf → Token) → GivesState read token.start result (M.next_rule (view_rules read rules.items) token.kind (read token.leaf)) }
 {
     match token.kind {
-        Kind::Name => placed(alloc, State::WantAssign(rules, RuleName::Plain(token.leaf))),
-        Kind::NameOpen => placed(alloc, State::WantParm(rules, token.leaf, None)),
-        Kind::End => placed(alloc, State::Done(rules, token.leaf)),
+        Kind::Name => boxed_state(alloc, State::WantAssign(rules, RuleName::Plain(token.leaf))),
+        Kind::NameOpen => boxed_state(alloc, State::WantParm(rules, token.leaf, None)),
+        Kind::End => boxed_state(alloc, State::Done(rules, token.leaf)),
         _ => {
             drop(rules);
             Err(unexpected(token))
@@ -62,7 +62,7 @@ fn after_parm(
         Kind::Comma => {
             let comma = token.leaf;
             let before = Parameters { parameters, comma };
-            placed(alloc, State::WantParm(rules, opening, Some(before)))
+            boxed_state(alloc, State::WantParm(rules, opening, Some(before)))
         }
         Kind::AngleClose => {
             let name = RuleName::Generic {
@@ -70,7 +70,7 @@ fn after_parm(
                 parameters,
                 closing: token.leaf,
             };
-            placed(alloc, State::WantAssign(rules, name))
+            boxed_state(alloc, State::WantAssign(rules, name))
         }
         _ => {
             drop(rules);
@@ -80,7 +80,7 @@ fn after_parm(
     }
 }
 
-/// An assignment, or what stands in its place.
+/// An assignment, or what is there in place of one.
 #[tactic(none)]
 fn assigned(
     alloc: Global,
@@ -243,7 +243,7 @@ fn parameter(
 {
     match token.kind {
         Kind::Name => match parm_of(alloc, before, token.leaf) {
-            Ok(parameters) => placed(alloc, State::HaveParm(rules, opening, parameters)),
+            Ok(parameters) => boxed_state(alloc, State::HaveParm(rules, opening, parameters)),
             Err(_) => {
                 drop(rules);
                 Err(Stop::Memory)

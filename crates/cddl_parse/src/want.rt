@@ -11,7 +11,7 @@ use crate::build::{prefixed, unexpected};
 use crate::frames::{AtType2, Current, Frame, GroupOpening, Next, Prefix, Stop, TypeOpening};
 use crate::groups::ends_want;
 use crate::open::{occur_want, open_group, open_inside, open_paren, open_reference};
-use crate::places::{got, want_ref};
+use crate::positions::{got, want_ref};
 use cddl_token::Kind;
 use cddl_tree::{Ref, Type2, Value};
 use std::alloc::Global;

@@ -6,7 +6,7 @@ use Rattle.cddl_token.specs.declared.Kind.TheVariants.{Name, NameOpen, Control, 
 use Rattle.cddl_syntax.specs.Syntax.{Lexeme, number, text, bytes, Operator, range, range_below, control, Types, only, or, Type1, one, Type2, literal, typename, parens, map_of, array_of, choice_of, tagged, tagged_by, simple_by, hash, Ref, name, applied, GenericArg, Group, sole, GrpChoice, no_entries, entries, GrpEnt, typed, keyed, GenericParm, RuleName, type_or, AssignG, group_is, group_or, type_rule, Rules, no_rules, rules, Cddl, optional, flat_operator, flat_types, flat_type1, flat_type2, flat_ref, flat_arg, flat_group, flat_choice, flat_entry, flat_key, flat_parm, flat_name, flat_assigng, flat_rule, flat_rules, flat, NormalTypes, NormalType1, NormalType2, NormalRef, NormalArg, NormalGroup, NormalChoice, NormalEntry, NormalKey, NormalRule, NormalRules, Normal}
 use Rattle.cddl_syntax.specs.Machine.{Before, nothing, earlier, ArgBefore, no_arg, earlier_arg, ParmBefore, no_parm, earlier_parm, Prefix, bare, tilde, ampersand, TypeOpening, paren, tag, tag_head, tag_content, simple_head, GroupOpening, brace, bracket, choice, AtType2, lower, upper, AtType1, head, next, argument_of, AtTypes, body, inside, start, value_of, AtEntry, group_body, member, AtGroup, within, in_entry, State, begin, awaits_parm, have_parm, awaits_assign, want, want_ref, want_content, have, want_arrow, have_group, done, stuck, got, open_entry, open_group, group_of, arg_of, parm_of, prefixed, rule_of, next_rule, after_parm, assigned, shut_paren, shut_group, ends, ends_want, occur_want, open_paren, step_want, open_choice, step_want_ref, after_entry, arrow, cut, colon, shut_types, after_start, after_types, after_argument, slash, operated, after_type1, step_have, step, run}
 
--- The tokens of what is left of a place.
+-- The tokens of what comes before a position.
 
 abbrev text_before : Before → List Lexeme
 text_before nothing = []

@@ -104,7 +104,7 @@ apart ts x code at h r =
     let good = front_of_tree x ts h in
     never_bad (bad.0 ++ bad.1 ∷ []) back code (subst (λ us. Begins (lexemes us)) is good.0) (subst (λ us. deepest 0 (lexemes us) ≤ nesting_limit) is good.1) bad.3
 
--- Two places in one list: the same, or one after the other.
+-- Two positions in one list: the same, or one after the other.
 abbrev Split : List Token → Token → List Token → Token → Type 0
 Split f t g u = ((f ≡ g) × (t ≡ u)) ⊎ (((r : List Token) × (g ≡ (f ++ t ∷ []) ++ r)) ⊎ ((r : List Token) × (f ≡ (g ++ u ∷ []) ++ r)))
 
@@ -135,7 +135,7 @@ one_place : (ts f : List Token) (t : Token) (g : List Token) (u : Token) (c d : 
     → Reaches ts f t p → Reaches ts g u q → IsBad (f ++ t ∷ []) c → IsBad (g ++ u ∷ []) d → Split f t g u → (d ≡ c) × (q ≡ p)
 one_place ts f t g u c d p q r s h k (inl e) = (
   same_code (f ++ t ∷ []) c d h (subst (λ us. IsBad us d) (ap (λ a. a ++ u ∷ []) (sym e.0) ∙ ap (λ a. f ++ a ∷ []) (sym e.1)) k),
-  s.place ∙ ap (λ (a : Token). a.start) (sym e.1) ∙ sym r.place,
+  s.offset ∙ ap (λ (a : Token). a.start) (sym e.1) ∙ sym r.offset,
 )
 one_place ts f t g u c d p q r s h k (inr (inl e)) =
     absurd (never_bad (f ++ t ∷ []) e.0 c (subst (λ us. Begins (lexemes us)) e.1 s.begins) (subst (λ us. deepest 0 (lexemes us) ≤ nesting_limit) e.1 s.within) h)
@@ -167,7 +167,7 @@ abbrev HasRefusal : List Token → Type 0
 HasRefusal ts = (c : Code) × (p : ℕ) × IsRefused ts c p
 
 reached : (front : List Token) (t : Token) (back : List Token) → IsGood front → Reaches (front ++ t ∷ back) front t t.start
-reached front t back g = record { back = back; parts = refl; place = refl; begins = live_begins t (lexemes front) g.live; within = g.within }
+reached front t back g = record { back = back; parts = refl; offset = refl; begins = live_begins t (lexemes front) g.live; within = g.within }
 
 one_deeper : (front : List Token) (t : Token) → deepest 0 (lexemes front) ≤ nesting_limit → open_after 0 (lexemes (front ++ t ∷ [])) ≤ nesting_limit → deepest 0 (lexemes (front ++ t ∷ [])) ≤ nesting_limit
 one_deeper front t h k =

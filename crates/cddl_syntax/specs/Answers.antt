@@ -61,7 +61,7 @@ pub record IsTreeOf (x : Cddl) (ts : List Token) : Type 0 where
 pub record Reaches (ts front : List Token) (t : Token) (at : ℕ) : Type 0 where
   pub back : List Token
   pub parts : ts ≡ front ++ t ∷ back
-  pub place : at ≡ t.start
+  pub offset : at ≡ t.start
   pub begins : Begins (lexemes front)
   pub within : deepest 0 (lexemes front) ≤ nesting_limit
 

@@ -44,7 +44,7 @@ pub fn some_answer()
     ensures { (front : List Token) (e : Token) → e.kind ≡ End → ((x : Cddl) × IsTreeOf x (front ++ e ∷ [])) ⊎ ((c : Code) × (p : ℕ) × IsRefused (front ++ e ∷ []) c p) }
 {}
 
-/// Tokens are a specification or are refused, never both, and refused for one reason at one place.
+/// Tokens are a specification or are refused, never both, and refused for one reason at one byte.
 pub fn one_answer()
     ensures apart { (ts : List Token) (x : Cddl) (c : Code) (p : ℕ) → IsTreeOf x ts → IsRefused ts c p → ⊥ }
     ensures refusal { (ts : List Token) (c d : Code) (p q : ℕ) → IsRefused ts c p → IsRefused ts d q → (d ≡ c) × (q ≡ p) }

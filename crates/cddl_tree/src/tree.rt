@@ -3,7 +3,7 @@ ghost use Rattle.cddl_tree.specs.View.{token_of};
 
 use cddl_token::Token;
 
-/// A leaf: the place of its token in the tree's list of tokens.
+/// A leaf: the index of its token in the tree's list of tokens.
 #[derive(Clone, Copy)]
 pub struct Leaf {
     pub index: u32,
