@@ -1,0 +1,13 @@
+mod Sizes
+mod Takes
+mod Induction
+mod ByForm
+mod Down
+mod Total
+mod Well
+mod Some
+mod Frames
+mod Bytes
+mod Example
+mod Flags
+pub mod Lemmas

@@ -1,0 +1,212 @@
+-- Each question has a reply by the moves, and each question on the way is below the one that asks it.
+use Rattle.std.proofs.Common.{◌≡◌, ℕ, zero, suc, ◌+◌, ◌-◌, ◌<◌, ◌≤◌, ◌⊎◌, inl, inr, max, length, List, [], ◌∷◌, Option, Some, None, Bool, true, false, nat_eq, refl, ap, arith}
+use Rattle.std.proofs.lemmas.Bool.Decides.{nat_tests}
+use Rattle.cbor_data.specs.Value.{Value, uint}
+use Rattle.cddl_meaning.specs.Forms.{passes, members_in, tag_in, simple_in, TagNumber, any_number, exactly, such_as, Node, Plain, Ref, Choice, ArrayOf, TagOf, SimpleBy, Most, Group, Entry, GroupRef, Sequence, Alternatives, Repeat, Language}
+use Rattle.cddl_meaning.specs.Judges.{Reply, Takes, Fails, is_over, one_less}
+use Rattle.cddl_meaning.specs.Moves.{Question, OfType, OfGroup, Pending, InChoice, InHead, InSimple, InEntry, InSequence, InAlternatives, InRepeat, Move, Answered, Asks, plus, test_reply, array_reply, next_member, next_part, next_alternative, next_round, repetition, after_round, end_of_rounds, array_move, content_move, tag_move, simple_move, type_move, entry_move, group_move, next_move}
+use Rattle.cddl_ranks.specs.Size.{size, list_size, size_of}
+use Rattle.cddl_ranks.specs.Ranked.{MayBeEmpty, named, every_part, one_of_them, no_minimum, no_round, an_empty_round, AllMayBeEmpty, no_part, this_part, OneMayBeEmpty, this_one, another}
+use Rattle.cddl_ranks.specs.Flags.{AreBelow, IsTypeRanked}
+use Rattle.cddl_ranks.proofs.ByForm.{LeadsDown, IsGroupRanked, IsRankedByForm}
+use Rattle.cddl_ranks.proofs.Down.{rank_of, RepliesDown, replies, EndsDown, at_once, after}
+use Rattle.cddl_ranks.proofs.Sizes.{size_some, all_some, array_size, tag_size}
+use Rattle.cddl_ranks.proofs.Takes.{IsShorter, IsBehind, TakesWell, AnyReply, takes_as, takes_more, takes_less, entry_takes}
+use Rattle.cddl_ranks.proofs.Induction.{IsLess, for_types, for_groups}
+
+is_equal : (m n : ℕ) → nat_eq m n ≡ true → m ≡ n
+is_equal m n h = grind (arith, nat_tests)
+
+is_unequal : (m n : ℕ) → nat_eq m n ≡ false → m ≡ n → ⊥
+is_unequal m n h e = grind (arith, nat_tests)
+
+module _ {N G : Type 0} (l : Language N G) (T : N → ℕ) (U : G → ℕ) where
+  -- a move ends with a reply of this kind
+  record Ending (S R : ℕ) (m : Move N G) (IsGood : Reply → Type 0) : Type 0 where
+    reply : Reply
+    weight : ℕ
+    ends : EndsDown l T U S R m reply weight
+    good : IsGood reply
+
+  pub record Replied (q : Question N G) (IsGood : Reply → Type 0) : Type 0 where
+    pub reply : Reply
+    pub weight : ℕ
+    pub replies_down : RepliesDown l T U q reply weight
+    pub good : IsGood reply
+
+  abbrev pub Empty : G → Type 0
+  Empty g = MayBeEmpty l (l.group_at g)
+
+  -- every type below this size and rank has a reply, and every group
+  abbrev TypesReply : ℕ → ℕ → Type 0
+  TypesReply S R = (m : N) (p : ℕ) (y : Value) → IsLess (size y) (T m) S R → Replied (OfType m p y) AnyReply
+
+  abbrev GroupsReply : ℕ → ℕ → Type 0
+  GroupsReply S R = (g : G) (base q : ℕ) (ys : List Value) → IsLess (list_size ys) (U g) S R → Replied (OfGroup g base q ys) (TakesWell (Empty g) ys)
+
+  module _ (S R : ℕ) (types : TypesReply S R) (groups : GroupsReply S R) where
+    at_end : (r : Reply) (IsGood : Reply → Type 0) → IsGood r → Ending S R (Answered r) IsGood
+    at_end r IsGood h = record { reply = r; weight = 0; ends = at_once; good = h }
+
+    then : {q : Question N G} {o : Pending N G} {s : Reply} {w : ℕ} {IsGood : Reply → Type 0} → IsLess (size_of q) (rank_of T U q) S R → RepliesDown l T U q s w → Ending S R (next_move o s) IsGood → Ending S R (Asks q o) IsGood
+    then {w = w} i d e = record { reply = e.reply; weight = w + e.weight; ends = after i d e.ends; good = e.good }
+
+    choose_next : (m : N) (ms : List N) (p : ℕ) (x : Value) (far : ℕ) (s : Reply) → ((far : ℕ) → Ending S R (next_member ms p x far) AnyReply) → Ending S R (next_move (InChoice ms p x far) s) AnyReply
+    choose_next m ms p x far (Takes left b later) rest = at_end (Takes [] b 0) AnyReply tt
+    choose_next m ms p x far (Fails later) rest = rest (max far later)
+
+    choose_total : (ms : List N) (p : ℕ) (x : Value) (far : ℕ) → size x ≤ S → AreBelow T R ms → Ending S R (next_member ms p x far) AnyReply
+    choose_total [] p x far h b = at_end (Fails far) AnyReply tt
+    choose_total (m ∷ ms) p x far h b =
+        let d = types m p x (inr (h, b.0)) in
+        then (inr (h, b.0)) d.replies_down (choose_next m ms p x far d.reply (λ far. choose_total ms p x far h b.1))
+
+    array_total : (g : G) (p : ℕ) (x : Value) → size x ≤ S → U g < R → (o : Option (List Value)) → members_in x ≡ o → Ending S R (array_move g p o) AnyReply
+    array_total g p x h u None e = at_end (Fails p) AnyReply tt
+    array_total g p x h u (Some xs) e =
+        let i : list_size xs ≤ S = omega (arith, h, array_size x xs e) in
+        let d = groups g p (plus p 1) xs (inr (i, u)) in
+        then (inr (i, u)) d.replies_down (at_end (array_reply d.reply) AnyReply tt)
+
+    content_total : (m : N) (p : ℕ) (y : Value) (b : Bool) → size y < S → Ending S R (content_move m p y b) AnyReply
+    content_total m p y true h = let d = types m (plus p 1) y (inl h) in then (inl h) d.replies_down (at_end d.reply AnyReply tt)
+    content_total m p y false h = at_end (Fails p) AnyReply tt
+
+    head_next : (m : N) (p : ℕ) (y : Value) (s : Reply) → size y < S → Ending S R (next_move (InHead m p y) s) AnyReply
+    head_next m p y (Takes left b later) h = content_total m p y true h
+    head_next m p y (Fails later) h = at_end (Fails p) AnyReply tt
+
+    tag_total : (t : TagNumber N) (m : N) (p : ℕ) (x : Value) → size x ≤ S → (o : Option (ℕ × Value)) → tag_in x ≡ o → Ending S R (tag_move t m p o) AnyReply
+    tag_total t m p x h None e = at_end (Fails p) AnyReply tt
+    tag_total any_number m p x h (Some (n, y)) e = content_total m p y true (omega (arith, h, tag_size x y n e))
+    tag_total (exactly k) m p x h (Some (n, y)) e = content_total m p y (nat_eq k n) (omega (arith, h, tag_size x y n e))
+    tag_total (such_as t) m p x h (Some (n, y)) e =
+        let i : size (uint n) < S = omega (arith, h, tag_size x y n e, size_some y) in
+        let d = types t p (uint n) (inl i) in
+        then (inl i) d.replies_down (head_next m p y d.reply (omega (arith, h, tag_size x y n e)))
+
+    number_next : (p : ℕ) (s : Reply) → Ending S R (next_move (InSimple p) s) AnyReply
+    number_next p (Takes left b later) = at_end (Takes [] (plus p 1) 0) AnyReply tt
+    number_next p (Fails later) = at_end (Fails p) AnyReply tt
+
+    simple_total : (m : N) (p : ℕ) → 1 ≤ S → T m < R → (o : Option ℕ) → Ending S R (simple_move m p o) AnyReply
+    simple_total m p h u None = at_end (Fails p) AnyReply tt
+    simple_total m p h u (Some n) =
+        let i : size (uint n) ≤ S = omega (arith, h) in
+        let d = types m p (uint n) (inr (i, u)) in
+        then (inr (i, u)) d.replies_down (number_next p d.reply)
+
+    type_total : (t : Node N G) (p : ℕ) (x : Value) → size x ≤ S → IsTypeRanked T U R t → Ending S R (type_move t p x) AnyReply
+    type_total (Plain t) p x h k = at_end (test_reply p x (passes t x)) AnyReply tt
+    type_total (Ref m) p x h k = let d = types m p x (inr (h, k)) in then (inr (h, k)) d.replies_down (at_end d.reply AnyReply tt)
+    type_total (Choice ms) p x h k = choose_total ms p x p h k
+    type_total (ArrayOf g) p x h k = array_total g p x h k (members_in x) refl
+    type_total (TagOf t m) p x h k = tag_total t m p x h (tag_in x) refl
+    type_total (SimpleBy m) p x h k = simple_total m p (omega (arith, h, size_some x)) k (simple_in x)
+
+    first_next : (g : G) (gs : List G) (base q : ℕ) (ys : List Value) (far : ℕ) (s : Reply) → TakesWell (Empty g) ys s → ((far : ℕ) → Ending S R (next_alternative gs base q ys far) (TakesWell (OneMayBeEmpty l gs) ys)) → Ending S R (next_move (InAlternatives gs base q ys far) s) (TakesWell (OneMayBeEmpty l (g ∷ gs)) ys)
+    first_next g gs base q ys far (Takes left b later) good rest = at_end (Takes left b (max far later)) (TakesWell (OneMayBeEmpty l (g ∷ gs)) ys) (takes_as (Empty g) (OneMayBeEmpty l (g ∷ gs)) (λ e. this_one e) ys (Takes left b later) good)
+    first_next g gs base q ys far (Fails later) good rest =
+        let e = rest (max far later) in
+        record { reply = e.reply; weight = e.weight; ends = e.ends; good = takes_as (OneMayBeEmpty l gs) (OneMayBeEmpty l (g ∷ gs)) (λ e. another e) ys e.reply e.good }
+
+    first_total : (gs : List G) (base q : ℕ) (ys : List Value) (far : ℕ) → list_size ys ≤ S → AreBelow U R gs → Ending S R (next_alternative gs base q ys far) (TakesWell (OneMayBeEmpty l gs) ys)
+    first_total [] base q ys far h b = at_end (Fails far) (TakesWell (OneMayBeEmpty l []) ys) tt
+    first_total (g ∷ gs) base q ys far h b =
+        let d = groups g base q ys (inr (h, b.0)) in
+        then (inr (h, b.0)) d.replies_down (first_next g gs base q ys far d.reply d.good (λ far. first_total gs base q ys far h b.1))
+
+    -- the further parts of a sequence are asked of a smaller list, or go down
+    abbrev GoesDown : List G → List Value → Type 0
+    GoesDown gs ys = (list_size ys < S) ⊎ ((list_size ys ≤ S) × LeadsDown l U R gs)
+
+    part_less : (g : G) (gs : List G) (ys : List Value) → GoesDown (g ∷ gs) ys → IsLess (list_size ys) (U g) S R
+    part_less g gs ys (inl h) = inl h
+    part_less g gs ys (inr h) = inr (h.0, h.1.0)
+
+    rest_less : (g : G) (gs : List G) (ys left : List Value) → IsBehind (Empty g) left ys → GoesDown (g ∷ gs) ys → GoesDown gs left
+    rest_less g gs ys left (inl i) (inl h) = inl (omega (arith, h, ap list_size i.1))
+    rest_less g gs ys left (inl i) (inr h) = inr (omega (arith, h.0, ap list_size i.1), h.1.1 i.0)
+    rest_less g gs ys left (inr i) (inl h) = inl (omega (arith, h, i.0))
+    rest_less g gs ys left (inr i) (inr h) = inl (omega (arith, h.0, i.0))
+
+    each_next : (g : G) (gs : List G) (base : ℕ) (ys : List Value) (far : ℕ) (s : Reply) → TakesWell (Empty g) ys s → GoesDown (g ∷ gs) ys → ((q : ℕ) (zs : List Value) (far : ℕ) → GoesDown gs zs → Ending S R (next_part gs base q zs far) (TakesWell (AllMayBeEmpty l gs) zs)) → Ending S R (next_move (InSequence gs base far) s) (TakesWell (AllMayBeEmpty l (g ∷ gs)) ys)
+    each_next g gs base ys far (Takes left b later) good h rest =
+        let e = rest b left (max far later) (rest_less g gs ys left good h) in
+        record { reply = e.reply; weight = e.weight; ends = e.ends; good = takes_as (Empty g × AllMayBeEmpty l gs) (AllMayBeEmpty l (g ∷ gs)) (λ e. this_part e.0 e.1) ys e.reply (takes_more (Empty g) (AllMayBeEmpty l gs) ys left e.reply good e.good) }
+    each_next g gs base ys far (Fails later) good h rest = at_end (Fails (max far later)) (TakesWell (AllMayBeEmpty l (g ∷ gs)) ys) tt
+
+    each_total : (gs : List G) (base q : ℕ) (ys : List Value) (far : ℕ) → GoesDown gs ys → Ending S R (next_part gs base q ys far) (TakesWell (AllMayBeEmpty l gs) ys)
+    each_total [] base q ys far h = at_end (Takes ys q far) (TakesWell (AllMayBeEmpty l []) ys) (inl (no_part, refl))
+    each_total (g ∷ gs) base q ys far h =
+        let i = part_less g gs ys h in
+        let d = groups g base q ys i in
+        then i d.replies_down (each_next g gs base ys far d.reply d.good h (λ q zs far i. each_total gs base q zs far i))
+
+    end_total : (least : ℕ) (most : Most) (g : G) (ys : List Value) (q far : ℕ) → Ending S R (end_of_rounds least ys q far) (TakesWell (MayBeEmpty l (Repeat least most g)) ys)
+    end_total zero most g ys q far = at_end (Takes ys q far) (TakesWell (MayBeEmpty l (Repeat 0 most g)) ys) (inl (no_minimum, refl))
+    end_total (suc least) most g ys q far = at_end (Fails far) (TakesWell (MayBeEmpty l (Repeat (suc least) most g)) ys) tt
+
+    -- the rounds behind one that took something
+    abbrev MoreRounds : ℕ → Most → G → ℕ → List Value → Type 0
+    MoreRounds least most g base ys = (q : ℕ) (zs : List Value) (far : ℕ) → IsShorter zs ys → Ending S R (repetition (least - 1) (one_less most) g base q zs far) (TakesWell (MayBeEmpty l (Repeat (least - 1) (one_less most) g)) zs)
+
+    behind_total : (least : ℕ) (most : Most) (g : G) (base q : ℕ) (ys : List Value) (far : ℕ) (left : List Value) (b : ℕ) (c : Bool) → nat_eq (length left) (length ys) ≡ c → IsBehind (Empty g) left ys → MoreRounds least most g base ys → Ending S R (after_round c least most g base q ys far left b) (TakesWell (MayBeEmpty l (Repeat least most g)) ys)
+    behind_total least most g base q ys far left b true c (inl i) rest = at_end (Takes ys q far) (TakesWell (MayBeEmpty l (Repeat least most g)) ys) (inl (an_empty_round i.0, refl))
+    behind_total least most g base q ys far left b true c (inr i) rest = absurd (omega (arith, i.1, is_equal (length left) (length ys) c))
+    behind_total least most g base q ys far left b false c (inl i) rest = absurd (is_unequal (length left) (length ys) c (ap (λ zs. length zs) i.1))
+    behind_total least most g base q ys far left b false c (inr i) rest =
+        let e = rest b left far i in
+        record { reply = e.reply; weight = e.weight; ends = e.ends; good = takes_less (MayBeEmpty l (Repeat least most g)) (MayBeEmpty l (Repeat (least - 1) (one_less most) g)) ys left e.reply i e.good }
+
+    round_next : (least : ℕ) (most : Most) (g : G) (base q : ℕ) (ys : List Value) (far : ℕ) (s : Reply) → TakesWell (Empty g) ys s → MoreRounds least most g base ys → Ending S R (next_move (InRepeat least most g base q ys far) s) (TakesWell (MayBeEmpty l (Repeat least most g)) ys)
+    round_next least most g base q ys far (Takes left b later) good rest = behind_total least most g base q ys (max far later) left b (nat_eq (length left) (length ys)) refl good rest
+    round_next least most g base q ys far (Fails later) good rest = end_total least most g ys q (max far later)
+
+    rounds_total : (j least : ℕ) (most : Most) (g : G) (base q : ℕ) (ys : List Value) (far : ℕ) → length ys < j → list_size ys ≤ S → U g < R → (c : Bool) → is_over most ≡ c → Ending S R (next_round c least most g base q ys far) (TakesWell (MayBeEmpty l (Repeat least most g)) ys)
+    rounds_total zero least most g base q ys far n h u c e = absurd (omega (arith, n))
+    rounds_total (suc j) least most g base q ys far n h u true e = at_end (Takes ys q far) (TakesWell (MayBeEmpty l (Repeat least most g)) ys) (inl (no_round e, refl))
+    rounds_total (suc j) least most g base q ys far n h u false e =
+        let d = groups g base q ys (inr (h, u)) in
+        then (inr (h, u)) d.replies_down (round_next least most g base q ys far d.reply d.good (λ q zs far i. rounds_total j (least - 1) (one_less most) g base q zs far (omega (arith, n, i.1)) (omega (arith, h, i.0)) u (is_over (one_less most)) refl))
+
+    entry_next : (E : Type 0) (base : ℕ) (x : Value) (xs : List Value) (s : Reply) → Ending S R (next_move (InEntry base xs) s) (TakesWell E (x ∷ xs))
+    entry_next E base x xs (Takes left b later) = at_end (Takes xs b base) (TakesWell E (x ∷ xs)) (entry_takes E x xs b base)
+    entry_next E base x xs (Fails later) = at_end (Fails (max base later)) (TakesWell E (x ∷ xs)) tt
+
+    entry_total : (m : N) (base q : ℕ) (ys : List Value) → list_size ys ≤ S → Ending S R (entry_move m base q ys) (TakesWell (MayBeEmpty l (Entry m)) ys)
+    entry_total m base q [] h = at_end (Fails base) (TakesWell (MayBeEmpty l (Entry m)) []) tt
+    entry_total m base q (y ∷ ys) h =
+        let i : size y < S = omega (arith, h, all_some ys) in
+        let d = types m q y (inl i) in
+        then (inl i) d.replies_down (entry_next (MayBeEmpty l (Entry m)) base y ys d.reply)
+
+    group_total : (t : Group N G) (base q : ℕ) (ys : List Value) → list_size ys ≤ S → IsGroupRanked l U R t → Ending S R (group_move t base q ys) (TakesWell (MayBeEmpty l t) ys)
+    group_total (Entry m) base q ys h k = entry_total m base q ys h
+    group_total (GroupRef g) base q ys h k =
+        let d = groups g base q ys (inr (h, k)) in
+        then (inr (h, k)) d.replies_down (at_end d.reply (TakesWell (MayBeEmpty l (GroupRef g)) ys) (takes_as (Empty g) (MayBeEmpty l (GroupRef g)) (λ e. named e) ys d.reply d.good))
+    group_total (Sequence gs) base q ys h k =
+        let e = each_total gs base q ys base (inr (h, k)) in
+        record { reply = e.reply; weight = e.weight; ends = e.ends; good = takes_as (AllMayBeEmpty l gs) (MayBeEmpty l (Sequence gs)) (λ e. every_part e) ys e.reply e.good }
+    group_total (Alternatives gs) base q ys h k =
+        let e = first_total gs base q ys base h k in
+        record { reply = e.reply; weight = e.weight; ends = e.ends; good = takes_as (OneMayBeEmpty l gs) (MayBeEmpty l (Alternatives gs)) (λ e. one_of_them e) ys e.reply e.good }
+    group_total (Repeat least most g) base q ys h k = rounds_total (suc (length ys)) least most g base q ys base (omega arith) h k (is_over most) refl
+
+  module _ (bound : ℕ) (ranked : IsRankedByForm l T U bound) where
+    type_step : (m : N) (p : ℕ) (y : Value) → TypesReply (size y) (T m) → GroupsReply (size y) (T m) → Replied (OfType m p y) AnyReply
+    type_step m p y types groups =
+        let e = type_total (size y) (T m) types groups (l.type_at m) p y (omega arith) (ranked.types m) in
+        record { reply = e.reply; weight = suc e.weight; replies_down = replies e.ends; good = tt }
+
+    group_step : (g : G) (base q : ℕ) (ys : List Value) → TypesReply (list_size ys) (U g) → GroupsReply (list_size ys) (U g) → Replied (OfGroup g base q ys) (TakesWell (Empty g) ys)
+    group_step g base q ys types groups =
+        let e = group_total (list_size ys) (U g) types groups (l.group_at g) base q ys (omega arith) (ranked.groups g) in
+        record { reply = e.reply; weight = suc e.weight; replies_down = replies e.ends; good = e.good }
+
+    pub type_replies : (m : N) (p : ℕ) (y : Value) → Replied (OfType m p y) AnyReply
+    type_replies = for_types T U (λ m p y. Replied (OfType m p y) AnyReply) (λ g base q ys. Replied (OfGroup g base q ys) (TakesWell (Empty g) ys)) type_step group_step
+
+    pub group_replies : (g : G) (base q : ℕ) (ys : List Value) → Replied (OfGroup g base q ys) (TakesWell (Empty g) ys)
+    group_replies = for_groups T U (λ m p y. Replied (OfType m p y) AnyReply) (λ g base q ys. Replied (OfGroup g base q ys) (TakesWell (Empty g) ys)) type_step group_step

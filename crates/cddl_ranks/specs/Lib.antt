@@ -1,0 +1,6 @@
+pub mod Size
+pub mod Ranked
+pub mod Flags
+pub mod Reached
+pub mod Decided
+pub mod Example

@@ -1,0 +1,14 @@
+-- Where a matcher is while it answers a question by the moves: which questions are open, and its next move.
+use Rattle.std.specs.Prelude.{List, [], ◌∷◌}
+use Rattle.cddl_meaning.specs.Forms.{Language}
+use Rattle.cddl_meaning.specs.Judges.{Reply}
+use Rattle.cddl_meaning.specs.Moves.{Question, Pending, InRef, Move, Answered, Asks, first_move, next_move}
+
+-- What waits for the reply to each open question, the last question's first; and the next move.
+pub data IsReached {N G : Type 0} (l : Language N G) (first : Question N G) : List (Pending N G) → Move N G → Type 0 where
+  -- nothing is open yet
+  begun : IsReached l first [] (Asks first InRef)
+  -- a question is asked: it is open now
+  asked : {q : Question N G} {o : Pending N G} {os : List (Pending N G)} → IsReached l first os (Asks q o) → IsReached l first (o ∷ os) (first_move l q)
+  -- the last open question has its reply, and the one that asked it goes on
+  answered : {s : Reply} {o : Pending N G} {os : List (Pending N G)} → IsReached l first (o ∷ os) (Answered s) → IsReached l first os (next_move o s)
