@@ -1,5 +1,6 @@
 pub mod Lemmas
 mod Lists
 mod Turns
+mod Decides
 mod Verdicts
 mod Room

@@ -7,7 +7,7 @@ use Rattle.cddl_meaning.specs.Judges as J
 use Rattle.cddl_meaning.specs.Moves as M
 use Rattle.cddl_table.specs.declared.nodes.TypeId.{TypeId}
 use Rattle.cddl_table.specs.declared.nodes.GroupId.{GroupId}
-use Rattle.cddl_table.specs.Language.{most_view}
+use Rattle.cddl_table.specs.Nodes.{most_view}
 use Rattle.cddl_match.specs.declared.questions.Subject.{Subject}
 use Rattle.cddl_match.specs.declared.questions.Subject.TheVariants as S
 use Rattle.cddl_match.specs.declared.questions.Question.{Question}

@@ -6,7 +6,8 @@ ghost use Rattle.cbor_item.specs.View.{view};
 ghost use Rattle.cddl_meaning.specs.Judges.{Answer};
 ghost use Rattle.cddl_meaning.specs.Moves.{OfType};
 ghost use Rattle.cddl_match.specs.Views.{question_view, reply_view, verdict_of};
-ghost use Rattle.cddl_table.specs.Language.{RootSays};
+ghost use Rattle.cddl_ranks.specs.Decided.{IsDecided};
+ghost use Rattle.cddl_table.specs.Language.{RootSays, language_of, root_form};
 
 use crate::answers::Verdict;
 use crate::moves::{first_move, next_move};
@@ -29,6 +30,8 @@ pub fn verdict(
     item: &Sound,
     steps: u64,
 ) -> Result<Verdict, AllocError>
+    // Whatever is returned, the root type says exactly one thing of the item.
+    ensures decided { IsDecided (language_of table.now) (root_form table.now) 0 item.now }
     // A yes and a no are the definition's, and took as many steps as there are judgements in it.
     ensures yes { result ≡ Ok Verdict.Yes → (w : ℕ) × RootSays table.now item.now Answer.Yes w × (w ≤ steps) }
     ensures no { (place : ℕ) → result ≡ Ok (Verdict.No place) → (w : ℕ) × RootSays table.now item.now (Answer.No place) w × (w ≤ steps) }

@@ -11,4 +11,4 @@ mod tested;
 
 pub use crate::answers::Verdict;
 pub use crate::judging::verdict;
-pub use crate::laws::{one_answer, shows_inside};
+pub use crate::laws::{decided, one_answer, shows_inside};

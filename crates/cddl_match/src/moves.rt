@@ -32,7 +32,8 @@ ghost use Rattle.cddl_meaning.specs.Moves.{
   yes_reply,
 };
 ghost use Rattle.cddl_match.specs.Views.{question_view, pending_view, move_view, reply_view, subject_view, values};
-ghost use Rattle.cddl_table.specs.Language.{group_view, language_of, most_view, tag_number_view, test_view, type_view};
+ghost use Rattle.cddl_table.specs.Language.{language_of};
+ghost use Rattle.cddl_table.specs.Nodes.{group_view, most_view, tag_number_view, test_view, type_view};
 
 use crate::places::{place_after, plus};
 use crate::questions::{Move, Pending, Question, Reply, Subject};

@@ -3,7 +3,7 @@
 ghost use Rattle.std.specs.Prelude.{◌≡◌};
 ghost use Rattle.cbor_item.specs.View.{view};
 ghost use Rattle.cddl_meaning.specs.Forms.{is_below, is_float, is_simple, is_up_to, major_of, passes};
-ghost use Rattle.cddl_table.specs.Language.{test_view, whole_view};
+ghost use Rattle.cddl_table.specs.Nodes.{test_view, whole_view};
 
 use cbor_data::Width;
 use cbor_item::Item;

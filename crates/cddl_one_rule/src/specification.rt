@@ -1,13 +1,14 @@
 //! Reads a specification of one rule.
 
-ghost use Rattle.std.specs.Prelude.{◌≡◌, ◌≢◌, ℕ, List, ◌∷◌, ◌↔◌, IsTrue, IfOk, IfErr, IfSome, IfNone};
+ghost use Rattle.std.specs.Prelude.{◌≡◌, ◌≢◌, ℕ, List, [], ◌∷◌, ◌↔◌, IsTrue, IfOk, IfErr, IfSome, IfNone};
 ghost use Rattle.cddl_meaning.specs.Forms.{Plain};
-ghost use Rattle.cddl_table.specs.Language.{root_form, test_view};
+ghost use Rattle.cddl_table.specs.Language.{root_form};
+ghost use Rattle.cddl_table.specs.Nodes.{test_view};
 ghost use Rattle.cddl_one_rule.specs.Specification.{IsFront, IsGapByte, IsLetter, IsRule, IsSpecification, test_named, type_name};
 ghost use Rattle.cddl_one_rule.specs.declared.named.NamedType.{NamedType as NamedTypes};
 
 use crate::named::NamedType;
-use cddl_table::{Node, Table, Test, TypeId};
+use cddl_table::{Node, NotRanked, Ranks, Table, Test, TypeId};
 use std::alloc::{AllocError, Global};
 
 /// The table of a specification: a name of ASCII letters that is no type's, `=`, and the name of a type, with any spaces
@@ -37,7 +38,24 @@ fn table_of(alloc: Global, named: NamedType) -> Result<Table, AllocError>
     let mut types = Vec::new(alloc);
     types.push(Node::Plain(test_of(named)))?;
     let root = TypeId { number: 0 };
-    Ok(Table::new(types, Vec::new(alloc), root))
+    match Table::new(types, Vec::new(alloc), root, no_ranks(alloc)) {
+        Ok(table) => Ok(table),
+        // Nothing is free in a test.
+        Err(NotRanked) => unreachable!(),
+    }
+}
+
+// Every type and group has the rank 0.
+fn no_ranks(alloc: Global) -> Ranks
+    ensures types { result.types.items ≡ [] }
+    ensures groups { result.groups.items ≡ [] }
+    ensures flags { result.may_be_empty.items ≡ [] }
+{
+    Ranks {
+        types: Vec::new(alloc),
+        groups: Vec::new(alloc),
+        may_be_empty: Vec::new(alloc),
+    }
 }
 
 // What the type of this name asks of an item.

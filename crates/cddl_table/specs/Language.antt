@@ -1,80 +1,15 @@
--- A table as a language: what each number stands for, and what the root type says.
-use Rattle.std.specs.Prelude.{ℕ, List, [], Option, Some, None, slice_get}
-use Rattle.cbor_data.specs.Value.{Value, uint, nint}
-use Rattle.cbor_item.specs.View.{view}
+-- A table as a language: what each number stands for, its ranks, and what the root type says.
+use Rattle.std.specs.Prelude.{ℕ, max}
+use Rattle.cbor_data.specs.Value.{Value}
 use Rattle.cddl_meaning.specs.Forms as F
 use Rattle.cddl_meaning.specs.Forms.{Language}
 use Rattle.cddl_meaning.specs.Judges.{Answer, Says}
+use Rattle.cddl_ranks.specs.Ranked.{Name}
+use Rattle.cddl_table.specs.Nodes.{language_in}
+use Rattle.cddl_table.specs.Ranks.{greatest, rank_in}
 use Rattle.cddl_table.specs.declared.nodes.TypeId.{TypeId}
 use Rattle.cddl_table.specs.declared.nodes.GroupId.{GroupId}
-use Rattle.cddl_table.specs.declared.nodes.Whole.{Whole}
-use Rattle.cddl_table.specs.declared.nodes.Whole.TheVariants as W
-use Rattle.cddl_table.specs.declared.nodes.Test.{Test}
-use Rattle.cddl_table.specs.declared.nodes.Test.TheVariants as T
-use Rattle.cddl_table.specs.declared.nodes.TagNumber.{TagNumber}
-use Rattle.cddl_table.specs.declared.nodes.TagNumber.TheVariants as K
-use Rattle.cddl_table.specs.declared.nodes.Node.{Node}
-use Rattle.cddl_table.specs.declared.nodes.Node.TheVariants as N
-use Rattle.cddl_table.specs.declared.nodes.Most.{Most}
-use Rattle.cddl_table.specs.declared.nodes.Most.TheVariants as M
-use Rattle.cddl_table.specs.declared.nodes.Group.{Group}
-use Rattle.cddl_table.specs.declared.nodes.Group.TheVariants as G
 use Rattle.cddl_table.specs.declared.table.Table.{Table}
-
--- a whole number as an item
-abbrev pub whole_view : Whole → Value
-whole_view (W.Uint n) = uint n
-whole_view (W.Nint n) = nint n
-
--- a test; of a literal only its value counts
-abbrev pub test_view : Test → F.Test
-test_view T.Anything = F.anything
-test_view (T.Major m) = F.of_major m
-test_view (T.Simple n) = F.simple_value n
-test_view (T.Float w) = F.float_of w
-test_view (T.Equals i) = F.equals (view i)
-test_view (T.Between least last closed) = F.between (whole_view least) (whole_view last) closed
-
--- which tag numbers are meant
-abbrev pub tag_number_view : TagNumber → F.TagNumber TypeId
-tag_number_view K.Any = F.any_number
-tag_number_view (K.Exactly n) = F.exactly n
-tag_number_view (K.SuchAs m) = F.such_as m
-
--- how often at most
-abbrev pub most_view : Most → F.Most
-most_view (M.AtMost n) = F.at_most n
-most_view M.Any = F.any_number_of
-
--- the form of a type
-abbrev pub type_view : Node → F.Node TypeId GroupId
-type_view (N.Plain t) = F.Plain (test_view t)
-type_view (N.Ref m) = F.Ref m
-type_view (N.Choice ms) = F.Choice ms.items
-type_view (N.ArrayOf g) = F.ArrayOf g
-type_view (N.TagOf t m) = F.TagOf (tag_number_view t) m
-type_view (N.SimpleBy m) = F.SimpleBy m
-
--- the form of a group
-abbrev pub group_view : Group → F.Group TypeId GroupId
-group_view (G.Entry m) = F.Entry m
-group_view (G.Ref g) = F.GroupRef g
-group_view (G.Sequence gs) = F.Sequence gs.items
-group_view (G.Alternatives gs) = F.Alternatives gs.items
-group_view (G.Repeat least most g) = F.Repeat least (most_view most) g
-
--- A type that is not there says no to every item, and a group that is not there fails.
-abbrev pub type_or_none : Option Node → F.Node TypeId GroupId
-type_or_none (Some n) = type_view n
-type_or_none None = F.Choice []
-
-abbrev pub group_or_none : Option Group → F.Group TypeId GroupId
-group_or_none (Some g) = group_view g
-group_or_none None = F.Alternatives []
-
--- the language of these lists: a type or a group at each number
-abbrev pub language_in : List Node → List Group → Language TypeId GroupId
-language_in types groups = record { type_at = λ n. type_or_none (slice_get types n.number); group_at = λ g. group_or_none (slice_get groups g.number) }
 
 -- what contracts see of a table
 abbrev pub language_of : Table → Language TypeId GroupId
@@ -82,6 +17,14 @@ language_of t = language_in t.types.items t.groups.items
 
 abbrev pub root_of : Table → TypeId
 root_of t = t.root
+
+-- the rank of each type and group
+abbrev pub rank_of : Table → Name TypeId GroupId → ℕ
+rank_of t = rank_in t.type_ranks.items t.group_ranks.items
+
+-- the greatest rank
+abbrev pub ranks_of : Table → ℕ
+ranks_of t = max (greatest t.type_ranks.items) (greatest t.group_ranks.items)
 
 -- the form of the root type
 abbrev pub root_form : Table → F.Node TypeId GroupId

@@ -1,1 +1,3 @@
+pub mod Nodes
+pub mod Ranks
 pub mod Language

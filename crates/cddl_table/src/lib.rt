@@ -2,7 +2,9 @@
 #![tactic(auto)]
 
 mod nodes;
+mod ranks;
 mod table;
 
 pub use crate::nodes::{Group, GroupId, Most, Node, TagNumber, Test, TypeId, Whole};
+pub use crate::ranks::{NotRanked, Ranks};
 pub use crate::table::Table;

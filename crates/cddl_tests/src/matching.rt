@@ -1,6 +1,6 @@
 use cbor_item::{Item, Sound};
 use cddl_match::{Verdict, verdict};
-use cddl_table::{Group, GroupId, Most, Node, Table, TagNumber, Test, TypeId, Whole};
+use cddl_table::{Group, GroupId, Most, Node, Ranks, Table, TagNumber, Test, TypeId, Whole};
 use std::alloc::{AllocError, Global};
 use std::process::Abort;
 use std::test::Fail;
@@ -128,13 +128,35 @@ fn group_of(alloc: Global, part: Part) -> Result<Group, AllocError> {
     })
 }
 
-/// The table of these types and groups, whose root is the type of this number.
+/// The ranks of types and groups, and a flag for each group that may take no item.
+struct Order {
+    types: &'static [usize],
+    groups: &'static [usize],
+    may_be_empty: &'static [bool],
+}
+
+fn ranks_of(alloc: Global, order: &Order) -> Result<Ranks, AllocError> {
+    let mut types = Vec::new(alloc);
+    types.extend_from_slice(order.types)?;
+    let mut groups = Vec::new(alloc);
+    groups.extend_from_slice(order.groups)?;
+    let mut may_be_empty = Vec::new(alloc);
+    may_be_empty.extend_from_slice(order.may_be_empty)?;
+    Ok(Ranks {
+        types,
+        groups,
+        may_be_empty,
+    })
+}
+
+/// The table of these types and groups, whose root is the type of this number, if their ranks go down.
 fn table_of(
     alloc: Global,
     kinds: &[Kind],
     parts: &[Part],
+    order: &Order,
     number: usize,
-) -> Result<Table, AllocError> {
+) -> Result<Option<Table>, AllocError> {
     let mut types = Vec::new(alloc);
     for kind in kinds {
         types.push(node_of(alloc, *kind)?)?;
@@ -143,7 +165,8 @@ fn table_of(
     for part in parts {
         groups.push(group_of(alloc, *part)?)?;
     }
-    Ok(Table::new(types, groups, TypeId { number }))
+    let ranks = ranks_of(alloc, order)?;
+    Ok(Table::new(types, groups, TypeId { number }, ranks).ok())
 }
 
 /// What the root of a table says of an item, within so many steps.
@@ -157,10 +180,11 @@ fn check_rows(
     alloc: Global,
     kinds: &[Kind],
     parts: &[Part],
+    order: &Order,
     rows: &[Row],
 ) -> Result<(), Fail> {
     for (number, form, wanted) in rows {
-        let table = table_of(alloc, kinds, parts, *number)?;
+        let table = table_of(alloc, kinds, parts, order, *number)?.expect(rt, "ranks");
         assert_eq!(rt;
             verdict_in(alloc, &table, form, 1000)?,
             *wanted,
@@ -218,6 +242,14 @@ static PARTS: [Part; 12] = [
     Part::Entry(11),
     Part::Entry(3),
 ];
+
+static ORDER: Order = Order {
+    types: &[1, 0, 0, 3, 3, 3, 2, 2, 1, 3, 2, 0, 1],
+    groups: &[0, 1, 2, 1, 2, 1, 2, 1, 0, 1, 0, 0],
+    may_be_empty: &[
+        false, true, false, false, false, true, true, false, false, false, false, false,
+    ],
+};
 
 const ONE: Form = Form::Uint(1);
 
@@ -284,7 +316,7 @@ static ARRAY_ROWS: [Row; 18] = [
 
 #[test]
 fn judges_arrays(rt: HostRuntime) -> Result<(), Fail> {
-    check_rows(&rt, rt.alloc(), &KINDS, &PARTS, &ARRAY_ROWS)
+    check_rows(&rt, rt.alloc(), &KINDS, &PARTS, &ORDER, &ARRAY_ROWS)
 }
 
 // Ranges, and what asks them of the numbers of tags and simple values.
@@ -298,6 +330,12 @@ static HEADS: [Kind; 6] = [
     // 5: #7.<32..255>
     Kind::Simple(3),
 ];
+
+static HEAD_ORDER: Order = Order {
+    types: &[0, 0, 0, 0, 0, 1],
+    groups: &[],
+    may_be_empty: &[],
+};
 
 static HEAD_ROWS: [Row; 9] = [
     (0, Form::Uint(5), YES),
@@ -314,7 +352,7 @@ static HEAD_ROWS: [Row; 9] = [
 
 #[test]
 fn judges_heads(rt: HostRuntime) -> Result<(), Fail> {
-    check_rows(&rt, rt.alloc(), &HEADS, &[], &HEAD_ROWS)
+    check_rows(&rt, rt.alloc(), &HEADS, &[], &HEAD_ORDER, &HEAD_ROWS)
 }
 
 /// A type, an item, and the steps that it takes to tell.
@@ -331,7 +369,7 @@ static STEPS: [(usize, Form, u64); 4] = [
 #[test]
 fn counts_steps(rt: HostRuntime) -> Result<(), Fail> {
     for (number, form, steps) in STEPS.iter() {
-        let table = table_of(rt.alloc(), &KINDS, &PARTS, *number)?;
+        let table = table_of(rt.alloc(), &KINDS, &PARTS, &ORDER, *number)?.expect(&rt, "ranks");
         check_steps(&rt, rt.alloc(), &table, *number, form, *steps)?;
     }
     Ok(())
@@ -357,7 +395,7 @@ fn check_steps(
 
 /// What a type says of an item, and None where there is no memory.
 fn verdict_or_none(alloc: Global, number: usize, form: &Form) -> Option<Verdict> {
-    let table = table_of(alloc, &KINDS, &PARTS, number).ok()?;
+    let table = table_of(alloc, &KINDS, &PARTS, &ORDER, number).ok()??;
     let item = Sound::try_new(alloc, item_of(alloc, form).ok()?).ok()?;
     verdict(alloc, &table, &item, 1000).ok()
 }
@@ -367,4 +405,48 @@ fn verdict_or_none(alloc: Global, number: usize, form: &Form) -> Option<Verdict>
 fn judges_or_wants_memory(rt: HostRuntime) {
     let verdict = verdict_or_none(rt.alloc(), 7, &TWO_ONES);
     assert!(rt; matches!(verdict, None | Some(Verdict::Yes)));
+}
+
+// `a = [g]` and `g = (a, ? g)`: it leads back to itself, but not before an item is taken.
+static LOOP: [Part; 3] = [
+    Part::Entry(0),
+    Part::Sequence(&[0, 2]),
+    Part::Repeat(0, Most::AtMost(1), 1),
+];
+
+static LOOP_ORDER: Order = Order {
+    types: &[2],
+    groups: &[0, 1, 2],
+    may_be_empty: &[false, false, true],
+};
+
+const NESTED: Form = Form::Array(&[Form::Array(&[])]);
+
+#[test]
+fn judges_what_leads_back(rt: HostRuntime) -> Result<(), Fail> {
+    let table = table_of(rt.alloc(), &[Kind::Array(1)], &LOOP, &LOOP_ORDER, 0)?;
+    let table = table.expect(&rt, "ranks");
+    let verdict = verdict_in(rt.alloc(), &table, &NESTED, 1000)?;
+    assert!(rt; table.ranks() == 2 && verdict == Verdict::No { place: 1 });
+    Ok(())
+}
+
+// `a = [g]` and `g = (? a, g)`: before its second part nothing may be taken.
+static ROUND: [Part; 3] = [
+    Part::Entry(0),
+    Part::Sequence(&[2, 1]),
+    Part::Repeat(0, Most::AtMost(1), 0),
+];
+
+static ROUND_ORDER: Order = Order {
+    types: &[3],
+    groups: &[0, 2, 1],
+    may_be_empty: &[false, false, true],
+};
+
+#[test]
+fn refuses_what_leads_back_at_once(rt: HostRuntime) -> Result<(), Fail> {
+    let table = table_of(rt.alloc(), &[Kind::Array(1)], &ROUND, &ROUND_ORDER, 0)?;
+    assert!(rt; table.is_none());
+    Ok(())
 }

@@ -3,6 +3,7 @@ use Rattle.cddl_table.specs.Language.{language_of, root_of}
 use Rattle.cddl_meaning.specs.Moves.{OfType}
 use Rattle.cddl_meaning.proofs.Lemmas.{said}
 use Rattle.cddl_match.proofs.Turns.{begun, asked, answered, finished, heavier, in_steps, stack_push, none_left}
+use Rattle.cddl_match.proofs.Decides.{decides}
 use Rattle.cddl_match.proofs.Verdicts.{said_yes, said_no}
 use Rattle.cddl_match.proofs.Room.{room}
 use Rattle.cddl_match.proofs.judging.verdict.Goals as goal
@@ -46,3 +47,12 @@ returns-in-None-clause-no c = λ place e.
     let empty : c.loop-next.waiting.items ≡ [] = none_left _ (omega (arith, c.in-None.ensures.cases.0, c.loop-next.waiting.ok.0)) in
     let d = finished (language_of c.args.table.now) (rw (c.in-Answered.is, empty) at c.loop-next.invariant.leads) in
     (_, said_no (language_of c.args.table.now) _ (room c.args.item.now c.item.ensures.sound) (sym c.verdict_of.ensures ∙ cc e) d, omega arith)
+
+pub returns-then-left-eq0-clause-decided : goal.returns-then-left-eq0-clause-decided
+returns-then-left-eq0-clause-decided c = decides c.args.table.now c.args.item.now (room c.args.item.now c.item.ensures.sound)
+
+pub returns-in_err-push-in-Asks-clause-decided : goal.returns-in_err-push-in-Asks-clause-decided
+returns-in_err-push-in-Asks-clause-decided c = decides c.args.table.now c.args.item.now (room c.args.item.now c.item.ensures.sound)
+
+pub returns-in-None-clause-decided : goal.returns-in-None-clause-decided
+returns-in-None-clause-decided c = decides c.args.table.now c.args.item.now (room c.args.item.now c.item.ensures.sound)
