@@ -32,7 +32,7 @@ impl Table {
     ghost use Rattle.cddl_table.specs.Language.{language_of, rank_of, ranks_of, root_of};
 
     /// The table of these types and groups, each with its number in the list, and of this root type. Takes no memory, and
-    /// looks at each part once.
+    /// looks at each part at most twice.
     ///
     /// # Errors
     ///
