@@ -42,64 +42,64 @@ each_below {A = A} rank r names h a c = at names h c.0 c.1 c.2
     at (b ∷ more) h (suc k) i e = at more h.1 k (omega (arith, i)) e
 
 module _ {N G : Type 0} (l : Language N G) (rank : Name N G → ℕ) where
-  abbrev pub type_rank : N → ℕ
-  type_rank n = rank (a_type n)
+  abbrev pub types_by : N → ℕ
+  types_by n = rank (a_type n)
 
-  abbrev pub group_rank : G → ℕ
-  group_rank g = rank (a_group g)
+  abbrev pub groups_by : G → ℕ
+  groups_by g = rank (a_group g)
 
-  leads_down : (r : ℕ) (gs : List G) → ((h : G) → IsFreePart l gs h → group_rank h < r) → LeadsDown l group_rank r gs
+  leads_down : (r : ℕ) (gs : List G) → ((h : G) → IsFreePart l gs h → groups_by h < r) → LeadsDown l groups_by r gs
   leads_down r [] h = tt
   leads_down r (g ∷ gs) h = (h g front, λ e. leads_down r gs (λ b f. h b (behind e f)))
 
-  type_ranked : (r : ℕ) (f : Node N G) → ((a : Name N G) → IsFreeInType f a → rank a < r) → IsTypeRanked type_rank group_rank r f
+  type_ranked : (r : ℕ) (f : Node N G) → ((a : Name N G) → IsFreeInType f a → rank a < r) → IsTypeRanked types_by groups_by r f
   type_ranked r (Plain t) h = tt
   type_ranked r (Ref m) h = h (a_type m) same_item
-  type_ranked r (Choice ms) h = all_below type_rank r ms (λ m c. h (a_type m) (member c))
+  type_ranked r (Choice ms) h = all_below types_by r ms (λ m c. h (a_type m) (member c))
   type_ranked r (ArrayOf g) h = h (a_group g) all_items
   type_ranked r (TagOf t m) h = tt
   type_ranked r (SimpleBy m) h = h (a_type m) its_number
 
-  group_ranked : (r : ℕ) (f : Group N G) → ((h : G) → IsFreeInGroup l f h → group_rank h < r) → IsGroupRanked l group_rank r f
+  group_ranked : (r : ℕ) (f : Group N G) → ((h : G) → IsFreeInGroup l f h → groups_by h < r) → IsGroupRanked l groups_by r f
   group_ranked r (Entry m) h = tt
   group_ranked r (GroupRef g) h = h g same_list
   group_ranked r (Sequence gs) h = leads_down r gs (λ g f. h g (part f))
-  group_ranked r (Alternatives gs) h = all_below group_rank r gs (λ g c. h g (alternative c))
+  group_ranked r (Alternatives gs) h = all_below groups_by r gs (λ g c. h g (alternative c))
   group_ranked r (Repeat least most g) h = h g a_round
 
-  pub by_form : {bound : ℕ} → IsRanked l rank bound → IsRankedByForm l type_rank group_rank bound
+  pub by_form : {bound : ℕ} → IsRanked l rank bound → IsRankedByForm l types_by groups_by bound
   by_form ranked = record {
-    types = λ n. type_ranked (type_rank n) (l.type_at n) (λ a f. ranked.down (a_type n) a (in_type f));
-    groups = λ g. group_ranked (group_rank g) (l.group_at g) (λ h f. ranked.down (a_group g) (a_group h) (in_group f));
+    types = λ n. type_ranked (types_by n) (l.type_at n) (λ a f. ranked.down (a_type n) a (in_type f));
+    groups = λ g. group_ranked (groups_by g) (l.group_at g) (λ h f. ranked.down (a_group g) (a_group h) (in_group f));
     type_bound = λ n. ranked.most (a_type n);
     group_bound = λ g. ranked.most (a_group g);
   }
 
-  down_each : (r : ℕ) {gs : List G} {h : G} → LeadsDown l group_rank r gs → IsFreePart l gs h → group_rank h < r
+  down_each : (r : ℕ) {gs : List G} {h : G} → LeadsDown l groups_by r gs → IsFreePart l gs h → groups_by h < r
   down_each r d front = d.0
   down_each r d (behind e f) = down_each r (d.1 e) f
 
-  down_type : (r : ℕ) (f : Node N G) (a : Name N G) → IsTypeRanked type_rank group_rank r f → IsFreeInType f a → rank a < r
+  down_type : (r : ℕ) (f : Node N G) (a : Name N G) → IsTypeRanked types_by groups_by r f → IsFreeInType f a → rank a < r
   down_type r f (a_type m) h same_item = h
-  down_type r f (a_type m) h (member {ms = ms} c) = each_below type_rank r ms h m c
+  down_type r f (a_type m) h (member {ms = ms} c) = each_below types_by r ms h m c
   down_type r f (a_group g) h all_items = h
   down_type r f (a_type m) h its_number = h
 
-  down_group : (r : ℕ) (f : Group N G) (g : G) → IsGroupRanked l group_rank r f → IsFreeInGroup l f g → group_rank g < r
+  down_group : (r : ℕ) (f : Group N G) (g : G) → IsGroupRanked l groups_by r f → IsFreeInGroup l f g → groups_by g < r
   down_group r f g h same_list = h
   down_group r f g h (part p) = down_each r h p
-  down_group r f g h (alternative {gs = gs} c) = each_below group_rank r gs h g c
+  down_group r f g h (alternative {gs = gs} c) = each_below groups_by r gs h g c
   down_group r f g h a_round = h
 
-  goes_down : {bound : ℕ} → IsRankedByForm l type_rank group_rank bound → (a b : Name N G) → IsFree l a b → rank b < rank a
-  goes_down ranked a b (in_type {n = n} f) = down_type (type_rank n) (l.type_at n) b (ranked.types n) f
-  goes_down ranked a b (in_group {g = g} {h = h} f) = down_group (group_rank g) (l.group_at g) h (ranked.groups g) f
+  goes_down : {bound : ℕ} → IsRankedByForm l types_by groups_by bound → (a b : Name N G) → IsFree l a b → rank b < rank a
+  goes_down ranked a b (in_type {n = n} f) = down_type (types_by n) (l.type_at n) b (ranked.types n) f
+  goes_down ranked a b (in_group {g = g} {h = h} f) = down_group (groups_by g) (l.group_at g) h (ranked.groups g) f
 
-  at_most : {bound : ℕ} → IsRankedByForm l type_rank group_rank bound → (a : Name N G) → rank a ≤ bound
+  at_most : {bound : ℕ} → IsRankedByForm l types_by groups_by bound → (a : Name N G) → rank a ≤ bound
   at_most ranked (a_type n) = ranked.type_bound n
   at_most ranked (a_group g) = ranked.group_bound g
 
-  pub from_forms : {bound : ℕ} → IsRankedByForm l type_rank group_rank bound → IsRanked l rank bound
+  pub from_forms : {bound : ℕ} → IsRankedByForm l types_by groups_by bound → IsRanked l rank bound
   from_forms ranked = record { down = goes_down ranked; most = at_most ranked }
 
   lower : {bound : ℕ} → IsRanked l rank bound → {a b : Name N G} → LeadsTo l a b → rank b < rank a

@@ -4,31 +4,31 @@ use Rattle.cddl_meaning.specs.Forms.{Entry}
 use Rattle.cddl_ranks.specs.Flags.{IsTypeRanked}
 use Rattle.cddl_ranks.specs.Ranked.{MayBeEmpty, IsRanked}
 use Rattle.cddl_ranks.specs.Example.{example, example_type, example_group, example_rank}
-use Rattle.cddl_ranks.proofs.ByForm.{IsGroupRanked, type_rank, group_rank, from_forms}
+use Rattle.cddl_ranks.proofs.ByForm.{IsGroupRanked, types_by, groups_by, from_forms}
 
-abbrev types_by : ℕ → ℕ
-types_by = type_rank example example_rank
+abbrev of_types : ℕ → ℕ
+of_types = types_by example example_rank
 
-abbrev groups_by : ℕ → ℕ
-groups_by = group_rank example example_rank
+abbrev of_groups : ℕ → ℕ
+of_groups = groups_by example example_rank
 
 entry_takes_one : MayBeEmpty example (Entry 0) → ⊥
 entry_takes_one h = elim h [ ]
 
-type_ranked : (n : ℕ) → IsTypeRanked types_by groups_by (types_by n) (example_type n)
+type_ranked : (n : ℕ) → IsTypeRanked of_types of_groups (of_types n) (example_type n)
 type_ranked zero = omega arith
 type_ranked (suc n) = tt
 
-group_ranked : (n : ℕ) → IsGroupRanked example groups_by (groups_by n) (example_group n)
+group_ranked : (n : ℕ) → IsGroupRanked example of_groups (of_groups n) (example_group n)
 group_ranked zero = tt
 group_ranked (suc zero) = (omega arith, λ h. absurd (entry_takes_one h))
 group_ranked (suc (suc n)) = omega arith
 
-type_bound : (n : ℕ) → types_by n ≤ 2
+type_bound : (n : ℕ) → of_types n ≤ 2
 type_bound zero = omega arith
 type_bound (suc n) = omega arith
 
-group_bound : (n : ℕ) → groups_by n ≤ 2
+group_bound : (n : ℕ) → of_groups n ≤ 2
 group_bound zero = omega arith
 group_bound (suc zero) = omega arith
 group_bound (suc (suc n)) = omega arith

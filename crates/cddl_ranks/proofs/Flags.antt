@@ -4,7 +4,7 @@ use Rattle.cddl_meaning.specs.Forms.{Group, Entry, GroupRef, Sequence, Alternati
 use Rattle.cddl_meaning.specs.Judges.{is_over}
 use Rattle.cddl_ranks.specs.Ranked.{MayBeEmpty, named, every_part, one_of_them, no_minimum, no_round, an_empty_round, AllMayBeEmpty, no_part, this_part, OneMayBeEmpty, this_one, another, Name, a_type, a_group, IsRanked}
 use Rattle.cddl_ranks.specs.Flags.{AreFlags, all_flagged, one_flagged, flag_of, LeadsDownBy, IsGroupRankedBy, IsRankedBy}
-use Rattle.cddl_ranks.proofs.ByForm.{LeadsDown, IsGroupRanked, type_rank, group_rank, by_form, from_forms}
+use Rattle.cddl_ranks.proofs.ByForm.{LeadsDown, IsGroupRanked, types_by, groups_by, by_form, from_forms}
 
 both_true : (a b : Bool) → a ≡ true → b ≡ true → a && b ≡ true
 both_true true b h i = i
@@ -50,10 +50,10 @@ module _ {N G : Type 0} (l : Language N G) (flag : G → Bool) (flags : (g : G) 
   group_ranked rank r (Repeat least most g) h = h
 
 module _ {N G : Type 0} (l : Language N G) (flag : G → Bool) (rank : Name N G → ℕ) where
-  pub ranked_by : {bound : ℕ} → IsRankedBy l flag (type_rank l rank) (group_rank l rank) → ((a : Name N G) → rank a ≤ bound) → IsRanked l rank bound
+  pub ranked_by : {bound : ℕ} → IsRankedBy l flag (types_by l rank) (groups_by l rank) → ((a : Name N G) → rank a ≤ bound) → IsRanked l rank bound
   ranked_by h most = from_forms l rank (record {
     types = h.types;
-    groups = λ g. group_ranked l flag h.flags (group_rank l rank) (group_rank l rank g) (l.group_at g) (h.groups g);
+    groups = λ g. group_ranked l flag h.flags (groups_by l rank) (groups_by l rank g) (l.group_at g) (h.groups g);
     type_bound = λ n. most (a_type n);
     group_bound = λ g. most (a_group g);
   })
@@ -95,9 +95,9 @@ module _ {N G : Type 0} (l : Language N G) (flag : G → Bool) (exact : AreFlags
   group_by rank r (Alternatives gs) h = h
   group_by rank r (Repeat least most g) h = h
 
-  pub by_flags : (rank : Name N G → ℕ) {bound : ℕ} → IsRanked l rank bound → IsRankedBy l flag (type_rank l rank) (group_rank l rank)
+  pub by_flags : (rank : Name N G → ℕ) {bound : ℕ} → IsRanked l rank bound → IsRankedBy l flag (types_by l rank) (groups_by l rank)
   by_flags rank ranked = let k = by_form l rank ranked in record {
     flags = λ g h. (exact g).1 (empty (l.group_at g) h);
     types = k.types;
-    groups = λ g. group_by (group_rank l rank) (group_rank l rank g) (l.group_at g) (k.groups g);
+    groups = λ g. group_by (groups_by l rank) (groups_by l rank g) (l.group_at g) (k.groups g);
   }

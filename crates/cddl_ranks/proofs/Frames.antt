@@ -6,23 +6,23 @@ use Rattle.cddl_meaning.specs.Judges.{Reply}
 use Rattle.cddl_meaning.specs.Moves.{Question, OfType, OfGroup, Pending, InRef, Move, Answered, Asks, Replies, first_move, next_move}
 use Rattle.cddl_ranks.specs.Ranked.{Name, IsRanked}
 use Rattle.cddl_ranks.specs.Size.{size_of}
-use Rattle.cddl_ranks.proofs.ByForm.{IsRankedByForm, type_rank, group_rank, by_form}
+use Rattle.cddl_ranks.proofs.ByForm.{IsRankedByForm, types_by, groups_by, by_form}
 use Rattle.cddl_ranks.specs.Reached.{IsReached, begun, asked, answered}
 use Rattle.cddl_ranks.proofs.Induction.{IsLess}
 use Rattle.cddl_ranks.proofs.Sizes.{size_some, all_some}
 use Rattle.cddl_ranks.proofs.Down.{rank_of, plain_replies, RepliesDown, replies, EndsDown, at_once, after}
 use Rattle.cddl_ranks.proofs.Total.{type_replies, group_replies}
 
-module _ {N G : Type 0} (l : Language N G) (T : N → ℕ) (U : G → ℕ) (first : Question N G) where
+module _ {N G : Type 0} (l : Language N G) (type_rank : N → ℕ) (group_rank : G → ℕ) (first : Question N G) where
   -- The last open question is this one, and what is open goes on from this reply to it. Each is below the one before it.
   data Waits : Question N G → List (Pending N G) → Reply → Type 0 where
     bottom : {s : Reply} → Waits first (InRef ∷ []) s
-    upon : {q p : Question N G} {o : Pending N G} {os : List (Pending N G)} {s r : Reply} {w : ℕ} → IsLess (size_of q) (rank_of T U q) (size_of p) (rank_of T U p) → Waits p os r → EndsDown l T U (size_of p) (rank_of T U p) (next_move o s) r w → Waits q (o ∷ os) s
+    upon : {q p : Question N G} {o : Pending N G} {os : List (Pending N G)} {s r : Reply} {w : ℕ} → IsLess (size_of q) (rank_of type_rank group_rank q) (size_of p) (rank_of type_rank group_rank p) → Waits p os r → EndsDown l type_rank group_rank (size_of p) (rank_of type_rank group_rank p) (next_move o s) r w → Waits q (o ∷ os) s
 
   data GoesDown : List (Pending N G) → Move N G → Type 0 where
-    before : {r : Reply} {w : ℕ} → RepliesDown l T U first r w → GoesDown [] (Asks first InRef)
+    before : {r : Reply} {w : ℕ} → RepliesDown l type_rank group_rank first r w → GoesDown [] (Asks first InRef)
     behind : {r : Reply} → GoesDown [] (Answered r)
-    within : {q : Question N G} {os : List (Pending N G)} {m : Move N G} {s : Reply} {w : ℕ} → Waits q os s → EndsDown l T U (size_of q) (rank_of T U q) m s w → GoesDown os m
+    within : {q : Question N G} {os : List (Pending N G)} {m : Move N G} {s : Reply} {w : ℕ} → Waits q os s → EndsDown l type_rank group_rank (size_of q) (rank_of type_rank group_rank q) m s w → GoesDown os m
 
   goes_asked : {q : Question N G} {o : Pending N G} {os : List (Pending N G)} → GoesDown os (Asks q o) → GoesDown (o ∷ os) (first_move l q)
   goes_asked (before (replies d)) = within bottom d
@@ -32,15 +32,15 @@ module _ {N G : Type 0} (l : Language N G) (T : N → ℕ) (U : G → ℕ) (firs
   goes_answered (within bottom at_once) = behind
   goes_answered (within (upon i w e) at_once) = within w e
 
-  reached_down : {os : List (Pending N G)} {m : Move N G} → ((r : Reply) × (w : ℕ) × RepliesDown l T U first r w) → IsReached l first os m → GoesDown os m
+  reached_down : {os : List (Pending N G)} {m : Move N G} → ((r : Reply) × (w : ℕ) × RepliesDown l type_rank group_rank first r w) → IsReached l first os m → GoesDown os m
   reached_down d begun = before d.2
   reached_down d (asked h) = goes_asked (reached_down d h)
   reached_down d (answered h) = goes_answered (reached_down d h)
 
-  module _ (bound : ℕ) (ranks : (q : Question N G) → rank_of T U q ≤ bound) where
+  module _ (bound : ℕ) (ranks : (q : Question N G) → rank_of type_rank group_rank q ≤ bound) where
     -- how many are below a question, and itself
     abbrev level : Question N G → ℕ
-    level q = suc bound * size_of q + rank_of T U q
+    level q = suc bound * size_of q + rank_of type_rank group_rank q
 
     level_less : (s r S R : ℕ) → r ≤ bound → IsLess s r S R → suc bound * s + r < suc bound * S + R
     level_less s r S R h (inl i) = let j : suc s ≤ S = omega (arith, i) in omega (arith, h, mul-le-mul_left (suc bound) j)
@@ -48,7 +48,7 @@ module _ {N G : Type 0} (l : Language N G) (T : N → ℕ) (U : G → ℕ) (firs
 
     waits_bound : {q : Question N G} {os : List (Pending N G)} {s : Reply} → Waits q os s → length os + level q ≤ suc (level first)
     waits_bound bottom = omega arith
-    waits_bound (upon {q = q} {p = p} i w e) = omega (arith, waits_bound w, level_less (size_of q) (rank_of T U q) (size_of p) (rank_of T U p) (ranks q) i)
+    waits_bound (upon {q = q} {p = p} i w e) = omega (arith, waits_bound w, level_less (size_of q) (rank_of type_rank group_rank q) (size_of p) (rank_of type_rank group_rank p) (ranks q) i)
 
     some_size : (q : Question N G) → 1 ≤ size_of q
     some_size (OfType n p x) = size_some x
@@ -59,21 +59,21 @@ module _ {N G : Type 0} (l : Language N G) (T : N → ℕ) (U : G → ℕ) (firs
     down_bound behind = omega arith
     down_bound (within {q = q} w e) = omega (arith, waits_bound w, ranks first, mul-le-mul_left (suc bound) (some_size q))
 
-module _ {N G : Type 0} (l : Language N G) (T : N → ℕ) (U : G → ℕ) (bound : ℕ) (ranked : IsRankedByForm l T U bound) where
-  ranks_within : (q : Question N G) → rank_of T U q ≤ bound
+module _ {N G : Type 0} (l : Language N G) (type_rank : N → ℕ) (group_rank : G → ℕ) (bound : ℕ) (ranked : IsRankedByForm l type_rank group_rank bound) where
+  ranks_within : (q : Question N G) → rank_of type_rank group_rank q ≤ bound
   ranks_within (OfType n p x) = ranked.type_bound n
   ranks_within (OfGroup g base q xs) = ranked.group_bound g
 
-  pub any_replies : (q : Question N G) → (r : Reply) × (w : ℕ) × RepliesDown l T U q r w
-  any_replies (OfType n p x) = let d = type_replies l T U bound ranked n p x in (d.reply, d.weight, d.replies_down)
-  any_replies (OfGroup g base q xs) = let d = group_replies l T U bound ranked g base q xs in (d.reply, d.weight, d.replies_down)
+  pub any_replies : (q : Question N G) → (r : Reply) × (w : ℕ) × RepliesDown l type_rank group_rank q r w
+  any_replies (OfType n p x) = let d = type_replies l type_rank group_rank bound ranked n p x in (d.reply, d.weight, d.replies_down)
+  any_replies (OfGroup g base q xs) = let d = group_replies l type_rank group_rank bound ranked g base q xs in (d.reply, d.weight, d.replies_down)
 
   few_open_by_form : (first : Question N G) {os : List (Pending N G)} {m : Move N G} → IsReached l first os m → length os ≤ suc bound * size_of first
-  few_open_by_form first h = down_bound l T U first bound ranks_within (reached_down l T U first (any_replies first) h)
+  few_open_by_form first h = down_bound l type_rank group_rank first bound ranks_within (reached_down l type_rank group_rank first (any_replies first) h)
 
   pub some_reply : (q : Question N G) → (r : Reply) × (w : ℕ) × Replies l q r w
-  some_reply q = let d = any_replies q in (d.0, d.1, plain_replies l T U d.2)
+  some_reply q = let d = any_replies q in (d.0, d.1, plain_replies l type_rank group_rank d.2)
 
 module _ {N G : Type 0} (l : Language N G) (rank : Name N G → ℕ) (bound : ℕ) (ranked : IsRanked l rank bound) where
   pub few_are_open : (first : Question N G) {os : List (Pending N G)} {m : Move N G} → IsReached l first os m → length os ≤ suc bound * size_of first
-  few_are_open first h = few_open_by_form l (type_rank l rank) (group_rank l rank) bound (by_form l rank ranked) first h
+  few_are_open first h = few_open_by_form l (types_by l rank) (groups_by l rank) bound (by_form l rank ranked) first h

@@ -9,7 +9,7 @@ use Rattle.cddl_ranks.specs.Decided.{IsDecided}
 use Rattle.cddl_ranks.specs.Size.{size, list_size}
 use Rattle.cddl_ranks.specs.Ranked.{MayBeEmpty, Name, IsRanked}
 use Rattle.cddl_ranks.specs.Flags.{AreBelow, IsTypeRanked}
-use Rattle.cddl_ranks.proofs.ByForm.{LeadsDown, IsGroupRanked, IsRankedByForm, type_rank, group_rank, by_form}
+use Rattle.cddl_ranks.proofs.ByForm.{LeadsDown, IsGroupRanked, IsRankedByForm, types_by, groups_by, by_form}
 use Rattle.cddl_ranks.proofs.Sizes.{size_some, all_some, array_size, tag_size}
 use Rattle.cddl_ranks.proofs.Takes.{IsBehind}
 use Rattle.cddl_ranks.proofs.Induction.{IsLess, for_types, for_groups}
@@ -21,7 +21,7 @@ is_equal m n h = grind (arith, nat_tests)
 is_unequal : (m n : ℕ) → nat_eq m n ≡ false → m ≡ n → ⊥
 is_unequal m n h e = grind (arith, nat_tests)
 
-module _ {N G : Type 0} (l : Language N G) (T : N → ℕ) (U : G → ℕ) where
+module _ {N G : Type 0} (l : Language N G) (type_rank : N → ℕ) (group_rank : G → ℕ) where
   pub record SaysSome (f : Node N G) (p : ℕ) (x : Value) : Type 0 where
     pub answer : Answer
     pub weight : ℕ
@@ -53,10 +53,10 @@ module _ {N G : Type 0} (l : Language N G) (T : N → ℕ) (U : G → ℕ) where
     does : Repeats l least most g p q xs far reply weight
 
   abbrev TypesSay : ℕ → ℕ → Type 0
-  TypesSay S R = (m : N) (p : ℕ) (y : Value) → IsLess (size y) (T m) S R → SaysSome (l.type_at m) p y
+  TypesSay S R = (m : N) (p : ℕ) (y : Value) → IsLess (size y) (type_rank m) S R → SaysSome (l.type_at m) p y
 
   abbrev GroupsDo : ℕ → ℕ → Type 0
-  GroupsDo S R = (g : G) (p q : ℕ) (ys : List Value) → IsLess (list_size ys) (U g) S R → DoesSome (l.group_at g) p q ys
+  GroupsDo S R = (g : G) (p q : ℕ) (ys : List Value) → IsLess (list_size ys) (group_rank g) S R → DoesSome (l.group_at g) p q ys
 
   choose_next : (m : N) (ms : List N) (p : ℕ) (x : Value) (far : ℕ) (a : Answer) (w : ℕ) → Says l (l.type_at m) p x a w → ((far : ℕ) → ChoosesSome ms p x far) → ChoosesSome (m ∷ ms) p x far
   choose_next m ms p x far Yes w d rest = record { answer = Yes; weight = w; chooses = this_one d }
@@ -108,11 +108,11 @@ module _ {N G : Type 0} (l : Language N G) (T : N → ℕ) (U : G → ℕ) where
   round_next (suc least) most g p q xs far (Fails later) w i d rest = record { reply = Fails (max far later); weight = w; does = too_few i d }
 
   module _ (S R : ℕ) (types : TypesSay S R) (groups : GroupsDo S R) where
-    choose_some : (ms : List N) (p : ℕ) (x : Value) (far : ℕ) → size x ≤ S → AreBelow T R ms → ChoosesSome ms p x far
+    choose_some : (ms : List N) (p : ℕ) (x : Value) (far : ℕ) → size x ≤ S → AreBelow type_rank R ms → ChoosesSome ms p x far
     choose_some [] p x far h b = record { answer = No far; weight = 0; chooses = no_more }
     choose_some (m ∷ ms) p x far h b = let d = types m p x (inr (h, b.0)) in choose_next m ms p x far d.answer d.weight d.says (λ far. choose_some ms p x far h b.1)
 
-    array_some : (g : G) (p : ℕ) (x : Value) → size x ≤ S → U g < R → (o : Option (List Value)) → members_in x ≡ o → SaysSome (ArrayOf g) p x
+    array_some : (g : G) (p : ℕ) (x : Value) → size x ≤ S → group_rank g < R → (o : Option (List Value)) → members_in x ≡ o → SaysSome (ArrayOf g) p x
     array_some g p x h u None e = record { answer = No p; weight = 1; says = no_array e }
     array_some g p x h u (Some xs) e = let d = groups g p (suc p) xs (inr (omega (arith, h, array_size x xs e), u)) in array_next g p x xs d.reply d.weight e d.does
 
@@ -127,11 +127,11 @@ module _ {N G : Type 0} (l : Language N G) (T : N → ℕ) (U : G → ℕ) where
         let k = number_some t p n (omega (arith, h, tag_size x y n e, size_some y)) in
         tag_next t m p n x y k.0 k.1 e k.2 (types m (suc p) y (inl (omega (arith, h, tag_size x y n e))))
 
-    simple_some : (m : N) (p : ℕ) (x : Value) → 1 ≤ S → T m < R → (o : Option ℕ) → simple_in x ≡ o → SaysSome (SimpleBy m) p x
+    simple_some : (m : N) (p : ℕ) (x : Value) → 1 ≤ S → type_rank m < R → (o : Option ℕ) → simple_in x ≡ o → SaysSome (SimpleBy m) p x
     simple_some m p x h u None e = record { answer = No p; weight = 1; says = no_simple e }
     simple_some m p x h u (Some n) e = let d = types m p (uint n) (inr (omega (arith, h), u)) in simple_next m p n x d.answer d.weight e d.says
 
-    pub type_some : (t : Node N G) (p : ℕ) (x : Value) → size x ≤ S → IsTypeRanked T U R t → SaysSome t p x
+    pub type_some : (t : Node N G) (p : ℕ) (x : Value) → size x ≤ S → IsTypeRanked type_rank group_rank R t → SaysSome t p x
     type_some (Plain t) p x h k = plain_some t p x (passes t x) refl
     type_some (Ref m) p x h k = let d = types m p x (inr (h, k)) in record { answer = d.answer; weight = suc d.weight; says = ref d.says }
     type_some (Choice ms) p x h k = let d = choose_some ms p x p h k in record { answer = d.answer; weight = suc d.weight; says = choice d.chooses }
@@ -139,15 +139,15 @@ module _ {N G : Type 0} (l : Language N G) (T : N → ℕ) (U : G → ℕ) where
     type_some (TagOf t m) p x h k = tag_some t m p x h (tag_in x) refl
     type_some (SimpleBy m) p x h k = simple_some m p x (omega (arith, h, size_some x)) k (simple_in x) refl
 
-    first_some : (gs : List G) (p q : ℕ) (xs : List Value) (far : ℕ) → list_size xs ≤ S → AreBelow U R gs → FirstSome gs p q xs far
+    first_some : (gs : List G) (p q : ℕ) (xs : List Value) (far : ℕ) → list_size xs ≤ S → AreBelow group_rank R gs → FirstSome gs p q xs far
     first_some [] p q xs far h b = record { reply = Fails far; weight = 0; does = all_fail }
     first_some (g ∷ gs) p q xs far h b = let d = groups g p q xs (inr (h, b.0)) in first_next g gs p q xs far d.reply d.weight d.does (λ far. first_some gs p q xs far h b.1)
 
     -- the further parts of a sequence are asked of a smaller list, or go down
     abbrev GoesDown : List G → List Value → Type 0
-    GoesDown gs xs = (list_size xs < S) ⊎ ((list_size xs ≤ S) × LeadsDown l U R gs)
+    GoesDown gs xs = (list_size xs < S) ⊎ ((list_size xs ≤ S) × LeadsDown l group_rank R gs)
 
-    part_less : (g : G) (gs : List G) (xs : List Value) → GoesDown (g ∷ gs) xs → IsLess (list_size xs) (U g) S R
+    part_less : (g : G) (gs : List G) (xs : List Value) → GoesDown (g ∷ gs) xs → IsLess (list_size xs) (group_rank g) S R
     part_less g gs xs (inl h) = inl h
     part_less g gs xs (inr h) = inr (h.0, h.1.0)
 
@@ -163,7 +163,7 @@ module _ {N G : Type 0} (l : Language N G) (T : N → ℕ) (U : G → ℕ) where
         let d = groups g p q xs (part_less g gs xs h) in
         each_next g gs p q xs far d.reply d.weight d.does (λ left q far i. each_some gs p q left far (rest_less g gs xs left i h))
 
-    rounds_some : (j least : ℕ) (most : Most) (g : G) (p q : ℕ) (xs : List Value) (far : ℕ) → length xs < j → list_size xs ≤ S → U g < R → (c : Bool) → is_over most ≡ c → RepeatsSome least most g p q xs far
+    rounds_some : (j least : ℕ) (most : Most) (g : G) (p q : ℕ) (xs : List Value) (far : ℕ) → length xs < j → list_size xs ≤ S → group_rank g < R → (c : Bool) → is_over most ≡ c → RepeatsSome least most g p q xs far
     rounds_some zero least most g p q xs far n h u c e = absurd (omega (arith, n))
     rounds_some (suc j) least most g p q xs far n h u true e = record { reply = Takes xs q far; weight = 0; does = full e }
     rounds_some (suc j) least most g p q xs far n h u false e =
@@ -174,7 +174,7 @@ module _ {N G : Type 0} (l : Language N G) (T : N → ℕ) (U : G → ℕ) where
     entry_some m p q [] h = record { reply = Fails p; weight = 1; does = missing }
     entry_some m p q (x ∷ xs) h = let d = types m q x (inl (omega (arith, h, all_some xs))) in entry_next m p q x xs d.answer d.weight d.says
 
-    pub group_some : (t : Group N G) (p q : ℕ) (xs : List Value) → list_size xs ≤ S → IsGroupRanked l U R t → DoesSome t p q xs
+    pub group_some : (t : Group N G) (p q : ℕ) (xs : List Value) → list_size xs ≤ S → IsGroupRanked l group_rank R t → DoesSome t p q xs
     group_some (Entry m) p q xs h k = entry_some m p q xs h
     group_some (GroupRef g) p q xs h k = let d = groups g p q xs (inr (h, k)) in record { reply = d.reply; weight = suc d.weight; does = group_ref d.does }
     group_some (Sequence gs) p q xs h k = let d = each_some gs p q xs p (inr (h, k)) in record { reply = d.reply; weight = suc d.weight; does = sequence d.does }
@@ -185,37 +185,37 @@ module _ {N G : Type 0} (l : Language N G) (T : N → ℕ) (U : G → ℕ) where
   all_below rank bound h [] = tt
   all_below rank bound h (m ∷ ms) = (omega (arith, h m), all_below rank bound h ms)
 
-  all_down : (bound : ℕ) → ((g : G) → U g ≤ bound) → (gs : List G) → LeadsDown l U (suc bound) gs
+  all_down : (bound : ℕ) → ((g : G) → group_rank g ≤ bound) → (gs : List G) → LeadsDown l group_rank (suc bound) gs
   all_down bound h [] = tt
   all_down bound h (g ∷ gs) = (omega (arith, h g), λ e. all_down bound h gs)
 
-  module _ (bound : ℕ) (ranked : IsRankedByForm l T U bound) where
-    type_step : (m : N) (p : ℕ) (y : Value) → TypesSay (size y) (T m) → GroupsDo (size y) (T m) → SaysSome (l.type_at m) p y
-    type_step m p y types groups = type_some (size y) (T m) types groups (l.type_at m) p y (omega arith) (ranked.types m)
+  module _ (bound : ℕ) (ranked : IsRankedByForm l type_rank group_rank bound) where
+    type_step : (m : N) (p : ℕ) (y : Value) → TypesSay (size y) (type_rank m) → GroupsDo (size y) (type_rank m) → SaysSome (l.type_at m) p y
+    type_step m p y types groups = type_some (size y) (type_rank m) types groups (l.type_at m) p y (omega arith) (ranked.types m)
 
-    group_step : (g : G) (p q : ℕ) (ys : List Value) → TypesSay (list_size ys) (U g) → GroupsDo (list_size ys) (U g) → DoesSome (l.group_at g) p q ys
-    group_step g p q ys types groups = group_some (list_size ys) (U g) types groups (l.group_at g) p q ys (omega arith) (ranked.groups g)
+    group_step : (g : G) (p q : ℕ) (ys : List Value) → TypesSay (list_size ys) (group_rank g) → GroupsDo (list_size ys) (group_rank g) → DoesSome (l.group_at g) p q ys
+    group_step g p q ys types groups = group_some (list_size ys) (group_rank g) types groups (l.group_at g) p q ys (omega arith) (ranked.groups g)
 
     pub named_type : (m : N) (p : ℕ) (y : Value) → SaysSome (l.type_at m) p y
-    named_type = for_types T U (λ m p y. SaysSome (l.type_at m) p y) (λ g p q ys. DoesSome (l.group_at g) p q ys) type_step group_step
+    named_type = for_types type_rank group_rank (λ m p y. SaysSome (l.type_at m) p y) (λ g p q ys. DoesSome (l.group_at g) p q ys) type_step group_step
 
     pub named_group : (g : G) (p q : ℕ) (ys : List Value) → DoesSome (l.group_at g) p q ys
-    named_group = for_groups T U (λ m p y. SaysSome (l.type_at m) p y) (λ g p q ys. DoesSome (l.group_at g) p q ys) type_step group_step
+    named_group = for_groups type_rank group_rank (λ m p y. SaysSome (l.type_at m) p y) (λ g p q ys. DoesSome (l.group_at g) p q ys) type_step group_step
 
     -- what names name is ranked, so every form over names is, one rank higher
-    any_type_ranked : (t : Node N G) → IsTypeRanked T U (suc bound) t
+    any_type_ranked : (t : Node N G) → IsTypeRanked type_rank group_rank (suc bound) t
     any_type_ranked (Plain t) = tt
     any_type_ranked (Ref m) = omega (arith, ranked.type_bound m)
-    any_type_ranked (Choice ms) = all_below T bound ranked.type_bound ms
+    any_type_ranked (Choice ms) = all_below type_rank bound ranked.type_bound ms
     any_type_ranked (ArrayOf g) = omega (arith, ranked.group_bound g)
     any_type_ranked (TagOf t m) = tt
     any_type_ranked (SimpleBy m) = omega (arith, ranked.type_bound m)
 
-    any_group_ranked : (t : Group N G) → IsGroupRanked l U (suc bound) t
+    any_group_ranked : (t : Group N G) → IsGroupRanked l group_rank (suc bound) t
     any_group_ranked (Entry m) = tt
     any_group_ranked (GroupRef g) = omega (arith, ranked.group_bound g)
     any_group_ranked (Sequence gs) = all_down bound ranked.group_bound gs
-    any_group_ranked (Alternatives gs) = all_below U bound ranked.group_bound gs
+    any_group_ranked (Alternatives gs) = all_below group_rank bound ranked.group_bound gs
     any_group_ranked (Repeat least most g) = omega (arith, ranked.group_bound g)
 
     pub any_type : (t : Node N G) (p : ℕ) (x : Value) → SaysSome t p x
@@ -227,5 +227,5 @@ module _ {N G : Type 0} (l : Language N G) (T : N → ℕ) (U : G → ℕ) where
 module _ {N G : Type 0} (l : Language N G) (rank : Name N G → ℕ) (bound : ℕ) (ranked : IsRanked l rank bound) where
   pub is_decided : (t : Node N G) (p : ℕ) (x : Value) → p + place_count x < 2 ^ 64 → IsDecided l t p x
   is_decided t p x h =
-      let d = any_type l (type_rank l rank) (group_rank l rank) bound (by_form l rank ranked) t p x in
+      let d = any_type l (types_by l rank) (groups_by l rank) bound (by_form l rank ranked) t p x in
       record { answer = d.answer; weight = d.weight; says = d.says; only = λ a w e. one_saying l h d.says e }

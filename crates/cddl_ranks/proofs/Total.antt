@@ -20,18 +20,18 @@ is_equal m n h = grind (arith, nat_tests)
 is_unequal : (m n : ℕ) → nat_eq m n ≡ false → m ≡ n → ⊥
 is_unequal m n h e = grind (arith, nat_tests)
 
-module _ {N G : Type 0} (l : Language N G) (T : N → ℕ) (U : G → ℕ) where
+module _ {N G : Type 0} (l : Language N G) (type_rank : N → ℕ) (group_rank : G → ℕ) where
   -- a move ends with a reply of this kind
   record Ending (S R : ℕ) (m : Move N G) (IsGood : Reply → Type 0) : Type 0 where
     reply : Reply
     weight : ℕ
-    ends : EndsDown l T U S R m reply weight
+    ends : EndsDown l type_rank group_rank S R m reply weight
     good : IsGood reply
 
   pub record Replied (q : Question N G) (IsGood : Reply → Type 0) : Type 0 where
     pub reply : Reply
     pub weight : ℕ
-    pub replies_down : RepliesDown l T U q reply weight
+    pub replies_down : RepliesDown l type_rank group_rank q reply weight
     pub good : IsGood reply
 
   abbrev pub Empty : G → Type 0
@@ -39,29 +39,29 @@ module _ {N G : Type 0} (l : Language N G) (T : N → ℕ) (U : G → ℕ) where
 
   -- every type below this size and rank has a reply, and every group
   abbrev TypesReply : ℕ → ℕ → Type 0
-  TypesReply S R = (m : N) (p : ℕ) (y : Value) → IsLess (size y) (T m) S R → Replied (OfType m p y) AnyReply
+  TypesReply S R = (m : N) (p : ℕ) (y : Value) → IsLess (size y) (type_rank m) S R → Replied (OfType m p y) AnyReply
 
   abbrev GroupsReply : ℕ → ℕ → Type 0
-  GroupsReply S R = (g : G) (base q : ℕ) (ys : List Value) → IsLess (list_size ys) (U g) S R → Replied (OfGroup g base q ys) (TakesWell (Empty g) ys)
+  GroupsReply S R = (g : G) (base q : ℕ) (ys : List Value) → IsLess (list_size ys) (group_rank g) S R → Replied (OfGroup g base q ys) (TakesWell (Empty g) ys)
 
   module _ (S R : ℕ) (types : TypesReply S R) (groups : GroupsReply S R) where
     at_end : (r : Reply) (IsGood : Reply → Type 0) → IsGood r → Ending S R (Answered r) IsGood
     at_end r IsGood h = record { reply = r; weight = 0; ends = at_once; good = h }
 
-    then : {q : Question N G} {o : Pending N G} {s : Reply} {w : ℕ} {IsGood : Reply → Type 0} → IsLess (size_of q) (rank_of T U q) S R → RepliesDown l T U q s w → Ending S R (next_move o s) IsGood → Ending S R (Asks q o) IsGood
+    then : {q : Question N G} {o : Pending N G} {s : Reply} {w : ℕ} {IsGood : Reply → Type 0} → IsLess (size_of q) (rank_of type_rank group_rank q) S R → RepliesDown l type_rank group_rank q s w → Ending S R (next_move o s) IsGood → Ending S R (Asks q o) IsGood
     then {w = w} i d e = record { reply = e.reply; weight = w + e.weight; ends = after i d e.ends; good = e.good }
 
     choose_next : (m : N) (ms : List N) (p : ℕ) (x : Value) (far : ℕ) (s : Reply) → ((far : ℕ) → Ending S R (next_member ms p x far) AnyReply) → Ending S R (next_move (InChoice ms p x far) s) AnyReply
     choose_next m ms p x far (Takes left b later) rest = at_end (Takes [] b 0) AnyReply tt
     choose_next m ms p x far (Fails later) rest = rest (max far later)
 
-    choose_total : (ms : List N) (p : ℕ) (x : Value) (far : ℕ) → size x ≤ S → AreBelow T R ms → Ending S R (next_member ms p x far) AnyReply
+    choose_total : (ms : List N) (p : ℕ) (x : Value) (far : ℕ) → size x ≤ S → AreBelow type_rank R ms → Ending S R (next_member ms p x far) AnyReply
     choose_total [] p x far h b = at_end (Fails far) AnyReply tt
     choose_total (m ∷ ms) p x far h b =
         let d = types m p x (inr (h, b.0)) in
         then (inr (h, b.0)) d.replies_down (choose_next m ms p x far d.reply (λ far. choose_total ms p x far h b.1))
 
-    array_total : (g : G) (p : ℕ) (x : Value) → size x ≤ S → U g < R → (o : Option (List Value)) → members_in x ≡ o → Ending S R (array_move g p o) AnyReply
+    array_total : (g : G) (p : ℕ) (x : Value) → size x ≤ S → group_rank g < R → (o : Option (List Value)) → members_in x ≡ o → Ending S R (array_move g p o) AnyReply
     array_total g p x h u None e = at_end (Fails p) AnyReply tt
     array_total g p x h u (Some xs) e =
         let i : list_size xs ≤ S = omega (arith, h, array_size x xs e) in
@@ -89,14 +89,14 @@ module _ {N G : Type 0} (l : Language N G) (T : N → ℕ) (U : G → ℕ) where
     number_next p (Takes left b later) = at_end (Takes [] (plus p 1) 0) AnyReply tt
     number_next p (Fails later) = at_end (Fails p) AnyReply tt
 
-    simple_total : (m : N) (p : ℕ) → 1 ≤ S → T m < R → (o : Option ℕ) → Ending S R (simple_move m p o) AnyReply
+    simple_total : (m : N) (p : ℕ) → 1 ≤ S → type_rank m < R → (o : Option ℕ) → Ending S R (simple_move m p o) AnyReply
     simple_total m p h u None = at_end (Fails p) AnyReply tt
     simple_total m p h u (Some n) =
         let i : size (uint n) ≤ S = omega (arith, h) in
         let d = types m p (uint n) (inr (i, u)) in
         then (inr (i, u)) d.replies_down (number_next p d.reply)
 
-    type_total : (t : Node N G) (p : ℕ) (x : Value) → size x ≤ S → IsTypeRanked T U R t → Ending S R (type_move t p x) AnyReply
+    type_total : (t : Node N G) (p : ℕ) (x : Value) → size x ≤ S → IsTypeRanked type_rank group_rank R t → Ending S R (type_move t p x) AnyReply
     type_total (Plain t) p x h k = at_end (test_reply p x (passes t x)) AnyReply tt
     type_total (Ref m) p x h k = let d = types m p x (inr (h, k)) in then (inr (h, k)) d.replies_down (at_end d.reply AnyReply tt)
     type_total (Choice ms) p x h k = choose_total ms p x p h k
@@ -110,7 +110,7 @@ module _ {N G : Type 0} (l : Language N G) (T : N → ℕ) (U : G → ℕ) where
         let e = rest (max far later) in
         record { reply = e.reply; weight = e.weight; ends = e.ends; good = takes_as (OneMayBeEmpty l gs) (OneMayBeEmpty l (g ∷ gs)) (λ e. another e) ys e.reply e.good }
 
-    first_total : (gs : List G) (base q : ℕ) (ys : List Value) (far : ℕ) → list_size ys ≤ S → AreBelow U R gs → Ending S R (next_alternative gs base q ys far) (TakesWell (OneMayBeEmpty l gs) ys)
+    first_total : (gs : List G) (base q : ℕ) (ys : List Value) (far : ℕ) → list_size ys ≤ S → AreBelow group_rank R gs → Ending S R (next_alternative gs base q ys far) (TakesWell (OneMayBeEmpty l gs) ys)
     first_total [] base q ys far h b = at_end (Fails far) (TakesWell (OneMayBeEmpty l []) ys) tt
     first_total (g ∷ gs) base q ys far h b =
         let d = groups g base q ys (inr (h, b.0)) in
@@ -118,9 +118,9 @@ module _ {N G : Type 0} (l : Language N G) (T : N → ℕ) (U : G → ℕ) where
 
     -- the further parts of a sequence are asked of a smaller list, or go down
     abbrev GoesDown : List G → List Value → Type 0
-    GoesDown gs ys = (list_size ys < S) ⊎ ((list_size ys ≤ S) × LeadsDown l U R gs)
+    GoesDown gs ys = (list_size ys < S) ⊎ ((list_size ys ≤ S) × LeadsDown l group_rank R gs)
 
-    part_less : (g : G) (gs : List G) (ys : List Value) → GoesDown (g ∷ gs) ys → IsLess (list_size ys) (U g) S R
+    part_less : (g : G) (gs : List G) (ys : List Value) → GoesDown (g ∷ gs) ys → IsLess (list_size ys) (group_rank g) S R
     part_less g gs ys (inl h) = inl h
     part_less g gs ys (inr h) = inr (h.0, h.1.0)
 
@@ -163,7 +163,7 @@ module _ {N G : Type 0} (l : Language N G) (T : N → ℕ) (U : G → ℕ) where
     round_next least most g base q ys far (Takes left b later) good rest = behind_total least most g base q ys (max far later) left b (nat_eq (length left) (length ys)) refl good rest
     round_next least most g base q ys far (Fails later) good rest = end_total least most g ys q (max far later)
 
-    rounds_total : (j least : ℕ) (most : Most) (g : G) (base q : ℕ) (ys : List Value) (far : ℕ) → length ys < j → list_size ys ≤ S → U g < R → (c : Bool) → is_over most ≡ c → Ending S R (next_round c least most g base q ys far) (TakesWell (MayBeEmpty l (Repeat least most g)) ys)
+    rounds_total : (j least : ℕ) (most : Most) (g : G) (base q : ℕ) (ys : List Value) (far : ℕ) → length ys < j → list_size ys ≤ S → group_rank g < R → (c : Bool) → is_over most ≡ c → Ending S R (next_round c least most g base q ys far) (TakesWell (MayBeEmpty l (Repeat least most g)) ys)
     rounds_total zero least most g base q ys far n h u c e = absurd (omega (arith, n))
     rounds_total (suc j) least most g base q ys far n h u true e = at_end (Takes ys q far) (TakesWell (MayBeEmpty l (Repeat least most g)) ys) (inl (no_round e, refl))
     rounds_total (suc j) least most g base q ys far n h u false e =
@@ -181,7 +181,7 @@ module _ {N G : Type 0} (l : Language N G) (T : N → ℕ) (U : G → ℕ) where
         let d = types m q y (inl i) in
         then (inl i) d.replies_down (entry_next (MayBeEmpty l (Entry m)) base y ys d.reply)
 
-    group_total : (t : Group N G) (base q : ℕ) (ys : List Value) → list_size ys ≤ S → IsGroupRanked l U R t → Ending S R (group_move t base q ys) (TakesWell (MayBeEmpty l t) ys)
+    group_total : (t : Group N G) (base q : ℕ) (ys : List Value) → list_size ys ≤ S → IsGroupRanked l group_rank R t → Ending S R (group_move t base q ys) (TakesWell (MayBeEmpty l t) ys)
     group_total (Entry m) base q ys h k = entry_total m base q ys h
     group_total (GroupRef g) base q ys h k =
         let d = groups g base q ys (inr (h, k)) in
@@ -194,19 +194,19 @@ module _ {N G : Type 0} (l : Language N G) (T : N → ℕ) (U : G → ℕ) where
         record { reply = e.reply; weight = e.weight; ends = e.ends; good = takes_as (OneMayBeEmpty l gs) (MayBeEmpty l (Alternatives gs)) (λ e. one_of_them e) ys e.reply e.good }
     group_total (Repeat least most g) base q ys h k = rounds_total (suc (length ys)) least most g base q ys base (omega arith) h k (is_over most) refl
 
-  module _ (bound : ℕ) (ranked : IsRankedByForm l T U bound) where
-    type_step : (m : N) (p : ℕ) (y : Value) → TypesReply (size y) (T m) → GroupsReply (size y) (T m) → Replied (OfType m p y) AnyReply
+  module _ (bound : ℕ) (ranked : IsRankedByForm l type_rank group_rank bound) where
+    type_step : (m : N) (p : ℕ) (y : Value) → TypesReply (size y) (type_rank m) → GroupsReply (size y) (type_rank m) → Replied (OfType m p y) AnyReply
     type_step m p y types groups =
-        let e = type_total (size y) (T m) types groups (l.type_at m) p y (omega arith) (ranked.types m) in
+        let e = type_total (size y) (type_rank m) types groups (l.type_at m) p y (omega arith) (ranked.types m) in
         record { reply = e.reply; weight = suc e.weight; replies_down = replies e.ends; good = tt }
 
-    group_step : (g : G) (base q : ℕ) (ys : List Value) → TypesReply (list_size ys) (U g) → GroupsReply (list_size ys) (U g) → Replied (OfGroup g base q ys) (TakesWell (Empty g) ys)
+    group_step : (g : G) (base q : ℕ) (ys : List Value) → TypesReply (list_size ys) (group_rank g) → GroupsReply (list_size ys) (group_rank g) → Replied (OfGroup g base q ys) (TakesWell (Empty g) ys)
     group_step g base q ys types groups =
-        let e = group_total (list_size ys) (U g) types groups (l.group_at g) base q ys (omega arith) (ranked.groups g) in
+        let e = group_total (list_size ys) (group_rank g) types groups (l.group_at g) base q ys (omega arith) (ranked.groups g) in
         record { reply = e.reply; weight = suc e.weight; replies_down = replies e.ends; good = e.good }
 
     pub type_replies : (m : N) (p : ℕ) (y : Value) → Replied (OfType m p y) AnyReply
-    type_replies = for_types T U (λ m p y. Replied (OfType m p y) AnyReply) (λ g base q ys. Replied (OfGroup g base q ys) (TakesWell (Empty g) ys)) type_step group_step
+    type_replies = for_types type_rank group_rank (λ m p y. Replied (OfType m p y) AnyReply) (λ g base q ys. Replied (OfGroup g base q ys) (TakesWell (Empty g) ys)) type_step group_step
 
     pub group_replies : (g : G) (base q : ℕ) (ys : List Value) → Replied (OfGroup g base q ys) (TakesWell (Empty g) ys)
-    group_replies = for_groups T U (λ m p y. Replied (OfType m p y) AnyReply) (λ g base q ys. Replied (OfGroup g base q ys) (TakesWell (Empty g) ys)) type_step group_step
+    group_replies = for_groups type_rank group_rank (λ m p y. Replied (OfType m p y) AnyReply) (λ g base q ys. Replied (OfGroup g base q ys) (TakesWell (Empty g) ys)) type_step group_step
