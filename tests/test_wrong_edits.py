@@ -23,7 +23,8 @@ SOURCES = {
 pub mod left;
 pub mod right;
 
-ghost use Rattle.std.specs.Prelude.{◌≡◌};
+ghost use Rattle.std.specs.Prelude.{◌≡◌, ◌<◌};
+ghost use Rattle.sample.specs.Bounds.{least, greatest};
 
 /// A way of some steps.
 #[derive(Drop)]
@@ -63,6 +64,11 @@ impl Far {
     }
 }
 
+/// The least number is below the greatest.
+pub fn least_is_below()
+    ensures { least < greatest }
+{}
+
 /// The number 1.
 pub fn one() -> u32
     ensures { result ≡ 1 }
@@ -76,6 +82,17 @@ pub fn two() -> u32
 {
     one() + 1
 }
+""",
+    "specs/Lib.antt": "pub mod Bounds\n",
+    "specs/Bounds.antt": """\
+-- Two numbers.
+use Rattle.std.specs.Prelude.{ℕ}
+
+abbrev pub least : ℕ
+least = 1
+
+abbrev pub greatest : ℕ
+greatest = 9
 """,
     "src/left.rt": """\
 //! One side.
@@ -102,7 +119,7 @@ pub fn side() -> u32
 }
 """,
 }
-# Each edit by its name: the file, the old and the new text, and what is to be said of it.
+# Each edit by its name: the file, the old and the new text, what is to be said of it, and the law that it names, if any.
 EDITS = {
     "near_is_halved": ("src/lib.rt", "self.steps", "self.steps / 2", "refused, as it must be"),
     # a method of a trait, which is edited where it stands
@@ -117,6 +134,10 @@ EDITS = {
     "left_stays": ("src/left.rt", "    1", "    0 + 1", "NOT REFUSED"),
     "near_has_no_paces": ("src/lib.rt", "self.steps", "self.paces", "BAD EDIT"),
     "right_is_not_three": ("src/right.rt", "    3", "    2", "BAD EDIT"),
+    "least_is_nine": ("specs/Bounds.antt", "least = 1", "least = 9", "refused, as it must be", "least_is_below"),
+    "least_stays_below": ("specs/Bounds.antt", "least = 1", "least = 8", "NOT REFUSED", "least_is_below"),
+    "least_is_no_name": ("specs/Bounds.antt", "least = 1", "least = one", "BAD EDIT", "least_is_below"),
+    "least_of_no_law": ("specs/Bounds.antt", "least = 1", "least = 9", "BAD EDIT", "least_is_above"),
 }
 SHAPES = """\
 pub fn law()
@@ -181,14 +202,14 @@ def write(folder, edits):
     """Writes a repository with the crate 'sample' and these of its edits."""
     shutil.rmtree(f"{folder}/crates", ignore_errors=True)
     for file, text in SOURCES.items():
-        os.makedirs(f"{folder}/crates/sample/src", exist_ok=True)
+        os.makedirs(os.path.dirname(f"{folder}/crates/sample/{file}"), exist_ok=True)
         with open(f"{folder}/crates/sample/{file}", "w", encoding="utf-8") as it:
             it.write(text)
     os.makedirs(f"{folder}/crates/sample/wrong")
     for name in edits:
-        file, old, new, _ = EDITS[name]
+        file, old, new, _, *law = EDITS[name]
         with open(f"{folder}/crates/sample/wrong/{name}.edit", "w", encoding="utf-8") as it:
-            it.write(f"file: {file}\nold: {old}\nnew: {new}\n")
+            it.write("".join([f"file: {file}\nold: {old}\nnew: {new}\n", *(f"law: {it}\n" for it in law)]))
     with open(f"{folder}/crates.txt", "w", encoding="utf-8") as it:
         it.write("sample:\n")
     os.makedirs(f"{folder}/tests", exist_ok=True)

@@ -29,6 +29,7 @@ MOST_AT_ONCE = 3
 NAME = re.compile(r"[A-Za-z0-9_-][A-Za-z0-9_.-]*\.edit")
 LINE = re.compile(r"fn (\S+): (.*)")
 PLACE = re.compile(r"(?:\./)?(src/\S+\.rt):(\d+):\d+: error")
+LAW = re.compile(r"^law: (.*)$", re.MULTILINE)
 NOTE = re.compile(r"note: \S+:\d+:\d+: ")
 # What a check says of a function that it refuses for itself, and what of one that rests on a refused one.
 IS_REFUSED = re.compile(r"no proof: expected |not proved(?!.*\bit (?:calls|passes) )")
@@ -73,12 +74,15 @@ def words_in(lines):
 
 
 class Edit:
-    """An edit, and the one function in whose body all of it lies, or None."""
+    """An edit, the law that it names, if any, and the one function in whose body all of it lies, or None."""
 
     def __init__(self, trial, path):
         self.path = path
+        with open(path, encoding="utf-8", errors="replace") as it:
+            self.law = next(iter(LAW.findall(it.read())), "")
         texts, why = trial.kit.read_edit(path, trial.crate.folder)
-        is_code = not why and all(it in trial.sources for it in texts)
+        self.texts, self.why = texts or {}, why
+        is_code = not why and not self.law and all(it in trial.sources for it in texts)
         self.hunks = {it: hunks(trial.sources[it], text) for it, text in texts.items()} if is_code else {}
         touched = {it for it in trial.functions for file in self.hunks for hunk in self.hunks[file] if it.holds(file, hunk)}
         places = sum(len(it) for it in self.hunks.values())
@@ -119,10 +123,28 @@ class Trial:
         edits = [Edit(self, it) for it in good]
         with tempfile.TemporaryDirectory(prefix="wrong-") as kept:
             refused = self.try_many([it for it in edits if it.function], kept)
-            alone = self.try_alone([it for it in edits if not refused.get(it)], kept)
+            by_law = self.try_laws([it for it in edits if it.law], kept)
+            alone = self.try_alone([it for it in edits if not it.law and not refused.get(it)], kept)
         for edit in edits:
-            told.append(alone.get(edit) or (True, f"{self.label(edit.path)}: refused, as it must be: {refused[edit][:160]}"))
+            said = by_law.get(edit) or f"refused, as it must be: {refused.get(edit, '')[:160]}"
+            told.append(alone.get(edit) or (said.startswith("refused"), f"{self.label(edit.path)}: {said}"))
         return told
+
+    def try_laws(self, edits, kept):
+        """What is to be told of each edit that names a law, after a check of this law alone with the edit."""
+        laws = {"::".join(it.path): it for it in self.functions if any(it.is_named(edit.law) for edit in edits)}
+        proved = {of for of, said, _ in self.check({}, dict.fromkeys(laws.values()), kept)[1] if said == "proved"} if laws else set()
+        return {edit: self.said_of(edit, laws.get(edit.law), proved, kept) for edit in edits}
+
+    def said_of(self, edit, law, proved, kept):
+        """What is to be told of one such edit: a law tells nothing where it is not proved without the edit."""
+        if edit.why or law not in proved:
+            return f"BAD EDIT: {edit.why or 'no law of this path is proved without it'}"
+        is_whole, found = self.check(edit.texts, {law: edit}, kept)
+        why = [why for of, said, why in found if of == law and IS_REFUSED.match(said)]
+        if not is_whole:
+            return "BAD EDIT: it does not compile or read"
+        return f"refused, as it must be: {why[0][:160]}" if why else "NOT REFUSED: its law is proved even so"
 
     def try_many(self, edits, kept):
         """What checks of many edits say of each that they refuse. The first has an edit of each function, where it stands.
