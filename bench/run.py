@@ -14,7 +14,7 @@ fifteen times where the runs are short; the best time of each counts. The column
   growth    the program's processor time for the second size over that for the first, which other work on the machine
             disturbs less: 2 where the cost grows with the size alone
   peak      the most memory that lay in RAM for the program (VmHWM), in a run of its own that is looked at while the
-            program waits behind the last byte
+            program waits after the last byte
   per byte  the peak over the bytes of an item, where an item has 64 KiB at least
 
 The stock readers only decode, each item into Python's objects, and print nothing. What they take for an empty stream,

@@ -14,8 +14,8 @@ CYCLE = re.compile(r" *#\[cycle\((\w+)\)\]")
 
 @dataclass(frozen=True)
 class Function:
-    """A function with a body. It begins at the line 'first' with what stands above its head, and has its head at 'head';
-    its body begins behind the line 'opens' and ends at 'last', all counted from 0.
+    """A function with a body. It begins at the line 'first' with what is above its head, and has its head at 'head';
+    its body begins after the line 'opens' and ends at 'last', all counted from 0.
 
     The path is what a check prints below the crate: modules, the type or impl of a method, and the name. It is empty where
     the text does not tell it, as for a body in a trait, which each impl takes over."""
@@ -37,15 +37,15 @@ class Function:
         return tuple(words) == self.path or (*self.path[:at], "fn", *self.path[at:]) == tuple(words[: len(self.path) + 1])
 
     def depth(self):
-        """How many words of the path stand behind the modules."""
+        """How many words of the path come after the modules."""
         return 2 if len(self.path) > 1 and self.path[-2][:1].isupper() else 1
 
     def called(self, name):
-        """This function under another name, where it stands."""
+        """This function under another name, at the same lines."""
         return replace(self, name=name, path=(*self.path[:-1], name))
 
     def holds(self, file, hunk):
-        """Tells whether all lines of a change stand in the body."""
+        """Tells whether all lines of a change are in the body."""
         return file == self.file and self.opens < hunk[0] and hunk[1] <= self.last
 
     def proof(self):
@@ -114,7 +114,7 @@ def module_of(file):
 
 
 def path_of(module, blocks, name, homes):
-    """The path of a function in these blocks, each with its last line, kind and head. A method stands where its type does."""
+    """The path of a function in these blocks, each with its last line, kind and head. A method is in the module of its type."""
     inner = tuple(re.search(r"mod (\w+)", head)[1] for _, kind, head in blocks if kind == "mod")
     around = [(kind, head) for _, kind, head in blocks if kind != "mod"]
     if not around:
@@ -138,7 +138,7 @@ def impl_of(head):
 
 
 def above(lines, at):
-    """The first line of what stands above the function's head, and the cycle of calls that it names, or an empty text."""
+    """The first line of what is above the function's head, and the cycle of calls that it names, or an empty text."""
     first, cycle = at, ""
     while first and lines[first - 1].strip() and not lines[first - 1].rstrip().endswith(("{", "}", ";")):
         first -= 1

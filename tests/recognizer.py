@@ -89,7 +89,7 @@ KINDS = {
     "Arrow": "=>", "Cut": "^", "Colon": ":", "Comma": ",", "ParenOpen": "(", "ParenClose": ")", "BracketOpen": "[",
     "BracketClose": "]", "BraceOpen": "{", "BraceClose": "}", "AngleClose": ">", "Tilde": "~", "Ampersand": "&",
 }
-# Kinds of one rule's body and of what stands between rules; kinds that open and close; and kinds of entries with keys.
+# Kinds of one rule's body and of what is between rules; kinds that open and close; and kinds of entries with keys.
 FLAT = ["Name", "Assign", "Slash", "Comma", "ParenOpen", "ParenClose", "Arrow", "Colon", "Occur"]
 NESTED = ["Name", "NameOpen", "AngleClose", "TagHeadOpen", "ParenOpen", "ParenClose", "BracketOpen", "BracketClose",
           "Ampersand", "DoubleSlash", "Comma", "Arrow"]
@@ -125,7 +125,7 @@ def tokens_of(text):
 
 
 def follow(columns, column, item):
-    """What follows from an item of the column behind these."""
+    """What follows from an item of the column after these."""
     way, read, began = item
     part, symbols = SPELLINGS[way]
     if read == len(symbols):
@@ -150,8 +150,8 @@ def close(columns, items):
     return columns + (column,)
 
 
-def behind(columns, kind):
-    """The columns with one more, behind a token of this kind; None where nothing can go on with it."""
+def after(columns, kind):
+    """The columns with one more, after a token of this kind; None where nothing can go on with it."""
     items = [(way, read + 1, began) for way, read, began in columns[-1].get(kind, ())]
     return close(columns, items) if items else None
 
@@ -163,7 +163,7 @@ def first_wrong(kinds):
     """The place of the first token with which nothing can go on; None where there is none."""
     columns = BEGINNING
     for at, kind in enumerate(kinds):
-        columns = behind(columns, kind)
+        columns = after(columns, kind)
         if columns is None:
             return at
     return None
@@ -183,12 +183,12 @@ def case_of(front):
 
 def longer(front, kind):
     kinds, columns, wrong = front
-    more = behind(columns, kind) if columns else None
+    more = after(columns, kind) if columns else None
     return kinds + (kind,), more, wrong if more or not columns else len(kinds)
 
 
 def up_to(alphabet, length, start=(), is_any=False):
-    """All lists of up to so many kinds behind a start; those with any wrong token, or those with none but the last."""
+    """All lists of up to so many kinds after a start; those with any wrong token, or those with none but the last."""
     front = (), BEGINNING, None
     for kind in start:
         front = longer(front, kind)
@@ -201,7 +201,7 @@ def up_to(alphabet, length, start=(), is_any=False):
 
 
 def along(texts):
-    """The beginnings of texts, each with any one token behind it."""
+    """The beginnings of texts, each with any one token after it."""
     seen = set()
     for text in texts:
         front = (), BEGINNING, None

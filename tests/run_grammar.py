@@ -20,7 +20,7 @@ the program printed.
   tree_parts    the same, as a list of [text, count]
   rules         for a long specification in place of its sketch: how many rules it has
   code, at      in place of a tree: why it has none, and the offset where that shows
-  input         in place of one text: all that stands on standard input, of a run for this row alone
+  input         in place of one text: the whole standard input of a run for this row alone
   answers       for that: a list of what comes, each the sketch of a tree or the line of a refusal
 
 A sketch is the tokens of a tree, with words that tell apart what is spelled alike: 'type' and 'group' before a rule
@@ -53,7 +53,7 @@ GAP = re.compile(rb"(?:[ \t\n]|\r\n|;[^\n]*(?:\n|$))*")
 
 
 def unescaped(text):
-    """What stands between the quotes of a text that is printed by {:?}."""
+    """What is between the quotes of a text that is printed by {:?}."""
     letters = {"n": "\n", "r": "\r", "t": "\t", "0": "\0"}
     return ESCAPE.sub(lambda it: chr(int(it[1], 16)) if it[1] else letters.get(it[2], it[2]), text)
 

@@ -122,7 +122,7 @@ pub fn side() -> u32
 # Each edit by its name: the file, the old and the new text, what is to be said of it, and the law that it names, if any.
 EDITS = {
     "near_is_halved": ("src/lib.rt", "self.steps", "self.steps / 2", "refused, as it must be"),
-    # a method of a trait, which is edited where it stands
+    # a method of a trait, which is edited in place
     "from_is_halved": ("src/lib.rt", "Near { steps }", "Near { steps: steps / 2 }", "refused, as it must be"),
     # the method of another type has the same name
     "far_stays": ("src/lib.rt", "self.paces", "0 + self.paces", "NOT REFUSED"),

@@ -46,7 +46,7 @@ def load_kit(command):
 
 
 def hunks(old, new):
-    """The lines that differ: the first of the old text's, the one behind the last, and the new lines."""
+    """The lines that differ: the first of the old text's, the one after the last, and the new lines."""
     a, b = old.split("\n"), new.split("\n")
     found = difflib.SequenceMatcher(None, a, b, autojunk=False).get_opcodes()
     return [(i, j, b[k:m]) for tag, i, j, k, m in found if tag != "equal"]
@@ -55,8 +55,8 @@ def hunks(old, new):
 def with_hunks(lines, found):
     """The lines with these changes, no two of which are of one line."""
     made = list(lines)
-    for first, behind, new in sorted(found, key=lambda it: it[0], reverse=True):
-        made[first:behind] = new
+    for first, after, new in sorted(found, key=lambda it: it[0], reverse=True):
+        made[first:after] = new
     return made
 
 
@@ -118,7 +118,7 @@ class Trial:
     def run(self):
         """The lines on each edit, with whether it is refused."""
         good, bad = edits_of(self.crate)
-        why = "an edit stands right in wrong/, and its name is of letters, digits, _, - and . and ends in .edit"
+        why = "an edit is directly in wrong/, and its name is of letters, digits, _, - and . and ends in .edit"
         told = [(False, f"{self.label(it)}: BAD EDIT: {why}") for it in bad]
         edits = [Edit(self, it) for it in good]
         with tempfile.TemporaryDirectory(prefix="wrong-") as kept:
@@ -147,7 +147,7 @@ class Trial:
         return f"refused, as it must be: {why[0][:160]}" if why else "NOT REFUSED: its law is proved even so"
 
     def try_many(self, edits, kept):
-        """What checks of many edits say of each that they refuse. The first has an edit of each function, where it stands.
+        """What checks of many edits say of each that they refuse. The first has an edit of each function, in place.
         There a caller's goals are not all tried where a callee is refused, and so what is left is tried in other ways."""
         refused = self.try_together(apart(edits, lambda it, other: False), kept)
         left = [it for it in edits if it not in refused]
@@ -175,7 +175,7 @@ class Trial:
         return [it for it in self.proofs if it.startswith(f"proofs/{function.proof().replace('.', '/')}/")]
 
     def try_beside(self, edits, kept):
-        """What one check says of each edit, made in a copy of its function that stands beside it, under another name: an
+        """What one check says of each edit, made in a copy of its function beside it, under another name: an
         empty text where that is proved. A function whose proof has files gets a copy without an edit too, since the files
         are changed with the name; an edit is left out where that copy is not proved."""
         if not edits:
@@ -199,7 +199,7 @@ class Trial:
         return found
 
     def with_copies(self, copies):
-        """The texts of the files with these copies, each right behind its function, and of the copies' proofs."""
+        """The texts of the files with these copies, each directly after its function, and of the copies' proofs."""
         lines, texts = {file: text.split("\n") for file, text in self.sources.items()}, {}
         for edit, of, copy in sorted(copies, key=lambda it: it[1].last, reverse=True):
             old = self.sources[of.file].split("\n")
@@ -222,7 +222,7 @@ class Trial:
         is_whole, found = self.check(together(edits, self.sources), {it.function: it for it in edits}, kept)
         groups = {it.function.group() for it in edits}
         found = [(of and of.group(), said, why) for of, said, why in found]
-        # what stands as it was is never refused for itself: else one edit reaches into another's function
+        # what has no edit is never refused for itself: else one edit reaches into another's function
         is_clear = is_whole and all(of in groups or said == "proved" or RESTS.match(said) for of, said, _ in found)
         if not is_clear and len(edits) > 1:
             return self.in_parts(self.try_together, edits, kept)
@@ -312,7 +312,7 @@ def at_fault(lines, texts, functions):
 
 
 def edits_of(crate):
-    """The edits of the crate's wrong/, and what else stands there and is not only to be read."""
+    """The edits of the crate's wrong/, and what else is there and is not only to be read."""
     good, bad = [], []
     for at, _, names in os.walk(f"{crate.folder}/wrong"):
         for name in sorted(names):
@@ -333,7 +333,7 @@ def apart(edits, reaches):
 
 
 def is_fresh(kit, crate):
-    """Whether the crate's library was built behind the last change of its sources and of those below."""
+    """Whether the crate's library was built after the last change of its sources and of those below."""
     files = [it for each in [crate, *crate.below()] for it in kit.rtlib.files_of(each.folder)]
     made = f"{crate.rlib}/format"
     return os.path.isfile(made) and all(os.path.getmtime(it) < os.path.getmtime(made) for it in files)

@@ -13,14 +13,14 @@ pub goes_on : (a b c : State) (before after : ℕ) (bs cs : List ℕ) (r : Resul
     Goes a c before (bs ++ cs) r
 goes_on a b c before after bs cs (Ok n) w h = record {
   is = omega (arith, w.is, h.is, length-append bs cs);
-  all = Appends-trans a.held b.held c.held bs cs w.all h.all;
+  all = Appends-trans a.contents b.contents c.contents bs cs w.all h.all;
   same = h.same ∙ w.same;
 }
 goes_on a b c before after bs cs (Err e) w h = record {
   count = length bs + h.count;
   short = omega (arith, h.short, length-append bs cs);
   is = omega (arith, h.is, w.is);
-  part = subst (Appends a.held c.held) (sym (take-append-add bs cs h.count)) (Appends-trans a.held b.held c.held bs (take h.count cs) w.all h.part);
+  part = subst (Appends a.contents c.contents) (sym (take-append-add bs cs h.count)) (Appends-trans a.contents b.contents c.contents bs (take h.count cs) w.all h.part);
   failed = subst (λ n. HasRisen n c.failures) w.same h.failed;
 }
 
@@ -30,16 +30,16 @@ goes_no_further a b before written bs cs h = record {
   count = h.count;
   short = omega (arith, h.short, length-append bs cs);
   is = h.is;
-  part = let within : h.count ≤ length bs = omega (arith, h.short) in subst (Appends a.held b.held) (sym (take-append-le h.count bs cs within)) h.part;
+  part = let within : h.count ≤ length bs = omega (arith, h.short) in subst (Appends a.contents b.contents) (sym (take-append-le h.count bs cs within)) h.part;
   failed = h.failed;
 }
 
-keeps : (held : Option (List ℕ)) → Appends held held []
+keeps : (contents : Option (List ℕ)) → Appends contents contents []
 keeps None = tt
 keeps (Some xs) = sym (append-nil xs)
 
 pub goes_nowhere : (a : State) (before : ℕ) → GoesWhole a a before [] before
-goes_nowhere a before = record { is = omega arith; all = keeps a.held; same = refl }
+goes_nowhere a before = record { is = omega arith; all = keeps a.contents; same = refl }
 
 -- what has room for two has room for the first, and after the first for the second
 pub room_first : (before most : ℕ) (bs cs : List ℕ) → before + length (bs ++ cs) < most → before + length bs < most

@@ -5,9 +5,9 @@ use Rattle.cbor_data.specs.Sound.{HasShortSpelling}
 use Rattle.cbor_item.specs.declared.sound.Unsound.{Unsound}
 use Rattle.cbor_item.specs.declared.sound.Unsound.TheVariants.{TooBig, Memory}
 
--- so many more, as far as 2^128 - 1
-abbrev pub counted : ℕ → ℕ → ℕ
-counted before more = min (before + more) (2 ^ 128 - 1)
+-- so many and so many more, as far as 2^128 - 1
+abbrev pub capped_sum : ℕ → ℕ → ℕ
+capped_sum before more = min (before + more) (2 ^ 128 - 1)
 
 -- why an item is refused for its length: none of its spellings is short, or there was no memory to tell
 abbrev pub IsTooLong : Value → Unsound → Type 0

@@ -3,14 +3,15 @@
 ghost use Rattle.std.specs.Prelude.{◌≡◌, ◌+◌, ◌^◌, ◌<◌, ℕ, length, OnOk, IfErr};
 ghost use Rattle.cbor_data.specs.Preferred.{preferred, values_preferred, pairs_preferred, shortest_head, simple_bytes, float_bytes};
 ghost use Rattle.cbor_data.specs.Value.{array, pairs as pairs_value};
-ghost use Rattle.cbor_item.specs.Length.{counted, IsTooLong};
+ghost use Rattle.cbor_item.specs.Length.{capped_sum, IsTooLong};
 ghost use Rattle.cbor_item.specs.View.{view, values_view, pairs_view};
 
 use crate::item::Item;
 use crate::sound::Unsound;
 use cbor_data::Width;
 
-// Whether some spelling of the item is shorter than 2^64 bytes. No memory holds an item of which it cannot tell.
+// Whether some spelling of the item is shorter than 2^64 bytes. No memory holds an item of which the preferred bytes do not
+// tell.
 pub fn check_length(item: &Item) -> Result<(), Unsound>
     ensures ok { OnOk result (length (preferred (view item.now)) < 2 ^ 64) }
     ensures err { IfErr result (IsTooLong (view item.now)) }
@@ -28,7 +29,7 @@ pub fn check_length(item: &Item) -> Result<(), Unsound>
 // How many preferred bytes the item has, on top of `before`, as far as 2^128 - 1.
 #[cycle(length)]
 pub fn count_bytes(item: &Item, before: u128) -> u128
-    ensures { result ≡ counted before (length (preferred (view item.now))) }
+    ensures { result ≡ capped_sum before (length (preferred (view item.now))) }
 {
     match item {
         Item::Uint(n) | Item::Nint(n) => count_head(*n, before),
@@ -43,7 +44,7 @@ pub fn count_bytes(item: &Item, before: u128) -> u128
 }
 
 fn count_head(argument: u64, before: u128) -> u128
-    ensures { (major : ℕ) → result ≡ counted before (length (shortest_head major argument)) }
+    ensures { (major : ℕ) → result ≡ capped_sum before (length (shortest_head major argument)) }
 {
     before.saturating_add(head_len(argument) as u128)
 }
@@ -66,19 +67,19 @@ pub fn head_len(argument: u64) -> usize
 }
 
 fn count_string(len: usize, before: u128) -> u128
-    ensures { (major : ℕ) → result ≡ counted before (length (shortest_head major len) + len) }
+    ensures { (major : ℕ) → result ≡ capped_sum before (length (shortest_head major len) + len) }
 {
     count_head(len as u64, before).saturating_add(len as u128)
 }
 
 fn count_simple(n: u8, before: u128) -> u128
-    ensures { result ≡ counted before (length (simple_bytes n)) }
+    ensures { result ≡ capped_sum before (length (simple_bytes n)) }
 {
     before.saturating_add(if n < 24 { 1 } else { 2 })
 }
 
 fn count_float(width: Width, before: u128) -> u128
-    ensures { (bits : ℕ) → result ≡ counted before (length (float_bytes width bits)) }
+    ensures { (bits : ℕ) → result ≡ capped_sum before (length (float_bytes width bits)) }
 {
     let len = match width {
         Width::W16 => 3,
@@ -90,7 +91,7 @@ fn count_float(width: Width, before: u128) -> u128
 
 #[cycle(length)]
 fn count_members(items: &Vec<Item>, before: u128) -> u128
-    ensures { result ≡ counted before (length (preferred (array (values_view items.now.items)))) }
+    ensures { result ≡ capped_sum before (length (preferred (array (values_view items.now.items)))) }
 {
     let mut count = count_head(items.len() as u64, before);
     for item in items {
@@ -101,7 +102,7 @@ fn count_members(items: &Vec<Item>, before: u128) -> u128
 
 #[cycle(length)]
 fn count_pairs(pairs: &Vec<(Item, Item)>, before: u128) -> u128
-    ensures { result ≡ counted before (length (preferred (pairs_value (pairs_view pairs.now.items)))) }
+    ensures { result ≡ capped_sum before (length (preferred (pairs_value (pairs_view pairs.now.items)))) }
 {
     let mut count = count_head(pairs.len() as u64, before);
     for (key, value) in pairs {

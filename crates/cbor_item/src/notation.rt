@@ -17,7 +17,9 @@ use std::alloc::{AllocError, Global};
 /// `{1: 2, 3: 4}`, tags as `1(2)`, simple values as `false`, `true`, `null`, `undefined` or `simple(99)`, and floats as their
 /// bits, `f16'3c00'`.
 ///
-/// It fails only where memory does.
+/// # Errors
+///
+/// `AllocError` where memory runs out.
 pub fn diag(alloc: Global, item: &Item) -> Result<Vec<u8>, AllocError>
     ensures { IfOk result (λ text. text.items ≡ notation (view item.now)) }
 {

@@ -43,7 +43,7 @@ pub enum Unsound {
     /// number an item and all below it in preorder, a key before its value, from 0.
     #[error("a repeated key at place {0}")]
     Duplicate(usize),
-    /// There was no memory for the test. It says nothing of the item.
+    /// There was no memory for the test of its length or of its keys. The reasons before these do not hold.
     #[error("out of memory")]
     Memory,
 }
@@ -68,7 +68,12 @@ impl Model for Sound {
 const MOST_CONTAINERS: u32 = 256;
 
 impl Sound {
-    /// The item, if it is sound. The test may need memory.
+    /// The item, if it is sound.
+    ///
+    /// # Errors
+    ///
+    /// The first reason why it is not, in the order of [`Unsound`]; `Memory` where the test of the keys needs memory and
+    /// there is none.
     pub fn try_new(alloc: Global, item: Item) -> Result<Sound, Unsound>
         ensures ok { IfOk result (λ sound. (sound ≡ view item) × IsSound (view item)) }
         ensures err { IfErr result (IsFirstUnsoundness (view item)) }
@@ -88,7 +93,11 @@ impl Sound {
     }
 
     /// The item, if no map in it has two equal keys, where the rest is known: some spelling of it is shorter than 2^64
-    /// bytes, and it is at most 256 containers deep. So it is with an item that was read. The test may need memory.
+    /// bytes, and it is at most 256 containers deep. That is so of an item that was read.
+    ///
+    /// # Errors
+    ///
+    /// `Duplicate` with the least place of a repeated key; `Memory` where the test needs memory and there is none.
     pub fn try_spelled(alloc: Global, item: Item) -> Result<Sound, Unsound>
         requires spelled { HasShortSpelling (view item) }
         requires shallow { depth_of (view item) ≤ 256 }

@@ -25,7 +25,9 @@ pub struct WriteFault {
 
 /// Writes all the bytes, in as many writes as the device wants.
 ///
-/// It fails only where the device failed in this call, and then exactly the first `written` of the bytes went out.
+/// # Errors
+///
+/// Only where the device failed in this call. Exactly the first `written` of the bytes went out then.
 pub fn write_bytes<W: Write>(bytes: &[u8], out: &mut Counted<W>) -> Result<(), WriteFault>
     ensures all { OnOk result (Appends (W.contents (device_of out.old)) (W.contents (device_of out.new)) bytes.now) }
     ensures count { OnOk result (failures_of out.new ≡ failures_of out.old) }
@@ -49,7 +51,9 @@ pub fn write_bytes<W: Write>(bytes: &[u8], out: &mut Counted<W>) -> Result<(), W
 
 /// Writes the item's preferred bytes (RFC 8949 section 4.1): shortest heads and definite lengths.
 ///
-/// It fails only where the device failed in this call, and then exactly the first `written` of these bytes went out.
+/// # Errors
+///
+/// Only where the device failed in this call. Exactly the first `written` of these bytes went out then.
 pub fn write_item<W: Write>(sound: &Sound, out: &mut Counted<W>) -> Result<(), WriteFault>
     ensures all { OnOk result (Appends (W.contents (device_of out.old)) (W.contents (device_of out.new)) (preferred sound.now)) }
     ensures count { OnOk result (failures_of out.new ≡ failures_of out.old) }

@@ -2,7 +2,7 @@
 use Rattle.std.proofs.Common.{◌≡◌, ℕ, suc, List, ◌++◌, length, refl, ap, ◌∙◌, arith, length-append}
 use Rattle.std.proofs.lemmas.List.{length-map}
 use Rattle.cbor_data.specs.Value.{Value, uint, nint, bytes, text, array, pairs, tag, simple, float, Values, no_values, value, Pairs, no_pairs, pair, places, values_places, pairs_places, place_count, values_place_count, pairs_place_count}
-use Rattle.cbor_place.specs.Paths.{paths, members_paths, pairs_paths, behind, member_step, key_step, value_step, content_step}
+use Rattle.cbor_place.specs.Paths.{paths, members_paths, pairs_paths, after, member_step, key_step, value_step, content_step}
 
 mutual
   pub paths_alike : (x : Value) → length (paths x) ≡ length (places x)
@@ -19,14 +19,14 @@ mutual
   pub members_paths_alike : (i : ℕ) (xs : Values) → length (members_paths i xs) ≡ length (values_places xs)
   members_paths_alike i no_values = refl
   members_paths_alike i (value x xs) =
-      omega (arith, length-append (behind (member_step i) (paths x)) (members_paths (suc i) xs), length-map (paths x) (λ path. member_step i ++ path), paths_alike x, members_paths_alike (suc i) xs, length-append (places x) (values_places xs))
+      omega (arith, length-append (after (member_step i) (paths x)) (members_paths (suc i) xs), length-map (paths x) (λ path. member_step i ++ path), paths_alike x, members_paths_alike (suc i) xs, length-append (places x) (values_places xs))
 
   pub pairs_paths_alike : (ps : Pairs) → length (pairs_paths ps) ≡ length (pairs_places ps)
   pairs_paths_alike no_pairs = refl
   pairs_paths_alike (pair k v ps) =
-      let keys : length (behind (key_step k) (paths k)) ≡ length (places k) = length-map (paths k) (λ path. key_step k ++ path) ∙ paths_alike k in
-      let values : length (behind (value_step k) (paths v)) ≡ length (places v) = length-map (paths v) (λ path. value_step k ++ path) ∙ paths_alike v in
-      omega (arith, length-append (behind (key_step k) (paths k)) (behind (value_step k) (paths v) ++ pairs_paths ps), length-append (behind (value_step k) (paths v)) (pairs_paths ps), pairs_paths_alike ps, length-append (places k) (places v ++ pairs_places ps), length-append (places v) (pairs_places ps))
+      let keys : length (after (key_step k) (paths k)) ≡ length (places k) = length-map (paths k) (λ path. key_step k ++ path) ∙ paths_alike k in
+      let values : length (after (value_step k) (paths v)) ≡ length (places v) = length-map (paths v) (λ path. value_step k ++ path) ∙ paths_alike v in
+      omega (arith, length-append (after (key_step k) (paths k)) (after (value_step k) (paths v) ++ pairs_paths ps), length-append (after (value_step k) (paths v)) (pairs_paths ps), pairs_paths_alike ps, length-append (places k) (places v ++ pairs_places ps), length-append (places v) (pairs_places ps))
 
 mutual
   pub places_counted : (x : Value) → length (places x) ≡ place_count x
@@ -50,5 +50,5 @@ mutual
       omega (arith, length-append (places k) (places v ++ pairs_places ps), length-append (places v) (pairs_places ps), places_counted k, places_counted v, pairs_places_counted ps)
 
 -- a step before each path leaves as many
-pub behind_alike : (step : List ℕ) (x : Value) → length (behind step (paths x)) ≡ length (places x)
-behind_alike step x = length-map (paths x) (λ path. step ++ path) ∙ paths_alike x
+pub after_alike : (step : List ℕ) (x : Value) → length (after step (paths x)) ≡ length (places x)
+after_alike step x = length-map (paths x) (λ path. step ++ path) ∙ paths_alike x

@@ -1,4 +1,4 @@
-pub mod Sought
+pub mod Elements
 pub mod Paths
 pub mod Walked
 pub mod Leads

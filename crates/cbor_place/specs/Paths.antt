@@ -21,8 +21,8 @@ abbrev pub content_step : List ℕ
 content_step = codes "()"
 
 -- the same paths, with a step before each
-abbrev pub behind : List ℕ → List (List ℕ) → List (List ℕ)
-behind step paths = map (λ path. step ++ path) paths
+abbrev pub after : List ℕ → List (List ℕ) → List (List ℕ)
+after step paths = map (λ path. step ++ path) paths
 
 -- the steps to each place, in the places' order; `members_paths i` is of the members of an array from index i on
 abbrev mutual
@@ -33,17 +33,17 @@ abbrev mutual
   paths (text bs) = [] ∷ []
   paths (array xs) = [] ∷ members_paths 0 xs
   paths (pairs ps) = [] ∷ pairs_paths ps
-  paths (tag n x) = [] ∷ behind content_step (paths x)
+  paths (tag n x) = [] ∷ after content_step (paths x)
   paths (simple n) = [] ∷ []
   paths (float w n) = [] ∷ []
 
   pub members_paths : ℕ → Values → List (List ℕ)
   members_paths i no_values = []
-  members_paths i (value x xs) = behind (member_step i) (paths x) ++ members_paths (suc i) xs
+  members_paths i (value x xs) = after (member_step i) (paths x) ++ members_paths (suc i) xs
 
   pub pairs_paths : Pairs → List (List ℕ)
   pairs_paths no_pairs = []
-  pairs_paths (pair k v ps) = behind (key_step k) (paths k) ++ (behind (value_step k) (paths v) ++ pairs_paths ps)
+  pairs_paths (pair k v ps) = after (key_step k) (paths k) ++ (after (value_step k) (paths v) ++ pairs_paths ps)
 
 -- the path of a place, if there is one
 abbrev pub path : Value → ℕ → Option (List ℕ)

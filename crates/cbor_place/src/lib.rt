@@ -24,5 +24,5 @@ pub fn path_of_each_place()
 /// path.
 pub fn paths_lead_to_places()
     ensures leads { (x : Value) (place : ℕ) (steps : List ℕ) (y : Value) → slice_get (paths x) place ≡ Some steps → slice_get (places x) place ≡ Some y → Leads x steps y }
-    ensures stands { (x : Value) (steps : List ℕ) (y : Value) → Leads x steps y → (place : ℕ) × (slice_get (paths x) place ≡ Some steps) × (slice_get (places x) place ≡ Some y) }
+    ensures found { (x : Value) (steps : List ℕ) (y : Value) → Leads x steps y → (place : ℕ) × (slice_get (paths x) place ≡ Some steps) × (slice_get (places x) place ≡ Some y) }
 {}

@@ -3,8 +3,8 @@
 ghost use Rattle.std.specs.Prelude.{◌≡◌, IfOk};
 ghost use Rattle.std.specs.Option.{option_map};
 ghost use Rattle.cbor_item.specs.View.{view, values_view, pairs_view};
-ghost use Rattle.cbor_place.specs.Paths.{behind, members_paths, pairs_paths, path, paths};
-ghost use Rattle.cbor_place.specs.Sought.{sought};
+ghost use Rattle.cbor_place.specs.Paths.{after, members_paths, pairs_paths, path, paths};
+ghost use Rattle.cbor_place.specs.Elements.{element_or_rest};
 ghost use Rattle.cbor_place.specs.Walked.{Ends, step_bytes};
 
 use crate::step::{Step, push_backwards, step_text};
@@ -14,19 +14,21 @@ use std::alloc::{AllocError, Global};
 // How a walk to a place ends.
 #[derive(Clone, Copy)]
 enum Walk {
-    // At the place. The steps that lead there are put down, the last one first and each backwards.
+    // It ends at the place. The steps that lead there are put down, the last one first and each backwards.
     Arrived,
-    // After all that was walked, with so many places left. Nothing is put down.
+    // It ends after all that was walked, with so many places left. Nothing is put down.
     Passed(usize),
 }
 
 /// The path of this place of the item, where the places number the item and all below it in preorder, a key before its
-/// value, from 0 for the whole. None exactly where there is no such place.
+/// value, from 0 for the whole. It is None exactly where there is no such place.
 ///
 /// A path is `$` and a step for each level: `[0]` to the member of an array at that index, `{"a"}` to the value at that key
 /// of a map, `<"a">` to that key itself, and `()` to the content of a tag. Keys are written in diagnostic notation.
 ///
-/// It fails only where memory does.
+/// # Errors
+///
+/// `AllocError` where memory runs out.
 pub fn path_text(alloc: Global, item: &Item, place: usize) -> Result<Option<Vec<u8>>, AllocError>
     ensures { IfOk result (λ answer. option_map (λ text. text.items) answer ≡ path (view item.now) place) }
 {
@@ -50,7 +52,7 @@ fn push_path(
     item: &Item,
     place: usize,
 ) -> Result<Walk, AllocError>
-    ensures { IfOk result (Ends (sought (paths (view item.now)) place) out.old.items out.new.items) }
+    ensures { IfOk result (Ends (element_or_rest (paths (view item.now)) place) out.old.items out.new.items) }
 {
     if place == 0 {
         return Ok(Walk::Arrived);
@@ -59,20 +61,20 @@ fn push_path(
     match item {
         Item::Array(items) => push_member_path(alloc, out, items, left),
         Item::Map(pairs) => push_pair_path(alloc, out, pairs, left),
-        Item::Tag(_, content) => push_path_behind(alloc, out, Step::Content, content, left),
+        Item::Tag(_, content) => push_path_after(alloc, out, Step::Content, content, left),
         _ => Ok(Walk::Passed(left)),
     }
 }
 
 #[cycle(path)]
-fn push_path_behind(
+fn push_path_after(
     alloc: Global,
     out: &mut Vec<u8>,
     step: Step,
     item: &Item,
     place: usize,
 ) -> Result<Walk, AllocError>
-    ensures { IfOk result (Ends (sought (behind (step_bytes step.entry) (paths (view item.now))) place) out.old.items out.new.items) }
+    ensures { IfOk result (Ends (element_or_rest (after (step_bytes step.entry) (paths (view item.now))) place) out.old.items out.new.items) }
 {
     let walk = push_path(alloc, out, item, place)?;
     if let Walk::Arrived = walk {
@@ -88,13 +90,13 @@ fn push_member_path(
     items: &Vec<Item>,
     place: usize,
 ) -> Result<Walk, AllocError>
-    ensures { IfOk result (Ends (sought (members_paths 0 (values_view items.now.items)) place) out.old.items out.new.items) }
+    ensures { IfOk result (Ends (element_or_rest (members_paths 0 (values_view items.now.items)) place) out.old.items out.new.items) }
 {
     let mut left = place;
     for (i, item) in items.iter().enumerate() {
-        match push_path_behind(alloc, out, Step::Member(i), item, left)? {
+        match push_path_after(alloc, out, Step::Member(i), item, left)? {
             Walk::Arrived => return Ok(Walk::Arrived),
-            Walk::Passed(behind) => left = behind,
+            Walk::Passed(rest) => left = rest,
         }
     }
     Ok(Walk::Passed(left))
@@ -107,17 +109,17 @@ fn push_pair_path(
     pairs: &Vec<(Item, Item)>,
     place: usize,
 ) -> Result<Walk, AllocError>
-    ensures { IfOk result (Ends (sought (pairs_paths (pairs_view pairs.now.items)) place) out.old.items out.new.items) }
+    ensures { IfOk result (Ends (element_or_rest (pairs_paths (pairs_view pairs.now.items)) place) out.old.items out.new.items) }
 {
     let mut left = place;
     for (key, value) in pairs {
-        match push_path_behind(alloc, out, Step::Key(key), key, left)? {
+        match push_path_after(alloc, out, Step::Key(key), key, left)? {
             Walk::Arrived => return Ok(Walk::Arrived),
-            Walk::Passed(behind) => left = behind,
+            Walk::Passed(rest) => left = rest,
         }
-        match push_path_behind(alloc, out, Step::ValueAt(key), value, left)? {
+        match push_path_after(alloc, out, Step::ValueAt(key), value, left)? {
             Walk::Arrived => return Ok(Walk::Arrived),
-            Walk::Passed(behind) => left = behind,
+            Walk::Passed(rest) => left = rest,
         }
     }
     Ok(Walk::Passed(left))

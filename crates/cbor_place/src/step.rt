@@ -10,7 +10,7 @@ use cbor_item::{Item, diag};
 use itoa::Buffer;
 use std::alloc::{AllocError, Global};
 
-// One level down, from an item to one right in it.
+// A step of one level down, from an item to one directly in it.
 #[derive(Clone, Copy)]
 pub enum Step<'a> {
     // To the member of an array at this index.
@@ -41,8 +41,8 @@ pub fn step_text(alloc: Global, step: Step) -> Result<Vec<u8>, AllocError>
 {
     match step {
         Step::Member(index) => member_text(alloc, index),
-        Step::Key(key) => enclosed(alloc, b'<', key, b'>'),
-        Step::ValueAt(key) => enclosed(alloc, b'{', key, b'}'),
+        Step::Key(key) => key_text(alloc, b'<', key, b'>'),
+        Step::ValueAt(key) => key_text(alloc, b'{', key, b'}'),
         Step::Content => Ok(vec![in alloc; b'(', b')']?),
     }
 }
@@ -58,12 +58,12 @@ fn member_text(alloc: Global, index: usize) -> Result<Vec<u8>, AllocError>
     Ok(text)
 }
 
-fn enclosed(alloc: Global, before: u8, key: &Item, behind: u8) -> Result<Vec<u8>, AllocError>
-    ensures { IfOk result (λ text. text.items ≡ before ∷ (notation (view key.now) ++ behind ∷ [])) }
+fn key_text(alloc: Global, before: u8, key: &Item, after: u8) -> Result<Vec<u8>, AllocError>
+    ensures { IfOk result (λ text. text.items ≡ before ∷ (notation (view key.now) ++ after ∷ [])) }
 {
     let mut text = Vec::new(alloc);
     text.push(before)?;
     text.extend_from_slice(diag(alloc, key)?.as_slice())?;
-    text.push(behind)?;
+    text.push(after)?;
     Ok(text)
 }

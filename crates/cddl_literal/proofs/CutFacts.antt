@@ -8,7 +8,7 @@ use Rattle.hex.specs.Hex.{is_hex_digit}
 use Rattle.cddl_literal.specs.Bytes.{Each, IsRun, is_decimal_digit, is_binary_digit, is_x, is_b, is_h, is_blank}
 use Rattle.cddl_literal.specs.Numbers.{number_after, number_in, IsUint, decimal, hexadecimal, binary, Meaning, IsSigned, IsNumber}
 use Rattle.cddl_literal.specs.Escapes.{IsUnit, Escape, letter, unit, pair, braces, letter_in}
-use Rattle.cddl_literal.specs.Strings.{closing, is_plain, Characters, none, plain, escape, line, IsQuoted}
+use Rattle.cddl_literal.specs.Strings.{quote_byte, is_plain, Characters, none, plain, escape, line, IsQuoted}
 use Rattle.cddl_literal.specs.Prefixed.{Coded, none as coded_end, blank, line as coded_line, comment, other, IsCrLf, IsCommentTo, EndsComment, is_in_inner_comment, is_other, Opens, IsPrefixed}
 use Rattle.cddl_literal.specs.Literals.{IsBytes}
 use Rattle.cddl_literal.specs.declared.Quote.{Quote}
@@ -150,13 +150,13 @@ part_of s a b le in_source = record {
 }
 
 -- the offsets of a string's signs
-pub closing_some : (q : Quote) (b : ℕ) → b ≡ closing q → b ≢ 0
-closing_some Double b e = λ z. omega arith
-closing_some Single b e = λ z. omega arith
+pub quote_some : (q : Quote) (b : ℕ) → b ≡ quote_byte q → b ≢ 0
+quote_some Double b e = λ z. omega arith
+quote_some Single b e = λ z. omega arith
 
 pub quoted_cut : (q : Quote) (s : List ℕ) (a b : ℕ) (v : List ℕ) → IsQuoted q s a b v → IsQuoted q (slice_range s a b) 0 (length (slice_range s a b)) v
 quoted_cut q s a b v h =
-    let within = inside s h.end (closing_some q (slice_index s h.end) h.closes) in
+    let within = inside s h.end (quote_some q (slice_index s h.end) h.closes) in
     let past = characters_le h.holds in
     let ends = h.ends in
     let part = part_of s a b (omega arith) (omega arith) in

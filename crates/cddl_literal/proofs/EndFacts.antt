@@ -11,22 +11,22 @@ use Rattle.cddl_literal.specs.declared.Quote.{Quote}
 use Rattle.cddl_literal.specs.declared.Quote.TheVariants.{Single}
 use Rattle.cddl_literal.specs.declared.Coding.{Coding}
 use Rattle.cddl_literal.proofs.UintFacts.{uint_past}
-use Rattle.cddl_literal.proofs.StringFacts.{characters_le, closing_ascii}
+use Rattle.cddl_literal.proofs.StringFacts.{characters_le, quote_ascii}
 use Rattle.cddl_literal.proofs.PrefixedFacts.{coded_le}
 use Rattle.cddl_literal.proofs.OneMeaning.{opens_letter}
-use Rattle.cddl_literal.proofs.CutFacts.{inside, closing_some, opens_le, uint_inside}
+use Rattle.cddl_literal.proofs.CutFacts.{inside, quote_some, opens_le, uint_inside}
 
 pub quoted_ends : (q : Quote) (s : List ℕ) (a b : ℕ) (v : List ℕ) → IsQuoted q s a b v → HasAsciiEnds s a b
 quoted_ends q s a b v h =
-    let within = inside s h.end (closing_some q (slice_index s h.end) h.closes) in
+    let within = inside s h.end (quote_some q (slice_index s h.end) h.closes) in
     let past = characters_le h.holds in
     let ends = h.ends in
     let last : h.end ≡ b - 1 = omega arith in
     record {
       nonempty = omega arith;
       within = omega arith;
-      first = closing_ascii q (slice_index s a) h.opens;
-      last = subst (λ k. slice_index s k < 128) last (closing_ascii q (slice_index s h.end) h.closes);
+      first = quote_ascii q (slice_index s a) h.opens;
+      last = subst (λ k. slice_index s k < 128) last (quote_ascii q (slice_index s h.end) h.closes);
     }
 
 letter_ascii : (b : ℕ) → (is_h b ≡ true) ⊎ (is_b b ≡ true) → b < 128

@@ -4,7 +4,7 @@ mod NumberFacts
 mod RangeFacts
 mod StringFacts
 mod PrefixedFacts
-mod DecodedFacts
+mod CodingFacts
 mod UintFacts
 mod ValueFacts
 mod OneMeaning

@@ -4,8 +4,8 @@ use Rattle.std.proofs.lemmas.Bool.Decides.{nat_tests}
 use Rattle.std.specs.Char.{encode_utf8}
 use Rattle.cddl_literal.specs.Bytes.{is_h, is_b, is_blank}
 use Rattle.cddl_literal.specs.Numbers.{Meaning, IsNumber, IsTooLarge, signed}
-use Rattle.cddl_literal.specs.Strings.{closing, is_plain, Characters, none, plain, escape, line, HoldsCharacters, IsQuoted, IsFurthest}
-use Rattle.cddl_literal.specs.Prefixed.{Coded, none as coded_end, blank, line as coded_line, comment, other, is_other, HoldsCoded, Opens, IsPrefixed, decoded}
+use Rattle.cddl_literal.specs.Strings.{quote_byte, is_plain, Characters, none, plain, escape, line, HoldsCharacters, IsQuoted, IsFurthest}
+use Rattle.cddl_literal.specs.Prefixed.{Coded, none as coded_end, blank, line as coded_line, comment, other, is_other, HoldsCoded, Opens, IsPrefixed, coded_bytes}
 use Rattle.cddl_literal.specs.Literals.{IsBytes, IsBadBytes}
 use Rattle.cddl_literal.specs.declared.Quote.{Quote}
 use Rattle.cddl_literal.specs.declared.Quote.TheVariants.{Double, Single}
@@ -13,7 +13,7 @@ use Rattle.cddl_literal.specs.declared.Coding.{Coding}
 use Rattle.cddl_literal.specs.declared.Coding.TheVariants.{Hex, Base64}
 use Rattle.cddl_literal.proofs.EscapeFacts.{escape_backslash, escape_past}
 use Rattle.cddl_literal.proofs.UintFacts.{signed_one}
-use Rattle.cddl_literal.proofs.StringFacts.{characters_le, characters_none, after_plain, after_escape, after_line, moves, IsStuck, stuck_ends, closing_other}
+use Rattle.cddl_literal.proofs.StringFacts.{characters_le, characters_none, after_plain, after_escape, after_line, moves, IsStuck, stuck_ends, quote_other}
 use Rattle.cddl_literal.proofs.PrefixedFacts as coded
 
 -- the value of characters
@@ -33,26 +33,26 @@ characters_one (line o c f r e) k =
     let m = moves (10 ∷ []) (omega arith) (after_line (c, f) k) in
     m.2 ∙ ap (λ l. 10 ∷ l) (characters_one r m.1) ∙ sym e
 
-closing_no_escape : (q : Quote) (b : ℕ) → b ≡ closing q → b ≢ 92
-closing_no_escape Double b e f = omega arith
-closing_no_escape Single b e f = omega arith
+quote_no_escape : (q : Quote) (b : ℕ) → b ≡ quote_byte q → b ≢ 92
+quote_no_escape Double b e f = omega arith
+quote_no_escape Single b e f = omega arith
 
-closing_no_line : (q : Quote) (b : ℕ) → b ≡ closing q → b ≢ 13
-closing_no_line Double b e f = omega arith
-closing_no_line Single b e f = omega arith
+quote_no_line : (q : Quote) (b : ℕ) → b ≡ quote_byte q → b ≢ 13
+quote_no_line Double b e f = omega arith
+quote_no_line Single b e f = omega arith
 
-closing_stuck : (q : Quote) (s : List ℕ) (i : ℕ) → slice_index s i ≡ closing q → IsStuck q s i
-closing_stuck q s i e = record {
-  plain = ap (is_plain q) e ∙ closing_other q;
-  escape = λ k c x. closing_no_escape q (slice_index s i) e (escape_backslash x);
-  line = λ o h. closing_no_line q (slice_index s i) e h.0;
+quote_stuck : (q : Quote) (s : List ℕ) (i : ℕ) → slice_index s i ≡ quote_byte q → IsStuck q s i
+quote_stuck q s i e = record {
+  plain = ap (is_plain q) e ∙ quote_other q;
+  escape = λ k c x. quote_no_escape q (slice_index s i) e (escape_backslash x);
+  line = λ o h. quote_no_line q (slice_index s i) e h.0;
 }
 
 -- no characters go past what closes the string
-pub characters_stop : {q : Quote} {s : List ℕ} {i e p : ℕ} {v w : List ℕ} → Characters q s i e v → slice_index s e ≡ closing q → Characters q s i p w → p ≤ e
+pub characters_stop : {q : Quote} {s : List ℕ} {i e p : ℕ} {v w : List ℕ} → Characters q s i e v → slice_index s e ≡ quote_byte q → Characters q s i p w → p ≤ e
 characters_stop {q} {s} {i} {e} (none same f) closes k =
-    let here : slice_index s i ≡ closing q = ap (λ n. slice_index s n) same ∙ closes in
-    let end = stuck_ends (closing_stuck q s i here) k in
+    let here : slice_index s i ≡ quote_byte q = ap (λ n. slice_index s n) same ∙ closes in
+    let end = stuck_ends (quote_stuck q s i here) k in
     omega (arith, end.0)
 characters_stop {q} {s} {i} {e} {p} (plain b r f) closes k =
     let le = characters_le r in
@@ -73,7 +73,7 @@ quoted_one {q} {s} {a} {w = w} h k =
     (omega (arith, h.ends, k.ends), characters_one h.holds (subst (λ e. Characters q s (a + 1) e w) same k.holds))
 
 -- a string closes where its characters stop
-pub quoted_stops : {q : Quote} {s : List ℕ} {a b p : ℕ} {v : List ℕ} → IsQuoted q s a b v → IsFurthest (HoldsCharacters q s (a + 1)) p → (b ≡ p + 1) × (slice_index s p ≡ closing q)
+pub quoted_stops : {q : Quote} {s : List ℕ} {a b p : ℕ} {v : List ℕ} → IsQuoted q s a b v → IsFurthest (HoldsCharacters q s (a + 1)) p → (b ≡ p + 1) × (slice_index s p ≡ quote_byte q)
 quoted_stops {q} {s} {p = p} h k =
     let upper = characters_stop h.holds h.closes k.reached.1 in
     let lower = k.furthest h.end (_, h.holds) in
@@ -150,8 +150,8 @@ prefixed_stops c s a b e p d h opens k =
 some_one : {A : Type 0} {x y : A} → Some x ≡ Some y → y ≡ x
 some_one e = cc
 
-decoded_one : (c d : Coding) (u v : List ℕ) → d ≡ c → v ≡ u → decoded d v ≡ decoded c u
-decoded_one c d u v same e = ap (λ k. decoded k v) same ∙ ap (decoded c) e
+coded_bytes_one : (c d : Coding) (u v : List ℕ) → d ≡ c → v ≡ u → coded_bytes d v ≡ coded_bytes c u
+coded_bytes_one c d u v same e = ap (λ k. coded_bytes k v) same ∙ ap (coded_bytes c) e
 
 pub bytes_one : (s : List ℕ) (a b e : ℕ) (v w : List ℕ) → IsBytes s a b v → IsBytes s a e w → (e ≡ b) × (w ≡ v)
 bytes_one s a b e v w (inl h) (inl k) = quoted_one h k
@@ -159,7 +159,7 @@ bytes_one s a b e v w (inl h) (inr (c, d, p, f)) = absurd (quote_no_letter (slic
 bytes_one s a b e v w (inr (c, d, p, f)) (inl k) = absurd (quote_no_letter (slice_index s a) k.opens (opens_letter c s a p.start p.opens))
 bytes_one s a b e v w (inr (c, d, p, f)) (inr (c2, d2, p2, f2)) =
     let one = prefixed_one c c2 s a b e d d2 p p2 in
-    (one.1, some_one (sym f ∙ sym (decoded_one c c2 d d2 one.0 one.2) ∙ f2))
+    (one.1, some_one (sym f ∙ sym (coded_bytes_one c c2 d d2 one.0 one.2) ∙ f2))
 
 some_none : {A : Type 0} {x : A} → Some x ≡ None → ⊥
 some_none e = cc
@@ -168,7 +168,7 @@ pub bytes_not_bad : (s : List ℕ) (a b e : ℕ) (v : List ℕ) → IsBytes s a 
 bytes_not_bad s a b e v (inl h) (c, d, p, f) = quote_no_letter (slice_index s a) h.opens (opens_letter c s a p.start p.opens)
 bytes_not_bad s a b e v (inr (c, d, p, f)) (c2, d2, p2, f2) =
     let one = prefixed_one c c2 s a b e d d2 p p2 in
-    some_none (sym f ∙ sym (decoded_one c c2 d d2 one.0 one.2) ∙ f2)
+    some_none (sym f ∙ sym (coded_bytes_one c c2 d d2 one.0 one.2) ∙ f2)
 
 pub bad_one : (s : List ℕ) (a b e : ℕ) → IsBadBytes s a b → IsBadBytes s a e → e ≡ b
 bad_one s a b e (c, d, p, f) (c2, d2, p2, f2) = (prefixed_one c c2 s a b e d d2 p p2).1

@@ -7,7 +7,7 @@ use Rattle.std.specs.Prelude.{slice_range}
 use Rattle.std.specs.Char.{encode_utf8}
 use Rattle.cddl_literal.specs.Bytes.{Each}
 use Rattle.cddl_literal.specs.Escapes.{Escape}
-use Rattle.cddl_literal.specs.Strings.{closing, is_plain, Characters, none, plain, escape, line, HoldsCharacters}
+use Rattle.cddl_literal.specs.Strings.{quote_byte, is_plain, Characters, none, plain, escape, line, HoldsCharacters}
 use Rattle.cddl_literal.specs.Prefixed.{IsCrLf}
 use Rattle.cddl_literal.specs.declared.Quote.{Quote}
 use Rattle.cddl_literal.specs.declared.Quote.TheVariants.{Double, Single}
@@ -25,9 +25,9 @@ plain_13 : (q : Quote) → is_plain q 13 ≡ false
 plain_13 Double = refl
 plain_13 Single = refl
 
-pub closing_other : (q : Quote) → is_plain q (closing q) ≡ false
-closing_other Double = refl
-closing_other Single = refl
+pub quote_other : (q : Quote) → is_plain q (quote_byte q) ≡ false
+quote_other Double = refl
+quote_other Single = refl
 
 -- nothing more, or `front` and what is from k on
 abbrev pub Goes : Quote → List ℕ → ℕ → ℕ → ℕ → List ℕ → List ℕ → Type 0
@@ -134,8 +134,8 @@ after_run (suc n) q s i e j v sum le in_source all r =
     (rest.0, rest.1, next.2 ∙ ap (λ l. slice_index s i ∷ l) rest.2 ∙ sym (ap (λ l. l ++ rest.0) (range_more s i e (omega arith) (omega arith))))
 
 -- bytes that stand for themselves end before what closes the string
-pub run_within : (q : Quote) (s : List ℕ) (i e j : ℕ) → Each (is_plain q) s i e → i ≤ j → slice_index s j ≡ closing q → e ≤ j
-run_within q s i e j all le closes = ⊎_elim (λ lt. absurd (false≢true (sym (ap (is_plain q) closes ∙ closing_other q) ∙ all j le lt))) (λ ge. ge) (cases_lt j e)
+pub run_within : (q : Quote) (s : List ℕ) (i e j : ℕ) → Each (is_plain q) s i e → i ≤ j → slice_index s j ≡ quote_byte q → e ≤ j
+run_within q s i e j all le closes = ⊎_elim (λ lt. absurd (false≢true (sym (ap (is_plain q) closes ∙ quote_other q) ∙ all j le lt))) (λ ge. ge) (cases_lt j e)
 
 plain_above : (q : Quote) (b : ℕ) → 128 ≤ b → is_plain q b ≡ true
 plain_above Double b h = grind (arith, nat_tests)
@@ -145,8 +145,8 @@ plain_above Single b h = grind (arith, nat_tests)
 pub other_ascii : (q : Quote) (b : ℕ) → is_plain q b ≡ false → b < 128
 other_ascii q b h = ⊎_elim (λ lt. lt) (λ ge. absurd (false≢true (sym h ∙ plain_above q b ge))) (cases_lt b 128)
 
-pub closing_ascii : (q : Quote) (b : ℕ) → b ≡ closing q → b < 128
-closing_ascii q b e = other_ascii q b (ap (is_plain q) e ∙ closing_other q)
+pub quote_ascii : (q : Quote) (b : ℕ) → b ≡ quote_byte q → b < 128
+quote_ascii q b e = other_ascii q b (ap (is_plain q) e ∙ quote_other q)
 
 -- a run that begins with such a byte is not empty
 pub run_moves : (q : Quote) (s : List ℕ) (i e : ℕ) → i ≤ e → is_plain q (slice_index s i) ≡ true → is_plain q (slice_index s e) ≡ false → i < e

@@ -3,7 +3,7 @@ use Rattle.std.specs.Prelude.{◌≡◌, ℕ, ◌⊎◌, List, Some, None}
 use Rattle.std.specs.String.{string_bytes}
 use Rattle.cddl_literal.specs.Numbers.{Meaning, UintOf, NintOf, TextOf, BytesOf}
 use Rattle.cddl_literal.specs.Strings.{IsQuoted}
-use Rattle.cddl_literal.specs.Prefixed.{IsPrefixed, decoded}
+use Rattle.cddl_literal.specs.Prefixed.{IsPrefixed, coded_bytes}
 use Rattle.cddl_literal.specs.declared.Quote.TheVariants.{Double, Single}
 use Rattle.cddl_literal.specs.declared.Coding.{Coding}
 use Rattle.cddl_literal.specs.declared.Literal.{Literal}
@@ -14,16 +14,16 @@ abbrev pub IsText : List ℕ → ℕ → ℕ → List ℕ → Type 0
 IsText s a b v = IsQuoted Double s a b v
 
 -- from a to b is a byte string with prefix that stands for v
-abbrev pub IsDecoded : List ℕ → ℕ → ℕ → List ℕ → Type 0
-IsDecoded s a b v = (coding : Coding) × (d : List ℕ) × IsPrefixed coding s a b d × (decoded coding d ≡ Some v)
+abbrev pub IsPrefixedBytes : List ℕ → ℕ → ℕ → List ℕ → Type 0
+IsPrefixedBytes s a b v = (coding : Coding) × (d : List ℕ) × IsPrefixed coding s a b d × (coded_bytes coding d ≡ Some v)
 
 -- from a to b is a byte string, plain or with a prefix, that stands for v
 abbrev pub IsBytes : List ℕ → ℕ → ℕ → List ℕ → Type 0
-IsBytes s a b v = IsQuoted Single s a b v ⊎ IsDecoded s a b v
+IsBytes s a b v = IsQuoted Single s a b v ⊎ IsPrefixedBytes s a b v
 
 -- from a to b is a closed byte string with prefix that stands for nothing
 abbrev pub IsBadBytes : List ℕ → ℕ → ℕ → Type 0
-IsBadBytes s a b = (coding : Coding) × (d : List ℕ) × IsPrefixed coding s a b d × (decoded coding d ≡ None)
+IsBadBytes s a b = (coding : Coding) × (d : List ℕ) × IsPrefixed coding s a b d × (coded_bytes coding d ≡ None)
 
 -- a literal as contracts see it
 abbrev pub view : Literal → Meaning

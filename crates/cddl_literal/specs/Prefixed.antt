@@ -69,9 +69,9 @@ unfoldable pub hex_bytes : List ℕ → Option (List ℕ)
 hex_bytes d = result_ok (hex_decode_of d)
 
 -- what the characters d stand for, where they are fit for it
-abbrev pub decoded : Coding → List ℕ → Option (List ℕ)
-decoded Hex d = hex_bytes d
-decoded Base64 d = base64_bytes d
+abbrev pub coded_bytes : Coding → List ℕ → Option (List ℕ)
+coded_bytes Hex d = hex_bytes d
+coded_bytes Base64 d = base64_bytes d
 
 -- from the prefix at a to the closing `'` before b is a prefixed string that holds d
 pub record IsPrefixed (coding : Coding) (s : List ℕ) (a b : ℕ) (d : List ℕ) : Type 0 where

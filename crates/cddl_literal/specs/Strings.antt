@@ -9,9 +9,9 @@ use Rattle.cddl_literal.specs.declared.Quote.{Quote}
 use Rattle.cddl_literal.specs.declared.Quote.TheVariants.{Double, Single}
 
 -- `"` around texts, `'` around byte strings
-abbrev pub closing : Quote → ℕ
-closing Double = code "\""
-closing Single = code "'"
+abbrev pub quote_byte : Quote → ℕ
+quote_byte Double = code "\""
+quote_byte Single = code "'"
 
 -- a byte that stands for itself; in byte strings also a line feed
 abbrev pub is_plain : Quote → ℕ → Bool
@@ -33,9 +33,9 @@ HoldsCharacters quote s i p = (v : List ℕ) × Characters quote s i p v
 -- from the opening sign at a to the closing one before b is a string with the value v
 pub record IsQuoted (quote : Quote) (s : List ℕ) (a b : ℕ) (v : List ℕ) : Type 0 where
   pub end : ℕ
-  pub opens : slice_index s a ≡ closing quote
+  pub opens : slice_index s a ≡ quote_byte quote
   pub holds : Characters quote s (a + 1) end v
-  pub closes : slice_index s end ≡ closing quote
+  pub closes : slice_index s end ≡ quote_byte quote
   pub ends : b ≡ end + 1
 
 -- the last offset with P

@@ -6,7 +6,7 @@ ghost use Rattle.cddl_literal.specs.Escapes.{Escape as MeansAt};
 ghost use Rattle.cddl_literal.specs.Literals.{IsText, IsBytes, IsBadBytes};
 ghost use Rattle.cddl_literal.specs.Numbers.{Meaning, IsUint, IsNumber, IsTooLarge};
 ghost use Rattle.cddl_literal.specs.Prefixed.{IsPrefixed, Opens, HoldsCoded};
-ghost use Rattle.cddl_literal.specs.Strings.{IsQuoted, IsFurthest, HoldsCharacters, closing};
+ghost use Rattle.cddl_literal.specs.Strings.{IsQuoted, IsFurthest, HoldsCharacters, quote_byte};
 ghost use Rattle.cddl_literal.specs.declared.Quote.{Quote};
 ghost use Rattle.cddl_literal.specs.declared.Coding.{Coding};
 
@@ -24,7 +24,7 @@ pub fn one_meaning()
 
 /// A string closes where what it may hold stops.
 pub fn closes_at_stop()
-    ensures quoted { (quote : Quote) (s : List ℕ) (a b p : ℕ) (v : List ℕ) → IsQuoted quote s a b v → IsFurthest (HoldsCharacters quote s (a + 1)) p → (b ≡ p + 1) × (slice_index s p ≡ closing quote) }
+    ensures quoted { (quote : Quote) (s : List ℕ) (a b p : ℕ) (v : List ℕ) → IsQuoted quote s a b v → IsFurthest (HoldsCharacters quote s (a + 1)) p → (b ≡ p + 1) × (slice_index s p ≡ quote_byte quote) }
     ensures prefixed { (coding : Coding) (s : List ℕ) (a b e p : ℕ) (d : List ℕ) → IsPrefixed coding s a b d → Opens coding s a e → IsFurthest (HoldsCoded s e) p → (b ≡ p + 1) × IsAt "'" s p }
 {}
 

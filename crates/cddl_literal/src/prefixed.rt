@@ -6,7 +6,7 @@ ghost use Rattle.base64.specs.declared.decode.DecodeAllocError.{DecodeAllocError
 ghost use Rattle.std.specs.Option.{option_map};
 ghost use Rattle.cddl_literal.specs.Bytes.{IsAt};
 ghost use Rattle.cddl_literal.specs.Strings.{IsFurthest};
-ghost use Rattle.cddl_literal.specs.Prefixed.{Coded, HoldsCoded, IsCommentTo, EndsComment, is_in_inner_comment, standard_letter, is_padding, hex_bytes, base64_bytes, decoded};
+ghost use Rattle.cddl_literal.specs.Prefixed.{Coded, HoldsCoded, IsCommentTo, EndsComment, is_in_inner_comment, standard_letter, is_padding, hex_bytes, base64_bytes, coded_bytes};
 
 use super::Coding;
 use super::bytes::{byte_at, is_blank, is_cr_lf, is_in_comment};
@@ -147,11 +147,11 @@ fn standard_letters(alloc: Global, letters: &[u8]) -> Result<Vec<u8>, AllocError
     letters.iter().map(|b| standard_letter(*b)).collect(alloc)
 }
 
-/// The decoded bytes, or none where the text was at fault.
-fn unless_faulty(decoded: Result<Vec<u8>, DecodeAllocError>) -> Result<Option<Vec<u8>>, AllocError>
-    ensures { IfOk result (λ o. MatchResult decoded (λ v. o ≡ Some v) (λ e. (o ≡ None) × (e ≢ DecodeAllocError.OutOfMemory))) }
+/// The bytes that a decoder answers, or none where the text was at fault.
+fn unless_faulty(answer: Result<Vec<u8>, DecodeAllocError>) -> Result<Option<Vec<u8>>, AllocError>
+    ensures { IfOk result (λ o. MatchResult answer (λ v. o ≡ Some v) (λ e. (o ≡ None) × (e ≢ DecodeAllocError.OutOfMemory))) }
 {
-    match decoded {
+    match answer {
         Ok(bytes) => Ok(Some(bytes)),
         Err(DecodeAllocError::OutOfMemory) => Err(AllocError),
         Err(DecodeAllocError::DecodeError(_)) => Ok(None),
@@ -185,7 +185,7 @@ pub fn bytes_between(
 ) -> Result<Option<Vec<u8>>, AllocError>
     requires within { to ≤ length source.now }
     requires holds { (d : List ℕ) × Coded source.now from to d }
-    ensures { (d : List ℕ) → Coded source.now from to d → IfOk result (λ o. option_map (λ v. v.items) o ≡ decoded coding d) }
+    ensures { (d : List ℕ) → Coded source.now from to d → IfOk result (λ o. option_map (λ v. v.items) o ≡ coded_bytes coding d) }
 {
     let characters = coded_between(alloc, source, from, to)?;
     match coding {

@@ -5,7 +5,7 @@ ghost use Rattle.std.specs.String.{string_bytes};
 ghost use Rattle.cddl_literal.specs.Literals.{IsText};
 ghost use Rattle.cddl_literal.specs.Prefixed.{IsCrLf};
 ghost use Rattle.cddl_literal.specs.Bytes.{Each};
-ghost use Rattle.cddl_literal.specs.Strings.{closing, is_plain, Characters, HoldsCharacters, IsFurthest};
+ghost use Rattle.cddl_literal.specs.Strings.{quote_byte, is_plain, Characters, HoldsCharacters, IsFurthest};
 
 use super::Quote;
 use super::bytes::is_cr_lf;
@@ -81,8 +81,8 @@ pub(crate) fn characters_between(
     quote: Quote,
 ) -> Result<String, AllocError>
     requires inside { 0 < from }
-    requires opens { slice_index text.now (from - 1) ≡ closing quote }
-    requires closes { slice_index text.now to ≡ closing quote }
+    requires opens { slice_index text.now (from - 1) ≡ quote_byte quote }
+    requires closes { slice_index text.now to ≡ quote_byte quote }
     requires within { to < length text.now }
     requires holds { HoldsCharacters quote text.now from to }
     ensures { (v : List ℕ) → Characters quote text.now from to v → IfOk result (λ t. string_bytes t ≡ v) }

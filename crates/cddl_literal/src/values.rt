@@ -2,7 +2,7 @@
 
 ghost use Rattle.std.specs.Prelude.{◌≡◌, ℕ, ◌+◌, ◌-◌, ◌<◌, ◌≤◌, List, Some, length, slice_index, IfOk};
 ghost use Rattle.cddl_literal.specs.Strings.{IsQuoted};
-ghost use Rattle.cddl_literal.specs.Prefixed.{Opens, IsPrefixed, decoded};
+ghost use Rattle.cddl_literal.specs.Prefixed.{Opens, IsPrefixed, coded_bytes};
 ghost use Rattle.cddl_literal.specs.Literals.{IsBytes};
 
 use super::bytes::is_h;
@@ -27,8 +27,8 @@ fn prefixed_value(
     start: usize,
 ) -> Result<Vec<u8>, AllocError>
     requires opens { Opens coding source.now 0 start }
-    requires holds { (d : List ℕ) × (v : List ℕ) × IsPrefixed coding source.now 0 (length source.now) d × (decoded coding d ≡ Some v) }
-    ensures { (d : List ℕ) (v : List ℕ) → IsPrefixed coding source.now 0 (length source.now) d → decoded coding d ≡ Some v → IfOk result (λ b. b.items ≡ v) }
+    requires holds { (d : List ℕ) × (v : List ℕ) × IsPrefixed coding source.now 0 (length source.now) d × (coded_bytes coding d ≡ Some v) }
+    ensures { (d : List ℕ) (v : List ℕ) → IsPrefixed coding source.now 0 (length source.now) d → coded_bytes coding d ≡ Some v → IfOk result (λ b. b.items ≡ v) }
 {
     match bytes_between(alloc, coding, source, start, source.len() - 1)? {
         Some(bytes) => Ok(bytes),

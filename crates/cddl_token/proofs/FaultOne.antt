@@ -4,7 +4,7 @@ use Rattle.std.proofs.lemmas.Bool.{false≢true, cases_lt}
 use Rattle.std.proofs.lemmas.Bool.Decides.{nat_tests}
 use Rattle.std.proofs.lemmas.List.{get_or_past}
 use Rattle.cddl_literal.specs.Bytes.{Each, is_in_comment, is_blank}
-use Rattle.cddl_literal.specs.Strings.{closing, IsFurthest, HoldsCharacters}
+use Rattle.cddl_literal.specs.Strings.{quote_byte, IsFurthest, HoldsCharacters}
 use Rattle.cddl_literal.specs.Prefixed.{Opens, HoldsCoded, IsPrefixed}
 use Rattle.cddl_literal.specs.Literals.{IsBytes}
 use Rattle.cddl_literal.specs.declared.Quote.{Quote}
@@ -39,15 +39,15 @@ stops_one (bad_character lt n e) (unclosed past f) = absurd (omega arith)
 stops_one (bad_character lt n e) (bad_escape b f) = absurd (n b)
 stops_one (bad_character lt n e) (bad_character lt2 n2 f) = (refl, omega arith)
 
-quote_letter : (q : Quote) → is_ealpha (closing q) ≡ false
+quote_letter : (q : Quote) → is_ealpha (quote_byte q) ≡ false
 quote_letter Double = refl
 quote_letter Single = refl
 
 -- no quote where a prefix opens
-quote_no_prefix : (q : Quote) (c : Coding) (s : List ℕ) (a p : ℕ) → slice_index s a ≡ closing q → Opens c s a p → ⊥
+quote_no_prefix : (q : Quote) (c : Coding) (s : List ℕ) (a p : ℕ) → slice_index s a ≡ quote_byte q → Opens c s a p → ⊥
 quote_no_prefix q c s a p first opens = false≢true (sym (quote_letter q) ∙ ap is_ealpha (sym first) ∙ (opening c s a p opens).letter)
 
-quotes_one : (q r : Quote) (b : ℕ) → b ≡ closing q → b ≡ closing r → r ≡ q
+quotes_one : (q r : Quote) (b : ℕ) → b ≡ quote_byte q → b ≡ quote_byte r → r ≡ q
 quotes_one Double Double b e f = refl
 quotes_one Double Single b e f = absurd (omega arith)
 quotes_one Single Double b e f = absurd (omega arith)
@@ -78,7 +78,7 @@ string_fault_one laws {s} {a} (bad_bytes b bad code at) (prefixed c e p opens fa
     absurd (closed_prefix laws s a c e p opens far halt bad.0 b bad.1 bad.2)
 string_fault_one laws (bad_bytes b bad code at) (bad_bytes b2 bad2 code2 at2) = (code2 ∙ sym code, omega arith)
 
-opens_quote : (q : Quote) {s : List ℕ} {a : ℕ} → slice_index s a ≡ closing q → OpensString s a
+opens_quote : (q : Quote) {s : List ℕ} {a : ℕ} → slice_index s a ≡ quote_byte q → OpensString s a
 opens_quote Double first = inl (inl first)
 opens_quote Single first = inl (inr first)
 
@@ -89,7 +89,7 @@ string_opens (bad_bytes b bad code at) = let it = bad.2 in inr (bad.0, it.start,
 
 -- a fault of a string hides no token
 module _ (laws : Laws) (s : List ℕ) (a : ℕ) where
-  quoted_hides : (q : Quote) (p : ℕ) → slice_index s a ≡ closing q → IsFurthest (HoldsCharacters q s (a + 1)) p → (slice_index s p ≡ closing q → ⊥) → (r : Reading) (b : ℕ) → Spells r s a b → ⊥
+  quoted_hides : (q : Quote) (p : ℕ) → slice_index s a ≡ quote_byte q → IsFurthest (HoldsCharacters q s (a + 1)) p → (slice_index s p ≡ quote_byte q → ⊥) → (r : Reading) (b : ℕ) → Spells r s a b → ⊥
   quoted_hides Double p first far halt (Good Text) b h = halt (laws.quoted Double s a b p h.0 h.1 far).1
   quoted_hides Double p first far halt r b h = elsewhere r s a b first refl h
   quoted_hides Single p first far halt (Good Bytes) b h =

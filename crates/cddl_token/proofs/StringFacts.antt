@@ -3,8 +3,8 @@ use Rattle.std.proofs.Common.{◌≡◌, ℕ, ◌+◌, ◌-◌, ◌<◌, ◌≤�
 use Rattle.std.proofs.lemmas.Bool.{false≢true, cases_lt}
 use Rattle.std.proofs.lemmas.List.{get_or_past}
 use Rattle.cddl_literal.specs.Bytes.{is_h, is_b}
-use Rattle.cddl_literal.specs.Strings.{closing, HoldsCharacters, IsFurthest, IsQuoted}
-use Rattle.cddl_literal.specs.Prefixed.{Opens, IsPrefixed, HoldsCoded, Coded, none, decoded}
+use Rattle.cddl_literal.specs.Strings.{quote_byte, HoldsCharacters, IsFurthest, IsQuoted}
+use Rattle.cddl_literal.specs.Prefixed.{Opens, IsPrefixed, HoldsCoded, Coded, none, coded_bytes}
 use Rattle.cddl_literal.specs.declared.Quote.{Quote}
 use Rattle.cddl_literal.specs.declared.Quote.TheVariants.{Double, Single}
 use Rattle.cddl_literal.specs.declared.Coding.{Coding}
@@ -43,21 +43,21 @@ module _ (s : List ℕ) (a p : ℕ) where
   pub plain_token : slice_index s a ≡ 39 → IsFurthest (HoldsCharacters Single s (a + 1)) p → slice_index s p ≡ 39 → IsToken Bytes s a (p + 1)
   plain_token first far close = let held = far.reached in record { longest = record { spelled = (held.0, inl (record { end = p; opens = first; holds = held.1; closes = close; ends = refl })); longest = plain_longest first far }; allowed = tt }
 
-quote_positive : (q : Quote) → 0 < closing q
+quote_positive : (q : Quote) → 0 < quote_byte q
 quote_positive Double = omega arith
 quote_positive Single = omega arith
 
 -- where a quote is the source goes on
-pub closed_within : (q : Quote) (s : List ℕ) (p : ℕ) → slice_index s p ≡ closing q → p + 1 ≤ length s
+pub closed_within : (q : Quote) (s : List ℕ) (p : ℕ) → slice_index s p ≡ quote_byte q → p + 1 ≤ length s
 closed_within q s p close =
     ⊎_elim (λ lt. omega arith) (λ ge. let zero = get_or_past s p 0 ge in let some = quote_positive q in absurd (omega arith)) (cases_lt p (length s))
 
 -- what was found between quotes
-pub text_found : (quote : Quote) (s : List ℕ) (a p : ℕ) → quote ≡ Double → slice_index s a ≡ closing quote → IsFurthest (HoldsCharacters quote s (a + 1)) p → slice_index s p ≡ closing quote → IsToken Text s a (p + 1) × (p + 1 ≤ length s)
+pub text_found : (quote : Quote) (s : List ℕ) (a p : ℕ) → quote ≡ Double → slice_index s a ≡ quote_byte quote → IsFurthest (HoldsCharacters quote s (a + 1)) p → slice_index s p ≡ quote_byte quote → IsToken Text s a (p + 1) × (p + 1 ≤ length s)
 text_found Double s a p is first far close = (text_token s a p first far close, closed_within Double s p close)
 text_found Single s a p is first far close = cc
 
-pub plain_found : (quote : Quote) (s : List ℕ) (a p : ℕ) → quote ≡ Single → slice_index s a ≡ closing quote → IsFurthest (HoldsCharacters quote s (a + 1)) p → slice_index s p ≡ closing quote → IsToken Bytes s a (p + 1) × (p + 1 ≤ length s)
+pub plain_found : (quote : Quote) (s : List ℕ) (a p : ℕ) → quote ≡ Single → slice_index s a ≡ quote_byte quote → IsFurthest (HoldsCharacters quote s (a + 1)) p → slice_index s p ≡ quote_byte quote → IsToken Bytes s a (p + 1) × (p + 1 ≤ length s)
 plain_found Double s a p is first far close = cc
 plain_found Single s a p is first far close = (plain_token s a p first far close, closed_within Single s p close)
 
@@ -106,7 +106,7 @@ module _ (coding : Coding) (s : List ℕ) (a start p : ℕ) (opens : Opens codin
   prefixed_longest (Good Bytes) m h = ⊎_elim (λ x. absurd (let first = opening coding s a start opens in false≢true (ap is_ealpha (sym x.opens) ∙ first.letter))) (λ x. prefixed_within x.0 m x.1 x.2) h.1
   prefixed_longest q m h = absurd (elsewhere q s a m refl (letter_begins q (slice_index s a) (opening coding s a start opens).letter tt) h)
 
-  pub prefixed_token : (d v : List ℕ) → Coded s start p d → slice_index s p ≡ 39 → decoded coding d ≡ Some v → IsToken Bytes s a (p + 1)
+  pub prefixed_token : (d v : List ℕ) → Coded s start p d → slice_index s p ≡ 39 → coded_bytes coding d ≡ Some v → IsToken Bytes s a (p + 1)
   prefixed_token d v held close value = record { longest = record { spelled = (v, inr (coding, d, record { start = start; end = p; opens = opens; holds = held; closes = close; ends = refl }, value)); longest = prefixed_longest }; allowed = tt }
 
 -- no string opens where no letter and no quote is

@@ -1,7 +1,7 @@
 -- Strings that are not closed, or whose inside has a fault.
 use Rattle.std.specs.Prelude.{◌≡◌, ℕ, ◌+◌, ◌<◌, ◌≤◌, ◌⊎◌, List, length, slice_index}
 use Rattle.cddl_literal.specs.Bytes.{IsAt}
-use Rattle.cddl_literal.specs.Strings.{closing, HoldsCharacters, IsFurthest}
+use Rattle.cddl_literal.specs.Strings.{quote_byte, HoldsCharacters, IsFurthest}
 use Rattle.cddl_literal.specs.Prefixed.{Opens, HoldsCoded}
 use Rattle.cddl_literal.specs.Literals.{IsBadBytes}
 use Rattle.cddl_literal.specs.declared.Quote.{Quote}
@@ -17,7 +17,7 @@ pub data StopsAt (s : List ℕ) (a p : ℕ) : Code → ℕ → Type 0 where
 
 -- Why the string that opens at a can't be read, and where: what is met first from the left.
 pub data StringFault (s : List ℕ) (a : ℕ) (code : Code) (at : ℕ) : Type 0 where
-  quoted : (quote : Quote) (p : ℕ) → slice_index s a ≡ closing quote → IsFurthest (HoldsCharacters quote s (a + 1)) p → (slice_index s p ≡ closing quote → ⊥) → StopsAt s a p code at → StringFault s a code at
+  quoted : (quote : Quote) (p : ℕ) → slice_index s a ≡ quote_byte quote → IsFurthest (HoldsCharacters quote s (a + 1)) p → (slice_index s p ≡ quote_byte quote → ⊥) → StopsAt s a p code at → StringFault s a code at
   prefixed : (coding : Coding) (start p : ℕ) → Opens coding s a start → IsFurthest (HoldsCoded s start) p → (IsAt "'" s p → ⊥) → StopsAt s a p code at → StringFault s a code at
   bad_bytes : (b : ℕ) → IsBadBytes s a b → code ≡ BadBytes → at ≡ a → StringFault s a code at
 

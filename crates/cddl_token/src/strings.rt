@@ -2,7 +2,7 @@
 
 ghost use Rattle.std.specs.Prelude.{◌≡◌, ℕ, ◌+◌, ◌<◌, ◌≤◌, true, false, length, slice_index, IsTrue, MatchOption};
 ghost use Rattle.cddl_literal.specs.Bytes.{IsAt};
-ghost use Rattle.cddl_literal.specs.Strings.{closing};
+ghost use Rattle.cddl_literal.specs.Strings.{quote_byte};
 ghost use Rattle.cddl_literal.specs.Prefixed.{Opens};
 ghost use Rattle.cddl_literal.specs.declared.Coding.TheVariants.{Hex, Base64};
 ghost use Rattle.cddl_token.specs.Strings.{StopsAt, OpensPrefixed};
@@ -13,8 +13,8 @@ use cddl_literal::{Coding, Quote, byte_at, bytes_between, characters_end, coded_
 use std::alloc::Global;
 
 /// The quote that closes a string.
-fn closing(quote: Quote) -> u8
-    ensures { result ≡ closing quote }
+fn quote_byte(quote: Quote) -> u8
+    ensures { result ≡ quote_byte quote }
 {
     match quote {
         Quote::Double => b'"',
@@ -47,12 +47,12 @@ fn stop_at(source: &[u8], at: usize, here: usize) -> Fault
 
 /// The text string or plain byte string that opens here, and its end.
 pub(crate) fn quoted_at(source: &[u8], at: usize, quote: Quote) -> Result<(Kind, usize), Fault>
-    requires begins { slice_index source.now at ≡ closing quote }
+    requires begins { slice_index source.now at ≡ quote_byte quote }
     requires within { at < length source.now }
     ensures { IsRead source.now at result }
 {
     let end = characters_end(source, at + 1, quote);
-    if byte_at(source, end) != closing(quote) {
+    if byte_at(source, end) != quote_byte(quote) {
         return Err(stop_at(source, at, end));
     }
     match quote {

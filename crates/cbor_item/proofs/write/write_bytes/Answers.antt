@@ -15,13 +15,13 @@ loop-at-preserved g c =
     let w = c.in-Ok.ensures.bytes in
     let fits : n ≤ length (take (length bs - at) (drop at bs)) = c.in-Ok.ensures.bound in
     let fits_rest : n ≤ length (drop at bs) = subst (λ r. n ≤ length r) (take_rest bs at) fits in
-    let held = g.W.Write.contents in
+    let contents = g.W.Write.contents in
     record {
       within = omega (arith, length-drop at bs);
       gone =
-          subst (Appends (held (device_of c.args.out.now)) (held (device_of c.write.new.self))) (sym (take-add at n bs))
-          (Appends-trans (held (device_of c.args.out.now)) (held (device_of c.loop-at.out)) (held (device_of c.write.new.self)) (take at bs) (take n (drop at bs))
+          subst (Appends (contents (device_of c.args.out.now)) (contents (device_of c.write.new.self))) (sym (take-add at n bs))
+          (Appends-trans (contents (device_of c.args.out.now)) (contents (device_of c.loop-at.out)) (contents (device_of c.write.new.self)) (take at bs) (take n (drop at bs))
           c.loop-at.invariant.gone
-          (subst (λ r. Appends (held (device_of c.loop-at.out)) (held (device_of c.write.new.self)) (take n r)) (take_rest bs at) w));
+          (subst (λ r. Appends (contents (device_of c.loop-at.out)) (contents (device_of c.write.new.self)) (take n r)) (take_rest bs at) w));
       count = same_count n (length (take (length bs - at) (drop at bs))) (failures_of c.loop-at.out) c.if-taken-gt0.true c.in-Ok.ensures.count ∙ c.loop-at.invariant.count;
     }

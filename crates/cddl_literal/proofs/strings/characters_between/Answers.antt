@@ -11,7 +11,7 @@ use Rattle.cddl_literal.specs.Strings.{is_plain}
 use Rattle.cddl_literal.specs.Prefixed.{IsCrLf}
 use Rattle.cddl_literal.specs.declared.Quote.TheVariants.{Single}
 use Rattle.cddl_literal.proofs.EscapeFacts.{escape_past, escape_ascii}
-use Rattle.cddl_literal.proofs.StringFacts.{after_escape, after_line, after_run, moves, characters_le, characters_none, is_plain_here, run_within, run_moves, other_ascii, closing_ascii}
+use Rattle.cddl_literal.proofs.StringFacts.{after_escape, after_line, after_run, moves, characters_le, characters_none, is_plain_here, run_within, run_moves, other_ascii, quote_ascii}
 use Rattle.cddl_literal.proofs.strings.characters_between.Goals as goal
 
 -- what has been pushed joins what is left
@@ -25,7 +25,7 @@ loop-i-init c =
     let in_range : c.args.from ≤ c.args.to = characters_le c.requires.holds.1 in
     record {
       in_range = in_range;
-      boundary = subst (IsCharBoundary text) before (IsCharBoundary-after_ascii text (c.args.from - 1) c.utf8.text (let inside = c.requires.within in omega arith) (closing_ascii c.args.quote _ c.requires.opens));
+      boundary = subst (IsCharBoundary text) before (IsCharBoundary-after_ascii text (c.args.from - 1) c.utf8.text (let inside = c.requires.within in omega arith) (quote_ascii c.args.quote _ c.requires.opens));
       left = λ v h. (v, h, sym (ap (λ l. l ++ v) c.new-out.ensures.bytes));
     }
 

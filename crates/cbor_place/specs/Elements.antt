@@ -2,7 +2,7 @@
 use Rattle.std.specs.Prelude.{ℕ, zero, suc, List, [], ◌∷◌, Result, Ok, Err}
 
 -- the element at an index of a list, or how far the index lies after the list's end
-abbrev pub sought : {A : Type 0} → List A → ℕ → Result A ℕ
-sought [] i = Err i
-sought (x ∷ xs) zero = Ok x
-sought (x ∷ xs) (suc i) = sought xs i
+abbrev pub element_or_rest : {A : Type 0} → List A → ℕ → Result A ℕ
+element_or_rest [] i = Err i
+element_or_rest (x ∷ xs) zero = Ok x
+element_or_rest (x ∷ xs) (suc i) = element_or_rest xs i

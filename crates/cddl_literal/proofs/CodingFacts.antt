@@ -11,11 +11,11 @@ use Rattle.base64.specs.declared.decode.DecodeAllocError.{DecodeAllocError}
 use Rattle.base64.specs.declared.decode.DecodeAllocError.TheVariants.{DecodeError as Failed, OutOfMemory}
 use Rattle.cddl_literal.specs.Prefixed.{base64_bytes, is_padding, standard_letter}
 
-pub decoded_by : {V E : Type 0} (items : V → List ℕ) (engine : GeneralPurpose) (s : List ℕ) (r : Result V DecodeAllocError) (o : Result (Option V) E) → IfOk r (λ v. decode_of engine s ≡ Ok (items v)) → IfErr r (λ e. IsDecodeFailure engine s e) → IfOk o (λ p. MatchResult r (λ v. p ≡ Some v) (λ e. (p ≡ None) × (e ≢ OutOfMemory))) → IfOk o (λ p. option_map items p ≡ result_ok (decode_of engine s))
-decoded_by items engine s r (Err e) ok err h = tt
-decoded_by items engine s (Ok v) (Ok p) ok err h = ap (option_map items) h ∙ sym (ap result_ok ok)
-decoded_by items engine s (Err (Failed d)) (Ok p) ok err h = ap (option_map items) h.0 ∙ sym (ap result_ok err)
-decoded_by items engine s (Err OutOfMemory) (Ok p) ok err h = absurd (h.1 refl)
+pub answer_by : {V E : Type 0} (items : V → List ℕ) (engine : GeneralPurpose) (s : List ℕ) (r : Result V DecodeAllocError) (o : Result (Option V) E) → IfOk r (λ v. decode_of engine s ≡ Ok (items v)) → IfErr r (λ e. IsDecodeFailure engine s e) → IfOk o (λ p. MatchResult r (λ v. p ≡ Some v) (λ e. (p ≡ None) × (e ≢ OutOfMemory))) → IfOk o (λ p. option_map items p ≡ result_ok (decode_of engine s))
+answer_by items engine s r (Err e) ok err h = tt
+answer_by items engine s (Ok v) (Ok p) ok err h = ap (option_map items) h ∙ sym (ap result_ok ok)
+answer_by items engine s (Err (Failed d)) (Ok p) ok err h = ap (option_map items) h.0 ∙ sym (ap result_ok err)
+answer_by items engine s (Err OutOfMemory) (Ok p) ok err h = absurd (h.1 refl)
 
 if_ok_along : {V E : Type 0} (items : V → List ℕ) (o : Result (Option V) E) (m n : Option (List ℕ)) → m ≡ n → IfOk o (λ p. option_map items p ≡ m) → IfOk o (λ p. option_map items p ≡ n)
 if_ok_along items (Ok p) m n e h = h ∙ e
