@@ -188,4 +188,4 @@ repeat_first x BadSimple h d r = absurd r
 repeat_first x BadBits h d r = absurd r
 repeat_first x TooBig h d r = absurd r
 repeat_first x (Duplicate place) h d r = let p = plain_spelled x h in (d, p.assignable, p.fitting, h, r)
-repeat_first x Memory h d r = tt
+repeat_first x Memory h d r = let p = plain_spelled x h in (d, p.assignable, p.fitting)
