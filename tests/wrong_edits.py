@@ -121,14 +121,24 @@ class Trial:
         why = "an edit is directly in wrong/, and its name is of letters, digits, _, - and . and ends in .edit"
         told = [(False, f"{self.label(it)}: BAD EDIT: {why}") for it in bad]
         edits = [Edit(self, it) for it in good]
-        with tempfile.TemporaryDirectory(prefix="wrong-") as kept:
-            refused = self.try_many([it for it in edits if it.function], kept)
-            by_law = self.try_laws([it for it in edits if it.law], kept)
-            alone = self.try_alone([it for it in edits if not it.law and not refused.get(it)], kept)
+        with tempfile.TemporaryDirectory(prefix="wrong-") as room:
+            edited, plain = self.folders_of_proofs(room)
+            refused = self.try_many([it for it in edits if it.function], edited, plain)
+            by_law = self.try_laws([it for it in edits if it.law], plain)
+            alone = self.try_alone([it for it in edits if not it.law and not refused.get(it)], plain)
         for edit in edits:
             said = by_law.get(edit) or f"refused, as it must be: {refused.get(edit, '')[:160]}"
             told.append(alone.get(edit) or (said.startswith("refused"), f"{self.label(edit.path)}: {said}"))
         return told
+
+    def folders_of_proofs(self, room):
+        """The folders in which checks keep proofs: those with edits in the functions themselves, and all others. A check
+        writes over what one before kept of a function, so that each begins with what the crate's own checks kept; where
+        they kept nothing, one folder serves both."""
+        own = f"{self.crate.folder}/out/incremental"
+        if not os.path.isdir(own):
+            return room, room
+        return [shutil.copytree(own, f"{room}/{it}") for it in ("edited", "plain")]
 
     def try_laws(self, edits, kept):
         """What is to be told of each edit that names a law, after a check of this law alone with the edit."""
@@ -146,13 +156,13 @@ class Trial:
             return "BAD EDIT: it does not compile or read"
         return f"refused, as it must be: {why[0][:160]}" if why else "NOT REFUSED: its law is proved even so"
 
-    def try_many(self, edits, kept):
+    def try_many(self, edits, kept, plain):
         """What checks of many edits say of each that they refuse. The first has an edit of each function, in place.
         There a caller's goals are not all tried where a callee is refused, and so what is left is tried in other ways."""
         refused = self.try_together(apart(edits, lambda it, other: False), kept)
         left = [it for it in edits if it not in refused]
         beside = [it for it in left if it not in self.broken and self.can_stand_beside(it.function)]
-        refused.update(self.try_beside(beside, kept))
+        refused.update(self.try_beside(beside, plain))
         left = [it for it in left if it not in refused and it not in self.broken]
         while left:
             turn = apart(left, self.reaches)
@@ -199,14 +209,16 @@ class Trial:
         return found
 
     def with_copies(self, copies):
-        """The texts of the files with these copies, each directly after its function, and of the copies' proofs."""
+        """The texts of the files with these copies, and of the copies' proofs."""
         lines, texts = {file: text.split("\n") for file, text in self.sources.items()}, {}
         for edit, of, copy in sorted(copies, key=lambda it: it[1].last, reverse=True):
             old = self.sources[of.file].split("\n")
             new = with_hunks(old, edit.hunks[of.file]) if edit else old
             item = new[of.first : of.last + 1 + len(new) - len(old)]
             item[of.head - of.first] = re.sub(rf"\bfn {of.name}\b", f"fn {copy.name}", item[of.head - of.first], count=1)
-            lines[of.file][of.last + 1 : of.last + 1] = ["", *item]
+            # at the end of its file, if it is no method: a function whose lines move is checked anew
+            at = of.last + 1 if item[of.head - of.first].startswith(" ") else len(lines[of.file]) - 1
+            lines[of.file][at:at] = ["", *item]
             for file in self.proofs_of(of):
                 to = f"proofs/{copy.proof().replace('.', '/')}/{os.path.basename(file)}"
                 texts[to] = self.proofs[file].replace(f"proofs.{of.proof()}.", f"proofs.{copy.proof()}.")
