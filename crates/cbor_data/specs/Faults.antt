@@ -4,6 +4,8 @@ use Rattle.cbor_data.specs.Value.{Value, depth_of}
 use Rattle.cbor_data.specs.Validity.{IsValid, IsFirstRepeatedKey}
 use Rattle.cbor_data.specs.Preferred.{initial}
 use Rattle.cbor_data.specs.Forms.{Form, bytes_form, text_form, text_chunks, array_form, array_to_break, pairs_form, pairs_to_break, tag_form, Forms, no_forms, form, PairForms, no_pair_forms, pair_form, Chunk, chunk_bytes, head_in, forms_len, pair_forms_len, flat, IsOk, meaning, HasText, IsWellFormed, Spells, Begins, IsUnfinished}
+use Rattle.cbor_data.specs.declared.FaultKind.{FaultKind}
+use Rattle.cbor_data.specs.declared.FaultKind.TheVariants.{ReservedInfo, BadIndefinite, BadBreak, BadChunk, BadSimple, TooDeep, TooLong, Truncated, BadText, DuplicateKey}
 
 -- what is allowed: the greatest depth of an item, and the most bytes of one
 pub record Bounds : Type 0 where
@@ -13,18 +15,6 @@ pub record Bounds : Type 0 where
 -- an offset that no byte of a stream may have
 abbrev pub last_offset : ℕ
 last_offset = 2 ^ 64 - 1
-
-pub data FaultKind : Type 0 where
-  reserved_info : FaultKind
-  bad_indefinite : FaultKind
-  bad_break : FaultKind
-  bad_chunk : FaultKind
-  bad_simple : FaultKind
-  too_deep : FaultKind
-  too_long : FaultKind
-  truncated : FaultKind
-  bad_text : FaultKind
-  duplicate_key : FaultKind
 
 -- After b an item is awaited: `00` may come next.
 abbrev pub AwaitsItem : List ℕ → Type 0
@@ -48,11 +38,11 @@ IsReserved byte = (28 ≤ byte % 32) × (byte % 32 ≤ 30)
 
 -- What is wrong where `byte` comes after b and nothing well-formed begins so (RFC 8949 sections 3 to 3.3).
 abbrev pub IsKindOf : List ℕ → ℕ → FaultKind → Type 0
-IsKindOf b byte reserved_info = (AwaitsItem b × IsReserved byte) ⊎ (AwaitsChunk (byte / 32) b × IsReserved byte)
-IsKindOf b byte bad_indefinite = AwaitsItem b × (byte % 32 ≡ 31) × (byte / 32 ≢ 7)
-IsKindOf b byte bad_break = AwaitsItem b × (byte ≡ 255)
-IsKindOf b byte bad_chunk = (major : ℕ) × AwaitsChunk major b × ((byte / 32 ≢ major) ⊎ (byte % 32 ≡ 31))
-IsKindOf b byte bad_simple = AwaitsSimple b
+IsKindOf b byte ReservedInfo = (AwaitsItem b × IsReserved byte) ⊎ (AwaitsChunk (byte / 32) b × IsReserved byte)
+IsKindOf b byte BadIndefinite = AwaitsItem b × (byte % 32 ≡ 31) × (byte / 32 ≢ 7)
+IsKindOf b byte BadBreak = AwaitsItem b × (byte ≡ 255)
+IsKindOf b byte BadChunk = (major : ℕ) × AwaitsChunk major b × ((byte / 32 ≢ major) ⊎ (byte % 32 ≡ 31))
+IsKindOf b byte BadSimple = AwaitsSimple b
 IsKindOf b byte _ = ⊥
 
 -- some well-formed list of an item no deeper than this begins so
@@ -69,9 +59,9 @@ pub data StandsAt (l : Bounds) (o : ℕ) (b : List ℕ) (p : ℕ) : FaultKind �
   -- with its byte nothing well-formed begins
   malformed : {kind : FaultKind} → p < length b → (Begins (take (p + 1) b) → ⊥) → IsKindOf (take p b) (slice_index b p) kind → StandsAt l o b p kind
   -- with its byte something begins, but only what is too deep: it is the head of a container inside `depth` open ones
-  deep : p < length b → Begins (take (p + 1) b) → (BeginsWithin l.depth (take (p + 1) b) → ⊥) → StandsAt l o b p too_deep
+  deep : p < length b → Begins (take (p + 1) b) → (BeginsWithin l.depth (take (p + 1) b) → ⊥) → StandsAt l o b p TooDeep
   -- the item has all its bytes already, or its byte is at an offset that no byte may have
-  long : BeginsWithin l.depth (take (p + 1) b) → (p ≡ l.item_bytes) ⊎ ((p < length b) × (o + p ≡ last_offset)) → StandsAt l o b p too_long
+  long : BeginsWithin l.depth (take (p + 1) b) → (p ≡ l.item_bytes) ⊎ ((p < length b) × (o + p ≡ last_offset)) → StandsAt l o b p TooLong
 
 -- Nothing is wrong with the form of b before p.
 abbrev pub IsClearBefore : Bounds → ℕ → List ℕ → ℕ → Type 0
@@ -120,11 +110,11 @@ pub data IsFaultOf (l : Bounds) (o : ℕ) (b : List ℕ) : FaultKind → ℕ →
   -- the least place where the form goes wrong
   of_form : {kind : FaultKind} {at : ℕ} (p : ℕ) → p ≤ length b → IsUnfinished (take p b) → StandsAt l o b p kind → IsClearBefore l o b p → at ≡ o + p → IsFaultOf l o b kind at
   -- the bytes end inside an item
-  of_end : {at : ℕ} → b ≢ [] → IsUnfinished b → IsClearBefore l o b (suc (length b)) → at ≡ o + length b → IsFaultOf l o b truncated at
+  of_end : {at : ℕ} → b ≢ [] → IsUnfinished b → IsClearBefore l o b (suc (length b)) → at ≡ o + length b → IsFaultOf l o b Truncated at
   -- a text chunk of a well-formed item is not UTF-8
-  of_text : {at : ℕ} (n i : ℕ) (f : Form) → IsWholeFront l o b n f → IsBadTextAt f i → at ≡ o + i → IsFaultOf l o b bad_text at
+  of_text : {at : ℕ} (n i : ℕ) (f : Form) → IsWholeFront l o b n f → IsBadTextAt f i → at ≡ o + i → IsFaultOf l o b BadText at
   -- an item repeats a key
-  of_key : {at : ℕ} (n : ℕ) (f : Form) → IsWholeFront l o b n f → HasText f → IsFirstRepeatedKey (meaning f) at → IsFaultOf l o b duplicate_key at
+  of_key : {at : ℕ} (n : ℕ) (f : Form) → IsWholeFront l o b n f → HasText f → IsFirstRepeatedKey (meaning f) at → IsFaultOf l o b DuplicateKey at
 
 -- The bytes b, at offset o of the stream, spell the valid item x within the bounds.
 pub record IsItem (l : Bounds) (o : ℕ) (x : Value) (b : List ℕ) : Type 0 where

@@ -1,4 +1,3 @@
-pub mod Kinds
 pub mod Arguments
 pub mod Stages
 pub mod Turns

@@ -1,8 +1,7 @@
 -- What a piece leads to.
 use Rattle.std.specs.Prelude.{◌≡◌, ℕ, ◌<◌, ◌≤◌, List, [], length, take, slice_index, Some, None}
+use Rattle.cbor_data.specs.declared.FaultKind.{FaultKind}
 use Rattle.cbor_machine.specs.Machine.{State, item, done, step, step_in, steps_in, refused_kind}
-use Rattle.cbor_form.specs.Kinds.{kind_of}
-use Rattle.cbor_form.specs.declared.malformed.Malformed.{Malformed}
 use Rattle.cbor_form.specs.declared.reader.Progress.{Progress}
 use Rattle.cbor_form.specs.declared.reader.Progress.TheVariants.{More, Whole, Refused, TooDeep}
 
@@ -14,11 +13,11 @@ pub record IsItemEnd (depth : ℕ) (s : State) (piece : List ℕ) (used : ℕ) (
   pub next : t ≡ item []
 
 -- the machine goes no further than to t, since it refuses the byte after so many
-pub record IsRefused (depth : ℕ) (s : State) (piece : List ℕ) (used : ℕ) (kind : Malformed) (t : State) : Type 0 where
+pub record IsRefused (depth : ℕ) (s : State) (piece : List ℕ) (used : ℕ) (kind : FaultKind) (t : State) : Type 0 where
   pub within : used < length piece
   pub leads : steps_in depth s (take used piece) ≡ Some t
   pub refused : step t (slice_index piece used) ≡ None
-  pub kind_is : refused_kind t (slice_index piece used) ≡ kind_of kind
+  pub kind_is : refused_kind t (slice_index piece used) ≡ kind
 
 -- the bound alone keeps the machine from going on from t by the byte after so many
 pub record IsTooDeep (depth : ℕ) (s : State) (piece : List ℕ) (used : ℕ) (t : State) : Type 0 where

@@ -1,7 +1,6 @@
 -- What the next bytes lead to.
 use Rattle.std.specs.Prelude.{◌≡◌, ℕ, ◌<◌, ◌≤◌, List, length, take, slice_index, Bool, true, false, Option, Some, None}
 use Rattle.cbor_machine.specs.Machine.{State, Frame, item, step, step_in, steps_in, refused_kind}
-use Rattle.cbor_form.specs.Kinds.{kind_of}
 use Rattle.cbor_form.specs.Stages.{state_of}
 use Rattle.cbor_form.specs.declared.stage.Stage.{Stage}
 use Rattle.cbor_form.specs.declared.turn.Turn.{Turn}
@@ -26,6 +25,6 @@ pub record IsOn (depth : ℕ) (s : State) (bytes : List ℕ) (used : ℕ) (next 
 abbrev pub IsTurn : ℕ → State → List ℕ → Turn → List Frame → List Frame → Type 0
 IsTurn depth s bytes (On used next) before after = IsOn depth s bytes used next after
 IsTurn depth s bytes (Refused kind) before after =
-    (step s (slice_index bytes 0) ≡ None) × (refused_kind s (slice_index bytes 0) ≡ kind_of kind) × (after ≡ before)
+    (step s (slice_index bytes 0) ≡ None) × (refused_kind s (slice_index bytes 0) ≡ kind) × (after ≡ before)
 IsTurn depth s bytes TooDeep before after =
     (step_in depth s (slice_index bytes 0) ≡ None) × ((t : State) × (step s (slice_index bytes 0) ≡ Some t)) × (after ≡ before)

@@ -13,5 +13,4 @@ mod reader;
 mod stage;
 mod turn;
 
-pub use malformed::Malformed;
 pub use reader::{FormReader, Progress};

@@ -5,9 +5,9 @@ ghost use Rattle.cbor_form.specs.Progress.{IsProgress};
 ghost use Rattle.cbor_form.specs.Stages.{stack_of, state_of, IsAwaiting};
 
 use crate::frame::Frame;
-use crate::malformed::Malformed;
 use crate::stage::Stage;
 use crate::turn::{Turn, next_turn};
+use cbor_data::FaultKind;
 use std::alloc::{AllocError, Global};
 use std::marker::Model;
 
@@ -19,7 +19,7 @@ pub enum Progress {
     /// The item ended with byte `used` of the piece. What is after it is for the next call.
     Whole { used: usize },
     /// The byte after so many cannot be there.
-    Refused { used: usize, kind: Malformed },
+    Refused { used: usize, kind: FaultKind },
     /// The byte after so many opens a container inside as many as may be open.
     TooDeep { used: usize },
 }

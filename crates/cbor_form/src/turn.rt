@@ -6,8 +6,9 @@ ghost use Rattle.cbor_form.specs.Turns.{IsLength, IsDeepIf, IsTurn};
 
 use crate::argument::info_of_byte;
 use crate::frame::{Frame, end_item};
-use crate::malformed::{Malformed, chunk_fault, item_fault};
+use crate::malformed::{chunk_fault, item_fault};
 use crate::stage::{Stage, begin_chunk, begin_item, go_on_argument, go_on_chunk_argument};
+use cbor_data::FaultKind;
 use std::alloc::AllocError;
 
 /// What the next bytes lead to.
@@ -16,7 +17,7 @@ pub enum Turn {
     /// So many bytes were used, and this is awaited.
     On(usize, Stage),
     /// The first byte cannot be there.
-    Refused(Malformed),
+    Refused(FaultKind),
     /// The first byte opens a container inside as many as may be open.
     TooDeep,
 }
@@ -105,7 +106,7 @@ fn turn_simple(frames: &mut Vec<Frame>, rest: &[u8]) -> Turn
     ensures { (depth : ℕ) → IsTurn depth (machine.simple (stack_of frames.old.items)) rest.now result (stack_of frames.old.items) (stack_of frames.new.items) }
 {
     if rest[0] < 32 {
-        Turn::Refused(Malformed::BadSimple)
+        Turn::Refused(FaultKind::BadSimple)
     } else {
         Turn::On(1, end_item(frames))
     }

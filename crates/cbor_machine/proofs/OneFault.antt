@@ -6,7 +6,8 @@ use Rattle.std.proofs.lemmas.Bool.{cases_lt}
 use Rattle.cbor_data.specs.Value.{AreBytes}
 use Rattle.cbor_data.specs.Validity.{IsFirstRepeatedKey}
 use Rattle.cbor_data.specs.Forms.{Form, HasText, meaning, IsWellFormed, Begins, IsUnfinished}
-use Rattle.cbor_data.specs.Faults.{Bounds, FaultKind, StandsAt, malformed, deep, long, IsBadTextAt, IsWholeFront, IsKindOf, IsFaultOf, of_form, of_end, of_text, of_key}
+use Rattle.cbor_data.specs.Faults.{Bounds, StandsAt, malformed, deep, long, IsBadTextAt, IsWholeFront, IsKindOf, IsFaultOf, of_form, of_end, of_text, of_key}
+use Rattle.cbor_data.specs.declared.FaultKind.{FaultKind}
 use Rattle.cbor_data.proofs.Lemmas.{one_form, unfinished_no_front, good_text, one_text}
 use Rattle.cbor_machine.specs.Machine.{State, item, done, step, steps}
 use Rattle.cbor_machine.specs.Reads.{Leads}

@@ -3,7 +3,9 @@ use Rattle.std.proofs.Common.{◌≡◌, ◌≢◌, ℕ, zero, suc, ◌-◌, ◌
 use Rattle.std.proofs.lemmas.Bool.Decides.{nat_tests}
 use Rattle.cbor_data.specs.Preferred.{initial}
 use Rattle.cbor_data.specs.Forms.{Begins}
-use Rattle.cbor_data.specs.Faults.{FaultKind, reserved_info, bad_indefinite, bad_break, bad_chunk, bad_simple, too_deep, too_long, truncated, bad_text, duplicate_key, AwaitsItem, AwaitsChunk, AwaitsSimple, IsKindOf}
+use Rattle.cbor_data.specs.Faults.{AwaitsItem, AwaitsChunk, AwaitsSimple, IsKindOf}
+use Rattle.cbor_data.specs.declared.FaultKind.{FaultKind}
+use Rattle.cbor_data.specs.declared.FaultKind.TheVariants.{ReservedInfo, BadIndefinite, BadBreak, BadChunk, BadSimple, TooDeep, TooLong, Truncated, BadText, DuplicateKey}
 use Rattle.cbor_machine.specs.Machine.{State, Frame, item, argument, body, chunk, chunk_argument, chunk_body, simple, done, give, step, steps, start, start_chunk, given, more, refused_kind}
 use Rattle.cbor_machine.specs.Reads.{Leads}
 use Rattle.cbor_machine.proofs.Forward.{completes, Completes, refused, steps-append}
@@ -140,26 +142,26 @@ item_no_chunk : (b : List ℕ) (m : ℕ) (K : List Frame) → Leads b (item K) �
 item_no_chunk b m K l = both_strings b m (step_begins b (item K) (give K) 64 l (omega arith) refl) (step_begins b (item K) (give K) 96 l (omega arith) refl)
 
 item_only : (b : List ℕ) (x : ℕ) (K : List Frame) (kind : FaultKind) → Leads b (item K) → IsKindOf b x kind → kind ≡ refused_kind (item K) x
-item_only b x K reserved_info l (inl r) =
+item_only b x K ReservedInfo l (inl r) =
     let low : 28 ≤ x % 32 = r.1.0 in
     let high : x % 32 ≤ 30 = r.1.1 in
     let t : (x % 32 == 31) ≡ false = grind (arith, nat_tests) in
     rw t refl
-item_only b x K reserved_info l (inr r) = absurd (item_no_chunk b (x / 32) K l r.0)
-item_only b x K bad_indefinite l r =
+item_only b x K ReservedInfo l (inr r) = absurd (item_no_chunk b (x / 32) K l r.0)
+item_only b x K BadIndefinite l r =
     let last : x % 32 ≡ 31 = r.1 in
     let major : x / 32 ≢ 7 = r.2 in
     let t : (x % 32 == 31) ≡ true = grind (arith, nat_tests) in
     let u : (x / 32 == 7) ≡ false = grind (arith, nat_tests) in
     rw (t, u) refl
-item_only b x K bad_break l r = rw r.1 refl
-item_only b x K bad_chunk l r = absurd (item_no_chunk b r.0 K l r.1)
-item_only b x K bad_simple l r = absurd (r.not_item (awaits_item b K l))
-item_only b x K too_deep l r = absurd r
-item_only b x K too_long l r = absurd r
-item_only b x K truncated l r = absurd r
-item_only b x K bad_text l r = absurd r
-item_only b x K duplicate_key l r = absurd r
+item_only b x K BadBreak l r = rw r.1 refl
+item_only b x K BadChunk l r = absurd (item_no_chunk b r.0 K l r.1)
+item_only b x K BadSimple l r = absurd (r.not_item (awaits_item b K l))
+item_only b x K TooDeep l r = absurd r
+item_only b x K TooLong l r = absurd r
+item_only b x K Truncated l r = absurd r
+item_only b x K BadText l r = absurd r
+item_only b x K DuplicateKey l r = absurd r
 
 chunk_zero : (m : ℕ) (K : List Frame) → IsString m → step (chunk m K) 0 ≡ None
 chunk_zero m K (inl e) = subst (λ k. step (chunk k K) 0 ≡ None) (sym e) refl
@@ -178,45 +180,45 @@ chunk_major b m k K l a = let own = awaits_chunk b m K l in same m k own.string 
     same m k (inr e) (inl f) not this = let other : k ≡ 5 - m = omega (arith, e, f) in absurd (not (subst (λ j. Begins (b ++ initial j 0 ∷ [])) other this))
 
 chunk_only : (b : List ℕ) (m x : ℕ) (K : List Frame) (kind : FaultKind) → Leads b (chunk m K) → IsKindOf b x kind → kind ≡ refused_kind (chunk m K) x
-chunk_only b m x K reserved_info l (inl r) = absurd (chunk_no_item b m K l r.0)
-chunk_only b m x K reserved_info l (inr r) =
+chunk_only b m x K ReservedInfo l (inl r) = absurd (chunk_no_item b m K l r.0)
+chunk_only b m x K ReservedInfo l (inr r) =
     let major : x / 32 ≡ m = chunk_major b m (x / 32) K l r.0 in
     let low : 28 ≤ x % 32 = r.1.0 in
     let high : x % 32 ≤ 30 = r.1.1 in
     let v : (x / 32 == m) ≡ true = grind (arith, nat_tests) in
     let t : (x % 32 == 31) ≡ false = grind (arith, nat_tests) in
     rw (v, t) refl
-chunk_only b m x K bad_indefinite l r = absurd (chunk_no_item b m K l r.0)
-chunk_only b m x K bad_break l r = absurd (chunk_no_item b m K l r.0)
-chunk_only b m x K bad_chunk l (k, a, inl other) =
+chunk_only b m x K BadIndefinite l r = absurd (chunk_no_item b m K l r.0)
+chunk_only b m x K BadBreak l r = absurd (chunk_no_item b m K l r.0)
+chunk_only b m x K BadChunk l (k, a, inl other) =
     let major : k ≡ m = chunk_major b m k K l a in
     let v : (x / 32 == m) ≡ false = grind (arith, nat_tests) in
     rw v refl
-chunk_only b m x K bad_chunk l (k, a, inr last) =
+chunk_only b m x K BadChunk l (k, a, inr last) =
     let t : (x % 32 == 31) ≡ true = grind (arith, nat_tests) in
     elim (tested (x / 32 == m)) [
       | inl v ↦ rw (v, t) refl
       | inr v ↦ rw v refl
     ]
-chunk_only b m x K bad_simple l r = absurd (r.not_chunk m (awaits_chunk b m K l))
-chunk_only b m x K too_deep l r = absurd r
-chunk_only b m x K too_long l r = absurd r
-chunk_only b m x K truncated l r = absurd r
-chunk_only b m x K bad_text l r = absurd r
-chunk_only b m x K duplicate_key l r = absurd r
+chunk_only b m x K BadSimple l r = absurd (r.not_chunk m (awaits_chunk b m K l))
+chunk_only b m x K TooDeep l r = absurd r
+chunk_only b m x K TooLong l r = absurd r
+chunk_only b m x K Truncated l r = absurd r
+chunk_only b m x K BadText l r = absurd r
+chunk_only b m x K DuplicateKey l r = absurd r
 
-simple_only : (b : List ℕ) (x : ℕ) (K : List Frame) (kind : FaultKind) → Leads b (simple K) → IsKindOf b x kind → kind ≡ bad_simple
-simple_only b x K reserved_info l (inl r) = absurd (step_refuses b (simple K) 0 l refl r.0)
-simple_only b x K reserved_info l (inr r) = absurd (simple_no_chunk b (x / 32) K l r.0)
-simple_only b x K bad_indefinite l r = absurd (step_refuses b (simple K) 0 l refl r.0)
-simple_only b x K bad_break l r = absurd (step_refuses b (simple K) 0 l refl r.0)
-simple_only b x K bad_chunk l r = absurd (simple_no_chunk b r.0 K l r.1)
-simple_only b x K bad_simple l r = refl
-simple_only b x K too_deep l r = absurd r
-simple_only b x K too_long l r = absurd r
-simple_only b x K truncated l r = absurd r
-simple_only b x K bad_text l r = absurd r
-simple_only b x K duplicate_key l r = absurd r
+simple_only : (b : List ℕ) (x : ℕ) (K : List Frame) (kind : FaultKind) → Leads b (simple K) → IsKindOf b x kind → kind ≡ BadSimple
+simple_only b x K ReservedInfo l (inl r) = absurd (step_refuses b (simple K) 0 l refl r.0)
+simple_only b x K ReservedInfo l (inr r) = absurd (simple_no_chunk b (x / 32) K l r.0)
+simple_only b x K BadIndefinite l r = absurd (step_refuses b (simple K) 0 l refl r.0)
+simple_only b x K BadBreak l r = absurd (step_refuses b (simple K) 0 l refl r.0)
+simple_only b x K BadChunk l r = absurd (simple_no_chunk b r.0 K l r.1)
+simple_only b x K BadSimple l r = refl
+simple_only b x K TooDeep l r = absurd r
+simple_only b x K TooLong l r = absurd r
+simple_only b x K Truncated l r = absurd r
+simple_only b x K BadText l r = absurd r
+simple_only b x K DuplicateKey l r = absurd r
 
 pub only_kind : (b : List ℕ) (s : State) (x : ℕ) (kind : FaultKind) → Leads b s → s ≢ done → step s x ≡ None → IsKindOf b x kind → kind ≡ refused_kind s x
 only_kind b (item K) x kind l live e r = item_only b x K kind l r

@@ -5,7 +5,9 @@ use Rattle.std.proofs.Math.Seq.{take-append_seam, take-append-add, get_or-append
 use Rattle.std.proofs.lemmas.Bool.Decides.{nat_tests}
 use Rattle.cbor_data.specs.Value.{AreBytes}
 use Rattle.cbor_data.specs.Forms.{IsWellFormed, Begins, IsUnfinished}
-use Rattle.cbor_data.specs.Faults.{Bounds, FaultKind, too_deep, too_long, truncated, last_offset, BeginsWithin, StandsAt, malformed, deep, long, IsClearBefore, IsWholeFront, IsFaultOf, of_form, of_end, IsKindOf}
+use Rattle.cbor_data.specs.Faults.{Bounds, last_offset, BeginsWithin, StandsAt, malformed, deep, long, IsClearBefore, IsWholeFront, IsFaultOf, of_form, of_end, IsKindOf}
+use Rattle.cbor_data.specs.declared.FaultKind.{FaultKind}
+use Rattle.cbor_data.specs.declared.FaultKind.TheVariants.{TooDeep, TooLong, Truncated}
 use Rattle.cbor_machine.specs.Machine.{State, item, done, step, steps, step_in, steps_in, refused_kind}
 use Rattle.cbor_machine.specs.Reads.{Leads, LeadsWithin, Reads}
 use Rattle.cbor_machine.proofs.Forward.{completes, Completes, steps-append}
@@ -94,12 +96,12 @@ tell_form l o b more s x r live small e =
     IsKind a y = IsKindOf a y (refused_kind s x)
 
 -- the head of a container inside as many as may be open
-pub tell_deep : (l : Bounds) (o : ℕ) (b more : List ℕ) (s t : State) (x : ℕ) → Reads l o b s → s ≢ done → x < 256 → step s x ≡ Some t → step_in l.depth s x ≡ None → IsFaultOf l o (b ++ x ∷ more) too_deep (o + length b)
+pub tell_deep : (l : Bounds) (o : ℕ) (b more : List ℕ) (s t : State) (x : ℕ) → Reads l o b s → s ≢ done → x < 256 → step s x ≡ Some t → step_in l.depth s x ≡ None → IsFaultOf l o (b ++ x ∷ more) TooDeep (o + length b)
 tell_deep l o b more s t x r live small e none =
     let read : Leads b s = leads l.depth b s r.leads in
     let refuses : steps_in l.depth (item []) (b ++ x ∷ []) ≡ None =
     steps_in-append l.depth (item []) b (x ∷ []) ∙ (ap (option_and_then (λ u. steps_in l.depth u (x ∷ []))) r.leads.is ∙ ap (option_and_then (λ u. steps_in l.depth u [])) none) in
-    told_at l o b more s x too_deep r live (deep (inside b more x) (subst Begins (sym (front_and b more x)) (step_begins b s t x read small e))
+    told_at l o b more s x TooDeep r live (deep (inside b more x) (subst Begins (sym (front_and b more x)) (step_begins b s t x read small e))
     (λ w. refused_within l.depth (b ++ x ∷ []) refuses (subst (BeginsWithin l.depth) (front_and b more x) w)))
 
 step_within : (l : Bounds) (o : ℕ) (b : List ℕ) (s t : State) (x : ℕ) → Reads l o b s → x < 256 → step_in l.depth s x ≡ Some t → LeadsWithin l.depth (b ++ x ∷ []) t
@@ -110,11 +112,11 @@ step_within l o b s t x r small e = record {
 
 -- a byte more than the item, or the stream, may have
 pub tell_long : (l : Bounds) (o : ℕ) (b more : List ℕ) (s t : State) (x : ℕ) → Reads l o b s → s ≢ done → x < 256 → step_in l.depth s x ≡ Some t →
-    (length b ≡ l.item_bytes) ⊎ (o + length b ≡ last_offset) → IsFaultOf l o (b ++ x ∷ more) too_long (o + length b)
+    (length b ≡ l.item_bytes) ⊎ (o + length b ≡ last_offset) → IsFaultOf l o (b ++ x ∷ more) TooLong (o + length b)
 tell_long l o b more s t x r live small e full =
     let within : BeginsWithin l.depth (b ++ x ∷ []) = leads_begins_within l.depth (b ++ x ∷ []) t (step_within l o b s t x r small e) in
     let why : (length b ≡ l.item_bytes) ⊎ ((length b < length (b ++ x ∷ more)) × (o + length b ≡ last_offset)) = elim full [ inl h ↦ inl h | inr h ↦ inr (inside b more x, h) ] in
-    told_at l o b more s x too_long r live (long (subst (BeginsWithin l.depth) (sym (front_and b more x)) within) why)
+    told_at l o b more s x TooLong r live (long (subst (BeginsWithin l.depth) (sym (front_and b more x)) within) why)
 
 -- a byte that goes on
 pub reads_on : (l : Bounds) (o : ℕ) (b : List ℕ) (s t : State) (x : ℕ) → Reads l o b s → x < 256 → step_in l.depth s x ≡ Some t → length b < l.item_bytes → o + length b < last_offset → Reads l o (b ++ x ∷ []) t
@@ -137,7 +139,7 @@ whole_front l o b more r =
     }
 
 -- the bytes end inside an item that has all its bytes
-pub tell_long_end : (l : Bounds) (o : ℕ) (b : List ℕ) (s : State) → Reads l o b s → s ≢ done → length b ≡ l.item_bytes → IsFaultOf l o b too_long (o + length b)
+pub tell_long_end : (l : Bounds) (o : ℕ) (b : List ℕ) (s : State) → Reads l o b s → s ≢ done → length b ≡ l.item_bytes → IsFaultOf l o b TooLong (o + length b)
 tell_long_end l o b s r live full =
     let all : take (length b + 1) b ≡ b = take_past b in
     of_form (length b) (omega arith) (subst IsUnfinished (sym (take_all b)) (unfinished l o b s r live))
@@ -150,7 +152,7 @@ tell_long_end l o b s r live full =
     take_past b = ap (take (length b + 1)) (sym (append-nil b)) ∙ (take-append-add b [] 1 ∙ append-nil b)
 
 -- the bytes end inside an item
-pub tell_end : (l : Bounds) (o : ℕ) (b : List ℕ) (s : State) → Reads l o b s → s ≢ done → b ≢ [] → length b < l.item_bytes → IsFaultOf l o b truncated (o + length b)
+pub tell_end : (l : Bounds) (o : ℕ) (b : List ℕ) (s : State) → Reads l o b s → s ≢ done → b ≢ [] → length b < l.item_bytes → IsFaultOf l o b Truncated (o + length b)
 tell_end l o b s r live some room = of_end some (unfinished l o b s r live) none refl
   where
     before : IsClearBefore l o b (length b)

@@ -1,6 +1,7 @@
 -- A machine that reads one item byte by byte: a tool of proofs, tied to the written forms by its laws.
 use Rattle.std.specs.Prelude.{◌≡◌, ℕ, zero, suc, ◌+◌, ◌*◌, ◌/◌, ◌%◌, List, [], ◌∷◌, length, Bool, nat_lt, nat_le, ◌==◌, ◌&&◌, if◌then◌else◌, Option, Some, None, option_and_then}
-use Rattle.cbor_data.specs.Faults.{FaultKind, reserved_info, bad_indefinite, bad_break, bad_chunk, bad_simple}
+use Rattle.cbor_data.specs.declared.FaultKind.{FaultKind}
+use Rattle.cbor_data.specs.declared.FaultKind.TheVariants.{ReservedInfo, BadIndefinite, BadBreak, BadChunk, BadSimple}
 
 -- what the awaited item is in the innermost open container
 pub data Frame : Type 0 where
@@ -127,9 +128,9 @@ IsLive (Some s) = Unit {0}
 
 -- the kind of fault where the machine refuses a byte
 abbrev pub refused_kind : State → ℕ → FaultKind
-refused_kind (item K) b = if b % 32 == 31 then (if b / 32 == 7 then bad_break else bad_indefinite) else reserved_info
-refused_kind (chunk m K) b = if b / 32 == m then (if b % 32 == 31 then bad_chunk else reserved_info) else bad_chunk
-refused_kind _ b = bad_simple
+refused_kind (item K) b = if b % 32 == 31 then (if b / 32 == 7 then BadBreak else BadIndefinite) else ReservedInfo
+refused_kind (chunk m K) b = if b / 32 == m then (if b % 32 == 31 then BadChunk else ReservedInfo) else BadChunk
+refused_kind _ b = BadSimple
 
 -- the initial byte of an array, a map or a tag
 abbrev pub opens_container : ℕ → Bool

@@ -5,7 +5,8 @@
 ghost use Rattle.std.specs.Prelude.{◌≡◌, ◌≢◌, ℕ, ◌+◌, ◌<◌, List, [], ◌∷◌, ◌++◌, length, Some, None};
 ghost use Rattle.cbor_data.specs.Value.{AreBytes};
 ghost use Rattle.cbor_data.specs.Forms.{IsWellFormed, Begins, IsUnfinished};
-ghost use Rattle.cbor_data.specs.Faults.{Bounds, FaultKind, BeginsWithin, IsKindOf, IsFaultOf};
+ghost use Rattle.cbor_data.specs.Faults.{Bounds, BeginsWithin, IsKindOf, IsFaultOf};
+ghost use Rattle.cbor_data.specs.declared.FaultKind.{FaultKind};
 ghost use Rattle.cbor_machine.specs.Machine.{State, item, done, step, steps, steps_in, refused_kind};
 
 /// The machine is done exactly after a well-formed item.

@@ -3,4 +3,3 @@ mod Pieces
 mod Following
 mod Valued
 mod Turned
-mod SameTold

@@ -2,19 +2,18 @@
 use Rattle.std.proofs.Common.{◌≡◌, ℕ, ◌≤◌, List, [], ◌++◌, length, take, drop, Option, Some, None, Ok, refl, sym, ap, ◌∙◌, subst, append-nil}
 use Rattle.std.proofs.lemmas.List.{take-append-drop}
 use Rattle.cbor_data.specs.Forms.{IsWellFormed}
-use Rattle.cbor_data.specs.Faults.{Bounds, IsClearBefore}
+use Rattle.cbor_data.specs.Faults.{Bounds, IsClearBefore, IsFaultOf}
 use Rattle.cbor_machine.specs.Machine.{State, done}
 use Rattle.cbor_machine.specs.Reads.{Reads}
 use Rattle.cbor_machine.proofs.Lemmas.{leads_begins_within, clear, unfinished, whole}
-use Rattle.cbor_read.specs.Told.{IsTold}
 use Rattle.cbor_read.specs.Reading.{Reading}
 use Rattle.cbor_read.specs.Answers.{IsAnswer, IsGoingOn, IsUsedUpTo}
 use Rattle.cbor_read.specs.Outcomes.{IsOfValue, IsWrong}
 use Rattle.cbor_read.specs.Steps.{IsHalted}
 use Rattle.cbor_read.specs.Turns.{IsKept, IsFaultTurn}
 use Rattle.cbor_read.specs.declared.fault.Fault.{Fault}
-use Rattle.cbor_read.specs.declared.fault.FaultKind.{FaultKind}
-use Rattle.cbor_read.specs.declared.fault.FaultKind.TheVariants.{BadText, DuplicateKey}
+use Rattle.cbor_data.specs.declared.FaultKind.{FaultKind}
+use Rattle.cbor_data.specs.declared.FaultKind.TheVariants.{BadText, DuplicateKey}
 use Rattle.cbor_read.specs.declared.fault.Stop.{Stop}
 use Rattle.cbor_read.specs.declared.reader.Fed.TheVariants.{More}
 use Rattle.cbor_read.proofs.Pieces.{cut_behind}
@@ -31,7 +30,7 @@ used_up old piece used at _ v w = absurd v
 pub value_fault : (l : Bounds) (o : ℕ) (seen piece : List ℕ) (used : ℕ) (fault : Fault) → used ≤ length piece → Reads l o (seen ++ take used piece) done → IsWrong l o (seen ++ take used piece) fault → IsFaultTurn l o seen piece used fault
 value_fault l o seen piece used fault within r w = record {
   within = within;
-  told = λ more. subst (λ c. IsTold l o c fault.kind fault.at) (cut_behind seen piece more used) (w.told (drop used piece ++ more));
+  told = λ more. subst (λ c. IsFaultOf l o c fault.kind fault.at) (cut_behind seen piece more used) (w.told (drop used piece ++ more));
   place = used_up (reading l o seen None) piece used fault.at fault.kind w.value (whole l o (seen ++ take used piece) r);
 }
 
@@ -59,8 +58,8 @@ more_answered l o fed piece seen bytes then stopped state old live was same kept
 
 -- the front of a whole list
 
-pub front_wrong : (l : Bounds) (o : ℕ) (b : List ℕ) (used : ℕ) (fault : Fault) → IsWrong l o (take used b) fault → IsTold l o b fault.kind fault.at
-front_wrong l o b used fault w = subst (λ c. IsTold l o c fault.kind fault.at) (take-append-drop used b) (w.told (drop used b))
+pub front_wrong : (l : Bounds) (o : ℕ) (b : List ℕ) (used : ℕ) (fault : Fault) → IsWrong l o (take used b) fault → IsFaultOf l o b fault.kind fault.at
+front_wrong l o b used fault w = subst (λ c. IsFaultOf l o c fault.kind fault.at) (take-append-drop used b) (w.told (drop used b))
 
-pub front_halted : (l : Bounds) (o : ℕ) (b : List ℕ) (used : ℕ) (fault : Fault) → IsHalted l o [] b used fault → IsTold l o b fault.kind fault.at
-front_halted l o b used fault h = subst (λ c. IsTold l o c fault.kind fault.at) (append-nil b) (h.told [])
+pub front_halted : (l : Bounds) (o : ℕ) (b : List ℕ) (used : ℕ) (fault : Fault) → IsHalted l o [] b used fault → IsFaultOf l o b fault.kind fault.at
+front_halted l o b used fault h = subst (λ c. IsFaultOf l o c fault.kind fault.at) (append-nil b) (h.told [])

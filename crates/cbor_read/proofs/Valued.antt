@@ -10,7 +10,7 @@ use Rattle.cbor_machine.specs.Reads.{Reads}
 use Rattle.cbor_machine.proofs.Lemmas.{whole, whole_front}
 use Rattle.cbor_value.specs.Unread.{IsWhole}
 use Rattle.cbor_read.specs.Outcomes.{IsOutcome, IsSettled, IsSoundButKeys, IsWrong}
-use Rattle.cbor_read.specs.declared.fault.FaultKind.TheVariants.{BadText, DuplicateKey}
+use Rattle.cbor_data.specs.declared.FaultKind.TheVariants.{BadText, DuplicateKey}
 use Rattle.cbor_read.specs.declared.value.Outcome.{Outcome}
 use Rattle.cbor_read.specs.declared.value.Outcome.TheVariants as outcome
 use Rattle.cbor_read.proofs.Meanings.{shallow, text_inside}

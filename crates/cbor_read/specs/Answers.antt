@@ -3,12 +3,11 @@ use Rattle.std.specs.Prelude.{◌≡◌, ◌≢◌, ℕ, ◌+◌, ◌<◌, ◌�
 use Rattle.std.specs.declared.alloc.AllocError.{AllocError}
 use Rattle.cbor_data.specs.Value.{Value}
 use Rattle.cbor_data.specs.Forms.{IsWellFormed, IsUnfinished}
-use Rattle.cbor_data.specs.Faults.{Bounds, BeginsWithin, IsClearBefore, IsItem}
-use Rattle.cbor_read.specs.Told.{IsTold}
+use Rattle.cbor_data.specs.Faults.{BeginsWithin, IsClearBefore, IsItem, IsFaultOf}
 use Rattle.cbor_read.specs.Reading.{Reading}
 use Rattle.cbor_read.specs.declared.fault.Fault as declared
-use Rattle.cbor_read.specs.declared.fault.FaultKind.{FaultKind}
-use Rattle.cbor_read.specs.declared.fault.FaultKind.TheVariants.{BadText, DuplicateKey}
+use Rattle.cbor_data.specs.declared.FaultKind.{FaultKind}
+use Rattle.cbor_data.specs.declared.FaultKind.TheVariants.{BadText, DuplicateKey}
 use Rattle.cbor_read.specs.declared.fault.Stop.{Stop}
 use Rattle.cbor_read.specs.declared.fault.Stop.TheVariants as stop
 use Rattle.cbor_read.specs.declared.reader.Fed.{Fed}
@@ -38,7 +37,7 @@ IsUsedUpTo old piece used _ at = (used < length piece) × (at ≡ old.offset + l
 -- Whatever follows, this fault is told of the bytes; it is the first answer that says so, and the reader stops with it.
 pub record IsRefused (old : Reading) (piece : List ℕ) (used : ℕ) (fault : declared.Fault) (new : Reading) : Type 0 where
   pub within : used ≤ length piece
-  pub told : (more : List ℕ) → IsTold old.limits old.offset ((old.fed ++ piece) ++ more) fault.kind fault.at
+  pub told : (more : List ℕ) → IsFaultOf old.limits old.offset ((old.fed ++ piece) ++ more) fault.kind fault.at
   pub place : IsUsedUpTo old piece used fault.kind fault.at
   pub next : new ≡ record old { fed = old.fed ++ take used piece; stopped = Some (stop.Fault fault) }
 
@@ -63,5 +62,5 @@ IsAnswer (Some s) old piece result new = IsAgain s result × (new ≡ old)
 abbrev pub IsEnd : Option Stop → Reading → Result (Unit {0}) Stop → Type 0
 IsEnd (Some s) reading result = result ≡ Err s
 IsEnd None reading (Ok _) = reading.fed ≡ []
-IsEnd None reading (Err (stop.Fault fault)) = (reading.fed ≢ []) × IsTold reading.limits reading.offset reading.fed fault.kind fault.at
+IsEnd None reading (Err (stop.Fault fault)) = (reading.fed ≢ []) × IsFaultOf reading.limits reading.offset reading.fed fault.kind fault.at
 IsEnd None reading (Err stop.Memory) = ⊥

@@ -1,7 +1,6 @@
 -- What is at the front of a rest.
 use Rattle.std.specs.Prelude.{◌≡◌, ℕ, ◌≤◌, List, [], length, take}
-use Rattle.cbor_data.specs.Faults.{Bounds, IsItem}
-use Rattle.cbor_read.specs.Told.{IsTold}
+use Rattle.cbor_data.specs.Faults.{Bounds, IsItem, IsFaultOf}
 use Rattle.cbor_read.specs.declared.front.Front.{Front}
 use Rattle.cbor_read.specs.declared.front.Front.TheVariants.{Nothing, Item, Fault}
 
@@ -9,4 +8,4 @@ use Rattle.cbor_read.specs.declared.front.Front.TheVariants.{Nothing, Item, Faul
 abbrev pub IsFront : Bounds → ℕ → List ℕ → Front → Type 0
 IsFront l o b Nothing = b ≡ []
 IsFront l o b (Item n x) = (n ≤ length b) × IsItem l o x (take n b)
-IsFront l o b (Fault fault) = IsTold l o b fault.kind fault.at
+IsFront l o b (Fault fault) = IsFaultOf l o b fault.kind fault.at

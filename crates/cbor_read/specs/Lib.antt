@@ -1,4 +1,3 @@
-pub mod Told
 pub mod Reading
 pub mod Answers
 pub mod Outcomes

@@ -3,11 +3,10 @@ use Rattle.std.specs.Prelude.{◌≡◌, ℕ, ◌≤◌, List, ◌++◌}
 use Rattle.cbor_data.specs.Value.{Value, depth_of}
 use Rattle.cbor_data.specs.Validity.{IsFirstRepeatedKey}
 use Rattle.cbor_data.specs.Sound.{IsSound, HasShortSpelling}
-use Rattle.cbor_data.specs.Faults.{Bounds, IsItem}
-use Rattle.cbor_read.specs.Told.{IsTold}
+use Rattle.cbor_data.specs.Faults.{Bounds, IsItem, IsFaultOf}
 use Rattle.cbor_read.specs.declared.fault.Fault as declared
-use Rattle.cbor_read.specs.declared.fault.FaultKind.{FaultKind}
-use Rattle.cbor_read.specs.declared.fault.FaultKind.TheVariants.{BadText, DuplicateKey}
+use Rattle.cbor_data.specs.declared.FaultKind.{FaultKind}
+use Rattle.cbor_data.specs.declared.FaultKind.TheVariants.{BadText, DuplicateKey}
 use Rattle.cbor_read.specs.declared.value.Outcome.{Outcome}
 use Rattle.cbor_read.specs.declared.value.Outcome.TheVariants.{Item, Fault}
 
@@ -20,7 +19,7 @@ IsOfValue _ = ⊥
 -- whatever follows the item's bytes, this fault is told of them
 pub record IsWrong (l : Bounds) (o : ℕ) (b : List ℕ) (fault : declared.Fault) : Type 0 where
   pub value : IsOfValue fault.kind
-  pub told : (more : List ℕ) → IsTold l o (b ++ more) fault.kind fault.at
+  pub told : (more : List ℕ) → IsFaultOf l o (b ++ more) fault.kind fault.at
 
 abbrev pub IsOutcome : Bounds → ℕ → List ℕ → Outcome → Type 0
 IsOutcome l o b (Item x) = IsItem l o x b

@@ -1,13 +1,12 @@
 -- Where the form of an item goes in a piece, under the limits.
 use Rattle.std.specs.Prelude.{◌≡◌, ◌≢◌, ℕ, ◌+◌, ◌<◌, ◌≤◌, ◌⊎◌, List, [], ◌++◌, length, take}
-use Rattle.cbor_data.specs.Faults.{Bounds, last_offset}
+use Rattle.cbor_data.specs.Faults.{Bounds, last_offset, IsFaultOf}
 use Rattle.cbor_machine.specs.Machine.{State, item, done}
 use Rattle.cbor_machine.specs.Reads.{Reads}
 use Rattle.cbor_value.specs.Unread.{IsWhole}
-use Rattle.cbor_read.specs.Told.{IsTold}
 use Rattle.cbor_read.specs.declared.fault.Fault as declared
-use Rattle.cbor_read.specs.declared.fault.FaultKind.{FaultKind}
-use Rattle.cbor_read.specs.declared.fault.FaultKind.TheVariants.{BadText, DuplicateKey}
+use Rattle.cbor_data.specs.declared.FaultKind.{FaultKind}
+use Rattle.cbor_data.specs.declared.FaultKind.TheVariants.{BadText, DuplicateKey}
 use Rattle.cbor_read.specs.declared.follow.Advance.{Advance}
 use Rattle.cbor_read.specs.declared.follow.Advance.TheVariants.{Open, Whole, Fault}
 
@@ -31,7 +30,7 @@ IsFull l o b = (length b ≡ l.item_bytes) ⊎ (o + length b ≡ last_offset)
 -- whatever follows, this is told of the byte that comes where there is no room
 pub record IsToldPast (l : Bounds) (old : State) (byte : List ℕ) (kind : FaultKind) : Type 0 where
   pub form : IsOfForm kind
-  pub told : (o : ℕ) (b more : List ℕ) → Reads l o b old → IsFull l o b → IsTold l o (b ++ (byte ++ more)) kind (o + length b)
+  pub told : (o : ℕ) (b more : List ℕ) → Reads l o b old → IsFull l o b → IsFaultOf l o (b ++ (byte ++ more)) kind (o + length b)
 
 -- the item ended with byte `used` of the piece, and the next one is awaited
 pub record IsEnded (l : Bounds) (o : ℕ) (seen piece : List ℕ) (used : ℕ) (new : State) : Type 0 where
@@ -45,7 +44,7 @@ pub record IsEnded (l : Bounds) (o : ℕ) (seen piece : List ℕ) (used : ℕ) (
 pub record IsHalted (l : Bounds) (o : ℕ) (seen piece : List ℕ) (used : ℕ) (fault : declared.Fault) : Type 0 where
   pub within : used < length piece
   pub form : IsOfForm fault.kind
-  pub told : (more : List ℕ) → IsTold l o ((seen ++ piece) ++ more) fault.kind fault.at
+  pub told : (more : List ℕ) → IsFaultOf l o ((seen ++ piece) ++ more) fault.kind fault.at
   pub place : fault.at ≡ o + length (seen ++ take used piece)
 
 abbrev pub IsFollowed : Bounds → ℕ → List ℕ → List ℕ → Advance → State → Type 0

@@ -1,10 +1,9 @@
 -- What a turn of the reader leads to.
 use Rattle.std.specs.Prelude.{◌≡◌, ◌≢◌, ℕ, ◌<◌, ◌≤◌, List, [], ◌++◌, length, take, None}
 use Rattle.cbor_data.specs.Value.{Value}
-use Rattle.cbor_data.specs.Faults.{Bounds, IsItem}
+use Rattle.cbor_data.specs.Faults.{Bounds, IsItem, IsFaultOf}
 use Rattle.cbor_machine.specs.Machine.{State, item, done}
 use Rattle.cbor_machine.specs.Reads.{Reads}
-use Rattle.cbor_read.specs.Told.{IsTold}
 use Rattle.cbor_read.specs.Answers.{IsUsedUpTo}
 use Rattle.cbor_read.specs.declared.fault.Fault as declared
 use Rattle.cbor_read.specs.declared.reader.Fed.{Fed}
@@ -27,7 +26,7 @@ pub record IsItemTurn (l : Bounds) (o : ℕ) (seen piece : List ℕ) (used : ℕ
 -- whatever follows, this fault is told
 pub record IsFaultTurn (l : Bounds) (o : ℕ) (seen piece : List ℕ) (used : ℕ) (fault : declared.Fault) : Type 0 where
   pub within : used ≤ length piece
-  pub told : (more : List ℕ) → IsTold l o ((seen ++ piece) ++ more) fault.kind fault.at
+  pub told : (more : List ℕ) → IsFaultOf l o ((seen ++ piece) ++ more) fault.kind fault.at
   pub place : IsUsedUpTo (record { limits = l; offset = o; fed = seen; stopped = None }) piece used fault.kind fault.at
 
 abbrev pub IsTurn : Bounds → ℕ → List ℕ → List ℕ → Fed → List ℕ → State → Type 0

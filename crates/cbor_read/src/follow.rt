@@ -1,15 +1,15 @@
 // Follows the form of an item through a piece, within the limits.
 ghost use Rattle.std.specs.Prelude.{◌≡◌, ◌≢◌, ℕ, ◌+◌, ◌-◌, ◌^◌, ◌<◌, ◌≤◌, min, take, IfOk, length};
+ghost use Rattle.cbor_data.specs.Faults.{IsFaultOf};
 ghost use Rattle.cbor_machine.specs.Machine.{done};
 ghost use Rattle.cbor_machine.specs.Reads.{Reads};
-ghost use Rattle.cbor_form.specs.Kinds.{kind_of as malformed_kind};
-ghost use Rattle.cbor_read.specs.Told.{kind_of as told_kind, IsTold};
-ghost use Rattle.cbor_read.specs.Steps.{IsFollowed, IsOfForm, IsOpen, IsToldPast};
+ghost use Rattle.cbor_read.specs.Steps.{IsFollowed, IsOpen, IsToldPast};
 ghost use Rattle.cbor_read.specs.declared.follow.Advance.TheVariants as advance;
 
-use crate::fault::{Fault, FaultKind};
+use crate::fault::Fault;
 use crate::limits::Limits;
-use cbor_form::{FormReader, Malformed, Progress};
+use cbor_data::FaultKind;
+use cbor_form::{FormReader, Progress};
 use std::alloc::AllocError;
 
 /// Where the form of an item goes in a piece.
@@ -48,7 +48,7 @@ pub fn follow(
             Ok(fault_at(next, room, kind))
         }
         Progress::Whole { used } => Ok(Advance::Whole { used }),
-        Progress::Refused { used, kind } => Ok(fault_at(next, used, kind_of(kind))),
+        Progress::Refused { used, kind } => Ok(fault_at(next, used, kind)),
         Progress::TooDeep { used } => Ok(fault_at(next, used, FaultKind::TooDeep)),
     }
 }
@@ -56,7 +56,7 @@ pub fn follow(
 /// What is told at the end of a stream that ends inside the item of these bytes.
 pub fn fault_at_end(limits: Limits, offset: u64, bytes: &[u8]) -> Fault
     requires { IsOpen limits offset bytes.now }
-    ensures { IsTold limits offset bytes.now result.kind result.at }
+    ensures { IsFaultOf limits offset bytes.now result.kind result.at }
 {
     let count = bytes.len() as u64;
     let kind = if count == u64::from(limits.item_bytes()) {
@@ -96,7 +96,7 @@ fn kind_past(limits: Limits, form: &mut FormReader, byte: &[u8]) -> Result<Fault
 {
     match form.read(limits.depth(), byte)? {
         Progress::More | Progress::Whole { .. } => Ok(FaultKind::TooLong),
-        Progress::Refused { kind, .. } => Ok(kind_of(kind)),
+        Progress::Refused { kind, .. } => Ok(kind),
         Progress::TooDeep { .. } => Ok(FaultKind::TooDeep),
     }
 }
@@ -110,18 +110,5 @@ fn fault_at(next: u64, used: usize, kind: FaultKind) -> Advance
     Advance::Fault {
         used,
         fault: Fault { at, kind },
-    }
-}
-
-fn kind_of(kind: Malformed) -> FaultKind
-    ensures same { told_kind result ≡ malformed_kind kind }
-    ensures form { IsOfForm result }
-{
-    match kind {
-        Malformed::ReservedInfo => FaultKind::ReservedInfo,
-        Malformed::BadIndefinite => FaultKind::BadIndefinite,
-        Malformed::BadBreak => FaultKind::BadBreak,
-        Malformed::BadChunk => FaultKind::BadChunk,
-        Malformed::BadSimple => FaultKind::BadSimple,
     }
 }

@@ -9,7 +9,8 @@ mod limits;
 mod reader;
 mod value;
 
-pub use fault::{Fault, FaultKind, Stop};
+pub use cbor_data::FaultKind;
+pub use fault::{Fault, Stop};
 pub use front::{Front, read_front};
 pub use laws::one_fault;
 pub use limits::{Limits, MOST_DEPTH, MOST_ITEM_BYTES};

@@ -7,7 +7,8 @@ ghost use Rattle.cbor_item.specs.View.{view};
 ghost use Rattle.cbor_value.specs.Unread.{IsWhole};
 ghost use Rattle.cbor_read.specs.Outcomes.{IsOutcome, IsSettled, IsSoundButKeys};
 
-use crate::fault::{Fault, FaultKind};
+use crate::fault::Fault;
+use cbor_data::FaultKind;
 use cbor_item::{Item, Sound, Unsound};
 use cbor_value::{Unread, read_value};
 use std::alloc::{AllocError, Global};

@@ -1,6 +1,7 @@
 // What pieces lead to, however they are cut.
 use crate::rows::{byte_by_byte, row_of};
-use cbor_form::{FormReader, Malformed, Progress};
+use cbor_data::FaultKind;
+use cbor_form::{FormReader, Progress};
 use std::alloc::{AllocError, Global};
 use std::process::Abort;
 use std::test::Fail;
@@ -343,11 +344,11 @@ fn reads_one_item_after_the_other(rt: HostRuntime) {
     let mut reader = FormReader::new(rt.alloc());
     let refused = Progress::Refused {
         used: 0,
-        kind: Malformed::ReservedInfo,
+        kind: FaultKind::ReservedInfo,
     };
     let refused_next = Progress::Refused {
         used: 1,
-        kind: Malformed::ReservedInfo,
+        kind: FaultKind::ReservedInfo,
     };
     expect_next(
         &rt,

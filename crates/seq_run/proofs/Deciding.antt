@@ -1,10 +1,9 @@
 -- An end that is no want of steps is the stream's by the specification alone.
 use Rattle.std.proofs.Common.{◌≡◌, ℕ, List, length, refl}
-use Rattle.cbor_data.specs.Faults.{Bounds}
+use Rattle.cbor_data.specs.Faults.{Bounds, IsFaultOf}
 use Rattle.cbor_data.specs.Sequence as sequence
 use Rattle.cbor_data.specs.Sequence.{Found, Takes, none, next, EndsBy, cleanly, at_fault, at_mismatch, at_spent, failed, spent}
-use Rattle.cbor_read.specs.Told.{IsTold}
-use Rattle.cbor_read.specs.declared.fault.FaultKind.{FaultKind}
+use Rattle.cbor_data.specs.declared.FaultKind.{FaultKind}
 use Rattle.seq_run.specs.Judge.{Judge}
 use Rattle.seq_run.specs.declared.end.Cause.TheVariants.{Fault, Mismatch, Spent}
 use Rattle.seq_run.specs.declared.end.End.{End}
@@ -18,8 +17,8 @@ module _ (one : OneAnswer) (judge : Judge) (l : Bounds) where
   takes_freely none = none
   takes_freely (next x front back e i c t) = next x front back e i (c.0, c.1) (takes_freely t)
 
-  ends_freely : {b : List ℕ} {found : List Found} {e : sequence.End FaultKind} → EndsBy l (Accepts judge) (IsTold l) (Misses judge) (Overruns judge) b found e →
-      ((n o : ℕ) → e ≡ failed n o spent → ⊥) → EndsBy l (IsAccepted judge.table) (IsTold l) (IsMissed judge.table) (λ x b. ⊥) b found e
+  ends_freely : {b : List ℕ} {found : List Found} {e : sequence.End FaultKind} → EndsBy l (Accepts judge) (IsFaultOf l) (Misses judge) (Overruns judge) b found e →
+      ((n o : ℕ) → e ≡ failed n o spent → ⊥) → EndsBy l (IsAccepted judge.table) (IsFaultOf l) (IsMissed judge.table) (λ x b. ⊥) b found e
   ends_freely {b} {found} (cleanly run) not = cleanly (clean_run l (IsAccepted judge.table) b found (takes_freely run.takes))
   ends_freely {b} {found} (at_fault {o = o} {k = k} {at = at} rest run some placed told) not =
       at_fault rest (fault_run l (IsAccepted judge.table) b found rest o k at (takes_freely run.takes) placed told) some placed told

@@ -4,11 +4,10 @@ use Rattle.std.proofs.lemmas.Bool.{cases_eq}
 use Rattle.std.proofs.Math.Seq.{take-length}
 use Rattle.cbor_data.specs.Value.{Value}
 use Rattle.cbor_data.specs.Forms.{IsUnfinished}
-use Rattle.cbor_data.specs.Faults.{Bounds, BeginsWithin, long, IsClearBefore, of_form, of_end, IsItem}
+use Rattle.cbor_data.specs.Faults.{Bounds, BeginsWithin, long, IsClearBefore, of_form, of_end, IsItem, IsFaultOf}
 use Rattle.cbor_data.specs.Sequence.{Found, Takes, IsRunOf, cleanly, at_fault, at_mismatch, at_spent}
-use Rattle.cbor_read.specs.Told.{kind_of, IsTold}
-use Rattle.cbor_read.specs.declared.fault.FaultKind.{FaultKind}
-use Rattle.cbor_read.specs.declared.fault.FaultKind.TheVariants.{TooLong, Truncated}
+use Rattle.cbor_data.specs.declared.FaultKind.{FaultKind}
+use Rattle.cbor_data.specs.declared.FaultKind.TheVariants.{TooLong, Truncated}
 use Rattle.seq_run.specs.Judge.{Judge}
 use Rattle.seq_run.specs.declared.end.Cause.TheVariants.{Fault, Mismatch, Spent}
 use Rattle.seq_run.specs.declared.end.End.{End}
@@ -28,12 +27,12 @@ take_whole (y ∷ ys) =
     ap (λ n. take n (y ∷ ys)) more ∙ ap (λ (xs : List ℕ). y ∷ xs) (take_whole ys)
 
 -- what is told at the end of the bytes that an unfinished item has
-pub too_long_end : (l : Bounds) (o : ℕ) (b : List ℕ) → IsUnfinished b → BeginsWithin l.depth b → IsClearBefore l o b (length b) → length b ≡ l.item_bytes → IsTold l o b TooLong (o + length b)
+pub too_long_end : (l : Bounds) (o : ℕ) (b : List ℕ) → IsUnfinished b → BeginsWithin l.depth b → IsClearBefore l o b (length b) → length b ≡ l.item_bytes → IsFaultOf l o b TooLong (o + length b)
 too_long_end l o b u shallow clear full =
     let within : BeginsWithin l.depth (take (length b + 1) b) = subst (BeginsWithin l.depth) (sym (take_whole b)) shallow in
     of_form (length b) (omega arith) (subst IsUnfinished (sym (take-length b)) u) (long within (inl full)) clear refl
 
-pub truncated_end : (l : Bounds) (o : ℕ) (b : List ℕ) → b ≢ [] → IsUnfinished b → IsClearBefore l o b (length b) → (length b ≡ l.item_bytes → ⊥) → IsTold l o b Truncated (o + length b)
+pub truncated_end : (l : Bounds) (o : ℕ) (b : List ℕ) → b ≢ [] → IsUnfinished b → IsClearBefore l o b (length b) → (length b ≡ l.item_bytes → ⊥) → IsFaultOf l o b Truncated (o + length b)
 truncated_end l o b some u clear full = of_end some u (clear_end l o b clear full) refl
 
 module _ (l : Bounds) (accepts : Value → List ℕ → Type 0) where
@@ -46,8 +45,8 @@ module _ (l : Bounds) (accepts : Value → List ℕ → Type 0) where
   held_ends o rest (inl none) x front back e item accepted = none_ends o rest none x front back e item accepted
   held_ends o rest (inr held) x front back e item accepted = unfinished_no_front rest front back held.0 (formed item.spells) e
 
-  told_ends : (o : ℕ) (rest : List ℕ) (k : FaultKind) (at : ℕ) → IsTold l o rest k at → EndsHere l accepts o rest
-  told_ends o rest k at told x front back e item accepted = fault_no_item l o rest (kind_of k) at x front back told item e
+  told_ends : (o : ℕ) (rest : List ℕ) (k : FaultKind) (at : ℕ) → IsFaultOf l o rest k at → EndsHere l accepts o rest
+  told_ends o rest k at told x front back e item accepted = fault_no_item l o rest k at x front back told item e
 
   -- an item that is not accepted ends the run
   other_ends : (o : ℕ) (rest : List ℕ) (x : Value) (front back : List ℕ) → rest ≡ front ++ back → IsItem l o x front → ((b : List ℕ) → accepts x b → ⊥) → EndsHere l accepts o rest
@@ -59,7 +58,7 @@ module _ (l : Bounds) (accepts : Value → List ℕ → Type 0) where
   pub clean_run : (stream : List ℕ) (found : List Found) → Takes l accepts 0 stream found [] → IsRunOf l accepts stream found []
   clean_run stream found t = run_of l accepts (length stream) t (omega arith) (none_ends (length stream) [] refl)
 
-  pub fault_run : (stream : List ℕ) (found : List Found) (rest : List ℕ) (o : ℕ) (k : FaultKind) (at : ℕ) → Takes l accepts 0 stream found rest → o + length rest ≡ length stream → IsTold l o rest k at → IsRunOf l accepts stream found rest
+  pub fault_run : (stream : List ℕ) (found : List Found) (rest : List ℕ) (o : ℕ) (k : FaultKind) (at : ℕ) → Takes l accepts 0 stream found rest → o + length rest ≡ length stream → IsFaultOf l o rest k at → IsRunOf l accepts stream found rest
   fault_run stream found rest o k at t placed told = run_of l accepts o t placed (told_ends o rest k at told)
 
   pub other_run : (stream : List ℕ) (found : List Found) (rest : List ℕ) (o : ℕ) (x : Value) (front back : List ℕ) → Takes l accepts 0 stream found rest → o + length rest ≡ length stream →
@@ -73,7 +72,7 @@ module _ (judge : Judge) (l : Bounds) where
 
   -- the end of a stream with a fault
   pub fault_end : (stream : List ℕ) (found : List Found) (rest : List ℕ) (o : ℕ) (k : FaultKind) (at : ℕ) → BeginsWith judge l stream found rest → o + length rest ≡ length stream → rest ≢ [] →
-      IsTold l o rest k at → Ends judge l stream found (Failed (length found) o (Fault (record { at = at; kind = k })))
+      IsFaultOf l o rest k at → Ends judge l stream found (Failed (length found) o (Fault (record { at = at; kind = k })))
   fault_end stream found rest o k at t placed some told =
       at_fault rest (fault_run l (Accepts judge) stream found rest o k at t placed told) some placed told
 

@@ -6,7 +6,9 @@ use Rattle.std.proofs.lemmas.Bool.{cases_lt}
 use Rattle.cbor_data.specs.Value.{Value, depth_of}
 use Rattle.cbor_data.specs.Validity.{IsValid}
 use Rattle.cbor_data.specs.Forms.{Form, flat, IsOk, meaning, HasText, IsWellFormed, Spells, Begins, IsUnfinished}
-use Rattle.cbor_data.specs.Faults.{Bounds, last_offset, FaultKind, too_deep, too_long, BeginsWithin, StandsAt, malformed, deep, long, IsClearBefore, IsFaultOf, of_form, of_end, of_text, of_key, IsItem}
+use Rattle.cbor_data.specs.Faults.{Bounds, last_offset, BeginsWithin, StandsAt, malformed, deep, long, IsClearBefore, IsFaultOf, of_form, of_end, of_text, of_key, IsItem}
+use Rattle.cbor_data.specs.declared.FaultKind.{FaultKind}
+use Rattle.cbor_data.specs.declared.FaultKind.TheVariants.{TooDeep, TooLong}
 use Rattle.cbor_data.proofs.Lemmas.{one_form, unfinished_no_front}
 use Rattle.cbor_data.proofs.Lemmas.{good_text}
 
@@ -83,8 +85,8 @@ begins_more b q u h =
 not_clear : (l : Bounds) (o q : ℕ) (b : List ℕ) → IsUnfinished b → IsClearBefore l o b (length b) → q < length b → (q ≡ l.item_bytes) ⊎ (o + q ≡ last_offset) → ⊥
 not_clear l o q b u clear h at =
     let why : (q ≡ l.item_bytes) ⊎ ((q < length b) × (o + q ≡ last_offset)) = elim at [ inl e ↦ inl e | inr e ↦ inr (h, e) ] in
-    let not : BeginsWithin l.depth (take (q + 1) b) → ⊥ = λ w. clear q too_long h (long w why) in
-    clear q too_deep h (deep h (begins_more b q u h) not)
+    let not : BeginsWithin l.depth (take (q + 1) b) → ⊥ = λ w. clear q TooLong h (long w why) in
+    clear q TooDeep h (deep h (begins_more b q u h) not)
 
 pub clear_short : (l : Bounds) (o : ℕ) (b : List ℕ) → IsUnfinished b → IsClearBefore l o b (length b) → length b ≤ l.item_bytes
 clear_short l o b u clear =

@@ -1,11 +1,10 @@
 -- A stream has one run, and one end.
 use Rattle.std.proofs.Common.{◌≡◌, ℕ, ◌<◌, ◌≤◌, List, [], ◌∷◌, ◌++◌, length, refl, sym, ap, ap₂, ◌∙◌, subst, arith, length-append}
 use Rattle.cbor_data.specs.Value.{Value, AreBytes}
-use Rattle.cbor_data.specs.Faults.{Bounds, IsItem}
+use Rattle.cbor_data.specs.Faults.{Bounds, IsItem, IsFaultOf}
 use Rattle.cbor_data.specs.Sequence as sequence
 use Rattle.cbor_data.specs.Sequence.{Found, Takes, none, next, IsRunOf, EndsBy, cleanly, at_fault, at_mismatch, at_spent, failed, fault, mismatch, spent}
-use Rattle.cbor_read.specs.Told.{IsTold, kind_of}
-use Rattle.cbor_read.specs.declared.fault.FaultKind.{FaultKind}
+use Rattle.cbor_data.specs.declared.FaultKind.{FaultKind}
 use Rattle.cddl_table.specs.declared.table.Table.{Table}
 use Rattle.seq_run.specs.Judge.{Judge}
 use Rattle.seq_run.specs.declared.end.Cause.{Cause}
@@ -52,15 +51,15 @@ rest_bytes (next x front back e i c t) are = rest_bytes t (bytes_after front bac
 
 -- the law of the reader that a rest has one fault at most
 abbrev pub OneFault : Type 0
-OneFault = (l : Bounds) (o : ℕ) (b : List ℕ) (j k : FaultKind) (at to : ℕ) → AreBytes b → IsTold l o b j at → IsTold l o b k to → (j ≡ k) × (at ≡ to)
+OneFault = (l : Bounds) (o : ℕ) (b : List ℕ) (j k : FaultKind) (at to : ℕ) → AreBytes b → IsFaultOf l o b j at → IsFaultOf l o b k to → (j ≡ k) × (at ≡ to)
 
-one_told : OneFault → {l : Bounds} {o p : ℕ} {rest left : List ℕ} {at to : ℕ} (j k : FaultKind) → o ≡ p → rest ≡ left → AreBytes rest → IsTold l o rest j at → IsTold l p left k to → (j ≡ k) × (at ≡ to)
+one_told : OneFault → {l : Bounds} {o p : ℕ} {rest left : List ℕ} {at to : ℕ} (j k : FaultKind) → o ≡ p → rest ≡ left → AreBytes rest → IsFaultOf l o rest j at → IsFaultOf l p left k to → (j ≡ k) × (at ≡ to)
 one_told one {l} {o} {p} {rest} {left} {at} {to} j k place same are s t =
-    one l o rest j k at to are s (subst (λ n. IsTold l n rest k to) (sym place) (subst (λ (b : List ℕ). IsTold l p b k to) (sym same) t))
+    one l o rest j k at to are s (subst (λ n. IsFaultOf l n rest k to) (sym place) (subst (λ (b : List ℕ). IsFaultOf l p b k to) (sym same) t))
 
-told_no_item : {l : Bounds} {o p : ℕ} {rest left : List ℕ} {at : ℕ} (k : FaultKind) (x : Value) (front back : List ℕ) → o ≡ p → rest ≡ left → IsTold l o rest k at → left ≡ front ++ back → IsItem l p x front → ⊥
+told_no_item : {l : Bounds} {o p : ℕ} {rest left : List ℕ} {at : ℕ} (k : FaultKind) (x : Value) (front back : List ℕ) → o ≡ p → rest ≡ left → IsFaultOf l o rest k at → left ≡ front ++ back → IsItem l p x front → ⊥
 told_no_item {l} {o} {p} {rest} {left} {at} k x front back place same told parts item =
-    fault_no_item l o rest (kind_of k) at x front back told (subst (λ n. IsItem l n x front) (sym place) item) (same ∙ parts)
+    fault_no_item l o rest k at x front back told (subst (λ n. IsItem l n x front) (sym place) item) (same ∙ parts)
 
 same_failed : {n m o p : ℕ} {c d : sequence.Cause FaultKind} → n ≡ m → o ≡ p → c ≡ d → failed n o c ≡ failed m p d
 same_failed {m = m} {p = p} {c = c} e f g = ap₂ (λ i j. failed i j c) e f ∙ ap (failed m p) g
@@ -73,7 +72,7 @@ pub record AreApart (misses : Value → List ℕ → ℕ → Type 0) (overruns :
 module _ (one_fault : OneFault) (l : Bounds) (accepts : Value → List ℕ → Type 0) (misses : Value → List ℕ → ℕ → Type 0) (overruns : Value → List ℕ → Type 0) (apart : AreApart misses overruns) where
   -- EndsBy, of what is told here
   abbrev EndsAs : List ℕ → List Found → sequence.End FaultKind → Type 0
-  EndsAs b found e = EndsBy l accepts (IsTold l) misses overruns b found e
+  EndsAs b found e = EndsBy l accepts (IsFaultOf l) misses overruns b found e
 
   -- what comes after the run is one item
   same_item : (o p : ℕ) (x y : Value) (a r b s rest left : List ℕ) → rest ≡ a ++ r → left ≡ b ++ s → rest ≡ left → IsItem l o x a → IsItem l p y b → (a ≡ b) × (r ≡ s) × (x ≡ y)
@@ -91,7 +90,7 @@ module _ (one_fault : OneFault) (l : Bounds) (accepts : Value → List ℕ → T
 
   one_way : (b : List ℕ) {found others : List Found} {e f : sequence.End FaultKind} → AreBytes b → EndsAs b found e → EndsAs b others f → (found ≡ others) × (e ≡ f)
   one_way b are (cleanly run) u = let same = one_clean u run in (sym same.0, sym same.1)
-  one_way b are (at_fault rest run some placed told) (cleanly other) = one_clean {misses = misses} {overruns = overruns} {told = IsTold l} (at_fault rest run some placed told) other
+  one_way b are (at_fault rest run some placed told) (cleanly other) = one_clean {misses = misses} {overruns = overruns} {told = IsFaultOf l} (at_fault rest run some placed told) other
   one_way b {found} {others} are (at_fault {o = o} {k = j} rest run some placed told) (at_fault {o = p} {k = k} left other any put tell) =
       let same = same_runs l accepts b found others rest left run other in
       let offset : o ≡ p = omega (arith, placed, put, ap length same.1) in
@@ -105,7 +104,7 @@ module _ (one_fault : OneFault) (l : Bounds) (accepts : Value → List ℕ → T
       let same = same_runs l accepts b found others rest left run other in
       let offset : o ≡ p = omega (arith, placed, put, ap length same.1) in
       absurd (told_no_item j x front back offset same.1 told parts item)
-  one_way b are (at_mismatch rest x front back run placed parts item fails) (cleanly other) = one_clean {misses = misses} {overruns = overruns} {told = IsTold l} (at_mismatch rest x front back run placed parts item fails) other
+  one_way b are (at_mismatch rest x front back run placed parts item fails) (cleanly other) = one_clean {misses = misses} {overruns = overruns} {told = IsFaultOf l} (at_mismatch rest x front back run placed parts item fails) other
   one_way b {found} {others} are (at_mismatch {o = o} rest x front back run placed parts item misses) (at_fault {o = p} {k = k} left other any put tell) =
       let same = same_runs l accepts b found others rest left run other in
       let offset : p ≡ o = omega (arith, placed, put, ap length same.1) in
@@ -116,7 +115,7 @@ module _ (one_fault : OneFault) (l : Bounds) (accepts : Value → List ℕ → T
       (same.0, same_failed (ap length same.0) offset (ap mismatch (both_miss o p m n x y front back prefix suffix rest left parts split same.1 item another misses fails)))
   one_way b {found} {others} are (at_mismatch {o = o} {place = m} rest x front back run placed parts item misses) (at_spent {o = p} left y prefix suffix other put split another over) =
       absurd (miss_and_overrun o p m x y front back prefix suffix rest left parts split (same_runs l accepts b found others rest left run other).1 item another misses over)
-  one_way b are (at_spent rest x front back run placed parts item over) (cleanly other) = one_clean {misses = misses} {overruns = overruns} {told = IsTold l} (at_spent rest x front back run placed parts item over) other
+  one_way b are (at_spent rest x front back run placed parts item over) (cleanly other) = one_clean {misses = misses} {overruns = overruns} {told = IsFaultOf l} (at_spent rest x front back run placed parts item over) other
   one_way b {found} {others} are (at_spent {o = o} rest x front back run placed parts item over) (at_fault {o = p} {k = k} left other any put tell) =
       let same = same_runs l accepts b found others rest left run other in
       let offset : p ≡ o = omega (arith, placed, put, ap length same.1) in

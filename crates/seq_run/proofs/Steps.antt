@@ -2,9 +2,8 @@
 use Rattle.std.proofs.Common.{◌≡◌, ◌≢◌, ℕ, ◌+◌, ◌^◌, ◌<◌, List, [], ◌∷◌, ◌++◌, length, take, map, Option, Some, None, Result, Ok, Err, is_ok, is_err, true, if◌then◌else◌, refl, sym, ap, ◌∙◌, subst, arith, append-nil}
 use Rattle.std.specs.declared.alloc.AllocError.{AllocError}
 use Rattle.cbor_data.specs.Value.{Value}
-use Rattle.cbor_data.specs.Faults.{Bounds}
+use Rattle.cbor_data.specs.Faults.{Bounds, IsFaultOf}
 use Rattle.cbor_data.specs.Sequence.{Found}
-use Rattle.cbor_read.specs.Told.{IsTold}
 use Rattle.cbor_read.specs.Reading.{Reading}
 use Rattle.cbor_read.specs.Answers as reader
 use Rattle.cbor_read.specs.Answers.{IsGoingOn, IsTaken}
@@ -158,8 +157,8 @@ module _ (judge : Judge) (fed : List ℕ) (taken : List Found) (r : Reading) (it
 
   pub failed_kept : (end : End) (result : Result (Unit {0}) Stop) (fault : declared.Fault) → reader.IsEnd r.stopped r result → result ≡ Err (stop.Fault fault) → end ≡ Failed items offset (Fault fault) → Kept end
   failed_kept end result fault a err e =
-      let told : (r.fed ≢ []) × IsTold r.limits r.offset r.fed fault.kind fault.at = subst (λ v. reader.IsEnd None r v) err (end_told result a) in
-      let at : IsTold r.limits offset r.fed fault.kind fault.at = subst (λ n. IsTold r.limits n r.fed fault.kind fault.at) (sym running.offset_is) told.1 in
+      let told : (r.fed ≢ []) × IsFaultOf r.limits r.offset r.fed fault.kind fault.at = subst (λ v. reader.IsEnd None r v) err (end_told result a) in
+      let at : IsFaultOf r.limits offset r.fed fault.kind fault.at = subst (λ n. IsFaultOf r.limits n r.fed fault.kind fault.at) (sym running.offset_is) told.1 in
       let placed : offset + length r.fed ≡ length fed = running.reaches ∙ running.bytes_is in
       let failed : Ends judge r.limits fed taken (Failed items offset (Fault fault)) = rw running.items_is (fault_end judge r.limits fed taken r.fed offset fault.kind fault.at running.takes placed told.0 at) in
       rw e (failed, running.none)

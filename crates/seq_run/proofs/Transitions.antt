@@ -2,14 +2,13 @@
 use Rattle.std.proofs.Common.{◌≡◌, ◌≢◌, ℕ, ◌+◌, ◌<◌, ◌≤◌, inl, inr, List, [], ◌∷◌, ◌++◌, length, take, drop, map, Option, Some, None, refl, sym, ap, ◌∙◌, subst, arith, append_assoc, append-nil, length-append}
 use Rattle.std.proofs.lemmas.List.{take-append-drop, length-take-le}
 use Rattle.cbor_data.specs.Value.{Value}
-use Rattle.cbor_data.specs.Faults.{Bounds, last_offset, BeginsWithin, IsClearBefore, IsItem}
+use Rattle.cbor_data.specs.Faults.{Bounds, last_offset, BeginsWithin, IsClearBefore, IsItem, IsFaultOf}
 use Rattle.cbor_data.specs.Sequence.{Found, none}
-use Rattle.cbor_read.specs.Told.{IsTold}
 use Rattle.cbor_read.specs.Reading.{Reading}
 use Rattle.cbor_read.specs.Answers.{IsGoingOn, IsTaken, IsRefused, IsUsedUpTo}
 use Rattle.cbor_read.specs.declared.fault.Fault as declared
-use Rattle.cbor_read.specs.declared.fault.FaultKind.{FaultKind}
-use Rattle.cbor_read.specs.declared.fault.FaultKind.TheVariants.{ReservedInfo, BadIndefinite, BadBreak, BadChunk, BadSimple, TooDeep, TooLong, Truncated, BadText, DuplicateKey}
+use Rattle.cbor_data.specs.declared.FaultKind.{FaultKind}
+use Rattle.cbor_data.specs.declared.FaultKind.TheVariants.{ReservedInfo, BadIndefinite, BadBreak, BadChunk, BadSimple, TooDeep, TooLong, Truncated, BadText, DuplicateKey}
 use Rattle.seq_run.specs.Judge.{Judge}
 use Rattle.seq_run.specs.declared.end.Cause.TheVariants.{Fault, Mismatch, Spent}
 use Rattle.seq_run.specs.declared.end.End.TheVariants.{Failed}
@@ -171,7 +170,7 @@ module _ (judge : Judge) (l : Bounds) (fed : List ℕ) (taken : List Found) (rea
       Ends judge l ((fed ++ piece) ++ more) taken (Failed items offset (Fault fault))
   faulted piece used fault new more r =
       let rest = (reader.fed ++ piece) ++ more in
-      let told : IsTold l offset rest fault.kind fault.at = subst (λ n. IsTold l n rest fault.kind fault.at) (sym s.offset_is) (subst (λ (m : Bounds). IsTold m reader.offset rest fault.kind fault.at) s.limits (r.told more)) in
+      let told : IsFaultOf l offset rest fault.kind fault.at = subst (λ n. IsFaultOf l n rest fault.kind fault.at) (sym s.offset_is) (subst (λ (m : Bounds). IsFaultOf m reader.offset rest fault.kind fault.at) s.limits (r.told more)) in
       let some : rest ≢ [] = λ e. refused_some piece used fault.kind fault.at r.within r.place (empty_front (reader.fed ++ piece) more e) in
       subst (λ n. Ends judge l ((fed ++ piece) ++ more) taken (Failed n offset (Fault fault))) (sym s.items_is)
       (fault_end judge l ((fed ++ piece) ++ more) taken rest offset fault.kind fault.at (rest_of piece more) (rest_placed piece more) some told)

@@ -4,8 +4,8 @@ use Rattle.std.specs.declared.alloc.AllocError.{AllocError}
 use Rattle.cbor_data.specs.Value.{Value}
 use Rattle.cbor_data.specs.Faults.{last_offset}
 use Rattle.cbor_data.specs.Sequence.{Found}
-use Rattle.cbor_read.specs.declared.fault.FaultKind.{FaultKind}
-use Rattle.cbor_read.specs.declared.fault.FaultKind.TheVariants as kind
+use Rattle.cbor_data.specs.declared.FaultKind.{FaultKind}
+use Rattle.cbor_data.specs.declared.FaultKind.TheVariants as kind
 use Rattle.seq_run.specs.declared.end.Cause.TheVariants.{Fault, Mismatch, Spent}
 use Rattle.seq_run.specs.declared.end.End.{End}
 use Rattle.seq_run.specs.declared.end.End.TheVariants.{Clean, Failed}

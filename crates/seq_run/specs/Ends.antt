@@ -1,11 +1,10 @@
 -- The run of a stream against a specification, and how it ends.
 use Rattle.std.specs.Prelude.{ℕ, ◌<◌, ◌≤◌, List}
 use Rattle.cbor_data.specs.Value.{Value}
-use Rattle.cbor_data.specs.Faults.{Bounds}
+use Rattle.cbor_data.specs.Faults.{Bounds, IsFaultOf}
 use Rattle.cbor_data.specs.Sequence as sequence
 use Rattle.cbor_data.specs.Sequence.{Found, Takes, IsRunOf, EndsBy, clean, failed, fault, mismatch, spent}
-use Rattle.cbor_read.specs.Told.{IsTold}
-use Rattle.cbor_read.specs.declared.fault.FaultKind.{FaultKind}
+use Rattle.cbor_data.specs.declared.FaultKind.{FaultKind}
 use Rattle.cddl_meaning.specs.Judges.{Answer, Yes, No}
 use Rattle.cddl_table.specs.Language.{RootSays}
 use Rattle.cddl_table.specs.declared.table.Table.{Table}
@@ -47,7 +46,7 @@ end_of (Failed items offset cause) = failed items offset (cause_of cause)
 
 -- The run of the stream is these items, and it ends so.
 abbrev pub Ends : Judge → Bounds → List ℕ → List Found → End → Type 0
-Ends judge l stream found end = EndsBy l (Accepts judge) (IsTold l) (Misses judge) (Overruns judge) stream found (end_of end)
+Ends judge l stream found end = EndsBy l (Accepts judge) (IsFaultOf l) (Misses judge) (Overruns judge) stream found (end_of end)
 
 -- The end is no want of steps.
 abbrev pub IsDecisive : End → Type 0
@@ -64,4 +63,4 @@ IsMissed table x b place = (w : ℕ) × RootSays table x (No place) w
 
 -- By the specification alone, the run of the stream is these items, and it ends so.
 abbrev pub EndsFreely : Table → Bounds → List ℕ → List Found → End → Type 0
-EndsFreely table l stream found end = EndsBy l (IsAccepted table) (IsTold l) (IsMissed table) (λ x b. ⊥) stream found (end_of end)
+EndsFreely table l stream found end = EndsBy l (IsAccepted table) (IsFaultOf l) (IsMissed table) (λ x b. ⊥) stream found (end_of end)

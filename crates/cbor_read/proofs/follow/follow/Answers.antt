@@ -67,7 +67,7 @@ returns-in-Refused-clause-step c =
     let deep : IsProgress l.depth s c.front_of.result.now c.in_ok-read.field-0 t = subst (λ d. IsProgress d s c.front_of.result.now c.in_ok-read.field-0 t) c.depth.ensures.value c.in_ok-read.ensures.answer in
     let leads : IsProgress l.depth s (take room piece) c.in_ok-read.field-0 t = subst (λ x. IsProgress l.depth s x c.in_ok-read.field-0 t) c.front_of.ensures deep in
     subst (λ x. IsFollowed l o b piece x t) (sym c.fault_at-in-Refused.ensures)
-    (refused l o b piece room c.in-Refused.used s t c.in-Refused.kind c.kind_of.result c.requires.reads h all c.in_ok-read.ensures.next (subst (λ p. IsProgress l.depth s (take room piece) p t) c.in-Refused.is leads) c.kind_of.ensures.same c.kind_of.ensures.form)
+    (refused l o b piece room c.in-Refused.used s t c.in-Refused.kind c.requires.reads h all c.in_ok-read.ensures.next (subst (λ p. IsProgress l.depth s (take room piece) p t) c.in-Refused.is leads))
 
 pub returns-in-TooDeep-clause-step : goal.returns-in-TooDeep-clause-step
 returns-in-TooDeep-clause-step c =

@@ -26,7 +26,7 @@ returns-in-Refused-clause-kind c =
     let byte = c.args.byte.now in
     let all : AreBytes byte = are_bytes byte (λ i. omega (arith, c.type_inv.byte i)) in
     let leads : IsProgress l.depth s byte c.in_ok-read.field-0 t = subst (λ d. IsProgress d s byte c.in_ok-read.field-0 t) c.depth.ensures.value c.in_ok-read.ensures.answer in
-    past_refused l s t byte c.in-Refused.used c.in-Refused.kind c.kind_of.result c.requires.one all c.requires.live (subst (λ p. IsProgress l.depth s byte p t) c.in-Refused.is leads) c.kind_of.ensures.same c.kind_of.ensures.form
+    past_refused l s t byte c.in-Refused.used c.in-Refused.kind c.requires.one all c.requires.live (subst (λ p. IsProgress l.depth s byte p t) c.in-Refused.is leads)
 
 pub returns-in-TooDeep-clause-kind : goal.returns-in-TooDeep-clause-kind
 returns-in-TooDeep-clause-kind c =
