@@ -1,5 +1,5 @@
 -- What a caller sees of a reader.
-use Rattle.std.specs.Prelude.{ℕ, List, Option}
+use Rattle.std.specs.Prelude.{ℕ, List, Option, None}
 use Rattle.cbor_data.specs.Faults.{Bounds}
 use Rattle.cbor_read.specs.declared.fault.Stop.{Stop}
 
@@ -9,3 +9,7 @@ pub record Reading : Type 0 where
   pub offset : ℕ
   pub fed : List ℕ
   pub stopped : Option Stop
+
+-- a reader that has not stopped
+abbrev pub reading_on : Bounds → ℕ → List ℕ → Reading
+reading_on limits offset fed = record { limits = limits; offset = offset; fed = fed; stopped = None }

@@ -1,9 +1,10 @@
 -- What a turn of the reader leads to.
-use Rattle.std.specs.Prelude.{◌≡◌, ◌≢◌, ℕ, ◌<◌, ◌≤◌, List, [], ◌++◌, length, take, None}
+use Rattle.std.specs.Prelude.{◌≡◌, ◌≢◌, ℕ, ◌<◌, ◌≤◌, List, [], ◌++◌, length, take}
 use Rattle.cbor_data.specs.Value.{Value}
 use Rattle.cbor_data.specs.Faults.{Bounds, IsItem, IsFaultOf}
 use Rattle.cbor_machine.specs.Machine.{State, item, done}
 use Rattle.cbor_machine.specs.Reads.{Reads}
+use Rattle.cbor_read.specs.Reading.{Reading}
 use Rattle.cbor_read.specs.Answers.{IsUsedUpTo}
 use Rattle.cbor_read.specs.declared.fault.Fault as declared
 use Rattle.cbor_read.specs.declared.reader.Fed.{Fed}
@@ -16,20 +17,21 @@ pub record IsKept (l : Bounds) (o : ℕ) (fed bytes : List ℕ) (state : State) 
   pub live : state ≢ done
 
 -- the item x ended with byte `used` of the piece, and the next one is awaited
-pub record IsItemTurn (l : Bounds) (o : ℕ) (seen piece : List ℕ) (used : ℕ) (x : Value) (bytes : List ℕ) (state : State) : Type 0 where
+pub record IsItemTurn (old : Reading) (piece : List ℕ) (used : ℕ) (x : Value) (bytes : List ℕ) (state : State) : Type 0 where
   pub some : 0 < used
   pub within : used ≤ length piece
-  pub read : IsItem l o x (seen ++ take used piece)
-  pub same : bytes ≡ seen ++ take used piece
+  pub read : IsItem old.limits old.offset x (old.fed ++ take used piece)
+  pub same : bytes ≡ old.fed ++ take used piece
   pub next : state ≡ item []
 
 -- whatever follows, this fault is told
-pub record IsFaultTurn (l : Bounds) (o : ℕ) (seen piece : List ℕ) (used : ℕ) (fault : declared.Fault) : Type 0 where
+pub record IsFaultTurn (old : Reading) (piece : List ℕ) (used : ℕ) (fault : declared.Fault) : Type 0 where
   pub within : used ≤ length piece
-  pub told : (more : List ℕ) → IsFaultOf l o ((seen ++ piece) ++ more) fault.kind fault.at
-  pub place : IsUsedUpTo (record { limits = l; offset = o; fed = seen; stopped = None }) piece used fault.kind fault.at
+  pub told : (more : List ℕ) → IsFaultOf old.limits old.offset ((old.fed ++ piece) ++ more) fault.kind fault.at
+  pub place : IsUsedUpTo old piece used fault.kind fault.at
 
-abbrev pub IsTurn : Bounds → ℕ → List ℕ → List ℕ → Fed → List ℕ → State → Type 0
-IsTurn l o seen piece More bytes state = IsKept l o (seen ++ piece) bytes state
-IsTurn l o seen piece (Item used x) bytes state = IsItemTurn l o seen piece used x bytes state
-IsTurn l o seen piece (Fault used fault) bytes state = IsFaultTurn l o seen piece used fault
+-- what a piece leads a reader to that has not stopped: its answer, the item's bytes and the state of their form
+abbrev pub IsTurn : Reading → List ℕ → Fed → List ℕ → State → Type 0
+IsTurn old piece More bytes state = IsKept old.limits old.offset (old.fed ++ piece) bytes state
+IsTurn old piece (Item used x) bytes state = IsItemTurn old piece used x bytes state
+IsTurn old piece (Fault used fault) bytes state = IsFaultTurn old piece used fault

@@ -5,7 +5,7 @@ use Rattle.cbor_data.specs.Faults.{Bounds}
 use Rattle.seq_run.specs.declared.end.End.{End}
 use Rattle.seq_run.specs.declared.end.End.TheVariants.{Clean, Failed}
 use Rattle.seq_run.specs.Judge.{Judge}
-use Rattle.seq_run.specs.Running.{IsReported}
+use Rattle.seq_run.specs.Running.{Change, IsReported}
 use Rattle.cddl_tool.specs.declared.choice.Task.{Task}
 use Rattle.cddl_tool.specs.declared.choice.Task.TheVariants.{Validate, Show}
 
@@ -19,8 +19,8 @@ status_for (Clean items bytes) = 0
 status_for (Failed items offset cause) = 1
 
 -- The whole report of the stream went out, and the status is that of its end.
-pub record IsAnswered (judge : Judge) (l : Bounds) (stream : List ℕ) (before after : Option (List ℕ)) (status : ℕ) : Type 0 where
+pub record IsAnswered (judge : Judge) (l : Bounds) (stream : List ℕ) (output : Change) (status : ℕ) : Type 0 where
   pub end : End
   pub rejected : Option Value
-  pub reported : IsReported judge l stream before after end rejected
+  pub reported : IsReported judge l stream output end rejected
   pub is : status ≡ status_for end

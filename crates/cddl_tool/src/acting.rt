@@ -1,11 +1,11 @@
 //! What the program does with a specification and a stream.
 
 ghost use Rattle.std.specs.Prelude.{◌≡◌, ◌≢◌, ◌≤◌, ◌⊎◌, IfOk, IfErr, IfSome, OnOk, vec_items};
-ghost use Rattle.cbor_item.specs.Counted.{device_of, failures_of};
+ghost use Rattle.cbor_item.specs.Counted.{device_of};
 ghost use Rattle.cddl_one_rule.specs.Specification.{IsRule, IsSpecification};
 ghost use Rattle.cddl_one_rule.specs.declared.named.NamedType.{NamedType as NamedTypes};
 ghost use Rattle.seq_run.specs.Judge.{judge_of};
-ghost use Rattle.seq_run.specs.Running.{IsFault};
+ghost use Rattle.seq_run.specs.Running.{IsFault, change_of};
 ghost use Rattle.seq_run.specs.declared.running.RunFault.{RunFault as RunFaults};
 ghost use Rattle.cddl_tool.specs.Acting.{specification_of, status_for, IsAnswered};
 
@@ -100,10 +100,9 @@ pub fn act<R: Read, W: Write, E: Write>(
     err: &mut Counted<E>,
 ) -> u8
     ensures answered { result ≢ BROKEN → IfSome (R.remaining (device_of input.old)) (λ stream.
-        IsAnswered (judge_of table.now STEPS) options.now.limits stream (W.contents (device_of out.old)) (W.contents (device_of out.new)) result) }
+        IsAnswered (judge_of table.now STEPS) options.now.limits stream (change_of W.contents out.old out.new) result) }
     ensures broken { result ≡ BROKEN → (fault : RunFaults) × IsFault (judge_of table.now STEPS) options.now.limits
-        (R.remaining (device_of input.old)) (R.remaining (device_of input.new)) (W.contents (device_of out.old)) (W.contents (device_of out.new))
-        (failures_of input.old) (failures_of input.new) (failures_of out.old) (failures_of out.new) fault }
+        (change_of R.remaining input.old input.new) (change_of W.contents out.old out.new) fault }
 {
     match run(alloc, table, options.limits, STEPS, input, out) {
         Ok((end, rejected)) => {

@@ -17,7 +17,7 @@ use Rattle.seq_run.specs.declared.end.End.TheVariants.{Clean, Failed}
 use Rattle.seq_run.specs.Ends.{Accepts, Ends, IsAccepted, EndsFreely, IsDecisive, end_of}
 use Rattle.seq_run.specs.Standing.{IsRejected}
 use Rattle.seq_run.specs.Report.{report}
-use Rattle.seq_run.specs.Running.{IsReported}
+use Rattle.seq_run.specs.Running.{Change, IsReported}
 use Rattle.seq_run.specs.Written.{IsWritable, AreWritable, written, found_from, clean_end, IsWrittenStream, IsReadBack}
 use Rattle.seq_run.proofs.Ending.{clean_run}
 use Rattle.seq_run.proofs.OneEnd.{one_clean}
@@ -78,10 +78,10 @@ abbrev pub DecidesFreely : Type 0
 DecidesFreely = (judge : Judge) (l : Bounds) (stream : List ℕ) (found : List Found) (end : End) → Ends judge l stream found end → IsDecisive end → EndsFreely judge.table l stream found end
 
 -- the report of such a stream
-reads_back : IsReadFreely → DecidesFreely → (judge : Judge) (l : Bounds) (stream : List ℕ) (before after : Option (List ℕ)) (end : End) (rejected : Option Value) (items : List Value) →
-    IsReported judge l stream before after end rejected → AreWritable (IsAccepted judge.table) l items → length (written items) ≤ last_offset → stream ≡ written items → IsDecisive end →
-    IsReadBack items before after end rejected
-reads_back freely decide judge l stream before after end rejected items r w h is decisive =
+reads_back : IsReadFreely → DecidesFreely → (judge : Judge) (l : Bounds) (stream : List ℕ) (output : Change) (end : End) (rejected : Option Value) (items : List Value) →
+    IsReported judge l stream output end rejected → AreWritable (IsAccepted judge.table) l items → length (written items) ≤ last_offset → stream ≡ written items → IsDecisive end →
+    IsReadBack items output end rejected
+reads_back freely decide judge l stream output end rejected items r w h is decisive =
     let run : IsRunOf l (IsAccepted judge.table) (written items) (found_from 0 items) [] = run_of_clean (freely judge.table l items w h) (length items) (length (written items)) refl in
     let ends : Ends judge l (written items) r.found end = subst (λ (b : List ℕ). Ends judge l b r.found end) is r.ends in
     let one = one_clean (decide judge l (written items) r.found end ends decisive) run in
@@ -90,12 +90,12 @@ reads_back freely decide judge l stream before after end rejected items r w h is
     record {
       clean = clean;
       accepted = none;
-      reported = subst (λ (v : Option Value). bytes.Appends before after (report (found_from 0 items) (clean_end items) v)) none
-          (subst (λ (f : End). bytes.Appends before after (report (found_from 0 items) f rejected)) clean
-          (subst (λ (fs : List Found). bytes.Appends before after (report fs end rejected)) one.0 r.written));
+      reported = subst (λ (v : Option Value). bytes.Appends output.before output.after (report (found_from 0 items) (clean_end items) v)) none
+          (subst (λ (f : End). bytes.Appends output.before output.after (report (found_from 0 items) f rejected)) clean
+          (subst (λ (fs : List Found). bytes.Appends output.before output.after (report fs end rejected)) one.0 r.written));
     }
 
-pub read_back : IsReadFreely → DecidesFreely → (judge : Judge) (l : Bounds) (stream before after : Option (List ℕ)) (end : End) (rejected : Option Value) →
-    IfSome stream (λ s. IsReported judge l s before after end rejected) → (items : List Value) → IsWrittenStream judge.table l items stream → IsDecisive end → IsReadBack items before after end rejected
-read_back freely decide judge l None before after end rejected r items s decisive = absurd (let e : None ≡ Some (written items) = s.is in cc)
-read_back freely decide judge l (Some stream) before after end rejected r items s decisive = reads_back freely decide judge l stream before after end rejected items r s.writable s.short (let e : Some stream ≡ Some (written items) = s.is in cc) decisive
+pub read_back : IsReadFreely → DecidesFreely → (judge : Judge) (l : Bounds) (stream : Option (List ℕ)) (output : Change) (end : End) (rejected : Option Value) →
+    IfSome stream (λ s. IsReported judge l s output end rejected) → (items : List Value) → IsWrittenStream judge.table l items stream → IsDecisive end → IsReadBack items output end rejected
+read_back freely decide judge l None output end rejected r items s decisive = absurd (let e : None ≡ Some (written items) = s.is in cc)
+read_back freely decide judge l (Some stream) output end rejected r items s decisive = reads_back freely decide judge l stream output end rejected items r s.writable s.short (let e : Some stream ≡ Some (written items) = s.is in cc) decisive

@@ -18,7 +18,7 @@ use Rattle.seq_run.specs.Progress.{Progress}
 use Rattle.seq_run.specs.Standing.{IsNext, IsRejected}
 use Rattle.seq_run.specs.Answers.{IsOpen, IsLent}
 use Rattle.seq_run.specs.Report.{item_line, item_lines, end_line}
-use Rattle.seq_run.specs.Running.{IsReported, IsWholeReport, IsBeginning, WritesFirst, WritesItems, WritesRun, IsSettled, IsLast, IsPieceDone}
+use Rattle.seq_run.specs.Running.{Change, IsReported, IsWholeReport, IsBeginning, WritesFirst, WritesItems, WritesRun, IsSettled, IsLast, IsPieceDone}
 use Rattle.seq_run.proofs.Ending.{open_end}
 use Rattle.seq_run.proofs.Reporting.{same_next}
 use Rattle.seq_run.proofs.Runs.{same_takes, takes_extend, begins_run}
@@ -127,6 +127,10 @@ some_byte : (piece : List ℕ) → piece ≢ [] → 0 < length piece
 some_byte [] h = absurd (h refl)
 some_byte (b ∷ bs) h = omega arith
 
+-- a device with these known bytes and failures, before and after
+abbrev pub change : Option (List ℕ) → Option (List ℕ) → ℕ → ℕ → Change
+change before after failures_before failures_after = record { before = before; after = after; failures_before = failures_before; failures_after = failures_after }
+
 -- what is known before each read
 pub record IsOn (judge : Judge) (l : Bounds) (in_old in_now out_old out_now : Option (List ℕ)) (reads reads_now writes writes_now : ℕ) (session : Progress) (reported written : ℕ) : Type 0 where
   pub open_now : IsOpen session
@@ -146,15 +150,15 @@ module _ (judge : Judge) (l : Bounds) (in_old in_now out_old out_now : Option (L
   ends_here = subst (λ (t : Judge). Ends t l session.fed session.taken on.open_now.end) on.judge_is (subst (λ (m : Bounds). Ends session.judge m session.fed session.taken on.open_now.end) on.limits_is on.open_now.ends)
 
   pub read_failed : (in_new : Option (List ℕ)) (reads_new : ℕ) → bytes.Keeps in_now in_new → reads_new ≡ one_more reads_now →
-      HasRisen reads reads_new × WritesRun judge l in_old in_new out_old out_now reported
+      HasRisen reads reads_new × WritesRun judge l (change in_old in_new reads reads_new) (change out_old out_now writes writes_now) reported
   read_failed in_new reads_new keeps count =
       let run = ends_run judge l session.fed session.taken on.open_now.end ends_here in (
         subst (λ n. HasRisen reads n) (sym (count ∙ ap one_more on.reads_is)) (risen reads),
         record { read = session.fed; found = session.taken; rest = run.0; consumed = consumes_kept in_old in_now in_new session.fed on.consumed keeps; run = run.1; count = on.reported_is; written = on.appended },
       )
 
-  pub no_memory : (in_new : Option (List ℕ)) (piece : List ℕ) → bytes.Consumes in_now in_new piece → WritesItems judge l in_old in_new out_old out_now reported
-  no_memory in_new piece c =
+  pub no_memory : (in_new : Option (List ℕ)) (reads_new : ℕ) (piece : List ℕ) → bytes.Consumes in_now in_new piece → WritesItems judge l (change in_old in_new reads reads_new) (change out_old out_now writes writes_now) reported
+  no_memory in_new reads_new piece c =
       let run = ends_run judge l session.fed session.taken on.open_now.end ends_here in
       record { read = session.fed ++ piece; found = session.taken; rest = run.0 ++ piece; consumed = consumes_more in_old in_now in_new session.fed piece on.consumed c; begins = takes_extend l (Accepts judge) piece run.1.takes; count = on.reported_is; written = on.appended }
 
@@ -197,14 +201,14 @@ module _ (judge : Judge) (l : Bounds) (in_old in_now out_old out_now : Option (L
         inl (record { found = new.taken; end = e; rejected = h.0; ends = ends; rejects = rejected_more judge l new.fed left new.taken e h.0 (rejects e h.0 h.1) ends; is = ap (λ (b : List ℕ). item_lines 1 new.taken ++ b) h.2 })
 
     pub write_failed : (out_new : Option (List ℕ)) (k writes_new : ℕ) → k < length lines → bytes.Appends out_now out_new (take k lines) → HasRisen writes_now writes_new →
-        HasRisen writes writes_new × IfSome in_old (λ stream. WritesFirst judge l stream out_old out_new (written + k))
+        HasRisen writes writes_new × IfSome in_old (λ stream. WritesFirst judge l stream (change out_old out_new writes writes_new) (written + k))
     write_failed out_new k writes_new short part rise =
         let out = item_lines 1 session.taken ++ lines in
         let front : take (written + k) out ≡ item_lines 1 session.taken ++ take k lines = ap (λ n. take (n + k) out) on.written_is ∙ take-append-add (item_lines 1 session.taken) lines k in
         let all : bytes.Appends out_old out_new (take (written + k) out) = subst (λ (b : List ℕ). bytes.Appends out_old out_new b) (sym front) (appends_more out_old out_now out_new (item_lines 1 session.taken) (take k lines) on.appended part) in
         let below : written + k < length out = omega (arith, short, on.written_is, length-append (item_lines 1 session.taken) lines) in (
           subst (λ n. HasRisen n writes_new) on.writes_is rise,
-          of_stream in_old in_new new.fed piece (λ stream. WritesFirst judge l stream out_old out_new (written + k)) consumed_new at_end (λ left bare.
+          of_stream in_old in_new new.fed piece (λ stream. WritesFirst judge l stream (change out_old out_new writes writes_new) (written + k)) consumed_new at_end (λ left bare.
               let front_there = front_of d.last end d.line left bare in
               record {
                 out = out;
@@ -217,9 +221,9 @@ module _ (judge : Judge) (l : Bounds) (in_old in_now out_old out_now : Option (L
     written_all : (out_new : Option (List ℕ)) → bytes.Appends out_now out_new lines → bytes.Appends out_old out_new (item_lines 1 new.taken ++ d.last)
     written_all out_new part = subst (λ (b : List ℕ). bytes.Appends out_old out_new b) all_lines (appends_more out_old out_now out_new (item_lines 1 session.taken) lines on.appended part)
 
-    last_of : (e : End) (last : List ℕ) (lent : Option Value) → IsLast (Some e) piece new last → IsLent new.stopped new lent → (left : List ℕ) → (piece ≡ [] → left ≡ []) → (out_new : Option (List ℕ)) →
-        bytes.Appends out_old out_new (item_lines 1 new.taken ++ last) → IsReported judge l (new.fed ++ left) out_old out_new e lent
-    last_of e last lent h lends left bare out_new part =
+    last_of : (e : End) (last : List ℕ) (lent : Option Value) → IsLast (Some e) piece new last → IsLent new.stopped new lent → (left : List ℕ) → (piece ≡ [] → left ≡ []) → (out_new : Option (List ℕ)) (writes_new : ℕ) →
+        bytes.Appends out_old out_new (item_lines 1 new.taken ++ last) → IsReported judge l (new.fed ++ left) (change out_old out_new writes writes_new) e lent
+    last_of e last lent h lends left bare out_new writes_new part =
         let ends = settled e h.3 left bare in
         let lent_there : IsRejected new.judge new.limits new.fed new.taken e lent = subst (λ v. IsLent v new lent) h.3.stopped lends in
         let same : h.0 ≡ lent = same_rejected new.judge new.limits new.fed new.taken e h.0 lent h.1 lent_there in
@@ -230,11 +234,11 @@ module _ (judge : Judge) (l : Bounds) (in_old in_now out_old out_now : Option (L
           written = subst (λ (b : List ℕ). bytes.Appends out_old out_new (item_lines 1 new.taken ++ b)) (h.2 ∙ ap (λ (a : Option Value). end_line e a) same) part;
         }
 
-    pub reported_all : (e : End) (lent : Option Value) (out_new : Option (List ℕ)) → end ≡ Some e → bytes.Appends out_now out_new lines → IsLent new.stopped new lent →
-        IfSome in_old (λ stream. IsReported judge l stream out_old out_new e lent)
-    reported_all e lent out_new is part lends =
+    pub reported_all : (e : End) (lent : Option Value) (out_new : Option (List ℕ)) (writes_new : ℕ) → end ≡ Some e → bytes.Appends out_now out_new lines → IsLent new.stopped new lent →
+        IfSome in_old (λ stream. IsReported judge l stream (change out_old out_new writes writes_new) e lent)
+    reported_all e lent out_new writes_new is part lends =
         let line : IsLast (Some e) piece new d.last = subst (λ v. IsLast v piece new d.last) is d.line in
-        of_stream in_old in_new new.fed piece (λ stream. IsReported judge l stream out_old out_new e lent) consumed_new at_end (λ left bare. last_of e d.last lent line lends left bare out_new (written_all out_new part))
+        of_stream in_old in_new new.fed piece (λ stream. IsReported judge l stream (change out_old out_new writes writes_new) e lent) consumed_new at_end (λ left bare. last_of e d.last lent line lends left bare out_new writes_new (written_all out_new part))
 
     pub goes_on : (out_new : Option (List ℕ)) (reads_new writes_new : ℕ) → reads_new ≡ reads_now → end ≡ None → bytes.Appends out_now out_new lines → writes_new ≡ writes_now → (len : ℕ) → len ≡ length lines → len < 2 ^ 64 → (reported_new : ℕ) → (new.stopped ≡ None → reported_new ≡ length new.taken) →
         (0 < length piece) × IsOn judge l in_old in_new out_old out_new reads reads_new writes writes_new new reported_new (written + len)

@@ -17,7 +17,7 @@ use Rattle.seq_run.specs.declared.end.Stopped.TheVariants.{Memory}
 use Rattle.seq_run.specs.declared.session.FoundItem.{FoundItem}
 use Rattle.seq_run.specs.Ends.{Accepts, Misses, Overruns, BeginsWith, Ends}
 use Rattle.seq_run.specs.FoundItem.{found_of}
-use Rattle.seq_run.specs.Standing.{IsHeld, IsNext, IsRunning}
+use Rattle.seq_run.specs.Standing.{IsHeld, IsNext, IsRunning, parts_of}
 use Rattle.seq_run.specs.Answers.{IsOpen, IsCutShort}
 use Rattle.seq_run.proofs.Fronts.{clear_placed}
 use Rattle.seq_run.proofs.Runs.{takes_extend, takes_snoc, takes_count, formed_some}
@@ -26,7 +26,7 @@ use Rattle.seq_run.proofs.Verdicts.{OneAnswer}
 
 -- a new session
 pub started : (judge : Judge) (reader : Reading) (fed : List ℕ) (taken : List FoundItem) (l : Bounds) → reader ≡ record { limits = l; offset = 0; fed = []; stopped = None } → fed ≡ [] → taken ≡ [] →
-    IsRunning judge reader.limits fed (map found_of taken) reader 0 0 0 None
+    IsRunning judge reader.limits fed (map found_of taken) (parts_of reader 0 0 0 None)
 started judge reader fed taken l r f t = rw (r, f, t) (record {
   takes = none;
   items_is = refl;
@@ -52,7 +52,7 @@ split_piece : (used : ℕ) (held piece : List ℕ) → held ++ piece ≡ (held +
 split_piece used held piece = ap (λ b. held ++ b) (sym (take-append-drop used piece)) ∙ sym (append_assoc held (take used piece) (drop used piece))
 
 module _ (judge : Judge) (l : Bounds) (fed : List ℕ) (taken : List Found) (reader : Reading) (items offset bytes : ℕ) (rejected : Option Value)
-    (s : IsRunning judge l fed taken reader items offset bytes rejected) where
+    (s : IsRunning judge l fed taken (parts_of reader items offset bytes rejected)) where
   -- the beginning with more bytes
   extended : (piece : List ℕ) → BeginsWith judge l (fed ++ piece) taken (reader.fed ++ piece)
   extended piece = takes_extend l (Accepts judge) piece s.takes
@@ -70,7 +70,7 @@ module _ (judge : Judge) (l : Bounds) (fed : List ℕ) (taken : List Found) (rea
       let end = clear_placed reader.limits reader.offset (reader.fed ++ piece) below g.unfinished g.clear in
       omega (arith, end, placed_at piece, s.bytes_is, length-append fed piece)
 
-  pub going_on : (piece : List ℕ) (new : Reading) → IsGoingOn reader piece new → IsRunning judge l (fed ++ piece) taken new items offset (bytes + length piece) rejected
+  pub going_on : (piece : List ℕ) (new : Reading) → IsGoingOn reader piece new → IsRunning judge l (fed ++ piece) taken (parts_of new items offset (bytes + length piece) rejected)
   going_on piece new g = rw g.next (record {
     takes = extended piece;
     items_is = s.items_is;
@@ -94,7 +94,7 @@ module _ (judge : Judge) (l : Bounds) (fed : List ℕ) (taken : List Found) (rea
 
   -- an item was accepted
   pub took : (piece : List ℕ) (used : ℕ) (x : Value) (new : Reading) → IsTaken reader piece used x new → Accepts judge x (reader.fed ++ take used piece) →
-      (bytes + used ≤ last_offset) × IsRunning judge l (fed ++ take used piece) (taken ++ record { offset = offset; item = x } ∷ []) new (items + 1) (bytes + used) (bytes + used) None
+      (bytes + used ≤ last_offset) × IsRunning judge l (fed ++ take used piece) (taken ++ record { offset = offset; item = x } ∷ []) (parts_of new (items + 1) (bytes + used) (bytes + used) None)
   took piece used x new t accepts =
       let front = reader.fed ++ take used piece in
       let item : IsItem l reader.offset x front = subst (λ (m : Bounds). IsItem m reader.offset x front) s.limits t.item in
@@ -103,7 +103,7 @@ module _ (judge : Judge) (l : Bounds) (fed : List ℕ) (taken : List Found) (rea
       let short : bytes + used ≤ last_offset = omega (arith, item.placed, s.offset_is, s.reaches, used_is, length-append reader.fed (take used piece)) in
       let begins : BeginsWith judge l (fed ++ take used piece) (taken ++ record { offset = offset; item = x } ∷ []) [] =
       takes_snoc l (Accepts judge) offset x front [] (extended (take used piece)) (omega (arith, at)) (sym (append-nil front)) (subst (λ n. IsItem l n x front) (sym s.offset_is) item) accepts in
-      let running : IsRunning judge l (fed ++ take used piece) (taken ++ record { offset = offset; item = x } ∷ []) (record { limits = reader.limits; offset = reader.offset + length front; fed = []; stopped = None }) (items + 1) (bytes + used) (bytes + used) None = record {
+      let running : IsRunning judge l (fed ++ take used piece) (taken ++ record { offset = offset; item = x } ∷ []) (parts_of (record { limits = reader.limits; offset = reader.offset + length front; fed = []; stopped = None }) (items + 1) (bytes + used) (bytes + used) None) = record {
         takes = begins;
         items_is = omega (arith, s.items_is, length-append taken (record { offset = offset; item = x } ∷ []));
         offset_is = omega (arith, s.offset_is, s.reaches, used_is, length-append reader.fed (take used piece));
@@ -115,7 +115,7 @@ module _ (judge : Judge) (l : Bounds) (fed : List ℕ) (taken : List Found) (rea
         held = inl refl;
         none = refl;
       } in
-      (short, subst (λ (r : Reading). IsRunning judge l (fed ++ take used piece) (taken ++ record { offset = offset; item = x } ∷ []) r (items + 1) (bytes + used) (bytes + used) None) (sym t.next) running)
+      (short, subst (λ (r : Reading). IsRunning judge l (fed ++ take used piece) (taken ++ record { offset = offset; item = x } ∷ []) (parts_of r (items + 1) (bytes + used) (bytes + used) None)) (sym t.next) running)
 
   -- the bytes after the run, whatever follows
   rest_of : (piece more : List ℕ) → BeginsWith judge l ((fed ++ piece) ++ more) taken ((reader.fed ++ piece) ++ more)

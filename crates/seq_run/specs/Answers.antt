@@ -88,20 +88,28 @@ abbrev pub IsLent : Option Stopped → Progress → Option Value → Type 0
 IsLent (Some (Ended end)) p rejected = IsRejected p.judge p.limits p.fed p.taken end rejected
 IsLent _ p rejected = rejected ≡ None
 
--- one call of a session that has not stopped
-abbrev pub IsAdvance : Progress → List ℕ → List Value → Result Advance AllocError → Progress → List Value → Type 0
-IsAdvance old piece out (Ok advance.More) new out_new =
-    (new ≡ record old { fed = old.fed ++ piece }) × (out_new ≡ out) × IsOpen new
-IsAdvance old piece out (Ok (advance.Item used number offset)) new out_new =
-    (0 < used) × (used ≤ length piece) × (number ≡ length new.taken) × ((x : Value)
-    × (new ≡ record old { fed = old.fed ++ take used piece; taken = old.taken ++ record { offset = offset; item = x } ∷ [] })
-    × (out_new ≡ out ++ x ∷ []))
-IsAdvance old piece out (Ok (advance.Ended end)) new out_new =
-    (new ≡ record old { fed = old.fed ++ piece; stopped = Some (Ended end) }) × (out_new ≡ out) × IsEnded new end
-IsAdvance old piece out (Err e) new out_new =
-    (new ≡ record old { fed = old.fed ++ piece; stopped = Some Memory }) × (out_new ≡ out) × IsCutShort new
+-- a session, and the list to which its items are appended
+pub record Collecting : Type 0 where
+  pub session : Progress
+  pub items : List Value
 
-abbrev pub IsAdvanceAnswer : Option Stopped → Progress → List ℕ → List Value → Result Advance AllocError → Progress → List Value → Type 0
-IsAdvanceAnswer None old piece out result new out_new = IsAdvance old piece out result new out_new
-IsAdvanceAnswer (Some (Ended end)) old piece out result new out_new = (result ≡ Ok (advance.Ended end)) × (new ≡ old) × (out_new ≡ out)
-IsAdvanceAnswer (Some Memory) old piece out result new out_new = (result ≡ Err alloc_error) × (new ≡ old) × (out_new ≡ out)
+abbrev pub collecting : Progress → List Value → Collecting
+collecting session items = record { session = session; items = items }
+
+-- one call of a session that has not stopped
+abbrev pub IsAdvance : Collecting → List ℕ → Result Advance AllocError → Collecting → Type 0
+IsAdvance old piece (Ok advance.More) new =
+    (new.session ≡ record old.session { fed = old.session.fed ++ piece }) × (new.items ≡ old.items) × IsOpen new.session
+IsAdvance old piece (Ok (advance.Item used number offset)) new =
+    (0 < used) × (used ≤ length piece) × (number ≡ length new.session.taken) × ((x : Value)
+    × (new.session ≡ record old.session { fed = old.session.fed ++ take used piece; taken = old.session.taken ++ record { offset = offset; item = x } ∷ [] })
+    × (new.items ≡ old.items ++ x ∷ []))
+IsAdvance old piece (Ok (advance.Ended end)) new =
+    (new.session ≡ record old.session { fed = old.session.fed ++ piece; stopped = Some (Ended end) }) × (new.items ≡ old.items) × IsEnded new.session end
+IsAdvance old piece (Err e) new =
+    (new.session ≡ record old.session { fed = old.session.fed ++ piece; stopped = Some Memory }) × (new.items ≡ old.items) × IsCutShort new.session
+
+abbrev pub IsAdvanceAnswer : Option Stopped → Collecting → List ℕ → Result Advance AllocError → Collecting → Type 0
+IsAdvanceAnswer None old piece result new = IsAdvance old piece result new
+IsAdvanceAnswer (Some (Ended end)) old piece result new = (result ≡ Ok (advance.Ended end)) × (new.session ≡ old.session) × (new.items ≡ old.items)
+IsAdvanceAnswer (Some Memory) old piece result new = (result ≡ Err alloc_error) × (new.session ≡ old.session) × (new.items ≡ old.items)

@@ -34,21 +34,33 @@ IsRejected judge l stream found (Failed items offset (Mismatch place)) (Some x) 
 IsRejected judge l stream found (Failed items offset (Mismatch place)) None = ⊥
 IsRejected judge l stream found _ rejected = rejected ≡ None
 
--- the parts of a session that has not stopped
-pub record IsRunning (judge : Judge) (l : Bounds) (fed : List ℕ) (taken : List Found) (reader : Reading) (items offset bytes : ℕ) (rejected : Option Value) : Type 0 where
-  pub takes : BeginsWith judge l fed taken reader.fed
-  pub items_is : items ≡ length taken
-  pub offset_is : offset ≡ reader.offset
-  pub bytes_is : bytes ≡ length fed
-  pub reaches : offset + length reader.fed ≡ bytes
-  pub short : bytes ≤ last_offset
-  pub limits : reader.limits ≡ l
-  pub going : reader.stopped ≡ None
-  pub held : IsHeld l reader.offset reader.fed
-  pub none : rejected ≡ None
+-- what a session keeps beside what callers see: its reader, how many items it has accepted, the offset of the next one,
+-- how many bytes it has taken, and the item that does not match
+pub record Parts : Type 0 where
+  pub reader : Reading
+  pub items : ℕ
+  pub offset : ℕ
+  pub bytes : ℕ
+  pub rejected : Option Value
 
-abbrev pub IsStanding : Option Stopped → Judge → Bounds → List ℕ → List Found → Reading → ℕ → ℕ → ℕ → Option Value → Type 0
-IsStanding None judge l fed taken reader items offset bytes rejected = IsRunning judge l fed taken reader items offset bytes rejected
-IsStanding (Some Memory) judge l fed taken reader items offset bytes rejected = rejected ≡ None
-IsStanding (Some (Ended end)) judge l fed taken reader items offset bytes rejected =
-    Ends judge l fed taken end × IsRejected judge l fed taken end rejected
+abbrev pub parts_of : Reading → ℕ → ℕ → ℕ → Option Value → Parts
+parts_of reader items offset bytes rejected = record { reader = reader; items = items; offset = offset; bytes = bytes; rejected = rejected }
+
+-- the parts of a session that has not stopped
+pub record IsRunning (judge : Judge) (l : Bounds) (fed : List ℕ) (taken : List Found) (parts : Parts) : Type 0 where
+  pub takes : BeginsWith judge l fed taken parts.reader.fed
+  pub items_is : parts.items ≡ length taken
+  pub offset_is : parts.offset ≡ parts.reader.offset
+  pub bytes_is : parts.bytes ≡ length fed
+  pub reaches : parts.offset + length parts.reader.fed ≡ parts.bytes
+  pub short : parts.bytes ≤ last_offset
+  pub limits : parts.reader.limits ≡ l
+  pub going : parts.reader.stopped ≡ None
+  pub held : IsHeld l parts.reader.offset parts.reader.fed
+  pub none : parts.rejected ≡ None
+
+-- what holds of a session's parts, by why it has stopped, if it has
+abbrev pub IsStanding : Option Stopped → Judge → Bounds → List ℕ → List Found → Parts → Type 0
+IsStanding None judge l fed taken parts = IsRunning judge l fed taken parts
+IsStanding (Some Memory) judge l fed taken parts = parts.rejected ≡ None
+IsStanding (Some (Ended end)) judge l fed taken parts = Ends judge l fed taken end × IsRejected judge l fed taken end parts.rejected

@@ -11,6 +11,7 @@ use Rattle.seq_run.specs.declared.end.End.{End}
 use Rattle.seq_run.specs.declared.end.End.TheVariants.{Clean}
 use Rattle.seq_run.specs.Ends.{IsAccepted}
 use Rattle.seq_run.specs.Report.{report}
+use Rattle.seq_run.specs.Running.{Change}
 
 -- The item is sound, accepted, and within the limits as it is written.
 pub record IsWritable (accepts : Value → List ℕ → Type 0) (l : Bounds) (x : Value) : Type 0 where
@@ -45,7 +46,7 @@ pub record IsWrittenStream (table : Table) (l : Bounds) (items : List Value) (st
   pub is : stream ≡ Some (written items)
 
 -- The end says that all was read, no item failed, and the report that went out has these items.
-pub record IsReadBack (items : List Value) (before after : Option (List ℕ)) (end : End) (rejected : Option Value) : Type 0 where
+pub record IsReadBack (items : List Value) (output : Change) (end : End) (rejected : Option Value) : Type 0 where
   pub clean : end ≡ clean_end items
   pub accepted : rejected ≡ None
-  pub reported : bytes.Appends before after (report (found_from 0 items) (clean_end items) None)
+  pub reported : bytes.Appends output.before output.after (report (found_from 0 items) (clean_end items) None)

@@ -6,7 +6,7 @@ ghost use Rattle.cbor_item.specs.Counted.{device_of, failures_of};
 ghost use Rattle.seq_run.specs.Answers.{IsFed};
 ghost use Rattle.seq_run.specs.Ends.{IsDecisive};
 ghost use Rattle.seq_run.specs.Judge.{judge_of};
-ghost use Rattle.seq_run.specs.Running.{Adds, IsDecided, IsFault, IsPieceDone, IsReported};
+ghost use Rattle.seq_run.specs.Running.{Adds, IsDecided, IsFault, IsPieceDone, IsReported, change_of};
 ghost use Rattle.seq_run.specs.Written.{IsReadBack, IsWrittenStream};
 
 use crate::end::{End, State};
@@ -53,14 +53,12 @@ pub fn run<R: Read, W: Write>(
     output: &mut Counted<W>,
 ) -> Result<(End, Option<Sound>), RunFault>
     ensures reported { IfOk result (λ r. IfSome (R.remaining (device_of input.old)) (λ stream.
-        IsReported (judge_of table.now steps) limits stream (W.contents (device_of output.old)) (W.contents (device_of output.new)) r.0 r.1)) }
+        IsReported (judge_of table.now steps) limits stream (change_of W.contents output.old output.new) r.0 r.1)) }
     ensures read_back { IfOk result (λ r. (items : List Value) →
         IsWrittenStream table.now limits items (R.remaining (device_of input.old)) → IsDecisive r.0 →
-        IsReadBack items (W.contents (device_of output.old)) (W.contents (device_of output.new)) r.0 r.1) }
+        IsReadBack items (change_of W.contents output.old output.new) r.0 r.1) }
     ensures counts { OnOk result ((failures_of input.new ≡ failures_of input.old) × (failures_of output.new ≡ failures_of output.old)) }
-    ensures fault { IfErr result (IsFault (judge_of table.now steps) limits (R.remaining (device_of input.old)) (R.remaining (device_of input.new))
-        (W.contents (device_of output.old)) (W.contents (device_of output.new))
-        (failures_of input.old) (failures_of input.new) (failures_of output.old) (failures_of output.new)) }
+    ensures fault { IfErr result (IsFault (judge_of table.now steps) limits (change_of R.remaining input.old input.new) (change_of W.contents output.old output.new)) }
 {
     let mut session = Session::new(alloc, table, limits, steps);
     let mut buffer = [0; PIECE];
