@@ -38,8 +38,8 @@ mutual
   good_pairs (pair_form k v ps) i t (inr (inr b)) = good_pairs ps b.2.0 t.2 b.2.2
 
 -- two places after this many bytes
-behind : {i j k l : ℕ} (n : ℕ) → i ≡ n + k → j ≡ n + l → k ≡ l → i ≡ j
-behind n e f same = e ∙ (ap (λ m. n + m) same ∙ sym f)
+same_after : {i j k l : ℕ} (n : ℕ) → i ≡ n + k → j ≡ n + l → k ≡ l → i ≡ j
+same_after n e f same = e ∙ (ap (λ m. n + m) same ∙ sym f)
 
 -- two places after a byte
 next : {i j k l : ℕ} → i ≡ suc k → j ≡ suc l → k ≡ l → i ≡ j
@@ -50,7 +50,7 @@ one_chunk [] i j b d = absurd b
 one_chunk (c ∷ cs) i j (inl b) (inl d) = b.0 ∙ sym d.0
 one_chunk (c ∷ cs) i j (inl b) (inr d) = absurd (b.1 d.2)
 one_chunk (c ∷ cs) i j (inr b) (inl d) = absurd (d.1 b.2)
-one_chunk (c ∷ cs) i j (inr b) (inr d) = behind (length (chunk_bytes 3 c)) b.1 d.1 (one_chunk cs b.0 d.0 b.3 d.3)
+one_chunk (c ∷ cs) i j (inr b) (inr d) = same_after (length (chunk_bytes 3 c)) b.1 d.1 (one_chunk cs b.0 d.0 b.3 d.3)
 
 mutual
   pub one_text : (f : Form) (i j : ℕ) → IsBadTextAt f i → IsBadTextAt f j → i ≡ j
@@ -60,11 +60,11 @@ mutual
   one_text (bytes_chunks cs) i j b d = absurd b
   one_text (text_form p s) i j b d = b.0 ∙ sym d.0
   one_text (text_chunks cs) i j b d = next b.1 d.1 (one_chunk cs b.0 d.0 b.2 d.2)
-  one_text (array_form p fs) i j b d = behind (length (head_in p 4 (forms_len fs))) b.1 d.1 (one_among fs b.0 d.0 b.2 d.2)
+  one_text (array_form p fs) i j b d = same_after (length (head_in p 4 (forms_len fs))) b.1 d.1 (one_among fs b.0 d.0 b.2 d.2)
   one_text (array_to_break fs) i j b d = next b.1 d.1 (one_among fs b.0 d.0 b.2 d.2)
-  one_text (pairs_form p ps) i j b d = behind (length (head_in p 5 (pair_forms_len ps))) b.1 d.1 (one_among_pairs ps b.0 d.0 b.2 d.2)
+  one_text (pairs_form p ps) i j b d = same_after (length (head_in p 5 (pair_forms_len ps))) b.1 d.1 (one_among_pairs ps b.0 d.0 b.2 d.2)
   one_text (pairs_to_break ps) i j b d = next b.1 d.1 (one_among_pairs ps b.0 d.0 b.2 d.2)
-  one_text (tag_form p n f) i j b d = behind (length (head_in p 6 n)) b.1 d.1 (one_text f b.0 d.0 b.2 d.2)
+  one_text (tag_form p n f) i j b d = same_after (length (head_in p 6 n)) b.1 d.1 (one_text f b.0 d.0 b.2 d.2)
   one_text (simple_inside n) i j b d = absurd b
   one_text (simple_next n) i j b d = absurd b
   one_text (float_form w n) i j b d = absurd b
@@ -74,7 +74,7 @@ mutual
   one_among (form f fs) i j (inl b) (inl d) = one_text f i j b d
   one_among (form f fs) i j (inl b) (inr d) = absurd (good_text f i d.0 b)
   one_among (form f fs) i j (inr b) (inl d) = absurd (good_text f j b.0 d)
-  one_among (form f fs) i j (inr b) (inr d) = behind (length (flat f)) b.1.1 d.1.1 (one_among fs b.1.0 d.1.0 b.1.2 d.1.2)
+  one_among (form f fs) i j (inr b) (inr d) = same_after (length (flat f)) b.1.1 d.1.1 (one_among fs b.1.0 d.1.0 b.1.2 d.1.2)
 
   one_among_pairs : (ps : PairForms) (i j : ℕ) → IsBadTextAmongPairs ps i → IsBadTextAmongPairs ps j → i ≡ j
   one_among_pairs no_pair_forms i j b d = absurd b
@@ -82,9 +82,9 @@ mutual
   one_among_pairs (pair_form k v ps) i j (inl b) (inr (inl d)) = absurd (good_text k i d.0 b)
   one_among_pairs (pair_form k v ps) i j (inl b) (inr (inr d)) = absurd (good_text k i d.0 b)
   one_among_pairs (pair_form k v ps) i j (inr (inl b)) (inl d) = absurd (good_text k j b.0 d)
-  one_among_pairs (pair_form k v ps) i j (inr (inl b)) (inr (inl d)) = behind (length (flat k)) b.1.1 d.1.1 (one_text v b.1.0 d.1.0 b.1.2 d.1.2)
+  one_among_pairs (pair_form k v ps) i j (inr (inl b)) (inr (inl d)) = same_after (length (flat k)) b.1.1 d.1.1 (one_text v b.1.0 d.1.0 b.1.2 d.1.2)
   one_among_pairs (pair_form k v ps) i j (inr (inl b)) (inr (inr d)) = absurd (good_text v b.1.0 d.1 b.1.2)
   one_among_pairs (pair_form k v ps) i j (inr (inr b)) (inl d) = absurd (good_text k j b.0 d)
   one_among_pairs (pair_form k v ps) i j (inr (inr b)) (inr (inl d)) = absurd (good_text v d.1.0 b.1 d.1.2)
   one_among_pairs (pair_form k v ps) i j (inr (inr b)) (inr (inr d)) =
-      behind (length (flat k)) b.2.1 d.2.1 (behind (length (flat v)) refl refl (one_among_pairs ps b.2.0 d.2.0 b.2.2 d.2.2))
+      same_after (length (flat k)) b.2.1 d.2.1 (same_after (length (flat v)) refl refl (one_among_pairs ps b.2.0 d.2.0 b.2.2 d.2.2))

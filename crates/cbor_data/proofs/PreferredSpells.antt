@@ -127,7 +127,7 @@ spells_preferred x h f a c = let w = writes x h f a c in record { written = w.wr
 pub joined_len : (m : ℕ) (cs : List Chunk) → length (joined cs) ≤ length (chunks_bytes m cs)
 joined_len m [] = omega arith
 joined_len m (c ∷ cs) =
-    omega (arith, length-append c.held (joined cs), length-append (chunk_bytes m c) (chunks_bytes m cs), length-append (head_in c.size m (length c.held)) c.held, joined_len m cs)
+    omega (arith, length-append c.content (joined cs), length-append (chunk_bytes m c) (chunks_bytes m cs), length-append (head_in c.size m (length c.content)) c.content, joined_len m cs)
 
 pub broken_len : (m : ℕ) (inner : List ℕ) → length inner < length (to_break m inner)
 broken_len m inner = omega (arith, length-append inner (255 ∷ []))

@@ -26,11 +26,11 @@ bytes_append (x ∷ a) b h k = (h.0, bytes_append a b h.1 k)
 
 joined_bytes : (cs : List Chunk) → AreChunksOk cs → AreBytes (joined cs)
 joined_bytes [] ok = tt
-joined_bytes (c ∷ cs) ok = bytes_append c.held (joined cs) ok.0.1 (joined_bytes cs ok.1)
+joined_bytes (c ∷ cs) ok = bytes_append c.content (joined cs) ok.0.1 (joined_bytes cs ok.1)
 
 joined_text : (cs : List Chunk) → AllText cs → IsUtf8 (joined cs)
 joined_text [] t = IsUtf8-nil
-joined_text (c ∷ cs) t = IsUtf8-append c.held (joined cs) t.0 (joined_text cs t.1)
+joined_text (c ∷ cs) t = IsUtf8-append c.content (joined cs) t.0 (joined_text cs t.1)
 
 mutual
   in_range : (f : Form) → IsOk f → HasText f → IsInRange (meaning f)

@@ -185,24 +185,24 @@ chunk_byte m p n r s small h e =
     let below : size_info p n < 28 = info_below p n h in
     omega arith
 
-chunk_flat : (m : ℕ) (c : Chunk) (cs : List Chunk) (r : List ℕ) → chunks_bytes m (c ∷ cs) ++ r ≡ head_in c.size m (length c.held) ++ (c.held ++ (chunks_bytes m cs ++ r))
-chunk_flat m c cs r = append_assoc (chunk_bytes m c) (chunks_bytes m cs) r ∙ append_assoc (head_in c.size m (length c.held)) c.held (chunks_bytes m cs ++ r)
+chunk_flat : (m : ℕ) (c : Chunk) (cs : List Chunk) (r : List ℕ) → chunks_bytes m (c ∷ cs) ++ r ≡ head_in c.size m (length c.content) ++ (c.content ++ (chunks_bytes m cs ++ r))
+chunk_flat m c cs r = append_assoc (chunk_bytes m c) (chunks_bytes m cs) r ∙ append_assoc (head_in c.size m (length c.content)) c.content (chunks_bytes m cs ++ r)
 
-chunk_two : (c d : Chunk) → c.size ≡ d.size → c.held ≡ d.held → c ≡ d
-chunk_two c d e f = ap₂ (λ (p : ArgumentSize) (h : List ℕ). let made : Chunk = record { size = p; held = h } in made) e f
+chunk_two : (c d : Chunk) → c.size ≡ d.size → c.content ≡ d.content → c ≡ d
+chunk_two c d e f = ap₂ (λ (p : ArgumentSize) (h : List ℕ). let made : Chunk = record { size = p; content = h } in made) e f
 
 chunks_two : (m : ℕ) (cs ds : List Chunk) (r s : List ℕ) → m < 4 → AreChunksOk cs → AreChunksOk ds → chunks_bytes m cs ++ 255 ∷ r ≡ chunks_bytes m ds ++ 255 ∷ s → (cs ≡ ds) × (r ≡ s)
 chunks_two m [] [] r s small a b e = let rest : r ≡ s = cc in (refl, rest)
-chunks_two m [] (d ∷ ds) r s small a b e = absurd (chunk_byte m d.size (length d.held) (d.held ++ (chunks_bytes m ds ++ 255 ∷ s)) r small b.0.0 (sym (e ∙ chunk_flat m d ds (255 ∷ s))))
-chunks_two m (c ∷ cs) [] r s small a b e = absurd (chunk_byte m c.size (length c.held) (c.held ++ (chunks_bytes m cs ++ 255 ∷ r)) s small a.0.0 (sym (chunk_flat m c cs (255 ∷ r)) ∙ e))
+chunks_two m [] (d ∷ ds) r s small a b e = absurd (chunk_byte m d.size (length d.content) (d.content ++ (chunks_bytes m ds ++ 255 ∷ s)) r small b.0.0 (sym (e ∙ chunk_flat m d ds (255 ∷ s))))
+chunks_two m (c ∷ cs) [] r s small a b e = absurd (chunk_byte m c.size (length c.content) (c.content ++ (chunks_bytes m cs ++ 255 ∷ r)) s small a.0.0 (sym (chunk_flat m c cs (255 ∷ r)) ∙ e))
 chunks_two m (c ∷ cs) (d ∷ ds) r s small a b e =
     let more = chunks_bytes m cs ++ 255 ∷ r in
     let more_too = chunks_bytes m ds ++ 255 ∷ s in
-    let heads : SameHead c.size d.size m m (length c.held) (length d.held) (c.held ++ more) (d.held ++ more_too) =
-    same_head c.size d.size m m (length c.held) (length d.held) (c.held ++ more) (d.held ++ more_too) a.0.0 b.0.0 (sym (chunk_flat m c cs (255 ∷ r)) ∙ (e ∙ chunk_flat m d ds (255 ∷ s))) in
-    let held : (c.held ≡ d.held) × (more ≡ more_too) = same_length c.held d.held more more_too heads.argument heads.rest in
-    let rest : (cs ≡ ds) × (r ≡ s) = chunks_two m cs ds r s small a.1 b.1 held.1 in
-    (ap₂ (λ (x : Chunk) (xs : List Chunk). x ∷ xs) (chunk_two c d heads.size held.0) rest.0, rest.1)
+    let heads : SameHead c.size d.size m m (length c.content) (length d.content) (c.content ++ more) (d.content ++ more_too) =
+    same_head c.size d.size m m (length c.content) (length d.content) (c.content ++ more) (d.content ++ more_too) a.0.0 b.0.0 (sym (chunk_flat m c cs (255 ∷ r)) ∙ (e ∙ chunk_flat m d ds (255 ∷ s))) in
+    let contents : (c.content ≡ d.content) × (more ≡ more_too) = same_length c.content d.content more more_too heads.argument heads.rest in
+    let rest : (cs ≡ ds) × (r ≡ s) = chunks_two m cs ds r s small a.1 b.1 contents.1 in
+    (ap₂ (λ (x : Chunk) (xs : List Chunk). x ∷ xs) (chunk_two c d heads.size contents.0) rest.0, rest.1)
 
 float_two : (v w : Width) (n l : ℕ) (r s : List ℕ) → FitsWidth v n → FitsWidth w l → float_bytes v n ++ r ≡ float_bytes w l ++ s → (v ≡ w) × (n ≡ l) × (r ≡ s)
 float_two W16 W16 n l r s h k e = let both : (n ≡ l) × (r ≡ s) = in_size two 7 n l r s h k e in (refl, both.0, both.1)

@@ -55,24 +55,24 @@ pub record BeginsWithin (depth : ℕ) (b : List ℕ) : Type 0 where
 
 -- At p is a fault of form, and what is before it begins some well-formed list.
 -- `o` is the stream's offset of b's first byte.
-pub data StandsAt (l : Bounds) (o : ℕ) (b : List ℕ) (p : ℕ) : FaultKind → Type 0 where
+pub data IsFormFaultAt (l : Bounds) (o : ℕ) (b : List ℕ) (p : ℕ) : FaultKind → Type 0 where
   -- with its byte nothing well-formed begins
-  malformed : {kind : FaultKind} → p < length b → (Begins (take (p + 1) b) → ⊥) → IsKindOf (take p b) (slice_index b p) kind → StandsAt l o b p kind
+  malformed : {kind : FaultKind} → p < length b → (Begins (take (p + 1) b) → ⊥) → IsKindOf (take p b) (slice_index b p) kind → IsFormFaultAt l o b p kind
   -- with its byte something begins, but only what is too deep: it is the head of a container inside `depth` open ones
-  deep : p < length b → Begins (take (p + 1) b) → (BeginsWithin l.depth (take (p + 1) b) → ⊥) → StandsAt l o b p TooDeep
+  deep : p < length b → Begins (take (p + 1) b) → (BeginsWithin l.depth (take (p + 1) b) → ⊥) → IsFormFaultAt l o b p TooDeep
   -- the item has all its bytes already, or its byte is at an offset that no byte may have
-  long : BeginsWithin l.depth (take (p + 1) b) → (p ≡ l.item_bytes) ⊎ ((p < length b) × (o + p ≡ last_offset)) → StandsAt l o b p TooLong
+  long : BeginsWithin l.depth (take (p + 1) b) → (p ≡ l.item_bytes) ⊎ ((p < length b) × (o + p ≡ last_offset)) → IsFormFaultAt l o b p TooLong
 
 -- Nothing is wrong with the form of b before p.
 abbrev pub IsClearBefore : Bounds → ℕ → List ℕ → ℕ → Type 0
-IsClearBefore l o b p = (q : ℕ) (kind : FaultKind) → q < p → StandsAt l o b q kind → ⊥
+IsClearBefore l o b p = (q : ℕ) (kind : FaultKind) → q < p → IsFormFaultAt l o b q kind → ⊥
 
 -- the first of the chunks that is not UTF-8 by itself has its head this far after the first chunk's
 abbrev pub IsBadChunkAt : List Chunk → ℕ → Type 0
 IsBadChunkAt [] i = ⊥
 IsBadChunkAt (c ∷ cs) i =
-    ((i ≡ 0) × (IsUtf8 c.held → ⊥))
-    ⊎ ((j : ℕ) × (i ≡ length (chunk_bytes 3 c) + j) × IsUtf8 c.held × IsBadChunkAt cs j)
+    ((i ≡ 0) × (IsUtf8 c.content → ⊥))
+    ⊎ ((j : ℕ) × (i ≡ length (chunk_bytes 3 c) + j) × IsUtf8 c.content × IsBadChunkAt cs j)
 
 -- the first text chunk of a form that is not UTF-8 by itself has its head this far after the form's first byte
 abbrev mutual
@@ -108,7 +108,7 @@ pub record IsWholeFront (l : Bounds) (o : ℕ) (b : List ℕ) (n : ℕ) (f : For
 -- its kind, and where (an offset in the stream; for a repeated key a place in the item).
 pub data IsFaultOf (l : Bounds) (o : ℕ) (b : List ℕ) : FaultKind → ℕ → Type 0 where
   -- the least place where the form goes wrong
-  of_form : {kind : FaultKind} {at : ℕ} (p : ℕ) → p ≤ length b → IsUnfinished (take p b) → StandsAt l o b p kind → IsClearBefore l o b p → at ≡ o + p → IsFaultOf l o b kind at
+  of_form : {kind : FaultKind} {at : ℕ} (p : ℕ) → p ≤ length b → IsUnfinished (take p b) → IsFormFaultAt l o b p kind → IsClearBefore l o b p → at ≡ o + p → IsFaultOf l o b kind at
   -- the bytes end inside an item
   of_end : {at : ℕ} → b ≢ [] → IsUnfinished b → IsClearBefore l o b (suc (length b)) → at ≡ o + length b → IsFaultOf l o b Truncated at
   -- a text chunk of a well-formed item is not UTF-8

@@ -31,7 +31,7 @@ FitsSize eight n = n < 2 ^ 64
 -- a definite string, as a chunk of an indefinite one (RFC 8949 section 3.2.3)
 pub record Chunk : Type 0 where
   pub size : ArgumentSize
-  pub held : List ℕ
+  pub content : List ℕ
 
 mutual
   pub data Form : Type 0 where
@@ -67,7 +67,7 @@ pair_forms_len no_pair_forms = 0
 pair_forms_len (pair_form k v ps) = suc (pair_forms_len ps)
 
 abbrev pub chunk_bytes : ℕ → Chunk → List ℕ
-chunk_bytes major c = head_in c.size major (length c.held) ++ c.held
+chunk_bytes major c = head_in c.size major (length c.content) ++ c.content
 
 abbrev pub chunks_bytes : ℕ → List Chunk → List ℕ
 chunks_bytes major [] = []
@@ -75,7 +75,7 @@ chunks_bytes major (c ∷ cs) = chunk_bytes major c ++ chunks_bytes major cs
 
 abbrev pub joined : List Chunk → List ℕ
 joined [] = []
-joined (c ∷ cs) = c.held ++ joined cs
+joined (c ∷ cs) = c.content ++ joined cs
 
 -- an indefinite form: its initial byte, what is in it, and the break
 abbrev pub to_break : ℕ → List ℕ → List ℕ
@@ -109,7 +109,7 @@ abbrev mutual
 
 abbrev pub AreChunksOk : List Chunk → Type 0
 AreChunksOk [] = Unit {0}
-AreChunksOk (c ∷ cs) = (FitsSize c.size (length c.held) × AreBytes c.held) × AreChunksOk cs
+AreChunksOk (c ∷ cs) = (FitsSize c.size (length c.content) × AreBytes c.content) × AreChunksOk cs
 
 -- each argument fits its size
 abbrev mutual
@@ -165,7 +165,7 @@ abbrev mutual
 
 abbrev pub AllText : List Chunk → Type 0
 AllText [] = Unit {0}
-AllText (c ∷ cs) = IsUtf8 c.held × AllText cs
+AllText (c ∷ cs) = IsUtf8 c.content × AllText cs
 
 -- each text chunk is UTF-8 by itself
 abbrev mutual

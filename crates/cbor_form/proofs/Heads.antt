@@ -1,7 +1,7 @@
 -- What the machine does with a head, for any numbers that meet a test.
 use Rattle.std.proofs.Common.{◌≡◌, ◌≢◌, ℕ, zero, suc, ◌-◌, ◌*◌, ◌/◌, ◌%◌, ◌<◌, List, ◌∷◌, true, false, ◌==◌, Some, None, ◌⊎◌, inl, inr, refl, ap, arith}
 use Rattle.std.proofs.lemmas.Bool.Decides.{nat_tests}
-use Rattle.cbor_machine.specs.Machine.{Frame, rest, item, chunk, ask, twice, opened, info_of, start_chunk, break, give, step}
+use Rattle.cbor_machine.specs.Machine.{Frame, rest, item, chunk, ask, twice, open_indefinite, info_of, start_chunk, break, give, step}
 use Rattle.cbor_form.specs.Stages.{frame_of}
 use Rattle.cbor_form.specs.declared.frame.Frame as declared
 use Rattle.cbor_form.specs.declared.frame.Frame.TheVariants.{Rest, Until, UntilKey, UntilValue}
@@ -14,7 +14,7 @@ pub ask_some : (n : ℕ) (K : List Frame) → 0 < n → ask n K ≡ item (rest (
 ask_some zero K h = absurd (omega arith)
 ask_some (suc n) K h = ap (λ k. item (rest k ∷ K)) (omega arith)
 
-pub opened_none : (m : ℕ) (K : List Frame) → m < 8 → m ≢ 2 → m ≢ 3 → m ≢ 4 → m ≢ 5 → m ≢ 7 → opened m K ≡ None
+pub opened_none : (m : ℕ) (K : List Frame) → m < 8 → m ≢ 2 → m ≢ 3 → m ≢ 4 → m ≢ 5 → m ≢ 7 → open_indefinite m K ≡ None
 opened_none zero K h a b c d e = refl
 opened_none (suc zero) K h a b c d e = refl
 opened_none (suc (suc zero)) K h a b c d e = absurd (omega arith)

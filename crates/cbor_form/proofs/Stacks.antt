@@ -3,24 +3,24 @@ use Rattle.std.proofs.Common.{◌≡◌, ℕ, ◌+◌, List, [], ◌∷◌, ◌+
 use Rattle.std.proofs.lemmas.List.{take_all, take_more, take_more_set}
 use Rattle.std.proofs.Math.ListN.{length-set}
 use Rattle.cbor_machine.specs.Machine as machine
-use Rattle.cbor_form.specs.Stages.{frame_of, stacked, stack_of}
+use Rattle.cbor_form.specs.Stages.{frame_of, stack_onto, stack_of}
 use Rattle.cbor_form.specs.declared.frame.Frame.{Frame}
 
-stacked_last : (K : List machine.Frame) (fs : List Frame) (f : Frame) → stacked K (fs ++ f ∷ []) ≡ frame_of f ∷ stacked K fs
-stacked_last K [] f = refl
-stacked_last K (g ∷ fs) f = stacked_last (frame_of g ∷ K) fs f
+stack_onto_last : (K : List machine.Frame) (fs : List Frame) (f : Frame) → stack_onto K (fs ++ f ∷ []) ≡ frame_of f ∷ stack_onto K fs
+stack_onto_last K [] f = refl
+stack_onto_last K (g ∷ fs) f = stack_onto_last (frame_of g ∷ K) fs f
 
-length_stacked : (K : List machine.Frame) (fs : List Frame) → length (stacked K fs) ≡ length K + length fs
-length_stacked K [] = omega arith
-length_stacked K (f ∷ fs) = length_stacked (frame_of f ∷ K) fs ∙ omega arith
+length_stack_onto : (K : List machine.Frame) (fs : List Frame) → length (stack_onto K fs) ≡ length K + length fs
+length_stack_onto K [] = omega arith
+length_stack_onto K (f ∷ fs) = length_stack_onto (frame_of f ∷ K) fs ∙ omega arith
 
 -- as many frames as are in the vector
 pub stack_length : (fs : List Frame) → length (stack_of fs) ≡ length fs
-stack_length fs = length_stacked [] fs ∙ omega arith
+stack_length fs = length_stack_onto [] fs ∙ omega arith
 
 -- a frame that is pushed lies uppermost
 pub stack_pushed : (fs : List Frame) (f : Frame) → stack_of (fs ++ f ∷ []) ≡ frame_of f ∷ stack_of fs
-stack_pushed fs f = stacked_last [] fs f
+stack_pushed fs f = stack_onto_last [] fs f
 
 -- the uppermost frame is the vector's last one
 pub stack_top : (fs : List Frame) (i : ℕ) (f : Frame) → length fs ≡ i + 1 → f ≡ get_or fs i f → stack_of fs ≡ frame_of f ∷ stack_of (take i fs)

@@ -38,12 +38,12 @@ frame_of UntilKey = machine.until_key
 frame_of UntilValue = machine.until_value
 
 -- the frames on top of others, the last one uppermost
-abbrev pub stacked : List machine.Frame → List Frame → List machine.Frame
-stacked below [] = below
-stacked below (f ∷ fs) = stacked (frame_of f ∷ below) fs
+abbrev pub stack_onto : List machine.Frame → List Frame → List machine.Frame
+stack_onto below [] = below
+stack_onto below (f ∷ fs) = stack_onto (frame_of f ∷ below) fs
 
 abbrev pub stack_of : List Frame → List machine.Frame
-stack_of fs = stacked [] fs
+stack_of fs = stack_onto [] fs
 
 abbrev pub state_of : Stage → List machine.Frame → machine.State
 state_of stage.Item K = machine.item K
@@ -60,9 +60,9 @@ IsAwaiting stage.Done = ⊥
 IsAwaiting _ = Unit {0}
 
 -- what is open after an item, with the frame that its container then has
-abbrev pub passed : Option Frame → List machine.Frame → machine.State
-passed None K = machine.give K
-passed (Some f) K = machine.item (frame_of f ∷ K)
+abbrev pub after_frame : Option Frame → List machine.Frame → machine.State
+after_frame None K = machine.give K
+after_frame (Some f) K = machine.item (frame_of f ∷ K)
 
 abbrev pub next_of : Option Stage → List machine.Frame → Option machine.State
 next_of None K = None

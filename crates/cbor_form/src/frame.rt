@@ -1,7 +1,7 @@
 // The stack of what is open.
 ghost use Rattle.std.specs.Prelude.{◌≡◌, ◌<◌, List, ◌∷◌, IfOk};
 ghost use Rattle.cbor_machine.specs.Machine as machine;
-ghost use Rattle.cbor_form.specs.Stages.{frame_of, stack_of, state_of, passed, IsNext};
+ghost use Rattle.cbor_form.specs.Stages.{frame_of, stack_of, state_of, after_frame, IsNext};
 
 use crate::stage::Stage;
 use std::alloc::AllocError;
@@ -20,8 +20,8 @@ pub enum Frame {
 }
 
 // The frame after a whole item, or none where the item was the last one.
-fn passed_item(frame: Frame) -> Option<Frame>
-    ensures { (around : List machine.Frame) → passed result around ≡ machine.give (frame_of frame ∷ around) }
+fn after_item(frame: Frame) -> Option<Frame>
+    ensures { (around : List machine.Frame) → after_frame result around ≡ machine.give (frame_of frame ∷ around) }
 {
     match frame {
         Frame::Rest(0) => None,
@@ -38,7 +38,7 @@ pub(crate) fn end_item(frames: &mut Vec<Frame>) -> Stage
 {
     while !frames.is_empty() {
         let top = frames.len() - 1;
-        match passed_item(frames[top]) {
+        match after_item(frames[top]) {
             Some(frame) => {
                 frames[top] = frame;
                 return Stage::Item;
@@ -66,7 +66,7 @@ pub(crate) fn open_indefinite(
     major: u8,
 ) -> Result<Option<Stage>, AllocError>
     requires { major < 8 }
-    ensures { IfOk result (λ next. IsNext (machine.opened major (stack_of frames.old.items)) next (stack_of frames.old.items) (stack_of frames.new.items)) }
+    ensures { IfOk result (λ next. IsNext (machine.open_indefinite major (stack_of frames.old.items)) next (stack_of frames.old.items) (stack_of frames.new.items)) }
 {
     match major {
         2 | 3 => Ok(Some(Stage::Chunk(major))),

@@ -31,7 +31,7 @@ pub enum Stage {
 
 // What follows the head of a string.
 fn await_body(frames: &mut Vec<Frame>, length: u64) -> Stage
-    ensures { state_of result (stack_of frames.new.items) ≡ machine.held length (stack_of frames.old.items) }
+    ensures { state_of result (stack_of frames.new.items) ≡ machine.await_content length (stack_of frames.old.items) }
 {
     if length == 0 {
         end_item(frames)
@@ -42,7 +42,7 @@ fn await_body(frames: &mut Vec<Frame>, length: u64) -> Stage
 
 // What follows the head of a chunk.
 fn await_chunk_body(major: u8, length: u64) -> Stage
-    ensures { (around : List machine.Frame) → state_of result around ≡ machine.chunk_held major length around }
+    ensures { (around : List machine.Frame) → state_of result around ≡ machine.await_chunk_content major length around }
 {
     if length == 0 {
         Stage::Chunk(major)

@@ -8,7 +8,7 @@ use Rattle.cbor_data.specs.declared.Width.{Width}
 use Rattle.cbor_data.specs.declared.Width.TheVariants.{W16, W32, W64}
 use Rattle.cbor_data.specs.Value.{AreBytes}
 use Rattle.cbor_data.specs.Forms.{Form, uint_form, nint_form, bytes_form, bytes_chunks, text_form, text_chunks, array_form, array_to_break, pairs_form, pairs_to_break, tag_form, simple_inside, simple_next, float_form, Forms, no_forms, form, PairForms, no_pair_forms, pair_form, flat, forms_flat, pair_forms_flat, forms_len, pair_forms_len, IsOk, IsWellFormed, Begins, AreFormsOk, ArePairFormsOk, Chunk, chunk_bytes, chunks_bytes, AreChunksOk, ArgumentSize, inside, one, two, four, eight, head_in, FitsSize}
-use Rattle.cbor_machine.specs.Machine.{State, Frame, rest, until, until_key, until_value, item, argument, body, chunk, chunk_argument, chunk_body, simple, done, held, chunk_held, start_chunk, twice, ask, wide, after, give, step, steps, start, info_of, given, more, opens_container}
+use Rattle.cbor_machine.specs.Machine.{State, Frame, rest, until, until_key, until_value, item, argument, body, chunk, chunk_argument, chunk_body, simple, done, await_content, await_chunk_content, start_chunk, twice, ask, wide, after, give, step, steps, start, info_of, given, more, opens_container}
 
 major_of : (m i : ℕ) → i < 32 → initial m i / 32 ≡ m
 major_of m i h = omega arith
@@ -42,7 +42,7 @@ head four m n K r small h = rw (first m 26 K (omega arith), wide_is m 3 K small)
 head eight m n K r small h = rw (first m 27 K (omega arith), wide_is m 7 K small) (ap (λ a. steps (after m a K) r) (omega (arith, from_be_bytes-to_be_bytes_8 n h)))
 
 -- the bytes of a string
-pub string : (s : List ℕ) (K : List Frame) (r : List ℕ) → steps (held (length s) K) (s ++ r) ≡ steps (give K) r
+pub string : (s : List ℕ) (K : List Frame) (r : List ℕ) → steps (await_content (length s) K) (s ++ r) ≡ steps (give K) r
 string [] K r = refl
 string (b ∷ []) K r = refl
 string (b ∷ c ∷ s) K r = string (c ∷ s) K r
@@ -57,14 +57,14 @@ chunk_first m i K small h =
     let same : (m == m) ≡ true = grind (arith, nat_tests) in
     rw (other, major_of m i h, info_in m i h, same) refl
 
-chunk_head : (p : ArgumentSize) (m n : ℕ) (K : List Frame) (r : List ℕ) → m < 7 → FitsSize p n → steps (chunk m K) (head_in p m n ++ r) ≡ steps (chunk_held m n K) r
+chunk_head : (p : ArgumentSize) (m n : ℕ) (K : List Frame) (r : List ℕ) → m < 7 → FitsSize p n → steps (chunk m K) (head_in p m n ++ r) ≡ steps (await_chunk_content m n K) r
 chunk_head inside m n K r small h = rw (chunk_first m n K small (omega arith), info_of-given n h) refl
-chunk_head one m n K r small h = rw (chunk_first m 24 K small (omega arith)) (ap (λ a. steps (chunk_held m a K) r) (omega arith))
-chunk_head two m n K r small h = rw (chunk_first m 25 K small (omega arith)) (ap (λ a. steps (chunk_held m a K) r) (omega (arith, from_be_bytes-to_be_bytes_2 n h)))
-chunk_head four m n K r small h = rw (chunk_first m 26 K small (omega arith)) (ap (λ a. steps (chunk_held m a K) r) (omega (arith, from_be_bytes-to_be_bytes_4 n h)))
-chunk_head eight m n K r small h = rw (chunk_first m 27 K small (omega arith)) (ap (λ a. steps (chunk_held m a K) r) (omega (arith, from_be_bytes-to_be_bytes_8 n h)))
+chunk_head one m n K r small h = rw (chunk_first m 24 K small (omega arith)) (ap (λ a. steps (await_chunk_content m a K) r) (omega arith))
+chunk_head two m n K r small h = rw (chunk_first m 25 K small (omega arith)) (ap (λ a. steps (await_chunk_content m a K) r) (omega (arith, from_be_bytes-to_be_bytes_2 n h)))
+chunk_head four m n K r small h = rw (chunk_first m 26 K small (omega arith)) (ap (λ a. steps (await_chunk_content m a K) r) (omega (arith, from_be_bytes-to_be_bytes_4 n h)))
+chunk_head eight m n K r small h = rw (chunk_first m 27 K small (omega arith)) (ap (λ a. steps (await_chunk_content m a K) r) (omega (arith, from_be_bytes-to_be_bytes_8 n h)))
 
-chunk_string : (m : ℕ) (s : List ℕ) (K : List Frame) (r : List ℕ) → steps (chunk_held m (length s) K) (s ++ r) ≡ steps (chunk m K) r
+chunk_string : (m : ℕ) (s : List ℕ) (K : List Frame) (r : List ℕ) → steps (await_chunk_content m (length s) K) (s ++ r) ≡ steps (chunk m K) r
 chunk_string m [] K r = refl
 chunk_string m (b ∷ []) K r = refl
 chunk_string m (b ∷ c ∷ s) K r = chunk_string m (c ∷ s) K r
@@ -72,8 +72,8 @@ chunk_string m (b ∷ c ∷ s) K r = chunk_string m (c ∷ s) K r
 chunks_forward : (m : ℕ) (cs : List Chunk) (K : List Frame) (r : List ℕ) → m < 7 → AreChunksOk cs → steps (chunk m K) (chunks_bytes m cs ++ r) ≡ steps (chunk m K) r
 chunks_forward m [] K r small ok = refl
 chunks_forward m (c ∷ cs) K r small ok =
-    ap (steps (chunk m K)) (append_assoc (chunk_bytes m c) (chunks_bytes m cs) r ∙ append_assoc (head_in c.size m (length c.held)) c.held (chunks_bytes m cs ++ r))
-    ∙ chunk_head c.size m (length c.held) K (c.held ++ (chunks_bytes m cs ++ r)) small ok.0.0 ∙ chunk_string m c.held K (chunks_bytes m cs ++ r) ∙ chunks_forward m cs K r small ok.1
+    ap (steps (chunk m K)) (append_assoc (chunk_bytes m c) (chunks_bytes m cs) r ∙ append_assoc (head_in c.size m (length c.content)) c.content (chunks_bytes m cs ++ r))
+    ∙ chunk_head c.size m (length c.content) K (c.content ++ (chunks_bytes m cs ++ r)) small ok.0.0 ∙ chunk_string m c.content K (chunks_bytes m cs ++ r) ∙ chunks_forward m cs K r small ok.1
 
 float_forward : (w : Width) (n : ℕ) (K : List Frame) (r : List ℕ) → steps (item K) (float_bytes w n ++ r) ≡ steps (give K) r
 float_forward W16 n K r = refl
@@ -156,9 +156,9 @@ body_completes : (n : ℕ) (K : List Frame) → Completes (body n K)
 body_completes zero K = by _ (give K) 0 (omega arith) refl refl (give_completes K)
 body_completes (suc n) K = by _ (body n K) 0 (omega arith) refl refl (body_completes n K)
 
-held_completes : (n : ℕ) (K : List Frame) → Completes (held n K)
-held_completes zero K = give_completes K
-held_completes (suc n) K = body_completes n K
+content_completes : (n : ℕ) (K : List Frame) → Completes (await_content n K)
+content_completes zero K = give_completes K
+content_completes (suc n) K = body_completes n K
 
 chunk_completes : (m : ℕ) (K : List Frame) → Completes (chunk m K)
 chunk_completes m K = by _ (give K) 255 (omega arith) refl refl (give_completes K)
@@ -167,15 +167,15 @@ chunk_body_completes : (m n : ℕ) (K : List Frame) → Completes (chunk_body m 
 chunk_body_completes m zero K = by _ (chunk m K) 0 (omega arith) refl refl (chunk_completes m K)
 chunk_body_completes m (suc n) K = by _ (chunk_body m n K) 0 (omega arith) refl refl (chunk_body_completes m n K)
 
-chunk_held_completes : (m n : ℕ) (K : List Frame) → Completes (chunk_held m n K)
-chunk_held_completes m zero K = chunk_completes m K
-chunk_held_completes m (suc n) K = chunk_body_completes m n K
+chunk_content_completes : (m n : ℕ) (K : List Frame) → Completes (await_chunk_content m n K)
+chunk_content_completes m zero K = chunk_completes m K
+chunk_content_completes m (suc n) K = chunk_body_completes m n K
 
 after_completes : (m n : ℕ) (K : List Frame) → Completes (after m n K)
 after_completes zero n K = give_completes K
 after_completes (suc zero) n K = give_completes K
-after_completes (suc (suc zero)) n K = held_completes n K
-after_completes (suc (suc (suc zero))) n K = held_completes n K
+after_completes (suc (suc zero)) n K = content_completes n K
+after_completes (suc (suc (suc zero))) n K = content_completes n K
 after_completes (suc (suc (suc (suc zero)))) n K = ask_completes n K (give_completes K)
 after_completes (suc (suc (suc (suc (suc zero))))) n K = ask_completes (twice n) K (give_completes K)
 after_completes (suc (suc (suc (suc (suc (suc zero)))))) n K = ask_completes 1 K (give_completes K)
@@ -186,7 +186,7 @@ argument_completes zero m n K = by _ (after m (n * 256 + 0) K) 0 (omega arith) r
 argument_completes (suc k) m n K = by _ (argument m k (n * 256 + 0) K) 0 (omega arith) refl refl (argument_completes k m (n * 256 + 0) K)
 
 chunk_argument_completes : (k m n : ℕ) (K : List Frame) → Completes (chunk_argument m k n K)
-chunk_argument_completes zero m n K = by _ (chunk_held m (n * 256 + 0) K) 0 (omega arith) refl refl (chunk_held_completes m (n * 256 + 0) K)
+chunk_argument_completes zero m n K = by _ (await_chunk_content m (n * 256 + 0) K) 0 (omega arith) refl refl (chunk_content_completes m (n * 256 + 0) K)
 chunk_argument_completes (suc k) m n K = by _ (chunk_argument m k (n * 256 + 0) K) 0 (omega arith) refl refl (chunk_argument_completes k m (n * 256 + 0) K)
 
 -- whatever is in the stack

@@ -8,7 +8,7 @@ use Rattle.cbor_data.specs.declared.Width.TheVariants.{W16, W32, W64}
 use Rattle.cbor_data.specs.Value.{AreBytes, FitsWidth}
 use Rattle.cbor_data.specs.Preferred.{initial, float_bytes}
 use Rattle.cbor_data.specs.Forms.{ArgumentSize, inside, one, two, four, eight, head_in, FitsSize, Form, uint_form, nint_form, bytes_form, bytes_chunks, text_form, text_chunks, array_form, array_to_break, pairs_form, pairs_to_break, tag_form, simple_inside, simple_next, float_form, Forms, no_forms, form, PairForms, no_pair_forms, pair_form, Chunk, chunk_bytes, chunks_bytes, AreChunksOk, forms_len, pair_forms_len, flat, forms_flat, pair_forms_flat, IsOk, AreFormsOk, ArePairFormsOk, IsWellFormed}
-use Rattle.cbor_machine.specs.Machine.{State, Frame, rest, until, until_key, until_value, item, argument, body, chunk, chunk_argument, chunk_body, simple, done, held, chunk_held, start_chunk, twice, ask, wide, after, give, step, steps, start, info_of, Info, given, more, indefinite, reserved, opened, break}
+use Rattle.cbor_machine.specs.Machine.{State, Frame, rest, until, until_key, until_value, item, argument, body, chunk, chunk_argument, chunk_body, simple, done, await_content, await_chunk_content, start_chunk, twice, ask, wide, after, give, step, steps, start, info_of, Info, given, more, indefinite, reserved, open_indefinite, break}
 
 -- one more form at the end
 abbrev pub forms_and : Forms → Form → Forms
@@ -260,10 +260,10 @@ full eight m s are len some = record {
   fits = eight_fits s are len;
 }
 
-held_keeps : (n : ℕ) (K : List Frame) (b c : List ℕ) (p : ArgumentSize) (m : ℕ) → IsString m → Within K b → FitsSize p n → c ≡ b ++ head_in p m n → Reached (held n K) c
-held_keeps zero K b c p _ (inl e) w fits is = give_keeps K b c (bytes_form p []) w (fits, tt) (is ∙ ap (λ x. b ++ x) (ap (λ m. head_in p m 0) e ∙ sym (append-nil (head_in p 2 0))))
-held_keeps zero K b c p _ (inr e) w fits is = give_keeps K b c (text_form p []) w (fits, tt) (is ∙ ap (λ x. b ++ x) (ap (λ m. head_in p m 0) e ∙ sym (append-nil (head_in p 3 0))))
-held_keeps (suc n) K b c p m e w fits is = of_string b p m (suc n) [] w e fits tt (omega arith) (is ∙ ap (λ x. b ++ x) (sym (append-nil (head_in p m (suc n)))))
+content_keeps : (n : ℕ) (K : List Frame) (b c : List ℕ) (p : ArgumentSize) (m : ℕ) → IsString m → Within K b → FitsSize p n → c ≡ b ++ head_in p m n → Reached (await_content n K) c
+content_keeps zero K b c p _ (inl e) w fits is = give_keeps K b c (bytes_form p []) w (fits, tt) (is ∙ ap (λ x. b ++ x) (ap (λ m. head_in p m 0) e ∙ sym (append-nil (head_in p 2 0))))
+content_keeps zero K b c p _ (inr e) w fits is = give_keeps K b c (text_form p []) w (fits, tt) (is ∙ ap (λ x. b ++ x) (ap (λ m. head_in p m 0) e ∙ sym (append-nil (head_in p 3 0))))
+content_keeps (suc n) K b c p m e w fits is = of_string b p m (suc n) [] w e fits tt (omega arith) (is ∙ ap (λ x. b ++ x) (sym (append-nil (head_in p m (suc n)))))
 
 asked_array : (n : ℕ) (K : List Frame) (b c : List ℕ) (p : ArgumentSize) → Within K b → FitsSize p n → c ≡ b ++ head_in p 4 n → Reached (ask n K) c
 asked_array zero K b c p w fits is = give_keeps K b c (array_form p no_forms) w (fits, tt) (is ∙ ap (λ x. b ++ x) (sym (append-nil (head_in p 4 0))))
@@ -277,8 +277,8 @@ asked_pairs (suc n) K b c p w fits is = at_key b p (suc n) n no_pair_forms w fit
 after_keeps : (m n : ℕ) (K : List Frame) (b c : List ℕ) (p : ArgumentSize) → m < 7 → Within K b → FitsSize p n → c ≡ b ++ head_in p m n → Reached (after m n K) c
 after_keeps zero n K b c p small w fits is = give_keeps K b c (uint_form p n) w fits is
 after_keeps (suc zero) n K b c p small w fits is = give_keeps K b c (nint_form p n) w fits is
-after_keeps (suc (suc zero)) n K b c p small w fits is = held_keeps n K b c p 2 (inl refl) w fits is
-after_keeps (suc (suc (suc zero))) n K b c p small w fits is = held_keeps n K b c p 3 (inr refl) w fits is
+after_keeps (suc (suc zero)) n K b c p small w fits is = content_keeps n K b c p 2 (inl refl) w fits is
+after_keeps (suc (suc (suc zero))) n K b c p small w fits is = content_keeps n K b c p 3 (inr refl) w fits is
 after_keeps (suc (suc (suc (suc zero)))) n K b c p small w fits is = asked_array n K b c p w fits is
 after_keeps (suc (suc (suc (suc (suc zero))))) n K b c p small w fits is = asked_pairs n K b c p w fits is
 after_keeps (suc (suc (suc (suc (suc (suc zero)))))) n K b c p small w fits is = in_tag b p n w fits refl is
@@ -353,7 +353,7 @@ at_break t (until_key ∷ K) b c (at_open_key a ps w oks f) e is =
     let to : give K ≡ t = cc in
     subst (λ s. Reached s c) to (give_keeps K a c (pairs_to_break ps) w oks (is ∙ (ap (λ x. x ++ (255 ∷ [])) f ∙ longer a (initial 5 31 ∷ []) (pair_forms_flat ps) (255 ∷ []))))
 
-opened_keeps : (m : ℕ) (t : State) (K : List Frame) (b c : List ℕ) → m < 8 → Within K b → opened m K ≡ Some t → c ≡ b ++ (initial m 31 ∷ []) → Reached t c
+opened_keeps : (m : ℕ) (t : State) (K : List Frame) (b c : List ℕ) → m < 8 → Within K b → open_indefinite m K ≡ Some t → c ≡ b ++ (initial m 31 ∷ []) → Reached t c
 opened_keeps zero t K b c small w e is = absurd (cc)
 opened_keeps (suc zero) t K b c small w e is = absurd (cc)
 opened_keeps (suc (suc zero)) t K b c small w e is =
@@ -391,7 +391,7 @@ start_keeps m i t K b c small (says_more p k is_info least width f) w e is =
     let to : wide m k K ≡ t = (let g : start m (more k) K ≡ Some t = subst (λ j. start m j K ≡ Some t) f e in cc) in
     subst (λ s. Reached s c) to (wide_keeps m k K b c p small w width (is ∙ ap (λ j. b ++ (initial m j ∷ [])) is_info))
 start_keeps m i t K b c small (says_indefinite is_info f) w e is =
-    let to : opened m K ≡ Some t = subst (λ j. start m j K ≡ Some t) f e in
+    let to : open_indefinite m K ≡ Some t = subst (λ j. start m j K ≡ Some t) f e in
     opened_keeps m t K b c small w to (is ∙ ap (λ j. b ++ (initial m j ∷ [])) is_info)
 start_keeps m i t K b c small (says_reserved low high f) w e is =
     let none : start m reserved K ≡ Some t = subst (λ j. start m j K ≡ Some t) f e in absurd (cc)
@@ -405,13 +405,13 @@ chunks_and : (m : ℕ) (cs : List Chunk) (c : Chunk) → chunks_bytes m (cs ++ c
 chunks_and m [] c = append-nil (chunk_bytes m c)
 chunks_and m (d ∷ cs) c = ap (λ b. chunk_bytes m d ++ b) (chunks_and m cs c) ∙ sym (append_assoc (chunk_bytes m d) (chunks_bytes m cs) (chunk_bytes m c))
 
-chunks_and-ok : (cs : List Chunk) (c : Chunk) → AreChunksOk cs → FitsSize c.size (length c.held) → AreBytes c.held → AreChunksOk (cs ++ c ∷ [])
+chunks_and-ok : (cs : List Chunk) (c : Chunk) → AreChunksOk cs → FitsSize c.size (length c.content) → AreBytes c.content → AreChunksOk (cs ++ c ∷ [])
 chunks_and-ok [] c ok fits are = ((fits, are), tt)
 chunks_and-ok (d ∷ cs) c ok fits are = (ok.0, chunks_and-ok cs c ok.1 fits are)
 
 chunk_whole : (m : ℕ) (K : List Frame) (b c : List ℕ) (p : ArgumentSize) (s : List ℕ) → ChunksRead m K b → FitsSize p (length s) → AreBytes s → c ≡ b ++ (head_in p m (length s) ++ s) → ChunksRead m K c
 chunk_whole m K b c p s r fits are is =
-    let d : Chunk = record { size = p; held = s } in
+    let d : Chunk = record { size = p; content = s } in
     record {
       before = r.before;
       chunks = r.chunks ++ d ∷ [];
@@ -422,14 +422,14 @@ chunk_whole m K b c p s r fits are is =
           ∙ ap (λ x. r.before ++ (initial m 31 ∷ x)) (sym (chunks_and m r.chunks d))));
     }
 
-chunk_held_keeps : (m n : ℕ) (K : List Frame) (b c : List ℕ) (p : ArgumentSize) → ChunksRead m K b → FitsSize p n → c ≡ b ++ head_in p m n → Reached (chunk_held m n K) c
-chunk_held_keeps m zero K b c p r fits is = chunk_whole m K b c p [] r fits tt (is ∙ ap (λ x. b ++ x) (sym (append-nil (head_in p m 0))))
-chunk_held_keeps m (suc n) K b c p r fits is = (b, p, suc n, [], r, fits, tt, omega arith, is ∙ ap (λ x. b ++ x) (sym (append-nil (head_in p m (suc n)))))
+chunk_content_keeps : (m n : ℕ) (K : List Frame) (b c : List ℕ) (p : ArgumentSize) → ChunksRead m K b → FitsSize p n → c ≡ b ++ head_in p m n → Reached (await_chunk_content m n K) c
+chunk_content_keeps m zero K b c p r fits is = chunk_whole m K b c p [] r fits tt (is ∙ ap (λ x. b ++ x) (sym (append-nil (head_in p m 0))))
+chunk_content_keeps m (suc n) K b c p r fits is = (b, p, suc n, [], r, fits, tt, omega arith, is ∙ ap (λ x. b ++ x) (sym (append-nil (head_in p m (suc n)))))
 
 start_chunk_keeps : (m i : ℕ) (t : State) (K : List Frame) (b c : List ℕ) → Information i → ChunksRead m K b → start_chunk m (info_of i) K ≡ Some t → c ≡ b ++ (initial m i ∷ []) → Reached t c
 start_chunk_keeps m i t K b c (says_given few f) r e is =
-    let to : chunk_held m i K ≡ t = (let g : start_chunk m (given i) K ≡ Some t = subst (λ j. start_chunk m j K ≡ Some t) f e in cc) in
-    subst (λ s. Reached s c) to (chunk_held_keeps m i K b c inside r few is)
+    let to : await_chunk_content m i K ≡ t = (let g : start_chunk m (given i) K ≡ Some t = subst (λ j. start_chunk m j K ≡ Some t) f e in cc) in
+    subst (λ s. Reached s c) to (chunk_content_keeps m i K b c inside r few is)
 start_chunk_keeps m i t K b c (says_more p k is_info least width f) r e is =
     let to : chunk_argument m k 0 K ≡ t = (let g : start_chunk m (more k) K ≡ Some t = subst (λ j. start_chunk m j K ≡ Some t) f e in cc) in
     subst (λ s. Reached s c) to (b, p, [], r, record { are = tt; len = omega (arith, width); number = refl }, is ∙ ap (λ j. b ++ (initial m j ∷ [])) is_info)
@@ -540,9 +540,9 @@ step_keeps (body (suc k) K) t c x r small e =
     subst (λ u. Reached u (c ++ x ∷ [])) to (body_on k K c x r small)
 step_keeps (chunk m K) t c x r small e = chunk_step m x t K c r small e
 step_keeps (chunk_argument m zero n K) t c x (b, p, s, r, part, is) small e =
-    let to : chunk_held m (n * 256 + x) K ≡ t = cc in
+    let to : await_chunk_content m (n * 256 + x) K ≡ t = cc in
     let head = filled p m n x s part small in
-    subst (λ u. Reached u (c ++ x ∷ [])) to (chunk_held_keeps m (n * 256 + x) K b (c ++ x ∷ []) p r head.1 (ap (λ y. y ++ x ∷ []) is ∙ (append_assoc b (initial m (width_info p) ∷ s) (x ∷ []) ∙ ap (λ y. b ++ y) head.0)))
+    subst (λ u. Reached u (c ++ x ∷ [])) to (chunk_content_keeps m (n * 256 + x) K b (c ++ x ∷ []) p r head.1 (ap (λ y. y ++ x ∷ []) is ∙ (append_assoc b (initial m (width_info p) ∷ s) (x ∷ []) ∙ ap (λ y. b ++ y) head.0)))
 step_keeps (chunk_argument m (suc k) n K) t c x (b, p, s, r, part, is) small e =
     let to : chunk_argument m k (n * 256 + x) K ≡ t = cc in
     subst (λ u. Reached u (c ++ x ∷ [])) to (b, p, s ++ x ∷ [], r, pushed p k n x s part small, ap (λ y. y ++ x ∷ []) is ∙ append_assoc b (initial m (width_info p) ∷ s) (x ∷ []))

@@ -6,7 +6,7 @@ use Rattle.std.proofs.lemmas.Bool.{cases_lt}
 use Rattle.cbor_data.specs.Value.{AreBytes}
 use Rattle.cbor_data.specs.Validity.{IsFirstRepeatedKey}
 use Rattle.cbor_data.specs.Forms.{Form, HasText, meaning, IsWellFormed, Begins, IsUnfinished}
-use Rattle.cbor_data.specs.Faults.{Bounds, StandsAt, malformed, deep, long, IsBadTextAt, IsWholeFront, IsKindOf, IsFaultOf, of_form, of_end, of_text, of_key}
+use Rattle.cbor_data.specs.Faults.{Bounds, IsFormFaultAt, malformed, deep, long, IsBadTextAt, IsWholeFront, IsKindOf, IsFaultOf, of_form, of_end, of_text, of_key}
 use Rattle.cbor_data.specs.declared.FaultKind.{FaultKind}
 use Rattle.cbor_data.proofs.Lemmas.{one_form, unfinished_no_front, good_text, one_text}
 use Rattle.cbor_machine.specs.Machine.{State, item, done, step, steps}
@@ -49,7 +49,7 @@ small_at [] i are = omega arith
 small_at (x ∷ b) zero are = are.0
 small_at (x ∷ b) (suc i) are = small_at b i are.1
 
-same_kind : (l : Bounds) (o : ℕ) (b : List ℕ) (p : ℕ) (j k : FaultKind) → AreBytes b → IsUnfinished (take p b) → StandsAt l o b p j → StandsAt l o b p k → j ≡ k
+same_kind : (l : Bounds) (o : ℕ) (b : List ℕ) (p : ℕ) (j k : FaultKind) → AreBytes b → IsUnfinished (take p b) → IsFormFaultAt l o b p j → IsFormFaultAt l o b p k → j ≡ k
 same_kind l o b p j k are u (malformed h none r) (malformed g never t) =
     one_kind (take p b) (get_or b p 0) _ _ (bytes-take p b are) (small_at b p are) u (λ w. none (subst Begins (sym (take_more b p 0 h)) w)) r t
 same_kind l o b p j k are u (malformed h none r) (deep g begins not) = absurd (none begins)
@@ -65,9 +65,9 @@ whole_formed : (l : Bounds) (o : ℕ) (b : List ℕ) (n : ℕ) (f : Form) → Is
 whole_formed l o b n f w = record { written = f; ok = w.ok; is = w.is }
 
 -- where a front is whole the form goes wrong nowhere
-form_no_whole : (l : Bounds) (o : ℕ) (b : List ℕ) (p n : ℕ) (k : FaultKind) (f : Form) → IsUnfinished (take p b) → StandsAt l o b p k → IsWholeFront l o b n f → ⊥
-form_no_whole l o b p n k f u stands w = elim (cases_lt p n) [
-  | inl h ↦ w.before p k h stands
+form_no_whole : (l : Bounds) (o : ℕ) (b : List ℕ) (p n : ℕ) (k : FaultKind) (f : Form) → IsUnfinished (take p b) → IsFormFaultAt l o b p k → IsWholeFront l o b n f → ⊥
+form_no_whole l o b p n k f u fault w = elim (cases_lt p n) [
+  | inl h ↦ w.before p k h fault
   | inr h ↦ unfinished_no_front (take p b) (take n b) (take (p - n) (drop n b)) u (whole_formed l o b n f w) (parts h)
 ]
   where
@@ -95,7 +95,7 @@ one l o b j k at to are (of_form p h u s c e) (of_form q g v t d f) = elim (case
     | inl below ↦ absurd (c q _ below t)
     | inr up ↦
         let same : p ≡ q = omega (arith, above, up) in
-        (same_kind l o b p j k are u s (subst (λ n. StandsAt l o b n k) (sym same) t), e ∙ (ap (λ n. o + n) same ∙ sym f))
+        (same_kind l o b p j k are u s (subst (λ n. IsFormFaultAt l o b n k) (sym same) t), e ∙ (ap (λ n. o + n) same ∙ sym f))
   ]
 ]
 one l o b j k at to are (of_form p h u s c e) (of_end some v d f) = absurd (d p _ (omega (arith, h)) s)

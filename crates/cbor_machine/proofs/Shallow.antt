@@ -9,7 +9,7 @@ use Rattle.cbor_data.specs.Value.{depth_of, values_depth, pairs_depth}
 use Rattle.cbor_data.specs.Preferred.{initial, float_bytes}
 use Rattle.cbor_data.specs.Forms.{ArgumentSize, inside, one, two, four, eight, head_in, FitsSize, Form, uint_form, nint_form, bytes_form, bytes_chunks, text_form, text_chunks, array_form, array_to_break, pairs_form, pairs_to_break, tag_form, simple_inside, simple_next, float_form, Forms, no_forms, form, PairForms, no_pair_forms, pair_form, Chunk, chunk_bytes, chunks_bytes, AreChunksOk, forms_len, pair_forms_len, flat, forms_flat, pair_forms_flat, meaning, meanings, pair_meanings, IsOk, AreFormsOk, ArePairFormsOk, IsWellFormed}
 use Rattle.cbor_data.specs.Faults.{BeginsWithin}
-use Rattle.cbor_machine.specs.Machine.{State, Frame, rest, until, until_key, until_value, item, argument, body, chunk, chunk_argument, chunk_body, simple, done, held, chunk_held, start_chunk, twice, ask, wide, after, give, step, steps, start, info_of, given, more, opens_container, step_in, steps_in}
+use Rattle.cbor_machine.specs.Machine.{State, Frame, rest, until, until_key, until_value, item, argument, body, chunk, chunk_argument, chunk_body, simple, done, await_content, await_chunk_content, start_chunk, twice, ask, wide, after, give, step, steps, start, info_of, given, more, opens_container, step_in, steps_in}
 use Rattle.cbor_machine.specs.Reads.{Leads, LeadsWithin}
 use Rattle.cbor_machine.proofs.Forward.{first, info_of-given, wide_is, give_rest, chunk_first, completes, Completes, AreQuiet, steps-append}
 use Rattle.cbor_machine.proofs.Keeping.{done_whole, bytes-append, tested}
@@ -58,19 +58,19 @@ full_head d two m n K r h e none = rw (container_full d m 25 K (omega arith) e n
 full_head d four m n K r h e none = rw (container_full d m 26 K (omega arith) e none) refl
 full_head d eight m n K r h e none = rw (container_full d m 27 K (omega arith) e none) refl
 
-string_in : (d : ℕ) (s : List ℕ) (K : List Frame) (r : List ℕ) → steps_in d (held (length s) K) (s ++ r) ≡ steps_in d (give K) r
+string_in : (d : ℕ) (s : List ℕ) (K : List Frame) (r : List ℕ) → steps_in d (await_content (length s) K) (s ++ r) ≡ steps_in d (give K) r
 string_in d [] K r = refl
 string_in d (b ∷ []) K r = refl
 string_in d (b ∷ c ∷ s) K r = string_in d (c ∷ s) K r
 
-chunk_head_in : (d : ℕ) (p : ArgumentSize) (m n : ℕ) (K : List Frame) (r : List ℕ) → m < 7 → FitsSize p n → steps_in d (chunk m K) (head_in p m n ++ r) ≡ steps_in d (chunk_held m n K) r
+chunk_head_in : (d : ℕ) (p : ArgumentSize) (m n : ℕ) (K : List Frame) (r : List ℕ) → m < 7 → FitsSize p n → steps_in d (chunk m K) (head_in p m n ++ r) ≡ steps_in d (await_chunk_content m n K) r
 chunk_head_in d inside m n K r small h = rw (chunk_first m n K small (omega arith), info_of-given n h) refl
-chunk_head_in d one m n K r small h = rw (chunk_first m 24 K small (omega arith)) (ap (λ a. steps_in d (chunk_held m a K) r) (omega arith))
-chunk_head_in d two m n K r small h = rw (chunk_first m 25 K small (omega arith)) (ap (λ a. steps_in d (chunk_held m a K) r) (omega (arith, from_be_bytes-to_be_bytes_2 n h)))
-chunk_head_in d four m n K r small h = rw (chunk_first m 26 K small (omega arith)) (ap (λ a. steps_in d (chunk_held m a K) r) (omega (arith, from_be_bytes-to_be_bytes_4 n h)))
-chunk_head_in d eight m n K r small h = rw (chunk_first m 27 K small (omega arith)) (ap (λ a. steps_in d (chunk_held m a K) r) (omega (arith, from_be_bytes-to_be_bytes_8 n h)))
+chunk_head_in d one m n K r small h = rw (chunk_first m 24 K small (omega arith)) (ap (λ a. steps_in d (await_chunk_content m a K) r) (omega arith))
+chunk_head_in d two m n K r small h = rw (chunk_first m 25 K small (omega arith)) (ap (λ a. steps_in d (await_chunk_content m a K) r) (omega (arith, from_be_bytes-to_be_bytes_2 n h)))
+chunk_head_in d four m n K r small h = rw (chunk_first m 26 K small (omega arith)) (ap (λ a. steps_in d (await_chunk_content m a K) r) (omega (arith, from_be_bytes-to_be_bytes_4 n h)))
+chunk_head_in d eight m n K r small h = rw (chunk_first m 27 K small (omega arith)) (ap (λ a. steps_in d (await_chunk_content m a K) r) (omega (arith, from_be_bytes-to_be_bytes_8 n h)))
 
-chunk_string_in : (d m : ℕ) (s : List ℕ) (K : List Frame) (r : List ℕ) → steps_in d (chunk_held m (length s) K) (s ++ r) ≡ steps_in d (chunk m K) r
+chunk_string_in : (d m : ℕ) (s : List ℕ) (K : List Frame) (r : List ℕ) → steps_in d (await_chunk_content m (length s) K) (s ++ r) ≡ steps_in d (chunk m K) r
 chunk_string_in d m [] K r = refl
 chunk_string_in d m (b ∷ []) K r = refl
 chunk_string_in d m (b ∷ c ∷ s) K r = chunk_string_in d m (c ∷ s) K r
@@ -78,8 +78,8 @@ chunk_string_in d m (b ∷ c ∷ s) K r = chunk_string_in d m (c ∷ s) K r
 chunks_in : (d m : ℕ) (cs : List Chunk) (K : List Frame) (r : List ℕ) → m < 7 → AreChunksOk cs → steps_in d (chunk m K) (chunks_bytes m cs ++ r) ≡ steps_in d (chunk m K) r
 chunks_in d m [] K r small ok = refl
 chunks_in d m (c ∷ cs) K r small ok =
-    ap (steps_in d (chunk m K)) (append_assoc (chunk_bytes m c) (chunks_bytes m cs) r ∙ append_assoc (head_in c.size m (length c.held)) c.held (chunks_bytes m cs ++ r))
-    ∙ chunk_head_in d c.size m (length c.held) K (c.held ++ (chunks_bytes m cs ++ r)) small ok.0.0 ∙ chunk_string_in d m c.held K (chunks_bytes m cs ++ r) ∙ chunks_in d m cs K r small ok.1
+    ap (steps_in d (chunk m K)) (append_assoc (chunk_bytes m c) (chunks_bytes m cs) r ∙ append_assoc (head_in c.size m (length c.content)) c.content (chunks_bytes m cs ++ r))
+    ∙ chunk_head_in d c.size m (length c.content) K (c.content ++ (chunks_bytes m cs ++ r)) small ok.0.0 ∙ chunk_string_in d m c.content K (chunks_bytes m cs ++ r) ∙ chunks_in d m cs K r small ok.1
 
 float_in : (d : ℕ) (w : Width) (n : ℕ) (K : List Frame) (r : List ℕ) → steps_in d (item K) (float_bytes w n ++ r) ≡ steps_in d (give K) r
 float_in d W16 n K r = refl

@@ -5,7 +5,7 @@ use Rattle.std.proofs.Math.Seq.{take-append_seam, take-append-add, get_or-append
 use Rattle.std.proofs.lemmas.Bool.Decides.{nat_tests}
 use Rattle.cbor_data.specs.Value.{AreBytes}
 use Rattle.cbor_data.specs.Forms.{IsWellFormed, Begins, IsUnfinished}
-use Rattle.cbor_data.specs.Faults.{Bounds, last_offset, BeginsWithin, StandsAt, malformed, deep, long, IsClearBefore, IsWholeFront, IsFaultOf, of_form, of_end, IsKindOf}
+use Rattle.cbor_data.specs.Faults.{Bounds, last_offset, BeginsWithin, IsFormFaultAt, malformed, deep, long, IsClearBefore, IsWholeFront, IsFaultOf, of_form, of_end, IsKindOf}
 use Rattle.cbor_data.specs.declared.FaultKind.{FaultKind}
 use Rattle.cbor_data.specs.declared.FaultKind.TheVariants.{TooDeep, TooLong, Truncated}
 use Rattle.cbor_machine.specs.Machine.{State, item, done, step, steps, step_in, steps_in, refused_kind}
@@ -33,7 +33,7 @@ within_begins d b w = (w.more, record { written = w.written; ok = w.ok; is = w.i
 
 -- nothing is wrong before the end of what was read, however it goes on
 pub clear : (l : Bounds) (o : ℕ) (b : List ℕ) (s : State) (rest : List ℕ) → Reads l o b s → IsClearBefore l o (b ++ rest) (length b)
-clear l o b s rest r q kind below stands = at stands
+clear l o b s rest r q kind below fault = at fault
   where
     same : take (q + 1) (b ++ rest) ≡ take (q + 1) b
     same = take-append-le (q + 1) b rest (omega arith)
@@ -41,7 +41,7 @@ clear l o b s rest r q kind below stands = at stands
     within : BeginsWithin l.depth (take (q + 1) (b ++ rest))
     within = subst (BeginsWithin l.depth) (sym same) (front_begins_within l.depth b (q + 1) (leads_begins_within l.depth b s r.leads))
 
-    at : {kind : FaultKind} → StandsAt l o (b ++ rest) q kind → ⊥
+    at : {kind : FaultKind} → IsFormFaultAt l o (b ++ rest) q kind → ⊥
     at (malformed h none is) = none (within_begins l.depth (take (q + 1) (b ++ rest)) within)
     at (deep h begins not) = not within
     at (long w (inl e)) = let short : length b ≤ l.item_bytes = r.short in omega arith
@@ -79,10 +79,10 @@ next_byte b more x = get_or-append_seam b x more 0
 inside : (b more : List ℕ) (x : ℕ) → length b < length (b ++ x ∷ more)
 inside b more x = omega (arith, length-append b (x ∷ more))
 
-told_at : (l : Bounds) (o : ℕ) (b more : List ℕ) (s : State) (x : ℕ) (kind : FaultKind) → Reads l o b s → s ≢ done → StandsAt l o (b ++ x ∷ more) (length b) kind → IsFaultOf l o (b ++ x ∷ more) kind (o + length b)
-told_at l o b more s x kind r live stands =
+told_at : (l : Bounds) (o : ℕ) (b more : List ℕ) (s : State) (x : ℕ) (kind : FaultKind) → Reads l o b s → s ≢ done → IsFormFaultAt l o (b ++ x ∷ more) (length b) kind → IsFaultOf l o (b ++ x ∷ more) kind (o + length b)
+told_at l o b more s x kind r live fault =
     let within : length b < length (b ++ x ∷ more) = inside b more x in
-    of_form (length b) (omega arith) (subst IsUnfinished (sym (front b (x ∷ more))) (unfinished l o b s r live)) stands (clear l o b s (x ∷ more) r) refl
+    of_form (length b) (omega arith) (subst IsUnfinished (sym (front b (x ∷ more))) (unfinished l o b s r live)) fault (clear l o b s (x ∷ more) r) refl
 
 -- a byte that no item has there
 pub tell_form : (l : Bounds) (o : ℕ) (b more : List ℕ) (s : State) (x : ℕ) → Reads l o b s → s ≢ done → x < 256 → step s x ≡ None → IsFaultOf l o (b ++ x ∷ more) (refused_kind s x) (o + length b)
@@ -158,14 +158,14 @@ tell_end l o b s r live some room = of_end some (unfinished l o b s r live) none
     before : IsClearBefore l o b (length b)
     before = subst (λ c. IsClearBefore l o c (length b)) (append-nil b) (clear l o b s [] r)
 
-    at : (q : ℕ) (kind : FaultKind) → q ≡ length b → StandsAt l o b q kind → ⊥
+    at : (q : ℕ) (kind : FaultKind) → q ≡ length b → IsFormFaultAt l o b q kind → ⊥
     at q _ e (malformed h n k) = omega arith
     at q _ e (deep h n k) = omega arith
     at q _ e (long w (inl f)) = omega arith
     at q _ e (long w (inr f)) = omega arith
 
     none : IsClearBefore l o b (suc (length b))
-    none q kind h stands = elim (tested (nat_lt q (length b))) [
-      | inl t ↦ before q kind (grind (arith, nat_tests)) stands
-      | inr t ↦ let e : q ≡ length b = (let g : length b ≤ q = grind (arith, nat_tests) in omega arith) in at q kind e stands
+    none q kind h fault = elim (tested (nat_lt q (length b))) [
+      | inl t ↦ before q kind (grind (arith, nat_tests)) fault
+      | inr t ↦ let e : q ≡ length b = (let g : length b ≤ q = grind (arith, nat_tests) in omega arith) in at q kind e fault
     ]

@@ -34,13 +34,13 @@ abbrev pub ask : ℕ → List Frame → State
 ask zero K = give K
 ask (suc n) K = item (rest n ∷ K)
 
-abbrev pub held : ℕ → List Frame → State
-held zero K = give K
-held (suc n) K = body n K
+abbrev pub await_content : ℕ → List Frame → State
+await_content zero K = give K
+await_content (suc n) K = body n K
 
-abbrev pub chunk_held : ℕ → ℕ → List Frame → State
-chunk_held m zero K = chunk m K
-chunk_held m (suc n) K = chunk_body m n K
+abbrev pub await_chunk_content : ℕ → ℕ → List Frame → State
+await_chunk_content m zero K = chunk m K
+await_chunk_content m (suc n) K = chunk_body m n K
 
 abbrev pub twice : ℕ → ℕ
 twice zero = zero
@@ -50,8 +50,8 @@ twice (suc n) = suc (suc (twice n))
 abbrev pub after : ℕ → ℕ → List Frame → State
 after zero n K = give K
 after (suc zero) n K = give K
-after (suc (suc zero)) n K = held n K
-after (suc (suc (suc zero))) n K = held n K
+after (suc (suc zero)) n K = await_content n K
+after (suc (suc (suc zero))) n K = await_content n K
 after (suc (suc (suc (suc zero)))) n K = ask n K
 after (suc (suc (suc (suc (suc zero))))) n K = ask (twice n) K
 after (suc (suc (suc (suc (suc (suc zero)))))) n K = ask 1 K
@@ -82,24 +82,24 @@ wide (suc (suc (suc (suc (suc (suc (suc m))))))) zero K = simple K
 wide (suc (suc (suc (suc (suc (suc (suc m))))))) (suc k) K = body (suc k) K
 wide m k K = argument m k 0 K
 
-abbrev pub opened : ℕ → List Frame → Option State
-opened zero K = None
-opened (suc zero) K = None
-opened (suc (suc zero)) K = Some (chunk 2 K)
-opened (suc (suc (suc zero))) K = Some (chunk 3 K)
-opened (suc (suc (suc (suc zero)))) K = Some (item (until ∷ K))
-opened (suc (suc (suc (suc (suc zero))))) K = Some (item (until_key ∷ K))
-opened (suc (suc (suc (suc (suc (suc zero)))))) K = None
-opened (suc (suc (suc (suc (suc (suc (suc m))))))) K = break K
+abbrev pub open_indefinite : ℕ → List Frame → Option State
+open_indefinite zero K = None
+open_indefinite (suc zero) K = None
+open_indefinite (suc (suc zero)) K = Some (chunk 2 K)
+open_indefinite (suc (suc (suc zero))) K = Some (chunk 3 K)
+open_indefinite (suc (suc (suc (suc zero)))) K = Some (item (until ∷ K))
+open_indefinite (suc (suc (suc (suc (suc zero))))) K = Some (item (until_key ∷ K))
+open_indefinite (suc (suc (suc (suc (suc (suc zero)))))) K = None
+open_indefinite (suc (suc (suc (suc (suc (suc (suc m))))))) K = break K
 
 abbrev pub start : ℕ → Info → List Frame → Option State
 start m (given n) K = Some (after m n K)
 start m (more k) K = Some (wide m k K)
-start m indefinite K = opened m K
+start m indefinite K = open_indefinite m K
 start m reserved K = None
 
 abbrev pub start_chunk : ℕ → Info → List Frame → Option State
-start_chunk m (given n) K = Some (chunk_held m n K)
+start_chunk m (given n) K = Some (await_chunk_content m n K)
 start_chunk m (more k) K = Some (chunk_argument m k 0 K)
 start_chunk m indefinite K = None
 start_chunk m reserved K = None
@@ -111,7 +111,7 @@ step (argument m (suc k) n K) b = Some (argument m k (n * 256 + b) K)
 step (body zero K) b = Some (give K)
 step (body (suc k) K) b = Some (body k K)
 step (chunk m K) b = if b == 255 then Some (give K) else (if b / 32 == m then start_chunk m (info_of (b % 32)) K else None)
-step (chunk_argument m zero n K) b = Some (chunk_held m (n * 256 + b) K)
+step (chunk_argument m zero n K) b = Some (await_chunk_content m (n * 256 + b) K)
 step (chunk_argument m (suc k) n K) b = Some (chunk_argument m k (n * 256 + b) K)
 step (chunk_body m zero K) b = Some (chunk m K)
 step (chunk_body m (suc k) K) b = Some (chunk_body m k K)

@@ -26,8 +26,8 @@ cut_at seen piece more k h =
     sym (append_assoc (seen ++ take k piece) (x ∷ rest) more) ∙ ap (λ b. b ++ more) (append_assoc seen (take k piece) (x ∷ rest) ∙ ap (λ b. seen ++ b) parts)
 
 -- the same, between two
-pub cut_behind : (seen piece more : List ℕ) (k : ℕ) → (seen ++ take k piece) ++ (drop k piece ++ more) ≡ (seen ++ piece) ++ more
-cut_behind seen piece more k =
+pub cut_after : (seen piece more : List ℕ) (k : ℕ) → (seen ++ take k piece) ++ (drop k piece ++ more) ≡ (seen ++ piece) ++ more
+cut_after seen piece more k =
     sym (append_assoc (seen ++ take k piece) (drop k piece) more) ∙ ap (λ b. b ++ more) (append_assoc seen (take k piece) (drop k piece) ∙ ap (λ b. seen ++ b) (take-append-drop k piece))
 
 pub front_length : (seen piece : List ℕ) (k : ℕ) → k ≤ length piece → length (seen ++ take k piece) ≡ length seen + k

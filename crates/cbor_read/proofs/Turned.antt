@@ -6,7 +6,7 @@ use Rattle.cbor_data.specs.Faults.{Bounds, IsClearBefore, IsFaultOf}
 use Rattle.cbor_machine.specs.Machine.{State, done}
 use Rattle.cbor_machine.specs.Reads.{Reads}
 use Rattle.cbor_machine.proofs.Lemmas.{leads_begins_within, clear, unfinished, whole}
-use Rattle.cbor_read.specs.Reading.{Reading, reading_on}
+use Rattle.cbor_read.specs.Reading.{Reading, open_reading}
 use Rattle.cbor_read.specs.Answers.{IsAnswer, IsGoingOn, IsUsedUpTo}
 use Rattle.cbor_read.specs.Outcomes.{IsOfValue, IsWrong}
 use Rattle.cbor_read.specs.Steps.{IsHalted}
@@ -16,7 +16,7 @@ use Rattle.cbor_data.specs.declared.FaultKind.{FaultKind}
 use Rattle.cbor_data.specs.declared.FaultKind.TheVariants.{BadText, DuplicateKey}
 use Rattle.cbor_read.specs.declared.fault.Stop.{Stop}
 use Rattle.cbor_read.specs.declared.reader.Fed.TheVariants.{More}
-use Rattle.cbor_read.proofs.Pieces.{cut_behind}
+use Rattle.cbor_read.proofs.Pieces.{cut_after}
 
 abbrev pub reading : Bounds → ℕ → List ℕ → Option Stop → Reading
 reading l o fed s = record { limits = l; offset = o; fed = fed; stopped = s }
@@ -27,11 +27,11 @@ used_up old piece used at DuplicateKey v w = w
 used_up old piece used at _ v w = absurd v
 
 -- what is told of a whole item
-pub value_fault : (l : Bounds) (o : ℕ) (seen piece : List ℕ) (used : ℕ) (fault : Fault) → used ≤ length piece → Reads l o (seen ++ take used piece) done → IsWrong l o (seen ++ take used piece) fault → IsFaultTurn (reading_on l o seen) piece used fault
+pub value_fault : (l : Bounds) (o : ℕ) (seen piece : List ℕ) (used : ℕ) (fault : Fault) → used ≤ length piece → Reads l o (seen ++ take used piece) done → IsWrong l o (seen ++ take used piece) fault → IsFaultTurn (open_reading l o seen) piece used fault
 value_fault l o seen piece used fault within r w = record {
   within = within;
-  told = λ more. subst (λ c. IsFaultOf l o c fault.kind fault.at) (cut_behind seen piece more used) (w.told (drop used piece ++ more));
-  place = used_up (reading_on l o seen) piece used fault.at fault.kind w.value (whole l o (seen ++ take used piece) r);
+  told = λ more. subst (λ c. IsFaultOf l o c fault.kind fault.at) (cut_after seen piece more used) (w.told (drop used piece ++ more));
+  place = used_up (open_reading l o seen) piece used fault.at fault.kind w.value (whole l o (seen ++ take used piece) r);
 }
 
 pub none_of : (o : Option Stop) → ((s : Stop) → o ≡ Some s → ⊥) → o ≡ None

@@ -11,5 +11,5 @@ pub record Reading : Type 0 where
   pub stopped : Option Stop
 
 -- a reader that has not stopped
-abbrev pub reading_on : Bounds → ℕ → List ℕ → Reading
-reading_on limits offset fed = record { limits = limits; offset = offset; fed = fed; stopped = None }
+abbrev pub open_reading : Bounds → ℕ → List ℕ → Reading
+open_reading limits offset fed = record { limits = limits; offset = offset; fed = fed; stopped = None }

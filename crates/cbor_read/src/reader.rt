@@ -3,7 +3,7 @@ ghost use Rattle.std.specs.Prelude.{◌≡◌, ◌≢◌, [], None, IfOk};
 ghost use Rattle.cbor_machine.specs.Machine.{done};
 ghost use Rattle.cbor_machine.specs.Reads.{Reads};
 ghost use Rattle.cbor_read.specs.Answers.{IsAgain, IsAnswer, IsEnd};
-ghost use Rattle.cbor_read.specs.Reading.{reading_on};
+ghost use Rattle.cbor_read.specs.Reading.{open_reading};
 ghost use Rattle.cbor_read.specs.Turns.{IsTurn};
 
 use crate::fault::{Fault, Stop};
@@ -152,7 +152,7 @@ fn take_turn(
 ) -> Result<Fed, AllocError>
     requires live { form.old ≢ done }
     requires reads { Reads limits offset bytes.old.items form.old }
-    ensures { IfOk result (λ fed. IsTurn (reading_on limits offset bytes.old.items) piece.now fed bytes.new.items form.new) }
+    ensures { IfOk result (λ fed. IsTurn (open_reading limits offset bytes.old.items) piece.now fed bytes.new.items form.new) }
 {
     match follow(limits, offset, bytes, form, piece)? {
         Advance::Open => {

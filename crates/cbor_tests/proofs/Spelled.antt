@@ -9,7 +9,7 @@ pub spelled : (f : Form) → IsOk f → depth_of (meaning f) ≤ 256 → IsWhole
 spelled f ok shallow = record { written = f; ok = ok; is = refl; shallow = shallow }
 
 abbrev pub chunk : ArgumentSize → List ℕ → Chunk
-chunk p s = record { size = p; held = s }
+chunk p s = record { size = p; content = s }
 
 -- an array in an array and so on, round 0
 nest : ℕ → Form

@@ -10,13 +10,13 @@ use Rattle.cbor_data.specs.Preferred.{initial, float_bytes}
 use Rattle.cbor_data.specs.Forms.{ArgumentSize, inside, one, two, four, eight, head_in, FitsSize, Form, uint_form, nint_form, bytes_form, bytes_chunks, text_form, text_chunks, array_form, array_to_break, pairs_form, pairs_to_break, tag_form, simple_inside, simple_next, float_form, forms_len, pair_forms_len, flat, IsOk}
 use Rattle.cbor_value.specs.declared.head.Head.{Head}
 use Rattle.cbor_value.specs.declared.head.Head.TheVariants.{Simple}
-use Rattle.cbor_value.specs.Heads.{head_of, head_bytes, content, opened_head, definite_head, IsInfo, width, number_of, Stands, IsHeaded, StandsHead, IsHead, IsArgument}
+use Rattle.cbor_value.specs.Heads.{head_of, head_bytes, content, opened_head, definite_head, IsInfo, width, number_of, IsFormAt, IsHeaded, IsHeadAt, IsHead, IsArgument}
 
 -- offsets
 
 -- what is after xs
-pub behind : (b : List ℕ) (at end : ℕ) (xs ys : List ℕ) → drop at b ≡ xs ++ ys → end ≡ at + length xs → drop end b ≡ ys
-behind b at end xs ys is e = ap (λ n. drop n b) e ∙ (sym (drop-drop (length xs) at b) ∙ (ap (drop (length xs)) is ∙ drop-append_seam xs ys))
+pub after : (b : List ℕ) (at end : ℕ) (xs ys : List ℕ) → drop at b ≡ xs ++ ys → end ≡ at + length xs → drop end b ≡ ys
+after b at end xs ys is e = ap (λ n. drop n b) e ∙ (sym (drop-drop (length xs) at b) ∙ (ap (drop (length xs)) is ∙ drop-append_seam xs ys))
 
 -- where something is, the bytes reach
 pub within : (b : List ℕ) (at : ℕ) (xs ys : List ℕ) → drop at b ≡ xs ++ ys → 0 < length xs → at + length xs ≤ length b
@@ -102,7 +102,7 @@ pub record IsSplit (b : List ℕ) (at : ℕ) (p : ArgumentSize) (m n : ℕ) (bac
   pub within : at + 1 + length (digits p n) ≤ length b
   pub end : at + length (head_in p m n) ≡ at + 1 + length (digits p n)
 
-pub split : (b : List ℕ) (at : ℕ) (p : ArgumentSize) (m n : ℕ) (back : List ℕ) → StandsHead b at p m n back → IsSplit b at p m n back
+pub split : (b : List ℕ) (at : ℕ) (p : ArgumentSize) (m n : ℕ) (back : List ℕ) → IsHeadAt b at p m n back → IsSplit b at p m n back
 split b at p m n back s =
     let is : drop at b ≡ initial m (size_info p n) ∷ (digits p n ++ back) = s.is ∙ ap (λ h. h ++ back) (head_split p m n) in
     let byte : get_or b at 0 ≡ initial m (size_info p n) = byte_at b at (initial m (size_info p n)) (digits p n ++ back) is in
@@ -113,21 +113,21 @@ split b at p m n back s =
       few = byte_within b at (initial m (size_info p n)) (digits p n ++ back) is;
       major = omega arith;
       info = omega arith;
-      rest = behind b at (at + 1) (initial m (size_info p n) ∷ []) (digits p n ++ back) is refl;
+      rest = after b at (at + 1) (initial m (size_info p n) ∷ []) (digits p n ++ back) is refl;
       within = omega (arith, within b at (head_in p m n) back s.is (omega arith));
       end = omega arith;
     }
 
-pub argument_inside : (b : List ℕ) (at : ℕ) (p : ArgumentSize) (m n : ℕ) (back : List ℕ) (info : ℕ) → StandsHead b at p m n back → info ≡ get_or b at 0 % 32 → info < 24 → IsArgument b at p m n back (info, at + 1)
+pub argument_inside : (b : List ℕ) (at : ℕ) (p : ArgumentSize) (m n : ℕ) (back : List ℕ) (info : ℕ) → IsHeadAt b at p m n back → info ≡ get_or b at 0 % 32 → info < 24 → IsArgument b at p m n back (info, at + 1)
 argument_inside b at p m n back info s e small =
     let t = split b at p m n back s in
     let same : info ≡ size_info p n = e ∙ t.info in
     let d : (n ≡ size_info p n) × (length (digits p n) ≡ 0) = digits_inside p n (omega arith) in
     let none : length (digits p n) ≡ 0 = d.1 in
     let end : at + 1 ≡ at + length (head_in p m n) = omega (arith, t.end) in
-    record { value = same ∙ sym d.0; end = end; behind = behind b at (at + 1) (head_in p m n) back s.is end }
+    record { value = same ∙ sym d.0; end = end; after = after b at (at + 1) (head_in p m n) back s.is end }
 
-pub argument_wide : (b : List ℕ) (at : ℕ) (p : ArgumentSize) (m n : ℕ) (back : List ℕ) (info value : ℕ) → StandsHead b at p m n back → info ≡ get_or b at 0 % 32 → 24 ≤ info → value ≡ number_of (take (width info) (drop (at + 1) b)) → IsArgument b at p m n back (value, at + 1 + width info)
+pub argument_wide : (b : List ℕ) (at : ℕ) (p : ArgumentSize) (m n : ℕ) (back : List ℕ) (info value : ℕ) → IsHeadAt b at p m n back → info ≡ get_or b at 0 % 32 → 24 ≤ info → value ≡ number_of (take (width info) (drop (at + 1) b)) → IsArgument b at p m n back (value, at + 1 + width info)
 argument_wide b at p m n back info value s e large v =
     let t = split b at p m n back s in
     let same : info ≡ size_info p n = e ∙ t.info in
@@ -138,10 +138,10 @@ argument_wide b at p m n back info value s e large v =
     record {
       value = v ∙ (ap (λ k. number_of (take k (drop (at + 1) b))) count ∙ (ap (λ r. number_of (take (length (digits p n)) r)) t.rest ∙ (ap number_of (take-append_seam (digits p n) back) ∙ digits_value p n s.fits wide)));
       end = end;
-      behind = behind b at (at + 1 + width info) (head_in p m n) back s.is end;
+      after = after b at (at + 1 + width info) (head_in p m n) back s.is end;
     }
 
-pub wide_within : (b : List ℕ) (at : ℕ) (p : ArgumentSize) (m n : ℕ) (back : List ℕ) (info : ℕ) → StandsHead b at p m n back → info ≡ get_or b at 0 % 32 → 24 ≤ info → at + 1 + width info ≤ length b
+pub wide_within : (b : List ℕ) (at : ℕ) (p : ArgumentSize) (m n : ℕ) (back : List ℕ) (info : ℕ) → IsHeadAt b at p m n back → info ≡ get_or b at 0 % 32 → 24 ≤ info → at + 1 + width info ≤ length b
 wide_within b at p m n back info s e large =
     let t = split b at p m n back s in
     let same : info ≡ size_info p n = e ∙ t.info in
@@ -201,8 +201,8 @@ kind (float_form W32 n) ok = definite four 7 n (omega arith) ok refl refl
 kind (float_form W64 n) ok = definite eight 7 n (omega arith) ok refl refl
 
 -- the head is where the form is
-pub head_stands : (b : List ℕ) (at : ℕ) (f : Form) (back : List ℕ) → Stands b at f back → drop at b ≡ head_bytes f ++ (content f ++ back)
-head_stands b at f back s = s.is ∙ (ap (λ x. x ++ back) (flat_is f) ∙ append_assoc (head_bytes f) (content f) back)
+pub head_there : (b : List ℕ) (at : ℕ) (f : Form) (back : List ℕ) → IsFormAt b at f back → drop at b ≡ head_bytes f ++ (content f ++ back)
+head_there b at f back s = s.is ∙ (ap (λ x. x ++ back) (flat_is f) ∙ append_assoc (head_bytes f) (content f) back)
 
 -- a form has a first byte, and it is no break
 pub record IsFirst (b : List ℕ) (at : ℕ) : Type 0 where
@@ -214,69 +214,69 @@ opened_first b at m rest small is =
     let byte : get_or b at 0 ≡ initial m 31 = byte_at b at (initial m 31) rest is in
     record { few = byte_within b at (initial m 31) rest is; starts = omega arith }
 
-definite_stands : (b : List ℕ) (at : ℕ) (f : Form) (back : List ℕ) (p : ArgumentSize) (m n : ℕ) → Stands b at f back → m < 8 → FitsSize p n → head_bytes f ≡ head_in p m n → StandsHead b at p m n (content f ++ back)
-definite_stands b at f back p m n s small fits is = record { major = small; fits = fits; is = head_stands b at f back s ∙ ap (λ h. h ++ (content f ++ back)) is }
+definite_there : (b : List ℕ) (at : ℕ) (f : Form) (back : List ℕ) (p : ArgumentSize) (m n : ℕ) → IsFormAt b at f back → m < 8 → FitsSize p n → head_bytes f ≡ head_in p m n → IsHeadAt b at p m n (content f ++ back)
+definite_there b at f back p m n s small fits is = record { major = small; fits = fits; is = head_there b at f back s ∙ ap (λ h. h ++ (content f ++ back)) is }
 
-opened_stands : (b : List ℕ) (at : ℕ) (f : Form) (back : List ℕ) (m : ℕ) → Stands b at f back → head_bytes f ≡ initial m 31 ∷ [] → drop at b ≡ initial m 31 ∷ (content f ++ back)
-opened_stands b at f back m s is = head_stands b at f back s ∙ ap (λ h. h ++ (content f ++ back)) is
+opened_there : (b : List ℕ) (at : ℕ) (f : Form) (back : List ℕ) (m : ℕ) → IsFormAt b at f back → head_bytes f ≡ initial m 31 ∷ [] → drop at b ≡ initial m 31 ∷ (content f ++ back)
+opened_there b at f back m s is = head_there b at f back s ∙ ap (λ h. h ++ (content f ++ back)) is
 
-pub first : (b : List ℕ) (at : ℕ) (f : Form) (back : List ℕ) → Stands b at f back → IsFirst b at
+pub first : (b : List ℕ) (at : ℕ) (f : Form) (back : List ℕ) → IsFormAt b at f back → IsFirst b at
 first b at f back s = elim (kind f s.ok) [
   | definite p m n small fits is head ↦
-      let t = split b at p m n (content f ++ back) (definite_stands b at f back p m n s small fits is) in
+      let t = split b at p m n (content f ++ back) (definite_there b at f back p m n s small fits is) in
       let info : size_info p n < 28 = info_below p n fits in
       let starts : get_or b at 0 < 255 = omega (arith, t.info) in
       record { few = t.few; starts = starts }
-  | opened m small is head ↦ opened_first b at m (content f ++ back) small (opened_stands b at f back m s is)
+  | opened m small is head ↦ opened_first b at m (content f ++ back) small (opened_there b at f back m s is)
 ]
 
 -- of additional information 31 the head is indefinite
-pub headed_opened : (b : List ℕ) (at : ℕ) (f : Form) (back : List ℕ) (major info : ℕ) (h : Head) → Stands b at f back → major ≡ get_or b at 0 / 32 → info ≡ get_or b at 0 % 32 → info ≡ 31 → h ≡ opened_head major → IsHeaded b at f back (h, at + 1)
+pub headed_opened : (b : List ℕ) (at : ℕ) (f : Form) (back : List ℕ) (major info : ℕ) (h : Head) → IsFormAt b at f back → major ≡ get_or b at 0 / 32 → info ≡ get_or b at 0 % 32 → info ≡ 31 → h ≡ opened_head major → IsHeaded b at f back (h, at + 1)
 headed_opened b at f back major info h s a e last is = elim (kind f s.ok) [
   | definite p m n small fits bytes head ↦
-      let t = split b at p m n (content f ++ back) (definite_stands b at f back p m n s small fits bytes) in
+      let t = split b at p m n (content f ++ back) (definite_there b at f back p m n s small fits bytes) in
       let below : size_info p n < 28 = info_below p n fits in
       absurd (omega (arith, t.info))
   | opened m small bytes head ↦
-      let first : get_or b at 0 ≡ initial m 31 = byte_at b at (initial m 31) (content f ++ back) (opened_stands b at f back m s bytes) in
+      let first : get_or b at 0 ≡ initial m 31 = byte_at b at (initial m 31) (content f ++ back) (opened_there b at f back m s bytes) in
       let same : major ≡ m = omega arith in
       let end : at + 1 ≡ at + length (head_bytes f) = omega (arith, ap length bytes) in
-      record { head = is ∙ (ap opened_head same ∙ head); end = end; behind = behind b at (at + 1) (head_bytes f) (content f ++ back) (head_stands b at f back s) end }
+      record { head = is ∙ (ap opened_head same ∙ head); end = end; after = after b at (at + 1) (head_bytes f) (content f ++ back) (head_there b at f back s) end }
 ]
 
 opened_info : (b : List ℕ) (at m info : ℕ) (rest : List ℕ) → m < 6 → drop at b ≡ initial m 31 ∷ rest → info ≡ get_or b at 0 % 32 → info ≡ 31
 opened_info b at m info rest small is e = let first : get_or b at 0 ≡ initial m 31 = byte_at b at (initial m 31) rest is in omega arith
 
 -- of other additional information it is definite
-pub is_head : (b : List ℕ) (at : ℕ) (f : Form) (back : List ℕ) (info : ℕ) → Stands b at f back → info ≡ get_or b at 0 % 32 → (info ≡ 31 → ⊥) → IsHead b at
+pub is_head : (b : List ℕ) (at : ℕ) (f : Form) (back : List ℕ) (info : ℕ) → IsFormAt b at f back → info ≡ get_or b at 0 % 32 → (info ≡ 31 → ⊥) → IsHead b at
 is_head b at f back info s e other = elim (kind f s.ok) [
-  | definite p m n small fits bytes head ↦ record { size = p; major = m; argument = n; back = content f ++ back; stands = definite_stands b at f back p m n s small fits bytes }
-  | opened m small bytes head ↦ absurd (other (opened_info b at m info (content f ++ back) small (opened_stands b at f back m s bytes) e))
+  | definite p m n small fits bytes head ↦ record { size = p; major = m; argument = n; back = content f ++ back; there = definite_there b at f back p m n s small fits bytes }
+  | opened m small bytes head ↦ absurd (other (opened_info b at m info (content f ++ back) small (opened_there b at f back m s bytes) e))
 ]
 
 -- any argument that is read there
 abbrev pub ReadsArgument : List ℕ → ℕ → ℕ × ℕ → Type 0
-ReadsArgument b at r = (p : ArgumentSize) (m n : ℕ) (back : List ℕ) → StandsHead b at p m n back → IsArgument b at p m n back r
+ReadsArgument b at r = (p : ArgumentSize) (m n : ℕ) (back : List ℕ) → IsHeadAt b at p m n back → IsArgument b at p m n back r
 
 pub is_info : (b : List ℕ) (at info : ℕ) (r : ℕ × ℕ) → IsHead b at → ReadsArgument b at r → info ≡ get_or b at 0 % 32 → IsInfo info r.0
 is_info b at info r h reads e =
-    let a = reads h.size h.major h.argument h.back h.stands in
-    let t = split b at h.size h.major h.argument h.back h.stands in
-    subst (λ i. IsInfo i r.0) (sym (e ∙ t.info)) (subst (IsInfo (size_info h.size h.argument)) (sym a.value) (info_value h.size h.argument h.stands.fits))
+    let a = reads h.size h.major h.argument h.back h.there in
+    let t = split b at h.size h.major h.argument h.back h.there in
+    subst (λ i. IsInfo i r.0) (sym (e ∙ t.info)) (subst (IsInfo (size_info h.size h.argument)) (sym a.value) (info_value h.size h.argument h.there.fits))
 
-pub headed_definite : (b : List ℕ) (at : ℕ) (f : Form) (back : List ℕ) (major info : ℕ) (r : ℕ × ℕ) (h : Head) → Stands b at f back → major ≡ get_or b at 0 / 32 → info ≡ get_or b at 0 % 32 → (info ≡ 31 → ⊥) → ReadsArgument b at r → h ≡ definite_head major info r.0 → IsHeaded b at f back (h, r.1)
+pub headed_definite : (b : List ℕ) (at : ℕ) (f : Form) (back : List ℕ) (major info : ℕ) (r : ℕ × ℕ) (h : Head) → IsFormAt b at f back → major ≡ get_or b at 0 / 32 → info ≡ get_or b at 0 % 32 → (info ≡ 31 → ⊥) → ReadsArgument b at r → h ≡ definite_head major info r.0 → IsHeaded b at f back (h, r.1)
 headed_definite b at f back major info r h s a e other reads is = elim (kind f s.ok) [
   | definite p m n small fits bytes head ↦
-      let there = definite_stands b at f back p m n s small fits bytes in
+      let there = definite_there b at f back p m n s small fits bytes in
       let t = split b at p m n (content f ++ back) there in
       let read = reads p m n (content f ++ back) there in
       let end : r.1 ≡ at + length (head_bytes f) = read.end ∙ ap (λ x. at + length x) (sym bytes) in
       record {
         head = is ∙ (ap₂ (λ x y. definite_head x y r.0) (a ∙ t.major) (e ∙ t.info) ∙ (ap (definite_head m (size_info p n)) read.value ∙ head));
         end = end;
-        behind = read.behind;
+        after = read.after;
       }
-  | opened m small bytes head ↦ absurd (other (opened_info b at m info (content f ++ back) small (opened_stands b at f back m s bytes) e))
+  | opened m small bytes head ↦ absurd (other (opened_info b at m info (content f ++ back) small (opened_there b at f back m s bytes) e))
 ]
 
 pub flat_some : (f : Form) → IsOk f → 0 < length (flat f)

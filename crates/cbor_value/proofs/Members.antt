@@ -7,16 +7,16 @@ use Rattle.cbor_data.specs.Forms.{Form, Forms, no_forms, form, forms_len, flat, 
 use Rattle.cbor_data.specs.Faults.{IsBadTextAmong}
 use Rattle.cbor_item.specs.View.{values_view}
 use Rattle.cbor_item.specs.declared.item.Item.{Item}
-use Rattle.cbor_value.specs.Heads.{Stands}
-use Rattle.cbor_value.specs.Items.{IsAwaited, IsRead, StandsForms, AreRead}
+use Rattle.cbor_value.specs.Heads.{IsFormAt}
+use Rattle.cbor_value.specs.Items.{IsAwaited, IsRead, AreFormsAt, AreRead}
 use Rattle.cbor_value.specs.declared.value.Unread.{Unread}
 use Rattle.cbor_value.specs.declared.value.Unread.TheVariants.{BadText, Memory}
-use Rattle.cbor_value.proofs.Heads.{behind, byte_at, byte_within, first, flat_some}
+use Rattle.cbor_value.proofs.Heads.{after, byte_at, byte_within, first, flat_some}
 use Rattle.cbor_value.proofs.Views.{values_then, values_then-push, values_then-none}
 
 -- the members from `start` to `at` were read as these items; the others are at `at`
 pub record IsUpTo (b : List ℕ) (start at : ℕ) (fs : Forms) (rest : List ℕ) (items : List Item) (left : Forms) : Type 0 where
-  pub stands : StandsForms b at left rest
+  pub there : AreFormsAt b at left rest
   pub seen : ℕ
   pub placed : at ≡ start + seen
   pub size : length (forms_flat fs) ≡ seen + length (forms_flat left)
@@ -30,11 +30,11 @@ pub record AreSeen (b : List ℕ) (start at : ℕ) (fs : Forms) (rest : List ℕ
   pub left : Forms
   pub so_far : IsUpTo b start at fs rest items left
 
-pub begin : (b : List ℕ) (start : ℕ) (fs : Forms) (rest : List ℕ) → StandsForms b start fs rest → AreSeen b start start fs rest []
+pub begin : (b : List ℕ) (start : ℕ) (fs : Forms) (rest : List ℕ) → AreFormsAt b start fs rest → AreSeen b start start fs rest []
 begin b start fs rest s = record {
   left = fs;
   so_far = record {
-    stands = s;
+    there = s;
     seen = 0;
     placed = omega arith;
     size = omega arith;
@@ -51,10 +51,10 @@ pub record HasNext (b : List ℕ) (start at : ℕ) (fs : Forms) (rest : List ℕ
   pub next : Form
   pub left : Forms
   pub so_far : IsUpTo b start at fs rest items (form next left)
-  pub stands : Stands b at next (forms_flat left ++ rest)
+  pub there : IsFormAt b at next (forms_flat left ++ rest)
 
-first_stands : (b : List ℕ) (at : ℕ) (f : Form) (fs : Forms) (rest : List ℕ) → StandsForms b at (form f fs) rest → Stands b at f (forms_flat fs ++ rest)
-first_stands b at f fs rest s = record { ok = s.ok.0; is = s.is ∙ append_assoc (flat f) (forms_flat fs) rest }
+first_there : (b : List ℕ) (at : ℕ) (f : Form) (fs : Forms) (rest : List ℕ) → AreFormsAt b at (form f fs) rest → IsFormAt b at f (forms_flat fs ++ rest)
+first_there b at f fs rest s = record { ok = s.ok.0; is = s.is ∙ append_assoc (flat f) (forms_flat fs) rest }
 
 -- while fewer were read than there are
 pub next_counted : (b : List ℕ) (start at : ℕ) (fs : Forms) (rest : List ℕ) (items : List Item) → AreSeen b start at fs rest items → length items < forms_len fs → HasNext b start at fs rest items
@@ -62,42 +62,42 @@ next_counted b start at fs rest items s less = from s.left s.so_far
   where
     from : (left : Forms) → IsUpTo b start at fs rest items left → HasNext b start at fs rest items
     from no_forms t = absurd (omega (arith, t.count))
-    from (form f left) t = record { next = f; left = left; so_far = t; stands = first_stands b at f left rest t.stands }
+    from (form f left) t = record { next = f; left = left; so_far = t; there = first_there b at f left rest t.there }
 
 -- at another byte than the break
 pub next_unbroken : (b : List ℕ) (start at : ℕ) (fs : Forms) (back : List ℕ) (items : List Item) → AreSeen b start at fs (255 ∷ back) items → get_or b at 0 ≢ 255 → HasNext b start at fs (255 ∷ back) items
 next_unbroken b start at fs back items s other = from s.left s.so_far
   where
     from : (left : Forms) → IsUpTo b start at fs (255 ∷ back) items left → HasNext b start at fs (255 ∷ back) items
-    from no_forms t = absurd (other (byte_at b at 255 back t.stands.is))
-    from (form f left) t = record { next = f; left = left; so_far = t; stands = first_stands b at f left (255 ∷ back) t.stands }
+    from no_forms t = absurd (other (byte_at b at 255 back t.there.is))
+    from (form f left) t = record { next = f; left = left; so_far = t; there = first_there b at f left (255 ∷ back) t.there }
 
 -- up to the break there is a byte
 pub unbroken_within : (b : List ℕ) (start at : ℕ) (fs : Forms) (back : List ℕ) (items : List Item) → AreSeen b start at fs (255 ∷ back) items → at < length b
 unbroken_within b start at fs back items s = from s.left s.so_far
   where
     from : (left : Forms) → IsUpTo b start at fs (255 ∷ back) items left → at < length b
-    from no_forms t = byte_within b at 255 back t.stands.is
-    from (form f left) t = (first b at f (forms_flat left ++ 255 ∷ back) (first_stands b at f left (255 ∷ back) t.stands)).few
+    from no_forms t = byte_within b at 255 back t.there.is
+    from (form f left) t = (first b at f (forms_flat left ++ 255 ∷ back) (first_there b at f left (255 ∷ back) t.there)).few
 
 pub next_awaited : (b : List ℕ) (start at : ℕ) (fs : Forms) (rest : List ℕ) (items : List Item) (depth : ℕ) → HasNext b start at fs rest items → values_depth (meanings fs) ≤ depth → IsAwaited depth b at
-next_awaited b start at fs rest items depth n h = record { written = n.next; back = forms_flat n.left ++ rest; stands = n.stands; shallow = omega (arith, n.so_far.shallow) }
+next_awaited b start at fs rest items depth n h = record { written = n.next; back = forms_flat n.left ++ rest; there = n.there; shallow = omega (arith, n.so_far.shallow) }
 
 -- every form that is there is read so
 abbrev pub Reads : List ℕ → ℕ → Item × ℕ → Type 0
-Reads b at r = (f : Form) (back : List ℕ) → Stands b at f back → IsRead at f (Ok r)
+Reads b at r = (f : Form) (back : List ℕ) → IsFormAt b at f back → IsRead at f (Ok r)
 
 pub more : (b : List ℕ) (start at : ℕ) (fs : Forms) (rest : List ℕ) (items : List Item) (x : Item) (end : ℕ) → HasNext b start at fs rest items → Reads b at (x, end) → AreSeen b start end fs rest (items ++ x ∷ [])
 more b start at fs rest items x end n reads =
     let f = n.next in
     let t = n.so_far in
-    let r = reads f (forms_flat n.left ++ rest) n.stands in
+    let r = reads f (forms_flat n.left ++ rest) n.there in
     let placed : end ≡ at + length (flat f) = r.2 in
     let bytes = length-append (flat f) (forms_flat n.left) in
     record {
       left = n.left;
       so_far = record {
-        stands = record { ok = t.stands.ok.1; is = behind b at end (flat f) (forms_flat n.left ++ rest) n.stands.is placed };
+        there = record { ok = t.there.ok.1; is = after b at end (flat f) (forms_flat n.left ++ rest) n.there.is placed };
         seen = t.seen + length (flat f);
         placed = omega (arith, t.placed, placed);
         size = omega (arith, t.size, bytes);
@@ -111,16 +111,16 @@ more b start at fs rest items x end n reads =
       };
     }
 
-pub moves : (b : List ℕ) (at : ℕ) (f : Form) (back : List ℕ) (r : Item × ℕ) → Stands b at f back → Reads b at r → length b - r.1 < length b - at
+pub moves : (b : List ℕ) (at : ℕ) (f : Form) (back : List ℕ) (r : Item × ℕ) → IsFormAt b at f back → Reads b at r → length b - r.1 < length b - at
 moves b at f back r s reads =
     let placed = (reads f back s).2 in
     omega (arith, placed, (first b at f back s).few, flat_some f s.ok)
 
 -- the first member that is not read
-pub stops : (b : List ℕ) (start at : ℕ) (fs : Forms) (rest : List ℕ) (items : List Item) (closing : ℕ) (e : Unread) → HasNext b start at fs rest items → ((f : Form) (back : List ℕ) → Stands b at f back → IsRead at f (Err e)) → AreRead start closing fs (Err e)
-stops b start at fs rest items closing e n reads = from e (reads n.next (forms_flat n.left ++ rest) n.stands)
+pub stops : (b : List ℕ) (start at : ℕ) (fs : Forms) (rest : List ℕ) (items : List Item) (break_length : ℕ) (e : Unread) → HasNext b start at fs rest items → ((f : Form) (back : List ℕ) → IsFormAt b at f back → IsRead at f (Err e)) → AreRead start break_length fs (Err e)
+stops b start at fs rest items break_length e n reads = from e (reads n.next (forms_flat n.left ++ rest) n.there)
   where
-    from : (u : Unread) → IsRead at n.next (Err u) → AreRead start closing fs (Err u)
+    from : (u : Unread) → IsRead at n.next (Err u) → AreRead start break_length fs (Err u)
     from (BadText p) r = (n.so_far.seen + r.0, omega (arith, n.so_far.placed, r.1), n.so_far.bad r.0 (inl r.2))
     from Memory r = tt
 
@@ -146,7 +146,7 @@ all_unbroken b start at fs back items s e = from s.left s.so_far
     from : (left : Forms) → IsUpTo b start at fs (255 ∷ back) items left → AreAll start at fs items
     from no_forms t = all_from b start at fs (255 ∷ back) items t
     from (form f left) t =
-        absurd (let starts : get_or b at 0 < 255 = (first b at f (forms_flat left ++ 255 ∷ back) (first_stands b at f left (255 ∷ back) t.stands)).starts in omega arith)
+        absurd (let starts : get_or b at 0 < 255 = (first b at f (forms_flat left ++ 255 ∷ back) (first_there b at f left (255 ∷ back) t.there)).starts in omega arith)
 
 -- an error that is handed on
 pub handed_on : {T : Type 0} (r : Result T Unread) (e : Unread) → IsErrAnd r (λ y. y ≡ e) → r ≡ Err e

@@ -85,7 +85,7 @@ abbrev pub number_of : List ℕ → ℕ
 number_of digits = fold (λ n byte. n * 256 + byte) 0 digits
 
 -- the form is in b from `at` on, and then the rest
-pub record Stands (b : List ℕ) (at : ℕ) (f : Form) (back : List ℕ) : Type 0 where
+pub record IsFormAt (b : List ℕ) (at : ℕ) (f : Form) (back : List ℕ) : Type 0 where
   pub ok : IsOk f
   pub is : drop at b ≡ flat f ++ back
 
@@ -93,16 +93,16 @@ pub record Stands (b : List ℕ) (at : ℕ) (f : Form) (back : List ℕ) : Type 
 pub record IsForm (b : List ℕ) (at : ℕ) : Type 0 where
   pub written : Form
   pub back : List ℕ
-  pub stands : Stands b at written back
+  pub there : IsFormAt b at written back
 
 -- the form's head, and where it ends
 pub record IsHeaded (b : List ℕ) (at : ℕ) (f : Form) (back : List ℕ) (h : Head × ℕ) : Type 0 where
   pub head : h.0 ≡ head_of f
   pub end : h.1 ≡ at + length (head_bytes f)
-  pub behind : drop h.1 b ≡ content f ++ back
+  pub after : drop h.1 b ≡ content f ++ back
 
 -- a definite head is in b from `at` on, and then the rest
-pub record StandsHead (b : List ℕ) (at : ℕ) (p : ArgumentSize) (m n : ℕ) (back : List ℕ) : Type 0 where
+pub record IsHeadAt (b : List ℕ) (at : ℕ) (p : ArgumentSize) (m n : ℕ) (back : List ℕ) : Type 0 where
   pub major : m < 8
   pub fits : FitsSize p n
   pub is : drop at b ≡ head_in p m n ++ back
@@ -113,10 +113,10 @@ pub record IsHead (b : List ℕ) (at : ℕ) : Type 0 where
   pub major : ℕ
   pub argument : ℕ
   pub back : List ℕ
-  pub stands : StandsHead b at size major argument back
+  pub there : IsHeadAt b at size major argument back
 
 -- the head's argument, and where it ends
 pub record IsArgument (b : List ℕ) (at : ℕ) (p : ArgumentSize) (m n : ℕ) (back : List ℕ) (r : ℕ × ℕ) : Type 0 where
   pub value : r.0 ≡ n
   pub end : r.1 ≡ at + length (head_in p m n)
-  pub behind : drop r.1 b ≡ back
+  pub after : drop r.1 b ≡ back

@@ -5,7 +5,7 @@ use Rattle.cbor_data.specs.Forms.{Form, Forms, PairForms, forms_len, pair_forms_
 use Rattle.cbor_data.specs.Faults.{IsBadTextAt, IsBadTextAmong, IsBadTextAmongPairs}
 use Rattle.cbor_item.specs.View.{view}
 use Rattle.cbor_item.specs.declared.item.Item.{Item}
-use Rattle.cbor_value.specs.Heads.{Stands}
+use Rattle.cbor_value.specs.Heads.{IsFormAt}
 use Rattle.cbor_value.specs.declared.value.Unread.{Unread}
 use Rattle.cbor_value.specs.declared.value.Unread.TheVariants.{BadText, Memory}
 
@@ -13,7 +13,7 @@ use Rattle.cbor_value.specs.declared.value.Unread.TheVariants.{BadText, Memory}
 pub record IsAwaited (depth : ℕ) (b : List ℕ) (at : ℕ) : Type 0 where
   pub written : Form
   pub back : List ℕ
-  pub stands : Stands b at written back
+  pub there : IsFormAt b at written back
   pub shallow : depth_of (meaning written) ≤ depth
 
 -- the item of the form at `at`, and where it ends, or its first text that is not UTF-8
@@ -29,7 +29,7 @@ IsTagRead start n f (Err (BadText p)) = (i : ℕ) × (p ≡ start + i) × IsBadT
 IsTagRead start n f (Err Memory) = Unit {0}
 
 -- forms are in b from `at` on, and then the rest
-pub record StandsForms (b : List ℕ) (at : ℕ) (fs : Forms) (rest : List ℕ) : Type 0 where
+pub record AreFormsAt (b : List ℕ) (at : ℕ) (fs : Forms) (rest : List ℕ) : Type 0 where
   pub ok : AreFormsOk fs
   pub is : drop at b ≡ forms_flat fs ++ rest
 
@@ -38,24 +38,24 @@ pub record AreAwaited (depth len : ℕ) (b : List ℕ) (at : ℕ) : Type 0 where
   pub forms : Forms
   pub back : List ℕ
   pub count : forms_len forms ≡ len
-  pub stands : StandsForms b at forms back
+  pub there : AreFormsAt b at forms back
   pub shallow : values_depth (meanings forms) ≤ depth
 
 -- some forms no deeper than this are there, up to a break
 pub record AreAwaitedToBreak (depth : ℕ) (b : List ℕ) (at : ℕ) : Type 0 where
   pub forms : Forms
   pub back : List ℕ
-  pub stands : StandsForms b at forms (255 ∷ back)
+  pub there : AreFormsAt b at forms (255 ∷ back)
   pub shallow : values_depth (meanings forms) ≤ depth
 
 -- the array of the forms from `start` on, and where it ends, so many bytes after them, or its first text that is not UTF-8
 abbrev pub AreRead : ℕ → ℕ → Forms → Result (Item × ℕ) Unread → Type 0
-AreRead start closing fs (Ok r) = HaveText fs × (view r.0 ≡ array (meanings fs)) × (r.1 ≡ start + (length (forms_flat fs) + closing))
-AreRead start closing fs (Err (BadText p)) = (j : ℕ) × (p ≡ start + j) × IsBadTextAmong fs j
-AreRead start closing fs (Err Memory) = Unit {0}
+AreRead start break_length fs (Ok r) = HaveText fs × (view r.0 ≡ array (meanings fs)) × (r.1 ≡ start + (length (forms_flat fs) + break_length))
+AreRead start break_length fs (Err (BadText p)) = (j : ℕ) × (p ≡ start + j) × IsBadTextAmong fs j
+AreRead start break_length fs (Err Memory) = Unit {0}
 
 -- forms of pairs are in b from `at` on, and then the rest
-pub record StandsPairs (b : List ℕ) (at : ℕ) (ps : PairForms) (rest : List ℕ) : Type 0 where
+pub record ArePairsAt (b : List ℕ) (at : ℕ) (ps : PairForms) (rest : List ℕ) : Type 0 where
   pub ok : ArePairFormsOk ps
   pub is : drop at b ≡ pair_forms_flat ps ++ rest
 
@@ -64,18 +64,18 @@ pub record ArePairsAwaited (depth len : ℕ) (b : List ℕ) (at : ℕ) : Type 0 
   pub forms : PairForms
   pub back : List ℕ
   pub count : pair_forms_len forms ≡ len
-  pub stands : StandsPairs b at forms back
+  pub there : ArePairsAt b at forms back
   pub shallow : pairs_depth (pair_meanings forms) ≤ depth
 
 -- some pairs no deeper than this are there, up to a break
 pub record ArePairsAwaitedToBreak (depth : ℕ) (b : List ℕ) (at : ℕ) : Type 0 where
   pub forms : PairForms
   pub back : List ℕ
-  pub stands : StandsPairs b at forms (255 ∷ back)
+  pub there : ArePairsAt b at forms (255 ∷ back)
   pub shallow : pairs_depth (pair_meanings forms) ≤ depth
 
 -- the map of the pairs from `start` on, and where it ends, so many bytes after them, or its first text that is not UTF-8
 abbrev pub ArePairsRead : ℕ → ℕ → PairForms → Result (Item × ℕ) Unread → Type 0
-ArePairsRead start closing ps (Ok r) = HavePairsText ps × (view r.0 ≡ pairs (pair_meanings ps)) × (r.1 ≡ start + (length (pair_forms_flat ps) + closing))
-ArePairsRead start closing ps (Err (BadText p)) = (j : ℕ) × (p ≡ start + j) × IsBadTextAmongPairs ps j
-ArePairsRead start closing ps (Err Memory) = Unit {0}
+ArePairsRead start break_length ps (Ok r) = HavePairsText ps × (view r.0 ≡ pairs (pair_meanings ps)) × (r.1 ≡ start + (length (pair_forms_flat ps) + break_length))
+ArePairsRead start break_length ps (Err (BadText p)) = (j : ℕ) × (p ≡ start + j) × IsBadTextAmongPairs ps j
+ArePairsRead start break_length ps (Err Memory) = Unit {0}

@@ -21,9 +21,9 @@ IsTextRead s at start len (Err (BadText p)) = (p ≡ at) × (IsUtf8 s → ⊥)
 IsTextRead s at start len (Err Memory) = Unit {0}
 
 -- a chunk of this major type is in b from `at` on, and then the rest
-pub record StandsChunk (b : List ℕ) (at m : ℕ) (c : Chunk) (back : List ℕ) : Type 0 where
+pub record IsChunkAt (b : List ℕ) (at m : ℕ) (c : Chunk) (back : List ℕ) : Type 0 where
   pub major : m < 8
-  pub fits : FitsSize c.size (length c.held)
+  pub fits : FitsSize c.size (length c.content)
   pub is : drop at b ≡ chunk_bytes m c ++ back
 
 -- some chunk is there
@@ -31,15 +31,15 @@ pub record IsChunk (b : List ℕ) (at : ℕ) : Type 0 where
   pub major : ℕ
   pub chunk : Chunk
   pub back : List ℕ
-  pub stands : StandsChunk b at major chunk back
+  pub there : IsChunkAt b at major chunk back
 
 -- what the chunk holds, and where it ends
-pub record IsChunkRead (at m : ℕ) (c : Chunk) (held : List ℕ) (end : ℕ) : Type 0 where
-  pub same : held ≡ c.held
+pub record IsChunkRead (at m : ℕ) (c : Chunk) (content : List ℕ) (end : ℕ) : Type 0 where
+  pub same : content ≡ c.content
   pub placed : end ≡ at + length (chunk_bytes m c)
 
 -- chunks are in b from `at` on, and then the rest
-pub record StandsChunks (b : List ℕ) (at m : ℕ) (cs : List Chunk) (rest : List ℕ) : Type 0 where
+pub record AreChunksAt (b : List ℕ) (at m : ℕ) (cs : List Chunk) (rest : List ℕ) : Type 0 where
   pub ok : AreChunksOk cs
   pub is : drop at b ≡ chunks_bytes m cs ++ rest
 
@@ -47,7 +47,7 @@ pub record StandsChunks (b : List ℕ) (at m : ℕ) (cs : List Chunk) (rest : Li
 pub record AreChunks (b : List ℕ) (at m : ℕ) : Type 0 where
   pub chunks : List Chunk
   pub back : List ℕ
-  pub stands : StandsChunks b at m chunks (255 ∷ back)
+  pub there : AreChunksAt b at m chunks (255 ∷ back)
 
 -- the byte string of the chunks that are from `start` on, and where it ends
 abbrev pub AreBytesJoined : ℕ → List Chunk → Result (Item × ℕ) Unread → Type 0

@@ -1,7 +1,7 @@
 // Heads of items (RFC 8949 section 3).
 ghost use Rattle.std.specs.Prelude.{◌≡◌, ℕ, ◌<◌, ◌≤◌, ◌^◌, List, length};
 ghost use Rattle.cbor_data.specs.Forms.{Form, ArgumentSize, FitsSize};
-ghost use Rattle.cbor_value.specs.Heads.{number_of, width, opened_head, definite_head, IsInfo, Stands, IsForm, IsHeaded, StandsHead, IsHead, IsArgument};
+ghost use Rattle.cbor_value.specs.Heads.{number_of, width, opened_head, definite_head, IsInfo, IsFormAt, IsForm, IsHeaded, IsHeadAt, IsHead, IsArgument};
 
 use cbor_item::Width;
 
@@ -34,7 +34,7 @@ pub enum Head {
 /// The head of the item at `at`, and where it ends.
 pub fn head_at(bytes: &[u8], at: usize) -> (Head, usize)
     requires { IsForm bytes.now at }
-    ensures { (f : Form) (back : List ℕ) → Stands bytes.now at f back → IsHeaded bytes.now at f back result }
+    ensures { (f : Form) (back : List ℕ) → IsFormAt bytes.now at f back → IsHeaded bytes.now at f back result }
 {
     let major = bytes[at] / 32;
     let info = bytes[at] % 32;
@@ -82,7 +82,7 @@ fn head_with_argument(major: u8, info: u8, argument: u64) -> Head
 /// The argument of the definite head at `at`, of whatever major type, and where it ends.
 pub fn argument_at(bytes: &[u8], at: usize) -> (u64, usize)
     requires { IsHead bytes.now at }
-    ensures { (p : ArgumentSize) (m n : ℕ) (back : List ℕ) → StandsHead bytes.now at p m n back → IsArgument bytes.now at p m n back result }
+    ensures { (p : ArgumentSize) (m n : ℕ) (back : List ℕ) → IsHeadAt bytes.now at p m n back → IsArgument bytes.now at p m n back result }
 {
     let info = bytes[at] % 32;
     if info < 24 {

@@ -1,8 +1,8 @@
 // Items of every form (RFC 8949 section 3).
 ghost use Rattle.std.specs.Prelude.{◌≡◌, ℕ, List, ◌∷◌};
 ghost use Rattle.cbor_data.specs.Forms.{Form, Forms, PairForms, forms_len, pair_forms_len};
-ghost use Rattle.cbor_value.specs.Heads.{Stands};
-ghost use Rattle.cbor_value.specs.Items.{IsAwaited, IsRead, StandsForms, AreAwaited, AreAwaitedToBreak, AreRead, StandsPairs, ArePairsAwaited, ArePairsAwaitedToBreak, ArePairsRead, IsTagRead};
+ghost use Rattle.cbor_value.specs.Heads.{IsFormAt};
+ghost use Rattle.cbor_value.specs.Items.{IsAwaited, IsRead, AreFormsAt, AreAwaited, AreAwaitedToBreak, AreRead, ArePairsAt, ArePairsAwaited, ArePairsAwaitedToBreak, ArePairsRead, IsTagRead};
 
 use crate::head::{BREAK, Head, head_at};
 use crate::strings::{byte_chunks, byte_string, text_chunks, text_string};
@@ -19,7 +19,7 @@ pub fn item_at(
     allowed: u32,
 ) -> Result<(Item, usize), Unread>
     requires { IsAwaited allowed bytes.now at }
-    ensures { (f : Form) (back : List ℕ) → Stands bytes.now at f back → IsRead at f result }
+    ensures { (f : Form) (back : List ℕ) → IsFormAt bytes.now at f back → IsRead at f result }
 {
     let (head, start) = head_at(bytes, at);
     match head {
@@ -49,7 +49,7 @@ fn array(
     len: u64,
 ) -> Result<(Item, usize), Unread>
     requires { AreAwaited allowed len bytes.now start }
-    ensures { (fs : Forms) (back : List ℕ) → forms_len fs ≡ len → StandsForms bytes.now start fs back → AreRead start 0 fs result }
+    ensures { (fs : Forms) (back : List ℕ) → forms_len fs ≡ len → AreFormsAt bytes.now start fs back → AreRead start 0 fs result }
 {
     let mut items = Vec::new(alloc);
     let mut at = start;
@@ -70,7 +70,7 @@ fn array_to_break(
     allowed: u32,
 ) -> Result<(Item, usize), Unread>
     requires { AreAwaitedToBreak allowed bytes.now start }
-    ensures { (fs : Forms) (back : List ℕ) → StandsForms bytes.now start fs (255 ∷ back) → AreRead start 1 fs result }
+    ensures { (fs : Forms) (back : List ℕ) → AreFormsAt bytes.now start fs (255 ∷ back) → AreRead start 1 fs result }
 {
     let mut items = Vec::new(alloc);
     let mut at = start;
@@ -92,13 +92,13 @@ fn map(
     len: u64,
 ) -> Result<(Item, usize), Unread>
     requires { ArePairsAwaited allowed len bytes.now start }
-    ensures { (ps : PairForms) (back : List ℕ) → pair_forms_len ps ≡ len → StandsPairs bytes.now start ps back → ArePairsRead start 0 ps result }
+    ensures { (ps : PairForms) (back : List ℕ) → pair_forms_len ps ≡ len → ArePairsAt bytes.now start ps back → ArePairsRead start 0 ps result }
 {
     let mut pairs = Vec::new(alloc);
     let mut at = start;
     for _ in 0..len {
-        let (key, behind_key) = item_at(alloc, bytes, at, allowed)?;
-        let (value, end) = item_at(alloc, bytes, behind_key, allowed)?;
+        let (key, after_key) = item_at(alloc, bytes, at, allowed)?;
+        let (value, end) = item_at(alloc, bytes, after_key, allowed)?;
         pairs.push((key, value))?;
         at = end;
     }
@@ -114,13 +114,13 @@ fn map_to_break(
     allowed: u32,
 ) -> Result<(Item, usize), Unread>
     requires { ArePairsAwaitedToBreak allowed bytes.now start }
-    ensures { (ps : PairForms) (back : List ℕ) → StandsPairs bytes.now start ps (255 ∷ back) → ArePairsRead start 1 ps result }
+    ensures { (ps : PairForms) (back : List ℕ) → ArePairsAt bytes.now start ps (255 ∷ back) → ArePairsRead start 1 ps result }
 {
     let mut pairs = Vec::new(alloc);
     let mut at = start;
     while bytes[at] != BREAK {
-        let (key, behind_key) = item_at(alloc, bytes, at, allowed)?;
-        let (value, end) = item_at(alloc, bytes, behind_key, allowed)?;
+        let (key, after_key) = item_at(alloc, bytes, at, allowed)?;
+        let (value, end) = item_at(alloc, bytes, after_key, allowed)?;
         pairs.push((key, value))?;
         at = end;
     }
@@ -137,7 +137,7 @@ fn tag(
     number: u64,
 ) -> Result<(Item, usize), Unread>
     requires { IsAwaited allowed bytes.now start }
-    ensures { (f : Form) (back : List ℕ) → Stands bytes.now start f back → IsTagRead start number f result }
+    ensures { (f : Form) (back : List ℕ) → IsFormAt bytes.now start f back → IsTagRead start number f result }
 {
     let (content, end) = item_at(alloc, bytes, start, allowed)?;
     Ok((Item::Tag(number, Box::new(alloc, content)?), end))

@@ -1,7 +1,7 @@
 // Strings, whole and in chunks (RFC 8949 sections 3.1 and 3.2.3).
 ghost use Rattle.std.specs.Prelude.{◌≡◌, ℕ, ◌+◌, ◌≤◌, List, ◌∷◌, length, take, drop};
 ghost use Rattle.cbor_data.specs.Forms.{Chunk};
-ghost use Rattle.cbor_value.specs.Strings.{IsBytesRead, IsTextRead, StandsChunk, IsChunk, IsChunkRead, StandsChunks, AreChunks, AreBytesJoined, IsTextJoined};
+ghost use Rattle.cbor_value.specs.Strings.{IsBytesRead, IsTextRead, IsChunkAt, IsChunk, IsChunkRead, AreChunksAt, AreChunks, AreBytesJoined, IsTextJoined};
 
 use crate::head::{BREAK, argument_at};
 use crate::value::Unread;
@@ -14,8 +14,8 @@ fn content_at(bytes: &[u8], at: usize, len: u64) -> &[u8]
     ensures { result.now ≡ take len (drop at bytes.now) }
 {
     let (_, rest) = bytes.split_at(at);
-    let (held, _) = rest.split_at(len as usize);
-    held
+    let (content, _) = rest.split_at(len as usize);
+    content
 }
 
 /// The byte string whose content is so many bytes from `start` on, and where it ends.
@@ -28,9 +28,9 @@ pub fn byte_string(
     requires { start + len ≤ length bytes.now }
     ensures { IsBytesRead (take len (drop start bytes.now)) start len result }
 {
-    let held = content_at(bytes, start, len);
+    let content = content_at(bytes, start, len);
     Ok((
-        Item::Bytes(Vec::from_slice(alloc, held)?),
+        Item::Bytes(Vec::from_slice(alloc, content)?),
         start + len as usize,
     ))
 }
@@ -58,7 +58,7 @@ pub fn text_string(
 // What the chunk at `at` holds, and where it ends.
 fn chunk_at(bytes: &[u8], at: usize) -> (&[u8], usize)
     requires { IsChunk bytes.now at }
-    ensures { (m : ℕ) (c : Chunk) (back : List ℕ) → StandsChunk bytes.now at m c back → IsChunkRead at m c result.0.now result.1 }
+    ensures { (m : ℕ) (c : Chunk) (back : List ℕ) → IsChunkAt bytes.now at m c back → IsChunkRead at m c result.0.now result.1 }
 {
     let (len, start) = argument_at(bytes, at);
     (content_at(bytes, start, len), start + len as usize)
@@ -67,32 +67,32 @@ fn chunk_at(bytes: &[u8], at: usize) -> (&[u8], usize)
 /// The byte string whose chunks are from `start` on, up to a break, and where it ends.
 pub fn byte_chunks(alloc: Global, bytes: &[u8], start: usize) -> Result<(Item, usize), Unread>
     requires { AreChunks bytes.now start 2 }
-    ensures { (cs : List Chunk) (back : List ℕ) → StandsChunks bytes.now start 2 cs (255 ∷ back) → AreBytesJoined start cs result }
+    ensures { (cs : List Chunk) (back : List ℕ) → AreChunksAt bytes.now start 2 cs (255 ∷ back) → AreBytesJoined start cs result }
 {
-    let mut held = Vec::new(alloc);
+    let mut joined = Vec::new(alloc);
     let mut at = start;
     while bytes[at] != BREAK {
         let (chunk, end) = chunk_at(bytes, at);
-        held.extend_from_slice(chunk)?;
+        joined.extend_from_slice(chunk)?;
         at = end;
     }
-    Ok((Item::Bytes(held), at + 1))
+    Ok((Item::Bytes(joined), at + 1))
 }
 
 /// The text string whose chunks are from `start` on, up to a break, and where it ends.
 pub fn text_chunks(alloc: Global, bytes: &[u8], start: usize) -> Result<(Item, usize), Unread>
     requires { AreChunks bytes.now start 3 }
-    ensures { (cs : List Chunk) (back : List ℕ) → StandsChunks bytes.now start 3 cs (255 ∷ back) → IsTextJoined start cs result }
+    ensures { (cs : List Chunk) (back : List ℕ) → AreChunksAt bytes.now start 3 cs (255 ∷ back) → IsTextJoined start cs result }
 {
-    let mut held = String::new(alloc);
+    let mut joined = String::new(alloc);
     let mut at = start;
     while bytes[at] != BREAK {
         let (chunk, end) = chunk_at(bytes, at);
         let Ok(text) = simdutf8::compat::from_utf8(chunk) else {
             return Err(Unread::BadText(at));
         };
-        held.push_str(text)?;
+        joined.push_str(text)?;
         at = end;
     }
-    Ok((Item::Text(held), at + 1))
+    Ok((Item::Text(joined), at + 1))
 }

@@ -17,7 +17,7 @@ use Rattle.cddl_tool.specs.declared.choice.Task.TheVariants.{Validate, Show}
 use Rattle.cddl_tool.specs.declared.choice.Use.{Use}
 use Rattle.cddl_tool.specs.declared.choice.Use.TheVariants.{Words, Memory}
 use Rattle.cddl_tool.specs.Errors.{IsUseOf}
-use Rattle.cddl_tool.specs.Chosen.{program_app, task_name, named, given, number_given, AreRead, AreUnread, AreChosen, IsMisuse}
+use Rattle.cddl_tool.specs.Chosen.{program_app, task_name, named_command, given_text, given_number, AreRead, AreUnread, AreChosen, IsMisuse}
 
 is_plain : is_simple program_app ≡ true
 unfolding clap_on_literals
@@ -52,12 +52,12 @@ found_parts (Some p) name rows e f =
 
 pub is_met : (words : List Text) (m g : ArgMatches) (name : Text) → subcommand_rows_of m ≡ subcommand_of program_app words → subcommand_name_of m ≡ Some name →
     option_map (λ p. p.1) (subcommand_rows_of m) ≡ Some (rows_of (found_of g)) → IsMet words name (rows_of (found_of g))
-is_met words m g name sub named rows = record {
-  found = sym sub ∙ found_parts (subcommand_rows_of m) name (rows_of (found_of g)) (names_same (out-ArgMatches m).subcommand ∙ named) rows;
+is_met words m g name sub same_name rows = record {
+  found = sym sub ∙ found_parts (subcommand_rows_of m) name (rows_of (found_of g)) (names_same (out-ArgMatches m).subcommand ∙ same_name) rows;
 }
 
 pub chosen_of : (words : List Text) (task : Task) (rows : List Row) (o : Options) → fault_of program_app words ≡ [] → IsMet words (task_name task) rows → AreRead task rows o → AreChosen o words
-unfolding named given number_given
+unfolding named_command given_text given_number
 chosen_of words task rows o taken met read = record {
   taken = taken;
   task = ap (option_map (λ (p : Text × List Row). p.0)) met.found ∙ ap (λ (t : Task). Some (task_name t)) (sym read.task_is);
@@ -73,7 +73,7 @@ same_name Show Validate e = absurd (cc)
 same_name Show Show e = refl
 
 pub read_of : (words : List Text) (task : Task) (rows : List Row) (o : Options) → IsMet words (task_name task) rows → AreChosen o words → AreRead task rows o
-unfolding named given number_given
+unfolding named_command given_text given_number
 read_of words task rows o met c =
     let there : Some (task_name o.task) ≡ Some (task_name task) = sym c.task ∙ ap (option_map (λ (p : Text × List Row). p.0)) met.found in
     record {
@@ -117,8 +117,8 @@ pub refused_result : (a : App) (words : List Text) (e : Error) (r : Result Optio
 refused_result a words e (Ok o) is h uses = tt
 refused_result a words e (Err u) is h uses = refused_words a words e u is h uses
 
-pub named_met : (words : List Text) (m : ArgMatches) (name : Text) → subcommand_rows_of m ≡ subcommand_of program_app words → named words ≡ Some name → subcommand_name_of m ≡ Some name
-unfolding named
+pub named_met : (words : List Text) (m : ArgMatches) (name : Text) → subcommand_rows_of m ≡ subcommand_of program_app words → named_command words ≡ Some name → subcommand_name_of m ≡ Some name
+unfolding named_command
 named_met words m name sub is = sym (names_same (out-ArgMatches m).subcommand) ∙ (ap (option_map (λ (p : Text × List Row). p.0)) sub ∙ is)
 
 -- where neither command was met the words give no options

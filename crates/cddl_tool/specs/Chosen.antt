@@ -52,16 +52,16 @@ task_name Validate = codes "validate"
 task_name Show = codes "show"
 
 -- the subcommand that the words name, by clap's rules
-unfoldable pub named : List Text → Option Text
-named words = option_map (λ p. p.0) (subcommand_of program_app words)
+unfoldable pub named_command : List Text → Option Text
+named_command words = option_map (λ p. p.0) (subcommand_of program_app words)
 
 -- the value that the words give this argument of it
-unfoldable pub given : Text → List Text → Option Text
-given id words = option_and_then (λ p. first_of id p.1) (subcommand_of program_app words)
+unfoldable pub given_text : Text → List Text → Option Text
+given_text id words = option_and_then (λ p. first_of id p.1) (subcommand_of program_app words)
 
 -- the text that they give an option with a number
-unfoldable pub number_given : Text → List Text → Option Text
-number_given id words = option_and_then (λ p. one_of id p.1) (subcommand_of program_app words)
+unfoldable pub given_number : Text → List Text → Option Text
+given_number id words = option_and_then (λ p. one_of id p.1) (subcommand_of program_app words)
 
 -- the text is this number, from 1 to `most`, in decimal
 abbrev pub IsNumber : ℕ → Option Text → ℕ → Type 0
@@ -87,10 +87,10 @@ AreUnread task rows Memory = Unit {0}
 -- By clap's rules nothing is wrong with the words, and they give these options.
 pub record AreChosen (o : Options) (words : List Text) : Type 0 where
   pub taken : fault_of program_app words ≡ []
-  pub task : named words ≡ Some (task_name o.task)
-  pub spec : option_map (λ s. string_bytes s) o.spec ≡ given (codes "spec") words
-  pub file : option_map (λ s. string_bytes s) o.file ≡ given (codes "file") words
-  pub limits : AreLimits (number_given (codes "depth") words) (number_given (codes "item-bytes") words) o.limits
+  pub task : named_command words ≡ Some (task_name o.task)
+  pub spec : option_map (λ s. string_bytes s) o.spec ≡ given_text (codes "spec") words
+  pub file : option_map (λ s. string_bytes s) o.file ≡ given_text (codes "file") words
+  pub limits : AreLimits (given_number (codes "depth") words) (given_number (codes "item-bytes") words) o.limits
 
 -- Where the words are refused they give no options.
 abbrev pub IsMisuse : List Text → Use → Type 0

@@ -13,7 +13,7 @@ use Rattle.seq_run.specs.declared.end.Cause.TheVariants.{Fault, Mismatch, Spent}
 use Rattle.seq_run.specs.declared.end.End.{End}
 use Rattle.seq_run.specs.declared.end.End.TheVariants.{Clean, Failed}
 use Rattle.seq_run.specs.Ends.{Accepts, Misses, Overruns, BeginsWith, IsRun, Ends}
-use Rattle.seq_run.specs.Standing.{IsHeld, IsNext}
+use Rattle.seq_run.specs.Parts.{IsClearRest, IsNext}
 use Rattle.seq_run.specs.Answers.{IsUndecided}
 use Rattle.cbor_data.proofs.Lemmas.{unfinished_no_front}
 use Rattle.seq_run.proofs.Fronts.{formed, fault_no_item, clear_end}
@@ -41,9 +41,9 @@ module _ (l : Bounds) (accepts : Value → List ℕ → Type 0) where
       let some : 0 < length front = item_some l o x front item in
       omega (arith, some, ap length (sym none ∙ e), length-append front back)
 
-  held_ends : (o : ℕ) (rest : List ℕ) → IsHeld l o rest → EndsHere l accepts o rest
-  held_ends o rest (inl none) x front back e item accepted = none_ends o rest none x front back e item accepted
-  held_ends o rest (inr held) x front back e item accepted = unfinished_no_front rest front back held.0 (formed item.spells) e
+  clear_rest_ends : (o : ℕ) (rest : List ℕ) → IsClearRest l o rest → EndsHere l accepts o rest
+  clear_rest_ends o rest (inl none) x front back e item accepted = none_ends o rest none x front back e item accepted
+  clear_rest_ends o rest (inr clear) x front back e item accepted = unfinished_no_front rest front back clear.0 (formed item.spells) e
 
   told_ends : (o : ℕ) (rest : List ℕ) (k : FaultKind) (at : ℕ) → IsFaultOf l o rest k at → EndsHere l accepts o rest
   told_ends o rest k at told x front back e item accepted = fault_no_item l o rest k at x front back told item e
@@ -101,21 +101,21 @@ module _ (judge : Judge) (l : Bounds) where
 
   unfinished_end : (stream : List ℕ) (found : List Found) (o : ℕ) (rest : List ℕ) → BeginsWith judge l stream found rest → o + length rest ≡ length stream → rest ≢ [] →
       IsUnfinished rest × BeginsWithin l.depth rest × IsClearBefore l o rest (length rest) → OpenEnd stream found
-  unfinished_end stream found o rest t placed some held =
+  unfinished_end stream found o rest t placed some clear =
       elim (cases_eq (length rest) l.item_bytes) [
         | inl full ↦ record {
           end = Failed (length found) o (Fault (record { at = o + length rest; kind = TooLong }));
-          ends = fault_end stream found rest o TooLong (o + length rest) t placed some (too_long_end l o rest held.0 held.1 held.2 full);
+          ends = fault_end stream found rest o TooLong (o + length rest) t placed some (too_long_end l o rest clear.0 clear.1 clear.2 full);
           undecided = (placed, tt);
         }
         | inr not ↦ record {
           end = Failed (length found) o (Fault (record { at = o + length rest; kind = Truncated }));
-          ends = fault_end stream found rest o Truncated (o + length rest) t placed some (truncated_end l o rest some held.0 held.2 not);
+          ends = fault_end stream found rest o Truncated (o + length rest) t placed some (truncated_end l o rest some clear.0 clear.2 not);
           undecided = (placed, tt);
         }
       ]
 
-  pub open_end : (stream : List ℕ) (found : List Found) (o : ℕ) (rest : List ℕ) → BeginsWith judge l stream found rest → o + length rest ≡ length stream → IsHeld l o rest → OpenEnd stream found
-  open_end stream found o [] t placed held = record { end = Clean (length found) (length stream); ends = clean_end stream found t; undecided = tt }
+  pub open_end : (stream : List ℕ) (found : List Found) (o : ℕ) (rest : List ℕ) → BeginsWith judge l stream found rest → o + length rest ≡ length stream → IsClearRest l o rest → OpenEnd stream found
+  open_end stream found o [] t placed clear = record { end = Clean (length found) (length stream); ends = clean_end stream found t; undecided = tt }
   open_end stream found o (y ∷ ys) t placed (inl none) = absurd (cc)
-  open_end stream found o (y ∷ ys) t placed (inr held) = unfinished_end stream found o (y ∷ ys) t placed (λ e. cc) held
+  open_end stream found o (y ∷ ys) t placed (inr clear) = unfinished_end stream found o (y ∷ ys) t placed (λ e. cc) clear

@@ -12,7 +12,7 @@ use Rattle.seq_run.specs.declared.end.Stopped.TheVariants.{Ended, Memory}
 use Rattle.seq_run.specs.declared.session.Advance.{Advance}
 use Rattle.seq_run.specs.declared.session.Advance.TheVariants as advance
 use Rattle.seq_run.specs.Progress.{Progress}
-use Rattle.seq_run.specs.Answers.{items_of, IsAnswer, Appends, IsAdvanceAnswer, collecting}
+use Rattle.seq_run.specs.Answers.{items_of, IsAnswer, Appends, IsAdvanceAnswer, intake_of}
 
 -- `rest` of the piece is left, and `now` and `out_now` are what came of the rest of it
 pub record IsFeeding (old : Progress) (piece : List ℕ) (out : List Value) (now : Progress) (rest : List ℕ) (out_now : List Value) : Type 0 where
@@ -42,25 +42,25 @@ pub record IsFedTo (old : Progress) (piece : List ℕ) (out : List Value) (resul
   pub answer : IsAnswer old.stopped old piece result new
 
 module _ (old : Progress) (piece : List ℕ) (out : List Value) (now : Progress) (rest : List ℕ) (out_now : List Value) (f : IsFeeding old piece out now rest out_now) (new : Progress) (out_new : List Value) where
-  step_at : (result : Result Advance AllocError) → IsAdvanceAnswer now.stopped (collecting now out_now) rest result (collecting new out_new) → IsAdvanceAnswer old.stopped (collecting now out_now) rest result (collecting new out_new)
-  step_at result s = subst (λ v. IsAdvanceAnswer v (collecting now out_now) rest result (collecting new out_new)) f.stopped s
+  step_at : (result : Result Advance AllocError) → IsAdvanceAnswer now.stopped (intake_of now out_now) rest result (intake_of new out_new) → IsAdvanceAnswer old.stopped (intake_of now out_now) rest result (intake_of new out_new)
+  step_at result s = subst (λ v. IsAdvanceAnswer v (intake_of now out_now) rest result (intake_of new out_new)) f.stopped s
 
   stays : (s : Stopped) → old.stopped ≡ Some s → new ≡ now → out_new ≡ out_now → Appends old new out out_new
   stays s e same outs =
       let before = f.first s e in
       record { added = []; taken = ap (λ (p : Progress). p.taken) (same ∙ before.0) ∙ sym (append-nil old.taken); out = outs ∙ (before.1 ∙ sym (append-nil out)); judge = ap (λ (p : Progress). p.judge) (same ∙ before.0); limits = ap (λ (p : Progress). p.limits) (same ∙ before.0) }
 
-  ends_more : (st : Option Stopped) → old.stopped ≡ st → IsAdvanceAnswer st (collecting now out_now) rest (Ok advance.More) (collecting new out_new) → Appends old new out out_new × IsAnswer st old piece (Ok state.Open) new
+  ends_more : (st : Option Stopped) → old.stopped ≡ st → IsAdvanceAnswer st (intake_of now out_now) rest (Ok advance.More) (intake_of new out_new) → Appends old new out out_new × IsAnswer st old piece (Ok state.Open) new
   ends_more None e s =
       let fed : new.fed ≡ old.fed ++ piece = ap (λ (p : Progress). p.fed) s.0 ∙ f.fed in
       (appends_same old now new out out_now out_new f.appends (ap (λ (p : Progress). p.taken) s.0) (ap (λ (p : Progress). p.judge) s.0) (ap (λ (p : Progress). p.limits) s.0) s.1, (fed, s.2))
   ends_more (Some (Ended end)) e s = absurd (cc)
   ends_more (Some Memory) e s = absurd (cc)
 
-  pub fed_more : IsAdvanceAnswer now.stopped (collecting now out_now) rest (Ok advance.More) (collecting new out_new) → IsFedTo old piece out (Ok state.Open) new out_new
+  pub fed_more : IsAdvanceAnswer now.stopped (intake_of now out_now) rest (Ok advance.More) (intake_of new out_new) → IsFedTo old piece out (Ok state.Open) new out_new
   fed_more s = let both = ends_more old.stopped refl (step_at (Ok advance.More) s) in record { appends = both.0; answer = both.1 }
 
-  ends_ended : (st : Option Stopped) (end : End) → old.stopped ≡ st → IsAdvanceAnswer st (collecting now out_now) rest (Ok (advance.Ended end)) (collecting new out_new) → Appends old new out out_new × IsAnswer st old piece (Ok (state.Ended end)) new
+  ends_ended : (st : Option Stopped) (end : End) → old.stopped ≡ st → IsAdvanceAnswer st (intake_of now out_now) rest (Ok (advance.Ended end)) (intake_of new out_new) → Appends old new out out_new × IsAnswer st old piece (Ok (state.Ended end)) new
   ends_ended None end e s =
       let fed : new.fed ≡ old.fed ++ piece = ap (λ (p : Progress). p.fed) s.0 ∙ f.fed in
       (appends_same old now new out out_now out_new f.appends (ap (λ (p : Progress). p.taken) s.0) (ap (λ (p : Progress). p.judge) s.0) (ap (λ (p : Progress). p.limits) s.0) s.1, (fed, s.2))
@@ -69,20 +69,20 @@ module _ (old : Progress) (piece : List ℕ) (out : List Value) (now : Progress)
       (stays (Ended had) e s.1 s.2, (ap (λ (v : End). Ok (state.Ended v)) same, s.1 ∙ (f.first (Ended had) e).0))
   ends_ended (Some Memory) end e s = absurd (cc)
 
-  pub fed_ended : (end : End) → IsAdvanceAnswer now.stopped (collecting now out_now) rest (Ok (advance.Ended end)) (collecting new out_new) → IsFedTo old piece out (Ok (state.Ended end)) new out_new
+  pub fed_ended : (end : End) → IsAdvanceAnswer now.stopped (intake_of now out_now) rest (Ok (advance.Ended end)) (intake_of new out_new) → IsFedTo old piece out (Ok (state.Ended end)) new out_new
   fed_ended end s = let both = ends_ended old.stopped end refl (step_at (Ok (advance.Ended end)) s) in record { appends = both.0; answer = both.1 }
 
-  ends_err : (st : Option Stopped) (error : AllocError) → old.stopped ≡ st → IsAdvanceAnswer st (collecting now out_now) rest (Err error) (collecting new out_new) → Appends old new out out_new × IsAnswer st old piece (Err error) new
+  ends_err : (st : Option Stopped) (error : AllocError) → old.stopped ≡ st → IsAdvanceAnswer st (intake_of now out_now) rest (Err error) (intake_of new out_new) → Appends old new out out_new × IsAnswer st old piece (Err error) new
   ends_err None error e s =
       let fed : new.fed ≡ old.fed ++ piece = ap (λ (p : Progress). p.fed) s.0 ∙ f.fed in
       (appends_same old now new out out_now out_new f.appends (ap (λ (p : Progress). p.taken) s.0) (ap (λ (p : Progress). p.judge) s.0) (ap (λ (p : Progress). p.limits) s.0) s.1, (fed, s.2))
   ends_err (Some (Ended had)) error e s = absurd (cc)
   ends_err (Some Memory) error e s = (stays Memory e s.1 s.2, (refl, s.1 ∙ (f.first Memory e).0))
 
-  pub fed_err : (error : AllocError) → IsAdvanceAnswer now.stopped (collecting now out_now) rest (Err error) (collecting new out_new) → IsFedTo old piece out (Err error) new out_new
+  pub fed_err : (error : AllocError) → IsAdvanceAnswer now.stopped (intake_of now out_now) rest (Err error) (intake_of new out_new) → IsFedTo old piece out (Err error) new out_new
   fed_err error s = let both = ends_err old.stopped error refl (step_at (Err error) s) in record { appends = both.0; answer = both.1 }
 
-  goes_on : (st : Option Stopped) (used number offset : ℕ) → old.stopped ≡ st → IsAdvanceAnswer st (collecting now out_now) rest (Ok (advance.Item used number offset)) (collecting new out_new) →
+  goes_on : (st : Option Stopped) (used number offset : ℕ) → old.stopped ≡ st → IsAdvanceAnswer st (intake_of now out_now) rest (Ok (advance.Item used number offset)) (intake_of new out_new) →
       IsFeeding old piece out new (drop used rest) out_new × (0 < used) × (used ≤ length rest)
   goes_on None used number offset e s =
       let x = s.3.0 in
@@ -105,5 +105,5 @@ module _ (old : Progress) (piece : List ℕ) (out : List Value) (now : Progress)
   goes_on (Some (Ended had)) used number offset e s = absurd (cc)
   goes_on (Some Memory) used number offset e s = absurd (cc)
 
-  pub fed_item : (used number offset : ℕ) → IsAdvanceAnswer now.stopped (collecting now out_now) rest (Ok (advance.Item used number offset)) (collecting new out_new) → IsFeeding old piece out new (drop used rest) out_new × (0 < used) × (used ≤ length rest)
+  pub fed_item : (used number offset : ℕ) → IsAdvanceAnswer now.stopped (intake_of now out_now) rest (Ok (advance.Item used number offset)) (intake_of new out_new) → IsFeeding old piece out new (drop used rest) out_new × (0 < used) × (used ≤ length rest)
   fed_item used number offset s = goes_on old.stopped used number offset refl (step_at (Ok (advance.Item used number offset)) s)

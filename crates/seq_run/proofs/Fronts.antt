@@ -6,7 +6,7 @@ use Rattle.std.proofs.lemmas.Bool.{cases_lt}
 use Rattle.cbor_data.specs.Value.{Value, depth_of}
 use Rattle.cbor_data.specs.Validity.{IsValid}
 use Rattle.cbor_data.specs.Forms.{Form, flat, IsOk, meaning, HasText, IsWellFormed, Spells, Begins, IsUnfinished}
-use Rattle.cbor_data.specs.Faults.{Bounds, last_offset, BeginsWithin, StandsAt, malformed, deep, long, IsClearBefore, IsFaultOf, of_form, of_end, of_text, of_key, IsItem}
+use Rattle.cbor_data.specs.Faults.{Bounds, last_offset, BeginsWithin, IsFormFaultAt, malformed, deep, long, IsClearBefore, IsFaultOf, of_form, of_end, of_text, of_key, IsItem}
 use Rattle.cbor_data.specs.declared.FaultKind.{FaultKind}
 use Rattle.cbor_data.specs.declared.FaultKind.TheVariants.{TooDeep, TooLong}
 use Rattle.cbor_data.proofs.Lemmas.{one_form, unfinished_no_front}
@@ -49,11 +49,11 @@ around l o p x b front back e h item =
       placed = omega (arith, item.placed, h);
     }
 
-standing_no_item : (l : Bounds) (o : ℕ) (b : List ℕ) (p : ℕ) (k : FaultKind) (front : List ℕ) → StandsAt l o b p k → IsAround l o p b front → ⊥
-standing_no_item l o b p k front (malformed within not kind) r = not (r.rest, record { written = r.written; ok = r.ok; is = r.is })
-standing_no_item l o b p k front (deep within begins not) r = not (record { more = r.rest; written = r.written; ok = r.ok; is = r.is; shallow = r.shallow })
-standing_no_item l o b p k front (long within (inl at)) r = omega (arith, at, r.below)
-standing_no_item l o b p k front (long within (inr at)) r = omega (arith, at.1, r.placed)
+fault_at_no_item : (l : Bounds) (o : ℕ) (b : List ℕ) (p : ℕ) (k : FaultKind) (front : List ℕ) → IsFormFaultAt l o b p k → IsAround l o p b front → ⊥
+fault_at_no_item l o b p k front (malformed within not kind) r = not (r.rest, record { written = r.written; ok = r.ok; is = r.is })
+fault_at_no_item l o b p k front (deep within begins not) r = not (record { more = r.rest; written = r.written; ok = r.ok; is = r.is; shallow = r.shallow })
+fault_at_no_item l o b p k front (long within (inl at)) r = omega (arith, at, r.below)
+fault_at_no_item l o b p k front (long within (inr at)) r = omega (arith, at.1, r.placed)
 
 written_same : (l : Bounds) (o n : ℕ) (x : Value) (b front back : List ℕ) (g : Form) → IsOk g → take n b ≡ flat g → (item : IsItem l o x front) → b ≡ front ++ back → g ≡ item.spells.written
 written_same l o n x b front back g ok is item e =
@@ -62,9 +62,9 @@ written_same l o n x b front back g ok is item e =
 
 -- what has a fault does not begin with an item
 pub fault_no_item : (l : Bounds) (o : ℕ) (b : List ℕ) (k : FaultKind) (at : ℕ) (x : Value) (front back : List ℕ) → IsFaultOf l o b k at → IsItem l o x front → b ≡ front ++ back → ⊥
-fault_no_item l o b k at x front back (of_form p within unfinished stands clear is) item e =
+fault_no_item l o b k at x front back (of_form p within unfinished fault clear is) item e =
     elim (cases_lt p (length front)) [
-      | inl h ↦ standing_no_item l o b p _ front stands (around l o p x b front back e h item)
+      | inl h ↦ fault_at_no_item l o b p _ front fault (around l o p x b front back e h item)
       | inr h ↦ unfinished_no_front (take p b) front (take (p - length front) back) unfinished (formed item.spells) (ap (take p) e ∙ take_past p front back h)
     ]
 fault_no_item l o b k at x front back (of_end some unfinished clear is) item e = unfinished_no_front b front back unfinished (formed item.spells) e
@@ -102,7 +102,7 @@ clear_placed l o b below u clear =
       | inr h ↦ omega (arith, h, below)
     ]
 
-nothing_after : (l : Bounds) (o : ℕ) (b : List ℕ) (q : ℕ) (k : FaultKind) → StandsAt l o b q k → length b ≤ q → (q ≡ l.item_bytes → ⊥) → ⊥
+nothing_after : (l : Bounds) (o : ℕ) (b : List ℕ) (q : ℕ) (k : FaultKind) → IsFormFaultAt l o b q k → length b ≤ q → (q ≡ l.item_bytes → ⊥) → ⊥
 nothing_after l o b q k (malformed within not kind) above some = omega (arith, within, above)
 nothing_after l o b q k (deep within begins not) above some = omega (arith, within, above)
 nothing_after l o b q k (long within (inl e)) above some = some e

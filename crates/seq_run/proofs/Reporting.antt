@@ -15,8 +15,8 @@ use Rattle.seq_run.specs.declared.session.Advance.{Advance}
 use Rattle.seq_run.specs.declared.session.Advance.TheVariants as advance
 use Rattle.seq_run.specs.Ends.{Accepts, Misses, Overruns, Ends}
 use Rattle.seq_run.specs.Progress.{Progress}
-use Rattle.seq_run.specs.Standing.{IsNext, IsRejected}
-use Rattle.seq_run.specs.Answers.{IsOpen, IsEnded, IsLent, IsAdvance, IsAdvanceAnswer, collecting}
+use Rattle.seq_run.specs.Parts.{IsNext, IsRejected}
+use Rattle.seq_run.specs.Answers.{IsOpen, IsEnded, IsLent, IsAdvance, IsAdvanceAnswer, intake_of}
 use Rattle.seq_run.specs.Report.{item_line, item_lines, IsShown}
 use Rattle.seq_run.specs.Running.{Adds, IsSettled}
 use Rattle.seq_run.proofs.Runs.{same_front, same_takes}
@@ -43,31 +43,31 @@ pub begin_reporting : (old : Progress) (piece lines : List ℕ) → old.stopped 
 begin_reporting old piece lines e = record { fed = refl; going = e; added = []; taken = sym (append-nil old.taken); written = sym (append-nil lines); judge = refl; limits = refl }
 
 module _ (old : Progress) (piece lines : List ℕ) (now : Progress) (rest lines_now : List ℕ) (r : IsReporting old piece lines now rest lines_now) (new : Progress) (out_new : List Value) where
-  step_of : (result : Result Advance AllocError) → IsAdvanceAnswer now.stopped (collecting now []) rest result (collecting new out_new) → IsAdvance (collecting now []) rest result (collecting new out_new)
-  step_of result s = subst (λ v. IsAdvanceAnswer v (collecting now []) rest result (collecting new out_new)) r.going s
+  step_of : (result : Result Advance AllocError) → IsAdvanceAnswer now.stopped (intake_of now []) rest result (intake_of new out_new) → IsAdvance (intake_of now []) rest result (intake_of new out_new)
+  step_of result s = subst (λ v. IsAdvanceAnswer v (intake_of now []) rest result (intake_of new out_new)) r.going s
 
   adds : new.fed ≡ now.fed ++ rest → new.taken ≡ now.taken → new.judge ≡ now.judge → new.limits ≡ now.limits → Adds old piece lines new lines_now
   adds f t u v = record { fed = f ∙ r.fed; added = r.added; taken = t ∙ r.taken; written = r.written; judge = u ∙ r.judge; limits = v ∙ r.limits }
 
-  pub reported_more : IsAdvanceAnswer now.stopped (collecting now []) rest (Ok advance.More) (collecting new out_new) → Adds old piece lines new lines_now × IsOpen new
+  pub reported_more : IsAdvanceAnswer now.stopped (intake_of now []) rest (Ok advance.More) (intake_of new out_new) → Adds old piece lines new lines_now × IsOpen new
   reported_more a =
-      let s : IsAdvance (collecting now []) rest (Ok advance.More) (collecting new out_new) = step_of (Ok advance.More) a in
+      let s : IsAdvance (intake_of now []) rest (Ok advance.More) (intake_of new out_new) = step_of (Ok advance.More) a in
       (adds (ap (λ (p : Progress). p.fed) s.0) (ap (λ (p : Progress). p.taken) s.0) (ap (λ (p : Progress). p.judge) s.0) (ap (λ (p : Progress). p.limits) s.0), s.2)
 
-  pub reported_ended : (end : End) → IsAdvanceAnswer now.stopped (collecting now []) rest (Ok (advance.Ended end)) (collecting new out_new) → Adds old piece lines new lines_now × IsEnded new end
+  pub reported_ended : (end : End) → IsAdvanceAnswer now.stopped (intake_of now []) rest (Ok (advance.Ended end)) (intake_of new out_new) → Adds old piece lines new lines_now × IsEnded new end
   reported_ended end a =
-      let s : IsAdvance (collecting now []) rest (Ok (advance.Ended end)) (collecting new out_new) = step_of (Ok (advance.Ended end)) a in
+      let s : IsAdvance (intake_of now []) rest (Ok (advance.Ended end)) (intake_of new out_new) = step_of (Ok (advance.Ended end)) a in
       (adds (ap (λ (p : Progress). p.fed) s.0) (ap (λ (p : Progress). p.taken) s.0) (ap (λ (p : Progress). p.judge) s.0) (ap (λ (p : Progress). p.limits) s.0), s.2)
 
-  pub item_there : (used number offset : ℕ) → IsAdvanceAnswer now.stopped (collecting now []) rest (Ok (advance.Item used number offset)) (collecting new out_new) → length out_new ≡ 1
+  pub item_there : (used number offset : ℕ) → IsAdvanceAnswer now.stopped (intake_of now []) rest (Ok (advance.Item used number offset)) (intake_of new out_new) → length out_new ≡ 1
   item_there used number offset a =
-      let s : IsAdvance (collecting now []) rest (Ok (advance.Item used number offset)) (collecting new out_new) = step_of (Ok (advance.Item used number offset)) a in
+      let s : IsAdvance (intake_of now []) rest (Ok (advance.Item used number offset)) (intake_of new out_new) = step_of (Ok (advance.Item used number offset)) a in
       ap length s.3.2
 
-  pub reported_item : (used number offset : ℕ) (y : Value) (lines_new : List ℕ) → IsAdvanceAnswer now.stopped (collecting now []) rest (Ok (advance.Item used number offset)) (collecting new out_new) → y ≡ get_or out_new 0 y →
+  pub reported_item : (used number offset : ℕ) (y : Value) (lines_new : List ℕ) → IsAdvanceAnswer now.stopped (intake_of now []) rest (Ok (advance.Item used number offset)) (intake_of new out_new) → y ≡ get_or out_new 0 y →
       lines_new ≡ lines_now ++ item_line number (record { offset = offset; item = y }) → IsReporting old piece lines new (drop used rest) lines_new × (0 < used) × (used ≤ length rest)
   reported_item used number offset y lines_new a item written =
-      let s : IsAdvance (collecting now []) rest (Ok (advance.Item used number offset)) (collecting new out_new) = step_of (Ok (advance.Item used number offset)) a in
+      let s : IsAdvance (intake_of now []) rest (Ok (advance.Item used number offset)) (intake_of new out_new) = step_of (Ok (advance.Item used number offset)) a in
       let x = s.3.0 in
       let more : Found = record { offset = offset; item = x } in
       let same : y ≡ x = item ∙ ap (λ (xs : List Value). get_or xs 0 y) s.3.2 in

@@ -15,10 +15,10 @@ use Rattle.seq_run.specs.Judge.{Judge}
 use Rattle.seq_run.specs.declared.end.End.{End}
 use Rattle.seq_run.specs.declared.end.End.TheVariants.{Clean, Failed}
 use Rattle.seq_run.specs.Ends.{Accepts, Ends, IsAccepted, EndsFreely, IsDecisive, end_of}
-use Rattle.seq_run.specs.Standing.{IsRejected}
+use Rattle.seq_run.specs.Parts.{IsRejected}
 use Rattle.seq_run.specs.Report.{report}
 use Rattle.seq_run.specs.Running.{Change, IsReported}
-use Rattle.seq_run.specs.Written.{IsWritable, AreWritable, written, found_from, clean_end, IsWrittenStream, IsReadBack}
+use Rattle.seq_run.specs.Written.{IsWritable, AreWritable, written_bytes, found_from, clean_end, IsWrittenStream, IsReadBack}
 use Rattle.seq_run.proofs.Ending.{clean_run}
 use Rattle.seq_run.proofs.OneEnd.{one_clean}
 
@@ -31,27 +31,27 @@ module _ (spells : (x : Value) → IsSound x → Spells x (preferred x)) where
   written_item : (accepts : Value → List ℕ → Type 0) (l : Bounds) (o : ℕ) (x : Value) → IsWritable accepts l x → o + length (preferred x) ≤ last_offset → IsItem l o x (preferred x)
   written_item accepts l o x w h = record { spells = spells x w.sound; valid = w.sound.valid; shallow = w.shallow; short = w.short; placed = h }
 
-  takes_written : (accepts : Value → List ℕ → Type 0) (l : Bounds) (o : ℕ) (items : List Value) → AreWritable accepts l items → o + length (written items) ≤ last_offset →
-      Takes l accepts o (written items) (found_from o items) []
+  takes_written : (accepts : Value → List ℕ → Type 0) (l : Bounds) (o : ℕ) (items : List Value) → AreWritable accepts l items → o + length (written_bytes items) ≤ last_offset →
+      Takes l accepts o (written_bytes items) (found_from o items) []
   takes_written accepts l o [] w h = none
   takes_written accepts l o (x ∷ xs) w h =
-      let len : length (preferred x ++ written xs) ≡ length (preferred x) + length (written xs) = length-append (preferred x) (written xs) in
-      next x (preferred x) (written xs) refl (written_item accepts l o x w.0 (omega (arith, h, len))) w.0.accepted
+      let len : length (preferred x ++ written_bytes xs) ≡ length (preferred x) + length (written_bytes xs) = length-append (preferred x) (written_bytes xs) in
+      next x (preferred x) (written_bytes xs) refl (written_item accepts l o x w.0 (omega (arith, h, len))) w.0.accepted
       (takes_written accepts l (o + length (preferred x)) xs w.1 (omega (arith, h, len)))
 
-  written_run : (accepts : Value → List ℕ → Type 0) (l : Bounds) (items : List Value) → AreWritable accepts l items → length (written items) ≤ last_offset → IsRunOf l accepts (written items) (found_from 0 items) []
-  written_run accepts l items w h = clean_run l accepts (written items) (found_from 0 items) (takes_written accepts l 0 items w (omega (arith, h)))
+  written_run : (accepts : Value → List ℕ → Type 0) (l : Bounds) (items : List Value) → AreWritable accepts l items → length (written_bytes items) ≤ last_offset → IsRunOf l accepts (written_bytes items) (found_from 0 items) []
+  written_run accepts l items w h = clean_run l accepts (written_bytes items) (found_from 0 items) (takes_written accepts l 0 items w (omega (arith, h)))
 
   -- their run is these items, and nothing is left
   written_by : (accepts : Value → List ℕ → Type 0) {told : ℕ → List ℕ → FaultKind → ℕ → Type 0} {misses : Value → List ℕ → ℕ → Type 0} {overruns : Value → List ℕ → Type 0} (l : Bounds) (items : List Value) →
-      AreWritable accepts l items → length (written items) ≤ last_offset → EndsBy l accepts told misses overruns (written items) (found_from 0 items) (sequence.clean (length items) (length (written items)))
+      AreWritable accepts l items → length (written_bytes items) ≤ last_offset → EndsBy l accepts told misses overruns (written_bytes items) (found_from 0 items) (sequence.clean (length items) (length (written_bytes items)))
   written_by accepts {told} {misses} {overruns} l items w h =
-      subst (λ n. EndsBy l accepts told misses overruns (written items) (found_from 0 items) (sequence.clean n (length (written items)))) (found_len 0 items) (cleanly (written_run accepts l items w h))
+      subst (λ n. EndsBy l accepts told misses overruns (written_bytes items) (found_from 0 items) (sequence.clean n (length (written_bytes items)))) (found_len 0 items) (cleanly (written_run accepts l items w h))
 
-  pub written_ends : (judge : Judge) (l : Bounds) (items : List Value) → AreWritable (Accepts judge) l items → length (written items) ≤ last_offset → Ends judge l (written items) (found_from 0 items) (clean_end items)
+  pub written_ends : (judge : Judge) (l : Bounds) (items : List Value) → AreWritable (Accepts judge) l items → length (written_bytes items) ≤ last_offset → Ends judge l (written_bytes items) (found_from 0 items) (clean_end items)
   written_ends judge l items w h = written_by (Accepts judge) l items w h
 
-  pub written_ends_freely : (table : Table) (l : Bounds) (items : List Value) → AreWritable (IsAccepted table) l items → length (written items) ≤ last_offset → EndsFreely table l (written items) (found_from 0 items) (clean_end items)
+  pub written_ends_freely : (table : Table) (l : Bounds) (items : List Value) → AreWritable (IsAccepted table) l items → length (written_bytes items) ≤ last_offset → EndsFreely table l (written_bytes items) (found_from 0 items) (clean_end items)
   written_ends_freely table l items w h = written_by (IsAccepted table) l items w h
 
 -- a clean end has a run that leaves nothing
@@ -72,21 +72,21 @@ none_rejected judge l b found (Failed items offset cause) rejected n m e r = abs
 
 -- the laws of what is written and of an end that is no want of steps
 abbrev pub IsReadFreely : Type 0
-IsReadFreely = (table : Table) (l : Bounds) (items : List Value) → AreWritable (IsAccepted table) l items → length (written items) ≤ last_offset → EndsFreely table l (written items) (found_from 0 items) (clean_end items)
+IsReadFreely = (table : Table) (l : Bounds) (items : List Value) → AreWritable (IsAccepted table) l items → length (written_bytes items) ≤ last_offset → EndsFreely table l (written_bytes items) (found_from 0 items) (clean_end items)
 
 abbrev pub DecidesFreely : Type 0
 DecidesFreely = (judge : Judge) (l : Bounds) (stream : List ℕ) (found : List Found) (end : End) → Ends judge l stream found end → IsDecisive end → EndsFreely judge.table l stream found end
 
 -- the report of such a stream
 reads_back : IsReadFreely → DecidesFreely → (judge : Judge) (l : Bounds) (stream : List ℕ) (output : Change) (end : End) (rejected : Option Value) (items : List Value) →
-    IsReported judge l stream output end rejected → AreWritable (IsAccepted judge.table) l items → length (written items) ≤ last_offset → stream ≡ written items → IsDecisive end →
+    IsReported judge l stream output end rejected → AreWritable (IsAccepted judge.table) l items → length (written_bytes items) ≤ last_offset → stream ≡ written_bytes items → IsDecisive end →
     IsReadBack items output end rejected
 reads_back freely decide judge l stream output end rejected items r w h is decisive =
-    let run : IsRunOf l (IsAccepted judge.table) (written items) (found_from 0 items) [] = run_of_clean (freely judge.table l items w h) (length items) (length (written items)) refl in
-    let ends : Ends judge l (written items) r.found end = subst (λ (b : List ℕ). Ends judge l b r.found end) is r.ends in
-    let one = one_clean (decide judge l (written items) r.found end ends decisive) run in
-    let clean : end ≡ clean_end items = clean_only end (length items) (length (written items)) (one.1 ∙ ap (λ n. sequence.clean n (length (written items))) (found_len 0 items)) in
-    let none : rejected ≡ None = none_rejected judge l stream r.found end rejected (length items) (length (written items)) clean r.rejects in
+    let run : IsRunOf l (IsAccepted judge.table) (written_bytes items) (found_from 0 items) [] = run_of_clean (freely judge.table l items w h) (length items) (length (written_bytes items)) refl in
+    let ends : Ends judge l (written_bytes items) r.found end = subst (λ (b : List ℕ). Ends judge l b r.found end) is r.ends in
+    let one = one_clean (decide judge l (written_bytes items) r.found end ends decisive) run in
+    let clean : end ≡ clean_end items = clean_only end (length items) (length (written_bytes items)) (one.1 ∙ ap (λ n. sequence.clean n (length (written_bytes items))) (found_len 0 items)) in
+    let none : rejected ≡ None = none_rejected judge l stream r.found end rejected (length items) (length (written_bytes items)) clean r.rejects in
     record {
       clean = clean;
       accepted = none;
@@ -97,5 +97,5 @@ reads_back freely decide judge l stream output end rejected items r w h is decis
 
 pub read_back : IsReadFreely → DecidesFreely → (judge : Judge) (l : Bounds) (stream : Option (List ℕ)) (output : Change) (end : End) (rejected : Option Value) →
     IfSome stream (λ s. IsReported judge l s output end rejected) → (items : List Value) → IsWrittenStream judge.table l items stream → IsDecisive end → IsReadBack items output end rejected
-read_back freely decide judge l None output end rejected r items s decisive = absurd (let e : None ≡ Some (written items) = s.is in cc)
-read_back freely decide judge l (Some stream) output end rejected r items s decisive = reads_back freely decide judge l stream output end rejected items r s.writable s.short (let e : Some stream ≡ Some (written items) = s.is in cc) decisive
+read_back freely decide judge l None output end rejected r items s decisive = absurd (let e : None ≡ Some (written_bytes items) = s.is in cc)
+read_back freely decide judge l (Some stream) output end rejected r items s decisive = reads_back freely decide judge l stream output end rejected items r s.writable s.short (let e : Some stream ≡ Some (written_bytes items) = s.is in cc) decisive

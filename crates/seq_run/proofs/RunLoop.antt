@@ -15,7 +15,7 @@ use Rattle.seq_run.specs.declared.end.End.{End}
 use Rattle.seq_run.specs.declared.end.End.TheVariants.{Clean, Failed}
 use Rattle.seq_run.specs.Ends.{Accepts, BeginsWith, IsRun, Ends}
 use Rattle.seq_run.specs.Progress.{Progress}
-use Rattle.seq_run.specs.Standing.{IsNext, IsRejected}
+use Rattle.seq_run.specs.Parts.{IsNext, IsRejected}
 use Rattle.seq_run.specs.Answers.{IsOpen, IsLent}
 use Rattle.seq_run.specs.Report.{item_line, item_lines, end_line}
 use Rattle.seq_run.specs.Running.{Change, IsReported, IsWholeReport, IsBeginning, WritesFirst, WritesItems, WritesRun, IsSettled, IsLast, IsPieceDone}

@@ -24,8 +24,8 @@ use Rattle.seq_run.specs.Ends.{Accepts, BeginsWith, Ends}
 use Rattle.seq_run.specs.Judged.{IsFailing}
 use Rattle.seq_run.specs.FoundItem.{found_of}
 use Rattle.seq_run.specs.Progress.{Progress}
-use Rattle.seq_run.specs.Standing.{IsRejected, IsRunning, IsStanding, parts_of}
-use Rattle.seq_run.specs.Answers.{IsOpen, IsEnded, IsCutShort, IsAdvance, IsAdvanceAnswer, IsFinish, collecting}
+use Rattle.seq_run.specs.Parts.{IsRejected, IsRunning, AreParts, parts_of}
+use Rattle.seq_run.specs.Answers.{IsOpen, IsEnded, IsCutShort, IsAdvance, IsAdvanceAnswer, IsFinish, intake_of}
 use Rattle.seq_run.proofs.Ending.{clean_end, fault_end}
 use Rattle.seq_run.proofs.Verdicts.{OneAnswer}
 use Rattle.seq_run.proofs.Transitions.{grows, going_on, opened, took, missed, overrun, faulted, cut_short, counts_below}
@@ -40,14 +40,14 @@ pub kept_items : {T E : Type 0} (result : Result T E) (new longer old : List Val
 kept_items (Ok x) new longer old e f = absurd (cc)
 kept_items (Err x) new longer old e f = e
 
-pub answered : (now : Progress) (piece : List ℕ) (out : List Value) (result : Result Advance AllocError) (new : Progress) (out_new : List Value) → now.stopped ≡ None → IsAdvance (collecting now out) piece result (collecting new out_new) →
-    IsAdvanceAnswer now.stopped (collecting now out) piece result (collecting new out_new)
-answered now piece out result new out_new e s = subst (λ v. IsAdvanceAnswer v (collecting now out) piece result (collecting new out_new)) (sym e) s
+pub answered : (now : Progress) (piece : List ℕ) (out : List Value) (result : Result Advance AllocError) (new : Progress) (out_new : List Value) → now.stopped ≡ None → IsAdvance (intake_of now out) piece result (intake_of new out_new) →
+    IsAdvanceAnswer now.stopped (intake_of now out) piece result (intake_of new out_new)
+answered now piece out result new out_new e s = subst (λ v. IsAdvanceAnswer v (intake_of now out) piece result (intake_of new out_new)) (sym e) s
 
 module _ (judge : Judge) (fed : List ℕ) (taken : List Found) (r : Reading) (items offset bytes : ℕ) (stopped : Option Stopped) (rejected : Option Value)
-    (is : stopped ≡ None) (standing : IsStanding stopped judge r.limits fed taken (parts_of r items offset bytes rejected)) where
+    (is : stopped ≡ None) (parts : AreParts stopped judge r.limits fed taken (parts_of r items offset bytes rejected)) where
   running : IsRunning judge r.limits fed taken (parts_of r items offset bytes rejected)
-  running = subst (λ v. IsStanding v judge r.limits fed taken (parts_of r items offset bytes rejected)) is standing
+  running = subst (λ v. AreParts v judge r.limits fed taken (parts_of r items offset bytes rejected)) is parts
 
   abbrev old : Progress
   old = record { judge = judge; limits = r.limits; fed = fed; taken = taken; stopped = stopped }
@@ -64,11 +64,11 @@ module _ (judge : Judge) (fed : List ℕ) (taken : List Found) (r : Reading) (it
       let limits : r.limits ≡ new.limits = ap (λ (v : Reading). v.limits) (sym g.next) in
       subst (λ l. IsRunning judge l fed' taken (parts_of new items offset (bytes + length piece) rejected)) limits (subst (λ f. IsRunning judge r.limits f taken (parts_of new items offset (bytes + length piece) rejected)) (sym e) next)
 
-  pub more_kept : (piece : List ℕ) (new : Reading) (fed' : List ℕ) → fed' ≡ fed ++ piece → IsGoingOn r piece new → IsStanding stopped judge new.limits fed' taken (parts_of new items offset (bytes + length piece) rejected)
-  more_kept piece new fed' e g = subst (λ v. IsStanding v judge new.limits fed' taken (parts_of new items offset (bytes + length piece) rejected)) (sym is) (more_running piece new fed' e g)
+  pub more_kept : (piece : List ℕ) (new : Reading) (fed' : List ℕ) → fed' ≡ fed ++ piece → IsGoingOn r piece new → AreParts stopped judge new.limits fed' taken (parts_of new items offset (bytes + length piece) rejected)
+  more_kept piece new fed' e g = subst (λ v. AreParts v judge new.limits fed' taken (parts_of new items offset (bytes + length piece) rejected)) (sym is) (more_running piece new fed' e g)
 
   pub more_step : (now : Progress) → old ≡ now → (piece : List ℕ) (out : List Value) (new : Reading) (fed' : List ℕ) → fed' ≡ fed ++ piece → IsGoingOn r piece new →
-      IsAdvance (collecting now out) piece (Ok advance.More) (collecting (record { judge = judge; limits = new.limits; fed = fed'; taken = taken; stopped = stopped }) out)
+      IsAdvance (intake_of now out) piece (Ok advance.More) (intake_of (record { judge = judge; limits = new.limits; fed = fed'; taken = taken; stopped = stopped }) out)
   more_step now same piece out new fed' e g =
       let limits : new.limits ≡ r.limits = ap (λ (v : Reading). v.limits) g.next in
       let next = more_running piece new fed' e g in
@@ -80,7 +80,7 @@ module _ (judge : Judge) (fed : List ℕ) (taken : List Found) (r : Reading) (it
   -- whatever follows the piece, the stream has this end
   ended_step : (now : Progress) → old ≡ now → (piece : List ℕ) (out : List Value) (end : End) (limits : Bounds) (fed' : List ℕ) → limits ≡ r.limits → fed' ≡ fed ++ piece →
       ((more : List ℕ) → Ends judge r.limits ((fed ++ piece) ++ more) taken end) →
-      IsAdvance (collecting now out) piece (Ok (advance.Ended end)) (collecting (record { judge = judge; limits = limits; fed = fed'; taken = taken; stopped = Some (Ended end) }) out)
+      IsAdvance (intake_of now out) piece (Ok (advance.Ended end)) (intake_of (record { judge = judge; limits = limits; fed = fed'; taken = taken; stopped = Some (Ended end) }) out)
   ended_step now same piece out end limits fed' bounds e ends =
       let after : Progress = record { judge = judge; limits = limits; fed = fed'; taken = taken; stopped = Some (Ended end) } in
       let ended : IsEnded after end = record { ends = λ more. rw (bounds, e) (ends more); stopped = refl } in
@@ -96,7 +96,7 @@ module _ (judge : Judge) (fed : List ℕ) (taken : List Found) (r : Reading) (it
 
   pub item_kept : (piece : List ℕ) (used : ℕ) (x : Value) (new : Reading) (fed' : List ℕ) (taken' : List Found) → fed' ≡ fed ++ take used piece →
       taken' ≡ taken ++ record { offset = offset; item = x } ∷ [] → IsTaken r piece used x new → Accepts judge x [] →
-      IsStanding stopped judge new.limits fed' taken' (parts_of new (items + 1) (bytes + used) (bytes + used) rejected)
+      AreParts stopped judge new.limits fed' taken' (parts_of new (items + 1) (bytes + used) (bytes + used) rejected)
   item_kept piece used x new fed' taken' e f t accepts =
       let limits : new.limits ≡ r.limits = ap (λ (v : Reading). v.limits) t.next in
       let next = (took judge r.limits fed taken r items offset bytes rejected running piece used x new t accepts).1 in
@@ -127,13 +127,13 @@ module _ (judge : Judge) (fed : List ℕ) (taken : List Found) (r : Reading) (it
       (subst (λ (b : List ℕ). Ends judge r.limits b taken end × IsRejected judge r.limits b taken end left) (sym whole) (failing one piece cause left new [] f))
 
   pub stopped_step : OneAnswer → (now : Progress) → old ≡ now → (piece : List ℕ) (out : List Value) (cause : Cause) (left : Option Value) (new : Reading) (fed' : List ℕ) → fed' ≡ fed ++ piece → IsFailing judge r piece cause left new →
-      IsAdvance (collecting now out) piece (Ok (advance.Ended (Failed items offset cause))) (collecting (record { judge = judge; limits = new.limits; fed = fed'; taken = taken; stopped = Some (Ended (Failed items offset cause)) }) out)
+      IsAdvance (intake_of now out) piece (Ok (advance.Ended (Failed items offset cause))) (intake_of (record { judge = judge; limits = new.limits; fed = fed'; taken = taken; stopped = Some (Ended (Failed items offset cause)) }) out)
   stopped_step one now same piece out cause left new fed' e f =
       ended_step now same piece out (Failed items offset cause) new.limits fed' (failing_limits piece cause left new f) e (λ more. (failing one piece cause left new more f).0)
 
   -- there was no memory
   pub cut_step : (now : Progress) → old ≡ now → (piece : List ℕ) (out out_new : List Value) (error : AllocError) (limits : Bounds) (fed' : List ℕ) → limits ≡ r.limits → fed' ≡ fed ++ piece → out_new ≡ out →
-      IsAdvance (collecting now out) piece (Err error) (collecting (record { judge = judge; limits = limits; fed = fed'; taken = taken; stopped = Some Memory }) out_new)
+      IsAdvance (intake_of now out) piece (Err error) (intake_of (record { judge = judge; limits = limits; fed = fed'; taken = taken; stopped = Some Memory }) out_new)
   cut_step now same piece out out_new error limits fed' bounds e kept =
       let after : Progress = record { judge = judge; limits = limits; fed = fed'; taken = taken; stopped = Some Memory } in
       let short : IsCutShort after = rw (bounds, e) (cut_short judge r.limits fed taken r items offset bytes rejected running piece) in

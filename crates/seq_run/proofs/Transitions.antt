@@ -17,7 +17,7 @@ use Rattle.seq_run.specs.declared.end.Stopped.TheVariants.{Memory}
 use Rattle.seq_run.specs.declared.session.FoundItem.{FoundItem}
 use Rattle.seq_run.specs.Ends.{Accepts, Misses, Overruns, BeginsWith, Ends}
 use Rattle.seq_run.specs.FoundItem.{found_of}
-use Rattle.seq_run.specs.Standing.{IsHeld, IsNext, IsRunning, parts_of}
+use Rattle.seq_run.specs.Parts.{IsClearRest, IsNext, IsRunning, parts_of}
 use Rattle.seq_run.specs.Answers.{IsOpen, IsCutShort}
 use Rattle.seq_run.proofs.Fronts.{clear_placed}
 use Rattle.seq_run.proofs.Runs.{takes_extend, takes_snoc, takes_count, formed_some}
@@ -36,7 +36,7 @@ started judge reader fed taken l r f t = rw (r, f, t) (record {
   short = omega arith;
   limits = refl;
   going = refl;
-  held = inl refl;
+  clear_rest = inl refl;
   none = refl;
 })
 
@@ -48,8 +48,8 @@ empty_front (x ∷ xs) b e = absurd (cc)
 regrouped : (fed piece more : List ℕ) → (fed ++ piece) ++ more ≡ fed ++ (piece ++ more)
 regrouped fed piece more = append_assoc fed piece more
 
-split_piece : (used : ℕ) (held piece : List ℕ) → held ++ piece ≡ (held ++ take used piece) ++ drop used piece
-split_piece used held piece = ap (λ b. held ++ b) (sym (take-append-drop used piece)) ∙ sym (append_assoc held (take used piece) (drop used piece))
+split_piece : (used : ℕ) (front piece : List ℕ) → front ++ piece ≡ (front ++ take used piece) ++ drop used piece
+split_piece used front piece = ap (λ b. front ++ b) (sym (take-append-drop used piece)) ∙ sym (append_assoc front (take used piece) (drop used piece))
 
 module _ (judge : Judge) (l : Bounds) (fed : List ℕ) (taken : List Found) (reader : Reading) (items offset bytes : ℕ) (rejected : Option Value)
     (s : IsRunning judge l fed taken (parts_of reader items offset bytes rejected)) where
@@ -80,16 +80,16 @@ module _ (judge : Judge) (l : Bounds) (fed : List ℕ) (taken : List Found) (rea
     short = grows piece new g;
     limits = s.limits;
     going = s.going;
-    held = inr (g.unfinished, subst (λ (m : Bounds). BeginsWithin m.depth (reader.fed ++ piece)) s.limits g.shallow, subst (λ (m : Bounds). IsClearBefore m reader.offset (reader.fed ++ piece) (length (reader.fed ++ piece))) s.limits g.clear);
+    clear_rest = inr (g.unfinished, subst (λ (m : Bounds). BeginsWithin m.depth (reader.fed ++ piece)) s.limits g.shallow, subst (λ (m : Bounds). IsClearBefore m reader.offset (reader.fed ++ piece) (length (reader.fed ++ piece))) s.limits g.clear);
     none = s.none;
   })
 
   -- the bytes fed have an end that more may change
   pub opened : (stopped : Option Stopped) → stopped ≡ None → IsOpen (record { judge = judge; limits = l; fed = fed; taken = taken; stopped = stopped })
   opened stopped going =
-      let held : IsHeld l reader.offset reader.fed = s.held in
+      let front : IsClearRest l reader.offset reader.fed = s.clear_rest in
       let at : reader.offset + length reader.fed ≡ length fed = omega (arith, s.reaches, s.bytes_is, s.offset_is) in
-      let end = open_end judge l fed taken reader.offset reader.fed s.takes at held in
+      let end = open_end judge l fed taken reader.offset reader.fed s.takes at front in
       record { end = end.end; ends = end.ends; undecided = end.undecided; short = omega (arith, s.bytes_is, s.short); going = going }
 
   -- an item was accepted
@@ -112,7 +112,7 @@ module _ (judge : Judge) (l : Bounds) (fed : List ℕ) (taken : List Found) (rea
         short = short;
         limits = s.limits;
         going = refl;
-        held = inl refl;
+        clear_rest = inl refl;
         none = refl;
       } in
       (short, subst (λ (r : Reading). IsRunning judge l (fed ++ take used piece) (taken ++ record { offset = offset; item = x } ∷ []) (parts_of r (items + 1) (bytes + used) (bytes + used) None)) (sym t.next) running)

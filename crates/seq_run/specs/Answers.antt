@@ -16,7 +16,7 @@ use Rattle.seq_run.specs.declared.end.Stopped.TheVariants.{Ended, Memory}
 use Rattle.seq_run.specs.declared.session.Advance.{Advance}
 use Rattle.seq_run.specs.declared.session.Advance.TheVariants as advance
 use Rattle.seq_run.specs.Ends.{BeginsWith, Ends}
-use Rattle.seq_run.specs.Standing.{IsRejected}
+use Rattle.seq_run.specs.Parts.{IsRejected}
 use Rattle.seq_run.specs.Progress.{Progress}
 
 abbrev pub items_of : List Found → List Value
@@ -89,15 +89,15 @@ IsLent (Some (Ended end)) p rejected = IsRejected p.judge p.limits p.fed p.taken
 IsLent _ p rejected = rejected ≡ None
 
 -- a session, and the list to which its items are appended
-pub record Collecting : Type 0 where
+pub record Intake : Type 0 where
   pub session : Progress
   pub items : List Value
 
-abbrev pub collecting : Progress → List Value → Collecting
-collecting session items = record { session = session; items = items }
+abbrev pub intake_of : Progress → List Value → Intake
+intake_of session items = record { session = session; items = items }
 
 -- one call of a session that has not stopped
-abbrev pub IsAdvance : Collecting → List ℕ → Result Advance AllocError → Collecting → Type 0
+abbrev pub IsAdvance : Intake → List ℕ → Result Advance AllocError → Intake → Type 0
 IsAdvance old piece (Ok advance.More) new =
     (new.session ≡ record old.session { fed = old.session.fed ++ piece }) × (new.items ≡ old.items) × IsOpen new.session
 IsAdvance old piece (Ok (advance.Item used number offset)) new =
@@ -109,7 +109,7 @@ IsAdvance old piece (Ok (advance.Ended end)) new =
 IsAdvance old piece (Err e) new =
     (new.session ≡ record old.session { fed = old.session.fed ++ piece; stopped = Some Memory }) × (new.items ≡ old.items) × IsCutShort new.session
 
-abbrev pub IsAdvanceAnswer : Option Stopped → Collecting → List ℕ → Result Advance AllocError → Collecting → Type 0
+abbrev pub IsAdvanceAnswer : Option Stopped → Intake → List ℕ → Result Advance AllocError → Intake → Type 0
 IsAdvanceAnswer None old piece result new = IsAdvance old piece result new
 IsAdvanceAnswer (Some (Ended end)) old piece result new = (result ≡ Ok (advance.Ended end)) × (new.session ≡ old.session) × (new.items ≡ old.items)
 IsAdvanceAnswer (Some Memory) old piece result new = (result ≡ Err alloc_error) × (new.session ≡ old.session) × (new.items ≡ old.items)

@@ -3,7 +3,7 @@ pub mod Ends
 pub mod Judged
 pub mod Progress
 pub mod FoundItem
-pub mod Standing
+pub mod Parts
 pub mod Answers
 pub mod Report
 pub mod Running

@@ -14,7 +14,7 @@ use Rattle.seq_run.specs.declared.end.Stopped.TheVariants.{Ended}
 use Rattle.seq_run.specs.declared.running.RunFault.{RunFault}
 use Rattle.seq_run.specs.declared.running.RunFault.TheVariants.{ReadFailed, WriteFailed, Memory}
 use Rattle.seq_run.specs.Ends.{BeginsWith, IsRun, Ends}
-use Rattle.seq_run.specs.Standing.{IsRejected}
+use Rattle.seq_run.specs.Parts.{IsRejected}
 use Rattle.seq_run.specs.Progress.{Progress}
 use Rattle.seq_run.specs.Answers.{IsOpen}
 use Rattle.seq_run.specs.Report.{item_lines, end_line, report}

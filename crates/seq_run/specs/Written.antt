@@ -25,9 +25,9 @@ AreWritable accepts l [] = Unit {0}
 AreWritable accepts l (x ∷ xs) = IsWritable accepts l x × AreWritable accepts l xs
 
 -- the items' preferred bytes, one after the other
-abbrev pub written : List Value → List ℕ
-written [] = []
-written (x ∷ xs) = preferred x ++ written xs
+abbrev pub written_bytes : List Value → List ℕ
+written_bytes [] = []
+written_bytes (x ∷ xs) = preferred x ++ written_bytes xs
 
 -- the items, each with the offset of its first byte, where the first one's is o
 abbrev pub found_from : ℕ → List Value → List Found
@@ -36,14 +36,14 @@ found_from o (x ∷ xs) = record { offset = o; item = x } ∷ found_from (o + le
 
 -- all of a stream is these items
 abbrev pub clean_end : List Value → End
-clean_end items = Clean (length items) (length (written items))
+clean_end items = Clean (length items) (length (written_bytes items))
 
 -- Such items, which the specification accepts in any number of judgements, are this stream as they are written out, which
 -- is no longer than a stream may be.
 pub record IsWrittenStream (table : Table) (l : Bounds) (items : List Value) (stream : Option (List ℕ)) : Type 0 where
   pub writable : AreWritable (IsAccepted table) l items
-  pub short : length (written items) ≤ last_offset
-  pub is : stream ≡ Some (written items)
+  pub short : length (written_bytes items) ≤ last_offset
+  pub is : stream ≡ Some (written_bytes items)
 
 -- The end says that all was read, no item failed, and the report that went out has these items.
 pub record IsReadBack (items : List Value) (output : Change) (end : End) (rejected : Option Value) : Type 0 where

@@ -8,7 +8,7 @@ ghost use Rattle.cddl_table.specs.declared.table.Table.{Table};
 ghost use Rattle.seq_run.specs.declared.end.End.{End};
 ghost use Rattle.seq_run.specs.Ends.{Accepts, Ends, EndsFreely, IsAccepted, IsDecisive};
 ghost use Rattle.seq_run.specs.Judge.{Judge};
-ghost use Rattle.seq_run.specs.Written.{AreWritable, clean_end, found_from, written};
+ghost use Rattle.seq_run.specs.Written.{AreWritable, clean_end, found_from, written_bytes};
 
 use cbor_data::preferred_spells;
 use cbor_read::one_fault;
@@ -17,10 +17,10 @@ use cddl_match::one_answer;
 /// Any list of sound items that are accepted and are within the limits as they are written, all their bytes together no
 /// more than a stream may have: the run of their preferred bytes is that list, and its end is clean. It does nothing.
 pub fn written_is_read_back()
-    ensures freely { (table : Table) (l : Bounds) (items : List Value) → AreWritable (IsAccepted table) l items → length (written items) ≤ last_offset →
-        EndsFreely table l (written items) (found_from 0 items) (clean_end items) }
-    ensures within { (judge : Judge) (l : Bounds) (items : List Value) → AreWritable (Accepts judge) l items → length (written items) ≤ last_offset →
-        Ends judge l (written items) (found_from 0 items) (clean_end items) }
+    ensures freely { (table : Table) (l : Bounds) (items : List Value) → AreWritable (IsAccepted table) l items → length (written_bytes items) ≤ last_offset →
+        EndsFreely table l (written_bytes items) (found_from 0 items) (clean_end items) }
+    ensures within { (judge : Judge) (l : Bounds) (items : List Value) → AreWritable (Accepts judge) l items → length (written_bytes items) ≤ last_offset →
+        Ends judge l (written_bytes items) (found_from 0 items) (clean_end items) }
 {
     preferred_spells();
 }

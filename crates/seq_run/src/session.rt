@@ -1,7 +1,7 @@
 //! A session: the run of a stream that comes in pieces.
 
 ghost use Rattle.std.specs.Prelude.{◌≡◌, ◌+◌, ◌<◌, ◌^◌, [], length, None, option_copied};
-ghost use Rattle.seq_run.specs.Answers.{Appends, IsAdvance, IsAdvanceAnswer, IsAnswer, IsFinish, IsLent, collecting};
+ghost use Rattle.seq_run.specs.Answers.{Appends, IsAdvance, IsAdvanceAnswer, IsAnswer, IsFinish, IsLent, intake_of};
 ghost use Rattle.seq_run.specs.Judge.{judge_of};
 ghost use Rattle.seq_run.specs.Judged.{IsJudged};
 
@@ -122,7 +122,7 @@ impl<'t> Model for Session<'t> {
     ghost use Rattle.std.specs.Prelude.{map};
     ghost use Rattle.seq_run.specs.Progress.{Progress, coded_progress};
     ghost use Rattle.seq_run.specs.FoundItem.{found_of};
-    ghost use Rattle.seq_run.specs.Standing.{IsStanding, parts_of};
+    ghost use Rattle.seq_run.specs.Parts.{AreParts, parts_of};
     ghost use Rattle.seq_run.specs.Judge.{judge_of};
 
     ghost Value = { Progress };
@@ -131,7 +131,7 @@ impl<'t> Model for Session<'t> {
 
     ghost view = { λ s. record { judge = judge_of s.table.now s.steps; limits = s.reader.limits; fed = s.fed; taken = map found_of s.taken; stopped = s.stopped } };
 
-    ghost invariant = { λ s. IsStanding s.stopped (judge_of s.table.now s.steps) s.reader.limits s.fed (map found_of s.taken) (parts_of s.reader s.count.items s.count.offset s.count.bytes s.rejected) };
+    ghost invariant = { λ s. AreParts s.stopped (judge_of s.table.now s.steps) s.reader.limits s.fed (map found_of s.taken) (parts_of s.reader s.count.items s.count.offset s.count.bytes s.rejected) };
 }
 
 impl<'t> Session<'t> {
@@ -228,7 +228,7 @@ impl<'t> Session<'t> {
         piece: &[u8],
         out: &mut Vec<Sound>,
     ) -> Result<Advance, AllocError>
-        ensures { IsAdvanceAnswer self.old.stopped (collecting self.old out.old.items) piece.now result (collecting self.new out.new.items) }
+        ensures { IsAdvanceAnswer self.old.stopped (intake_of self.old out.old.items) piece.now result (intake_of self.new out.new.items) }
     {
         match self.stopped {
             Some(Stopped::Ended(end)) => Ok(Advance::Ended(end)),
@@ -240,7 +240,7 @@ impl<'t> Session<'t> {
     // The same for a session that has not stopped.
     fn take_next(&mut self, piece: &[u8], out: &mut Vec<Sound>) -> Result<Advance, AllocError>
         requires { self.old.stopped ≡ None }
-        ensures { IsAdvance (collecting self.old out.old.items) piece.now result (collecting self.new out.new.items) }
+        ensures { IsAdvance (intake_of self.old out.old.items) piece.now result (intake_of self.new out.new.items) }
     {
         one_answer();
         match judge_next(self.alloc, self.table, self.steps, &mut self.reader, piece) {

@@ -8,7 +8,7 @@ slice_bounds-number-end c =
     let b = c.args.bytes.now in
     let at = c.args.at in
     let r = c.requires in
-    omega (arith, c.width_of.ensures.value, wide_within b at r.size r.major r.argument r.back (slice_index_or b at 0 % 32) r.stands refl c.if-info-lt24.false)
+    omega (arith, c.width_of.ensures.value, wide_within b at r.size r.major r.argument r.back (slice_index_or b at 0 % 32) r.there refl c.if-info-lt24.false)
 
 pub returns : goal.returns
 returns c = λ p m n back s.

@@ -3,10 +3,10 @@ use Rattle.cbor_value.proofs.Heads.{first, headed_opened, is_head, is_info, head
 use Rattle.cbor_value.proofs.head.head_at.Goals as goal
 
 pub bounds-bytes-at : goal.bounds-bytes-at
-bounds-bytes-at c = (first c.args.bytes.now c.args.at c.requires.written c.requires.back c.requires.stands).few
+bounds-bytes-at c = (first c.args.bytes.now c.args.at c.requires.written c.requires.back c.requires.there).few
 
 pub bounds-bytes-at-2 : goal.bounds-bytes-at-2
-bounds-bytes-at-2 c = (first c.args.bytes.now c.args.at c.requires.written c.requires.back c.requires.stands).few
+bounds-bytes-at-2 c = (first c.args.bytes.now c.args.at c.requires.written c.requires.back c.requires.there).few
 
 pub returns-then-info-eq31 : goal.returns-then-info-eq31
 returns-then-info-eq31 c = λ f back s.
@@ -17,7 +17,7 @@ returns-then-info-eq31 c = λ f back s.
 pub argument_at-argument-requires : goal.argument_at-argument-requires
 argument_at-argument-requires c =
     let r = c.requires in
-    is_head c.args.bytes.now c.args.at r.written r.back (slice_index_or c.args.bytes.now c.args.at 0 % 32) r.stands refl (λ e. omega arith)
+    is_head c.args.bytes.now c.args.at r.written r.back (slice_index_or c.args.bytes.now c.args.at 0 % 32) r.there refl (λ e. omega arith)
 
 pub head_with_argument-requires : goal.head_with_argument-requires
 head_with_argument-requires c =
@@ -25,7 +25,7 @@ head_with_argument-requires c =
     let at = c.args.at in
     let r = c.requires in
     let info = slice_index_or b at 0 % 32 in
-    is_info b at info c.argument_at-argument.result (is_head b at r.written r.back info r.stands refl (λ e. omega arith)) c.argument_at-argument.ensures refl
+    is_info b at info c.argument_at-argument.result (is_head b at r.written r.back info r.there refl (λ e. omega arith)) c.argument_at-argument.ensures refl
 
 pub returns : goal.returns
 returns c = λ f back s.

@@ -4,13 +4,13 @@ use Rattle.cbor_data.specs.Faults.{IsBadTextAt}
 use Rattle.cbor_value.specs.declared.value.Unread.{Unread}
 use Rattle.cbor_value.specs.declared.value.Unread.TheVariants.{BadText, Memory}
 use Rattle.cbor_value.specs.Unread.{IsUnread}
-use Rattle.cbor_value.specs.Heads.{Stands}
+use Rattle.cbor_value.specs.Heads.{IsFormAt}
 use Rattle.cbor_value.specs.Items.{IsRead}
 use Rattle.cbor_value.proofs.Members.{handed_on}
 use Rattle.cbor_value.proofs.value.read_value.Goals as goal
 
 -- the whole of the bytes
-whole : (b : List ℕ) (f : Form) → IsOk f → b ≡ flat f → Stands b 0 f []
+whole : (b : List ℕ) (f : Form) → IsOk f → b ≡ flat f → IsFormAt b 0 f []
 whole b f ok is = record { ok = ok; is = is ∙ sym (append-nil (flat f)) }
 
 unread_at : (f : Form) (e : Unread) → IsRead 0 f (Err e) → IsUnread f e

@@ -14,8 +14,8 @@ use Rattle.seq_run.specs.declared.end.Stopped.TheVariants.{Ended, Memory}
 use Rattle.seq_run.specs.Ends.{BeginsWith, IsRun, Ends}
 
 -- The bytes, at this offset of the stream, are none, or the beginning of an item in which nothing is wrong so far.
-abbrev pub IsHeld : Bounds → ℕ → List ℕ → Type 0
-IsHeld l o rest = (rest ≡ []) ⊎ (IsUnfinished rest × BeginsWithin l.depth rest × IsClearBefore l o rest (length rest))
+abbrev pub IsClearRest : Bounds → ℕ → List ℕ → Type 0
+IsClearRest l o rest = (rest ≡ []) ⊎ (IsUnfinished rest × BeginsWithin l.depth rest × IsClearBefore l o rest (length rest))
 
 -- After the items of the stream's run comes this one.
 pub record IsNext (judge : Judge) (l : Bounds) (stream : List ℕ) (found : List Found) (x : Value) : Type 0 where
@@ -56,11 +56,11 @@ pub record IsRunning (judge : Judge) (l : Bounds) (fed : List ℕ) (taken : List
   pub short : parts.bytes ≤ last_offset
   pub limits : parts.reader.limits ≡ l
   pub going : parts.reader.stopped ≡ None
-  pub held : IsHeld l parts.reader.offset parts.reader.fed
+  pub clear_rest : IsClearRest l parts.reader.offset parts.reader.fed
   pub none : parts.rejected ≡ None
 
 -- what holds of a session's parts, by why it has stopped, if it has
-abbrev pub IsStanding : Option Stopped → Judge → Bounds → List ℕ → List Found → Parts → Type 0
-IsStanding None judge l fed taken parts = IsRunning judge l fed taken parts
-IsStanding (Some Memory) judge l fed taken parts = parts.rejected ≡ None
-IsStanding (Some (Ended end)) judge l fed taken parts = Ends judge l fed taken end × IsRejected judge l fed taken end parts.rejected
+abbrev pub AreParts : Option Stopped → Judge → Bounds → List ℕ → List Found → Parts → Type 0
+AreParts None judge l fed taken parts = IsRunning judge l fed taken parts
+AreParts (Some Memory) judge l fed taken parts = parts.rejected ≡ None
+AreParts (Some (Ended end)) judge l fed taken parts = Ends judge l fed taken end × IsRejected judge l fed taken end parts.rejected
