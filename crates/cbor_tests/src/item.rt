@@ -1,4 +1,4 @@
-use crate::rows::{item_of_bytes, row_of};
+use crate::rows::{boxed, bytes_of, expect_text, item_of_bytes, told_of};
 use cbor_item::{Counted, Item, Sound, Unsound, Width, WriteFault, diag, write_bytes, write_item};
 use std::alloc::{AllocError, Global};
 use std::io;
@@ -101,44 +101,45 @@ a56161614161626142616361436164614461656145|{\"a\": \"A\", \"b\": \"B\", \"c\": \
 58465a5a5a5a5a5a5a5a5a5a5a5a5a5a5a5a5a5a5a5a5a5a5a5a5a5a5a5a5a5a5a5a5a5a5a5a5a5a5a5a5a5a5a5a5a5a5a5a5a5a5a5a5a5a5a5a5a5a5a5a5a5a5a5a5a5a5a5a5a5a|h'5a5a5a5a5a5a5a5a5a5a5a5a5a5a5a5a5a5a5a5a5a5a5a5a5a5a5a5a5a5a5a5a5a5a5a5a5a5a5a5a5a5a5a5a5a5a5a5a5a5a5a5a5a5a5a5a5a5a5a5a5a5a5a5a5a5a5a5a5a5a'";
 
 #[cycle(items)]
-fn array_of(alloc: Global, members: &[Form]) -> Result<Item, AllocError> {
+fn array_of(alloc: Global, members: &[Form]) -> Result<Box<Item>, AllocError> {
     let mut items = Vec::new(alloc);
     for member in members {
-        items.push(item_of(alloc, member)?)?;
+        items.push(Box::into_inner(item_of(alloc, member)?))?;
     }
-    Ok(Item::Array(items))
+    boxed(alloc, Item::Array(items))
 }
 
 #[cycle(items)]
-fn map_of(alloc: Global, members: &[(Form, Form)]) -> Result<Item, AllocError> {
+fn map_of(alloc: Global, members: &[(Form, Form)]) -> Result<Box<Item>, AllocError> {
     let mut pairs = Vec::new(alloc);
     for (key, value) in members {
-        pairs.push((item_of(alloc, key)?, item_of(alloc, value)?))?;
+        let key = item_of(alloc, key)?;
+        let value = item_of(alloc, value)?;
+        pairs.push((Box::into_inner(key), Box::into_inner(value)))?;
     }
-    Ok(Item::Map(pairs))
-}
-
-fn tag_of(alloc: Global, number: u64, content: Item) -> Result<Item, AllocError> {
-    Ok(Item::Tag(number, Box::new(alloc, content)?))
+    boxed(alloc, Item::Map(pairs))
 }
 
 #[cycle(items)]
-fn item_of(alloc: Global, form: &Form) -> Result<Item, AllocError> {
+fn item_of(alloc: Global, form: &Form) -> Result<Box<Item>, AllocError> {
     match form {
-        Form::Uint(n) => Ok(Item::Uint(*n)),
-        Form::Nint(n) => Ok(Item::Nint(*n)),
-        Form::Bytes(bytes) => Ok(Item::Bytes(Vec::from_slice(alloc, *bytes)?)),
-        Form::Text(text) => Ok(Item::Text(String::from_str(alloc, *text)?)),
+        Form::Uint(n) => boxed(alloc, Item::Uint(*n)),
+        Form::Nint(n) => boxed(alloc, Item::Nint(*n)),
+        Form::Bytes(bytes) => boxed(alloc, Item::Bytes(Vec::from_slice(alloc, *bytes)?)),
+        Form::Text(text) => boxed(alloc, Item::Text(String::from_str(alloc, *text)?)),
         Form::Array(members) => array_of(alloc, *members),
         Form::Map(members) => map_of(alloc, *members),
-        Form::Tag(number, content) => tag_of(alloc, *number, item_of(alloc, *content)?),
-        Form::Simple(n) => Ok(Item::Simple(*n)),
-        Form::Float(width, bits) => Ok(Item::Float(*width, *bits)),
+        Form::Tag(number, content) => {
+            let content = item_of(alloc, *content)?;
+            boxed(alloc, Item::Tag(*number, content))
+        }
+        Form::Simple(n) => boxed(alloc, Item::Simple(*n)),
+        Form::Float(width, bits) => boxed(alloc, Item::Float(*width, *bits)),
     }
 }
 
 // What a device answers at the byte where it stops.
-#[derive(Clone, Copy, PartialEq, Eq, Debug)]
+#[derive(Clone, Copy)]
 enum Stop {
     Fails,
     TakesNothing,
@@ -207,11 +208,8 @@ fn cut_at(at: usize, len: usize) -> Written {
 fn check_written(rt: &impl Abort, sound: &Sound, bytes: &[u8]) {
     for at in 0..=bytes.len() {
         for stop in [Stop::Fails, Stop::TakesNothing] {
-            assert_eq!(rt;
-                written_until(sound, bytes, at, stop),
-                cut_at(at, bytes.len()),
-                "{bytes:?} until {at}, {stop:?}"
-            );
+            let written = written_until(sound, bytes, at, stop);
+            assert!(rt; written == cut_at(at, bytes.len()), "until {at}");
         }
     }
 }
@@ -224,8 +222,8 @@ fn preferred_bytes(alloc: Global, sound: &Sound) -> Result<Vec<u8>, WriteFault> 
 
 fn check_row(rt: &impl Abort, alloc: Global, bytes: &[u8], notation: &str) -> Result<(), Fail> {
     let sound = item_of_bytes(rt, alloc, bytes)?;
-    assert_eq!(rt; diag(alloc, sound.item())?.as_slice(), notation.as_bytes());
-    assert_eq!(rt; preferred_bytes(alloc, &sound)?.as_slice(), bytes);
+    expect_text(rt, &diag(alloc, sound.item())?, notation.as_bytes());
+    expect_text(rt, &preferred_bytes(alloc, &sound)?, bytes);
     check_written(rt, &sound, bytes);
     Ok(())
 }
@@ -233,8 +231,8 @@ fn check_row(rt: &impl Abort, alloc: Global, bytes: &[u8], notation: &str) -> Re
 #[test]
 fn writes_and_shows_each_row(rt: HostRuntime) -> Result<(), Fail> {
     for line in ROWS.lines() {
-        let (bytes, notation) = row_of(&rt, rt.alloc(), line)?;
-        check_row(&rt, rt.alloc(), &bytes, notation)?;
+        let bytes = bytes_of(&rt, rt.alloc(), line)?;
+        check_row(&rt, rt.alloc(), &bytes, told_of(&rt, line))?;
     }
     Ok(())
 }
@@ -258,8 +256,8 @@ fn an_item_is_built_as_it_is_read(rt: HostRuntime) -> Result<(), Fail> {
     let bytes = b"\x89\x01\x20\x41\x61\x61\x61\x82\x02\x03\xa1\x01\x02\xc1\x01\xf4\xf9\x3c\x00";
     let built = item_of(alloc, &EACH)?;
     let read = item_of_bytes(&rt, alloc, bytes)?;
-    assert!(rt; read.item() == &built);
-    assert!(rt; read.into_item() == built);
+    assert!(rt; read.item() == &*built);
+    assert!(rt; Box::into_inner(read).into_item() == *built);
     check_row(
         &rt,
         alloc,
@@ -277,7 +275,7 @@ fn rows_equal_to(
 ) -> Result<Vec<usize>, AllocError> {
     let mut equal = Vec::new(alloc);
     for (i, line) in rows.lines().enumerate() {
-        let (bytes, _) = row_of(rt, alloc, line)?;
+        let bytes = bytes_of(rt, alloc, line)?;
         if item_of_bytes(rt, alloc, &bytes)?.item() == item {
             equal.push(i)?;
         }
@@ -286,10 +284,10 @@ fn rows_equal_to(
 }
 
 fn check_unequal(rt: &impl Abort, alloc: Global, i: usize, line: &str) -> Result<(), AllocError> {
-    let (bytes, _) = row_of(rt, alloc, line)?;
+    let bytes = bytes_of(rt, alloc, line)?;
     let sound = item_of_bytes(rt, alloc, &bytes)?;
     let equal = rows_equal_to(rt, alloc, sound.item(), ROWS)?;
-    assert_eq!(rt; equal.as_slice(), [i].as_slice());
+    assert!(rt; equal.as_slice() == [i].as_slice());
     Ok(())
 }
 
@@ -304,7 +302,8 @@ fn items_of_other_rows_are_unequal(rt: HostRuntime) -> Result<(), Fail> {
 #[test]
 fn items_of_other_forms_are_unequal(rt: HostRuntime) -> Result<(), Fail> {
     let bytes = item_of(rt.alloc(), &Form::Bytes(b"a"))?;
-    assert!(rt; bytes != item_of(rt.alloc(), &Form::Text("a"))?);
+    let text = item_of(rt.alloc(), &Form::Text("a"))?;
+    assert!(rt; *bytes != *text);
     assert!(rt; Item::Float(Width::W16, 0) != Item::Float(Width::W32, 0));
     Ok(())
 }
@@ -401,30 +400,30 @@ fn judge(alloc: Global, form: &Form) -> Result<(), Unsound> {
     }
 }
 
-fn judge_item(alloc: Global, item: Item) -> Result<(), Unsound> {
-    Sound::try_new(alloc, item)?;
+fn judge_item(alloc: Global, item: Box<Item>) -> Result<(), Unsound> {
+    Sound::try_new(alloc, Box::into_inner(item))?;
     Ok(())
 }
 
 #[test]
 fn judges_each_item(rt: HostRuntime) {
     for (i, (form, want)) in judgements().iter().enumerate() {
-        assert_eq!(rt; judge(rt.alloc(), form), *want, "row {i}");
+        assert!(rt; judge(rt.alloc(), form) == *want, "row {i}");
     }
 }
 
 // The judgement of the item with so many tags round it.
 fn judge_tagged(alloc: Global, inner: &Form, depth: u32) -> Result<(), Unsound> {
-    match tagged(alloc, inner, depth) {
+    match put_in_tags(alloc, inner, depth) {
         Ok(item) => judge_item(alloc, item),
         Err(_) => Err(Unsound::Memory),
     }
 }
 
-fn tagged(alloc: Global, inner: &Form, depth: u32) -> Result<Item, AllocError> {
+fn put_in_tags(alloc: Global, inner: &Form, depth: u32) -> Result<Box<Item>, AllocError> {
     let mut item = item_of(alloc, inner)?;
     for _ in 0..depth {
-        item = tag_of(alloc, 0, item)?;
+        item = boxed(alloc, Item::Tag(0, item))?;
     }
     Ok(item)
 }
@@ -444,7 +443,7 @@ static DEPTHS: [Depth; 7] = [
 
 fn check_depths(rt: &impl Abort, alloc: Global, rows: &[Depth]) {
     for (i, (inner, depth, want)) in rows.iter().enumerate() {
-        assert_eq!(rt; judge_tagged(alloc, inner, *depth), *want, "row {i}");
+        assert!(rt; judge_tagged(alloc, inner, *depth) == *want, "row {i}");
     }
 }
 
@@ -454,13 +453,13 @@ fn holds_at_most_256_containers(rt: HostRuntime) {
 }
 
 // A map with the keys 0 to 999, and then `last`.
-fn thousand_keys(alloc: Global, last: u64) -> Result<Item, AllocError> {
+fn thousand_keys(alloc: Global, last: u64) -> Result<Box<Item>, AllocError> {
     let mut pairs = Vec::new(alloc);
     for key in 0..1000u64 {
         pairs.push((Item::Uint(key), Item::Uint(0)))?;
     }
     pairs.push((Item::Uint(last), Item::Uint(0)))?;
-    Ok(Item::Map(pairs))
+    boxed(alloc, Item::Map(pairs))
 }
 
 #[test]
@@ -470,18 +469,16 @@ fn finds_a_key_among_a_thousand(rt: HostRuntime) -> Result<(), Fail> {
         (0, Err(Unsound::Duplicate(2001))),
         (999, Err(Unsound::Duplicate(2001))),
     ] {
-        assert_eq!(rt;
-            judge_item(rt.alloc(), thousand_keys(rt.alloc(), last)?),
-            want
-        );
+        let answer = judge_item(rt.alloc(), thousand_keys(rt.alloc(), last)?);
+        assert!(rt; answer == want);
     }
     Ok(())
 }
 
-fn shown(rt: &impl Abort, alloc: Global, line: &str) -> Result<bool, AllocError> {
-    let (bytes, notation) = row_of(rt, alloc, line)?;
+fn is_shown(rt: &impl Abort, alloc: Global, line: &str) -> Result<bool, AllocError> {
+    let bytes = bytes_of(rt, alloc, line)?;
     let sound = item_of_bytes(rt, alloc, &bytes)?;
-    Ok(diag(alloc, sound.item())?.as_slice() == notation.as_bytes())
+    Ok(diag(alloc, sound.item())?.as_slice() == told_of(rt, line).as_bytes())
 }
 
 // Numbers, texts, byte strings and containers, among them the longest.
@@ -496,7 +493,7 @@ a56161614161626142616361436164614461656145|{\"a\": \"A\", \"b\": \"B\", \"c\": \
 #[test]
 fn shows_the_text_or_answers_no_memory(rt: HostRuntime) {
     for line in SHOWN.lines() {
-        if let Ok(same) = shown(&rt, rt.alloc(), line) {
+        if let Ok(same) = is_shown(&rt, rt.alloc(), line) {
             assert!(rt; same, "{line}");
         }
     }
@@ -530,12 +527,9 @@ fn read_twice<R: Read + Drop>(device: R, buf: &mut [u8]) -> (Option<usize>, Opti
 #[test]
 fn counts_failed_reads(rt: HostRuntime) {
     let mut buf = [0u8; 4];
-    assert_eq!(rt;
-        read_twice(b"abc".as_slice(), &mut buf),
-        (Some(3), Some(0), 0)
-    );
-    assert_eq!(rt; buf.as_slice(), b"abc\0".as_slice());
-    assert_eq!(rt; read_twice(Broken, &mut buf), (None, None, 2));
+    assert!(rt; read_twice(b"abc".as_slice(), &mut buf) == (Some(3), Some(0), 0));
+    expect_text(&rt, &buf, b"abc\0");
+    assert!(rt; read_twice(Broken, &mut buf) == (None, None, 2));
 }
 
 fn expect_write(
@@ -545,8 +539,8 @@ fn expect_write(
     taken: usize,
     failures: u64,
 ) {
-    assert_eq!(rt; out.write(bytes).ok(), Some(taken));
-    assert_eq!(rt; out.failures(), failures);
+    assert!(rt; out.write(bytes).ok() == Some(taken));
+    assert!(rt; out.failures() == failures);
 }
 
 #[test]
@@ -556,5 +550,5 @@ fn counts_failed_writes(rt: HostRuntime) {
     expect_write(&rt, &mut full, b"ab", 1, 0);
     expect_write(&rt, &mut full, b"b", 0, 1);
     assert!(rt; write_bytes(b"b", &mut full) == Err(WriteFault { written: 0 }));
-    assert_eq!(rt; full.failures(), 2);
+    assert!(rt; full.failures() == 2);
 }

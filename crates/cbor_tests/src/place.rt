@@ -1,5 +1,5 @@
 // Places of items, and the paths to them.
-use crate::rows::item_of_bytes;
+use crate::rows::{boxed, expect_text, item_of_bytes};
 use cbor_item::{Item, diag};
 use cbor_place::{item_at, path_text};
 use std::alloc::{AllocError, Global};
@@ -79,7 +79,7 @@ fn expect_path(
     path: &str,
 ) -> Result<(), AllocError> {
     let text = path_text(alloc, item, place)?.expect(rt, "a path");
-    assert_eq!(rt; text.as_slice(), path.as_bytes());
+    expect_text(rt, &text, path.as_bytes());
     Ok(())
 }
 
@@ -91,7 +91,7 @@ fn expect_item(
     shown: &str,
 ) -> Result<(), AllocError> {
     let found = item_at(item, place).expect(rt, "an item");
-    assert_eq!(rt; diag(alloc, found)?.as_slice(), shown.as_bytes());
+    expect_text(rt, &diag(alloc, found)?, shown.as_bytes());
     Ok(())
 }
 
@@ -148,12 +148,12 @@ fn has_no_place_from_the_count_on(rt: HostRuntime) -> Result<(), Fail> {
     Ok(())
 }
 
-fn zeros(alloc: Global, count: usize) -> Result<Item, AllocError> {
+fn zeros(alloc: Global, count: usize) -> Result<Box<Item>, AllocError> {
     let mut zeros = Vec::new(alloc);
     for _ in 0..count {
         zeros.push(Item::Uint(0))?;
     }
-    Ok(Item::Array(zeros))
+    boxed(alloc, Item::Array(zeros))
 }
 
 #[test]
@@ -169,7 +169,7 @@ fn numbers_members_in_decimal(rt: HostRuntime) -> Result<(), Fail> {
 
 fn expect_path_or_no_memory(rt: &impl Abort, alloc: Global, item: &Item, place: usize, path: &str) {
     if let Ok(text) = path_text(alloc, item, place) {
-        assert_eq!(rt; text.expect(rt, "a path").as_slice(), path.as_bytes());
+        expect_text(rt, &text.expect(rt, "a path"), path.as_bytes());
     }
 }
 

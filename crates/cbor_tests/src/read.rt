@@ -1,6 +1,6 @@
 // What is read of whole streams, by pieces and by the plain reader.
-use crate::rows::{byte_by_byte, row_of};
-use crate::value::nested;
+use crate::rows::{byte_by_byte, bytes_of, expect_text, told_of};
+use crate::value::nested_arrays;
 use cbor_item::{Sound, diag};
 use cbor_read::{Fault, FaultKind, Fed, Front, ItemReader, Limits, Stop, read_front};
 use std::alloc::{AllocError, Global};
@@ -128,8 +128,8 @@ impl Log {
 
     fn push_item(&mut self, used: usize, item: &Sound) -> Result<(), AllocError> {
         let offset = self.offset;
-        let place = format!(in self.alloc; "{offset}: ")?;
-        self.text.extend_from_slice(place.as_bytes())?;
+        let place = format!(in self.alloc; "{offset}: ")?.into_bytes();
+        self.text.extend_from_slice(&place)?;
         let notation = diag(self.alloc, item.item())?;
         self.text.extend_from_slice(&notation)?;
         self.text.extend_from_slice(b"; ")?;
@@ -146,40 +146,34 @@ impl Log {
     fn push_fault(&mut self, fault: Fault) -> Result<(), AllocError> {
         let kind = fault.kind;
         let at = fault.at;
-        let end = format!(in self.alloc; "{kind:?} at {at}")?;
-        self.text.extend_from_slice(end.as_bytes())
+        let end = format!(in self.alloc; "{kind:?} at {at}")?.into_bytes();
+        self.text.extend_from_slice(&end)
     }
 
     fn push_clean(&mut self) -> Result<(), AllocError> {
         let seen = self.seen;
-        let end = format!(in self.alloc; "clean at {seen}")?;
-        self.text.extend_from_slice(end.as_bytes())
+        let end = format!(in self.alloc; "clean at {seen}")?.into_bytes();
+        self.text.extend_from_slice(&end)
     }
 }
 
-// What a reader goes on with.
-#[derive(Clone, Copy)]
-enum Next {
-    Piece,
-    // So many bytes of the piece are used.
-    Rest(usize),
-    End,
+// What a reader answers, where its item is in the log.
+#[derive(Clone, Copy, PartialEq, Eq)]
+enum Step {
+    More,
+    Item(usize),
+    Fault(usize, Fault),
 }
 
-fn feed_once(reader: &mut ItemReader, piece: &[u8], log: &mut Log) -> Result<Next, AllocError> {
+// Feeds a piece once, and logs the item that it completes. Only here is an answer of the reader taken apart.
+fn feed_once(reader: &mut ItemReader, piece: &[u8], log: &mut Log) -> Result<Step, AllocError> {
     match reader.feed(piece) {
-        Ok(Fed::More) => {
-            log.skip(piece.len());
-            Ok(Next::Piece)
-        }
+        Ok(Fed::More) => Ok(Step::More),
         Ok(Fed::Item { used, item }) => match log.push_item(used, &item) {
-            Ok(()) => Ok(Next::Rest(used)),
+            Ok(()) => Ok(Step::Item(used)),
             Err(error) => Err(error),
         },
-        Ok(Fed::Fault { used: _, fault }) => match log.push_fault(fault) {
-            Ok(()) => Ok(Next::End),
-            Err(error) => Err(error),
-        },
+        Ok(Fed::Fault { used, fault }) => Ok(Step::Fault(used, fault)),
         Err(error) => Err(error),
     }
 }
@@ -189,9 +183,15 @@ fn feed_all(reader: &mut ItemReader, piece: &[u8], log: &mut Log) -> Result<bool
     let mut rest = piece;
     for _ in 0..=piece.len() {
         match feed_once(reader, rest, log)? {
-            Next::Piece => return Ok(true),
-            Next::Rest(used) => rest = rest.get(used..).unwrap_or(&[]),
-            Next::End => return Ok(false),
+            Step::More => {
+                log.skip(rest.len());
+                return Ok(true);
+            }
+            Step::Item(used) => rest = rest.get(used..).unwrap_or(&[]),
+            Step::Fault(_, fault) => {
+                log.push_fault(fault)?;
+                return Ok(false);
+            }
         }
     }
     Ok(true)
@@ -218,20 +218,15 @@ fn by_pieces(alloc: Global, limits: Limits, pieces: &[&[u8]]) -> Result<Vec<u8>,
     Ok(log.text)
 }
 
-fn log_front(limits: Limits, rest: &[u8], log: &mut Log) -> Result<Next, AllocError> {
+// The same step by the plain reader: `More` where nothing is left.
+fn log_front(limits: Limits, rest: &[u8], log: &mut Log) -> Result<Step, AllocError> {
     match read_front(log.alloc, limits, log.offset, rest) {
-        Ok(Front::Nothing) => match log.push_clean() {
-            Ok(()) => Ok(Next::End),
-            Err(error) => Err(error),
-        },
+        Ok(Front::Nothing) => Ok(Step::More),
         Ok(Front::Item { length, item }) => match log.push_item(length, &item) {
-            Ok(()) => Ok(Next::Rest(length)),
+            Ok(()) => Ok(Step::Item(length)),
             Err(error) => Err(error),
         },
-        Ok(Front::Fault(fault)) => match log.push_fault(fault) {
-            Ok(()) => Ok(Next::End),
-            Err(error) => Err(error),
-        },
+        Ok(Front::Fault(fault)) => Ok(Step::Fault(0, fault)),
         Err(error) => Err(error),
     }
 }
@@ -242,8 +237,15 @@ fn by_fronts(alloc: Global, limits: Limits, stream: &[u8]) -> Result<Vec<u8>, Al
     let mut rest = stream;
     for _ in 0..=stream.len() {
         match log_front(limits, rest, &mut log)? {
-            Next::Rest(used) => rest = rest.get(used..).unwrap_or(&[]),
-            _ => break,
+            Step::More => {
+                log.push_clean()?;
+                break;
+            }
+            Step::Item(used) => rest = rest.get(used..).unwrap_or(&[]),
+            Step::Fault(_, fault) => {
+                log.push_fault(fault)?;
+                break;
+            }
         }
     }
     Ok(log.text)
@@ -257,7 +259,7 @@ fn expect_log(
     wanted: &[u8],
 ) -> Result<(), AllocError> {
     let log = by_pieces(alloc, limits, pieces)?;
-    assert_eq!(rt; log.as_slice(), wanted, "{pieces:?}");
+    expect_text(rt, &log, wanted);
     Ok(())
 }
 
@@ -277,9 +279,10 @@ fn read_at_each_cut(
 }
 
 fn check_row(rt: &impl Abort, alloc: Global, limits: Limits, line: &str) -> Result<(), Fail> {
-    let (stream, wanted) = row_of(rt, alloc, line)?;
+    let stream = bytes_of(rt, alloc, line)?;
+    let wanted = told_of(rt, line);
     let plain = by_fronts(alloc, limits, &stream)?;
-    assert_eq!(rt; plain.as_slice(), wanted.as_bytes(), "{line}");
+    expect_text(rt, &plain, wanted.as_bytes());
     read_at_each_cut(rt, alloc, limits, &stream, wanted.as_bytes())?;
     Ok(())
 }
@@ -320,7 +323,7 @@ fn draw(state: &mut u64) -> usize {
     (*state >> 33) as usize
 }
 
-fn made_up_byte(state: &mut u64) -> u8 {
+fn make_byte(state: &mut u64) -> u8 {
     let heads =
         b"\x00\x18\x20\x41\x5f\x61\x7f\x80\x82\x9f\xa0\xa1\xa2\xbf\xc1\xd8\xf4\xf8\xf9\xff\xff\x1c";
     let number = draw(state);
@@ -332,10 +335,10 @@ fn made_up_byte(state: &mut u64) -> u8 {
     }
 }
 
-fn made_up(alloc: Global, length: u32, state: &mut u64) -> Result<Vec<u8>, AllocError> {
+fn make_stream(alloc: Global, length: u32, state: &mut u64) -> Result<Vec<u8>, AllocError> {
     let mut stream = Vec::new(alloc);
     for _ in 0..length {
-        stream.push(made_up_byte(state))?;
+        stream.push(make_byte(state))?;
     }
     Ok(stream)
 }
@@ -344,7 +347,7 @@ fn made_up(alloc: Global, length: u32, state: &mut u64) -> Result<Vec<u8>, Alloc
 fn reads_made_up_streams_as_the_plain_reader_does(rt: HostRuntime) -> Result<(), Fail> {
     let mut state = 1u64;
     for round in 0..400u32 {
-        let stream = made_up(rt.alloc(), round % 23, &mut state)?;
+        let stream = make_stream(rt.alloc(), round % 23, &mut state)?;
         let limits = limits_of(&rt, 1 + round % 3, 1 + round % 12);
         let wanted = by_fronts(rt.alloc(), limits, &stream)?;
         read_at_each_cut(&rt, rt.alloc(), limits, &stream, &wanted)?;
@@ -352,12 +355,9 @@ fn reads_made_up_streams_as_the_plain_reader_does(rt: HostRuntime) -> Result<(),
     Ok(())
 }
 
-fn is_item(reader: &mut ItemReader, piece: &[u8], length: usize) -> bool {
-    matches!(reader.feed(piece), Ok(Fed::Item { used, item: _ }) if used == length)
-}
-
-fn is_refused(reader: &mut ItemReader, piece: &[u8], count: usize, told: Fault) -> bool {
-    matches!(reader.feed(piece), Ok(Fed::Fault { used, fault }) if used == count && fault == told)
+// What a reader answers to a piece.
+fn step_of(alloc: Global, reader: &mut ItemReader, piece: &[u8]) -> Result<Step, AllocError> {
+    feed_once(reader, piece, &mut Log::new(alloc))
 }
 
 // Pieces with a fault, how much of each is used, the fault's place and its kind.
@@ -409,8 +409,8 @@ static PIECES: [(&[u8], usize, u64, FaultKind); 7] = [
 // Whether the fault is told at its piece, when the piece is fed again, and at the end.
 fn tellings(alloc: Global, limits: Limits, piece: &[u8], used: usize, told: Fault) -> [bool; 3] {
     let mut reader = ItemReader::new(alloc, limits);
-    let at_once = is_refused(&mut reader, piece, used, told);
-    let again = is_refused(&mut reader, piece, 0, told);
+    let at_once = step_of(alloc, &mut reader, piece) == Ok(Step::Fault(used, told));
+    let again = step_of(alloc, &mut reader, piece) == Ok(Step::Fault(0, told));
     [at_once, again, reader.at_end() == Err(Stop::Fault(told))]
 }
 
@@ -422,7 +422,7 @@ fn check_pieces(rt: &impl Abort, alloc: Global, rows: &[(&[u8], usize, u64, Faul
             kind: *kind,
         };
         let tellings = tellings(alloc, limits, *piece, *used, told);
-        assert_eq!(rt; tellings, [true; 3], "{piece:?}");
+        assert!(rt; tellings == [true; 3]);
     }
 }
 
@@ -439,10 +439,12 @@ fn reads_256_containers_and_no_more(rt: HostRuntime) -> Result<(), Fail> {
         at: 256,
         kind: FaultKind::TooDeep,
     };
-    let deepest = nested(alloc, 256)?;
-    assert!(rt; is_item(&mut ItemReader::new(alloc, limits), &deepest, 257));
-    let deeper = nested(alloc, 257)?;
-    assert!(rt; is_refused(&mut ItemReader::new(alloc, limits), &deeper, 256, told));
+    let deepest = nested_arrays(alloc, 256)?;
+    let step = step_of(alloc, &mut ItemReader::new(alloc, limits), &deepest);
+    assert!(rt; step == Ok(Step::Item(257)));
+    let deeper = nested_arrays(alloc, 257)?;
+    let step = step_of(alloc, &mut ItemReader::new(alloc, limits), &deeper);
+    assert!(rt; step == Ok(Step::Fault(256, told)));
     Ok(())
 }
 
@@ -460,49 +462,42 @@ static RANGES: [(u32, u32, bool); 6] = [
 fn takes_the_limits_in_their_ranges(rt: HostRuntime) {
     for (depth, item_bytes, inside) in RANGES.iter() {
         let limits = Limits::try_new(*depth, *item_bytes);
-        assert_eq!(rt; limits.is_some(), *inside, "{depth}, {item_bytes}");
+        assert!(rt; limits.is_some() == *inside, "{depth}, {item_bytes}");
         if let Some(limits) = limits {
             assert!(rt; limits.depth() == *depth && limits.item_bytes() == *item_bytes);
         }
     }
 }
 
-// The bytes of the piece that the next item ends with; None where the piece ends before.
-fn item_end(
+// How many items end in a piece, of which each byte may end one.
+fn items_of(
     rt: &impl Abort,
+    alloc: Global,
     reader: &mut ItemReader,
     piece: &[u8],
-) -> Result<Option<usize>, AllocError> {
-    match reader.feed(piece) {
-        Ok(Fed::More) => Ok(None),
-        Ok(Fed::Item { used, item: _ }) => Ok(Some(used)),
-        Ok(Fed::Fault { .. }) => panic!(rt; "a fault is told"),
-        Err(error) => Err(error),
-    }
-}
-
-// How many items end in a piece, of which each byte may end one.
-fn items_of(rt: &impl Abort, reader: &mut ItemReader, piece: &[u8]) -> Result<u32, AllocError> {
+) -> Result<u32, AllocError> {
     let mut items = 0u32;
     let mut rest = piece;
     for _ in 0..=piece.len() {
-        let Some(used) = item_end(rt, reader, rest)? else {
-            break;
-        };
+        match step_of(alloc, reader, rest)? {
+            Step::More => break,
+            Step::Item(used) => rest = rest.get(used..).unwrap_or(&[]),
+            Step::Fault(..) => panic!(rt; "a fault is told"),
+        }
         items = items.saturating_add(1);
-        rest = rest.get(used..).unwrap_or(&[]);
     }
     Ok(items)
 }
 
 fn count_items(
     rt: &impl Abort,
+    alloc: Global,
     reader: &mut ItemReader,
     pieces: &[&[u8]],
 ) -> Result<u32, AllocError> {
     let mut items = 0u32;
     for piece in pieces {
-        items = items.saturating_add(items_of(rt, reader, *piece)?);
+        items = items.saturating_add(items_of(rt, alloc, reader, *piece)?);
     }
     Ok(items)
 }
@@ -513,9 +508,9 @@ fn count_items(
 fn stops_for_good_without_memory(rt: HostRuntime) {
     let mut reader = ItemReader::new(rt.alloc(), limits_of(&rt, 64, 100));
     let pieces: [&[u8]; 3] = [b"\x82\x41\x01", b"\xf4\x5f\x42", b"\x01\x02\xff"];
-    match count_items(&rt, &mut reader, &pieces) {
+    match count_items(&rt, rt.alloc(), &mut reader, &pieces) {
         Ok(items) => {
-            assert_eq!(rt; items, 2);
+            assert!(rt; items == 2);
             assert!(rt; reader.at_end() == Ok(()));
         }
         Err(_) => {

@@ -1,22 +1,29 @@
 // Rows of tables, and the pieces that streams come in.
-use cbor_item::Sound;
+use cbor_item::{Item, Sound};
 use cbor_read::{Front, Limits, read_front};
 use hex::FromHexError;
 use std::alloc::{AllocError, Global};
 use std::process::Abort;
 
-// The bytes that a line has in hex, and after a `|` what is told of them.
-pub(crate) fn row_of<'t>(
-    rt: &impl Abort,
-    alloc: Global,
-    line: &'t str,
-) -> Result<(Vec<u8>, &'t str), AllocError> {
-    let (digits, told) = line.split_once('|').expect(rt, "a row");
+// The bytes that a row has in hex, up to its `|`.
+pub(crate) fn bytes_of(rt: &impl Abort, alloc: Global, row: &str) -> Result<Vec<u8>, AllocError> {
+    let (digits, _) = row.split_once('|').expect(rt, "a row");
     match hex::decode(alloc, digits) {
-        Ok(bytes) => Ok((bytes, told)),
+        Ok(bytes) => Ok(bytes),
         Err(FromHexError::OutOfMemory) => Err(AllocError),
         Err(_) => panic!(rt; "no hex digits"),
     }
+}
+
+// What a row tells of its bytes, after its `|`.
+pub(crate) fn told_of<'t>(rt: &impl Abort, row: &'t str) -> &'t str {
+    let (_, told) = row.split_once('|').expect(rt, "a row");
+    told
+}
+
+// Only here is a text that a test got compared with its row's, since each type that a message shows costs a check seconds.
+pub(crate) fn expect_text(rt: &impl Abort, got: &[u8], wanted: &[u8]) {
+    assert_eq!(rt; got, wanted);
 }
 
 // The bytes one by one, with empty pieces between.
@@ -32,15 +39,20 @@ pub(crate) fn byte_by_byte<'b>(
     Ok(pieces)
 }
 
-// The item that the bytes spell.
+// The item in a box: each step of a proof has the types of a function's locals, up to a box.
+pub(crate) fn boxed(alloc: Global, item: Item) -> Result<Box<Item>, AllocError> {
+    Ok(Box::new(alloc, item)?)
+}
+
+// The item that the bytes spell, in a box.
 pub(crate) fn item_of_bytes(
     rt: &impl Abort,
     alloc: Global,
     bytes: &[u8],
-) -> Result<Sound, AllocError> {
+) -> Result<Box<Sound>, AllocError> {
     let limits = Limits::try_new(256, 1 << 24).expect(rt, "limits");
     match read_front(alloc, limits, 0, bytes) {
-        Ok(Front::Item { length: _, item }) => Ok(item),
+        Ok(Front::Item { length: _, item }) => Ok(Box::new(alloc, item)?),
         Ok(_) => panic!(rt; "no item"),
         Err(error) => Err(error),
     }

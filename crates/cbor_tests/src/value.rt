@@ -2,6 +2,7 @@
 ghost use Rattle.std.specs.Prelude.{◌≡◌, [], ◌∷◌, ◌++◌, replicate, IfOk};
 ghost use Rattle.cbor_value.specs.Unread.{IsWhole};
 
+use crate::rows::expect_text;
 use cbor_item::diag;
 use cbor_value::read_value;
 use std::alloc::{AllocError, Global};
@@ -9,7 +10,7 @@ use std::process::Abort;
 use std::test::Fail;
 
 // The item in diagnostic notation, or why none is read.
-fn told(alloc: Global, bytes: &[u8]) -> Result<Vec<u8>, AllocError>
+fn text_of(alloc: Global, bytes: &[u8]) -> Result<Vec<u8>, AllocError>
     requires { IsWhole 256 bytes.now }
 {
     match read_value(alloc, bytes) {
@@ -21,8 +22,8 @@ fn told(alloc: Global, bytes: &[u8]) -> Result<Vec<u8>, AllocError>
 fn expect(rt: &impl Abort, alloc: Global, bytes: &[u8], wanted: &str)
     requires { IsWhole 256 bytes.now }
 {
-    let text = told(alloc, bytes).expect(rt, "memory");
-    assert_eq!(rt; text.as_slice(), wanted.as_bytes());
+    let text = text_of(alloc, bytes).expect(rt, "memory");
+    expect_text(rt, &text, wanted.as_bytes());
 }
 
 #[test]
@@ -157,7 +158,7 @@ fn tells_the_first_bad_text(rt: HostRuntime) {
 }
 
 // An array in an array and so on, so many levels, round 0.
-pub(crate) fn nested(alloc: Global, levels: usize) -> Result<Vec<u8>, AllocError>
+pub(crate) fn nested_arrays(alloc: Global, levels: usize) -> Result<Vec<u8>, AllocError>
     ensures { IfOk result (λ v. v.items ≡ replicate levels 129 ++ 0 ∷ []) }
 {
     let mut bytes = vec![in alloc; 0x81u8; levels]?;
@@ -168,15 +169,10 @@ pub(crate) fn nested(alloc: Global, levels: usize) -> Result<Vec<u8>, AllocError
 #[test]
 fn reads_256_levels(rt: HostRuntime) -> Result<(), Fail> {
     let alloc = rt.alloc();
-    let mut wanted = String::new(alloc);
-    for _ in 0..256 {
-        wanted.push_str("[")?;
-    }
-    wanted.push_str("0")?;
-    for _ in 0..256 {
-        wanted.push_str("]")?;
-    }
-    let bytes = nested(alloc, 256)?;
-    expect(&rt, alloc, bytes.as_slice(), wanted.as_str());
+    let mut wanted = vec![in alloc; b'['; 256]?;
+    wanted.push(b'0')?;
+    wanted.extend_from_slice(&[b']'; 256])?;
+    let bytes = nested_arrays(alloc, 256)?;
+    expect_text(&rt, &text_of(alloc, bytes.as_slice())?, &wanted);
     Ok(())
 }
