@@ -1,4 +1,4 @@
-use crate::rows::{boxed, bytes_of, expect_text, item_of_bytes, told_of};
+use crate::rows::{boxed, bytes_of, expect_text, item_of_bytes, item_of_row, told_of};
 use cbor_item::{Counted, Item, Sound, Unsound, Width, WriteFault, diag, write_bytes, write_item};
 use std::alloc::{AllocError, Global};
 use std::io;
@@ -266,35 +266,20 @@ fn an_item_is_built_as_it_is_read(rt: HostRuntime) -> Result<(), Fail> {
     )
 }
 
-// The places of the rows whose items equal this one.
-fn rows_equal_to(
-    rt: &impl Abort,
-    alloc: Global,
-    item: &Item,
-    rows: &str,
-) -> Result<Vec<usize>, AllocError> {
-    let mut equal = Vec::new(alloc);
-    for (i, line) in rows.lines().enumerate() {
-        let bytes = bytes_of(rt, alloc, line)?;
-        if item_of_bytes(rt, alloc, &bytes)?.item() == item {
-            equal.push(i)?;
-        }
+// Of these rows the item equals that of its own alone.
+fn check_unequal(rt: &impl Abort, alloc: Global, line: &str, rows: &str) -> Result<(), AllocError> {
+    let item = item_of_row(rt, alloc, line)?;
+    for other in rows.lines() {
+        let is_equal = item_of_row(rt, alloc, other)?.item() == item.item();
+        assert!(rt; is_equal == (other == line), "{line}, {other}");
     }
-    Ok(equal)
-}
-
-fn check_unequal(rt: &impl Abort, alloc: Global, i: usize, line: &str) -> Result<(), AllocError> {
-    let bytes = bytes_of(rt, alloc, line)?;
-    let sound = item_of_bytes(rt, alloc, &bytes)?;
-    let equal = rows_equal_to(rt, alloc, sound.item(), ROWS)?;
-    assert!(rt; equal.as_slice() == [i].as_slice());
     Ok(())
 }
 
 #[test]
 fn items_of_other_rows_are_unequal(rt: HostRuntime) -> Result<(), Fail> {
-    for (i, line) in ROWS.lines().enumerate() {
-        check_unequal(&rt, rt.alloc(), i, line)?;
+    for line in ROWS.lines() {
+        check_unequal(&rt, rt.alloc(), line, ROWS)?;
     }
     Ok(())
 }
@@ -476,8 +461,7 @@ fn finds_a_key_among_a_thousand(rt: HostRuntime) -> Result<(), Fail> {
 }
 
 fn is_shown(rt: &impl Abort, alloc: Global, line: &str) -> Result<bool, AllocError> {
-    let bytes = bytes_of(rt, alloc, line)?;
-    let sound = item_of_bytes(rt, alloc, &bytes)?;
+    let sound = item_of_row(rt, alloc, line)?;
     Ok(diag(alloc, sound.item())?.as_slice() == told_of(rt, line).as_bytes())
 }
 

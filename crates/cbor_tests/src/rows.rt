@@ -32,9 +32,9 @@ pub(crate) fn byte_by_byte<'b>(
     bytes: &'b [u8],
 ) -> Result<Vec<&'b [u8]>, AllocError> {
     let mut pieces: Vec<&'b [u8]> = Vec::new(alloc);
-    for byte in bytes.chunks(1) {
+    for at in 0..bytes.len() {
         pieces.push(&[])?;
-        pieces.push(byte)?;
+        pieces.push(&bytes[at..at + 1])?;
     }
     Ok(pieces)
 }
@@ -56,4 +56,14 @@ pub(crate) fn item_of_bytes(
         Ok(_) => panic!(rt; "no item"),
         Err(error) => Err(error),
     }
+}
+
+// The item that the bytes of a row spell.
+pub(crate) fn item_of_row(
+    rt: &impl Abort,
+    alloc: Global,
+    row: &str,
+) -> Result<Box<Sound>, AllocError> {
+    let bytes = bytes_of(rt, alloc, row)?;
+    item_of_bytes(rt, alloc, &bytes)
 }
