@@ -1,0 +1,43 @@
+-- A specification has one fault at most that is told.
+use Rattle.std.specs.Prelude.{◌≡◌, ℕ, ◌≤◌, nat_eq, if◌then◌else◌}
+use Rattle.std.proofs.Common.{refl, sym, ap, ◌∙◌, subst, arith}
+use Rattle.cddl_token.specs.declared.Code.{Code}
+use Rattle.cddl_token.specs.declared.Code.TheVariants.{Duplicate, KindClash, Undefined, Arity, NoRoot, BadRoot, GroupAsType, HashForm, UnknownControl, TooManyInstances, NotUnwrappable, Recursion, BadRange}
+use Rattle.cddl_language.specs.Literals.{Values}
+use Rattle.cddl_language.specs.Faults.{Specification, IsFaultAt, number_of, IsRefused, IsAccepted}
+
+-- the code of a number
+abbrev coded : ℕ → Code
+coded n = if nat_eq n 1 then Duplicate else (if nat_eq n 2 then KindClash else (if nat_eq n 3 then Undefined else (if nat_eq n 4 then Arity else (if nat_eq n 5 then NoRoot else (if nat_eq n 6 then BadRoot else (if nat_eq n 7 then GroupAsType else (if nat_eq n 8 then HashForm else (if nat_eq n 9 then UnknownControl else (if nat_eq n 10 then TooManyInstances else (if nat_eq n 11 then NotUnwrappable else (if nat_eq n 12 then Recursion else BadRange)))))))))))
+
+-- a code of which faults stand is that of its number
+coded_number : (s : Specification) (worth : Values) (c : Code) (at : ℕ) → IsFaultAt s worth c at → coded (number_of c) ≡ c
+coded_number s worth Duplicate at f = refl
+coded_number s worth KindClash at f = refl
+coded_number s worth Undefined at f = refl
+coded_number s worth Arity at f = refl
+coded_number s worth NoRoot at f = refl
+coded_number s worth BadRoot at f = refl
+coded_number s worth GroupAsType at f = refl
+coded_number s worth HashForm at f = refl
+coded_number s worth UnknownControl at f = refl
+coded_number s worth TooManyInstances at f = refl
+coded_number s worth NotUnwrappable at f = refl
+coded_number s worth Recursion at f = refl
+coded_number s worth BadRange at f = refl
+coded_number s worth _ at f = absurd f
+
+same_number : (m n : ℕ) → m ≤ n → n ≤ m → n ≡ m
+same_number m n g h = omega arith
+
+pub one_code : (s : Specification) (worth : Values) (c d : Code) (p q : ℕ) → IsRefused s worth c p → IsRefused s worth d q → d ≡ c
+one_code s worth c d p q f g = sym (coded_number s worth d q g.stands) ∙ ap coded (same_number (number_of c) (number_of d) (f.lowest d q g.stands) (g.lowest c p f.stands)) ∙ coded_number s worth c p f.stands
+
+one_place : (s : Specification) (worth : Values) (c d : Code) (p q : ℕ) → c ≡ d → IsRefused s worth c p → IsRefused s worth d q → q ≡ p
+one_place s worth c d p q e f g = same_number p q (f.least q (subst (λ x. IsFaultAt s worth x q) (sym e) g.stands)) (g.least p (subst (λ x. IsFaultAt s worth x p) e f.stands))
+
+pub one_fault : (s : Specification) (worth : Values) (c d : Code) (p q : ℕ) → IsRefused s worth c p → IsRefused s worth d q → (d ≡ c) × (q ≡ p)
+one_fault s worth c d p q f g = let e : d ≡ c = one_code s worth c d p q f g in (e, one_place s worth c d p q (sym e) f g)
+
+pub apart : (s : Specification) (worth : Values) (c : Code) (p : ℕ) → IsAccepted s worth → IsRefused s worth c p → ⊥
+apart s worth c p accepted f = accepted c p f.stands

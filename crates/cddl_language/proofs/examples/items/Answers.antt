@@ -1,0 +1,14 @@
+use Rattle.cddl_language.proofs.Saying as S
+use Rattle.cddl_language.proofs.examples.items.Goals as goal
+
+pub returns-clause-int : goal.returns-clause-int
+returns-clause-int c = S.int_takes_one
+
+pub returns-clause-greedy : goal.returns-clause-greedy
+returns-clause-greedy c = S.greedy
+
+pub returns-clause-content : goal.returns-clause-content
+returns-clause-content c = S.opened_text
+
+pub returns-clause-range : goal.returns-clause-range
+returns-clause-range c = S.below_three

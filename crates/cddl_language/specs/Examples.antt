@@ -1,0 +1,117 @@
+-- Small specifications, as definitions, on which the definitions here are tried.
+use Rattle.std.specs.Prelude.{true, false, List, [], ◌∷◌, Some, None, codes}
+use Rattle.cddl_language.specs.Terms.{Text, Term, number, literal, range, choice_of, named, parens, map_of, array_of, unwrapped, tagged, or, Ref, call, no_terms, term, Group, sole, orelse, no_entries, entries, Entry, typed, keyed, grouped, bareword, is, type_or, group_or, of_types, of_entry, Definition, lone}
+use Rattle.cddl_language.specs.Prelude.{definition, plain}
+
+abbrev pub a_ref : Text → Ref
+a_ref n = call n no_terms
+
+-- `n = entry`, `n /= type`, `n //= entry`, `n<p> = type`
+abbrev pub group_is : Text → Entry → Definition
+group_is n e = record { name = n; parameters = []; sign = is; body = of_entry e }
+
+abbrev pub also_type : Text → Term → Definition
+also_type n t = record { name = n; parameters = []; sign = type_or; body = of_types t }
+
+abbrev pub also_group : Text → Entry → Definition
+also_group n e = record { name = n; parameters = []; sign = group_or; body = of_entry e }
+
+abbrev pub generic : Text → Text → Term → Definition
+generic n p t = record { name = n; parameters = p ∷ []; sign = is; body = of_types t }
+
+abbrev pub int : Term
+int = plain (codes "int")
+
+abbrev pub tstr : Term
+tstr = plain (codes "tstr")
+
+-- `(x: int)`
+abbrev pub x_int : Group
+x_int = sole (entries no_entries (keyed None (bareword (codes "x")) int) false)
+
+abbrev pub a_group : Entry
+a_group = grouped None x_int
+
+-- `a = b`, `b = a`
+abbrev pub in_circle : List Definition
+in_circle = definition (codes "a") (plain (codes "b")) ∷ definition (codes "b") (plain (codes "a")) ∷ []
+
+-- `a = (b)`, `b = (x: int)`, `m = {x: int}`, `c = ~d`, `d = (m)`, `t = #6.1(int)`, `e = ~t`, `f = ~g`, `g = [x: int] / int`
+abbrev pub some_names : List Definition
+some_names =
+    definition (codes "a") (parens (plain (codes "b")))
+    ∷ group_is (codes "b") a_group
+    ∷ definition (codes "m") (map_of x_int)
+    ∷ definition (codes "c") (unwrapped (a_ref (codes "d")))
+    ∷ definition (codes "d") (parens (plain (codes "m")))
+    ∷ definition (codes "t") (tagged (codes "#6.1(") int)
+    ∷ definition (codes "e") (unwrapped (a_ref (codes "t")))
+    ∷ definition (codes "f") (unwrapped (a_ref (codes "g")))
+    ∷ definition (codes "g") (or (array_of x_int) int)
+    ∷ []
+
+-- `p<t> = t`, `q<t> = [t]`, `r<t> = q<t>`
+abbrev pub generics : List Definition
+generics =
+    generic (codes "p") (codes "t") (plain (codes "t"))
+    ∷ generic (codes "q") (codes "t") (array_of (sole (entries no_entries (typed None (plain (codes "t"))) false)))
+    ∷ generic (codes "r") (codes "t") (named (call (codes "q") (term (plain (codes "t")) no_terms)))
+    ∷ []
+
+abbrev pub of_int : Text → Ref
+of_int n = call n (term int no_terms)
+
+-- `g = (int, h)`, `h = (x: tstr // k)`, `k = (int)`: the last is a type
+abbrev pub nested : List Definition
+nested =
+    group_is (codes "g") (grouped None (sole (entries (entries no_entries (typed None int) true) (typed None (plain (codes "h"))) false)))
+    ∷ group_is (codes "h") (grouped None (orelse (sole (entries no_entries (keyed None (bareword (codes "x")) tstr) false)) (entries no_entries (typed None (plain (codes "k"))) false)))
+    ∷ definition (codes "k") (parens int)
+    ∷ []
+
+-- a group of one name
+abbrev pub group_of_name : Text → Group
+group_of_name n = sole (entries no_entries (typed None (plain n)) false)
+
+-- `g = (? int)`, `h = (h)` written as a group: `h = (h,)`
+abbrev pub not_to_choose : List Definition
+not_to_choose =
+    group_is (codes "g") (grouped None (sole (entries no_entries (typed (Some (codes "?")) int) false)))
+    ∷ group_is (codes "h") (grouped None (sole (entries no_entries (typed None (plain (codes "h"))) true)))
+    ∷ []
+
+-- `x = (y)`, `y = z<5>`, `z<t> = t`
+abbrev pub five : List Definition
+five =
+    definition (codes "x") (parens (plain (codes "y")))
+    ∷ definition (codes "y") (named (call (codes "z") (term (literal (number (codes "5"))) no_terms)))
+    ∷ generic (codes "z") (codes "t") (plain (codes "t"))
+    ∷ []
+
+-- an array of one entry
+abbrev pub array_with : Entry → Term
+array_with e = array_of (sole (lone e))
+
+-- `[* int, int]`
+abbrev pub ints_then_int : Term
+ints_then_int = array_of (sole (entries (entries no_entries (typed (Some (codes "*")) int) true) (typed None int) false))
+
+-- `u = #6.32(tstr)`
+abbrev pub tagged_text : List Definition
+tagged_text = definition (codes "u") (tagged (codes "#6.32(") tstr) ∷ []
+
+-- `[~u]`
+abbrev pub opened_text : Term
+opened_text = array_with (typed None (unwrapped (a_ref (codes "u"))))
+
+-- `&(x: int, y: tstr)`
+abbrev pub one_of_two : Term
+one_of_two = choice_of (sole (entries (entries no_entries (keyed None (bareword (codes "x")) int) true) (keyed None (bareword (codes "y")) tstr) false))
+
+-- `1...3`
+abbrev pub below_three : Term
+below_three = range (literal (number (codes "1"))) false (literal (number (codes "3")))
+
+-- `w<t> = [~t]`
+abbrev pub opens_parameter : List Definition
+opens_parameter = generic (codes "w") (codes "t") (array_with (typed None (unwrapped (a_ref (codes "t"))))) ∷ []

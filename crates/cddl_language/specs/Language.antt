@@ -1,0 +1,92 @@
+-- The language of closed terms: what form of type or group each of them is (RFC 8610 sections 2 and 3). What a type then
+-- says of an item is told by `Says` of `cddl_meaning`, over this language.
+use Rattle.std.specs.Prelude.{Bool, if◌then◌else◌, List, [], map, Option, Some, None}
+use Rattle.cbor_data.specs.Value.{Value}
+use Rattle.cddl_meaning.specs.Forms as F
+use Rattle.cddl_meaning.specs.Forms.{Node, Language}
+use Rattle.cddl_language.specs.Numbers.{least_of, most_of, occurs_once, tag_number, hash_form, hash_test}
+use Rattle.cddl_language.specs.Terms.{Text, Term, literal, named, parens, map_of, array_of, unwrapped, choice_of, choice_of_name, tagged, tagged_by, simple_by, hash, range, control, or, Ref, Entries, Entry, typed, keyed, grouped, Definition, choices, alternatives, entry_list, occurrence_of}
+use Rattle.cddl_language.specs.Substitution.{type_choices, group_choices}
+use Rattle.cddl_language.specs.Kinds.{Opened, opens_type, opened, Part, asks_type, names_group, opens, part_of}
+use Rattle.cddl_language.specs.Literals.{Values, item_of, whole_of}
+use Rattle.cddl_language.specs.Choices.{chosen, chosen_by_name}
+
+-- the name of a type: a closed term, or closed terms in their order
+pub data TypeName : Type 0 where
+  type : Term → TypeName
+  any_of : List Term → TypeName
+
+-- the name of a group: alternatives, one of them, an entry, or one round of it
+pub data GroupName : Type 0 where
+  first_of : List Entries → GroupName
+  each_of : Entries → GroupName
+  entry : Entry → GroupName
+  round : Entry → GroupName
+
+-- a type that says no to every item (section 3.9: the empty choice)
+abbrev pub nothing : Node TypeName GroupName
+nothing = F.Choice []
+
+abbrev pub choice : Option (List Term) → Node TypeName GroupName
+choice (Some ts) = F.Choice (map type ts)
+choice None = nothing
+
+-- what `~` opens as a type
+abbrev pub content : Option Opened → Node TypeName GroupName
+content (Some (opens_type t)) = F.Ref (type t)
+content _ = nothing
+
+abbrev pub between : Bool → Option Value → Option Value → Node TypeName GroupName
+between closed (Some a) (Some b) = F.Plain (F.between a b closed)
+between closed _ _ = nothing
+
+-- What is refused is `nothing` here. Maps and controls have no meaning yet.
+module _ (worth : Values) (ds : List Definition) where
+  abbrev pub term_node : Term → Node TypeName GroupName
+  term_node (literal v) = F.Plain (F.equals (item_of (worth v)))
+  term_node (named r) = F.Ref (any_of (type_choices ds r))
+  term_node (parens t) = F.Ref (type t)
+  term_node (array_of g) = F.ArrayOf (first_of (alternatives g))
+  term_node (unwrapped r) = content (opened ds r)
+  term_node (choice_of g) = choice (chosen ds g)
+  term_node (choice_of_name r) = choice (chosen_by_name ds r)
+  term_node (tagged n t) = F.TagOf (tag_number n) (type t)
+  term_node (tagged_by h t) = F.TagOf (F.such_as (type h)) (type t)
+  term_node (simple_by h) = F.SimpleBy (type h)
+  term_node (hash n) = F.Plain (hash_test (hash_form n))
+  term_node (range a c b) = between c (whole_of worth ds a) (whole_of worth ds b)
+  term_node (or t u) = F.Choice (map type (choices (or t u)))
+  term_node (map_of g) = nothing
+  term_node (control a n b) = nothing
+
+  abbrev pub type_node : TypeName → Node TypeName GroupName
+  type_node (type t) = term_node t
+  type_node (any_of ts) = F.Choice (map type ts)
+
+  -- An entry asks its type of one item, or does what its group does. Keys in arrays are for the reader (section 3.4).
+  abbrev pub part_form : Term → Part → F.Group TypeName GroupName
+  part_form t asks_type = F.Entry (type t)
+  part_form t (names_group r) = F.GroupRef (first_of (group_choices ds r))
+  part_form t (opens r g) = F.GroupRef (first_of (alternatives g))
+
+  abbrev pub round_form : Entry → F.Group TypeName GroupName
+  round_form (typed o t) = part_form t (part_of ds t)
+  round_form (keyed o k t) = F.Entry (type t)
+  round_form (grouped o g) = F.GroupRef (first_of (alternatives g))
+
+  -- an entry without an occurrence, or once, has no rounds (own)
+  abbrev pub entry_form : Entry → Option Text → F.Group TypeName GroupName
+  entry_form e o = if occurs_once o then round_form e else F.Repeat (least_of o) (most_of o) (round e)
+
+  abbrev pub group_form : GroupName → F.Group TypeName GroupName
+  group_form (first_of ess) = F.Alternatives (map each_of ess)
+  group_form (each_of es) = F.Sequence (map entry (entry_list es))
+  group_form (entry e) = entry_form e (occurrence_of e)
+  group_form (round e) = round_form e
+
+  abbrev pub language : Language TypeName GroupName
+  language = record { type_at = type_node; group_at = group_form }
+
+  -- the type that a closed reference is
+  abbrev pub type_named : Ref → TypeName
+  type_named r = any_of (type_choices ds r)

@@ -1,0 +1,16 @@
+pub mod Choices
+pub mod Environment
+pub mod Examples
+pub mod Faults
+pub mod Free
+pub mod Kinds
+pub mod Language
+pub mod Literals
+pub mod Numbers
+pub mod Places
+pub mod Prelude
+pub mod Reach
+pub mod Reading
+pub mod Substitution
+pub mod Terms
+pub mod Texts

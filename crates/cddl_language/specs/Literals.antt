@@ -1,0 +1,81 @@
+-- Written values, and the types that are one value (RFC 8610 section 3.1).
+--
+-- What the texts of values stand for is told by `cddl_literal`, as a relation. So what follows is said for each table of
+-- values, `worth`, and of a specification for the tables that are right for it, which agree on all that it holds.
+use Rattle.std.specs.Prelude.{◌≡◌, ℕ, zero, suc, length, if◌then◌else◌, List, [], ◌∷◌, Option, Some, None, Contains}
+use Rattle.cbor_data.specs.Value as V
+use Rattle.cbor_data.specs.Value.{Value}
+use Rattle.cddl_literal.specs.Numbers.{Meaning, UintOf, NintOf, TextOf, BytesOf, IsNumber}
+use Rattle.cddl_literal.specs.Literals.{IsText, IsBytes}
+use Rattle.cddl_token.specs.declared.Token.{Token}
+use Rattle.cddl_token.specs.declared.Kind.{Kind}
+use Rattle.cddl_token.specs.declared.Kind.TheVariants as K
+use Rattle.cddl_syntax.specs.Syntax as S
+use Rattle.cddl_language.specs.Terms.{Literal, number, text, bytes, Term, literal, named, Definition, stripped, name_of}
+use Rattle.cddl_language.specs.Reading.{text_of}
+use Rattle.cddl_language.specs.Substitution.{type_choices}
+use Rattle.cddl_language.specs.Kinds.{is_group}
+use Rattle.cddl_language.specs.Reach.{most_instances}
+
+-- the written value stands for this
+abbrev pub Means : Literal → Meaning → Type 0
+Means (number t) m = IsNumber t 0 (length t) m
+Means (text t) m = (v : List ℕ) × IsText t 0 (length t) v × (m ≡ TextOf v)
+Means (bytes t) m = (v : List ℕ) × IsBytes t 0 (length t) v × (m ≡ BytesOf v)
+
+abbrev pub item_of : Meaning → Value
+item_of (UintOf n) = V.uint n
+item_of (NintOf n) = V.nint n
+item_of (TextOf b) = V.text b
+item_of (BytesOf b) = V.bytes b
+
+-- what each written value is taken to stand for
+abbrev pub Values : Type 0
+Values = Literal → Meaning
+
+-- the written value that a token of this kind is, where it is one
+abbrev pub written : Kind → Token → Option Literal
+written K.Number t = Some (number (text_of t))
+written K.Text t = Some (text (text_of t))
+written K.Bytes t = Some (bytes (text_of t))
+written _ t = None
+
+-- the value stands in the tree
+abbrev pub Holds : S.Cddl → Literal → Type 0
+Holds x v = (l : S.Lexeme) × Contains (S.flat x) l × (written l.0 l.1 ≡ Some v)
+
+-- each value in the tree is taken for what it stands for
+abbrev pub AreRight : S.Cddl → Values → Type 0
+AreRight x worth = (v : Literal) → Holds x v → Means v (worth v)
+
+-- the whole number that a value is
+abbrev pub whole : Option Meaning → Option Value
+whole (Some (UintOf n)) = Some (V.uint n)
+whole (Some (NintOf n)) = Some (V.nint n)
+whole _ = None
+
+module _ (worth : Values) (ds : List Definition) where
+  -- The value that a type is: a written one, or that of a name with one choice, through names and parentheses (own).
+  -- (`next`: the value of the type that a name stands for.)
+
+  abbrev pub only_choice : (Term → Option Meaning) → List Term → Option Meaning
+  only_choice next (t ∷ []) = next t
+  only_choice next _ = None
+
+  abbrev pub stripped_literal : (Term → Option Meaning) → Term → Option Meaning
+  stripped_literal next (literal v) = Some (worth v)
+  stripped_literal next (named r) = if is_group ds (name_of r) then None else only_choice next (type_choices ds r)
+  stripped_literal next _ = None
+
+  -- through so many names at most
+  abbrev pub literal_in : ℕ → Term → Option Meaning
+  literal_in zero t = stripped_literal (λ u. None) (stripped t)
+  literal_in (suc k) t = stripped_literal (λ u. literal_in k u) (stripped t)
+
+  -- Of a closed type. A way through more names than there may be instances comes back to one.
+  abbrev pub literal_of : Term → Option Meaning
+  literal_of t = literal_in most_instances t
+
+  -- the whole number that a type is
+  abbrev pub whole_of : Term → Option Value
+  whole_of t = whole (literal_of t)

@@ -1,0 +1,114 @@
+//! Examples of the definitions, by computing.
+
+ghost use Rattle.std.specs.Prelude.{◌≡◌, ℕ, [], ◌∷◌, Some, None, codes, false, true};
+ghost use Rattle.cbor_data.specs.Value.{Value, array, no_values, text, uint, value};
+ghost use Rattle.cddl_meaning.specs.Forms.{any_number_of, at_most, exactly};
+ghost use Rattle.cddl_meaning.specs.Judges.{No, Says, Yes};
+ghost use Rattle.cddl_literal.specs.Numbers.{Meaning, UintOf};
+ghost use Rattle.cddl_language.specs.Choices.{chosen};
+ghost use Rattle.cddl_language.specs.Environment.{definitions_of};
+ghost use Rattle.cddl_language.specs.Examples as E;
+ghost use Rattle.cddl_language.specs.Faults.{IsFaultAt};
+ghost use Rattle.cddl_language.specs.Kinds.{is_group, opened, opens_group, opens_type};
+ghost use Rattle.cddl_language.specs.Language.{language, type, type_node};
+ghost use Rattle.cddl_language.specs.Literals.{Values, literal_of};
+ghost use Rattle.cddl_language.specs.Numbers.{hash_form, least_in, most_in, numbered, tag_number, uint_in};
+ghost use Rattle.cddl_language.specs.Prelude.{definition, plain};
+ghost use Rattle.cddl_language.specs.Reach.{at_name, points_in};
+ghost use Rattle.cddl_language.specs.Substitution.{type_choices};
+ghost use Rattle.cddl_language.specs.Texts as T;
+ghost use Rattle.cddl_token.specs.declared.Code.TheVariants.{Arity, BadRange, BadRoot, Duplicate, GroupAsType, HashForm, KindClash, NoRoot, NotUnwrappable, Recursion, Undefined, UnknownControl};
+ghost use Rattle.cddl_language.specs.Terms.{Text, entries, hash, no_entries, number, sole, typed};
+
+/// Numbers in the texts of tokens.
+pub fn numbers()
+    ensures decimal { uint_in (codes "1024") ≡ 1024 }
+    ensures hexadecimal { uint_in (codes "0x1F") ≡ 31 }
+    ensures binary { uint_in (codes "0b101") ≡ 5 }
+    ensures least { least_in (codes "2*3") ≡ 2 }
+    ensures most { most_in (codes "2*3") ≡ at_most 3 }
+    ensures star { most_in (codes "0x2*") ≡ any_number_of }
+    ensures question { least_in (codes "?") ≡ 0 }
+    ensures tag { tag_number (codes "#6.32(") {N = Text} ≡ exactly 32 }
+    ensures hash { hash_form (codes "#7.25") ≡ numbered 7 25 }
+{}
+
+/// `=` replaces what the prelude says, `/=` adds to it; of a name's `=` the first counts; a socket may have none.
+pub fn definitions()
+    ensures replaced { definitions_of (definition (codes "int") E.tstr ∷ []) (codes "int") ≡ definition (codes "int") E.tstr ∷ [] }
+    ensures extended { type_choices (E.also_type (codes "uint") E.tstr ∷ []) (E.a_ref (codes "uint")) ≡ hash (codes "#0") ∷ E.tstr ∷ [] }
+    ensures once { definitions_of (definition (codes "a") E.tstr ∷ definition (codes "a") E.int ∷ []) (codes "a") ≡ definition (codes "a") E.tstr ∷ [] }
+    ensures before_equals { type_choices (E.also_type (codes "a") E.tstr ∷ definition (codes "a") E.int ∷ []) (E.a_ref (codes "a")) ≡ E.tstr ∷ E.int ∷ [] }
+    ensures socket { definitions_of [] (codes "$x") ≡ [] }
+{}
+
+/// Kinds: by a name, by `~`, of a circle, of sockets, of names of the prelude.
+pub fn kinds()
+    ensures circle { is_group E.in_circle (codes "a") ≡ false }
+    ensures by_name { is_group E.some_names (codes "a") ≡ true }
+    ensures by_unwrapping { is_group E.some_names (codes "c") ≡ true }
+    ensures of_tag { is_group E.some_names (codes "e") ≡ false }
+    ensures of_choice { is_group E.some_names (codes "f") ≡ false }
+    ensures unknown { is_group E.some_names (codes "nobody") ≡ false }
+    ensures group_socket { is_group [] (codes "$$x") ≡ true }
+    ensures type_socket { is_group [] (codes "$x") ≡ false }
+    ensures in_prelude { is_group (E.also_group (codes "int") E.a_group ∷ []) (codes "int") ≡ false }
+{}
+
+/// What `~` opens: maps and tags through names and parentheses; no choice, no circle, no parameter.
+pub fn unwrapping()
+    ensures map { opened E.some_names (E.a_ref (codes "d")) ≡ Some (opens_group E.x_int) }
+    ensures tag { opened E.some_names (E.a_ref (codes "t")) ≡ Some (opens_type E.int) }
+    ensures choice { opened E.some_names (E.a_ref (codes "g")) ≡ None }
+    ensures circle { opened E.in_circle (E.a_ref (codes "a")) ≡ None }
+    ensures generic { opened E.generics (E.of_int (codes "r")) ≡ Some (opens_group (sole (entries no_entries (typed None E.int) false))) }
+    ensures parameter { opened E.generics (E.of_int (codes "p")) ≡ None }
+    ensures hidden_name { opened (E.generic (codes "p") (codes "m") (plain (codes "m")) ∷ E.some_names) (E.of_int (codes "p")) ≡ None }
+{}
+
+/// Bodies of closed references, and the references in them. An argument behind `~` is used.
+pub fn bodies()
+    ensures filled { type_choices E.generics (E.of_int (codes "q")) ≡ E.array_with (typed None E.int) ∷ [] }
+    ensures passed_on { points_in E.generics (E.of_int (codes "r")) ≡ at_name (E.of_int (codes "q")) ∷ [] }
+    ensures behind_unwrapping { points_in E.opens_parameter (E.of_int (codes "w")) ≡ at_name (E.a_ref (codes "int")) ∷ [] }
+{}
+
+/// Types that are one value, and the types of `&`.
+pub fn choices()
+    ensures literal { (worth : Values) → literal_of worth E.five (plain (codes "x")) ≡ Some (worth (number (codes "5"))) }
+    ensures no_literal { (worth : Values) → literal_of worth [] E.int ≡ None }
+    ensures chosen_types { chosen E.nested (E.group_of_name (codes "g")) ≡ Some (E.int ∷ E.tstr ∷ plain (codes "k") ∷ []) }
+    ensures not_once { chosen E.not_to_choose (E.group_of_name (codes "g")) ≡ None }
+    ensures endless { chosen E.not_to_choose (E.group_of_name (codes "h")) ≡ None }
+{}
+
+/// What the language says of items: `int` of 1; `[* int, int]` of `[1]`, where nothing is given back; `[~u]` with
+/// `u = #6.32(tstr)` of `["a"]`; `&(x: int, y: tstr)` of `"a"`; `1...3` of 3.
+pub fn items()
+    ensures int { (worth : Values) (p : ℕ) → Says (language worth []) (type_node worth [] (type E.int)) p (uint 1) Yes 5 }
+    ensures greedy { (worth : Values) → Says (language worth []) (type_node worth [] (type E.ints_then_int)) 0 (array (value (uint 1) no_values)) (No 0) 12 }
+    ensures content { (worth : Values) → Says (language worth E.tagged_text) (type_node worth E.tagged_text (type E.opened_text)) 0 (array (value (text (codes "a")) no_values)) Yes 8 }
+    ensures range { (worth : Values) → worth (number (codes "1")) ≡ UintOf 1 → worth (number (codes "3")) ≡ UintOf 3 → Says (language worth []) (type_node worth [] (type E.below_three)) 0 (uint 3) (No 0) 1 }
+{}
+
+/// A fault of each code at its byte, but for `TooManyInstances`, which has an example of its own.
+pub fn faults()
+    ensures defined_twice { (worth : Values) → IsFaultAt T.twice worth Duplicate 8 }
+    ensures two_kinds { (worth : Values) → IsFaultAt T.type_and_group worth KindClash 8 }
+    ensures undefined { (worth : Values) → IsFaultAt T.undefined worth Undefined 4 }
+    ensures with_argument { (worth : Values) → IsFaultAt T.with_argument worth Arity 4 }
+    ensures no_rule { (worth : Values) → IsFaultAt T.empty worth NoRoot 0 }
+    ensures group_root { (worth : Values) → IsFaultAt T.group_root worth BadRoot 0 }
+    ensures group_in_choice { (worth : Values) → IsFaultAt T.group_in_choice worth GroupAsType 4 }
+    ensures choice_of_type { (worth : Values) → IsFaultAt T.choice_of_type worth GroupAsType 5 }
+    ensures bare_tag { (worth : Values) → IsFaultAt T.bare_tag worth HashForm 4 }
+    ensures with_regexp { (worth : Values) → IsFaultAt T.with_regexp worth UnknownControl 9 }
+    ensures unwrapped_int { (worth : Values) → IsFaultAt T.unwrapped_int worth NotUnwrappable 5 }
+    ensures unwrapped_argument { (worth : Values) → IsFaultAt T.unwrapped_argument worth NotUnwrappable 6 }
+    ensures choice_of_maybe { (worth : Values) → IsFaultAt T.choice_of_maybe worth NotUnwrappable 4 }
+    ensures first_itself { (worth : Values) → IsFaultAt T.first_itself worth Recursion 0 }
+    ensures group_first_itself { (worth : Values) → IsFaultAt (T.two_rules T.r_of_g T.maybe_int_then_g) worth Recursion 8 }
+    ensures to_text { (worth : Values) → IsFaultAt T.to_text worth BadRange 7 }
+    ensures to_parameter { (worth : Values) → IsFaultAt T.to_parameter worth BadRange 22 }
+    ensures three_to_two { (worth : Values) → IsFaultAt T.three_to_two worth BadRange 5 }
+{}

@@ -1,0 +1,43 @@
+//! What a specification in CDDL means (RFC 8610), over the trees of its text. The definitions are in `specs/`. The functions
+//! here do nothing: their contracts are laws, and examples.
+#![tactic(auto)]
+
+ghost use Rattle.std.specs.Prelude.{◌≡◌, ℕ, suc, Contains, Bool, List, true, Some};
+ghost use Rattle.cddl_token.specs.declared.Code.{Code};
+ghost use Rattle.cddl_syntax.specs.Syntax.{Rule};
+ghost use Rattle.cddl_language.specs.Faults.{IsAccepted, IsRefused, Specification, definitions, root_of, rules};
+ghost use Rattle.cddl_language.specs.Free.{IsOnCycle};
+ghost use Rattle.cddl_language.specs.Kinds.{Opened, is_group_in, opened_in};
+ghost use Rattle.cddl_language.specs.Literals.{Values};
+ghost use Rattle.cddl_language.specs.Reading.{name_in};
+ghost use Rattle.cddl_language.specs.Reach.{Point, Reaches, points_in, ref_at};
+ghost use Rattle.cddl_language.specs.Terms.{Definition, Ref, Text, call, name_of, no_terms};
+
+pub mod examples;
+
+/// The instances are the least set that holds the root and, with a closed reference, the references in what it means.
+pub fn instances_are_least()
+    ensures { (ds : List Definition) (root : Text) (holds : Ref → Bool) → holds (call root no_terms) ≡ true → ((r : Ref) (p : Point) → holds r ≡ true → Contains (points_in ds r) p → holds (ref_at p) ≡ true) → (r : Ref) → Reaches ds root r → holds r ≡ true }
+{}
+
+/// Where what names mean refers to names without arguments alone, so is each instance.
+pub fn names_are_instances()
+    ensures { (ds : List Definition) (root : Text) → ((n : Text) (p : Point) → Contains (points_in ds (call n no_terms)) p → ref_at p ≡ call (name_of (ref_at p)) no_terms) → (r : Ref) → Reaches ds root r → r ≡ call (name_of r) no_terms }
+{}
+
+/// Once `~` has opened something, or a name is a group's, ways through more names change nothing.
+pub fn more_names_change_nothing()
+    ensures opened { (ds : List Definition) (k : ℕ) (r : Ref) (o : Opened) → opened_in k ds r ≡ Some o → opened_in (suc k) ds r ≡ Some o }
+    ensures group { (ds : List Definition) (k : ℕ) (n : Text) → is_group_in k ds n ≡ true → is_group_in (suc k) ds n ≡ true }
+{}
+
+/// One fault is told at most, of one code at one byte, and none of an accepted specification.
+pub fn one_fault()
+    ensures same { (s : Specification) (worth : Values) (c d : Code) (p q : ℕ) → IsRefused s worth c p → IsRefused s worth d q → (d ≡ c) × (q ≡ p) }
+    ensures apart { (s : Specification) (worth : Values) (c : Code) (p : ℕ) → IsAccepted s worth → IsRefused s worth c p → ⊥ }
+{}
+
+/// An accepted specification has no cycle of free references through a name of its text.
+pub fn accepted_has_no_cycle()
+    ensures { (s : Specification) (worth : Values) (root : Text) (p : Point) (r : Rule) → IsAccepted s worth → root_of s ≡ Some root → Contains (rules s) r → name_in r ≡ name_of (ref_at p) → IsOnCycle (definitions s) root p → ⊥ }
+{}
