@@ -1,6 +1,9 @@
+pub mod Accepted
+pub mod Endless
 pub mod Faulty
 pub mod Further
 pub mod Instances
 pub mod NoCycle
 pub mod OneFault
 pub mod Saying
+pub mod Tables

@@ -1,6 +1,8 @@
 -- Small specifications, as definitions, on which the definitions here are tried.
-use Rattle.std.specs.Prelude.{true, false, List, [], ◌∷◌, Some, None, codes}
-use Rattle.cddl_language.specs.Terms.{Text, Term, number, literal, range, choice_of, named, parens, map_of, array_of, unwrapped, tagged, or, Ref, call, no_terms, term, Group, sole, orelse, no_entries, entries, Entry, typed, keyed, grouped, bareword, is, type_or, group_or, of_types, of_entry, Definition, lone}
+use Rattle.std.specs.Prelude.{ℕ, zero, suc, true, false, List, [], ◌∷◌, Some, None, codes}
+use Rattle.cddl_language.specs.Terms.{Text, Term, number, literal, range, choice_of, named, parens, map_of, array_of, unwrapped, tagged, or, Ref, call, no_terms, term, Group, sole, orelse, no_entries, entries, Entry, typed, keyed, grouped, bareword, is, type_or, group_or, of_types, of_entry, Definition, lone, hash}
+use Rattle.cddl_meaning.specs.Forms as F
+use Rattle.cddl_meaning.specs.Forms.{Node, Language}
 use Rattle.cddl_language.specs.Prelude.{definition, plain}
 
 abbrev pub a_ref : Text → Ref
@@ -115,3 +117,18 @@ below_three = range (literal (number (codes "1"))) false (literal (number (codes
 -- `w<t> = [~t]`
 abbrev pub opens_parameter : List Definition
 opens_parameter = generic (codes "w") (codes "t") (array_with (typed None (unwrapped (a_ref (codes "t"))))) ∷ []
+
+-- `a = #`, and its table: a choice of one type, and that type
+abbrev pub anything : List Definition
+anything = definition (codes "a") (hash (codes "#")) ∷ []
+
+abbrev pub node_at : ℕ → Node ℕ ℕ
+node_at zero = F.Choice (1 ∷ [])
+node_at (suc n) = F.Plain F.anything
+
+abbrev pub one_test : Language ℕ ℕ
+one_test = record { type_at = node_at; group_at = λ g. F.Alternatives [] }
+
+abbrev pub rank_at : ℕ → ℕ
+rank_at zero = 1
+rank_at (suc n) = 0

@@ -23,6 +23,10 @@ pub data GroupName : Type 0 where
   entry : Entry → GroupName
   round : Entry → GroupName
 
+-- the type that a closed reference names
+abbrev pub type_named : List Definition → Ref → TypeName
+type_named ds r = any_of (type_choices ds r)
+
 -- a type that says no to every item (section 3.9: the empty choice)
 abbrev pub nothing : Node TypeName GroupName
 nothing = F.Choice []
@@ -44,7 +48,7 @@ between closed _ _ = nothing
 module _ (worth : Values) (ds : List Definition) where
   abbrev pub term_node : Term → Node TypeName GroupName
   term_node (literal v) = F.Plain (F.equals (item_of (worth v)))
-  term_node (named r) = F.Ref (any_of (type_choices ds r))
+  term_node (named r) = F.Ref (type_named ds r)
   term_node (parens t) = F.Ref (type t)
   term_node (array_of g) = F.ArrayOf (first_of (alternatives g))
   term_node (unwrapped r) = content (opened ds r)
@@ -86,7 +90,3 @@ module _ (worth : Values) (ds : List Definition) where
 
   abbrev pub language : Language TypeName GroupName
   language = record { type_at = type_node; group_at = group_form }
-
-  -- the type that a closed reference is
-  abbrev pub type_named : Ref → TypeName
-  type_named r = any_of (type_choices ds r)

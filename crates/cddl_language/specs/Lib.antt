@@ -11,6 +11,7 @@ pub mod Places
 pub mod Prelude
 pub mod Reach
 pub mod Reading
+pub mod StandsFor
 pub mod Substitution
 pub mod Terms
 pub mod Texts

@@ -8,16 +8,17 @@ ghost use Rattle.cddl_literal.specs.Numbers.{Meaning, UintOf};
 ghost use Rattle.cddl_language.specs.Choices.{chosen};
 ghost use Rattle.cddl_language.specs.Environment.{definitions_of};
 ghost use Rattle.cddl_language.specs.Examples as E;
-ghost use Rattle.cddl_language.specs.Faults.{IsFaultAt};
+ghost use Rattle.cddl_language.specs.Faults.{IsAccepted, IsFaultAt};
 ghost use Rattle.cddl_language.specs.Kinds.{is_group, opened, opens_group, opens_type};
 ghost use Rattle.cddl_language.specs.Language.{language, type, type_node};
 ghost use Rattle.cddl_language.specs.Literals.{Values, literal_of};
 ghost use Rattle.cddl_language.specs.Numbers.{hash_form, least_in, most_in, numbered, tag_number, uint_in};
 ghost use Rattle.cddl_language.specs.Prelude.{definition, plain};
 ghost use Rattle.cddl_language.specs.Reach.{at_name, points_in};
+ghost use Rattle.cddl_language.specs.StandsFor.{StandsFor};
 ghost use Rattle.cddl_language.specs.Substitution.{type_choices};
 ghost use Rattle.cddl_language.specs.Texts as T;
-ghost use Rattle.cddl_token.specs.declared.Code.TheVariants.{Arity, BadRange, BadRoot, Duplicate, GroupAsType, HashForm, KindClash, NoRoot, NotUnwrappable, Recursion, Undefined, UnknownControl};
+ghost use Rattle.cddl_token.specs.declared.Code.TheVariants.{Arity, BadRange, BadRoot, Duplicate, GroupAsType, HashForm, KindClash, NoRoot, NotUnwrappable, Recursion, TooManyInstances, Undefined, UnknownControl};
 ghost use Rattle.cddl_language.specs.Terms.{Text, entries, hash, no_entries, number, sole, typed};
 
 /// Numbers in the texts of tokens.
@@ -111,4 +112,19 @@ pub fn faults()
     ensures to_text { (worth : Values) → IsFaultAt T.to_text worth BadRange 7 }
     ensures to_parameter { (worth : Values) → IsFaultAt T.to_parameter worth BadRange 22 }
     ensures three_to_two { (worth : Values) → IsFaultAt T.three_to_two worth BadRange 5 }
+{}
+
+/// `t = [* t]` is accepted: its entry asks `t` of an item, so the name is not free in what it means.
+pub fn accepted()
+    ensures { (worth : Values) → IsAccepted T.lists worth }
+{}
+
+/// `r = a<int>`, `a<t> = [t, ? a<[t]>]` has more instances than may be.
+pub fn endless()
+    ensures { (worth : Values) → IsFaultAt T.endless worth TooManyInstances 0 }
+{}
+
+/// A table of two types stands for `a = #`.
+pub fn table()
+    ensures { (worth : Values) → StandsFor worth E.anything (codes "a") E.one_test 0 E.rank_at (λ g. 0) 1 }
 {}

@@ -8,6 +8,11 @@ ghost use Rattle.cddl_syntax.specs.Syntax.{Rule};
 ghost use Rattle.cddl_language.specs.Faults.{IsAccepted, IsRefused, Specification, definitions, root_of, rules};
 ghost use Rattle.cddl_language.specs.Free.{IsOnCycle};
 ghost use Rattle.cddl_language.specs.Kinds.{Opened, is_group_in, opened_in};
+ghost use Rattle.cbor_data.specs.Value.{Value};
+ghost use Rattle.cddl_meaning.specs.Forms.{Language};
+ghost use Rattle.cddl_meaning.specs.Judges.{Answer, Says};
+ghost use Rattle.cddl_language.specs.Language.{language, type_named, type_node};
+ghost use Rattle.cddl_language.specs.StandsFor.{StandsFor};
 ghost use Rattle.cddl_language.specs.Literals.{Values};
 ghost use Rattle.cddl_language.specs.Reading.{name_in};
 ghost use Rattle.cddl_language.specs.Reach.{Point, Reaches, points_in, ref_at};
@@ -40,4 +45,10 @@ pub fn one_fault()
 /// An accepted specification has no cycle of free references through a name of its text.
 pub fn accepted_has_no_cycle()
     ensures { (s : Specification) (worth : Values) (root : Text) (p : Point) (r : Rule) → IsAccepted s worth → root_of s ≡ Some root → Contains (rules s) r → name_in r ≡ name_of (ref_at p) → IsOnCycle (definitions s) root p → ⊥ }
+{}
+
+/// A table that stands for a specification says of each item what the root says, at the same place and in as many judgements.
+pub fn tables_say_the_same()
+    ensures says { (worth : Values) (ds : List Definition) (root : Text) (l : Language ℕ ℕ) (top : ℕ) (rank group_rank : ℕ → ℕ) (ranks : ℕ) → StandsFor worth ds root l top rank group_rank ranks → (p w : ℕ) (x : Value) (a : Answer) → Says (language worth ds) (type_node worth ds (type_named ds (call root no_terms))) p x a w → Says l (l.type_at top) p x a w }
+    ensures no_more { (worth : Values) (ds : List Definition) (root : Text) (l : Language ℕ ℕ) (top : ℕ) (rank group_rank : ℕ → ℕ) (ranks : ℕ) → StandsFor worth ds root l top rank group_rank ranks → (p w : ℕ) (x : Value) (a : Answer) → Says l (l.type_at top) p x a w → Says (language worth ds) (type_node worth ds (type_named ds (call root no_terms))) p x a w }
 {}

@@ -1,0 +1,291 @@
+-- `t = [* t]` is accepted.
+use Rattle.std.specs.Prelude.{◌≡◌, ◌≢◌, ◌⊎◌, ℕ, zero, suc, ◌<◌, length, List, [], ◌∷◌, slice_get, slice_index_or, Contains, Option, Some, None, unwrap_or, Bool, true, false, codes}
+use Rattle.std.proofs.Common.{refl, sym, ap, ◌∙◌, subst, arith, inl, inr}
+use Rattle.std.proofs.lemmas.List.Elements.{Contains-get_or}
+use Rattle.cddl_token.specs.declared.Token.{Token}
+use Rattle.cddl_token.specs.declared.Code.{Code}
+use Rattle.cddl_token.specs.declared.Code.TheVariants as C
+use Rattle.cddl_syntax.specs.Syntax as S
+use Rattle.cddl_language.specs.Numbers.{least_of, most_of}
+use Rattle.cddl_language.specs.Terms as M
+use Rattle.cddl_language.specs.Terms.{Text, Term, named, array_of, Ref, call, no_terms, Entries, no_entries, entries, typed, Definition, name_of}
+use Rattle.cddl_language.specs.Prelude.{prelude}
+use Rattle.cddl_language.specs.Reading.{definition_of, occurrence, name_in, parameter_tokens, parameters_in, rule_head}
+use Rattle.cddl_language.specs.Environment.{definitions_of}
+use Rattle.cddl_language.specs.Substitution.{type_choices}
+use Rattle.cddl_language.specs.Kinds.{Part, asks_type, names_group, opens, part_of, is_group, is_group_definition}
+use Rattle.cddl_language.specs.Reach.{Reaches, at_root, onward, Point, ref_at, at_name, at_unwrapping, at_choice, points_in, IsPresent, instance, standing}
+use Rattle.cddl_language.specs.Literals.{Values}
+use Rattle.cddl_language.specs.Free as R
+use Rattle.cddl_language.specs.Free.{IsFree, IsFreeInSome, IsFreeInEach, IsFreeInEntry, LeadsTo, LeadsOn}
+use Rattle.cddl_language.specs.Places.{Place, a_name, an_unwrapping, a_choice_of, a_choice_of_name, a_hash, an_operation, an_entry, a_map, places, outer_places, ref_at_place, ref_name, arguments, IsReached, in_body, in_argument, IsUsed, used}
+use Rattle.cddl_language.specs.Faults as F
+use Rattle.cddl_language.specs.Faults.{IsFaultAt, IsAccepted, parameter_count, first_equals, first_rule, rules, HasPlace, HasName}
+use Rattle.cddl_language.specs.Texts as T
+
+-- the rule, its definition, the reference in it, and what stands there
+abbrev rule : S.Rule
+rule = T.type_is 0 (codes "t") (T.is_type (T.array 4 (T.one_entry (T.occurring 5 (codes "*") (T.name 7 (codes "t"))))))
+
+abbrev ds : List Definition
+ds = definition_of rule ∷ []
+
+abbrev t : Ref
+t = call (codes "t") no_terms
+
+abbrev ref : S.Ref
+ref = T.a_ref 7 (codes "t")
+
+abbrev starred : S.GrpEnt
+starred = T.occurring 5 (codes "*") (T.name 7 (codes "t"))
+
+abbrev lists : Term
+lists = array_of (M.sole (entries no_entries (typed (Some (codes "*")) (named t)) false))
+
+-- What computes.
+
+no_group : is_group ds (codes "t") ≡ false
+unfolding prelude
+no_group = refl
+
+means_lists : type_choices ds t ≡ lists ∷ []
+unfolding prelude
+means_lists = refl
+
+refers_to_itself : points_in ds t ≡ at_name t ∷ []
+unfolding prelude
+refers_to_itself = refl
+
+is_type : part_of ds (named t) ≡ asks_type
+unfolding prelude
+is_type = refl
+
+is_defined : definitions_of ds (codes "t") ≡ definition_of rule ∷ []
+unfolding prelude
+is_defined = refl
+
+has_no_parameters : parameter_count ds (codes "t") ≡ Some 0
+unfolding prelude
+has_no_parameters = refl
+
+same_kind : is_group_definition ds (definition_of rule) ≡ is_group ds (name_in rule)
+unfolding prelude
+same_kind = refl
+
+-- What differs.
+
+false_is_true : false ≡ true → ⊥
+false_is_true e = subst (λ b. elim b as (λ p. Type 0) [ true ↦ ⊥ | false ↦ Unit {0} ]) e tt
+
+some_is_none : {X : Type 0} {x : X} → Some x ≡ None → ⊥
+some_is_none e = subst (λ o. elim o as (λ p. Type 0) [ None ↦ ⊥ | Some y ↦ Unit {0} ]) e tt
+
+none_is_some : {X : Type 0} {x : X} → None ≡ Some x → ⊥
+none_is_some e = some_is_none (sym e)
+
+same_some : {X : Type 0} {x y : X} → Some x ≡ Some y → x ≡ y
+same_some {x = x} e = ap (λ o. unwrap_or o x) e
+
+cons_is_nil : {X : Type 0} {x : X} {xs : List X} → x ∷ xs ≡ [] → ⊥
+cons_is_nil e = subst (λ l. elim l as (λ p. Type 0) [ [] ↦ ⊥ | y ∷ ys ↦ Unit {0} ]) e tt
+
+beyond_one : (k : ℕ) → suc k < 1 → ⊥
+beyond_one k h = omega arith
+
+beyond_two : (k : ℕ) → suc (suc k) < 2 → ⊥
+beyond_two k h = omega arith
+
+-- the only one
+only : {X : Type 0} {x y : X} → Contains (x ∷ []) y → y ≡ x
+only (zero, h, e) = sym e
+only (suc k, h, e) = absurd (beyond_one k h)
+
+-- Its places: the entry and its name.
+
+abbrev entry_in : Place → Option S.GrpEnt
+entry_in (an_entry e) = Some e
+entry_in _ = None
+
+-- the two sorts of places that there are
+abbrev IsThere : Place → Type 0
+IsThere (an_entry e) = e ≡ starred
+IsThere (a_name true r) = ⊥
+IsThere (a_name false r) = r ≡ ref
+IsThere _ = ⊥
+
+in_rule : (p : Place) → Contains (outer_places rule) p → IsThere p
+in_rule p (zero, h, e) = subst IsThere e refl
+in_rule p (suc zero, h, e) = subst IsThere e refl
+in_rule p (suc (suc k), h, e) = absurd (beyond_two k h)
+
+held : (r : S.Rule) (p : Place) → HasPlace T.lists r p → IsThere p
+held r p h = in_rule p (subst (λ q. Contains (places q) p) (only h.rule) h.place)
+
+-- a reference at such a place
+its_name : (p : Place) (f : S.Ref) → IsThere p → ref_at_place p ≡ Some f → f ≡ ref
+its_name (an_entry e) f h g = absurd (none_is_some g)
+its_name (a_name false r) f h g = sym (same_some g) ∙ h
+its_name (a_name true r) f h g = absurd h
+its_name (an_unwrapping b u r) f h g = absurd h
+its_name (a_choice_of a r) f h g = absurd h
+its_name (a_choice_of_name a r) f h g = absurd h
+its_name (a_hash a) f h g = absurd h
+its_name (an_operation x o y) f h g = absurd h
+its_name (a_map o g) f h k = absurd h
+
+named_there : (r : S.Rule) (f : S.Ref) → HasName T.lists r f → (r ≡ rule) × (f ≡ ref)
+named_there r f h = (only h.held.rule, its_name h.at f (held r h.at h.held) h.name)
+
+-- What it reaches: itself, and these places.
+
+reached : (r : Ref) → Reaches ds (codes "t") r → r ≡ t
+reached r h = go r h
+  where
+    step : (r s : Ref) (p : Point) → r ≡ t → Contains (points_in ds r) p → s ≡ ref_at p → s ≡ t
+    step r s p e c f = f ∙ ap ref_at (only (subst (λ ps. Contains ps p) refers_to_itself (subst (λ q. Contains (points_in ds q) p) e c)))
+
+    go : (r : Ref) → Reaches ds (codes "t") r → r ≡ t
+    go r at_root = refl
+    go s (onward {r = r} {p = p} h c f) = step r s p (go r h) c f
+
+unused : (r : S.Rule) (xs : List Term) (f : S.Ref) (x : S.Type1) → f ≡ ref → IsUsed (rule ∷ []) (codes "t") r xs f x → ⊥
+unused r xs f x e (used k a b c d g h) = none_is_some (subst (λ z. slice_get (arguments z) k ≡ Some x) e h)
+
+places_reached : (r : S.Rule) (xs : List Term) (p : Place) → IsReached (rule ∷ []) (codes "t") r xs p → IsThere p
+places_reached s ys o (in_body {r = r} {p = p} i c) = in_rule p (subst (λ q. Contains (outer_places q) p) (only i.stands) c)
+places_reached s ys o (in_argument {r = r} {xs = xs} {q = q} {f = f} {x = x} h e u c) = absurd (unused r xs f x (its_name q f (places_reached r xs q h) e) u)
+
+-- No name is free in what it means, since the entry asks a type of an item.
+
+abbrev Asks : Part → Type 0
+Asks asks_type = Unit {0}
+Asks (names_group r) = ⊥
+Asks (opens r g) = ⊥
+
+asks : (q : Part) → part_of ds (named t) ≡ q → Asks q
+asks q e = subst Asks (sym is_type ∙ e) tt
+
+entry_free : (p : Point) (o : Option Text) → IsFreeInEntry ds p (typed o (named t)) → ⊥
+entry_free p o (R.group_name {r = r} h k) = asks (names_group r) h
+entry_free p o (R.group_opened {r = r} {g = g} h k) = asks (opens r g) h
+
+each_free : (p : Point) (o : Option Text) (c : Bool) → IsFreeInEach ds p (entries no_entries (typed o (named t)) c) → ⊥
+each_free p o c (R.in_last h k) = entry_free p o k
+each_free p o c (R.in_earlier h) = elim h [ ]
+
+some_free : (p : Point) (o : Option Text) (c : Bool) → IsFreeInSome ds p (entries no_entries (typed o (named t)) c ∷ []) → ⊥
+some_free p o c (R.in_this h) = each_free p o c h
+some_free p o c (R.in_later h) = elim h [ ]
+
+lists_free : (p : Point) → IsFree ds p lists → ⊥
+lists_free p (R.in_array h) = some_free p (Some (codes "*")) false h
+
+abbrev is_by_name : Point → Bool
+is_by_name (at_name r) = true
+is_by_name (at_unwrapping r) = false
+is_by_name (at_choice r) = false
+
+leads_nowhere : (p q : Point) → q ≡ at_name t → LeadsTo ds p q → ⊥
+leads_nowhere p q e (R.by_type {r = r} {t = u} h c f) = lists_free p (subst (λ z. IsFree ds p z) (only (subst (λ ts. Contains ts u) means_lists (subst (λ z. Contains (type_choices ds z) u) (ap ref_at e) c))) f)
+leads_nowhere p q e (R.by_group {r = r} h f) = false_is_true (sym no_group ∙ subst (λ z. is_group ds (name_of z) ≡ true) (ap ref_at e) h)
+leads_nowhere p q e (R.by_opened_group h f) = false_is_true (ap is_by_name e)
+leads_nowhere p q e (R.by_content h f) = false_is_true (ap is_by_name e)
+leads_nowhere p q e (R.by_chosen h c f) = false_is_true (ap is_by_name e)
+
+no_way_on : (p q : Point) → p ≡ at_name t → LeadsOn ds p q → ⊥
+no_way_on p q e (R.at_once {q = s} h) = leads_nowhere s p e h
+no_way_on p q e (R.onwards {q = s} h k) = leads_nowhere s p e h
+
+present : (p : Point) → IsPresent ds (codes "t") p → p ≡ at_name t
+present p (instance {r = r} h) = ap at_name (reached r h)
+present q (standing {r = r} {p = p} h c) = only (subst (λ ps. Contains ps p) refers_to_itself (subst (λ q. Contains (points_in ds q) p) (reached r h) c))
+
+-- No fault stands.
+
+module _ (worth : Values) (at : ℕ) where
+  no_duplicate : F.IsDuplicate T.lists at → ⊥
+  no_duplicate (F.other_equals {q = q} {r = r} c s f differ e) = differ (ap definition_of (only c) ∙ ap definition_of (same_some (subst (λ z. first_equals (rule ∷ []) (name_in z) ≡ Some q) (only c) f)))
+  no_duplicate (F.parameter_twice {r = r} {t = u} {j = j} c h f g e k) = none_is_some (subst (λ z. slice_get (parameter_tokens (rule_head z)) j ≡ Some u) (only c) f)
+
+  no_clash : F.IsKindClash T.lists at → ⊥
+  no_clash f = f.clash (subst (λ z. is_group_definition ds (definition_of z) ≡ is_group ds (name_in z)) (sym (only f.stands)) same_kind)
+
+  all_defined : F.IsUndefined T.lists at → ⊥
+  all_defined f = cons_is_nil (sym is_defined ∙ subst (λ z. definitions_of ds (ref_name z) ≡ []) ((named_there f.rule f.ref f.held).1) f.no_definition)
+
+  counts : (k : ℕ) → parameter_count ds (codes "t") ≡ Some k → 0 ≡ k
+  counts k e = same_some (sym has_no_parameters ∙ e)
+
+  right_arity : F.HasWrongArity T.lists at → ⊥
+  right_arity (F.by_rule {r = r} {k = k} c f differ e) = differ (ap (λ z. length (parameters_in z)) (only c) ∙ counts k (subst (λ z. parameter_count ds (name_in z) ≡ Some k) (only c) f))
+  right_arity (F.by_name {r = r} {f = f} {k = k} n p c differ e) = differ (ap (λ z. length (arguments z)) ((named_there r f n).1) ∙ counts k (subst (λ z. parameter_count ds (ref_name z) ≡ Some k) ((named_there r f n).1) c))
+  right_arity (F.by_parameter {r = r} {f = f} n p differ e) = differ (ap arguments ((named_there r f n).1))
+
+  has_root : F.HasNoRoot T.lists at → ⊥
+  has_root (F.no_rule e h) = some_is_none e
+  has_root (F.no_such {n = n} e f h) = cons_is_nil (sym is_defined ∙ subst (λ z. definitions_of ds z ≡ []) (sym (same_some e)) f)
+
+  good_root : F.HasBadRoot T.lists at → ⊥
+  good_root f = go f.root f.rule f.rooted f.first f.bad
+    where
+      go : (n : Text) (r : S.Rule) → Some (codes "t") ≡ Some n → first_rule (rule ∷ []) n ≡ Some r → (is_group ds n ≡ true) ⊎ (parameters_in r ≢ []) → ⊥
+      go n r e h (inl b) = false_is_true (sym no_group ∙ subst (λ z. is_group ds z ≡ true) (sym (same_some e)) b)
+      go n r e h (inr b) = b (ap parameters_in (sym (same_some (subst (λ z. first_rule (rule ∷ []) z ≡ Some r) (sym (same_some e)) h))))
+
+  no_group_as_type : F.HasGroupAsType T.lists at → ⊥
+  no_group_as_type (F.group_name {r = r} {f = f} p h e) = held r (a_name true f) p
+  no_group_as_type (F.type_name {r = r} {t = u} {f = f} p h e) = held r (a_choice_of_name u f) p
+
+  no_hash : F.HasBadHash T.lists at → ⊥
+  no_hash f = held f.rule (a_hash f.token) f.held
+
+  no_control : F.HasUnknownControl T.lists at → ⊥
+  no_control f = held f.rule (an_operation f.left (S.control f.token) f.right) f.held
+
+  few_instances : F.HasTooManyInstances T.lists (codes "t") at → ⊥
+  few_instances f = f.distinct 0 1 t (omega arith) (two f.many) (one 0 (some f.many) ∙ sym (one 1 (two f.many)))
+    where
+      two : 1024 < length f.instances → 1 < length f.instances
+      two h = omega arith
+
+      some : 1024 < length f.instances → 0 < length f.instances
+      some h = omega arith
+
+      one : (i : ℕ) → i < length f.instances → slice_index_or f.instances i t ≡ t
+      one i h = reached (slice_index_or f.instances i t) (f.reached (slice_index_or f.instances i t) (Contains-get_or f.instances i t h))
+
+  no_unwrapping : F.HasNotUnwrappable T.lists (codes "t") at → ⊥
+  no_unwrapping (F.opens_nothing {r = r} {xs = xs} {b = b} {t = u} {f = f} p h e) = places_reached r xs (an_unwrapping b u f) p
+  no_unwrapping (F.opens_group_as_type {r = r} {xs = xs} {t = u} {f = f} p h e) = places_reached r xs (an_unwrapping true u f) p
+  no_unwrapping (F.chooses_from_none {r = r} {xs = xs} {t = u} {g = g} p h e) = places_reached r xs (a_choice_of u g) p
+  no_unwrapping (F.chooses_from_no_name {r = r} {xs = xs} {t = u} {f = f} p h e) = places_reached r xs (a_choice_of_name u f) p
+
+  no_recursion : F.HasRecursion T.lists (codes "t") at → ⊥
+  no_recursion f = no_way_on f.point f.point (present f.point f.cycle.present) f.cycle.cycle
+
+  within_bounds : (e : S.GrpEnt) (o : Token) → e ≡ starred → F.occur_token e ≡ Some o → F.IsOver (least_of (occurrence (Some o))) (most_of (occurrence (Some o))) → ⊥
+  within_bounds e o h f g = subst (λ z. F.IsOver (least_of (occurrence z)) (most_of (occurrence z))) (sym f ∙ ap F.occur_token h) g
+
+  good_ranges : F.HasBadRange T.lists worth (codes "t") at → ⊥
+  good_ranges (F.first_end {r = r} {xs = xs} {x = x} {y = y} {o = o} p s h e) = places_reached r xs (an_operation x o y) p
+  good_ranges (F.last_end {r = r} {xs = xs} {x = x} {y = y} {o = o} p s h e) = places_reached r xs (an_operation x o y) p
+  good_ranges (F.bounds {r = r} {xs = xs} {e = e} {t = o} p h f k) = within_bounds e o (places_reached r xs (an_entry e) p) h f
+
+  no_fault : (c : Code) → IsFaultAt T.lists worth c at → ⊥
+  no_fault C.Duplicate f = no_duplicate f
+  no_fault C.KindClash f = no_clash f
+  no_fault C.Undefined f = all_defined f
+  no_fault C.Arity f = right_arity f
+  no_fault C.NoRoot f = has_root f
+  no_fault C.BadRoot f = good_root f
+  no_fault C.GroupAsType f = no_group_as_type f
+  no_fault C.HashForm f = no_hash f
+  no_fault C.UnknownControl f = no_control f
+  no_fault C.TooManyInstances f = few_instances f
+  no_fault C.NotUnwrappable f = no_unwrapping f
+  no_fault C.Recursion f = no_recursion f
+  no_fault C.BadRange f = good_ranges f
+  no_fault _ f = f
+
+pub accepted : (worth : Values) → IsAccepted T.lists worth
+accepted worth c at f = no_fault worth at c f

@@ -1,0 +1,112 @@
+-- Tables that stand for specifications.
+use Rattle.std.specs.Prelude.{◌≡◌, ℕ, zero, suc, ◌<◌, ◌≤◌, List, [], ◌∷◌, Contains, codes, false}
+use Rattle.std.proofs.Common.{refl, sym, subst, arith}
+use Rattle.cbor_data.specs.Value.{Value}
+use Rattle.cddl_meaning.specs.Alike.{AlikeTypes, plain, choices, both, none}
+use Rattle.cddl_meaning.specs.Forms.{Language, Node, Plain, ArrayOf}
+use Rattle.cddl_meaning.specs.Judges.{Answer, Says}
+use Rattle.cddl_meaning.proofs.Lemmas.{says_too, said_before}
+use Rattle.cddl_language.specs.Terms.{Text, Ref, Definition, call, no_terms, hash}
+use Rattle.cddl_language.specs.Examples as E
+use Rattle.cddl_language.specs.Kinds.{is_group}
+use Rattle.cddl_language.specs.Language.{TypeName, GroupName, type, any_of, language, type_node, type_named}
+use Rattle.cddl_language.specs.Literals.{Values}
+use Rattle.cddl_language.specs.Prelude.{prelude}
+use Rattle.cddl_language.specs.Reach.{Point, Reaches, at_root, onward, points_in}
+use Rattle.cddl_language.specs.StandsFor.{StandsFor, AsksOfSame, of_choice, AsksOfList, of_alternatives, HasNode, of_type}
+
+module _ (worth : Values) (ds : List Definition) (root : Text) (l : Language ℕ ℕ) (top : ℕ) (rank group_rank : ℕ → ℕ) (ranks : ℕ) (table : StandsFor worth ds root l top rank group_rank ranks) where
+  pub says : (p w : ℕ) (x : Value) (a : Answer) → Says (language worth ds) (type_node worth ds (type_named ds (call root no_terms))) p x a w → Says l (l.type_at top) p x a w
+  says p w x a d = says_too (language worth ds) l _ _ table.alike d (table.alike.types (type_named ds (call root no_terms)) top table.root_node)
+
+  pub said : (p w : ℕ) (x : Value) (a : Answer) → Says l (l.type_at top) p x a w → Says (language worth ds) (type_node worth ds (type_named ds (call root no_terms))) p x a w
+  said p w x a d = said_before (language worth ds) l _ _ table.alike {n = type_named ds (call root no_terms)} {m = top} table.root_node d
+
+-- The table of `a = #`: a choice of one type, and that type.
+
+meaning : type_named E.anything (E.a_ref (codes "a")) ≡ any_of (hash (codes "#") ∷ [])
+unfolding prelude
+meaning = refl
+
+is_a_type : is_group E.anything (codes "a") ≡ false
+unfolding prelude
+is_a_type = refl
+
+no_points : points_in E.anything (E.a_ref (codes "a")) ≡ []
+unfolding prelude
+no_points = refl
+
+beyond_one : (k : ℕ) → suc k < 1 → ⊥
+beyond_one k h = omega arith
+
+beyond_two : (k : ℕ) → suc (suc k) < 2 → ⊥
+beyond_two k h = omega arith
+
+nothing_in : {X : Type 0} {x : X} → Contains [] x → ⊥
+nothing_in c = let h = c.1 in omega arith
+
+abbrev types : List (TypeName × ℕ)
+types = (any_of (hash (codes "#") ∷ []), 0) ∷ (type (hash (codes "#")), 1) ∷ []
+
+abbrev IsFor : TypeName → ℕ → Type 0
+IsFor t n = Contains types (t, n)
+
+abbrev NoGroup : GroupName → ℕ → Type 0
+NoGroup t g = Contains {X = GroupName × ℕ} [] (t, g)
+
+-- the same form, as a fact of a pair
+abbrev HaveSameForm : Values → TypeName × ℕ → Type 0
+HaveSameForm worth c = AlikeTypes IsFor NoGroup (type_node worth E.anything (c.0)) (E.one_test.type_at (c.1))
+
+same_form : (worth : Values) (c : TypeName × ℕ) → Contains types c → HaveSameForm worth c
+same_form worth c (zero, h, e) = subst (HaveSameForm worth) e (choices (both (1, omega arith, refl) none))
+same_form worth c (suc zero, h, e) = subst (HaveSameForm worth) e plain
+same_form worth c (suc (suc k), h, e) = absurd (beyond_two k h)
+
+reached : (r : Ref) → Reaches E.anything (codes "a") r → r ≡ E.a_ref (codes "a")
+reached r h = go r h
+  where
+    step : (r s : Ref) (p : Point) → r ≡ E.a_ref (codes "a") → Contains (points_in E.anything r) p → s ≡ E.a_ref (codes "a")
+    step r s p e c = absurd (nothing_in (subst (λ ps. Contains ps p) no_points (subst (λ q. Contains (points_in E.anything q) p) e c)))
+
+    go : (r : Ref) → Reaches E.anything (codes "a") r → r ≡ E.a_ref (codes "a")
+    go r at_root = refl
+    go s (onward {r = r} {p = p} h c f) = step r s p (go r h) c
+
+only : {X : Type 0} {x y : X} → Contains (x ∷ []) y → y ≡ x
+only (zero, h, e) = sym e
+only (suc k, h, e) = absurd (beyond_one k h)
+
+goes_down : (m n : ℕ) → AsksOfSame E.one_test (E.one_test.type_at m) n → E.rank_at n < E.rank_at m
+goes_down zero n (of_choice c) = subst (λ k. E.rank_at k < 1) (sym (only c)) (omega arith)
+goes_down (suc m) n h = elim h [ ]
+
+abbrev IsPlain : Node ℕ ℕ → Type 0
+IsPlain (Plain t) = Unit {0}
+IsPlain _ = ⊥
+
+no_arrays : (m g : ℕ) → E.one_test.type_at m ≡ ArrayOf g → 0 < E.rank_at m
+no_arrays zero g e = omega arith
+no_arrays (suc m) g e = absurd (subst IsPlain e tt)
+
+no_groups : (g h : ℕ) → AsksOfList E.one_test (E.one_test.group_at g) h → 0 < 0
+no_groups g h (of_alternatives c) = absurd (nothing_in c)
+
+up_to_one : (m : ℕ) → E.rank_at m ≤ 1
+up_to_one zero = omega arith
+up_to_one (suc m) = omega arith
+
+pub stands : (worth : Values) → StandsFor worth E.anything (codes "a") E.one_test 0 E.rank_at (λ g. 0) 1
+stands worth = record {
+  types = types;
+  groups = [];
+  alike = record { types = λ t n c. same_form worth (t, n) c; groups = λ t g c. absurd (nothing_in c) };
+  root_node = subst (λ t. Contains types (t, 0)) (sym meaning) (0, omega arith, refl);
+  instances = E.a_ref (codes "a") ∷ [];
+  are_instances = record { all = λ r h. (0, omega arith, sym (reached r h)); only = λ r c. subst (Reaches E.anything (codes "a")) (sym (only c)) at_root; once = λ i j d h k. absurd (none_later i j h k) };
+  have_nodes = λ r c. subst (HasNode E.anything types []) (sym (only c)) (of_type 0 is_a_type (subst (λ t. Contains types (t, 0)) (sym meaning) (0, omega arith, refl)));
+  ranked = record { types = goes_down; arrays = no_arrays; groups = no_groups; most = up_to_one; most_of_groups = λ g. omega arith };
+}
+  where
+    none_later : (i j : ℕ) → i < j → j < 1 → ⊥
+    none_later i j h k = omega arith
