@@ -7,3 +7,4 @@ pub mod NoCycle
 pub mod OneFault
 pub mod Saying
 pub mod Tables
+pub mod Values

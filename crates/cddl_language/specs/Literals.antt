@@ -7,6 +7,7 @@ use Rattle.cbor_data.specs.Value as V
 use Rattle.cbor_data.specs.Value.{Value}
 use Rattle.cddl_literal.specs.Numbers.{Meaning, UintOf, NintOf, TextOf, BytesOf, IsNumber}
 use Rattle.cddl_literal.specs.Literals.{IsText, IsBytes}
+use Rattle.cddl_token.specs.Answers.{IsAnswered}
 use Rattle.cddl_token.specs.declared.Token.{Token}
 use Rattle.cddl_token.specs.declared.Kind.{Kind}
 use Rattle.cddl_token.specs.declared.Kind.TheVariants as K
@@ -39,6 +40,10 @@ written K.Number t = Some (number (text_of t))
 written K.Text t = Some (text (text_of t))
 written K.Bytes t = Some (bytes (text_of t))
 written _ t = None
+
+-- Each leaf of the tree is a token as `tokens` answers it, of the kind that the grammar has at its place.
+abbrev pub AreTokens : S.Cddl → Type 0
+AreTokens x = (l : S.Lexeme) → Contains (S.flat x) l → ((l.1).kind ≡ l.0) × IsAnswered l.1
 
 -- the value stands in the tree
 abbrev pub Holds : S.Cddl → Literal → Type 0

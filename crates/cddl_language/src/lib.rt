@@ -4,7 +4,7 @@
 
 ghost use Rattle.std.specs.Prelude.{◌≡◌, ℕ, suc, Contains, Bool, List, true, Some};
 ghost use Rattle.cddl_token.specs.declared.Code.{Code};
-ghost use Rattle.cddl_syntax.specs.Syntax.{Rule};
+ghost use Rattle.cddl_syntax.specs.Syntax.{Cddl, Rule};
 ghost use Rattle.cddl_language.specs.Faults.{IsAccepted, IsRefused, Specification, definitions, root_of, rules};
 ghost use Rattle.cddl_language.specs.Free.{IsOnCycle};
 ghost use Rattle.cddl_language.specs.Kinds.{Opened, is_group_in, opened_in};
@@ -13,10 +13,10 @@ ghost use Rattle.cddl_meaning.specs.Forms.{Language};
 ghost use Rattle.cddl_meaning.specs.Judges.{Answer, Says};
 ghost use Rattle.cddl_language.specs.Language.{language, type_named, type_node};
 ghost use Rattle.cddl_language.specs.StandsFor.{StandsFor};
-ghost use Rattle.cddl_language.specs.Literals.{Values};
+ghost use Rattle.cddl_language.specs.Literals.{AreRight, AreTokens, Holds, Values};
 ghost use Rattle.cddl_language.specs.Reading.{name_in};
 ghost use Rattle.cddl_language.specs.Reach.{Point, Reaches, points_in, ref_at};
-ghost use Rattle.cddl_language.specs.Terms.{Definition, Ref, Text, call, name_of, no_terms};
+ghost use Rattle.cddl_language.specs.Terms.{Definition, Literal, Ref, Text, call, name_of, no_terms};
 
 pub mod examples;
 
@@ -52,3 +52,12 @@ pub fn tables_say_the_same()
     ensures says { (worth : Values) (ds : List Definition) (root : Text) (l : Language ℕ ℕ) (top : ℕ) (rank group_rank : ℕ → ℕ) (ranks : ℕ) → StandsFor worth ds root l top rank group_rank ranks → (p w : ℕ) (x : Value) (a : Answer) → Says (language worth ds) (type_node worth ds (type_named ds (call root no_terms))) p x a w → Says l (l.type_at top) p x a w }
     ensures no_more { (worth : Values) (ds : List Definition) (root : Text) (l : Language ℕ ℕ) (top : ℕ) (rank group_rank : ℕ → ℕ) (ranks : ℕ) → StandsFor worth ds root l top rank group_rank ranks → (p w : ℕ) (x : Value) (a : Answer) → Says l (l.type_at top) p x a w → Says (language worth ds) (type_node worth ds (type_named ds (call root no_terms))) p x a w }
 {}
+
+/// The values that are written in a specification have a table that is right, and right tables agree on them.
+pub fn one_table_of_values()
+    ensures some { (x : Cddl) → AreTokens x → (worth : Values) × AreRight x worth }
+    ensures same { (x : Cddl) (u w : Values) → AreRight x u → AreRight x w → (v : Literal) → Holds x v → u v ≡ w v }
+{
+    cddl_literal::one_meaning();
+    cddl_literal::cut_out();
+}
