@@ -4,6 +4,7 @@ pub mod Faulty
 pub mod Further
 pub mod Instances
 pub mod NoCycle
+pub mod Numbers
 pub mod OneFault
 pub mod Saying
 pub mod Tables

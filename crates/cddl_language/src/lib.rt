@@ -2,17 +2,20 @@
 //! here do nothing: their contracts are laws, and examples.
 #![tactic(auto)]
 
-ghost use Rattle.std.specs.Prelude.{◌≡◌, ℕ, suc, Contains, Bool, List, true, Some};
+ghost use Rattle.std.specs.Prelude.{◌+◌, ◌≢◌, length, slice_index, [], ◌∷◌, ◌≡◌, ℕ, suc, Contains, Bool, List, true, Some};
 ghost use Rattle.cddl_token.specs.declared.Code.{Code};
 ghost use Rattle.cddl_syntax.specs.Syntax.{Cddl, Rule};
 ghost use Rattle.cddl_language.specs.Faults.{IsAccepted, IsRefused, Specification, definitions, root_of, rules};
 ghost use Rattle.cddl_language.specs.Free.{IsOnCycle};
 ghost use Rattle.cddl_language.specs.Kinds.{Opened, is_group_in, opened_in};
 ghost use Rattle.cbor_data.specs.Value.{Value};
-ghost use Rattle.cddl_meaning.specs.Forms.{Language};
+ghost use Rattle.cddl_meaning.specs.Forms.{Language, any_number_of, at_most, exactly};
 ghost use Rattle.cddl_meaning.specs.Judges.{Answer, Says};
 ghost use Rattle.cddl_language.specs.Language.{language, type_named, type_node};
 ghost use Rattle.cddl_language.specs.StandsFor.{StandsFor};
+ghost use Rattle.cddl_literal.specs.Numbers.{IsUint, number_after};
+ghost use Rattle.cddl_token.specs.Numbers.{IsHashNumber, IsStar, IsTagNumberOpen};
+ghost use Rattle.cddl_language.specs.Numbers.{hash_form, least_in, most_in, numbered, tag_number, uint_in};
 ghost use Rattle.cddl_language.specs.Literals.{AreRight, AreTokens, Holds, Values};
 ghost use Rattle.cddl_language.specs.Reading.{name_in};
 ghost use Rattle.cddl_language.specs.Reach.{Point, Reaches, points_in, ref_at};
@@ -61,3 +64,13 @@ pub fn one_table_of_values()
     cddl_literal::one_meaning();
     cddl_literal::cut_out();
 }
+
+/// The number that is read in a text is the one that the text spells.
+pub fn numbers_are_spelled()
+    ensures uint { (s : List ℕ) (n : ℕ) → IsUint s 0 (length s) n → uint_in s ≡ n }
+    ensures tag { (s : List ℕ) (n : ℕ) → IsTagNumberOpen s 0 (length s) n → tag_number s {N = Text} ≡ exactly n }
+    ensures least { (s : List ℕ) (low high : ℕ) → IsStar s 0 (length s) low high → least_in s ≡ low }
+    ensures most { (s : List ℕ) (low high : ℕ) (h : IsStar s 0 (length s) low high) → h.star + 1 ≢ length s → most_in s ≡ at_most high }
+    ensures no_most { (s : List ℕ) (low high : ℕ) (h : IsStar s 0 (length s) low high) → h.star + 1 ≡ length s → most_in s ≡ any_number_of }
+    ensures hash { (s : List ℕ) (n : ℕ) → IsHashNumber s 0 (length s) n → hash_form s ≡ numbered (number_after 10 0 (slice_index s 1 ∷ [])) n }
+{}
