@@ -6,6 +6,9 @@ use Rattle.cddl_token.specs.declared.Token.{Token}
 use Rattle.cddl_token.specs.declared.Code.{Code}
 use Rattle.cddl_token.specs.declared.Code.TheVariants as C
 use Rattle.cddl_syntax.specs.Syntax as S
+use Rattle.std.proofs.lemmas.Bool.{false≢true}
+use Rattle.cddl_language.proofs.Behind.{free_first, in_one}
+use Rattle.cddl_language.proofs.Basics.{some_is_none, none_is_some, same_some, cons_is_nil, beyond_two, only}
 use Rattle.cddl_language.specs.Numbers.{least_of, most_of}
 use Rattle.cddl_language.specs.Terms as M
 use Rattle.cddl_language.specs.Terms.{Text, Term, named, array_of, Ref, call, no_terms, Entries, no_entries, entries, typed, Definition, name_of}
@@ -72,34 +75,6 @@ same_kind : is_group_definition ds (definition_of rule) ≡ is_group ds (name_in
 unfolding prelude
 same_kind = refl
 
--- What differs.
-
-false_is_true : false ≡ true → ⊥
-false_is_true e = subst (λ b. elim b as (λ p. Type 0) [ true ↦ ⊥ | false ↦ Unit {0} ]) e tt
-
-some_is_none : {X : Type 0} {x : X} → Some x ≡ None → ⊥
-some_is_none e = subst (λ o. elim o as (λ p. Type 0) [ None ↦ ⊥ | Some y ↦ Unit {0} ]) e tt
-
-none_is_some : {X : Type 0} {x : X} → None ≡ Some x → ⊥
-none_is_some e = some_is_none (sym e)
-
-same_some : {X : Type 0} {x y : X} → Some x ≡ Some y → x ≡ y
-same_some {x = x} e = ap (λ o. unwrap_or o x) e
-
-cons_is_nil : {X : Type 0} {x : X} {xs : List X} → x ∷ xs ≡ [] → ⊥
-cons_is_nil e = subst (λ l. elim l as (λ p. Type 0) [ [] ↦ ⊥ | y ∷ ys ↦ Unit {0} ]) e tt
-
-beyond_one : (k : ℕ) → suc k < 1 → ⊥
-beyond_one k h = omega arith
-
-beyond_two : (k : ℕ) → suc (suc k) < 2 → ⊥
-beyond_two k h = omega arith
-
--- the only one
-only : {X : Type 0} {x y : X} → Contains (x ∷ []) y → y ≡ x
-only (zero, h, e) = sym e
-only (suc k, h, e) = absurd (beyond_one k h)
-
 -- Its places: the entry and its name.
 
 abbrev entry_in : Place → Option S.GrpEnt
@@ -157,28 +132,8 @@ places_reached s ys o (in_argument {r = r} {xs = xs} {q = q} {f = f} {x = x} h e
 
 -- No name is free in what it means, since the entry asks a type of an item.
 
-abbrev Asks : Part → Type 0
-Asks asks_type = Unit {0}
-Asks (names_group r) = ⊥
-Asks (opens r g) = ⊥
-
-asks : (q : Part) → part_of ds (named t) ≡ q → Asks q
-asks q e = subst Asks (sym is_type ∙ e) tt
-
-entry_free : (p : Point) (o : Option Text) → IsFreeInEntry ds p (typed o (named t)) → ⊥
-entry_free p o (R.group_name {r = r} h k) = asks (names_group r) h
-entry_free p o (R.group_opened {r = r} {g = g} h k) = asks (opens r g) h
-
-each_free : (p : Point) (o : Option Text) (c : Bool) → IsFreeInEach ds p (entries no_entries (typed o (named t)) c) → ⊥
-each_free p o c (R.in_last h k) = entry_free p o k
-each_free p o c (R.in_earlier h) = elim h [ ]
-
-some_free : (p : Point) (o : Option Text) (c : Bool) → IsFreeInSome ds p (entries no_entries (typed o (named t)) c ∷ []) → ⊥
-some_free p o c (R.in_this h) = each_free p o c h
-some_free p o c (R.in_later h) = elim h [ ]
-
 lists_free : (p : Point) → IsFree ds p lists → ⊥
-lists_free p (R.in_array h) = some_free p (Some (codes "*")) false h
+lists_free p (R.in_array h) = free_first ds p (Some (codes "*")) (named t) false is_type (in_one ds p _ h)
 
 abbrev is_by_name : Point → Bool
 is_by_name (at_name r) = true
@@ -187,10 +142,10 @@ is_by_name (at_choice r) = false
 
 leads_nowhere : (p q : Point) → q ≡ at_name t → LeadsTo ds p q → ⊥
 leads_nowhere p q e (R.by_type {r = r} {t = u} h c f) = lists_free p (subst (λ z. IsFree ds p z) (only (subst (λ ts. Contains ts u) means_lists (subst (λ z. Contains (type_choices ds z) u) (ap ref_at e) c))) f)
-leads_nowhere p q e (R.by_group {r = r} h f) = false_is_true (sym no_group ∙ subst (λ z. is_group ds (name_of z) ≡ true) (ap ref_at e) h)
-leads_nowhere p q e (R.by_opened_group h f) = false_is_true (ap is_by_name e)
-leads_nowhere p q e (R.by_content h f) = false_is_true (ap is_by_name e)
-leads_nowhere p q e (R.by_chosen h c f) = false_is_true (ap is_by_name e)
+leads_nowhere p q e (R.by_group {r = r} h f) = false≢true (sym no_group ∙ subst (λ z. is_group ds (name_of z) ≡ true) (ap ref_at e) h)
+leads_nowhere p q e (R.by_opened_group h f) = false≢true (ap is_by_name e)
+leads_nowhere p q e (R.by_content h f) = false≢true (ap is_by_name e)
+leads_nowhere p q e (R.by_chosen h c f) = false≢true (ap is_by_name e)
 
 no_way_on : (p q : Point) → p ≡ at_name t → LeadsOn ds p q → ⊥
 no_way_on p q e (R.at_once {q = s} h) = leads_nowhere s p e h
@@ -229,7 +184,7 @@ module _ (worth : Values) (at : ℕ) where
   good_root f = go f.root f.rule f.rooted f.first f.bad
     where
       go : (n : Text) (r : S.Rule) → Some (codes "t") ≡ Some n → first_rule (rule ∷ []) n ≡ Some r → (is_group ds n ≡ true) ⊎ (parameters_in r ≢ []) → ⊥
-      go n r e h (inl b) = false_is_true (sym no_group ∙ subst (λ z. is_group ds z ≡ true) (sym (same_some e)) b)
+      go n r e h (inl b) = false≢true (sym no_group ∙ subst (λ z. is_group ds z ≡ true) (sym (same_some e)) b)
       go n r e h (inr b) = b (ap parameters_in (sym (same_some (subst (λ z. first_rule (rule ∷ []) z ≡ Some r) (sym (same_some e)) h))))
 
   no_group_as_type : F.HasGroupAsType T.lists at → ⊥

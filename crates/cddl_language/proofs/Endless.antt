@@ -2,6 +2,7 @@
 use Rattle.std.specs.Prelude.{◌≡◌, ◌≢◌, ℕ, zero, suc, ◌<◌, ◌-◌, length, List, [], ◌∷◌, ◌++◌, slice_index_or, Contains, AllPairs, None, codes}
 use Rattle.std.proofs.Common.{refl, sym, ap, subst, arith}
 use Rattle.cddl_token.specs.declared.Code.TheVariants as C
+use Rattle.cddl_language.proofs.Basics.{below_zero}
 use Rattle.cddl_language.specs.Terms.{Term, array_of, Ref, call, no_terms, term, sole, entries, no_entries, typed}
 use Rattle.cddl_language.specs.Prelude.{prelude}
 use Rattle.cddl_language.specs.Reach.{Point, Reaches, at_root, onward, at_name, points, points_in}
@@ -43,11 +44,8 @@ as_long : (n : ℕ) → length (down n) ≡ n
 as_long zero = refl
 as_long (suc n) = ap suc (as_long n)
 
-nothing_below : (k : ℕ) → k < 0 → ⊥
-nothing_below k h = omega arith
-
 all_reached : (n : ℕ) (r : Ref) → Contains (down n) r → Reaches (definitions T.endless) (codes "r") r
-all_reached zero r (k, h, e) = absurd (nothing_below k h)
+all_reached zero r (k, h, e) = absurd (below_zero k h)
 all_reached (suc n) r (zero, h, e) = subst (Reaches (definitions T.endless) (codes "r")) e (reached n)
 all_reached (suc n) r (suc k, h, e) = all_reached n r (k, omega arith, e)
 
@@ -70,7 +68,7 @@ behind : (a n i : ℕ) → suc a ≡ n - i → suc a ≡ suc n - suc i
 behind a n i e = omega arith
 
 deep_at : (n i : ℕ) (d : Ref) → i < n → suc (depth_in (slice_index_or (down n) i d)) ≡ n - i
-deep_at zero i d h = absurd (nothing_below i h)
+deep_at zero i d h = absurd (below_zero i h)
 deep_at (suc n) zero d h = at_front (depth_of (nested n)) n (as_deep n)
 deep_at (suc n) (suc i) d h = behind _ n i (deep_at n i d (omega arith))
 

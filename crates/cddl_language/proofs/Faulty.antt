@@ -1,6 +1,7 @@
 -- Faults of small specifications, each at its byte.
 use Rattle.std.specs.Prelude.{◌≢◌, ℕ, ◌<◌, slice_index_or, codes, true, false}
-use Rattle.std.proofs.Common.{refl, ap, arith, inl, subst}
+use Rattle.std.proofs.Common.{refl, ap, arith, inl, subst, sym}
+use Rattle.std.proofs.lemmas.Bool.{false≢true}
 use Rattle.cddl_token.specs.declared.Kind.TheVariants as K
 use Rattle.cddl_token.specs.declared.Code.TheVariants as C
 use Rattle.cddl_literal.specs.Numbers.{digit_value}
@@ -20,9 +21,6 @@ more_is_other m n h e = omega arith
 less_is_other : (m n : ℕ) → m < n → m ≢ n
 less_is_other m n h e = omega arith
 
-true_is_other : true ≢ false
-true_is_other e = subst (λ b. elim b as (λ p. Type 0) [ true ↦ Unit {0} | false ↦ ⊥ ]) e tt
-
 -- the first byte of a body that is one name
 abbrev first_byte : Body → ℕ
 first_byte (of_types (named (call n ts))) = slice_index_or n 0 0
@@ -36,7 +34,7 @@ defined_twice worth = F.other_equals (1, omega arith, refl) refl refl (other_bod
 
 pub two_kinds : (worth : Values) → IsFaultAt T.type_and_group worth C.KindClash 8
 unfolding prelude
-two_kinds worth = record { rule = _; stands = (1, omega arith, refl); clash = true_is_other; place = refl }
+two_kinds worth = record { rule = _; stands = (1, omega arith, refl); clash = λ e. false≢true (sym e); place = refl }
 
 pub undefined : (worth : Values) → IsFaultAt T.undefined worth C.Undefined 4
 unfolding prelude

@@ -1,6 +1,8 @@
 -- Ways through more names come to the same.
 use Rattle.std.specs.Prelude.{◌≡◌, ℕ, zero, suc, List, [], ◌∷◌, Option, Some, None, Bool, true, false, if◌then◌else◌, not, ◌&&◌}
 use Rattle.std.proofs.Common.{subst}
+use Rattle.std.proofs.lemmas.Bool.{false≢true}
+use Rattle.cddl_language.proofs.Basics.{none_is_some}
 use Rattle.cddl_language.specs.Terms.{Text, Term, named, map_of, array_of, unwrapped, tagged, tagged_by, Ref, call, Body, of_types, of_entry, Definition, Sign, is, type_or, group_or, stripped, term_list, name_of}
 use Rattle.cddl_language.specs.Environment.{is_in, definitions_of, named_so, is_socket, is_group_socket, is_in_prelude}
 use Rattle.cddl_language.specs.Substitution.{fill_ref}
@@ -35,9 +37,6 @@ module _ (f g : Ref → Option Opened) (further : Further f g) where
   unless : (b : Bool) (xs : List Term) (ds : List Definition) (o : Opened) → (if b then None else opened_by f xs ds) ≡ Some o → (if b then None else opened_by g xs ds) ≡ Some o
   unless true xs ds o e = e
   unless false xs ds o e = of_definitions xs ds o e
-
-none_is_some : {X : Type 0} {x : X} → None ≡ Some x → ⊥
-none_is_some e = subst (λ o. elim o as (λ p. Type 0) [ None ↦ Unit {0} | Some y ↦ ⊥ ]) e tt
 
 pub opened_further : (ds : List Definition) (k : ℕ) (r : Ref) (o : Opened) → opened_in k ds r ≡ Some o → opened_in (suc k) ds r ≡ Some o
 opened_further ds zero r o e = absurd (none_is_some e)
@@ -79,9 +78,6 @@ module _ (f g : Text → Bool) (wider : Wider f g) (ds : List Definition) where
   by_name false true z es e = e
   by_name false false z es e = of_first es e
 
-false_is_true : false ≡ true → ⊥
-false_is_true e = subst (λ b. elim b as (λ p. Type 0) [ true ↦ ⊥ | false ↦ Unit {0} ]) e tt
-
 pub group_further : (ds : List Definition) (k : ℕ) (n : Text) → is_group_in k ds n ≡ true → is_group_in (suc k) ds n ≡ true
-group_further ds zero n e = absurd (false_is_true e)
+group_further ds zero n e = absurd (false≢true e)
 group_further ds (suc k) n e = by_name (λ m. is_group_in k ds m) (λ m. is_group_in (suc k) ds m) (λ m h. group_further ds k m h) ds (is_socket n) (is_in_prelude n) (is_group_socket n) (named_so n ds) e

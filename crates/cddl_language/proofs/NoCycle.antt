@@ -4,6 +4,7 @@ use Rattle.std.specs.Cmp.Lexicographic.{other_text}
 use Rattle.std.proofs.Common.{refl, sym, ap, ◌∙◌, subst, arith}
 use Rattle.cddl_token.specs.declared.Code.TheVariants.{Recursion}
 use Rattle.cddl_syntax.specs.Syntax as S
+use Rattle.cddl_language.proofs.Basics.{none_in}
 use Rattle.cddl_language.specs.Terms.{Text, name_of}
 use Rattle.cddl_language.specs.Reading.{name_in, name_at}
 use Rattle.cddl_language.specs.Environment.{is_same}
@@ -12,12 +13,9 @@ use Rattle.cddl_language.specs.Literals.{Values}
 use Rattle.cddl_language.specs.Free.{IsOnCycle}
 use Rattle.cddl_language.specs.Faults.{Specification, rules, definitions, root_of, first_rule, OfRoot, HasRecursion, IsAccepted}
 
-none : {X : Type 0} {x : X} → Contains [] x → ⊥
-none c = let h = c.1 in omega arith
-
 -- a name that a rule defines has a first one
 find : (n : Text) (rs : List S.Rule) (r : S.Rule) → Contains rs r → name_in r ≡ n → (q : S.Rule) × (first_rule rs n ≡ Some q)
-find n [] r c e = absurd (none c)
+find n [] r c e = absurd (none_in c)
 find n (x ∷ xs) r c e = go (is_same (name_in x) n) refl (λ d. find n xs r d e)
   where
     later : name_in x ≢ n → Contains (x ∷ xs) r → Contains xs r

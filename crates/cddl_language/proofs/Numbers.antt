@@ -10,6 +10,7 @@ use Rattle.cddl_literal.specs.Bytes.{IsAt, IsRun, is_decimal_digit, is_binary_di
 use Rattle.cddl_literal.specs.Numbers.{number_after, IsUint, decimal, hexadecimal, binary}
 use Rattle.cddl_token.specs.Numbers.{IsBound, IsStar, IsHashNumber, IsTagNumberOpen}
 use Rattle.cddl_meaning.specs.Forms.{at_most, any_number_of, exactly}
+use Rattle.cddl_language.proofs.Basics.{below_zero, beyond_one, beyond_two}
 use Rattle.cddl_language.specs.Terms.{Text}
 use Rattle.cddl_language.specs.Numbers.{before, behind, uint_in, is_byte, least_in, most_behind, most_in, number_or_any, tag_number, numbered, numbered_or_not, hash_form}
 
@@ -86,18 +87,12 @@ same_byte : (x c : ℕ) → x ≡ c → nat_eq x c ≡ true
 same_byte x c h = grind (arith, nat_tests)
 
 before_first : (c : ℕ) (s : List ℕ) (k : ℕ) → k < length s → slice_index s k ≡ c → ((i : ℕ) → i < k → slice_index s i ≢ c) → before c s ≡ take k s
-before_first c [] k h e f = absurd (none k h)
-  where
-    none : (k : ℕ) → k < 0 → ⊥
-    none k h = omega arith
+before_first c [] k h e f = absurd (below_zero k h)
 before_first c (x ∷ xs) zero h e f = ap (λ b. if b then [] else x ∷ before c xs) (same_byte x c e)
 before_first c (x ∷ xs) (suc k) h e f = ap (λ b. if b then [] else x ∷ before c xs) (other_byte x c (f 0 (omega arith))) ∙ ap (λ r. x ∷ r) (before_first c xs k (omega arith) e (λ i g. f (suc i) (omega arith)))
 
 behind_first : (c : ℕ) (s : List ℕ) (k : ℕ) → k < length s → slice_index s k ≡ c → ((i : ℕ) → i < k → slice_index s i ≢ c) → behind c s ≡ drop (suc k) s
-behind_first c [] k h e f = absurd (none k h)
-  where
-    none : (k : ℕ) → k < 0 → ⊥
-    none k h = omega arith
+behind_first c [] k h e f = absurd (below_zero k h)
 behind_first c (x ∷ xs) zero h e f = ap (λ b. if b then xs else behind c xs) (same_byte x c e)
 behind_first c (x ∷ xs) (suc k) h e f = ap (λ b. if b then xs else behind c xs) (other_byte x c (f 0 (omega arith))) ∙ behind_first c xs k (omega arith) e (λ i g. f (suc i) (omega arith))
 
@@ -185,10 +180,7 @@ sign_within s k c some e = elim (cases_lt k (length s)) [ inl h ↦ h | inr past
 no_other_byte : (b : ℕ) (s : List ℕ) (k : ℕ) → k < length s → slice_index s k ≡ 42 → 42 ≢ b → is_byte b s ≡ false
 no_other_byte b [] k h e other = refl
 no_other_byte b (c ∷ []) zero h e other = other_byte c b (λ f. other (sym e ∙ f))
-no_other_byte b (c ∷ []) (suc k) h e other = absurd (beyond k h)
-  where
-    beyond : (k : ℕ) → suc k < 1 → ⊥
-    beyond k h = omega arith
+no_other_byte b (c ∷ []) (suc k) h e other = absurd (beyond_one k h)
 no_other_byte b (c ∷ d ∷ ds) k h e other = refl
 
 at_most_of : (t : Text) (n : ℕ) → (t ≡ [] → ⊥) → uint_in t ≡ n → most_behind t ≡ at_most n
@@ -248,10 +240,7 @@ module _ (s : List ℕ) (n : ℕ) (h : IsTagNumberOpen s 0 (length s) n) where
   no_dot : (i : ℕ) → i < 2 → slice_index s i ≢ 46
   no_dot zero less e = let x = h.number.hash in omega arith
   no_dot (suc zero) less e = let x = h.tag in omega arith
-  no_dot (suc (suc i)) less e = beyond i less
-    where
-      beyond : (i : ℕ) → suc (suc i) < 2 → ⊥
-      beyond i h = omega arith
+  no_dot (suc (suc i)) less e = beyond_two i less
 
   rest : behind 46 s ≡ drop 3 s
   rest = let l = longer in let e = to_end in behind_first 46 s 2 (omega arith) h.number.dot no_dot

@@ -57,3 +57,7 @@ below m n e f = ap (λ x. between false (whole (Some x)) (whole (Some n))) e ∙
 -- `1...3` says no to 3
 pub below_three : (worth : Values) → worth (number (codes "1")) ≡ UintOf 1 → worth (number (codes "3")) ≡ UintOf 3 → J.Says (language worth []) (type_node worth [] (type E.below_three)) 0 (uint 3) (J.No 0) 1
 below_three worth one three = subst (λ (n : Node TypeName GroupName). J.Says (language worth []) n 0 (uint 3) (J.No 0) 1) (sym (below (worth (number (codes "1"))) (worth (number (codes "3"))) one three)) (J.missed refl)
+
+-- `&(x: int, y: tstr)` says yes to 1, by its first type
+pub one_of_two : (worth : Values) → J.Says (language worth []) (type_node worth [] (type E.one_of_two)) 0 (uint 1) J.Yes 6
+one_of_two worth = J.choice (J.this_one (int_takes_one worth 0))

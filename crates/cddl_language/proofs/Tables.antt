@@ -6,6 +6,7 @@ use Rattle.cddl_meaning.specs.Alike.{AlikeTypes, plain, choices, both, none}
 use Rattle.cddl_meaning.specs.Forms.{Language, Node, Plain, ArrayOf}
 use Rattle.cddl_meaning.specs.Judges.{Answer, Says}
 use Rattle.cddl_meaning.proofs.Lemmas.{says_too, said_before}
+use Rattle.cddl_language.proofs.Basics.{beyond_two, none_in, only}
 use Rattle.cddl_language.specs.Terms.{Text, Ref, Definition, call, no_terms, hash}
 use Rattle.cddl_language.specs.Examples as E
 use Rattle.cddl_language.specs.Kinds.{is_group}
@@ -36,15 +37,6 @@ no_points : points_in E.anything (E.a_ref (codes "a")) ≡ []
 unfolding prelude
 no_points = refl
 
-beyond_one : (k : ℕ) → suc k < 1 → ⊥
-beyond_one k h = omega arith
-
-beyond_two : (k : ℕ) → suc (suc k) < 2 → ⊥
-beyond_two k h = omega arith
-
-nothing_in : {X : Type 0} {x : X} → Contains [] x → ⊥
-nothing_in c = let h = c.1 in omega arith
-
 abbrev types : List (TypeName × ℕ)
 types = (any_of (hash (codes "#") ∷ []), 0) ∷ (type (hash (codes "#")), 1) ∷ []
 
@@ -67,15 +59,11 @@ reached : (r : Ref) → Reaches E.anything (codes "a") r → r ≡ E.a_ref (code
 reached r h = go r h
   where
     step : (r s : Ref) (p : Point) → r ≡ E.a_ref (codes "a") → Contains (points_in E.anything r) p → s ≡ E.a_ref (codes "a")
-    step r s p e c = absurd (nothing_in (subst (λ ps. Contains ps p) no_points (subst (λ q. Contains (points_in E.anything q) p) e c)))
+    step r s p e c = absurd (none_in (subst (λ ps. Contains ps p) no_points (subst (λ q. Contains (points_in E.anything q) p) e c)))
 
     go : (r : Ref) → Reaches E.anything (codes "a") r → r ≡ E.a_ref (codes "a")
     go r at_root = refl
     go s (onward {r = r} {p = p} h c f) = step r s p (go r h) c
-
-only : {X : Type 0} {x y : X} → Contains (x ∷ []) y → y ≡ x
-only (zero, h, e) = sym e
-only (suc k, h, e) = absurd (beyond_one k h)
 
 goes_down : (m n : ℕ) → AsksOfSame E.one_test (E.one_test.type_at m) n → E.rank_at n < E.rank_at m
 goes_down zero n (of_choice c) = subst (λ k. E.rank_at k < 1) (sym (only c)) (omega arith)
@@ -90,7 +78,7 @@ no_arrays zero g e = omega arith
 no_arrays (suc m) g e = absurd (subst IsPlain e tt)
 
 no_groups : (g h : ℕ) → AsksOfList E.one_test (E.one_test.group_at g) h → 0 < 0
-no_groups g h (of_alternatives c) = absurd (nothing_in c)
+no_groups g h (of_alternatives c) = absurd (none_in c)
 
 up_to_one : (m : ℕ) → E.rank_at m ≤ 1
 up_to_one zero = omega arith
@@ -100,7 +88,7 @@ pub stands : (worth : Values) → StandsFor worth E.anything (codes "a") E.one_t
 stands worth = record {
   types = types;
   groups = [];
-  alike = record { types = λ t n c. same_form worth (t, n) c; groups = λ t g c. absurd (nothing_in c) };
+  alike = record { types = λ t n c. same_form worth (t, n) c; groups = λ t g c. absurd (none_in c) };
   root_node = subst (λ t. Contains types (t, 0)) (sym meaning) (0, omega arith, refl);
   instances = E.a_ref (codes "a") ∷ [];
   are_instances = record { all = λ r h. (0, omega arith, sym (reached r h)); only = λ r c. subst (Reaches E.anything (codes "a")) (sym (only c)) at_root; once = λ i j d h k. absurd (none_later i j h k) };

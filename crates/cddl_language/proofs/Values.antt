@@ -10,6 +10,8 @@ use Rattle.cddl_token.specs.declared.Kind.{Kind}
 use Rattle.cddl_token.specs.declared.Kind.TheVariants as K
 use Rattle.cddl_token.specs.declared.Token.{Token}
 use Rattle.cddl_syntax.specs.Syntax as S
+use Rattle.std.proofs.lemmas.Bool.{false≢true}
+use Rattle.cddl_language.proofs.Basics.{none_in, none_is_some, same_some}
 use Rattle.cddl_language.specs.Terms.{Literal, number, text, bytes}
 use Rattle.cddl_language.specs.Environment.{is_same}
 use Rattle.cddl_language.specs.Literals.{Means, Values, written, Holds, AreTokens, AreRight}
@@ -22,15 +24,6 @@ pub record Laws : Type 0 where
   pub one_number : (s : List ℕ) (a b : ℕ) (m n : Meaning) → IsNumber s a b m → IsNumber s a b n → n ≡ m
   pub one_text : (s : List ℕ) (a b c : ℕ) (v w : List ℕ) → IsText s a b v → IsText s a c w → (c ≡ b) × (w ≡ v)
   pub one_string : (s : List ℕ) (a b c : ℕ) (v w : List ℕ) → IsBytes s a b v → IsBytes s a c w → (c ≡ b) × (w ≡ v)
-
-none : {X : Type 0} {x : X} → Contains [] x → ⊥
-none c = let h = c.1 in omega arith
-
-none_is_some : {X : Type 0} {x : X} → None ≡ Some x → ⊥
-none_is_some e = subst (λ o. elim o as (λ p. Type 0) [ None ↦ Unit {0} | Some y ↦ ⊥ ]) e tt
-
-same_some : {X : Type 0} {x y : X} → Some x ≡ Some y → x ≡ y
-same_some {x = x} e = ap (λ o. unwrap_or o x) e
 
 -- Each written value of a token stands for something.
 
@@ -66,19 +59,16 @@ same (text a) (text b) = is_same a b
 same (bytes a) (bytes b) = is_same a b
 same _ _ = false
 
-false_is_true : true ≡ false → ⊥
-false_is_true e = subst (λ b. elim b as (λ p. Type 0) [ true ↦ Unit {0} | false ↦ ⊥ ]) e tt
-
 told_same : (u v : Literal) → true ≡ same u v → u ≡ v
 told_same (number a) (number b) h = ap number (same_text a b h)
 told_same (text a) (text b) h = ap text (same_text a b h)
 told_same (bytes a) (bytes b) h = ap bytes (same_text a b h)
-told_same (number a) (text b) h = absurd (false_is_true h)
-told_same (number a) (bytes b) h = absurd (false_is_true h)
-told_same (text a) (number b) h = absurd (false_is_true h)
-told_same (text a) (bytes b) h = absurd (false_is_true h)
-told_same (bytes a) (number b) h = absurd (false_is_true h)
-told_same (bytes a) (text b) h = absurd (false_is_true h)
+told_same (number a) (text b) h = absurd (false≢true (sym h))
+told_same (number a) (bytes b) h = absurd (false≢true (sym h))
+told_same (text a) (number b) h = absurd (false≢true (sym h))
+told_same (text a) (bytes b) h = absurd (false≢true (sym h))
+told_same (bytes a) (number b) h = absurd (false≢true (sym h))
+told_same (bytes a) (text b) h = absurd (false≢true (sym h))
 
 same_as_itself : (u : Literal) → false ≡ same u u → ⊥
 same_as_itself (number a) h = other_text a a h refl
@@ -118,7 +108,7 @@ module _ (l : S.Lexeme) (ls : List S.Lexeme) (rest : (worth : Values) × RightFo
   with_first each (Some u) e = added u e (each u (l, (0, omega arith, refl), e))
 
 table : (ls : List S.Lexeme) → ((v : Literal) → HeldIn ls v → (m : Meaning) × Means v m) → (worth : Values) × RightFor ls worth
-table [] each = (λ v. UintOf 0, λ v k. absurd (none k.1))
+table [] each = (λ v. UintOf 0, λ v k. absurd (none_in k.1))
 table (l ∷ ls) each = with_first l ls (table ls (λ v k. each v (deeper l ls v k))) each (written l.0 l.1) refl
 
 pub some_table : Laws → (x : S.Cddl) → AreTokens x → (worth : Values) × AreRight x worth

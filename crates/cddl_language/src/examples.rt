@@ -14,12 +14,14 @@ ghost use Rattle.cddl_language.specs.Language.{language, type, type_node};
 ghost use Rattle.cddl_language.specs.Literals.{Values, literal_of};
 ghost use Rattle.cddl_language.specs.Numbers.{hash_form, least_in, most_in, numbered, tag_number, uint_in};
 ghost use Rattle.cddl_language.specs.Prelude.{definition, plain};
-ghost use Rattle.cddl_language.specs.Reach.{at_name, points_in};
+ghost use Rattle.cddl_language.specs.Reach.{Point, at_name, points_in};
+ghost use Rattle.cddl_language.specs.Free.{LeadsTo};
+ghost use Rattle.cddl_language.specs.Reading.{definitions_in};
 ghost use Rattle.cddl_language.specs.StandsFor.{StandsFor};
 ghost use Rattle.cddl_language.specs.Substitution.{type_choices};
 ghost use Rattle.cddl_language.specs.Texts as T;
 ghost use Rattle.cddl_token.specs.declared.Code.TheVariants.{Arity, BadRange, BadRoot, Duplicate, GroupAsType, HashForm, KindClash, NoRoot, NotUnwrappable, Recursion, TooManyInstances, Undefined, UnknownControl};
-ghost use Rattle.cddl_language.specs.Terms.{Text, entries, hash, no_entries, number, sole, typed};
+ghost use Rattle.cddl_language.specs.Terms.{Text, call, no_terms, entries, hash, no_entries, number, sole, typed};
 
 /// Numbers in the texts of tokens.
 pub fn numbers()
@@ -84,11 +86,12 @@ pub fn choices()
 {}
 
 /// What the language says of items: `int` of 1; `[* int, int]` of `[1]`, where nothing is given back; `[~u]` with
-/// `u = #6.32(tstr)` of `["a"]`; `&(x: int, y: tstr)` of `"a"`; `1...3` of 3.
+/// `u = #6.32(tstr)` of `["a"]`; `&(x: int, y: tstr)` of 1; `1...3` of 3.
 pub fn items()
     ensures int { (worth : Values) (p : ℕ) → Says (language worth []) (type_node worth [] (type E.int)) p (uint 1) Yes 5 }
     ensures greedy { (worth : Values) → Says (language worth []) (type_node worth [] (type E.ints_then_int)) 0 (array (value (uint 1) no_values)) (No 0) 12 }
     ensures content { (worth : Values) → Says (language worth E.tagged_text) (type_node worth E.tagged_text (type E.opened_text)) 0 (array (value (text (codes "a")) no_values)) Yes 8 }
+    ensures choice { (worth : Values) → Says (language worth []) (type_node worth [] (type E.one_of_two)) 0 (uint 1) Yes 6 }
     ensures range { (worth : Values) → worth (number (codes "1")) ≡ UintOf 1 → worth (number (codes "3")) ≡ UintOf 3 → Says (language worth []) (type_node worth [] (type E.below_three)) 0 (uint 3) (No 0) 1 }
 {}
 
@@ -127,4 +130,9 @@ pub fn endless()
 /// A table of two types stands for `a = #`.
 pub fn table()
     ensures { (worth : Values) → StandsFor worth E.anything (codes "a") E.one_test 0 E.rank_at (λ g. 0) 1 }
+{}
+
+/// In `r = [g]`, `g = (int, ? g)` no reference is free in what `g` means.
+pub fn behind_an_item()
+    ensures { (p : Point) → LeadsTo (definitions_in (T.r_of_g ∷ T.int_then_maybe_g ∷ [])) p (at_name (call (codes "g") no_terms)) → ⊥ }
 {}

@@ -10,5 +10,8 @@ returns-clause-greedy c = S.greedy
 pub returns-clause-content : goal.returns-clause-content
 returns-clause-content c = S.opened_text
 
+pub returns-clause-choice : goal.returns-clause-choice
+returns-clause-choice c = S.one_of_two
+
 pub returns-clause-range : goal.returns-clause-range
 returns-clause-range c = S.below_three
