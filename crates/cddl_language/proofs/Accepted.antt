@@ -1,5 +1,5 @@
 -- `t = [* t]` is accepted.
-use Rattle.std.specs.Prelude.{◌≡◌, ◌≢◌, ◌⊎◌, ℕ, zero, suc, ◌<◌, length, List, [], ◌∷◌, slice_get, slice_index_or, Contains, Option, Some, None, unwrap_or, Bool, true, false, codes}
+use Rattle.std.specs.Prelude.{◌≡◌, ◌≢◌, ◌⊎◌, ℕ, zero, suc, ◌<◌, length, List, [], ◌∷◌, slice_get, slice_index_or, Contains, Option, Some, None, Bool, true, false, codes}
 use Rattle.std.proofs.Common.{refl, sym, ap, ◌∙◌, subst, arith, inl, inr}
 use Rattle.std.proofs.lemmas.List.Elements.{Contains-get_or}
 use Rattle.cddl_token.specs.declared.Token.{Token}
@@ -16,7 +16,7 @@ use Rattle.cddl_language.specs.Prelude.{prelude}
 use Rattle.cddl_language.specs.Reading.{definition_of, occurrence, name_in, parameter_tokens, parameters_in, rule_head}
 use Rattle.cddl_language.specs.Environment.{definitions_of}
 use Rattle.cddl_language.specs.Substitution.{type_choices}
-use Rattle.cddl_language.specs.Kinds.{Part, asks_type, names_group, opens, part_of, is_group, is_group_definition}
+use Rattle.cddl_language.specs.Kinds.{asks_type, part_of, is_group, is_group_definition}
 use Rattle.cddl_language.specs.Reach.{Reaches, at_root, onward, Point, ref_at, at_name, at_unwrapping, at_choice, points_in, IsPresent, instance, standing}
 use Rattle.cddl_language.specs.Literals.{Values}
 use Rattle.cddl_language.specs.Free as R

@@ -1,5 +1,5 @@
 -- Small facts of options, lists and numbers, for the proofs here.
-use Rattle.std.specs.Prelude.{◌≡◌, ℕ, zero, suc, ◌<◌, List, [], ◌∷◌, Contains, Option, Some, None, unwrap_or}
+use Rattle.std.specs.Prelude.{◌≡◌, ℕ, zero, suc, ◌<◌, List, [], ◌∷◌, Contains, Some, None, unwrap_or}
 use Rattle.std.proofs.Common.{sym, ap, subst, arith}
 
 pub some_is_none : {X : Type 0} {x : X} → Some x ≡ None → ⊥

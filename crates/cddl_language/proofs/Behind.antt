@@ -2,13 +2,11 @@
 use Rattle.std.specs.Prelude.{◌≡◌, ℕ, List, [], ◌∷◌, Option, Some, None, Bool, true, false, codes}
 use Rattle.std.proofs.Common.{refl, sym, ◌∙◌, subst, arith}
 use Rattle.std.proofs.lemmas.Bool.{false≢true}
-use Rattle.cddl_literal.specs.Numbers.{digit_value}
 use Rattle.cddl_language.specs.Numbers.{least_of}
-use Rattle.cddl_language.specs.Terms.{Text, Term, typed, Entry, Entries, no_entries, entries, Definition, call, no_terms, sole, named}
+use Rattle.cddl_language.specs.Terms.{Text, Term, typed, Entry, Entries, no_entries, entries, Definition, call, no_terms}
 use Rattle.cddl_language.specs.Reading.{definitions_in}
-use Rattle.cddl_language.specs.Kinds.{Part, asks_type, names_group, opens, part_of, is_group}
+use Rattle.cddl_language.specs.Kinds.{Part, asks_type, names_group, opens, part_of}
 use Rattle.cddl_language.specs.Reach.{Point, at_name}
-use Rattle.cddl_language.specs.Substitution.{type_choices, group_choices}
 use Rattle.cddl_language.specs.Free.{EntryMayBeEmpty, no_time, by_name, by_opening, MayBeEmpty, all_may, IsFreeInSome, in_this, in_later, IsFreeInEach, in_last, in_earlier, IsFreeInEntry, group_name, group_opened, LeadsTo, by_type, by_group}
 use Rattle.cddl_language.specs.Prelude.{plain, prelude}
 use Rattle.cddl_language.specs.Examples as E

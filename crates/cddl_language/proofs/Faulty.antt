@@ -1,6 +1,6 @@
 -- Faults of small specifications, each at its byte.
-use Rattle.std.specs.Prelude.{◌≢◌, ℕ, ◌<◌, slice_index_or, codes, true, false}
-use Rattle.std.proofs.Common.{refl, ap, arith, inl, subst, sym}
+use Rattle.std.specs.Prelude.{◌≢◌, ℕ, ◌<◌, slice_index_or, codes, false}
+use Rattle.std.proofs.Common.{refl, ap, arith, inl, sym}
 use Rattle.std.proofs.lemmas.Bool.{false≢true}
 use Rattle.cddl_token.specs.declared.Kind.TheVariants as K
 use Rattle.cddl_token.specs.declared.Code.TheVariants as C

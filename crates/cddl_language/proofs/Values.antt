@@ -1,5 +1,5 @@
 -- The written values of a specification have one right table.
-use Rattle.std.specs.Prelude.{◌≡◌, ◌≢◌, ℕ, zero, suc, ◌⊎◌, length, List, [], ◌∷◌, slice_range, Contains, Option, Some, None, unwrap_or, Bool, true, false, if◌then◌else◌}
+use Rattle.std.specs.Prelude.{◌≡◌, ◌≢◌, ℕ, zero, suc, ◌⊎◌, length, List, [], ◌∷◌, slice_range, Contains, Option, Some, None, Bool, true, false, if◌then◌else◌}
 use Rattle.std.specs.Cmp.Lexicographic.{same_text, other_text}
 use Rattle.std.proofs.Common.{refl, sym, ap, ◌∙◌, subst, arith, inl, inr}
 use Rattle.cddl_literal.specs.Numbers.{Meaning, UintOf, TextOf, BytesOf, IsNumber}
