@@ -11,7 +11,7 @@ joined (Some ts) (Some us) = Some (ts ++ us)
 joined _ _ = None
 
 -- They are those of the group's entries in order, through `//` and nested groups; none where an entry occurs other than
--- once, or where a group comes back to itself (own).
+-- once, or where a group comes back to itself (RFC 8610 leaves this open).
 module _ (ds : List Definition) where
   -- (`next`: the types of a group that has a name, by its alternatives.)
   module _ (next : List Entries → Option (List Term)) where

@@ -24,13 +24,13 @@ is_equals group_or = false
 abbrev pub has_equals : List Definition → Bool
 has_equals ds = list_any (λ (d : Definition). is_equals d.sign) ds
 
--- The definitions that count, of all of one name: each further `=` adds nothing (own). The flag says that a `=` came before.
+-- The definitions that count, of all of one name: each further `=` adds nothing. The flag says that a `=` came before.
 abbrev pub counting : Bool → List Definition → List Definition
 counting met [] = []
 counting false (d ∷ ds) = d ∷ counting (is_equals d.sign) ds
 counting true (d ∷ ds) = if is_equals d.sign then counting true ds else d ∷ counting true ds
 
--- what the prelude says of the name: `=` in the text replaces it, `/=` extends it (own)
+-- what the prelude says of the name: `=` in the text replaces it, `/=` extends it (RFC 8610 leaves this open)
 abbrev pub from_prelude : List Definition → Text → List Definition
 from_prelude ds n = if has_equals (named_so n ds) then [] else named_so n prelude
 

@@ -151,7 +151,7 @@ pub record HasUnknownControl (s : Specification) (at : ℕ) : Type 0 where
   pub unknown : is_in known_controls (control_name token) ≡ false
   pub place : at ≡ token.start
 
--- C10: more instances than may be (own).
+-- C10: more instances than may be: a limit of this program.
 pub record HasTooManyInstances (s : Specification) (root : Text) (at : ℕ) : Type 0 where
   pub instances : List Ref
   pub reached : (r : Ref) → Contains instances r → Reaches (definitions s) root r

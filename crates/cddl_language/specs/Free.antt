@@ -1,5 +1,5 @@
 -- Free references: those that are asked before an item is surely taken or gone into. A cycle of them asks the same
--- question again for ever, so it is refused (own; RFC 8610 says of recursion only that it is possible, section 2.1).
+-- question again for ever, so it is refused (RFC 8610 does not say what it would mean).
 use Rattle.std.specs.Prelude.{◌≡◌, ◌⊎◌, Bool, true, false, List, ◌∷◌, Contains, Option, Some, codes}
 use Rattle.cddl_language.specs.Numbers.{least_of}
 use Rattle.cddl_language.specs.Terms.{Text, Term, named, parens, array_of, unwrapped, choice_of, choice_of_name, simple_by, control, or, Ref, Group, Entries, no_entries, entries, Entry, typed, grouped, Definition, alternatives, occurrence_of, name_of}

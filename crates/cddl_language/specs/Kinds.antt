@@ -5,7 +5,8 @@ use Rattle.cddl_language.specs.Environment.{is_in, named_so, definitions_of, is_
 use Rattle.cddl_language.specs.Substitution.{fill, fill_ref, fill_group}
 
 -- What `~name` opens: the one choice of the name, through names and parentheses; the group of a map or an array, or the
--- content of a tag. Nothing is opened by a way through a parameter, nor by one that comes back to a name (own).
+-- content of a tag. A way through a parameter opens nothing, nor does one that comes back to a name (RFC 8610 leaves both
+-- open).
 
 pub data Opened : Type 0 where
   opens_group : Group → Opened
@@ -41,7 +42,8 @@ abbrev pub opened : List Definition → Ref → Option Opened
 opened ds r = opened_in (most_names ds) ds r
 
 -- Whether a name is a group's; else it is a type's. A body that is one name, or `~` and one name, in any number of
--- parentheses has the kind of that name, or of what is opened. A way that comes back to a name makes a type (own).
+-- parentheses has the kind of that name, or of what is opened. A way that comes back to a name makes a type (RFC 8610
+-- leaves this open).
 
 abbrev pub is_opened_group : Option Opened → Bool
 is_opened_group (Some (opens_group g)) = true
@@ -81,7 +83,7 @@ is_group ds n = is_group_in (most_names ds) ds n
 abbrev pub is_group_definition : List Definition → Definition → Bool
 is_group_definition ds d = defines_group (λ n. is_group ds n) ds d d.sign
 
--- An entry without a key asks a type, or is one name or `~` and one name of the kind of a group (own).
+-- An entry without a key asks a type, or is one name or `~` and one name of the kind of a group.
 pub data Part : Type 0 where
   asks_type : Part
   names_group : Ref → Part

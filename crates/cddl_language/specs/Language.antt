@@ -78,7 +78,7 @@ module _ (worth : Values) (ds : List Definition) where
   round_form (keyed o k t) = F.Entry (type t)
   round_form (grouped o g) = F.GroupRef (first_of (alternatives g))
 
-  -- an entry without an occurrence, or once, has no rounds (own)
+  -- an entry without an occurrence, or once, has no rounds
   abbrev pub entry_form : Entry → Option Text → F.Group TypeName GroupName
   entry_form e o = if occurs_once o then round_form e else F.Repeat (least_of o) (most_of o) (round e)
 

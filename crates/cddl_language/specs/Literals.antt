@@ -60,7 +60,7 @@ whole (Some (NintOf n)) = Some (V.nint n)
 whole _ = None
 
 module _ (worth : Values) (ds : List Definition) where
-  -- The value that a type is: a written one, or that of a name with one choice, through names and parentheses (own).
+  -- The value that a type is: a written one, or that of a name with one choice, through names and parentheses.
   -- (`next`: the value of the type that a name stands for.)
 
   abbrev pub only_choice : (Term → Option Meaning) → List Term → Option Meaning

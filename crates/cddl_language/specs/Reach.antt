@@ -3,7 +3,7 @@ use Rattle.std.specs.Prelude.{◌≡◌, ℕ, List, [], ◌∷◌, ◌++◌, fla
 use Rattle.cddl_language.specs.Terms.{Text, Term, literal, named, parens, map_of, array_of, unwrapped, choice_of, choice_of_name, tagged, tagged_by, simple_by, hash, range, control, or, Ref, call, no_terms, Group, sole, orelse, Entries, no_entries, entries, Entry, typed, keyed, grouped, Key, of_type, bareword, of_value, Body, of_types, of_entry, Definition}
 use Rattle.cddl_language.specs.Substitution.{bodies}
 
--- A name by itself, behind `~` and behind `&` are three references (own).
+-- A name by itself, behind `~` and behind `&` are three references.
 pub data Point : Type 0 where
   at_name : Ref → Point
   at_unwrapping : Ref → Point
@@ -70,6 +70,6 @@ pub data IsPresent (ds : List Definition) (root : Text) : Point → Type 0 where
   instance : {r : Ref} → Reaches ds root r → IsPresent ds root (at_name r)
   standing : {r : Ref} {p : Point} → Reaches ds root r → Contains (points_in ds r) p → IsPresent ds root p
 
--- how many instances there may be (own)
+-- how many instances there may be: a limit of this program
 abbrev pub most_instances : ℕ
 most_instances = 1024

@@ -23,8 +23,8 @@ mutual
     choice_of : Group → Term  -- `&(group)` (section 2.2.2.2)
     choice_of_name : Ref → Term  -- `&name`
     tagged : Text → Term → Term  -- `#6.n(type)`, with the text of its opening (section 3.6)
-    tagged_by : Term → Term → Term  -- `#6.<type>(type)` (own)
-    simple_by : Term → Term  -- `#7.<type>` (own)
+    tagged_by : Term → Term → Term  -- `#6.<type>(type)`
+    simple_by : Term → Term  -- `#7.<type>`
     hash : Text → Term
     range : Term → (closed : Bool) → Term → Term  -- `a..b` and `a...b` (section 2.2.2.1)
     control : Term → Text → Term → Term  -- with the name of the control (section 3.8)
