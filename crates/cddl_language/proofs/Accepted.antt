@@ -7,7 +7,7 @@ use Rattle.cddl_token.specs.declared.Code.{Code}
 use Rattle.cddl_token.specs.declared.Code.TheVariants as C
 use Rattle.cddl_syntax.specs.Syntax as S
 use Rattle.std.proofs.lemmas.Bool.{false≢true}
-use Rattle.cddl_language.proofs.Behind.{free_first, in_one}
+use Rattle.cddl_language.proofs.After.{free_first, in_one}
 use Rattle.cddl_language.proofs.Basics.{some_is_none, none_is_some, same_some, cons_is_nil, beyond_two, only}
 use Rattle.cddl_language.specs.Numbers.{least_of, most_of}
 use Rattle.cddl_language.specs.Terms as M
@@ -21,9 +21,9 @@ use Rattle.cddl_language.specs.Reach.{Reaches, at_root, onward, Point, ref_at, a
 use Rattle.cddl_language.specs.Literals.{Values}
 use Rattle.cddl_language.specs.Free as R
 use Rattle.cddl_language.specs.Free.{IsFree, IsFreeInSome, IsFreeInEach, IsFreeInEntry, LeadsTo, LeadsOn}
-use Rattle.cddl_language.specs.Places.{Place, a_name, an_unwrapping, a_choice_of, a_choice_of_name, a_hash, an_operation, an_entry, a_map, places, outer_places, ref_at_place, ref_name, arguments, IsReached, in_body, in_argument, IsUsed, used}
+use Rattle.cddl_language.specs.Sites.{Site, a_name, an_unwrapping, a_choice_of, a_choice_of_name, a_hash, an_operation, an_entry, a_map, sites, outer_sites, ref_at_site, ref_name, arguments, IsReached, in_body, in_argument, IsUsed, used}
 use Rattle.cddl_language.specs.Faults as F
-use Rattle.cddl_language.specs.Faults.{IsFaultAt, IsAccepted, parameter_count, first_equals, first_rule, rules, HasPlace, HasName}
+use Rattle.cddl_language.specs.Faults.{IsFaultAt, IsAccepted, parameter_count, first_equals, first_rule, rules, HasSite, HasName}
 use Rattle.cddl_language.specs.Texts as T
 
 -- the rule, its definition, the reference in it, and what stands there
@@ -75,29 +75,29 @@ same_kind : is_group_definition ds (definition_of rule) ≡ is_group ds (name_in
 unfolding prelude
 same_kind = refl
 
--- Its places: the entry and its name.
+-- Its sites: the entry and its name.
 
-abbrev entry_in : Place → Option S.GrpEnt
+abbrev entry_in : Site → Option S.GrpEnt
 entry_in (an_entry e) = Some e
 entry_in _ = None
 
--- the two sorts of places that there are
-abbrev IsThere : Place → Type 0
+-- the two sorts of sites that there are
+abbrev IsThere : Site → Type 0
 IsThere (an_entry e) = e ≡ starred
 IsThere (a_name true r) = ⊥
 IsThere (a_name false r) = r ≡ ref
 IsThere _ = ⊥
 
-in_rule : (p : Place) → Contains (outer_places rule) p → IsThere p
+in_rule : (p : Site) → Contains (outer_sites rule) p → IsThere p
 in_rule p (zero, h, e) = subst IsThere e refl
 in_rule p (suc zero, h, e) = subst IsThere e refl
 in_rule p (suc (suc k), h, e) = absurd (beyond_two k h)
 
-held : (r : S.Rule) (p : Place) → HasPlace T.lists r p → IsThere p
-held r p h = in_rule p (subst (λ q. Contains (places q) p) (only h.rule) h.place)
+found : (r : S.Rule) (p : Site) → HasSite T.lists r p → IsThere p
+found r p h = in_rule p (subst (λ q. Contains (sites q) p) (only h.rule) h.site)
 
--- a reference at such a place
-its_name : (p : Place) (f : S.Ref) → IsThere p → ref_at_place p ≡ Some f → f ≡ ref
+-- a reference at such a site
+its_name : (p : Site) (f : S.Ref) → IsThere p → ref_at_site p ≡ Some f → f ≡ ref
 its_name (an_entry e) f h g = absurd (none_is_some g)
 its_name (a_name false r) f h g = sym (same_some g) ∙ h
 its_name (a_name true r) f h g = absurd h
@@ -109,9 +109,9 @@ its_name (an_operation x o y) f h g = absurd h
 its_name (a_map o g) f h k = absurd h
 
 named_there : (r : S.Rule) (f : S.Ref) → HasName T.lists r f → (r ≡ rule) × (f ≡ ref)
-named_there r f h = (only h.held.rule, its_name h.at f (held r h.at h.held) h.name)
+named_there r f h = (only h.found.rule, its_name h.at f (found r h.at h.found) h.name)
 
--- What it reaches: itself, and these places.
+-- What it reaches: itself, and these sites.
 
 reached : (r : Ref) → Reaches ds (codes "t") r → r ≡ t
 reached r h = go r h
@@ -126,8 +126,8 @@ reached r h = go r h
 unused : (r : S.Rule) (xs : List Term) (f : S.Ref) (x : S.Type1) → f ≡ ref → IsUsed (rule ∷ []) (codes "t") r xs f x → ⊥
 unused r xs f x e (used k a b c d g h) = none_is_some (subst (λ z. slice_get (arguments z) k ≡ Some x) e h)
 
-places_reached : (r : S.Rule) (xs : List Term) (p : Place) → IsReached (rule ∷ []) (codes "t") r xs p → IsThere p
-places_reached s ys o (in_body {r = r} {p = p} i c) = in_rule p (subst (λ q. Contains (outer_places q) p) (only i.stands) c)
+places_reached : (r : S.Rule) (xs : List Term) (p : Site) → IsReached (rule ∷ []) (codes "t") r xs p → IsThere p
+places_reached s ys o (in_body {r = r} {p = p} i c) = in_rule p (subst (λ q. Contains (outer_sites q) p) (only i.present) c)
 places_reached s ys o (in_argument {r = r} {xs = xs} {q = q} {f = f} {x = x} h e u c) = absurd (unused r xs f x (its_name q f (places_reached r xs q h) e) u)
 
 -- No name is free in what it means, since the entry asks a type of an item.
@@ -163,10 +163,10 @@ module _ (worth : Values) (at : ℕ) where
   no_duplicate (F.parameter_twice {r = r} {t = u} {j = j} c h f g e k) = none_is_some (subst (λ z. slice_get (parameter_tokens (rule_head z)) j ≡ Some u) (only c) f)
 
   no_clash : F.IsKindClash T.lists at → ⊥
-  no_clash f = f.clash (subst (λ z. is_group_definition ds (definition_of z) ≡ is_group ds (name_in z)) (sym (only f.stands)) same_kind)
+  no_clash f = f.clash (subst (λ z. is_group_definition ds (definition_of z) ≡ is_group ds (name_in z)) (sym (only f.present)) same_kind)
 
   all_defined : F.IsUndefined T.lists at → ⊥
-  all_defined f = cons_is_nil (sym is_defined ∙ subst (λ z. definitions_of ds (ref_name z) ≡ []) ((named_there f.rule f.ref f.held).1) f.no_definition)
+  all_defined f = cons_is_nil (sym is_defined ∙ subst (λ z. definitions_of ds (ref_name z) ≡ []) ((named_there f.rule f.ref f.found).1) f.no_definition)
 
   counts : (k : ℕ) → parameter_count ds (codes "t") ≡ Some k → 0 ≡ k
   counts k e = same_some (sym has_no_parameters ∙ e)
@@ -188,14 +188,14 @@ module _ (worth : Values) (at : ℕ) where
       go n r e h (inr b) = b (ap parameters_in (sym (same_some (subst (λ z. first_rule (rule ∷ []) z ≡ Some r) (sym (same_some e)) h))))
 
   no_group_as_type : F.HasGroupAsType T.lists at → ⊥
-  no_group_as_type (F.group_name {r = r} {f = f} p h e) = held r (a_name true f) p
-  no_group_as_type (F.type_name {r = r} {t = u} {f = f} p h e) = held r (a_choice_of_name u f) p
+  no_group_as_type (F.group_name {r = r} {f = f} p h e) = found r (a_name true f) p
+  no_group_as_type (F.type_name {r = r} {t = u} {f = f} p h e) = found r (a_choice_of_name u f) p
 
   no_hash : F.HasBadHash T.lists at → ⊥
-  no_hash f = held f.rule (a_hash f.token) f.held
+  no_hash f = found f.rule (a_hash f.token) f.found
 
   no_control : F.HasUnknownControl T.lists at → ⊥
-  no_control f = held f.rule (an_operation f.left (S.control f.token) f.right) f.held
+  no_control f = found f.rule (an_operation f.left (S.control f.token) f.right) f.found
 
   few_instances : F.HasTooManyInstances T.lists (codes "t") at → ⊥
   few_instances f = f.distinct 0 1 t (omega arith) (two f.many) (one 0 (some f.many) ∙ sym (one 1 (two f.many)))

@@ -64,13 +64,13 @@ as_deep (suc k) = ap suc (as_deep k)
 at_front : (a n : ℕ) → a ≡ n → suc a ≡ suc n - 0
 at_front a n e = omega arith
 
-behind : (a n i : ℕ) → suc a ≡ n - i → suc a ≡ suc n - suc i
-behind a n i e = omega arith
+after : (a n i : ℕ) → suc a ≡ n - i → suc a ≡ suc n - suc i
+after a n i e = omega arith
 
 deep_at : (n i : ℕ) (d : Ref) → i < n → suc (depth_in (slice_index_or (down n) i d)) ≡ n - i
 deep_at zero i d h = absurd (below_zero i h)
 deep_at (suc n) zero d h = at_front (depth_of (nested n)) n (as_deep n)
-deep_at (suc n) (suc i) d h = behind _ n i (deep_at n i d (omega arith))
+deep_at (suc n) (suc i) d h = after _ n i (deep_at n i d (omega arith))
 
 distinct : (n : ℕ) → AllPairs (λ (q r : Ref). q ≢ r) (down n)
 distinct n i j d h k e = other (n) i j _ _ h (subst (λ m. j < m) (as_long n) k) (deep_at n i d (before i j n h (subst (λ m. j < m) (as_long n) k))) (deep_at n j d (subst (λ m. j < m) (as_long n) k)) (ap depth_in e)
@@ -82,4 +82,4 @@ distinct n i j d h k e = other (n) i j _ _ h (subst (λ m. j < m) (as_long n) k)
     other n i j a b h k e f g = omega arith
 
 pub too_many : (worth : Values) → IsFaultAt T.endless worth C.TooManyInstances 0
-too_many worth = record { instances = down 1025; reached = all_reached 1025; distinct = distinct 1025; many = subst (λ n. 1024 < n) (sym (as_long 1025)) (omega arith); place = refl }
+too_many worth = record { instances = down 1025; reached = all_reached 1025; distinct = distinct 1025; many = subst (λ n. 1024 < n) (sym (as_long 1025)) (omega arith); offset = refl }

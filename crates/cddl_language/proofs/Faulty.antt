@@ -10,7 +10,7 @@ use Rattle.cddl_language.specs.Prelude.{prelude}
 use Rattle.cddl_language.specs.Reach.{at_root, onward, at_name, instance}
 use Rattle.cddl_language.specs.Literals.{Values}
 use Rattle.cddl_language.specs.Free.{name, by_type, by_group, at_once, no_time, all_may, none_left, in_this, in_last, group_name}
-use Rattle.cddl_language.specs.Places.{in_body, in_argument, used, a_name}
+use Rattle.cddl_language.specs.Sites.{in_body, in_argument, used, a_name}
 use Rattle.cddl_language.specs.Faults as F
 use Rattle.cddl_language.specs.Faults.{IsFaultAt}
 use Rattle.cddl_language.specs.Texts as T
@@ -34,65 +34,65 @@ defined_twice worth = F.other_equals (1, omega arith, refl) refl refl (other_bod
 
 pub two_kinds : (worth : Values) → IsFaultAt T.type_and_group worth C.KindClash 8
 unfolding prelude
-two_kinds worth = record { rule = _; stands = (1, omega arith, refl); clash = λ e. false≢true (sym e); place = refl }
+two_kinds worth = record { rule = _; present = (1, omega arith, refl); clash = λ e. false≢true (sym e); offset = refl }
 
 pub undefined : (worth : Values) → IsFaultAt T.undefined worth C.Undefined 4
 unfolding prelude
-undefined worth = record { rule = _; ref = T.a_ref 4 (codes "b"); held = record { at = a_name false (T.a_ref 4 (codes "b")); held = record { rule = (0, omega arith, refl); place = (0, omega arith, refl) }; name = refl }; no_parameter = refl; no_socket = refl; no_definition = refl; place = refl }
+undefined worth = record { rule = _; ref = T.a_ref 4 (codes "b"); found = record { at = a_name false (T.a_ref 4 (codes "b")); found = record { rule = (0, omega arith, refl); site = (0, omega arith, refl) }; name = refl }; no_parameter = refl; no_socket = refl; no_definition = refl; offset = refl }
 
 pub with_argument : (worth : Values) → IsFaultAt T.with_argument worth C.Arity 4
 unfolding prelude
-with_argument worth = F.by_name {f = T.applied 4 (codes "s<") (T.name 6 (codes "int"))} (record { at = a_name false (T.applied 4 (codes "s<") (T.name 6 (codes "int"))); held = record { rule = (0, omega arith, refl); place = (0, omega arith, refl) }; name = refl }) refl refl (more_is_other 0 1 (omega arith)) refl
+with_argument worth = F.by_name {f = T.applied 4 (codes "s<") (T.name 6 (codes "int"))} (record { at = a_name false (T.applied 4 (codes "s<") (T.name 6 (codes "int"))); found = record { rule = (0, omega arith, refl); site = (0, omega arith, refl) }; name = refl }) refl refl (more_is_other 0 1 (omega arith)) refl
 
 pub no_rule : (worth : Values) → IsFaultAt T.empty worth C.NoRoot 0
 no_rule worth = F.no_rule refl refl
 
 pub group_root : (worth : Values) → IsFaultAt T.group_root worth C.BadRoot 0
 unfolding prelude
-group_root worth = record { root = codes "a"; rule = _; rooted = refl; first = refl; bad = inl refl; place = refl }
+group_root worth = record { root = codes "a"; rule = _; rooted = refl; first = refl; bad = inl refl; offset = refl }
 
 pub group_in_choice : (worth : Values) → IsFaultAt T.group_in_choice worth C.GroupAsType 4
 unfolding prelude
-group_in_choice worth = F.group_name (record { rule = (0, omega arith, refl); place = (0, omega arith, refl) }) refl refl
+group_in_choice worth = F.group_name (record { rule = (0, omega arith, refl); site = (0, omega arith, refl) }) refl refl
 
 pub choice_of_type : (worth : Values) → IsFaultAt T.choice_of_type worth C.GroupAsType 5
 unfolding prelude
-choice_of_type worth = F.type_name (record { rule = (0, omega arith, refl); place = (0, omega arith, refl) }) refl refl
+choice_of_type worth = F.type_name (record { rule = (0, omega arith, refl); site = (0, omega arith, refl) }) refl refl
 
 pub bare_tag : (worth : Values) → IsFaultAt T.bare_tag worth C.HashForm 4
 unfolding digit_value
-bare_tag worth = record { rule = _; token = T.token K.Hash 4 (codes "#6.32"); held = record { rule = (0, omega arith, refl); place = (0, omega arith, refl) }; bad = inl (less_is_other 6 7 (omega arith)); place = refl }
+bare_tag worth = record { rule = _; token = T.token K.Hash 4 (codes "#6.32"); found = record { rule = (0, omega arith, refl); site = (0, omega arith, refl) }; bad = inl (less_is_other 6 7 (omega arith)); offset = refl }
 
 pub with_regexp : (worth : Values) → IsFaultAt T.with_regexp worth C.UnknownControl 9
-with_regexp worth = record { rule = _; left = _; token = T.token K.Control 9 (codes ".regexp"); right = _; held = record { rule = (0, omega arith, refl); place = (0, omega arith, refl) }; unknown = refl; place = refl }
+with_regexp worth = record { rule = _; left = _; token = T.token K.Control 9 (codes ".regexp"); right = _; found = record { rule = (0, omega arith, refl); site = (0, omega arith, refl) }; unknown = refl; offset = refl }
 
 pub unwrapped_int : (worth : Values) → IsFaultAt T.unwrapped_int worth C.NotUnwrappable 5
 unfolding prelude
-unwrapped_int worth = F.opens_nothing (in_body (record { reached = at_root; named = refl; stands = (0, omega arith, refl) }) (1, omega arith, refl)) refl refl
+unwrapped_int worth = F.opens_nothing (in_body (record { reached = at_root; named = refl; present = (0, omega arith, refl) }) (1, omega arith, refl)) refl refl
 
 pub unwrapped_argument : (worth : Values) → IsFaultAt T.unwrapped_argument worth C.NotUnwrappable 6
 unfolding prelude
-unwrapped_argument worth = F.opens_nothing (in_argument (in_body (record { reached = at_root; named = refl; stands = (0, omega arith, refl) }) (0, omega arith, refl)) refl (used 0 refl refl (in_body (record { reached = onward at_root (0, omega arith, refl) refl; named = refl; stands = (1, omega arith, refl) }) (0, omega arith, refl)) refl refl refl) (0, omega arith, refl)) refl refl
+unwrapped_argument worth = F.opens_nothing (in_argument (in_body (record { reached = at_root; named = refl; present = (0, omega arith, refl) }) (0, omega arith, refl)) refl (used 0 refl refl (in_body (record { reached = onward at_root (0, omega arith, refl) refl; named = refl; present = (1, omega arith, refl) }) (0, omega arith, refl)) refl refl refl) (0, omega arith, refl)) refl refl
 
 pub choice_of_maybe : (worth : Values) → IsFaultAt T.choice_of_maybe worth C.NotUnwrappable 4
-choice_of_maybe worth = F.chooses_from_none (in_body (record { reached = at_root; named = refl; stands = (0, omega arith, refl) }) (0, omega arith, refl)) refl refl
+choice_of_maybe worth = F.chooses_from_none (in_body (record { reached = at_root; named = refl; present = (0, omega arith, refl) }) (0, omega arith, refl)) refl refl
 
 pub first_itself : (worth : Values) → IsFaultAt T.first_itself worth C.Recursion 0
 unfolding prelude
-first_itself worth = record { point = at_name (call (codes "t") no_terms); cycle = record { present = instance at_root; cycle = at_once (by_type refl (0, omega arith, refl) (name refl)) }; rule = _; first = refl; place = refl }
+first_itself worth = record { point = at_name (call (codes "t") no_terms); cycle = record { present = instance at_root; cycle = at_once (by_type refl (0, omega arith, refl) (name refl)) }; rule = _; first = refl; offset = refl }
 
 pub group_first_itself : (worth : Values) → IsFaultAt (T.two_rules T.r_of_g T.maybe_int_then_g) worth C.Recursion 8
 unfolding prelude
-group_first_itself worth = record { point = at_name (call (codes "g") no_terms); cycle = record { present = instance (onward at_root (0, omega arith, refl) refl); cycle = at_once (by_group refl (in_this (in_last (all_may none_left (no_time refl)) (group_name refl refl)))) }; rule = _; first = refl; place = refl }
+group_first_itself worth = record { point = at_name (call (codes "g") no_terms); cycle = record { present = instance (onward at_root (0, omega arith, refl) refl); cycle = at_once (by_group refl (in_this (in_last (all_may none_left (no_time refl)) (group_name refl refl)))) }; rule = _; first = refl; offset = refl }
 
 pub to_text : (worth : Values) → IsFaultAt T.to_text worth C.BadRange 7
 unfolding prelude
-to_text worth = F.last_end (in_body (record { reached = at_root; named = refl; stands = (0, omega arith, refl) }) (0, omega arith, refl)) refl refl refl
+to_text worth = F.last_end (in_body (record { reached = at_root; named = refl; present = (0, omega arith, refl) }) (0, omega arith, refl)) refl refl refl
 
 pub to_parameter : (worth : Values) → IsFaultAt T.to_parameter worth C.BadRange 22
 unfolding prelude
-to_parameter worth = F.last_end (in_body (record { reached = onward at_root (0, omega arith, refl) refl; named = refl; stands = (1, omega arith, refl) }) (0, omega arith, refl)) refl refl refl
+to_parameter worth = F.last_end (in_body (record { reached = onward at_root (0, omega arith, refl) refl; named = refl; present = (1, omega arith, refl) }) (0, omega arith, refl)) refl refl refl
 
 pub three_to_two : (worth : Values) → IsFaultAt T.three_to_two worth C.BadRange 5
 unfolding digit_value
-three_to_two worth = F.bounds (in_body (record { reached = at_root; named = refl; stands = (0, omega arith, refl) }) (0, omega arith, refl)) refl (omega arith) refl
+three_to_two worth = F.bounds (in_body (record { reached = at_root; named = refl; present = (0, omega arith, refl) }) (0, omega arith, refl)) refl (omega arith) refl

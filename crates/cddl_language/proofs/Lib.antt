@@ -1,6 +1,6 @@
 pub mod Accepted
 pub mod Basics
-pub mod Behind
+pub mod After
 pub mod Endless
 pub mod Faulty
 pub mod Further

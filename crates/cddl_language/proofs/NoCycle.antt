@@ -33,4 +33,4 @@ no_cycle s worth root p r accepted e c named cycle = accepted Recursion (name_at
     f = find (name_of (ref_at p)) (rules s) r c named
 
     fault : HasRecursion s root (name_at f.0)
-    fault = record { point = p; cycle = cycle; rule = f.0; first = f.1; place = refl }
+    fault = record { point = p; cycle = cycle; rule = f.0; first = f.1; offset = refl }

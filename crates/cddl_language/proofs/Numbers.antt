@@ -12,7 +12,7 @@ use Rattle.cddl_token.specs.Numbers.{IsBound, IsStar, IsHashNumber, IsTagNumberO
 use Rattle.cddl_meaning.specs.Forms.{at_most, any_number_of, exactly}
 use Rattle.cddl_language.proofs.Basics.{below_zero, beyond_one, beyond_two}
 use Rattle.cddl_language.specs.Terms.{Text}
-use Rattle.cddl_language.specs.Numbers.{before, behind, uint_in, is_byte, least_in, most_behind, most_in, number_or_any, tag_number, numbered, numbered_or_not, hash_form}
+use Rattle.cddl_language.specs.Numbers.{before, after, uint_in, is_byte, least_in, most_behind, most_in, number_or_any, tag_number, numbered, numbered_or_not, hash_form}
 
 -- Parts of a list.
 
@@ -91,10 +91,10 @@ before_first c [] k h e f = absurd (below_zero k h)
 before_first c (x ∷ xs) zero h e f = ap (λ b. if b then [] else x ∷ before c xs) (same_byte x c e)
 before_first c (x ∷ xs) (suc k) h e f = ap (λ b. if b then [] else x ∷ before c xs) (other_byte x c (f 0 (omega arith))) ∙ ap (λ r. x ∷ r) (before_first c xs k (omega arith) e (λ i g. f (suc i) (omega arith)))
 
-behind_first : (c : ℕ) (s : List ℕ) (k : ℕ) → k < length s → slice_index s k ≡ c → ((i : ℕ) → i < k → slice_index s i ≢ c) → behind c s ≡ drop (suc k) s
+behind_first : (c : ℕ) (s : List ℕ) (k : ℕ) → k < length s → slice_index s k ≡ c → ((i : ℕ) → i < k → slice_index s i ≢ c) → after c s ≡ drop (suc k) s
 behind_first c [] k h e f = absurd (below_zero k h)
-behind_first c (x ∷ xs) zero h e f = ap (λ b. if b then xs else behind c xs) (same_byte x c e)
-behind_first c (x ∷ xs) (suc k) h e f = ap (λ b. if b then xs else behind c xs) (other_byte x c (f 0 (omega arith))) ∙ behind_first c xs k (omega arith) e (λ i g. f (suc i) (omega arith))
+behind_first c (x ∷ xs) zero h e f = ap (λ b. if b then xs else after c xs) (same_byte x c e)
+behind_first c (x ∷ xs) (suc k) h e f = ap (λ b. if b then xs else after c xs) (other_byte x c (f 0 (omega arith))) ∙ behind_first c xs k (omega arith) e (λ i g. f (suc i) (omega arith))
 
 -- No `*` and no `(` stands in a uint.
 
@@ -150,7 +150,7 @@ rest_number s n h = ap uint_in (sym all) ∙ uint_part s 3 (length s) n (omega a
     all = take_all (length s - 3) (drop 3 s) (subst (λ k. k ≤ length s - 3) (sym (length-drop 3 s)) (omega arith))
 
 hash_of : (x d y : ℕ) (ds : List ℕ) (n : ℕ) → y ≡ 46 → (ds ≡ [] → ⊥) → uint_in ds ≡ n → hash_form (x ∷ d ∷ y ∷ ds) ≡ numbered (number_after 10 0 (d ∷ [])) n
-hash_of x d y ds n dot some e = ap (λ b. numbered_or_not (number_after 10 0 (d ∷ [])) (if b then ds else behind 46 ds)) (same_byte y 46 dot) ∙ some_number (number_after 10 0 (d ∷ [])) ds n some e
+hash_of x d y ds n dot some e = ap (λ b. numbered_or_not (number_after 10 0 (d ∷ [])) (if b then ds else after 46 ds)) (same_byte y 46 dot) ∙ some_number (number_after 10 0 (d ∷ [])) ds n some e
 
 pub hash_is : (s : List ℕ) (n : ℕ) → IsHashNumber s 0 (length s) n → hash_form s ≡ numbered (number_after 10 0 (slice_index s 1 ∷ [])) n
 hash_is [] n h = absurd (let k = uint_some [] 3 0 n h.number in omega arith)
@@ -203,20 +203,20 @@ module _ (s : List ℕ) (low high : ℕ) (h : IsStar s 0 (length s) low high) wh
   front : before 42 s ≡ slice_range s 0 h.star
   front = let all : h.star ≡ h.star - 0 = omega arith in before_first 42 s h.star within h.sign first ∙ ap (λ k. take k s) all
 
-  back : behind 42 s ≡ drop (suc h.star) s
+  back : after 42 s ≡ drop (suc h.star) s
   back = behind_first 42 s h.star within h.sign first
 
   pub least_is : least_in s ≡ low
   least_is = ap (λ b. if b then 0 else (if is_byte 43 s then 1 else uint_in (before 42 s))) no_question ∙ ap (λ b. if b then 1 else uint_in (before 42 s)) no_plus ∙ ap uint_in front ∙ bound_part s 0 h.star low (omega (arith, within)) h.before
 
-  by_rest : most_in s ≡ most_behind (behind 42 s)
-  by_rest = ap (λ b. if b then at_most 1 else (if is_byte 43 s then any_number_of else most_behind (behind 42 s))) no_question ∙ ap (λ b. if b then any_number_of else most_behind (behind 42 s)) no_plus
+  by_rest : most_in s ≡ most_behind (after 42 s)
+  by_rest = ap (λ b. if b then at_most 1 else (if is_byte 43 s then any_number_of else most_behind (after 42 s))) no_question ∙ ap (λ b. if b then any_number_of else most_behind (after 42 s)) no_plus
 
   pub no_most : h.star + 1 ≡ length s → most_in s ≡ any_number_of
   no_most end = by_rest ∙ ap most_behind (back ∙ drop_all (suc h.star) s (omega arith))
 
   pub most_is : h.star + 1 ≢ length s → most_in s ≡ at_most high
-  most_is more = by_rest ∙ at_most_of (behind 42 s) high (λ e. some (ap length (sym back ∙ e))) (ap uint_in (back ∙ ap (λ k. drop k s) (sym (add-one h.star)) ∙ sym all) ∙ bound_part s (h.star + 1) (length s) high (omega arith) h.after)
+  most_is more = by_rest ∙ at_most_of (after 42 s) high (λ e. some (ap length (sym back ∙ e))) (ap uint_in (back ∙ ap (λ k. drop k s) (sym (add-one h.star)) ∙ sym all) ∙ bound_part s (h.star + 1) (length s) high (omega arith) h.after)
     where
       some : length (drop (suc h.star) s) ≡ 0 → ⊥
       some e = let k = length-drop (suc h.star) s in let w = within in omega arith
@@ -242,7 +242,7 @@ module _ (s : List ℕ) (n : ℕ) (h : IsTagNumberOpen s 0 (length s) n) where
   no_dot (suc zero) less e = let x = h.tag in omega arith
   no_dot (suc (suc i)) less e = beyond_two i less
 
-  rest : behind 46 s ≡ drop 3 s
+  rest : after 46 s ≡ drop 3 s
   rest = let l = longer in let e = to_end in behind_first 46 s 2 (omega arith) h.number.dot no_dot
 
   there : (i : ℕ) → slice_index (drop 3 s) i ≡ slice_index s (3 + i)
@@ -258,7 +258,7 @@ module _ (s : List ℕ) (n : ℕ) (h : IsTagNumberOpen s 0 (length s) n) where
   digits = before_first 40 (drop 3 s) (h.paren - 3) (sign_within (drop 3 s) (h.paren - 3) 40 (omega arith) opening) opening no_opening
 
   pub tag_is : tag_number s {N = Text} ≡ exactly n
-  tag_is = exact (behind 46 s) n (λ e. some (ap length (sym rest ∙ e))) (ap (λ t. uint_in (before 40 t)) rest ∙ ap uint_in digits ∙ uint_part s 3 h.paren n (let e = to_end in omega arith) h.number.number)
+  tag_is = exact (after 46 s) n (λ e. some (ap length (sym rest ∙ e))) (ap (λ t. uint_in (before 40 t)) rest ∙ ap uint_in digits ∙ uint_part s 3 h.paren n (let e = to_end in omega arith) h.number.number)
     where
       some : length (drop 3 s) ≡ 0 → ⊥
       some e = let k = length-drop 3 s in let l = longer in let f = to_end in omega arith

@@ -31,13 +31,13 @@ same_number : (m n : ℕ) → m ≤ n → n ≤ m → n ≡ m
 same_number m n g h = omega arith
 
 pub one_code : (s : Specification) (worth : Values) (c d : Code) (p q : ℕ) → IsRefused s worth c p → IsRefused s worth d q → d ≡ c
-one_code s worth c d p q f g = sym (coded_number s worth d q g.stands) ∙ ap coded (same_number (number_of c) (number_of d) (f.lowest d q g.stands) (g.lowest c p f.stands)) ∙ coded_number s worth c p f.stands
+one_code s worth c d p q f g = sym (coded_number s worth d q g.present) ∙ ap coded (same_number (number_of c) (number_of d) (f.lowest d q g.present) (g.lowest c p f.present)) ∙ coded_number s worth c p f.present
 
-one_place : (s : Specification) (worth : Values) (c d : Code) (p q : ℕ) → c ≡ d → IsRefused s worth c p → IsRefused s worth d q → q ≡ p
-one_place s worth c d p q e f g = same_number p q (f.least q (subst (λ x. IsFaultAt s worth x q) (sym e) g.stands)) (g.least p (subst (λ x. IsFaultAt s worth x p) e f.stands))
+one_site : (s : Specification) (worth : Values) (c d : Code) (p q : ℕ) → c ≡ d → IsRefused s worth c p → IsRefused s worth d q → q ≡ p
+one_site s worth c d p q e f g = same_number p q (f.least q (subst (λ x. IsFaultAt s worth x q) (sym e) g.present)) (g.least p (subst (λ x. IsFaultAt s worth x p) e f.present))
 
 pub one_fault : (s : Specification) (worth : Values) (c d : Code) (p q : ℕ) → IsRefused s worth c p → IsRefused s worth d q → (d ≡ c) × (q ≡ p)
-one_fault s worth c d p q f g = let e : d ≡ c = one_code s worth c d p q f g in (e, one_place s worth c d p q (sym e) f g)
+one_fault s worth c d p q f g = let e : d ≡ c = one_code s worth c d p q f g in (e, one_site s worth c d p q (sym e) f g)
 
 pub apart : (s : Specification) (worth : Values) (c : Code) (p : ℕ) → IsAccepted s worth → IsRefused s worth c p → ⊥
-apart s worth c p accepted f = accepted c p f.stands
+apart s worth c p accepted f = accepted c p f.present

@@ -87,7 +87,7 @@ RightFor ls worth = (v : Literal) → HeldIn ls v → Means v (worth v)
 deeper : (l : S.Lexeme) (ls : List S.Lexeme) (v : Literal) → HeldIn ls v → HeldIn (l ∷ ls) v
 deeper l ls v (k, (i, h, e), w) = (k, (suc i, omega arith, e), w)
 
--- held in the rest, where not by the first
+-- found in the rest, where not by the first
 held_later : (l : S.Lexeme) (ls : List S.Lexeme) (v : Literal) → (written l.0 l.1 ≡ Some v → ⊥) → HeldIn (l ∷ ls) v → HeldIn ls v
 held_later l ls v other (k, (zero, h, e), w) = absurd (other (ap (λ z. written z.0 z.1) e ∙ w))
 held_later l ls v other (k, (suc i, h, e), w) = (k, (i, omega arith, e), w)

@@ -17,7 +17,7 @@ use Rattle.cddl_language.specs.Reach.{Reaches, Point, ref_at, most_instances}
 use Rattle.cddl_language.specs.Literals.{Values, whole_of}
 use Rattle.cddl_language.specs.Choices.{chosen, chosen_by_name}
 use Rattle.cddl_language.specs.Free.{IsOnCycle}
-use Rattle.cddl_language.specs.Places.{Place, a_name, an_unwrapping, a_choice_of, a_choice_of_name, a_hash, an_operation, an_entry, arguments, ref_token, ref_name, places, ref_at_place, is_parameter, IsReached}
+use Rattle.cddl_language.specs.Sites.{Site, a_name, an_unwrapping, a_choice_of, a_choice_of_name, a_hash, an_operation, an_entry, arguments, ref_token, ref_name, sites, ref_at_site, is_parameter, IsReached}
 
 -- a tree, and the name that was given as its root, if one was
 pub record Specification : Type 0 where
@@ -51,16 +51,16 @@ abbrev pub first_equals : List S.Rule → Text → Option S.Rule
 first_equals [] n = None
 first_equals (r ∷ rs) n = if is_same (name_in r) n && is_equals (sign_of r) then Some r else first_equals rs n
 
--- a place anywhere in the text, in the rule r
-pub record HasPlace (s : Specification) (r : S.Rule) (p : Place) : Type 0 where
+-- a site anywhere in the text, in the rule r
+pub record HasSite (s : Specification) (r : S.Rule) (p : Site) : Type 0 where
   pub rule : Contains (rules s) r
-  pub place : Contains (places r) p
+  pub site : Contains (sites r) p
 
--- a name anywhere in the text: by itself, behind `~` or behind `&`
+-- a name anywhere in the text: by itself, after `~` or after `&`
 pub record HasName (s : Specification) (r : S.Rule) (f : S.Ref) : Type 0 where
-  pub at : Place
-  pub held : HasPlace s r at
-  pub name : ref_at_place at ≡ Some f
+  pub at : Site
+  pub found : HasSite s r at
+  pub name : ref_at_site at ≡ Some f
 
 -- C1: a further `=` that says something else than the name's first one (section 2.2.2 has one for each name); or a
 -- parameter twice in one list.
@@ -71,19 +71,19 @@ pub data IsDuplicate (s : Specification) (at : ℕ) : Type 0 where
 -- C2: a definition of another kind than its name has (sections 2.2.2 and 3.9).
 pub record IsKindClash (s : Specification) (at : ℕ) : Type 0 where
   pub rule : S.Rule
-  pub stands : Contains (rules s) rule
+  pub present : Contains (rules s) rule
   pub clash : is_group_definition (definitions s) (definition_of rule) ≢ is_group (definitions s) (name_in rule)
-  pub place : at ≡ name_at rule
+  pub offset : at ≡ name_at rule
 
 -- C3: a name that nothing defines, and that is no parameter and no socket.
 pub record IsUndefined (s : Specification) (at : ℕ) : Type 0 where
   pub rule : S.Rule
   pub ref : S.Ref
-  pub held : HasName s rule ref
+  pub found : HasName s rule ref
   pub no_parameter : is_parameter rule (ref_name ref) ≡ false
   pub no_socket : is_socket (ref_name ref) ≡ false
   pub no_definition : definitions_of (definitions s) (ref_name ref) ≡ []
-  pub place : at ≡ (ref_token ref).start
+  pub offset : at ≡ (ref_token ref).start
 
 -- How many parameters a name has: none where it is the prelude's, else those of its first definition. A socket without a
 -- definition may have any number of arguments.
@@ -113,16 +113,16 @@ pub record HasBadRoot (s : Specification) (at : ℕ) : Type 0 where
   pub rooted : root_of s ≡ Some root
   pub first : first_rule (rules s) root ≡ Some rule
   pub bad : (is_group (definitions s) root ≡ true) ⊎ (parameters_in rule ≢ [])
-  pub place : at ≡ name_at rule
+  pub offset : at ≡ name_at rule
 
 -- whether the reference names a group, in the rule r; a parameter is a type
 abbrev pub names_a_group : Specification → S.Rule → S.Ref → Bool
 names_a_group s r f = if is_parameter r (ref_name f) then false else is_group (definitions s) (ref_name f)
 
--- C7: the name of a group where a type is demanded; or that of a type behind `&`.
+-- C7: the name of a group where a type is demanded; or that of a type after `&`.
 pub data HasGroupAsType (s : Specification) (at : ℕ) : Type 0 where
-  group_name : {r : S.Rule} {f : S.Ref} → HasPlace s r (a_name true f) → names_a_group s r f ≡ true → at ≡ (ref_token f).start → HasGroupAsType s at
-  type_name : {r : S.Rule} {t : Token} {f : S.Ref} → HasPlace s r (a_choice_of_name t f) → names_a_group s r f ≡ false → at ≡ (ref_token f).start → HasGroupAsType s at
+  group_name : {r : S.Rule} {f : S.Ref} → HasSite s r (a_name true f) → names_a_group s r f ≡ true → at ≡ (ref_token f).start → HasGroupAsType s at
+  type_name : {r : S.Rule} {t : Token} {f : S.Ref} → HasSite s r (a_choice_of_name t f) → names_a_group s r f ≡ false → at ≡ (ref_token f).start → HasGroupAsType s at
 
 -- C8: `#8`, `#9`; `#d.n` with another d than 7; `#7.n` with 24, with 28 to 31, or over 255 (sections 2.2.3 and 3.6, RFC 8949
 -- section 3.3; left out are `#6.n` without content and `#0.n` to `#5.n`).
@@ -134,9 +134,9 @@ IsBadHash (N.numbered d n) = (d ≢ 7) ⊎ ((n ≡ 24) ⊎ (((27 < n) × (n < 32
 pub record HasBadHash (s : Specification) (at : ℕ) : Type 0 where
   pub rule : S.Rule
   pub token : Token
-  pub held : HasPlace s rule (a_hash token)
+  pub found : HasSite s rule (a_hash token)
   pub bad : IsBadHash (hash_form (text_of token))
-  pub place : at ≡ token.start
+  pub offset : at ≡ token.start
 
 -- C9: a control that is not known (section 3.8; RFC 9165).
 abbrev pub known_controls : List Text
@@ -147,9 +147,9 @@ pub record HasUnknownControl (s : Specification) (at : ℕ) : Type 0 where
   pub left : S.Type2
   pub token : Token
   pub right : S.Type2
-  pub held : HasPlace s rule (an_operation left (S.control token) right)
+  pub found : HasSite s rule (an_operation left (S.control token) right)
   pub unknown : is_in known_controls (control_name token) ≡ false
-  pub place : at ≡ token.start
+  pub offset : at ≡ token.start
 
 -- C10: more instances than may be: a limit of this program.
 pub record HasTooManyInstances (s : Specification) (root : Text) (at : ℕ) : Type 0 where
@@ -157,9 +157,9 @@ pub record HasTooManyInstances (s : Specification) (root : Text) (at : ℕ) : Ty
   pub reached : (r : Ref) → Contains instances r → Reaches (definitions s) root r
   pub distinct : AllPairs (λ (q r : Ref). q ≢ r) instances
   pub many : most_instances < length instances
-  pub place : at ≡ 0
+  pub offset : at ≡ 0
 
--- what a place in the rule r opens, where its instance has the arguments xs
+-- what a site in the rule r opens, where its instance has the arguments xs
 abbrev pub opened_there : Specification → S.Rule → List Term → S.Ref → Option Opened
 opened_there s r xs f = if is_parameter r (ref_name f) then None else opened (definitions s) (fill_ref (parameters_in r) xs (ref_of f))
 
@@ -177,7 +177,7 @@ pub record HasRecursion (s : Specification) (root : Text) (at : ℕ) : Type 0 wh
   pub cycle : IsOnCycle (definitions s) root point
   pub rule : S.Rule
   pub first : first_rule (rules s) (name_of (ref_at point)) ≡ Some rule
-  pub place : at ≡ name_at rule
+  pub offset : at ≡ name_at rule
 
 -- the offset of the first token of an operand
 abbrev pub first_at : List S.Lexeme → ℕ
@@ -187,7 +187,7 @@ first_at (l ∷ ls) = (l.1).start
 abbrev pub operand_at : S.Type2 → ℕ
 operand_at x = first_at (S.flat_type2 x)
 
--- the operand of a place in the rule r is no whole number, where its instance has the arguments xs
+-- the operand of a site in the rule r is no whole number, where its instance has the arguments xs
 abbrev pub IsNotWhole : Specification → Values → S.Rule → List Term → S.Type2 → Type 0
 IsNotWhole s worth r xs x = whole_of worth (definitions s) (fill (parameters_in r) xs (term_of2 x)) ≡ None
 
@@ -255,7 +255,7 @@ number_of _ = 0
 
 -- The fault that is told: of the lowest code that stands anywhere, the least offset.
 pub record IsRefused (s : Specification) (worth : Values) (code : Code) (at : ℕ) : Type 0 where
-  pub stands : IsFaultAt s worth code at
+  pub present : IsFaultAt s worth code at
   pub lowest : (d : Code) (p : ℕ) → IsFaultAt s worth d p → number_of code ≤ number_of d
   pub least : (p : ℕ) → IsFaultAt s worth code p → at ≤ p
 

@@ -7,7 +7,7 @@ pub mod Kinds
 pub mod Language
 pub mod Literals
 pub mod Numbers
-pub mod Places
+pub mod Sites
 pub mod Prelude
 pub mod Reach
 pub mod Reading

@@ -41,7 +41,7 @@ written K.Text t = Some (text (text_of t))
 written K.Bytes t = Some (bytes (text_of t))
 written _ t = None
 
--- Each leaf of the tree is a token as `tokens` answers it, of the kind that the grammar has at its place.
+-- Each leaf of the tree is a token as `tokens` answers it, of the kind that the grammar has for it.
 abbrev pub AreTokens : S.Cddl → Type 0
 AreTokens x = (l : S.Lexeme) → Contains (S.flat x) l → ((l.1).kind ≡ l.0) × IsAnswered l.1
 

@@ -3,7 +3,7 @@ use Rattle.std.specs.Prelude.{◌≡◌, ℕ, List, [], ◌∷◌, ◌++◌, fla
 use Rattle.cddl_language.specs.Terms.{Text, Term, literal, named, parens, map_of, array_of, unwrapped, choice_of, choice_of_name, tagged, tagged_by, simple_by, hash, range, control, or, Ref, call, no_terms, Group, sole, orelse, Entries, no_entries, entries, Entry, typed, keyed, grouped, Key, of_type, bareword, of_value, Body, of_types, of_entry, Definition}
 use Rattle.cddl_language.specs.Substitution.{bodies}
 
--- A name by itself, behind `~` and behind `&` are three references.
+-- A name by itself, after `~` and after `&` are three references.
 pub data Point : Type 0 where
   at_name : Ref → Point
   at_unwrapping : Ref → Point

@@ -12,7 +12,7 @@ text_of t = t.text.now
 abbrev pub opened_name : Token → Text
 opened_name t = but_last (text_of t)
 
--- the name of a control, behind `.`
+-- the name of a control, after `.`
 abbrev pub control_name : Token → Text
 control_name t = but_first (text_of t)
 
@@ -29,7 +29,7 @@ operation x (S.range t) y = range x true y
 operation x (S.range_below t) y = range x false y
 operation x (S.control t) y = control x (control_name t) y
 
--- the terms and one more behind them
+-- the terms and one more after them
 abbrev pub followed : Terms → Term → Terms
 followed no_terms u = term u no_terms
 followed (term t ts) u = term t (followed ts u)

@@ -41,7 +41,7 @@ mutual
     sole : Entries → Group
     orelse : Group → Entries → Group
 
-  -- the entries of one alternative, each with a comma behind it or not
+  -- the entries of one alternative, each with a comma after it or not
   pub data Entries : Type 0 where
     no_entries : Entries
     entries : Entries → Entry → (comma : Bool) → Entries

@@ -69,7 +69,7 @@ pub fn unwrapping()
     ensures hidden_name { opened (E.generic (codes "p") (codes "m") (plain (codes "m")) ∷ E.some_names) (E.of_int (codes "p")) ≡ None }
 {}
 
-/// Bodies of closed references, and the references in them. An argument behind `~` is used.
+/// Bodies of closed references, and the references in them. An argument after `~` is used.
 pub fn bodies()
     ensures filled { type_choices E.generics (E.of_int (codes "q")) ≡ E.array_with (typed None E.int) ∷ [] }
     ensures passed_on { points_in E.generics (E.of_int (codes "r")) ≡ at_name (E.of_int (codes "q")) ∷ [] }
