@@ -10,7 +10,7 @@ use Rattle.cddl_ranks.specs.Size.{size, values_size, pairs_size}
 joined_len : (m : ℕ) (cs : List Chunk) → length (joined cs) ≤ length (chunks_bytes m cs)
 joined_len m [] = omega arith
 joined_len m (c ∷ cs) =
-    omega (arith, length-append c.held (joined cs), length-append (chunk_bytes m c) (chunks_bytes m cs), length-append (head_in c.size m (length c.held)) c.held, joined_len m cs)
+    omega (arith, length-append c.content (joined cs), length-append (chunk_bytes m c) (chunks_bytes m cs), length-append (head_in c.size m (length c.content)) c.content, joined_len m cs)
 
 mutual
   form_size : (f : Form) → size (meaning f) ≤ length (flat f)
