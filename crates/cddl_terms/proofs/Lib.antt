@@ -1,0 +1,4 @@
+pub mod Adding
+pub mod Equal
+pub mod Holding
+pub mod Inverse

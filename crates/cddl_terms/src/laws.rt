@@ -1,0 +1,33 @@
+ghost use Rattle.std.specs.Prelude.{◌≡◌, ◌↔◌, ℕ, Option, Some};
+ghost use Rattle.cddl_terms.specs.declared.row.Row.{Row};
+ghost use Rattle.cddl_language.specs.Terms.{Text, Term, Ref, Terms as TermList, Group, Entries, Entry, Key};
+ghost use Rattle.cddl_terms.specs.Table.{AddsRow, AddsText, Holds, IsTable, Table, Tree};
+ghost use Rattle.cddl_terms.specs.Trees.{IsTerm, IsRef, IsTerms, IsGroup, IsEntries, IsEntry, IsKey};
+
+use crate::terms::Terms;
+
+/// A number stands for one tree at most.
+pub fn one_tree()
+    ensures { (t : Table) (n : Option ℕ) (x y : Tree) → Holds t n x → Holds t n y → x ≡ y }
+{}
+
+/// What a number stands for stays when a row or a text is added.
+pub fn adding_keeps()
+    ensures row { (old new : Table) (r : Row) → AddsRow old r new → (n : Option ℕ) (x : Tree) → Holds old n x → Holds new n x }
+    ensures text { (old new : Table) (s : Text) → AddsText old s new → (n : Option ℕ) (x : Tree) → Holds old n x → Holds new n x }
+{}
+
+/// Numbers of one table are equal exactly where what they stand for is equal.
+pub fn equal_numbers(terms: &Terms)
+    ensures table { IsTable terms.now }
+    ensures tree { (n m : Option ℕ) (x : Tree) → Holds terms.now n x → Holds terms.now m x → n ≡ m }
+    ensures term { (n m : ℕ) (a b : Term) → IsTerm terms.now n a → IsTerm terms.now m b → (n ≡ m) ↔ (a ≡ b) }
+    ensures reference { (n m : ℕ) (a b : Ref) → IsRef terms.now n a → IsRef terms.now m b → (n ≡ m) ↔ (a ≡ b) }
+    ensures arguments { (n m : ℕ) (a b : TermList) → IsTerms terms.now n a → IsTerms terms.now m b → (n ≡ m) ↔ (a ≡ b) }
+    ensures group { (n m : ℕ) (a b : Group) → IsGroup terms.now n a → IsGroup terms.now m b → (n ≡ m) ↔ (a ≡ b) }
+    ensures entries { (n m : ℕ) (a b : Entries) → IsEntries terms.now n a → IsEntries terms.now m b → (n ≡ m) ↔ (a ≡ b) }
+    ensures entry { (n m : ℕ) (a b : Entry) → IsEntry terms.now n a → IsEntry terms.now m b → (n ≡ m) ↔ (a ≡ b) }
+    ensures key { (n m : ℕ) (a b : Key) → IsKey terms.now n a → IsKey terms.now m b → (n ≡ m) ↔ (a ≡ b) }
+{
+    terms.len();
+}

@@ -1,0 +1,109 @@
+ghost use Rattle.std.specs.Prelude.{◌≡◌, IfOk, Some, [], slice_get, length, option_map};
+ghost use Rattle.cddl_terms.specs.Table.{Adds, AddsRow, AddsText, AreDistinct, HasParts, IsTable, texts_in};
+
+use crate::row::Row;
+use indexmap::IndexSet;
+use std::alloc::Global;
+use std::marker::Model;
+
+/// There is no room: memory was refused, or each number of 32 bits is taken.
+#[derive(Clone, Copy, Debug)]
+pub struct NoRoom;
+
+/// A table of rows and texts, each with a number. No two are equal, and the parts of a row stand before it.
+#[derive(Drop)]
+pub struct Terms<'s> {
+    texts: IndexSet<&'s str>,
+    rows: IndexSet<Row>,
+}
+
+impl<'s> Model for Terms<'s> {
+    ghost use Rattle.cddl_terms.specs.Table.{Table, IsTable, texts_in};
+
+    ghost Value = { Table };
+
+    ghost view = { λ t. record { texts = texts_in t.texts.keys; rows = t.rows.keys } };
+
+    ghost invariant = { λ t. IsTable (record { texts = texts_in t.texts.keys; rows = t.rows.keys }) };
+}
+
+impl<'s> Terms<'s> {
+    /// No row and no text. Nothing is allocated until the first is added.
+    pub fn new(alloc: Global) -> Self
+        ensures { result ≡ record { texts = []; rows = [] } }
+    {
+        Terms {
+            texts: IndexSet::new(alloc),
+            rows: IndexSet::new(alloc),
+        }
+    }
+
+    /// The number of the text, which is added if it isn't there. It costs a hash of the text.
+    pub fn add_text(&mut self, text: &'s str) -> Result<u32, NoRoom>
+        ensures there { IfOk result (λ n. slice_get self.new.texts n ≡ Some text.now) }
+        ensures adds { AddsText self.old text.now self.new }
+    {
+        insert_text(&mut self.texts, text)
+    }
+
+    /// The number of the row, which is added if it isn't there. It costs a hash of the row, whatever its parts stand for.
+    pub fn add(&mut self, row: Row) -> Result<u32, NoRoom>
+        requires parts { HasParts self.old row }
+        ensures there { IfOk result (λ n. slice_get self.new.rows n ≡ Some row) }
+        ensures adds { AddsRow self.old row self.new }
+    {
+        insert_row(&mut self.rows, row)
+    }
+
+    /// The number of rows.
+    pub fn len(&self) -> usize
+        ensures value { result ≡ length self.now.rows }
+        ensures table { IsTable self.now }
+    {
+        self.rows.len()
+    }
+
+    /// The row of the number.
+    pub fn row(&self, number: u32) -> Option<Row>
+        ensures { result ≡ slice_get self.now.rows number }
+    {
+        self.rows.get_index(number as usize).copied()
+    }
+
+    /// The text of the number.
+    pub fn text(&self, number: u32) -> Option<&'s str>
+        ensures { option_map (λ t. t.now) result ≡ slice_get self.now.texts number }
+    {
+        self.texts.get_index(number as usize).copied()
+    }
+}
+
+fn insert_text<'s>(texts: &mut IndexSet<&'s str>, text: &'s str) -> Result<u32, NoRoom>
+    ensures there { IfOk result (λ n. slice_get (texts_in texts.new.keys) n ≡ Some text.now) }
+    ensures adds { Adds (texts_in texts.old.keys) text.now (texts_in texts.new.keys) }
+    ensures distinct { AreDistinct (texts_in texts.old.keys) → AreDistinct (texts_in texts.new.keys) }
+{
+    let index = match texts.insert_full(text) {
+        Ok((index, _)) => index,
+        Err(_) => return Err(NoRoom),
+    };
+    if index > u32::MAX as usize {
+        return Err(NoRoom);
+    }
+    Ok(index as u32)
+}
+
+fn insert_row(rows: &mut IndexSet<Row>, row: Row) -> Result<u32, NoRoom>
+    ensures there { IfOk result (λ n. slice_get rows.new.keys n ≡ Some row) }
+    ensures adds { Adds rows.old.keys row rows.new.keys }
+    ensures distinct { AreDistinct rows.old.keys → AreDistinct rows.new.keys }
+{
+    let index = match rows.insert_full(row) {
+        Ok((index, _)) => index,
+        Err(_) => return Err(NoRoom),
+    };
+    if index > u32::MAX as usize {
+        return Err(NoRoom);
+    }
+    Ok(index as u32)
+}
