@@ -1,8 +1,11 @@
 -- A number stands for one tree, a tree for one number, and further rows change neither.
-use Rattle.std.proofs.Common.{◌≡◌, ℕ, List, [], ◌∷◌, ◌↔◌, inl, inr, Option, Some, refl, sym, ap, subst, ◌∙◌, slice_get}
+use Rattle.std.proofs.Common.{◌≡◌, ℕ, zero, suc, ◌<◌, ◌≤◌, List, [], ◌∷◌, ◌↔◌, ◌⊎◌, inl, inr, Option, None, Some, IfSome, get_or, length, refl, sym, ap, subst, ◌∙◌, slice_get, arith}
+use Rattle.std.specs.Prelude.{Result, Ok, Err, IfOk}
+use Rattle.std.proofs.lemmas.Option.{slice_get_within, slice_get_cases, slice_get-get_or}
+use borrow.Author.Count.{below_more}
 use Rattle.cddl_language.specs.Terms.{Text}
 use Rattle.cddl_terms.specs.declared.row.Row.{Row}
-use Rattle.cddl_terms.specs.Table.{Table, IsTable, AreDistinct, Adds, AddsRow, AddsText, Tree, node, HoldsText, no_text, some_text, Holds, no_part, part}
+use Rattle.cddl_terms.specs.Table.{Table, IsTable, AreDistinct, Adds, AddsRow, AddsText, Tree, nothing, node, HoldsText, no_text, some_text, Holds, no_part, part}
 use Rattle.cddl_terms.proofs.Adding.{get-before}
 
 pub one_text : (xs : List Text) (n : Option ℕ) (x y : Option Text) → HoldsText xs n x → HoldsText xs n y → x ≡ y
@@ -52,6 +55,47 @@ still_row old new r adds n x d = still old new (λ m y e. subst (λ xs. HoldsTex
 
 pub still_with_text : (old new : Table) (s : Text) → AddsText old s new → (n : Option ℕ) (x : Tree) → Holds old n x → Holds new n x
 still_with_text old new s adds n x d = still old new (still_text old.texts new.texts s adds.1) (λ m y e. subst (λ xs. slice_get xs m ≡ Some y) (sym adds.0) e) n x d
+
+-- what a row stands for, from what its parts stood for before it was added
+pub stands : (old new : Table) (r : Row) → AddsRow old r new → (n : ℕ) → slice_get new.rows n ≡ Some r → (x : Option Text) (a b : Tree) → HoldsText old.texts r.text x → Holds old r.first a → Holds old r.second b → Holds new (Some n) (node r.form x a b)
+stands old new r adds n there x a b d e f = part there (subst (λ xs. HoldsText xs r.text x) (sym adds.0) d) (still_row old new r adds r.first a e) (still_row old new r adds r.second b f)
+
+pub ok_then : {A E : Type 0} (r : Result A E) (P Q : A → Type 0) → ((x : A) → P x → Q x) → IfOk r P → IfOk r Q
+ok_then (Ok x) P Q f p = f x p
+ok_then (Err e) P Q f p = p
+
+pub within : (t : Table) (n : ℕ) (x : Tree) → Holds t (Some n) x → n < length t.rows
+within t n x (part e d a b) = slice_get_within t.rows n _ e
+
+-- each row stands for a tree, since its parts are rows before it
+module _ (t : Table) (is : IsTable t) where
+  text_stands : (m : Option ℕ) → IfSome m (λ n. n < length t.texts) → (x : Option Text) × HoldsText t.texts m x
+  text_stands None p = (None, no_text)
+  text_stands (Some n) p = (Some (get_or t.texts n []), some_text (slice_get-get_or t.texts n [] p))
+
+  part_stands : (k : ℕ) → ((n : ℕ) → n < k → (x : Tree) × Holds t (Some n) x) → (m : Option ℕ) → IfSome m (λ n. n < k) → (x : Tree) × Holds t m x
+  part_stands k before None p = (nothing, no_part)
+  part_stands k before (Some n) p = before n p
+
+  row_stands : (k : ℕ) → ((n : ℕ) → n < k → (x : Tree) × Holds t (Some n) x) → k < length t.rows → (x : Tree) × Holds t (Some k) x
+  row_stands k before h = by (slice_get_cases t.rows k).1
+    where
+      by : ((r : Row) × (k < length t.rows) × (slice_get t.rows k ≡ Some r) × (get_or t.rows k r ≡ r)) ⊎ ((length t.rows ≤ k) × (slice_get t.rows k ≡ None)) → (x : Tree) × Holds t (Some k) x
+      by (inr q) = absurd (omega (arith, q.0, h))
+      by (inl q) =
+          let r = q.0 in
+          let below = is.earlier k r q.2 in
+          let x = text_stands r.text below.0 in
+          let a = part_stands k before r.first below.1 in
+          let b = part_stands k before r.second below.2 in
+          (node r.form x.0 a.0 b.0, part q.2 x.1 a.1 b.1)
+
+  rows_below : (k : ℕ) → k ≤ length t.rows → (n : ℕ) → n < k → (x : Tree) × Holds t (Some n) x
+  rows_below zero h = λ n p. absurd (omega (arith, p))
+  rows_below (suc k) h = λ n p. below_more (λ m. (x : Tree) × Holds t (Some m) x) k (rows_below k (omega (arith, h))) (row_stands k (rows_below k (omega (arith, h))) (omega (arith, h))) n (omega (arith, p))
+
+  pub each_stands : (n : ℕ) → n < length t.rows → (x : Tree) × Holds t (Some n) x
+  each_stands = rows_below (length t.rows) (omega arith)
 
 -- where a tree tells what it was made of, equal numbers are equal things
 module _ {A : Type 0} (tree : A → Tree) (from : Tree → A) (back : (x : A) → from (tree x) ≡ x) where

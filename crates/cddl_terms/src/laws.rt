@@ -1,4 +1,4 @@
-ghost use Rattle.std.specs.Prelude.{◌≡◌, ◌↔◌, ℕ, Option, Some};
+ghost use Rattle.std.specs.Prelude.{◌≡◌, ◌<◌, ◌↔◌, ℕ, Option, Some, length};
 ghost use Rattle.cddl_terms.specs.declared.row.Row.{Row};
 ghost use Rattle.cddl_language.specs.Terms.{Text, Term, Ref, Terms as TermList, Group, Entries, Entry, Key};
 ghost use Rattle.cddl_terms.specs.Table.{AddsRow, AddsText, Holds, IsTable, Table, Tree};
@@ -10,6 +10,14 @@ use crate::terms::Terms;
 pub fn one_tree()
     ensures { (t : Table) (n : Option ℕ) (x y : Tree) → Holds t n x → Holds t n y → x ≡ y }
 {}
+
+/// Each row of a table stands for a tree, and only rows do.
+pub fn rows_stand(terms: &Terms)
+    ensures some { (n : ℕ) → n < length terms.now.rows → (x : Tree) × Holds terms.now (Some n) x }
+    ensures within { (n : ℕ) (x : Tree) → Holds terms.now (Some n) x → n < length terms.now.rows }
+{
+    terms.len();
+}
 
 /// What a number stands for stays when a row or a text is added.
 pub fn adding_keeps()

@@ -1,5 +1,6 @@
-ghost use Rattle.std.specs.Prelude.{◌≡◌, IfOk, Some, [], slice_get, length, option_map};
-ghost use Rattle.cddl_terms.specs.Table.{Adds, AddsRow, AddsText, AreDistinct, HasParts, IsTable, texts_in};
+ghost use Rattle.std.specs.Prelude.{◌≡◌, IfOk, Some, [], slice_get, length, option_map, Option};
+ghost use Rattle.cddl_language.specs.Terms.{Text};
+ghost use Rattle.cddl_terms.specs.Table.{Adds, AddsRow, AddsText, AreDistinct, HasParts, Holds, HoldsText, IsTable, Tree, node, texts_in};
 
 use crate::row::Row;
 use indexmap::IndexSet;
@@ -51,6 +52,7 @@ impl<'s> Terms<'s> {
         requires parts { HasParts self.old row }
         ensures there { IfOk result (λ n. slice_get self.new.rows n ≡ Some row) }
         ensures adds { AddsRow self.old row self.new }
+        ensures stands { IfOk result (λ n. (x : Option Text) (a b : Tree) → HoldsText self.old.texts row.text x → Holds self.old row.first a → Holds self.old row.second b → Holds self.new (Some n) (node row.form x a b)) }
     {
         insert_row(&mut self.rows, row)
     }
