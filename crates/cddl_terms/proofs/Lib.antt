@@ -1,4 +1,5 @@
 pub mod Adding
 pub mod Equal
+pub mod Filling
 pub mod Holding
 pub mod Inverse

@@ -1,8 +1,10 @@
-ghost use Rattle.std.specs.Prelude.{◌≡◌, ◌<◌, ◌↔◌, ℕ, Option, Some, length};
+ghost use Rattle.std.specs.Prelude.{◌≡◌, ◌<◌, ◌↔◌, ℕ, List, Option, Some, length};
 ghost use Rattle.cddl_terms.specs.declared.row.Row.{Row};
 ghost use Rattle.cddl_language.specs.Terms.{Text, Term, Ref, Terms as TermList, Group, Entries, Entry, Key};
+ghost use Rattle.cddl_language.specs.Substitution.{fill, fill_ref, fill_all, fill_group, fill_entries, fill_entry, fill_key};
+ghost use Rattle.cddl_terms.specs.Filled.{filled, term_trees};
 ghost use Rattle.cddl_terms.specs.Table.{AddsRow, AddsText, Holds, IsTable, Table, Tree};
-ghost use Rattle.cddl_terms.specs.Trees.{IsTerm, IsRef, IsTerms, IsGroup, IsEntries, IsEntry, IsKey};
+ghost use Rattle.cddl_terms.specs.Trees.{IsTerm, IsRef, IsTerms, IsGroup, IsEntries, IsEntry, IsKey, term_tree, ref_tree, terms_tree, group_tree, entries_tree, entry_tree, key_tree};
 
 use crate::terms::Terms;
 
@@ -39,3 +41,14 @@ pub fn equal_numbers(terms: &Terms)
 {
     terms.len();
 }
+
+/// To put arguments in the place of parameters in a tree is to put them in what the tree is of.
+pub fn filled_trees()
+    ensures term { (ps : List Text) (xs : List Term) (t : Term) → filled ps (term_trees xs) (term_tree t) ≡ term_tree (fill ps xs t) }
+    ensures reference { (ps : List Text) (xs : List Term) (r : Ref) → filled ps (term_trees xs) (ref_tree r) ≡ ref_tree (fill_ref ps xs r) }
+    ensures arguments { (ps : List Text) (xs : List Term) (ts : TermList) → filled ps (term_trees xs) (terms_tree ts) ≡ terms_tree (fill_all ps xs ts) }
+    ensures group { (ps : List Text) (xs : List Term) (g : Group) → filled ps (term_trees xs) (group_tree g) ≡ group_tree (fill_group ps xs g) }
+    ensures entries { (ps : List Text) (xs : List Term) (es : Entries) → filled ps (term_trees xs) (entries_tree es) ≡ entries_tree (fill_entries ps xs es) }
+    ensures entry { (ps : List Text) (xs : List Term) (e : Entry) → filled ps (term_trees xs) (entry_tree e) ≡ entry_tree (fill_entry ps xs e) }
+    ensures key { (ps : List Text) (xs : List Term) (k : Key) → filled ps (term_trees xs) (key_tree k) ≡ key_tree (fill_key ps xs k) }
+{}
