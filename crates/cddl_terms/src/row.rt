@@ -41,7 +41,7 @@ pub enum Form {
     Call,
     /// No further arguments.
     NoTerms,
-    /// An argument, and the arguments behind it.
+    /// An argument, and the arguments after it.
     Argument,
     /// A group of one alternative.
     Sole,
@@ -51,7 +51,7 @@ pub enum Form {
     NoEntries,
     /// Entries, and a further one without a comma.
     Entries,
-    /// Entries, and a further one with a comma behind it.
+    /// Entries, and a further one with a comma after it.
     EntriesComma,
     /// A type without a key, with its occurrence if it has one.
     Typed,
