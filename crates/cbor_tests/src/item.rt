@@ -1,4 +1,4 @@
-use crate::rows::{boxed, bytes_of, expect_text, item_of_bytes, item_of_row, told_of};
+use crate::rows::{bytes_of, expect_text, item_of_bytes, item_of_row, new_box, told_of};
 use cbor_item::{Counted, Item, Sound, Unsound, Width, WriteFault, diag, write_bytes, write_item};
 use std::alloc::{AllocError, Global};
 use std::io;
@@ -106,7 +106,7 @@ fn array_of(alloc: Global, members: &[Form]) -> Result<Box<Item>, AllocError> {
     for member in members {
         items.push(Box::into_inner(item_of(alloc, member)?))?;
     }
-    boxed(alloc, Item::Array(items))
+    new_box(alloc, Item::Array(items))
 }
 
 #[cycle(items)]
@@ -117,24 +117,24 @@ fn map_of(alloc: Global, members: &[(Form, Form)]) -> Result<Box<Item>, AllocErr
         let value = item_of(alloc, value)?;
         pairs.push((Box::into_inner(key), Box::into_inner(value)))?;
     }
-    boxed(alloc, Item::Map(pairs))
+    new_box(alloc, Item::Map(pairs))
 }
 
 #[cycle(items)]
 fn item_of(alloc: Global, form: &Form) -> Result<Box<Item>, AllocError> {
     match form {
-        Form::Uint(n) => boxed(alloc, Item::Uint(*n)),
-        Form::Nint(n) => boxed(alloc, Item::Nint(*n)),
-        Form::Bytes(bytes) => boxed(alloc, Item::Bytes(Vec::from_slice(alloc, *bytes)?)),
-        Form::Text(text) => boxed(alloc, Item::Text(String::from_str(alloc, *text)?)),
+        Form::Uint(n) => new_box(alloc, Item::Uint(*n)),
+        Form::Nint(n) => new_box(alloc, Item::Nint(*n)),
+        Form::Bytes(bytes) => new_box(alloc, Item::Bytes(Vec::from_slice(alloc, *bytes)?)),
+        Form::Text(text) => new_box(alloc, Item::Text(String::from_str(alloc, *text)?)),
         Form::Array(members) => array_of(alloc, *members),
         Form::Map(members) => map_of(alloc, *members),
         Form::Tag(number, content) => {
             let content = item_of(alloc, *content)?;
-            boxed(alloc, Item::Tag(*number, content))
+            new_box(alloc, Item::Tag(*number, content))
         }
-        Form::Simple(n) => boxed(alloc, Item::Simple(*n)),
-        Form::Float(width, bits) => boxed(alloc, Item::Float(*width, *bits)),
+        Form::Simple(n) => new_box(alloc, Item::Simple(*n)),
+        Form::Float(width, bits) => new_box(alloc, Item::Float(*width, *bits)),
     }
 }
 
@@ -408,7 +408,7 @@ fn judge_tagged(alloc: Global, inner: &Form, depth: u32) -> Result<(), Unsound> 
 fn put_in_tags(alloc: Global, inner: &Form, depth: u32) -> Result<Box<Item>, AllocError> {
     let mut item = item_of(alloc, inner)?;
     for _ in 0..depth {
-        item = boxed(alloc, Item::Tag(0, item))?;
+        item = new_box(alloc, Item::Tag(0, item))?;
     }
     Ok(item)
 }
@@ -444,7 +444,7 @@ fn thousand_keys(alloc: Global, last: u64) -> Result<Box<Item>, AllocError> {
         pairs.push((Item::Uint(key), Item::Uint(0)))?;
     }
     pairs.push((Item::Uint(last), Item::Uint(0)))?;
-    boxed(alloc, Item::Map(pairs))
+    new_box(alloc, Item::Map(pairs))
 }
 
 #[test]

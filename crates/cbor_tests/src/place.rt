@@ -1,5 +1,5 @@
 // Places of items, and the paths to them.
-use crate::rows::{boxed, expect_text, item_of_bytes};
+use crate::rows::{expect_text, item_of_bytes, new_box};
 use cbor_item::{Item, diag};
 use cbor_place::{item_at, path_text};
 use std::alloc::{AllocError, Global};
@@ -153,7 +153,7 @@ fn zeros(alloc: Global, count: usize) -> Result<Box<Item>, AllocError> {
     for _ in 0..count {
         zeros.push(Item::Uint(0))?;
     }
-    boxed(alloc, Item::Array(zeros))
+    new_box(alloc, Item::Array(zeros))
 }
 
 #[test]

@@ -159,21 +159,25 @@ impl Log {
 
 // What a reader answers, where its item is in the log.
 #[derive(Clone, Copy, PartialEq, Eq)]
-enum Step {
+enum FeedAnswer {
     More,
     Item(usize),
     Fault(usize, Fault),
 }
 
 // Feeds a piece once, and logs the item that it completes. Only here is an answer of the reader taken apart.
-fn feed_once(reader: &mut ItemReader, piece: &[u8], log: &mut Log) -> Result<Step, AllocError> {
+fn feed_once(
+    reader: &mut ItemReader,
+    piece: &[u8],
+    log: &mut Log,
+) -> Result<FeedAnswer, AllocError> {
     match reader.feed(piece) {
-        Ok(Fed::More) => Ok(Step::More),
+        Ok(Fed::More) => Ok(FeedAnswer::More),
         Ok(Fed::Item { used, item }) => match log.push_item(used, &item) {
-            Ok(()) => Ok(Step::Item(used)),
+            Ok(()) => Ok(FeedAnswer::Item(used)),
             Err(error) => Err(error),
         },
-        Ok(Fed::Fault { used, fault }) => Ok(Step::Fault(used, fault)),
+        Ok(Fed::Fault { used, fault }) => Ok(FeedAnswer::Fault(used, fault)),
         Err(error) => Err(error),
     }
 }
@@ -183,12 +187,12 @@ fn feed_all(reader: &mut ItemReader, piece: &[u8], log: &mut Log) -> Result<bool
     let mut rest = piece;
     for _ in 0..=piece.len() {
         match feed_once(reader, rest, log)? {
-            Step::More => {
+            FeedAnswer::More => {
                 log.skip(rest.len());
                 return Ok(true);
             }
-            Step::Item(used) => rest = rest.get(used..).unwrap_or(&[]),
-            Step::Fault(_, fault) => {
+            FeedAnswer::Item(used) => rest = rest.get(used..).unwrap_or(&[]),
+            FeedAnswer::Fault(_, fault) => {
                 log.push_fault(fault)?;
                 return Ok(false);
             }
@@ -219,14 +223,14 @@ fn by_pieces(alloc: Global, limits: Limits, pieces: &[&[u8]]) -> Result<Vec<u8>,
 }
 
 // The same step by the plain reader: `More` where nothing is left.
-fn log_front(limits: Limits, rest: &[u8], log: &mut Log) -> Result<Step, AllocError> {
+fn log_front(limits: Limits, rest: &[u8], log: &mut Log) -> Result<FeedAnswer, AllocError> {
     match read_front(log.alloc, limits, log.offset, rest) {
-        Ok(Front::Nothing) => Ok(Step::More),
+        Ok(Front::Nothing) => Ok(FeedAnswer::More),
         Ok(Front::Item { length, item }) => match log.push_item(length, &item) {
-            Ok(()) => Ok(Step::Item(length)),
+            Ok(()) => Ok(FeedAnswer::Item(length)),
             Err(error) => Err(error),
         },
-        Ok(Front::Fault(fault)) => Ok(Step::Fault(0, fault)),
+        Ok(Front::Fault(fault)) => Ok(FeedAnswer::Fault(0, fault)),
         Err(error) => Err(error),
     }
 }
@@ -237,12 +241,12 @@ fn by_fronts(alloc: Global, limits: Limits, stream: &[u8]) -> Result<Vec<u8>, Al
     let mut rest = stream;
     for _ in 0..=stream.len() {
         match log_front(limits, rest, &mut log)? {
-            Step::More => {
+            FeedAnswer::More => {
                 log.push_clean()?;
                 break;
             }
-            Step::Item(used) => rest = rest.get(used..).unwrap_or(&[]),
-            Step::Fault(_, fault) => {
+            FeedAnswer::Item(used) => rest = rest.get(used..).unwrap_or(&[]),
+            FeedAnswer::Fault(_, fault) => {
                 log.push_fault(fault)?;
                 break;
             }
@@ -356,7 +360,7 @@ fn reads_made_up_streams_as_the_plain_reader_does(rt: HostRuntime) -> Result<(),
 }
 
 // What a reader answers to a piece.
-fn step_of(alloc: Global, reader: &mut ItemReader, piece: &[u8]) -> Result<Step, AllocError> {
+fn step_of(alloc: Global, reader: &mut ItemReader, piece: &[u8]) -> Result<FeedAnswer, AllocError> {
     feed_once(reader, piece, &mut Log::new(alloc))
 }
 
@@ -409,8 +413,8 @@ static PIECES: [(&[u8], usize, u64, FaultKind); 7] = [
 // Whether the fault is told at its piece, when the piece is fed again, and at the end.
 fn tellings(alloc: Global, limits: Limits, piece: &[u8], used: usize, told: Fault) -> [bool; 3] {
     let mut reader = ItemReader::new(alloc, limits);
-    let at_once = step_of(alloc, &mut reader, piece) == Ok(Step::Fault(used, told));
-    let again = step_of(alloc, &mut reader, piece) == Ok(Step::Fault(0, told));
+    let at_once = step_of(alloc, &mut reader, piece) == Ok(FeedAnswer::Fault(used, told));
+    let again = step_of(alloc, &mut reader, piece) == Ok(FeedAnswer::Fault(0, told));
     [at_once, again, reader.at_end() == Err(Stop::Fault(told))]
 }
 
@@ -441,10 +445,10 @@ fn reads_256_containers_and_no_more(rt: HostRuntime) -> Result<(), Fail> {
     };
     let deepest = nested_arrays(alloc, 256)?;
     let step = step_of(alloc, &mut ItemReader::new(alloc, limits), &deepest);
-    assert!(rt; step == Ok(Step::Item(257)));
+    assert!(rt; step == Ok(FeedAnswer::Item(257)));
     let deeper = nested_arrays(alloc, 257)?;
     let step = step_of(alloc, &mut ItemReader::new(alloc, limits), &deeper);
-    assert!(rt; step == Ok(Step::Fault(256, told)));
+    assert!(rt; step == Ok(FeedAnswer::Fault(256, told)));
     Ok(())
 }
 
@@ -480,9 +484,9 @@ fn items_of(
     let mut rest = piece;
     for _ in 0..=piece.len() {
         match step_of(alloc, reader, rest)? {
-            Step::More => break,
-            Step::Item(used) => rest = rest.get(used..).unwrap_or(&[]),
-            Step::Fault(..) => panic!(rt; "a fault is told"),
+            FeedAnswer::More => break,
+            FeedAnswer::Item(used) => rest = rest.get(used..).unwrap_or(&[]),
+            FeedAnswer::Fault(..) => panic!(rt; "a fault is told"),
         }
         items = items.saturating_add(1);
     }

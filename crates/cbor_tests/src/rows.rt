@@ -40,7 +40,7 @@ pub(crate) fn byte_by_byte<'b>(
 }
 
 // The item in a box: each step of a proof has the types of a function's locals, up to a box.
-pub(crate) fn boxed(alloc: Global, item: Item) -> Result<Box<Item>, AllocError> {
+pub(crate) fn new_box(alloc: Global, item: Item) -> Result<Box<Item>, AllocError> {
     Ok(Box::new(alloc, item)?)
 }
 

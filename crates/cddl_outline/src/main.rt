@@ -18,7 +18,7 @@ use std::io;
 use std::io::Read;
 
 /// A text without the zero byte after it.
-fn unended(text: &[u8]) -> &[u8] {
+fn without_end(text: &[u8]) -> &[u8] {
     match text.split_last() {
         Some((0, front)) => front,
         _ => text,
@@ -100,7 +100,7 @@ fn main(rt: HostRuntime) -> anyhow::Result<()> {
     let mut source = Vec::new(rt.alloc());
     rt.stdin().read_to_end(&mut source)?;
     for text in source.as_slice().split_inclusive(|byte| *byte == 0) {
-        print_line(&rt, unended(text))?;
+        print_line(&rt, without_end(text))?;
     }
     Ok(())
 }

@@ -137,7 +137,7 @@ impl<'t> Sketch<'t> {
                 closing,
             } => {
                 self.word("type");
-                self.enclosed(*opening, types, *closing);
+                self.bracketed_type(*opening, types, *closing);
             }
             Type2::MapOf {
                 opening,
@@ -148,7 +148,7 @@ impl<'t> Sketch<'t> {
                 opening,
                 group,
                 closing,
-            } => self.grouped(*opening, group, *closing),
+            } => self.bracketed_group(*opening, group, *closing),
             Type2::Unwrapped {
                 tilde: prefix,
                 name,
@@ -156,7 +156,7 @@ impl<'t> Sketch<'t> {
             | Type2::ChoiceOfName {
                 ampersand: prefix,
                 name,
-            } => self.prefixed(*prefix, name),
+            } => self.prefix_and_name(*prefix, name),
             Type2::ChoiceOf {
                 ampersand,
                 opening,
@@ -164,7 +164,7 @@ impl<'t> Sketch<'t> {
                 closing,
             } => {
                 self.token(*ampersand);
-                self.grouped(*opening, group, *closing);
+                self.bracketed_group(*opening, group, *closing);
             }
             Type2::Tagged {
                 opening,
@@ -175,7 +175,7 @@ impl<'t> Sketch<'t> {
                 opening,
                 head: types,
                 closing,
-            } => { self.enclosed(*opening, types, *closing) }
+            } => { self.bracketed_type(*opening, types, *closing) }
             Type2::TaggedBy {
                 opening,
                 head,
@@ -184,8 +184,8 @@ impl<'t> Sketch<'t> {
                 types,
                 closing,
             } => {
-                self.enclosed(*opening, head, *angle);
-                self.enclosed(*paren, types, *closing);
+                self.bracketed_type(*opening, head, *angle);
+                self.bracketed_type(*paren, types, *closing);
             }
             Type2::Hash(token) => self.leaf("Hash", *token),
         }
@@ -223,20 +223,20 @@ impl<'t> Sketch<'t> {
         }
     }
 
-    fn prefixed(&mut self, prefix: Leaf, name: &'t Ref) {
+    fn prefix_and_name(&mut self, prefix: Leaf, name: &'t Ref) {
         self.token(prefix);
         self.reference(name);
     }
 
     /// A type in brackets.
-    fn enclosed(&mut self, opening: Leaf, types: &'t Box<Types>, closing: Leaf) {
+    fn bracketed_type(&mut self, opening: Leaf, types: &'t Box<Types>, closing: Leaf) {
         self.token(opening);
         self.types(types);
         self.token(closing);
     }
 
     /// A group in brackets.
-    fn grouped(&mut self, opening: Leaf, group: &'t Group, closing: Leaf) {
+    fn bracketed_group(&mut self, opening: Leaf, group: &'t Group, closing: Leaf) {
         self.token(opening);
         self.group(group);
         self.token(closing);
@@ -291,7 +291,7 @@ impl<'t> Sketch<'t> {
             } => {
                 self.optional(*occur);
                 self.word("group");
-                self.grouped(*opening, group, *closing);
+                self.bracketed_group(*opening, group, *closing);
             }
         }
     }

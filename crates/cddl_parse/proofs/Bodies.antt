@@ -194,8 +194,8 @@ body_begun read rs old new f h w e g i = ap (made M.want) (i ∙ ap (λ (b : Bel
     here : below read rs new ≡ above read rs nowhere f
     here = popped read rs new old f g ∙ ap (λ (b : Below). above read rs b f) (bottom read rs old e)
 
-pub ended : (read : Leaf → Token) (start : ℕ) (i : Kind) (t : Token) (r : Result (Box State Global) Stop) (old new : S.Rules) (x : S.Rule) (m : M.State) → new ≡ S.rules old x → m ≡ M.next_rule (S.rules old x) i t → GivesState read start r (M.next_rule new i t) → GivesState read start r m
-ended read start i t r old new x m e f h = rw (f, ← e) h
+pub rule_ends : (read : Leaf → Token) (start : ℕ) (i : Kind) (t : Token) (r : Result (Box State Global) Stop) (old new : S.Rules) (x : S.Rule) (m : M.State) → new ≡ S.rules old x → m ≡ M.next_rule (S.rules old x) i t → GivesState read start r (M.next_rule new i t) → GivesState read start r m
+rule_ends read start i t r old new x m e f h = rw (f, ← e) h
 
 -- Within the rules.
 

@@ -9,8 +9,8 @@ ghost use Rattle.cddl_parse.specs.Frames.{on, view_group_opening, bracketed, is_
 
 use crate::build::{content_of, unexpected};
 use crate::frames::{AtType2, Content, Current, GroupOpening, Home, Next, Stop};
-use crate::memory::boxed;
-use crate::positions::{got, have_group, type_at};
+use crate::memory::new_box;
+use crate::positions::{have_group, have_type2, type_at};
 use cddl_token::Kind;
 use cddl_tree::{Group, GrpEnt, Leaf, Type2};
 use std::alloc::Global;
@@ -27,7 +27,7 @@ pub(crate) fn shut_within(
     ensures { (read : Leaf → Token) (rs : S.Rules) (b : Below) → on (view_at_type2 read b at) (λ k. Gives read token rs b result (M.shut_group (M.within k (view_group_opening read opening)) (view_group read group) token.kind (read token.leaf))) }
 {
     if closes(opening, token.kind) {
-        got(alloc, at, in_brackets(opening, group, token.leaf))
+        have_type2(alloc, at, in_brackets(opening, group, token.leaf))
     } else {
         drop(at);
         drop(group);
@@ -84,7 +84,7 @@ pub(crate) fn shut_entry(
     let closing = token.leaf;
     match content_of(group) {
         Ok(content) => match content {
-            Content::Type(types) => match boxed(alloc, types) {
+            Content::Type(types) => match new_box(alloc, types) {
                 Ok(types) => match type_at(alloc, Home::Start(occur)) {
                     Ok(at) => {
                         let type2 = Type2::Parens {
@@ -92,7 +92,7 @@ pub(crate) fn shut_entry(
                             types,
                             closing,
                         };
-                        got(alloc, at, type2)
+                        have_type2(alloc, at, type2)
                     }
                     Err(_) => {
                         drop(types);

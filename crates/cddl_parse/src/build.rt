@@ -8,7 +8,7 @@ ghost use Rattle.cddl_tree.specs.View.{leaf, view_grpent, view_ref, view_type1, 
 ghost use Rattle.cddl_parse.specs.Frames.{view_alternatives, view_arguments, view_parameters, view_prefix, view_entries, IsChoice, IsKeyOf, IsContent};
 
 use crate::frames::{Alternatives, Arguments, Content, Current, Parameters, Prefix, Stop};
-use crate::memory::pushed;
+use crate::memory::push_last;
 use cddl_tree::{
     Entry, Further, GenericArg, GenericParm, Group, GrpChoice, GrpEnt, Leaf, MemberKey, Parameter,
     Ref, Type1, Type2, Types,
@@ -38,7 +38,7 @@ pub(crate) fn more_types(types: Box<Types>, slash: Leaf, type1: Box<Type1>) -> R
 {
     let Types { first, mut others } = Box::into_inner(types);
     let type1 = Box::into_inner(type1);
-    match pushed(&mut others, Further { sign: slash, type1 }) {
+    match push_last(&mut others, Further { sign: slash, type1 }) {
         Ok(()) => Ok(Types { first, others }),
         Err(error) => {
             drop(error);
@@ -65,7 +65,7 @@ pub(crate) fn group_of(
         Some(before) => {
             let Alternatives { group, slashes } = before;
             let Group { first, mut others } = group;
-            match pushed(&mut others, GrpChoice { slashes, entries }) {
+            match push_last(&mut others, GrpChoice { slashes, entries }) {
                 Ok(()) => Ok(Group { first, others }),
                 Err(error) => {
                     drop(error);
@@ -95,7 +95,7 @@ pub(crate) fn arg_of(
         Some(before) => {
             let Arguments { arguments, comma } = before;
             let GenericArg { first, mut others } = Box::into_inner(arguments);
-            match pushed(&mut others, Further { sign: comma, type1 }) {
+            match push_last(&mut others, Further { sign: comma, type1 }) {
                 Ok(()) => Ok(GenericArg { first, others }),
                 Err(error) => {
                     drop(error);
@@ -124,7 +124,7 @@ pub(crate) fn parm_of(
         Some(before) => {
             let Parameters { parameters, comma } = before;
             let GenericParm { first, mut others } = parameters;
-            match pushed(&mut others, Parameter { comma, name }) {
+            match push_last(&mut others, Parameter { comma, name }) {
                 Ok(()) => Ok(GenericParm { first, others }),
                 Err(error) => {
                     drop(error);
@@ -137,7 +137,7 @@ pub(crate) fn parm_of(
 }
 
 /// A reference and what stands directly before it.
-pub(crate) fn prefixed(prefix: Prefix, name: Ref) -> Type2
+pub(crate) fn type2_of(prefix: Prefix, name: Ref) -> Type2
     ensures { (read : Leaf → Token) → view_type2 read result ≡ M.prefixed (view_prefix read prefix) (view_ref read name) }
 {
     match prefix {
@@ -288,7 +288,7 @@ fn whole(
     ensures { MatchResult result (λ x. (read : Leaf → Token) → IsContent read x (S.sole (S.entries (view_entries read first.items) (view_grpent read grpent) (leaf read comma)))) (λ e. e ≡ Stop.Memory) }
 {
     let mut first = first;
-    match pushed(&mut first, Entry { grpent, comma }) {
+    match push_last(&mut first, Entry { grpent, comma }) {
         Ok(()) => Ok(Content::Group(Group { first, others })),
         Err(error) => {
             drop(error);

@@ -9,9 +9,9 @@ ghost use Rattle.cddl_parse.specs.Frames.{on, view_alternatives, view_entries, a
 
 use crate::build::{lone_type, unexpected};
 use crate::frames::{Alternatives, Current, Frame, Home, Next, Stop};
-use crate::memory::pushed;
+use crate::memory::push_last;
 use crate::open::open_member;
-use crate::positions::{ended, type_at};
+use crate::positions::{rule_ends, type_at};
 use crate::want::step_want;
 use cddl_token::Kind;
 use cddl_tree::{AssignG, AssignT, Entry, GrpEnt, Leaf, Rule, RuleName};
@@ -33,7 +33,7 @@ pub(crate) fn after_entry(
             Err(unexpected(token))
         }
         Some(frame) => match frame {
-            Frame::GroupBody(name, assign) => ended(alloc, rule_of(name, assign, grpent)),
+            Frame::GroupBody(name, assign) => rule_ends(alloc, rule_of(name, assign, grpent)),
             Frame::Member(before, entries) => {
                 after_member(alloc, frames, before, entries, grpent, token)
             }
@@ -94,7 +94,7 @@ fn after_member(
             }
         },
         _ => match with_entry(entries, grpent, None) {
-            Ok(entries) => match pushed(frames, Frame::Member(before, entries)) {
+            Ok(entries) => match push_last(frames, Frame::Member(before, entries)) {
                 Ok(()) => match type_at(alloc, Home::Start(None)) {
                     Ok(at) => step_want(alloc, frames, at, token),
                     Err(_) => Err(Stop::Memory),
@@ -119,7 +119,7 @@ fn with_entry(entries: Vec<Entry>, grpent: GrpEnt, comma: Option<Leaf>) -> Resul
     ensures { IfOk result (λ es. (read : Leaf → Token) → view_entries read es.items ≡ S.entries (view_entries read entries.items) (view_grpent read grpent) (leaf read comma)) }
 {
     let mut entries = entries;
-    match pushed(&mut entries, Entry { grpent, comma }) {
+    match push_last(&mut entries, Entry { grpent, comma }) {
         Ok(()) => Ok(entries),
         Err(error) => {
             drop(error);

@@ -9,14 +9,14 @@ ghost use Rattle.cddl_tree.specs.View.{leaf, view_operator, view_type1, view_arg
 ghost use Rattle.cddl_parse.specs.Frames.{on, view_type_opening, as_types, as_entry, as_reference, view_home, view_at_type1, view_at_type2, below, Gives, Below};
 ghost use Rattle.cddl_parse.specs.Kinds.{IsNoOperator, IsOperatorOf};
 
-use crate::build::{arg_of, more_types, one_type, prefixed, simple_key, sole_type1, unexpected};
+use crate::build::{arg_of, more_types, one_type, simple_key, sole_type1, type2_of, unexpected};
 use crate::entry::after_entry;
 use crate::frames::{
     AtType1, AtType2, Before, Current, Frame, Home, Left, Next, Stop, TypeOpening,
 };
-use crate::memory::boxed;
+use crate::memory::new_box;
 use crate::positions::{
-    ended, got, next_argument, next_choice, value_at, want, want_arrow, want_content,
+    have_type2, next_argument, next_choice, rule_ends, value_at, want, want_arrow, want_content,
 };
 use cddl_token::Kind;
 use cddl_tree::{
@@ -36,7 +36,7 @@ pub(crate) fn step_have(
     ensures { (read : Leaf → Token) (rs : S.Rules) → on (view_at_type1 read (below read rs frames.old.items) at.value) (λ k. Gives read token rs (below read rs frames.new.items) result (M.step_have k (view_type1 read type1.value) token.kind (read token.leaf))) }
 {
     match operator_of(token) {
-        Some(operator) => operated(alloc, at, type1, operator, token),
+        Some(operator) => want_operand(alloc, at, type1, operator, token),
         None => match token.kind {
             Kind::Slash => slash(alloc, at, type1, token),
             _ => after_type1(alloc, frames, at, type1, token),
@@ -59,7 +59,7 @@ fn operator_of(token: Current) -> Option<Operator>
 
 /// An operator after a type1, which has to be one operand.
 #[tactic(none)]
-fn operated(
+fn want_operand(
     alloc: Global,
     at: Box<AtType1>,
     type1: Box<Type1>,
@@ -69,7 +69,7 @@ fn operated(
     ensures { (read : Leaf → Token) (rs : S.Rules) (b : Below) → on (view_at_type1 read b at.value) (λ k. Gives read token rs b result (M.operated k (view_type1 read type1.value) (view_operator read operator))) }
 {
     match Box::into_inner(type1) {
-        Type1::One(type2) => match boxed(alloc, Left { type2, operator }) {
+        Type1::One(type2) => match new_box(alloc, Left { type2, operator }) {
             Ok(left) => {
                 let left = Some(left);
                 want(alloc, AtType2 { at, left })
@@ -186,14 +186,14 @@ fn shut_arguments(
             Err(unexpected(token))
         }
         Some(frame) => match frame {
-            Frame::Reference(at, prefix, opening) => match boxed(alloc, arguments) {
+            Frame::Reference(at, prefix, opening) => match new_box(alloc, arguments) {
                 Ok(arguments) => {
                     let reference = Ref::Applied {
                         opening,
                         arguments,
                         closing,
                     };
-                    got(alloc, at, prefixed(prefix, reference))
+                    have_type2(alloc, at, type2_of(prefix, reference))
                 }
                 Err(error) => {
                     drop(error);
@@ -248,7 +248,7 @@ fn after_inside(
         Some(frame) => match frame {
             Frame::TypeBody(name, assign) => {
                 let assign = AssignT::TypeOr(assign);
-                ended(
+                rule_ends(
                     alloc,
                     Rule::TypeRule {
                         name,
@@ -278,7 +278,7 @@ fn shut_types(
 ) -> Result<Next, Stop>
     ensures { (read : Leaf → Token) (rs : S.Rules) (b : Below) → on (view_at_type2 read b at) (λ k. Gives read token rs b result (M.shut_types k (view_type_opening read opening) (view_types read types) token.kind (read token.leaf))) }
 {
-    match boxed(alloc, types) {
+    match new_box(alloc, types) {
         Ok(types) => match token.kind {
             Kind::ParenClose => shut_parens(alloc, at, opening, types, token),
             Kind::AngleClose => shut_angles(alloc, at, opening, types, token),
@@ -311,7 +311,7 @@ fn shut_parens(
 {
     let closing = token.leaf;
     match opening {
-        TypeOpening::Paren(opening) => got(
+        TypeOpening::Paren(opening) => have_type2(
             alloc,
             at,
             Type2::Parens {
@@ -320,7 +320,7 @@ fn shut_parens(
                 closing,
             },
         ),
-        TypeOpening::Tag(opening) => got(
+        TypeOpening::Tag(opening) => have_type2(
             alloc,
             at,
             Type2::Tagged {
@@ -329,7 +329,7 @@ fn shut_parens(
                 closing,
             },
         ),
-        TypeOpening::TagContent(opening, head, angle, paren) => got(
+        TypeOpening::TagContent(opening, head, angle, paren) => have_type2(
             alloc,
             at,
             Type2::TaggedBy {
@@ -363,7 +363,7 @@ fn shut_angles(
 {
     match opening {
         TypeOpening::TagHead(opening) => want_content(alloc, at, opening, types, token.leaf),
-        TypeOpening::SimpleHead(opening) => got(
+        TypeOpening::SimpleHead(opening) => have_type2(
             alloc,
             at,
             Type2::SimpleBy {

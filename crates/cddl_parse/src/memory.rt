@@ -4,7 +4,7 @@ ghost use Rattle.std.specs.Prelude.{◌≡◌, [], ◌∷◌, ◌++◌, IfOk};
 use std::alloc::{AllocError, Global};
 
 /// The value in a box.
-pub(crate) fn boxed<T: Drop>(alloc: Global, value: T) -> Result<Box<T>, AllocError>
+pub(crate) fn new_box<T: Drop>(alloc: Global, value: T) -> Result<Box<T>, AllocError>
     ensures ok { IfOk result (λ b. b.value ≡ value) }
 {
     match Box::new(alloc, value) {
@@ -18,7 +18,7 @@ pub(crate) fn boxed<T: Drop>(alloc: Global, value: T) -> Result<Box<T>, AllocErr
 
 /// Puts the value after the others. There is room for one at first, since most lists of a tree
 /// have one part or none, and then for a quarter as many again.
-pub(crate) fn pushed<T: Drop>(list: &mut Vec<T>, value: T) -> Result<(), AllocError>
+pub(crate) fn push_last<T: Drop>(list: &mut Vec<T>, value: T) -> Result<(), AllocError>
     ensures items { IfOk result (λ _. list.new.items ≡ list.old.items ++ value ∷ []) }
 {
     let count = list.len();

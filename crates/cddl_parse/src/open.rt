@@ -13,7 +13,7 @@ use crate::frames::{
     Alternatives, AtType1, AtType2, Before, Current, Frame, GroupOpening, Home, Next, Prefix, Stop,
     TypeOpening,
 };
-use crate::memory::pushed;
+use crate::memory::push_last;
 use crate::positions::{open_argument, open_type};
 use cddl_tree::{Entry, Leaf};
 use std::alloc::Global;
@@ -28,7 +28,7 @@ pub(crate) fn open_inside(
 ) -> Result<Next, Stop>
     ensures { (read : Leaf → Token) (t : Current) (rs : S.Rules) → on (view_at_type2 read (below read rs frames.old.items) at) (λ k. Gives read t rs (below read rs frames.new.items) result (M.open_types (M.inside k (view_type_opening read opening)))) }
 {
-    match pushed(frames, Frame::Types(at, opening)) {
+    match push_last(frames, Frame::Types(at, opening)) {
         Ok(()) => open_type(alloc, Home::Inside),
         Err(error) => {
             drop(error);
@@ -48,7 +48,7 @@ pub(crate) fn open_reference(
 ) -> Result<Next, Stop>
     ensures { (read : Leaf → Token) (t : Current) (rs : S.Rules) → on (view_at_type2 read (below read rs frames.old.items) at) (λ k. Gives read t rs (below read rs frames.new.items) result (M.open_argument k (view_prefix read prefix) (read opening) M.no_arg)) }
 {
-    match pushed(frames, Frame::Reference(at, prefix, opening)) {
+    match push_last(frames, Frame::Reference(at, prefix, opening)) {
         Ok(()) => open_argument(alloc, None),
         Err(error) => {
             drop(error);
@@ -67,7 +67,7 @@ pub(crate) fn open_member(
 ) -> Result<Next, Stop>
     ensures { (read : Leaf → Token) (t : Current) (rs : S.Rules) → on (as_group (below read rs frames.old.items)) (λ k. Gives read t rs (below read rs frames.new.items) result (M.open_entry (M.member k (view_alternatives read before) (view_entries read entries.items)))) }
 {
-    match pushed(frames, Frame::Member(before, entries)) {
+    match push_last(frames, Frame::Member(before, entries)) {
         Ok(()) => open_type(alloc, Home::Start(None)),
         Err(error) => {
             drop(error);
@@ -86,7 +86,7 @@ pub(crate) fn open_group(
 ) -> Result<Next, Stop>
     ensures { (read : Leaf → Token) (t : Current) (rs : S.Rules) → on (view_at_type2 read (below read rs frames.old.items) at) (λ k. Gives read t rs (below read rs frames.new.items) result (M.open_group (M.within k (view_group_opening read opening)))) }
 {
-    match pushed(frames, Frame::Group(at, opening)) {
+    match push_last(frames, Frame::Group(at, opening)) {
         Ok(()) => open_member(alloc, frames, None, Vec::new(alloc)),
         Err(error) => {
             drop(error);
@@ -105,7 +105,7 @@ fn open_entry(
 ) -> Result<Next, Stop>
     ensures { (read : Leaf → Token) (t : Current) (rs : S.Rules) → on (as_entry (below read rs frames.old.items)) (λ p. Gives read t rs (below read rs frames.new.items) result (M.open_group (M.in_entry p (leaf read occur) (read opening)))) }
 {
-    match pushed(frames, Frame::Entry(occur, opening)) {
+    match push_last(frames, Frame::Entry(occur, opening)) {
         Ok(()) => open_member(alloc, frames, None, Vec::new(alloc)),
         Err(error) => {
             drop(error);

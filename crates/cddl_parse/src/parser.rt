@@ -10,7 +10,7 @@ ghost use Rattle.cddl_tree.specs.View.{view};
 ghost use Rattle.cddl_parse.specs.States.{rules_in, refusal_of, IsRead, EndsInEnd, Refuses, Stands, Advances};
 
 use crate::frames::{Current, Stop};
-use crate::rules::{boxed_state, step};
+use crate::rules::{new_state, step};
 use crate::state::{Progress, State};
 use cddl_syntax::{goes_on, is_balanced, is_stuck, makes_trees, one_answer, one_tree, some_answer};
 use cddl_token::{Code, Kind, Refusal, Token};
@@ -21,7 +21,7 @@ use std::alloc::Global;
 pub const NESTING_LIMIT: usize = 128;
 
 /// How many are open after a token, of `count` before it.
-fn opened(kind: Kind, count: usize) -> usize
+fn count_after(kind: Kind, count: usize) -> usize
     requires { count < 129 }
     ensures { result ≡ opened_after kind count }
 {
@@ -51,7 +51,7 @@ fn advance(alloc: Global, progress: Progress, token: Current) -> Result<Progress
     let Progress { state, count } = progress;
     match step(alloc, state, token) {
         Ok(state) => {
-            let count = opened(token.kind, count);
+            let count = count_after(token.kind, count);
             if count > NESTING_LIMIT {
                 drop(state);
                 return Err(Refusal::At(Code::TooNested, token.start));
@@ -74,7 +74,7 @@ fn refusal(stop: Stop) -> Refusal
 
 /// The rules, after the last token.
 #[tactic(none)]
-fn finished(state: Box<State>) -> Option<Vec<Rule>>
+fn rules_of(state: Box<State>) -> Option<Vec<Rule>>
     ensures { result ≡ rules_in state.value }
 {
     match Box::into_inner(state) {
@@ -123,7 +123,7 @@ pub fn parse<'s>(alloc: Global, tokens: &'s [Token<'s>]) -> Result<Tree<'s>, Ref
     let Some(end) = tokens.last() else {
         unreachable!()
     };
-    let state = match boxed_state(alloc, State::Begin) {
+    let state = match new_state(alloc, State::Begin) {
         Ok(state) => state,
         Err(_) => return Err(Refusal::Memory),
     };
@@ -146,7 +146,7 @@ pub fn parse<'s>(alloc: Global, tokens: &'s [Token<'s>]) -> Result<Tree<'s>, Ref
         };
     }
     let Progress { state, count: _ } = progress;
-    match finished(state) {
+    match rules_of(state) {
         Some(rules) => Ok(Tree { tokens, rules, end }),
         None => unreachable!(),
     }

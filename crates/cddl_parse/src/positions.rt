@@ -10,7 +10,7 @@ ghost use Rattle.cddl_tree.specs.View.{leaf, view_grpent, view_key, view_type1, 
 ghost use Rattle.cddl_parse.specs.Frames.{on, made, view_now, view_prefix, view_arguments, joined_to, as_entry, as_reference, view_home, as_argument, view_at_type1, view_at_type2, Gives, Below};
 
 use crate::frames::{Arguments, AtType1, AtType2, Before, Home, Left, Next, Now, Prefix, Stop};
-use crate::memory::boxed;
+use crate::memory::new_box;
 use cddl_tree::{GenericArg, GrpEnt, Leaf, MemberKey, Rule, Type1, Type2, Types};
 use std::alloc::Global;
 
@@ -20,7 +20,7 @@ pub(crate) fn type_at(alloc: Global, home: Home) -> Result<AtType2, Stop>
     ensures { MatchResult result (λ at. (read : Leaf → Token) → (b : Below) → view_at_type2 read b at ≡ made (λ k. M.lower (M.head k)) (view_home read b home)) (λ e. e ≡ Stop.Memory) }
 {
     let before = Before::Nothing;
-    match boxed(alloc, AtType1 { home, before }) {
+    match new_box(alloc, AtType1 { home, before }) {
         Ok(at) => Ok(AtType2 { at, left: None }),
         Err(error) => {
             drop(error);
@@ -31,10 +31,10 @@ pub(crate) fn type_at(alloc: Global, home: Home) -> Result<AtType2, Stop>
 
 /// A position where a type2 is awaited.
 #[tactic(none)]
-fn awaited(alloc: Global, at: AtType2) -> Result<Box<Now>, Stop>
+fn now_wants(alloc: Global, at: AtType2) -> Result<Box<Now>, Stop>
     ensures { MatchResult result (λ now. (read : Leaf → Token) → (b : Below) → view_now read b now.value ≡ made M.want (view_at_type2 read b at)) (λ e. e ≡ Stop.Memory) }
 {
-    match boxed(alloc, Now::Want(at)) {
+    match new_box(alloc, Now::Want(at)) {
         Ok(now) => Ok(now),
         Err(error) => {
             drop(error);
@@ -45,11 +45,11 @@ fn awaited(alloc: Global, at: AtType2) -> Result<Box<Now>, Stop>
 
 /// A position where a type is awaited.
 #[tactic(none)]
-pub(crate) fn awaited_type(alloc: Global, home: Home) -> Result<Box<Now>, Stop>
+pub(crate) fn now_wants_type(alloc: Global, home: Home) -> Result<Box<Now>, Stop>
     ensures { MatchResult result (λ now. (read : Leaf → Token) → (b : Below) → view_now read b now.value ≡ made M.want (made (λ k. M.lower (M.head k)) (view_home read b home))) (λ e. e ≡ Stop.Memory) }
 {
     match type_at(alloc, home) {
-        Ok(at) => awaited(alloc, at),
+        Ok(at) => now_wants(alloc, at),
         Err(_) => Err(Stop::Memory),
     }
 }
@@ -59,7 +59,7 @@ pub(crate) fn awaited_type(alloc: Global, home: Home) -> Result<Box<Now>, Stop>
 pub(crate) fn want(alloc: Global, at: AtType2) -> Result<Next, Stop>
     ensures { (read : Leaf → Token) (t : Current) (rs : S.Rules) (b : Below) → on (view_at_type2 read b at) (λ k. Gives read t rs b result (M.want k)) }
 {
-    match awaited(alloc, at) {
+    match now_wants(alloc, at) {
         Ok(now) => Ok(Next::Within(now)),
         Err(_) => Err(Stop::Memory),
     }
@@ -83,7 +83,7 @@ pub(crate) fn open_argument(alloc: Global, before: Option<Arguments>) -> Result<
 {
     let home = Home::Inside;
     let before = Before::Arguments(before);
-    match boxed(alloc, AtType1 { home, before }) {
+    match new_box(alloc, AtType1 { home, before }) {
         Ok(at) => want(alloc, AtType2 { at, left: None }),
         Err(error) => {
             drop(error);
@@ -97,7 +97,7 @@ pub(crate) fn open_argument(alloc: Global, before: Option<Arguments>) -> Result<
 pub(crate) fn want_ref(alloc: Global, at: AtType2, prefix: Prefix) -> Result<Next, Stop>
     ensures { (read : Leaf → Token) (t : Current) (rs : S.Rules) (b : Below) → on (view_at_type2 read b at) (λ k. Gives read t rs b result (M.want_ref k (view_prefix read prefix))) }
 {
-    match boxed(alloc, Now::WantRef(at, prefix)) {
+    match new_box(alloc, Now::WantRef(at, prefix)) {
         Ok(now) => Ok(Next::Within(now)),
         Err(error) => {
             drop(error);
@@ -117,7 +117,7 @@ pub(crate) fn want_content(
 ) -> Result<Next, Stop>
     ensures { (read : Leaf → Token) (t : Current) (rs : S.Rules) (b : Below) → on (view_at_type2 read b at) (λ k. Gives read t rs b result (M.want_content k (read opening) (view_types read head.value) (read angle))) }
 {
-    match boxed(alloc, Now::WantContent(at, opening, head, angle)) {
+    match new_box(alloc, Now::WantContent(at, opening, head, angle)) {
         Ok(now) => Ok(Next::Within(now)),
         Err(error) => {
             drop(error);
@@ -131,8 +131,8 @@ pub(crate) fn want_content(
 fn have(alloc: Global, at: Box<AtType1>, type1: Type1) -> Result<Next, Stop>
     ensures { (read : Leaf → Token) (t : Current) (rs : S.Rules) (b : Below) → on (view_at_type1 read b at.value) (λ k. Gives read t rs b result (M.have k (view_type1 read type1))) }
 {
-    match boxed(alloc, type1) {
-        Ok(type1) => match boxed(alloc, Now::Have(at, type1)) {
+    match new_box(alloc, type1) {
+        Ok(type1) => match new_box(alloc, Now::Have(at, type1)) {
             Ok(now) => Ok(Next::Within(now)),
             Err(error) => {
                 drop(error);
@@ -149,13 +149,13 @@ fn have(alloc: Global, at: Box<AtType1>, type1: Type1) -> Result<Next, Stop>
 
 /// A type2 after what comes before it.
 #[tactic(none)]
-pub(crate) fn got(alloc: Global, at: AtType2, type2: Type2) -> Result<Next, Stop>
+pub(crate) fn have_type2(alloc: Global, at: AtType2, type2: Type2) -> Result<Next, Stop>
     ensures { (read : Leaf → Token) (t : Current) (rs : S.Rules) (b : Below) → on (view_at_type2 read b at) (λ k. Gives read t rs b result (M.got k (view_type2 read type2))) }
 {
-    match boxed(alloc, type2) {
+    match new_box(alloc, type2) {
         Ok(type2) => {
             let AtType2 { at, left } = at;
-            have(alloc, at, joined(left, type2))
+            have(alloc, at, type1_of(left, type2))
         }
         Err(error) => {
             drop(error);
@@ -166,7 +166,7 @@ pub(crate) fn got(alloc: Global, at: AtType2, type2: Type2) -> Result<Next, Stop
 }
 
 /// The type1 that an operand ends, with what comes before it.
-fn joined(left: Option<Box<Left>>, type2: Box<Type2>) -> Type1
+fn type1_of(left: Option<Box<Left>>, type2: Box<Type2>) -> Type1
     ensures { (read : Leaf → Token) → view_type1 read result ≡ joined_to read left (view_type2 read type2.value) }
 {
     match left {
@@ -195,10 +195,10 @@ pub(crate) fn next_choice(
 ) -> Result<Next, Stop>
     ensures { (read : Leaf → Token) (t : Current) (rs : S.Rules) (b : Below) → on (view_home read b home) (λ k. Gives read t rs b result (M.want (M.lower (M.next k (view_types read types) (read slash))))) }
 {
-    match boxed(alloc, types) {
+    match new_box(alloc, types) {
         Ok(types) => {
             let before = Before::Choices(types, slash);
-            match boxed(alloc, AtType1 { home, before }) {
+            match new_box(alloc, AtType1 { home, before }) {
                 Ok(at) => want(alloc, AtType2 { at, left: None }),
                 Err(error) => {
                     drop(error);
@@ -219,7 +219,7 @@ pub(crate) fn next_choice(
 pub(crate) fn next_argument(alloc: Global, arguments: GenericArg, comma: Leaf) -> Result<Next, Stop>
     ensures { (read : Leaf → Token) (t : Current) (rs : S.Rules) (b : Below) → on (as_reference b) (λ r. Gives read t rs b result (M.after_argument r.0 r.1 r.2 (view_arg read arguments) Comma (read comma))) }
 {
-    match boxed(alloc, arguments) {
+    match new_box(alloc, arguments) {
         Ok(arguments) => open_argument(alloc, Some(Arguments { arguments, comma })),
         Err(error) => {
             drop(error);
@@ -233,7 +233,7 @@ pub(crate) fn next_argument(alloc: Global, arguments: GenericArg, comma: Leaf) -
 pub(crate) fn value_at(alloc: Global, occur: Option<Leaf>, key: MemberKey) -> Result<Next, Stop>
     ensures { (read : Leaf → Token) (t : Current) (rs : S.Rules) (b : Below) → on (as_entry b) (λ p. Gives read t rs b result (M.open_value p (leaf read occur) (view_key read key))) }
 {
-    match boxed(alloc, key) {
+    match new_box(alloc, key) {
         Ok(key) => open_type(alloc, Home::ValueOf(occur, key)),
         Err(error) => {
             drop(error);
@@ -252,8 +252,8 @@ pub(crate) fn want_arrow(
 ) -> Result<Next, Stop>
     ensures { (read : Leaf → Token) (t : Current) (rs : S.Rules) (b : Below) → on (as_entry b) (λ p. Gives read t rs b result (M.want_arrow p (leaf read occur) (view_type1 read type1) (read cut))) }
 {
-    match boxed(alloc, type1) {
-        Ok(type1) => match boxed(alloc, Now::WantArrow(occur, type1, cut)) {
+    match new_box(alloc, type1) {
+        Ok(type1) => match new_box(alloc, Now::WantArrow(occur, type1, cut)) {
             Ok(now) => Ok(Next::Within(now)),
             Err(error) => {
                 drop(error);
@@ -272,8 +272,8 @@ pub(crate) fn want_arrow(
 pub(crate) fn have_group(alloc: Global, grpent: GrpEnt) -> Result<Next, Stop>
     ensures { (read : Leaf → Token) (t : Current) (rs : S.Rules) (b : Below) → on (as_entry b) (λ p. Gives read t rs b result (M.have_group p (view_grpent read grpent))) }
 {
-    match boxed(alloc, grpent) {
-        Ok(grpent) => match boxed(alloc, Now::HaveGroup(grpent)) {
+    match new_box(alloc, grpent) {
+        Ok(grpent) => match new_box(alloc, Now::HaveGroup(grpent)) {
             Ok(now) => Ok(Next::Within(now)),
             Err(error) => {
                 drop(error);
@@ -289,10 +289,10 @@ pub(crate) fn have_group(alloc: Global, grpent: GrpEnt) -> Result<Next, Stop>
 
 /// After a whole rule.
 #[tactic(none)]
-pub(crate) fn ended(alloc: Global, rule: Rule) -> Result<Next, Stop>
+pub(crate) fn rule_ends(alloc: Global, rule: Rule) -> Result<Next, Stop>
     ensures { (read : Leaf → Token) (t : Current) (rs : S.Rules) (b : Below) (m : M.State) → m ≡ M.next_rule (S.rules rs (view_rule read rule)) t.kind (read t.leaf) → Gives read t rs b result m }
 {
-    match boxed(alloc, rule) {
+    match new_box(alloc, rule) {
         Ok(rule) => Ok(Next::Ended(rule)),
         Err(error) => {
             drop(error);

@@ -11,18 +11,18 @@ ghost use Rattle.cddl_parse.specs.States.{view_rules, view_state, GivesState, Be
 use crate::body::step_body;
 use crate::build::{parm_of, unexpected};
 use crate::frames::{Current, Frame, Home, Next, Now, Parameters, Stop};
-use crate::memory::{boxed, pushed};
-use crate::positions::awaited_type;
+use crate::memory::{new_box, push_last};
+use crate::positions::now_wants_type;
 use crate::state::State;
 use cddl_token::Kind;
 use cddl_tree::{AssignG, GenericParm, Leaf, Rule, RuleName};
 use std::alloc::Global;
 
 /// The state in a box.
-pub(crate) fn boxed_state(alloc: Global, state: State) -> Result<Box<State>, Stop>
+pub(crate) fn new_state(alloc: Global, state: State) -> Result<Box<State>, Stop>
     ensures { MatchResult result (λ s. s.value ≡ state) (λ e. e ≡ Stop.Memory) }
 {
-    match boxed(alloc, state) {
+    match new_box(alloc, state) {
         Ok(state) => Ok(state),
         Err(error) => {
             drop(error);
@@ -37,9 +37,9 @@ fn next_rule(alloc: Global, rules: Vec<Rule>, token: Current) -> Result<Box<Stat
     ensures { (read : Leaf → Token) → GivesState read token.start result (M.next_rule (view_rules read rules.items) token.kind (read token.leaf)) }
 {
     match token.kind {
-        Kind::Name => boxed_state(alloc, State::WantAssign(rules, RuleName::Plain(token.leaf))),
-        Kind::NameOpen => boxed_state(alloc, State::WantParm(rules, token.leaf, None)),
-        Kind::End => boxed_state(alloc, State::Done(rules, token.leaf)),
+        Kind::Name => new_state(alloc, State::WantAssign(rules, RuleName::Plain(token.leaf))),
+        Kind::NameOpen => new_state(alloc, State::WantParm(rules, token.leaf, None)),
+        Kind::End => new_state(alloc, State::Done(rules, token.leaf)),
         _ => {
             drop(rules);
             Err(unexpected(token))
@@ -62,7 +62,7 @@ fn after_parm(
         Kind::Comma => {
             let comma = token.leaf;
             let before = Parameters { parameters, comma };
-            boxed_state(alloc, State::WantParm(rules, opening, Some(before)))
+            new_state(alloc, State::WantParm(rules, opening, Some(before)))
         }
         Kind::AngleClose => {
             let name = RuleName::Generic {
@@ -70,7 +70,7 @@ fn after_parm(
                 parameters,
                 closing: token.leaf,
             };
-            boxed_state(alloc, State::WantAssign(rules, name))
+            new_state(alloc, State::WantAssign(rules, name))
         }
         _ => {
             drop(rules);
@@ -82,7 +82,7 @@ fn after_parm(
 
 /// An assignment, or what is there in place of one.
 #[tactic(none)]
-fn assigned(
+fn after_name(
     alloc: Global,
     rules: Vec<Rule>,
     name: RuleName,
@@ -117,7 +117,7 @@ fn begin_body(alloc: Global, rules: Vec<Rule>, frame: Frame, home: Home) -> Resu
     ensures { (read : Leaf → Token) → BeginsBody read result (view_home read (above read (view_rules read rules.items) nowhere frame) home) }
 {
     match first_frame(alloc, frame) {
-        Ok(frames) => match awaited_type(alloc, home) {
+        Ok(frames) => match now_wants_type(alloc, home) {
             Ok(now) => within(alloc, rules, frames, now),
             Err(_) => {
                 drop(frames);
@@ -139,7 +139,7 @@ fn first_frame(alloc: Global, frame: Frame) -> Result<Vec<Frame>, Stop>
     ensures { MatchResult result (λ fs. fs.items ≡ frame ∷ []) (λ e. e ≡ Stop.Memory) }
 {
     let mut frames = Vec::new(alloc);
-    match pushed(&mut frames, frame) {
+    match push_last(&mut frames, frame) {
         Ok(()) => Ok(frames),
         Err(error) => {
             drop(error);
@@ -159,7 +159,7 @@ fn within(
 ) -> Result<Box<State>, Stop>
     ensures { MatchResult result (λ s. (read : Leaf → Token) → view_state read s.value ≡ view_now read (below read (view_rules read rules.items) frames.items) now.value) (λ e. e ≡ Stop.Memory) }
 {
-    match boxed(alloc, State::Body(rules, frames, now)) {
+    match new_box(alloc, State::Body(rules, frames, now)) {
         Ok(state) => Ok(state),
         Err(error) => {
             drop(error);
@@ -174,7 +174,7 @@ fn with_rule(rules: Vec<Rule>, rule: Box<Rule>) -> Result<Vec<Rule>, Stop>
     ensures { MatchResult result (λ rs. (read : Leaf → Token) → view_rules read rs.items ≡ S.rules (view_rules read rules.items) (view_rule read rule.value)) (λ e. e ≡ Stop.Memory) }
 {
     let mut rules = rules;
-    match pushed(&mut rules, Box::into_inner(rule)) {
+    match push_last(&mut rules, Box::into_inner(rule)) {
         Ok(()) => Ok(rules),
         Err(error) => {
             drop(error);
@@ -243,7 +243,7 @@ fn parameter(
 {
     match token.kind {
         Kind::Name => match parm_of(alloc, before, token.leaf) {
-            Ok(parameters) => boxed_state(alloc, State::HaveParm(rules, opening, parameters)),
+            Ok(parameters) => new_state(alloc, State::HaveParm(rules, opening, parameters)),
             Err(_) => {
                 drop(rules);
                 Err(Stop::Memory)
@@ -270,7 +270,7 @@ pub(crate) fn step(alloc: Global, state: Box<State>, token: Current) -> Result<B
         State::HaveParm(rules, opening, parameters) => {
             after_parm(alloc, rules, opening, parameters, token)
         }
-        State::WantAssign(rules, name) => assigned(alloc, rules, name, token),
+        State::WantAssign(rules, name) => after_name(alloc, rules, name, token),
         State::Body(rules, frames, now) => in_body(alloc, rules, frames, now, token),
         State::Done(rules, _) => {
             drop(rules);

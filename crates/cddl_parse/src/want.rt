@@ -7,11 +7,11 @@ ghost use Rattle.cddl_syntax.specs.Syntax as S;
 ghost use Rattle.cddl_parse.specs.Frames.{on, view_prefix, view_at_type2, below, Gives};
 ghost use Rattle.cddl_parse.specs.Kinds.{IsNoOperand, IsNoHead, IsOperandOf};
 
-use crate::build::{prefixed, unexpected};
+use crate::build::{type2_of, unexpected};
 use crate::frames::{AtType2, Current, Frame, GroupOpening, Next, Prefix, Stop, TypeOpening};
 use crate::groups::ends_want;
 use crate::open::{occur_want, open_group, open_inside, open_paren, open_reference};
-use crate::positions::{got, want_ref};
+use crate::positions::{have_type2, want_ref};
 use cddl_token::Kind;
 use cddl_tree::{Ref, Type2, Value};
 use std::alloc::Global;
@@ -27,7 +27,7 @@ pub(crate) fn step_want(
     ensures { (read : Leaf → Token) (rs : S.Rules) → on (view_at_type2 read (below read rs frames.old.items) at) (λ k. Gives read token rs (below read rs frames.new.items) result (M.step_want k token.kind (read token.leaf))) }
 {
     match operand_of(token) {
-        Some(type2) => got(alloc, at, type2),
+        Some(type2) => have_type2(alloc, at, type2),
         None => head_want(alloc, frames, at, token),
     }
 }
@@ -101,7 +101,7 @@ pub(crate) fn step_want_ref(
     ensures { (read : Leaf → Token) (rs : S.Rules) → on (view_at_type2 read (below read rs frames.old.items) at) (λ k. Gives read token rs (below read rs frames.new.items) result (M.step_want_ref k (view_prefix read prefix) token.kind (read token.leaf))) }
 {
     match token.kind {
-        Kind::Name => got(alloc, at, prefixed(prefix, Ref::Name(token.leaf))),
+        Kind::Name => have_type2(alloc, at, type2_of(prefix, Ref::Name(token.leaf))),
         Kind::NameOpen => open_reference(alloc, frames, at, prefix, token.leaf),
         Kind::ParenOpen => match prefix {
             Prefix::Ampersand(ampersand) => open_group(

@@ -1,7 +1,7 @@
 -- What ranks say of each form.
 use Rattle.std.proofs.Common.{◌≡◌, ℕ, zero, suc, ◌<◌, ◌≤◌, List, [], ◌∷◌, length, slice_index_or, Contains, refl, subst, arith}
 use Rattle.cddl_meaning.specs.Forms.{Node, Plain, Ref, Choice, ArrayOf, TagOf, SimpleBy, Group, Entry, GroupRef, Sequence, Alternatives, Repeat, Language}
-use Rattle.cddl_ranks.specs.Ranked.{MayBeEmpty, Name, a_type, a_group, IsFreeInType, same_item, member, all_items, its_number, IsFreePart, front, behind, IsFreeInGroup, same_list, part, alternative, a_round, IsFree, in_type, in_group, IsRanked, LeadsTo, at_once, by_way}
+use Rattle.cddl_ranks.specs.Ranked.{MayBeEmpty, Name, a_type, a_group, IsFreeInType, same_item, member, all_items, its_number, IsFreePart, front, past_empty, IsFreeInGroup, same_list, part, alternative, a_round, IsFree, in_type, in_group, IsRanked, LeadsTo, at_once, by_way}
 use Rattle.cddl_ranks.specs.Flags.{AreBelow, IsTypeRanked}
 
 -- the parts of a sequence that are free in it have a rank below r
@@ -50,7 +50,7 @@ module _ {N G : Type 0} (l : Language N G) (rank : Name N G → ℕ) where
 
   leads_down : (r : ℕ) (gs : List G) → ((h : G) → IsFreePart l gs h → groups_by h < r) → LeadsDown l groups_by r gs
   leads_down r [] h = tt
-  leads_down r (g ∷ gs) h = (h g front, λ e. leads_down r gs (λ b f. h b (behind e f)))
+  leads_down r (g ∷ gs) h = (h g front, λ e. leads_down r gs (λ b f. h b (past_empty e f)))
 
   type_ranked : (r : ℕ) (f : Node N G) → ((a : Name N G) → IsFreeInType f a → rank a < r) → IsTypeRanked types_by groups_by r f
   type_ranked r (Plain t) h = tt
@@ -77,7 +77,7 @@ module _ {N G : Type 0} (l : Language N G) (rank : Name N G → ℕ) where
 
   down_each : (r : ℕ) {gs : List G} {h : G} → LeadsDown l groups_by r gs → IsFreePart l gs h → groups_by h < r
   down_each r d front = d.0
-  down_each r d (behind e f) = down_each r (d.1 e) f
+  down_each r d (past_empty e f) = down_each r (d.1 e) f
 
   down_type : (r : ℕ) (f : Node N G) (a : Name N G) → IsTypeRanked types_by groups_by r f → IsFreeInType f a → rank a < r
   down_type r f (a_type m) h same_item = h

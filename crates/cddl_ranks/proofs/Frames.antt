@@ -21,7 +21,7 @@ module _ {N G : Type 0} (l : Language N G) (type_rank : N → ℕ) (group_rank :
 
   data GoesDown : List (Pending N G) → Move N G → Type 0 where
     before : {r : Reply} {w : ℕ} → RepliesDown l type_rank group_rank first r w → GoesDown [] (Asks first InRef)
-    behind : {r : Reply} → GoesDown [] (Answered r)
+    replied : {r : Reply} → GoesDown [] (Answered r)
     within : {q : Question N G} {os : List (Pending N G)} {m : Move N G} {s : Reply} {w : ℕ} → Waits q os s → EndsDown l type_rank group_rank (size_of q) (rank_of type_rank group_rank q) m s w → GoesDown os m
 
   goes_asked : {q : Question N G} {o : Pending N G} {os : List (Pending N G)} → GoesDown os (Asks q o) → GoesDown (o ∷ os) (first_move l q)
@@ -29,7 +29,7 @@ module _ {N G : Type 0} (l : Language N G) (type_rank : N → ℕ) (group_rank :
   goes_asked (within w (after i (replies d) e)) = within (upon i w e) d
 
   goes_answered : {s : Reply} {o : Pending N G} {os : List (Pending N G)} → GoesDown (o ∷ os) (Answered s) → GoesDown os (next_move o s)
-  goes_answered (within bottom at_once) = behind
+  goes_answered (within bottom at_once) = replied
   goes_answered (within (upon i w e) at_once) = within w e
 
   reached_down : {os : List (Pending N G)} {m : Move N G} → ((r : Reply) × (w : ℕ) × RepliesDown l type_rank group_rank first r w) → IsReached l first os m → GoesDown os m
@@ -56,7 +56,7 @@ module _ {N G : Type 0} (l : Language N G) (type_rank : N → ℕ) (group_rank :
 
     down_bound : {os : List (Pending N G)} {m : Move N G} → GoesDown os m → length os ≤ suc bound * size_of first
     down_bound (before d) = omega arith
-    down_bound behind = omega arith
+    down_bound replied = omega arith
     down_bound (within {q = q} w e) = omega (arith, waits_bound w, ranks first, mul-le-mul_left (suc bound) (some_size q))
 
 module _ {N G : Type 0} (l : Language N G) (type_rank : N → ℕ) (group_rank : G → ℕ) (bound : ℕ) (ranked : IsRankedByForm l type_rank group_rank bound) where

@@ -33,7 +33,7 @@ takes_more E F xs left (Takes more b far) (inr h) (inl i) = inr (omega (arith, h
 takes_more E F xs left (Takes more b far) (inr h) (inr i) = inr (omega (arith, h.0, i.0), omega (arith, h.1, i.1))
 takes_more E F xs left (Fails far) h i = tt
 
--- behind what is shorter nothing is as long
+-- after what is shorter nothing is as long
 pub takes_less : (E F : Type 0) (xs left : List Value) (r : Reply) → IsShorter left xs → TakesWell F left r → TakesWell E xs r
 takes_less E F xs left (Takes more b far) h (inl i) = inr (omega (arith, h.0, ap list_size i.1), omega (arith, h.1, ap (λ ys. length ys) i.1))
 takes_less E F xs left (Takes more b far) h (inr i) = inr (omega (arith, h.0, i.0), omega (arith, h.1, i.1))

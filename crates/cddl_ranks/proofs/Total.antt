@@ -147,7 +147,7 @@ module _ {N G : Type 0} (l : Language N G) (type_rank : N → ℕ) (group_rank :
     end_total zero most g ys q far = at_end (Takes ys q far) (TakesWell (MayBeEmpty l (Repeat 0 most g)) ys) (inl (no_minimum, refl))
     end_total (suc least) most g ys q far = at_end (Fails far) (TakesWell (MayBeEmpty l (Repeat (suc least) most g)) ys) tt
 
-    -- the rounds behind one that took something
+    -- the rounds after one that took something
     abbrev MoreRounds : ℕ → Most → G → ℕ → List Value → Type 0
     MoreRounds least most g base ys = (q : ℕ) (zs : List Value) (far : ℕ) → IsShorter zs ys → Ending S R (repetition (least - 1) (one_less most) g base q zs far) (TakesWell (MayBeEmpty l (Repeat (least - 1) (one_less most) g)) zs)
 

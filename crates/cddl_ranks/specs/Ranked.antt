@@ -37,10 +37,10 @@ pub data IsFreeInType {N G : Type 0} : Node N G → Name N G → Type 0 where
   all_items : {g : G} → IsFreeInType (ArrayOf g) (a_group g)
   its_number : {m : N} → IsFreeInType (SimpleBy m) (a_type m)
 
--- of the parts of a sequence, the first and those behind groups that may all take no item
+-- of the parts of a sequence, the first and those after groups that may all take no item
 pub data IsFreePart {N G : Type 0} (l : Language N G) : List G → G → Type 0 where
   front : {g : G} {gs : List G} → IsFreePart l (g ∷ gs) g
-  behind : {g h : G} {gs : List G} → MayBeEmpty l (l.group_at g) → IsFreePart l gs h → IsFreePart l (g ∷ gs) h
+  past_empty : {g h : G} {gs : List G} → MayBeEmpty l (l.group_at g) → IsFreePart l gs h → IsFreePart l (g ∷ gs) h
 
 -- What a group may ask of the same list is free in it. An entry goes into an item.
 pub data IsFreeInGroup {N G : Type 0} (l : Language N G) : Group N G → G → Type 0 where

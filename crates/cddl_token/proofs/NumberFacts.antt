@@ -163,8 +163,8 @@ module _ (s : List ℕ) (a : ℕ) where
   bound_le h = ⊎_elim (λ e. omega arith) (λ u. let past = uint_past s u in omega arith) h
 
 module _ (s : List ℕ) (a star b : ℕ) (sign : slice_index s star ≡ 42) (end : IsLongestBound s (star + 1) b) where
-  behind : star < b
-  behind = let le = bound_le s (star + 1) end.spelled in omega arith
+  after : star < b
+  after = let le = bound_le s (star + 1) end.spelled in omega arith
 
   star_within : (m low high : ℕ) (h : IsStar s a m low high) → h.star ≡ star → m ≤ b
   star_within m low high h same = end.longest m high (subst (λ n. IsBound s (n + 1) m high) same h.after)
@@ -189,7 +189,7 @@ module _ (s : List ℕ) (a star b : ℕ) (sign : slice_index s star ≡ 42) (end
         signed_no true n h = omega (arith, h.0)
 
     first_within : (q : Reading) (m : ℕ) → Spells q s a m → m ≤ b
-    first_within (Good Occur) m h = ⊎_elim (λ one. let past = behind in ⊎_elim (λ e. omega (arith, e.0)) (λ e. omega (arith, e.0)) one) (λ x. first_star m x.0 x.1 x.2) h
+    first_within (Good Occur) m h = ⊎_elim (λ one. let past = after in ⊎_elim (λ e. omega (arith, e.0)) (λ e. omega (arith, e.0)) one) (λ x. first_star m x.0 x.1 x.2) h
     first_within (Bad Misspelled) m h = absurd (no_sign (misspelled_begins s a m h))
     first_within (Bad Fractional) m h = absurd (no_sign (float_begins s a m h))
     first_within (Bad TooLarge) m h = large_first m h
@@ -199,7 +199,7 @@ module _ (s : List ℕ) (a star b : ℕ) (sign : slice_index s star ≡ 42) (end
   uint_within : IsLongestShape Uint s a star → (q : Reading) (m : ℕ) → Spells q s a m → m ≤ b
   uint_within long q m h =
       let digit = uint_digit (long.spelled).1 in
-      let past = behind in
+      let past = after in
       ⊎_elim
       (λ x. let le = long.longest x.0 m x.1 in omega arith)
       (λ x. star_within m x.0 x.1 x.2 (star_at_end s a digit Uint star long m x.0 x.1 x.2).0)

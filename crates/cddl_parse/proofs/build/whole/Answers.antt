@@ -8,4 +8,4 @@ use Rattle.cddl_parse.proofs.Contents.{view_entries-push}
 use Rattle.cddl_parse.proofs.build.whole.Goals as goal
 
 pub returns-in-Ok : goal.returns-in-Ok
-returns-in-Ok c read = (view-Group read _ _ ∙ (ap (λ (xs : List GrpChoice). with_choices (S.sole (view_entries read c.pushed.new.list.items)) (map (view_choice read) xs)) c.requires.alone ∙ ap S.sole (ap (view_entries read) c.in-Ok.ensures.items ∙ view_entries-push read c.args.first.items c.args.grpent c.args.comma)), c.requires.group read)
+returns-in-Ok c read = (view-Group read _ _ ∙ (ap (λ (xs : List GrpChoice). with_choices (S.sole (view_entries read c.push_last.new.list.items)) (map (view_choice read) xs)) c.requires.alone ∙ ap S.sole (ap (view_entries read) c.in-Ok.ensures.items ∙ view_entries-push read c.args.first.items c.args.grpent c.args.comma)), c.requires.group read)

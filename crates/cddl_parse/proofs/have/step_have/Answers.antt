@@ -8,7 +8,7 @@ use Rattle.cddl_parse.proofs.Heads.{on_along, have_other}
 use Rattle.cddl_parse.proofs.Bodies.{at_kind}
 
 pub returns-in-Some : goal.returns-in-Some
-returns-in-Some c read rs = on_same (view_at_type1 read (below read rs c.args.frames.now.items) c.args.at.value) (λ (m : M.State). Gives read c.args.token rs (below read rs c.args.frames.now.items) c.operated.result m) _ _ (λ k. (c.in-Some.ensures read) k (view_type1 read c.args.type1.value)) (c.operated.ensures read rs (below read rs c.args.frames.now.items))
+returns-in-Some c read rs = on_same (view_at_type1 read (below read rs c.args.frames.now.items) c.args.at.value) (λ (m : M.State). Gives read c.args.token rs (below read rs c.args.frames.now.items) c.want_operand.result m) _ _ (λ k. (c.in-Some.ensures read) k (view_type1 read c.args.type1.value)) (c.want_operand.ensures read rs (below read rs c.args.frames.now.items))
 
 pub returns-in-Slash : goal.returns-in-Slash
 returns-in-Slash c read rs = at_kind (view_at_type1 read (below read rs c.args.frames.now.items) c.args.at.value) (λ (m : M.State). Gives read c.args.token rs (below read rs c.args.frames.now.items) c.slash.result m) (λ (k : M.AtType1) (i : Kind). M.step_have k (view_type1 read c.args.type1.value) i (read c.args.token.leaf)) _ _ c.in-Slash.is (c.slash.ensures read rs (below read rs c.args.frames.now.items))

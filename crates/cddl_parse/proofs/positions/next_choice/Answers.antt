@@ -6,11 +6,11 @@ use Rattle.cddl_parse.proofs.Steps.{on_all}
 use Rattle.cddl_parse.proofs.Closing.{choice_opened}
 use Rattle.cddl_parse.proofs.positions.next_choice.Goals as goal
 
-pub returns-in-Ok-boxed : goal.returns-in-Ok-boxed
-returns-in-Ok-boxed c read t rs b = choice_opened (view_home read b c.args.home) (view_types read c.in-Ok.types.value) (view_types read c.args.types) (read c.args.slash) _ (λ (m : M.State). Gives read t rs b c.want.result m) (ap (view_types read) c.in-Ok.ensures.ok) (ap (view_at_type1 read b) c.in-Ok-boxed.ensures.ok) (c.want.ensures read t rs b)
+pub returns-in-Ok-new_box : goal.returns-in-Ok-new_box
+returns-in-Ok-new_box c read t rs b = choice_opened (view_home read b c.args.home) (view_types read c.in-Ok.types.value) (view_types read c.args.types) (read c.args.slash) _ (λ (m : M.State). Gives read t rs b c.want.result m) (ap (view_types read) c.in-Ok.ensures.ok) (ap (view_at_type1 read b) c.in-Ok-new_box.ensures.ok) (c.want.ensures read t rs b)
 
-pub returns-in-Err-boxed : goal.returns-in-Err-boxed
-returns-in-Err-boxed c read t rs b = on_all (view_home read b c.args.home) _ (λ k. tt)
+pub returns-in-Err-new_box : goal.returns-in-Err-new_box
+returns-in-Err-new_box c read t rs b = on_all (view_home read b c.args.home) _ (λ k. tt)
 
 pub returns-in-Err : goal.returns-in-Err
 returns-in-Err c read t rs b = on_all (view_home read b c.args.home) _ (λ k. tt)

@@ -6,10 +6,10 @@ use Rattle.cddl_parse.proofs.Steps.{refuses}
 use Rattle.cddl_parse.proofs.Bodies.{given, parm_other}
 
 pub returns-in-Comma : goal.returns-in-Comma
-returns-in-Comma c read = given read c.args.token.start c.boxed_state.result _ _ c.boxed_state.ensures (rw c.in-Comma.is refl)
+returns-in-Comma c read = given read c.args.token.start c.new_state.result _ _ c.new_state.ensures (rw c.in-Comma.is refl)
 
 pub returns-in-AngleClose : goal.returns-in-AngleClose
-returns-in-AngleClose c read = given read c.args.token.start c.boxed_state-in-AngleClose.result _ _ c.boxed_state-in-AngleClose.ensures (rw c.in-AngleClose.is refl)
+returns-in-AngleClose c read = given read c.args.token.start c.new_state-in-AngleClose.result _ _ c.new_state-in-AngleClose.ensures (rw c.in-AngleClose.is refl)
 
 pub returns-in_default : goal.returns-in_default
 returns-in_default c read = refuses c.args.token.start _ _ c.unexpected.ensures (parm_other (view_rules read c.args.rules.items) (read c.args.opening) (view_parm read c.args.parameters) c.args.token.kind (read c.args.token.leaf) c.in_default.not-Comma c.in_default.not-AngleClose)

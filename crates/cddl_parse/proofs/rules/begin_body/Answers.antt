@@ -4,11 +4,11 @@ use Rattle.cddl_parse.specs.Frames.{below}
 use Rattle.cddl_parse.specs.States.{view_rules}
 use Rattle.cddl_parse.proofs.Bodies.{begins, body_begun}
 
-pub returns-in-Ok-awaited_type : goal.returns-in-Ok-awaited_type
-returns-in-Ok-awaited_type c read = begins read c.within.result _ _ c.within.ensures (c.in-Ok-awaited_type.ensures read (below read (view_rules read c.args.rules.items) c.in-Ok.frames.items) ∙ body_begun read (view_rules read c.args.rules.items) [] c.in-Ok.frames.items c.args.frame c.args.home _ refl c.in-Ok.ensures refl)
+pub returns-in-Ok-now_wants_type : goal.returns-in-Ok-now_wants_type
+returns-in-Ok-now_wants_type c read = begins read c.within.result _ _ c.within.ensures (c.in-Ok-now_wants_type.ensures read (below read (view_rules read c.args.rules.items) c.in-Ok.frames.items) ∙ body_begun read (view_rules read c.args.rules.items) [] c.in-Ok.frames.items c.args.frame c.args.home _ refl c.in-Ok.ensures refl)
 
-pub returns-in-Err-awaited_type : goal.returns-in-Err-awaited_type
-returns-in-Err-awaited_type c read = refl
+pub returns-in-Err-now_wants_type : goal.returns-in-Err-now_wants_type
+returns-in-Err-now_wants_type c read = refl
 
 pub returns-in-Err : goal.returns-in-Err
 returns-in-Err c read = refl

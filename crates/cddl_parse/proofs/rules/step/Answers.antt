@@ -17,7 +17,7 @@ pub returns-in-HaveParm : goal.returns-in-HaveParm
 returns-in-HaveParm c read = now_at (view_state read c.args.state.value) (M.have_parm (view_rules read c.in-HaveParm.rules.items) (read c.in-HaveParm.opening) (view_parm read c.in-HaveParm.parameters)) (λ (m : M.State). GivesState read c.args.token.start c.after_parm.result (M.step m c.args.token.kind (read c.args.token.leaf))) (ap (view_state read) (sym c.into_inner.ensures ∙ c.in-HaveParm.is)) (c.after_parm.ensures read)
 
 pub returns-in-WantAssign : goal.returns-in-WantAssign
-returns-in-WantAssign c read = now_at (view_state read c.args.state.value) (M.awaits_assign (view_rules read c.in-WantAssign.rules.items) (view_name read c.in-WantAssign.name)) (λ (m : M.State). GivesState read c.args.token.start c.assigned.result (M.step m c.args.token.kind (read c.args.token.leaf))) (ap (view_state read) (sym c.into_inner.ensures ∙ c.in-WantAssign.is)) (c.assigned.ensures read)
+returns-in-WantAssign c read = now_at (view_state read c.args.state.value) (M.awaits_assign (view_rules read c.in-WantAssign.rules.items) (view_name read c.in-WantAssign.name)) (λ (m : M.State). GivesState read c.args.token.start c.after_name.result (M.step m c.args.token.kind (read c.args.token.leaf))) (ap (view_state read) (sym c.into_inner.ensures ∙ c.in-WantAssign.is)) (c.after_name.ensures read)
 
 pub returns-in-Body : goal.returns-in-Body
 returns-in-Body c read = on_through (view_state read c.args.state.value) (view_now read (below read (view_rules read c.in-Body.rules.items) c.in-Body.frames.items) c.in-Body.now.value) (λ (m : M.State). GivesState read c.args.token.start c.in_body.result (M.step m c.args.token.kind (read c.args.token.leaf))) (λ (m : M.State). GivesState read c.args.token.start c.in_body.result (M.step m c.args.token.kind (read c.args.token.leaf))) (ap (view_state read) (sym c.into_inner.ensures ∙ c.in-Body.is)) (λ m h. h) (c.in_body.ensures read)

@@ -4,7 +4,7 @@ use Rattle.cddl_parse.proofs.Steps.{on_same}
 use Rattle.cddl_parse.proofs.want.step_want.Goals as goal
 
 pub returns-in-Some : goal.returns-in-Some
-returns-in-Some c read rs = on_same (view_at_type2 read (below read rs c.args.frames.now.items) c.args.at) (λ (m : M.State). Gives read c.args.token rs (below read rs c.args.frames.now.items) c.got.result m) _ _ (c.in-Some.ensures read) (c.got.ensures read c.args.token rs (below read rs c.args.frames.now.items))
+returns-in-Some c read rs = on_same (view_at_type2 read (below read rs c.args.frames.now.items) c.args.at) (λ (m : M.State). Gives read c.args.token rs (below read rs c.args.frames.now.items) c.have_type2.result m) _ _ (c.in-Some.ensures read) (c.have_type2.ensures read c.args.token rs (below read rs c.args.frames.now.items))
 
 pub head_want-requires : goal.head_want-requires
 head_want-requires c = c.in-None.ensures

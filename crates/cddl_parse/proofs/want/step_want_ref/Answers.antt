@@ -9,7 +9,7 @@ use Rattle.cddl_parse.proofs.Heads.{on_along, ref_other}
 use Rattle.cddl_parse.proofs.Bodies.{at_kind, got_at, refused_at, no_choice}
 
 pub returns-in-Name : goal.returns-in-Name
-returns-in-Name c read rs = got_at (view_at_type2 read (below read rs c.args.frames.now.items) c.args.at) (λ (m : M.State). Gives read c.args.token rs (below read rs c.args.frames.now.items) c.got.result m) (λ (k : M.AtType2) (i : Kind). M.step_want_ref k (view_prefix read c.args.prefix) i (read c.args.token.leaf)) _ _ _ _ c.in-Name.is (c.prefixed.ensures read ∙ ap (M.prefixed (view_prefix read c.args.prefix)) (view-Name read c.args.token.leaf)) (λ k. refl) (c.got.ensures read c.args.token rs (below read rs c.args.frames.now.items))
+returns-in-Name c read rs = got_at (view_at_type2 read (below read rs c.args.frames.now.items) c.args.at) (λ (m : M.State). Gives read c.args.token rs (below read rs c.args.frames.now.items) c.have_type2.result m) (λ (k : M.AtType2) (i : Kind). M.step_want_ref k (view_prefix read c.args.prefix) i (read c.args.token.leaf)) _ _ _ _ c.in-Name.is (c.type2_of.ensures read ∙ ap (M.prefixed (view_prefix read c.args.prefix)) (view-Name read c.args.token.leaf)) (λ k. refl) (c.have_type2.ensures read c.args.token rs (below read rs c.args.frames.now.items))
 
 pub returns-in-NameOpen : goal.returns-in-NameOpen
 returns-in-NameOpen c read rs = at_kind (view_at_type2 read (below read rs c.args.frames.now.items) c.args.at) (λ (m : M.State). Gives read c.args.token rs (below read rs c.open_reference.new.frames.items) c.open_reference.result m) (λ (k : M.AtType2) (i : Kind). M.step_want_ref k (view_prefix read c.args.prefix) i (read c.args.token.leaf)) _ _ c.in-NameOpen.is (c.open_reference.ensures read c.args.token rs)

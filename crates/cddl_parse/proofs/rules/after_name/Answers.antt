@@ -4,7 +4,7 @@ use Rattle.cddl_token.specs.declared.Kind.{Kind}
 use Rattle.cddl_syntax.specs.Syntax as S
 use Rattle.cddl_syntax.specs.Machine as M
 use Rattle.cddl_tree.specs.View.{view_name}
-use Rattle.cddl_parse.proofs.rules.assigned.Goals as goal
+use Rattle.cddl_parse.proofs.rules.after_name.Goals as goal
 use Rattle.cddl_parse.proofs.Steps.{refuses}
 use Rattle.cddl_parse.proofs.Bodies.{assigned_other, begun}
 

@@ -1,7 +1,7 @@
 use Rattle.std.proofs.Common.{◌∙◌, ap, sym}
 use Rattle.cddl_parse.specs.States.{rules_in}
 use Rattle.cddl_parse.proofs.Whole.{not_done}
-use Rattle.cddl_parse.proofs.parser.finished.Goals as goal
+use Rattle.cddl_parse.proofs.parser.rules_of.Goals as goal
 
 pub returns-in-Done : goal.returns-in-Done
 returns-in-Done c = sym (ap rules_in (sym c.into_inner.ensures ∙ c.in-Done.is))

@@ -1,6 +1,6 @@
 use Rattle.cddl_tree.proofs.Lemmas.{view-One, view-Operation}
 use Rattle.cddl_parse.proofs.Steps.{joined_none, joined_some}
-use Rattle.cddl_parse.proofs.positions.joined.Goals as goal
+use Rattle.cddl_parse.proofs.positions.type1_of.Goals as goal
 
 pub returns-in-None : goal.returns-in-None
 returns-in-None c read = joined_none read c.args.left _ _ c.in-None.is (view-One read _)

@@ -5,7 +5,7 @@ use Rattle.cddl_tree.specs.View.{view_type1, view_type2, view_operator}
 use Rattle.cddl_syntax.specs.Machine as M
 use Rattle.cddl_parse.specs.Frames.{view_at_type1, Gives}
 use Rattle.cddl_parse.proofs.Steps.{operated_one, operated_two, on_all, refuses}
-use Rattle.cddl_parse.proofs.have.operated.Goals as goal
+use Rattle.cddl_parse.proofs.have.want_operand.Goals as goal
 
 pub returns-in-Ok : goal.returns-in-Ok
 returns-in-Ok c read rs b = operated_one read (view_at_type1 read b c.args.at.value) c.in-Ok.left _ _ _ (λ (m : M.State). Gives read c.args.token rs b c.want.result m) (ap (λ (l : Left). view_type2 read l.type2.value) c.in-Ok.ensures.ok) (ap (λ (l : Left). view_operator read l.operator) c.in-Ok.ensures.ok) (ap (view_type1 read) (sym c.into_inner.ensures ∙ c.in-One.is) ∙ view-One read _) (c.want.ensures read c.args.token rs b)

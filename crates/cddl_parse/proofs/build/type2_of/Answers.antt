@@ -1,5 +1,5 @@
 use Rattle.cddl_parse.proofs.Pushing.{views}
-use Rattle.cddl_parse.proofs.build.prefixed.Goals as goal
+use Rattle.cddl_parse.proofs.build.type2_of.Goals as goal
 
 pub returns-in-Bare : goal.returns-in-Bare
 returns-in-Bare c read = simp (c.in-Bare.is, views)
