@@ -3,7 +3,7 @@ use Rattle.std.specs.Prelude.{◌≡◌, ℕ, zero, suc, ◌<◌, ◌≤◌, Lis
 use Rattle.std.proofs.Common.{refl, sym, subst, arith}
 use Rattle.cbor_data.specs.Value.{Value}
 use Rattle.cddl_meaning.specs.Alike.{AlikeTypes, plain, choices, both, none}
-use Rattle.cddl_meaning.specs.Forms.{Language, Node, Plain, ArrayOf}
+use Rattle.cddl_meaning.specs.Forms.{Language}
 use Rattle.cddl_meaning.specs.Judges.{Answer, Says}
 use Rattle.cddl_meaning.proofs.Lemmas.{says_too, said_before}
 use Rattle.cddl_language.proofs.Basics.{beyond_two, none_in, only}
@@ -14,9 +14,10 @@ use Rattle.cddl_language.specs.Language.{TypeName, GroupName, type, any_of, lang
 use Rattle.cddl_language.specs.Literals.{Values}
 use Rattle.cddl_language.specs.Prelude.{prelude}
 use Rattle.cddl_language.specs.Reach.{Point, Reaches, at_root, onward, points_in}
-use Rattle.cddl_language.specs.StandsFor.{StandsFor, AsksOfSame, of_choice, AsksOfList, of_alternatives, HasNode, of_type}
+use Rattle.cddl_language.specs.StandsFor.{StandsFor, HasNode, of_type}
+use Rattle.cddl_ranks.specs.Ranked.{Name, a_type, a_group, IsFree, in_type, in_group, member, alternative}
 
-module _ (worth : Values) (ds : List Definition) (root : Text) (l : Language ℕ ℕ) (top : ℕ) (rank group_rank : ℕ → ℕ) (ranks : ℕ) (table : StandsFor worth ds root l top rank group_rank ranks) where
+module _ (worth : Values) (ds : List Definition) (root : Text) (l : Language ℕ ℕ) (top : ℕ) (rank : Name ℕ ℕ → ℕ) (ranks : ℕ) (table : StandsFor worth ds root l top rank ranks) where
   pub says : (p w : ℕ) (x : Value) (a : Answer) → Says (language worth ds) (type_node worth ds (type_named ds (call root no_terms))) p x a w → Says l (l.type_at top) p x a w
   says p w x a d = says_too (language worth ds) l _ _ table.alike d (table.alike.types (type_named ds (call root no_terms)) top table.root_node)
 
@@ -65,26 +66,17 @@ reached r h = go r h
     go r at_root = refl
     go s (onward {r = r} {p = p} h c f) = step r s p (go r h) c
 
-goes_down : (m n : ℕ) → AsksOfSame E.one_test (E.one_test.type_at m) n → E.rank_at n < E.rank_at m
-goes_down zero n (of_choice c) = subst (λ k. E.rank_at k < 1) (sym (only c)) (omega arith)
-goes_down (suc m) n h = elim h [ ]
+goes_down : (a b : Name ℕ ℕ) → IsFree E.one_test a b → E.rank_at b < E.rank_at a
+goes_down (a_type zero) b (in_type (member c)) = subst (λ k. E.rank_at (a_type k) < 1) (sym (only c)) (omega arith)
+goes_down (a_type (suc m)) b (in_type h) = elim h [ ]
+goes_down (a_group g) b (in_group (alternative c)) = absurd (none_in c)
 
-abbrev IsPlain : Node ℕ ℕ → Type 0
-IsPlain (Plain t) = Unit {0}
-IsPlain _ = ⊥
+up_to_one : (a : Name ℕ ℕ) → E.rank_at a ≤ 1
+up_to_one (a_type zero) = omega arith
+up_to_one (a_type (suc m)) = omega arith
+up_to_one (a_group g) = omega arith
 
-no_arrays : (m g : ℕ) → E.one_test.type_at m ≡ ArrayOf g → 0 < E.rank_at m
-no_arrays zero g e = omega arith
-no_arrays (suc m) g e = absurd (subst IsPlain e tt)
-
-no_groups : (g h : ℕ) → AsksOfList E.one_test (E.one_test.group_at g) h → 0 < 0
-no_groups g h (of_alternatives c) = absurd (none_in c)
-
-up_to_one : (m : ℕ) → E.rank_at m ≤ 1
-up_to_one zero = omega arith
-up_to_one (suc m) = omega arith
-
-pub stands : (worth : Values) → StandsFor worth E.anything (codes "a") E.one_test 0 E.rank_at (λ g. 0) 1
+pub stands : (worth : Values) → StandsFor worth E.anything (codes "a") E.one_test 0 E.rank_at 1
 stands worth = record {
   types = types;
   groups = [];
@@ -93,7 +85,7 @@ stands worth = record {
   instances = E.a_ref (codes "a") ∷ [];
   are_instances = record { all = λ r h. (0, omega arith, sym (reached r h)); only = λ r c. subst (Reaches E.anything (codes "a")) (sym (only c)) at_root; once = λ i j d h k. absurd (none_later i j h k) };
   have_nodes = λ r c. subst (HasNode E.anything types []) (sym (only c)) (of_type 0 is_a_type (subst (λ t. Contains types (t, 0)) (sym meaning) (0, omega arith, refl)));
-  ranked = record { types = goes_down; arrays = no_arrays; groups = no_groups; most = up_to_one; most_of_groups = λ g. omega arith };
+  ranked = record { down = goes_down; most = up_to_one };
 }
   where
     none_later : (i j : ℕ) → i < j → j < 1 → ⊥

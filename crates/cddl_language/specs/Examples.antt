@@ -4,6 +4,7 @@ use Rattle.cddl_language.specs.Terms.{Text, Term, number, literal, range, choice
 use Rattle.cddl_meaning.specs.Forms as F
 use Rattle.cddl_meaning.specs.Forms.{Node, Language}
 use Rattle.cddl_language.specs.Prelude.{definition, plain}
+use Rattle.cddl_ranks.specs.Ranked.{Name, a_type}
 
 abbrev pub a_ref : Text → Ref
 a_ref n = call n no_terms
@@ -129,6 +130,6 @@ node_at (suc n) = F.Plain F.anything
 abbrev pub one_test : Language ℕ ℕ
 one_test = record { type_at = node_at; group_at = λ g. F.Alternatives [] }
 
-abbrev pub rank_at : ℕ → ℕ
-rank_at zero = 1
-rank_at (suc n) = 0
+abbrev pub rank_at : Name ℕ ℕ → ℕ
+rank_at (a_type zero) = 1
+rank_at _ = 0

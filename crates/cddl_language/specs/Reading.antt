@@ -2,7 +2,7 @@
 use Rattle.std.specs.Prelude.{ℕ, List, [], ◌∷◌, ◌++◌, Option, option_map, is_some, true, false}
 use Rattle.cddl_token.specs.declared.Token.{Token}
 use Rattle.cddl_syntax.specs.Syntax as S
-use Rattle.cddl_language.specs.Numbers.{but_first, but_last}
+use Rattle.cddl_language.specs.Numbers.{before, after}
 use Rattle.cddl_language.specs.Terms.{Text, Literal, number, text, bytes, Term, literal, named, parens, map_of, array_of, unwrapped, choice_of, choice_of_name, tagged, tagged_by, simple_by, hash, range, control, or, Ref, call, Terms, no_terms, term, Group, sole, orelse, Entries, no_entries, entries, Entry, typed, keyed, grouped, Key, of_type, bareword, of_value, Sign, is, type_or, group_or, Body, of_types, of_entry, Definition}
 
 abbrev pub text_of : Token → Text
@@ -10,11 +10,11 @@ text_of t = t.text.now
 
 -- the name before `<`
 abbrev pub opened_name : Token → Text
-opened_name t = but_last (text_of t)
+opened_name t = before 60 (text_of t)
 
 -- the name of a control, after `.`
 abbrev pub control_name : Token → Text
-control_name t = but_first (text_of t)
+control_name t = after 46 (text_of t)
 
 abbrev pub occurrence : Option Token → Option Text
 occurrence o = option_map text_of o

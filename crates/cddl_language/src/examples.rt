@@ -129,7 +129,7 @@ pub fn endless()
 
 /// A table of two types stands for `a = #`.
 pub fn table()
-    ensures { (worth : Values) → StandsFor worth E.anything (codes "a") E.one_test 0 E.rank_at (λ g. 0) 1 }
+    ensures { (worth : Values) → StandsFor worth E.anything (codes "a") E.one_test 0 E.rank_at 1 }
 {}
 
 /// In `r = [g]`, `g = (int, ? g)` no reference is free in what `g` means.

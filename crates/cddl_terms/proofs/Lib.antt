@@ -1,5 +1,7 @@
 pub mod Adding
+pub mod Defining
 pub mod Equal
 pub mod Filling
 pub mod Holding
 pub mod Inverse
+pub mod Texts

@@ -1,3 +1,4 @@
+pub mod Definitions
 pub mod Filled
 pub mod Table
 pub mod Trees

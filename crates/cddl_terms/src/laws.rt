@@ -2,6 +2,9 @@ ghost use Rattle.std.specs.Prelude.{◌≡◌, ◌<◌, ◌↔◌, ℕ, List, Op
 ghost use Rattle.cddl_terms.specs.declared.row.Row.{Row};
 ghost use Rattle.cddl_language.specs.Terms.{Text, Term, Ref, Terms as TermList, Group, Entries, Entry, Key};
 ghost use Rattle.cddl_language.specs.Substitution.{fill, fill_ref, fill_all, fill_group, fill_entries, fill_entry, fill_key};
+ghost use Rattle.cddl_language.specs.Terms as L;
+ghost use Rattle.cddl_terms.specs.Definitions.{AreSame, IsDefinition};
+ghost use Rattle.cddl_terms.specs.declared.definition.Definition.{Definition};
 ghost use Rattle.cddl_terms.specs.Filled.{filled, term_trees};
 ghost use Rattle.cddl_terms.specs.Table.{AddsRow, AddsText, Holds, IsTable, Table, Tree};
 ghost use Rattle.cddl_terms.specs.Trees.{IsTerm, IsRef, IsTerms, IsGroup, IsEntries, IsEntry, IsKey, term_tree, ref_tree, terms_tree, group_tree, entries_tree, entry_tree, key_tree};
@@ -38,6 +41,13 @@ pub fn equal_numbers(terms: &Terms)
     ensures entries { (n m : ℕ) (a b : Entries) → IsEntries terms.now n a → IsEntries terms.now m b → (n ≡ m) ↔ (a ≡ b) }
     ensures entry { (n m : ℕ) (a b : Entry) → IsEntry terms.now n a → IsEntry terms.now m b → (n ≡ m) ↔ (a ≡ b) }
     ensures key { (n m : ℕ) (a b : Key) → IsKey terms.now n a → IsKey terms.now m b → (n ≡ m) ↔ (a ≡ b) }
+{
+    terms.len();
+}
+
+/// Definitions by the numbers of one table stand for equal definitions exactly where all their numbers are equal.
+pub fn equal_definitions(terms: &Terms)
+    ensures { (d e : Definition) (x y : L.Definition) → IsDefinition terms.now d x → IsDefinition terms.now e y → AreSame d e ↔ (x ≡ y) }
 {
     terms.len();
 }

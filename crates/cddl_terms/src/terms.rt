@@ -1,4 +1,4 @@
-ghost use Rattle.std.specs.Prelude.{◌≡◌, IfOk, Some, [], slice_get, length, option_map, Option};
+ghost use Rattle.std.specs.Prelude.{◌≡◌, ◌≢◌, ◌<◌, ℕ, IfNone, IfOk, IfSome, Some, [], slice_get, length, option_map, Option};
 ghost use Rattle.cddl_language.specs.Terms.{Text};
 ghost use Rattle.cddl_terms.specs.Table.{Adds, AddsRow, AddsText, AreDistinct, HasParts, Holds, HoldsText, IsTable, Tree, node, texts_in};
 
@@ -6,9 +6,11 @@ use crate::row::Row;
 use indexmap::IndexSet;
 use std::alloc::Global;
 use std::marker::Model;
+use thiserror::Error;
 
 /// There is no room: memory was refused, or each number of 32 bits is taken.
-#[derive(Clone, Copy, Debug)]
+#[derive(Clone, Copy, Debug, Error)]
+#[error("no room for the numbers of terms")]
 pub struct NoRoom;
 
 /// A table of rows and texts, each with a number. No two are equal, and the parts of a row stand before it.
@@ -57,6 +59,15 @@ impl<'s> Terms<'s> {
         insert_row(&mut self.rows, row)
     }
 
+    /// The number of the text, if it is there. It costs a hash of the text.
+    pub fn find_text(&self, text: &str) -> Option<u32>
+        ensures found { IfSome result (λ n. slice_get self.now.texts n ≡ Some text.now) }
+        ensures missing { IfNone result ((n : ℕ) → n < 4294967296 → slice_get self.now.texts n ≢ Some text.now) }
+    {
+        let index = text_index(&self.texts, text)?;
+        u32::try_from(index).ok()
+    }
+
     /// The number of rows.
     pub fn len(&self) -> usize
         ensures value { result ≡ length self.now.rows }
@@ -78,6 +89,13 @@ impl<'s> Terms<'s> {
     {
         self.texts.get_index(number as usize).copied()
     }
+}
+
+fn text_index(texts: &IndexSet<&str>, text: &str) -> Option<usize>
+    ensures found { IfSome result (λ i. slice_get (texts_in texts.now.keys) i ≡ Some text.now) }
+    ensures missing { IfNone result ((i : ℕ) → slice_get (texts_in texts.now.keys) i ≢ Some text.now) }
+{
+    texts.get_index_of(text)
 }
 
 fn insert_text<'s>(texts: &mut IndexSet<&'s str>, text: &'s str) -> Result<u32, NoRoom>

@@ -1,10 +1,12 @@
-//! The tests of the crates that read the literals and the tokens of CDDL, and of the one that matches items: a crate with
-//! tests of its own is proved twice.
+//! The tests of the crates that read the literals and the tokens of CDDL, of the one that numbers terms, and of the one that
+//! matches items: a crate with tests of its own is proved twice.
 #![tactic(auto)]
 
 #[cfg(test)]
 mod literal;
 #[cfg(test)]
 mod matching;
+#[cfg(test)]
+mod terms;
 #[cfg(test)]
 mod token;
