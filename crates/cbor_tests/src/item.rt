@@ -496,8 +496,34 @@ struct Broken;
 
 impl Read for Broken {
     fn read(&mut self, _buf: &mut [u8]) -> io::Result<usize> {
-        Err(io::Error::from(ErrorKind::Other))
+        Err(io::Error::from(ErrorKind::TimedOut))
     }
+}
+
+impl Write for Broken {
+    fn write(&mut self, _piece: &[u8]) -> io::Result<usize> {
+        Err(io::Error::from(ErrorKind::TimedOut))
+    }
+
+    fn flush(&mut self) -> io::Result<()> {
+        Ok(())
+    }
+}
+
+fn has_timed_out(answer: &io::Result<usize>) -> bool {
+    match answer {
+        Ok(_) => false,
+        Err(error) => matches!(error.kind(), ErrorKind::TimedOut),
+    }
+}
+
+#[test]
+fn hands_on_the_error_of_the_device(rt: HostRuntime) {
+    let mut counted = Counted::new(Broken);
+    let mut buf = [0u8; 4];
+    assert!(rt; has_timed_out(&counted.read(&mut buf)));
+    assert!(rt; has_timed_out(&counted.write(b"a")));
+    assert!(rt; counted.failures() == 2);
 }
 
 // What two reads answer, and how often the device failed in them.
