@@ -1,0 +1,4 @@
+pub mod Lemmas
+mod Digits
+mod Places
+mod Forms

@@ -1,0 +1,3 @@
+pub mod HashForm
+pub mod Occurrence
+pub mod TagNumber
