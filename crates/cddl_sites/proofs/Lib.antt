@@ -1,0 +1,5 @@
+pub mod Adding
+pub mod Asked
+pub mod Containing
+pub mod Nodes
+pub mod Rules

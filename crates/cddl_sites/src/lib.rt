@@ -1,0 +1,12 @@
+//! The sites of a specification's text where something can be wrong, found by one walk over its tree.
+#![tactic(auto)]
+
+pub mod laws;
+mod parts;
+mod push;
+mod site;
+mod walk;
+
+pub use crate::parts::{argument_count, is_range, name_token, occur};
+pub use crate::site::{Found, Site};
+pub use crate::walk::sites;

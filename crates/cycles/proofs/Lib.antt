@@ -1,0 +1,10 @@
+pub mod Lists
+pub mod Ways
+pub mod Marks
+pub mod Steps
+pub mod Entering
+pub mod Closing
+pub mod Moves
+pub mod Ends
+pub mod Flags
+pub mod Loops

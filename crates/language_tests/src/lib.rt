@@ -1,0 +1,5 @@
+//! The tests of the crates that read a specification's tree: a crate with tests of its own is proved twice.
+#![tactic(auto)]
+
+#[cfg(test)]
+mod sites;
