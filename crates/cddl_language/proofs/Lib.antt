@@ -1,6 +1,7 @@
 pub mod Accepted
-pub mod Basics
 pub mod After
+pub mod Basics
+pub mod Choosing
 pub mod Endless
 pub mod Faulty
 pub mod Further

@@ -1,9 +1,10 @@
 -- The language of closed terms: what form of type or group each of them is (RFC 8610 sections 2 and 3). What a type then
 -- says of an item is told by `Says` of `cddl_meaning`, over this language.
-use Rattle.std.specs.Prelude.{Bool, if◌then◌else◌, List, [], map, Option, Some, None}
+use Rattle.std.specs.Prelude.{ℕ, Bool, if◌then◌else◌, List, [], ◌∷◌, ◌++◌, map, Option, Some, None}
 use Rattle.cbor_data.specs.Value.{Value}
 use Rattle.cddl_meaning.specs.Forms as F
 use Rattle.cddl_meaning.specs.Forms.{Node, Language}
+use Rattle.cddl_meaning.specs.Judges.{Answer, Says}
 use Rattle.cddl_language.specs.Numbers.{least_of, most_of, occurs_once, tag_number, hash_form, hash_test}
 use Rattle.cddl_language.specs.Terms.{Text, Term, literal, named, parens, map_of, array_of, unwrapped, choice_of, choice_of_name, tagged, tagged_by, simple_by, hash, range, control, or, Ref, Entries, Entry, typed, keyed, grouped, Definition, choices, alternatives, entry_list, occurrence_of}
 use Rattle.cddl_language.specs.Substitution.{type_choices, group_choices}
@@ -11,10 +12,11 @@ use Rattle.cddl_language.specs.Kinds.{Opened, opens_type, opened, Part, asks_typ
 use Rattle.cddl_language.specs.Literals.{Values, item_of, whole_of}
 use Rattle.cddl_language.specs.Choices.{chosen, chosen_by_name}
 
--- the name of a type: a closed term, or closed terms in their order
+-- the name of a type: a closed term, closed terms in their order, or what `&` chooses from in these alternatives
 pub data TypeName : Type 0 where
   type : Term → TypeName
   any_of : List Term → TypeName
+  chosen_of : List Entries → TypeName
 
 -- the name of a group: alternatives, one of them, an entry, or one round of it
 pub data GroupName : Type 0 where
@@ -31,9 +33,10 @@ type_named ds r = any_of (type_choices ds r)
 abbrev pub nothing : Node TypeName GroupName
 nothing = F.Choice []
 
-abbrev pub choice : Option (List Term) → Node TypeName GroupName
-choice (Some ts) = F.Choice (map type ts)
-choice None = nothing
+-- These types, where there is something to choose from.
+abbrev pub choice : Option (List Term) → List TypeName → Node TypeName GroupName
+choice (Some ts) ns = F.Choice ns
+choice None ns = nothing
 
 -- what `~` opens as a type
 abbrev pub content : Option Opened → Node TypeName GroupName
@@ -46,14 +49,30 @@ between closed _ _ = nothing
 
 -- What is refused is `nothing` here. Maps and controls have no meaning yet.
 module _ (worth : Values) (ds : List Definition) where
+  -- What `&` chooses from: the types of the entries in order, and for a group in them the choice of its own.
+
+  abbrev pub chosen_part_name : Term → Part → TypeName
+  chosen_part_name t asks_type = type t
+  chosen_part_name t (names_group r) = chosen_of (group_choices ds r)
+  chosen_part_name t (opens r g) = chosen_of (alternatives g)
+
+  abbrev pub chosen_name : Entry → TypeName
+  chosen_name (typed o t) = chosen_part_name t (part_of ds t)
+  chosen_name (keyed o k t) = type t
+  chosen_name (grouped o g) = chosen_of (alternatives g)
+
+  abbrev pub chosen_names : List Entries → List TypeName
+  chosen_names [] = []
+  chosen_names (es ∷ ess) = map chosen_name (entry_list es) ++ chosen_names ess
+
   abbrev pub term_node : Term → Node TypeName GroupName
   term_node (literal v) = F.Plain (F.equals (item_of (worth v)))
   term_node (named r) = F.Ref (type_named ds r)
   term_node (parens t) = F.Ref (type t)
   term_node (array_of g) = F.ArrayOf (first_of (alternatives g))
   term_node (unwrapped r) = content (opened ds r)
-  term_node (choice_of g) = choice (chosen ds g)
-  term_node (choice_of_name r) = choice (chosen_by_name ds r)
+  term_node (choice_of g) = choice (chosen ds g) (chosen_names (alternatives g))
+  term_node (choice_of_name r) = choice (chosen_by_name ds r) (chosen_names (group_choices ds r))
   term_node (tagged n t) = F.TagOf (tag_number n) (type t)
   term_node (tagged_by h t) = F.TagOf (F.such_as (type h)) (type t)
   term_node (simple_by h) = F.SimpleBy (type h)
@@ -66,6 +85,7 @@ module _ (worth : Values) (ds : List Definition) where
   abbrev pub type_node : TypeName → Node TypeName GroupName
   type_node (type t) = term_node t
   type_node (any_of ts) = F.Choice (map type ts)
+  type_node (chosen_of ess) = F.Choice (chosen_names ess)
 
   -- An entry asks its type of one item, or does what its group does. Keys in arrays are for the reader (section 3.4).
   abbrev pub part_form : Term → Part → F.Group TypeName GroupName
@@ -90,3 +110,7 @@ module _ (worth : Values) (ds : List Definition) where
 
   abbrev pub language : Language TypeName GroupName
   language = record { type_at = type_node; group_at = group_form }
+
+-- the type says this of the item, in however many judgements
+abbrev pub Saying : Language TypeName GroupName → Node TypeName GroupName → ℕ → Value → Answer → Type 0
+Saying l m p x a = (w : ℕ) × Says l m p x a w

@@ -2,16 +2,17 @@
 //! here do nothing: their contracts are laws, and examples.
 #![tactic(auto)]
 
-ghost use Rattle.std.specs.Prelude.{◌+◌, ◌≢◌, length, slice_index, [], ◌∷◌, ◌≡◌, ℕ, suc, Contains, Bool, List, true, Some};
+ghost use Rattle.std.specs.Prelude.{◌+◌, ◌≢◌, ◌↔◌, map, length, slice_index, [], ◌∷◌, ◌≡◌, ℕ, suc, Contains, Bool, List, true, Some};
 ghost use Rattle.cddl_token.specs.declared.Code.{Code};
 ghost use Rattle.cddl_syntax.specs.Syntax.{Cddl, Rule};
 ghost use Rattle.cddl_language.specs.Faults.{IsAccepted, IsRefused, Specification, definitions, root_of, rules};
 ghost use Rattle.cddl_language.specs.Free.{IsOnCycle};
 ghost use Rattle.cddl_language.specs.Kinds.{Opened, is_group_in, opened_in};
 ghost use Rattle.cbor_data.specs.Value.{Value};
-ghost use Rattle.cddl_meaning.specs.Forms.{Language, any_number_of, at_most, exactly};
+ghost use Rattle.cddl_meaning.specs.Forms.{Choice, Language, any_number_of, at_most, exactly};
 ghost use Rattle.cddl_meaning.specs.Judges.{Answer, Says};
-ghost use Rattle.cddl_language.specs.Language.{language, type_named, type_node};
+ghost use Rattle.cddl_language.specs.Choices.{chosen, chosen_by_name};
+ghost use Rattle.cddl_language.specs.Language.{Saying, language, type, type_named, type_node};
 ghost use Rattle.cddl_language.specs.StandsFor.{StandsFor};
 ghost use Rattle.cddl_ranks.specs.Ranked.{Name};
 ghost use Rattle.cddl_literal.specs.Numbers.{IsUint, number_after};
@@ -20,7 +21,7 @@ ghost use Rattle.cddl_language.specs.Numbers.{hash_form, least_in, most_in, numb
 ghost use Rattle.cddl_language.specs.Literals.{AreRight, AreTokens, Holds, Values};
 ghost use Rattle.cddl_language.specs.Reading.{name_in};
 ghost use Rattle.cddl_language.specs.Reach.{Point, Reaches, points_in, ref_at};
-ghost use Rattle.cddl_language.specs.Terms.{Definition, Literal, Ref, Text, call, name_of, no_terms};
+ghost use Rattle.cddl_language.specs.Terms.{Definition, Group, Literal, Ref, Term, Text, call, choice_of, choice_of_name, name_of, no_terms};
 
 pub mod examples;
 
@@ -32,6 +33,13 @@ pub fn instances_are_least()
 /// Where what names mean refers to names without arguments alone, so is each instance.
 pub fn names_are_instances()
     ensures { (ds : List Definition) (root : Text) → ((n : Text) (p : Point) → Contains (points_in ds (call n no_terms)) p → ref_at p ≡ call (name_of (ref_at p)) no_terms) → (r : Ref) → Reaches ds root r → r ≡ call (name_of r) no_terms }
+{}
+
+/// `&` says of an item what the choice of the types says that it chooses from, one after the other, and shows it at the same
+/// place, though groups in its group are choices of their own.
+pub fn chosen_types_say()
+    ensures group { (worth : Values) (ds : List Definition) (g : Group) (ts : List Term) → chosen ds g ≡ Some ts → (p : ℕ) (x : Value) (a : Answer) → Saying (language worth ds) (Choice (map type ts)) p x a ↔ Saying (language worth ds) (type_node worth ds (type (choice_of g))) p x a }
+    ensures name { (worth : Values) (ds : List Definition) (r : Ref) (ts : List Term) → chosen_by_name ds r ≡ Some ts → (p : ℕ) (x : Value) (a : Answer) → Saying (language worth ds) (Choice (map type ts)) p x a ↔ Saying (language worth ds) (type_node worth ds (type (choice_of_name r))) p x a }
 {}
 
 /// Once `~` has opened something, or a name is a group's, ways through more names change nothing.

@@ -42,7 +42,7 @@ still_text old new x adds n y no_text = no_text
 still_text old new x (inl same) n y (some_text {n = k} {x = z} e) = some_text (subst (λ xs. slice_get xs k ≡ Some z) (sym same) e)
 still_text old new x (inr same) n y (some_text {n = k} {x = z} e) = some_text (subst (λ xs. slice_get xs k ≡ Some z) (sym same) (get-before old (x ∷ []) k z e))
 
-still_get : {A : Type 0} (old new : List A) (x : A) → Adds old x new → (n : ℕ) (y : A) → slice_get old n ≡ Some y → slice_get new n ≡ Some y
+pub still_get : {A : Type 0} (old new : List A) (x : A) → Adds old x new → (n : ℕ) (y : A) → slice_get old n ≡ Some y → slice_get new n ≡ Some y
 still_get old new x (inl same) n y e = subst (λ xs. slice_get xs n ≡ Some y) (sym same) e
 still_get old new x (inr same) n y e = subst (λ xs. slice_get xs n ≡ Some y) (sym same) (get-before old (x ∷ []) n y e)
 

@@ -52,3 +52,12 @@ pub data HoldsText (xs : List Text) : Option ℕ → Option Text → Type 0 wher
 pub data Holds (t : Table) : Option ℕ → Tree → Type 0 where
   no_part : Holds t None nothing
   part : {n : ℕ} {f : Form} {m i j : Option ℕ} {x : Option Text} {a b : Tree} → slice_get t.rows n ≡ Some (record { form = f; text = m; first = i; second = j }) → HoldsText t.texts m x → Holds t i a → Holds t j b → Holds t (Some n) (node f x a b)
+
+-- the new table has what the old one has, at the same numbers
+pub record Grows (old new : Table) : Type 0 where
+  pub texts : (n : ℕ) (x : Text) → slice_get old.texts n ≡ Some x → slice_get new.texts n ≡ Some x
+  pub rows : (n : ℕ) (r : Row) → slice_get old.rows n ≡ Some r → slice_get new.rows n ≡ Some r
+
+-- no part, or a row of the table
+abbrev pub IsPart : Table → Option ℕ → Type 0
+IsPart t n = IfSome n (λ i. i < length t.rows)

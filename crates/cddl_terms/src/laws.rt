@@ -3,10 +3,11 @@ ghost use Rattle.cddl_terms.specs.declared.row.Row.{Row};
 ghost use Rattle.cddl_language.specs.Terms.{Text, Term, Ref, Terms as TermList, Group, Entries, Entry, Key};
 ghost use Rattle.cddl_language.specs.Substitution.{fill, fill_ref, fill_all, fill_group, fill_entries, fill_entry, fill_key};
 ghost use Rattle.cddl_language.specs.Terms as L;
-ghost use Rattle.cddl_terms.specs.Definitions.{AreSame, IsDefinition};
+ghost use Rattle.cddl_terms.specs.Definitions.{AreDefinitions, AreSame, AreTexts, IsBody, IsDefinition};
+ghost use Rattle.cddl_terms.specs.declared.definition.Body.{Body};
 ghost use Rattle.cddl_terms.specs.declared.definition.Definition.{Definition};
 ghost use Rattle.cddl_terms.specs.Filled.{filled, term_trees};
-ghost use Rattle.cddl_terms.specs.Table.{AddsRow, AddsText, Holds, IsTable, Table, Tree};
+ghost use Rattle.cddl_terms.specs.Table.{AddsRow, AddsText, Grows, Holds, IsPart, IsTable, Table, Tree};
 ghost use Rattle.cddl_terms.specs.Trees.{IsTerm, IsRef, IsTerms, IsGroup, IsEntries, IsEntry, IsKey, term_tree, ref_tree, terms_tree, group_tree, entries_tree, entry_tree, key_tree};
 
 use crate::terms::Terms;
@@ -28,6 +29,20 @@ pub fn rows_stand(terms: &Terms)
 pub fn adding_keeps()
     ensures row { (old new : Table) (r : Row) → AddsRow old r new → (n : Option ℕ) (x : Tree) → Holds old n x → Holds new n x }
     ensures text { (old new : Table) (s : Text) → AddsText old s new → (n : Option ℕ) (x : Tree) → Holds old n x → Holds new n x }
+{}
+
+/// What numbers stand for stays when a table grows, by however many rows and texts.
+pub fn growing_keeps()
+    ensures same { (t : Table) → Grows t t }
+    ensures further { (a b c : Table) → Grows a b → Grows b c → Grows a c }
+    ensures row { (old new : Table) (r : Row) → AddsRow old r new → Grows old new }
+    ensures text { (old new : Table) (s : Text) → AddsText old s new → Grows old new }
+    ensures part { (old new : Table) → Grows old new → (n : Option ℕ) → IsPart old n → IsPart new n }
+    ensures tree { (old new : Table) → Grows old new → (n : Option ℕ) (x : Tree) → Holds old n x → Holds new n x }
+    ensures texts { (old new : Table) → Grows old new → (ns : List ℕ) (xs : List Text) → AreTexts old.texts ns xs → AreTexts new.texts ns xs }
+    ensures body { (old new : Table) → Grows old new → (b : Body) (x : L.Body) → IsBody old b x → IsBody new b x }
+    ensures definition { (old new : Table) → Grows old new → (d : Definition) (x : L.Definition) → IsDefinition old d x → IsDefinition new d x }
+    ensures definitions { (old new : Table) → Grows old new → (ds : List Definition) (xs : List L.Definition) → AreDefinitions old ds xs → AreDefinitions new ds xs }
 {}
 
 /// Numbers of one table are equal exactly where what they stand for is equal.

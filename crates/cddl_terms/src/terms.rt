@@ -1,8 +1,8 @@
 ghost use Rattle.std.specs.Prelude.{◌≡◌, ◌≢◌, ◌<◌, ℕ, IfNone, IfOk, IfSome, Some, [], slice_get, length, option_map, Option};
 ghost use Rattle.cddl_language.specs.Terms.{Text};
-ghost use Rattle.cddl_terms.specs.Table.{Adds, AddsRow, AddsText, AreDistinct, HasParts, Holds, HoldsText, IsTable, Tree, node, texts_in};
+ghost use Rattle.cddl_terms.specs.Table.{Adds, AddsRow, AddsText, AreDistinct, Grows, HasParts, Holds, HoldsText, IsPart, IsTable, Tree, node, texts_in};
 
-use crate::row::Row;
+use crate::row::{Form, Row};
 use indexmap::IndexSet;
 use std::alloc::Global;
 use std::marker::Model;
@@ -45,6 +45,7 @@ impl<'s> Terms<'s> {
     pub fn add_text(&mut self, text: &'s str) -> Result<u32, NoRoom>
         ensures there { IfOk result (λ n. slice_get self.new.texts n ≡ Some text.now) }
         ensures adds { AddsText self.old text.now self.new }
+        ensures grows { Grows self.old self.new }
     {
         insert_text(&mut self.texts, text)
     }
@@ -54,9 +55,45 @@ impl<'s> Terms<'s> {
         requires parts { HasParts self.old row }
         ensures there { IfOk result (λ n. slice_get self.new.rows n ≡ Some row) }
         ensures adds { AddsRow self.old row self.new }
+        ensures grows { Grows self.old self.new }
         ensures stands { IfOk result (λ n. (x : Option Text) (a b : Tree) → HoldsText self.old.texts row.text x → Holds self.old row.first a → Holds self.old row.second b → Holds self.new (Some n) (node row.form x a b)) }
     {
         insert_row(&mut self.rows, row)
+    }
+
+    /// The number of the row of this form with this text, if any, and with these parts, each added if it isn't there. It
+    /// costs a hash of the text and of the row.
+    pub fn add_node(
+        &mut self,
+        form: Form,
+        text: Option<&'s str>,
+        first: Option<u32>,
+        second: Option<u32>,
+    ) -> Result<u32, NoRoom>
+        requires first { IsPart self.old first }
+        requires second { IsPart self.old second }
+        ensures grows { Grows self.old self.new }
+        ensures row { IfOk result (λ n. IsPart self.new (Some n)) }
+        ensures stands { IfOk result (λ n. (a b : Tree) → Holds self.old first a → Holds self.old second b → Holds self.new (Some n) (node form (option_map (λ s. s.now) text.entry) a b)) }
+    {
+        let number = self.number_text(text)?;
+        self.add(Row {
+            form,
+            text: number,
+            first,
+            second,
+        })
+    }
+
+    /// The number of the text, if one is given.
+    fn number_text(&mut self, text: Option<&'s str>) -> Result<Option<u32>, NoRoom>
+        ensures grows { Grows self.old self.new }
+        ensures there { IfOk result (λ n. HoldsText self.new.texts n (option_map (λ s. s.now) text.entry)) }
+    {
+        match text {
+            Some(text) => Ok(Some(self.add_text(text)?)),
+            None => Ok(None),
+        }
     }
 
     /// The number of the text, if it is there. It costs a hash of the text.
@@ -88,6 +125,20 @@ impl<'s> Terms<'s> {
         ensures { option_map (λ t. t.now) result ≡ slice_get self.now.texts number }
     {
         self.texts.get_index(number as usize).copied()
+    }
+
+    /// The number of texts.
+    pub fn text_count(&self) -> usize
+        ensures value { result ≡ length self.now.texts }
+    {
+        self.texts.len()
+    }
+
+    /// The text at the index, as [`Terms::text`] has it of a number.
+    pub fn text_at(&self, index: usize) -> Option<&'s str>
+        ensures { option_map (λ t. t.now) result ≡ slice_get self.now.texts index }
+    {
+        self.texts.get_index(index).copied()
     }
 }
 

@@ -61,6 +61,34 @@ fn numbers_equal_texts_once(rt: HostRuntime) {
     assert!(rt; terms.text(0) == Some("int") && terms.text(2).is_none());
 }
 
+/// The number of the name's use as a type, as `int`: a reference without arguments.
+fn number_of_use<'s>(terms: &mut Terms<'s>, name: &'s str) -> Result<u32, NoRoom> {
+    let nothing = terms.add_node(Form::NoTerms, None, None, None)?;
+    let reference = terms.add_node(Form::Call, Some(name), Some(nothing), None)?;
+    terms.add_node(Form::Named, None, Some(reference), None)
+}
+
+#[test]
+fn numbers_nodes_and_texts(rt: HostRuntime) {
+    let mut terms = Terms::new(rt.alloc());
+    let one = number_of_use(&mut terms, "int");
+    let other = number_of_use(&mut terms, "tstr");
+    assert!(rt; matches!((one, other), (Ok(2), Ok(4))) && terms.len() == 5);
+    assert!(rt;
+        matches!(
+            terms.row(3),
+            Some(Row {
+                form: Form::Call,
+                text: Some(1),
+                first: Some(0),
+                second: None,
+            })
+        )
+    );
+    assert!(rt; terms.text_count() == 2 && terms.text_at(2).is_none());
+    assert!(rt; terms.text_at(0) == Some("int") && terms.text_at(1) == Some("tstr"));
+}
+
 /// Whether there was room for two texts and two rows; then they have their numbers.
 fn are_numbered_or_refused(alloc: Global) -> bool {
     let mut terms = Terms::new(alloc);

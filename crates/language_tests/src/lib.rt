@@ -2,4 +2,6 @@
 #![tactic(auto)]
 
 #[cfg(test)]
+mod reader;
+#[cfg(test)]
 mod sites;

@@ -1,0 +1,3 @@
+pub mod Environment
+pub mod Names
+pub mod Places

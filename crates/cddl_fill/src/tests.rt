@@ -1,0 +1,172 @@
+use crate::Template;
+use crate::filling::is_part;
+use crate::store::push;
+use cddl_terms::{Form, NoRoom, Terms};
+use std::alloc::Global;
+
+/// The number of a row, whose parts have to be there.
+fn add<'s>(
+    terms: &mut Terms<'s>,
+    form: Form,
+    text: Option<&'s str>,
+    first: Option<u32>,
+    second: Option<u32>,
+) -> Result<u32, NoRoom> {
+    if is_part(terms, first) && is_part(terms, second) {
+        terms.add_node(form, text, first, second)
+    } else {
+        Err(NoRoom)
+    }
+}
+
+/// The name as a type, `name` or `~name`.
+fn name<'s>(terms: &mut Terms<'s>, form: Form, text: &'s str) -> Result<u32, NoRoom> {
+    let none = add(terms, Form::NoTerms, None, None, None)?;
+    let call = add(terms, Form::Call, Some(text), Some(none), None)?;
+    add(terms, form, None, Some(call), None)
+}
+
+/// The entries with a name after them.
+fn with_name<'s>(
+    terms: &mut Terms<'s>,
+    entries: u32,
+    form: Form,
+    text: &'s str,
+) -> Result<u32, NoRoom> {
+    let value = name(terms, form, text)?;
+    let entry = add(terms, Form::Typed, None, Some(value), None)?;
+    add(terms, Form::EntriesComma, None, Some(entries), Some(entry))
+}
+
+/// `[one, other, ]`, where the other may have a `~`.
+fn pair<'s>(
+    terms: &mut Terms<'s>,
+    one: &'s str,
+    form: Form,
+    other: &'s str,
+) -> Result<u32, NoRoom> {
+    let none = add(terms, Form::NoEntries, None, None, None)?;
+    let first = with_name(terms, none, Form::Named, one)?;
+    let both = with_name(terms, first, form, other)?;
+    let group = add(terms, Form::Sole, None, Some(both), None)?;
+    add(terms, Form::ArrayOf, None, Some(group), None)
+}
+
+/// What `[t, ~u, ]` is with these parameters, and with these names as arguments.
+fn fill_pair<'s>(
+    alloc: Global,
+    terms: &mut Terms<'s>,
+    parameters: [&'s str; 2],
+    names: &[&'s str],
+) -> Result<u32, NoRoom> {
+    let body = pair(terms, "t", Form::Unwrapped, "u")?;
+    let numbers = [
+        terms.add_text(parameters[0])?,
+        terms.add_text(parameters[1])?,
+    ];
+    let template = Template::new(alloc, terms, &numbers, body)?;
+    let mut arguments = Vec::new(alloc);
+    for text in names {
+        push(&mut arguments, name(terms, Form::Named, text)?)?;
+    }
+    template.fill(alloc, terms, &arguments)
+}
+
+/// Whether `[t, ~u, ]` filled so is `[one, other, ]`.
+fn is_pair<'s>(
+    alloc: Global,
+    parameters: [&'s str; 2],
+    names: &[&'s str],
+    one: &'s str,
+    form: Form,
+    other: &'s str,
+) -> Result<bool, NoRoom> {
+    let mut terms = Terms::new(alloc);
+    let filled = fill_pair(alloc, &mut terms, parameters, names)?;
+    Ok(filled == pair(&mut terms, one, form, other)?)
+}
+
+/// The type in a choice with itself, and that in a choice with itself, so often.
+fn doubled(terms: &mut Terms<'_>, value: u32, times: u32) -> Result<u32, NoRoom> {
+    let mut whole = value;
+    for _ in 0..times {
+        whole = add(terms, Form::Or, None, Some(whole), Some(whole))?;
+    }
+    Ok(whole)
+}
+
+/// Whether a body that is shared in 2 to the 1,000 places is filled, one row at a time.
+fn shares(alloc: Global) -> Result<bool, NoRoom> {
+    let mut terms = Terms::new(alloc);
+    let parameter = terms.add_text("t")?;
+    let name_t = name(&mut terms, Form::Named, "t")?;
+    let body = doubled(&mut terms, name_t, 1000)?;
+    let before = terms.len();
+    let int = name(&mut terms, Form::Named, "int")?;
+    let template = Template::new(alloc, &terms, &[parameter], body)?;
+    let filled = template.fill(alloc, &mut terms, &[int])?;
+    let after = terms.len();
+    Ok(after.saturating_sub(before) == 1002 && doubled(&mut terms, int, 1000)? == filled)
+}
+
+#[test]
+fn fills(rt: HostRuntime) {
+    let both = is_pair(
+        rt.alloc(),
+        ["t", "u"],
+        &["int", "tstr"],
+        "int",
+        Form::Named,
+        "tstr",
+    );
+    assert!(rt; matches!(both, Ok(true)));
+    let one = is_pair(
+        rt.alloc(),
+        ["t", "u"],
+        &["int"],
+        "int",
+        Form::Unwrapped,
+        "u",
+    );
+    assert!(rt; matches!(one, Ok(true)), "the second has no argument");
+    let first = is_pair(
+        rt.alloc(),
+        ["u", "u"],
+        &["int", "tstr"],
+        "t",
+        Form::Named,
+        "int",
+    );
+    assert!(rt;
+        matches!(first, Ok(true)),
+        "the first of equal parameters counts"
+    );
+    let none = is_pair(
+        rt.alloc(),
+        ["v", "w"],
+        &["int", "tstr"],
+        "t",
+        Form::Unwrapped,
+        "u",
+    );
+    assert!(rt; matches!(none, Ok(true)), "the body has no parameter");
+}
+
+#[test]
+fn fills_shared_rows_once(rt: HostRuntime) {
+    assert!(rt; matches!(shares(rt.alloc()), Ok(true)));
+}
+
+// Run with each allocation refused in turn (`rt try --test --fail-alloc N`), this finds no other answer.
+#[test]
+fn fills_or_wants_room(rt: HostRuntime) {
+    let both = is_pair(
+        rt.alloc(),
+        ["t", "u"],
+        &["int", "tstr"],
+        "int",
+        Form::Named,
+        "tstr",
+    );
+    assert!(rt; !matches!(both, Ok(false)));
+}

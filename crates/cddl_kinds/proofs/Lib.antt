@@ -1,0 +1,5 @@
+pub mod Answering
+pub mod Heading
+pub mod Kinding
+pub mod Opening
+pub mod Tops

@@ -1,0 +1,4 @@
+pub mod Defining
+pub mod Growing
+pub mod Lists
+pub mod Members
