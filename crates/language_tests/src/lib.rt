@@ -5,3 +5,5 @@
 mod reader;
 #[cfg(test)]
 mod sites;
+#[cfg(test)]
+mod survey;

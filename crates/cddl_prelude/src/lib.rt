@@ -1,0 +1,10 @@
+//! The prelude of each specification (RFC 8610 appendix D), by the numbers of a table of terms.
+#![tactic(auto)]
+
+mod lines;
+mod numbering;
+mod prelude;
+#[cfg(test)]
+mod tests;
+
+pub use crate::prelude::add_prelude;
