@@ -1,0 +1,4 @@
+mod Counting
+pub mod Lemmas
+mod Reached
+mod Standing

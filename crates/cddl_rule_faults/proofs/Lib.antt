@@ -1,0 +1,3 @@
+pub mod Arities
+pub mod Roots
+pub mod Rules

@@ -1,0 +1,2 @@
+pub mod Arity
+pub mod Root

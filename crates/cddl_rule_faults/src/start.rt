@@ -1,0 +1,24 @@
+ghost use Rattle.std.specs.Prelude.{◌≡◌};
+ghost use Rattle.cddl_language.specs.Reading.{name_at};
+ghost use Rattle.cddl_tree.specs.View.{token_of, view_rule};
+
+use cddl_tree::{Rule, RuleName, Tree};
+
+/// The offset of the name that a rule defines.
+pub(crate) fn start_of(tree: &Tree<'_>, rule: &Rule) -> usize
+    ensures { result ≡ name_at (view_rule (token_of tree.now) rule.now) }
+{
+    match rule {
+        Rule::TypeRule { name, .. } => name_start(tree, name),
+        Rule::GroupRule { name, .. } => name_start(tree, name),
+    }
+}
+
+fn name_start(tree: &Tree<'_>, name: &RuleName) -> usize
+    ensures { result ≡ (Rattle.cddl_language.specs.Reading.name_token (Rattle.cddl_tree.specs.View.view_name (token_of tree.now) name.now)).start }
+{
+    match name {
+        RuleName::Plain(leaf) => tree.token(*leaf).start,
+        RuleName::Generic { opening, .. } => tree.token(*opening).start,
+    }
+}

@@ -1,0 +1,6 @@
+pub mod Lemmas
+pub mod Marking
+pub mod Naming
+pub mod Telling
+pub mod Tokens
+pub mod Used

@@ -1,0 +1,4 @@
+pub mod Marks
+pub mod Names
+pub mod Reads
+pub mod Sites

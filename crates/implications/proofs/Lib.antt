@@ -1,0 +1,4 @@
+pub mod Lists
+pub mod Least
+pub mod Places
+pub mod Steps
