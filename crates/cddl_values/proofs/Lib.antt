@@ -1,0 +1,3 @@
+mod Uints
+mod Quoting
+mod Answering

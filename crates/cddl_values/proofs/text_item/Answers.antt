@@ -1,0 +1,11 @@
+use Rattle.std.proofs.Common.{subst, sym}
+use Rattle.cddl_language.specs.Terms as L
+use Rattle.cddl_values.specs.Values.{IsValueOf}
+use Rattle.cddl_values.proofs.Answering.{text_some, text_none}
+use Rattle.cddl_values.proofs.text_item.Goals as goal
+
+pub returns-in-Some : goal.returns-in-Some
+returns-in-Some c = subst (IsValueOf (L.text c.args.text.now)) (sym c.literal_item.ensures) (text_some c.args.text.now _ (rw c.in-Some.is at c.in_ok-value.ensures))
+
+pub returns-in-None : goal.returns-in-None
+returns-in-None c = text_none c.args.text.now (rw c.in-None.is at c.in_ok-value.ensures)
