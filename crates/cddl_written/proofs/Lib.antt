@@ -1,0 +1,6 @@
+pub mod Choices
+pub mod Filled
+pub mod Found
+pub mod Meant
+pub mod Reached
+pub mod Settled
