@@ -1,0 +1,5 @@
+pub mod Alike
+pub mod Groups
+pub mod Rows
+pub mod Reached
+pub mod Walks

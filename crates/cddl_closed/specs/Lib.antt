@@ -1,0 +1,4 @@
+pub mod Closed
+pub mod Joining
+pub mod Looking
+pub mod Spines

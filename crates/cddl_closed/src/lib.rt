@@ -1,0 +1,17 @@
+//! What the instances of a specification mean, by the rows of a table of terms: the choices and the alternatives of each.
+#![tactic(auto)]
+
+mod closed;
+mod joining;
+pub mod laws;
+mod looking;
+mod meanings;
+mod spines;
+mod store;
+
+pub use crate::closed::{Closed, Meaning};
+pub use crate::meanings::close;
+pub use crate::spines::{alternatives, choices, entries};
+
+#[cfg(test)]
+mod tests;
