@@ -1,0 +1,4 @@
+pub mod Causes
+pub mod Empty
+pub mod Occurrences
+pub mod Rules

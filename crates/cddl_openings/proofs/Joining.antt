@@ -1,0 +1,21 @@
+-- Lists that are related one for one.
+use Rattle.std.proofs.Common.{◌≡◌, ℕ, zero, suc, List, [], ◌∷◌, Some, refl, subst, slice_get, arith}
+use Rattle.std.specs.Prelude.{Contains}
+use Rattle.cddl_meaning.specs.Alike.{AlikeAll, both}
+
+pub alike_at : {N M : Type 0} (R : N → M → Type 0) (ns : List N) (ms : List M) → AlikeAll R ns ms → (k : ℕ) (n : N) → slice_get ns k ≡ Some n → (m : M) × (slice_get ms k ≡ Some m) × R n m
+alike_at R [] ms h k n e = cc
+alike_at {N = N} {M = M} R (n ∷ ns) [] h k x e = elim h [ ]
+alike_at {N = N} {M = M} R (n ∷ ns) (m ∷ ms) (both h hs) zero x e = (m, refl, subst (λ (y : N). R y m) (same n x e) h)
+  where
+    same : (y z : N) → Some y ≡ Some z → y ≡ z
+    same y z e = cc
+alike_at R (n ∷ ns) (m ∷ ms) (both h hs) (suc k) x e = alike_at R ns ms hs k x e
+
+pub contains_at : {A : Type 0} (xs : List A) (k : ℕ) (x : A) → slice_get xs k ≡ Some x → Contains xs x
+contains_at [] k x e = cc
+contains_at {A = A} (y ∷ ys) zero x e = (zero, omega arith, same y x e)
+  where
+    same : (y z : A) → Some y ≡ Some z → y ≡ z
+    same y z e = cc
+contains_at (y ∷ ys) (suc k) x e = let c = contains_at ys k x e in (suc c.0, omega (arith, c.1), c.2)

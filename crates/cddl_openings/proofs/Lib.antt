@@ -1,0 +1,4 @@
+pub mod Chaining
+pub mod Joining
+pub mod Leading
+pub mod Parting

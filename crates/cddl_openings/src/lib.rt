@@ -1,0 +1,13 @@
+//! What `~` of each instance of a specification opens, and whether an entry's type is a type or a group, by rows of a table.
+#![tactic(auto)]
+
+pub mod laws;
+mod links;
+mod openings;
+mod parts;
+
+pub use crate::openings::{Opening, Part, openings_of};
+pub use crate::parts::part_of;
+
+#[cfg(test)]
+mod tests;
