@@ -94,7 +94,7 @@ module _ (texts : List Text) (f : ℕ → Option ℕ) (g : Text → Bool) (agree
     body_kind h (of_types t) k = type_kind h (stripped t) k
     body_kind h (of_entry e) is_in_group = refl
 
-  definition_kind : (h : Head) (x : L.Definition) → is_group_socket x.name ≡ false → IsHead texts h (top_body x.parameters x.body) → (s : Sign) (z : L.Sign) → sign_of s ≡ z → IsKind (kind_of os s h) (defines_group g xs x z)
+  pub definition_kind : (h : Head) (x : L.Definition) → is_group_socket x.name ≡ false → IsHead texts h (top_body x.parameters x.body) → (s : Sign) (z : L.Sign) → sign_of s ≡ z → IsKind (kind_of os s h) (defines_group g xs x z)
   definition_kind h x e k SignV.Is L.is i = subst (λ b. IsKind (kind_of os SignV.Is h) (if b then true else is_group_body g xs x.parameters x.body)) (sym e) (body_kind x.parameters h x.body k)
   definition_kind h x e k SignV.TypeOr L.type_or i = refl
   definition_kind h x e k SignV.GroupOr L.group_or i = refl

@@ -1,4 +1,5 @@
 pub mod Answering
+pub mod Defining
 pub mod Heading
 pub mod Kinding
 pub mod Opening

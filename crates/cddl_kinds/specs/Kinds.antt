@@ -1,8 +1,13 @@
 -- What the kinds of names are, by the numbers of their texts.
-use Rattle.std.specs.Prelude.{◌≡◌, ℕ, nat_eq, Bool, if◌then◌else◌, List, Option, Some, None, slice_get}
+use Rattle.std.specs.Prelude.{◌≡◌, ℕ, nat_eq, Bool, true, ◌&&◌, if◌then◌else◌, List, Option, Some, None, slice_get}
+use Rattle.chains.specs.declared.Link.{Link}
+use Rattle.chains.specs.declared.Link.TheVariants as LinkV
 use Rattle.cddl_language.specs.Terms as L
 use Rattle.cddl_language.specs.Terms.{Text, Ref, Terms, call}
 use Rattle.cddl_language.specs.Kinds.{Opened, opens_group, opens_type, opened, is_group}
+use Rattle.cddl_terms.specs.declared.definition.Sign.{Sign}
+use Rattle.cddl_environment.specs.Places.{is_equals}
+use Rattle.cddl_kinds.specs.declared.heads.Head.{Head}
 use Rattle.cddl_kinds.specs.declared.kinds.Kinds.{Kinds}
 use Rattle.cddl_kinds.specs.declared.kinds.Shape.{Shape}
 use Rattle.cddl_kinds.specs.declared.kinds.Shape.TheVariants as ShapeV
@@ -35,6 +40,15 @@ shape_there ks k = answered_sort (answered_there (slice_get ks.opened.items k))
 
 abbrev pub is_group_there : Kinds → ℕ → Bool
 is_group_there ks k = N.opens_group (slice_get ks.groups.items k)
+
+-- whether the chain that goes on by this link ends at a group
+abbrev pub leads_to_group : Kinds → Link → Bool
+leads_to_group ks (LinkV.End a) = nat_eq a N.group_answer
+leads_to_group ks (LinkV.Next k) = is_group_there ks k
+
+-- whether a definition of this sign and head is a group's; (socket: its name is `$$` and a name)
+abbrev pub defines_group_by : Kinds → (socket : Bool) → Sign → Head → Bool
+defines_group_by ks socket s h = if socket && is_equals s then true else leads_to_group ks (N.kind_of ks.opened.items s h)
 
 -- for each name; what is opened has one sort for all arguments
 pub record AreKinds (texts : List Text) (xs : List L.Definition) (ks : Kinds) : Type 0 where

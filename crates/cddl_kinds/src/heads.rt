@@ -42,7 +42,7 @@ pub(crate) fn heads(
     Ok(heads)
 }
 
-fn head_of(terms: &Terms<'_>, definition: &Definition) -> Head
+pub(crate) fn head_of(terms: &Terms<'_>, definition: &Definition) -> Head
     ensures { HasHead terms.now definition.now result }
 {
     terms.len();

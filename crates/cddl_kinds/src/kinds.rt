@@ -1,16 +1,19 @@
 ghost use Rattle.std.specs.Prelude.{◌≡◌, IfOk, List, length, option_map};
 ghost use Rattle.cddl_language.specs.Prelude.{prelude};
 ghost use Rattle.cddl_language.specs.Terms as L;
-ghost use Rattle.cddl_terms.specs.Definitions.{AreDefinitions};
+ghost use Rattle.cddl_terms.specs.Definitions.{AreDefinitions, IsDefinition};
 ghost use Rattle.cddl_environment.specs.Names.{AreNames};
-ghost use Rattle.cddl_kinds.specs.Kinds.{AreKinds, is_group_there, shape_there, sort_in};
+ghost use Rattle.cddl_environment.specs.Places.{is_equals};
+ghost use Rattle.cddl_kinds.specs.Kinds.{AreKinds, defines_group_by, is_group_there, leads_to_group, shape_there, sort_in};
+ghost use Rattle.cddl_language.specs.Kinds.{is_group_definition};
 
-use crate::heads::heads;
-use crate::links::{GROUP, TYPE, kind_links, opening_links};
+use crate::heads::{Head, head_of, heads};
+use crate::links::{GROUP, TYPE, kind_links, kind_of, opening_links, text_at};
 use cddl_environment::Name;
 use cddl_environment::laws::names_stand;
-use cddl_terms::{Definition, Terms};
-use chains::ends;
+use cddl_terms::{Definition, Sign, Terms};
+use cddl_texts::is_group_socket;
+use chains::{Link, ends};
 use std::alloc::{AllocError, Global};
 
 /// What `~` of a name opens.
@@ -47,6 +50,42 @@ impl Kinds {
             _ => None,
         }
     }
+
+    /// Whether the definition gives its name the kind of a group: `//=` does, and `/=` does not; `=` does for `$$name`, and
+    /// else where its body has that kind (RFC 8610 sections 2.2.2 and 3.9). The definition is of the text whose kinds these are.
+    ///
+    /// It takes a time in proportion to the parentheses round the body and the parameters.
+    pub fn is_group_definition(&self, terms: &Terms<'_>, definition: &Definition) -> bool
+        ensures { (xs : List L.Definition) (x : L.Definition) → AreKinds terms.now.texts xs self.now → IsDefinition terms.now definition.now x → result ≡ is_group_definition xs x }
+    {
+        let is_socket = is_group_socket(text_at(terms, definition.name as usize));
+        self.defines_group(is_socket, definition.sign, head_of(terms, definition))
+    }
+
+    fn defines_group(&self, is_socket: bool, sign: Sign, head: Head) -> bool
+        ensures { result ≡ defines_group_by self.now is_socket sign head }
+    {
+        if is_socket && is_equals(sign) {
+            return true;
+        }
+        self.leads_to_group(kind_of(sign, head, &self.opened))
+    }
+
+    /// Whether a chain that goes on so ends at a group.
+    fn leads_to_group(&self, link: Link) -> bool
+        ensures { result ≡ leads_to_group self.now link }
+    {
+        match link {
+            Link::End(answer) => answer == GROUP,
+            Link::Next(name) => matches!(self.groups.get(name), Some(Some(GROUP))),
+        }
+    }
+}
+
+fn is_equals(sign: Sign) -> bool
+    ensures { result ≡ is_equals sign }
+{
+    matches!(sign, Sign::Is)
 }
 
 /// The kinds of all names of the table, where the prelude and the text have these definitions, and what `~` of each name opens

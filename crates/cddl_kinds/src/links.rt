@@ -36,7 +36,7 @@ pub(crate) fn opening_links(
 }
 
 /// The text of the number; the empty text, where there is none.
-fn text_at<'s>(terms: &Terms<'s>, number: usize) -> &'s str
+pub(crate) fn text_at<'s>(terms: &Terms<'s>, number: usize) -> &'s str
     ensures { result.now ≡ text_there (slice_get terms.now.texts number) }
 {
     terms.text_at(number).unwrap_or("")
@@ -137,7 +137,7 @@ fn kind_at(definitions: &[Definition], own: &[Head], opened: &[Option<u32>], pla
     }
 }
 
-fn kind_of(sign: Sign, head: Head, opened: &[Option<u32>]) -> Link
+pub(crate) fn kind_of(sign: Sign, head: Head, opened: &[Option<u32>]) -> Link
     ensures { result ≡ kind_of opened.now sign head }
 {
     match (sign, head) {

@@ -1,2 +1,4 @@
 pub mod Arity
+pub mod Duplicates
+pub mod Kinds
 pub mod Root

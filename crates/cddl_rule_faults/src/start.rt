@@ -1,4 +1,4 @@
-ghost use Rattle.std.specs.Prelude.{◌≡◌};
+ghost use Rattle.std.specs.Prelude.{◌≡◌, if◌then◌else◌, Some, None};
 ghost use Rattle.cddl_language.specs.Reading.{name_at};
 ghost use Rattle.cddl_tree.specs.View.{token_of, view_rule};
 
@@ -11,6 +11,17 @@ pub(crate) fn start_of(tree: &Tree<'_>, rule: &Rule) -> usize
     match rule {
         Rule::TypeRule { name, .. } => name_start(tree, name),
         Rule::GroupRule { name, .. } => name_start(tree, name),
+    }
+}
+
+/// That offset, where the rule has a fault.
+pub(crate) fn start_if(tree: &Tree<'_>, rule: &Rule, is_fault: bool) -> Option<usize>
+    ensures { result ≡ (if is_fault then Some (name_at (view_rule (token_of tree.now) rule.now)) else None) }
+{
+    if is_fault {
+        Some(start_of(tree, rule))
+    } else {
+        None
     }
 }
 

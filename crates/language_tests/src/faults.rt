@@ -1,7 +1,9 @@
 ghost use Rattle.cddl_parse.specs.States.{EndsInEnd};
 
 use cddl_parse::{parse, tokens_end};
-use cddl_rule_faults::{bad_root, no_root, root_of, wrong_arity as wrong_arity_of_rule};
+use cddl_rule_faults::{
+    bad_root, duplicate, kind_clash, no_root, root_of, wrong_arity as wrong_arity_of_rule,
+};
 use cddl_site_faults::{bad_hash, group_as_type, undefined, unknown_control, wrong_arity};
 use cddl_survey::{Survey, survey_of};
 use cddl_terms::{NoRoom, Terms};
@@ -11,7 +13,24 @@ use std::alloc::Global;
 
 /// The number of a fault's code, `4r` for what is told at rules, the least offset at which it stands or `-`, and the text of a
 /// specification.
-const ROWS: &str = "3 4 a = b
+const ROWS: &str = "1 8 a = int a = tstr
+1 - a = int a = int
+1 8 a = int a = (int)
+1 - a = int a /= tstr
+1 - a /= tstr a = int
+1 - $$a = (b: int) $$a //= (b: int)
+1 16 a = int a = int a = tstr
+1 5 a<b, b> = b
+1 11 a<b, c, d, c> = b
+2 8 a = int a //= (b: int)
+2 13 a = (b: int) a /= int
+2 - a = int a /= tstr
+2 - $$a = int
+2 0 $$a /= int
+2 0 $a //= (b: int)
+2 0 int //= (b: int)
+2 - a = b b = (c: int) a //= (d: int)
+3 4 a = b
 3 - a = $b
 3 - a = $$b
 3 - a<t> = t
@@ -68,6 +87,8 @@ fn offset(
     code: &str,
 ) -> Option<usize> {
     match code {
+        "1" => duplicate(alloc, terms, tree, survey).unwrap_or(None),
+        "2" => kind_clash(terms, tree, survey),
         "3" => undefined(alloc, terms, tree, survey).unwrap_or(None),
         "4" => wrong_arity(alloc, terms, tree, survey).unwrap_or(None),
         "4r" => wrong_arity_of_rule(terms, tree, survey),

@@ -1,0 +1,13 @@
+//! From which groups of a specification `&` can choose, by rows of a table.
+#![tactic(auto)]
+
+mod causes;
+mod choosing;
+pub mod laws;
+mod occurrences;
+mod rules;
+
+pub use crate::choosing::choosable;
+
+#[cfg(test)]
+mod tests;
