@@ -7,10 +7,12 @@ mod hashes;
 mod kinds;
 mod marks;
 mod names;
+mod stage;
 mod undefined_names;
 
 pub use crate::arity::wrong_arity;
 pub use crate::controls::unknown_control;
 pub use crate::hashes::bad_hash;
 pub use crate::kinds::group_as_type;
+pub use crate::stage::not_yet;
 pub use crate::undefined_names::undefined;

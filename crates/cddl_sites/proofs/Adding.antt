@@ -1,5 +1,5 @@
 -- Lists of sites that grow.
-use Rattle.std.proofs.Common.{◌≡◌, ℕ, ◌+◌, ◌<◌, ◌≤◌, Bool, true, false, if◌then◌else◌, List, [], ◌∷◌, ◌++◌, length, map, drop, get_or, Result, Ok, Err, OnOk, refl, sym, ap, ◌∙◌, subst, append_assoc}
+use Rattle.std.proofs.Common.{◌≡◌, ℕ, ◌+◌, ◌<◌, ◌≤◌, Bool, true, false, ◌&&◌, if◌then◌else◌, List, [], ◌∷◌, ◌++◌, length, map, drop, get_or, Result, Ok, Err, OnOk, refl, sym, ap, ◌∙◌, subst, append_assoc}
 use Rattle.std.proofs.lemmas.List.{append-nil, map-append, at_drop_more, at_drop_all}
 use Rattle.std.specs.List.{flat_map}
 use Rattle.std.specs.declared.alloc.AllocError.{AllocError}
@@ -63,37 +63,49 @@ pub adds_none : (old : List Found) (p : Place) (f : Bool → (Leaf → Token) �
 adds_none old p f e = record {
   each = λ i read.
       sym (append-nil (map (view_found read) (kept i old)))
-      ∙ ap (λ (xs : List (ℕ × L.Site)). map (view_found read) (kept i old) ++ xs) (sym (ap (placed p.rule) (ap (counted i p.in_argument) (e i read) ∙ counted_none i p.in_argument)));
+      ∙ ap (λ (xs : List (ℕ × L.Site)). map (view_found read) (kept i old) ++ xs) (sym (ap (placed p.rule) (ap (counted i p.in_argument) (e (i && p.enters) read) ∙ counted_none i p.in_argument)));
 }
 
 pub adds_as : {a b : List Found} {p : Place} {f : Bool → (Leaf → Token) → List L.Site} (g : Bool → (Leaf → Token) → List L.Site) → ((i : Bool) (read : Leaf → Token) → g i read ≡ f i read) → Adds a b p f → Adds a b p g
 adds_as {a} {b} {p} {f} g e h = record {
   each = λ i read.
       h.each i read
-      ∙ ap (λ (ps : List L.Site). map (view_found read) (kept i a) ++ placed p.rule (counted i p.in_argument ps)) (sym (e i read));
+      ∙ ap (λ (ps : List L.Site). map (view_found read) (kept i a) ++ placed p.rule (counted i p.in_argument ps)) (sym (e (i && p.enters) read));
 }
 
 pub adds_both : {a b c : List Found} {p : Place} {f g : Bool → (Leaf → Token) → List L.Site} → Adds a b p f → Adds b c p g → Adds a c p (λ i read. f i read ++ g i read)
 adds_both {a} {b} {c} {p} {f} {g} x y = record {
   each = λ i read.
       y.each i read
-      ∙ ap (λ (xs : List (ℕ × L.Site)). xs ++ placed p.rule (counted i p.in_argument (g i read))) (x.each i read)
-      ∙ append_assoc (map (view_found read) (kept i a)) (placed p.rule (counted i p.in_argument (f i read))) (placed p.rule (counted i p.in_argument (g i read)))
+      ∙ ap (λ (xs : List (ℕ × L.Site)). xs ++ placed p.rule (counted i p.in_argument (g (i && p.enters) read))) (x.each i read)
+      ∙ append_assoc (map (view_found read) (kept i a)) (placed p.rule (counted i p.in_argument (f (i && p.enters) read))) (placed p.rule (counted i p.in_argument (g (i && p.enters) read)))
       ∙ ap (λ (xs : List (ℕ × L.Site)). map (view_found read) (kept i a) ++ xs)
-      (sym (ap (placed p.rule) (counted-append i p.in_argument (f i read) (g i read)) ∙ map-append (λ (q : L.Site). (p.rule, q)) (counted i p.in_argument (f i read)) (counted i p.in_argument (g i read))));
+      (sym (ap (placed p.rule) (counted-append i p.in_argument (f (i && p.enters) read) (g (i && p.enters) read)) ∙ map-append (λ (q : L.Site). (p.rule, q)) (counted i p.in_argument (f (i && p.enters) read)) (counted i p.in_argument (g (i && p.enters) read))));
 }
 
 -- what is in the arguments of a name is added as in an argument
-in_applied : (read : Leaf → Token) (ps : List L.Site) (i a : Bool) → counted i true ps ≡ counted i a (if i then ps else [])
-in_applied read ps true a = refl
-in_applied read ps false true = refl
-in_applied read ps false false = refl
+in_applied : (f : Bool → List L.Site) (i a e : Bool) → e ≡ true → counted i true (f (i && true)) ≡ counted i a (if i && e then f (i && e) else [])
+in_applied f true a e is = ap (λ (b : Bool). if b then f b else []) (sym is)
+in_applied f false true e is = refl
+in_applied f false false e is = refl
 
-pub adds_inside : (a b : List Found) (p : Place) (f : Bool → (Leaf → Token) → List L.Site) → Adds a b (record { rule = p.rule; in_argument = true }) f → Adds a b p (λ i read. if i then f i read else [])
-adds_inside a b p f h = record {
+pub adds_inside : (a b : List Found) (p : Place) (f : Bool → (Leaf → Token) → List L.Site) → Adds a b (record { rule = p.rule; in_argument = true; enters = true }) f → p.enters ≡ true → Adds a b p (λ i read. if i then f i read else [])
+adds_inside a b p f h is = record {
   each = λ i read.
       h.each i read
-      ∙ ap (λ (ps : List L.Site). map (view_found read) (kept i a) ++ placed p.rule ps) (in_applied read (f i read) i p.in_argument);
+      ∙ ap (λ (ps : List L.Site). map (view_found read) (kept i a) ++ placed p.rule ps) (in_applied (λ j. f j read) i p.in_argument p.enters is);
+}
+
+-- what is in the arguments of a name is left out, where the walk does not enter them
+none_entered : (f : Bool → List L.Site) (i e : Bool) → e ≡ false → (if i && e then f (i && e) else []) ≡ []
+none_entered f true e is = ap (λ (b : Bool). if b then f b else []) is
+none_entered f false e is = refl
+
+pub adds_none_inside : (a : List Found) (p : Place) (f : Bool → (Leaf → Token) → List L.Site) → p.enters ≡ false → Adds a a p (λ i read. if i then f i read else [])
+adds_none_inside a p f is = record {
+  each = λ i read.
+      sym (append-nil (map (view_found read) (kept i a)))
+      ∙ ap (λ (xs : List (ℕ × L.Site)). map (view_found read) (kept i a) ++ xs) (sym (ap (placed p.rule) (ap (counted i p.in_argument) (none_entered (λ j. f j read) i p.enters is) ∙ counted_none i p.in_argument)));
 }
 
 -- What a loop over the parts of a node adds: if what is left is added, all is.

@@ -1,5 +1,7 @@
 -- What is asked of the parts of a site.
-use Rattle.std.proofs.Common.{◌≡◌, ℕ, ◌+◌, List, [], ◌∷◌, length, map, Option, Box, Global, sym, ap, ◌∙◌, arith, length-append}
+use Rattle.std.proofs.Common.{◌≡◌, ◌≢◌, ℕ, zero, suc, ◌+◌, ◌-◌, List, [], ◌∷◌, ◌++◌, length, map, Option, Some, None, option_map, slice_get, Box, Global, refl, sym, ap, ◌∙◌, arith, append_assoc, length-append}
+use Rattle.std.proofs.lemmas.List.{append-nil}
+use Rattle.std.proofs.lemmas.Option.{slice_get-map}
 use Rattle.cddl_token.specs.declared.Token.{Token}
 use Rattle.cddl_syntax.specs.Syntax as S
 use Rattle.cddl_tree.specs.declared.tree.Leaf.{Leaf}
@@ -13,8 +15,8 @@ use Rattle.cddl_tree.specs.declared.tree.Types.{Types}
 use Rattle.cddl_tree.specs.declared.tree.GrpEnt.TheViews.{out-GenericArg}
 use Rattle.cddl_tree.specs.declared.tree.GrpEnt.TheVariants as GrpEntV
 use Rattle.cddl_tree.specs.declared.tree.Ref.TheVariants as RefV
-use Rattle.cddl_tree.specs.View.{leaf, view_further, view_grpent, view_ref, view_type1, with_arguments}
-use Rattle.cddl_tree.proofs.Lemmas.{view-Name, view-Applied, view-Typed, view-Keyed, view-Grouped, view_out-GenericArg}
+use Rattle.cddl_tree.specs.View.{leaf, view_arg, view_further, view_grpent, view_ref, view_type1, with_arguments}
+use Rattle.cddl_tree.proofs.Lemmas.{view-Name, view-Applied, view-Typed, view-Keyed, view-Grouped, view_out-GenericArg, view-Further}
 use Rattle.cddl_language.specs.Faults.{occur_token}
 use Rattle.cddl_language.specs.Sites.{argument_list, arguments, ref_token}
 
@@ -56,3 +58,34 @@ module _ (read : Leaf → Token) where
 
   pub occur_of_grouped : (x : GrpEnt) (o : Option Leaf) (p : Leaf) (g : Group) (c : Leaf) → x ≡ GrpEntV.Grouped o p g c → leaf read o ≡ occur_token (view_grpent read x)
   occur_of_grouped x o p g c is = seen_entry x _ _ is (view-Grouped read o p g c)
+
+-- the argument at a place
+module _ (read : Leaf → Token) where
+  read_arguments : (a : S.GenericArg) (xs : List Further) → argument_list (with_arguments a (map (view_further read) xs)) ≡ argument_list a ++ map (λ (x : Further). view_type1 read x.type1) xs
+  read_arguments a [] = sym (append-nil (argument_list a))
+  read_arguments a (x ∷ xs) =
+      read_arguments (S.arguments a (view_further read x).0 (view_further read x).1) xs
+      ∙ append_assoc (argument_list a) ((view_further read x).1 ∷ []) (map (λ (y : Further). view_type1 read y.type1) xs)
+      ∙ ap (λ (y : Token × S.Type1). argument_list a ++ y.1 ∷ map (λ (z : Further). view_type1 read z.type1) xs) (view-Further read x.sign x.type1)
+
+  all_arguments : (a : GenericArg) → argument_list (view_arg read a) ≡ view_type1 read (out-GenericArg a).first ∷ map (λ (x : Further). view_type1 read x.type1) (out-GenericArg a).others.items
+  all_arguments a = ap argument_list (view_out-GenericArg read a) ∙ read_arguments (S.argument (view_type1 read (out-GenericArg a).first)) (out-GenericArg a).others.items
+
+  pub first_argument : (a : GenericArg) (k : ℕ) → k ≡ 0 → Some (view_type1 read (out-GenericArg a).first) ≡ slice_get (argument_list (view_arg read a)) k
+  first_argument a k e = sym (ap (λ (xs : List S.Type1). slice_get xs k) (all_arguments a) ∙ ap (slice_get (view_type1 read (out-GenericArg a).first ∷ map (λ (x : Further). view_type1 read x.type1) (out-GenericArg a).others.items)) e)
+
+  later_argument : (a : GenericArg) (k : ℕ) → slice_get (argument_list (view_arg read a)) (suc k) ≡ option_map (λ (x : Further). view_type1 read x.type1) (slice_get (out-GenericArg a).others.items k)
+  later_argument a k = ap (λ (xs : List S.Type1). slice_get xs (suc k)) (all_arguments a) ∙ slice_get-map (λ (x : Further). view_type1 read x.type1) (out-GenericArg a).others.items k
+
+  pub further_argument : (a : GenericArg) (k : ℕ) (o : Option Further) → k ≢ 0 → o ≡ slice_get (out-GenericArg a).others.items (k - 1) → option_map (λ (x : Further). view_type1 read x.type1) o ≡ slice_get (argument_list (view_arg read a)) k
+  further_argument a zero o e f = absurd (e refl)
+  further_argument a (suc k) o e f = ap (option_map (λ (x : Further). view_type1 read x.type1)) (f ∙ ap (slice_get (out-GenericArg a).others.items) (before k)) ∙ sym (later_argument a k)
+    where
+      before : (n : ℕ) → suc n - 1 ≡ n
+      before n = omega arith
+
+  pub argument_of_name : (x : Ref) (t : Leaf) (k : ℕ) → x ≡ RefV.Name t → None ≡ slice_get (arguments (view_ref read x)) k
+  argument_of_name x t k is = sym (ap (λ (r : S.Ref). slice_get (arguments r) k) (seen_ref read x _ _ is (view-Name read t)))
+
+  pub argument_of_applied : (x : Ref) (o : Leaf) (a : Box GenericArg Global) (c : Leaf) (y : GenericArg) (k : ℕ) (v : Option S.Type1) → x ≡ RefV.Applied o a c → y ≡ a.value → v ≡ slice_get (argument_list (view_arg read y)) k → v ≡ slice_get (arguments (view_ref read x)) k
+  argument_of_applied x o a c y k v is e f = f ∙ ap (λ (z : GenericArg). slice_get (argument_list (view_arg read z)) k) e ∙ sym (ap (λ (r : S.Ref). slice_get (arguments r) k) (seen_ref read x _ _ is (view-Applied read o a c)))

@@ -1,5 +1,5 @@
 -- The sites of all rules, and what one step of the walk adds to the list of them.
-use Rattle.std.specs.Prelude.{◌≡◌, ℕ, ◌+◌, Bool, true, false, List, [], ◌∷◌, ◌++◌, map}
+use Rattle.std.specs.Prelude.{◌≡◌, ℕ, ◌+◌, Bool, true, false, ◌&&◌, List, [], ◌∷◌, ◌++◌, map}
 use Rattle.std.specs.List.{flat_map}
 use Rattle.cddl_token.specs.declared.Token.{Token}
 use Rattle.cddl_syntax.specs.Syntax as S
@@ -41,9 +41,9 @@ counted true in_argument ps = ps
 counted false true ps = []
 counted false false ps = ps
 
--- The list has grown by these sites. They depend on whether those inside of arguments are kept.
+-- The list has grown by these sites. They depend on whether those inside of arguments are kept, and entered.
 pub record Adds (old new : List Found) (place : Place) (added : Bool → (Leaf → Token) → List Site) : Type 0 where
-  pub each : (inside : Bool) (read : Leaf → Token) → map (view_found read) (kept inside new) ≡ map (view_found read) (kept inside old) ++ placed place.rule (counted inside place.in_argument (added inside read))
+  pub each : (inside : Bool) (read : Leaf → Token) → map (view_found read) (kept inside new) ≡ map (view_found read) (kept inside old) ++ placed place.rule (counted inside place.in_argument (added (inside && place.enters) read))
 
 -- a type is demanded of the first of several
 abbrev pub several : {A : Type 0} → Bool → List A → Bool

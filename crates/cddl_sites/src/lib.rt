@@ -7,6 +7,6 @@ mod push;
 mod site;
 mod walk;
 
-pub use crate::parts::{argument_count, is_range, name_token, occur};
+pub use crate::parts::{argument, argument_count, is_range, name_token, occur};
 pub use crate::site::{Found, Site};
-pub use crate::walk::sites;
+pub use crate::walk::{argument_sites, sites};

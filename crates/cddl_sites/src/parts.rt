@@ -1,13 +1,13 @@
 //! What is asked of the parts of a site.
-ghost use Rattle.std.specs.Prelude.{◌≡◌, length};
+ghost use Rattle.std.specs.Prelude.{◌≡◌, length, option_map, slice_get};
 ghost use Rattle.cddl_language.specs.Faults.{is_range_sign, occur_token};
-ghost use Rattle.cddl_language.specs.Sites.{arguments, ref_token};
-ghost use Rattle.cddl_tree.specs.View.{leaf, token_of, view_grpent, view_operator, view_ref};
+ghost use Rattle.cddl_language.specs.Sites.{argument_list, arguments, ref_token};
+ghost use Rattle.cddl_tree.specs.View.{leaf, token_of, view_arg, view_grpent, view_operator, view_ref, view_type1};
 ghost use Rattle.cddl_token.specs.declared.Token.{Token};
 ghost use Rattle.cddl_tree.specs.declared.tree.Leaf.{Leaf};
 
 use cddl_token::Token;
-use cddl_tree::{GrpEnt, Leaf, Operator, Ref, Tree};
+use cddl_tree::{Further, GenericArg, GrpEnt, Leaf, Operator, Ref, Tree, Type1};
 
 /// The token of a reference: the name, or what begins with it and opens its arguments.
 pub fn name_token<'s>(tree: &Tree<'s>, name: &Ref) -> &'s Token<'s>
@@ -27,6 +27,34 @@ pub fn argument_count(name: &Ref) -> usize
         Ref::Name(_) => 0,
         Ref::Applied { arguments, .. } => arguments.others.len() + 1,
     }
+}
+
+/// The argument of a reference at this place, from 0, if it has that many.
+pub fn argument<'t>(name: &'t Ref, place: usize) -> Option<&'t Type1>
+    ensures { (read : Leaf → Token) → option_map (λ x. view_type1 read x.now) result ≡ slice_get (arguments (view_ref read name.now)) place }
+{
+    match name {
+        Ref::Name(_) => None,
+        Ref::Applied { arguments, .. } => argument_at(arguments, place),
+    }
+}
+
+fn argument_at<'t>(arguments: &'t GenericArg, place: usize) -> Option<&'t Type1>
+    ensures { (read : Leaf → Token) → option_map (λ x. view_type1 read x.now) result ≡ slice_get (argument_list (view_arg read arguments.now)) place }
+{
+    if place == 0 {
+        return Some(&arguments.first);
+    }
+    match further_at(&arguments.others, place - 1) {
+        Some(further) => Some(&further.type1),
+        None => None,
+    }
+}
+
+fn further_at(others: &[Further], place: usize) -> Option<&Further>
+    ensures { option_map (λ x. x.now) result ≡ slice_get others.now place }
+{
+    others.get(place)
 }
 
 /// The occurrence of an entry, if it has one.

@@ -9,11 +9,12 @@ use crate::site::{Found, Site};
 use cddl_tree::{Group, GrpEnt, Leaf, Operator, Ref, Type2};
 use std::alloc::AllocError;
 
-/// Where the walk is: in the rule of this place, and in an argument or not.
+/// Where the walk is: in the rule of this place, in an argument or not, and whether it enters arguments.
 #[derive(Clone, Copy)]
 pub(crate) struct Place {
     pub(crate) rule: usize,
     pub(crate) in_argument: bool,
+    pub(crate) enters: bool,
 }
 
 pub(crate) fn push_name<'t>(

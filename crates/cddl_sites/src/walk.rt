@@ -1,6 +1,6 @@
 //! The walk: a function for each kind of node adds its sites at the end of the list, that of the node itself before those
 //! in its parts. Where a node may be one name, `demanded` says whether a type is demanded there.
-ghost use Rattle.std.specs.Prelude.{◌≡◌, Bool, IfOk, OnOk, map};
+ghost use Rattle.std.specs.Prelude.{◌≡◌, Bool, IfOk, OnOk, [], false, true, if◌then◌else◌, map};
 ghost use Rattle.std.specs.List.{flat_map};
 ghost use Rattle.cddl_language.specs.Reading.{rules_of};
 ghost use Rattle.cddl_language.specs.Sites.{demands_type, in_entry, in_group, in_key, in_ref, in_rule, in_type1, in_type2, in_types, in_arguments};
@@ -8,7 +8,7 @@ ghost use Rattle.cddl_tree.specs.View.{token_of, view, view_arg, view_assignt, v
 ghost use Rattle.cddl_token.specs.declared.Token.{Token};
 ghost use Rattle.cddl_tree.specs.declared.tree.Leaf.{Leaf};
 ghost use Rattle.cddl_sites.specs.View.{outside, view_found};
-ghost use Rattle.cddl_sites.specs.Walk.{Adds, all_outer_sites, all_sites, entry_sites, further_sites, several};
+ghost use Rattle.cddl_sites.specs.Walk.{Adds, all_outer_sites, all_sites, entry_sites, further_sites, placed, several};
 
 use crate::push::{
     Place, push_choice, push_choice_of_name, push_entry, push_hash, push_map, push_name,
@@ -35,9 +35,32 @@ pub fn sites<'t>(alloc: Global, tree: &'t Tree<'_>) -> Result<Vec<Found<'t>>, Al
         let place = Place {
             rule,
             in_argument: false,
+            enters: true,
         };
         add_rule(node, place, &mut found)?;
     }
+    Ok(found)
+}
+
+/// The sites of one argument that are outside of arguments in it, in the order of the text, as sites of the rule at this
+/// place.
+///
+/// It takes a time in proportion to the argument's size without the arguments in it, and goes down as deep as `sites`. An
+/// error comes only where memory is refused.
+pub fn argument_sites<'t>(
+    alloc: Global,
+    argument: &'t Type1,
+    rule: usize,
+) -> Result<Vec<Found<'t>>, AllocError>
+    ensures { IfOk result (λ v. (read : Leaf → Token) → map (view_found read) v.items ≡ placed rule (in_type1 false true (view_type1 read argument.now))) }
+{
+    let place = Place {
+        rule,
+        in_argument: true,
+        enters: false,
+    };
+    let mut found = Vec::new(alloc);
+    add_type1(argument, true, place, &mut found)?;
     Ok(found)
 }
 
@@ -175,14 +198,28 @@ fn add_ref<'t>(name: &'t Ref, place: Place, found: &mut Vec<Found<'t>>) -> Resul
 {
     match name {
         Ref::Name(_) => Ok(()),
-        Ref::Applied { arguments, .. } => {
-            let inside = Place {
-                rule: place.rule,
-                in_argument: true,
-            };
-            add_arguments(arguments, inside, found)
-        }
+        Ref::Applied { arguments, .. } => add_applied(arguments, place, found),
     }
+}
+
+/// The sites in arguments, where the walk enters them.
+#[cycle(walk)]
+fn add_applied<'t>(
+    arguments: &'t GenericArg,
+    place: Place,
+    found: &mut Vec<Found<'t>>,
+) -> Result<(), AllocError>
+    ensures { OnOk result (Adds found.old.items found.new.items place (λ inside read. if inside then in_arguments inside (view_arg read arguments.now) else [])) }
+{
+    if !place.enters {
+        return Ok(());
+    }
+    let inside = Place {
+        rule: place.rule,
+        in_argument: true,
+        enters: true,
+    };
+    add_arguments(arguments, inside, found)
 }
 
 #[cycle(walk)]

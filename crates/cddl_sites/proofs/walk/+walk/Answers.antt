@@ -7,7 +7,7 @@ use Rattle.cddl_tree.specs.declared.tree.Entry.{Entry}
 use Rattle.cddl_tree.specs.declared.tree.Further.{Further}
 use Rattle.cddl_tree.specs.declared.tree.GrpChoice.{GrpChoice}
 use Rattle.cddl_sites.specs.Walk.{entry_sites, further_sites, choice_sites}
-use Rattle.cddl_sites.proofs.Adding.{on_ok, adds_as, adds_both, adds_inside, adds_none, continues_next, continues_last}
+use Rattle.cddl_sites.proofs.Adding.{on_ok, adds_as, adds_both, adds_none, continues_next, continues_last}
 use Rattle.cddl_sites.proofs.Nodes.{types_sites, argument_sites, group_sites, one_sites, operation_sites, literal_sites, typename_sites, parens_sites, map_sites, array_sites, unwrapped_sites, choice_of_sites, choice_of_name_sites, tagged_sites, tagged_by_sites, simple_by_sites, hash_sites, name_sites, applied_sites, typed_sites, keyed_sites, grouped_sites, type_key_sites, bareword_sites, value_key_sites}
 use Rattle.cddl_sites.proofs.walk.+walk.Goals as goal
 
@@ -85,7 +85,7 @@ add_ref-returns-in-Name t c =
 
 pub add_ref-returns-in-Applied : goal.add_ref-returns-in-Applied
 add_ref-returns-in-Applied t c =
-    on_ok c.add_arguments.result _ _ (λ h. adds_as _ (λ i read. applied_sites i read _ c.in-Applied.opening c.in-Applied.arguments c.in-Applied.closing _ c.in-Applied.is c.deref.ensures) (adds_inside _ _ c.args.place _ h)) c.add_arguments.ensures
+    on_ok c.add_applied.result _ _ (adds_as _ (λ i read. applied_sites i read _ c.in-Applied.opening c.in-Applied.arguments c.in-Applied.closing _ c.in-Applied.is c.deref.ensures)) c.add_applied.ensures
 
 pub add_arguments-returns : goal.add_arguments-returns
 add_arguments-returns t c =

@@ -1,0 +1,385 @@
+-- The forms of types and groups, by what the rows of terms are.
+use Rattle.std.proofs.Common.{◌≡◌, ℕ, Bool, true, false, if◌then◌else◌, List, [], ◌∷◌, ◌++◌, map, Some, None, Option, refl, sym, ap, subst, ◌∙◌, slice_get}
+use Rattle.std.specs.Prelude.{Contains, is_some}
+use Rattle.cbor_data.specs.Value.{Value}
+use Rattle.cddl_literal.specs.Numbers.{Meaning}
+use Rattle.cddl_meaning.specs.Alike.{AlikeAll, none, both, AlikeTypes, plain, refs, choices as some_choices, tags, AlikeNumbers, any_numbers, same_number, AlikeGroups, entries as some_entries, group_refs, sequences, alternates, repeats}
+use Rattle.cddl_meaning.specs.Forms as F
+use Rattle.cddl_language.specs.Numbers as N
+use Rattle.cddl_language.specs.Terms.{Text, Term, Literal, literal, named, parens, map_of, array_of, unwrapped, choice_of, choice_of_name, tagged, tagged_by, simple_by, hash, range, control, or, Ref, Group, Entries, Entry, Key, typed, keyed, grouped, alternatives, choices, entry_list}
+use Rattle.cddl_language.specs.Kinds as K
+use Rattle.cddl_language.specs.Kinds.{Opened, opens_group, opens_type, opened}
+use Rattle.cddl_language.specs.Reach.{points, group_points, entries_points, entry_points}
+use Rattle.cddl_language.specs.Choices.{chosen, chosen_in}
+use Rattle.cddl_language.specs.Reach.{most_instances}
+use Rattle.cddl_language.specs.Substitution.{group_choices}
+use Rattle.cddl_language.specs.Language as L
+use Rattle.cddl_language.specs.Language.{TypeName, type, GroupName, first_of, each_of, entry, round}
+use Rattle.cddl_language.specs.Literals.{Means, Values, item_of, whole}
+use Rattle.cddl_values.specs.Values.{Answers, IsValueOf}
+use Rattle.cddl_terms.specs.Table.{Table, HoldsText, no_text, some_text}
+use Rattle.cddl_terms.specs.Trees.{IsTerm, IsRef, IsGroup, IsEntries, IsEntry}
+use Rattle.cddl_closed.specs.Closed.{AreAlternatives, no_alternatives, alternatives_of, TermRow, EntriesRow, EntryRow}
+use Rattle.cddl_openings.specs.Openings.{IsOpened, nothing, group_opened, type_opened, IsPart, a_type, a_group as part_group, an_opened_group}
+use Rattle.cddl_openings.specs.declared.openings.Opening.{Opening}
+use Rattle.cddl_openings.specs.declared.openings.Part.TheVariants as PartV
+use Rattle.cddl_literals.specs.Literals.{IsWritten, no_value, value_of}
+use Rattle.cddl_nodes.specs.Basis.{Sense}
+use Rattle.cddl_nodes.specs.Lookups.{between_view, is_flagged, opened_view}
+use Rattle.cddl_nodes.specs.Origins.{IsReached, all_points, IsTypeOrigin, of_row, of_instance, of_chosen, IsGroupOrigin, of_alternatives, of_sequence, of_entry, of_round, IsAsked, asks_type, asks_named, asks_opened}
+use Rattle.cddl_nodes.specs.Shapes.{IsShape, a_literal, a_name, in_parens, an_array, an_unwrapping, a_choice_of, a_choice_of_name, a_tag, a_tag_by, a_simple, a_hash, a_range, a_range_below, a_choice, a_map, a_control, IsEntryShape, a_typed, a_keyed, a_group}
+use Rattle.cddl_nodes.specs.declared.asked.Asked.TheVariants as A
+use Rattle.cddl_nodes.specs.declared.origin.GroupOrigin.{GroupOrigin}
+use Rattle.cddl_nodes.specs.declared.origin.GroupOrigin.TheVariants as GO
+use Rattle.cddl_nodes.specs.declared.origin.TypeOrigin.{TypeOrigin}
+use Rattle.cddl_nodes.specs.declared.origin.TypeOrigin.TheVariants as O
+use Rattle.cddl_nodes.specs.declared.shape.EntryShape.TheVariants as E
+use Rattle.cddl_nodes.specs.declared.shape.Shape.TheVariants as S
+use Rattle.cddl_nodes.proofs.Listing.{alike_pushed, flat, flat_map_one, IsWalk, walk_ended, walk_on}
+use Rattle.cddl_nodes.proofs.Reaching.{reached_left, reached_right, group_reached, head_in, tail_in, EachReached, no_entry, and_entry, each_reached}
+
+-- What holds of each term of a shape.
+module _ (t : Table) (P : Term → Type 0) where
+  pub literal_case : (x : Term) → IsShape t x S.Literal → ((v : Literal) → P (literal v)) → P x
+  literal_case x (a_literal {v = v}) f = f v
+
+  pub named_case : (x : Term) → (k : ℕ) → IsShape t x (S.Named k) → ((r : Ref) → IsRef t k r → P (named r)) → P x
+  named_case x k (a_name {r = r} h) f = f r h
+
+  pub parens_case : (x : Term) → (k : ℕ) → IsShape t x (S.Parens k) → ((y : Term) → IsTerm t k y → P (parens y)) → P x
+  parens_case x k (in_parens {x = y} h) f = f y h
+
+  pub array_case : (x : Term) → (k : ℕ) → IsShape t x (S.ArrayOf k) → ((g : Group) → IsGroup t k g → P (array_of g)) → P x
+  array_case x k (an_array {g = g} h) f = f g h
+
+  pub unwrapped_case : (x : Term) → (k : ℕ) → IsShape t x (S.Unwrapped k) → ((r : Ref) → IsRef t k r → P (unwrapped r)) → P x
+  unwrapped_case x k (an_unwrapping {r = r} h) f = f r h
+
+  pub choice_of_case : (x : Term) → (k : ℕ) → IsShape t x (S.ChoiceOf k) → ((g : Group) → IsGroup t k g → P (choice_of g)) → P x
+  choice_of_case x k (a_choice_of {g = g} h) f = f g h
+
+  pub choice_of_name_case : (x : Term) → (k : ℕ) → IsShape t x (S.ChoiceOfName k) → ((r : Ref) → IsRef t k r → P (choice_of_name r)) → P x
+  choice_of_name_case x k (a_choice_of_name {r = r} h) f = f r h
+
+  pub tagged_case : (x : Term) → (m k : ℕ) → IsShape t x (S.Tagged m k) → ((n : Text) (y : Term) → slice_get t.texts m ≡ Some n → IsTerm t k y → P (tagged n y)) → P x
+  tagged_case x m k (a_tag {n = n} {x = y} e h) f = f n y e h
+
+  pub tagged_by_case : (x : Term) → (m k : ℕ) → IsShape t x (S.TaggedBy m k) → ((y z : Term) → IsTerm t m y → IsTerm t k z → P (tagged_by y z)) → P x
+  tagged_by_case x m k (a_tag_by {h = y} {x = z} g h) f = f y z g h
+
+  pub simple_case : (x : Term) → (k : ℕ) → IsShape t x (S.SimpleBy k) → ((y : Term) → IsTerm t k y → P (simple_by y)) → P x
+  simple_case x k (a_simple {h = y} h) f = f y h
+
+  pub hash_case : (x : Term) → (m : ℕ) → IsShape t x (S.Hash m) → ((n : Text) → slice_get t.texts m ≡ Some n → P (hash n)) → P x
+  hash_case x m (a_hash {n = n} e) f = f n e
+
+  pub range_case : (x : Term) → (m k : ℕ) → IsShape t x (S.Range m k) → ((y z : Term) → IsTerm t m y → IsTerm t k z → P (range y true z)) → P x
+  range_case x m k (a_range {a = y} {b = z} g h) f = f y z g h
+
+  pub range_below_case : (x : Term) → (m k : ℕ) → IsShape t x (S.RangeBelow m k) → ((y z : Term) → IsTerm t m y → IsTerm t k z → P (range y false z)) → P x
+  range_below_case x m k (a_range_below {a = y} {b = z} g h) f = f y z g h
+
+  pub or_case : (x : Term) → IsShape t x S.Or → ((y z : Term) → P (or y z)) → P x
+  or_case x (a_choice {a = y} {b = z}) f = f y z
+
+  pub other_case : (x : Term) → IsShape t x S.Other → ((g : Group) → P (map_of g)) → ((y z : Term) (n : Text) → P (control y n z)) → P x
+  other_case x (a_map {g = g}) f g' = f g
+  other_case x (a_control {a = y} {b = z} {n = n}) f g' = g' y z n
+
+module _ (t : Table) (P : Entry → Type 0) where
+  pub typed_case : (x : Entry) → (k : ℕ) → IsEntryShape t x (E.Typed k) → ((o : Option Text) (y : Term) → IsTerm t k y → P (typed o y)) → P x
+  typed_case x k (a_typed {o = o} {x = y} h) f = f o y h
+
+  pub keyed_case : (x : Entry) → (k : ℕ) → IsEntryShape t x (E.Keyed k) → ((o : Option Text) (z : Key) (y : Term) → IsTerm t k y → P (keyed o z y)) → P x
+  keyed_case x k (a_keyed {o = o} {y = z} {x = y} h) f = f o z y h
+
+  pub grouped_case : (x : Entry) → (k : ℕ) → IsEntryShape t x (E.Grouped k) → ((o : Option Text) (g : Group) → IsGroup t k g → P (grouped o g)) → P x
+  grouped_case x k (a_group {o = o} {g = g} h) f = f o g h
+
+  pub other_entry_case : (x : Entry) → IsEntryShape t x E.Other → P x
+  other_entry_case x h = elim h [ ]
+
+pub placed : (refs : List Ref) (r : Ref) (place : ℕ) → ((k : ℕ) × (Some place ≡ Some k) × (slice_get refs k ≡ Some r)) → slice_get refs place ≡ Some r
+placed qs r place p = subst (λ k. slice_get qs k ≡ Some r) (one p.0 p.1) p.2
+  where
+    one : (k : ℕ) → Some place ≡ Some k → k ≡ place
+    one k e = cc
+
+-- Values.
+
+pub unwritten : (worth : Values) (t : Table) (o : Option Meaning) → IsWritten worth t o None → None ≡ whole o
+unwritten worth t o no_value = refl
+
+pub written : (worth : Values) (t : Table) (o : Option Meaning) (n : ℕ) (w : Option Value) → IsWritten worth t o (Some n) → ((v : Literal) → IsTerm t n (literal v) → w ≡ whole (Some (worth v))) → w ≡ whole o
+written worth t o n w (value_of {v = v} h) f = f v h
+
+-- What entries ask.
+
+module _ (s : Sense) (t : Table) where
+  pub type_asked : (p : K.Part) → IsPart t s.refs p PartV.AsksType → IsAsked s t p A.Type
+  type_asked p a_type = asks_type
+
+  pub name_asked : (p : K.Part) (place : ℕ) (o : Option ℕ) → IsPart t s.refs p (PartV.NamesGroup place) → ((r : Ref) → slice_get s.refs place ≡ Some r → AreAlternatives t (group_choices s.definitions r) o × IsReached s (all_points (group_choices s.definitions r))) → IsAsked s t p (A.Group o)
+  name_asked p place o (part_group {r = r} e) f = asks_named (f r e).0 (f r e).1
+
+  pub opening_asked : (p : K.Part) (place n : ℕ) → IsPart t s.refs p (PartV.Opens place n) → ((r : Ref) (g : Group) → p ≡ K.opens r g → IsReached s (group_points g)) → IsAsked s t p (A.Group (Some n))
+  opening_asked p place n (an_opened_group {r = r} {g = g} e h) f = asks_opened (alternatives_of g h) (group_reached s g (f r g refl))
+
+  pub chosen_type : (x : Term) (p : K.Part) (row : ℕ) → IsAsked s t p A.Type → IsTerm t row x → IsReached s (points x) → IsTypeOrigin s t (L.chosen_part_name s.worth s.definitions x p) (O.Row row)
+  chosen_type x p row asks_type h re = of_row h re
+
+  pub chosen_group : (x : Term) (p : K.Part) (o : Option ℕ) → IsAsked s t p (A.Group o) → IsTypeOrigin s t (L.chosen_part_name s.worth s.definitions x p) (O.Chosen o)
+  chosen_group x p o (asks_named a re) = of_chosen a re
+  chosen_group x p o (asks_opened a re) = of_chosen a re
+
+  pub type_part : (x : Term) (p : K.Part) (row : ℕ) → IsAsked s t p A.Type → IsTerm t row x → IsReached s (points x) → AlikeGroups (IsTypeOrigin s t) (IsGroupOrigin s t) (L.part_form s.worth s.definitions x p) (F.Entry (O.Row row))
+  type_part x p row asks_type h re = some_entries (of_row h re)
+
+  pub group_part : (x : Term) (p : K.Part) (o : Option ℕ) → IsAsked s t p (A.Group o) → AlikeGroups (IsTypeOrigin s t) (IsGroupOrigin s t) (L.part_form s.worth s.definitions x p) (F.GroupRef (GO.Alternatives o))
+  group_part x p o (asks_named a re) = group_refs (of_alternatives a re)
+  group_part x p o (asks_opened a re) = group_refs (of_alternatives a re)
+
+  -- Types.
+
+  abbrev Forms : F.Node TypeName GroupName → F.Node TypeOrigin GroupOrigin → Type 0
+  Forms m f = AlikeTypes (IsTypeOrigin s t) (IsGroupOrigin s t) m f
+
+  pub nothing_form : (f : F.Node TypeOrigin GroupOrigin) → f ≡ F.Choice [] → Forms L.nothing f
+  nothing_form f e = subst (Forms L.nothing) (sym e) (some_choices none)
+
+  pub range_formed : (closed : Bool) (o p o' p' : Option Value) (f : F.Node TypeOrigin GroupOrigin) → f ≡ between_view closed o p → o ≡ o' → p ≡ p' → Forms (L.between closed o' p') f
+  range_formed closed o p o' p' f e g h = subst (λ m. Forms m f) (ap (λ q. L.between closed q p) g ∙ ap (λ q. L.between closed o' q) h) (subst (Forms (L.between closed o p)) (sym e) (by o p))
+    where
+      by : (o p : Option Value) → Forms (L.between closed o p) (between_view closed o p)
+      by (Some a) (Some b) = plain
+      by (Some a) None = some_choices none
+      by None (Some b) = some_choices none
+      by None None = some_choices none
+
+  pub opened_formed : (o : Option Opened) (p : Opening) (f : F.Node TypeOrigin GroupOrigin) → f ≡ opened_view p → IsOpened t o p → ((x : Term) → o ≡ Some (opens_type x) → IsReached s (points x)) → Forms (L.content o) f
+  opened_formed o p f e h g = subst (Forms (L.content o)) (sym e) (by o p h g)
+    where
+      by : (o : Option Opened) (p : Opening) → IsOpened t o p → ((x : Term) → o ≡ Some (opens_type x) → IsReached s (points x)) → Forms (L.content o) (opened_view p)
+      by o p nothing g = some_choices none
+      by o p (group_opened h) g = some_choices none
+      by o p (type_opened {x = x} h) g = refs (of_row h (g x refl))
+
+  pub chosen_so : (o : Option (List Term)) (ns : List TypeName) (f : F.Node TypeOrigin GroupOrigin) → is_some o ≡ true → Forms (F.Choice ns) f → Forms (L.choice o ns) f
+  chosen_so (Some ts) ns f e h = h
+  chosen_so None ns f e h = cc
+
+  pub chosen_not : (o : Option (List Term)) (ns : List TypeName) (f : F.Node TypeOrigin GroupOrigin) → (is_some o ≡ true → ⊥) → f ≡ F.Choice [] → Forms (L.choice o ns) f
+  chosen_not (Some ts) ns f e h = absurd (e refl)
+  chosen_not None ns f e h = nothing_form f h
+
+  pub by_name_chosen : (ess : List Entries) (n : ℕ) (f : F.Node TypeOrigin GroupOrigin) → AreAlternatives t ess (Some n) → ((g : Group) → alternatives g ≡ ess → IsGroup t n g → Forms (L.choice (chosen s.definitions g) (L.chosen_names s.worth s.definitions (alternatives g))) f) → Forms (L.choice (chosen_in s.definitions most_instances ess) (L.chosen_names s.worth s.definitions ess)) f
+  by_name_chosen ess n f (alternatives_of g h) k = k g refl h
+
+  pub by_name_none : (ess : List Entries) (f : F.Node TypeOrigin GroupOrigin) → AreAlternatives t ess None → f ≡ F.Choice [] → Forms (L.choice (chosen_in s.definitions most_instances ess) (L.chosen_names s.worth s.definitions ess)) f
+  by_name_none ess f no_alternatives e = nothing_form f e
+
+  tags_alike : (rest : Text) → AlikeNumbers (IsTypeOrigin s t) (N.number_or_any rest) (N.number_or_any rest)
+  tags_alike [] = any_numbers
+  tags_alike (b ∷ bs) = same_number
+
+  pub tag_formed : (n : Text) (x : Term) (k : ℕ) (f : F.TagNumber TypeOrigin) → f ≡ N.tag_number n {N = TypeOrigin} → IsTerm t k x → IsReached s (points x) → Forms (F.TagOf (N.tag_number n) (type x)) (F.TagOf f (O.Row k))
+  tag_formed n x k f e h re = tags (subst (AlikeNumbers (IsTypeOrigin s t) (N.tag_number n)) (sym e) (tags_alike (N.after 46 n))) (of_row h re)
+
+  pub plain_formed : (a b : F.Test) → b ≡ a → Forms (F.Plain a) (F.Plain b)
+  plain_formed a b e = subst (λ c. Forms (F.Plain a) (F.Plain c)) (sym e) plain
+
+  -- Lists of types.
+
+  pub data EachType : List Term → Type 0 where
+    no_type : EachType []
+    and_type : {x : Term} {xs : List Term} → IsReached s (points x) → EachType xs → EachType (x ∷ xs)
+
+  types_appended : (xs ys : List Term) → EachType xs → EachType ys → EachType (xs ++ ys)
+  types_appended [] ys f g = g
+  types_appended (x ∷ xs) ys (and_type h f) g = and_type h (types_appended xs ys f g)
+
+  one_type : (x : Term) → IsReached s (points x) → EachType (x ∷ [])
+  one_type x re = and_type re no_type
+
+  pub each_choice : (x : Term) → IsReached s (points x) → EachType (choices x)
+  each_choice (or y z) re = types_appended (choices y) (z ∷ []) (each_choice y (reached_left s (points y) (points z) re)) (one_type z (reached_right s (points y) (points z) re))
+  each_choice (literal v) re = one_type (literal v) re
+  each_choice (named r) re = one_type (named r) re
+  each_choice (parens y) re = one_type (parens y) re
+  each_choice (map_of g) re = one_type (map_of g) re
+  each_choice (array_of g) re = one_type (array_of g) re
+  each_choice (unwrapped r) re = one_type (unwrapped r) re
+  each_choice (choice_of g) re = one_type (choice_of g) re
+  each_choice (choice_of_name r) re = one_type (choice_of_name r) re
+  each_choice (tagged n y) re = one_type (tagged n y) re
+  each_choice (tagged_by y z) re = one_type (tagged_by y z) re
+  each_choice (simple_by y) re = one_type (simple_by y) re
+  each_choice (hash n) re = one_type (hash n) re
+  each_choice (range y c z) re = one_type (range y c z) re
+  each_choice (control y n z) re = one_type (control y n z) re
+
+  pub each_contained : (xs : List Term) → ((x : Term) → Contains xs x → IsReached s (points x)) → EachType xs
+  each_contained [] f = no_type
+  each_contained (x ∷ xs) f = and_type (f x (head_in x xs)) (each_contained xs (λ y h. f y (tail_in x xs y h)))
+
+  rows_alike : (xs : List Term) (ns : List ℕ) → EachType xs → AlikeAll (TermRow t) xs ns → AlikeAll (IsTypeOrigin s t) (map type xs) (map (λ (n : ℕ). O.Row n) ns)
+  rows_alike [] [] no_type none = none
+  rows_alike [] (n ∷ ns) re h = elim h [ ]
+  rows_alike (x ∷ xs) [] re h = elim h [ ]
+  rows_alike (x ∷ xs) (n ∷ ns) (and_type r re) (both h hs) = both (of_row h r) (rows_alike xs ns re hs)
+
+  pub choice_formed : (xs : List Term) (ns : List ℕ) (os : List TypeOrigin) → EachType xs → AlikeAll (TermRow t) xs ns → os ≡ map (λ (n : ℕ). O.Row n) ns → Forms (F.Choice (map type xs)) (F.Choice os)
+  choice_formed xs ns os re h e = subst (λ us. Forms (F.Choice (map type xs)) (F.Choice us)) (sym e) (some_choices (rows_alike xs ns re h))
+
+  -- Groups.
+
+  abbrev Groups : F.Group TypeName GroupName → F.Group TypeOrigin GroupOrigin → Type 0
+  Groups m f = AlikeGroups (IsTypeOrigin s t) (IsGroupOrigin s t) m f
+
+  sequences_alike : (ess : List Entries) (ns : List ℕ) → IsReached s (all_points ess) → AlikeAll (EntriesRow t) ess ns → AlikeAll (IsGroupOrigin s t) (map each_of ess) (map (λ (n : ℕ). GO.Sequence n) ns)
+  sequences_alike [] [] re none = none
+  sequences_alike [] (n ∷ ns) re h = elim h [ ]
+  sequences_alike (es ∷ ess) [] re h = elim h [ ]
+  sequences_alike (es ∷ ess) (n ∷ ns) re (both h hs) = both (of_sequence h (reached_left s (entries_points es) (all_points ess) re)) (sequences_alike ess ns (reached_right s (entries_points es) (all_points ess) re) hs)
+
+  pub alternatives_formed : (ess : List Entries) (ns : List ℕ) (os : List GroupOrigin) → IsReached s (all_points ess) → AlikeAll (EntriesRow t) ess ns → os ≡ map (λ (n : ℕ). GO.Sequence n) ns → Groups (F.Alternatives (map each_of ess)) (F.Alternatives os)
+  alternatives_formed ess ns os re h e = subst (λ us. Groups (F.Alternatives (map each_of ess)) (F.Alternatives us)) (sym e) (alternates (sequences_alike ess ns re h))
+
+  entries_alike : (es : List Entry) (ns : List ℕ) → EachReached s es → AlikeAll (EntryRow t) es ns → AlikeAll (IsGroupOrigin s t) (map entry es) (map (λ (n : ℕ). GO.Entry n) ns)
+  entries_alike [] [] no_entry none = none
+  entries_alike [] (n ∷ ns) re h = elim h [ ]
+  entries_alike (e ∷ es) [] re h = elim h [ ]
+  entries_alike (e ∷ es) (n ∷ ns) (and_entry r re) (both h hs) = both (of_entry h r) (entries_alike es ns re hs)
+
+  pub entries_formed : (es : List Entry) (ns : List ℕ) (os : List GroupOrigin) → EachReached s es → AlikeAll (EntryRow t) es ns → os ≡ map (λ (n : ℕ). GO.Entry n) ns → Groups (F.Sequence (map entry es)) (F.Sequence os)
+  entries_formed es ns os re h e = subst (λ us. Groups (F.Sequence (map entry es)) (F.Sequence us)) (sym e) (sequences (entries_alike es ns re h))
+
+  pub once_formed : (e : Entry) (o : Option Text) (f : F.Group TypeOrigin GroupOrigin) → N.occurs_once o ≡ true → Groups (L.round_form s.worth s.definitions e) f → Groups (L.entry_form s.worth s.definitions e o) f
+  once_formed e o f h g = subst (λ b. Groups (if b then L.round_form s.worth s.definitions e else F.Repeat (N.least_of o) (N.most_of o) (round e)) f) (sym h) g
+
+  pub often_formed : (e : Entry) (o : Option Text) (row least : ℕ) (most : F.Most) → N.occurs_once o ≡ false → IsEntry t row e → IsReached s (entry_points e) → least ≡ N.least_of o → most ≡ N.most_of o → Groups (L.entry_form s.worth s.definitions e o) (F.Repeat least most (GO.Round row))
+  often_formed e o row least most h is re f g = subst (λ b. Groups (if b then L.round_form s.worth s.definitions e else F.Repeat (N.least_of o) (N.most_of o) (round e)) (F.Repeat least most (GO.Round row))) (sym h) (subst (λ k. Groups (F.Repeat (N.least_of o) (N.most_of o) (round e)) (F.Repeat k most (GO.Round row))) (sym f) (subst (λ k. Groups (F.Repeat (N.least_of o) (N.most_of o) (round e)) (F.Repeat (N.least_of o) k (GO.Round row))) (sym g) (repeats (of_round is re))))
+
+-- The text of an occurrence.
+
+pub no_occurrence : (texts : List Text) (o : Option Text) → HoldsText texts None o → N.occurs_once o ≡ true
+no_occurrence texts o no_text = refl
+
+pub an_occurrence : (texts : List Text) (o : Option Text) (k : ℕ) → HoldsText texts (Some k) o → (n : Text) × (o ≡ Some n) × (slice_get texts k ≡ Some n)
+an_occurrence texts o k (some_text {x = n} e) = (n, refl, e)
+
+-- Small steps.
+
+pub same_meaning : {A : Type 0} (o : Option A) (m n : A) → o ≡ Some m → Some n ≡ o → m ≡ n
+same_meaning o m n e f = cc
+
+pub no_meaning : {A : Type 0} (o : Option A) (m : A) → o ≡ Some m → None ≡ o → ⊥
+no_meaning o m e f = cc
+
+pub flagged : (o : Option Bool) → is_flagged o ≡ true → o ≡ Some true
+flagged None e = cc
+flagged (Some true) e = refl
+flagged (Some false) e = cc
+
+pub flagged_so : (o : Option Bool) → is_flagged o ≡ false → o ≡ Some true → ⊥
+flagged_so None e f = cc
+flagged_so (Some true) e f = cc
+flagged_so (Some false) e f = cc
+
+pub row_list : {xs ys : List ℕ} → xs ≡ ys → map (λ (n : ℕ). O.Row n) xs ≡ map (λ (n : ℕ). O.Row n) ys
+row_list e = ap (map (λ (n : ℕ). O.Row n)) e
+
+pub sequence_list : {xs ys : List ℕ} → xs ≡ ys → map (λ (n : ℕ). GO.Sequence n) xs ≡ map (λ (n : ℕ). GO.Sequence n) ys
+sequence_list e = ap (map (λ (n : ℕ). GO.Sequence n)) e
+
+pub list_of_entries : {xs ys : List ℕ} → xs ≡ ys → map (λ (n : ℕ). GO.Entry n) xs ≡ map (λ (n : ℕ). GO.Entry n) ys
+list_of_entries e = ap (map (λ (n : ℕ). GO.Entry n)) e
+
+module _ (t : Table) where
+  pub group_rows : (ess : List Entries) (n : ℕ) (rows : List ℕ) → AreAlternatives t ess (Some n) → ((g : Group) → IsGroup t n g → AlikeAll (EntriesRow t) (alternatives g) rows) → AlikeAll (EntriesRow t) ess rows
+  group_rows ess n rows (alternatives_of g h) f = f g h
+
+  pub no_rows : (ess : List Entries) (rows : List ℕ) → rows ≡ [] → AreAlternatives t ess None → AlikeAll (EntriesRow t) ess rows
+  no_rows ess rows e no_alternatives = subst (AlikeAll (EntriesRow t) []) (sym e) none
+
+-- What holds of each name that is of such a number.
+module _ (s : Sense) (t : Table) (P : TypeName → Type 0) where
+  pub row_case : (n : TypeName) → (k : ℕ) → IsTypeOrigin s t n (O.Row k) → ((x : Term) → IsTerm t k x → IsReached s (points x) → P (type x)) → P n
+  row_case n k (of_row {x = x} h re) f = f x h re
+
+  pub instance_case : (n : TypeName) → (k : ℕ) → IsTypeOrigin s t n (O.Instance k) → ((r : Ref) → slice_get s.refs k ≡ Some r → P (L.type_named s.definitions r)) → P n
+  instance_case n k (of_instance {r = r} e) f = f r e
+
+  pub chosen_case : (n : TypeName) → (o : Option ℕ) → IsTypeOrigin s t n (O.Chosen o) → ((ess : List Entries) → AreAlternatives t ess o → IsReached s (all_points ess) → P (L.chosen_of ess)) → P n
+  chosen_case n o (of_chosen {ess = ess} h re) f = f ess h re
+
+module _ (s : Sense) (t : Table) (P : GroupName → Type 0) where
+  pub alternatives_case : (n : GroupName) → (o : Option ℕ) → IsGroupOrigin s t n (GO.Alternatives o) → ((ess : List Entries) → AreAlternatives t ess o → IsReached s (all_points ess) → P (first_of ess)) → P n
+  alternatives_case n o (of_alternatives {ess = ess} h re) f = f ess h re
+
+  pub sequence_case : (n : GroupName) → (k : ℕ) → IsGroupOrigin s t n (GO.Sequence k) → ((es : Entries) → IsEntries t k es → IsReached s (entries_points es) → P (each_of es)) → P n
+  sequence_case n k (of_sequence {es = es} h re) f = f es h re
+
+  pub entry_case : (n : GroupName) → (k : ℕ) → IsGroupOrigin s t n (GO.Entry k) → ((e : Entry) → IsEntry t k e → IsReached s (entry_points e) → P (entry e)) → P n
+  entry_case n k (of_entry {e = e} h re) f = f e h re
+
+  pub round_case : (n : GroupName) → (k : ℕ) → IsGroupOrigin s t n (GO.Round k) → ((e : Entry) → IsEntry t k e → IsReached s (entry_points e) → P (round e)) → P n
+  round_case n k (of_round {e = e} h re) f = f e h re
+
+-- Walks over alternatives and over their entries.
+
+module _ (s : Sense) (t : Table) where
+  abbrev pub EntryAt : Entry → ℕ → Type 0
+  EntryAt e k = IsEntry t k e × IsReached s (entry_points e)
+
+  abbrev pub EntriesAt : Entries → ℕ → Type 0
+  EntriesAt es k = IsEntries t k es × IsReached s (entries_points es)
+
+  abbrev pub names_of_entry : Entry → List TypeName
+  names_of_entry e = L.chosen_name s.worth s.definitions e ∷ []
+
+  abbrev pub names_of_entries : Entries → List TypeName
+  names_of_entries es = map (λ e. L.chosen_name s.worth s.definitions e) (entry_list es)
+
+  abbrev pub EntryWalk : List TypeName → List ℕ → List TypeOrigin → Type 0
+  EntryWalk ns left out = IsWalk EntryAt (IsTypeOrigin s t) names_of_entry ns left out
+
+  abbrev pub EntriesWalk : List TypeName → List ℕ → List TypeOrigin → Type 0
+  EntriesWalk ns left out = IsWalk EntriesAt (IsTypeOrigin s t) names_of_entries ns left out
+
+  entries_at : (es : List Entry) (ns : List ℕ) → EachReached s es → AlikeAll (EntryRow t) es ns → AlikeAll EntryAt es ns
+  entries_at [] [] no_entry none = none
+  entries_at [] (n ∷ ns) re h = elim h [ ]
+  entries_at (e ∷ es) [] re h = elim h [ ]
+  entries_at (e ∷ es) (n ∷ ns) (and_entry r re) (both h hs) = both (h, r) (entries_at es ns re hs)
+
+  pub entry_walk_begun : (es : Entries) (rows : List ℕ) (ns : List TypeName) (out : List TypeOrigin) → IsReached s (entries_points es) → AlikeAll (EntryRow t) (entry_list es) rows → AlikeAll (IsTypeOrigin s t) ns out → EntryWalk (ns ++ names_of_entries es) rows out
+  entry_walk_begun es rows ns out re h g = record { done = ns; rest = entry_list es; joins = ap (λ ms. ns ++ ms) (flat_map_one (λ e. L.chosen_name s.worth s.definitions e) (entry_list es)); made = g; further = entries_at (entry_list es) rows (each_reached s es re) h }
+
+  lists_at : (ess : List Entries) (ns : List ℕ) → IsReached s (all_points ess) → AlikeAll (EntriesRow t) ess ns → AlikeAll EntriesAt ess ns
+  lists_at [] [] re none = none
+  lists_at [] (n ∷ ns) re h = elim h [ ]
+  lists_at (es ∷ ess) [] re h = elim h [ ]
+  lists_at (es ∷ ess) (n ∷ ns) re (both h hs) = both (h, reached_left s (entries_points es) (all_points ess) re) (lists_at ess ns (reached_right s (entries_points es) (all_points ess) re) hs)
+
+  names_joined : (ess : List Entries) → flat names_of_entries ess ≡ L.chosen_names s.worth s.definitions ess
+  names_joined [] = refl
+  names_joined (es ∷ ess) = ap (λ ms. names_of_entries es ++ ms) (names_joined ess)
+
+  pub entries_walk_begun : (ess : List Entries) (rows : List ℕ) (out : List TypeOrigin) → out ≡ [] → IsReached s (all_points ess) → AlikeAll (EntriesRow t) ess rows → EntriesWalk (L.chosen_names s.worth s.definitions ess) rows out
+  entries_walk_begun ess rows out e re h = record { done = []; rest = ess; joins = names_joined ess; made = subst (AlikeAll (IsTypeOrigin s t) []) (sym e) none; further = lists_at ess rows re h }
+
+  pub entry_walk_on : (ns : List TypeName) (left more : List ℕ) (row : ℕ) (out later : List TypeOrigin) (o : TypeOrigin) → left ≡ row ∷ more → later ≡ out ++ o ∷ [] → ((e : Entry) → IsEntry t row e → IsReached s (entry_points e) → IsTypeOrigin s t (L.chosen_name s.worth s.definitions e) o) → EntryWalk ns left out → EntryWalk ns more later
+  entry_walk_on ns left more row out later o e f g w = walk_on EntryAt (IsTypeOrigin s t) names_of_entry (IsTypeOrigin s t) ns left more row out later e (λ y h ms a. subst (AlikeAll (IsTypeOrigin s t) (ms ++ names_of_entry y)) (sym f) (alike_pushed (IsTypeOrigin s t) ms out (L.chosen_name s.worth s.definitions y) o a (g y h.0 h.1))) w
+
+  pub entries_walk_on : (ns : List TypeName) (left more : List ℕ) (row : ℕ) (out later : List TypeOrigin) → left ≡ row ∷ more → ((es : Entries) → IsEntries t row es → IsReached s (entries_points es) → (ms : List TypeName) → AlikeAll (IsTypeOrigin s t) ms out → AlikeAll (IsTypeOrigin s t) (ms ++ names_of_entries es) later) → EntriesWalk ns left out → EntriesWalk ns more later
+  entries_walk_on ns left more row out later e g w = walk_on EntriesAt (IsTypeOrigin s t) names_of_entries (IsTypeOrigin s t) ns left more row out later e (λ y h ms a. g y h.0 h.1 ms a) w
+
+  pub entry_walk_ended : (ns : List TypeName) (left : List ℕ) (out : List TypeOrigin) → left ≡ [] → EntryWalk ns left out → AlikeAll (IsTypeOrigin s t) ns out
+  entry_walk_ended ns left out e w = walk_ended EntryAt (IsTypeOrigin s t) names_of_entry ns left out e w
+
+  pub entries_walk_ended : (ns : List TypeName) (left : List ℕ) (out : List TypeOrigin) → left ≡ [] → EntriesWalk ns left out → AlikeAll (IsTypeOrigin s t) ns out
+  entries_walk_ended ns left out e w = walk_ended EntriesAt (IsTypeOrigin s t) names_of_entries ns left out e w
+
+pub item_of_value : ((w : Literal) (m : Meaning) (x : Value) → Means w m → IsValueOf w x → x ≡ item_of m) → (w v : Literal) (m : Meaning) (o : Option Value) (x : Value) → Answers (IsValueOf w) o → o ≡ Some x → w ≡ v → Means v m → x ≡ item_of m
+item_of_value law w v m o x a e f h = law v m x h (subst (λ y. IsValueOf y x) f (subst (Answers (IsValueOf w)) e a))

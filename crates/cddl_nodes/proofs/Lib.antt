@@ -1,0 +1,7 @@
+pub mod Ending
+pub mod Forming
+pub mod Listing
+pub mod Numbering
+pub mod Reaching
+pub mod Searching
+pub mod Shaping

@@ -1,0 +1,68 @@
+-- Points that are all reached.
+use Rattle.std.proofs.Common.{◌≡◌, ℕ, zero, List, [], ◌∷◌, ◌++◌, Some, refl, inl, inr, slice_get, arith}
+use Rattle.std.specs.Prelude.{Contains}
+use Rattle.std.proofs.lemmas.List.Elements.{Contains-append_left, Contains-append_right, Contains-append_cases}
+use Rattle.std.proofs.lemmas.Option.{slice_get_within, get_or_from_slice_get}
+use Rattle.cddl_language.specs.Terms.{Ref, Group, sole, orelse, Entries, no_entries, entries, Entry, alternatives, entry_list}
+use Rattle.cddl_language.specs.Reach.{Point, Reaches, ref_at, group_points, entries_points, entry_points}
+use Rattle.cddl_nodes.specs.Basis.{Sense}
+use Rattle.cddl_nodes.specs.Origins.{IsReached, all_points}
+
+pub contains_at : {A : Type 0} (xs : List A) (k : ℕ) (x : A) → slice_get xs k ≡ Some x → Contains xs x
+contains_at xs k x e = (k, slice_get_within xs k x e, get_or_from_slice_get xs k x x e)
+
+pub head_in : {A : Type 0} (x : A) (xs : List A) → Contains (x ∷ xs) x
+head_in x xs = contains_at (x ∷ xs) zero x refl
+
+pub tail_in : {A : Type 0} (y : A) (xs : List A) (x : A) → Contains xs x → Contains (y ∷ xs) x
+tail_in y xs x h = Contains-append_right (y ∷ []) xs x h
+
+none_in : {A : Type 0} (x : A) → Contains [] x → ⊥
+none_in x h = absurd (omega (arith, h.1))
+
+module _ (s : Sense) where
+  pub reached_none : IsReached s []
+  reached_none p h = absurd (none_in p h)
+
+  pub reached_left : (ps qs : List Point) → IsReached s (ps ++ qs) → IsReached s ps
+  reached_left ps qs f p h = f p (Contains-append_left ps qs p h)
+
+  pub reached_right : (ps qs : List Point) → IsReached s (ps ++ qs) → IsReached s qs
+  reached_right ps qs f p h = f p (Contains-append_right ps qs p h)
+
+  pub reached_both : (ps qs : List Point) → IsReached s ps → IsReached s qs → IsReached s (ps ++ qs)
+  reached_both ps qs f g p h = elim (Contains-append_cases ps qs p h) [ inl l ↦ f p l | inr r ↦ g p r ]
+
+  -- a lone reference
+  pub reached_one : (p : Point) → IsReached s (p ∷ []) → Reaches s.definitions s.root (ref_at p)
+  reached_one p f = f p (head_in p [])
+
+  pub all_reached : (ess : List Entries) → ((es : Entries) → Contains ess es → IsReached s (entries_points es)) → IsReached s (all_points ess)
+  all_reached [] f = reached_none
+  all_reached (es ∷ ess) f = reached_both (entries_points es) (all_points ess) (f es (head_in es ess)) (all_reached ess (λ us h. f us (tail_in es ess us h)))
+
+  all_appended : (ess uss : List Entries) → IsReached s (all_points ess) → IsReached s (all_points uss) → IsReached s (all_points (ess ++ uss))
+  all_appended [] uss f g = g
+  all_appended (es ∷ ess) uss f g = reached_both (entries_points es) (all_points (ess ++ uss)) (reached_left (entries_points es) (all_points ess) f) (all_appended ess uss (reached_right (entries_points es) (all_points ess) f) g)
+
+  -- those of a group are those of its alternatives
+  pub group_reached : (g : Group) → IsReached s (group_points g) → IsReached s (all_points (alternatives g))
+  group_reached (sole es) f = reached_both (entries_points es) [] f reached_none
+  group_reached (orelse g es) f = all_appended (alternatives g) (es ∷ []) (group_reached g (reached_left (group_points g) (entries_points es) f)) (reached_both (entries_points es) [] (reached_right (group_points g) (entries_points es) f) reached_none)
+
+  -- so of each entry
+
+  pub data EachReached : List Entry → Type 0 where
+    no_entry : EachReached []
+    and_entry : {e : Entry} {es : List Entry} → IsReached s (entry_points e) → EachReached es → EachReached (e ∷ es)
+
+  each_appended : (es us : List Entry) → EachReached es → EachReached us → EachReached (es ++ us)
+  each_appended [] us f g = g
+  each_appended (e ∷ es) us (and_entry h f) g = and_entry h (each_appended es us f g)
+
+  pub each_reached : (es : Entries) → IsReached s (entries_points es) → EachReached (entry_list es)
+  each_reached no_entries f = no_entry
+  each_reached (entries es e c) f = each_appended (entry_list es) (e ∷ []) (each_reached es (reached_left (entries_points es) (entry_points e) f)) (and_entry (reached_right (entries_points es) (entry_points e) f) no_entry)
+
+pub instance_reached : (s : Sense) → ((r : Ref) → Contains s.refs r → Reaches s.definitions s.root r) → (k : ℕ) (r : Ref) → slice_get s.refs k ≡ Some r → Reaches s.definitions s.root r
+instance_reached s only k r e = only r (contains_at s.refs k r e)

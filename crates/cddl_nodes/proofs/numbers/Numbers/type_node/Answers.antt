@@ -1,0 +1,25 @@
+use Rattle.std.proofs.Common.{subst, sym}
+use Rattle.cddl_meaning.specs.Forms as F
+use Rattle.cddl_table.specs.Nodes.{tag_number_view, test_view}
+use Rattle.cddl_nodes.specs.Forms.{tag_form_view, type_form_view}
+use Rattle.cddl_nodes.specs.Numbers.{MakesType, NumbersTypes, keys_of}
+use Rattle.cddl_nodes.proofs.Numbering.{made_array, made_choice, made_plain, made_ref, made_simple, made_tag}
+use Rattle.cddl_nodes.proofs.numbers.Numbers.type_node.Goals as goal
+
+pub returns-in-Plain : goal.returns-in-Plain
+returns-in-Plain c = subst (λ f. MakesType (keys_of c.args.self.now) (keys_of c.args.self.now) (type_form_view f) (F.Plain (test_view c.in-Plain.test))) (sym c.in-Plain.is) (made_plain (keys_of c.args.self.now) (test_view c.in-Plain.test))
+
+pub returns-in_ok-number-in-Ref : goal.returns-in_ok-number-in-Ref
+returns-in_ok-number-in-Ref c = subst (λ f. MakesType (keys_of c.args.self.now) (keys_of c.number_type.new.self) (type_form_view f) (F.Ref c.in_ok-number-in-Ref.number)) (sym c.in-Ref.is) (made_ref (keys_of c.args.self.now) (keys_of c.number_type.new.self) c.in-Ref.origin c.in_ok-number-in-Ref.number c.in_ok-number-in-Ref.ensures)
+
+pub returns-in_ok-numbers-in-Choice : goal.returns-in_ok-numbers-in-Choice
+returns-in_ok-numbers-in-Choice c = subst (λ f. MakesType (keys_of c.args.self.now) (keys_of c.number_types.new.self) (type_form_view f) (F.Choice c.in_ok-numbers-in-Choice.numbers.items)) (sym c.in-Choice.is) (made_choice (keys_of c.args.self.now) (keys_of c.number_types.new.self) c.in-Choice.origins.items c.in_ok-numbers-in-Choice.numbers.items (subst (λ os. NumbersTypes (keys_of c.args.self.now) (keys_of c.number_types.new.self) os c.in_ok-numbers-in-Choice.numbers.items) c.deref.ensures.value c.in_ok-numbers-in-Choice.ensures))
+
+pub returns-in_ok-number-in-ArrayOf : goal.returns-in_ok-number-in-ArrayOf
+returns-in_ok-number-in-ArrayOf c = subst (λ f. MakesType (keys_of c.args.self.now) (keys_of c.number_group.new.self) (type_form_view f) (F.ArrayOf c.in_ok-number-in-ArrayOf.number)) (sym c.in-ArrayOf.is) (made_array (keys_of c.args.self.now) (keys_of c.number_group.new.self) c.in-ArrayOf.origin c.in_ok-number-in-ArrayOf.number c.in_ok-number-in-ArrayOf.ensures)
+
+pub returns-in_ok-content-in-TagOf : goal.returns-in_ok-content-in-TagOf
+returns-in_ok-content-in-TagOf c = subst (λ f. MakesType (keys_of c.args.self.now) (keys_of c.number_type-in-TagOf.new.self) (type_form_view f) (F.TagOf (tag_number_view c.in_ok-tag-in-TagOf.tag) c.in_ok-content-in-TagOf.content)) (sym c.in-TagOf.is) (made_tag (keys_of c.args.self.now) (keys_of c.tag_number.new.self) (keys_of c.number_type-in-TagOf.new.self) (tag_form_view c.in-TagOf.form) (tag_number_view c.in_ok-tag-in-TagOf.tag) c.in-TagOf.origin c.in_ok-content-in-TagOf.content c.in_ok-tag-in-TagOf.ensures c.in_ok-content-in-TagOf.ensures)
+
+pub returns-in_ok-number-in-SimpleBy : goal.returns-in_ok-number-in-SimpleBy
+returns-in_ok-number-in-SimpleBy c = subst (λ f. MakesType (keys_of c.args.self.now) (keys_of c.number_type-in-SimpleBy.new.self) (type_form_view f) (F.SimpleBy c.in_ok-number-in-SimpleBy.number)) (sym c.in-SimpleBy.is) (made_simple (keys_of c.args.self.now) (keys_of c.number_type-in-SimpleBy.new.self) c.in-SimpleBy.origin c.in_ok-number-in-SimpleBy.number c.in_ok-number-in-SimpleBy.ensures)

@@ -1,0 +1,30 @@
+-- What is looked up, and what is made of it.
+use Rattle.std.specs.Prelude.{ℕ, Bool, true, false, [], Option, Some, None}
+use Rattle.cbor_data.specs.Value.{Value}
+use Rattle.cddl_meaning.specs.Forms as F
+use Rattle.cddl_terms.specs.declared.row.Row.{Row}
+use Rattle.cddl_openings.specs.declared.openings.Opening.{Opening}
+use Rattle.cddl_openings.specs.declared.openings.Opening.TheVariants as OpeningV
+use Rattle.cddl_nodes.specs.declared.origin.GroupOrigin.{GroupOrigin}
+use Rattle.cddl_nodes.specs.declared.origin.TypeOrigin.{TypeOrigin}
+use Rattle.cddl_nodes.specs.declared.origin.TypeOrigin.TheVariants as T
+
+abbrev pub flattened : Option (Option ℕ) → Option ℕ
+flattened None = None
+flattened (Some o) = o
+
+abbrev pub is_flagged : Option Bool → Bool
+is_flagged (Some true) = true
+is_flagged _ = false
+
+abbrev pub opened_view : Opening → F.Node TypeOrigin GroupOrigin
+opened_view (OpeningV.Type n) = F.Ref (T.Row n)
+opened_view _ = F.Choice []
+
+abbrev pub between_view : Bool → Option Value → Option Value → F.Node TypeOrigin GroupOrigin
+between_view closed (Some a) (Some b) = F.Plain (F.between a b closed)
+between_view closed _ _ = F.Choice []
+
+abbrev pub text_in : Option Row → Option ℕ
+text_in None = None
+text_in (Some r) = r.text

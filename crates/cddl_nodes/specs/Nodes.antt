@@ -1,0 +1,41 @@
+-- The nodes of a table, alike to the language of closed terms.
+use Rattle.std.specs.Prelude.{◌≡◌, List, length, Contains, Some, slice_get}
+use Rattle.cddl_meaning.specs.Alike.{AreAlike}
+use Rattle.cddl_language.specs.Terms.{Ref, call, no_terms}
+use Rattle.cddl_language.specs.Language.{GroupName, TypeName, language, type_named}
+use Rattle.cddl_language.specs.StandsFor.{HasNode}
+use Rattle.cddl_terms.specs.Table.{Table}
+use Rattle.cddl_table.specs.Nodes.{language_in}
+use Rattle.cddl_table.specs.declared.nodes.TypeId.{TypeId}
+use Rattle.cddl_table.specs.declared.nodes.GroupId.{GroupId}
+use Rattle.cddl_nodes.specs.Basis.{Sense}
+use Rattle.cddl_nodes.specs.Origins.{IsGroupOrigin, IsTypeOrigin}
+use Rattle.cddl_nodes.specs.declared.making.Nodes.{Nodes}
+use Rattle.cddl_nodes.specs.declared.origin.GroupOrigin.{GroupOrigin}
+use Rattle.cddl_nodes.specs.declared.origin.TypeOrigin.{TypeOrigin}
+
+-- The names are of what the numbers are of.
+module _ (s : Sense) (t : Table) (v : Nodes) where
+  pub record IsNameOfType (n : TypeName) (m : TypeId) : Type 0 where
+    pub origin : TypeOrigin
+    pub there : slice_get v.type_origins.items m.number ≡ Some origin
+    pub named : IsTypeOrigin s t n origin
+
+  pub record IsNameOfGroup (n : GroupName) (m : GroupId) : Type 0 where
+    pub origin : GroupOrigin
+    pub there : slice_get v.group_origins.items m.number ≡ Some origin
+    pub named : IsGroupOrigin s t n origin
+
+  -- Each number has a name that is of what the number is of, and the form of the name. All instances and the root have numbers.
+  pub record AreNodes : Type 0 where
+    pub type_names : List (TypeName × TypeId)
+    pub group_names : List (GroupName × GroupId)
+    pub type_count : length v.types.items ≡ length v.type_origins.items
+    pub group_count : length v.groups.items ≡ length v.group_origins.items
+    pub types_told : (n : TypeName) (m : TypeId) → Contains type_names (n, m) → IsNameOfType n m
+    pub groups_told : (n : GroupName) (m : GroupId) → Contains group_names (n, m) → IsNameOfGroup n m
+    pub types_found : (n : TypeName) (m : TypeId) → IsNameOfType n m → Contains type_names (n, m)
+    pub groups_found : (n : GroupName) (m : GroupId) → IsNameOfGroup n m → Contains group_names (n, m)
+    pub alike : AreAlike (language s.worth s.definitions) (language_in v.types.items v.groups.items) (λ (n : TypeName) (m : TypeId). Contains type_names (n, m)) (λ (n : GroupName) (m : GroupId). Contains group_names (n, m))
+    pub root_node : Contains type_names (type_named s.definitions (call s.root no_terms), v.root)
+    pub have_nodes : (r : Ref) → Contains s.refs r → HasNode s.definitions type_names group_names r

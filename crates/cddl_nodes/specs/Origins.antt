@@ -1,0 +1,90 @@
+-- What the types and groups of the table are of.
+use Rattle.std.specs.Prelude.{◌≡◌, ℕ, List, [], ◌∷◌, ◌++◌, map, Option, Some, slice_get}
+use Rattle.cddl_meaning.specs.Alike.{AlikeAll, AlikeTypes, AlikeGroups}
+use Rattle.cddl_language.specs.Terms.{Term, Ref, Group, Entries, Entry, alternatives, entry_list}
+use Rattle.cddl_language.specs.Substitution.{group_choices}
+use Rattle.cddl_language.specs.Kinds as K
+use Rattle.cddl_language.specs.Reach.{Point, points, entries_points, entry_points}
+use Rattle.cddl_language.specs.Language as L
+use Rattle.cddl_language.specs.Language.{TypeName, type, chosen_of, GroupName, first_of, each_of, entry, round, type_named, type_node}
+use Rattle.cddl_terms.specs.Table.{Table}
+use Rattle.cddl_terms.specs.Trees.{IsTerm, IsEntries, IsEntry}
+use Rattle.cddl_closed.specs.Closed.{AreAlternatives, AreReached}
+use Rattle.cddl_nodes.specs.Basis.{Sense}
+use Rattle.cddl_nodes.specs.Forms.{group_form_view, type_form_view}
+use Rattle.cddl_nodes.specs.declared.asked.Asked.{Asked}
+use Rattle.cddl_nodes.specs.declared.asked.Asked.TheVariants as A
+use Rattle.cddl_nodes.specs.declared.form.GroupForm.{GroupForm}
+use Rattle.cddl_nodes.specs.declared.form.TypeForm.{TypeForm}
+use Rattle.cddl_nodes.specs.declared.origin.GroupOrigin.{GroupOrigin}
+use Rattle.cddl_nodes.specs.declared.origin.GroupOrigin.TheVariants as G
+use Rattle.cddl_nodes.specs.declared.origin.TypeOrigin.{TypeOrigin}
+use Rattle.cddl_nodes.specs.declared.origin.TypeOrigin.TheVariants as T
+
+-- the references that stand in alternatives
+abbrev pub all_points : List Entries → List Point
+all_points [] = []
+all_points (es ∷ ess) = entries_points es ++ all_points ess
+
+abbrev pub IsReached : Sense → List Point → Type 0
+IsReached s ps = AreReached s.definitions s.root ps
+
+-- The names of the types and groups that are of these numbers. All references that stand in them are instances.
+module _ (s : Sense) (t : Table) where
+  pub data IsTypeOrigin : TypeName → TypeOrigin → Type 0 where
+    of_row : {n : ℕ} {x : Term} → IsTerm t n x → IsReached s (points x) → IsTypeOrigin (type x) (T.Row n)
+    of_instance : {k : ℕ} {r : Ref} → slice_get s.refs k ≡ Some r → IsTypeOrigin (type_named s.definitions r) (T.Instance k)
+    of_chosen : {o : Option ℕ} {ess : List Entries} → AreAlternatives t ess o → IsReached s (all_points ess) → IsTypeOrigin (chosen_of ess) (T.Chosen o)
+
+  pub data IsGroupOrigin : GroupName → GroupOrigin → Type 0 where
+    of_alternatives : {o : Option ℕ} {ess : List Entries} → AreAlternatives t ess o → IsReached s (all_points ess) → IsGroupOrigin (first_of ess) (G.Alternatives o)
+    of_sequence : {n : ℕ} {es : Entries} → IsEntries t n es → IsReached s (entries_points es) → IsGroupOrigin (each_of es) (G.Sequence n)
+    of_entry : {n : ℕ} {e : Entry} → IsEntry t n e → IsReached s (entry_points e) → IsGroupOrigin (entry e) (G.Entry n)
+    of_round : {n : ℕ} {e : Entry} → IsEntry t n e → IsReached s (entry_points e) → IsGroupOrigin (round e) (G.Round n)
+
+  -- the form, with parts that are of these
+  abbrev pub IsTypeForm : TypeName → TypeForm → Type 0
+  IsTypeForm n f = AlikeTypes IsTypeOrigin IsGroupOrigin (type_node s.worth s.definitions n) (type_form_view f)
+
+  abbrev pub IsGroupForm : GroupName → GroupForm → Type 0
+  IsGroupForm n f = AlikeGroups IsTypeOrigin IsGroupOrigin (L.group_form s.worth s.definitions n) (group_form_view f)
+
+  -- of a term, of an instance, and of what `&` chooses from
+  abbrev pub IsTermForm : Term → TypeForm → Type 0
+  IsTermForm x f = IsTypeForm (type x) f
+
+  abbrev pub IsInstanceForm : Ref → TypeForm → Type 0
+  IsInstanceForm r f = IsTypeForm (type_named s.definitions r) f
+
+  abbrev pub IsChosenForm : List Entries → TypeForm → Type 0
+  IsChosenForm ess f = IsTypeForm (chosen_of ess) f
+
+  -- What an entry's type is: with the row of a group with the alternatives, or with none, where it is a group.
+  pub data IsAsked : K.Part → Asked → Type 0 where
+    asks_type : IsAsked K.asks_type A.Type
+    asks_named : {r : Ref} {o : Option ℕ} → AreAlternatives t (group_choices s.definitions r) o → IsReached s (all_points (group_choices s.definitions r)) → IsAsked (K.names_group r) (A.Group o)
+    asks_opened : {r : Ref} {g : Group} {o : Option ℕ} → AreAlternatives t (alternatives g) o → IsReached s (all_points (alternatives g)) → IsAsked (K.opens r g) (A.Group o)
+
+  -- the types from which `&` chooses
+  abbrev pub AreChosen : List Entries → List TypeOrigin → Type 0
+  AreChosen ess os = AlikeAll IsTypeOrigin (L.chosen_names s.worth s.definitions ess) os
+
+  -- these, and then those of the entries
+  abbrev pub AddsChosen : Entries → (old new : List TypeOrigin) → Type 0
+  AddsChosen es old new = (ns : List TypeName) → AlikeAll IsTypeOrigin ns old → AlikeAll IsTypeOrigin (ns ++ map (λ e. L.chosen_name s.worth s.definitions e) (entry_list es)) new
+
+  -- of groups likewise
+  abbrev pub IsAlternativesForm : List Entries → GroupForm → Type 0
+  IsAlternativesForm ess f = IsGroupForm (first_of ess) f
+
+  abbrev pub IsEntriesForm : Entries → GroupForm → Type 0
+  IsEntriesForm es f = IsGroupForm (each_of es) f
+
+  abbrev pub IsEntryForm : Entry → GroupForm → Type 0
+  IsEntryForm e f = IsGroupForm (entry e) f
+
+  abbrev pub IsRoundForm : Entry → GroupForm → Type 0
+  IsRoundForm e f = IsGroupForm (round e) f
+
+  abbrev pub IsPartForm : Term → GroupForm → Type 0
+  IsPartForm x f = AlikeGroups IsTypeOrigin IsGroupOrigin (L.part_form s.worth s.definitions x (K.part_of s.definitions x)) (group_form_view f)

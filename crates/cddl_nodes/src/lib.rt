@@ -1,0 +1,25 @@
+//! The types and groups of a table, made of the closed terms of a specification.
+#![tactic(auto)]
+
+mod asked;
+mod chosen;
+mod form;
+mod groups;
+mod instances;
+mod lists;
+mod literals;
+mod making;
+mod numbers;
+mod origin;
+mod search;
+mod shape;
+mod source;
+mod store;
+mod texts;
+mod types;
+
+pub use crate::making::{Nodes, nodes_of};
+pub use crate::origin::{GroupOrigin, TypeOrigin};
+
+#[cfg(test)]
+mod tests;

@@ -1,0 +1,232 @@
+//! The forms of types.
+
+ghost use Rattle.std.specs.Prelude.{◌≡◌, IfOk, List, Some, [], slice_get};
+ghost use Rattle.cddl_meaning.specs.Forms as F;
+ghost use Rattle.cddl_language.specs.Language.{TypeName};
+ghost use Rattle.cddl_language.specs.Reach.{points};
+ghost use Rattle.cddl_language.specs.Terms as L;
+ghost use Rattle.cddl_language.specs.Terms.{Entries, Group, Ref, Term, Text};
+ghost use Rattle.cddl_closed.specs.Closed.{AreAlternatives};
+ghost use Rattle.cddl_terms.specs.Table.{Table};
+ghost use Rattle.cddl_terms.specs.Trees.{IsGroup, IsRef, IsTerm};
+ghost use Rattle.cddl_nodes.specs.Basis.{AreRight, IsSource, Sense};
+ghost use Rattle.cddl_nodes.specs.Forms.{type_form_view};
+ghost use Rattle.cddl_nodes.specs.Lookups.{is_flagged, opened_view};
+ghost use Rattle.cddl_nodes.specs.Origins.{IsChosenForm, IsInstanceForm, IsReached, IsTermForm, IsTypeForm, IsTypeOrigin, all_points};
+
+use crate::asked::{group_at, meaning_there, place_at};
+use crate::chosen::chosen;
+use crate::form::{TagForm, TypeForm};
+use crate::lists::row_origins;
+use crate::literals::{item_at, range_form};
+use crate::origin::{GroupOrigin, TypeOrigin};
+use crate::shape::{Shape, shape_at};
+use crate::source::Source;
+use crate::texts::{hash_at, tag_at};
+use cddl_closed::choices;
+use cddl_closed::laws::{meaning_at, meanings_are_reached};
+use cddl_openings::Opening;
+use cddl_openings::laws::{opened_is_reached, opening_stands};
+use cddl_table::Test;
+use cddl_terms::{NoRoom, Terms};
+use std::alloc::Global;
+
+/// The form of the type that is of this.
+pub(crate) fn type_form(
+    alloc: Global,
+    terms: &Terms<'_>,
+    source: &Source<'_>,
+    origin: TypeOrigin,
+) -> Result<TypeForm, NoRoom>
+    ensures { IfOk result (λ f. (s : Sense) (n : TypeName) → IsSource s terms.now source.now → IsTypeOrigin s terms.now n origin → IsTypeForm s terms.now n f) }
+{
+    match origin {
+        TypeOrigin::Row(row) => row_form(alloc, terms, source, row),
+        TypeOrigin::Instance(place) => instance_form(alloc, source, place),
+        TypeOrigin::Chosen(group) => chosen_form(alloc, terms, source, group),
+    }
+}
+
+/// The form of the type of a row.
+fn row_form(
+    alloc: Global,
+    terms: &Terms<'_>,
+    source: &Source<'_>,
+    row: u32,
+) -> Result<TypeForm, NoRoom>
+    ensures { IfOk result (λ f. (s : Sense) (x : Term) → IsSource s terms.now source.now → IsTerm terms.now row x → IsReached s (points x) → IsTermForm s terms.now x f) }
+{
+    match shape_at(terms, row) {
+        Shape::Literal => literal_form(alloc, terms, row),
+        Shape::Named(call) => named_form(terms, source, call),
+        Shape::Parens(part) => Ok(TypeForm::Ref(TypeOrigin::Row(part))),
+        Shape::ArrayOf(group) => Ok(TypeForm::ArrayOf(GroupOrigin::Alternatives(Some(group)))),
+        Shape::Unwrapped(call) => unwrapped_form(alloc, terms, source, call),
+        Shape::ChoiceOf(group) => choice_form(alloc, terms, source, group),
+        Shape::ChoiceOfName(call) => named_choice_form(alloc, terms, source, call),
+        Shape::Tagged(text, content) => tagged_form(terms, text, content),
+        Shape::TaggedBy(head, content) => Ok(TypeForm::TagOf(
+            TagForm::SuchAs(TypeOrigin::Row(head)),
+            TypeOrigin::Row(content),
+        )),
+        Shape::SimpleBy(head) => Ok(TypeForm::SimpleBy(TypeOrigin::Row(head))),
+        Shape::Hash(text) => hash_form(terms, text),
+        Shape::Range(least, last) => range_form(alloc, terms, source, least, last, true),
+        Shape::RangeBelow(least, last) => range_form(alloc, terms, source, least, last, false),
+        Shape::Or => or_form(alloc, terms, row),
+        Shape::Other => Ok(nothing(alloc)),
+    }
+}
+
+/// The type that says no to every item.
+fn nothing(alloc: Global) -> TypeForm
+    ensures { type_form_view result ≡ F.Choice [] }
+{
+    TypeForm::Choice(Vec::new(alloc))
+}
+
+fn literal_form(alloc: Global, terms: &Terms<'_>, row: u32) -> Result<TypeForm, NoRoom>
+    ensures { IfOk result (λ f. (s : Sense) (v : L.Literal) → AreRight terms.now s.worth → IsTerm terms.now row (L.literal v) → IsTermForm s terms.now (L.literal v) f) }
+{
+    let item = item_at(alloc, terms, row)?;
+    Ok(TypeForm::Plain(Test::Equals(item)))
+}
+
+fn named_form(terms: &Terms<'_>, source: &Source<'_>, call: u32) -> Result<TypeForm, NoRoom>
+    ensures { IfOk result (λ f. (s : Sense) (r : Ref) → IsSource s terms.now source.now → IsRef terms.now call r → IsReached s (points (L.named r)) → IsTermForm s terms.now (L.named r) f) }
+{
+    match place_at(terms, source, call) {
+        Some(place) => Ok(TypeForm::Ref(TypeOrigin::Instance(place))),
+        None => Err(NoRoom),
+    }
+}
+
+/// The content of the tag that the name stands for, if it does.
+fn unwrapped_form(
+    alloc: Global,
+    terms: &Terms<'_>,
+    source: &Source<'_>,
+    call: u32,
+) -> Result<TypeForm, NoRoom>
+    ensures { IfOk result (λ f. (s : Sense) (r : Ref) → IsSource s terms.now source.now → IsRef terms.now call r → IsReached s (points (L.unwrapped r)) → IsTermForm s terms.now (L.unwrapped r) f) }
+{
+    opened_is_reached();
+    opening_stands();
+    let Some(place) = place_at(terms, source, call) else {
+        return Err(NoRoom);
+    };
+    match opening_there(source, place) {
+        Some(opening) => Ok(opened_form(alloc, opening)),
+        None => Err(NoRoom),
+    }
+}
+
+fn opening_there(source: &Source<'_>, place: u32) -> Option<Opening>
+    ensures { result ≡ slice_get source.now.openings.now place }
+{
+    source.openings.get(place as usize).copied()
+}
+
+fn opened_form(alloc: Global, opening: Opening) -> TypeForm
+    ensures { type_form_view result ≡ opened_view opening }
+{
+    match opening {
+        Opening::Type(row) => TypeForm::Ref(TypeOrigin::Row(row)),
+        _ => nothing(alloc),
+    }
+}
+
+/// Whether `&` can choose from the group of the row.
+fn is_choosable(source: &Source<'_>, group: u32) -> bool
+    ensures { result ≡ is_flagged (slice_get source.now.choosable.now group) }
+{
+    matches!(source.choosable.get(group as usize), Some(true))
+}
+
+/// What `&` chooses from in the alternatives of a group's row, if it can.
+fn choice_form(
+    alloc: Global,
+    terms: &Terms<'_>,
+    source: &Source<'_>,
+    group: u32,
+) -> Result<TypeForm, NoRoom>
+    ensures { IfOk result (λ f. (s : Sense) (g : Group) → IsSource s terms.now source.now → IsGroup terms.now group g → IsReached s (points (L.choice_of g)) → IsTermForm s terms.now (L.choice_of g) f) }
+{
+    if is_choosable(source, group) {
+        return chosen_form(alloc, terms, source, Some(group));
+    }
+    Ok(nothing(alloc))
+}
+
+fn named_choice_form(
+    alloc: Global,
+    terms: &Terms<'_>,
+    source: &Source<'_>,
+    call: u32,
+) -> Result<TypeForm, NoRoom>
+    ensures { IfOk result (λ f. (s : Sense) (r : Ref) → IsSource s terms.now source.now → IsRef terms.now call r → IsReached s (points (L.choice_of_name r)) → IsTermForm s terms.now (L.choice_of_name r) f) }
+{
+    meanings_are_reached();
+    let Some(place) = place_at(terms, source, call) else {
+        return Err(NoRoom);
+    };
+    match group_at(source, place) {
+        Some(group) => choice_form(alloc, terms, source, group),
+        None => Ok(nothing(alloc)),
+    }
+}
+
+/// All that `&` chooses from in the alternatives of a group's row, or in none.
+fn chosen_form(
+    alloc: Global,
+    terms: &Terms<'_>,
+    source: &Source<'_>,
+    group: Option<u32>,
+) -> Result<TypeForm, NoRoom>
+    ensures { IfOk result (λ f. (s : Sense) (ess : List Entries) → IsSource s terms.now source.now → AreAlternatives terms.now ess group → IsReached s (all_points ess) → IsChosenForm s terms.now ess f) }
+{
+    let chosen = chosen(alloc, terms, source, group)?;
+    Ok(TypeForm::Choice(chosen))
+}
+
+fn tagged_form(terms: &Terms<'_>, text: u32, content: u32) -> Result<TypeForm, NoRoom>
+    ensures { IfOk result (λ f. (s : Sense) (n : Text) (x : Term) → slice_get terms.now.texts text ≡ Some n → IsTerm terms.now content x → IsReached s (points (L.tagged n x)) → IsTermForm s terms.now (L.tagged n x) f) }
+{
+    let number = tag_at(terms, text)?;
+    Ok(TypeForm::TagOf(number, TypeOrigin::Row(content)))
+}
+
+fn hash_form(terms: &Terms<'_>, text: u32) -> Result<TypeForm, NoRoom>
+    ensures { IfOk result (λ f. (s : Sense) (n : Text) → slice_get terms.now.texts text ≡ Some n → IsTermForm s terms.now (L.hash n) f) }
+{
+    let test = hash_at(terms, text)?;
+    Ok(TypeForm::Plain(test))
+}
+
+/// The members of a choice.
+fn or_form(alloc: Global, terms: &Terms<'_>, row: u32) -> Result<TypeForm, NoRoom>
+    ensures { IfOk result (λ f. (s : Sense) (a b : Term) → IsTerm terms.now row (L.or a b) → IsReached s (points (L.or a b)) → IsTermForm s terms.now (L.or a b) f) }
+{
+    let Ok(rows) = choices(alloc, terms, row) else {
+        return Err(NoRoom);
+    };
+    match row_origins(alloc, &rows) {
+        Ok(origins) => Ok(TypeForm::Choice(origins)),
+        Err(_) => Err(NoRoom),
+    }
+}
+
+/// The choices of the instance at this place.
+fn instance_form(alloc: Global, source: &Source<'_>, place: u32) -> Result<TypeForm, NoRoom>
+    ensures { IfOk result (λ f. (s : Sense) (t : Table) (r : Ref) → IsSource s t source.now → slice_get s.refs place ≡ Some r → IsInstanceForm s t r f) }
+{
+    meanings_are_reached();
+    meaning_at();
+    let Some(meaning) = meaning_there(source, place) else {
+        return Err(NoRoom);
+    };
+    match row_origins(alloc, &meaning.types) {
+        Ok(origins) => Ok(TypeForm::Choice(origins)),
+        Err(_) => Err(NoRoom),
+    }
+}

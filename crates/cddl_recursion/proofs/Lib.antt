@@ -1,0 +1,9 @@
+mod Ahead
+mod Cycling
+mod Freely
+mod Nesting
+mod Numbers
+mod Ordering
+mod Presence
+mod Pushing
+mod Rows

@@ -1,0 +1,5 @@
+pub mod Asking
+pub mod Edges
+pub mod Order
+pub mod Standing
+pub mod Views

@@ -1,0 +1,61 @@
+//! Forms that are not supported yet.
+
+ghost use Rattle.std.specs.Prelude.{◌≡◌};
+ghost use Rattle.cddl_language.specs.Faults.{Specification};
+ghost use Rattle.cddl_sites.specs.View.{view_site};
+ghost use Rattle.cddl_site_faults.specs.Stage.{HasNotYet, IsKnownControlToken, IsKnownOperator, IsNotYetAt};
+ghost use Rattle.cddl_survey.specs.Least.{IsLeast};
+ghost use Rattle.cddl_survey.specs.Survey.{IsSurvey};
+ghost use Rattle.cddl_terms.specs.Table.{Table};
+ghost use Rattle.cddl_tree.specs.View.{token_of, view, view_operator};
+
+use cddl_sites::Site;
+use cddl_sites::laws::found_sites;
+use cddl_survey::{Survey, lesser};
+use cddl_terms::control_name;
+use cddl_texts::is_known_control;
+use cddl_token::Token;
+use cddl_tree::{Operator, Tree};
+
+/// The least offset of a map or of a known control, which this version does not take.
+///
+/// It takes a time in proportion to the sites and to the texts of their tokens.
+pub fn not_yet(tree: &Tree<'_>, survey: &Survey<'_>) -> Option<usize>
+    ensures { (t : Table) (s : Specification) → s.tree ≡ view tree.now → IsSurvey t tree.now survey.now → IsLeast (HasNotYet s) result }
+{
+    found_sites();
+    let mut least = None;
+    for found in &survey.sites {
+        least = lesser(least, not_yet_at(tree, found.site));
+    }
+    least
+}
+
+fn not_yet_at(tree: &Tree<'_>, site: Site<'_>) -> Option<usize>
+    ensures { IsLeast (IsNotYetAt (view_site (token_of tree.now) site.entry)) result }
+{
+    match site {
+        Site::Map { opening, .. } => Some(tree.token(opening).start),
+        Site::Operation { operator, .. } => known_operator(tree, operator),
+        _ => None,
+    }
+}
+
+fn known_operator(tree: &Tree<'_>, operator: Operator) -> Option<usize>
+    ensures { IsLeast (IsKnownOperator (view_operator (token_of tree.now) operator)) result }
+{
+    match operator {
+        Operator::Control(leaf) => known_control_token(tree.token(leaf)),
+        _ => None,
+    }
+}
+
+fn known_control_token(token: &Token<'_>) -> Option<usize>
+    ensures { IsLeast (IsKnownControlToken token.now) result }
+{
+    if is_known_control(control_name(token.text)) {
+        Some(token.start)
+    } else {
+        None
+    }
+}
