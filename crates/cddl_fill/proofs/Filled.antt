@@ -83,15 +83,17 @@ module _ (t : Table) (ps : List Text) (ys : List Tree) (arguments : List ℕ) (h
 -- The steps so far have their numbers, and these steps are left.
 pub record AreFilled (old now : Table) (steps left : List Step) (arguments made : List ℕ) : Type 0 where
   pub grown : Grows old now
+  pub texts : now.texts ≡ old.texts
   pub are_made : (ps : List Text) (ys all : List Tree) → AreSteps old ps [] steps all → AreTrees old arguments ys → (before : List Tree) × AreSteps old ps before left all × AreTrees now made (map (filled ps ys) before)
 
 pub none_filled : (t : Table) (steps : List Step) (arguments : List ℕ) → Grows t t → AreFilled t t steps steps arguments []
-none_filled t steps arguments same = record { grown = same; are_made = λ ps ys all h k. ([], h, no_trees) }
+none_filled t steps arguments same = record { grown = same; texts = refl; are_made = λ ps ys all h k. ([], h, no_trees) }
 
 module _ (further : (a b c : Table) → Grows a b → Grows b c → Grows a c) (tree : (old new : Table) → Grows old new → (n : Option ℕ) (x : Tree) → Holds old n x → Holds new n x) (old now : Table) (steps left : List Step) (arguments made : List ℕ) where
-  pub one_filled : (s : Step) (new : Table) (n : ℕ) → AreFilled old now steps (s ∷ left) arguments made → Grows now new → ((ps : List Text) (before ys : List Tree) (x : Tree) → IsStep now ps before s x → AreTrees now arguments ys → AreTrees now made (map (filled ps ys) before) → Holds new (Some n) (filled ps ys x)) → AreFilled old new steps left arguments (made ++ n ∷ [])
-  one_filled s new n so grows fills = record {
+  pub one_filled : (s : Step) (new : Table) (n : ℕ) → AreFilled old now steps (s ∷ left) arguments made → Grows now new → new.texts ≡ now.texts → ((ps : List Text) (before ys : List Tree) (x : Tree) → IsStep now ps before s x → AreTrees now arguments ys → AreTrees now made (map (filled ps ys) before) → Holds new (Some n) (filled ps ys x)) → AreFilled old new steps left arguments (made ++ n ∷ [])
+  one_filled s new n so grows texts fills = record {
     grown = further old now new so.grown grows;
+    texts = texts ∙ so.texts;
     are_made = λ ps ys all h k. let b = so.are_made ps ys all h k in next ps ys all b.0 k b.1 b.2;
   }
     where
@@ -111,11 +113,11 @@ module _ (further : (a b c : Table) → Grows a b → Grows b c → Grows a c) (
       last ps ys all before no_steps are = are
 
   -- the same by the place of the step
-  pub next_filled : (i : ℕ) (d : Step) (items : List Step) (shown pushed : List ℕ) (new : Table) (n : ℕ) → items ≡ steps → i < length items → shown ≡ made → pushed ≡ made ++ n ∷ [] → AreFilled old now steps (drop i steps) arguments made → Grows now new → ((ps : List Text) (before ys : List Tree) (x : Tree) → IsStep now ps before (get_or items i d) x → AreTrees now arguments ys → AreTrees now shown (map (filled ps ys) before) → Holds new (Some n) (filled ps ys x)) → left ≡ drop (i + 1) steps → AreFilled old new steps left arguments pushed
-  next_filled i d items shown pushed new n same within shown_made are so grows fills e =
+  pub next_filled : (i : ℕ) (d : Step) (items : List Step) (shown pushed : List ℕ) (new : Table) (n : ℕ) → items ≡ steps → i < length items → shown ≡ made → pushed ≡ made ++ n ∷ [] → AreFilled old now steps (drop i steps) arguments made → Grows now new → new.texts ≡ now.texts → ((ps : List Text) (before ys : List Tree) (x : Tree) → IsStep now ps before (get_or items i d) x → AreTrees now arguments ys → AreTrees now shown (map (filled ps ys) before) → Holds new (Some n) (filled ps ys x)) → left ≡ drop (i + 1) steps → AreFilled old new steps left arguments pushed
+  next_filled i d items shown pushed new n same within shown_made are so grows texts fills e =
       let here : i < length steps = omega (arith, within, ap length same) in
       let parts : drop i steps ≡ get_or steps i d ∷ left = drop-cons steps i d here ∙ ap (λ (ss : List Step). get_or steps i d ∷ ss) (ap (λ j. drop j steps) (sym (add-one i)) ∙ sym e) in
-      let one = one_filled (get_or steps i d) new n (subst (λ ss. AreFilled old now steps ss arguments made) parts so) grows (λ ps before ys x h k l. fills ps before ys x (subst (λ ss. IsStep now ps before (get_or ss i d) x) (sym same) h) k (subst (λ ns. AreTrees now ns (map (filled ps ys) before)) (sym shown_made) l)) in
+      let one = one_filled (get_or steps i d) new n (subst (λ ss. AreFilled old now steps ss arguments made) parts so) grows texts (λ ps before ys x h k l. fills ps before ys x (subst (λ ss. IsStep now ps before (get_or ss i d) x) (sym same) h) k (subst (λ ns. AreTrees now ns (map (filled ps ys) before)) (sym shown_made) l)) in
       subst (AreFilled old new steps left arguments) (sym are) one
 
 -- the number of the body

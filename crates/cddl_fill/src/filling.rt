@@ -16,6 +16,7 @@ pub(crate) fn fill_step(
     made: &[u32],
 ) -> Result<u32, NoRoom>
     ensures grows { Grows terms.old terms.new }
+    ensures texts { terms.new.texts ≡ terms.old.texts }
     ensures fills { IfOk result (λ n. (ps : List Text) (before ys : List Tree) (x : Tree) → IsStep terms.old ps before step x → AreTrees terms.old arguments.now ys → AreTrees terms.old made.now (map (filled ps ys) before) → Holds terms.new (Some n) (filled ps ys x)) }
 {
     if let Some(number) = number_at(arguments, step.argument) {
@@ -57,6 +58,7 @@ fn filled_row(step: Step, row: Row, made: &[u32]) -> Row
 /// The number of the row, where its text and parts are there.
 fn add_row(terms: &mut Terms<'_>, row: Row) -> Result<u32, NoRoom>
     ensures grows { Grows terms.old terms.new }
+    ensures texts { terms.new.texts ≡ terms.old.texts }
     ensures stands { IfOk result (λ n. (x : Option Text) (a b : Tree) → HoldsText terms.old.texts row.text x → Holds terms.old row.first a → Holds terms.old row.second b → Holds terms.new (Some n) (node row.form x a b)) }
 {
     if !has_parts(terms, row) {

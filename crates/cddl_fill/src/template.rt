@@ -1,4 +1,4 @@
-ghost use Rattle.std.specs.Prelude.{List, IfOk, Some};
+ghost use Rattle.std.specs.Prelude.{◌≡◌, List, IfOk, Some};
 ghost use Rattle.cddl_language.specs.Terms.{Text};
 ghost use Rattle.cddl_terms.specs.Definitions.{AreTexts};
 ghost use Rattle.cddl_terms.specs.Filled.{filled};
@@ -70,6 +70,7 @@ impl Template {
         arguments: &[u32],
     ) -> Result<u32, NoRoom>
         ensures grows { Grows terms.old terms.new }
+        ensures texts { terms.new.texts ≡ terms.old.texts }
         ensures fills { IfOk result (λ n. (ps : List Text) (ys : List Tree) (x : Tree) → IsTemplate terms.old ps self.now x → AreTrees terms.old arguments.now ys → Holds terms.new (Some n) (filled ps ys x)) }
     {
         growing_keeps();

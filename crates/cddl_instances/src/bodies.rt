@@ -33,6 +33,7 @@ pub(crate) fn bodies_of(
     call: u32,
 ) -> Result<Vec<Body>, NoRoom>
     ensures grows { Grows terms.old terms.new }
+    ensures texts { terms.new.texts ≡ terms.old.texts }
     ensures stand { IfOk result (λ v. (xs : List L.Definition) (r : Ref) → AreMeanings xs terms.old names.now known.now own.now → IsRef terms.old call r → AreBodies terms.new v.items (bodies xs r)) }
 {
     is_table(terms);
@@ -62,6 +63,7 @@ fn fill_name(
     arguments: &[u32],
 ) -> Result<Vec<Body>, NoRoom>
     ensures grows { Grows terms.old terms.new }
+    ensures texts { terms.new.texts ≡ terms.old.texts }
     ensures stand { IfOk result (λ v. (xs : List L.Definition) (n : Text) (ts : List Term) → IsStanding xs n (standing name.now) → ArePatterns terms.old known.now prelude → ArePatterns terms.old own.now xs → AreTrees terms.old arguments.now (term_trees ts) → AreBodies terms.new v.items (filled_bodies ts (definitions_of xs n))) }
 {
     patterns_grow();
@@ -87,6 +89,7 @@ fn fill_known(
     arguments: &[u32],
 ) -> Result<Vec<Body>, NoRoom>
     ensures grows { Grows terms.old terms.new }
+    ensures texts { terms.new.texts ≡ terms.old.texts }
     ensures stand { IfOk result (λ v. (ds all : List L.Definition) (ts : List Term) → AreAt all (as_list place) ds → ArePatterns terms.old patterns.now all → AreTrees terms.old arguments.now (term_trees ts) → AreBodies terms.new v.items (filled_bodies ts ds)) }
 {
     let mut bodies = Vec::new(alloc);
@@ -107,6 +110,7 @@ fn fill_own(
     mut bodies: Vec<Body>,
 ) -> Result<Vec<Body>, NoRoom>
     ensures grows { Grows terms.old terms.new }
+    ensures texts { terms.new.texts ≡ terms.old.texts }
     ensures stand { IfOk result (λ v. (ds all : List L.Definition) (ts : List Term) (before : List L.Body) → AreAt all places.now ds → ArePatterns terms.old patterns.now all → AreTrees terms.old arguments.now (term_trees ts) → AreBodies terms.old bodies.items before → AreBodies terms.new v.items (before ++ filled_bodies ts ds)) }
 {
     patterns_grow();
@@ -126,6 +130,7 @@ fn fill_at(
     arguments: &[u32],
 ) -> Result<Body, NoRoom>
     ensures grows { Grows terms.old terms.new }
+    ensures texts { terms.new.texts ≡ terms.old.texts }
     ensures stands { IfOk result (λ b. (all : List L.Definition) (d : L.Definition) (ts : List Term) → slice_get all place ≡ Some d → ArePatterns terms.old patterns.now all → AreTrees terms.old arguments.now (term_trees ts) → IsBody terms.new b (fill_body d.parameters ts d.body)) }
 {
     filled_trees();

@@ -19,7 +19,7 @@ use crate::store::push;
 use cddl_environment::Name;
 use cddl_environment::laws::names_stand;
 use cddl_terms::laws::{equal_numbers, growing_keeps};
-use cddl_terms::{Body, Definition, Form, NoRoom, Terms};
+use cddl_terms::{Body, Definition, Form, NoRoom, Row, Terms};
 use std::alloc::Global;
 
 /// How many instances there may be.
@@ -64,6 +64,7 @@ pub fn instances(
     root: u32,
 ) -> Result<Found, NoRoom>
     ensures grows { Grows terms.old terms.new }
+    ensures texts { terms.new.texts ≡ terms.old.texts }
     ensures found { IfOk result (λ f. (xs : List L.Definition) (n : Text) (count : ℕ) → AreDefinitions terms.old known.now prelude → AreDefinitions terms.old definitions.now xs → AreNames count known.now definitions.now names.now → slice_get terms.old.texts root ≡ Some n → IsFound xs n terms.new f) }
 {
     growing_keeps();
@@ -78,14 +79,25 @@ pub fn instances(
 /// The reference to the name without arguments.
 fn root_call(terms: &mut Terms<'_>, root: u32) -> Result<u32, NoRoom>
     ensures grows { Grows terms.old terms.new }
+    ensures texts { terms.new.texts ≡ terms.old.texts }
     ensures stands { IfOk result (λ n. (x : Text) → slice_get terms.old.texts root ≡ Some x → IsRef terms.new n (L.call x no_terms)) }
 {
     growing_keeps();
-    let Some(name) = terms.text(root) else {
+    if root as usize >= terms.text_count() {
         return Err(NoRoom);
-    };
-    let none = terms.add_node(Form::NoTerms, None, None, None)?;
-    terms.add_node(Form::Call, Some(name), Some(none), None)
+    }
+    let none = terms.add(Row {
+        form: Form::NoTerms,
+        text: None,
+        first: None,
+        second: None,
+    })?;
+    terms.add(Row {
+        form: Form::Call,
+        text: Some(root),
+        first: Some(none),
+        second: None,
+    })
 }
 
 fn search_from(
@@ -97,6 +109,7 @@ fn search_from(
     root: u32,
 ) -> Result<Found, NoRoom>
     ensures grows { Grows terms.old terms.new }
+    ensures texts { terms.new.texts ≡ terms.old.texts }
     ensures found { IfOk result (λ f. (xs : List L.Definition) (n : Text) → AreMeanings xs terms.old names.now known.now own.now → IsRef terms.old root (L.call n no_terms) → IsFound xs n terms.new f) }
 {
     growing_keeps();
@@ -136,6 +149,7 @@ fn follow(
     call: u32,
 ) -> Result<Instance, NoRoom>
     ensures grows { Grows terms.old terms.new }
+    ensures texts { terms.new.texts ≡ terms.old.texts }
     ensures call { IfOk result (λ i. i.call ≡ call) }
     ensures ends { IfOk result (λ i. search.new.waiting.items ≡ []) }
     ensures means { IfOk result (λ i. (xs : List L.Definition) (r : Ref) → AreMeanings xs terms.old names.now known.now own.now → IsRef terms.old call r → IsInstance xs terms.new i r) }

@@ -5,17 +5,18 @@ use Rattle.std.proofs.Common.{refl, sym, ap, ◌∙◌, subst}
 use Rattle.std.proofs.lemmas.Bool.{true≢false}
 use Rattle.std.proofs.lemmas.Option.{slice_get-map}
 use Rattle.cddl_language.specs.Kinds.{is_group}
-use Rattle.std.proofs.lemmas.List.Elements.{Contains-push}
+use Rattle.std.proofs.lemmas.List.Elements.{Contains-append_left, Contains-append_right, Contains-push}
+use Rattle.cddl_token.specs.declared.Token.{Token}
 use Rattle.cddl_syntax.specs.Syntax as S
 use Rattle.cddl_live.proofs.Standing as Standing
 use Rattle.cddl_live.proofs.Counting.{in_meaning, argument_at, token_at}
 use Rattle.cddl_live.specs.Live.{IsLive, outer, inner, slot, IsClear, point_at}
 use Rattle.cddl_language.specs.Terms.{Text, Term, Definition, Ref, call, Terms, no_terms, term, named, unwrapped, name_of, arguments_of, term_list}
-use Rattle.cddl_language.specs.Reading.{text_of, ref_of, terms_of, followed, term_of1, parameters_in, parameter_tokens, rule_head, definition_of}
+use Rattle.cddl_language.specs.Reading.{text_of, ref_of, terms_of, followed, term_of1, term_of2, group_of, parameters_in, parameter_tokens, rule_head, definition_of}
 use Rattle.cddl_language.specs.Environment.{is_same, is_in}
-use Rattle.cddl_language.specs.Substitution.{argument, argument_for, or_else, fill, fill_ref, fill_all, fill_body}
-use Rattle.cddl_language.specs.Reach.{Point, at_name, at_unwrapping, at_choice, ref_at, points, body_points, Reaches, onward, IsPresent, instance, standing}
-use Rattle.cddl_language.specs.Sites.{Site, a_name, an_unwrapping, a_choice_of_name, arguments, argument_list, ref_token, ref_name, outer_sites, ref_at_site, is_parameter, demands_type, closed_arguments, IsReached, in_body, in_argument, used, IsInstance}
+use Rattle.cddl_language.specs.Substitution.{argument, argument_for, or_else, fill, fill_ref, fill_all, fill_group, fill_body}
+use Rattle.cddl_language.specs.Reach.{Point, at_name, at_unwrapping, at_choice, ref_at, points, group_points, body_points, Reaches, onward, IsPresent, instance, standing}
+use Rattle.cddl_language.specs.Sites.{Site, a_name, an_unwrapping, a_choice_of, a_choice_of_name, an_operation, arguments, argument_list, ref_token, ref_name, outer_sites, ref_at_site, is_parameter, demands_type, closed_arguments, IsReached, in_body, in_argument, used, IsInstance}
 use Rattle.cddl_language.specs.Faults.{Specification, rules, definitions, HasSite, HasName, parameter_twice, by_parameter, type_name}
 
 same_or : (b c : Bool) → (b || c) ≡ false → (b ≡ false) × (c ≡ false)
@@ -119,6 +120,19 @@ module _ (s : Specification) (root : Text) (clear : IsClear s) where
 
   pub standing_there : (r : S.Rule) (xs : List Term) (q : Site) (f : S.Ref) (p : Point) → IsReached (rules s) root r xs q → ref_at_site q ≡ Some f → is_parameter r (ref_name f) ≡ false → point_at q (fill_ref (parameters_in r) xs (ref_of f)) ≡ Some p → IsPresent (definitions s) root p
   standing_there r xs q f p h e n w = let v = closed_point (parameters_in r) xs q f e n in subst (λ m. IsPresent (definitions s) root m) (Standing.same_some (sym v.1.1.1 ∙ w)) (present r xs q v.0 h v.1.0)
+
+  -- what stands in the group after `&`, and in an operand
+  pub in_group_there : (r : S.Rule) (xs : List Term) (t : Token) (g : S.Group) (p : Point) → IsReached (rules s) root r xs (a_choice_of t g) → Contains (group_points (fill_group (parameters_in r) xs (group_of g))) p → Reaches (definitions s) root (ref_at p)
+  in_group_there r xs t g p h c = present_reach (definitions s) root p (present r xs (a_choice_of t g) p h c)
+
+  pub chosen_there : (r : S.Rule) (xs : List Term) (t : Token) (f : S.Ref) → IsReached (rules s) root r xs (a_choice_of_name t f) → Reaches (definitions s) root (fill_ref (parameters_in r) xs (ref_of f))
+  chosen_there r xs t f h = let p = at_choice (fill_ref (parameters_in r) xs (ref_of f)) in present_reach (definitions s) root p (present r xs (a_choice_of_name t f) p h (Standing.at_head p []))
+
+  pub in_first_there : (r : S.Rule) (xs : List Term) (x y : S.Type2) (o : S.Operator) (p : Point) → IsReached (rules s) root r xs (an_operation x o y) → Contains (points (fill (parameters_in r) xs (term_of2 x))) p → Reaches (definitions s) root (ref_at p)
+  in_first_there r xs x y o p h c = present_reach (definitions s) root p (present r xs (an_operation x o y) p h (Contains-append_left (points (fill (parameters_in r) xs (term_of2 x))) (points (fill (parameters_in r) xs (term_of2 y))) p c))
+
+  pub in_last_there : (r : S.Rule) (xs : List Term) (x y : S.Type2) (o : S.Operator) (p : Point) → IsReached (rules s) root r xs (an_operation x o y) → Contains (points (fill (parameters_in r) xs (term_of2 y))) p → Reaches (definitions s) root (ref_at p)
+  in_last_there r xs x y o p h c = present_reach (definitions s) root p (present r xs (an_operation x o y) p h (Contains-append_right (points (fill (parameters_in r) xs (term_of2 x))) (points (fill (parameters_in r) xs (term_of2 y))) p c))
 
   same_name : (ps : List Text) (xs : List Term) (f : S.Ref) → name_of (fill_ref ps xs (ref_of f)) ≡ ref_name f
   same_name ps xs (S.name t) = refl

@@ -43,6 +43,8 @@ abbrev pub site_points : List Text → List Term → Site → List Point
 site_points ps xs (a_name b r) = points (fill ps xs (named (ref_of r)))
 site_points ps xs (an_unwrapping b u r) = points (fill ps xs (unwrapped (ref_of r)))
 site_points ps xs (a_choice_of_name a r) = at_choice (fill_ref ps xs (ref_of r)) ∷ []
+site_points ps xs (a_choice_of a g) = group_points (fill_group ps xs (group_of g))
+site_points ps xs (an_operation x o y) = points (fill ps xs (term_of2 x)) ++ points (fill ps xs (term_of2 y))
 site_points ps xs _ = []
 
 no_outer : (r : S.Ref) {C : Type 0} (q : Site) → Contains (in_ref false r) q → C
@@ -75,9 +77,9 @@ module _ (ps : List Text) (xs : List Term) (q : Site) (p : Point) (h : Contains 
 
     pub points_type1 : (b : Bool) (t : S.Type1) → Contains (in_type1 false b t) q → Contains (points (fill ps xs (term_of1 t))) p
     points_type1 b (S.one x) c = points_type2 b x c
-    points_type1 b (S.operation x (S.range o) y) c = on_cons (an_operation x (S.range o) y) (in_type2 false true x ++ in_type2 false true y) q c (λ e. none_in (subst (λ m. Contains (site_points ps xs m) p) (sym e) h)) (λ d. on_both (in_type2 false true x) (in_type2 false true y) q d (λ d. Contains-append_left (points (fill ps xs (term_of2 x))) (points (fill ps xs (term_of2 y))) p (points_type2 true x d)) (λ d. Contains-append_right (points (fill ps xs (term_of2 x))) (points (fill ps xs (term_of2 y))) p (points_type2 true y d)))
-    points_type1 b (S.operation x (S.range_below o) y) c = on_cons (an_operation x (S.range_below o) y) (in_type2 false true x ++ in_type2 false true y) q c (λ e. none_in (subst (λ m. Contains (site_points ps xs m) p) (sym e) h)) (λ d. on_both (in_type2 false true x) (in_type2 false true y) q d (λ d. Contains-append_left (points (fill ps xs (term_of2 x))) (points (fill ps xs (term_of2 y))) p (points_type2 true x d)) (λ d. Contains-append_right (points (fill ps xs (term_of2 x))) (points (fill ps xs (term_of2 y))) p (points_type2 true y d)))
-    points_type1 b (S.operation x (S.control o) y) c = on_cons (an_operation x (S.control o) y) (in_type2 false true x ++ in_type2 false true y) q c (λ e. none_in (subst (λ m. Contains (site_points ps xs m) p) (sym e) h)) (λ d. on_both (in_type2 false true x) (in_type2 false true y) q d (λ d. Contains-append_left (points (fill ps xs (term_of2 x))) (points (fill ps xs (term_of2 y))) p (points_type2 true x d)) (λ d. Contains-append_right (points (fill ps xs (term_of2 x))) (points (fill ps xs (term_of2 y))) p (points_type2 true y d)))
+    points_type1 b (S.operation x (S.range o) y) c = on_cons (an_operation x (S.range o) y) (in_type2 false true x ++ in_type2 false true y) q c (λ e. subst (λ m. Contains (site_points ps xs m) p) (sym e) h) (λ d. on_both (in_type2 false true x) (in_type2 false true y) q d (λ d. Contains-append_left (points (fill ps xs (term_of2 x))) (points (fill ps xs (term_of2 y))) p (points_type2 true x d)) (λ d. Contains-append_right (points (fill ps xs (term_of2 x))) (points (fill ps xs (term_of2 y))) p (points_type2 true y d)))
+    points_type1 b (S.operation x (S.range_below o) y) c = on_cons (an_operation x (S.range_below o) y) (in_type2 false true x ++ in_type2 false true y) q c (λ e. subst (λ m. Contains (site_points ps xs m) p) (sym e) h) (λ d. on_both (in_type2 false true x) (in_type2 false true y) q d (λ d. Contains-append_left (points (fill ps xs (term_of2 x))) (points (fill ps xs (term_of2 y))) p (points_type2 true x d)) (λ d. Contains-append_right (points (fill ps xs (term_of2 x))) (points (fill ps xs (term_of2 y))) p (points_type2 true y d)))
+    points_type1 b (S.operation x (S.control o) y) c = on_cons (an_operation x (S.control o) y) (in_type2 false true x ++ in_type2 false true y) q c (λ e. subst (λ m. Contains (site_points ps xs m) p) (sym e) h) (λ d. on_both (in_type2 false true x) (in_type2 false true y) q d (λ d. Contains-append_left (points (fill ps xs (term_of2 x))) (points (fill ps xs (term_of2 y))) p (points_type2 true x d)) (λ d. Contains-append_right (points (fill ps xs (term_of2 x))) (points (fill ps xs (term_of2 y))) p (points_type2 true y d)))
 
     pub points_type2 : (b : Bool) (t : S.Type2) → Contains (in_type2 false b t) q → Contains (points (fill ps xs (term_of2 t))) p
     points_type2 b (S.literal v) c = none_in c
@@ -86,7 +88,7 @@ module _ (ps : List Text) (xs : List Term) (q : Site) (p : Point) (h : Contains 
     points_type2 b (S.map_of o g z) c = on_cons (a_map o g) (in_group false g) q c (λ e. none_in (subst (λ m. Contains (site_points ps xs m) p) (sym e) h)) (λ d. points_group g d)
     points_type2 b (S.array_of o g z) c = points_group g c
     points_type2 b (S.unwrapped u r) c = on_cons (an_unwrapping b u r) (in_ref false r) q c (λ e. subst (λ m. Contains (site_points ps xs m) p) (sym e) h) (λ d. no_outer r q d)
-    points_type2 b (S.choice_of a o g z) c = on_cons (a_choice_of a g) (in_group false g) q c (λ e. none_in (subst (λ m. Contains (site_points ps xs m) p) (sym e) h)) (λ d. points_group g d)
+    points_type2 b (S.choice_of a o g z) c = on_cons (a_choice_of a g) (in_group false g) q c (λ e. subst (λ m. Contains (site_points ps xs m) p) (sym e) h) (λ d. points_group g d)
     points_type2 b (S.choice_of_name a r) c = on_cons (a_choice_of_name a r) (in_ref false r) q c (λ e. subst (λ m. Contains (site_points ps xs m) p) (sym e) h) (λ d. no_outer r q d)
     points_type2 b (S.tagged o t z) c = points_types true t c
     points_type2 b (S.tagged_by o t a l u z) c = on_both (in_types false true t) (in_types false true u) q c (λ d. Contains-append_left (points (fill ps xs (term_of t))) (points (fill ps xs (term_of u))) p (points_types true t d)) (λ d. Contains-append_right (points (fill ps xs (term_of t))) (points (fill ps xs (term_of u))) p (points_types true u d))

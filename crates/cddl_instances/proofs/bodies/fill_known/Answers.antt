@@ -3,7 +3,7 @@ use Rattle.std.proofs.lemmas.Option.{same_Some, none-some}
 use Rattle.cddl_language.specs.Substitution.{fill_body}
 use Rattle.cddl_terms.specs.declared.definition.Body.{Body}
 use Rattle.cddl_terms.specs.Definitions.{IsBody}
-use Rattle.cddl_terms.specs.Table.{Grows}
+use Rattle.cddl_terms.specs.Table.{Grows, Table}
 use Rattle.cddl_instances.proofs.Meaning.{known_filled}
 use Rattle.cddl_instances.proofs.bodies.fill_known.Goals as goal
 use Rattle.cddl_instances.proofs.bodies.fill_known.Goals.{in-Some+in_ok-body+in_ok-push, in_default}
@@ -13,6 +13,13 @@ returns-clause-grows c =
     elim c.match-place.branch [
       | in-Some+in_ok-body+in_ok-push w ↦ subst (Grows c.args.terms.now) (sym w.terms-is) w.in_ok-body.ensures.grows
       | in_default w ↦ subst (Grows c.args.terms.now) (sym w.terms-is) (record { texts = λ n x e. e; rows = λ n r e. e })
+    ]
+
+pub returns-clause-texts : goal.returns-clause-texts
+returns-clause-texts c =
+    elim c.match-place.branch [
+      | in-Some+in_ok-body+in_ok-push w ↦ ap (λ (t : Table). t.texts) w.terms-is ∙ w.in_ok-body.ensures.texts
+      | in_default w ↦ ap (λ (t : Table). t.texts) w.terms-is
     ]
 
 pub returns-clause-stand : goal.returns-clause-stand

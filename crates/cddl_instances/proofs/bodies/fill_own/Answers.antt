@@ -1,4 +1,4 @@
-use Rattle.std.proofs.Common.{◌≤◌, ◌+◌, sym, subst, drop, drop_of_length-le, length, arith}
+use Rattle.std.proofs.Common.{◌∙◌, ◌≤◌, ◌+◌, sym, subst, drop, drop_of_length-le, length, arith}
 use Rattle.cddl_terms.specs.Filled.{term_trees}
 use Rattle.cddl_instances.proofs.Meaning.{AreDone, all_done, next_done}
 use Rattle.cddl_instances.proofs.bodies.fill_own.Goals as goal
@@ -14,6 +14,7 @@ loop-place-preserved c =
     let i = c.loop-place.place-index in
     record {
       grown = keeps.further old now new grown grows;
+      texts = c.in_ok-body.ensures.texts ∙ c.loop-place.invariant.texts;
       done = λ ds all ts before at are trees bodies. subst (AreDone old new all ds ts before (drop (i + 1) c.args.places.now)) (sym c.in_ok-push.ensures) (next_done old now new all ds ts before c.loop-place.bodies.items (keeps.body now new grows) c.in_ok-body.body c.args.places.now i 0 c.loop-place-test.true (λ d e. c.in_ok-body.ensures.stands all d ts e (keeps.patterns old now grown c.args.patterns.now all are) (keeps.trees old now grown c.args.arguments.now (term_trees ts) trees)) (c.loop-place.invariant.done ds all ts before at are trees bodies));
     }
 

@@ -1,4 +1,4 @@
-use Rattle.std.proofs.Common.{◌≡◌, ◌<◌, ◌≤◌, Some, None, length, slice_get, sym, subst, ap, ◌∙◌, arith}
+use Rattle.std.proofs.Common.{◌≡◌, ◌<◌, ◌≤◌, Some, None, length, slice_get, refl, sym, subst, ap, ◌∙◌, arith}
 use Rattle.std.proofs.lemmas.Option.{slice_get_within}
 use Rattle.cddl_instances.proofs.Ending.{IsGoing, going_begun, going_ended, going_on, too_many}
 use Rattle.cddl_instances.proofs.Lists.{length_push}
@@ -12,6 +12,7 @@ loop-call-init c =
     let none = c.new-found.ensures.items in
     record {
       grown = c.growing_keeps.ensures.same t;
+      texts = refl;
       few = omega (arith, ap length none);
       none = c.in_ok-search.ensures.ends;
       going = λ xs n means h. subst (IsGoing xs n t c.args.root s.marks.items s.waiting.items s.refs.items) (sym none) (going_begun xs n t c.args.root s.marks.items s.waiting.items s.refs.items h (c.in_ok-search.ensures.begins xs n h));
@@ -43,6 +44,7 @@ loop-call-preserved c =
     let all_few : length s.refs.items ≤ 1024 = omega (arith, c.if-len-gt-MOST_INSTANCES.false, c.len-in-Some.ensures, c.loop-call.search.refs.ok.0) in
     record {
       grown = keeps.further start old new inv.grown follows.grows;
+      texts = follows.texts ∙ inv.texts;
       few = omega (arith, within, more, all_few);
       none = follows.ends;
       going = λ xs n given h.

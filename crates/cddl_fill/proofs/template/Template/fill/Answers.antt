@@ -11,7 +11,7 @@ loop-step-init c =
     subst (AreFilled t t steps steps c.args.arguments.now) (sym c.new-made.ensures.items) (none_filled t steps c.args.arguments.now (c.growing_keeps.ensures.same t))
 
 pub loop-step-preserved : goal.loop-step-preserved
-loop-step-preserved c = next_filled c.growing_keeps.ensures.further c.growing_keeps.ensures.tree c.args.terms.now c.loop-step.terms c.args.self.now.steps.items _ c.args.arguments.now c.loop-step.made.items c.loop-step.step-index _ c.deref-step-items.result.now c.deref.result.now c.push.new.items.items c.fill_step.new.terms c.in_ok-number.number c.deref-step-items.ensures.value c.loop-step-test.true c.deref.ensures.value c.in_ok-push.ensures c.loop-step.invariant c.in_ok-number.ensures.grows c.in_ok-number.ensures.fills refl
+loop-step-preserved c = next_filled c.growing_keeps.ensures.further c.growing_keeps.ensures.tree c.args.terms.now c.loop-step.terms c.args.self.now.steps.items _ c.args.arguments.now c.loop-step.made.items c.loop-step.step-index _ c.deref-step-items.result.now c.deref.result.now c.push.new.items.items c.fill_step.new.terms c.in_ok-number.number c.deref-step-items.ensures.value c.loop-step-test.true c.deref.ensures.value c.in_ok-push.ensures c.loop-step.invariant c.in_ok-number.ensures.grows c.in_ok-number.ensures.texts c.in_ok-number.ensures.fills refl
 
 pub returns-clause-fills : goal.returns-clause-fills
 returns-clause-fills c =

@@ -1,0 +1,134 @@
+-- What is asked of at the sites that a root reaches, in each instance.
+use Rattle.std.specs.Prelude.{◌≡◌, ℕ, true, if◌then◌else◌, List, [], ◌∷◌, ◌++◌, map, Contains, Option, Some, None, slice_get}
+use Rattle.cddl_token.specs.declared.Token.{Token}
+use Rattle.cddl_syntax.specs.Syntax as S
+use Rattle.cddl_tree.specs.declared.tree.Leaf.{Leaf}
+use Rattle.cddl_tree.specs.View.{view_group, view_ref, view_type2}
+use Rattle.cddl_language.specs.Faults.{is_range_sign, operand_at}
+use Rattle.cddl_language.specs.Reading.{group_of, name_in, parameters_in, ref_of, term_of2}
+use Rattle.cddl_language.specs.Sites.{IsReached, Site, a_choice_of, a_choice_of_name, an_operation}
+use Rattle.cddl_language.specs.Substitution.{fill, fill_group, fill_ref}
+use Rattle.cddl_language.specs.Terms.{Ref, Term, Text, arguments_of}
+use Rattle.cddl_terms.specs.declared.definition.Definition.{Definition}
+use Rattle.cddl_terms.specs.Definitions.{AreTexts}
+use Rattle.cddl_terms.specs.Filled.{filled, term_trees}
+use Rattle.cddl_terms.specs.Table.{Holds, Table, Tree}
+use Rattle.cddl_terms.specs.Trees.{IsGroup, IsRef, IsTerm, group_tree, ref_tree, term_tree}
+use Rattle.cddl_fill.specs.Templates.{AreTrees}
+use Rattle.cddl_sites.specs.declared.site.Found.{Found}
+use Rattle.cddl_sites.specs.View.{view_site}
+use Rattle.cddl_reached.specs.Calls.{refs_named}
+use Rattle.cddl_reached.specs.declared.asked.Asked.{Asked}
+use Rattle.cddl_reached.specs.declared.asked.Question.{Question}
+use Rattle.cddl_reached.specs.declared.asked.Question.TheVariants as QuestionV
+use Rattle.cddl_reached.specs.declared.parts.Node.{Node}
+use Rattle.cddl_reached.specs.declared.parts.Node.TheVariants as NodeV
+use Rattle.cddl_reached.specs.declared.parts.Part.{Part}
+
+-- A question of the row of a tree, and the offset of its fault.
+pub record Wanted : Type 0 where
+  pub at : ℕ
+  pub question : Question
+  pub tree : Tree
+
+-- What is asked of at a site, with the rule's parameters in it.
+
+abbrev pub end_of : S.Type2 → Wanted
+end_of x = record { at = operand_at x; question = QuestionV.IsWhole; tree = term_tree (term_of2 x) }
+
+abbrev pub first_part : Site → Option Wanted
+first_part (a_choice_of u g) = Some (record { at = u.start; question = QuestionV.ChoosesFrom; tree = group_tree (group_of g) })
+first_part (a_choice_of_name u f) = Some (record { at = u.start; question = QuestionV.ChoosesByName; tree = ref_tree (ref_of f) })
+first_part (an_operation x o y) = if is_range_sign o then Some (end_of x) else None
+first_part _ = None
+
+abbrev pub last_part : Site → Option Wanted
+last_part (an_operation x o y) = if is_range_sign o then Some (end_of y) else None
+last_part _ = None
+
+-- the same of the code's parts
+
+abbrev pub question_of : Node → Question
+question_of (NodeV.Group g) = QuestionV.ChoosesFrom
+question_of (NodeV.Reference f) = QuestionV.ChoosesByName
+question_of (NodeV.Operand x) = QuestionV.IsWhole
+
+abbrev pub node_tree : (Leaf → Token) → Node → Tree
+node_tree read (NodeV.Group g) = group_tree (group_of (view_group read g.now))
+node_tree read (NodeV.Reference f) = ref_tree (ref_of (view_ref read f.now))
+node_tree read (NodeV.Operand x) = term_tree (term_of2 (view_type2 read x.now))
+
+abbrev pub wanted : (Leaf → Token) → Part → Wanted
+wanted read p = record { at = p.at; question = question_of p.node; tree = node_tree read p.node }
+
+-- with the arguments of a reference in the place of these parameters
+abbrev pub wanted_in : List Text → Wanted → Ref → Wanted
+wanted_in ps w r = record { at = w.at; question = w.question; tree = filled ps (term_trees (arguments_of r)) w.tree }
+
+-- of each of these references
+abbrev pub wanted_each : List Text → Wanted → List Ref → List Wanted
+wanted_each ps w refs = map (wanted_in ps w) refs
+
+abbrev pub wanted_some : List Text → Option Wanted → List Ref → List Wanted
+wanted_some ps None refs = []
+wanted_some ps (Some w) refs = wanted_each ps w refs
+
+-- at a site of a rule, in the instances of its name among these
+
+abbrev pub wanted_there : List Ref → Option S.Rule → Site → List Wanted
+wanted_there refs None p = []
+wanted_there refs (Some r) p = wanted_some (parameters_in r) (first_part p) (refs_named (name_in r) refs) ++ wanted_some (parameters_in r) (last_part p) (refs_named (name_in r) refs)
+
+abbrev pub wanted_at : (Leaf → Token) → List S.Rule → List Ref → Found → List Wanted
+wanted_at read rs refs f = wanted_there refs (slice_get rs f.rule) (view_site read f.site)
+
+abbrev pub wanted_all : (Leaf → Token) → List S.Rule → List Ref → List Found → List Wanted
+wanted_all read rs refs [] = []
+wanted_all read rs refs (f ∷ fs) = wanted_at read rs refs f ++ wanted_all read rs refs fs
+
+-- What was asked, one for one.
+
+pub record IsAnswer (t : Table) (a : Asked) (w : Wanted) : Type 0 where
+  pub at : a.at ≡ w.at
+  pub question : a.question ≡ w.question
+  pub holds : Holds t (Some a.row) w.tree
+
+pub data AreAnswers (t : Table) : List Asked → List Wanted → Type 0 where
+  no_answers : AreAnswers t [] []
+  further_answer : {a : Asked} {w : Wanted} {answers : List Asked} {ws : List Wanted} → IsAnswer t a w → AreAnswers t answers ws → AreAnswers t (a ∷ answers) (w ∷ ws)
+
+-- The definition at a rule's place, and the rows of the instances of its name among these references.
+pub record IsReady (t : Table) (refs : List Ref) (ls : List (List ℕ)) (d : Option Definition) (r : S.Rule) : Type 0 where
+  pub definition : Definition
+  pub calls : List ℕ
+  pub there : d ≡ Some definition
+  pub parameters : AreTexts t.texts definition.parameters.items (parameters_in r)
+  pub listed : slice_get ls definition.name ≡ Some calls
+  pub trees : AreTrees t calls (map ref_tree (refs_named (name_in r) refs))
+
+pub record AreReady (t : Table) (rs : List S.Rule) (refs : List Ref) (ls : List (List ℕ)) (ds : List Definition) : Type 0 where
+  pub some : (k : ℕ) (r : S.Rule) → slice_get rs k ≡ Some r → IsReady t refs ls (slice_get ds k) r
+  pub none : (k : ℕ) → slice_get rs k ≡ None → slice_get ds k ≡ None
+
+-- All that is asked of: each by a site that is reached, and each such site in each of its instances.
+module _ (rs : List S.Rule) (root : Text) (t : Table) where
+  pub data IsAsked (a : Asked) : Type 0 where
+    choosing : {r : S.Rule} {xs : List Term} {u : Token} {g : S.Group} → IsReached rs root r xs (a_choice_of u g) → IsGroup t a.row (fill_group (parameters_in r) xs (group_of g)) → a.at ≡ u.start → a.question ≡ QuestionV.ChoosesFrom → IsAsked a
+    choosing_by_name : {r : S.Rule} {xs : List Term} {u : Token} {f : S.Ref} → IsReached rs root r xs (a_choice_of_name u f) → IsRef t a.row (fill_ref (parameters_in r) xs (ref_of f)) → a.at ≡ u.start → a.question ≡ QuestionV.ChoosesByName → IsAsked a
+    first_end : {r : S.Rule} {xs : List Term} {x y : S.Type2} {o : S.Operator} → IsReached rs root r xs (an_operation x o y) → is_range_sign o ≡ true → IsTerm t a.row (fill (parameters_in r) xs (term_of2 x)) → a.at ≡ operand_at x → a.question ≡ QuestionV.IsWhole → IsAsked a
+    last_end : {r : S.Rule} {xs : List Term} {x y : S.Type2} {o : S.Operator} → IsReached rs root r xs (an_operation x o y) → is_range_sign o ≡ true → IsTerm t a.row (fill (parameters_in r) xs (term_of2 y)) → a.at ≡ operand_at y → a.question ≡ QuestionV.IsWhole → IsAsked a
+
+  -- the question was asked of the row of this tree
+  pub record WasAsked (answers : List Asked) (at : ℕ) (q : Question) (x : Tree) : Type 0 where
+    pub asked : Asked
+    pub contained : Contains answers asked
+    pub same_at : asked.at ≡ at
+    pub same_question : asked.question ≡ q
+    pub holds : Holds t (Some asked.row) x
+
+  pub record AreAsked (answers : List Asked) : Type 0 where
+    pub sound : (a : Asked) → Contains answers a → IsAsked a
+    pub groups : (r : S.Rule) (xs : List Term) (u : Token) (g : S.Group) → IsReached rs root r xs (a_choice_of u g) → WasAsked answers u.start QuestionV.ChoosesFrom (group_tree (fill_group (parameters_in r) xs (group_of g)))
+    pub references : (r : S.Rule) (xs : List Term) (u : Token) (f : S.Ref) → IsReached rs root r xs (a_choice_of_name u f) → WasAsked answers u.start QuestionV.ChoosesByName (ref_tree (fill_ref (parameters_in r) xs (ref_of f)))
+    pub first_ends : (r : S.Rule) (xs : List Term) (x y : S.Type2) (o : S.Operator) → IsReached rs root r xs (an_operation x o y) → is_range_sign o ≡ true → WasAsked answers (operand_at x) QuestionV.IsWhole (term_tree (fill (parameters_in r) xs (term_of2 x)))
+    pub last_ends : (r : S.Rule) (xs : List Term) (x y : S.Type2) (o : S.Operator) → IsReached rs root r xs (an_operation x o y) → is_range_sign o ≡ true → WasAsked answers (operand_at y) QuestionV.IsWhole (term_tree (fill (parameters_in r) xs (term_of2 y)))

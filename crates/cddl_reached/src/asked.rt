@@ -1,0 +1,192 @@
+//! What is asked of at the sites that a root reaches, in each instance.
+
+ghost use Rattle.std.specs.Prelude.{◌≡◌, ◌++◌, IfOk, List, OnOk, map, option_copied, option_map, slice_get};
+ghost use Rattle.cddl_language.specs.Faults.{Specification, definitions, rules};
+ghost use Rattle.cddl_language.specs.StandsFor.{AreInstances};
+ghost use Rattle.cddl_language.specs.Terms.{Ref, Text};
+ghost use Rattle.cddl_environment.specs.Places.{lists};
+ghost use Rattle.cddl_fill.specs.Templates.{AreTrees, IsTemplate};
+ghost use Rattle.cddl_instances.specs.Found.{AreFound};
+ghost use Rattle.cddl_live.specs.Live.{IsClear};
+ghost use Rattle.cddl_reached.specs.Asked.{AreAnswers, AreAsked, AreReady, Wanted, wanted, wanted_all, wanted_at, wanted_each, wanted_some};
+ghost use Rattle.cddl_reached.specs.Reached.{AreReachedSites};
+ghost use Rattle.cddl_survey.specs.Survey.{IsSurvey};
+ghost use Rattle.cddl_syntax.specs.Syntax.{Rule};
+ghost use Rattle.cddl_terms.specs.Definitions.{AreTexts};
+ghost use Rattle.cddl_terms.specs.Table.{Grows, Tree as TermTree};
+ghost use Rattle.cddl_terms.specs.Trees.{ref_tree};
+ghost use Rattle.cddl_tree.specs.View.{token_of, view};
+
+use crate::arguments::filled_with;
+use crate::calls::{calls_by_name, calls_of};
+use crate::laws::answers_grow;
+use crate::parts::{Part, first_part, last_part, question_of, read_node};
+use crate::store::push;
+use cddl_fill::Template;
+use cddl_instances::Instance;
+use cddl_live::reached_sites as reached_sites_are_live;
+use cddl_sites::Found;
+use cddl_survey::Survey;
+use cddl_terms::laws::filled_trees;
+use cddl_terms::{Definition, NoRoom, Terms};
+use cddl_tree::Tree;
+use std::alloc::Global;
+
+/// What is asked of a row.
+#[derive(Clone, Copy)]
+pub enum Question {
+    /// Whether `&` can choose from the group (RFC 8610 section 2.2.2.2).
+    ChoosesFrom,
+    /// Whether `&` can choose from the group of this reference.
+    ChoosesByName,
+    /// Whether the type is a whole number, as an end of a range has to be (section 2.2.2.1).
+    IsWhole,
+}
+
+/// What is asked of at a site, in one instance.
+#[derive(Clone, Copy)]
+pub struct Asked {
+    /// The offset in bytes at which a fault of it is told.
+    pub at: usize,
+    /// The row of the group, of the reference or of the type, with the arguments of the instance in the place of the
+    /// parameters.
+    pub row: u32,
+    pub question: Question,
+}
+
+/// What is asked of at the sites that the root reaches, in each instance: of the group or the reference after `&`, and of both
+/// ends of a range.
+///
+/// It costs the sites times the instances of their rule: for each site the rows of its part are visited once, and then each row
+/// that holds a parameter is hashed once for each instance. Memory is needed for each answer.
+///
+/// An error comes where memory is refused, or each number of 32 bits is taken; then some rows may have been added. It may come,
+/// too, where a number is not of this table.
+pub fn questions<'s>(
+    alloc: Global,
+    terms: &mut Terms<'s>,
+    tree: &Tree<'s>,
+    survey: &Survey<'_>,
+    reached: &[Found<'_>],
+    found: &[Instance],
+) -> Result<Vec<Asked>, NoRoom>
+    ensures grows { Grows terms.old terms.new }
+    ensures asked { IfOk result (λ v. (s : Specification) (root : Text) (refs : List Ref) → s.tree ≡ view tree.now → IsClear s → IsSurvey terms.old tree.now survey.now → AreReachedSites (rules s) root (token_of tree.now) reached.now → AreInstances (definitions s) root refs → AreFound (definitions s) terms.old found.now refs → AreAsked (rules s) root terms.new v.items) }
+{
+    reached_sites_are_live();
+    filled_trees();
+    let Ok(calls) = calls_by_name(alloc, terms, found) else {
+        return Err(NoRoom);
+    };
+    ask_all(alloc, terms, tree, &survey.definitions, &calls, reached)
+}
+
+fn ask_all<'s>(
+    alloc: Global,
+    terms: &mut Terms<'s>,
+    tree: &Tree<'s>,
+    definitions: &[Definition],
+    calls: &[Vec<u32>],
+    reached: &[Found<'_>],
+) -> Result<Vec<Asked>, NoRoom>
+    ensures grows { Grows terms.old terms.new }
+    ensures answers { IfOk result (λ v. (rs : List Rule) (refs : List Ref) → AreReady terms.old rs refs (lists calls.now) definitions.now → AreAnswers terms.new v.items (wanted_all (token_of tree.now) rs refs reached.now)) }
+{
+    answers_grow();
+    let mut asked = Vec::new(alloc);
+    for site in reached {
+        ask_site(alloc, terms, tree, definitions, calls, *site, &mut asked)?;
+    }
+    Ok(asked)
+}
+
+/// Adds what is asked of at the site.
+fn ask_site<'s>(
+    alloc: Global,
+    terms: &mut Terms<'s>,
+    tree: &Tree<'s>,
+    definitions: &[Definition],
+    calls: &[Vec<u32>],
+    site: Found<'_>,
+    asked: &mut Vec<Asked>,
+) -> Result<(), NoRoom>
+    ensures grows { Grows terms.old terms.new }
+    ensures answers { OnOk result ((rs : List Rule) (refs : List Ref) (ws : List Wanted) → AreReady terms.old rs refs (lists calls.now) definitions.now → AreAnswers terms.old asked.old.items ws → AreAnswers terms.new asked.new.items (ws ++ wanted_at (token_of tree.now) rs refs site.entry)) }
+{
+    answers_grow();
+    let Some(definition) = definition_at(definitions, site.rule) else {
+        return Ok(());
+    };
+    let Some(calls) = calls_of(calls, definition.name) else {
+        return Ok(());
+    };
+    let first = first_part(tree, site.site);
+    ask(alloc, terms, tree, definition, calls, first, asked)?;
+    let last = last_part(tree, site.site);
+    ask(alloc, terms, tree, definition, calls, last, asked)
+}
+
+fn definition_at(definitions: &[Definition], place: usize) -> Option<&Definition>
+    ensures { option_copied result ≡ slice_get definitions.now place }
+{
+    definitions.get(place)
+}
+
+/// Adds what is asked of the part, if there is one.
+fn ask<'s>(
+    alloc: Global,
+    terms: &mut Terms<'s>,
+    tree: &Tree<'s>,
+    definition: &Definition,
+    calls: &[u32],
+    part: Option<Part<'_>>,
+    asked: &mut Vec<Asked>,
+) -> Result<(), NoRoom>
+    ensures grows { Grows terms.old terms.new }
+    ensures answers { OnOk result ((ps : List Text) (refs : List Ref) (ws : List Wanted) → AreTexts terms.old.texts definition.now.parameters.items ps → AreTrees terms.old calls.now (map ref_tree refs) → AreAnswers terms.old asked.old.items ws → AreAnswers terms.new asked.new.items (ws ++ wanted_some ps (option_map (wanted (token_of tree.now)) part.entry) refs)) }
+{
+    match part {
+        Some(part) => ask_part(alloc, terms, tree, definition, calls, part, asked),
+        None => Ok(()),
+    }
+}
+
+fn ask_part<'s>(
+    alloc: Global,
+    terms: &mut Terms<'s>,
+    tree: &Tree<'s>,
+    definition: &Definition,
+    calls: &[u32],
+    part: Part<'_>,
+    asked: &mut Vec<Asked>,
+) -> Result<(), NoRoom>
+    ensures grows { Grows terms.old terms.new }
+    ensures answers { OnOk result ((ps : List Text) (refs : List Ref) (ws : List Wanted) → AreTexts terms.old.texts definition.now.parameters.items ps → AreTrees terms.old calls.now (map ref_tree refs) → AreAnswers terms.old asked.old.items ws → AreAnswers terms.new asked.new.items (ws ++ wanted_each ps (wanted (token_of tree.now) part.entry) refs)) }
+{
+    answers_grow();
+    let row = read_node(terms, tree, part.node)?;
+    let template = Template::new(alloc, terms, &definition.parameters, row)?;
+    let question = question_of(part.node);
+    ask_each(alloc, terms, &template, calls, part.at, question, asked)
+}
+
+/// Adds the question of the template's row, filled for each of the references.
+fn ask_each(
+    alloc: Global,
+    terms: &mut Terms<'_>,
+    template: &Template,
+    calls: &[u32],
+    at: usize,
+    question: Question,
+    asked: &mut Vec<Asked>,
+) -> Result<(), NoRoom>
+    ensures grows { Grows terms.old terms.new }
+    ensures answers { OnOk result ((ps : List Text) (x : TermTree) (refs : List Ref) (ws : List Wanted) → IsTemplate terms.old ps template.now x → AreTrees terms.old calls.now (map ref_tree refs) → AreAnswers terms.old asked.old.items ws → AreAnswers terms.new asked.new.items (ws ++ wanted_each ps (record { at = at; question = question; tree = x }) refs)) }
+{
+    answers_grow();
+    for call in calls {
+        let row = filled_with(alloc, terms, template, *call)?;
+        push(asked, Asked { at, row, question })?;
+    }
+    Ok(())
+}

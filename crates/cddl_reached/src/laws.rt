@@ -1,0 +1,43 @@
+//! Laws: functions that do nothing, whose contracts are for proofs.
+
+ghost use Rattle.std.specs.Prelude.{ℕ, List};
+ghost use Rattle.cddl_language.specs.Terms as L;
+ghost use Rattle.cddl_language.specs.Terms.{Ref, Text};
+ghost use Rattle.cddl_terms.specs.Definitions.{AreTexts};
+ghost use Rattle.cddl_terms.specs.Table.{Grows, IsTable, Table, Tree};
+ghost use Rattle.cddl_fill.specs.Templates.{AreTrees, IsTemplate};
+ghost use Rattle.cddl_fill.specs.declared.template.Template.{Template};
+ghost use Rattle.cddl_instances.specs.Found.{AreFound};
+ghost use Rattle.cddl_instances.specs.declared.found.Instance.{Instance};
+ghost use Rattle.cddl_reached.specs.Asked.{AreAnswers, Wanted};
+ghost use Rattle.cddl_reached.specs.declared.asked.Asked.{Asked};
+
+use cddl_terms::Terms;
+use cddl_terms::laws::growing_keeps;
+
+/// No two rows or texts of a table are equal, and the parts of a row stand before it.
+pub(crate) fn is_table(terms: &Terms<'_>)
+    ensures { IsTable terms.now }
+{
+    terms.len();
+}
+
+/// The instances that were found stay so when the table grows.
+pub fn instances_grow()
+    ensures { (old new : Table) → Grows old new → (xs : List L.Definition) (found : List Instance) (refs : List Ref) → AreFound xs old found refs → AreFound xs new found refs }
+{
+    growing_keeps();
+}
+
+/// What a table's growth keeps.
+pub(crate) fn answers_grow()
+    ensures same { (t : Table) → Grows t t }
+    ensures further { (a b c : Table) → Grows a b → Grows b c → Grows a c }
+    ensures texts { (old new : Table) → Grows old new → (ns : List ℕ) (xs : List Text) → AreTexts old.texts ns xs → AreTexts new.texts ns xs }
+    ensures trees { (old new : Table) → Grows old new → (ns : List ℕ) (xs : List Tree) → AreTrees old ns xs → AreTrees new ns xs }
+    ensures template { (old new : Table) → Grows old new → (ps : List Text) (m : Template) (x : Tree) → IsTemplate old ps m x → IsTemplate new ps m x }
+    ensures answers { (old new : Table) → Grows old new → (answers : List Asked) (ws : List Wanted) → AreAnswers old answers ws → AreAnswers new answers ws }
+{
+    growing_keeps();
+    cddl_fill::laws::growing_keeps();
+}

@@ -1,0 +1,13 @@
+//! Which sites of a text a root reaches, and the rows of what is asked there in each instance.
+#![tactic(auto)]
+
+mod arguments;
+mod asked;
+mod calls;
+pub mod laws;
+mod parts;
+mod reached;
+mod store;
+
+pub use crate::asked::{Asked, Question, questions};
+pub use crate::reached::reached_sites;
