@@ -1,0 +1,15 @@
+-- The codes in their order.
+use Rattle.std.specs.Prelude.{List, [], ◌∷◌, ◌++◌}
+use Rattle.cddl_token.specs.declared.Code.{Code}
+use Rattle.cddl_token.specs.declared.Code.TheVariants.{Duplicate, KindClash, Undefined, Arity, NoRoot, BadRoot, GroupAsType, HashForm, UnknownControl, TooManyInstances, NotUnwrappable, Recursion, BadRange}
+
+-- those of the whole text
+abbrev pub text_codes : List Code
+text_codes = Duplicate ∷ KindClash ∷ Undefined ∷ Arity ∷ NoRoot ∷ BadRoot ∷ GroupAsType ∷ HashForm ∷ UnknownControl ∷ []
+
+-- those of what the root reaches
+abbrev pub root_codes : List Code
+root_codes = TooManyInstances ∷ NotUnwrappable ∷ Recursion ∷ BadRange ∷ []
+
+abbrev pub all_codes : List Code
+all_codes = text_codes ++ root_codes

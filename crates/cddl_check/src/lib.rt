@@ -1,0 +1,9 @@
+//! What is wrong with a specification's text, and where: of the lowest code that stands anywhere, the least offset.
+#![tactic(auto)]
+
+mod fault;
+pub mod laws;
+mod text;
+
+pub use crate::fault::Fault;
+pub use crate::text::text_fault;
