@@ -3,6 +3,8 @@
 
 mod named;
 mod specification;
+mod unread;
 
 pub use crate::named::NamedType;
 pub use crate::specification::read_specification;
+pub use crate::unread::Unread;

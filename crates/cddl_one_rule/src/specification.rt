@@ -1,33 +1,48 @@
 //! Reads a specification of one rule.
 
-ghost use Rattle.std.specs.Prelude.{◌≡◌, ◌≢◌, ℕ, List, [], ◌∷◌, ◌↔◌, IsTrue, IfOk, IfErr, IfSome, IfNone};
+ghost use Rattle.std.specs.Prelude.{◌≡◌, ◌≢◌, ℕ, List, [], ◌∷◌, ◌↔◌, IsTrue, IfOk, IfErr, IfSome, IfNone, option_map};
 ghost use Rattle.cddl_meaning.specs.Forms.{Plain};
 ghost use Rattle.cddl_table.specs.Language.{root_form};
 ghost use Rattle.cddl_table.specs.Nodes.{test_view};
-ghost use Rattle.cddl_one_rule.specs.Specification.{IsFront, IsGapByte, IsLetter, IsRule, IsSpecification, test_named, type_name};
+ghost use Rattle.cddl_one_rule.specs.Specification.{IsFront, IsGapByte, IsLetter, IsRoot, IsRule, IsSpecification, IsUnread, test_named, type_name};
 ghost use Rattle.cddl_one_rule.specs.declared.named.NamedType.{NamedType as NamedTypes};
 
 use crate::named::NamedType;
+use crate::unread::Unread;
 use cddl_table::{Node, NotRanked, Ranks, Table, Test, TypeId};
 use std::alloc::{AllocError, Global};
 
 /// The table of a specification: a name of ASCII letters that is no type's, `=`, and the name of a type, with any spaces
-/// and line feeds before, between and after them. Any other text has none.
+/// and line feeds before, between and after them. Where a root is asked for, it has to be that name. Any other text has
+/// none.
 ///
 /// # Errors
 ///
-/// [`AllocError`] where an allocation was refused, for the table of a text that is such a specification.
-pub fn read_specification(alloc: Global, text: &[u8]) -> Result<Option<Table>, AllocError>
-    ensures found { IfOk result (λ table. IfSome table (IsSpecification text.now)) }
-    ensures none { IfOk result (λ table. IfNone table ((type : NamedTypes) → IsRule text.now type → ⊥)) }
-    ensures memory { IfErr result (λ _. (type : NamedTypes) × IsRule text.now type) }
+/// [`Unread::NotSupported`] where the text is no such specification; [`Unread::NoRoot`] where it is one whose rule has
+/// another name than the root; [`Unread::Memory`] where an allocation was refused, for the table of a text that has one.
+pub fn read_specification(alloc: Global, text: &[u8], root: Option<&str>) -> Result<Table, Unread>
+    ensures found { IfOk result (IsSpecification text.now (option_map (λ r. r.now) root.entry)) }
+    ensures unread { IfErr result (IsUnread text.now (option_map (λ r. r.now) root.entry)) }
 {
-    match read_rule(text) {
-        Some(named) => {
-            let table = table_of(alloc, named)?;
-            Ok(Some(table))
-        }
-        None => Ok(None),
+    let Some((name, named)) = read_rule(text) else {
+        return Err(Unread::NotSupported);
+    };
+    if !is_root(root, name) {
+        return Err(Unread::NoRoot);
+    }
+    let Ok(table) = table_of(alloc, named) else {
+        return Err(Unread::Memory);
+    };
+    Ok(table)
+}
+
+// Whether the rule of this name is the root.
+fn is_root(root: Option<&str>, name: &[u8]) -> bool
+    ensures { IsTrue result ↔ IsRoot (option_map (λ r. r.now) root.entry) name.now }
+{
+    match root {
+        Some(root) => name == root.as_bytes(),
+        None => true,
     }
 }
 
@@ -71,10 +86,10 @@ fn test_of(named: NamedType) -> Test
     }
 }
 
-// The type that the one rule of the text names.
-fn read_rule(text: &[u8]) -> Option<NamedType>
-    ensures found { IfSome result (IsRule text.now) }
-    ensures none { IfNone result ((type : NamedTypes) → IsRule text.now type → ⊥) }
+// The name of the one rule of the text, and the type that it names.
+fn read_rule(text: &[u8]) -> Option<(&[u8], NamedType)>
+    ensures found { IfSome result (λ rule. IsRule text.now rule.0.now rule.1) }
+    ensures none { IfNone result ((name : List ℕ) (type : NamedTypes) → IsRule text.now name type → ⊥) }
 {
     let text = split_gap(text).1;
     let (name, text) = split_letters(text);
@@ -84,10 +99,14 @@ fn read_rule(text: &[u8]) -> Option<NamedType>
     let text = split_gap(text).1;
     let text = split_equals(text)?;
     let text = split_gap(text).1;
-    let (name, text) = split_letters(text);
-    let named = named_type(name)?;
+    let (type_name, text) = split_letters(text);
+    let named = named_type(type_name)?;
     let text = split_gap(text).1;
-    if text.is_empty() { Some(named) } else { None }
+    if text.is_empty() {
+        Some((name, named))
+    } else {
+        None
+    }
 }
 
 // The spaces and line feeds that the text begins with, and the rest.

@@ -2,3 +2,4 @@ pub mod Commands
 pub mod Devices
 pub mod Meeting
 pub mod Limiting
+pub mod Refusing

@@ -10,6 +10,13 @@ in_range : (most : ℕ) (text : Option Text) (n : ℕ) → IsNumber most text n 
 in_range most None n h = absurd h
 in_range most (Some text) n h = (h.2, h.3)
 
+-- the greatest numbers are in their ranges
+pub in_bounds : ((MOST_DEPTH ≡ 0) ⊎ (256 < MOST_DEPTH)) ⊎ ((MOST_ITEM_BYTES ≡ 0) ⊎ (16777216 < MOST_ITEM_BYTES)) → ⊥
+in_bounds (inl (inl e)) = omega (arith, e)
+in_bounds (inl (inr e)) = omega (arith, e)
+in_bounds (inr (inl e)) = omega (arith, e)
+in_bounds (inr (inr e)) = omega (arith, e)
+
 module _ (first second : Option Text) (depth item_bytes : ℕ) (d : IsNumber MOST_DEPTH first depth) (i : IsNumber MOST_ITEM_BYTES second item_bytes) where
   -- both numbers are in their ranges, so there are limits of them
   pub some_limits : (r : Option Bounds) → IfSome r (λ l. l ≡ record { depth = depth; item_bytes = item_bytes }) → IfSome r (AreLimits first second)

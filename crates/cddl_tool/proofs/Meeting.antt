@@ -13,7 +13,7 @@ use Rattle.clap.specs.declared.parser.matches.SubCommand.{SubCommand}
 use Rattle.clap.proofs.OnLiterals.{clap_on_literals}
 use Rattle.cddl_tool.specs.declared.choice.Options.{Options}
 use Rattle.cddl_tool.specs.declared.choice.Task.{Task}
-use Rattle.cddl_tool.specs.declared.choice.Task.TheVariants.{Validate, Show}
+use Rattle.cddl_tool.specs.declared.choice.Task.TheVariants.{Check, Validate, Show}
 use Rattle.cddl_tool.specs.declared.choice.Use.{Use}
 use Rattle.cddl_tool.specs.declared.choice.Use.TheVariants.{Words, Memory}
 use Rattle.cddl_tool.specs.Errors.{IsUseOf}
@@ -62,13 +62,19 @@ chosen_of words task rows o taken met read = record {
   taken = taken;
   task = ap (option_map (λ (p : Text × List Row). p.0)) met.found ∙ ap (λ (t : Task). Some (task_name t)) (sym read.task_is);
   spec = read.spec ∙ sym (ap (option_and_then (λ (p : Text × List Row). first_of (codes "spec") p.1)) met.found);
+  root = read.root ∙ sym (ap (option_and_then (λ (p : Text × List Row). first_of (codes "root") p.1)) met.found);
   file = read.file ∙ sym (ap (option_and_then (λ (p : Text × List Row). first_of (codes "file") p.1)) met.found);
-  limits = rw met.found read.limits;
+  limits = rw (met.found, read.task_is) read.limits;
 }
 
 same_name : (s t : Task) → task_name s ≡ task_name t → s ≡ t
+same_name Check Check e = refl
+same_name Check Validate e = absurd (cc)
+same_name Check Show e = absurd (cc)
+same_name Validate Check e = absurd (cc)
 same_name Validate Validate e = refl
 same_name Validate Show e = absurd (cc)
+same_name Show Check e = absurd (cc)
 same_name Show Validate e = absurd (cc)
 same_name Show Show e = refl
 
@@ -76,11 +82,13 @@ pub read_of : (words : List Text) (task : Task) (rows : List Row) (o : Options) 
 unfolding named_command given_text given_number
 read_of words task rows o met c =
     let there : Some (task_name o.task) ≡ Some (task_name task) = sym c.task ∙ ap (option_map (λ (p : Text × List Row). p.0)) met.found in
+    let same : o.task ≡ task = same_name o.task task (let e : task_name o.task ≡ task_name task = cc in e) in
     record {
-      task_is = same_name o.task task (let e : task_name o.task ≡ task_name task = cc in e);
+      task_is = same;
       spec = c.spec ∙ ap (option_and_then (λ (p : Text × List Row). first_of (codes "spec") p.1)) met.found;
+      root = c.root ∙ ap (option_and_then (λ (p : Text × List Row). first_of (codes "root") p.1)) met.found;
       file = c.file ∙ ap (option_and_then (λ (p : Text × List Row). first_of (codes "file") p.1)) met.found;
-      limits = rw met.found at c.limits;
+      limits = rw (met.found, same) at c.limits;
     }
 
 pub unread : (task : Task) (rows : List Row) (u : Use) → ((o : Options) → AreRead task rows o → ⊥) → AreUnread task rows u
@@ -121,11 +129,12 @@ pub named_met : (words : List Text) (m : ArgMatches) (name : Text) → subcomman
 unfolding named_command
 named_met words m name sub is = sym (names_same (out-ArgMatches m).subcommand) ∙ (ap (option_map (λ (p : Text × List Row). p.0)) sub ∙ is)
 
--- where neither command was met the words give no options
-pub none_met : (words : List Text) (m : ArgMatches) → subcommand_rows_of m ≡ subcommand_of program_app words → (subcommand_name_of m ≡ Some (codes "validate") → ⊥) → (subcommand_name_of m ≡ Some (codes "show") → ⊥) →
+-- where no command was met the words give no options
+pub none_met : (words : List Text) (m : ArgMatches) → subcommand_rows_of m ≡ subcommand_of program_app words → (subcommand_name_of m ≡ Some (codes "check") → ⊥) → (subcommand_name_of m ≡ Some (codes "validate") → ⊥) → (subcommand_name_of m ≡ Some (codes "show") → ⊥) →
     (o : Options) → AreChosen o words → ⊥
-none_met words m sub not_validate not_show o c = neither o.task refl
+none_met words m sub not_check not_validate not_show o c = none o.task refl
   where
-    neither : (t : Task) → o.task ≡ t → ⊥
-    neither Validate e = not_validate (named_met words m (codes "validate") sub (c.task ∙ ap (λ (s : Task). Some (task_name s)) e))
-    neither Show e = not_show (named_met words m (codes "show") sub (c.task ∙ ap (λ (s : Task). Some (task_name s)) e))
+    none : (t : Task) → o.task ≡ t → ⊥
+    none Check e = not_check (named_met words m (codes "check") sub (c.task ∙ ap (λ (s : Task). Some (task_name s)) e))
+    none Validate e = not_validate (named_met words m (codes "validate") sub (c.task ∙ ap (λ (s : Task). Some (task_name s)) e))
+    none Show e = not_show (named_met words m (codes "show") sub (c.task ∙ ap (λ (s : Task). Some (task_name s)) e))

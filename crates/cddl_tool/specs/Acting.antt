@@ -1,18 +1,45 @@
 -- What the program's status says.
-use Rattle.std.specs.Prelude.{◌≡◌, ℕ, List, Option, codes}
+use Rattle.std.specs.Prelude.{◌≡◌, ℕ, ◌<◌, List, length, take, Option, codes}
+use Rattle.std.specs.Io.KnownBytes as bytes
 use Rattle.cbor_data.specs.Value.{Value}
 use Rattle.cbor_data.specs.Faults.{Bounds}
 use Rattle.seq_run.specs.declared.end.End.{End}
 use Rattle.seq_run.specs.declared.end.End.TheVariants.{Clean, Failed}
 use Rattle.seq_run.specs.Judge.{Judge}
-use Rattle.seq_run.specs.Running.{Change, IsReported}
+use Rattle.seq_run.specs.Running.{Change, HasFailed, IsReported}
+use Rattle.cddl_one_rule.specs.declared.unread.Unread.{Unread}
+use Rattle.cddl_one_rule.specs.declared.unread.Unread.TheVariants.{NotSupported, NoRoot, Memory}
 use Rattle.cddl_tool.specs.declared.choice.Task.{Task}
-use Rattle.cddl_tool.specs.declared.choice.Task.TheVariants.{Validate, Show}
+use Rattle.cddl_tool.specs.declared.choice.Task.TheVariants.{Check, Validate, Show}
+use Rattle.cddl_tool.specs.declared.status.TheConstants.{REFUSED, BROKEN}
 
 -- the specification of a task: to show a stream, that of any item
 abbrev pub specification_of : Task → List ℕ → List ℕ
+specification_of Check spec = spec
 specification_of Validate spec = spec
 specification_of Show spec = codes "a = any"
+
+-- the status of a text that has no table
+abbrev pub status_unread : Unread → ℕ
+status_unread NotSupported = REFUSED
+status_unread NoRoot = REFUSED
+status_unread Memory = BROKEN
+
+-- the line that says that a specification is accepted
+abbrev pub accepted_line : List ℕ
+accepted_line = codes "accepted\n"
+
+-- The whole line went out, and the status is 0.
+pub record IsAccepted (output : Change) (status : ℕ) : Type 0 where
+  pub whole : bytes.Appends output.before output.after accepted_line
+  pub is : status ≡ 0
+
+-- The device failed, and exactly the first k bytes of the line went out.
+pub record IsCutOff (output : Change) : Type 0 where
+  pub failed : HasFailed output
+  pub k : ℕ
+  pub short : k < length accepted_line
+  pub part : bytes.Appends output.before output.after (take k accepted_line)
 
 abbrev pub status_for : End → ℕ
 status_for (Clean items bytes) = 0

@@ -7,12 +7,16 @@ use Rattle.clap.specs.Words.{App, Row, Rule, Text, fault_of, new_app, new_rule, 
 use Rattle.clap.specs.declared.builder.value_parser.ValueParser.TheVariants.{Signed}
 use Rattle.cddl_tool.specs.declared.choice.Options.{Options}
 use Rattle.cddl_tool.specs.declared.choice.Task.{Task}
-use Rattle.cddl_tool.specs.declared.choice.Task.TheVariants.{Validate, Show}
+use Rattle.cddl_tool.specs.declared.choice.Task.TheVariants.{Check, Validate, Show}
 use Rattle.cddl_tool.specs.declared.choice.Use.{Use}
 use Rattle.cddl_tool.specs.declared.choice.Use.TheVariants.{Words, Memory}
 
 abbrev pub spec_rule : Rule
 spec_rule = record (new_rule (codes "spec")) { value_names = 1; required = true }
+
+-- `--root NAME`
+abbrev pub root_rule : Rule
+root_rule = record (new_rule (codes "root")) { long = Some (codes "root"); value_names = 1 }
 
 abbrev pub file_rule : Rule
 file_rule = record (new_rule (codes "file")) { value_names = 1 }
@@ -28,15 +32,23 @@ depth_rule = number_rule (codes "depth") MOST_DEPTH (codes "256")
 abbrev pub item_bytes_rule : Rule
 item_bytes_rule = number_rule (codes "item-bytes") MOST_ITEM_BYTES (codes "16777216")
 
--- a command with `[FILE]`, `--depth N` and `--item-bytes N`, which both commands take
+-- a command with `SPEC` and `--root NAME`
+abbrev pub spec_app : App → App
+spec_app a = with_rule (with_rule a spec_rule) root_rule
+
+-- a command with `[FILE]`, `--depth N` and `--item-bytes N`
 abbrev pub stream_app : App → App
 stream_app a = with_rule (with_rule (with_rule a file_rule) depth_rule) item_bytes_rule
 
--- `validate SPEC [FILE]`, with these options
-abbrev pub validate_app : App
-validate_app = stream_app (with_rule (new_app (codes "validate")) spec_rule)
+-- `check SPEC`, with `--root`
+abbrev pub check_app : App
+check_app = spec_app (new_app (codes "check"))
 
--- `show [FILE]`, with the same ones
+-- `validate SPEC [FILE]`, with all of these options
+abbrev pub validate_app : App
+validate_app = stream_app (spec_app (new_app (codes "validate")))
+
+-- `show [FILE]`, with those of a stream
 abbrev pub show_app : App
 show_app = stream_app (new_app (codes "show"))
 
@@ -45,9 +57,10 @@ abbrev pub top_app : App
 top_app = record { top = record ((new_app (codes "cddlseq")).top) { subcommand_required = true }; subs = [] }
 
 abbrev pub program_app : App
-program_app = with_subcommand (with_subcommand top_app validate_app.top) show_app.top
+program_app = with_subcommand (with_subcommand (with_subcommand top_app check_app.top) validate_app.top) show_app.top
 
 abbrev pub task_name : Task → Text
+task_name Check = codes "check"
 task_name Validate = codes "validate"
 task_name Show = codes "show"
 
@@ -73,12 +86,19 @@ pub record AreLimits (depth_text item_bytes_text : Option Text) (limits : Bounds
   pub depth : IsNumber MOST_DEPTH depth_text limits.depth
   pub item_bytes : IsNumber MOST_ITEM_BYTES item_bytes_text limits.item_bytes
 
+-- the limits of a task: those of its options, and the greatest ones where it has none
+abbrev pub AreTaskLimits : Task → Option Text → Option Text → Bounds → Type 0
+AreTaskLimits Check depth_text item_bytes_text limits = limits ≡ record { depth = MOST_DEPTH; item_bytes = MOST_ITEM_BYTES }
+AreTaskLimits Validate depth_text item_bytes_text limits = AreLimits depth_text item_bytes_text limits
+AreTaskLimits Show depth_text item_bytes_text limits = AreLimits depth_text item_bytes_text limits
+
 -- what the rows of a subcommand's matches give
 pub record AreRead (task : Task) (rows : List Row) (o : Options) : Type 0 where
   pub task_is : o.task ≡ task
   pub spec : option_map (λ s. string_bytes s) o.spec ≡ first_of (codes "spec") rows
+  pub root : option_map (λ s. string_bytes s) o.root ≡ first_of (codes "root") rows
   pub file : option_map (λ s. string_bytes s) o.file ≡ first_of (codes "file") rows
-  pub limits : AreLimits (one_of (codes "depth") rows) (one_of (codes "item-bytes") rows) o.limits
+  pub limits : AreTaskLimits task (one_of (codes "depth") rows) (one_of (codes "item-bytes") rows) o.limits
 
 abbrev pub AreUnread : Task → List Row → Use → Type 0
 AreUnread task rows (Words e) = (o : Options) → AreRead task rows o → ⊥
@@ -89,8 +109,9 @@ pub record AreChosen (o : Options) (words : List Text) : Type 0 where
   pub taken : fault_of program_app words ≡ []
   pub task : named_command words ≡ Some (task_name o.task)
   pub spec : option_map (λ s. string_bytes s) o.spec ≡ given_text (codes "spec") words
+  pub root : option_map (λ s. string_bytes s) o.root ≡ given_text (codes "root") words
   pub file : option_map (λ s. string_bytes s) o.file ≡ given_text (codes "file") words
-  pub limits : AreLimits (given_number (codes "depth") words) (given_number (codes "item-bytes") words) o.limits
+  pub limits : AreTaskLimits o.task (given_number (codes "depth") words) (given_number (codes "item-bytes") words) o.limits
 
 -- Where the words are refused they give no options.
 abbrev pub IsMisuse : List Text → Use → Type 0

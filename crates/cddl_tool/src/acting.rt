@@ -1,19 +1,18 @@
 //! What the program does with a specification and a stream.
 
-ghost use Rattle.std.specs.Prelude.{◌≡◌, ◌≢◌, ◌≤◌, ◌⊎◌, IfOk, IfErr, IfSome, OnOk, vec_items};
+ghost use Rattle.std.specs.Prelude.{◌≡◌, ◌≢◌, ◌≤◌, ◌⊎◌, IfOk, IfErr, IfSome, OnOk, option_map, string_bytes, vec_items};
 ghost use Rattle.cbor_item.specs.Counted.{device_of};
-ghost use Rattle.cddl_one_rule.specs.Specification.{IsRule, IsSpecification};
-ghost use Rattle.cddl_one_rule.specs.declared.named.NamedType.{NamedType as NamedTypes};
+ghost use Rattle.cddl_one_rule.specs.Specification.{IsNone, IsRootRule, IsSpecification};
 ghost use Rattle.seq_run.specs.Judge.{judge_of};
 ghost use Rattle.seq_run.specs.Running.{IsFault, change_of};
 ghost use Rattle.seq_run.specs.declared.running.RunFault.{RunFault as RunFaults};
-ghost use Rattle.cddl_tool.specs.Acting.{specification_of, status_for, IsAnswered};
+ghost use Rattle.cddl_tool.specs.Acting.{specification_of, status_for, status_unread, IsAccepted, IsAnswered, IsCutOff};
 
 use crate::choice::{Options, Task};
 use crate::lines::{say, say_of_file};
 use crate::status::{BROKEN, FAILED, REFUSED};
-use cbor_item::Counted;
-use cddl_one_rule::read_specification;
+use cbor_item::{Counted, write_bytes};
+use cddl_one_rule::{Unread, read_specification};
 use cddl_table::Table;
 use seq_run::{End, RunFault, run};
 use std::alloc::Global;
@@ -49,32 +48,57 @@ pub fn read_text<R: Read, E: Write>(
     }
 }
 
-/// Reads the specification: `spec`, or to show a stream `a = any`.
+/// Reads the specification: `spec`, or to show a stream `a = any`. Where the options name a root, it is the rule of this
+/// name.
 ///
 /// # Errors
 ///
-/// The exit status, with a line on `err`: [`REFUSED`] where the text is no specification, [`BROKEN`] where an allocation
-/// was refused.
+/// The exit status, with a line on `err`: [`REFUSED`] where the text is no specification, or its rule is not the root;
+/// [`BROKEN`] where an allocation was refused.
 pub fn ready<E: Write>(
     alloc: Global,
     options: &Options,
     spec: &[u8],
     err: &mut Counted<E>,
 ) -> Result<Table, u8>
-    ensures found { IfOk result (IsSpecification (specification_of options.now.task spec.now)) }
+    ensures found { IfOk result (IsSpecification (specification_of options.now.task spec.now) (option_map (λ s. string_bytes s) options.now.root)) }
     ensures refused { IfErr result (λ status.
-        ((status ≡ REFUSED) × ((type : NamedTypes) → IsRule (specification_of options.now.task spec.now) type → ⊥))
-        ⊎ ((status ≡ BROKEN) × ((type : NamedTypes) × IsRule (specification_of options.now.task spec.now) type))) }
+        ((status ≡ REFUSED) × IsNone (specification_of options.now.task spec.now) (option_map (λ s. string_bytes s) options.now.root))
+        ⊎ ((status ≡ BROKEN) × IsRootRule (specification_of options.now.task spec.now) (option_map (λ s. string_bytes s) options.now.root))) }
 {
-    match read_specification(alloc, specification_for(options.task, spec)) {
-        Ok(Some(table)) => Ok(table),
-        Ok(None) => {
+    let text = specification_for(options.task, spec);
+    match read_specification(alloc, text, root_of(options)) {
+        Ok(table) => Ok(table),
+        Err(why) => Err(say_unread(why, err)),
+    }
+}
+
+// The name of the root, if the options have one.
+fn root_of(options: &Options) -> Option<&str>
+    ensures { option_map (λ r. r.now) result ≡ option_map (λ s. string_bytes s) options.now.root }
+{
+    match &options.root {
+        Some(name) => Some(name.as_str()),
+        None => None,
+    }
+}
+
+// Says why a text has no table, and answers the status.
+fn say_unread<E: Write>(why: Unread, err: &mut Counted<E>) -> u8
+    ensures { result ≡ status_unread why }
+{
+    match why {
+        Unread::NotSupported => {
             say(b"refused: specification not supported yet\n", err);
-            Err(REFUSED)
+            REFUSED
         }
-        Err(_) => {
+        Unread::NoRoot => {
+            say(b"refused: C5 NoRoot at byte 0\n", err);
+            REFUSED
+        }
+        Unread::Memory => {
             say(b"out of memory\n", err);
-            Err(BROKEN)
+            BROKEN
         }
     }
 }
@@ -84,8 +108,23 @@ fn specification_for(task: Task, spec: &[u8]) -> &[u8]
     ensures { result.now ≡ specification_of task spec.now }
 {
     match task {
-        Task::Validate => spec,
+        Task::Check | Task::Validate => spec,
         Task::Show => b"a = any",
+    }
+}
+
+/// Writes to `out` that the specification is accepted, and answers the status: 0, or [`BROKEN`], with a line on `err`, where
+/// a write failed.
+pub fn accept<W: Write, E: Write>(alloc: Global, out: &mut Counted<W>, err: &mut Counted<E>) -> u8
+    ensures accepted { result ≢ BROKEN → IsAccepted (change_of W.contents out.old out.new) result }
+    ensures broken { result ≡ BROKEN → IsCutOff (change_of W.contents out.old out.new) }
+{
+    match write_bytes(b"accepted\n", out) {
+        Ok(()) => 0,
+        Err(fault) => {
+            say_fault(alloc, RunFault::WriteFailed(fault.written), err);
+            BROKEN
+        }
     }
 }
 

@@ -12,6 +12,8 @@ use std::alloc::AllocError;
 /// What the program is asked to do.
 #[derive(Clone, Copy, Debug, PartialEq, Eq)]
 pub enum Task {
+    /// To say whether a specification is accepted.
+    Check,
     /// To validate a stream against a specification.
     Validate,
     /// To show the items of a stream, whatever they are.
@@ -25,6 +27,8 @@ pub struct Options {
     pub task: Task,
     /// The name of the file with the specification, if the task has one.
     pub spec: Option<String>,
+    /// The name of the rule that is the root. Without it the first rule of the specification is.
+    pub root: Option<String>,
     /// The name of the file with the stream. Without it standard input is read.
     pub file: Option<String>,
     /// The greatest depth of an item, and the most bytes of one.

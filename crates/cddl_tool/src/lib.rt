@@ -7,7 +7,7 @@ mod lines;
 mod status;
 mod words;
 
-pub use crate::acting::{STEPS, act, read_text, ready};
+pub use crate::acting::{STEPS, accept, act, read_text, ready};
 pub use crate::choice::{Options, Task, Use};
 pub use crate::lines::{say, say_of_file};
 pub use crate::status::{BROKEN, FAILED, REFUSED};

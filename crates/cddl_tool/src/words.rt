@@ -4,7 +4,7 @@ ghost use Rattle.std.specs.Prelude.{◌≡◌, ℕ, codes, false, map, IfOk, IfE
 ghost use Rattle.cbor_data.specs.Faults.{Bounds};
 ghost use Rattle.clap.specs.Words.{app_of, first_value, found_of, one_text, rows_of, rule_of};
 ghost use Rattle.clap.specs.declared.builder.command.Command.TheViews.{out-Command};
-ghost use Rattle.cddl_tool.specs.Chosen.{file_rule, number_rule, program_app, show_app, spec_rule, stream_app, top_app, validate_app, AreChosen, AreLimits, AreRead, AreUnread, IsMisuse, IsNumber};
+ghost use Rattle.cddl_tool.specs.Chosen.{check_app, file_rule, number_rule, program_app, root_rule, show_app, spec_app, spec_rule, stream_app, top_app, validate_app, AreChosen, AreLimits, AreRead, AreTaskLimits, AreUnread, IsMisuse, IsNumber};
 
 use crate::choice::{Options, Task, Use};
 use cbor_read::{Limits, MOST_DEPTH, MOST_ITEM_BYTES};
@@ -13,9 +13,9 @@ use clap::error::ErrorKind;
 use clap::{Arg, ArgMatches, Command, Error};
 use std::alloc::{AllocError, Global};
 
-/// Reads the words of the command line, the program's name first: `validate SPEC [FILE]` or `show [FILE]`, with
-/// `--depth N`, from 1 to [`MOST_DEPTH`], and `--item-bytes N`, from 1 to [`MOST_ITEM_BYTES`]. The greatest number of each
-/// is its default.
+/// Reads the words of the command line, the program's name first: `check SPEC`, `validate SPEC [FILE]` or `show [FILE]`;
+/// where there is a SPEC with `--root NAME`; and of a stream with `--depth N`, from 1 to [`MOST_DEPTH`], and
+/// `--item-bytes N`, from 1 to [`MOST_ITEM_BYTES`]. The greatest number of each is its default, and the limit of `check`.
 ///
 /// # Errors
 ///
@@ -25,6 +25,9 @@ pub fn options(alloc: Global, words: &[&str]) -> Result<Options, Use>
     ensures misuse { IfErr result (IsMisuse (map (λ w. w.now) words.entry.now)) }
 {
     let matches = command(alloc)?.try_get_matches_from(words)?;
+    if let Some(given) = matches.subcommand_matches("check") {
+        return options_of(alloc, Task::Check, given);
+    }
     if let Some(given) = matches.subcommand_matches("validate") {
         return options_of(alloc, Task::Validate, given);
     }
@@ -40,16 +43,40 @@ fn options_of(alloc: Global, task: Task, given: &ArgMatches<'_>) -> Result<Optio
     ensures misuse { IfErr result (AreUnread task (rows_of (found_of given.now))) }
 {
     let spec = value(alloc, given, "spec")?;
+    let root = value(alloc, given, "root")?;
     let file = value(alloc, given, "file")?;
-    let Some(limits) = limits_of(given) else {
+    let Some(limits) = task_limits(task, given) else {
         return Err(range_error(alloc));
     };
     Ok(Options {
         task,
         spec,
+        root,
         file,
         limits,
     })
+}
+
+// The limits of a task: those of its options, and the greatest ones where it has none.
+fn task_limits(task: Task, given: &ArgMatches<'_>) -> Option<Limits>
+    ensures some { IfSome result (AreTaskLimits task (one_text (found_of given.now) (codes "depth")) (one_text (found_of given.now) (codes "item-bytes"))) }
+    ensures none { IfNone result ((limits : Bounds) → AreTaskLimits task (one_text (found_of given.now) (codes "depth")) (one_text (found_of given.now) (codes "item-bytes")) limits → ⊥) }
+{
+    match task {
+        Task::Check => Some(greatest_limits()),
+        Task::Validate => limits_of(given),
+        Task::Show => limits_of(given),
+    }
+}
+
+fn greatest_limits() -> Limits
+    ensures { result ≡ record { depth = MOST_DEPTH; item_bytes = MOST_ITEM_BYTES } }
+{
+    match Limits::try_new(MOST_DEPTH, MOST_ITEM_BYTES) {
+        Some(limits) => limits,
+        // Both numbers are in their ranges.
+        None => unreachable!(),
+    }
 }
 
 // The limits that the options with a number give, if each number is in its range.
@@ -82,6 +109,7 @@ fn command<'a>(alloc: Global) -> Result<Command<'a>, AllocError>
     ensures { IfOk result (λ c. app_of c ≡ program_app) }
 {
     top_command(alloc)
+        .subcommand(check_command(alloc)?)?
         .subcommand(validate_command(alloc)?)?
         .subcommand(show_command(alloc)?)
 }
@@ -96,6 +124,14 @@ fn top_command<'a>(alloc: Global) -> Command<'a>
         .subcommand_required(true)
 }
 
+fn check_command<'a>(alloc: Global) -> Result<Command<'a>, AllocError>
+    ensures app { IfOk result (λ c. app_of c ≡ check_app) }
+    ensures local { IfOk result (λ c. (out-Command c).has_globals ≡ false) }
+{
+    let command = Command::new(alloc, "check").about("Says whether the specification is accepted");
+    with_specification(alloc, command)
+}
+
 fn validate_command<'a>(alloc: Global) -> Result<Command<'a>, AllocError>
     ensures app { IfOk result (λ c. app_of c ≡ validate_app) }
     ensures local { IfOk result (λ c. (out-Command c).has_globals ≡ false) }
@@ -103,7 +139,7 @@ fn validate_command<'a>(alloc: Global) -> Result<Command<'a>, AllocError>
     let command = Command::new(alloc, "validate").about(
         "Prints a line for each item of the stream that matches, and one for its end",
     );
-    with_stream(alloc, command.arg(spec_arg(alloc))?)
+    with_stream(alloc, with_specification(alloc, command)?)
 }
 
 fn show_command<'a>(alloc: Global) -> Result<Command<'a>, AllocError>
@@ -116,7 +152,16 @@ fn show_command<'a>(alloc: Global) -> Result<Command<'a>, AllocError>
     with_stream(alloc, command)
 }
 
-// The command with what both commands take: the stream's file and the limits.
+// The command with what is taken with a specification: its file and the root.
+fn with_specification<'a>(alloc: Global, command: Command<'a>) -> Result<Command<'a>, AllocError>
+    requires { (out-Command command).has_globals ≡ false }
+    ensures app { IfOk result (λ c. app_of c ≡ spec_app (app_of command.entry)) }
+    ensures local { IfOk result (λ c. (out-Command c).has_globals ≡ false) }
+{
+    command.arg(spec_arg(alloc))?.arg(root_arg(alloc))
+}
+
+// The command with what is taken with a stream: its file and the limits.
 fn with_stream<'a>(alloc: Global, command: Command<'a>) -> Result<Command<'a>, AllocError>
     requires { (out-Command command).has_globals ≡ false }
     ensures app { IfOk result (λ c. app_of c ≡ stream_app (app_of command.entry)) }
@@ -148,6 +193,15 @@ fn spec_arg<'a>(alloc: Global) -> Arg<'a>
         .value_name("SPEC")
         .help("The file with the specification, in CDDL")
         .required(true)
+}
+
+fn root_arg<'a>(alloc: Global) -> Arg<'a>
+    ensures rule { rule_of result ≡ root_rule }
+    ensures own { result.global ≡ false }
+{
+    Arg::new(alloc, "root").long("root").value_name("NAME").help(
+        "The name of the rule that is the root; without it the first rule of SPEC",
+    )
 }
 
 fn file_arg<'a>(alloc: Global) -> Arg<'a>

@@ -4,7 +4,9 @@
 
 use cbor_item::Counted;
 use cddl_table::Table;
-use cddl_tool::{BROKEN, Options, Use, act, options, read_text, ready, say, say_of_file};
+use cddl_tool::{
+    BROKEN, Options, Task, Use, accept, act, options, read_text, ready, say, say_of_file,
+};
 use std::alloc::{AllocError, Global};
 use std::io::{self, ErrorKind, Read, Write};
 use std::process::ExitCode;
@@ -47,16 +49,25 @@ fn options_of(alloc: Global, words: &[String]) -> Result<Options, Use> {
     options(alloc, texts.as_slice())
 }
 
-// Reads the specification, if there is one to read, and then the stream.
+// Reads the specification, if there is one to read, and then the stream, if there is one.
 fn perform<E: Write>(rt: &HostRuntime, options: &Options, err: &mut Counted<E>) -> u8 {
     let text = match text_of(rt, options, err) {
         Ok(text) => text,
         Err(status) => return status,
     };
     match ready(rt.alloc(), options, text.as_slice(), err) {
-        Ok(table) => validate(rt, options, &table, err),
+        Ok(table) => match options.task {
+            Task::Check => check(rt, err),
+            Task::Validate | Task::Show => validate(rt, options, &table, err),
+        },
         Err(status) => status,
     }
+}
+
+// Says on standard output that the specification is accepted.
+fn check<E: Write>(rt: &HostRuntime, err: &mut Counted<E>) -> u8 {
+    let mut output = Counted::new(rt.stdout());
+    accept(rt.alloc(), &mut output, err)
 }
 
 // The text of the specification: none where the task has none.

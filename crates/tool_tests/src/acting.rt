@@ -1,6 +1,6 @@
 use crate::devices::{Sink, Source};
 use cbor_item::Counted;
-use cddl_tool::{BROKEN, Options, act, options, ready};
+use cddl_tool::{BROKEN, Options, Task, accept, act, options, ready};
 use std::alloc::Global;
 use std::io::ErrorKind;
 use std::process::Abort;
@@ -26,6 +26,7 @@ fn outcome_of(
     let mut output = Counted::new(sink);
     let mut errors = Counted::new(Vec::new(alloc));
     let status = match ready(alloc, &options, spec, &mut errors) {
+        Ok(_) if options.task == Task::Check => accept(alloc, &mut output, &mut errors),
         Ok(table) => act(
             alloc,
             &options,
@@ -53,6 +54,10 @@ const VALIDATE: &[&str] = &["cddlseq", "validate", "spec"];
 
 const VALIDATE_SHORT: &[&str] = &["cddlseq", "validate", "--item-bytes=3", "--", "spec"];
 
+const CHECK: &[&str] = &["cddlseq", "check", "spec"];
+
+const CHECK_ROOT: &[&str] = &["cddlseq", "check", "spec", "--root", "b"];
+
 const SHOW: &[&str] = &["cddlseq", "show"];
 
 // A specification and a stream, and what comes of them.
@@ -65,7 +70,39 @@ struct Row {
     status: u8,
 }
 
-static ROWS: [Row; 6] = [
+static ROWS: [Row; 10] = [
+    Row {
+        words: CHECK,
+        spec: b"b = bstr",
+        stream: b"",
+        out: b"accepted\n",
+        err: b"",
+        status: 0,
+    },
+    Row {
+        words: CHECK,
+        spec: b"b = float",
+        stream: b"",
+        out: b"",
+        err: b"refused: specification not supported yet\n",
+        status: 2,
+    },
+    Row {
+        words: CHECK_ROOT,
+        spec: b"b = bstr",
+        stream: b"",
+        out: b"accepted\n",
+        err: b"",
+        status: 0,
+    },
+    Row {
+        words: CHECK_ROOT,
+        spec: b"bb = bstr",
+        stream: b"",
+        out: b"",
+        err: b"refused: C5 NoRoot at byte 0\n",
+        status: 2,
+    },
     Row {
         words: VALIDATE,
         spec: b"b = bstr",

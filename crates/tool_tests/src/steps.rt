@@ -8,7 +8,7 @@ use std::test::Fail;
 #[test]
 fn ends_where_the_steps_are_spent(rt: HostRuntime) -> Result<(), Fail> {
     let a = rt.alloc();
-    let Some(table) = read_specification(a, b"a = uint")? else {
+    let Ok(table) = read_specification(a, b"a = uint", None) else {
         return Err(Fail::from("no table"));
     };
     let Some(limits) = Limits::try_new(1, 1) else {

@@ -5,16 +5,53 @@ struct Row {
     words: &'static [&'static str],
     task: Task,
     spec: Option<&'static str>,
+    root: Option<&'static str>,
     file: Option<&'static str>,
     depth: u32,
     item_bytes: u32,
 }
 
-static ROWS: [Row; 4] = [
+static ROWS: [Row; 7] = [
+    Row {
+        words: &["cddlseq", "check", "a.cddl"],
+        task: Task::Check,
+        spec: Some("a.cddl"),
+        root: None,
+        file: None,
+        depth: 256,
+        item_bytes: 16_777_216,
+    },
+    Row {
+        words: &["cddlseq", "check", "--root=b", "a.cddl"],
+        task: Task::Check,
+        spec: Some("a.cddl"),
+        root: Some("b"),
+        file: None,
+        depth: 256,
+        item_bytes: 16_777_216,
+    },
+    Row {
+        words: &[
+            "cddlseq",
+            "validate",
+            "a.cddl",
+            "--root",
+            "b",
+            "c.cbor",
+            "--depth=2",
+        ],
+        task: Task::Validate,
+        spec: Some("a.cddl"),
+        root: Some("b"),
+        file: Some("c.cbor"),
+        depth: 2,
+        item_bytes: 16_777_216,
+    },
     Row {
         words: &["cddlseq", "validate", "a.cddl", "b.cbor"],
         task: Task::Validate,
         spec: Some("a.cddl"),
+        root: None,
         file: Some("b.cbor"),
         depth: 256,
         item_bytes: 16_777_216,
@@ -23,6 +60,7 @@ static ROWS: [Row; 4] = [
         words: &["cddlseq", "validate", "--item-bytes=3", "--", "--depth"],
         task: Task::Validate,
         spec: Some("--depth"),
+        root: None,
         file: None,
         depth: 256,
         item_bytes: 3,
@@ -31,6 +69,7 @@ static ROWS: [Row; 4] = [
         words: &["cddlseq", "show", "--depth=7", "--item-bytes", "1"],
         task: Task::Show,
         spec: None,
+        root: None,
         file: None,
         depth: 7,
         item_bytes: 1,
@@ -39,6 +78,7 @@ static ROWS: [Row; 4] = [
         words: &["cddlseq", "show", "b.cbor"],
         task: Task::Show,
         spec: None,
+        root: None,
         file: Some("b.cbor"),
         depth: 256,
         item_bytes: 16_777_216,
@@ -48,7 +88,8 @@ static ROWS: [Row; 4] = [
 fn has_names(options: &Options, row: &Row) -> bool {
     let spec = options.spec.as_ref().map(|name| name.as_str());
     let file = options.file.as_ref().map(|name| name.as_str());
-    spec == row.spec && file == row.file
+    let root = options.root.as_ref().map(|name| name.as_str());
+    spec == row.spec && file == row.file && root == row.root
 }
 
 fn has_numbers(options: &Options, row: &Row) -> bool {
@@ -69,10 +110,15 @@ fn reads_the_words(rt: HostRuntime) {
     }
 }
 
-static REFUSED: [&[&str]; 9] = [
+static REFUSED: [&[&str]; 14] = [
     &["cddlseq"],
     &["cddlseq", "validate"],
-    &["cddlseq", "check", "a"],
+    &["cddlseq", "check"],
+    &["cddlseq", "check", "a", "b"],
+    &["cddlseq", "check", "a", "--depth", "1"],
+    &["cddlseq", "check", "a", "--root"],
+    &["cddlseq", "check", "a", "--root", "b", "--root", "b"],
+    &["cddlseq", "show", "--root", "a"],
     &["cddlseq", "show", "a", "b"],
     &["cddlseq", "show", "--depth", "0"],
     &["cddlseq", "show", "--depth", "257"],

@@ -5,7 +5,7 @@ use Rattle.cddl_one_rule.proofs.specification.read_rule.Goals as goal
 use Rattle.cddl_one_rule.proofs.specification.read_rule.Goals.{then-is_empty-via-then-is_empty, then-is_empty-via-else-is_empty+then-is_some}
 
 pub returns-then-is_empty-clause-none : goal.returns-then-is_empty-clause-none
-returns-then-is_empty-clause-none c = λ other s.
+returns-then-is_empty-clause-none c = λ rule_name other s.
     let name = name_first s c.split_gap.ensures c.split_letters.ensures in
     elim c.then-is_empty.branch [
       | then-is_empty-via-then-is_empty w ↦
@@ -17,19 +17,19 @@ returns-then-is_empty-clause-none c = λ other s.
     ]
 
 pub returns-in_err-text-clause-none : goal.returns-in_err-text-clause-none
-returns-in_err-text-clause-none c = rw c.from_residual.ensures (λ other s.
+returns-in_err-text-clause-none c = rw c.from_residual.ensures (λ rule_name other s.
     let name = name_first s c.split_gap.ensures c.split_letters.ensures in
     c.in_err-text.ensures.none _ (equals_next s name.1 c.split_gap-2.ensures))
 
 pub returns-in_err-named-clause-none : goal.returns-in_err-named-clause-none
-returns-in_err-named-clause-none c = rw c.from_residual-in_err-named.ensures (λ other s.
+returns-in_err-named-clause-none c = rw c.from_residual-in_err-named.ensures (λ rule_name other s.
     let name = name_first s c.split_gap.ensures c.split_letters.ensures in
     let equals = equals_next s name.1 c.split_gap-2.ensures in
     let rest : c.in_ok-text.text.now ≡ s.gap_after_equals ++ (type_name other ++ s.gap_after_type) = same_rest _ _ _ c.in_ok-text.ensures.found equals in
     c.in_err-named.ensures.none other (type_next s rest c.split_gap-3.ensures c.split_letters-2.ensures).0)
 
 pub returns-else-is_empty-2-clause-none : goal.returns-else-is_empty-2-clause-none
-returns-else-is_empty-2-clause-none c = λ other s.
+returns-else-is_empty-2-clause-none c = λ rule_name other s.
     let name = name_first s c.split_gap.ensures c.split_letters.ensures in
     let equals = equals_next s name.1 c.split_gap-2.ensures in
     let rest : c.in_ok-text.text.now ≡ s.gap_after_equals ++ (type_name other ++ s.gap_after_type) = same_rest _ _ _ c.in_ok-text.ensures.found equals in

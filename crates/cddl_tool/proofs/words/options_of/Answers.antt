@@ -12,6 +12,7 @@ pub returns-clause-read : goal.returns-clause-read
 returns-clause-read c = record {
   task_is = refl;
   spec = c.in_ok-spec.ensures ∙ first_value-rows (found_of c.args.given.now) (codes "spec");
+  root = c.in_ok-root.ensures ∙ first_value-rows (found_of c.args.given.now) (codes "root");
   file = c.in_ok-file.ensures ∙ first_value-rows (found_of c.args.given.now) (codes "file");
   limits = rw (one_text-rows (found_of c.args.given.now) (codes "depth"), one_text-rows (found_of c.args.given.now) (codes "item-bytes")) at c.in-Some.ensures.some;
 }
