@@ -1,2 +1,5 @@
+pub mod Clear
 pub mod Firsts
 pub mod Refusing
+pub mod Rooting
+pub mod Staging

@@ -1,14 +1,60 @@
 //! Laws: functions that do nothing, whose contracts are for proofs.
 
-ghost use Rattle.std.specs.Prelude.{None, Some};
-ghost use Rattle.cddl_check.specs.Codes.{all_codes};
+ghost use Rattle.std.specs.Prelude.{◌≡◌, ◌≢◌, ℕ, [], None, Some, false};
+ghost use Rattle.cddl_check.specs.Codes.{all_codes, text_codes};
 ghost use Rattle.cddl_check.specs.First.{IsFirst};
 ghost use Rattle.cddl_check.specs.declared.fault.Fault.{Fault as Faults};
-ghost use Rattle.cddl_language.specs.Faults.{IsAccepted, IsFaultAt, IsRefused, Specification};
+ghost use Rattle.cddl_language.specs.Environment.{definitions_of, is_in_prelude};
+ghost use Rattle.cddl_language.specs.Faults.{HasBadRange, HasNotUnwrappable, HasRecursion, HasTooManyInstances, IsAccepted, IsFaultAt, IsRefused, Specification, definitions, first_rule, root_of, rules};
+ghost use Rattle.cddl_language.specs.Kinds.{is_group};
 ghost use Rattle.cddl_language.specs.Literals.{Values};
+ghost use Rattle.cddl_language.specs.Reading.{parameters_in};
+ghost use Rattle.cddl_language.specs.Terms.{Text};
+ghost use Rattle.cddl_live.specs.Live.{IsClear};
+ghost use Rattle.cddl_survey.specs.Least.{IsLeast};
+ghost use Rattle.cddl_survey.specs.Survey.{IsSurvey};
+ghost use Rattle.cddl_survey.specs.declared.survey.Survey.{Survey as Surveys};
+ghost use Rattle.cddl_syntax.specs.Syntax as S;
+ghost use Rattle.cddl_token.specs.declared.Code.TheVariants.{TooManyInstances, NotUnwrappable, Recursion, BadRange};
+ghost use Rattle.cddl_tree.specs.View.{view};
+ghost use Rattle.cddl_tree.specs.declared.tree.Tree.{Tree};
+
+use cddl_terms::Terms;
+use cddl_terms::laws::equal_definitions;
 
 /// The first fault of all codes is the one that is told, and where there is none, the specification is accepted.
 pub fn first_is_told()
     ensures accepted { (s : Specification) (worth : Values) → IsFirst (IsFaultAt s worth) all_codes None → IsAccepted s worth }
     ensures refused { (s : Specification) (worth : Values) (f : Faults) → IsFirst (IsFaultAt s worth) all_codes (Some f) → IsRefused s worth f.code f.at }
+{}
+
+/// The first fault of the whole text is the one that is told, whatever the root reaches.
+pub fn text_fault_is_told()
+    ensures { (s : Specification) (worth : Values) (f : Faults) → IsFirst (IsFaultAt s worth) text_codes (Some f) → IsRefused s worth f.code f.at }
+{}
+
+/// Where the text has no fault, the first one of what the root reaches is told, in the order of the codes; and where there is
+/// none, the specification is accepted.
+pub fn root_faults_are_told()
+    ensures too_many { (s : Specification) (worth : Values) (root : Text) → root_of s ≡ Some root → IsFirst (IsFaultAt s worth) text_codes None → (at : ℕ) → IsLeast (HasTooManyInstances s root) (Some at) → IsRefused s worth TooManyInstances at }
+    ensures unwrapping { (s : Specification) (worth : Values) (root : Text) → root_of s ≡ Some root → IsFirst (IsFaultAt s worth) text_codes None → IsLeast (HasTooManyInstances s root) None → (at : ℕ) → IsLeast (HasNotUnwrappable s root) (Some at) → IsRefused s worth NotUnwrappable at }
+    ensures recursion { (s : Specification) (worth : Values) (root : Text) → root_of s ≡ Some root → IsFirst (IsFaultAt s worth) text_codes None → IsLeast (HasTooManyInstances s root) None → IsLeast (HasNotUnwrappable s root) None → (at : ℕ) → IsLeast (HasRecursion s root) (Some at) → IsRefused s worth Recursion at }
+    ensures range { (s : Specification) (worth : Values) (root : Text) → root_of s ≡ Some root → IsFirst (IsFaultAt s worth) text_codes None → IsLeast (HasTooManyInstances s root) None → IsLeast (HasNotUnwrappable s root) None → IsLeast (HasRecursion s root) None → (at : ℕ) → IsLeast (HasBadRange s worth root) (Some at) → IsRefused s worth BadRange at }
+    ensures accepted { (s : Specification) (worth : Values) (root : Text) → root_of s ≡ Some root → IsFirst (IsFaultAt s worth) text_codes None → IsLeast (HasTooManyInstances s root) None → IsLeast (HasNotUnwrappable s root) None → IsLeast (HasRecursion s root) None → IsLeast (HasBadRange s worth root) None → IsAccepted s worth }
+{}
+
+/// A text without a fault keeps all that is asked for its live sites to be reached.
+pub fn text_is_clear(terms: &Terms<'_>)
+    ensures { (s : Specification) (tree : Tree) (v : Surveys) (worth : Values) → s.tree ≡ view tree → IsSurvey terms.now tree v → IsFirst (IsFaultAt s worth) text_codes None → IsClear s }
+{
+    equal_definitions(terms);
+}
+
+/// A text without a fault has a root, which is defined, and is no group. Where a rule defines it, it has no parameters.
+pub fn root_is_type()
+    ensures present { (s : Specification) (worth : Values) → IsFirst (IsFaultAt s worth) text_codes None → (root : Text) × (root_of s ≡ Some root) }
+    ensures defined { (s : Specification) (worth : Values) (root : Text) → root_of s ≡ Some root → IsFirst (IsFaultAt s worth) text_codes None → definitions_of (definitions s) root ≢ [] }
+    ensures ruled { (s : Specification) (worth : Values) (root : Text) → root_of s ≡ Some root → IsFirst (IsFaultAt s worth) text_codes None → is_in_prelude root ≡ false → (r : S.Rule) × (first_rule (rules s) root ≡ Some r) }
+    ensures plain { (s : Specification) (worth : Values) (root : Text) (r : S.Rule) → root_of s ≡ Some root → IsFirst (IsFaultAt s worth) text_codes None → first_rule (rules s) root ≡ Some r → parameters_in r ≡ [] }
+    ensures is_type { (s : Specification) (worth : Values) (root : Text) → root_of s ≡ Some root → IsFirst (IsFaultAt s worth) text_codes None → is_group (definitions s) root ≡ false }
 {}

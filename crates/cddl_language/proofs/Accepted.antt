@@ -7,20 +7,20 @@ use Rattle.cddl_token.specs.declared.Code.{Code}
 use Rattle.cddl_token.specs.declared.Code.TheVariants as C
 use Rattle.cddl_syntax.specs.Syntax as S
 use Rattle.std.proofs.lemmas.Bool.{false≢true}
-use Rattle.cddl_language.proofs.After.{free_first, in_one}
+use Rattle.cddl_language.proofs.After.{asks, free_first, in_one}
 use Rattle.cddl_language.proofs.Basics.{some_is_none, none_is_some, same_some, cons_is_nil, beyond_two, only}
 use Rattle.cddl_language.specs.Numbers.{least_of, most_of}
 use Rattle.cddl_language.specs.Terms as M
-use Rattle.cddl_language.specs.Terms.{Text, Term, named, array_of, Ref, call, no_terms, Entries, no_entries, entries, typed, Definition, name_of}
+use Rattle.cddl_language.specs.Terms.{Text, Term, named, array_of, Ref, call, no_terms, Group, Entries, no_entries, entries, typed, Definition, name_of, alternatives, lone}
 use Rattle.cddl_language.specs.Prelude.{prelude}
 use Rattle.cddl_language.specs.Reading.{definition_of, occurrence, name_in, parameter_tokens, parameters_in, rule_head}
 use Rattle.cddl_language.specs.Environment.{definitions_of}
-use Rattle.cddl_language.specs.Substitution.{type_choices}
-use Rattle.cddl_language.specs.Kinds.{asks_type, part_of, is_group, is_group_definition}
-use Rattle.cddl_language.specs.Reach.{Reaches, at_root, onward, Point, ref_at, at_name, at_unwrapping, at_choice, points_in, IsPresent, instance, standing}
+use Rattle.cddl_language.specs.Substitution.{type_choices, group_choices}
+use Rattle.cddl_language.specs.Kinds.{asks_type, names_group, opens, opens_group, opens_type, opened, part_of, is_group, is_group_definition}
+use Rattle.cddl_language.specs.Reach.{Reaches, at_root, onward, Point, ref_at, at_name, points_in}
 use Rattle.cddl_language.specs.Literals.{Values}
 use Rattle.cddl_language.specs.Free as R
-use Rattle.cddl_language.specs.Free.{IsFree, IsFreeInSome, IsFreeInEach, IsFreeInEntry, LeadsTo, LeadsOn}
+use Rattle.cddl_language.specs.Free.{IsFree, IsFreeInSome, IsFreeInChoice, LeadsTo, LeadsOn}
 use Rattle.cddl_language.specs.Sites.{Site, a_name, an_unwrapping, a_choice_of, a_choice_of_name, a_hash, an_operation, an_entry, a_map, sites, outer_sites, ref_at_site, ref_name, arguments, IsReached, in_body, in_argument, IsUsed, used}
 use Rattle.cddl_language.specs.Faults as F
 use Rattle.cddl_language.specs.Faults.{IsFaultAt, IsAccepted, parameter_count, first_equals, first_rule, rules, HasSite, HasName}
@@ -42,8 +42,11 @@ ref = T.a_ref 7 (codes "t")
 abbrev starred : S.GrpEnt
 starred = T.occurring 5 (codes "*") (T.name 7 (codes "t"))
 
+abbrev inside : Group
+inside = M.sole (entries no_entries (typed (Some (codes "*")) (named t)) false)
+
 abbrev lists : Term
-lists = array_of (M.sole (entries no_entries (typed (Some (codes "*")) (named t)) false))
+lists = array_of inside
 
 -- What computes.
 
@@ -58,6 +61,14 @@ means_lists = refl
 refers_to_itself : points_in ds t ≡ at_name t ∷ []
 unfolding prelude
 refers_to_itself = refl
+
+opens_lists : opened ds t ≡ Some (opens_group inside)
+unfolding prelude
+opens_lists = refl
+
+chooses_lists : group_choices ds t ≡ lone (typed None lists) ∷ []
+unfolding prelude
+chooses_lists = refl
 
 is_type : part_of ds (named t) ≡ asks_type
 unfolding prelude
@@ -132,28 +143,61 @@ places_reached s ys o (in_argument {r = r} {xs = xs} {q = q} {f = f} {x = x} h e
 
 -- No name is free in what it means, since the entry asks a type of an item.
 
+inside_free : (p : Point) → IsFreeInSome ds p (alternatives inside) → ⊥
+inside_free p h = free_first ds p (Some (codes "*")) (named t) false is_type (in_one ds p _ h)
+
 lists_free : (p : Point) → IsFree ds p lists → ⊥
-lists_free p (R.in_array h) = free_first ds p (Some (codes "*")) (named t) false is_type (in_one ds p _ h)
+lists_free p (R.in_array h) = inside_free p h
+
+is_array : part_of ds lists ≡ asks_type
+is_array = refl
+
+-- what is free in the choice from one entry of a type
+in_type : (p : Point) (o : Option Text) (u : Term) → part_of ds u ≡ asks_type → IsFreeInChoice ds p (entries no_entries (typed o u) false ∷ []) → IsFree ds p u
+in_type p o u e (R.of_this (R.of_last (R.of_type h f))) = f
+in_type p o u e (R.of_this (R.of_last (R.of_name {r = r} h f))) = absurd (asks (names_group r) e h)
+in_type p o u e (R.of_this (R.of_last (R.of_opened {r = r} {g = g} h f))) = absurd (asks (opens r g) e h)
+in_type p o u e (R.of_this (R.of_earlier h)) = elim h [ ]
+in_type p o u e (R.of_later h) = elim h [ ]
+
+lists_chosen : (p : Point) → IsFreeInChoice ds p (lone (typed None lists) ∷ []) → ⊥
+lists_chosen p h = lists_free p (in_type p None lists is_array h)
+
+inside_chosen : (p : Point) → IsFreeInChoice ds p (alternatives inside) → p ≡ at_name t
+inside_chosen p h = by (in_type p (Some (codes "*")) (named t) is_type h)
+  where
+    by : IsFree ds p (named t) → p ≡ at_name t
+    by (R.name e) = e
+
+same_group : (g : Group) → Some (opens_group inside) ≡ Some (opens_group g) → g ≡ inside
+same_group g e = cc
+
+other_opened : (u : Term) → Some (opens_group inside) ≡ Some (opens_type u) → ⊥
+other_opened u e = cc
 
 abbrev is_by_name : Point → Bool
 is_by_name (at_name r) = true
-is_by_name (at_unwrapping r) = false
-is_by_name (at_choice r) = false
+is_by_name _ = false
 
-leads_nowhere : (p q : Point) → q ≡ at_name t → LeadsTo ds p q → ⊥
-leads_nowhere p q e (R.by_type {r = r} {t = u} h c f) = lists_free p (subst (λ z. IsFree ds p z) (only (subst (λ ts. Contains ts u) means_lists (subst (λ z. Contains (type_choices ds z) u) (ap ref_at e) c))) f)
-leads_nowhere p q e (R.by_group {r = r} h f) = false≢true (sym no_group ∙ subst (λ z. is_group ds (name_of z) ≡ true) (ap ref_at e) h)
-leads_nowhere p q e (R.by_opened_group h f) = false≢true (ap is_by_name e)
-leads_nowhere p q e (R.by_content h f) = false≢true (ap is_by_name e)
-leads_nowhere p q e (R.by_chosen h c f) = false≢true (ap is_by_name e)
+not_by_name : (q : Point) → is_by_name q ≡ false → q ≡ at_name t → ⊥
+not_by_name q h e = false≢true (sym h ∙ ap is_by_name e)
 
-no_way_on : (p q : Point) → p ≡ at_name t → LeadsOn ds p q → ⊥
-no_way_on p q e (R.at_once {q = s} h) = leads_nowhere s p e h
-no_way_on p q e (R.onwards {q = s} h k) = leads_nowhere s p e h
+-- The choice from what `~t` opens has its name free; nothing else has.
+leads_to_name : (p q : Point) → ref_at q ≡ t → LeadsTo ds p q → (is_by_name q ≡ false) × (p ≡ at_name t)
+leads_to_name p q e (R.by_type {r = r} {t = u} h c f) = absurd (lists_free p (subst (λ z. IsFree ds p z) (only (subst (λ ts. Contains ts u) means_lists (subst (λ z. Contains (type_choices ds z) u) e c))) f))
+leads_to_name p q e (R.by_group {r = r} h f) = absurd (false≢true (sym no_group ∙ subst (λ z. is_group ds (name_of z) ≡ true) e h))
+leads_to_name p q e (R.by_opened_group {r = r} {g = g} h f) = absurd (inside_free p (subst (λ z. IsFreeInSome ds p (alternatives z)) (same_group g (sym opens_lists ∙ subst (λ z. opened ds z ≡ Some (opens_group g)) e h)) f))
+leads_to_name p q e (R.by_content {r = r} {t = u} h f) = absurd (other_opened u (sym opens_lists ∙ subst (λ z. opened ds z ≡ Some (opens_type u)) e h))
+leads_to_name p q e (R.by_choice {r = r} f) = absurd (lists_chosen p (subst (λ ess. IsFreeInChoice ds p ess) chooses_lists (subst (λ z. IsFreeInChoice ds p (group_choices ds z)) e f)))
+leads_to_name p q e (R.by_opened_choice {r = r} {g = g} h f) = (refl, inside_chosen p (subst (λ z. IsFreeInChoice ds p (alternatives z)) (same_group g (sym opens_lists ∙ subst (λ z. opened ds z ≡ Some (opens_group g)) e h)) f))
 
-present : (p : Point) → IsPresent ds (codes "t") p → p ≡ at_name t
-present p (instance {r = r} h) = ap at_name (reached r h)
-present q (standing {r = r} {p = p} h c) = only (subst (λ ps. Contains ps p) refers_to_itself (subst (λ q. Contains (points_in ds q) p) (reached r h) c))
+no_way_from_name : (p q : Point) → p ≡ at_name t → LeadsOn ds p q → ⊥
+no_way_from_name p q e (R.at_once {q = s} h) = not_by_name p ((leads_to_name s p (ap ref_at e) h).0) e
+no_way_from_name p q e (R.onwards {q = s} h k) = not_by_name p ((leads_to_name s p (ap ref_at e) h).0) e
+
+no_way_back : (p q : Point) → ref_at p ≡ t → LeadsOn ds p q → p ≡ q → ⊥
+no_way_back p q e (R.at_once h) f = let l = leads_to_name q p e h in not_by_name p (l.0) (f ∙ l.1)
+no_way_back p q e (R.onwards {q = s} h k) f = no_way_from_name s q ((leads_to_name s p e h).1) k
 
 -- No fault stands.
 
@@ -216,7 +260,7 @@ module _ (worth : Values) (at : ℕ) where
   no_unwrapping (F.chooses_from_no_name {r = r} {xs = xs} {t = u} {f = f} p h e) = places_reached r xs (a_choice_of_name u f) p
 
   no_recursion : F.HasRecursion T.lists (codes "t") at → ⊥
-  no_recursion f = no_way_on f.point f.point (present f.point f.cycle.present) f.cycle.cycle
+  no_recursion f = no_way_back f.point f.point (reached (ref_at f.point) f.cycle.instance) f.cycle.cycle refl
 
   within_bounds : (e : S.GrpEnt) (o : Token) → e ≡ starred → F.occur_token e ≡ Some o → F.IsOver (least_of (occurrence (Some o))) (most_of (occurrence (Some o))) → ⊥
   within_bounds e o h f g = subst (λ z. F.IsOver (least_of (occurrence z)) (most_of (occurrence z))) (sym f ∙ ap F.occur_token h) g

@@ -12,12 +12,12 @@ use Rattle.cddl_language.specs.Prelude.{plain, prelude}
 use Rattle.cddl_language.specs.Examples as E
 use Rattle.cddl_language.specs.Texts as T
 
-abbrev Asks : Part → Type 0
+abbrev pub Asks : Part → Type 0
 Asks asks_type = Unit {0}
 Asks (names_group r) = ⊥
 Asks (opens r g) = ⊥
 
-asks : {q : Part} (r : Part) → q ≡ asks_type → q ≡ r → Asks r
+pub asks : {q : Part} (r : Part) → q ≡ asks_type → q ≡ r → Asks r
 asks r e f = subst Asks (sym e ∙ f) tt
 
 one_is_zero : (n : ℕ) → n ≡ 1 → n ≡ 0 → ⊥

@@ -2,11 +2,10 @@
 -- question again for ever, so it is refused (RFC 8610 does not say what it would mean).
 use Rattle.std.specs.Prelude.{◌≡◌, ◌⊎◌, Bool, true, false, List, ◌∷◌, Contains, Option, Some, codes}
 use Rattle.cddl_language.specs.Numbers.{least_of}
-use Rattle.cddl_language.specs.Terms.{Text, Term, named, parens, array_of, unwrapped, choice_of, choice_of_name, simple_by, control, or, Ref, Group, Entries, no_entries, entries, Entry, typed, grouped, Definition, alternatives, occurrence_of, name_of}
+use Rattle.cddl_language.specs.Terms.{Text, Term, named, parens, array_of, unwrapped, choice_of, choice_of_name, simple_by, control, or, Ref, Group, Entries, no_entries, entries, Entry, typed, keyed, grouped, Key, Definition, alternatives, occurrence_of, name_of}
 use Rattle.cddl_language.specs.Substitution.{type_choices, group_choices}
-use Rattle.cddl_language.specs.Kinds.{opened, opens_group, opens_type, is_group, names_group, opens, part_of}
-use Rattle.cddl_language.specs.Reach.{Point, at_name, at_unwrapping, at_choice, IsPresent}
-use Rattle.cddl_language.specs.Choices.{chosen, chosen_by_name}
+use Rattle.cddl_language.specs.Kinds.{opened, opens_group, opens_type, is_group, asks_type, names_group, opens, part_of}
+use Rattle.cddl_language.specs.Reach.{Point, at_name, at_unwrapping, at_choice, at_opened_choice, ref_at, Reaches}
 
 -- Groups that may be empty: the least set. An entry may be empty where it may stand no time, or where its group may be
 -- empty; a list of entries where each may; alternatives where one may.
@@ -40,7 +39,7 @@ module _ (ds : List Definition) where
       in_first : {t u : Term} → IsFree p t → IsFree p (or t u)
       in_second : {t u : Term} → IsFree p u → IsFree p (or t u)
       in_array : {g : Group} → IsFreeInSome p (alternatives g) → IsFree p (array_of g)
-      in_choice : {g : Group} {ts : List Term} {t : Term} → chosen ds g ≡ Some ts → Contains ts t → IsFree p t → IsFree p (choice_of g)
+      in_choice : {g : Group} → IsFreeInChoice p (alternatives g) → IsFree p (choice_of g)
       in_head : {h : Term} → IsFree p h → IsFree p (simple_by h)
       in_left : {a b : Term} {n : Text} → IsFree p a → IsFree p (control a n b)
       in_controller : {a b : Term} {n : Text} → IsAskedHere n → IsFree p b → IsFree p (control a n b)
@@ -60,13 +59,30 @@ module _ (ds : List Definition) where
       group_opened : {o : Option Text} {t : Term} {r : Ref} {g : Group} → part_of ds t ≡ opens r g → p ≡ at_unwrapping r → IsFreeInEntry p (typed o t)
       in_group : {o : Option Text} {g : Group} → IsFreeInSome p (alternatives g) → IsFreeInEntry p (grouped o g)
 
+    -- In what `&` chooses from: in the types of all entries; and the choice from a group that has a name is a reference, too.
+    pub data IsFreeInChoice (p : Point) : List Entries → Type 0 where
+      of_this : {es : Entries} {ess : List Entries} → IsFreeInChosen p es → IsFreeInChoice p (es ∷ ess)
+      of_later : {es : Entries} {ess : List Entries} → IsFreeInChoice p ess → IsFreeInChoice p (es ∷ ess)
+
+    pub data IsFreeInChosen (p : Point) : Entries → Type 0 where
+      of_last : {es : Entries} {e : Entry} {c : Bool} → IsFreeInChosenEntry p e → IsFreeInChosen p (entries es e c)
+      of_earlier : {es : Entries} {e : Entry} {c : Bool} → IsFreeInChosen p es → IsFreeInChosen p (entries es e c)
+
+    pub data IsFreeInChosenEntry (p : Point) : Entry → Type 0 where
+      of_type : {o : Option Text} {t : Term} → part_of ds t ≡ asks_type → IsFree p t → IsFreeInChosenEntry p (typed o t)
+      of_name : {o : Option Text} {t : Term} {r : Ref} → part_of ds t ≡ names_group r → p ≡ at_choice r → IsFreeInChosenEntry p (typed o t)
+      of_opened : {o : Option Text} {t : Term} {r : Ref} {g : Group} → part_of ds t ≡ opens r g → p ≡ at_opened_choice r → IsFreeInChosenEntry p (typed o t)
+      of_keyed : {o : Option Text} {k : Key} {t : Term} → IsFree p t → IsFreeInChosenEntry p (keyed o k t)
+      of_group : {o : Option Text} {g : Group} → IsFreeInChoice p (alternatives g) → IsFreeInChosenEntry p (grouped o g)
+
   -- p is free in what q means
   pub data LeadsTo (p : Point) : Point → Type 0 where
     by_type : {r : Ref} {t : Term} → is_group ds (name_of r) ≡ false → Contains (type_choices ds r) t → IsFree p t → LeadsTo p (at_name r)
     by_group : {r : Ref} → is_group ds (name_of r) ≡ true → IsFreeInSome p (group_choices ds r) → LeadsTo p (at_name r)
     by_opened_group : {r : Ref} {g : Group} → opened ds r ≡ Some (opens_group g) → IsFreeInSome p (alternatives g) → LeadsTo p (at_unwrapping r)
     by_content : {r : Ref} {t : Term} → opened ds r ≡ Some (opens_type t) → IsFree p t → LeadsTo p (at_unwrapping r)
-    by_chosen : {r : Ref} {ts : List Term} {t : Term} → chosen_by_name ds r ≡ Some ts → Contains ts t → IsFree p t → LeadsTo p (at_choice r)
+    by_choice : {r : Ref} → IsFreeInChoice p (group_choices ds r) → LeadsTo p (at_choice r)
+    by_opened_choice : {r : Ref} {g : Group} → opened ds r ≡ Some (opens_group g) → IsFreeInChoice p (alternatives g) → LeadsTo p (at_opened_choice r)
 
   -- from p, by one free reference or more, to q
   pub data LeadsOn : Point → Point → Type 0 where
@@ -75,5 +91,5 @@ module _ (ds : List Definition) where
 
   -- a reference among the instances that comes back to itself
   pub record IsOnCycle (root : Text) (p : Point) : Type 0 where
-    pub present : IsPresent ds root p
+    pub instance : Reaches ds root (ref_at p)
     pub cycle : LeadsOn p p

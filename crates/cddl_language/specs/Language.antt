@@ -1,21 +1,21 @@
 -- The language of closed terms: what form of type or group each of them is (RFC 8610 sections 2 and 3). What a type then
 -- says of an item is told by `Says` of `cddl_meaning`, over this language.
-use Rattle.std.specs.Prelude.{ℕ, Bool, if◌then◌else◌, List, [], ◌∷◌, ◌++◌, map, Option, Some, None}
+use Rattle.std.specs.Prelude.{ℕ, ltb, Bool, if◌then◌else◌, List, [], ◌∷◌, ◌++◌, map, Option, Some, None}
 use Rattle.cbor_data.specs.Value.{Value}
 use Rattle.cddl_meaning.specs.Forms as F
 use Rattle.cddl_meaning.specs.Forms.{Node, Language}
 use Rattle.cddl_meaning.specs.Judges.{Answer, Says}
 use Rattle.cddl_language.specs.Numbers.{least_of, most_of, occurs_once, tag_number, hash_form, hash_test}
-use Rattle.cddl_language.specs.Terms.{Text, Term, literal, named, parens, map_of, array_of, unwrapped, choice_of, choice_of_name, tagged, tagged_by, simple_by, hash, range, control, or, Ref, Entries, Entry, typed, keyed, grouped, Definition, choices, alternatives, entry_list, occurrence_of}
+use Rattle.cddl_language.specs.Terms.{Text, Term, literal, named, parens, map_of, array_of, unwrapped, choice_of, choice_of_name, tagged, tagged_by, simple_by, hash, range, control, or, Ref, Entries, Entry, typed, keyed, grouped, Definition, choices, alternatives, entry_list, occurrence_of, name_of}
 use Rattle.cddl_language.specs.Substitution.{type_choices, group_choices}
-use Rattle.cddl_language.specs.Kinds.{Opened, opens_type, opened, Part, asks_type, names_group, opens, part_of}
+use Rattle.cddl_language.specs.Kinds.{Opened, opens_type, opened, is_group, Part, asks_type, names_group, opens, part_of}
 use Rattle.cddl_language.specs.Literals.{Values, item_of, whole_of}
 use Rattle.cddl_language.specs.Choices.{chosen, chosen_by_name}
 
--- the name of a type: a closed term, closed terms in their order, or what `&` chooses from in these alternatives
+-- the name of a type: a closed term, a closed reference, or what `&` chooses from in these alternatives
 pub data TypeName : Type 0 where
   type : Term → TypeName
-  any_of : List Term → TypeName
+  reference : Ref → TypeName
   chosen_of : List Entries → TypeName
 
 -- the name of a group: alternatives, one of them, an entry, or one round of it
@@ -24,10 +24,6 @@ pub data GroupName : Type 0 where
   each_of : Entries → GroupName
   entry : Entry → GroupName
   round : Entry → GroupName
-
--- the type that a closed reference names
-abbrev pub type_named : List Definition → Ref → TypeName
-type_named ds r = any_of (type_choices ds r)
 
 -- a type that says no to every item (section 3.9: the empty choice)
 abbrev pub nothing : Node TypeName GroupName
@@ -67,7 +63,7 @@ module _ (worth : Values) (ds : List Definition) where
 
   abbrev pub term_node : Term → Node TypeName GroupName
   term_node (literal v) = F.Plain (F.equals (item_of (worth v)))
-  term_node (named r) = F.Ref (type_named ds r)
+  term_node (named r) = if is_group ds (name_of r) then nothing else F.Ref (reference r)
   term_node (parens t) = F.Ref (type t)
   term_node (array_of g) = F.ArrayOf (first_of (alternatives g))
   term_node (unwrapped r) = content (opened ds r)
@@ -84,7 +80,7 @@ module _ (worth : Values) (ds : List Definition) where
 
   abbrev pub type_node : TypeName → Node TypeName GroupName
   type_node (type t) = term_node t
-  type_node (any_of ts) = F.Choice (map type ts)
+  type_node (reference r) = F.Choice (map type (type_choices ds r))
   type_node (chosen_of ess) = F.Choice (chosen_names ess)
 
   -- An entry asks its type of one item, or does what its group does. Keys in arrays are for the reader (section 3.4).
@@ -98,9 +94,14 @@ module _ (worth : Values) (ds : List Definition) where
   round_form (keyed o k t) = F.Entry (type t)
   round_form (grouped o g) = F.GroupRef (first_of (alternatives g))
 
+  -- rounds, where the minimum is not over the maximum
+  abbrev pub rounds_form : Entry → ℕ → F.Most → F.Group TypeName GroupName
+  rounds_form e least (F.at_most n) = if ltb n least then F.Alternatives [] else F.Repeat least (F.at_most n) (round e)
+  rounds_form e least F.any_number_of = F.Repeat least F.any_number_of (round e)
+
   -- an entry without an occurrence, or once, has no rounds
   abbrev pub entry_form : Entry → Option Text → F.Group TypeName GroupName
-  entry_form e o = if occurs_once o then round_form e else F.Repeat (least_of o) (most_of o) (round e)
+  entry_form e o = if occurs_once o then round_form e else rounds_form e (least_of o) (most_of o)
 
   abbrev pub group_form : GroupName → F.Group TypeName GroupName
   group_form (first_of ess) = F.Alternatives (map each_of ess)

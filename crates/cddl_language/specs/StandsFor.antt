@@ -9,7 +9,7 @@ use Rattle.cddl_language.specs.Substitution.{group_choices}
 use Rattle.cddl_language.specs.Kinds.{is_group}
 use Rattle.cddl_language.specs.Reach.{Reaches}
 use Rattle.cddl_language.specs.Literals.{Values}
-use Rattle.cddl_language.specs.Language.{TypeName, GroupName, first_of, language, type_named}
+use Rattle.cddl_language.specs.Language.{TypeName, GroupName, first_of, language, reference}
 
 -- the instances, each once
 pub record AreInstances (ds : List Definition) (root : Text) (instances : List Ref) : Type 0 where
@@ -20,7 +20,7 @@ pub record AreInstances (ds : List Definition) (root : Text) (instances : List R
 -- Which terms the nodes are for: what an instance means has a node, as a type or as a group.
 module _ {N G : Type 0} (ds : List Definition) (types : List (TypeName × N)) (groups : List (GroupName × G)) where
   pub data HasNode (r : Ref) : Type 0 where
-    of_type : (n : N) → is_group ds (name_of r) ≡ false → Contains types (type_named ds r, n) → HasNode r
+    of_type : (n : N) → is_group ds (name_of r) ≡ false → Contains types (reference r, n) → HasNode r
     of_group : (g : G) → is_group ds (name_of r) ≡ true → Contains groups (first_of (group_choices ds r), g) → HasNode r
 
 -- The table: its language, the node of the root, and ranks. Each node that is for a term has its form. Several nodes may be
@@ -29,7 +29,7 @@ pub record StandsFor {N G : Type 0} (worth : Values) (ds : List Definition) (roo
   pub types : List (TypeName × N)
   pub groups : List (GroupName × G)
   pub alike : AreAlike (language worth ds) l (λ (t : TypeName) (n : N). Contains types (t, n)) (λ (t : GroupName) (g : G). Contains groups (t, g))
-  pub root_node : Contains types (type_named ds (call root no_terms), top)
+  pub root_node : Contains types (reference (call root no_terms), top)
   pub instances : List Ref
   pub are_instances : AreInstances ds root instances
   pub have_nodes : (r : Ref) → Contains instances r → HasNode ds types groups r

@@ -141,6 +141,10 @@ choice_of_maybe = one_rule (type_is 0 (codes "a") (is_type (S.choice_of (token A
 abbrev pub first_itself : Specification
 first_itself = one_rule (type_is 0 (codes "t") (S.or (is_type (name 4 (codes "t"))) (token Slash 6 (codes "/")) (S.one (name 8 (codes "int")))))
 
+-- `t = [b: &(~t)]`
+abbrev pub chosen_itself : Specification
+chosen_itself = one_rule (type_is 0 (codes "t") (is_type (array 4 (one_entry (S.keyed None (S.bareword (token Name 5 (codes "b")) (token Colon 6 (codes ":"))) (is_type (S.choice_of (token Ampersand 8 (codes "&")) (token ParenOpen 9 (codes "(")) (one_entry (once (unwrapped 10 (codes "t")))) (token ParenClose 12 (codes ")")))))))))
+
 -- `r = [g]`, and what follows
 abbrev pub r_of_g : S.Rule
 r_of_g = type_is 0 (codes "r") (is_type (array 4 (one_entry (once (name 5 (codes "g"))))))

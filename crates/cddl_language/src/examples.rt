@@ -111,6 +111,7 @@ pub fn faults()
     ensures unwrapped_argument { (worth : Values) → IsFaultAt T.unwrapped_argument worth NotUnwrappable 6 }
     ensures choice_of_maybe { (worth : Values) → IsFaultAt T.choice_of_maybe worth NotUnwrappable 4 }
     ensures first_itself { (worth : Values) → IsFaultAt T.first_itself worth Recursion 0 }
+    ensures chosen_itself { (worth : Values) → IsFaultAt T.chosen_itself worth Recursion 0 }
     ensures group_first_itself { (worth : Values) → IsFaultAt (T.two_rules T.r_of_g T.maybe_int_then_g) worth Recursion 8 }
     ensures to_text { (worth : Values) → IsFaultAt T.to_text worth BadRange 7 }
     ensures to_parameter { (worth : Values) → IsFaultAt T.to_parameter worth BadRange 22 }

@@ -12,7 +12,7 @@ ghost use Rattle.cbor_data.specs.Value.{Value};
 ghost use Rattle.cddl_meaning.specs.Forms.{Choice, Language, any_number_of, at_most, exactly};
 ghost use Rattle.cddl_meaning.specs.Judges.{Answer, Says};
 ghost use Rattle.cddl_language.specs.Choices.{chosen, chosen_by_name};
-ghost use Rattle.cddl_language.specs.Language.{Saying, language, type, type_named, type_node};
+ghost use Rattle.cddl_language.specs.Language.{Saying, language, type, reference, type_node};
 ghost use Rattle.cddl_language.specs.StandsFor.{StandsFor};
 ghost use Rattle.cddl_ranks.specs.Ranked.{Name};
 ghost use Rattle.cddl_literal.specs.Numbers.{IsUint, number_after};
@@ -61,8 +61,8 @@ pub fn accepted_has_no_cycle()
 
 /// A table that stands for a specification says of each item what the root says, at the same place and in as many judgements.
 pub fn tables_say_the_same()
-    ensures says { (worth : Values) (ds : List Definition) (root : Text) (l : Language ℕ ℕ) (top : ℕ) (rank : Name ℕ ℕ → ℕ) (ranks : ℕ) → StandsFor worth ds root l top rank ranks → (p w : ℕ) (x : Value) (a : Answer) → Says (language worth ds) (type_node worth ds (type_named ds (call root no_terms))) p x a w → Says l (l.type_at top) p x a w }
-    ensures no_more { (worth : Values) (ds : List Definition) (root : Text) (l : Language ℕ ℕ) (top : ℕ) (rank : Name ℕ ℕ → ℕ) (ranks : ℕ) → StandsFor worth ds root l top rank ranks → (p w : ℕ) (x : Value) (a : Answer) → Says l (l.type_at top) p x a w → Says (language worth ds) (type_node worth ds (type_named ds (call root no_terms))) p x a w }
+    ensures says { (worth : Values) (ds : List Definition) (root : Text) (l : Language ℕ ℕ) (top : ℕ) (rank : Name ℕ ℕ → ℕ) (ranks : ℕ) → StandsFor worth ds root l top rank ranks → (p w : ℕ) (x : Value) (a : Answer) → Says (language worth ds) (type_node worth ds (reference (call root no_terms))) p x a w → Says l (l.type_at top) p x a w }
+    ensures no_more { (worth : Values) (ds : List Definition) (root : Text) (l : Language ℕ ℕ) (top : ℕ) (rank : Name ℕ ℕ → ℕ) (ranks : ℕ) → StandsFor worth ds root l top rank ranks → (p w : ℕ) (x : Value) (a : Answer) → Says l (l.type_at top) p x a w → Says (language worth ds) (type_node worth ds (reference (call root no_terms))) p x a w }
 {}
 
 /// The values that are written in a specification have a table that is right, and right tables agree on them.

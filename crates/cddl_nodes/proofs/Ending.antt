@@ -4,7 +4,7 @@ use Rattle.std.specs.Prelude.{Contains}
 use Rattle.std.proofs.lemmas.Bool.{cases_lt}
 use Rattle.std.proofs.lemmas.Option.{slice_get_within, slice_get-get_or}
 use Rattle.cddl_meaning.specs.Alike.{AlikeAll, none, both, AlikeTypes, AlikeGroups}
-use Rattle.cddl_language.specs.Language.{GroupName, TypeName, type, chosen_of, first_of, each_of, entry, round, group_form, type_named, type_node}
+use Rattle.cddl_language.specs.Language.{GroupName, TypeName, type, chosen_of, first_of, each_of, entry, round, group_form, reference, type_node}
 use Rattle.cddl_language.specs.StandsFor as Stands
 use Rattle.cddl_language.specs.StandsFor.{HasNode}
 use Rattle.cddl_language.specs.Substitution.{group_choices}
@@ -122,15 +122,15 @@ module _ (s : Sense) (t : Table) (terms : (n : ℕ) (a b : Term) → IsTerm t n 
   one_group (Some n) a b (alternatives_of g h) (alternatives_of g' h') = ap alternatives (groups n g g' h h')
 
   one_type_name : (n m : TypeName) (o : TypeOrigin) → IsTypeOrigin s t n o → IsTypeOrigin s t m o → n ≡ m
-  one_type_name n m (O.Row k) (of_row {x = x} h r) (of_row {x = y} g q) = ap type (terms k x y h g)
-  one_type_name n m (O.Instance k) (of_instance {r = x} e) (of_instance {r = y} f) = ap (type_named s.definitions) (same_one (slice_get s.refs k) x y e f)
-  one_type_name n m (O.Chosen o) (of_chosen {ess = x} h r) (of_chosen {ess = y} g q) = ap chosen_of (one_group o x y h g)
+  one_type_name n m (O.Row k) (of_row {x = x} h r w) (of_row {x = y} g q z) = ap type (terms k x y h g)
+  one_type_name n m (O.Instance k) (of_instance {r = x} e w) (of_instance {r = y} f z) = ap reference (same_one (slice_get s.refs k) x y e f)
+  one_type_name n m (O.Chosen o) (of_chosen {ess = x} h r w) (of_chosen {ess = y} g q z) = ap chosen_of (one_group o x y h g)
 
   one_group_name : (n m : GroupName) (o : GroupOrigin) → IsGroupOrigin s t n o → IsGroupOrigin s t m o → n ≡ m
-  one_group_name n m (G.Alternatives o) (of_alternatives {ess = x} h r) (of_alternatives {ess = y} g q) = ap first_of (one_group o x y h g)
-  one_group_name n m (G.Sequence k) (of_sequence {es = x} h r) (of_sequence {es = y} g q) = ap each_of (lists k x y h g)
-  one_group_name n m (G.Entry k) (of_entry {e = x} h r) (of_entry {e = y} g q) = ap entry (entries k x y h g)
-  one_group_name n m (G.Round k) (of_round {e = x} h r) (of_round {e = y} g q) = ap round (entries k x y h g)
+  one_group_name n m (G.Alternatives o) (of_alternatives {ess = x} h r w) (of_alternatives {ess = y} g q z) = ap first_of (one_group o x y h g)
+  one_group_name n m (G.Sequence k) (of_sequence {es = x} h r w) (of_sequence {es = y} g q z) = ap each_of (lists k x y h g)
+  one_group_name n m (G.Entry k) (of_entry {e = x} h r w) (of_entry {e = y} g q z) = ap entry (entries k x y h g)
+  one_group_name n m (G.Round k) (of_round {e = x} h r w) (of_round {e = y} g q z) = ap round (entries k x y h g)
 
   module _ (v : Nodes) (so : IsSearch s t (record { types = v.type_origins.items; groups = v.group_origins.items }) v.types.items v.groups.items) (no_type : (o : TypeOrigin) → slice_get v.type_origins.items (length v.types.items) ≡ Some o → ⊥) (no_group : (o : GroupOrigin) → slice_get v.group_origins.items (length v.groups.items) ≡ Some o → ⊥) where
     abbrev keys : Keys
@@ -209,27 +209,29 @@ module _ (s : Sense) (t : Table) (terms : (n : ℕ) (a b : Term) → IsTerm t n 
         subst (λ o. AlikeGroups TypePair GroupPair (group_form s.worth s.definitions n) (group_or_none o)) (sym x.1) (groups_kept (HasTypeNumber s t keys) (HasGroupNumber s t keys) TypePair GroupPair type_numbered group_numbered (group_form s.worth s.definitions n) (group_or_none (Some x.0)) (so.groups_made m.number x.0 w.origin n x.1 w.there w.named))
 
     has_node : (r : Ref) → HasNumber s t keys r → HasNode s.definitions type_pairs group_pairs r
-    has_node r (of_type m e h) = Stands.of_type m e (type_numbered (type_named s.definitions r) m h)
+    has_node r (of_type m e h) = Stands.of_type m e (type_numbered (reference r) m h)
     has_node r (of_group m e h) = Stands.of_group m e (group_numbered (first_of (group_choices s.definitions r)) m h)
 
-    pub are_nodes : HasTypeNumber s t keys (type_named s.definitions (call s.root no_terms)) v.root → ((k : ℕ) (r : Ref) → slice_get s.refs k ≡ Some r → HasNumber s t keys r) → AreNodes s t v
+    pub are_nodes : HasTypeNumber s t keys (reference (call s.root no_terms)) v.root → ((k : ℕ) (r : Ref) → slice_get s.refs k ≡ Some r → HasNumber s t keys r) → AreNodes s t v
     are_nodes top all = record {
       type_names = type_pairs;
       group_names = group_pairs;
       type_count = types_long;
       group_count = groups_long;
+      types_named = so.named.types;
+      groups_named = so.named.groups;
       types_told = type_told;
       groups_told = group_told;
       types_found = type_found;
       groups_found = group_found;
       alike = record { types = type_alike; groups = group_alike };
-      root_node = type_numbered (type_named s.definitions (call s.root no_terms)) v.root top;
+      root_node = type_numbered (reference (call s.root no_terms)) v.root top;
       have_nodes = λ r h. (let k = place_in s.refs r h in has_node r (all k.0 r k.1));
     }
 
   -- the same of what a search ends with
-  pub finished : (v : Nodes) (w : Search) (top : TypeId) → v.root ≡ top → v.types.items ≡ w.types.items → v.groups.items ≡ w.groups.items → v.type_origins.items ≡ w.numbers.types.keys → v.group_origins.items ≡ w.numbers.groups.keys → HasSearch s t w → IsWhole w → HasTypeNumber s t (keys_in w) (type_named s.definitions (call s.root no_terms)) top → ((k : ℕ) (r : Ref) → slice_get s.refs k ≡ Some r → HasNumber s t (keys_in w) r) → AreNodes s t v
-  finished v w top e0 e1 e2 e3 e4 so whole is all = are_nodes v there (λ o h. whole.types o (subst (λ ns. slice_get w.numbers.types.keys (length ns) ≡ Some o) e1 (subst (λ os. slice_get os (length v.types.items) ≡ Some o) e3 h))) (λ o h. whole.groups o (subst (λ ns. slice_get w.numbers.groups.keys (length ns) ≡ Some o) e2 (subst (λ os. slice_get os (length v.groups.items) ≡ Some o) e4 h))) (subst (λ m. HasTypeNumber s t (record { types = v.type_origins.items; groups = v.group_origins.items }) (type_named s.definitions (call s.root no_terms)) m) (sym e0) (subst (λ ks. HasTypeNumber s t ks (type_named s.definitions (call s.root no_terms)) top) same is)) (λ k r e. subst (λ ks. HasNumber s t ks r) same (all k r e))
+  pub finished : (v : Nodes) (w : Search) (top : TypeId) → v.root ≡ top → v.types.items ≡ w.types.items → v.groups.items ≡ w.groups.items → v.type_origins.items ≡ w.numbers.types.keys → v.group_origins.items ≡ w.numbers.groups.keys → HasSearch s t w → IsWhole w → HasTypeNumber s t (keys_in w) (reference (call s.root no_terms)) top → ((k : ℕ) (r : Ref) → slice_get s.refs k ≡ Some r → HasNumber s t (keys_in w) r) → AreNodes s t v
+  finished v w top e0 e1 e2 e3 e4 so whole is all = are_nodes v there (λ o h. whole.types o (subst (λ ns. slice_get w.numbers.types.keys (length ns) ≡ Some o) e1 (subst (λ os. slice_get os (length v.types.items) ≡ Some o) e3 h))) (λ o h. whole.groups o (subst (λ ns. slice_get w.numbers.groups.keys (length ns) ≡ Some o) e2 (subst (λ os. slice_get os (length v.groups.items) ≡ Some o) e4 h))) (subst (λ m. HasTypeNumber s t (record { types = v.type_origins.items; groups = v.group_origins.items }) (reference (call s.root no_terms)) m) (sym e0) (subst (λ ks. HasTypeNumber s t ks (reference (call s.root no_terms)) top) same is)) (λ k r e. subst (λ ks. HasNumber s t ks r) same (all k r e))
     where
       same : keys_in w ≡ record { types = v.type_origins.items; groups = v.group_origins.items }
       same = λ i. record { types = sym e3 i; groups = sym e4 i }

@@ -1,15 +1,14 @@
 -- The forms of types and groups, by what the rows of terms are.
 use Rattle.std.proofs.Common.{◌≡◌, ℕ, Bool, true, false, if◌then◌else◌, List, [], ◌∷◌, ◌++◌, map, Some, None, Option, refl, sym, ap, subst, ◌∙◌, slice_get}
-use Rattle.std.specs.Prelude.{Contains, is_some}
+use Rattle.std.specs.Prelude.{is_some}
 use Rattle.cbor_data.specs.Value.{Value}
 use Rattle.cddl_literal.specs.Numbers.{Meaning}
 use Rattle.cddl_meaning.specs.Alike.{AlikeAll, none, both, AlikeTypes, plain, refs, choices as some_choices, tags, AlikeNumbers, any_numbers, same_number, AlikeGroups, entries as some_entries, group_refs, sequences, alternates, repeats}
 use Rattle.cddl_meaning.specs.Forms as F
 use Rattle.cddl_language.specs.Numbers as N
-use Rattle.cddl_language.specs.Terms.{Text, Term, Literal, literal, named, parens, map_of, array_of, unwrapped, choice_of, choice_of_name, tagged, tagged_by, simple_by, hash, range, control, or, Ref, Group, Entries, Entry, Key, typed, keyed, grouped, alternatives, choices, entry_list}
+use Rattle.cddl_language.specs.Terms.{Text, Term, Literal, literal, named, name_of, parens, map_of, array_of, unwrapped, choice_of, choice_of_name, tagged, tagged_by, simple_by, hash, range, control, or, Ref, Group, Entries, Entry, Key, typed, keyed, grouped, alternatives, entry_list}
 use Rattle.cddl_language.specs.Kinds as K
-use Rattle.cddl_language.specs.Kinds.{Opened, opens_group, opens_type, opened}
-use Rattle.cddl_language.specs.Reach.{points, group_points, entries_points, entry_points}
+use Rattle.cddl_language.specs.Kinds.{Opened, opens_group, opens_type, opened, is_group}
 use Rattle.cddl_language.specs.Choices.{chosen, chosen_in}
 use Rattle.cddl_language.specs.Reach.{most_instances}
 use Rattle.cddl_language.specs.Substitution.{group_choices}
@@ -25,8 +24,8 @@ use Rattle.cddl_openings.specs.declared.openings.Opening.{Opening}
 use Rattle.cddl_openings.specs.declared.openings.Part.TheVariants as PartV
 use Rattle.cddl_literals.specs.Literals.{IsWritten, no_value, value_of}
 use Rattle.cddl_nodes.specs.Basis.{Sense}
-use Rattle.cddl_nodes.specs.Lookups.{between_view, is_flagged, opened_view}
-use Rattle.cddl_nodes.specs.Origins.{IsReached, all_points, IsTypeOrigin, of_row, of_instance, of_chosen, IsGroupOrigin, of_alternatives, of_sequence, of_entry, of_round, IsAsked, asks_type, asks_named, asks_opened}
+use Rattle.cddl_nodes.specs.Lookups.{between_view, is_flagged, is_over, opened_view}
+use Rattle.cddl_nodes.specs.Origins.{AreKnown, AreKnownEntries, IsKnown, IsKnownEntry, IsKnownGroup, IsTypeOrigin, of_row, of_instance, of_chosen, IsGroupOrigin, of_alternatives, of_sequence, of_entry, of_round, IsAsked, asks_type, asks_named, asks_opened}
 use Rattle.cddl_nodes.specs.Shapes.{IsShape, a_literal, a_name, in_parens, an_array, an_unwrapping, a_choice_of, a_choice_of_name, a_tag, a_tag_by, a_simple, a_hash, a_range, a_range_below, a_choice, a_map, a_control, IsEntryShape, a_typed, a_keyed, a_group}
 use Rattle.cddl_nodes.specs.declared.asked.Asked.TheVariants as A
 use Rattle.cddl_nodes.specs.declared.origin.GroupOrigin.{GroupOrigin}
@@ -36,7 +35,7 @@ use Rattle.cddl_nodes.specs.declared.origin.TypeOrigin.TheVariants as O
 use Rattle.cddl_nodes.specs.declared.shape.EntryShape.TheVariants as E
 use Rattle.cddl_nodes.specs.declared.shape.Shape.TheVariants as S
 use Rattle.cddl_nodes.proofs.Listing.{alike_pushed, flat, flat_map_one, IsWalk, walk_ended, walk_on}
-use Rattle.cddl_nodes.proofs.Reaching.{reached_left, reached_right, group_reached, head_in, tail_in, EachReached, no_entry, and_entry, each_reached}
+use Rattle.cddl_nodes.proofs.Knowing.{EachEntry, EachType, and_entry, and_type, each_entry, first_known, group_known, no_entry, no_type, rest_known}
 
 -- What holds of each term of a shape.
 module _ (t : Table) (P : Term → Type 0) where
@@ -110,8 +109,22 @@ placed qs r place p = subst (λ k. slice_get qs k ≡ Some r) (one p.0 p.1) p.2
 pub unwritten : (worth : Values) (t : Table) (o : Option Meaning) → IsWritten worth t o None → None ≡ whole o
 unwritten worth t o no_value = refl
 
-pub written : (worth : Values) (t : Table) (o : Option Meaning) (n : ℕ) (w : Option Value) → IsWritten worth t o (Some n) → ((v : Literal) → IsTerm t n (literal v) → w ≡ whole (Some (worth v))) → w ≡ whole o
-written worth t o n w (value_of {v = v} h) f = f v h
+value_there : (worth : Values) (t : Table) (o : Option Meaning) (n : ℕ) → IsWritten worth t o (Some n) → (v : Literal) × IsTerm t n (literal v) × (o ≡ Some (worth v))
+value_there worth t o n (value_of {v = v} h) = (v, h, refl)
+
+-- A type that is the written value of one row, whatever values stand for, is that value.
+module _ (worth : Values) (t : Table) (n : ℕ) (value : Values → Option Meaning) (one : (a b : Term) → IsTerm t n a → IsTerm t n b → a ≡ b) (is : (w : Values) → IsWritten w t (value w) (Some n)) where
+  same_value : (a b : Literal) → IsTerm t n (literal a) → IsTerm t n (literal b) → a ≡ b
+  same_value a b h g = literals a b (one (literal a) (literal b) h g)
+    where
+      literals : (a b : Literal) → literal a ≡ literal b → a ≡ b
+      literals a b e = cc
+
+  pub written : (w : Option Value) → ((v : Literal) → ((u : Values) → value u ≡ Some (u v)) → Means v (worth v)) → ((v : Literal) → Means v (worth v) → IsTerm t n (literal v) → w ≡ whole (Some (worth v))) → w ≡ whole (value worth)
+  written w law f =
+      let here = value_there worth t (value worth) n (is worth) in
+      let so = λ (u : Values). (let there = value_there u t (value u) n (is u) in there.2 ∙ ap (λ v. Some (u v)) (same_value there.0 here.0 there.1 here.1)) in
+      f here.0 (law here.0 so) here.1 ∙ sym (ap whole here.2)
 
 -- What entries ask.
 
@@ -119,25 +132,25 @@ module _ (s : Sense) (t : Table) where
   pub type_asked : (p : K.Part) → IsPart t s.refs p PartV.AsksType → IsAsked s t p A.Type
   type_asked p a_type = asks_type
 
-  pub name_asked : (p : K.Part) (place : ℕ) (o : Option ℕ) → IsPart t s.refs p (PartV.NamesGroup place) → ((r : Ref) → slice_get s.refs place ≡ Some r → AreAlternatives t (group_choices s.definitions r) o × IsReached s (all_points (group_choices s.definitions r))) → IsAsked s t p (A.Group o)
+  pub name_asked : (p : K.Part) (place : ℕ) (o : Option ℕ) → IsPart t s.refs p (PartV.NamesGroup place) → ((r : Ref) → slice_get s.refs place ≡ Some r → AreAlternatives t (group_choices s.definitions r) o × AreKnown s (group_choices s.definitions r)) → IsAsked s t p (A.Group o)
   name_asked p place o (part_group {r = r} e) f = asks_named (f r e).0 (f r e).1
 
-  pub opening_asked : (p : K.Part) (place n : ℕ) → IsPart t s.refs p (PartV.Opens place n) → ((r : Ref) (g : Group) → p ≡ K.opens r g → IsReached s (group_points g)) → IsAsked s t p (A.Group (Some n))
-  opening_asked p place n (an_opened_group {r = r} {g = g} e h) f = asks_opened (alternatives_of g h) (group_reached s g (f r g refl))
+  pub opening_asked : (p : K.Part) (place n : ℕ) → IsPart t s.refs p (PartV.Opens place n) → ((r : Ref) (g : Group) → p ≡ K.opens r g → IsKnownGroup s g) → IsAsked s t p (A.Group (Some n))
+  opening_asked p place n (an_opened_group {r = r} {g = g} e h) f = asks_opened (alternatives_of g h) (group_known s g (f r g refl))
 
-  pub chosen_type : (x : Term) (p : K.Part) (row : ℕ) → IsAsked s t p A.Type → IsTerm t row x → IsReached s (points x) → IsTypeOrigin s t (L.chosen_part_name s.worth s.definitions x p) (O.Row row)
-  chosen_type x p row asks_type h re = of_row h re
+  pub chosen_type : (x : Term) (p : K.Part) (row : ℕ) → IsAsked s t p A.Type → IsTerm t row x → IsKnown s x → IsTypeOrigin s t (L.chosen_part_name s.worth s.definitions x p) (O.Row row)
+  chosen_type x p row asks_type h re = of_row h re.0 re.1
 
   pub chosen_group : (x : Term) (p : K.Part) (o : Option ℕ) → IsAsked s t p (A.Group o) → IsTypeOrigin s t (L.chosen_part_name s.worth s.definitions x p) (O.Chosen o)
-  chosen_group x p o (asks_named a re) = of_chosen a re
-  chosen_group x p o (asks_opened a re) = of_chosen a re
+  chosen_group x p o (asks_named a re) = of_chosen a re.0 re.1
+  chosen_group x p o (asks_opened a re) = of_chosen a re.0 re.1
 
-  pub type_part : (x : Term) (p : K.Part) (row : ℕ) → IsAsked s t p A.Type → IsTerm t row x → IsReached s (points x) → AlikeGroups (IsTypeOrigin s t) (IsGroupOrigin s t) (L.part_form s.worth s.definitions x p) (F.Entry (O.Row row))
-  type_part x p row asks_type h re = some_entries (of_row h re)
+  pub type_part : (x : Term) (p : K.Part) (row : ℕ) → IsAsked s t p A.Type → IsTerm t row x → IsKnown s x → AlikeGroups (IsTypeOrigin s t) (IsGroupOrigin s t) (L.part_form s.worth s.definitions x p) (F.Entry (O.Row row))
+  type_part x p row asks_type h re = some_entries (of_row h re.0 re.1)
 
   pub group_part : (x : Term) (p : K.Part) (o : Option ℕ) → IsAsked s t p (A.Group o) → AlikeGroups (IsTypeOrigin s t) (IsGroupOrigin s t) (L.part_form s.worth s.definitions x p) (F.GroupRef (GO.Alternatives o))
-  group_part x p o (asks_named a re) = group_refs (of_alternatives a re)
-  group_part x p o (asks_opened a re) = group_refs (of_alternatives a re)
+  group_part x p o (asks_named a re) = group_refs (of_alternatives a re.0 re.1)
+  group_part x p o (asks_opened a re) = group_refs (of_alternatives a re.0 re.1)
 
   -- Types.
 
@@ -146,6 +159,12 @@ module _ (s : Sense) (t : Table) where
 
   pub nothing_form : (f : F.Node TypeOrigin GroupOrigin) → f ≡ F.Choice [] → Forms L.nothing f
   nothing_form f e = subst (Forms L.nothing) (sym e) (some_choices none)
+
+  pub group_name_formed : (r : Ref) (f : F.Node TypeOrigin GroupOrigin) → is_group s.definitions (name_of r) ≡ true → f ≡ F.Choice [] → Forms (L.term_node s.worth s.definitions (named r)) f
+  group_name_formed r f h e = subst (λ b. Forms (if b then L.nothing else F.Ref (L.reference r)) f) (sym h) (nothing_form f e)
+
+  pub type_name_formed : (r : Ref) (place : ℕ) → is_group s.definitions (name_of r) ≡ false → slice_get s.refs place ≡ Some r → Forms (L.term_node s.worth s.definitions (named r)) (F.Ref (O.Instance place))
+  type_name_formed r place h e = subst (λ b. Forms (if b then L.nothing else F.Ref (L.reference r)) (F.Ref (O.Instance place))) (sym h) (refs (of_instance e h))
 
   pub range_formed : (closed : Bool) (o p o' p' : Option Value) (f : F.Node TypeOrigin GroupOrigin) → f ≡ between_view closed o p → o ≡ o' → p ≡ p' → Forms (L.between closed o' p') f
   range_formed closed o p o' p' f e g h = subst (λ m. Forms m f) (ap (λ q. L.between closed q p) g ∙ ap (λ q. L.between closed o' q) h) (subst (Forms (L.between closed o p)) (sym e) (by o p))
@@ -156,13 +175,13 @@ module _ (s : Sense) (t : Table) where
       by None (Some b) = some_choices none
       by None None = some_choices none
 
-  pub opened_formed : (o : Option Opened) (p : Opening) (f : F.Node TypeOrigin GroupOrigin) → f ≡ opened_view p → IsOpened t o p → ((x : Term) → o ≡ Some (opens_type x) → IsReached s (points x)) → Forms (L.content o) f
+  pub opened_formed : (o : Option Opened) (p : Opening) (f : F.Node TypeOrigin GroupOrigin) → f ≡ opened_view p → IsOpened t o p → ((x : Term) → o ≡ Some (opens_type x) → IsKnown s x) → Forms (L.content o) f
   opened_formed o p f e h g = subst (Forms (L.content o)) (sym e) (by o p h g)
     where
-      by : (o : Option Opened) (p : Opening) → IsOpened t o p → ((x : Term) → o ≡ Some (opens_type x) → IsReached s (points x)) → Forms (L.content o) (opened_view p)
+      by : (o : Option Opened) (p : Opening) → IsOpened t o p → ((x : Term) → o ≡ Some (opens_type x) → IsKnown s x) → Forms (L.content o) (opened_view p)
       by o p nothing g = some_choices none
       by o p (group_opened h) g = some_choices none
-      by o p (type_opened {x = x} h) g = refs (of_row h (g x refl))
+      by o p (type_opened {x = x} h) g = refs (of_row h (g x refl).0 (g x refl).1)
 
   pub chosen_so : (o : Option (List Term)) (ns : List TypeName) (f : F.Node TypeOrigin GroupOrigin) → is_some o ≡ true → Forms (F.Choice ns) f → Forms (L.choice o ns) f
   chosen_so (Some ts) ns f e h = h
@@ -182,53 +201,21 @@ module _ (s : Sense) (t : Table) where
   tags_alike [] = any_numbers
   tags_alike (b ∷ bs) = same_number
 
-  pub tag_formed : (n : Text) (x : Term) (k : ℕ) (f : F.TagNumber TypeOrigin) → f ≡ N.tag_number n {N = TypeOrigin} → IsTerm t k x → IsReached s (points x) → Forms (F.TagOf (N.tag_number n) (type x)) (F.TagOf f (O.Row k))
-  tag_formed n x k f e h re = tags (subst (AlikeNumbers (IsTypeOrigin s t) (N.tag_number n)) (sym e) (tags_alike (N.after 46 n))) (of_row h re)
+  pub tag_formed : (n : Text) (x : Term) (k : ℕ) (f : F.TagNumber TypeOrigin) → f ≡ N.tag_number n {N = TypeOrigin} → IsTerm t k x → IsKnown s x → Forms (F.TagOf (N.tag_number n) (type x)) (F.TagOf f (O.Row k))
+  tag_formed n x k f e h re = tags (subst (AlikeNumbers (IsTypeOrigin s t) (N.tag_number n)) (sym e) (tags_alike (N.after 46 n))) (of_row h re.0 re.1)
 
   pub plain_formed : (a b : F.Test) → b ≡ a → Forms (F.Plain a) (F.Plain b)
   plain_formed a b e = subst (λ c. Forms (F.Plain a) (F.Plain c)) (sym e) plain
 
   -- Lists of types.
 
-  pub data EachType : List Term → Type 0 where
-    no_type : EachType []
-    and_type : {x : Term} {xs : List Term} → IsReached s (points x) → EachType xs → EachType (x ∷ xs)
-
-  types_appended : (xs ys : List Term) → EachType xs → EachType ys → EachType (xs ++ ys)
-  types_appended [] ys f g = g
-  types_appended (x ∷ xs) ys (and_type h f) g = and_type h (types_appended xs ys f g)
-
-  one_type : (x : Term) → IsReached s (points x) → EachType (x ∷ [])
-  one_type x re = and_type re no_type
-
-  pub each_choice : (x : Term) → IsReached s (points x) → EachType (choices x)
-  each_choice (or y z) re = types_appended (choices y) (z ∷ []) (each_choice y (reached_left s (points y) (points z) re)) (one_type z (reached_right s (points y) (points z) re))
-  each_choice (literal v) re = one_type (literal v) re
-  each_choice (named r) re = one_type (named r) re
-  each_choice (parens y) re = one_type (parens y) re
-  each_choice (map_of g) re = one_type (map_of g) re
-  each_choice (array_of g) re = one_type (array_of g) re
-  each_choice (unwrapped r) re = one_type (unwrapped r) re
-  each_choice (choice_of g) re = one_type (choice_of g) re
-  each_choice (choice_of_name r) re = one_type (choice_of_name r) re
-  each_choice (tagged n y) re = one_type (tagged n y) re
-  each_choice (tagged_by y z) re = one_type (tagged_by y z) re
-  each_choice (simple_by y) re = one_type (simple_by y) re
-  each_choice (hash n) re = one_type (hash n) re
-  each_choice (range y c z) re = one_type (range y c z) re
-  each_choice (control y n z) re = one_type (control y n z) re
-
-  pub each_contained : (xs : List Term) → ((x : Term) → Contains xs x → IsReached s (points x)) → EachType xs
-  each_contained [] f = no_type
-  each_contained (x ∷ xs) f = and_type (f x (head_in x xs)) (each_contained xs (λ y h. f y (tail_in x xs y h)))
-
-  rows_alike : (xs : List Term) (ns : List ℕ) → EachType xs → AlikeAll (TermRow t) xs ns → AlikeAll (IsTypeOrigin s t) (map type xs) (map (λ (n : ℕ). O.Row n) ns)
+  rows_alike : (xs : List Term) (ns : List ℕ) → EachType s xs → AlikeAll (TermRow t) xs ns → AlikeAll (IsTypeOrigin s t) (map type xs) (map (λ (n : ℕ). O.Row n) ns)
   rows_alike [] [] no_type none = none
   rows_alike [] (n ∷ ns) re h = elim h [ ]
   rows_alike (x ∷ xs) [] re h = elim h [ ]
-  rows_alike (x ∷ xs) (n ∷ ns) (and_type r re) (both h hs) = both (of_row h r) (rows_alike xs ns re hs)
+  rows_alike (x ∷ xs) (n ∷ ns) (and_type r re) (both h hs) = both (of_row h r.0 r.1) (rows_alike xs ns re hs)
 
-  pub choice_formed : (xs : List Term) (ns : List ℕ) (os : List TypeOrigin) → EachType xs → AlikeAll (TermRow t) xs ns → os ≡ map (λ (n : ℕ). O.Row n) ns → Forms (F.Choice (map type xs)) (F.Choice os)
+  pub choice_formed : (xs : List Term) (ns : List ℕ) (os : List TypeOrigin) → EachType s xs → AlikeAll (TermRow t) xs ns → os ≡ map (λ (n : ℕ). O.Row n) ns → Forms (F.Choice (map type xs)) (F.Choice os)
   choice_formed xs ns os re h e = subst (λ us. Forms (F.Choice (map type xs)) (F.Choice us)) (sym e) (some_choices (rows_alike xs ns re h))
 
   -- Groups.
@@ -236,29 +223,44 @@ module _ (s : Sense) (t : Table) where
   abbrev Groups : F.Group TypeName GroupName → F.Group TypeOrigin GroupOrigin → Type 0
   Groups m f = AlikeGroups (IsTypeOrigin s t) (IsGroupOrigin s t) m f
 
-  sequences_alike : (ess : List Entries) (ns : List ℕ) → IsReached s (all_points ess) → AlikeAll (EntriesRow t) ess ns → AlikeAll (IsGroupOrigin s t) (map each_of ess) (map (λ (n : ℕ). GO.Sequence n) ns)
+  sequences_alike : (ess : List Entries) (ns : List ℕ) → AreKnown s ess → AlikeAll (EntriesRow t) ess ns → AlikeAll (IsGroupOrigin s t) (map each_of ess) (map (λ (n : ℕ). GO.Sequence n) ns)
   sequences_alike [] [] re none = none
   sequences_alike [] (n ∷ ns) re h = elim h [ ]
   sequences_alike (es ∷ ess) [] re h = elim h [ ]
-  sequences_alike (es ∷ ess) (n ∷ ns) re (both h hs) = both (of_sequence h (reached_left s (entries_points es) (all_points ess) re)) (sequences_alike ess ns (reached_right s (entries_points es) (all_points ess) re) hs)
+  sequences_alike (es ∷ ess) (n ∷ ns) re (both h hs) = both (of_sequence h (first_known s es ess re).0 (first_known s es ess re).1) (sequences_alike ess ns (rest_known s es ess re) hs)
 
-  pub alternatives_formed : (ess : List Entries) (ns : List ℕ) (os : List GroupOrigin) → IsReached s (all_points ess) → AlikeAll (EntriesRow t) ess ns → os ≡ map (λ (n : ℕ). GO.Sequence n) ns → Groups (F.Alternatives (map each_of ess)) (F.Alternatives os)
+  pub alternatives_formed : (ess : List Entries) (ns : List ℕ) (os : List GroupOrigin) → AreKnown s ess → AlikeAll (EntriesRow t) ess ns → os ≡ map (λ (n : ℕ). GO.Sequence n) ns → Groups (F.Alternatives (map each_of ess)) (F.Alternatives os)
   alternatives_formed ess ns os re h e = subst (λ us. Groups (F.Alternatives (map each_of ess)) (F.Alternatives us)) (sym e) (alternates (sequences_alike ess ns re h))
 
-  entries_alike : (es : List Entry) (ns : List ℕ) → EachReached s es → AlikeAll (EntryRow t) es ns → AlikeAll (IsGroupOrigin s t) (map entry es) (map (λ (n : ℕ). GO.Entry n) ns)
+  entries_alike : (es : List Entry) (ns : List ℕ) → EachEntry s es → AlikeAll (EntryRow t) es ns → AlikeAll (IsGroupOrigin s t) (map entry es) (map (λ (n : ℕ). GO.Entry n) ns)
   entries_alike [] [] no_entry none = none
   entries_alike [] (n ∷ ns) re h = elim h [ ]
   entries_alike (e ∷ es) [] re h = elim h [ ]
-  entries_alike (e ∷ es) (n ∷ ns) (and_entry r re) (both h hs) = both (of_entry h r) (entries_alike es ns re hs)
+  entries_alike (e ∷ es) (n ∷ ns) (and_entry r re) (both h hs) = both (of_entry h r.0 r.1) (entries_alike es ns re hs)
 
-  pub entries_formed : (es : List Entry) (ns : List ℕ) (os : List GroupOrigin) → EachReached s es → AlikeAll (EntryRow t) es ns → os ≡ map (λ (n : ℕ). GO.Entry n) ns → Groups (F.Sequence (map entry es)) (F.Sequence os)
+  pub entries_formed : (es : List Entry) (ns : List ℕ) (os : List GroupOrigin) → EachEntry s es → AlikeAll (EntryRow t) es ns → os ≡ map (λ (n : ℕ). GO.Entry n) ns → Groups (F.Sequence (map entry es)) (F.Sequence os)
   entries_formed es ns os re h e = subst (λ us. Groups (F.Sequence (map entry es)) (F.Sequence us)) (sym e) (sequences (entries_alike es ns re h))
 
   pub once_formed : (e : Entry) (o : Option Text) (f : F.Group TypeOrigin GroupOrigin) → N.occurs_once o ≡ true → Groups (L.round_form s.worth s.definitions e) f → Groups (L.entry_form s.worth s.definitions e o) f
-  once_formed e o f h g = subst (λ b. Groups (if b then L.round_form s.worth s.definitions e else F.Repeat (N.least_of o) (N.most_of o) (round e)) f) (sym h) g
+  once_formed e o f h g = subst (λ b. Groups (if b then L.round_form s.worth s.definitions e else L.rounds_form s.worth s.definitions e (N.least_of o) (N.most_of o)) f) (sym h) g
 
-  pub often_formed : (e : Entry) (o : Option Text) (row least : ℕ) (most : F.Most) → N.occurs_once o ≡ false → IsEntry t row e → IsReached s (entry_points e) → least ≡ N.least_of o → most ≡ N.most_of o → Groups (L.entry_form s.worth s.definitions e o) (F.Repeat least most (GO.Round row))
-  often_formed e o row least most h is re f g = subst (λ b. Groups (if b then L.round_form s.worth s.definitions e else F.Repeat (N.least_of o) (N.most_of o) (round e)) (F.Repeat least most (GO.Round row))) (sym h) (subst (λ k. Groups (F.Repeat (N.least_of o) (N.most_of o) (round e)) (F.Repeat k most (GO.Round row))) (sym f) (subst (λ k. Groups (F.Repeat (N.least_of o) (N.most_of o) (round e)) (F.Repeat (N.least_of o) k (GO.Round row))) (sym g) (repeats (of_round is re))))
+  -- rounds, by the two numbers of times
+  rounds_formed : (e : Entry) (o : Option Text) (least : ℕ) (most : F.Most) (f : F.Group TypeOrigin GroupOrigin) → N.occurs_once o ≡ false → least ≡ N.least_of o → most ≡ N.most_of o → Groups (L.rounds_form s.worth s.definitions e least most) f → Groups (L.entry_form s.worth s.definitions e o) f
+  rounds_formed e o least most f h p q g = subst (λ b. Groups (if b then L.round_form s.worth s.definitions e else L.rounds_form s.worth s.definitions e (N.least_of o) (N.most_of o)) f) (sym h) (subst (λ k. Groups (L.rounds_form s.worth s.definitions e k (N.most_of o)) f) p (subst (λ m. Groups (L.rounds_form s.worth s.definitions e least m) f) q g))
+
+  pub often_formed : (e : Entry) (o : Option Text) (row least : ℕ) (most : F.Most) → N.occurs_once o ≡ false → is_over least most ≡ false → IsEntry t row e → IsKnownEntry s e → least ≡ N.least_of o → most ≡ N.most_of o → Groups (L.entry_form s.worth s.definitions e o) (F.Repeat least most (GO.Round row))
+  often_formed e o row least most h within is re p q = rounds_formed e o least most (F.Repeat least most (GO.Round row)) h p q (by most within)
+    where
+      by : (most : F.Most) → is_over least most ≡ false → Groups (L.rounds_form s.worth s.definitions e least most) (F.Repeat least most (GO.Round row))
+      by (F.at_most n) k = subst (λ b. Groups (if b then F.Alternatives [] else F.Repeat least (F.at_most n) (round e)) (F.Repeat least (F.at_most n) (GO.Round row))) (sym k) (repeats (of_round is re.0 re.1))
+      by F.any_number_of k = repeats (of_round is re.0 re.1)
+
+  pub never_formed : (e : Entry) (o : Option Text) (least : ℕ) (most : F.Most) (f : F.Group TypeOrigin GroupOrigin) → f ≡ F.Alternatives [] → N.occurs_once o ≡ false → is_over least most ≡ true → least ≡ N.least_of o → most ≡ N.most_of o → Groups (L.entry_form s.worth s.definitions e o) f
+  never_formed e o least most f same h over p q = rounds_formed e o least most f h p q (subst (Groups (L.rounds_form s.worth s.definitions e least most)) (sym same) (by most over))
+    where
+      by : (most : F.Most) → is_over least most ≡ true → Groups (L.rounds_form s.worth s.definitions e least most) (F.Alternatives [])
+      by (F.at_most n) k = subst (λ b. Groups (if b then F.Alternatives [] else F.Repeat least (F.at_most n) (round e)) (F.Alternatives [])) (sym k) (alternates none)
+      by F.any_number_of k = cc
 
 -- The text of an occurrence.
 
@@ -304,36 +306,36 @@ module _ (t : Table) where
 
 -- What holds of each name that is of such a number.
 module _ (s : Sense) (t : Table) (P : TypeName → Type 0) where
-  pub row_case : (n : TypeName) → (k : ℕ) → IsTypeOrigin s t n (O.Row k) → ((x : Term) → IsTerm t k x → IsReached s (points x) → P (type x)) → P n
-  row_case n k (of_row {x = x} h re) f = f x h re
+  pub row_case : (n : TypeName) → (k : ℕ) → IsTypeOrigin s t n (O.Row k) → ((x : Term) → IsTerm t k x → IsKnown s x → P (type x)) → P n
+  row_case n k (of_row {x = x} h re w) f = f x h (re, w)
 
-  pub instance_case : (n : TypeName) → (k : ℕ) → IsTypeOrigin s t n (O.Instance k) → ((r : Ref) → slice_get s.refs k ≡ Some r → P (L.type_named s.definitions r)) → P n
-  instance_case n k (of_instance {r = r} e) f = f r e
+  pub instance_case : (n : TypeName) → (k : ℕ) → IsTypeOrigin s t n (O.Instance k) → ((r : Ref) → slice_get s.refs k ≡ Some r → P (L.reference r)) → P n
+  instance_case n k (of_instance {r = r} e g) f = f r e
 
-  pub chosen_case : (n : TypeName) → (o : Option ℕ) → IsTypeOrigin s t n (O.Chosen o) → ((ess : List Entries) → AreAlternatives t ess o → IsReached s (all_points ess) → P (L.chosen_of ess)) → P n
-  chosen_case n o (of_chosen {ess = ess} h re) f = f ess h re
+  pub chosen_case : (n : TypeName) → (o : Option ℕ) → IsTypeOrigin s t n (O.Chosen o) → ((ess : List Entries) → AreAlternatives t ess o → AreKnown s ess → P (L.chosen_of ess)) → P n
+  chosen_case n o (of_chosen {ess = ess} h re w) f = f ess h (re, w)
 
 module _ (s : Sense) (t : Table) (P : GroupName → Type 0) where
-  pub alternatives_case : (n : GroupName) → (o : Option ℕ) → IsGroupOrigin s t n (GO.Alternatives o) → ((ess : List Entries) → AreAlternatives t ess o → IsReached s (all_points ess) → P (first_of ess)) → P n
-  alternatives_case n o (of_alternatives {ess = ess} h re) f = f ess h re
+  pub alternatives_case : (n : GroupName) → (o : Option ℕ) → IsGroupOrigin s t n (GO.Alternatives o) → ((ess : List Entries) → AreAlternatives t ess o → AreKnown s ess → P (first_of ess)) → P n
+  alternatives_case n o (of_alternatives {ess = ess} h re w) f = f ess h (re, w)
 
-  pub sequence_case : (n : GroupName) → (k : ℕ) → IsGroupOrigin s t n (GO.Sequence k) → ((es : Entries) → IsEntries t k es → IsReached s (entries_points es) → P (each_of es)) → P n
-  sequence_case n k (of_sequence {es = es} h re) f = f es h re
+  pub sequence_case : (n : GroupName) → (k : ℕ) → IsGroupOrigin s t n (GO.Sequence k) → ((es : Entries) → IsEntries t k es → AreKnownEntries s es → P (each_of es)) → P n
+  sequence_case n k (of_sequence {es = es} h re w) f = f es h (re, w)
 
-  pub entry_case : (n : GroupName) → (k : ℕ) → IsGroupOrigin s t n (GO.Entry k) → ((e : Entry) → IsEntry t k e → IsReached s (entry_points e) → P (entry e)) → P n
-  entry_case n k (of_entry {e = e} h re) f = f e h re
+  pub entry_case : (n : GroupName) → (k : ℕ) → IsGroupOrigin s t n (GO.Entry k) → ((e : Entry) → IsEntry t k e → IsKnownEntry s e → P (entry e)) → P n
+  entry_case n k (of_entry {e = e} h re w) f = f e h (re, w)
 
-  pub round_case : (n : GroupName) → (k : ℕ) → IsGroupOrigin s t n (GO.Round k) → ((e : Entry) → IsEntry t k e → IsReached s (entry_points e) → P (round e)) → P n
-  round_case n k (of_round {e = e} h re) f = f e h re
+  pub round_case : (n : GroupName) → (k : ℕ) → IsGroupOrigin s t n (GO.Round k) → ((e : Entry) → IsEntry t k e → IsKnownEntry s e → P (round e)) → P n
+  round_case n k (of_round {e = e} h re w) f = f e h (re, w)
 
 -- Walks over alternatives and over their entries.
 
 module _ (s : Sense) (t : Table) where
   abbrev pub EntryAt : Entry → ℕ → Type 0
-  EntryAt e k = IsEntry t k e × IsReached s (entry_points e)
+  EntryAt e k = IsEntry t k e × IsKnownEntry s e
 
   abbrev pub EntriesAt : Entries → ℕ → Type 0
-  EntriesAt es k = IsEntries t k es × IsReached s (entries_points es)
+  EntriesAt es k = IsEntries t k es × AreKnownEntries s es
 
   abbrev pub names_of_entry : Entry → List TypeName
   names_of_entry e = L.chosen_name s.worth s.definitions e ∷ []
@@ -347,32 +349,32 @@ module _ (s : Sense) (t : Table) where
   abbrev pub EntriesWalk : List TypeName → List ℕ → List TypeOrigin → Type 0
   EntriesWalk ns left out = IsWalk EntriesAt (IsTypeOrigin s t) names_of_entries ns left out
 
-  entries_at : (es : List Entry) (ns : List ℕ) → EachReached s es → AlikeAll (EntryRow t) es ns → AlikeAll EntryAt es ns
+  entries_at : (es : List Entry) (ns : List ℕ) → EachEntry s es → AlikeAll (EntryRow t) es ns → AlikeAll EntryAt es ns
   entries_at [] [] no_entry none = none
   entries_at [] (n ∷ ns) re h = elim h [ ]
   entries_at (e ∷ es) [] re h = elim h [ ]
   entries_at (e ∷ es) (n ∷ ns) (and_entry r re) (both h hs) = both (h, r) (entries_at es ns re hs)
 
-  pub entry_walk_begun : (es : Entries) (rows : List ℕ) (ns : List TypeName) (out : List TypeOrigin) → IsReached s (entries_points es) → AlikeAll (EntryRow t) (entry_list es) rows → AlikeAll (IsTypeOrigin s t) ns out → EntryWalk (ns ++ names_of_entries es) rows out
-  entry_walk_begun es rows ns out re h g = record { done = ns; rest = entry_list es; joins = ap (λ ms. ns ++ ms) (flat_map_one (λ e. L.chosen_name s.worth s.definitions e) (entry_list es)); made = g; further = entries_at (entry_list es) rows (each_reached s es re) h }
+  pub entry_walk_begun : (es : Entries) (rows : List ℕ) (ns : List TypeName) (out : List TypeOrigin) → AreKnownEntries s es → AlikeAll (EntryRow t) (entry_list es) rows → AlikeAll (IsTypeOrigin s t) ns out → EntryWalk (ns ++ names_of_entries es) rows out
+  entry_walk_begun es rows ns out re h g = record { done = ns; rest = entry_list es; joins = ap (λ ms. ns ++ ms) (flat_map_one (λ e. L.chosen_name s.worth s.definitions e) (entry_list es)); made = g; further = entries_at (entry_list es) rows (each_entry s es re) h }
 
-  lists_at : (ess : List Entries) (ns : List ℕ) → IsReached s (all_points ess) → AlikeAll (EntriesRow t) ess ns → AlikeAll EntriesAt ess ns
+  lists_at : (ess : List Entries) (ns : List ℕ) → AreKnown s ess → AlikeAll (EntriesRow t) ess ns → AlikeAll EntriesAt ess ns
   lists_at [] [] re none = none
   lists_at [] (n ∷ ns) re h = elim h [ ]
   lists_at (es ∷ ess) [] re h = elim h [ ]
-  lists_at (es ∷ ess) (n ∷ ns) re (both h hs) = both (h, reached_left s (entries_points es) (all_points ess) re) (lists_at ess ns (reached_right s (entries_points es) (all_points ess) re) hs)
+  lists_at (es ∷ ess) (n ∷ ns) re (both h hs) = both (h, first_known s es ess re) (lists_at ess ns (rest_known s es ess re) hs)
 
   names_joined : (ess : List Entries) → flat names_of_entries ess ≡ L.chosen_names s.worth s.definitions ess
   names_joined [] = refl
   names_joined (es ∷ ess) = ap (λ ms. names_of_entries es ++ ms) (names_joined ess)
 
-  pub entries_walk_begun : (ess : List Entries) (rows : List ℕ) (out : List TypeOrigin) → out ≡ [] → IsReached s (all_points ess) → AlikeAll (EntriesRow t) ess rows → EntriesWalk (L.chosen_names s.worth s.definitions ess) rows out
+  pub entries_walk_begun : (ess : List Entries) (rows : List ℕ) (out : List TypeOrigin) → out ≡ [] → AreKnown s ess → AlikeAll (EntriesRow t) ess rows → EntriesWalk (L.chosen_names s.worth s.definitions ess) rows out
   entries_walk_begun ess rows out e re h = record { done = []; rest = ess; joins = names_joined ess; made = subst (AlikeAll (IsTypeOrigin s t) []) (sym e) none; further = lists_at ess rows re h }
 
-  pub entry_walk_on : (ns : List TypeName) (left more : List ℕ) (row : ℕ) (out later : List TypeOrigin) (o : TypeOrigin) → left ≡ row ∷ more → later ≡ out ++ o ∷ [] → ((e : Entry) → IsEntry t row e → IsReached s (entry_points e) → IsTypeOrigin s t (L.chosen_name s.worth s.definitions e) o) → EntryWalk ns left out → EntryWalk ns more later
+  pub entry_walk_on : (ns : List TypeName) (left more : List ℕ) (row : ℕ) (out later : List TypeOrigin) (o : TypeOrigin) → left ≡ row ∷ more → later ≡ out ++ o ∷ [] → ((e : Entry) → IsEntry t row e → IsKnownEntry s e → IsTypeOrigin s t (L.chosen_name s.worth s.definitions e) o) → EntryWalk ns left out → EntryWalk ns more later
   entry_walk_on ns left more row out later o e f g w = walk_on EntryAt (IsTypeOrigin s t) names_of_entry (IsTypeOrigin s t) ns left more row out later e (λ y h ms a. subst (AlikeAll (IsTypeOrigin s t) (ms ++ names_of_entry y)) (sym f) (alike_pushed (IsTypeOrigin s t) ms out (L.chosen_name s.worth s.definitions y) o a (g y h.0 h.1))) w
 
-  pub entries_walk_on : (ns : List TypeName) (left more : List ℕ) (row : ℕ) (out later : List TypeOrigin) → left ≡ row ∷ more → ((es : Entries) → IsEntries t row es → IsReached s (entries_points es) → (ms : List TypeName) → AlikeAll (IsTypeOrigin s t) ms out → AlikeAll (IsTypeOrigin s t) (ms ++ names_of_entries es) later) → EntriesWalk ns left out → EntriesWalk ns more later
+  pub entries_walk_on : (ns : List TypeName) (left more : List ℕ) (row : ℕ) (out later : List TypeOrigin) → left ≡ row ∷ more → ((es : Entries) → IsEntries t row es → AreKnownEntries s es → (ms : List TypeName) → AlikeAll (IsTypeOrigin s t) ms out → AlikeAll (IsTypeOrigin s t) (ms ++ names_of_entries es) later) → EntriesWalk ns left out → EntriesWalk ns more later
   entries_walk_on ns left more row out later e g w = walk_on EntriesAt (IsTypeOrigin s t) names_of_entries (IsTypeOrigin s t) ns left more row out later e (λ y h ms a. g y h.0 h.1 ms a) w
 
   pub entry_walk_ended : (ns : List TypeName) (left : List ℕ) (out : List TypeOrigin) → left ≡ [] → EntryWalk ns left out → AlikeAll (IsTypeOrigin s t) ns out

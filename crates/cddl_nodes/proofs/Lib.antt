@@ -1,5 +1,6 @@
 pub mod Ending
 pub mod Forming
+pub mod Knowing
 pub mod Listing
 pub mod Numbering
 pub mod Reaching

@@ -3,8 +3,8 @@ use Rattle.std.proofs.Common.{◌≡◌, ℕ, zero, List, [], ◌∷◌, ◌++�
 use Rattle.std.specs.Prelude.{Contains}
 use Rattle.std.proofs.lemmas.List.Elements.{Contains-append_left, Contains-append_right, Contains-append_cases}
 use Rattle.std.proofs.lemmas.Option.{slice_get_within, get_or_from_slice_get}
-use Rattle.cddl_language.specs.Terms.{Ref, Group, sole, orelse, Entries, no_entries, entries, Entry, alternatives, entry_list}
-use Rattle.cddl_language.specs.Reach.{Point, Reaches, ref_at, group_points, entries_points, entry_points}
+use Rattle.cddl_language.specs.Terms.{Ref, Group, sole, orelse, Entries, alternatives}
+use Rattle.cddl_language.specs.Reach.{Point, Reaches, ref_at, group_points, entries_points}
 use Rattle.cddl_nodes.specs.Basis.{Sense}
 use Rattle.cddl_nodes.specs.Origins.{IsReached, all_points}
 
@@ -49,20 +49,6 @@ module _ (s : Sense) where
   pub group_reached : (g : Group) → IsReached s (group_points g) → IsReached s (all_points (alternatives g))
   group_reached (sole es) f = reached_both (entries_points es) [] f reached_none
   group_reached (orelse g es) f = all_appended (alternatives g) (es ∷ []) (group_reached g (reached_left (group_points g) (entries_points es) f)) (reached_both (entries_points es) [] (reached_right (group_points g) (entries_points es) f) reached_none)
-
-  -- so of each entry
-
-  pub data EachReached : List Entry → Type 0 where
-    no_entry : EachReached []
-    and_entry : {e : Entry} {es : List Entry} → IsReached s (entry_points e) → EachReached es → EachReached (e ∷ es)
-
-  each_appended : (es us : List Entry) → EachReached es → EachReached us → EachReached (es ++ us)
-  each_appended [] us f g = g
-  each_appended (e ∷ es) us (and_entry h f) g = and_entry h (each_appended es us f g)
-
-  pub each_reached : (es : Entries) → IsReached s (entries_points es) → EachReached (entry_list es)
-  each_reached no_entries f = no_entry
-  each_reached (entries es e c) f = each_appended (entry_list es) (e ∷ []) (each_reached es (reached_left (entries_points es) (entry_points e) f)) (and_entry (reached_right (entries_points es) (entry_points e) f) no_entry)
 
 pub instance_reached : (s : Sense) → ((r : Ref) → Contains s.refs r → Reaches s.definitions s.root r) → (k : ℕ) (r : Ref) → slice_get s.refs k ≡ Some r → Reaches s.definitions s.root r
 instance_reached s only k r e = only r (contains_at s.refs k r e)

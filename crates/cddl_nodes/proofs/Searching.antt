@@ -3,7 +3,7 @@ use Rattle.std.proofs.Common.{◌≡◌, ℕ, ◌<◌, ◌≤◌, ◌+◌, List,
 use Rattle.cddl_meaning.specs.Alike.{AlikeAll, none, both, AlikeTypes, plain, refs, choices, arrays, tags, simples, AlikeNumbers, any_numbers, same_number, heads, AlikeGroups, entries, group_refs, sequences, alternates, repeats}
 use Rattle.cddl_meaning.specs.Forms as F
 use Rattle.std.proofs.lemmas.Bool.{cases_lt}
-use Rattle.cddl_language.specs.Language.{GroupName, TypeName, first_of, group_form, type_named, type_node}
+use Rattle.cddl_language.specs.Language.{GroupName, TypeName, first_of, group_form, reference, type_node}
 use Rattle.cddl_language.specs.Substitution.{group_choices}
 use Rattle.cddl_language.specs.Terms.{Ref}
 use Rattle.cddl_terms.specs.Table.{Table}
@@ -112,7 +112,7 @@ module _ (s : Sense) (t : Table) where
   group_number_stays a b g n m h = record { origin = h.origin; there = g.groups m.number h.origin h.there; named = h.named }
 
   pub number_stays : (a b : Keys) → Extends a b → (r : Ref) → HasNumber s t a r → HasNumber s t b r
-  number_stays a b g r (of_type m e h) = of_type m e (type_number_stays a b g (type_named s.definitions r) m h)
+  number_stays a b g r (of_type m e h) = of_type m e (type_number_stays a b g (reference r) m h)
   number_stays a b g r (of_group m e h) = of_group m e (group_number_stays a b g (first_of (group_choices s.definitions r)) m h)
 
   pub numbers_on : (old new : Keys) (place : ℕ) → Extends old new → ((k : ℕ) (r : Ref) → k < place → slice_get s.refs k ≡ Some r → HasNumber s t old r) → ((r : Ref) → slice_get s.refs place ≡ Some r → HasNumber s t new r) → (k : ℕ) (r : Ref) → k < place + 1 → slice_get s.refs k ≡ Some r → HasNumber s t new r

@@ -1,9 +1,10 @@
 -- What the nodes of a specification are made from.
-use Rattle.std.specs.Prelude.{ℕ, Bool, List, Option}
-use Rattle.cddl_language.specs.Terms.{Text, Literal, literal, Ref, Definition}
-use Rattle.cddl_language.specs.Literals.{Means, Values}
+use Rattle.std.specs.Prelude.{◌≡◌, ℕ, Bool, List, Option}
+use Rattle.cddl_syntax.specs.Syntax.{Cddl}
+use Rattle.cddl_language.specs.Terms.{Text, Ref, Definition}
+use Rattle.cddl_language.specs.Reading.{definitions_in, rules_of}
+use Rattle.cddl_language.specs.Literals.{AreRight, Values}
 use Rattle.cddl_terms.specs.Table.{Table}
-use Rattle.cddl_terms.specs.Trees.{IsTerm}
 use Rattle.cddl_kinds.specs.declared.kinds.Kinds.{Kinds}
 use Rattle.cddl_kinds.specs.Kinds.{AreKinds}
 use Rattle.cddl_closed.specs.declared.closed.Closed.{Closed}
@@ -14,16 +15,13 @@ use Rattle.cddl_literals.specs.Literals.{AreLiterals}
 use Rattle.cddl_choosing.specs.Choosing.{AreChoosable}
 use Rattle.cddl_nodes.specs.declared.source.Source.{Source}
 
--- the definitions of a text, the root's name, the instances in order, and what written values stand for
+-- a text's tree and its definitions, the root's name, the instances in order, and what written values stand for
 pub record Sense : Type 0 where
   pub worth : Values
+  pub tree : Cddl
   pub definitions : List Definition
   pub root : Text
   pub refs : List Ref
-
--- each value in the table is taken for what it stands for
-abbrev pub AreRight : Table → Values → Type 0
-AreRight t worth = (n : ℕ) (v : Literal) → IsTerm t n (literal v) → Means v (worth v)
 
 pub record IsBasis (s : Sense) (t : Table) (c : Closed) (kinds : Kinds) (openings : List Opening) (literals : List (Option ℕ)) (flags : List Bool) : Type 0 where
   pub closed : IsClosed s.definitions s.root s.refs t c
@@ -31,7 +29,8 @@ pub record IsBasis (s : Sense) (t : Table) (c : Closed) (kinds : Kinds) (opening
   pub openings_are : AreOpenings s.definitions t s.refs openings
   pub literals_are : AreLiterals s.definitions t s.refs literals
   pub choosable : AreChoosable s.definitions s.root t flags
-  pub right : AreRight t s.worth
+  pub defined : s.definitions ≡ definitions_in (rules_of s.tree)
+  pub right : AreRight s.tree s.worth
 
 abbrev pub IsSource : Sense → Table → Source → Type 0
 IsSource s t src = IsBasis s t src.closed.now src.kinds.now src.openings.now src.literals.now src.choosable.now

@@ -1,5 +1,5 @@
 -- What is looked up, and what is made of it.
-use Rattle.std.specs.Prelude.{ℕ, Bool, true, false, [], Option, Some, None}
+use Rattle.std.specs.Prelude.{ℕ, ltb, Bool, true, false, [], Option, Some, None}
 use Rattle.cbor_data.specs.Value.{Value}
 use Rattle.cddl_meaning.specs.Forms as F
 use Rattle.cddl_terms.specs.declared.row.Row.{Row}
@@ -28,3 +28,8 @@ between_view closed _ _ = F.Choice []
 abbrev pub text_in : Option Row → Option ℕ
 text_in None = None
 text_in (Some r) = r.text
+
+-- the least number of times is over the greatest
+abbrev pub is_over : ℕ → F.Most → Bool
+is_over least (F.at_most n) = ltb n least
+is_over least F.any_number_of = false

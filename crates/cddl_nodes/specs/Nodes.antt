@@ -1,8 +1,8 @@
 -- The nodes of a table, alike to the language of closed terms.
-use Rattle.std.specs.Prelude.{◌≡◌, List, length, Contains, Some, slice_get}
+use Rattle.std.specs.Prelude.{◌≡◌, ℕ, List, length, Contains, Some, slice_get}
 use Rattle.cddl_meaning.specs.Alike.{AreAlike}
 use Rattle.cddl_language.specs.Terms.{Ref, call, no_terms}
-use Rattle.cddl_language.specs.Language.{GroupName, TypeName, language, type_named}
+use Rattle.cddl_language.specs.Language.{GroupName, TypeName, language, reference}
 use Rattle.cddl_language.specs.StandsFor.{HasNode}
 use Rattle.cddl_terms.specs.Table.{Table}
 use Rattle.cddl_table.specs.Nodes.{language_in}
@@ -32,10 +32,12 @@ module _ (s : Sense) (t : Table) (v : Nodes) where
     pub group_names : List (GroupName × GroupId)
     pub type_count : length v.types.items ≡ length v.type_origins.items
     pub group_count : length v.groups.items ≡ length v.group_origins.items
+    pub types_named : (i : ℕ) (o : TypeOrigin) → slice_get v.type_origins.items i ≡ Some o → (n : TypeName) × IsTypeOrigin s t n o
+    pub groups_named : (i : ℕ) (o : GroupOrigin) → slice_get v.group_origins.items i ≡ Some o → (n : GroupName) × IsGroupOrigin s t n o
     pub types_told : (n : TypeName) (m : TypeId) → Contains type_names (n, m) → IsNameOfType n m
     pub groups_told : (n : GroupName) (m : GroupId) → Contains group_names (n, m) → IsNameOfGroup n m
     pub types_found : (n : TypeName) (m : TypeId) → IsNameOfType n m → Contains type_names (n, m)
     pub groups_found : (n : GroupName) (m : GroupId) → IsNameOfGroup n m → Contains group_names (n, m)
     pub alike : AreAlike (language s.worth s.definitions) (language_in v.types.items v.groups.items) (λ (n : TypeName) (m : TypeId). Contains type_names (n, m)) (λ (n : GroupName) (m : GroupId). Contains group_names (n, m))
-    pub root_node : Contains type_names (type_named s.definitions (call s.root no_terms), v.root)
+    pub root_node : Contains type_names (reference (call s.root no_terms), v.root)
     pub have_nodes : (r : Ref) → Contains s.refs r → HasNode s.definitions type_names group_names r

@@ -1,15 +1,17 @@
 -- What the types and groups of the table are of.
-use Rattle.std.specs.Prelude.{◌≡◌, ℕ, List, [], ◌∷◌, ◌++◌, map, Option, Some, slice_get}
+use Rattle.std.specs.Prelude.{◌≡◌, ℕ, false, List, [], ◌∷◌, ◌++◌, map, Option, Some, slice_get}
 use Rattle.cddl_meaning.specs.Alike.{AlikeAll, AlikeTypes, AlikeGroups}
-use Rattle.cddl_language.specs.Terms.{Term, Ref, Group, Entries, Entry, alternatives, entry_list}
+use Rattle.cddl_language.specs.Terms.{Literal, Term, Ref, Group, Entries, Entry, alternatives, entry_list, name_of}
 use Rattle.cddl_language.specs.Substitution.{group_choices}
 use Rattle.cddl_language.specs.Kinds as K
-use Rattle.cddl_language.specs.Reach.{Point, points, entries_points, entry_points}
+use Rattle.cddl_language.specs.Kinds.{is_group}
+use Rattle.cddl_language.specs.Reach.{Point, points, group_points, entries_points, entry_points}
 use Rattle.cddl_language.specs.Language as L
-use Rattle.cddl_language.specs.Language.{TypeName, type, chosen_of, GroupName, first_of, each_of, entry, round, type_named, type_node}
+use Rattle.cddl_language.specs.Language.{TypeName, type, chosen_of, GroupName, first_of, each_of, entry, round, reference, type_node}
 use Rattle.cddl_terms.specs.Table.{Table}
 use Rattle.cddl_terms.specs.Trees.{IsTerm, IsEntries, IsEntry}
 use Rattle.cddl_closed.specs.Closed.{AreAlternatives, AreReached}
+use Rattle.cddl_written.specs.Written.{AllIn, AllInGroup, AllInEntries, AllInEntry, IsMeant}
 use Rattle.cddl_nodes.specs.Basis.{Sense}
 use Rattle.cddl_nodes.specs.Forms.{group_form_view, type_form_view}
 use Rattle.cddl_nodes.specs.declared.asked.Asked.{Asked}
@@ -29,18 +31,41 @@ all_points (es ∷ ess) = entries_points es ++ all_points ess
 abbrev pub IsReached : Sense → List Point → Type 0
 IsReached s ps = AreReached s.definitions s.root ps
 
--- The names of the types and groups that are of these numbers. All references that stand in them are instances.
+-- each written value in alternatives is taken for what it stands for
+abbrev pub AllInEach : (Literal → Type 0) → List Entries → Type 0
+AllInEach P [] = Unit {0}
+AllInEach P (es ∷ ess) = AllInEntries P es × AllInEach P ess
+
+-- All references in it are instances, and each written value in it is taken for what it stands for.
+module _ (s : Sense) where
+  abbrev pub IsKnown : Term → Type 0
+  IsKnown x = IsReached s (points x) × AllIn (IsMeant s.worth) x
+
+  abbrev pub IsKnownGroup : Group → Type 0
+  IsKnownGroup g = IsReached s (group_points g) × AllInGroup (IsMeant s.worth) g
+
+  abbrev pub AreKnownEntries : Entries → Type 0
+  AreKnownEntries es = IsReached s (entries_points es) × AllInEntries (IsMeant s.worth) es
+
+  abbrev pub IsKnownEntry : Entry → Type 0
+  IsKnownEntry e = IsReached s (entry_points e) × AllInEntry (IsMeant s.worth) e
+
+  abbrev pub AreKnown : List Entries → Type 0
+  AreKnown ess = IsReached s (all_points ess) × AllInEach (IsMeant s.worth) ess
+
+-- The names of the types and groups that are of these numbers. All references that stand in them are instances, and each
+-- written value in them is taken for what it stands for.
 module _ (s : Sense) (t : Table) where
   pub data IsTypeOrigin : TypeName → TypeOrigin → Type 0 where
-    of_row : {n : ℕ} {x : Term} → IsTerm t n x → IsReached s (points x) → IsTypeOrigin (type x) (T.Row n)
-    of_instance : {k : ℕ} {r : Ref} → slice_get s.refs k ≡ Some r → IsTypeOrigin (type_named s.definitions r) (T.Instance k)
-    of_chosen : {o : Option ℕ} {ess : List Entries} → AreAlternatives t ess o → IsReached s (all_points ess) → IsTypeOrigin (chosen_of ess) (T.Chosen o)
+    of_row : {n : ℕ} {x : Term} → IsTerm t n x → IsReached s (points x) → AllIn (IsMeant s.worth) x → IsTypeOrigin (type x) (T.Row n)
+    of_instance : {k : ℕ} {r : Ref} → slice_get s.refs k ≡ Some r → is_group s.definitions (name_of r) ≡ false → IsTypeOrigin (reference r) (T.Instance k)
+    of_chosen : {o : Option ℕ} {ess : List Entries} → AreAlternatives t ess o → IsReached s (all_points ess) → AllInEach (IsMeant s.worth) ess → IsTypeOrigin (chosen_of ess) (T.Chosen o)
 
   pub data IsGroupOrigin : GroupName → GroupOrigin → Type 0 where
-    of_alternatives : {o : Option ℕ} {ess : List Entries} → AreAlternatives t ess o → IsReached s (all_points ess) → IsGroupOrigin (first_of ess) (G.Alternatives o)
-    of_sequence : {n : ℕ} {es : Entries} → IsEntries t n es → IsReached s (entries_points es) → IsGroupOrigin (each_of es) (G.Sequence n)
-    of_entry : {n : ℕ} {e : Entry} → IsEntry t n e → IsReached s (entry_points e) → IsGroupOrigin (entry e) (G.Entry n)
-    of_round : {n : ℕ} {e : Entry} → IsEntry t n e → IsReached s (entry_points e) → IsGroupOrigin (round e) (G.Round n)
+    of_alternatives : {o : Option ℕ} {ess : List Entries} → AreAlternatives t ess o → IsReached s (all_points ess) → AllInEach (IsMeant s.worth) ess → IsGroupOrigin (first_of ess) (G.Alternatives o)
+    of_sequence : {n : ℕ} {es : Entries} → IsEntries t n es → IsReached s (entries_points es) → AllInEntries (IsMeant s.worth) es → IsGroupOrigin (each_of es) (G.Sequence n)
+    of_entry : {n : ℕ} {e : Entry} → IsEntry t n e → IsReached s (entry_points e) → AllInEntry (IsMeant s.worth) e → IsGroupOrigin (entry e) (G.Entry n)
+    of_round : {n : ℕ} {e : Entry} → IsEntry t n e → IsReached s (entry_points e) → AllInEntry (IsMeant s.worth) e → IsGroupOrigin (round e) (G.Round n)
 
   -- the form, with parts that are of these
   abbrev pub IsTypeForm : TypeName → TypeForm → Type 0
@@ -54,7 +79,7 @@ module _ (s : Sense) (t : Table) where
   IsTermForm x f = IsTypeForm (type x) f
 
   abbrev pub IsInstanceForm : Ref → TypeForm → Type 0
-  IsInstanceForm r f = IsTypeForm (type_named s.definitions r) f
+  IsInstanceForm r f = IsTypeForm (reference r) f
 
   abbrev pub IsChosenForm : List Entries → TypeForm → Type 0
   IsChosenForm ess f = IsTypeForm (chosen_of ess) f
@@ -62,8 +87,8 @@ module _ (s : Sense) (t : Table) where
   -- What an entry's type is: with the row of a group with the alternatives, or with none, where it is a group.
   pub data IsAsked : K.Part → Asked → Type 0 where
     asks_type : IsAsked K.asks_type A.Type
-    asks_named : {r : Ref} {o : Option ℕ} → AreAlternatives t (group_choices s.definitions r) o → IsReached s (all_points (group_choices s.definitions r)) → IsAsked (K.names_group r) (A.Group o)
-    asks_opened : {r : Ref} {g : Group} {o : Option ℕ} → AreAlternatives t (alternatives g) o → IsReached s (all_points (alternatives g)) → IsAsked (K.opens r g) (A.Group o)
+    asks_named : {r : Ref} {o : Option ℕ} → AreAlternatives t (group_choices s.definitions r) o → AreKnown s (group_choices s.definitions r) → IsAsked (K.names_group r) (A.Group o)
+    asks_opened : {r : Ref} {g : Group} {o : Option ℕ} → AreAlternatives t (alternatives g) o → AreKnown s (alternatives g) → IsAsked (K.opens r g) (A.Group o)
 
   -- the types from which `&` chooses
   abbrev pub AreChosen : List Entries → List TypeOrigin → Type 0

@@ -1,7 +1,7 @@
 -- What a search for nodes keeps.
 use Rattle.std.specs.Prelude.{◌≡◌, ℕ, true, false, List, length, Some, slice_get}
 use Rattle.cddl_meaning.specs.Alike.{AlikeGroups, AlikeTypes}
-use Rattle.cddl_language.specs.Language.{GroupName, TypeName, first_of, group_form, type_named, type_node}
+use Rattle.cddl_language.specs.Language.{GroupName, TypeName, first_of, group_form, reference, type_node}
 use Rattle.cddl_language.specs.Kinds.{is_group}
 use Rattle.cddl_language.specs.Substitution.{group_choices}
 use Rattle.cddl_language.specs.Terms.{Ref, name_of}
@@ -39,5 +39,5 @@ pub record IsWhole (v : Search) : Type 0 where
 
 -- what an instance means has a number, as a type or as a group
 pub data HasNumber (s : Sense) (t : Table) (ks : Keys) (r : Ref) : Type 0 where
-  of_type : (m : TypeId) → is_group s.definitions (name_of r) ≡ false → HasTypeNumber s t ks (type_named s.definitions r) m → HasNumber s t ks r
+  of_type : (m : TypeId) → is_group s.definitions (name_of r) ≡ false → HasTypeNumber s t ks (reference r) m → HasNumber s t ks r
   of_group : (m : GroupId) → is_group s.definitions (name_of r) ≡ true → HasGroupNumber s t ks (first_of (group_choices s.definitions r)) m → HasNumber s t ks r

@@ -2,20 +2,22 @@
 
 ghost use Rattle.std.specs.Prelude.{◌≡◌, ℕ, Some, slice_get};
 ghost use Rattle.std.specs.Option.{option_map};
-ghost use Rattle.cddl_nodes.specs.Lookups.{flattened};
+ghost use Rattle.cddl_nodes.specs.Lookups.{flattened, text_in};
 ghost use Rattle.cddl_language.specs.Kinds as K;
-ghost use Rattle.cddl_language.specs.Reach.{Reaches, points};
+ghost use Rattle.cddl_language.specs.Kinds.{is_group};
+ghost use Rattle.cddl_language.specs.Reach.{Reaches};
 ghost use Rattle.cddl_language.specs.Substitution.{group_choices};
-ghost use Rattle.cddl_language.specs.Terms.{Ref, Term};
+ghost use Rattle.cddl_language.specs.Terms.{Ref, Term, name_of};
 ghost use Rattle.cddl_closed.specs.Closed.{AreAlternatives};
 ghost use Rattle.cddl_terms.specs.Table.{Table};
 ghost use Rattle.cddl_terms.specs.Trees.{IsRef, IsTerm};
 ghost use Rattle.cddl_nodes.specs.Basis.{IsSource, Sense};
-ghost use Rattle.cddl_nodes.specs.Origins.{IsAsked, IsReached};
+ghost use Rattle.cddl_nodes.specs.Origins.{IsAsked, IsKnown};
 
+use crate::laws::known_instances;
 use crate::source::Source;
 use cddl_closed::Meaning;
-use cddl_closed::laws::{meaning_at, meanings_are_reached, place_of};
+use cddl_closed::laws::{meaning_at, place_of};
 use cddl_openings::laws::part_is_reached;
 use cddl_openings::{Part, part_of};
 use cddl_terms::Terms;
@@ -64,11 +66,31 @@ pub(crate) fn meaning_there<'a>(source: &Source<'a>, place: u32) -> Option<&'a M
     source.closed.meanings.get(place as usize)
 }
 
+/// Whether the reference is to a group's name.
+pub(crate) fn is_group(terms: &Terms<'_>, source: &Source<'_>, call: u32) -> bool
+    ensures { (s : Sense) (r : Ref) → IsSource s terms.now source.now → IsRef terms.now call r → result ≡ is_group s.definitions (name_of r) }
+{
+    match text_of(terms, call) {
+        Some(name) => source.kinds.is_group(name),
+        None => false,
+    }
+}
+
+/// The number of the row's text.
+fn text_of(terms: &Terms<'_>, number: u32) -> Option<u32>
+    ensures { result ≡ text_in (slice_get terms.now.rows number) }
+{
+    match terms.row(number) {
+        Some(row) => row.text,
+        None => None,
+    }
+}
+
 /// What the type of an entry without a key is.
 pub(crate) fn asked_at(terms: &Terms<'_>, source: &Source<'_>, row: u32) -> Asked
-    ensures { (s : Sense) (x : Term) → IsSource s terms.now source.now → IsTerm terms.now row x → IsReached s (points x) → IsAsked s terms.now (K.part_of s.definitions x) result }
+    ensures { (s : Sense) (x : Term) → IsSource s terms.now source.now → IsTerm terms.now row x → IsKnown s x → IsAsked s terms.now (K.part_of s.definitions x) result }
 {
-    meanings_are_reached();
+    known_instances();
     part_is_reached();
     match part_of(terms, source.closed, source.kinds, source.openings, row) {
         Part::AsksType => Asked::Type,

@@ -3,13 +3,12 @@
 ghost use Rattle.std.specs.Prelude.{IfOk, List, OnOk};
 ghost use Rattle.cddl_language.specs.Language as L;
 ghost use Rattle.cddl_language.specs.Kinds as K;
-ghost use Rattle.cddl_language.specs.Reach.{entries_points, entry_points, points};
 ghost use Rattle.cddl_language.specs.Terms.{Entries, Entry as AnEntry, Term};
 ghost use Rattle.cddl_meaning.specs.Alike.{AlikeAll};
 ghost use Rattle.cddl_closed.specs.Closed.{AreAlternatives, EntriesRow};
 ghost use Rattle.cddl_terms.specs.Trees.{IsEntries, IsEntry, IsTerm};
 ghost use Rattle.cddl_nodes.specs.Basis.{IsSource, Sense};
-ghost use Rattle.cddl_nodes.specs.Origins.{AddsChosen, AreChosen, IsReached, IsTypeOrigin, all_points};
+ghost use Rattle.cddl_nodes.specs.Origins.{AddsChosen, AreChosen, AreKnown, AreKnownEntries, IsKnown, IsKnownEntry, IsTypeOrigin};
 
 use crate::asked::{Asked, asked_at};
 use crate::origin::TypeOrigin;
@@ -44,7 +43,7 @@ pub(crate) fn chosen(
     source: &Source<'_>,
     group: Option<u32>,
 ) -> Result<Vec<TypeOrigin>, NoRoom>
-    ensures { IfOk result (λ v. (s : Sense) (ess : List Entries) → IsSource s terms.now source.now → AreAlternatives terms.now ess group → IsReached s (all_points ess) → AreChosen s terms.now ess v.items) }
+    ensures { IfOk result (λ v. (s : Sense) (ess : List Entries) → IsSource s terms.now source.now → AreAlternatives terms.now ess group → AreKnown s ess → AreChosen s terms.now ess v.items) }
 {
     let rows = alternative_rows(alloc, terms, group)?;
     let mut chosen = Vec::new(alloc);
@@ -62,7 +61,7 @@ fn add_chosen(
     row: u32,
     chosen: &mut Vec<TypeOrigin>,
 ) -> Result<(), NoRoom>
-    ensures { OnOk result ((s : Sense) (es : Entries) → IsSource s terms.now source.now → IsEntries terms.now row es → IsReached s (entries_points es) → AddsChosen s terms.now es chosen.old.items chosen.new.items) }
+    ensures { OnOk result ((s : Sense) (es : Entries) → IsSource s terms.now source.now → IsEntries terms.now row es → AreKnownEntries s es → AddsChosen s terms.now es chosen.old.items chosen.new.items) }
 {
     let Ok(entries) = entries(alloc, terms, row) else {
         return Err(NoRoom);
@@ -74,7 +73,7 @@ fn add_chosen(
 }
 
 fn chosen_entry(terms: &Terms<'_>, source: &Source<'_>, entry: u32) -> TypeOrigin
-    ensures { (s : Sense) (e : AnEntry) → IsSource s terms.now source.now → IsEntry terms.now entry e → IsReached s (entry_points e) → IsTypeOrigin s terms.now (L.chosen_name s.worth s.definitions e) result }
+    ensures { (s : Sense) (e : AnEntry) → IsSource s terms.now source.now → IsEntry terms.now entry e → IsKnownEntry s e → IsTypeOrigin s terms.now (L.chosen_name s.worth s.definitions e) result }
 {
     match entry_shape_at(terms, entry) {
         EntryShape::Typed(row) => chosen_part(terms, source, row),
@@ -85,7 +84,7 @@ fn chosen_entry(terms: &Terms<'_>, source: &Source<'_>, entry: u32) -> TypeOrigi
 }
 
 fn chosen_part(terms: &Terms<'_>, source: &Source<'_>, row: u32) -> TypeOrigin
-    ensures { (s : Sense) (x : Term) → IsSource s terms.now source.now → IsTerm terms.now row x → IsReached s (points x) → IsTypeOrigin s terms.now (L.chosen_part_name s.worth s.definitions x (K.part_of s.definitions x)) result }
+    ensures { (s : Sense) (x : Term) → IsSource s terms.now source.now → IsTerm terms.now row x → IsKnown s x → IsTypeOrigin s terms.now (L.chosen_part_name s.worth s.definitions x (K.part_of s.definitions x)) result }
 {
     match asked_at(terms, source, row) {
         Asked::Type => TypeOrigin::Row(row),

@@ -2,13 +2,12 @@
 
 ghost use Rattle.std.specs.Prelude.{◌≡◌, IfOk, List};
 ghost use Rattle.cddl_language.specs.Language.{GroupName};
-ghost use Rattle.cddl_language.specs.Reach.{entries_points, entry_points, points};
 ghost use Rattle.cddl_language.specs.Terms.{Entries, Entry as AnEntry, Term, occurrence_of};
 ghost use Rattle.cddl_closed.specs.Closed.{AreAlternatives};
 ghost use Rattle.cddl_terms.specs.Table.{HoldsText};
 ghost use Rattle.cddl_terms.specs.Trees.{IsEntries, IsEntry, IsTerm};
 ghost use Rattle.cddl_nodes.specs.Basis.{IsSource, Sense};
-ghost use Rattle.cddl_nodes.specs.Origins.{IsAlternativesForm, IsEntriesForm, IsEntryForm, IsGroupForm, IsGroupOrigin, IsPartForm, IsReached, IsRoundForm, all_points};
+ghost use Rattle.cddl_nodes.specs.Origins.{AreKnown, AreKnownEntries, IsAlternativesForm, IsEntriesForm, IsEntryForm, IsGroupForm, IsGroupOrigin, IsKnown, IsKnownEntry, IsPartForm, IsRoundForm};
 
 use crate::asked::{Asked, asked_at};
 use crate::chosen::alternative_rows;
@@ -34,7 +33,7 @@ pub(crate) fn group_form(
     match origin {
         GroupOrigin::Alternatives(group) => alternatives_form(alloc, terms, group),
         GroupOrigin::Sequence(row) => entries_form(alloc, terms, row),
-        GroupOrigin::Entry(row) => entry_form(terms, source, row),
+        GroupOrigin::Entry(row) => entry_form(alloc, terms, source, row),
         GroupOrigin::Round(row) => Ok(round_form(terms, source, row)),
     }
 }
@@ -44,7 +43,7 @@ fn alternatives_form(
     terms: &Terms<'_>,
     group: Option<u32>,
 ) -> Result<GroupForm, NoRoom>
-    ensures { IfOk result (λ f. (s : Sense) (ess : List Entries) → AreAlternatives terms.now ess group → IsReached s (all_points ess) → IsAlternativesForm s terms.now ess f) }
+    ensures { IfOk result (λ f. (s : Sense) (ess : List Entries) → AreAlternatives terms.now ess group → AreKnown s ess → IsAlternativesForm s terms.now ess f) }
 {
     let rows = alternative_rows(alloc, terms, group)?;
     match sequence_origins(alloc, &rows) {
@@ -54,7 +53,7 @@ fn alternatives_form(
 }
 
 fn entries_form(alloc: Global, terms: &Terms<'_>, row: u32) -> Result<GroupForm, NoRoom>
-    ensures { IfOk result (λ f. (s : Sense) (es : Entries) → IsEntries terms.now row es → IsReached s (entries_points es) → IsEntriesForm s terms.now es f) }
+    ensures { IfOk result (λ f. (s : Sense) (es : Entries) → IsEntries terms.now row es → AreKnownEntries s es → IsEntriesForm s terms.now es f) }
 {
     let Ok(rows) = entries(alloc, terms, row) else {
         return Err(NoRoom);
@@ -65,9 +64,15 @@ fn entries_form(alloc: Global, terms: &Terms<'_>, row: u32) -> Result<GroupForm,
     }
 }
 
-/// An entry, as often as it may stand (RFC 8610 section 3.2).
-fn entry_form(terms: &Terms<'_>, source: &Source<'_>, row: u32) -> Result<GroupForm, NoRoom>
-    ensures { IfOk result (λ f. (s : Sense) (e : AnEntry) → IsSource s terms.now source.now → IsEntry terms.now row e → IsReached s (entry_points e) → IsEntryForm s terms.now e f) }
+/// An entry, as often as it may stand (RFC 8610 section 3.2). Where the least number of times is over the most, no items are
+/// as the entry says.
+fn entry_form(
+    alloc: Global,
+    terms: &Terms<'_>,
+    source: &Source<'_>,
+    row: u32,
+) -> Result<GroupForm, NoRoom>
+    ensures { IfOk result (λ f. (s : Sense) (e : AnEntry) → IsSource s terms.now source.now → IsEntry terms.now row e → IsKnownEntry s e → IsEntryForm s terms.now e f) }
 {
     let Some(text) = occurrence_text(terms, row) else {
         return Ok(round_form(terms, source, row));
@@ -75,6 +80,9 @@ fn entry_form(terms: &Terms<'_>, source: &Source<'_>, row: u32) -> Result<GroupF
     let times = times_at(terms, text)?;
     if times.are_once() {
         return Ok(round_form(terms, source, row));
+    }
+    if times.are_impossible() {
+        return Ok(GroupForm::Alternatives(Vec::new(alloc)));
     }
     Ok(GroupForm::Repeat {
         least: times.least,
@@ -95,7 +103,7 @@ fn occurrence_text(terms: &Terms<'_>, row: u32) -> Option<u32>
 
 /// One round of an entry.
 fn round_form(terms: &Terms<'_>, source: &Source<'_>, row: u32) -> GroupForm
-    ensures { (s : Sense) (e : AnEntry) → IsSource s terms.now source.now → IsEntry terms.now row e → IsReached s (entry_points e) → IsRoundForm s terms.now e result }
+    ensures { (s : Sense) (e : AnEntry) → IsSource s terms.now source.now → IsEntry terms.now row e → IsKnownEntry s e → IsRoundForm s terms.now e result }
 {
     match entry_shape_at(terms, row) {
         EntryShape::Typed(part) => part_form(terms, source, part),
@@ -106,7 +114,7 @@ fn round_form(terms: &Terms<'_>, source: &Source<'_>, row: u32) -> GroupForm
 }
 
 fn part_form(terms: &Terms<'_>, source: &Source<'_>, row: u32) -> GroupForm
-    ensures { (s : Sense) (x : Term) → IsSource s terms.now source.now → IsTerm terms.now row x → IsReached s (points x) → IsPartForm s terms.now x result }
+    ensures { (s : Sense) (x : Term) → IsSource s terms.now source.now → IsTerm terms.now row x → IsKnown s x → IsPartForm s terms.now x result }
 {
     match asked_at(terms, source, row) {
         Asked::Type => GroupForm::Entry(TypeOrigin::Row(row)),

@@ -1,19 +1,17 @@
 //! Numbers for all instances.
 
 ghost use Rattle.std.specs.Prelude.{◌≡◌, ℕ, OnOk, Some, slice_get};
-ghost use Rattle.cddl_language.specs.Kinds.{is_group};
-ghost use Rattle.cddl_language.specs.Terms.{Ref, name_of};
-ghost use Rattle.cddl_terms.specs.Trees.{IsRef};
+ghost use Rattle.cddl_language.specs.Terms.{Ref};
 ghost use Rattle.cddl_nodes.specs.Basis.{IsSource, Sense};
-ghost use Rattle.cddl_nodes.specs.Lookups.{text_in};
 ghost use Rattle.cddl_nodes.specs.Numbers.{AreNamed, Extends, keys_of};
 ghost use Rattle.cddl_nodes.specs.Search.{HasNumber};
 
-use crate::asked::meaning_there;
+use crate::asked::{is_group, meaning_there};
+use crate::laws::known_instances;
 use crate::numbers::Numbers;
 use crate::origin::{GroupOrigin, TypeOrigin};
 use crate::source::Source;
-use cddl_closed::laws::{meaning_at, meanings_are_reached};
+use cddl_closed::laws::meaning_at;
 use cddl_terms::{NoRoom, Terms};
 
 /// Gives each instance a number, as a type or as a group.
@@ -47,7 +45,7 @@ fn number_instance(
     ensures numbered { OnOk result ((s : Sense) (r : Ref) → IsSource s terms.now source.now → slice_get s.refs place ≡ Some r → HasNumber s terms.now (keys_of numbers.new) r) }
 {
     meaning_at();
-    meanings_are_reached();
+    known_instances();
     let Some(meaning) = meaning_there(source, place) else {
         return Err(NoRoom);
     };
@@ -57,24 +55,4 @@ fn number_instance(
     }
     numbers.number_type(TypeOrigin::Instance(place))?;
     Ok(())
-}
-
-/// Whether the reference is to a group's name.
-fn is_group(terms: &Terms<'_>, source: &Source<'_>, call: u32) -> bool
-    ensures { (s : Sense) (r : Ref) → IsSource s terms.now source.now → IsRef terms.now call r → result ≡ is_group s.definitions (name_of r) }
-{
-    match text_of(terms, call) {
-        Some(name) => source.kinds.is_group(name),
-        None => false,
-    }
-}
-
-/// The number of the row's text.
-fn text_of(terms: &Terms<'_>, number: u32) -> Option<u32>
-    ensures { result ≡ text_in (slice_get terms.now.rows number) }
-{
-    match terms.row(number) {
-        Some(row) => row.text,
-        None => None,
-    }
 }

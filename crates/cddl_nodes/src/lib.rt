@@ -6,6 +6,7 @@ mod chosen;
 mod form;
 mod groups;
 mod instances;
+mod laws;
 mod lists;
 mod literals;
 mod making;
@@ -20,6 +21,3 @@ mod types;
 
 pub use crate::making::{Nodes, nodes_of};
 pub use crate::origin::{GroupOrigin, TypeOrigin};
-
-#[cfg(test)]
-mod tests;

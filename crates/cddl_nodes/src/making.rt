@@ -1,4 +1,5 @@
-ghost use Rattle.std.specs.Prelude.{◌≡◌, IfOk, Some, slice_get};
+ghost use Rattle.std.specs.Prelude.{◌≡◌, IfOk, Some, false, slice_get};
+ghost use Rattle.cddl_language.specs.Kinds.{is_group};
 ghost use Rattle.cddl_language.specs.Terms.{call, no_terms};
 ghost use Rattle.cddl_nodes.specs.Basis.{IsBasis, Sense};
 ghost use Rattle.cddl_nodes.specs.Nodes.{AreNodes};
@@ -53,7 +54,7 @@ pub fn nodes_of(
     choosable: &[bool],
     root: u32,
 ) -> Result<Nodes, NoRoom>
-    ensures { IfOk result (λ v. (s : Sense) → IsBasis s terms.now closed.now kinds.now openings.now literals.now choosable.now → slice_get s.refs root ≡ Some (call s.root no_terms) → AreNodes s terms.now v) }
+    ensures { IfOk result (λ v. (s : Sense) → IsBasis s terms.now closed.now kinds.now openings.now literals.now choosable.now → slice_get s.refs root ≡ Some (call s.root no_terms) → is_group s.definitions s.root ≡ false → AreNodes s terms.now v) }
 {
     equal_numbers(terms);
     let source = Source {

@@ -8,6 +8,7 @@ ghost use Rattle.cddl_texts.specs.HashForm.{form as form_of};
 ghost use Rattle.cddl_texts.specs.Occurrence.{most_in};
 ghost use Rattle.cddl_table.specs.Nodes.{most_view, test_view};
 ghost use Rattle.cddl_nodes.specs.Forms.{tag_form_view};
+ghost use Rattle.cddl_nodes.specs.Lookups.{is_over};
 ghost use Rattle.cddl_nodes.specs.declared.origin.TypeOrigin.{TypeOrigin as Origin};
 
 use crate::form::TagForm;
@@ -113,5 +114,14 @@ impl Times {
         ensures { result ≡ N.is_once self.now.least (most_view self.now.most) }
     {
         self.least == 1 && self.most == Most::AtMost(1)
+    }
+    /// Whether it is no number of times, as the least is over the most.
+    pub(crate) fn are_impossible(&self) -> bool
+        ensures { result ≡ is_over self.now.least (most_view self.now.most) }
+    {
+        match self.most {
+            Most::AtMost(most) => most < self.least,
+            Most::Any => false,
+        }
     }
 }

@@ -9,14 +9,16 @@ ghost use Rattle.cddl_language.specs.Terms.{Entries, Group, Ref, Term, Text};
 ghost use Rattle.cddl_closed.specs.Closed.{AreAlternatives};
 ghost use Rattle.cddl_terms.specs.Table.{Table};
 ghost use Rattle.cddl_terms.specs.Trees.{IsGroup, IsRef, IsTerm};
-ghost use Rattle.cddl_nodes.specs.Basis.{AreRight, IsSource, Sense};
+ghost use Rattle.cddl_written.specs.Written.{IsMeant};
+ghost use Rattle.cddl_nodes.specs.Basis.{IsSource, Sense};
 ghost use Rattle.cddl_nodes.specs.Forms.{type_form_view};
 ghost use Rattle.cddl_nodes.specs.Lookups.{is_flagged, opened_view};
-ghost use Rattle.cddl_nodes.specs.Origins.{IsChosenForm, IsInstanceForm, IsReached, IsTermForm, IsTypeForm, IsTypeOrigin, all_points};
+ghost use Rattle.cddl_nodes.specs.Origins.{AreKnown, IsChosenForm, IsInstanceForm, IsKnown, IsReached, IsTermForm, IsTypeForm, IsTypeOrigin};
 
-use crate::asked::{group_at, meaning_there, place_at};
+use crate::asked::{group_at, is_group, meaning_there, place_at};
 use crate::chosen::chosen;
 use crate::form::{TagForm, TypeForm};
+use crate::laws::known_instances;
 use crate::lists::row_origins;
 use crate::literals::{item_at, range_form};
 use crate::origin::{GroupOrigin, TypeOrigin};
@@ -24,9 +26,9 @@ use crate::shape::{Shape, shape_at};
 use crate::source::Source;
 use crate::texts::{hash_at, tag_at};
 use cddl_closed::choices;
-use cddl_closed::laws::{meaning_at, meanings_are_reached};
+use cddl_closed::laws::meaning_at;
 use cddl_openings::Opening;
-use cddl_openings::laws::{opened_is_reached, opening_stands};
+use cddl_openings::laws::opening_stands;
 use cddl_table::Test;
 use cddl_terms::{NoRoom, Terms};
 use std::alloc::Global;
@@ -54,11 +56,11 @@ fn row_form(
     source: &Source<'_>,
     row: u32,
 ) -> Result<TypeForm, NoRoom>
-    ensures { IfOk result (λ f. (s : Sense) (x : Term) → IsSource s terms.now source.now → IsTerm terms.now row x → IsReached s (points x) → IsTermForm s terms.now x f) }
+    ensures { IfOk result (λ f. (s : Sense) (x : Term) → IsSource s terms.now source.now → IsTerm terms.now row x → IsKnown s x → IsTermForm s terms.now x f) }
 {
     match shape_at(terms, row) {
         Shape::Literal => literal_form(alloc, terms, row),
-        Shape::Named(call) => named_form(terms, source, call),
+        Shape::Named(call) => named_form(alloc, terms, source, call),
         Shape::Parens(part) => Ok(TypeForm::Ref(TypeOrigin::Row(part))),
         Shape::ArrayOf(group) => Ok(TypeForm::ArrayOf(GroupOrigin::Alternatives(Some(group)))),
         Shape::Unwrapped(call) => unwrapped_form(alloc, terms, source, call),
@@ -86,15 +88,24 @@ fn nothing(alloc: Global) -> TypeForm
 }
 
 fn literal_form(alloc: Global, terms: &Terms<'_>, row: u32) -> Result<TypeForm, NoRoom>
-    ensures { IfOk result (λ f. (s : Sense) (v : L.Literal) → AreRight terms.now s.worth → IsTerm terms.now row (L.literal v) → IsTermForm s terms.now (L.literal v) f) }
+    ensures { IfOk result (λ f. (s : Sense) (v : L.Literal) → IsMeant s.worth v → IsTerm terms.now row (L.literal v) → IsTermForm s terms.now (L.literal v) f) }
 {
     let item = item_at(alloc, terms, row)?;
     Ok(TypeForm::Plain(Test::Equals(item)))
 }
 
-fn named_form(terms: &Terms<'_>, source: &Source<'_>, call: u32) -> Result<TypeForm, NoRoom>
+/// What the name of a type means. The name of a group is no type.
+fn named_form(
+    alloc: Global,
+    terms: &Terms<'_>,
+    source: &Source<'_>,
+    call: u32,
+) -> Result<TypeForm, NoRoom>
     ensures { IfOk result (λ f. (s : Sense) (r : Ref) → IsSource s terms.now source.now → IsRef terms.now call r → IsReached s (points (L.named r)) → IsTermForm s terms.now (L.named r) f) }
 {
+    if is_group(terms, source, call) {
+        return Ok(nothing(alloc));
+    }
     match place_at(terms, source, call) {
         Some(place) => Ok(TypeForm::Ref(TypeOrigin::Instance(place))),
         None => Err(NoRoom),
@@ -110,7 +121,7 @@ fn unwrapped_form(
 ) -> Result<TypeForm, NoRoom>
     ensures { IfOk result (λ f. (s : Sense) (r : Ref) → IsSource s terms.now source.now → IsRef terms.now call r → IsReached s (points (L.unwrapped r)) → IsTermForm s terms.now (L.unwrapped r) f) }
 {
-    opened_is_reached();
+    known_instances();
     opening_stands();
     let Some(place) = place_at(terms, source, call) else {
         return Err(NoRoom);
@@ -150,7 +161,7 @@ fn choice_form(
     source: &Source<'_>,
     group: u32,
 ) -> Result<TypeForm, NoRoom>
-    ensures { IfOk result (λ f. (s : Sense) (g : Group) → IsSource s terms.now source.now → IsGroup terms.now group g → IsReached s (points (L.choice_of g)) → IsTermForm s terms.now (L.choice_of g) f) }
+    ensures { IfOk result (λ f. (s : Sense) (g : Group) → IsSource s terms.now source.now → IsGroup terms.now group g → IsKnown s (L.choice_of g) → IsTermForm s terms.now (L.choice_of g) f) }
 {
     if is_choosable(source, group) {
         return chosen_form(alloc, terms, source, Some(group));
@@ -166,7 +177,7 @@ fn named_choice_form(
 ) -> Result<TypeForm, NoRoom>
     ensures { IfOk result (λ f. (s : Sense) (r : Ref) → IsSource s terms.now source.now → IsRef terms.now call r → IsReached s (points (L.choice_of_name r)) → IsTermForm s terms.now (L.choice_of_name r) f) }
 {
-    meanings_are_reached();
+    known_instances();
     let Some(place) = place_at(terms, source, call) else {
         return Err(NoRoom);
     };
@@ -183,14 +194,14 @@ fn chosen_form(
     source: &Source<'_>,
     group: Option<u32>,
 ) -> Result<TypeForm, NoRoom>
-    ensures { IfOk result (λ f. (s : Sense) (ess : List Entries) → IsSource s terms.now source.now → AreAlternatives terms.now ess group → IsReached s (all_points ess) → IsChosenForm s terms.now ess f) }
+    ensures { IfOk result (λ f. (s : Sense) (ess : List Entries) → IsSource s terms.now source.now → AreAlternatives terms.now ess group → AreKnown s ess → IsChosenForm s terms.now ess f) }
 {
     let chosen = chosen(alloc, terms, source, group)?;
     Ok(TypeForm::Choice(chosen))
 }
 
 fn tagged_form(terms: &Terms<'_>, text: u32, content: u32) -> Result<TypeForm, NoRoom>
-    ensures { IfOk result (λ f. (s : Sense) (n : Text) (x : Term) → slice_get terms.now.texts text ≡ Some n → IsTerm terms.now content x → IsReached s (points (L.tagged n x)) → IsTermForm s terms.now (L.tagged n x) f) }
+    ensures { IfOk result (λ f. (s : Sense) (n : Text) (x : Term) → slice_get terms.now.texts text ≡ Some n → IsTerm terms.now content x → IsKnown s (L.tagged n x) → IsTermForm s terms.now (L.tagged n x) f) }
 {
     let number = tag_at(terms, text)?;
     Ok(TypeForm::TagOf(number, TypeOrigin::Row(content)))
@@ -205,7 +216,7 @@ fn hash_form(terms: &Terms<'_>, text: u32) -> Result<TypeForm, NoRoom>
 
 /// The members of a choice.
 fn or_form(alloc: Global, terms: &Terms<'_>, row: u32) -> Result<TypeForm, NoRoom>
-    ensures { IfOk result (λ f. (s : Sense) (a b : Term) → IsTerm terms.now row (L.or a b) → IsReached s (points (L.or a b)) → IsTermForm s terms.now (L.or a b) f) }
+    ensures { IfOk result (λ f. (s : Sense) (a b : Term) → IsTerm terms.now row (L.or a b) → IsKnown s (L.or a b) → IsTermForm s terms.now (L.or a b) f) }
 {
     let Ok(rows) = choices(alloc, terms, row) else {
         return Err(NoRoom);
@@ -220,7 +231,7 @@ fn or_form(alloc: Global, terms: &Terms<'_>, row: u32) -> Result<TypeForm, NoRoo
 fn instance_form(alloc: Global, source: &Source<'_>, place: u32) -> Result<TypeForm, NoRoom>
     ensures { IfOk result (λ f. (s : Sense) (t : Table) (r : Ref) → IsSource s t source.now → slice_get s.refs place ≡ Some r → IsInstanceForm s t r f) }
 {
-    meanings_are_reached();
+    known_instances();
     meaning_at();
     let Some(meaning) = meaning_there(source, place) else {
         return Err(NoRoom);

@@ -1,15 +1,20 @@
--- What was found stays when the table grows.
+-- What was found, and what was asked, stays when the table grows.
 use Rattle.std.proofs.Common.{ℕ, List, Option, Some}
-use Rattle.cddl_language.specs.Substitution.{bodies}
+use Rattle.cddl_syntax.specs.Syntax as S
+use Rattle.cddl_language.specs.Reading.{group_of, parameters_in, ref_of, term_of2}
+use Rattle.cddl_language.specs.Substitution.{bodies, fill, fill_group, fill_ref}
 use Rattle.cddl_language.specs.Terms as L
-use Rattle.cddl_language.specs.Terms.{Ref}
+use Rattle.cddl_language.specs.Terms.{Ref, Term, Text}
 use Rattle.cddl_terms.specs.declared.definition.Body.{Body}
 use Rattle.cddl_terms.specs.Definitions.{IsBody}
 use Rattle.cddl_terms.specs.Table.{Holds, Table, Tree}
-use Rattle.cddl_terms.specs.Trees.{ref_tree}
+use Rattle.cddl_terms.specs.Trees.{group_tree, ref_tree, term_tree}
 use Rattle.cddl_instances.specs.declared.found.Instance.{Instance}
 use Rattle.cddl_instances.specs.Bodies.{AreBodies, no_bodies, further_body}
 use Rattle.cddl_instances.specs.Found.{AreFound, none_found, further_found}
+use Rattle.cddl_reached.specs.Asked.{AreAsked, IsAsked, WasAsked, choosing, choosing_by_name, first_end, last_end}
+use Rattle.cddl_reached.specs.declared.asked.Asked.{Asked}
+use Rattle.cddl_reached.specs.declared.asked.Question.{Question}
 
 module _ (old new : Table) (trees : (n : Option ℕ) (x : Tree) → Holds old n x → Holds new n x) (body : (b : Body) (x : L.Body) → IsBody old b x → IsBody new b x) where
   bodies_kept : (bs : List Body) (xs : List L.Body) → AreBodies old bs xs → AreBodies new bs xs
@@ -19,3 +24,25 @@ module _ (old new : Table) (trees : (n : Option ℕ) (x : Tree) → Holds old n 
   pub found_kept : (xs : List L.Definition) (found : List Instance) (refs : List Ref) → AreFound xs old found refs → AreFound xs new found refs
   found_kept xs found refs none_found = none_found
   found_kept xs found refs (further_found {i = i} {r = r} {is = js} {rs = rs} h hs) = further_found (record { ref = trees (Some i.call) (ref_tree r) h.ref; means = bodies_kept i.bodies.items (bodies xs r) h.means }) (found_kept xs js rs hs)
+
+module _ (old new : Table) (trees : (n : Option ℕ) (x : Tree) → Holds old n x → Holds new n x) (rs : List S.Rule) (root : Text) where
+  one_kept : (a : Asked) → IsAsked rs root old a → IsAsked rs root new a
+  one_kept a (choosing {r = r} {xs = xs} {u = u} {g = g} h is e q) = choosing {r = r} {xs = xs} {u = u} {g = g} h (trees (Some a.row) (group_tree (fill_group (parameters_in r) xs (group_of g))) is) e q
+  one_kept a (choosing_by_name {r = r} {xs = xs} {u = u} {f = f} h is e q) = choosing_by_name {r = r} {xs = xs} {u = u} {f = f} h (trees (Some a.row) (ref_tree (fill_ref (parameters_in r) xs (ref_of f))) is) e q
+  one_kept a (first_end {r = r} {xs = xs} {x = x} {y = y} {o = o} h s is e q) = first_end {r = r} {xs = xs} {x = x} {y = y} {o = o} h s (trees (Some a.row) (term_tree (fill (parameters_in r) xs (term_of2 x))) is) e q
+  one_kept a (last_end {r = r} {xs = xs} {x = x} {y = y} {o = o} h s is e q) = last_end {r = r} {xs = xs} {x = x} {y = y} {o = o} h s (trees (Some a.row) (term_tree (fill (parameters_in r) xs (term_of2 y))) is) e q
+
+  answer_kept : (answers : List Asked) (at : ℕ) (q : Question) (x : Tree) → WasAsked rs root old answers at q x → WasAsked rs root new answers at q x
+  answer_kept answers at q x w = record { asked = w.asked; contained = w.contained; same_at = w.same_at; same_question = w.same_question; holds = trees (Some w.asked.row) x w.holds }
+
+  all_kept : (answers : List Asked) → AreAsked rs root old answers → AreAsked rs root new answers
+  all_kept answers are = record {
+    sound = λ a c. one_kept a (are.sound a c);
+    groups = λ r xs u g h. answer_kept answers _ _ _ (are.groups r xs u g h);
+    references = λ r xs u f h. answer_kept answers _ _ _ (are.references r xs u f h);
+    first_ends = λ r xs x y o h s. answer_kept answers _ _ _ (are.first_ends r xs x y o h s);
+    last_ends = λ r xs x y o h s. answer_kept answers _ _ _ (are.last_ends r xs x y o h s);
+  }
+
+pub asked_kept : (old new : Table) → ((n : Option ℕ) (x : Tree) → Holds old n x → Holds new n x) → (rs : List S.Rule) (root : Text) (answers : List Asked) → AreAsked rs root old answers → AreAsked rs root new answers
+asked_kept old new trees rs root answers are = all_kept old new trees rs root answers are

@@ -3,13 +3,14 @@
 ghost use Rattle.std.specs.Prelude.{ℕ, List};
 ghost use Rattle.cddl_language.specs.Terms as L;
 ghost use Rattle.cddl_language.specs.Terms.{Ref, Text};
+ghost use Rattle.cddl_syntax.specs.Syntax.{Rule};
 ghost use Rattle.cddl_terms.specs.Definitions.{AreTexts};
 ghost use Rattle.cddl_terms.specs.Table.{Grows, IsTable, Table, Tree};
 ghost use Rattle.cddl_fill.specs.Templates.{AreTrees, IsTemplate};
 ghost use Rattle.cddl_fill.specs.declared.template.Template.{Template};
 ghost use Rattle.cddl_instances.specs.Found.{AreFound};
 ghost use Rattle.cddl_instances.specs.declared.found.Instance.{Instance};
-ghost use Rattle.cddl_reached.specs.Asked.{AreAnswers, Wanted};
+ghost use Rattle.cddl_reached.specs.Asked.{AreAnswers, AreAsked, Wanted};
 ghost use Rattle.cddl_reached.specs.declared.asked.Asked.{Asked};
 
 use cddl_terms::Terms;
@@ -25,6 +26,13 @@ pub(crate) fn is_table(terms: &Terms<'_>)
 /// The instances that were found stay so when the table grows.
 pub fn instances_grow()
     ensures { (old new : Table) → Grows old new → (xs : List L.Definition) (found : List Instance) (refs : List Ref) → AreFound xs old found refs → AreFound xs new found refs }
+{
+    growing_keeps();
+}
+
+/// What was asked stays so when the table grows.
+pub fn questions_grow()
+    ensures { (old new : Table) → Grows old new → (rs : List Rule) (root : Text) (answers : List Asked) → AreAsked rs root old answers → AreAsked rs root new answers }
 {
     growing_keeps();
 }

@@ -1,2 +1,4 @@
 pub mod Choosing
 pub mod Least
+pub mod Sorts
+pub mod Tildes

@@ -2,5 +2,7 @@
 #![tactic(auto)]
 
 mod choices;
+mod unwrapping;
 
 pub use crate::choices::nothing_chosen;
+pub use crate::unwrapping::{not_unwrappable, not_unwrapped};

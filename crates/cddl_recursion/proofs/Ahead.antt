@@ -1,15 +1,14 @@
 -- What is asked has its node, to which the steps by rows and places lead.
-use Rattle.std.proofs.Common.{◌≡◌, ℕ, zero, suc, ◌<◌, ◌⊎◌, inl, inr, Bool, true, false, List, [], ◌∷◌, length, Option, Some, None, is_some, refl, sym, ap, subst, ◌∙◌, slice_get, slice_index_or, arith}
+use Rattle.std.proofs.Common.{◌≡◌, ℕ, zero, suc, ◌<◌, ◌⊎◌, inl, inr, Bool, true, false, List, [], ◌∷◌, length, Option, Some, None, refl, sym, ap, subst, ◌∙◌, slice_get, slice_index_or, arith}
 use Rattle.cddl_language.specs.Kinds as K
 use Rattle.cddl_language.specs.Kinds.{Opened, opens_group, opens_type, opened, is_group, asks_type, names_group, opens, part_of}
-use Rattle.cddl_language.specs.Reach.{Point, at_name, at_unwrapping, at_choice, Reaches, points, group_points, entries_points, entry_points, ref_at}
+use Rattle.cddl_language.specs.Reach.{Point, at_name, at_unwrapping, at_choice, at_opened_choice, Reaches, entries_points, entry_points}
 use Rattle.cddl_language.specs.Substitution.{type_choices, group_choices}
-use Rattle.cddl_language.specs.Choices.{chosen}
-use Rattle.cddl_language.specs.Terms.{Text, Term, named, parens, array_of, unwrapped, choice_of, choice_of_name, simple_by, control, or, Ref, Group, sole, orelse, Entries, entries, Entry, typed, keyed, grouped, Definition, alternatives}
+use Rattle.cddl_language.specs.Terms.{Text, Term, named, parens, array_of, unwrapped, choice_of, choice_of_name, simple_by, control, or, Ref, Group, sole, orelse, Entries, entries, Entry, typed, keyed, grouped, Definition}
 use Rattle.cddl_terms.specs.declared.row.Form.TheVariants as F
 use Rattle.cddl_terms.specs.Table.{Table, Tree, nothing, Holds}
 use Rattle.cddl_terms.specs.Trees.{IsTerm, IsGroup, IsEntries, IsEntry, term_tree, ref_tree, group_tree, entries_tree, entry_tree, key_tree}
-use Rattle.cddl_closed.specs.Closed.{AreReached, TermRow}
+use Rattle.cddl_closed.specs.Closed.{TermRow}
 use Rattle.cddl_openings.specs.declared.openings.Opening.{Opening}
 use Rattle.cddl_openings.specs.declared.openings.Opening.TheVariants as OpeningV
 use Rattle.cddl_openings.specs.declared.openings.Part.{Part}
@@ -20,10 +19,10 @@ use Rattle.cddl_recursion.specs.declared.node.Node.TheVariants as N
 use Rattle.cddl_recursion.specs.Asking as A
 use Rattle.cddl_recursion.specs.Asking.{Asked, a_type, a_group, some_entries, an_entry, chosen_group, chosen_entries, chosen_entry, a_point, Asks, IsReached}
 use Rattle.cddl_recursion.specs.Edges as E
-use Rattle.cddl_recursion.specs.Edges.{Known, Has, Leads, by_row, by_chosen, by_group, by_type, by_opening, by_choice, row_node, chosen_node, name_node, unwrapping_node, choice_node, place_of, place_in, flagged, if_set, when, asks_here, text_asks, controls_here, part_node, part_at, part_in, steps_by, chosen_by, row_steps, chosen_steps, is_group_call, text_of, opened_row, opened_group, group_in}
-use Rattle.cddl_recursion.specs.Standing.{Stands, type_row, group_row, entries_row, entry_row, chosen_group_row, chosen_entries_row, chosen_entry_row, name_place, unwrapping_place, choice_place}
+use Rattle.cddl_recursion.specs.Edges.{Known, Has, Leads, by_row, by_chosen, by_group, by_type, by_opening, by_choice, by_opened_choice, row_node, chosen_node, name_node, unwrapping_node, choice_node, place_of, place_in, flagged, if_set, when, asks_here, text_asks, controls_here, part_node, part_at, part_in, steps_by, chosen_by, row_steps, chosen_steps, is_group_call, text_of, opened_row, opened_group}
+use Rattle.cddl_recursion.specs.Standing.{Stands, type_row, group_row, entries_row, entry_row, chosen_group_row, chosen_entries_row, chosen_entry_row, name_place, unwrapping_place, choice_place, opened_choice_place}
 use Rattle.cddl_recursion.proofs.Freely.{in_list, contained}
-use Rattle.cddl_recursion.proofs.Presence.{are_reached, group_present, opened_present, part_named, part_opened}
+use Rattle.cddl_recursion.proofs.Presence.{first, front}
 use Rattle.cddl_recursion.specs.Standing.{IsStep}
 use Rattle.cddl_recursion.proofs.Rows.{IsKnown, table_of}
 use Rattle.cddl_recursion.proofs.Rows as W
@@ -94,6 +93,9 @@ module _ (xs : List Definition) (root : Text) (refs : List Ref) (b : Known) (is 
   of_choice : (n : Node) (r : Ref) → Stands t refs n (a_point (at_choice r)) → (k : ℕ) × (n ≡ N.Choice k) × (slice_get refs k ≡ Some r)
   of_choice n r (choice_place {k = k} h) = (k, refl, h)
 
+  of_opened_choice : (n : Node) (r : Ref) → Stands t refs n (a_point (at_opened_choice r)) → (k : ℕ) × (n ≡ N.OpenedChoice k) × (slice_get refs k ≡ Some r)
+  of_opened_choice n r (opened_choice_place {k = k} h) = (k, refl, h)
+
   same_number : (i j : ℕ) → Some i ≡ Some j → i ≡ j
   same_number i j e = cc
 
@@ -104,6 +106,7 @@ module _ (xs : List Definition) (root : Text) (refs : List Ref) (b : Known) (is 
   same_point n m (at_name r) s u = let i = of_name n r s in let j = of_name m r u in i.1 ∙ ap N.Name (once i.0 j.0 r i.2 j.2) ∙ sym j.1
   same_point n m (at_unwrapping r) s u = let i = of_unwrapping n r s in let j = of_unwrapping m r u in i.1 ∙ ap N.Unwrapping (once i.0 j.0 r i.2 j.2) ∙ sym j.1
   same_point n m (at_choice r) s u = let i = of_choice n r s in let j = of_choice m r u in i.1 ∙ ap N.Choice (once i.0 j.0 r i.2 j.2) ∙ sym j.1
+  same_point n m (at_opened_choice r) s u = let i = of_opened_choice n r s in let j = of_opened_choice m r u in i.1 ∙ ap N.OpenedChoice (once i.0 j.0 r i.2 j.2) ∙ sym j.1
 
   pub same_node : (n m : Node) (a : Asked) → Stands t refs n a → Stands t refs m a → n ≡ m
   same_node n m (a_type x) s u = let i = type_at n x s in let j = type_at m x u in i.1 ∙ ap N.Row (same_rows i.0 j.0 (term_tree x) i.2 j.2) ∙ sym j.1
@@ -135,21 +138,6 @@ module _ (xs : List Definition) (root : Text) (refs : List Ref) (b : Known) (is 
       let p = is.places.found n.0 r n.2 (is.instances.all r c) in
       let q = is.places.told n.0 p.0 p.1 in
       (p.0, ap (place_of b.places) n.1 ∙ ap place_in p.1, q.1 ∙ ap Some (is.same_ref n.0 q.0 r q.2 n.2))
-
-  first_reached : (p : Point) (ps : List Point) → AreReached xs root (p ∷ ps) → Reaches xs root (ref_at p)
-  first_reached p ps h = h p (0, omega arith, refl)
-
-  named_reached : (r : Ref) (x : Term) → part_of xs x ≡ names_group r → AreReached xs root (points x) → Reaches xs root r
-  named_reached r x e h = h (at_name r) (contained (points x) (at_name r) (part_named xs r x e))
-
-  opened_reached : (r : Ref) (g : Group) (x : Term) → part_of xs x ≡ opens r g → AreReached xs root (points x) → AreReached xs root (group_points g)
-  opened_reached r g x e h = let o = part_opened xs r g x e in are_reached xs root (group_points g) (opened_present xs root r (opens_group g) (h (at_unwrapping r) (contained (points x) (at_unwrapping r) o.there)) o.is_opened)
-
-  group_reached : (r : Ref) (g : Group) → Reaches xs root r → alternatives g ≡ group_choices xs r → AreReached xs root (group_points g)
-  group_reached r g h e = are_reached xs root (group_points g) (group_present xs root r g h e)
-
-  set_choosable : (o : Option ℕ) (n : ℕ) (g : Group) → o ≡ Some n → IsGroup t n g → AreReached xs root (group_points g) → is_some (chosen xs g) ≡ true → chosen_node (flagged b.choosable o) ≡ Some (N.Chosen n)
-  set_choosable o n g e h r c = ap chosen_node (W.flag_set b.choosable o n e ((is.choosable.groups n g h r).1 c))
 
   -- entries, with a comma or without
 
@@ -204,26 +192,23 @@ module _ (xs : List Definition) (root : Text) (refs : List Ref) (b : Known) (is 
       same : Some (opens_type u) ≡ Some (opens_type x) → u ≡ x
       same e = cc
 
-  opening_at : (k : ℕ) (r : Ref) → slice_get refs k ≡ Some r → (q : Opening) × (slice_get b.openings k ≡ Some q) × IsOpened t (opened xs r) q
-  opening_at k r e = W.alike_at (λ s o. IsOpened t (opened xs s) o) refs b.openings is.openings k r e
-
   -- each step
 
   pub ahead : (n : Node) (a next : Asked) → Asks xs a next → Stands t refs n a → IsReached xs root a → Found n next
   ahead n a next (A.by_name {r = r}) s h =
       let i = type_at n (named r) s in
       let w = W.row_at b i.0 F.Named None (ref_tree r) nothing i.2 in
-      let p = place_found w.first r w.has_first (first_reached (at_name r) [] h) in
+      let p = place_found w.first r w.has_first (first xs root (at_name r) h) in
       found n (N.Row i.0) (N.Name p.0) (a_point (at_name r)) i.1 (name_place p.2) (by_row w.there (inl (ap name_node p.1)))
   ahead n a next (A.by_unwrapping {r = r}) s h =
       let i = type_at n (unwrapped r) s in
       let w = W.row_at b i.0 F.Unwrapped None (ref_tree r) nothing i.2 in
-      let p = place_found w.first r w.has_first (first_reached (at_unwrapping r) [] h) in
+      let p = place_found w.first r w.has_first (first xs root (at_unwrapping r) h) in
       found n (N.Row i.0) (N.Unwrapping p.0) (a_point (at_unwrapping r)) i.1 (unwrapping_place p.2) (by_row w.there (inl (ap unwrapping_node p.1)))
   ahead n a next (A.by_choice {r = r}) s h =
       let i = type_at n (choice_of_name r) s in
       let w = W.row_at b i.0 F.ChoiceOfName None (ref_tree r) nothing i.2 in
-      let p = place_found w.first r w.has_first (first_reached (at_choice r) [] h) in
+      let p = place_found w.first r w.has_first (first xs root (at_choice r) h) in
       found n (N.Row i.0) (N.Choice p.0) (a_point (at_choice r)) i.1 (choice_place p.2) (by_row w.there (inl (ap choice_node p.1)))
   ahead n a next (A.in_parens {t = y}) s h =
       let i = type_at n (parens y) s in
@@ -245,11 +230,11 @@ module _ (xs : List Definition) (root : Text) (refs : List Ref) (b : Known) (is 
       let w = W.row_at b i.0 F.ArrayOf None (group_tree g) nothing i.2 in
       let p = part_row w.first (group_tree g) (W.group_is_node g) w.has_first in
       found n (N.Row i.0) (N.Row p.0) (a_group g) i.1 (group_row p.2) (by_row w.there (inl p.1))
-  ahead n a next (A.in_choice {g = g} c) s h =
+  ahead n a next (A.in_choice {g = g}) s h =
       let i = type_at n (choice_of g) s in
       let w = W.row_at b i.0 F.ChoiceOf None (group_tree g) nothing i.2 in
-      let p = W.some_node t w.first (group_tree g) (W.group_is_node g) w.has_first in
-      found n (N.Row i.0) (N.Chosen p.0) (chosen_group g) i.1 (chosen_group_row p.2) (by_row w.there (inl (set_choosable w.first p.0 g p.1 p.2 h c)))
+      let p = part_chosen w.first (group_tree g) (W.group_is_node g) w.has_first in
+      found n (N.Row i.0) (N.Chosen p.0) (chosen_group g) i.1 (chosen_group_row p.2) (by_row w.there (inl p.1))
   ahead n a next (A.in_head {h = y}) s h =
       let i = type_at n (simple_by y) s in
       let w = W.row_at b i.0 F.SimpleBy None (term_tree y) nothing i.2 in
@@ -292,7 +277,7 @@ module _ (xs : List Definition) (root : Text) (refs : List Ref) (b : Known) (is 
       let w = has_entries i.0 es x c i.2 in
       let f = W.some_node t w.first (entries_tree es) (W.entries_is_node es) w.has_first in
       let p = part_row w.second (entry_tree x) (W.entry_is_node x) w.has_second in
-      let d = W.flag_set b.may_be_empty w.first f.0 f.1 ((is.empty.entries f.0 es f.2 (W.front_reached xs root refs b is (entries_points es) (entry_points x) h)).1 m) in
+      let d = W.flag_set b.may_be_empty w.first f.0 f.1 ((is.empty.entries f.0 es f.2 (front xs root (entries_points es) (entry_points x) h)).1 m) in
       found n (N.Row i.0) (N.Row p.0) (an_entry x) i.1 (entry_row p.2) (w.leads (N.Row p.0) (inr (ap (λ z. row_node (E.if_some z w.second)) d ∙ p.1)))
   ahead n a next (A.group_name {o = o} {t = x} {r = r} e) s h =
       let i = of_entry n (typed o x) s in
@@ -339,23 +324,17 @@ module _ (xs : List Definition) (root : Text) (refs : List Ref) (b : Known) (is 
       let w = W.row_at b i.0 F.Typed o (term_tree x) nothing i.2 in
       let q = is_type_part (part_of xs x) (part_at b.parts w.first) (W.part_there xs root refs b is x w.first w.has_first h) e in
       let p = part_row w.first (term_tree x) (W.term_is_node x) w.has_first in
-      found n (N.Chosen i.0) (N.Row p.0) (a_type x) i.1 (type_row p.2) (by_chosen w.there (inl (ap (E.chosen_part b w.first) q ∙ p.1)))
-  ahead n a next (A.chosen_name {o = o} {t = x} {r = r} {g = g} e f c) s h =
+      found n (N.Chosen i.0) (N.Row p.0) (a_type x) i.1 (type_row p.2) (by_chosen w.there (inl (ap (E.chosen_part w.first) q ∙ p.1)))
+  ahead n a next (A.chosen_name {o = o} {t = x} {r = r} e) s h =
       let i = of_chosen_entry n (typed o x) s in
       let w = W.row_at b i.0 F.Typed o (term_tree x) nothing i.2 in
-      let q = is_name_part (part_of xs x) (part_at b.parts w.first) r (W.part_there xs root refs b is x w.first w.has_first h) e in
-      let v = W.meaning_at xs root refs b is q.0 r q.2 in
-      let p = W.row_of_group xs root refs b is (group_choices xs r) v.0.group v.2.group g f in
-      let d = set_choosable (group_in (slice_get b.meanings q.0)) p.0 g (ap group_in v.1 ∙ p.1) p.2 (group_reached r g (named_reached r x e h) f) c in
-      found n (N.Chosen i.0) (N.Chosen p.0) (chosen_group g) i.1 (chosen_group_row p.2) (by_chosen w.there (inl (ap (E.chosen_part b w.first) q.1 ∙ d)))
-  ahead n a next (A.chosen_opened {o = o} {t = x} {r = r} {g = g} e c) s h =
+      let p = is_name_part (part_of xs x) (part_at b.parts w.first) r (W.part_there xs root refs b is x w.first w.has_first h) e in
+      found n (N.Chosen i.0) (N.Choice p.0) (a_point (at_choice r)) i.1 (choice_place p.2) (by_chosen w.there (inl (ap (E.chosen_part w.first) p.1)))
+  ahead n a next (A.chosen_opened {o = o} {t = x} {r = r} {g = g} e) s h =
       let i = of_chosen_entry n (typed o x) s in
       let w = W.row_at b i.0 F.Typed o (term_tree x) nothing i.2 in
-      let q = is_opened_part (part_of xs x) (part_at b.parts w.first) r g (W.part_there xs root refs b is x w.first w.has_first h) e in
-      let v = opening_at q.0 r q.3 in
-      let p = is_group_opening (opened xs r) v.0 g v.2 (part_opened xs r g x e).is_opened in
-      let d = set_choosable (opened_group (slice_get b.openings q.0)) p.0 g (ap opened_group v.1 ∙ ap (λ z. opened_group (Some z)) p.1) p.2 (opened_reached r g x e h) c in
-      found n (N.Chosen i.0) (N.Chosen p.0) (chosen_group g) i.1 (chosen_group_row p.2) (by_chosen w.there (inl (ap (E.chosen_part b w.first) q.2 ∙ d)))
+      let p = is_opened_part (part_of xs x) (part_at b.parts w.first) r g (W.part_there xs root refs b is x w.first w.has_first h) e in
+      found n (N.Chosen i.0) (N.OpenedChoice p.0) (a_point (at_opened_choice r)) i.1 (opened_choice_place p.3) (by_chosen w.there (inl (ap (E.chosen_part w.first) p.2)))
   ahead n a next (A.chosen_keyed {o = o} {k = y} {t = x}) s h =
       let i = of_chosen_entry n (keyed o y x) s in
       let w = W.row_at b i.0 F.Keyed o (key_tree y) (term_tree x) i.2 in
@@ -379,21 +358,26 @@ module _ (xs : List Definition) (root : Text) (refs : List Ref) (b : Known) (is 
   ahead n a next (A.opens_a_group {r = r} {g = g} e) s h =
       let i = of_unwrapping n r s in
       let w = W.meaning_at xs root refs b is i.0 r i.2 in
-      let v = opening_at i.0 r i.2 in
+      let v = W.opening_at xs root refs b is i.0 r i.2 in
       let p = is_group_opening (opened xs r) v.0 g v.2 e in
       found n (N.Unwrapping i.0) (N.Row p.0) (a_group g) i.1 (group_row p.2) (by_opening w.1 (ap (λ o. row_node (opened_row o)) v.1 ∙ ap (λ z. row_node (opened_row (Some z))) p.1))
   ahead n a next (A.opens_content {r = r} {t = x} e) s h =
       let i = of_unwrapping n r s in
       let w = W.meaning_at xs root refs b is i.0 r i.2 in
-      let v = opening_at i.0 r i.2 in
+      let v = W.opening_at xs root refs b is i.0 r i.2 in
       let p = is_type_opening (opened xs r) v.0 x v.2 e in
       found n (N.Unwrapping i.0) (N.Row p.0) (a_type x) i.1 (type_row p.2) (by_opening w.1 (ap (λ o. row_node (opened_row o)) v.1 ∙ ap (λ z. row_node (opened_row (Some z))) p.1))
-  ahead n a next (A.chooses {r = r} {g = g} f c) s h =
+  ahead n a next (A.chooses {r = r} {g = g} f) s h =
       let i = of_choice n r s in
       let v = W.meaning_at xs root refs b is i.0 r i.2 in
       let p = W.row_of_group xs root refs b is (group_choices xs r) v.0.group v.2.group g f in
-      let d = set_choosable v.0.group p.0 g p.1 p.2 (group_reached r g (first_reached (at_choice r) [] h) f) c in
-      found n (N.Choice i.0) (N.Chosen p.0) (chosen_group g) i.1 (chosen_group_row p.2) (by_choice v.1 d)
+      found n (N.Choice i.0) (N.Chosen p.0) (chosen_group g) i.1 (chosen_group_row p.2) (by_choice v.1 (ap chosen_node p.1))
+  ahead n a next (A.chooses_opened {r = r} {g = g} e) s h =
+      let i = of_opened_choice n r s in
+      let w = W.meaning_at xs root refs b is i.0 r i.2 in
+      let v = W.opening_at xs root refs b is i.0 r i.2 in
+      let p = is_group_opening (opened xs r) v.0 g v.2 e in
+      found n (N.OpenedChoice i.0) (N.Chosen p.0) (chosen_group g) i.1 (chosen_group_row p.2) (by_opened_choice w.1 (ap (λ o. chosen_node (opened_group o)) v.1 ∙ ap (λ z. chosen_node (opened_group (Some z))) p.1))
 
   pub step_leads : (n m : Node) → IsStep xs root refs t n m → Leads b n m
   step_leads n m s = let f = ahead n s.asker s.asked s.asks s.from s.reached in subst (λ z. Leads b n z) (same_node f.node m s.asked f.stands s.to) f.leads

@@ -1,15 +1,11 @@
 -- What is asked over steps is what references lead on to.
-use Rattle.std.proofs.Common.{◌≡◌, ℕ, zero, suc, ◌+◌, ◌-◌, ◌≤◌, ◌⊎◌, inl, inr, Bool, true, false, if◌then◌else◌, List, [], ◌∷◌, ◌++◌, Option, Some, None, is_some, refl, sym, ap, subst, ◌∙◌, arith}
+use Rattle.std.proofs.Common.{◌≡◌, zero, suc, ◌⊎◌, inl, inr, List, [], ◌∷◌, ◌++◌, refl, sym, ap, subst, ◌∙◌, arith}
 use Rattle.std.specs.Prelude.{Contains}
-use Rattle.cddl_language.specs.Numbers.{occurs_once}
-use Rattle.cddl_language.specs.Terms.{Text, Term, Ref, Group, sole, orelse, Entries, no_entries, entries, Entry, typed, keyed, grouped, Definition, alternatives}
+use Rattle.cddl_language.specs.Terms.{Term, Group, sole, orelse, Entries, Entry, Definition, alternatives}
 use Rattle.cddl_language.specs.Substitution.{group_choices}
-use Rattle.cddl_language.specs.Kinds.{Part, asks_type, names_group, opens, part_of}
-use Rattle.cddl_language.specs.Reach.{Point, at_name, at_unwrapping, at_choice, most_instances}
-use Rattle.cddl_language.specs.Choices as C
-use Rattle.cddl_language.specs.Choices.{chosen, chosen_by_name, chosen_each, chosen_in, chosen_part, joined}
+use Rattle.cddl_language.specs.Reach.{Point, at_name, at_unwrapping, at_choice, at_opened_choice}
 use Rattle.cddl_language.specs.Free as F
-use Rattle.cddl_language.specs.Free.{IsFree, IsFreeInSome, IsFreeInEach, IsFreeInEntry, LeadsTo, LeadsOn}
+use Rattle.cddl_language.specs.Free.{IsFree, IsFreeInSome, IsFreeInEach, IsFreeInEntry, IsFreeInChoice, IsFreeInChosen, IsFreeInChosenEntry, LeadsTo, LeadsOn}
 use Rattle.cddl_recursion.specs.Asking as A
 use Rattle.cddl_recursion.specs.Asking.{Asked, a_type, a_group, some_entries, an_entry, chosen_group, chosen_entries, chosen_entry, a_point, Asks, AsksOn}
 
@@ -63,193 +59,10 @@ group_onward g (y ∷ ys) = let r = group_onward (orelse g y) ys in (r.0, r.1 �
 pub group_with : (es : Entries) (ess : List Entries) → (g : Group) × (alternatives g ≡ es ∷ ess)
 group_with es ess = group_onward (sole es) ess
 
--- joined lists
-
-pub record AreJoined (a b : Option (List Term)) (ts : List Term) : Type 0 where
-  pub first : List Term
-  pub second : List Term
-  pub is_first : a ≡ Some first
-  pub is_second : b ≡ Some second
-  pub whole : ts ≡ first ++ second
-
-pub are_joined : (a b : Option (List Term)) (ts : List Term) → joined a b ≡ Some ts → AreJoined a b ts
-are_joined (Some us) (Some vs) ts e = record { first = us; second = vs; is_first = refl; is_second = refl; whole = same ts (us ++ vs) (sym e) }
-  where
-    same : (x y : List Term) → Some x ≡ Some y → x ≡ y
-    same x y e = cc
-are_joined (Some us) None ts e = cc
-are_joined None b ts e = cc
-
-joined_assoc : (a b c : Option (List Term)) → joined a (joined b c) ≡ joined (joined a b) c
-joined_assoc (Some us) (Some vs) (Some ws) = ap Some (assoc us)
-  where
-    assoc : (us : List Term) → us ++ (vs ++ ws) ≡ (us ++ vs) ++ ws
-    assoc [] = refl
-    assoc (u ∷ us) = ap (λ (xs : List Term). u ∷ xs) (assoc us)
-joined_assoc (Some us) (Some vs) None = refl
-joined_assoc (Some us) None c = refl
-joined_assoc None b c = refl
-
-joined_none : (a : Option (List Term)) → joined a (Some []) ≡ a
-joined_none (Some us) = ap Some (append_none us)
-joined_none None = refl
-
-none_joined : (a : Option (List Term)) → joined (Some []) a ≡ a
-none_joined (Some us) = refl
-none_joined None = refl
-
 module _ (ds : List Definition) where
-  abbrev pub Next : Type 0
-  Next = List Entries → Option (List Term)
-
-  each_append : (next : Next) (xs ys : List Entries) → chosen_each ds next (xs ++ ys) ≡ joined (chosen_each ds next xs) (chosen_each ds next ys)
-  each_append next [] ys = sym (none_joined (chosen_each ds next ys))
-  each_append next (x ∷ xs) ys = ap (joined (C.chosen_entries ds next x)) (each_append next xs ys) ∙ joined_assoc (C.chosen_entries ds next x) (chosen_each ds next xs) (chosen_each ds next ys)
-
-  pub each_group : (next : Next) (g : Group) → chosen_each ds next (alternatives g) ≡ C.chosen_group ds next g
-  each_group next (sole es) = joined_none (C.chosen_entries ds next es)
-  each_group next (orelse g es) = each_append next (alternatives g) (es ∷ []) ∙ ap (λ a. joined a (joined (C.chosen_entries ds next es) (Some []))) (each_group next g) ∙ ap (joined (C.chosen_group ds next g)) (joined_none (C.chosen_entries ds next es))
-
-  -- how names are gone through
-  abbrev pub next_in : ℕ → Next
-  next_in zero us = None
-  next_in (suc k) us = chosen_in ds k us
-
-  pub in_next : (k : ℕ) (g : Group) → chosen_in ds k (alternatives g) ≡ C.chosen_group ds (next_in k) g
-  in_next zero g = each_group (λ us. None) g
-  in_next (suc k) g = each_group (λ us. chosen_in ds k us) g
-
-  -- What is chosen stays with more names.
-
-  module _ (old new : Next) (kept : (us : List Entries) (ts : List Term) → old us ≡ Some ts → new us ≡ Some ts) where
-    join_kept : (a b c d : Option (List Term)) → ((ts : List Term) → a ≡ Some ts → c ≡ Some ts) → ((ts : List Term) → b ≡ Some ts → d ≡ Some ts) → (ts : List Term) → joined a b ≡ Some ts → joined c d ≡ Some ts
-    join_kept a b c d f g ts e = let j = are_joined a b ts e in ap (λ x. joined x d) (f j.first j.is_first) ∙ ap (joined (Some j.first)) (g j.second j.is_second) ∙ ap Some (sym j.whole)
-
-    part_kept : (t : Term) (p : Part) (ts : List Term) → chosen_part ds old t p ≡ Some ts → chosen_part ds new t p ≡ Some ts
-    part_kept t asks_type ts e = e
-    part_kept t (names_group r) ts e = kept (group_choices ds r) ts e
-    part_kept t (opens r g) ts e = kept (alternatives g) ts e
-
-    once_kept : (b : Bool) (a c : Option (List Term)) → ((ts : List Term) → a ≡ Some ts → c ≡ Some ts) → (ts : List Term) → (if b then a else None) ≡ Some ts → (if b then c else None) ≡ Some ts
-    once_kept true a c f ts e = f ts e
-    once_kept false a c f ts e = e
-
-    mutual
-      group_kept : (g : Group) (ts : List Term) → C.chosen_group ds old g ≡ Some ts → C.chosen_group ds new g ≡ Some ts
-      group_kept (sole es) ts e = entries_kept es ts e
-      group_kept (orelse g es) ts e = join_kept (C.chosen_group ds old g) (C.chosen_entries ds old es) (C.chosen_group ds new g) (C.chosen_entries ds new es) (group_kept g) (entries_kept es) ts e
-
-      entries_kept : (es : Entries) (ts : List Term) → C.chosen_entries ds old es ≡ Some ts → C.chosen_entries ds new es ≡ Some ts
-      entries_kept no_entries ts e = e
-      entries_kept (entries es x c) ts e = join_kept (C.chosen_entries ds old es) (C.chosen_entry ds old x) (C.chosen_entries ds new es) (C.chosen_entry ds new x) (entries_kept es) (entry_kept x) ts e
-
-      entry_kept : (x : Entry) (ts : List Term) → C.chosen_entry ds old x ≡ Some ts → C.chosen_entry ds new x ≡ Some ts
-      entry_kept (typed o t) ts e = once_kept (occurs_once o) (chosen_part ds old t (part_of ds t)) (chosen_part ds new t (part_of ds t)) (part_kept t (part_of ds t)) ts e
-      entry_kept (keyed o k t) ts e = e
-      entry_kept (grouped o g) ts e = once_kept (occurs_once o) (C.chosen_group ds old g) (C.chosen_group ds new g) (group_kept g) ts e
-
-    each_kept : (ess : List Entries) (ts : List Term) → chosen_each ds old ess ≡ Some ts → chosen_each ds new ess ≡ Some ts
-    each_kept [] ts e = e
-    each_kept (es ∷ ess) ts e = join_kept (C.chosen_entries ds old es) (chosen_each ds old ess) (C.chosen_entries ds new es) (chosen_each ds new ess) (entries_kept es) (each_kept ess) ts e
-
-  one_more : (k : ℕ) (ess : List Entries) (ts : List Term) → chosen_in ds k ess ≡ Some ts → chosen_in ds (suc k) ess ≡ Some ts
-  one_more zero ess ts e = each_kept (λ us. None) (λ us. chosen_in ds zero us) (λ us ts e. cc) ess ts e
-  one_more (suc k) ess ts e = each_kept (λ us. chosen_in ds k us) (λ us. chosen_in ds (suc k) us) (one_more k) ess ts e
-
-  up_to : (n k : ℕ) (ess : List Entries) (ts : List Term) → chosen_in ds k ess ≡ Some ts → chosen_in ds (n + k) ess ≡ Some ts
-  up_to zero k ess ts e = subst (λ m. chosen_in ds m ess ≡ Some ts) none e
-    where
-      none : k ≡ zero + k
-      none = omega arith
-  up_to (suc n) k ess ts e = subst (λ m. chosen_in ds m ess ≡ Some ts) more (one_more (n + k) ess ts (up_to n k ess ts e))
-    where
-      more : suc (n + k) ≡ suc n + k
-      more = omega arith
-
-  pub most : (m k : ℕ) → k ≤ m → (ess : List Entries) (ts : List Term) → chosen_in ds k ess ≡ Some ts → chosen_in ds m ess ≡ Some ts
-  most m k h ess ts e = subst (λ j. chosen_in ds j ess ≡ Some ts) all (up_to (m - k) k ess ts e)
-    where
-      all : (m - k) + k ≡ m
-      all = omega (arith, h)
-
-  pub some_of : (o : Option (List Term)) → is_some o ≡ true → (ts : List Term) × (o ≡ Some ts)
-  some_of (Some ts) e = (ts, refl)
-  some_of None e = cc
-
-  same_list : (us ts : List Term) → Some us ≡ Some ts → us ≡ ts
-  same_list us ts e = cc
-
-  pub if_some : (b : Bool) (o : Option (List Term)) (ts : List Term) → (if b then o else None) ≡ Some ts → o ≡ Some ts
-  if_some true o ts e = e
-  if_some false o ts e = cc
-
-  pub and_then : (a b c : Asked) → AsksOn ds a b → AsksOn ds b c → AsksOn ds a c
+  and_then : (a b c : Asked) → AsksOn ds a b → AsksOn ds b c → AsksOn ds a c
   and_then a b c (A.at_once s) w = A.onwards s w
   and_then a b c (A.onwards {b = d} s v) w = A.onwards s (and_then d b c v w)
-
-  -- What `&` chooses is asked.
-
-  joined_way : (a b : Option (List Term)) (x : Asked) (ts : List Term) (t : Term) → joined a b ≡ Some ts → In ts t → ((us : List Term) → a ≡ Some us → In us t → AsksOn ds x (a_type t)) → ((us : List Term) → b ≡ Some us → In us t → AsksOn ds x (a_type t)) → AsksOn ds x (a_type t)
-  joined_way a b x ts t e i f g = let j = are_joined a b ts e in by j.first j.second j.is_first j.is_second (in_either j.first j.second t (subst (λ us. In us t) j.whole i))
-    where
-      by : (us vs : List Term) → a ≡ Some us → b ≡ Some vs → In us t ⊎ In vs t → AsksOn ds x (a_type t)
-      by us vs h k (inl l) = f us h l
-      by us vs h k (inr l) = g vs k l
-
-  lone_term : (u : Term) (ts : List Term) (t : Term) → Some (u ∷ []) ≡ Some ts → In ts t → u ≡ t
-  lone_term u ts t e i = by (subst (λ us. In us t) (sym (same_list (u ∷ []) ts e)) i)
-    where
-      by : In (u ∷ []) t → u ≡ t
-      by (inl h) = h
-      by (inr h) = absurd h
-
-  module _ (next : Next) (empty : (ts : List Term) → next [] ≡ Some ts → ts ≡ []) (way : (us : List Entries) (g : Group) (ts : List Term) (t : Term) → alternatives g ≡ us → next us ≡ Some ts → In ts t → (is_some (chosen ds g) ≡ true) × AsksOn ds (chosen_group g) (a_type t)) where
-    name_way : (o : Option Text) (u : Term) (r : Ref) → part_of ds u ≡ names_group r → (us : List Entries) → group_choices ds r ≡ us → (ts : List Term) (t : Term) → next us ≡ Some ts → In ts t → AsksOn ds (chosen_entry (typed o u)) (a_type t)
-    name_way o u r h [] f ts t e i = absurd (subst (λ us. In us t) (empty ts e) i)
-    name_way o u r h (es ∷ ess) f ts t e i =
-        let g = group_with es ess in
-        let w = way (es ∷ ess) g.0 ts t g.1 e i in
-        A.onwards (A.chosen_name h (g.1 ∙ sym f) w.0) w.1
-
-    part_way : (o : Option Text) (u : Term) (p : Part) → part_of ds u ≡ p → (ts : List Term) (t : Term) → chosen_part ds next u p ≡ Some ts → In ts t → AsksOn ds (chosen_entry (typed o u)) (a_type t)
-    part_way o u asks_type h ts t e i = subst (λ v. AsksOn ds (chosen_entry (typed o u)) (a_type v)) (lone_term u ts t e i) (A.at_once (A.chosen_type h))
-    part_way o u (names_group r) h ts t e i = name_way o u r h (group_choices ds r) refl ts t e i
-    part_way o u (opens r g) h ts t e i = let w = way (alternatives g) g ts t refl e i in A.onwards (A.chosen_opened h w.0) w.1
-
-    mutual
-      group_way : (g : Group) (ts : List Term) (t : Term) → C.chosen_group ds next g ≡ Some ts → In ts t → AsksOn ds (chosen_group g) (a_type t)
-      group_way (sole es) ts t e i = A.onwards A.chosen_sole (entries_way es ts t e i)
-      group_way (orelse g es) ts t e i = joined_way (C.chosen_group ds next g) (C.chosen_entries ds next es) (chosen_group (orelse g es)) ts t e i (λ us f h. A.onwards A.chosen_others (group_way g us t f h)) (λ us f h. A.onwards A.chosen_alternative (entries_way es us t f h))
-
-      entries_way : (es : Entries) (ts : List Term) (t : Term) → C.chosen_entries ds next es ≡ Some ts → In ts t → AsksOn ds (chosen_entries es) (a_type t)
-      entries_way no_entries ts t e i = absurd (subst (λ us. In us t) (sym (same_list [] ts e)) i)
-      entries_way (entries es x c) ts t e i = joined_way (C.chosen_entries ds next es) (C.chosen_entry ds next x) (chosen_entries (entries es x c)) ts t e i (λ us f h. A.onwards A.chosen_earlier (entries_way es us t f h)) (λ us f h. A.onwards A.chosen_last (entry_way x us t f h))
-
-      entry_way : (x : Entry) (ts : List Term) (t : Term) → C.chosen_entry ds next x ≡ Some ts → In ts t → AsksOn ds (chosen_entry x) (a_type t)
-      entry_way (typed o u) ts t e i = part_way o u (part_of ds u) refl ts t (if_some (occurs_once o) (chosen_part ds next u (part_of ds u)) ts e) i
-      entry_way (keyed o k u) ts t e i = subst (λ v. AsksOn ds (chosen_entry (keyed o k u)) (a_type v)) (lone_term u ts t (if_some (occurs_once o) (Some (u ∷ [])) ts e) i) (A.at_once A.chosen_keyed)
-      entry_way (grouped o g) ts t e i = A.onwards A.chosen_inner (group_way g ts t (if_some (occurs_once o) (C.chosen_group ds next g) ts e) i)
-
-  empty_next : (k : ℕ) (ts : List Term) → next_in k [] ≡ Some ts → ts ≡ []
-  empty_next zero ts e = cc
-  empty_next (suc zero) ts e = sym (same_list [] ts e)
-  empty_next (suc (suc k)) ts e = sym (same_list [] ts e)
-
-  chosen_way : (k m : ℕ) → k ≤ m → ((j : ℕ) → j ≤ m → (g : Group) (ts : List Term) → chosen_in ds j (alternatives g) ≡ Some ts → is_some (chosen ds g) ≡ true) → (g : Group) (ts : List Term) (t : Term) → C.chosen_group ds (next_in k) g ≡ Some ts → In ts t → AsksOn ds (chosen_group g) (a_type t)
-  chosen_way zero m h gate g ts t e i = group_way (next_in zero) (empty_next zero) (λ us g ts t f e i. cc) g ts t e i
-  chosen_way (suc k) m h gate g ts t e i = group_way (next_in (suc k)) (empty_next (suc k)) (further (chosen_way k m low gate)) g ts t e i
-    where
-      low : k ≤ m
-      low = omega (arith, h)
-
-      further : ((g : Group) (ts : List Term) (t : Term) → C.chosen_group ds (next_in k) g ≡ Some ts → In ts t → AsksOn ds (chosen_group g) (a_type t)) → (us : List Entries) (g : Group) (ts : List Term) (t : Term) → alternatives g ≡ us → chosen_in ds k us ≡ Some ts → In ts t → (is_some (chosen ds g) ≡ true) × AsksOn ds (chosen_group g) (a_type t)
-      further on us g ts t f e i = let l = subst (λ vs. chosen_in ds k vs ≡ Some ts) (sym f) e in (gate k low g ts l, on g ts t (sym (in_next k g) ∙ l) i)
-
-  pub choosable : (j : ℕ) → j ≤ most_instances → (g : Group) (ts : List Term) → chosen_in ds j (alternatives g) ≡ Some ts → is_some (chosen ds g) ≡ true
-  choosable j h g ts e = ap is_some (most most_instances j h (alternatives g) ts e)
-
-  pub from_chosen : (g : Group) (ts : List Term) (t : Term) → chosen ds g ≡ Some ts → Contains ts t → AsksOn ds (chosen_group g) (a_type t)
-  from_chosen g ts t e c = chosen_way most_instances most_instances (omega arith) choosable g ts t (sym (in_next most_instances g) ∙ e) (in_list ts t c)
 
   -- What is free is asked.
 
@@ -263,17 +76,33 @@ module _ (ds : List Definition) where
       by (inr (inl e)) f = subst (λ x. AsksOn ds (a_group (orelse g fs)) (some_entries x)) e (A.at_once A.last_alternative)
       by (inr (inr i)) f = absurd i
 
+  choice_reaches : (g : Group) (es : Entries) → In (alternatives g) es → AsksOn ds (chosen_group g) (chosen_entries es)
+  choice_reaches (sole fs) es (inl e) = subst (λ x. AsksOn ds (chosen_group (sole fs)) (chosen_entries x)) e (A.at_once A.chosen_sole)
+  choice_reaches (sole fs) es (inr h) = absurd h
+  choice_reaches (orelse g fs) es h = by (in_either (alternatives g) (fs ∷ []) es h) (choice_reaches g es)
+    where
+      by : In (alternatives g) es ⊎ In (fs ∷ []) es → (In (alternatives g) es → AsksOn ds (chosen_group g) (chosen_entries es)) → AsksOn ds (chosen_group (orelse g fs)) (chosen_entries es)
+      by (inl i) f = A.onwards A.chosen_others (f i)
+      by (inr (inl e)) f = subst (λ x. AsksOn ds (chosen_group (orelse g fs)) (chosen_entries x)) e (A.at_once A.chosen_alternative)
+      by (inr (inr i)) f = absurd i
+
   abbrev SomeAsks : List Entries → Point → Type 0
   SomeAsks ess p = (es : Entries) × (In ess es) × AsksOn ds (some_entries es) (a_point p)
 
+  abbrev ChoiceAsks : List Entries → Point → Type 0
+  ChoiceAsks ess p = (es : Entries) × (In ess es) × AsksOn ds (chosen_entries es) (a_point p)
+
   group_asks : (g : Group) (p : Point) → SomeAsks (alternatives g) p → AsksOn ds (a_group g) (a_point p)
   group_asks g p s = and_then (a_group g) (some_entries s.0) (a_point p) (group_reaches g s.0 s.1) s.2
+
+  choice_asks : (g : Group) (p : Point) → ChoiceAsks (alternatives g) p → AsksOn ds (chosen_group g) (a_point p)
+  choice_asks g p s = and_then (chosen_group g) (chosen_entries s.0) (a_point p) (choice_reaches g s.0 s.1) s.2
 
   point_is : (p q : Point) (a : Asked) → p ≡ q → Asks ds a (a_point q) → AsksOn ds a (a_point p)
   point_is p q a e s = subst (λ x. AsksOn ds a (a_point x)) (sym e) (A.at_once s)
 
   mutual
-    pub free_asks : (p : Point) (t : Term) → IsFree ds p t → AsksOn ds (a_type t) (a_point p)
+    free_asks : (p : Point) (t : Term) → IsFree ds p t → AsksOn ds (a_type t) (a_point p)
     free_asks p t (F.name {r = r} e) = point_is p (at_name r) (a_type t) e A.by_name
     free_asks p t (F.unwrapping {r = r} e) = point_is p (at_unwrapping r) (a_type t) e A.by_unwrapping
     free_asks p t (F.choice_by_name {r = r} e) = point_is p (at_choice r) (a_type t) e A.by_choice
@@ -281,12 +110,12 @@ module _ (ds : List Definition) where
     free_asks p t (F.in_first {t = u} h) = A.onwards A.in_first (free_asks p u h)
     free_asks p t (F.in_second {u = u} h) = A.onwards A.in_second (free_asks p u h)
     free_asks p t (F.in_array {g = g} h) = A.onwards A.in_array (group_asks g p (some_asks p (alternatives g) h))
-    free_asks p t (F.in_choice {g = g} {ts = ts} {t = u} e c h) = A.onwards (A.in_choice (ap is_some e)) (and_then (chosen_group g) (a_type u) (a_point p) (from_chosen g ts u e c) (free_asks p u h))
+    free_asks p t (F.in_choice {g = g} h) = A.onwards A.in_choice (choice_asks g p (any_asks p (alternatives g) h))
     free_asks p t (F.in_head {h = u} h) = A.onwards A.in_head (free_asks p u h)
     free_asks p t (F.in_left {a = u} h) = A.onwards A.in_left (free_asks p u h)
     free_asks p t (F.in_controller {b = u} n h) = A.onwards (A.in_controller n) (free_asks p u h)
 
-    pub some_asks : (p : Point) (ess : List Entries) → IsFreeInSome ds p ess → SomeAsks ess p
+    some_asks : (p : Point) (ess : List Entries) → IsFreeInSome ds p ess → SomeAsks ess p
     some_asks p ess (F.in_this {es = es} h) = (es, inl refl, each_asks p es h)
     some_asks p ess (F.in_later {ess = fss} h) = let s = some_asks p fss h in (s.0, inr s.1, s.2)
 
@@ -299,26 +128,39 @@ module _ (ds : List Definition) where
     entry_asks p x (F.group_opened {r = r} e h) = point_is p (at_unwrapping r) (an_entry x) h (A.group_opened e)
     entry_asks p x (F.in_group {g = g} h) = A.onwards A.in_group (group_asks g p (some_asks p (alternatives g) h))
 
-  named_group : (r : Ref) (p : Point) (us : List Entries) → group_choices ds r ≡ us → SomeAsks us p → (g : Group) × (alternatives g ≡ group_choices ds r)
-  named_group r p [] e s = absurd s.1
-  named_group r p (es ∷ ess) e s = let g = group_with es ess in (g.0, g.1 ∙ sym e)
+    any_asks : (p : Point) (ess : List Entries) → IsFreeInChoice ds p ess → ChoiceAsks ess p
+    any_asks p ess (F.of_this {es = es} h) = (es, inl refl, chosen_asks p es h)
+    any_asks p ess (F.of_later {ess = fss} h) = let s = any_asks p fss h in (s.0, inr s.1, s.2)
 
-  chosen_named : (r : Ref) (ts : List Term) (t : Term) (us : List Entries) → group_choices ds r ≡ us → chosen_in ds most_instances us ≡ Some ts → In ts t → (g : Group) × (alternatives g ≡ group_choices ds r)
-  chosen_named r ts t [] f e i = absurd (subst (λ vs. In vs t) (sym (same_list [] ts e)) i)
-  chosen_named r ts t (es ∷ ess) f e i = let g = group_with es ess in (g.0, g.1 ∙ sym f)
+    chosen_asks : (p : Point) (es : Entries) → IsFreeInChosen ds p es → AsksOn ds (chosen_entries es) (a_point p)
+    chosen_asks p es (F.of_last {e = x} h) = A.onwards A.chosen_last (chosen_entry_asks p x h)
+    chosen_asks p es (F.of_earlier {es = fs} h) = A.onwards A.chosen_earlier (chosen_asks p fs h)
 
-  pub point_asks : (p q : Point) → LeadsTo ds q p → AsksOn ds (a_point p) (a_point q)
+    chosen_entry_asks : (p : Point) (x : Entry) → IsFreeInChosenEntry ds p x → AsksOn ds (chosen_entry x) (a_point p)
+    chosen_entry_asks p x (F.of_type {t = u} e h) = A.onwards (A.chosen_type e) (free_asks p u h)
+    chosen_entry_asks p x (F.of_name {r = r} e h) = point_is p (at_choice r) (chosen_entry x) h (A.chosen_name e)
+    chosen_entry_asks p x (F.of_opened {r = r} e h) = point_is p (at_opened_choice r) (chosen_entry x) h (A.chosen_opened e)
+    chosen_entry_asks p x (F.of_keyed {t = u} h) = A.onwards A.chosen_keyed (free_asks p u h)
+    chosen_entry_asks p x (F.of_group {g = g} h) = A.onwards A.chosen_inner (choice_asks g p (any_asks p (alternatives g) h))
+
+  -- a group with these alternatives, of which there is one
+  group_of : (us ess : List Entries) (es : Entries) → us ≡ ess → In ess es → (g : Group) × (alternatives g ≡ us)
+  group_of us [] es e i = absurd i
+  group_of us (fs ∷ ess) es e i = let g = group_with fs ess in (g.0, g.1 ∙ sym e)
+
+  point_asks : (p q : Point) → LeadsTo ds q p → AsksOn ds (a_point p) (a_point q)
   point_asks p q (F.by_type {t = t} e c h) = A.onwards (A.means_type e c) (free_asks q t h)
   point_asks p q (F.by_group {r = r} e h) =
       let s = some_asks q (group_choices ds r) h in
-      let g = named_group r q (group_choices ds r) refl s in
+      let g = group_of (group_choices ds r) (group_choices ds r) s.0 refl s.1 in
       A.onwards (A.means_group e g.1) (group_asks g.0 q (subst (λ us. SomeAsks us q) (sym g.1) s))
   point_asks p q (F.by_opened_group {g = g} e h) = A.onwards (A.opens_a_group e) (group_asks g q (some_asks q (alternatives g) h))
   point_asks p q (F.by_content {t = t} e h) = A.onwards (A.opens_content e) (free_asks q t h)
-  point_asks p q (F.by_chosen {r = r} {ts = ts} {t = t} e c h) =
-      let g = chosen_named r ts t (group_choices ds r) refl e (in_list ts t c) in
-      let f : chosen ds g.0 ≡ Some ts = ap (chosen_in ds most_instances) g.1 ∙ e in
-      A.onwards (A.chooses g.1 (ap is_some f)) (and_then (chosen_group g.0) (a_type t) (a_point q) (from_chosen g.0 ts t f c) (free_asks q t h))
+  point_asks p q (F.by_choice {r = r} h) =
+      let s = any_asks q (group_choices ds r) h in
+      let g = group_of (group_choices ds r) (group_choices ds r) s.0 refl s.1 in
+      A.onwards (A.chooses g.1) (choice_asks g.0 q (subst (λ us. ChoiceAsks us q) (sym g.1) s))
+  point_asks p q (F.by_opened_choice {g = g} e h) = A.onwards (A.chooses_opened e) (choice_asks g q (any_asks q (alternatives g) h))
 
   pub leads_on_asks : (p q : Point) → LeadsOn ds p q → AsksOn ds (a_point p) (a_point q)
   leads_on_asks p q (F.at_once h) = point_asks p q h
@@ -326,17 +168,14 @@ module _ (ds : List Definition) where
 
   -- What is asked over a way without another point is free.
 
-  abbrev Among : List Term → Point → Type 0
-  Among ts q = (t : Term) × (In ts t) × IsFree ds q t
-
   abbrev Free : Asked → Point → Type 0
   Free (a_type t) q = IsFree ds q t
   Free (a_group g) q = IsFreeInSome ds q (alternatives g)
   Free (some_entries es) q = IsFreeInEach ds q es
   Free (an_entry x) q = IsFreeInEntry ds q x
-  Free (chosen_group g) q = (k : ℕ) (ts : List Term) → C.chosen_group ds (next_in k) g ≡ Some ts → Among ts q
-  Free (chosen_entries es) q = (k : ℕ) (ts : List Term) → C.chosen_entries ds (next_in k) es ≡ Some ts → Among ts q
-  Free (chosen_entry x) q = (k : ℕ) (ts : List Term) → C.chosen_entry ds (next_in k) x ≡ Some ts → Among ts q
+  Free (chosen_group g) q = IsFreeInChoice ds q (alternatives g)
+  Free (chosen_entries es) q = IsFreeInChosen ds q es
+  Free (chosen_entry x) q = IsFreeInChosenEntry ds q x
   Free (a_point p) q = q ≡ p
 
   abbrev Before : Asked → Point → Type 0
@@ -357,24 +196,13 @@ module _ (ds : List Definition) where
   some_back q [] ys h = h
   some_back q (x ∷ xs) ys h = F.in_later (some_back q xs ys h)
 
-  among_front : (q : Point) (a b : Option (List Term)) (ts : List Term) → joined a b ≡ Some ts → ((us : List Term) → a ≡ Some us → Among us q) → Among ts q
-  among_front q a b ts e f = let j = are_joined a b ts e in let m = f j.first j.is_first in (m.0, subst (λ us. In us m.0) (sym j.whole) (in_front j.first j.second m.0 m.1), m.2)
+  choice_front : (q : Point) (xs ys : List Entries) → IsFreeInChoice ds q xs → IsFreeInChoice ds q (xs ++ ys)
+  choice_front q xs ys (F.of_this h) = F.of_this h
+  choice_front q xs ys (F.of_later {ess = zs} h) = F.of_later (choice_front q zs ys h)
 
-  among_back : (q : Point) (a b : Option (List Term)) (ts : List Term) → joined a b ≡ Some ts → ((us : List Term) → b ≡ Some us → Among us q) → Among ts q
-  among_back q a b ts e f = let j = are_joined a b ts e in let m = f j.second j.is_second in (m.0, subst (λ us. In us m.0) (sym j.whole) (in_back j.first j.second m.0 m.1), m.2)
-
-  lone_among : (q : Point) (t : Term) (ts : List Term) → IsFree ds q t → Some (t ∷ []) ≡ Some ts → Among ts q
-  lone_among q t ts f e = (t, subst (λ us. In us t) (same_list (t ∷ []) ts e) (inl refl), f)
-
-  jump : (q : Point) (g : Group) (us : List Entries) → alternatives g ≡ us → Free (chosen_group g) q → (k : ℕ) (ts : List Term) → next_in k us ≡ Some ts → Among ts q
-  jump q g us h f zero ts e = cc
-  jump q g us h f (suc k) ts e = f k ts (sym (in_next k g) ∙ subst (λ vs. chosen_in ds k vs ≡ Some ts) (sym h) e)
-
-  pub part_is : (next : Next) (o : Option Text) (t : Term) (p : Part) → part_of ds t ≡ p → (ts : List Term) → C.chosen_entry ds next (typed o t) ≡ Some ts → chosen_part ds next t p ≡ Some ts
-  part_is next o t p h ts e = subst (λ x. chosen_part ds next t x ≡ Some ts) h (if_some (occurs_once o) (chosen_part ds next t (part_of ds t)) ts e)
-
-  all_chosen : (q : Point) (g : Group) → is_some (chosen ds g) ≡ true → Free (chosen_group g) q → (ts : List Term) × (chosen ds g ≡ Some ts) × Among ts q
-  all_chosen q g e f = let s = some_of (chosen ds g) e in (s.0, s.1, f most_instances s.0 (sym (in_next most_instances g) ∙ s.1))
+  choice_back : (q : Point) (xs ys : List Entries) → IsFreeInChoice ds q ys → IsFreeInChoice ds q (xs ++ ys)
+  choice_back q [] ys h = h
+  choice_back q (x ∷ xs) ys h = F.of_later (choice_back q xs ys h)
 
   before : (a b : Asked) (q : Point) → Asks ds a b → Free b q → Before a q
   before a b q A.by_name f = F.name f
@@ -384,7 +212,7 @@ module _ (ds : List Definition) where
   before a b q A.in_first f = F.in_first f
   before a b q A.in_second f = F.in_second f
   before a b q A.in_array f = F.in_array f
-  before a b q (A.in_choice {g = g} e) f = let c = all_chosen q g e f in F.in_choice c.1 (contained c.0 c.2.0 c.2.1) c.2.2
+  before a b q A.in_choice f = F.in_choice f
   before a b q A.in_head f = F.in_head f
   before a b q A.in_left f = F.in_left f
   before a b q (A.in_controller h) f = F.in_controller h f
@@ -396,21 +224,22 @@ module _ (ds : List Definition) where
   before a b q (A.group_name h) f = F.group_name h f
   before a b q (A.group_opened h) f = F.group_opened h f
   before a b q A.in_group f = F.in_group f
-  before a b q A.chosen_sole f = λ k ts e. f k ts e
-  before a b q (A.chosen_others {g = g} {es = es}) f = λ k ts e. among_front q (C.chosen_group ds (next_in k) g) (C.chosen_entries ds (next_in k) es) ts e (f k)
-  before a b q (A.chosen_alternative {g = g} {es = es}) f = λ k ts e. among_back q (C.chosen_group ds (next_in k) g) (C.chosen_entries ds (next_in k) es) ts e (f k)
-  before a b q (A.chosen_earlier {es = es} {e = x}) f = λ k ts e. among_front q (C.chosen_entries ds (next_in k) es) (C.chosen_entry ds (next_in k) x) ts e (f k)
-  before a b q (A.chosen_last {es = es} {e = x}) f = λ k ts e. among_back q (C.chosen_entries ds (next_in k) es) (C.chosen_entry ds (next_in k) x) ts e (f k)
-  before a b q (A.chosen_type {o = o} {t = t} h) f = λ k ts e. lone_among q t ts f (part_is (next_in k) o t asks_type h ts e)
-  before a b q (A.chosen_name {o = o} {t = t} {r = r} {g = g} h i s) f = λ k ts e. jump q g (group_choices ds r) i f k ts (part_is (next_in k) o t (names_group r) h ts e)
-  before a b q (A.chosen_opened {o = o} {t = t} {r = r} {g = g} h s) f = λ k ts e. jump q g (alternatives g) refl f k ts (part_is (next_in k) o t (opens r g) h ts e)
-  before a b q (A.chosen_keyed {o = o} {t = t}) f = λ k ts e. lone_among q t ts f (if_some (occurs_once o) (Some (t ∷ [])) ts e)
-  before a b q (A.chosen_inner {o = o} {g = g}) f = λ k ts e. f k ts (if_some (occurs_once o) (C.chosen_group ds (next_in k) g) ts e)
+  before a b q A.chosen_sole f = F.of_this f
+  before a b q (A.chosen_others {g = g} {es = es}) f = choice_front q (alternatives g) (es ∷ []) f
+  before a b q (A.chosen_alternative {g = g} {es = es}) f = choice_back q (alternatives g) (es ∷ []) (F.of_this f)
+  before a b q A.chosen_earlier f = F.of_earlier f
+  before a b q A.chosen_last f = F.of_last f
+  before a b q (A.chosen_type h) f = F.of_type h f
+  before a b q (A.chosen_name h) f = F.of_name h f
+  before a b q (A.chosen_opened h) f = F.of_opened h f
+  before a b q A.chosen_keyed f = F.of_keyed f
+  before a b q A.chosen_inner f = F.of_group f
   before a b q (A.means_type e c) f = F.by_type e c f
   before a b q (A.means_group e h) f = F.by_group e (subst (IsFreeInSome ds q) h f)
   before a b q (A.opens_a_group e) f = F.by_opened_group e f
   before a b q (A.opens_content e) f = F.by_content e f
-  before a b q (A.chooses {r = r} {g = g} h e) f = let c = all_chosen q g e f in F.by_chosen (ap (chosen_in ds most_instances) (sym h) ∙ c.1) (contained c.0 c.2.0 c.2.1) c.2.2
+  before a b q (A.chooses h) f = F.by_choice (subst (IsFreeInChoice ds q) h f)
+  before a b q (A.chooses_opened e) f = F.by_opened_choice e f
 
   record Onward (a : Asked) (q : Point) : Type 0 where
     via : Point

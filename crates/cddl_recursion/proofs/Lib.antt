@@ -1,7 +1,6 @@
 mod Ahead
 mod Cycling
 mod Freely
-mod Nesting
 mod Numbers
 mod Ordering
 mod Presence

@@ -8,7 +8,8 @@ use Rattle.cddl_closed.specs.declared.closed.Meaning.{Meaning}
 use Rattle.cddl_recursion.specs.declared.node.Node.{Node}
 use Rattle.cddl_recursion.specs.declared.node.Node.TheVariants as N
 use Rattle.cddl_recursion.specs.declared.steps.Steps.{Steps}
-use Rattle.cddl_recursion.specs.Edges.{Known, Has, Leads, by_row, by_chosen, by_group, by_type, by_opening, by_choice, row_node, chosen_node, row_steps, chosen_steps, is_group_call, opened_row, flagged, within, number, edge_by, listed, edge_to, steps_edges, types_edges, name_edges, row_edges, rows_edges, place_edges, places_edges, all_edges}
+use Rattle.cddl_recursion.specs.Edges.{Known, Has, Leads, by_row, by_chosen, by_group, by_type, by_opening, by_choice, by_opened_choice, row_node, chosen_node, row_steps, chosen_steps, is_group_call, opened_group, opened_row, within, number, edge_by, listed, edge_to, steps_edges, types_edges, name_edges, row_edges, rows_edges, place_edges, places_edges, all_edges}
+use Rattle.cddl_recursion.proofs.Pushing.{last_or_below}
 use Rattle.cddl_recursion.proofs.Freely.{In, in_list, contained, in_front, in_back, in_either}
 
 within_is : (n most x i : ℕ) → within n most x ≡ Some i → (n < most) × (x ≡ i)
@@ -24,16 +25,6 @@ within_is n most x i e = by (ltb n most) refl e
 is_within : (n most x : ℕ) → n < most → within n most x ≡ Some x
 is_within n most x h = ap (λ (c : Bool). cond c (Some x) None) (lt-ltb n most h)
 
-last : (n k : ℕ) → n < suc k → (n < k) ⊎ (n ≡ k)
-last zero zero h = inr refl
-last zero (suc k) h = inl (omega arith)
-last (suc n) zero h = absurd (omega (arith, h))
-last (suc n) (suc k) h = next (last n k (omega (arith, h)))
-  where
-    next : (n < k) ⊎ (n ≡ k) → (suc n < suc k) ⊎ (suc n ≡ suc k)
-    next (inl g) = inl (omega (arith, g))
-    next (inr g) = inr (ap suc g)
-
 module _ (rows places : ℕ) where
   abbrev pub Within : Node → Type 0
   Within (N.Row n) = n < rows
@@ -41,34 +32,39 @@ module _ (rows places : ℕ) where
   Within (N.Name k) = k < places
   Within (N.Unwrapping k) = k < places
   Within (N.Choice k) = k < places
+  Within (N.OpenedChoice k) = k < places
 
   abbrev pub value : Node → ℕ
   value (N.Row n) = 2 * n
   value (N.Chosen n) = 2 * n + 1
-  value (N.Name k) = 2 * rows + 3 * k
-  value (N.Unwrapping k) = 2 * rows + 3 * k + 1
-  value (N.Choice k) = 2 * rows + 3 * k + 2
+  value (N.Name k) = 2 * rows + 4 * k
+  value (N.Unwrapping k) = 2 * rows + 4 * k + 1
+  value (N.Choice k) = 2 * rows + 4 * k + 2
+  value (N.OpenedChoice k) = 2 * rows + 4 * k + 3
 
   pub number_is : (n : Node) (i : ℕ) → number rows places n ≡ Some i → (Within n) × (value n ≡ i)
   number_is (N.Row n) i e = within_is n rows (2 * n) i e
   number_is (N.Chosen n) i e = within_is n rows (2 * n + 1) i e
-  number_is (N.Name k) i e = within_is k places (2 * rows + 3 * k) i e
-  number_is (N.Unwrapping k) i e = within_is k places (2 * rows + 3 * k + 1) i e
-  number_is (N.Choice k) i e = within_is k places (2 * rows + 3 * k + 2) i e
+  number_is (N.Name k) i e = within_is k places (2 * rows + 4 * k) i e
+  number_is (N.Unwrapping k) i e = within_is k places (2 * rows + 4 * k + 1) i e
+  number_is (N.Choice k) i e = within_is k places (2 * rows + 4 * k + 2) i e
+  number_is (N.OpenedChoice k) i e = within_is k places (2 * rows + 4 * k + 3) i e
 
   pub is_number : (n : Node) → Within n → number rows places n ≡ Some (value n)
   is_number (N.Row n) h = is_within n rows (2 * n) h
   is_number (N.Chosen n) h = is_within n rows (2 * n + 1) h
-  is_number (N.Name k) h = is_within k places (2 * rows + 3 * k) h
-  is_number (N.Unwrapping k) h = is_within k places (2 * rows + 3 * k + 1) h
-  is_number (N.Choice k) h = is_within k places (2 * rows + 3 * k + 2) h
+  is_number (N.Name k) h = is_within k places (2 * rows + 4 * k) h
+  is_number (N.Unwrapping k) h = is_within k places (2 * rows + 4 * k + 1) h
+  is_number (N.Choice k) h = is_within k places (2 * rows + 4 * k + 2) h
+  is_number (N.OpenedChoice k) h = is_within k places (2 * rows + 4 * k + 3) h
 
-  pub below : (n : Node) → Within n → value n < 2 * rows + 3 * places
+  pub below : (n : Node) → Within n → value n < 2 * rows + 4 * places
   below (N.Row n) h = omega (arith, h)
   below (N.Chosen n) h = omega (arith, h)
   below (N.Name k) h = omega (arith, h)
   below (N.Unwrapping k) h = omega (arith, h)
   below (N.Choice k) h = omega (arith, h)
+  below (N.OpenedChoice k) h = omega (arith, h)
 
   same_value : (a b : Node) → Within a → Within b → value a ≡ value b → a ≡ b
   same_value (N.Row n) (N.Row m) h g e = ap N.Row (omega (arith, e))
@@ -76,26 +72,37 @@ module _ (rows places : ℕ) where
   same_value (N.Row n) (N.Name m) h g e = absurd (omega (arith, e, h))
   same_value (N.Row n) (N.Unwrapping m) h g e = absurd (omega (arith, e, h))
   same_value (N.Row n) (N.Choice m) h g e = absurd (omega (arith, e, h))
+  same_value (N.Row n) (N.OpenedChoice m) h g e = absurd (omega (arith, e, h))
   same_value (N.Chosen n) (N.Row m) h g e = absurd (omega (arith, e))
   same_value (N.Chosen n) (N.Chosen m) h g e = ap N.Chosen (omega (arith, e))
   same_value (N.Chosen n) (N.Name m) h g e = absurd (omega (arith, e, h))
   same_value (N.Chosen n) (N.Unwrapping m) h g e = absurd (omega (arith, e, h))
   same_value (N.Chosen n) (N.Choice m) h g e = absurd (omega (arith, e, h))
+  same_value (N.Chosen n) (N.OpenedChoice m) h g e = absurd (omega (arith, e, h))
   same_value (N.Name n) (N.Row m) h g e = absurd (omega (arith, e, g))
   same_value (N.Name n) (N.Chosen m) h g e = absurd (omega (arith, e, g))
   same_value (N.Name n) (N.Name m) h g e = ap N.Name (omega (arith, e))
   same_value (N.Name n) (N.Unwrapping m) h g e = absurd (omega (arith, e))
   same_value (N.Name n) (N.Choice m) h g e = absurd (omega (arith, e))
+  same_value (N.Name n) (N.OpenedChoice m) h g e = absurd (omega (arith, e))
   same_value (N.Unwrapping n) (N.Row m) h g e = absurd (omega (arith, e, g))
   same_value (N.Unwrapping n) (N.Chosen m) h g e = absurd (omega (arith, e, g))
   same_value (N.Unwrapping n) (N.Name m) h g e = absurd (omega (arith, e))
   same_value (N.Unwrapping n) (N.Unwrapping m) h g e = ap N.Unwrapping (omega (arith, e))
   same_value (N.Unwrapping n) (N.Choice m) h g e = absurd (omega (arith, e))
+  same_value (N.Unwrapping n) (N.OpenedChoice m) h g e = absurd (omega (arith, e))
   same_value (N.Choice n) (N.Row m) h g e = absurd (omega (arith, e, g))
   same_value (N.Choice n) (N.Chosen m) h g e = absurd (omega (arith, e, g))
   same_value (N.Choice n) (N.Name m) h g e = absurd (omega (arith, e))
   same_value (N.Choice n) (N.Unwrapping m) h g e = absurd (omega (arith, e))
   same_value (N.Choice n) (N.Choice m) h g e = ap N.Choice (omega (arith, e))
+  same_value (N.Choice n) (N.OpenedChoice m) h g e = absurd (omega (arith, e))
+  same_value (N.OpenedChoice n) (N.Row m) h g e = absurd (omega (arith, e, g))
+  same_value (N.OpenedChoice n) (N.Chosen m) h g e = absurd (omega (arith, e, g))
+  same_value (N.OpenedChoice n) (N.Name m) h g e = absurd (omega (arith, e))
+  same_value (N.OpenedChoice n) (N.Unwrapping m) h g e = absurd (omega (arith, e))
+  same_value (N.OpenedChoice n) (N.Choice m) h g e = absurd (omega (arith, e))
+  same_value (N.OpenedChoice n) (N.OpenedChoice m) h g e = ap N.OpenedChoice (omega (arith, e))
 
   pub same_number : (a b : Node) (i : ℕ) → number rows places a ≡ Some i → number rows places b ≡ Some i → a ≡ b
   same_number a b i e f = let g = number_is a i e in let h = number_is b i f in same_value a b g.0 h.0 (g.1 ∙ sym h.1)
@@ -188,17 +195,31 @@ module _ (rows places : ℕ) where
     in_name k w e true f i h = let r = in_edge (N.Name k) (row_node w.group) e h in record { from = N.Name k; to = r.to; leads = by_group f i r.is_to; from_is = r.from_is; to_is = r.to_is }
     in_name k w e false f i h = let r = in_types k w.types.items e h in as_made (N.Name k) (N.Row r.0) e (by_type f i (contained w.types.items r.0 r.1)) r.2
 
+    -- the edges of a place, but those of its name
+    abbrev opening_edges : ℕ → List Edge
+    opening_edges k = edge_to rows places (N.Unwrapping k) (row_node (opened_row (slice_get b.openings k)))
+
+    abbrev choice_edges : ℕ → Meaning → List Edge
+    choice_edges k w = edge_to rows places (N.Choice k) (chosen_node w.group)
+
+    abbrev opened_choice_edges : ℕ → List Edge
+    opened_choice_edges k = edge_to rows places (N.OpenedChoice k) (chosen_node (opened_group (slice_get b.openings k)))
+
     in_place : (k : ℕ) (o : Option Meaning) (e : Edge) → slice_get b.meanings k ≡ o → In (place_edges rows places b k o) e → IsMade e
     in_place k None e f h = absurd h
-    in_place k (Some w) e f h = by (in_either (name_edges rows places k w (is_group_call b w.call)) (edge_to rows places (N.Unwrapping k) (row_node (opened_row (slice_get b.openings k))) ++ edge_to rows places (N.Choice k) (chosen_node (flagged b.choosable w.group))) e h)
+    in_place k (Some w) e f h = by (in_either (name_edges rows places k w (is_group_call b w.call)) (opening_edges k ++ (choice_edges k w ++ opened_choice_edges k)) e h)
       where
-        last : In (edge_to rows places (N.Unwrapping k) (row_node (opened_row (slice_get b.openings k)))) e ⊎ In (edge_to rows places (N.Choice k) (chosen_node (flagged b.choosable w.group))) e → IsMade e
-        last (inl g) = let r = in_edge (N.Unwrapping k) (row_node (opened_row (slice_get b.openings k))) e g in record { from = N.Unwrapping k; to = r.to; leads = by_opening f r.is_to; from_is = r.from_is; to_is = r.to_is }
-        last (inr g) = let r = in_edge (N.Choice k) (chosen_node (flagged b.choosable w.group)) e g in record { from = N.Choice k; to = r.to; leads = by_choice f r.is_to; from_is = r.from_is; to_is = r.to_is }
+        last : In (choice_edges k w) e ⊎ In (opened_choice_edges k) e → IsMade e
+        last (inl g) = let r = in_edge (N.Choice k) (chosen_node w.group) e g in record { from = N.Choice k; to = r.to; leads = by_choice f r.is_to; from_is = r.from_is; to_is = r.to_is }
+        last (inr g) = let r = in_edge (N.OpenedChoice k) (chosen_node (opened_group (slice_get b.openings k))) e g in record { from = N.OpenedChoice k; to = r.to; leads = by_opened_choice f r.is_to; from_is = r.from_is; to_is = r.to_is }
 
-        by : In (name_edges rows places k w (is_group_call b w.call)) e ⊎ In (edge_to rows places (N.Unwrapping k) (row_node (opened_row (slice_get b.openings k))) ++ edge_to rows places (N.Choice k) (chosen_node (flagged b.choosable w.group))) e → IsMade e
+        second : In (opening_edges k) e ⊎ In (choice_edges k w ++ opened_choice_edges k) e → IsMade e
+        second (inl g) = let r = in_edge (N.Unwrapping k) (row_node (opened_row (slice_get b.openings k))) e g in record { from = N.Unwrapping k; to = r.to; leads = by_opening f r.is_to; from_is = r.from_is; to_is = r.to_is }
+        second (inr g) = last (in_either (choice_edges k w) (opened_choice_edges k) e g)
+
+        by : In (name_edges rows places k w (is_group_call b w.call)) e ⊎ In (opening_edges k ++ (choice_edges k w ++ opened_choice_edges k)) e → IsMade e
         by (inl g) = in_name k w e (is_group_call b w.call) f refl g
-        by (inr g) = last (in_either (edge_to rows places (N.Unwrapping k) (row_node (opened_row (slice_get b.openings k)))) (edge_to rows places (N.Choice k) (chosen_node (flagged b.choosable w.group))) e g)
+        by (inr g) = second (in_either (opening_edges k) (choice_edges k w ++ opened_choice_edges k) e g)
 
     in_places : (k : ℕ) (e : Edge) → In (places_edges rows places b k) e → IsMade e
     in_places zero e h = absurd h
@@ -219,7 +240,7 @@ module _ (rows places : ℕ) where
 
     rows_in : (k n : ℕ) (e : Edge) → n < k → In (row_edges rows places b n (slice_get b.rows n)) e → In (rows_edges rows places b k) e
     rows_in zero n e h i = absurd (omega (arith, h))
-    rows_in (suc k) n e h i = by (last n k h) (λ g. rows_in k n e g i)
+    rows_in (suc k) n e h i = by (last_or_below n k (omega (arith, h))) (λ g. rows_in k n e g i)
       where
         by : (n < k) ⊎ (n ≡ k) → (n < k → In (rows_edges rows places b k) e) → In (rows_edges rows places b (suc k)) e
         by (inl g) f = in_front (rows_edges rows places b k) (row_edges rows places b k (slice_get b.rows k)) e (f g)
@@ -227,7 +248,7 @@ module _ (rows places : ℕ) where
 
     places_in : (k n : ℕ) (e : Edge) → n < k → In (place_edges rows places b n (slice_get b.meanings n)) e → In (places_edges rows places b k) e
     places_in zero n e h i = absurd (omega (arith, h))
-    places_in (suc k) n e h i = by (last n k h) (λ g. places_in k n e g i)
+    places_in (suc k) n e h i = by (last_or_below n k (omega (arith, h))) (λ g. places_in k n e g i)
       where
         by : (n < k) ⊎ (n ≡ k) → (n < k → In (places_edges rows places b k) e) → In (places_edges rows places b (suc k)) e
         by (inl g) f = in_front (places_edges rows places b k) (place_edges rows places b k (slice_get b.meanings k)) e (f g)
@@ -239,10 +260,26 @@ module _ (rows places : ℕ) where
     of_place : (k : ℕ) (w : Meaning) (e : Edge) → k < places → slice_get b.meanings k ≡ Some w → In (place_edges rows places b k (Some w)) e → In (all_edges rows places b) e
     of_place k w e h f i = in_back (rows_edges rows places b rows) (places_edges rows places b places) e (places_in places k e h (subst (λ o. In (place_edges rows places b k o) e) (sym f) i))
 
+    name_in : (k : ℕ) (w : Meaning) (e : Edge) → In (name_edges rows places k w (is_group_call b w.call)) e → In (place_edges rows places b k (Some w)) e
+    name_in k w e h = in_front (name_edges rows places k w (is_group_call b w.call)) (opening_edges k ++ (choice_edges k w ++ opened_choice_edges k)) e h
+
+    other_in : (k : ℕ) (w : Meaning) (e : Edge) → In (opening_edges k ++ (choice_edges k w ++ opened_choice_edges k)) e → In (place_edges rows places b k (Some w)) e
+    other_in k w e h = in_back (name_edges rows places k w (is_group_call b w.call)) (opening_edges k ++ (choice_edges k w ++ opened_choice_edges k)) e h
+
+    opening_in : (k : ℕ) (w : Meaning) (e : Edge) → In (opening_edges k) e → In (place_edges rows places b k (Some w)) e
+    opening_in k w e h = other_in k w e (in_front (opening_edges k) (choice_edges k w ++ opened_choice_edges k) e h)
+
+    choice_in : (k : ℕ) (w : Meaning) (e : Edge) → In (choice_edges k w) e → In (place_edges rows places b k (Some w)) e
+    choice_in k w e h = other_in k w e (in_back (opening_edges k) (choice_edges k w ++ opened_choice_edges k) e (in_front (choice_edges k w) (opened_choice_edges k) e h))
+
+    opened_choice_in : (k : ℕ) (w : Meaning) (e : Edge) → In (opened_choice_edges k) e → In (place_edges rows places b k (Some w)) e
+    opened_choice_in k w e h = other_in k w e (in_back (opening_edges k) (choice_edges k w ++ opened_choice_edges k) e (in_back (choice_edges k w) (opened_choice_edges k) e h))
+
     pub is_made : (n m : Node) (i j : ℕ) → Leads b n m → number rows places n ≡ Some i → number rows places m ≡ Some j → In (all_edges rows places b) (edge_of i j)
     is_made n m i j (by_row {n = k} {r = r} e h) f g = of_row k (edge_of i j) (number_is (N.Row k) i f).0 (subst (λ o. In (row_edges rows places b k o) (edge_of i j)) (sym e) (in_front (steps_edges rows places (N.Row k) (row_steps b r)) (steps_edges rows places (N.Chosen k) (chosen_steps b r)) (edge_of i j) (steps_in (N.Row k) (row_steps b r) m i j h f g)))
     is_made n m i j (by_chosen {n = k} {r = r} e h) f g = of_row k (edge_of i j) (number_is (N.Chosen k) i f).0 (subst (λ o. In (row_edges rows places b k o) (edge_of i j)) (sym e) (in_back (steps_edges rows places (N.Row k) (row_steps b r)) (steps_edges rows places (N.Chosen k) (chosen_steps b r)) (edge_of i j) (steps_in (N.Chosen k) (chosen_steps b r) m i j h f g)))
-    is_made n m i j (by_group {k = k} {w = w} e c h) f g = of_place k w (edge_of i j) (number_is (N.Name k) i f).0 e (in_front (name_edges rows places k w (is_group_call b w.call)) (edge_to rows places (N.Unwrapping k) (row_node (opened_row (slice_get b.openings k))) ++ edge_to rows places (N.Choice k) (chosen_node (flagged b.choosable w.group))) (edge_of i j) (subst (λ x. In (name_edges rows places k w x) (edge_of i j)) (sym c) (edge_in (N.Name k) (row_node w.group) m i j h f g)))
-    is_made n m i j (by_type {k = k} {w = w} {n = x} e c h) f g = of_place k w (edge_of i j) (number_is (N.Name k) i f).0 e (in_front (name_edges rows places k w (is_group_call b w.call)) (edge_to rows places (N.Unwrapping k) (row_node (opened_row (slice_get b.openings k))) ++ edge_to rows places (N.Choice k) (chosen_node (flagged b.choosable w.group))) (edge_of i j) (subst (λ x. In (name_edges rows places k w x) (edge_of i j)) (sym c) (types_in k w.types.items x i j (in_list w.types.items x h) f g)))
-    is_made n m i j (by_opening {k = k} {w = w} e h) f g = of_place k w (edge_of i j) (number_is (N.Unwrapping k) i f).0 e (in_back (name_edges rows places k w (is_group_call b w.call)) (edge_to rows places (N.Unwrapping k) (row_node (opened_row (slice_get b.openings k))) ++ edge_to rows places (N.Choice k) (chosen_node (flagged b.choosable w.group))) (edge_of i j) (in_front (edge_to rows places (N.Unwrapping k) (row_node (opened_row (slice_get b.openings k)))) (edge_to rows places (N.Choice k) (chosen_node (flagged b.choosable w.group))) (edge_of i j) (edge_in (N.Unwrapping k) (row_node (opened_row (slice_get b.openings k))) m i j h f g)))
-    is_made n m i j (by_choice {k = k} {w = w} e h) f g = of_place k w (edge_of i j) (number_is (N.Choice k) i f).0 e (in_back (name_edges rows places k w (is_group_call b w.call)) (edge_to rows places (N.Unwrapping k) (row_node (opened_row (slice_get b.openings k))) ++ edge_to rows places (N.Choice k) (chosen_node (flagged b.choosable w.group))) (edge_of i j) (in_back (edge_to rows places (N.Unwrapping k) (row_node (opened_row (slice_get b.openings k)))) (edge_to rows places (N.Choice k) (chosen_node (flagged b.choosable w.group))) (edge_of i j) (edge_in (N.Choice k) (chosen_node (flagged b.choosable w.group)) m i j h f g)))
+    is_made n m i j (by_group {k = k} {w = w} e c h) f g = of_place k w (edge_of i j) (number_is (N.Name k) i f).0 e (name_in k w (edge_of i j) (subst (λ x. In (name_edges rows places k w x) (edge_of i j)) (sym c) (edge_in (N.Name k) (row_node w.group) m i j h f g)))
+    is_made n m i j (by_type {k = k} {w = w} {n = x} e c h) f g = of_place k w (edge_of i j) (number_is (N.Name k) i f).0 e (name_in k w (edge_of i j) (subst (λ x. In (name_edges rows places k w x) (edge_of i j)) (sym c) (types_in k w.types.items x i j (in_list w.types.items x h) f g)))
+    is_made n m i j (by_opening {k = k} {w = w} e h) f g = of_place k w (edge_of i j) (number_is (N.Unwrapping k) i f).0 e (opening_in k w (edge_of i j) (edge_in (N.Unwrapping k) (row_node (opened_row (slice_get b.openings k))) m i j h f g))
+    is_made n m i j (by_choice {k = k} {w = w} e h) f g = of_place k w (edge_of i j) (number_is (N.Choice k) i f).0 e (choice_in k w (edge_of i j) (edge_in (N.Choice k) (chosen_node w.group) m i j h f g))
+    is_made n m i j (by_opened_choice {k = k} {w = w} e h) f g = of_place k w (edge_of i j) (number_is (N.OpenedChoice k) i f).0 e (opened_choice_in k w (edge_of i j) (edge_in (N.OpenedChoice k) (chosen_node (opened_group (slice_get b.openings k))) m i j h f g))

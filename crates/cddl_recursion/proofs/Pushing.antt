@@ -28,7 +28,7 @@ length_more (y ∷ xs) x = let h = length_more xs x in omega (arith, h)
 pub length_push : (parts new : List Part) (q : Part) (row : ℕ) → length parts ≡ row → new ≡ parts ++ q ∷ [] → length new ≡ row + 1
 length_push parts new q row e f = ap length f ∙ length_more parts q ∙ ap (λ k. k + 1) e
 
-last_or_below : (n k : ℕ) → n < k + 1 → (n < k) ⊎ (n ≡ k)
+pub last_or_below : (n k : ℕ) → n < k + 1 → (n < k) ⊎ (n ≡ k)
 last_or_below zero zero h = inr refl
 last_or_below zero (suc k) h = inl (omega arith)
 last_or_below (suc n) zero h = absurd (omega (arith, h))
@@ -44,6 +44,3 @@ parts_push xs root refs t row parts new q all f told are n x h i r = by (last_or
     by : (n < row) ⊎ (n ≡ row) → (p : Part) × (slice_get new n ≡ Some p) × IsPart t refs (part_of xs x) p
     by (inl g) = let p = are n x g i r in (p.0, ap (λ (ps : List Part). slice_get ps n) f ∙ get_front parts (q ∷ []) n p.0 p.1, p.2)
     by (inr g) = (q, ap (λ (ps : List Part). slice_get ps n) f ∙ get_last parts q n (all ∙ sym g), told x (subst (λ m. IsTerm t m x) g i) r)
-
-pub no_parts : (xs : List Definition) (root : Text) (refs : List Ref) (t : Table) (parts : List Part) → AreParts xs root refs t 0 parts
-no_parts xs root refs t parts n x h = absurd (omega (arith, h))

@@ -1,5 +1,5 @@
 -- The steps by rows and places are those of what they stand for.
-use Rattle.std.proofs.Common.{◌≡◌, ℕ, zero, suc, ◌<◌, inl, inr, Bool, true, false, ◌||◌, List, [], ◌∷◌, ◌++◌, length, Option, Some, None, is_some, refl, sym, ap, subst, ◌∙◌, slice_get, codes}
+use Rattle.std.proofs.Common.{◌≡◌, ℕ, zero, suc, ◌<◌, inl, inr, Bool, true, false, ◌||◌, List, [], ◌∷◌, ◌++◌, length, Option, Some, None, refl, sym, ap, subst, ◌∙◌, slice_get, codes}
 use Rattle.std.specs.Cmp.Lexicographic.{same_text}
 use Rattle.std.proofs.lemmas.Option.{slice_get_within}
 use Rattle.cddl_meaning.specs.Alike.{AlikeAll, both}
@@ -7,10 +7,9 @@ use Rattle.cddl_language.specs.Environment.{is_in, is_same}
 use Rattle.cddl_language.specs.Free.{IsAskedHere, MayBeEmpty}
 use Rattle.cddl_language.specs.Kinds as K
 use Rattle.cddl_language.specs.Kinds.{Opened, opens_group, opens_type, opened, is_group, asks_type, names_group, opens, part_of}
-use Rattle.cddl_language.specs.Reach.{Point, at_name, at_unwrapping, at_choice, Reaches, points, group_points, entries_points, entry_points}
+use Rattle.cddl_language.specs.Reach.{at_name, at_unwrapping, at_choice, at_opened_choice, points, entries_points, entry_points}
 use Rattle.cddl_language.specs.StandsFor.{AreInstances}
 use Rattle.cddl_language.specs.Substitution.{type_choices, group_choices}
-use Rattle.cddl_language.specs.Choices.{chosen}
 use Rattle.cddl_language.specs.Terms.{Text, literal, number, text, bytes, Term, named, parens, map_of, array_of, unwrapped, choice_of, choice_of_name, tagged, tagged_by, simple_by, hash, range, control, or, Ref, call, Group, sole, orelse, Entries, no_entries, entries, Entry, typed, keyed, grouped, Definition, alternatives, name_of}
 use Rattle.cddl_terms.specs.declared.row.Form.{Form}
 use Rattle.cddl_terms.specs.declared.row.Form.TheVariants as F
@@ -23,17 +22,16 @@ use Rattle.cddl_closed.specs.Closed.{AreAlternatives, no_alternatives, alternati
 use Rattle.cddl_openings.specs.declared.openings.Opening.{Opening}
 use Rattle.cddl_openings.specs.declared.openings.Part.{Part}
 use Rattle.cddl_openings.specs.Openings.{AreOpenings, IsOpened, nothing as opens_nothing, group_opened, type_opened, IsPart, a_type as part_type, a_group as part_group, an_opened_group}
-use Rattle.cddl_choosing.specs.Choosing.{AreChoosable}
 use Rattle.cddl_empty.specs.Empty.{AreEmpty}
 use Rattle.cddl_recursion.specs.declared.node.Node.{Node}
 use Rattle.cddl_recursion.specs.declared.node.Node.TheVariants as N
 use Rattle.cddl_recursion.specs.Asking as A
 use Rattle.cddl_recursion.specs.Asking.{Asked, a_type, a_group, some_entries, an_entry, chosen_group, chosen_entries, chosen_entry, a_point, Asks, IsReached}
 use Rattle.cddl_recursion.specs.Edges as E
-use Rattle.cddl_recursion.specs.Edges.{Known, Has, Leads, by_row, by_chosen, by_group, by_type, by_opening, by_choice, row_node, chosen_node, name_node, unwrapping_node, choice_node, place_of, place_in, flagged, if_set, when, asks_here, text_asks, controls_here, part_node, part_at, part_in, steps_by, chosen_by, row_steps, chosen_steps, is_group_call, text_of, opened_row, opened_group, group_in}
-use Rattle.cddl_recursion.specs.Standing.{Stands, type_row, group_row, entries_row, entry_row, chosen_group_row, chosen_entries_row, chosen_entry_row, name_place, unwrapping_place, choice_place}
-use Rattle.cddl_recursion.proofs.Freely.{In, in_list, contained, in_front}
-use Rattle.cddl_recursion.proofs.Presence.{ArePresent, Needs, are_reached, group_present, part_present, part_opened, part_reached}
+use Rattle.cddl_recursion.specs.Edges.{Known, Has, Leads, by_row, by_chosen, by_group, by_type, by_opening, by_choice, by_opened_choice, row_node, chosen_node, name_node, unwrapping_node, choice_node, place_of, place_in, flagged, if_set, when, asks_here, text_asks, controls_here, part_node, part_at, part_in, steps_by, chosen_by, row_steps, chosen_steps, is_group_call, text_of, opened_row, opened_group}
+use Rattle.cddl_recursion.specs.Standing.{Stands, type_row, group_row, entries_row, entry_row, chosen_group_row, chosen_entries_row, chosen_entry_row, name_place, unwrapping_place, choice_place, opened_choice_place}
+use Rattle.cddl_recursion.proofs.Freely.{In, in_list, contained}
+use Rattle.cddl_recursion.proofs.Presence.{AreInstancesOn, front}
 
 -- alternatives tell their group
 
@@ -186,8 +184,8 @@ pub record IsKnown (xs : List Definition) (root : Text) (refs : List Ref) (b : K
   pub kinds : AreKinds b.texts xs b.kinds
   pub openings : AreOpenings xs (table_of b) refs b.openings
   pub parts : (n : ℕ) (x : Term) → IsTerm (table_of b) n x → AreReached xs root (points x) → (q : Part) × (slice_get b.parts n ≡ Some q) × IsPart (table_of b) refs (part_of xs x) q
-  pub choosable : AreChoosable xs root (table_of b) b.choosable
   pub empty : AreEmpty xs root (table_of b) b.may_be_empty
+  pub on : AreInstancesOn xs root
   pub equal : (n m : Option ℕ) (x : Tree) → Holds (table_of b) n x → Holds (table_of b) m x → n ≡ m
   pub same_ref : (n : ℕ) (r s : Ref) → IsRef (table_of b) n r → IsRef (table_of b) n s → r ≡ s
 
@@ -325,46 +323,39 @@ module _ (xs : List Definition) (root : Text) (refs : List Ref) (b : Known) (is 
       let w = row_at b n f x y z h in
       nowhere m (subst (λ s. Has s m) (e w.first w.second) (chosen_at n f x y z w m l))
 
-  is_choosable : (n : ℕ) (g : Group) → IsGroup t n g → AreReached xs root (group_points g) → slice_get b.choosable n ≡ Some true → is_some (chosen xs g) ≡ true
-  is_choosable n g h r e = (is.choosable.groups n g h r).0 e
-
   two : (p q : Option Node) (m : Node) (C : Type 0) → (p ≡ Some m → C) → (q ≡ Some m → C) → Has (E.both p q) m → C
   two p q m C f g (inl e) = f e
   two p q m C f g (inr e) = g e
 
-  type_step : (n : ℕ) (m : Node) (x : Term) → IsTerm t n x → AreReached xs root (points x) → Leads b (N.Row n) m → Next (a_type x) m
-  type_step n m (named r) h c l =
+  type_step : (n : ℕ) (m : Node) (x : Term) → IsTerm t n x → Leads b (N.Row n) m → Next (a_type x) m
+  type_step n m (named r) h l =
       let w = row_at b n F.Named None (ref_tree r) nothing h in
       let k = is_name (place_of b.places w.first) m (only (name_node (place_of b.places w.first)) m (steps_at n F.Named None (ref_tree r) nothing w m l)) in
       record { next = a_point (at_name r); asks = A.by_name; stands = subst (λ z. Stands t refs z (a_point (at_name r))) (sym k.2) (name_place (instance_there w.first r k.0 w.has_first k.1)) }
-  type_step n m (unwrapped r) h c l =
+  type_step n m (unwrapped r) h l =
       let w = row_at b n F.Unwrapped None (ref_tree r) nothing h in
       let k = is_unwrapping (place_of b.places w.first) m (only (unwrapping_node (place_of b.places w.first)) m (steps_at n F.Unwrapped None (ref_tree r) nothing w m l)) in
       record { next = a_point (at_unwrapping r); asks = A.by_unwrapping; stands = subst (λ z. Stands t refs z (a_point (at_unwrapping r))) (sym k.2) (unwrapping_place (instance_there w.first r k.0 w.has_first k.1)) }
-  type_step n m (choice_of_name r) h c l =
+  type_step n m (choice_of_name r) h l =
       let w = row_at b n F.ChoiceOfName None (ref_tree r) nothing h in
       let k = is_choice (place_of b.places w.first) m (only (choice_node (place_of b.places w.first)) m (steps_at n F.ChoiceOfName None (ref_tree r) nothing w m l)) in
       record { next = a_point (at_choice r); asks = A.by_choice; stands = subst (λ z. Stands t refs z (a_point (at_choice r))) (sym k.2) (choice_place (instance_there w.first r k.0 w.has_first k.1)) }
-  type_step n m (parens y) h c l =
+  type_step n m (parens y) h l =
       let w = row_at b n F.Parens None (term_tree y) nothing h in
       to_row (a_type (parens y)) (a_type y) (term_tree y) (λ k i. type_row i) A.in_parens w.first m w.has_first (only (row_node w.first) m (steps_at n F.Parens None (term_tree y) nothing w m l))
-  type_step n m (array_of g) h c l =
+  type_step n m (array_of g) h l =
       let w = row_at b n F.ArrayOf None (group_tree g) nothing h in
       to_row (a_type (array_of g)) (a_group g) (group_tree g) (λ k i. group_row i) A.in_array w.first m w.has_first (only (row_node w.first) m (steps_at n F.ArrayOf None (group_tree g) nothing w m l))
-  type_step n m (simple_by y) h c l =
+  type_step n m (simple_by y) h l =
       let w = row_at b n F.SimpleBy None (term_tree y) nothing h in
       to_row (a_type (simple_by y)) (a_type y) (term_tree y) (λ k i. type_row i) A.in_head w.first m w.has_first (only (row_node w.first) m (steps_at n F.SimpleBy None (term_tree y) nothing w m l))
-  type_step n m (choice_of g) h c l =
+  type_step n m (choice_of g) h l =
       let w = row_at b n F.ChoiceOf None (group_tree g) nothing h in
-      let e = only (chosen_node (flagged b.choosable w.first)) m (steps_at n F.ChoiceOf None (group_tree g) nothing w m l) in
-      let k = is_chosen (flagged b.choosable w.first) m e in
-      let f = is_flagged b.choosable w.first k.0 k.1 in
-      let i : IsGroup t k.0 g = subst (λ o. Holds t o (group_tree g)) f.0 w.has_first in
-      record { next = chosen_group g; asks = A.in_choice (is_choosable k.0 g i c f.1); stands = subst (λ z. Stands t refs z (chosen_group g)) (sym k.2) (chosen_group_row i) }
-  type_step n m (or y z) h c l =
+      to_chosen (a_type (choice_of g)) (chosen_group g) (group_tree g) (λ k i. chosen_group_row i) A.in_choice w.first m w.has_first (only (chosen_node w.first) m (steps_at n F.ChoiceOf None (group_tree g) nothing w m l))
+  type_step n m (or y z) h l =
       let w = row_at b n F.Or None (term_tree y) (term_tree z) h in
       two (row_node w.first) (row_node w.second) m (Next (a_type (or y z)) m) (to_row (a_type (or y z)) (a_type y) (term_tree y) (λ k i. type_row i) A.in_first w.first m w.has_first) (to_row (a_type (or y z)) (a_type z) (term_tree z) (λ k i. type_row i) A.in_second w.second m w.has_second) (steps_at n F.Or None (term_tree y) (term_tree z) w m l)
-  type_step n m (control y x z) h c l =
+  type_step n m (control y x z) h l =
       let w = row_at b n F.Control (Some x) (term_tree y) (term_tree z) h in
       two (row_node w.first) (row_node (when (asks_here b.texts w.name) w.second)) m (Next (a_type (control y x z)) m) (to_row (a_type (control y x z)) (a_type y) (term_tree y) (λ k i. type_row i) A.in_left w.first m w.has_first) (right w) (steps_at n F.Control (Some x) (term_tree y) (term_tree z) w m l)
     where
@@ -375,15 +366,15 @@ module _ (xs : List Definition) (root : Text) (refs : List Ref) (b : Known) (is 
           let d = text_there b.texts w.name x w.has_name in
           let f : is_in controls_here x ≡ true = sym (ap (asks_here b.texts) d.1 ∙ ap text_asks d.2) ∙ v.0 in
           to_row (a_type (control y x z)) (a_type z) (term_tree z) (λ k i. type_row i) (A.in_controller (asked_control x f)) w.second m w.has_second (ap row_node (v.1) ∙ ap Some (sym k.2))
-  type_step n m (literal (number x)) h c l = absurd (no_steps n F.Number (Some x) nothing nothing (λ o p q. refl) h m l)
-  type_step n m (literal (text x)) h c l = absurd (no_steps n F.Text (Some x) nothing nothing (λ o p q. refl) h m l)
-  type_step n m (literal (bytes x)) h c l = absurd (no_steps n F.Bytes (Some x) nothing nothing (λ o p q. refl) h m l)
-  type_step n m (map_of g) h c l = absurd (no_steps n F.MapOf None (group_tree g) nothing (λ o p q. refl) h m l)
-  type_step n m (tagged x y) h c l = absurd (no_steps n F.Tagged (Some x) (term_tree y) nothing (λ o p q. refl) h m l)
-  type_step n m (tagged_by z y) h c l = absurd (no_steps n F.TaggedBy None (term_tree z) (term_tree y) (λ o p q. refl) h m l)
-  type_step n m (hash x) h c l = absurd (no_steps n F.Hash (Some x) nothing nothing (λ o p q. refl) h m l)
-  type_step n m (range y true z) h c l = absurd (no_steps n F.Range None (term_tree y) (term_tree z) (λ o p q. refl) h m l)
-  type_step n m (range y false z) h c l = absurd (no_steps n F.RangeBelow None (term_tree y) (term_tree z) (λ o p q. refl) h m l)
+  type_step n m (literal (number x)) h l = absurd (no_steps n F.Number (Some x) nothing nothing (λ o p q. refl) h m l)
+  type_step n m (literal (text x)) h l = absurd (no_steps n F.Text (Some x) nothing nothing (λ o p q. refl) h m l)
+  type_step n m (literal (bytes x)) h l = absurd (no_steps n F.Bytes (Some x) nothing nothing (λ o p q. refl) h m l)
+  type_step n m (map_of g) h l = absurd (no_steps n F.MapOf None (group_tree g) nothing (λ o p q. refl) h m l)
+  type_step n m (tagged x y) h l = absurd (no_steps n F.Tagged (Some x) (term_tree y) nothing (λ o p q. refl) h m l)
+  type_step n m (tagged_by z y) h l = absurd (no_steps n F.TaggedBy None (term_tree z) (term_tree y) (λ o p q. refl) h m l)
+  type_step n m (hash x) h l = absurd (no_steps n F.Hash (Some x) nothing nothing (λ o p q. refl) h m l)
+  type_step n m (range y true z) h l = absurd (no_steps n F.Range None (term_tree y) (term_tree z) (λ o p q. refl) h m l)
+  type_step n m (range y false z) h l = absurd (no_steps n F.RangeBelow None (term_tree y) (term_tree z) (λ o p q. refl) h m l)
 
   group_step : (n : ℕ) (m : Node) (g : Group) → IsGroup t n g → Leads b (N.Row n) m → Next (a_group g) m
   group_step n m (sole es) h l =
@@ -392,9 +383,6 @@ module _ (xs : List Definition) (root : Text) (refs : List Ref) (b : Known) (is 
   group_step n m (orelse g es) h l =
       let w = row_at b n F.OrElse None (group_tree g) (entries_tree es) h in
       two (row_node w.first) (row_node w.second) m (Next (a_group (orelse g es)) m) (to_row (a_group (orelse g es)) (a_group g) (group_tree g) (λ k i. group_row i) A.other_alternatives w.first m w.has_first) (to_row (a_group (orelse g es)) (some_entries es) (entries_tree es) (λ k i. entries_row i) A.last_alternative w.second m w.has_second) (steps_at n F.OrElse None (group_tree g) (entries_tree es) w m l)
-
-  pub front_reached : (ps qs : List Point) → AreReached xs root (ps ++ qs) → AreReached xs root ps
-  front_reached ps qs h p c = h p (contained (ps ++ qs) p (in_front ps qs p (in_list ps p c)))
 
   entries_by : (n : ℕ) (m : Node) (es : Entries) (x : Entry) (c : Bool) (first second : Option ℕ) → Holds t first (entries_tree es) → Holds t second (entry_tree x) → AreReached xs root (entries_points es) → Has (E.both (row_node first) (row_node (E.if_some (flagged b.may_be_empty first) second))) m → Next (some_entries (entries es x c)) m
   entries_by n m es x c first second h g r e = two (row_node first) (row_node (E.if_some (flagged b.may_be_empty first) second)) m (Next (some_entries (entries es x c)) m) (to_row (some_entries (entries es x c)) (some_entries es) (entries_tree es) (λ k i. entries_row i) A.earlier_entries first m h) last e
@@ -411,10 +399,10 @@ module _ (xs : List Definition) (root : Text) (refs : List Ref) (b : Known) (is 
   entries_step n m no_entries h r l = absurd (no_steps n F.NoEntries None nothing nothing (λ o p q. refl) h m l)
   entries_step n m (entries es x true) h r l =
       let w = row_at b n F.EntriesComma None (entries_tree es) (entry_tree x) h in
-      entries_by n m es x true w.first w.second w.has_first w.has_second (front_reached (entries_points es) (entry_points x) r) (steps_at n F.EntriesComma None (entries_tree es) (entry_tree x) w m l)
+      entries_by n m es x true w.first w.second w.has_first w.has_second (front xs root (entries_points es) (entry_points x) r) (steps_at n F.EntriesComma None (entries_tree es) (entry_tree x) w m l)
   entries_step n m (entries es x false) h r l =
       let w = row_at b n F.Entries None (entries_tree es) (entry_tree x) h in
-      entries_by n m es x false w.first w.second w.has_first w.has_second (front_reached (entries_points es) (entry_points x) r) (steps_at n F.Entries None (entries_tree es) (entry_tree x) w m l)
+      entries_by n m es x false w.first w.second w.has_first w.has_second (front xs root (entries_points es) (entry_points x) r) (steps_at n F.Entries None (entries_tree es) (entry_tree x) w m l)
 
   -- what the type of an entry is told to be
   pub part_there : (x : Term) (o : Option ℕ) → Holds t o (term_tree x) → AreReached xs root (points x) → IsPart t refs (part_of xs x) (part_at b.parts o)
@@ -481,42 +469,21 @@ module _ (xs : List Definition) (root : Text) (refs : List Ref) (b : Known) (is 
   row_of_group ess o no_alternatives g e = absurd (some_alternative g e)
   row_of_group ess o (alternatives_of {n = n} h i) g e = (n, refl, subst (λ x. IsGroup t n x) (sym (same_group g h e)) i)
 
-  name_chosen : (m : Node) (y : Option Text) (x : Term) (k : ℕ) (r : Ref) → slice_get refs k ≡ Some r → part_of xs x ≡ names_group r → Reaches xs root r → chosen_node (flagged b.choosable (group_in (slice_get b.meanings k))) ≡ Some m → Next (chosen_entry (typed y x)) m
-  name_chosen m y x k r i e h f =
-      let w = meaning_at k r i in
-      let c = is_chosen (flagged b.choosable (group_in (slice_get b.meanings k))) m f in
-      let u = is_flagged b.choosable (group_in (slice_get b.meanings k)) c.0 c.1 in
-      let g = group_of (group_choices xs r) w.0.group c.0 w.2.group (sym (ap group_in w.1) ∙ u.0) in
-      record { next = chosen_group g.0; asks = A.chosen_name e g.1 (is_choosable c.0 g.0 g.2 (are_reached xs root (group_points g.0) (group_present xs root r g.0 h g.1)) u.1); stands = subst (λ z. Stands t refs z (chosen_group g.0)) (sym c.2) (chosen_group_row g.2) }
-
-  opened_by : (y : Option Opened) (o : Option Opening) (q : Opening) (g : Group) (n : ℕ) → IsOpened t y q → y ≡ Some (opens_group g) → o ≡ Some q → opened_group o ≡ Some n → IsGroup t n g
-  opened_by y o q g n opens_nothing e f i = cc
-  opened_by y o q g n (group_opened {n = m} {g = h} k) e f i = subst (λ x. IsGroup t n x) (same_one e) (subst (λ j. IsGroup t j h) (same_row_number (sym (ap opened_group f) ∙ i)) k)
+  chosen_part_step : (m : Node) (y : Option Text) (x : Term) (o : Option ℕ) → Holds t o (term_tree x) → (p : K.Part) (q : Part) → IsPart t refs p q → part_of xs x ≡ p → E.chosen_part o q ≡ Some m → Next (chosen_entry (typed y x)) m
+  chosen_part_step m y x o i p q part_type e f = to_row (chosen_entry (typed y x)) (a_type x) (term_tree x) (λ k j. type_row j) (A.chosen_type e) o m i f
+  chosen_part_step m y x o i p q (part_group {k = k} {r = r} j) e f = record { next = a_point (at_choice r); asks = A.chosen_name e; stands = subst (λ z. Stands t refs z (a_point (at_choice r))) (same f) (choice_place j) }
     where
-      same_one : Some (opens_group h) ≡ Some (opens_group g) → h ≡ g
-      same_one e = cc
+      same : Some (N.Choice k) ≡ Some m → N.Choice k ≡ m
+      same f = cc
+  chosen_part_step m y x o i p q (an_opened_group {k = k} {n = n} {r = r} {g = g} j h) e f = record { next = a_point (at_opened_choice r); asks = A.chosen_opened e; stands = subst (λ z. Stands t refs z (a_point (at_opened_choice r))) (same f) (opened_choice_place j) }
+    where
+      same : Some (N.OpenedChoice k) ≡ Some m → N.OpenedChoice k ≡ m
+      same f = cc
 
-      same_row_number : Some m ≡ Some n → m ≡ n
-      same_row_number e = cc
-  opened_by y o q g n (type_opened k) e f i = cc
-
-  opening_chosen : (m : Node) (y : Option Text) (x : Term) (k : ℕ) (r : Ref) (g : Group) → slice_get refs k ≡ Some r → part_of xs x ≡ opens r g → ArePresent xs root (points x) → chosen_node (flagged b.choosable (opened_group (slice_get b.openings k))) ≡ Some m → Next (chosen_entry (typed y x)) m
-  opening_chosen m y x k r g i e h f =
-      let c = is_chosen (flagged b.choosable (opened_group (slice_get b.openings k))) m f in
-      let u = is_flagged b.choosable (opened_group (slice_get b.openings k)) c.0 c.1 in
-      let w = alike_at (λ s o. IsOpened t (opened xs s) o) refs b.openings is.openings k r i in
-      let d = opened_by (opened xs r) (slice_get b.openings k) w.0 g c.0 w.2 (part_opened xs r g x e).is_opened w.1 u.0 in
-      record { next = chosen_group g; asks = A.chosen_opened e (is_choosable c.0 g d (are_reached xs root (group_points g) (part_present xs root r g x e h)) u.1); stands = subst (λ z. Stands t refs z (chosen_group g)) (sym c.2) (chosen_group_row d) }
-
-  chosen_part_step : (m : Node) (y : Option Text) (x : Term) (o : Option ℕ) → Holds t o (term_tree x) → ArePresent xs root (points x) → (p : K.Part) (q : Part) → IsPart t refs p q → part_of xs x ≡ p → E.chosen_part b o q ≡ Some m → Next (chosen_entry (typed y x)) m
-  chosen_part_step m y x o i h p q part_type e f = to_row (chosen_entry (typed y x)) (a_type x) (term_tree x) (λ k j. type_row j) (A.chosen_type e) o m i f
-  chosen_part_step m y x o i h p q (part_group {k = k} {r = r} j) e f = name_chosen m y x k r j e (part_reached xs root r x e h) f
-  chosen_part_step m y x o i h p q (an_opened_group {k = k} {r = r} {g = g} j d) e f = opening_chosen m y x k r g j e h f
-
-  chosen_entry_step : (n : ℕ) (m : Node) (x : Entry) → IsEntry t n x → ArePresent xs root (entry_points x) → Leads b (N.Chosen n) m → Next (chosen_entry x) m
+  chosen_entry_step : (n : ℕ) (m : Node) (x : Entry) → IsEntry t n x → AreReached xs root (entry_points x) → Leads b (N.Chosen n) m → Next (chosen_entry x) m
   chosen_entry_step n m (typed y x) h r l =
       let w = row_at b n F.Typed y (term_tree x) nothing h in
-      chosen_part_step m y x w.first w.has_first r (part_of xs x) (part_at b.parts w.first) (part_there x w.first w.has_first (are_reached xs root (points x) r)) refl (only (E.chosen_part b w.first (part_at b.parts w.first)) m (chosen_at n F.Typed y (term_tree x) nothing w m l))
+      chosen_part_step m y x w.first w.has_first (part_of xs x) (part_at b.parts w.first) (part_there x w.first w.has_first r) refl (only (E.chosen_part w.first (part_at b.parts w.first)) m (chosen_at n F.Typed y (term_tree x) nothing w m l))
   chosen_entry_step n m (keyed y k x) h r l =
       let w = row_at b n F.Keyed y (key_tree k) (term_tree x) h in
       to_row (chosen_entry (keyed y k x)) (a_type x) (term_tree x) (λ k i. type_row i) A.chosen_keyed w.second m w.has_second (only (row_node w.second) m (chosen_at n F.Keyed y (key_tree k) (term_tree x) w m l))
@@ -553,25 +520,37 @@ module _ (xs : List Definition) (root : Text) (refs : List Ref) (b : Known) (is 
   opens_by m r y o q (group_opened {n = n} {g = g} k) e f i = to_row (a_point (at_unwrapping r)) (a_group g) (group_tree g) (λ k j. group_row j) (A.opens_a_group e) (Some n) m k (sym (ap (λ z. row_node (opened_row z)) f) ∙ i)
   opens_by m r y o q (type_opened {n = n} {x = x} k) e f i = to_row (a_point (at_unwrapping r)) (a_type x) (term_tree x) (λ k j. type_row j) (A.opens_content e) (Some n) m k (sym (ap (λ z. row_node (opened_row z)) f) ∙ i)
 
+  -- what is opened
+  pub opening_at : (k : ℕ) (r : Ref) → slice_get refs k ≡ Some r → (q : Opening) × (slice_get b.openings k ≡ Some q) × IsOpened t (opened xs r) q
+  opening_at k r e = alike_at (λ s o. IsOpened t (opened xs s) o) refs b.openings is.openings k r e
+
   unwrapping_step : (k : ℕ) (m : Node) (r : Ref) → slice_get refs k ≡ Some r → Leads b (N.Unwrapping k) m → Next (a_point (at_unwrapping r)) m
-  unwrapping_step k m r e (by_opening f i) = let w = alike_at (λ s o. IsOpened t (opened xs s) o) refs b.openings is.openings k r e in opens_by m r (opened xs r) (slice_get b.openings k) w.0 w.2 refl w.1 i
+  unwrapping_step k m r e (by_opening f i) = let w = opening_at k r e in opens_by m r (opened xs r) (slice_get b.openings k) w.0 w.2 refl w.1 i
 
-  choice_step : (k : ℕ) (m : Node) (r : Ref) → slice_get refs k ≡ Some r → Reaches xs root r → Leads b (N.Choice k) m → Next (a_point (at_choice r)) m
-  choice_step k m r e h (by_choice {w = w} f i) =
-      let c = is_chosen (flagged b.choosable w.group) m i in
-      let u = is_flagged b.choosable w.group c.0 c.1 in
+  choice_step : (k : ℕ) (m : Node) (r : Ref) → slice_get refs k ≡ Some r → Leads b (N.Choice k) m → Next (a_point (at_choice r)) m
+  choice_step k m r e (by_choice {w = w} f i) =
       let is_meant = meant k r w e f in
-      let g = group_of (group_choices xs r) w.group c.0 is_meant.group u.0 in
-      record { next = chosen_group g.0; asks = A.chooses g.1 (is_choosable c.0 g.0 g.2 (are_reached xs root (group_points g.0) (group_present xs root r g.0 h g.1)) u.1); stands = subst (λ z. Stands t refs z (chosen_group g.0)) (sym c.2) (chosen_group_row g.2) }
+      let n = is_chosen w.group m i in
+      let g = group_of (group_choices xs r) w.group n.0 is_meant.group n.1 in
+      record { next = chosen_group g.0; asks = A.chooses g.1; stands = subst (λ z. Stands t refs z (chosen_group g.0)) (sym n.2) (chosen_group_row g.2) }
 
-  pub sound : (n m : Node) (a : Asked) → Stands t refs n a → Needs xs root a → Leads b n m → Next a m
-  sound n m a (type_row {n = k} {x = x} h) r l = type_step k m x h (are_reached xs root (points x) r) l
+  chooses_by : (m : Node) (r : Ref) (y : Option Opened) (o : Option Opening) (q : Opening) → IsOpened t y q → opened xs r ≡ y → o ≡ Some q → chosen_node (opened_group o) ≡ Some m → Next (a_point (at_opened_choice r)) m
+  chooses_by m r y o q opens_nothing e f i = cc
+  chooses_by m r y o q (group_opened {n = n} {g = g} k) e f i = to_chosen (a_point (at_opened_choice r)) (chosen_group g) (group_tree g) (λ k j. chosen_group_row j) (A.chooses_opened e) (Some n) m k (sym (ap (λ z. chosen_node (opened_group z)) f) ∙ i)
+  chooses_by m r y o q (type_opened k) e f i = cc
+
+  opened_choice_step : (k : ℕ) (m : Node) (r : Ref) → slice_get refs k ≡ Some r → Leads b (N.OpenedChoice k) m → Next (a_point (at_opened_choice r)) m
+  opened_choice_step k m r e (by_opened_choice f i) = let w = opening_at k r e in chooses_by m r (opened xs r) (slice_get b.openings k) w.0 w.2 refl w.1 i
+
+  pub sound : (n m : Node) (a : Asked) → Stands t refs n a → IsReached xs root a → Leads b n m → Next a m
+  sound n m a (type_row {n = k} {x = x} h) r l = type_step k m x h l
   sound n m a (group_row {n = k} {g = g} h) r l = group_step k m g h l
-  sound n m a (entries_row {n = k} {es = es} h) r l = entries_step k m es h (are_reached xs root (entries_points es) r) l
-  sound n m a (entry_row {n = k} {e = x} h) r l = entry_step k m x h (are_reached xs root (entry_points x) r) l
+  sound n m a (entries_row {n = k} {es = es} h) r l = entries_step k m es h r l
+  sound n m a (entry_row {n = k} {e = x} h) r l = entry_step k m x h r l
   sound n m a (chosen_group_row {n = k} {g = g} h) r l = chosen_group_step k m g h l
   sound n m a (chosen_entries_row {n = k} {es = es} h) r l = chosen_entries_step k m es h l
   sound n m a (chosen_entry_row {n = k} {e = x} h) r l = chosen_entry_step k m x h r l
   sound n m a (name_place {k = k} {r = s} h) r l = name_step k m s h l
   sound n m a (unwrapping_place {k = k} {r = s} h) r l = unwrapping_step k m s h l
-  sound n m a (choice_place {k = k} {r = s} h) r l = choice_step k m s h r l
+  sound n m a (choice_place {k = k} {r = s} h) r l = choice_step k m s h l
+  sound n m a (opened_choice_place {k = k} {r = s} h) r l = opened_choice_step k m s h l

@@ -26,7 +26,6 @@ pub record Known : Type 0 where
   pub meanings : List Meaning
   pub openings : List Opening
   pub parts : List Part
-  pub choosable : List Bool
   pub may_be_empty : List Bool
 
 abbrev pub row_node : Option ℕ → Option Node
@@ -80,13 +79,6 @@ abbrev pub part_at : List Part → Option ℕ → Part
 part_at parts None = PartV.AsksType
 part_at parts (Some n) = part_in (slice_get parts n)
 
-abbrev pub group_in : Option Meaning → Option ℕ
-group_in None = None
-group_in (Some m) = m.group
-
-abbrev pub group_at : List Meaning → ℕ → Option ℕ
-group_at meanings k = group_in (slice_get meanings k)
-
 abbrev pub opening_at : List Opening → ℕ → Option Opening
 opening_at openings k = slice_get openings k
 
@@ -132,17 +124,17 @@ part_node PartV.AsksType = None
 part_node (PartV.NamesGroup k) = Some (N.Name k)
 part_node (PartV.Opens k n) = Some (N.Unwrapping k)
 
-abbrev pub chosen_part : Known → Option ℕ → Part → Option Node
-chosen_part b o PartV.AsksType = row_node o
-chosen_part b o (PartV.NamesGroup k) = chosen_node (flagged b.choosable (group_in (slice_get b.meanings k)))
-chosen_part b o (PartV.Opens k n) = chosen_node (flagged b.choosable (opened_group (slice_get b.openings k)))
+abbrev pub chosen_part : Option ℕ → Part → Option Node
+chosen_part o PartV.AsksType = row_node o
+chosen_part o (PartV.NamesGroup k) = Some (N.Choice k)
+chosen_part o (PartV.Opens k n) = Some (N.OpenedChoice k)
 
 -- from a row of this form, with this text and these parts
 abbrev pub steps_by : Known → Form → Option ℕ → Option ℕ → Option ℕ → Steps
 steps_by b F.Named x o p = one (name_node (place_of b.places o))
 steps_by b F.Unwrapped x o p = one (unwrapping_node (place_of b.places o))
 steps_by b F.ChoiceOfName x o p = one (choice_node (place_of b.places o))
-steps_by b F.ChoiceOf x o p = one (chosen_node (flagged b.choosable o))
+steps_by b F.ChoiceOf x o p = one (chosen_node o)
 steps_by b F.Parens x o p = one (row_node o)
 steps_by b F.ArrayOf x o p = one (row_node o)
 steps_by b F.SimpleBy x o p = one (row_node o)
@@ -166,7 +158,7 @@ chosen_by b F.Grouped o p = one (chosen_node o)
 chosen_by b F.OrElse o p = both (chosen_node o) (chosen_node p)
 chosen_by b F.Entries o p = both (chosen_node o) (chosen_node p)
 chosen_by b F.EntriesComma o p = both (chosen_node o) (chosen_node p)
-chosen_by b F.Typed o p = one (chosen_part b o (part_at b.parts o))
+chosen_by b F.Typed o p = one (chosen_part o (part_at b.parts o))
 chosen_by b F.Keyed o p = one (row_node p)
 chosen_by b _ o p = none
 
@@ -195,9 +187,10 @@ pub data Leads (b : Known) : Node → Node → Type 0 where
   by_group : {k : ℕ} {w : Meaning} {m : Node} → slice_get b.meanings k ≡ Some w → is_group_call b w.call ≡ true → row_node w.group ≡ Some m → Leads b (N.Name k) m
   by_type : {k : ℕ} {w : Meaning} {n : ℕ} → slice_get b.meanings k ≡ Some w → is_group_call b w.call ≡ false → Contains w.types.items n → Leads b (N.Name k) (N.Row n)
   by_opening : {k : ℕ} {w : Meaning} {m : Node} → slice_get b.meanings k ≡ Some w → row_node (opened_row (slice_get b.openings k)) ≡ Some m → Leads b (N.Unwrapping k) m
-  by_choice : {k : ℕ} {w : Meaning} {m : Node} → slice_get b.meanings k ≡ Some w → chosen_node (flagged b.choosable w.group) ≡ Some m → Leads b (N.Choice k) m
+  by_choice : {k : ℕ} {w : Meaning} {m : Node} → slice_get b.meanings k ≡ Some w → chosen_node w.group ≡ Some m → Leads b (N.Choice k) m
+  by_opened_choice : {k : ℕ} {w : Meaning} {m : Node} → slice_get b.meanings k ≡ Some w → chosen_node (opened_group (slice_get b.openings k)) ≡ Some m → Leads b (N.OpenedChoice k) m
 
--- Nodes by number: two for each row, and three for each place after these.
+-- Nodes by number: two for each row, and four for each place after these.
 
 abbrev pub within : ℕ → ℕ → ℕ → Option ℕ
 within n most x = cond (ltb n most) (Some x) None
@@ -205,9 +198,10 @@ within n most x = cond (ltb n most) (Some x) None
 abbrev pub number : ℕ → ℕ → Node → Option ℕ
 number rows places (N.Row n) = within n rows (2 * n)
 number rows places (N.Chosen n) = within n rows (2 * n + 1)
-number rows places (N.Name k) = within k places (2 * rows + 3 * k)
-number rows places (N.Unwrapping k) = within k places (2 * rows + 3 * k + 1)
-number rows places (N.Choice k) = within k places (2 * rows + 3 * k + 2)
+number rows places (N.Name k) = within k places (2 * rows + 4 * k)
+number rows places (N.Unwrapping k) = within k places (2 * rows + 4 * k + 1)
+number rows places (N.Choice k) = within k places (2 * rows + 4 * k + 2)
+number rows places (N.OpenedChoice k) = within k places (2 * rows + 4 * k + 3)
 
 abbrev pub edge_by : Option ℕ → Option ℕ → Option Edge
 edge_by None o = None
@@ -252,7 +246,7 @@ module _ (rows places : ℕ) where
 
     abbrev pub place_edges : ℕ → Option Meaning → List Edge
     place_edges k None = []
-    place_edges k (Some w) = name_edges k w (is_group_call b w.call) ++ (edge_to (N.Unwrapping k) (row_node (opened_row (slice_get b.openings k))) ++ edge_to (N.Choice k) (chosen_node (flagged b.choosable w.group)))
+    place_edges k (Some w) = name_edges k w (is_group_call b w.call) ++ (edge_to (N.Unwrapping k) (row_node (opened_row (slice_get b.openings k))) ++ (edge_to (N.Choice k) (chosen_node w.group) ++ edge_to (N.OpenedChoice k) (chosen_node (opened_group (slice_get b.openings k)))))
 
     -- of the places below the number
     abbrev pub places_edges : ℕ → List Edge
@@ -273,7 +267,7 @@ mark_at marks None = false
 mark_at marks (Some i) = mark_in (slice_get marks i)
 
 abbrev pub is_marked : ℕ → ℕ → List Bool → ℕ → Bool
-is_marked rows places marks k = mark_at marks (number rows places (N.Name k)) || (mark_at marks (number rows places (N.Unwrapping k)) || mark_at marks (number rows places (N.Choice k)))
+is_marked rows places marks k = mark_at marks (number rows places (N.Name k)) || (mark_at marks (number rows places (N.Unwrapping k)) || (mark_at marks (number rows places (N.Choice k)) || mark_at marks (number rows places (N.OpenedChoice k))))
 
 abbrev pub flags_below : ℕ → ℕ → List Bool → ℕ → List Bool
 flags_below rows places marks zero = []

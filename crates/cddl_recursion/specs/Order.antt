@@ -1,6 +1,5 @@
 -- What the order of a specification is.
-use Rattle.std.specs.Prelude.{◌≡◌, ◌↔◌, ℕ, ◌+◌, ◌*◌, ◌<◌, ◌≤◌, List, length, Bool, true, false, Option, Some, None, slice_get}
-use Rattle.std.specs.List.{list_any}
+use Rattle.std.specs.Prelude.{◌≡◌, ◌↔◌, ℕ, ◌+◌, ◌*◌, ◌<◌, ◌≤◌, List, length, Bool, true, Option, Some, None, slice_get}
 use Rattle.cycles.specs.declared.Edge.{Edge}
 use Rattle.cycles.specs.Graph.{AreRanks, AreOnCycles}
 use Rattle.cddl_language.specs.Terms.{Text, Term, Ref, Definition}
@@ -17,7 +16,6 @@ use Rattle.cddl_recursion.specs.declared.node.Node.{Node}
 use Rattle.cddl_recursion.specs.declared.graph.Ranks.{Ranks}
 use Rattle.cddl_recursion.specs.declared.graph.Order.{Order}
 use Rattle.cddl_recursion.specs.declared.graph.Order.TheVariants as OrderV
-use Rattle.cddl_recursion.specs.Asking.{Asked, IsReached, HasWay}
 use Rattle.cddl_recursion.specs.Edges.{flags_below, number}
 use Rattle.cddl_recursion.specs.Standing.{IsStep}
 
@@ -50,27 +48,19 @@ module _ (xs : List Definition) (root : Text) (refs : List Ref) where
     pub down : (n m : Node) → IsStep xs root refs t n m → rank r m < rank r n
     pub most : (n : Node) → rank r n ≤ bound r
 
-  -- Of each instance it is told whether a reference to it, by itself, after `~` or after `&`, comes back to itself. One does.
+  -- Of each instance it is told whether a reference to it comes back to itself: by itself, after `~`, after `&`, or the choice
+  -- from what `~` of it opens. One does.
   pub record AreCycles (flags : List Bool) : Type 0 where
     pub all : length flags ≡ length refs
     pub each : (k : ℕ) (r : Ref) → slice_get refs k ≡ Some r → (slice_get flags k ≡ Some true) ↔ ((p : Point) × (ref_at p ≡ r) × IsOnCycle xs root p)
     pub one : (p : Point) × IsOnCycle xs root p
 
-  -- No reference comes back to itself. But from something that is asked there are ways of any number of steps, so no ranks go
-  -- down along all steps.
-  pub record IsEndless : Type 0 where
-    pub no_cycle : HasNoCycle
-    pub start : Asked
-    pub reached : IsReached xs root start
-    pub ways : (k : ℕ) → HasWay xs k start
-
   abbrev pub IsOrder : Table → Order → Type 0
   IsOrder t (OrderV.Ranks r) = AreRanked t r
   IsOrder t (OrderV.Cycles v) = AreCycles v.items
-  IsOrder t OrderV.Choices = IsEndless
 
 abbrev pub nodes_of : Layout → ℕ
-nodes_of l = 2 * l.rows + 3 * l.places
+nodes_of l = 2 * l.rows + 4 * l.places
 
 -- the same of a graph with these edges
 pub record AreRanksOf (l : Layout) (edges : List Edge) (r : Ranks) : Type 0 where
@@ -81,14 +71,7 @@ pub record AreFlagsOf (l : Layout) (edges : List Edge) (flags : List Bool) : Typ
   pub marks : List Bool
   pub are_marks : AreOnCycles (nodes_of l) edges marks
   pub are_flags : flags ≡ flags_below l.rows l.places marks l.places
-  pub set : list_any (λ x. x) flags ≡ true
-
-pub record AreNoFlags (l : Layout) (edges : List Edge) : Type 0 where
-  pub marks : List Bool
-  pub are_marks : AreOnCycles (nodes_of l) edges marks
-  pub unset : list_any (λ x. x) (flags_below l.rows l.places marks l.places) ≡ false
 
 abbrev pub IsOrdered : Layout → List Edge → Order → Type 0
 IsOrdered l edges (OrderV.Ranks r) = AreRanksOf l edges r
 IsOrdered l edges (OrderV.Cycles v) = AreFlagsOf l edges v.items
-IsOrdered l edges OrderV.Choices = AreNoFlags l edges

@@ -6,7 +6,7 @@ ghost use Rattle.cddl_recursion.specs.Views.{known};
 
 use crate::node::{Layout, Node};
 use crate::steps::{
-    Steps, View, chosen_node, chosen_steps, flagged, is_group_call, opened_row, opening_at,
+    Steps, View, chosen_node, chosen_steps, is_group_call, opened_group, opened_row, opening_at,
     row_node, row_steps,
 };
 use cddl_closed::Meaning;
@@ -108,10 +108,13 @@ fn push_meaning(
     };
     let is_group = is_group_call(terms, view, meaning.call);
     push_name(edges, layout, place, meaning, is_group)?;
-    let opened = row_node(opened_row(opening_at(view.openings, place)));
+    let opening = opening_at(view.openings, place);
+    let opened = row_node(opened_row(opening));
     push(edges, layout, Node::Unwrapping(place), opened)?;
-    let chosen = chosen_node(flagged(view.choosable, meaning.group));
-    push(edges, layout, Node::Choice(place), chosen)
+    let chosen = chosen_node(meaning.group);
+    push(edges, layout, Node::Choice(place), chosen)?;
+    let chosen = chosen_node(opened_group(opening));
+    push(edges, layout, Node::OpenedChoice(place), chosen)
 }
 
 /// The edges from what an instance means, as a group or as a type.

@@ -1,7 +1,6 @@
 //! Of each instance whether one of its nodes is marked.
 
 ghost use Rattle.std.specs.Prelude.{◌≡◌, IfOk};
-ghost use Rattle.std.specs.List.{list_any};
 ghost use Rattle.cddl_recursion.specs.Edges as by;
 
 use crate::node::{Layout, Node};
@@ -28,6 +27,7 @@ fn is_marked(layout: Layout, marks: &[bool], place: u32) -> bool
     mark_at(marks, layout.number(Node::Name(place)))
         || mark_at(marks, layout.number(Node::Unwrapping(place)))
         || mark_at(marks, layout.number(Node::Choice(place)))
+        || mark_at(marks, layout.number(Node::OpenedChoice(place)))
 }
 
 fn mark_at(marks: &[bool], number: Option<usize>) -> bool
@@ -37,10 +37,4 @@ fn mark_at(marks: &[bool], number: Option<usize>) -> bool
         Some(number) => matches!(marks.get(number), Some(true)),
         None => false,
     }
-}
-
-pub(crate) fn is_any_set(flags: &[bool]) -> bool
-    ensures { result ≡ list_any (λ x. x) flags.now }
-{
-    flags.iter().any(|flag| *flag)
 }

@@ -6,18 +6,19 @@ ghost use Rattle.cddl_language.specs.Terms.{Ref, Text};
 ghost use Rattle.cddl_kinds.specs.Kinds.{AreKinds};
 ghost use Rattle.cddl_closed.specs.Closed.{IsClosed};
 ghost use Rattle.cddl_openings.specs.Openings.{AreOpenings};
-ghost use Rattle.cddl_choosing.specs.Choosing.{AreChoosable};
 ghost use Rattle.cddl_empty.specs.Empty.{AreEmpty};
 ghost use Rattle.cddl_recursion.specs.Order.{IsOrder, IsOrdered, bound, rank, rank_at};
 
 use crate::edges::edges_of;
-use crate::flags::{flags_of, is_any_set};
+use crate::flags::flags_of;
 use crate::node::{Layout, Node};
 use crate::parts::parts_of;
 use crate::steps::View;
 use cddl_closed::Closed;
+use cddl_closed::laws::meanings_are_reached;
 use cddl_kinds::Kinds;
 use cddl_openings::Opening;
+use cddl_openings::laws::{opened_is_reached, part_is_reached};
 use cddl_terms::Terms;
 use cddl_terms::laws::equal_numbers;
 use cycles::laws::ranks_or_cycles;
@@ -64,12 +65,9 @@ fn rank_at(ranks: &[usize], number: Option<usize>) -> usize
 pub enum Order {
     /// Nothing comes back to itself: ranks that go down.
     Ranks(Ranks),
-    /// For each instance whether a reference with its name and arguments, by itself, after `~` or after `&`, comes back to
-    /// itself, as one does.
+    /// For each instance whether a reference with its name and arguments comes back to itself, as one does: by itself, after
+    /// `~`, after `&`, or the choice from what `~` of it opens.
     Cycles(Vec<bool>),
-    /// No reference comes back to itself, but the choice of a `&` from a group does, through the entries of groups alone, as
-    /// for `r = &(b)`, `b = (y: &(a))`, `a = (x: &(b))`.
-    Choices,
 }
 
 /// Ranks of what the instances of a specification ask of an item, or the references that come back to themselves (RFC 8610 does
@@ -83,12 +81,14 @@ pub fn find_order(
     closed: &Closed,
     kinds: &Kinds,
     openings: &[Opening],
-    choosable: &[bool],
     may_be_empty: &[bool],
 ) -> Result<Order, AllocError>
-    ensures { IfOk result (λ o. (xs : List L.Definition) (root : Text) (refs : List Ref) → IsClosed xs root refs terms.now closed.now → AreKinds terms.now.texts xs kinds.now → AreOpenings xs terms.now refs openings.now → AreChoosable xs root terms.now choosable.now → AreEmpty xs root terms.now may_be_empty.now → IsOrder xs root refs terms.now o) }
+    ensures { IfOk result (λ o. (xs : List L.Definition) (root : Text) (refs : List Ref) → IsClosed xs root refs terms.now closed.now → AreKinds terms.now.texts xs kinds.now → AreOpenings xs terms.now refs openings.now → AreEmpty xs root terms.now may_be_empty.now → IsOrder xs root refs terms.now o) }
 {
     equal_numbers(terms);
+    meanings_are_reached();
+    opened_is_reached();
+    part_is_reached();
     ranks_or_cycles();
     let Some(layout) = layout_of(terms, closed) else {
         return Err(AllocError);
@@ -99,7 +99,6 @@ pub fn find_order(
         kinds,
         openings,
         parts: &parts,
-        choosable,
         may_be_empty,
     };
     let edges = edges_of(alloc, layout, terms, &view)?;
@@ -124,10 +123,7 @@ fn ordered(alloc: Global, layout: Layout, edges: &[Edge]) -> Result<Order, Alloc
         cycles::Order::Ranks(ranks) => Ok(Order::Ranks(Ranks { layout, ranks })),
         cycles::Order::Cycles(marks) => {
             let flags = flags_of(alloc, layout, &marks)?;
-            if is_any_set(&flags) {
-                return Ok(Order::Cycles(flags));
-            }
-            Ok(Order::Choices)
+            Ok(Order::Cycles(flags))
         }
     }
 }

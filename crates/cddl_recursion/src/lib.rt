@@ -5,13 +5,9 @@
 mod edges;
 mod flags;
 mod graph;
-pub mod laws;
 mod node;
 mod parts;
 mod steps;
 
 pub use crate::graph::{Order, Ranks, find_order};
 pub use crate::node::Node;
-
-#[cfg(test)]
-mod tests;

@@ -7,7 +7,7 @@ ghost use Rattle.cddl_recursion.specs.Edges as by;
 ghost use Rattle.cddl_recursion.specs.Views.{known};
 
 use crate::node::Node;
-use cddl_closed::{Closed, Meaning};
+use cddl_closed::Closed;
 use cddl_kinds::Kinds;
 use cddl_openings::{Opening, Part};
 use cddl_terms::{Form, Row, Terms};
@@ -20,7 +20,6 @@ pub(crate) struct View<'a> {
     pub openings: &'a [Opening],
     /// For each row that is a type's what it is as an entry.
     pub parts: &'a [Part],
-    pub choosable: &'a [bool],
     pub may_be_empty: &'a [bool],
 }
 
@@ -39,7 +38,7 @@ pub(crate) fn row_steps(terms: &Terms<'_>, view: &View<'_>, row: Row) -> Steps
         Form::Named => one(name_node(place_of(&view.closed.places, row.first))),
         Form::Unwrapped => one(unwrapping_node(place_of(&view.closed.places, row.first))),
         Form::ChoiceOfName => one(choice_node(place_of(&view.closed.places, row.first))),
-        Form::ChoiceOf => one(chosen_node(flagged(view.choosable, row.first))),
+        Form::ChoiceOf => one(chosen_node(row.first)),
         Form::Parens | Form::ArrayOf | Form::SimpleBy | Form::Sole | Form::Grouped => {
             one(row_node(row.first))
         }
@@ -84,27 +83,20 @@ pub(crate) fn chosen_steps(terms: &Terms<'_>, view: &View<'_>, row: Row) -> Step
         Form::OrElse | Form::Entries | Form::EntriesComma => {
             both(chosen_node(row.first), chosen_node(row.second))
         }
-        Form::Typed => one(chosen_part(terms, view, row.first, part_at(view.parts, row.first))),
+        Form::Typed => one(chosen_part(row.first, part_at(view.parts, row.first))),
         Form::Keyed => one(row_node(row.second)),
         _ => one(None),
     }
 }
 
 /// The step from an entry of a type, where `&` chooses from it.
-fn chosen_part(terms: &Terms<'_>, view: &View<'_>, row: Option<u32>, part: Part) -> Option<Node>
-    ensures { result ≡ by.chosen_part (known terms.now view.now) row part }
+fn chosen_part(row: Option<u32>, part: Part) -> Option<Node>
+    ensures { result ≡ by.chosen_part row part }
 {
-    terms.len();
     match part {
         Part::AsksType => row_node(row),
-        Part::NamesGroup(place) => {
-            let group = group_at(&view.closed.meanings, place);
-            chosen_node(flagged(view.choosable, group))
-        }
-        Part::Opens(place, _) => {
-            let group = opened_group(opening_at(view.openings, place));
-            chosen_node(flagged(view.choosable, group))
-        }
+        Part::NamesGroup(place) => Some(Node::Choice(place)),
+        Part::Opens(place, _) => Some(Node::OpenedChoice(place)),
     }
 }
 
@@ -175,7 +167,7 @@ fn place_of(places: &[Option<u32>], row: Option<u32>) -> Option<u32>
 }
 
 /// The row, where its flag is set.
-pub(crate) fn flagged(flags: &[bool], row: Option<u32>) -> Option<u32>
+fn flagged(flags: &[bool], row: Option<u32>) -> Option<u32>
     ensures { result ≡ by.flagged flags.now row }
 {
     let row = row?;
@@ -204,16 +196,6 @@ fn part_in(part: Option<Part>) -> Part
     }
 }
 
-/// The row of the group of an instance.
-fn group_at(meanings: &[Meaning], place: u32) -> Option<u32>
-    ensures { result ≡ by.group_at meanings.now place }
-{
-    match meanings.get(place as usize) {
-        Some(meaning) => meaning.group,
-        None => None,
-    }
-}
-
 pub(crate) fn opening_at(openings: &[Opening], place: u32) -> Option<Opening>
     ensures { result ≡ by.opening_at openings.now place }
 {
@@ -221,7 +203,7 @@ pub(crate) fn opening_at(openings: &[Opening], place: u32) -> Option<Opening>
 }
 
 /// The row of the group that is opened.
-fn opened_group(opening: Option<Opening>) -> Option<u32>
+pub(crate) fn opened_group(opening: Option<Opening>) -> Option<u32>
     ensures { result ≡ by.opened_group opening }
 {
     match opening {

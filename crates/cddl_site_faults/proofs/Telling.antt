@@ -16,6 +16,7 @@ use Rattle.cddl_sites.specs.Listed.{StandsIn, WasFound}
 use Rattle.cddl_sites.specs.View.{view_found, view_site}
 use Rattle.cddl_sites.specs.Walk.{all_sites}
 use Rattle.cddl_survey.specs.Least.{IsLeast, lesser_of}
+use Rattle.cddl_site_faults.specs.Told.{Among, HaveRules, IsAmong, IsToldAt}
 use Rattle.cddl_survey.proofs.Lemmas.{alike, either}
 
 module _ {X : Type 0} where
@@ -60,27 +61,12 @@ with_none : (a : Option ℕ) → lesser_of a None ≡ a
 with_none None = refl
 with_none (Some a) = refl
 
--- one of the list has it at this offset
-pub record IsAmong {A : Type 0} (P : A → ℕ → Type 0) (xs : List A) (at : ℕ) : Type 0 where
-  pub one : A
-  pub present : Contains xs one
-  pub told : P one at
-
 -- it is told at a site anywhere in the text
 pub record IsTold (s : Specification) (P : S.Rule → Site → ℕ → Type 0) (at : ℕ) : Type 0 where
   pub rule : S.Rule
   pub site : Site
   pub found : HasSite s rule site
   pub told : P rule site at
-
--- it is told at a site that was found
-pub record IsToldAt (read : Leaf → Token) (rs : List S.Rule) (P : S.Rule → Site → ℕ → Type 0) (f : Found) (at : ℕ) : Type 0 where
-  pub rule : S.Rule
-  pub place : slice_get rs f.rule ≡ Some rule
-  pub told : P rule (view_site read f.site) at
-
-abbrev pub Among : (Leaf → Token) → List S.Rule → (S.Rule → Site → ℕ → Type 0) → List Found → ℕ → Type 0
-Among read rs P fs = IsAmong (IsToldAt read rs P) fs
 
 -- What is so far the least, with the least in the rest of the sites, gives the least in all.
 pub record Goes (read : Leaf → Token) (rs : List S.Rule) (P : S.Rule → Site → ℕ → Type 0) (all rest : List Found) (least : Option ℕ) : Type 0 where
@@ -130,6 +116,16 @@ module _ (read : Leaf → Token) (rs : List S.Rule) (P : S.Rule → Site → ℕ
     where
       none : (p : ℕ) → Among read rs P [] p → ⊥
       none p h = none_in h.one h.present
+
+-- one step of a loop over such sites, and its end
+module _ (read : Leaf → Token) (rs : List S.Rule) (P : S.Rule → Site → ℕ → Type 0) where
+  pub steps_among : (all : List Found) (i : ℕ) (f : Found) (least a new : Option ℕ) → HaveRules rs all → i < length all → f ≡ get_or all i f → ((r : S.Rule) → slice_get rs f.rule ≡ Some r → IsLeast (P r (view_site read f.site)) a) → new ≡ lesser_of least a → Goes read rs P all (drop i all) least → Goes read rs P all (drop (i + 1) all) new
+  steps_among all i f least a new e l is h n g =
+      let it = e f (i, l, sym is) in
+      goes_on read rs P all (drop i all) (drop (i + 1) all) f it.0 least a new (next_drop all i f l is) it.1 (h it.0 it.1) n g
+
+  pub finished_among : (all : List Found) (i : ℕ) (least : Option ℕ) → length all ≤ i → Goes read rs P all (drop i all) least → IsLeast (Among read rs P all) least
+  finished_among all i least l g = ends read rs P all (drop i all) least (drop_of_length-le all l) g
 
 -- The sites that were found are those of the text.
 module _ (stand : FoundStand) (every : AllFound) (read : Leaf → Token) (tree : S.Cddl) (P : S.Rule → Site → ℕ → Type 0) where

@@ -1,5 +1,7 @@
 pub mod Marks
 pub mod Names
+pub mod Openings
 pub mod Reads
 pub mod Sites
 pub mod Stage
+pub mod Told

@@ -7,6 +7,7 @@ mod hashes;
 mod kinds;
 mod marks;
 mod names;
+mod openings;
 mod stage;
 mod undefined_names;
 
@@ -14,5 +15,6 @@ pub use crate::arity::wrong_arity;
 pub use crate::controls::unknown_control;
 pub use crate::hashes::bad_hash;
 pub use crate::kinds::group_as_type;
+pub use crate::openings::wrong_opening;
 pub use crate::stage::not_yet;
 pub use crate::undefined_names::undefined;

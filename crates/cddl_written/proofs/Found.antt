@@ -52,7 +52,7 @@ module _ (P : Literal → Type 0) where
     in_type1 (S.one x) h = in_type2 x h
     in_type1 (S.operation x o y) h = in_operation (term_of2 x) (term_of2 y) o (in_type2 x (front (S.flat_type2 x) (S.flat_operator o ∷ S.flat_type2 y) h)) (in_type2 y (rest (S.flat_operator o) (S.flat_type2 y) (back (S.flat_type2 x) (S.flat_operator o ∷ S.flat_type2 y) h)))
 
-    in_type2 : (x : S.Type2) → Each (S.flat_type2 x) → AllIn P (term_of2 x)
+    pub in_type2 : (x : S.Type2) → Each (S.flat_type2 x) → AllIn P (term_of2 x)
     in_type2 (S.literal v) h = value_there v [] h
     in_type2 (S.typename r) h = in_ref r h
     in_type2 (S.parens o t c) h = in_types t (front (S.flat_types t) ((K.ParenClose, c) ∷ []) (rest (K.ParenOpen, o) (S.flat_types t ++ (K.ParenClose, c) ∷ []) h))

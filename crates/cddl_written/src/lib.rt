@@ -2,14 +2,16 @@
 //! is put for a parameter. The definitions are in `specs/`. The functions here do nothing: their contracts are laws.
 #![tactic(auto)]
 
-ghost use Rattle.std.specs.Prelude.{◌≡◌, Contains, Some};
+ghost use Rattle.std.specs.Prelude.{◌≡◌, Contains, List, Some};
 ghost use Rattle.cddl_language.specs.Kinds.{opened, opens_group, opens_type};
 ghost use Rattle.cddl_language.specs.Literals.{AreRight, Means, Values, literal_of};
 ghost use Rattle.cddl_language.specs.Reach.{Reaches};
-ghost use Rattle.cddl_language.specs.Reading.{definitions_in, rules_of};
-ghost use Rattle.cddl_language.specs.Substitution.{group_choices, type_choices};
+ghost use Rattle.cddl_language.specs.Reading.{definitions_in, parameters_in, rules_of, term_of2};
+ghost use Rattle.cddl_language.specs.Sites.{IsReached, Site, an_operation};
+ghost use Rattle.cddl_language.specs.Substitution.{fill, group_choices, type_choices};
 ghost use Rattle.cddl_language.specs.Terms.{Entries, Group, Literal, Ref, Term, Text};
-ghost use Rattle.cddl_syntax.specs.Syntax.{Cddl};
+ghost use Rattle.cddl_syntax.specs.Syntax.{Cddl, Lexeme, Operator, Rule, Type2, flat};
+ghost use Rattle.cddl_written.specs.Sites.{site_lexemes};
 ghost use Rattle.cddl_written.specs.Written.{AllIn, AllInEntries, AllInGroup, AllInRef, IsMeant};
 
 /// In an instance, in what it means and in what `~` of it opens, each written value is taken for what it stands for, where those
@@ -26,4 +28,16 @@ pub fn reached_values()
 /// are.
 pub fn written_value()
     ensures { (x : Cddl) (worth : Values) → AreRight x worth → (t : Term) (v : Literal) → AllIn (IsMeant worth) t → ((w : Values) → literal_of w (definitions_in (rules_of x)) t ≡ Some (w v)) → Means v (worth v) }
+{}
+
+/// The tokens of a site that is reached stand in the text.
+pub fn site_tokens()
+    ensures { (x : Cddl) (root : Text) (r : Rule) (xs : List Term) (p : Site) → IsReached (rules_of x) root r xs p → (l : Lexeme) → Contains (site_lexemes p) l → Contains (flat x) l }
+{}
+
+/// In an operand of a range or of a control, at a site that is reached, with the arguments of the instance in it, each written
+/// value is taken for what it stands for, where those in the text are.
+pub fn operand_values()
+    ensures first { (x : Cddl) (worth : Values) → AreRight x worth → (root : Text) (r : Rule) (xs : List Term) (a b : Type2) (o : Operator) → IsReached (rules_of x) root r xs (an_operation a o b) → AllIn (IsMeant worth) (fill (parameters_in r) xs (term_of2 a)) }
+    ensures last { (x : Cddl) (worth : Values) → AreRight x worth → (root : Text) (r : Rule) (xs : List Term) (a b : Type2) (o : Operator) → IsReached (rules_of x) root r xs (an_operation a o b) → AllIn (IsMeant worth) (fill (parameters_in r) xs (term_of2 b)) }
 {}

@@ -43,6 +43,9 @@ returns-clause-choice_of_maybe c = F.choice_of_maybe
 pub returns-clause-first_itself : goal.returns-clause-first_itself
 returns-clause-first_itself c = F.first_itself
 
+pub returns-clause-chosen_itself : goal.returns-clause-chosen_itself
+returns-clause-chosen_itself c = F.chosen_itself
+
 pub returns-clause-group_first_itself : goal.returns-clause-group_first_itself
 returns-clause-group_first_itself c = F.group_first_itself
 

@@ -2,7 +2,8 @@ use Rattle.std.proofs.Common.{subst, ◌∙◌}
 use Rattle.cddl_closed.specs.Closed.{TermRow}
 use Rattle.cddl_meaning.specs.Alike.{AlikeAll}
 use Rattle.cddl_language.specs.Substitution.{type_choices}
-use Rattle.cddl_nodes.proofs.Forming.{choice_formed, each_contained, row_list, same_meaning}
+use Rattle.cddl_nodes.proofs.Forming.{choice_formed, row_list, same_meaning}
+use Rattle.cddl_nodes.proofs.Knowing.{each_contained}
 use Rattle.cddl_nodes.proofs.Reaching.{instance_reached}
 use Rattle.cddl_nodes.proofs.types.instance_form.Goals as goal
 
@@ -11,4 +12,4 @@ returns-in-Ok c s t r src e =
     let reaches = instance_reached s src.closed.instances.only c.args.place r e in
     let m = c.meaning_at.ensures s.definitions s.root s.refs t c.args.source.now.closed.now c.args.place r src.closed e in
     let same = same_meaning _ _ _ m.1 c.in-Some.ensures in
-    choice_formed s t (type_choices s.definitions r) c.in-Some.meaning.now.types.items c.in-Ok.origins.items (each_contained s t (type_choices s.definitions r) (λ x h. c.meanings_are_reached.ensures.types s.definitions s.root r x reaches h)) (subst (λ y. AlikeAll (TermRow t) (type_choices s.definitions r) y.types.items) same (m.2).types) (c.in-Ok.ensures ∙ row_list c.deref.ensures.value)
+    choice_formed s t (type_choices s.definitions r) c.in-Some.meaning.now.types.items c.in-Ok.origins.items (each_contained s (type_choices s.definitions r) (λ x h. c.known_instances.ensures.types s t c.args.source.now src r reaches x h)) (subst (λ y. AlikeAll (TermRow t) (type_choices s.definitions r) y.types.items) same (m.2).types) (c.in-Ok.ensures ∙ row_list c.deref.ensures.value)

@@ -10,7 +10,7 @@ returns-in-Some-group_at c = IfOk-weaker c.choice_form.result _ _ (λ f h s r sr
     let t = c.args.terms.now in
     let reaches = reached_one s (at_choice r) re in
     let here = placed s.refs r c.in-Some.place (c.in-Some.ensures s r src is reaches) in
-    by_name_chosen s t (group_choices s.definitions r) c.in-Some-group_at.group _ (c.in-Some-group_at.ensures s t r src here) (λ g e it. h s g src it (c.meanings_are_reached.ensures.group s.definitions s.root r g reaches e))) c.choice_form.ensures
+    by_name_chosen s t (group_choices s.definitions r) c.in-Some-group_at.group _ (c.in-Some-group_at.ensures s t r src here) (λ g e it. h s g src it (c.known_instances.ensures.group s t c.args.source.now src r reaches g e))) c.choice_form.ensures
 
 pub returns-in-None : goal.returns-in-None
 returns-in-None c s r src is re =

@@ -4,56 +4,57 @@ use Rattle.cddl_meaning.specs.Alike.{arrays, heads, refs, simples, tags}
 use Rattle.cddl_closed.specs.Closed.{alternatives_of}
 use Rattle.cddl_language.specs.Reach.{points}
 use Rattle.cddl_terms.specs.Trees.{IsTerm}
-use Rattle.cddl_nodes.specs.Origins.{IsReached, IsTermForm, of_alternatives, of_row}
+use Rattle.cddl_nodes.specs.Origins.{IsKnown, IsTermForm, of_alternatives, of_row}
 use Rattle.cddl_nodes.specs.declared.form.TagForm.TheVariants as K
 use Rattle.cddl_nodes.specs.declared.form.TypeForm.TheVariants as T
 use Rattle.cddl_nodes.specs.declared.origin.GroupOrigin.TheVariants as GO
 use Rattle.cddl_nodes.specs.declared.origin.TypeOrigin.TheVariants as O
 use Rattle.cddl_nodes.proofs.Forming.{array_case, choice_of_case, choice_of_name_case, hash_case, literal_case, named_case, nothing_form, or_case, other_case, parens_case, range_below_case, range_case, simple_case, tagged_by_case, tagged_case, unwrapped_case}
-use Rattle.cddl_nodes.proofs.Reaching.{group_reached, reached_left, reached_right}
+use Rattle.cddl_nodes.proofs.Knowing.{group_known}
+use Rattle.cddl_nodes.proofs.Reaching.{reached_left, reached_right}
 use Rattle.cddl_nodes.proofs.types.row_form.Goals as goal
 
 pub returns-in-Literal : goal.returns-in-Literal
-returns-in-Literal c = IfOk-weaker c.literal_form.result _ _ (λ f h s x src is re. literal_case c.args.terms.now (λ y. IsTerm c.args.terms.now c.args.row y → IsTermForm s c.args.terms.now y f) x (c.in-Literal.ensures x is) (λ v it. h s v src.right it) is) c.literal_form.ensures
+returns-in-Literal c = IfOk-weaker c.literal_form.result _ _ (λ f h s x src is re. literal_case c.args.terms.now (λ y. IsTerm c.args.terms.now c.args.row y → IsKnown s y → IsTermForm s c.args.terms.now y f) x (c.in-Literal.ensures x is) (λ v it q. h s v q.1 it) is re) c.literal_form.ensures
 
 pub returns-in-Named : goal.returns-in-Named
-returns-in-Named c = IfOk-weaker c.named_form.result _ _ (λ f h s x src is re. named_case c.args.terms.now (λ y. IsReached s (points y) → IsTermForm s c.args.terms.now y f) x c.in-Named.call (c.in-Named.ensures x is) (λ r it q. h s r src it q) re) c.named_form.ensures
+returns-in-Named c = IfOk-weaker c.named_form.result _ _ (λ f h s x src is re. named_case c.args.terms.now (λ y. IsKnown s y → IsTermForm s c.args.terms.now y f) x c.in-Named.call (c.in-Named.ensures x is) (λ r it q. h s r src it q.0) re) c.named_form.ensures
 
 pub returns-in-Parens : goal.returns-in-Parens
-returns-in-Parens c s x src is re = parens_case c.args.terms.now (λ y. IsReached s (points y) → IsTermForm s c.args.terms.now y (T.Ref (O.Row c.in-Parens.part))) x c.in-Parens.part (c.in-Parens.ensures x is) (λ y it q. refs (of_row it q)) re
+returns-in-Parens c s x src is re = parens_case c.args.terms.now (λ y. IsKnown s y → IsTermForm s c.args.terms.now y (T.Ref (O.Row c.in-Parens.part))) x c.in-Parens.part (c.in-Parens.ensures x is) (λ y it q. refs (of_row it q.0 q.1)) re
 
 pub returns-in-ArrayOf : goal.returns-in-ArrayOf
-returns-in-ArrayOf c s x src is re = array_case c.args.terms.now (λ y. IsReached s (points y) → IsTermForm s c.args.terms.now y (T.ArrayOf (GO.Alternatives (Some c.in-ArrayOf.group)))) x c.in-ArrayOf.group (c.in-ArrayOf.ensures x is) (λ g it q. arrays (of_alternatives (alternatives_of g it) (group_reached s g q))) re
+returns-in-ArrayOf c s x src is re = array_case c.args.terms.now (λ y. IsKnown s y → IsTermForm s c.args.terms.now y (T.ArrayOf (GO.Alternatives (Some c.in-ArrayOf.group)))) x c.in-ArrayOf.group (c.in-ArrayOf.ensures x is) (λ g it q. arrays (of_alternatives (alternatives_of g it) (group_known s g q).0 (group_known s g q).1)) re
 
 pub returns-in-Unwrapped : goal.returns-in-Unwrapped
-returns-in-Unwrapped c = IfOk-weaker c.unwrapped_form.result _ _ (λ f h s x src is re. unwrapped_case c.args.terms.now (λ y. IsReached s (points y) → IsTermForm s c.args.terms.now y f) x c.in-Unwrapped.call (c.in-Unwrapped.ensures x is) (λ r it q. h s r src it q) re) c.unwrapped_form.ensures
+returns-in-Unwrapped c = IfOk-weaker c.unwrapped_form.result _ _ (λ f h s x src is re. unwrapped_case c.args.terms.now (λ y. IsKnown s y → IsTermForm s c.args.terms.now y f) x c.in-Unwrapped.call (c.in-Unwrapped.ensures x is) (λ r it q. h s r src it q.0) re) c.unwrapped_form.ensures
 
 pub returns-in-ChoiceOf : goal.returns-in-ChoiceOf
-returns-in-ChoiceOf c = IfOk-weaker c.choice_form.result _ _ (λ f h s x src is re. choice_of_case c.args.terms.now (λ y. IsReached s (points y) → IsTermForm s c.args.terms.now y f) x c.in-ChoiceOf.group (c.in-ChoiceOf.ensures x is) (λ g it q. h s g src it q) re) c.choice_form.ensures
+returns-in-ChoiceOf c = IfOk-weaker c.choice_form.result _ _ (λ f h s x src is re. choice_of_case c.args.terms.now (λ y. IsKnown s y → IsTermForm s c.args.terms.now y f) x c.in-ChoiceOf.group (c.in-ChoiceOf.ensures x is) (λ g it q. h s g src it q) re) c.choice_form.ensures
 
 pub returns-in-ChoiceOfName : goal.returns-in-ChoiceOfName
-returns-in-ChoiceOfName c = IfOk-weaker c.named_choice_form.result _ _ (λ f h s x src is re. choice_of_name_case c.args.terms.now (λ y. IsReached s (points y) → IsTermForm s c.args.terms.now y f) x c.in-ChoiceOfName.call (c.in-ChoiceOfName.ensures x is) (λ r it q. h s r src it q) re) c.named_choice_form.ensures
+returns-in-ChoiceOfName c = IfOk-weaker c.named_choice_form.result _ _ (λ f h s x src is re. choice_of_name_case c.args.terms.now (λ y. IsKnown s y → IsTermForm s c.args.terms.now y f) x c.in-ChoiceOfName.call (c.in-ChoiceOfName.ensures x is) (λ r it q. h s r src it q.0) re) c.named_choice_form.ensures
 
 pub returns-in-Tagged : goal.returns-in-Tagged
-returns-in-Tagged c = IfOk-weaker c.tagged_form.result _ _ (λ f h s x src is re. tagged_case c.args.terms.now (λ y. IsReached s (points y) → IsTermForm s c.args.terms.now y f) x c.in-Tagged.text c.in-Tagged.content (c.in-Tagged.ensures x is) (λ n y e it q. h s n y e it q) re) c.tagged_form.ensures
+returns-in-Tagged c = IfOk-weaker c.tagged_form.result _ _ (λ f h s x src is re. tagged_case c.args.terms.now (λ y. IsKnown s y → IsTermForm s c.args.terms.now y f) x c.in-Tagged.text c.in-Tagged.content (c.in-Tagged.ensures x is) (λ n y e it q. h s n y e it q) re) c.tagged_form.ensures
 
 pub returns-in-TaggedBy : goal.returns-in-TaggedBy
-returns-in-TaggedBy c s x src is re = tagged_by_case c.args.terms.now (λ y. IsReached s (points y) → IsTermForm s c.args.terms.now y (T.TagOf (K.SuchAs (O.Row c.in-TaggedBy.head)) (O.Row c.in-TaggedBy.content))) x c.in-TaggedBy.head c.in-TaggedBy.content (c.in-TaggedBy.ensures x is) (λ y z g it q. tags (heads (of_row g (reached_left s (points y) (points z) q))) (of_row it (reached_right s (points y) (points z) q))) re
+returns-in-TaggedBy c s x src is re = tagged_by_case c.args.terms.now (λ y. IsKnown s y → IsTermForm s c.args.terms.now y (T.TagOf (K.SuchAs (O.Row c.in-TaggedBy.head)) (O.Row c.in-TaggedBy.content))) x c.in-TaggedBy.head c.in-TaggedBy.content (c.in-TaggedBy.ensures x is) (λ y z g it q. tags (heads (of_row g (reached_left s (points y) (points z) q.0) q.1.0)) (of_row it (reached_right s (points y) (points z) q.0) q.1.1)) re
 
 pub returns-in-SimpleBy : goal.returns-in-SimpleBy
-returns-in-SimpleBy c s x src is re = simple_case c.args.terms.now (λ y. IsReached s (points y) → IsTermForm s c.args.terms.now y (T.SimpleBy (O.Row c.in-SimpleBy.head))) x c.in-SimpleBy.head (c.in-SimpleBy.ensures x is) (λ y it q. simples (of_row it q)) re
+returns-in-SimpleBy c s x src is re = simple_case c.args.terms.now (λ y. IsKnown s y → IsTermForm s c.args.terms.now y (T.SimpleBy (O.Row c.in-SimpleBy.head))) x c.in-SimpleBy.head (c.in-SimpleBy.ensures x is) (λ y it q. simples (of_row it q.0 q.1)) re
 
 pub returns-in-Hash : goal.returns-in-Hash
 returns-in-Hash c = IfOk-weaker c.hash_form.result _ _ (λ f h s x src is re. hash_case c.args.terms.now (λ y. IsTermForm s c.args.terms.now y f) x c.in-Hash.text (c.in-Hash.ensures x is) (λ n e. h s n e)) c.hash_form.ensures
 
 pub returns-in-Range : goal.returns-in-Range
-returns-in-Range c = IfOk-weaker c.range_form.result _ _ (λ f h s x src is re. range_case c.args.terms.now (λ y. IsReached s (points y) → IsTermForm s c.args.terms.now y f) x c.in-Range.least c.in-Range.last (c.in-Range.ensures x is) (λ y z g it q. h s y z src g it q) re) c.range_form.ensures
+returns-in-Range c = IfOk-weaker c.range_form.result _ _ (λ f h s x src is re. range_case c.args.terms.now (λ y. IsKnown s y → IsTermForm s c.args.terms.now y f) x c.in-Range.least c.in-Range.last (c.in-Range.ensures x is) (λ y z g it q. h s y z src g it q) re) c.range_form.ensures
 
 pub returns-in-RangeBelow : goal.returns-in-RangeBelow
-returns-in-RangeBelow c = IfOk-weaker c.range_form-in-RangeBelow.result _ _ (λ f h s x src is re. range_below_case c.args.terms.now (λ y. IsReached s (points y) → IsTermForm s c.args.terms.now y f) x c.in-RangeBelow.least c.in-RangeBelow.last (c.in-RangeBelow.ensures x is) (λ y z g it q. h s y z src g it q) re) c.range_form-in-RangeBelow.ensures
+returns-in-RangeBelow c = IfOk-weaker c.range_form-in-RangeBelow.result _ _ (λ f h s x src is re. range_below_case c.args.terms.now (λ y. IsKnown s y → IsTermForm s c.args.terms.now y f) x c.in-RangeBelow.least c.in-RangeBelow.last (c.in-RangeBelow.ensures x is) (λ y z g it q. h s y z src g it q) re) c.range_form-in-RangeBelow.ensures
 
 pub returns-in-Or : goal.returns-in-Or
-returns-in-Or c = IfOk-weaker c.or_form.result _ _ (λ f h s x src is re. or_case c.args.terms.now (λ y. IsTerm c.args.terms.now c.args.row y → IsReached s (points y) → IsTermForm s c.args.terms.now y f) x (c.in-Or.ensures x is) (λ y z it q. h s y z it q) is re) c.or_form.ensures
+returns-in-Or c = IfOk-weaker c.or_form.result _ _ (λ f h s x src is re. or_case c.args.terms.now (λ y. IsTerm c.args.terms.now c.args.row y → IsKnown s y → IsTermForm s c.args.terms.now y f) x (c.in-Or.ensures x is) (λ y z it q. h s y z it q) is re) c.or_form.ensures
 
 pub returns-in-Other : goal.returns-in-Other
 returns-in-Other c s x src is re = other_case c.args.terms.now (λ y. IsTermForm s c.args.terms.now y c.nothing.result) x (c.in-Other.ensures x is) (λ g. nothing_form s c.args.terms.now _ c.nothing.ensures) (λ y z n. nothing_form s c.args.terms.now _ c.nothing.ensures)

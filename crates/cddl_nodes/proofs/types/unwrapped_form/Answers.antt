@@ -12,4 +12,4 @@ returns-in-Some-opening_there c s r src is re =
     let reaches = reached_one s (at_unwrapping r) re in
     let here = placed s.refs r c.in-Some.place (c.in-Some.ensures s r src is reaches) in
     let o = c.opening_stands.ensures s.definitions t s.refs c.args.source.now.openings.now c.in-Some.place r src.openings_are here in
-    opened_formed s t (opened s.definitions r) c.in-Some-opening_there.opening _ c.opened_form.ensures (subst (IsOpened t (opened s.definitions r)) (same_meaning _ _ _ o.1 c.in-Some-opening_there.ensures) o.2) (λ x e. c.opened_is_reached.ensures.content s.definitions s.root r x reaches e)
+    opened_formed s t (opened s.definitions r) c.in-Some-opening_there.opening _ c.opened_form.ensures (subst (IsOpened t (opened s.definitions r)) (same_meaning _ _ _ o.1 c.in-Some-opening_there.ensures) o.2) (λ x e. c.known_instances.ensures.content s t c.args.source.now src r reaches x e)

@@ -1,0 +1,41 @@
+-- The first fault of the text is the one that is told; and where the text has none, the first of what the root reaches.
+use Rattle.std.proofs.Common.{◌≡◌, ℕ, inl, inr, Option, Some, None, refl, sym, subst}
+use Rattle.cddl_token.specs.declared.Code.TheVariants as C
+use Rattle.cddl_survey.specs.Least.{IsLeast}
+use Rattle.cddl_language.specs.Faults.{HasBadRange, HasNotUnwrappable, HasRecursion, HasTooManyInstances, IsAccepted, IsFaultAt, IsRefused, OfRoot, Specification, root_of}
+use Rattle.cddl_language.specs.Literals.{Values}
+use Rattle.cddl_language.specs.Terms.{Text}
+use Rattle.cddl_check.specs.Codes.{root_codes, text_codes}
+use Rattle.cddl_check.specs.First.{IsFirst}
+use Rattle.cddl_check.specs.declared.fault.Fault.{Fault}
+use Rattle.cddl_check.proofs.Firsts.{joined_none, joined_some}
+use Rattle.cddl_check.proofs.Refusing.{accepted, refused}
+
+pub text_told : (s : Specification) (worth : Values) (f : Fault) → IsFirst (IsFaultAt s worth) text_codes (Some f) → IsRefused s worth f.code f.at
+text_told s worth f h = refused s worth f (joined_some (IsFaultAt s worth) text_codes root_codes f h)
+
+module _ (s : Specification) (worth : Values) (root : Text) (rooted : root_of s ≡ Some root) (clear : IsFirst (IsFaultAt s worth) text_codes None) where
+  -- with the root, which there is
+  of_root : (P : Text → ℕ → Type 0) (o : Option ℕ) → IsLeast (P root) o → IsLeast (λ at. OfRoot (root_of s) (λ n. P n at)) o
+  of_root P o h = subst (λ r. IsLeast (λ at. OfRoot r (λ n. P n at)) o) (sym rooted) h
+
+  told : (f : Fault) → IsFirst (IsFaultAt s worth) root_codes (Some f) → IsRefused s worth f.code f.at
+  told f h = refused s worth f (joined_none (IsFaultAt s worth) text_codes root_codes (Some f) clear h)
+
+  pub too_many_told : (at : ℕ) → IsLeast (HasTooManyInstances s root) (Some at) → IsRefused s worth C.TooManyInstances at
+  too_many_told at h = told (record { code = C.TooManyInstances; at = at }) (inl (refl, of_root (HasTooManyInstances s) (Some at) h))
+
+  module _ (few : IsLeast (HasTooManyInstances s root) None) where
+    pub unwrapping_told : (at : ℕ) → IsLeast (HasNotUnwrappable s root) (Some at) → IsRefused s worth C.NotUnwrappable at
+    unwrapping_told at h = told (record { code = C.NotUnwrappable; at = at }) (inr (of_root (HasTooManyInstances s) None few, inl (refl, of_root (HasNotUnwrappable s) (Some at) h)))
+
+    module _ (opens : IsLeast (HasNotUnwrappable s root) None) where
+      pub recursion_told : (at : ℕ) → IsLeast (HasRecursion s root) (Some at) → IsRefused s worth C.Recursion at
+      recursion_told at h = told (record { code = C.Recursion; at = at }) (inr (of_root (HasTooManyInstances s) None few, inr (of_root (HasNotUnwrappable s) None opens, inl (refl, of_root (HasRecursion s) (Some at) h))))
+
+      module _ (ends : IsLeast (HasRecursion s root) None) where
+        pub range_told : (at : ℕ) → IsLeast (HasBadRange s worth root) (Some at) → IsRefused s worth C.BadRange at
+        range_told at h = told (record { code = C.BadRange; at = at }) (inr (of_root (HasTooManyInstances s) None few, inr (of_root (HasNotUnwrappable s) None opens, inr (of_root (HasRecursion s) None ends, inl (refl, of_root (HasBadRange s worth) (Some at) h)))))
+
+        pub none_told : IsLeast (HasBadRange s worth root) None → IsAccepted s worth
+        none_told h = accepted s worth (joined_none (IsFaultAt s worth) text_codes root_codes None clear (of_root (HasTooManyInstances s) None few, (of_root (HasNotUnwrappable s) None opens, (of_root (HasRecursion s) None ends, (of_root (HasBadRange s worth) None h, tt)))))

@@ -1,0 +1,17 @@
+use Rattle.cddl_check.proofs.Staging.{none_told, range_told, recursion_told, too_many_told, unwrapping_told}
+use Rattle.cddl_check.proofs.laws.root_faults_are_told.Goals as goal
+
+pub returns-clause-too_many : goal.returns-clause-too_many
+returns-clause-too_many c = too_many_told
+
+pub returns-clause-unwrapping : goal.returns-clause-unwrapping
+returns-clause-unwrapping c = unwrapping_told
+
+pub returns-clause-recursion : goal.returns-clause-recursion
+returns-clause-recursion c = recursion_told
+
+pub returns-clause-range : goal.returns-clause-range
+returns-clause-range c = range_told
+
+pub returns-clause-accepted : goal.returns-clause-accepted
+returns-clause-accepted c = none_told

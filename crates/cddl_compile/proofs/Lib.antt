@@ -1,0 +1,11 @@
+mod Lists
+mod Rows
+mod Freedom
+mod Emptiness
+mod Down
+mod Parts
+mod Types
+mod Groups
+mod Ranked
+mod Finding
+mod Standing

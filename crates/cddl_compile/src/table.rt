@@ -1,0 +1,131 @@
+//! A table made of the closed terms of a specification.
+
+ghost use Rattle.std.specs.Prelude.{◌≡◌, ℕ, IfErr, IfOk, List, Some, false, map, slice_get};
+ghost use Rattle.cddl_language.specs.Kinds.{is_group};
+ghost use Rattle.cddl_language.specs.StandsFor.{StandsFor};
+ghost use Rattle.cddl_compile.specs.Ranks.{group_rank, type_rank};
+ghost use Rattle.cddl_nodes.specs.Basis.{IsBasis, Sense};
+ghost use Rattle.cddl_recursion.specs.Order.{AreRanked};
+ghost use Rattle.cddl_ranks.specs.Flags.{AreFlags};
+ghost use Rattle.cddl_ranks.specs.Ranked.{IsRanked};
+ghost use Rattle.cddl_table.specs.Nodes.{language_in};
+ghost use Rattle.cddl_table.specs.Ranks.{flag_in, rank_in};
+ghost use Rattle.cddl_table.specs.declared.nodes.Node.{Node};
+ghost use Rattle.cddl_table.specs.Language.{language_of, rank_of, ranks_of, root_of};
+ghost use Rattle.cddl_compile.specs.declared.table.Unmade.{Unmade as Unmades};
+ghost use Rattle.cddl_compile.specs.declared.table.Unmade.TheVariants as Why;
+
+use crate::ranks::{group_ranks, type_ranks};
+use crate::root::root_place;
+use cddl_closed::Closed;
+use cddl_closed::laws::{meaning_at, meanings_are_reached};
+use cddl_flags::flags_of;
+use cddl_kinds::Kinds;
+use cddl_nodes::{Nodes, nodes_of};
+use cddl_openings::Opening;
+use cddl_openings::laws::part_is_reached;
+use cddl_recursion::Ranks;
+use cddl_table::{Ranks as NodeRanks, Table};
+use cddl_terms::laws::equal_numbers;
+use cddl_terms::{NoRoom, Terms};
+use std::alloc::{AllocError, Global};
+
+/// Why there is no table.
+#[derive(Clone, Copy, Debug, PartialEq, Eq)]
+pub enum Unmade {
+    /// Memory was refused, or a number does not fit.
+    NoRoom,
+    /// The ranks do not go down, or the root has no place: this never comes of a specification's own instances and ranks.
+    NotRanked,
+}
+
+impl From<NoRoom> for Unmade {
+    ghost from_gives = { λ _ e. e ≡ Why.NoRoom };
+
+    fn from(_: NoRoom) -> Self {
+        Unmade::NoRoom
+    }
+}
+
+impl From<AllocError> for Unmade {
+    ghost from_gives = { λ _ e. e ≡ Why.NoRoom };
+
+    fn from(_: AllocError) -> Self {
+        Unmade::NoRoom
+    }
+}
+
+/// The table of a specification (RFC 8610 sections 2 and 3): a type or a group for each of its instances and for what their
+/// parts ask for, each with a rank that is above those of what it asks of the same item.
+///
+/// It is given the table of terms, what the instances mean, kinds of names, what `~` of each instance opens, the literal that
+/// each is, from which groups `&` can choose, ranks of what they ask, and the number of the root's name.
+///
+/// It takes time and memory in proportion to the forms that are made. Nothing recurses.
+///
+/// # Errors
+///
+/// [`Unmade::NoRoom`] where memory is refused or a number does not fit. [`Unmade::NotRanked`] never comes where what is given
+/// is of one specification, and the root is a name of a type.
+pub fn table_of(
+    alloc: Global,
+    terms: &Terms<'_>,
+    closed: &Closed,
+    kinds: &Kinds,
+    openings: &[Opening],
+    literals: &[Option<u32>],
+    choosable: &[bool],
+    ranks: &Ranks,
+    root: u32,
+) -> Result<Table, Unmade>
+    ensures stands { IfOk result (λ table. (s : Sense) → IsBasis s terms.now closed.now kinds.now openings.now literals.now choosable.now → slice_get terms.now.texts root ≡ Some s.root → is_group s.definitions s.root ≡ false → AreRanked s.definitions s.root s.refs terms.now ranks.now → StandsFor s.worth s.definitions s.root (language_of table) (root_of table) (rank_of table) (ranks_of table)) }
+    ensures ranked { IfErr result (λ why. why ≡ Why.NotRanked → (s : Sense) → IsBasis s terms.now closed.now kinds.now openings.now literals.now choosable.now → slice_get terms.now.texts root ≡ Some s.root → is_group s.definitions s.root ≡ false → AreRanked s.definitions s.root s.refs terms.now ranks.now → ⊥) }
+{
+    equal_numbers(terms);
+    meaning_at();
+    meanings_are_reached();
+    part_is_reached();
+    let Some(place) = root_place(terms, closed, root) else {
+        return Err(Unmade::NotRanked);
+    };
+    let nodes = nodes_of(
+        alloc, terms, closed, kinds, openings, literals, choosable, place,
+    )?;
+    let ranks = ranks_of(alloc, ranks, &nodes)?;
+    ranked_table(nodes, ranks)
+}
+
+/// Ranks of the types and groups, and which groups may take no item.
+fn ranks_of(alloc: Global, ranks: &Ranks, nodes: &Nodes) -> Result<NodeRanks, Unmade>
+    ensures ranks { IfOk result (λ v. (v.types.items ≡ map (type_rank ranks.now) nodes.now.type_origins.items) × (v.groups.items ≡ map (group_rank ranks.now) nodes.now.group_origins.items)) }
+    ensures flags { IfOk result (λ v. (types : List Node) → AreFlags (language_in types nodes.now.groups.items) (flag_in v.may_be_empty.items)) }
+    ensures none { IfErr result (λ why. why ≡ Why.NoRoom) }
+{
+    Ok(NodeRanks {
+        types: type_ranks(alloc, ranks, &nodes.type_origins)?,
+        groups: group_ranks(alloc, ranks, &nodes.group_origins)?,
+        may_be_empty: flags_of(alloc, &nodes.groups)?,
+    })
+}
+
+/// The table of these types and groups, with their ranks.
+fn ranked_table(nodes: Nodes, ranks: NodeRanks) -> Result<Table, Unmade>
+    ensures language { IfOk result (λ table. language_of table ≡ language_in nodes.types.items nodes.groups.items) }
+    ensures root { IfOk result (λ table. root_of table ≡ nodes.root) }
+    ensures ranked { IfOk result (λ table. IsRanked (language_of table) (rank_of table) (ranks_of table)) }
+    ensures refused { IfErr result (λ _. AreFlags (language_in nodes.types.items nodes.groups.items) (flag_in ranks.may_be_empty.items) → (bound : ℕ) → IsRanked (language_in nodes.types.items nodes.groups.items) (rank_in ranks.types.items ranks.groups.items) bound → ⊥) }
+{
+    let Nodes {
+        types,
+        groups,
+        root,
+        ..
+    } = nodes;
+    match Table::new(types, groups, root, ranks) {
+        Ok(table) => {
+            table.ranks();
+            Ok(table)
+        }
+        Err(_) => Err(Unmade::NotRanked),
+    }
+}

@@ -1,0 +1,4 @@
+pub mod Complete
+pub mod Flags
+pub mod Places
+pub mod Sound

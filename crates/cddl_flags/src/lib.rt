@@ -1,0 +1,32 @@
+//! Which groups of a table may take no item.
+#![tactic(auto)]
+
+mod rules;
+
+ghost use Rattle.std.specs.Prelude.{IfOk, List};
+ghost use Rattle.cddl_ranks.specs.Flags.{AreFlags};
+ghost use Rattle.cddl_table.specs.Nodes.{language_in};
+ghost use Rattle.cddl_table.specs.Ranks.{flag_in};
+ghost use Rattle.cddl_table.specs.declared.nodes.Node.{Node};
+
+use crate::rules::{next_link, rules_of};
+use cddl_table::Group;
+use implications::following;
+use std::alloc::{AllocError, Global};
+
+/// For each group of a list whether it may take no item, as its form shows (RFC 8610 sections 2.2 and 3.2): just those that may
+/// have their flag set. Parts are groups of the same list; what is not there fails.
+///
+/// It takes time and memory in proportion to the groups and their parts. Nothing recurses. An error comes only where memory is
+/// refused.
+pub fn flags_of(alloc: Global, groups: &[Group]) -> Result<Vec<bool>, AllocError>
+    ensures { IfOk result (λ v. (types : List Node) → AreFlags (language_in types groups.now) (flag_in v.items)) }
+{
+    let rules = rules_of(alloc, groups)?;
+    let mut flags = following(alloc, next_link(groups, &rules), &rules)?;
+    flags.truncate(groups.len());
+    Ok(flags)
+}
+
+#[cfg(test)]
+mod tests;

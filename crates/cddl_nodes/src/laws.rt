@@ -1,0 +1,29 @@
+//! A law: a function that does nothing, whose contract is for proofs.
+
+ghost use Rattle.std.specs.Prelude.{◌≡◌, Contains, Some};
+ghost use Rattle.cddl_language.specs.Kinds.{opened, opens_group, opens_type};
+ghost use Rattle.cddl_language.specs.Reach.{Reaches};
+ghost use Rattle.cddl_language.specs.Substitution.{group_choices, type_choices};
+ghost use Rattle.cddl_language.specs.Terms.{Group, Ref, Term, alternatives};
+ghost use Rattle.cddl_terms.specs.Table.{Table};
+ghost use Rattle.cddl_nodes.specs.Basis.{IsSource, Sense};
+ghost use Rattle.cddl_nodes.specs.Origins.{AreKnown, IsKnown, IsKnownGroup};
+ghost use Rattle.cddl_nodes.specs.declared.source.Source.{Source as ASource};
+
+use cddl_closed::laws::meanings_are_reached;
+use cddl_openings::laws::opened_is_reached;
+use cddl_written::reached_values;
+
+/// In what an instance means, and in what `~` of it opens, all references are instances, and each written value is taken for
+/// what it stands for.
+pub(crate) fn known_instances()
+    ensures types { (s : Sense) (t : Table) (src : ASource) → IsSource s t src → (r : Ref) → Reaches s.definitions s.root r → (x : Term) → Contains (type_choices s.definitions r) x → IsKnown s x }
+    ensures alternatives { (s : Sense) (t : Table) (src : ASource) → IsSource s t src → (r : Ref) → Reaches s.definitions s.root r → AreKnown s (group_choices s.definitions r) }
+    ensures group { (s : Sense) (t : Table) (src : ASource) → IsSource s t src → (r : Ref) → Reaches s.definitions s.root r → (g : Group) → alternatives g ≡ group_choices s.definitions r → IsKnownGroup s g }
+    ensures opened_group { (s : Sense) (t : Table) (src : ASource) → IsSource s t src → (r : Ref) → Reaches s.definitions s.root r → (g : Group) → opened s.definitions r ≡ Some (opens_group g) → IsKnownGroup s g }
+    ensures content { (s : Sense) (t : Table) (src : ASource) → IsSource s t src → (r : Ref) → Reaches s.definitions s.root r → (x : Term) → opened s.definitions r ≡ Some (opens_type x) → IsKnown s x }
+{
+    meanings_are_reached();
+    opened_is_reached();
+    reached_values();
+}

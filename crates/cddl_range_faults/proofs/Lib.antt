@@ -1,0 +1,7 @@
+pub mod Bounding
+pub mod Cutting
+pub mod Ending
+pub mod Ranges
+pub mod Stars
+pub mod Telling
+pub mod Whole

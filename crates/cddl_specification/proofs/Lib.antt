@@ -1,0 +1,5 @@
+pub mod Handing
+pub mod Leaves
+pub mod Lengths
+pub mod Roots
+pub mod Telling

@@ -1,0 +1,40 @@
+use Rattle.std.proofs.Common.{None, sym, subst}
+use Rattle.cddl_language.specs.Faults.{HasBadRange, HasNotUnwrappable, HasRecursion, definitions}
+use Rattle.cddl_recursion.specs.Order.{IsOrder}
+use Rattle.cddl_survey.specs.Least.{IsLeast}
+use Rattle.cddl_specification.specs.Outcome.{IsStopped}
+use Rattle.cddl_specification.proofs.faults.ranks_of.Goals as goal
+
+pub returns-in-Some-clause-stopped : goal.returns-in-Some-clause-stopped
+returns-in-Some-clause-stopped c s worth root refs tree tokens right reading =
+    let least = subst (IsLeast (HasNotUnwrappable s root)) c.in-Some.is (c.unwrapping.ensures s worth c.args.tree.now root refs reading) in
+    let told = c.root_faults_are_told.ensures.unwrapping s worth root reading.rooted.rooted reading.right.no_fault reading.rooted.no_more c.in-Some.at least in
+    subst (IsStopped s worth) (sym c.refused.ensures) (reading.right.not_yet, told)
+
+pub returns-in-Some-recursion_of-clause-stopped : goal.returns-in-Some-recursion_of-clause-stopped
+returns-in-Some-recursion_of-clause-stopped c s worth root refs tree tokens right reading =
+    let opened : IsLeast (HasNotUnwrappable s root) None = subst (IsLeast (HasNotUnwrappable s root)) c.in_default.is (c.unwrapping.ensures s worth c.args.tree.now root refs reading) in
+    let order = c.in_ok-order.ensures.order s worth c.args.tree.now root refs reading in
+    let least = subst (IsLeast (HasRecursion s root)) c.in-Some-recursion_of.is (c.recursion_of.ensures s worth root refs tree reading order) in
+    let told = c.root_faults_are_told.ensures.recursion s worth root reading.rooted.rooted reading.right.no_fault reading.rooted.no_more opened c.in-Some-recursion_of.at least in
+    subst (IsStopped s worth) (sym c.refused-in-Some-recursion_of.ensures) (reading.right.not_yet, told)
+
+pub returns-in-Some-range_of-clause-stopped : goal.returns-in-Some-range_of-clause-stopped
+returns-in-Some-range_of-clause-stopped c s worth root refs tree tokens right reading =
+    let opened : IsLeast (HasNotUnwrappable s root) None = subst (IsLeast (HasNotUnwrappable s root)) c.in_default.is (c.unwrapping.ensures s worth c.args.tree.now root refs reading) in
+    let order = c.in_ok-order.ensures.order s worth c.args.tree.now root refs reading in
+    let returning : IsLeast (HasRecursion s root) None = subst (IsLeast (HasRecursion s root)) c.in_default-recursion_of.is (c.recursion_of.ensures s worth root refs tree reading order) in
+    let least = subst (IsLeast (HasBadRange s worth root)) c.in-Some-range_of.is (c.range_of.ensures s worth root refs tree tokens right reading) in
+    let told = c.root_faults_are_told.ensures.range s worth root reading.rooted.rooted reading.right.no_fault reading.rooted.no_more opened returning c.in-Some-range_of.at least in
+    subst (IsStopped s worth) (sym c.refused-in-Some-range_of.ensures) (reading.right.not_yet, told)
+
+pub returns-clause-accepted : goal.returns-clause-accepted
+returns-clause-accepted c s worth root refs tree tokens right reading =
+    let opened : IsLeast (HasNotUnwrappable s root) None = subst (IsLeast (HasNotUnwrappable s root)) c.in_default.is (c.unwrapping.ensures s worth c.args.tree.now root refs reading) in
+    let order = c.in_ok-order.ensures.order s worth c.args.tree.now root refs reading in
+    let returning : IsLeast (HasRecursion s root) None = subst (IsLeast (HasRecursion s root)) c.in_default-recursion_of.is (c.recursion_of.ensures s worth root refs tree reading order) in
+    let ranges : IsLeast (HasBadRange s worth root) None = subst (IsLeast (HasBadRange s worth root)) c.in_default-range_of.is (c.range_of.ensures s worth root refs tree tokens right reading) in
+    c.root_faults_are_told.ensures.accepted s worth root reading.rooted.rooted reading.right.no_fault reading.rooted.no_more opened returning ranges
+
+pub returns-clause-ranked : goal.returns-clause-ranked
+returns-clause-ranked c s worth root refs tree tokens right reading = subst (IsOrder (definitions s) root refs c.args.terms.now) c.in_ok-ranks.ensures.ranked (c.in_ok-order.ensures.order s worth c.args.tree.now root refs reading)

@@ -1,0 +1,4 @@
+pub mod Outcome
+pub mod Stages
+pub mod Text
+pub mod Told

@@ -1,0 +1,90 @@
+-- What each stage has found.
+use Rattle.std.specs.Prelude.{◌≡◌, ℕ, ◌≤◌, List, length, Option, Some, None, slice_get}
+use Rattle.cddl_language.specs.Terms.{Text, Ref}
+use Rattle.cddl_language.specs.Faults.{HasTooManyInstances, IsFaultAt, Specification, definitions, root_of, rules}
+use Rattle.cddl_language.specs.Literals.{AreRight, AreTokens, Values}
+use Rattle.cddl_language.specs.Prelude.{prelude}
+use Rattle.cddl_language.specs.Reach.{most_instances}
+use Rattle.cddl_language.specs.StandsFor.{AreInstances}
+use Rattle.cddl_tree.specs.declared.tree.Tree.{Tree}
+use Rattle.cddl_tree.specs.View.{token_of, view}
+use Rattle.cddl_terms.specs.Definitions.{AreDefinitions}
+use Rattle.cddl_terms.specs.Table.{Table}
+use Rattle.cddl_environment.specs.Names.{AreNames}
+use Rattle.cddl_kinds.specs.Kinds.{AreKinds}
+use Rattle.cddl_survey.specs.declared.survey.Survey.{Survey}
+use Rattle.cddl_survey.specs.Least.{IsLeast}
+use Rattle.cddl_survey.specs.Survey.{IsSurvey}
+use Rattle.cddl_site_faults.specs.Stage.{HasNotYet}
+use Rattle.cddl_live.specs.Live.{IsClear}
+use Rattle.cddl_check.specs.Codes.{text_codes}
+use Rattle.cddl_check.specs.First.{IsFirst}
+use Rattle.cddl_instances.specs.Found.{AreFound}
+use Rattle.cddl_reached.specs.Asked.{AreAsked}
+use Rattle.cddl_reached.specs.Reached.{AreReachedSites}
+use Rattle.cddl_closed.specs.Closed.{IsClosed}
+use Rattle.cddl_openings.specs.Openings.{AreOpenings}
+use Rattle.cddl_literals.specs.Literals.{AreLiterals}
+use Rattle.cddl_choosing.specs.Choosing.{AreChoosable}
+use Rattle.cddl_reached_faults.specs.Unwrapping.{OpensWrongly}
+use Rattle.cddl_specification.specs.declared.closing.Meant.{Meant}
+use Rattle.cddl_specification.specs.declared.finding.Instanced.{Instanced}
+use Rattle.cddl_specification.specs.declared.questioning.Naming.{Naming}
+use Rattle.cddl_specification.specs.declared.questioning.Questions.{Questions}
+use Rattle.cddl_specification.specs.declared.reading.Reading.{Reading}
+
+-- The specification has this tree, of tokens, and this name as its root, and the values are right for it.
+pub record IsGiven (s : Specification) (worth : Values) (x : Tree) (name : Option Text) : Type 0 where
+  pub tree : s.tree ≡ view x
+  pub given : s.given ≡ name
+  pub tokens : AreTokens s.tree
+  pub right : AreRight s.tree worth
+
+-- Nothing is wrong in the whole text.
+pub record IsRight (s : Specification) (worth : Values) : Type 0 where
+  pub not_yet : IsLeast (HasNotYet s) None
+  pub no_fault : IsFirst (IsFaultAt s worth) text_codes None
+  pub clear : IsClear s
+
+-- The root, its instances in order, which are no more than may be, and the sites that it reaches.
+pub record IsRooted (s : Specification) (root : Text) (refs : List Ref) (tree : Tree) (x : Instanced) : Type 0 where
+  pub rooted : root_of s ≡ Some root
+  pub instances : AreInstances (definitions s) root refs
+  pub few : length refs ≤ most_instances
+  pub no_more : IsLeast (HasTooManyInstances s root) None
+  pub reached : AreReachedSites (rules s) root (token_of tree) x.reached.items
+
+-- The same, and the survey, by the numbers of the table.
+pub record IsInstanced (s : Specification) (root : Text) (refs : List Ref) (t : Table) (tree : Tree) (v : Survey) (x : Instanced) : Type 0 where
+  pub survey : IsSurvey t tree v
+  pub rooted : IsRooted s root refs tree x
+  pub number : slice_get t.texts x.root ≡ Some root
+  pub found : AreFound (definitions s) t x.instances.items refs
+
+-- The definitions and their names, by the numbers of the table.
+pub record IsNamed (s : Specification) (t : Table) (v : Survey) (x : Naming) : Type 0 where
+  pub known : AreDefinitions t v.known.items prelude
+  pub defined : AreDefinitions t v.definitions.items (definitions s)
+  pub names : AreNames (length t.texts) v.known.items v.definitions.items x.names.items
+  pub kinds : AreKinds t.texts (definitions s) x.kinds
+
+-- What is asked of at the sites that the root reaches, and the least of those where `~` opens wrongly.
+pub record IsAsking (s : Specification) (root : Text) (t : Table) (v : Survey) (x : Questions) : Type 0 where
+  pub named : IsNamed s t v x.naming
+  pub asked : AreAsked (rules s) root t x.asked.items
+  pub opens : IsLeast (OpensWrongly s root) x.opens
+
+-- What the instances mean, open, write, and may be chosen from.
+pub record IsMeant (s : Specification) (root : Text) (refs : List Ref) (t : Table) (x : Meant) : Type 0 where
+  pub closed : IsClosed (definitions s) root refs t x.closed
+  pub openings : AreOpenings (definitions s) t refs x.openings.items
+  pub literals : AreLiterals (definitions s) t refs x.literals.items
+  pub choosable : AreChoosable (definitions s) root t x.choosable.items
+
+-- All of this, for a text in which nothing is wrong.
+pub record IsReading (s : Specification) (worth : Values) (root : Text) (refs : List Ref) (t : Table) (tree : Tree) (x : Reading) : Type 0 where
+  pub right : IsRight s worth
+  pub rooted : IsRooted s root refs tree x.instanced
+  pub number : slice_get t.texts x.instanced.root ≡ Some root
+  pub asking : IsAsking s root t x.survey x.questions
+  pub meant : IsMeant s root refs t x.meant

@@ -1,0 +1,113 @@
+//! What is wrong with what the root reaches.
+
+ghost use Rattle.std.specs.Prelude.{◌≡◌, IfErr, IfOk, List};
+ghost use Rattle.cddl_language.specs.Faults.{HasBadRange, HasNotUnwrappable, HasRecursion, IsAccepted, Specification, definitions};
+ghost use Rattle.cddl_language.specs.Literals.{AreRight, AreTokens, Values};
+ghost use Rattle.cddl_language.specs.Terms.{Ref, Text};
+ghost use Rattle.cddl_recursion.specs.Order.{AreRanked, IsOrder};
+ghost use Rattle.cddl_recursion.specs.declared.graph.Order.TheVariants as Orders;
+ghost use Rattle.cddl_survey.specs.Least.{IsLeast};
+ghost use Rattle.cddl_tree.specs.View.{view};
+ghost use Rattle.cddl_tree.specs.declared.tree.Tree.{Tree as Trees};
+ghost use Rattle.cddl_specification.specs.Outcome.{IsStopped};
+ghost use Rattle.cddl_specification.specs.Stages.{IsReading};
+ghost use Rattle.cddl_specification.specs.declared.unread.Unread.TheVariants as Why;
+
+use crate::reading::Reading;
+use crate::unread::{Unread, refused};
+use cddl_check::laws::root_faults_are_told;
+use cddl_empty::may_be_empty;
+use cddl_range_faults::bad_range;
+use cddl_reached_faults::{not_unwrappable, nothing_chosen};
+use cddl_recursion::{Order, Ranks, find_order};
+use cddl_root_faults::recursion;
+use cddl_terms::Terms;
+use cddl_token::Code;
+use cddl_tree::Tree;
+use std::alloc::Global;
+
+/// Ranks of what the instances of an accepted specification ask; or the first fault of what its root reaches.
+pub(crate) fn ranks_of(
+    alloc: Global,
+    terms: &Terms<'_>,
+    tree: &Tree<'_>,
+    reading: &Reading<'_>,
+) -> Result<Ranks, Unread>
+    ensures accepted { IfOk result (λ r. (s : Specification) (worth : Values) (root : Text) (refs : List Ref) → s.tree ≡ view tree.now → AreTokens s.tree → AreRight s.tree worth → IsReading s worth root refs terms.now tree.now reading.now → IsAccepted s worth) }
+    ensures ranked { IfOk result (λ r. (s : Specification) (worth : Values) (root : Text) (refs : List Ref) → s.tree ≡ view tree.now → AreTokens s.tree → AreRight s.tree worth → IsReading s worth root refs terms.now tree.now reading.now → AreRanked (definitions s) root refs terms.now r) }
+    ensures stopped { IfErr result (λ e. (s : Specification) (worth : Values) (root : Text) (refs : List Ref) → s.tree ≡ view tree.now → AreTokens s.tree → AreRight s.tree worth → IsReading s worth root refs terms.now tree.now reading.now → IsStopped s worth e) }
+{
+    root_faults_are_told();
+    if let Some(at) = unwrapping(terms, reading) {
+        return Err(refused(Code::NotUnwrappable, at));
+    }
+    let order = order_of(alloc, terms, reading)?;
+    if let Some(at) = recursion_of(terms, tree, reading, &order) {
+        return Err(refused(Code::Recursion, at));
+    }
+    if let Some(at) = range_of(terms, tree, reading) {
+        return Err(refused(Code::BadRange, at));
+    }
+    let ranks = ranks_in(order)?;
+    Ok(ranks)
+}
+
+/// The ranks of an order in which nothing comes back to itself.
+fn ranks_in(order: Order) -> Result<Ranks, Unread>
+    ensures ranked { IfOk result (λ r. order ≡ Orders.Ranks r) }
+    ensures cycles { IfErr result (λ e. e ≡ Why.Memory) }
+{
+    match order {
+        Order::Ranks(ranks) => Ok(ranks),
+        Order::Cycles(flags) => {
+            drop(flags);
+            Err(Unread::Memory)
+        }
+    }
+}
+
+/// The least offset of what `~` cannot open, or `&` cannot choose from.
+fn unwrapping(terms: &Terms<'_>, reading: &Reading<'_>) -> Option<usize>
+    ensures { (s : Specification) (worth : Values) (tree : Trees) (root : Text) (refs : List Ref) → IsReading s worth root refs terms.now tree reading.now → IsLeast (HasNotUnwrappable s root) result }
+{
+    let meant = &reading.meant;
+    let questions = &reading.questions;
+    let chooses = nothing_chosen(terms, &meant.closed, &meant.choosable, &questions.asked);
+    not_unwrappable(questions.opens, chooses)
+}
+
+/// Ranks of what the instances ask, or what comes back to itself.
+fn order_of(alloc: Global, terms: &Terms<'_>, reading: &Reading<'_>) -> Result<Order, Unread>
+    ensures order { IfOk result (λ o. (s : Specification) (worth : Values) (tree : Trees) (root : Text) (refs : List Ref) → IsReading s worth root refs terms.now tree reading.now → IsOrder (definitions s) root refs terms.now o) }
+    ensures memory { IfErr result (λ e. e ≡ Why.Memory) }
+{
+    let closed = &reading.meant.closed;
+    let kinds = &reading.questions.naming.kinds;
+    let openings = &reading.meant.openings;
+    let empty = may_be_empty(alloc, terms, closed, kinds, openings)?;
+    let order = find_order(alloc, terms, closed, kinds, openings, &empty)?;
+    Ok(order)
+}
+
+/// The least offset of what comes back to itself.
+fn recursion_of(
+    terms: &Terms<'_>,
+    tree: &Tree<'_>,
+    reading: &Reading<'_>,
+    order: &Order,
+) -> Option<usize>
+    ensures { (s : Specification) (worth : Values) (root : Text) (refs : List Ref) → s.tree ≡ view tree.now → IsReading s worth root refs terms.now tree.now reading.now → IsOrder (definitions s) root refs terms.now order.now → IsLeast (HasRecursion s root) result }
+{
+    let names = &reading.questions.naming.names;
+    recursion(terms, tree, names, &reading.meant.closed, order)
+}
+
+/// The least offset of a range or of an occurrence with bad ends.
+fn range_of(terms: &Terms<'_>, tree: &Tree<'_>, reading: &Reading<'_>) -> Option<usize>
+    ensures { (s : Specification) (worth : Values) (root : Text) (refs : List Ref) → s.tree ≡ view tree.now → AreTokens s.tree → AreRight s.tree worth → IsReading s worth root refs terms.now tree.now reading.now → IsLeast (HasBadRange s worth root) result }
+{
+    let meant = &reading.meant;
+    let asked = &reading.questions.asked;
+    let reached = &reading.instanced.reached;
+    bad_range(terms, tree, &meant.closed, &meant.literals, asked, reached)
+}

@@ -1,0 +1,87 @@
+//! What is asked of at the sites that the root reaches, and the names of the table that grew by it.
+
+ghost use Rattle.std.specs.Prelude.{◌≡◌, IfErr, IfOk, List};
+ghost use Rattle.cddl_language.specs.Faults.{Specification, definitions};
+ghost use Rattle.cddl_language.specs.Literals.{Values};
+ghost use Rattle.cddl_language.specs.Prelude.{prelude};
+ghost use Rattle.cddl_language.specs.Terms.{Ref, Text};
+ghost use Rattle.cddl_terms.specs.Definitions.{AreDefinitions};
+ghost use Rattle.cddl_terms.specs.Table.{Grows};
+ghost use Rattle.cddl_tree.specs.View.{view};
+ghost use Rattle.cddl_specification.specs.Stages.{IsAsking, IsInstanced, IsNamed, IsRight};
+ghost use Rattle.cddl_specification.specs.declared.unread.Unread.TheVariants as Why;
+
+use crate::finding::Instanced;
+use crate::unread::Unread;
+use cddl_environment::{Name, names};
+use cddl_kinds::{Kinds, kinds_of};
+use cddl_reached::{Asked, questions};
+use cddl_reached_faults::not_unwrapped;
+use cddl_survey::Survey;
+use cddl_terms::Terms;
+use cddl_terms::laws::growing_keeps;
+use cddl_tree::Tree;
+use std::alloc::Global;
+
+/// Where names are defined and of what kind they are, by the numbers of a table.
+#[derive(Drop)]
+pub(crate) struct Naming {
+    pub names: Vec<Name>,
+    pub kinds: Kinds,
+}
+
+/// What is asked of at the sites that the root reaches.
+#[derive(Drop)]
+pub(crate) struct Questions {
+    /// What is asked of `&` and of ranges.
+    pub asked: Vec<Asked>,
+    /// The least offset of `~` that opens nothing, or a group where a type is demanded.
+    pub opens: Option<usize>,
+    /// The names of the table after it grew.
+    pub naming: Naming,
+}
+
+/// What is asked of at the sites that the root reaches. The table grows by the rows, and by texts.
+pub(crate) fn ask<'s>(
+    alloc: Global,
+    terms: &mut Terms<'s>,
+    tree: &Tree<'s>,
+    survey: &Survey<'_>,
+    instanced: &Instanced<'_>,
+) -> Result<Questions, Unread>
+    ensures grows { Grows terms.old terms.new }
+    ensures asking { IfOk result (λ x. (s : Specification) (worth : Values) (root : Text) (refs : List Ref) → s.tree ≡ view tree.now → IsRight s worth → IsInstanced s root refs terms.old tree.now survey.now instanced.now → IsAsking s root terms.new survey.now x) }
+    ensures memory { IfErr result (λ e. e ≡ Why.Memory) }
+{
+    growing_keeps();
+    let opens = not_unwrapped(alloc, terms, tree, survey, &instanced.reached)?;
+    let asked = questions(
+        alloc,
+        terms,
+        tree,
+        survey,
+        &instanced.reached,
+        &instanced.instances,
+    )?;
+    let naming = naming_of(alloc, terms, survey)?;
+    Ok(Questions {
+        asked,
+        opens,
+        naming,
+    })
+}
+
+/// The names of the table as it is now.
+fn naming_of(alloc: Global, terms: &Terms<'_>, survey: &Survey<'_>) -> Result<Naming, Unread>
+    ensures named { IfOk result (λ x. (s : Specification) → AreDefinitions terms.now survey.now.known.items prelude → AreDefinitions terms.now survey.now.definitions.items (definitions s) → IsNamed s terms.now survey.now x) }
+    ensures memory { IfErr result (λ e. e ≡ Why.Memory) }
+{
+    let names = names(
+        alloc,
+        terms.text_count(),
+        &survey.known,
+        &survey.definitions,
+    )?;
+    let kinds = kinds_of(alloc, terms, &names, &survey.known, &survey.definitions)?;
+    Ok(Naming { names, kinds })
+}

@@ -1,0 +1,41 @@
+//! What is wrong in the whole text.
+
+ghost use Rattle.std.specs.Prelude.{IfErr, IfOk, option_map};
+ghost use Rattle.cddl_language.specs.Faults.{Specification};
+ghost use Rattle.cddl_language.specs.Literals.{Values};
+ghost use Rattle.cddl_survey.specs.Survey.{IsSurvey};
+ghost use Rattle.cddl_specification.specs.Outcome.{IsStopped};
+ghost use Rattle.cddl_specification.specs.Stages.{IsGiven, IsRight};
+
+use crate::unread::Unread;
+use cddl_check::laws::{text_fault_is_told, text_is_clear};
+use cddl_check::text_fault;
+use cddl_site_faults::not_yet;
+use cddl_survey::{Survey, survey_of};
+use cddl_terms::Terms;
+use cddl_tree::Tree;
+use std::alloc::Global;
+
+/// The survey of a text in which nothing is wrong, whatever its root reaches; or the least offset of what this version does not
+/// take, or else the first fault.
+pub(crate) fn clear_text<'s, 't>(
+    alloc: Global,
+    terms: &mut Terms<'s>,
+    tree: &'t Tree<'s>,
+    given: Option<&str>,
+) -> Result<Survey<'t>, Unread>
+    ensures survey { IfOk result (λ v. IsSurvey terms.new tree.now v) }
+    ensures right { IfOk result (λ v. (s : Specification) (worth : Values) → IsGiven s worth tree.now (option_map (λ t. t.now) given.entry) → IsRight s worth) }
+    ensures stopped { IfErr result (λ e. (s : Specification) (worth : Values) → IsGiven s worth tree.now (option_map (λ t. t.now) given.entry) → IsStopped s worth e) }
+{
+    text_fault_is_told();
+    let survey = survey_of(alloc, terms, tree)?;
+    text_is_clear(terms);
+    if let Some(at) = not_yet(tree, &survey) {
+        return Err(Unread::NotYet(at));
+    }
+    match text_fault(alloc, terms, tree, &survey, given)? {
+        Some(fault) => Err(Unread::Refused(fault)),
+        None => Ok(survey),
+    }
+}
