@@ -28,6 +28,7 @@ bench: build
 	@$(PYTHON) bench/run.py build/cddlseq
 	cd crates/cddl_count && $(RT) run < /dev/null > /dev/null
 	@$(PYTHON) bench/tokens.py crates/cddl_count/out/cddl_count
+	@$(PYTHON) bench/specifications.py build/cddlseq
 
 install: build
 	install -D -m 755 build/cddlseq "$(DESTDIR)$(PREFIX)/bin/cddlseq"

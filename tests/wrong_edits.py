@@ -275,8 +275,8 @@ class Trial:
         is_sound = len(edits) > 1 and not self.kit.checked(self.crate, {}, ONE_JOB, kept).returncode
         found = {}
         for edit in edits:
-            refused, text = self.kit.must_fail(self.crate, edit.path, ONE_JOB, kept if is_sound else None)
-            found[edit] = refused, text.replace("must-fail ", "wrong ", 1)
+            kind, text = self.kit.must_fail(self.crate, edit.path, ONE_JOB, kept if is_sound else None)
+            found[edit] = kind in (self.kit.REFUSED, self.kit.AT_LIMIT), text.replace("must-fail ", "wrong ", 1)
         return found
 
     def words_below(self, words):

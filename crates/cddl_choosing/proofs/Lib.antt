@@ -2,6 +2,7 @@ pub mod Following
 pub mod Joining
 pub mod Lists
 pub mod Meaning
+pub mod Nesting
 pub mod Parts
 pub mod Reaching
 pub mod Rows

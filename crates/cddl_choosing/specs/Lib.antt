@@ -1,5 +1,6 @@
 pub mod Causes
 pub mod Choosing
+pub mod Nesting
 pub mod Occurrences
 pub mod Rules
 pub mod Signs

@@ -8,6 +8,3 @@ mod occurrences;
 mod rules;
 
 pub use crate::choosing::choosable;
-
-#[cfg(test)]
-mod tests;

@@ -12,6 +12,3 @@ mod store;
 pub use crate::closed::{Closed, Meaning};
 pub use crate::meanings::close;
 pub use crate::spines::{alternatives, choices, entries};
-
-#[cfg(test)]
-mod tests;

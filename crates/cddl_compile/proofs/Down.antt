@@ -1,7 +1,8 @@
 -- Ranks go down from what is asked to what it asks: steps, and what numbers are of.
-use Rattle.std.proofs.Common.{◌≡◌, ℕ, ◌+◌, ◌*◌, ◌<◌, ◌⊎◌, inl, inr, false, List, [], ◌∷◌, ◌++◌, Option, Some, slice_get, refl, sym, subst, arith}
+use Rattle.std.proofs.Common.{◌≡◌, ℕ, ◌+◌, ◌*◌, ◌<◌, ◌⊎◌, inl, inr, true, false, List, [], ◌∷◌, ◌++◌, Option, Some, slice_get, refl, sym, subst, arith}
 use Rattle.cddl_language.specs.Terms.{Term, Ref, Group, sole, orelse, Entries, Entry, alternatives, name_of}
 use Rattle.cddl_language.specs.Substitution.{group_choices}
+use Rattle.cddl_language.specs.Choices.{can_choose}
 use Rattle.cddl_language.specs.Kinds.{is_group, names_group, opens, part_of}
 use Rattle.cddl_language.specs.Language.{type, reference, chosen_of, first_of, each_of, entry}
 use Rattle.cddl_language.specs.Reach.{Point, Reaches, ref_at, points, group_points, entries_points}
@@ -112,8 +113,8 @@ module _ (s : Sense) (t : Table) (r : Ranks) where
   chosen_below ess o no_alternatives b z f = z
   chosen_below ess o (alternatives_of {n = n} g h) b z f = twice (rank r (N.Chosen n)) b (f n g h refl)
 
-  pub below_chosen : (ess : List Entries) (p : TypeOrigin) → IsTypeOrigin s t (chosen_of ess) p → (b : ℕ) → 0 < 2 * b → ((n : ℕ) (g : Group) → IsGroup t n g → alternatives g ≡ ess → rank r (N.Chosen n) < b) → type_rank r p < 2 * b
-  below_chosen ess p (of_chosen {o = o} a c w) b z f = chosen_below ess o a b z f
+  pub below_chosen : (ess : List Entries) (p : TypeOrigin) → IsTypeOrigin s t (chosen_of ess) p → (b : ℕ) → 0 < 2 * b → ((n : ℕ) (g : Group) → IsGroup t n g → alternatives g ≡ ess → can_choose s.definitions ess ≡ true → rank r (N.Chosen n) < b) → type_rank r p < 2 * b
+  below_chosen ess p (of_chosen {o = o} a c w can) b z f = chosen_below ess o a b z (λ n g h e. f n g h e can)
 
   alternatives_below : (ess : List Entries) (o : Option ℕ) → AreAlternatives t ess o → (b : ℕ) → 0 < 2 * b → ((n : ℕ) (g : Group) → IsGroup t n g → alternatives g ≡ ess → rank r (N.Row n) < b) → group_rank r (G.Alternatives o) < 2 * b
   alternatives_below ess o no_alternatives b z f = z
@@ -127,10 +128,10 @@ module _ (s : Sense) (t : Table) (r : Ranks) where
   one_row g ess o no_alternatives e = absurd (some_alternative g e)
   one_row g ess o (alternatives_of {n = n} p h) e = (n, refl, subst (IsGroup t n) (same_group p g e) h)
 
-  pub below_chosen_group : (g : Group) (p : TypeOrigin) → IsTypeOrigin s t (chosen_of (alternatives g)) p → (b : ℕ) → ((n : ℕ) → IsGroup t n g → rank r (N.Chosen n) < b) → type_rank r p < 2 * b
-  below_chosen_group g p (of_chosen {o = o} a c w) b f =
+  pub below_chosen_group : (g : Group) (p : TypeOrigin) → IsTypeOrigin s t (chosen_of (alternatives g)) p → (b : ℕ) → ((n : ℕ) → IsGroup t n g → can_choose s.definitions (alternatives g) ≡ true → rank r (N.Chosen n) < b) → type_rank r p < 2 * b
+  below_chosen_group g p (of_chosen {o = o} a c w can) b f =
       let q = one_row g (alternatives g) o a refl in
-      subst (λ (i : Option ℕ). type_rank r (T.Chosen i) < 2 * b) (sym q.1) (twice (rank r (N.Chosen q.0)) b (f q.0 q.2))
+      subst (λ (i : Option ℕ). type_rank r (T.Chosen i) < 2 * b) (sym q.1) (twice (rank r (N.Chosen q.0)) b (f q.0 q.2 can))
 
   pub below_group : (g : Group) (p : GroupOrigin) → IsGroupOrigin s t (first_of (alternatives g)) p → (b : ℕ) → ((n : ℕ) → IsGroup t n g → rank r (N.Row n) < b) → group_rank r p < 2 * b
   below_group g p (of_alternatives {o = o} a c w) b f =

@@ -1,12 +1,12 @@
 -- What is free in a type has a lower rank.
-use Rattle.std.proofs.Common.{◌≡◌, ℕ, ◌*◌, ◌<◌, Bool, true, false, if◌then◌else◌, ◌⊎◌, inl, inr, List, [], ◌∷◌, ◌++◌, map, Option, Some, None, slice_get, refl, ap, subst, ◌∙◌}
+use Rattle.std.proofs.Common.{◌≡◌, ℕ, ◌*◌, ◌<◌, Bool, true, false, if◌then◌else◌, ◌⊎◌, inl, inr, List, [], ◌∷◌, ◌++◌, map, Option, Some, None, is_some, slice_get, refl, sym, ap, subst, ◌∙◌}
 use Rattle.cbor_data.specs.Value.{Value}
 use Rattle.cddl_meaning.specs.Forms as F
 use Rattle.cddl_language.specs.Terms.{Text, Term, literal, named, parens, map_of, array_of, unwrapped, choice_of, choice_of_name, tagged, tagged_by, simple_by, hash, range, control, or, Ref, Group, sole, orelse, Entries, no_entries, entries, Entry, typed, keyed, grouped, alternatives, choices, entry_list, name_of}
 use Rattle.cddl_language.specs.Literals.{whole_of}
 use Rattle.cddl_language.specs.Substitution.{type_choices, group_choices}
 use Rattle.cddl_language.specs.Kinds.{Opened, opens_group, opens_type, opened, is_group, Part, asks_type, names_group, opens, part_of}
-use Rattle.cddl_language.specs.Choices.{chosen, chosen_by_name}
+use Rattle.cddl_language.specs.Choices.{can_choose, chosen, chosen_by_name}
 use Rattle.cddl_language.specs.Language.{TypeName, type, reference, GroupName, nothing, choice, content, between, chosen_part_name, chosen_name, chosen_names, term_node, type_node}
 use Rattle.cddl_language.specs.Reach.{Reaches, at_name, at_unwrapping, at_choice, at_opened_choice, points, group_points, entries_points, entry_points}
 use Rattle.cddl_terms.specs.Table.{Table}
@@ -50,9 +50,9 @@ content_items None g h = h
 content_items (Some (opens_group p)) g h = h
 content_items (Some (opens_type x)) g h = h
 
-choice_free : (o : Option (List Term)) (ms : List TypeName) (m : TypeName) → FreeType (choice o ms) m → IsIn m ms
+choice_free : (o : Option (List Term)) (ms : List TypeName) (m : TypeName) → FreeType (choice o ms) m → IsIn m ms × (is_some o ≡ true)
 choice_free None ms m h = absurd h
-choice_free (Some ts) ms m h = h
+choice_free (Some ts) ms m h = (h, refl)
 
 choice_items : (o : Option (List Term)) (ms : List TypeName) (g : GroupName) → FreeItems (choice o ms) g → ⊥
 choice_items None ms g h = h
@@ -77,17 +77,17 @@ module _ (s : Sense) (t : Table) (r : Ranks) (given : Given s t r) where
       let reaches = given.part_named x q c e in
       let k = given.placed q reaches in
       let first = step s t r given.ranked (N.Chosen n) (N.Choice k.0) (chosen_entry (typed o x)) (a_point (at_choice q)) (chosen_entry_row h) (choice_place k.1) c (A.chosen_name e) in
-      below_chosen s t r (group_choices s.definitions q) p (subst (λ (z : TypeName). IsTypeOrigin s t z p) f u) (rank r (N.Chosen n)) (above_none (rank r (N.Choice k.0)) (rank r (N.Chosen n)) first) (λ j g i a. through (rank r (N.Chosen j)) (rank r (N.Choice k.0)) (rank r (N.Chosen n)) (step s t r given.ranked (N.Choice k.0) (N.Chosen j) (a_point (at_choice q)) (chosen_group g) (choice_place k.1) (chosen_group_row i) (one_reached s (at_choice q) reaches) (A.chooses a)) first)
+      below_chosen s t r (group_choices s.definitions q) p (subst (λ (z : TypeName). IsTypeOrigin s t z p) f u) (rank r (N.Chosen n)) (above_none (rank r (N.Choice k.0)) (rank r (N.Chosen n)) first) (λ j g i a can. through (rank r (N.Chosen j)) (rank r (N.Choice k.0)) (rank r (N.Chosen n)) (step s t r given.ranked (N.Choice k.0) (N.Chosen j) (a_point (at_choice q)) (chosen_group g) (choice_place k.1) (chosen_group_row i) (one_reached s (at_choice q) reaches) (A.chooses a (subst (λ (us : List Entries). can_choose s.definitions us ≡ true) (sym a) can))) first)
   part_down n o x h c (opens q g) e m p f u =
       let reaches = given.part_opened x q g c e in
       let k = given.placed q reaches in
       let first = step s t r given.ranked (N.Chosen n) (N.OpenedChoice k.0) (chosen_entry (typed o x)) (a_point (at_opened_choice q)) (chosen_entry_row h) (opened_choice_place k.1) c (A.chosen_opened e) in
-      below_chosen_group s t r g p (subst (λ (z : TypeName). IsTypeOrigin s t z p) f u) (rank r (N.Chosen n)) (λ j i. through (rank r (N.Chosen j)) (rank r (N.OpenedChoice k.0)) (rank r (N.Chosen n)) (step s t r given.ranked (N.OpenedChoice k.0) (N.Chosen j) (a_point (at_opened_choice q)) (chosen_group g) (opened_choice_place k.1) (chosen_group_row i) (one_reached s (at_opened_choice q) reaches) (A.chooses_opened (opened_group s.definitions x q g e))) first)
+      below_chosen_group s t r g p (subst (λ (z : TypeName). IsTypeOrigin s t z p) f u) (rank r (N.Chosen n)) (λ j i can. through (rank r (N.Chosen j)) (rank r (N.OpenedChoice k.0)) (rank r (N.Chosen n)) (step s t r given.ranked (N.OpenedChoice k.0) (N.Chosen j) (a_point (at_opened_choice q)) (chosen_group g) (opened_choice_place k.1) (chosen_group_row i) (one_reached s (at_opened_choice q) reaches) (A.chooses_opened (opened_group s.definitions x q g e) can)) first)
 
   chosen_entry_down : (n : ℕ) (e : Entry) → IsEntry t n e → AreReached s.definitions s.root (entry_points e) → (m : TypeName) (p : TypeOrigin) → m ≡ chosen_name s.worth s.definitions e → IsTypeOrigin s t m p → type_rank r p < 2 * rank r (N.Chosen n)
   chosen_entry_down n (typed o x) h c m p f u = part_down n o x h c (part_of s.definitions x) refl m p f u
   chosen_entry_down n (keyed o k x) h c m p f u = below_row s t r x p (subst (λ (z : TypeName). IsTypeOrigin s t z p) f u) (rank r (N.Chosen n)) (λ j i. step s t r given.ranked (N.Chosen n) (N.Row j) (chosen_entry (keyed o k x)) (a_type x) (chosen_entry_row h) (type_row i) c A.chosen_keyed)
-  chosen_entry_down n (grouped o g) h c m p f u = below_chosen_group s t r g p (subst (λ (z : TypeName). IsTypeOrigin s t z p) f u) (rank r (N.Chosen n)) (λ j i. step s t r given.ranked (N.Chosen n) (N.Chosen j) (chosen_entry (grouped o g)) (chosen_group g) (chosen_entry_row h) (chosen_group_row i) c A.chosen_inner)
+  chosen_entry_down n (grouped o g) h c m p f u = below_chosen_group s t r g p (subst (λ (z : TypeName). IsTypeOrigin s t z p) f u) (rank r (N.Chosen n)) (λ j i can. step s t r given.ranked (N.Chosen n) (N.Chosen j) (chosen_entry (grouped o g)) (chosen_group g) (chosen_entry_row h) (chosen_group_row i) c A.chosen_inner)
 
   chosen_entries_down : (n : ℕ) (es : Entries) → IsEntries t n es → AreReached s.definitions s.root (entries_points es) → (e : Entry) → IsIn e (entry_list es) → (m : TypeName) (p : TypeOrigin) → m ≡ chosen_name s.worth s.definitions e → IsTypeOrigin s t m p → type_rank r p < 2 * rank r (N.Chosen n)
   chosen_entries_down n no_entries h c e i m p f u = absurd i
@@ -211,8 +211,8 @@ module _ (s : Sense) (t : Table) (r : Ranks) (given : Given s t r) where
       below_row s t r e.0 p (subst (λ (z : TypeName). IsTypeOrigin s t z p) e.2 u) (rank r (N.Row n)) (λ j i. through (rank r (N.Row j)) (rank r (N.Unwrapping k.0)) (rank r (N.Row n)) (step s t r given.ranked (N.Unwrapping k.0) (N.Row j) (a_point (at_unwrapping q)) (a_type e.0) (unwrapping_place k.1) (type_row i) c (A.opens_content e.1)) (step s t r given.ranked (N.Row n) (N.Unwrapping k.0) (a_type (unwrapped q)) (a_point (at_unwrapping q)) (type_row h) (unwrapping_place k.1) c A.by_unwrapping))
   type_in_row n (choice_of g) h c m p f u =
       let q = chosen_part t n g h in
-      lifted (type_rank r p) (rank r (N.Chosen q.0)) (rank r (N.Row n)) (step s t r given.ranked (N.Row n) (N.Chosen q.0) (a_type (choice_of g)) (chosen_group g) (type_row h) (chosen_group_row q.1) c A.in_choice) (chosen_group_down q.0 g q.1 c m p (choice_free (chosen s.definitions g) (chosen_names s.worth s.definitions (alternatives g)) m f) u)
-  type_in_row n (choice_of_name q) h c m p f u = by (group_choices s.definitions q) refl row.0 row.1 (choice_free (chosen_by_name s.definitions q) (chosen_names s.worth s.definitions (group_choices s.definitions q)) m f)
+      lifted (type_rank r p) (rank r (N.Chosen q.0)) (rank r (N.Row n)) (step s t r given.ranked (N.Row n) (N.Chosen q.0) (a_type (choice_of g)) (chosen_group g) (type_row h) (chosen_group_row q.1) c A.in_choice) (chosen_group_down q.0 g q.1 c m p (choice_free (chosen s.definitions g) (chosen_names s.worth s.definitions (alternatives g)) m f).0 u)
+  type_in_row n (choice_of_name q) h c m p f u = by (group_choices s.definitions q) refl row.0 row.1 free.0
     where
       reaches : Reaches s.definitions s.root q
       reaches = it_is_reached s (at_choice q) c
@@ -223,12 +223,15 @@ module _ (s : Sense) (t : Table) (r : Ranks) (given : Given s t r) where
       row : (o : Option ℕ) × AreAlternatives t (group_choices s.definitions q) o
       row = given.group_row q reaches
 
+      free : IsIn m (chosen_names s.worth s.definitions (group_choices s.definitions q)) × (can_choose s.definitions (group_choices s.definitions q) ≡ true)
+      free = choice_free (chosen_by_name s.definitions q) (chosen_names s.worth s.definitions (group_choices s.definitions q)) m f
+
       first : rank r (N.Choice k.0) < rank r (N.Row n)
       first = step s t r given.ranked (N.Row n) (N.Choice k.0) (a_type (choice_of_name q)) (a_point (at_choice q)) (type_row h) (choice_place k.1) c A.by_choice
 
       by : (ess : List Entries) → ess ≡ group_choices s.definitions q → (o : Option ℕ) → AreAlternatives t ess o → IsIn m (chosen_names s.worth s.definitions ess) → type_rank r p < 2 * rank r (N.Row n)
       by ess e o no_alternatives i = absurd i
-      by ess e o (alternatives_of {n = j} g a) i = lifted (type_rank r p) (rank r (N.Chosen j)) (rank r (N.Row n)) (through (rank r (N.Chosen j)) (rank r (N.Choice k.0)) (rank r (N.Row n)) (step s t r given.ranked (N.Choice k.0) (N.Chosen j) (a_point (at_choice q)) (chosen_group g) (choice_place k.1) (chosen_group_row a) c (A.chooses e)) first) (chosen_group_down j g a (given.group_reached q g reaches e) m p i u)
+      by ess e o (alternatives_of {n = j} g a) i = lifted (type_rank r p) (rank r (N.Chosen j)) (rank r (N.Row n)) (through (rank r (N.Chosen j)) (rank r (N.Choice k.0)) (rank r (N.Row n)) (step s t r given.ranked (N.Choice k.0) (N.Chosen j) (a_point (at_choice q)) (chosen_group g) (choice_place k.1) (chosen_group_row a) c (A.chooses e (subst (λ (us : List Entries). can_choose s.definitions us ≡ true) (sym e) free.1))) first) (chosen_group_down j g a (given.group_reached q g reaches e) m p i u)
   type_in_row n (tagged a x) h c m p f u = absurd f
   type_in_row n (tagged_by a x) h c m p f u = absurd f
   type_in_row n (simple_by x) h c m p f u = below_row s t r x p (subst (λ (z : TypeName). IsTypeOrigin s t z p) f u) (rank r (N.Row n)) (λ j i. step s t r given.ranked (N.Row n) (N.Row j) (a_type (simple_by x)) (a_type x) (type_row h) (type_row i) c A.in_head)
@@ -269,9 +272,9 @@ module _ (s : Sense) (t : Table) (r : Ranks) (given : Given s t r) where
   pub types_down : (x : TypeName) (o : TypeOrigin) → IsTypeOrigin s t x o → (m : TypeName) (p : TypeOrigin) → FreeType (type_node s.worth s.definitions x) m → IsTypeOrigin s t m p → type_rank r p < type_rank r o
   types_down x o (of_row {n = n} {x = y} h c w) m p f u = type_in_row n y h c m p f u
   types_down x o (of_instance {k = k} {r = q} e g) m p f u = type_in_meaning k q e g (given.instance k q e) m p f u
-  types_down x o (of_chosen {o = i} {ess = ess} a c w) m p f u = reached_in ess i a c m p f u
+  types_down x o (of_chosen {o = i} {ess = ess} a c w can) m p f u = reached_in ess i a c m p f u
 
   pub items_down : (x : TypeName) (o : TypeOrigin) → IsTypeOrigin s t x o → (g : GroupName) (p : GroupOrigin) → FreeItems (type_node s.worth s.definitions x) g → IsGroupOrigin s t g p → group_rank r p < type_rank r o
   items_down x o (of_row {n = n} {x = y} h c w) g p f u = items_in_row n y h c g p f u
   items_down x o (of_instance e i) g p f u = absurd f
-  items_down x o (of_chosen a c w) g p f u = absurd f
+  items_down x o (of_chosen a c w can) g p f u = absurd f

@@ -7,6 +7,3 @@ mod occurrences;
 mod rules;
 
 pub use crate::empty::may_be_empty;
-
-#[cfg(test)]
-mod tests;

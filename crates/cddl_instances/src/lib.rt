@@ -12,6 +12,3 @@ mod search;
 mod store;
 
 pub use crate::found::{Found, Instance, MOST_INSTANCES, instances};
-
-#[cfg(test)]
-mod tests;

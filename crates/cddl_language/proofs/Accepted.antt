@@ -188,8 +188,8 @@ leads_to_name p q e (R.by_type {r = r} {t = u} h c f) = absurd (lists_free p (su
 leads_to_name p q e (R.by_group {r = r} h f) = absurd (false≢true (sym no_group ∙ subst (λ z. is_group ds (name_of z) ≡ true) e h))
 leads_to_name p q e (R.by_opened_group {r = r} {g = g} h f) = absurd (inside_free p (subst (λ z. IsFreeInSome ds p (alternatives z)) (same_group g (sym opens_lists ∙ subst (λ z. opened ds z ≡ Some (opens_group g)) e h)) f))
 leads_to_name p q e (R.by_content {r = r} {t = u} h f) = absurd (other_opened u (sym opens_lists ∙ subst (λ z. opened ds z ≡ Some (opens_type u)) e h))
-leads_to_name p q e (R.by_choice {r = r} f) = absurd (lists_chosen p (subst (λ ess. IsFreeInChoice ds p ess) chooses_lists (subst (λ z. IsFreeInChoice ds p (group_choices ds z)) e f)))
-leads_to_name p q e (R.by_opened_choice {r = r} {g = g} h f) = (refl, inside_chosen p (subst (λ z. IsFreeInChoice ds p (alternatives z)) (same_group g (sym opens_lists ∙ subst (λ z. opened ds z ≡ Some (opens_group g)) e h)) f))
+leads_to_name p q e (R.by_choice {r = r} w f) = absurd (lists_chosen p (subst (λ ess. IsFreeInChoice ds p ess) chooses_lists (subst (λ z. IsFreeInChoice ds p (group_choices ds z)) e f)))
+leads_to_name p q e (R.by_opened_choice {r = r} {g = g} h w f) = (refl, inside_chosen p (subst (λ z. IsFreeInChoice ds p (alternatives z)) (same_group g (sym opens_lists ∙ subst (λ z. opened ds z ≡ Some (opens_group g)) e h)) f))
 
 no_way_from_name : (p q : Point) → p ≡ at_name t → LeadsOn ds p q → ⊥
 no_way_from_name p q e (R.at_once {q = s} h) = not_by_name p ((leads_to_name s p (ap ref_at e) h).0) e

@@ -83,7 +83,7 @@ first_itself worth = record { point = at_name (call (codes "t") no_terms); cycle
 
 pub chosen_itself : (worth : Values) → IsFaultAt T.chosen_itself worth C.Recursion 0
 unfolding prelude
-chosen_itself worth = record { point = at_opened_choice (call (codes "t") no_terms); cycle = record { instance = at_root; cycle = at_once (by_opened_choice refl (of_this (of_last (of_keyed (in_choice (of_this (of_last (of_opened refl refl)))))))) }; rule = _; first = refl; offset = refl }
+chosen_itself worth = record { point = at_opened_choice (call (codes "t") no_terms); cycle = record { instance = at_root; cycle = at_once (by_opened_choice refl refl (of_this (of_last (of_keyed (in_choice (of_this (of_last (of_opened refl refl)))))))) }; rule = _; first = refl; offset = refl }
 
 pub group_first_itself : (worth : Values) → IsFaultAt (T.two_rules T.r_of_g T.maybe_int_then_g) worth C.Recursion 8
 unfolding prelude

@@ -1,5 +1,5 @@
 -- The types from which `&` chooses (RFC 8610 section 2.2.2.2).
-use Rattle.std.specs.Prelude.{ℕ, zero, suc, if◌then◌else◌, List, [], ◌∷◌, ◌++◌, Option, Some, None}
+use Rattle.std.specs.Prelude.{ℕ, zero, suc, Bool, if◌then◌else◌, List, [], ◌∷◌, ◌++◌, Option, Some, None, is_some}
 use Rattle.cddl_language.specs.Numbers.{occurs_once}
 use Rattle.cddl_language.specs.Terms.{Term, Ref, Group, sole, orelse, Entries, no_entries, entries, Entry, typed, keyed, grouped, Definition, alternatives}
 use Rattle.cddl_language.specs.Substitution.{group_choices}
@@ -50,3 +50,7 @@ module _ (ds : List Definition) where
 
   abbrev pub chosen_by_name : Ref → Option (List Term)
   chosen_by_name r = chosen_in most_instances (group_choices ds r)
+
+  -- whether there is anything to choose from in these alternatives
+  abbrev pub can_choose : List Entries → Bool
+  can_choose ess = is_some (chosen_in most_instances ess)

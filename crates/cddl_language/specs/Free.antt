@@ -4,6 +4,7 @@ use Rattle.std.specs.Prelude.{◌≡◌, ◌⊎◌, Bool, true, false, List, ◌
 use Rattle.cddl_language.specs.Numbers.{least_of}
 use Rattle.cddl_language.specs.Terms.{Text, Term, named, parens, array_of, unwrapped, choice_of, choice_of_name, simple_by, control, or, Ref, Group, Entries, no_entries, entries, Entry, typed, keyed, grouped, Key, Definition, alternatives, occurrence_of, name_of}
 use Rattle.cddl_language.specs.Substitution.{type_choices, group_choices}
+use Rattle.cddl_language.specs.Choices.{can_choose}
 use Rattle.cddl_language.specs.Kinds.{opened, opens_group, opens_type, is_group, asks_type, names_group, opens, part_of}
 use Rattle.cddl_language.specs.Reach.{Point, at_name, at_unwrapping, at_choice, at_opened_choice, ref_at, Reaches}
 
@@ -75,14 +76,15 @@ module _ (ds : List Definition) where
       of_keyed : {o : Option Text} {k : Key} {t : Term} → IsFree p t → IsFreeInChosenEntry p (keyed o k t)
       of_group : {o : Option Text} {g : Group} → IsFreeInChoice p (alternatives g) → IsFreeInChosenEntry p (grouped o g)
 
-  -- p is free in what q means
+  -- p is free in what q means. The choice from a group means something only where `&` can choose from it: a group that comes
+  -- back to itself is no choice, and where nothing chooses from it that is no fault.
   pub data LeadsTo (p : Point) : Point → Type 0 where
     by_type : {r : Ref} {t : Term} → is_group ds (name_of r) ≡ false → Contains (type_choices ds r) t → IsFree p t → LeadsTo p (at_name r)
     by_group : {r : Ref} → is_group ds (name_of r) ≡ true → IsFreeInSome p (group_choices ds r) → LeadsTo p (at_name r)
     by_opened_group : {r : Ref} {g : Group} → opened ds r ≡ Some (opens_group g) → IsFreeInSome p (alternatives g) → LeadsTo p (at_unwrapping r)
     by_content : {r : Ref} {t : Term} → opened ds r ≡ Some (opens_type t) → IsFree p t → LeadsTo p (at_unwrapping r)
-    by_choice : {r : Ref} → IsFreeInChoice p (group_choices ds r) → LeadsTo p (at_choice r)
-    by_opened_choice : {r : Ref} {g : Group} → opened ds r ≡ Some (opens_group g) → IsFreeInChoice p (alternatives g) → LeadsTo p (at_opened_choice r)
+    by_choice : {r : Ref} → can_choose ds (group_choices ds r) ≡ true → IsFreeInChoice p (group_choices ds r) → LeadsTo p (at_choice r)
+    by_opened_choice : {r : Ref} {g : Group} → opened ds r ≡ Some (opens_group g) → can_choose ds (alternatives g) ≡ true → IsFreeInChoice p (alternatives g) → LeadsTo p (at_opened_choice r)
 
   -- from p, by one free reference or more, to q
   pub data LeadsOn : Point → Point → Type 0 where

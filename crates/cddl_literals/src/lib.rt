@@ -5,6 +5,3 @@ mod links;
 mod values;
 
 pub use crate::values::{literal_row, literals};
-
-#[cfg(test)]
-mod tests;

@@ -124,7 +124,7 @@ module _ (s : Sense) (t : Table) (terms : (n : ℕ) (a b : Term) → IsTerm t n 
   one_type_name : (n m : TypeName) (o : TypeOrigin) → IsTypeOrigin s t n o → IsTypeOrigin s t m o → n ≡ m
   one_type_name n m (O.Row k) (of_row {x = x} h r w) (of_row {x = y} g q z) = ap type (terms k x y h g)
   one_type_name n m (O.Instance k) (of_instance {r = x} e w) (of_instance {r = y} f z) = ap reference (same_one (slice_get s.refs k) x y e f)
-  one_type_name n m (O.Chosen o) (of_chosen {ess = x} h r w) (of_chosen {ess = y} g q z) = ap chosen_of (one_group o x y h g)
+  one_type_name n m (O.Chosen o) (of_chosen {ess = x} h r w can) (of_chosen {ess = y} g q z may) = ap chosen_of (one_group o x y h g)
 
   one_group_name : (n m : GroupName) (o : GroupOrigin) → IsGroupOrigin s t n o → IsGroupOrigin s t m o → n ≡ m
   one_group_name n m (G.Alternatives o) (of_alternatives {ess = x} h r w) (of_alternatives {ess = y} g q z) = ap first_of (one_group o x y h g)

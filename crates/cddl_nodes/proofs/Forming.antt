@@ -6,10 +6,10 @@ use Rattle.cddl_literal.specs.Numbers.{Meaning}
 use Rattle.cddl_meaning.specs.Alike.{AlikeAll, none, both, AlikeTypes, plain, refs, choices as some_choices, tags, AlikeNumbers, any_numbers, same_number, AlikeGroups, entries as some_entries, group_refs, sequences, alternates, repeats}
 use Rattle.cddl_meaning.specs.Forms as F
 use Rattle.cddl_language.specs.Numbers as N
-use Rattle.cddl_language.specs.Terms.{Text, Term, Literal, literal, named, name_of, parens, map_of, array_of, unwrapped, choice_of, choice_of_name, tagged, tagged_by, simple_by, hash, range, control, or, Ref, Group, Entries, Entry, Key, typed, keyed, grouped, alternatives, entry_list}
+use Rattle.cddl_language.specs.Terms.{no_entries, entries, Text, Term, Literal, literal, named, name_of, parens, map_of, array_of, unwrapped, choice_of, choice_of_name, tagged, tagged_by, simple_by, hash, range, control, or, Ref, Group, Entries, Entry, Key, typed, keyed, grouped, alternatives, entry_list}
 use Rattle.cddl_language.specs.Kinds as K
 use Rattle.cddl_language.specs.Kinds.{Opened, opens_group, opens_type, opened, is_group}
-use Rattle.cddl_language.specs.Choices.{chosen, chosen_in}
+use Rattle.cddl_language.specs.Choices.{can_choose, chosen, chosen_in}
 use Rattle.cddl_language.specs.Reach.{most_instances}
 use Rattle.cddl_language.specs.Substitution.{group_choices}
 use Rattle.cddl_language.specs.Language as L
@@ -18,6 +18,7 @@ use Rattle.cddl_language.specs.Literals.{Means, Values, item_of, whole}
 use Rattle.cddl_values.specs.Values.{Answers, IsValueOf}
 use Rattle.cddl_terms.specs.Table.{Table, HoldsText, no_text, some_text}
 use Rattle.cddl_terms.specs.Trees.{IsTerm, IsRef, IsGroup, IsEntries, IsEntry}
+use Rattle.cddl_choosing.specs.Nesting.{AreChosenEntries, IsChosenEach, IsChosenEntry, IsChosenPart}
 use Rattle.cddl_closed.specs.Closed.{AreAlternatives, no_alternatives, alternatives_of, TermRow, EntriesRow, EntryRow}
 use Rattle.cddl_openings.specs.Openings.{IsOpened, nothing, group_opened, type_opened, IsPart, a_type, a_group as part_group, an_opened_group}
 use Rattle.cddl_openings.specs.declared.openings.Opening.{Opening}
@@ -141,9 +142,9 @@ module _ (s : Sense) (t : Table) where
   pub chosen_type : (x : Term) (p : K.Part) (row : ℕ) → IsAsked s t p A.Type → IsTerm t row x → IsKnown s x → IsTypeOrigin s t (L.chosen_part_name s.worth s.definitions x p) (O.Row row)
   chosen_type x p row asks_type h re = of_row h re.0 re.1
 
-  pub chosen_group : (x : Term) (p : K.Part) (o : Option ℕ) → IsAsked s t p (A.Group o) → IsTypeOrigin s t (L.chosen_part_name s.worth s.definitions x p) (O.Chosen o)
-  chosen_group x p o (asks_named a re) = of_chosen a re.0 re.1
-  chosen_group x p o (asks_opened a re) = of_chosen a re.0 re.1
+  pub chosen_group : (x : Term) (p : K.Part) (o : Option ℕ) → IsAsked s t p (A.Group o) → IsChosenPart s.definitions p → IsTypeOrigin s t (L.chosen_part_name s.worth s.definitions x p) (O.Chosen o)
+  chosen_group x p o (asks_named a re) can = of_chosen a re.0 re.1 can
+  chosen_group x p o (asks_opened a re) can = of_chosen a re.0 re.1 can
 
   pub type_part : (x : Term) (p : K.Part) (row : ℕ) → IsAsked s t p A.Type → IsTerm t row x → IsKnown s x → AlikeGroups (IsTypeOrigin s t) (IsGroupOrigin s t) (L.part_form s.worth s.definitions x p) (F.Entry (O.Row row))
   type_part x p row asks_type h re = some_entries (of_row h re.0 re.1)
@@ -312,8 +313,8 @@ module _ (s : Sense) (t : Table) (P : TypeName → Type 0) where
   pub instance_case : (n : TypeName) → (k : ℕ) → IsTypeOrigin s t n (O.Instance k) → ((r : Ref) → slice_get s.refs k ≡ Some r → P (L.reference r)) → P n
   instance_case n k (of_instance {r = r} e g) f = f r e
 
-  pub chosen_case : (n : TypeName) → (o : Option ℕ) → IsTypeOrigin s t n (O.Chosen o) → ((ess : List Entries) → AreAlternatives t ess o → AreKnown s ess → P (L.chosen_of ess)) → P n
-  chosen_case n o (of_chosen {ess = ess} h re w) f = f ess h (re, w)
+  pub chosen_case : (n : TypeName) → (o : Option ℕ) → IsTypeOrigin s t n (O.Chosen o) → ((ess : List Entries) → AreAlternatives t ess o → AreKnown s ess → can_choose s.definitions ess ≡ true → P (L.chosen_of ess)) → P n
+  chosen_case n o (of_chosen {ess = ess} h re w can) f = f ess h (re, w) can
 
 module _ (s : Sense) (t : Table) (P : GroupName → Type 0) where
   pub alternatives_case : (n : GroupName) → (o : Option ℕ) → IsGroupOrigin s t n (GO.Alternatives o) → ((ess : List Entries) → AreAlternatives t ess o → AreKnown s ess → P (first_of ess)) → P n
@@ -332,10 +333,10 @@ module _ (s : Sense) (t : Table) (P : GroupName → Type 0) where
 
 module _ (s : Sense) (t : Table) where
   abbrev pub EntryAt : Entry → ℕ → Type 0
-  EntryAt e k = IsEntry t k e × IsKnownEntry s e
+  EntryAt e k = IsEntry t k e × IsKnownEntry s e × IsChosenEntry s.definitions e
 
   abbrev pub EntriesAt : Entries → ℕ → Type 0
-  EntriesAt es k = IsEntries t k es × AreKnownEntries s es
+  EntriesAt es k = IsEntries t k es × AreKnownEntries s es × AreChosenEntries s.definitions es
 
   abbrev pub names_of_entry : Entry → List TypeName
   names_of_entry e = L.chosen_name s.worth s.definitions e ∷ []
@@ -349,33 +350,45 @@ module _ (s : Sense) (t : Table) where
   abbrev pub EntriesWalk : List TypeName → List ℕ → List TypeOrigin → Type 0
   EntriesWalk ns left out = IsWalk EntriesAt (IsTypeOrigin s t) names_of_entries ns left out
 
-  entries_at : (es : List Entry) (ns : List ℕ) → EachEntry s es → AlikeAll (EntryRow t) es ns → AlikeAll EntryAt es ns
-  entries_at [] [] no_entry none = none
-  entries_at [] (n ∷ ns) re h = elim h [ ]
-  entries_at (e ∷ es) [] re h = elim h [ ]
-  entries_at (e ∷ es) (n ∷ ns) (and_entry r re) (both h hs) = both (h, r) (entries_at es ns re hs)
+  abbrev EachChosen : List Entry → Type 0
+  EachChosen [] = Unit {0}
+  EachChosen (e ∷ es) = IsChosenEntry s.definitions e × EachChosen es
 
-  pub entry_walk_begun : (es : Entries) (rows : List ℕ) (ns : List TypeName) (out : List TypeOrigin) → AreKnownEntries s es → AlikeAll (EntryRow t) (entry_list es) rows → AlikeAll (IsTypeOrigin s t) ns out → EntryWalk (ns ++ names_of_entries es) rows out
-  entry_walk_begun es rows ns out re h g = record { done = ns; rest = entry_list es; joins = ap (λ ms. ns ++ ms) (flat_map_one (λ e. L.chosen_name s.worth s.definitions e) (entry_list es)); made = g; further = entries_at (entry_list es) rows (each_entry s es re) h }
+  chosen_joined : (es us : List Entry) → EachChosen es → EachChosen us → EachChosen (es ++ us)
+  chosen_joined [] us f g = g
+  chosen_joined (e ∷ es) us f g = (f.0, chosen_joined es us f.1 g)
 
-  lists_at : (ess : List Entries) (ns : List ℕ) → AreKnown s ess → AlikeAll (EntriesRow t) ess ns → AlikeAll EntriesAt ess ns
-  lists_at [] [] re none = none
-  lists_at [] (n ∷ ns) re h = elim h [ ]
-  lists_at (es ∷ ess) [] re h = elim h [ ]
-  lists_at (es ∷ ess) (n ∷ ns) re (both h hs) = both (h, first_known s es ess re) (lists_at ess ns (rest_known s es ess re) hs)
+  each_chosen : (es : Entries) → AreChosenEntries s.definitions es → EachChosen (entry_list es)
+  each_chosen no_entries f = tt
+  each_chosen (entries es e c) f = chosen_joined (entry_list es) (e ∷ []) (each_chosen es f.0) (f.1, tt)
+
+  entries_at : (es : List Entry) (ns : List ℕ) → EachEntry s es → EachChosen es → AlikeAll (EntryRow t) es ns → AlikeAll EntryAt es ns
+  entries_at [] [] no_entry can none = none
+  entries_at [] (n ∷ ns) re can h = elim h [ ]
+  entries_at (e ∷ es) [] re can h = elim h [ ]
+  entries_at (e ∷ es) (n ∷ ns) (and_entry r re) can (both h hs) = both (h, r, can.0) (entries_at es ns re can.1 hs)
+
+  pub entry_walk_begun : (es : Entries) (rows : List ℕ) (ns : List TypeName) (out : List TypeOrigin) → AreKnownEntries s es → AreChosenEntries s.definitions es → AlikeAll (EntryRow t) (entry_list es) rows → AlikeAll (IsTypeOrigin s t) ns out → EntryWalk (ns ++ names_of_entries es) rows out
+  entry_walk_begun es rows ns out re can h g = record { done = ns; rest = entry_list es; joins = ap (λ ms. ns ++ ms) (flat_map_one (λ e. L.chosen_name s.worth s.definitions e) (entry_list es)); made = g; further = entries_at (entry_list es) rows (each_entry s es re) (each_chosen es can) h }
+
+  lists_at : (ess : List Entries) (ns : List ℕ) → AreKnown s ess → IsChosenEach s.definitions ess → AlikeAll (EntriesRow t) ess ns → AlikeAll EntriesAt ess ns
+  lists_at [] [] re can none = none
+  lists_at [] (n ∷ ns) re can h = elim h [ ]
+  lists_at (es ∷ ess) [] re can h = elim h [ ]
+  lists_at (es ∷ ess) (n ∷ ns) re can (both h hs) = both (h, first_known s es ess re, can.0) (lists_at ess ns (rest_known s es ess re) can.1 hs)
 
   names_joined : (ess : List Entries) → flat names_of_entries ess ≡ L.chosen_names s.worth s.definitions ess
   names_joined [] = refl
   names_joined (es ∷ ess) = ap (λ ms. names_of_entries es ++ ms) (names_joined ess)
 
-  pub entries_walk_begun : (ess : List Entries) (rows : List ℕ) (out : List TypeOrigin) → out ≡ [] → AreKnown s ess → AlikeAll (EntriesRow t) ess rows → EntriesWalk (L.chosen_names s.worth s.definitions ess) rows out
-  entries_walk_begun ess rows out e re h = record { done = []; rest = ess; joins = names_joined ess; made = subst (AlikeAll (IsTypeOrigin s t) []) (sym e) none; further = lists_at ess rows re h }
+  pub entries_walk_begun : (ess : List Entries) (rows : List ℕ) (out : List TypeOrigin) → out ≡ [] → AreKnown s ess → IsChosenEach s.definitions ess → AlikeAll (EntriesRow t) ess rows → EntriesWalk (L.chosen_names s.worth s.definitions ess) rows out
+  entries_walk_begun ess rows out e re can h = record { done = []; rest = ess; joins = names_joined ess; made = subst (AlikeAll (IsTypeOrigin s t) []) (sym e) none; further = lists_at ess rows re can h }
 
-  pub entry_walk_on : (ns : List TypeName) (left more : List ℕ) (row : ℕ) (out later : List TypeOrigin) (o : TypeOrigin) → left ≡ row ∷ more → later ≡ out ++ o ∷ [] → ((e : Entry) → IsEntry t row e → IsKnownEntry s e → IsTypeOrigin s t (L.chosen_name s.worth s.definitions e) o) → EntryWalk ns left out → EntryWalk ns more later
-  entry_walk_on ns left more row out later o e f g w = walk_on EntryAt (IsTypeOrigin s t) names_of_entry (IsTypeOrigin s t) ns left more row out later e (λ y h ms a. subst (AlikeAll (IsTypeOrigin s t) (ms ++ names_of_entry y)) (sym f) (alike_pushed (IsTypeOrigin s t) ms out (L.chosen_name s.worth s.definitions y) o a (g y h.0 h.1))) w
+  pub entry_walk_on : (ns : List TypeName) (left more : List ℕ) (row : ℕ) (out later : List TypeOrigin) (o : TypeOrigin) → left ≡ row ∷ more → later ≡ out ++ o ∷ [] → ((e : Entry) → IsEntry t row e → IsKnownEntry s e → IsChosenEntry s.definitions e → IsTypeOrigin s t (L.chosen_name s.worth s.definitions e) o) → EntryWalk ns left out → EntryWalk ns more later
+  entry_walk_on ns left more row out later o e f g w = walk_on EntryAt (IsTypeOrigin s t) names_of_entry (IsTypeOrigin s t) ns left more row out later e (λ y h ms a. subst (AlikeAll (IsTypeOrigin s t) (ms ++ names_of_entry y)) (sym f) (alike_pushed (IsTypeOrigin s t) ms out (L.chosen_name s.worth s.definitions y) o a (g y h.0 h.1 h.2))) w
 
-  pub entries_walk_on : (ns : List TypeName) (left more : List ℕ) (row : ℕ) (out later : List TypeOrigin) → left ≡ row ∷ more → ((es : Entries) → IsEntries t row es → AreKnownEntries s es → (ms : List TypeName) → AlikeAll (IsTypeOrigin s t) ms out → AlikeAll (IsTypeOrigin s t) (ms ++ names_of_entries es) later) → EntriesWalk ns left out → EntriesWalk ns more later
-  entries_walk_on ns left more row out later e g w = walk_on EntriesAt (IsTypeOrigin s t) names_of_entries (IsTypeOrigin s t) ns left more row out later e (λ y h ms a. g y h.0 h.1 ms a) w
+  pub entries_walk_on : (ns : List TypeName) (left more : List ℕ) (row : ℕ) (out later : List TypeOrigin) → left ≡ row ∷ more → ((es : Entries) → IsEntries t row es → AreKnownEntries s es → AreChosenEntries s.definitions es → (ms : List TypeName) → AlikeAll (IsTypeOrigin s t) ms out → AlikeAll (IsTypeOrigin s t) (ms ++ names_of_entries es) later) → EntriesWalk ns left out → EntriesWalk ns more later
+  entries_walk_on ns left more row out later e g w = walk_on EntriesAt (IsTypeOrigin s t) names_of_entries (IsTypeOrigin s t) ns left more row out later e (λ y h ms a. g y h.0 h.1 h.2 ms a) w
 
   pub entry_walk_ended : (ns : List TypeName) (left : List ℕ) (out : List TypeOrigin) → left ≡ [] → EntryWalk ns left out → AlikeAll (IsTypeOrigin s t) ns out
   entry_walk_ended ns left out e w = walk_ended EntryAt (IsTypeOrigin s t) names_of_entry ns left out e w

@@ -1,8 +1,9 @@
 -- What the types and groups of the table are of.
-use Rattle.std.specs.Prelude.{◌≡◌, ℕ, false, List, [], ◌∷◌, ◌++◌, map, Option, Some, slice_get}
+use Rattle.std.specs.Prelude.{◌≡◌, ℕ, true, false, List, [], ◌∷◌, ◌++◌, map, Option, Some, slice_get}
 use Rattle.cddl_meaning.specs.Alike.{AlikeAll, AlikeTypes, AlikeGroups}
 use Rattle.cddl_language.specs.Terms.{Literal, Term, Ref, Group, Entries, Entry, alternatives, entry_list, name_of}
 use Rattle.cddl_language.specs.Substitution.{group_choices}
+use Rattle.cddl_language.specs.Choices.{can_choose}
 use Rattle.cddl_language.specs.Kinds as K
 use Rattle.cddl_language.specs.Kinds.{is_group}
 use Rattle.cddl_language.specs.Reach.{Point, points, group_points, entries_points, entry_points}
@@ -54,12 +55,12 @@ module _ (s : Sense) where
   AreKnown ess = IsReached s (all_points ess) × AllInEach (IsMeant s.worth) ess
 
 -- The names of the types and groups that are of these numbers. All references that stand in them are instances, and each
--- written value in them is taken for what it stands for.
+-- written value in them is taken for what it stands for. What `&` chooses from is of these only where it can choose from it.
 module _ (s : Sense) (t : Table) where
   pub data IsTypeOrigin : TypeName → TypeOrigin → Type 0 where
     of_row : {n : ℕ} {x : Term} → IsTerm t n x → IsReached s (points x) → AllIn (IsMeant s.worth) x → IsTypeOrigin (type x) (T.Row n)
     of_instance : {k : ℕ} {r : Ref} → slice_get s.refs k ≡ Some r → is_group s.definitions (name_of r) ≡ false → IsTypeOrigin (reference r) (T.Instance k)
-    of_chosen : {o : Option ℕ} {ess : List Entries} → AreAlternatives t ess o → IsReached s (all_points ess) → AllInEach (IsMeant s.worth) ess → IsTypeOrigin (chosen_of ess) (T.Chosen o)
+    of_chosen : {o : Option ℕ} {ess : List Entries} → AreAlternatives t ess o → IsReached s (all_points ess) → AllInEach (IsMeant s.worth) ess → can_choose s.definitions ess ≡ true → IsTypeOrigin (chosen_of ess) (T.Chosen o)
 
   pub data IsGroupOrigin : GroupName → GroupOrigin → Type 0 where
     of_alternatives : {o : Option ℕ} {ess : List Entries} → AreAlternatives t ess o → IsReached s (all_points ess) → AllInEach (IsMeant s.worth) ess → IsGroupOrigin (first_of ess) (G.Alternatives o)

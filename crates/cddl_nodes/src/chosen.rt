@@ -1,10 +1,12 @@
 //! The types from which `&` chooses (RFC 8610 section 2.2.2.2).
 
-ghost use Rattle.std.specs.Prelude.{IfOk, List, OnOk};
+ghost use Rattle.std.specs.Prelude.{◌≡◌, IfOk, List, OnOk, true};
+ghost use Rattle.cddl_language.specs.Choices.{can_choose};
 ghost use Rattle.cddl_language.specs.Language as L;
 ghost use Rattle.cddl_language.specs.Kinds as K;
 ghost use Rattle.cddl_language.specs.Terms.{Entries, Entry as AnEntry, Term};
 ghost use Rattle.cddl_meaning.specs.Alike.{AlikeAll};
+ghost use Rattle.cddl_choosing.specs.Nesting.{AreChosenEntries, IsChosenEntry, IsChosenPart};
 ghost use Rattle.cddl_closed.specs.Closed.{AreAlternatives, EntriesRow};
 ghost use Rattle.cddl_terms.specs.Trees.{IsEntries, IsEntry, IsTerm};
 ghost use Rattle.cddl_nodes.specs.Basis.{IsSource, Sense};
@@ -15,6 +17,7 @@ use crate::origin::TypeOrigin;
 use crate::shape::{EntryShape, entry_shape_at};
 use crate::source::Source;
 use crate::store::push;
+use cddl_choosing::laws::choices_nest;
 use cddl_closed::{alternatives, entries};
 use cddl_terms::{NoRoom, Terms};
 use std::alloc::Global;
@@ -36,15 +39,16 @@ pub(crate) fn alternative_rows(
     }
 }
 
-/// The types of all entries of the alternatives.
+/// The types of all entries of the alternatives, from which `&` can choose.
 pub(crate) fn chosen(
     alloc: Global,
     terms: &Terms<'_>,
     source: &Source<'_>,
     group: Option<u32>,
 ) -> Result<Vec<TypeOrigin>, NoRoom>
-    ensures { IfOk result (λ v. (s : Sense) (ess : List Entries) → IsSource s terms.now source.now → AreAlternatives terms.now ess group → AreKnown s ess → AreChosen s terms.now ess v.items) }
+    ensures { IfOk result (λ v. (s : Sense) (ess : List Entries) → IsSource s terms.now source.now → AreAlternatives terms.now ess group → AreKnown s ess → can_choose s.definitions ess ≡ true → AreChosen s terms.now ess v.items) }
 {
+    choices_nest();
     let rows = alternative_rows(alloc, terms, group)?;
     let mut chosen = Vec::new(alloc);
     for row in &rows {
@@ -61,7 +65,7 @@ fn add_chosen(
     row: u32,
     chosen: &mut Vec<TypeOrigin>,
 ) -> Result<(), NoRoom>
-    ensures { OnOk result ((s : Sense) (es : Entries) → IsSource s terms.now source.now → IsEntries terms.now row es → AreKnownEntries s es → AddsChosen s terms.now es chosen.old.items chosen.new.items) }
+    ensures { OnOk result ((s : Sense) (es : Entries) → IsSource s terms.now source.now → IsEntries terms.now row es → AreKnownEntries s es → AreChosenEntries s.definitions es → AddsChosen s terms.now es chosen.old.items chosen.new.items) }
 {
     let Ok(entries) = entries(alloc, terms, row) else {
         return Err(NoRoom);
@@ -73,7 +77,7 @@ fn add_chosen(
 }
 
 fn chosen_entry(terms: &Terms<'_>, source: &Source<'_>, entry: u32) -> TypeOrigin
-    ensures { (s : Sense) (e : AnEntry) → IsSource s terms.now source.now → IsEntry terms.now entry e → IsKnownEntry s e → IsTypeOrigin s terms.now (L.chosen_name s.worth s.definitions e) result }
+    ensures { (s : Sense) (e : AnEntry) → IsSource s terms.now source.now → IsEntry terms.now entry e → IsKnownEntry s e → IsChosenEntry s.definitions e → IsTypeOrigin s terms.now (L.chosen_name s.worth s.definitions e) result }
 {
     match entry_shape_at(terms, entry) {
         EntryShape::Typed(row) => chosen_part(terms, source, row),
@@ -84,7 +88,7 @@ fn chosen_entry(terms: &Terms<'_>, source: &Source<'_>, entry: u32) -> TypeOrigi
 }
 
 fn chosen_part(terms: &Terms<'_>, source: &Source<'_>, row: u32) -> TypeOrigin
-    ensures { (s : Sense) (x : Term) → IsSource s terms.now source.now → IsTerm terms.now row x → IsKnown s x → IsTypeOrigin s terms.now (L.chosen_part_name s.worth s.definitions x (K.part_of s.definitions x)) result }
+    ensures { (s : Sense) (x : Term) → IsSource s terms.now source.now → IsTerm terms.now row x → IsKnown s x → IsChosenPart s.definitions (K.part_of s.definitions x) → IsTypeOrigin s terms.now (L.chosen_part_name s.worth s.definitions x (K.part_of s.definitions x)) result }
 {
     match asked_at(terms, source, row) {
         Asked::Type => TypeOrigin::Row(row),

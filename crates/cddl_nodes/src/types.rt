@@ -1,7 +1,8 @@
 //! The forms of types.
 
-ghost use Rattle.std.specs.Prelude.{◌≡◌, IfOk, List, Some, [], slice_get};
+ghost use Rattle.std.specs.Prelude.{◌≡◌, IfOk, List, Some, [], slice_get, true};
 ghost use Rattle.cddl_meaning.specs.Forms as F;
+ghost use Rattle.cddl_language.specs.Choices.{can_choose};
 ghost use Rattle.cddl_language.specs.Language.{TypeName};
 ghost use Rattle.cddl_language.specs.Reach.{points};
 ghost use Rattle.cddl_language.specs.Terms as L;
@@ -187,14 +188,14 @@ fn named_choice_form(
     }
 }
 
-/// All that `&` chooses from in the alternatives of a group's row, or in none.
+/// All that `&` chooses from in the alternatives of a group's row, or in none, where it can choose.
 fn chosen_form(
     alloc: Global,
     terms: &Terms<'_>,
     source: &Source<'_>,
     group: Option<u32>,
 ) -> Result<TypeForm, NoRoom>
-    ensures { IfOk result (λ f. (s : Sense) (ess : List Entries) → IsSource s terms.now source.now → AreAlternatives terms.now ess group → AreKnown s ess → IsChosenForm s terms.now ess f) }
+    ensures { IfOk result (λ f. (s : Sense) (ess : List Entries) → IsSource s terms.now source.now → AreAlternatives terms.now ess group → AreKnown s ess → can_choose s.definitions ess ≡ true → IsChosenForm s terms.now ess f) }
 {
     let chosen = chosen(alloc, terms, source, group)?;
     Ok(TypeForm::Choice(chosen))

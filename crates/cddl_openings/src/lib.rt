@@ -8,6 +8,3 @@ mod parts;
 
 pub use crate::openings::{Opening, Part, openings_of};
 pub use crate::parts::part_of;
-
-#[cfg(test)]
-mod tests;

@@ -367,17 +367,17 @@ module _ (xs : List Definition) (root : Text) (refs : List Ref) (b : Known) (is 
       let v = W.opening_at xs root refs b is i.0 r i.2 in
       let p = is_type_opening (opened xs r) v.0 x v.2 e in
       found n (N.Unwrapping i.0) (N.Row p.0) (a_type x) i.1 (type_row p.2) (by_opening w.1 (ap (λ o. row_node (opened_row o)) v.1 ∙ ap (λ z. row_node (opened_row (Some z))) p.1))
-  ahead n a next (A.chooses {r = r} {g = g} f) s h =
+  ahead n a next (A.chooses {r = r} {g = g} f c) s h =
       let i = of_choice n r s in
       let v = W.meaning_at xs root refs b is i.0 r i.2 in
       let p = W.row_of_group xs root refs b is (group_choices xs r) v.0.group v.2.group g f in
-      found n (N.Choice i.0) (N.Chosen p.0) (chosen_group g) i.1 (chosen_group_row p.2) (by_choice v.1 (ap chosen_node p.1))
-  ahead n a next (A.chooses_opened {r = r} {g = g} e) s h =
+      found n (N.Choice i.0) (N.Chosen p.0) (chosen_group g) i.1 (chosen_group_row p.2) (by_choice v.1 (ap chosen_node (W.flag_set b.choosable v.0.group p.0 p.1 ((is.choosable.groups p.0 g p.2 (is.on.group r g (first xs root (at_choice r) h) f)).1 c))))
+  ahead n a next (A.chooses_opened {r = r} {g = g} e c) s h =
       let i = of_opened_choice n r s in
       let w = W.meaning_at xs root refs b is i.0 r i.2 in
       let v = W.opening_at xs root refs b is i.0 r i.2 in
       let p = is_group_opening (opened xs r) v.0 g v.2 e in
-      found n (N.OpenedChoice i.0) (N.Chosen p.0) (chosen_group g) i.1 (chosen_group_row p.2) (by_opened_choice w.1 (ap (λ o. chosen_node (opened_group o)) v.1 ∙ ap (λ z. chosen_node (opened_group (Some z))) p.1))
+      found n (N.OpenedChoice i.0) (N.Chosen p.0) (chosen_group g) i.1 (chosen_group_row p.2) (by_opened_choice w.1 (ap chosen_node (W.flag_set b.choosable (opened_group (slice_get b.openings i.0)) p.0 (ap opened_group v.1 ∙ ap (λ z. opened_group (Some z)) p.1) ((is.choosable.groups p.0 g p.2 (is.on.opened_group r g (first xs root (at_opened_choice r) h) e)).1 c))))
 
   pub step_leads : (n m : Node) → IsStep xs root refs t n m → Leads b n m
   step_leads n m s = let f = ahead n s.asker s.asked s.asks s.from s.reached in subst (λ z. Leads b n z) (same_node f.node m s.asked f.stands s.to) f.leads

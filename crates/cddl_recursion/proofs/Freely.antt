@@ -1,8 +1,9 @@
 -- What is asked over steps is what references lead on to.
-use Rattle.std.proofs.Common.{◌≡◌, zero, suc, ◌⊎◌, inl, inr, List, [], ◌∷◌, ◌++◌, refl, sym, ap, subst, ◌∙◌, arith}
+use Rattle.std.proofs.Common.{◌≡◌, true, zero, suc, ◌⊎◌, inl, inr, List, [], ◌∷◌, ◌++◌, refl, sym, ap, subst, ◌∙◌, arith}
 use Rattle.std.specs.Prelude.{Contains}
 use Rattle.cddl_language.specs.Terms.{Term, Group, sole, orelse, Entries, Entry, Definition, alternatives}
 use Rattle.cddl_language.specs.Substitution.{group_choices}
+use Rattle.cddl_language.specs.Choices.{can_choose}
 use Rattle.cddl_language.specs.Reach.{Point, at_name, at_unwrapping, at_choice, at_opened_choice}
 use Rattle.cddl_language.specs.Free as F
 use Rattle.cddl_language.specs.Free.{IsFree, IsFreeInSome, IsFreeInEach, IsFreeInEntry, IsFreeInChoice, IsFreeInChosen, IsFreeInChosenEntry, LeadsTo, LeadsOn}
@@ -156,11 +157,11 @@ module _ (ds : List Definition) where
       A.onwards (A.means_group e g.1) (group_asks g.0 q (subst (λ us. SomeAsks us q) (sym g.1) s))
   point_asks p q (F.by_opened_group {g = g} e h) = A.onwards (A.opens_a_group e) (group_asks g q (some_asks q (alternatives g) h))
   point_asks p q (F.by_content {t = t} e h) = A.onwards (A.opens_content e) (free_asks q t h)
-  point_asks p q (F.by_choice {r = r} h) =
+  point_asks p q (F.by_choice {r = r} c h) =
       let s = any_asks q (group_choices ds r) h in
       let g = group_of (group_choices ds r) (group_choices ds r) s.0 refl s.1 in
-      A.onwards (A.chooses g.1) (choice_asks g.0 q (subst (λ us. ChoiceAsks us q) (sym g.1) s))
-  point_asks p q (F.by_opened_choice {g = g} e h) = A.onwards (A.chooses_opened e) (choice_asks g q (any_asks q (alternatives g) h))
+      A.onwards (A.chooses g.1 (subst (λ us. can_choose ds us ≡ true) (sym g.1) c)) (choice_asks g.0 q (subst (λ us. ChoiceAsks us q) (sym g.1) s))
+  point_asks p q (F.by_opened_choice {g = g} e c h) = A.onwards (A.chooses_opened e c) (choice_asks g q (any_asks q (alternatives g) h))
 
   pub leads_on_asks : (p q : Point) → LeadsOn ds p q → AsksOn ds (a_point p) (a_point q)
   leads_on_asks p q (F.at_once h) = point_asks p q h
@@ -238,8 +239,8 @@ module _ (ds : List Definition) where
   before a b q (A.means_group e h) f = F.by_group e (subst (IsFreeInSome ds q) h f)
   before a b q (A.opens_a_group e) f = F.by_opened_group e f
   before a b q (A.opens_content e) f = F.by_content e f
-  before a b q (A.chooses h) f = F.by_choice (subst (IsFreeInChoice ds q) h f)
-  before a b q (A.chooses_opened e) f = F.by_opened_choice e f
+  before a b q (A.chooses h c) f = F.by_choice (subst (λ us. can_choose ds us ≡ true) h c) (subst (IsFreeInChoice ds q) h f)
+  before a b q (A.chooses_opened e c) f = F.by_opened_choice e c f
 
   record Onward (a : Asked) (q : Point) : Type 0 where
     via : Point

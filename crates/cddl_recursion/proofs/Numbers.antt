@@ -8,7 +8,7 @@ use Rattle.cddl_closed.specs.declared.closed.Meaning.{Meaning}
 use Rattle.cddl_recursion.specs.declared.node.Node.{Node}
 use Rattle.cddl_recursion.specs.declared.node.Node.TheVariants as N
 use Rattle.cddl_recursion.specs.declared.steps.Steps.{Steps}
-use Rattle.cddl_recursion.specs.Edges.{Known, Has, Leads, by_row, by_chosen, by_group, by_type, by_opening, by_choice, by_opened_choice, row_node, chosen_node, row_steps, chosen_steps, is_group_call, opened_group, opened_row, within, number, edge_by, listed, edge_to, steps_edges, types_edges, name_edges, row_edges, rows_edges, place_edges, places_edges, all_edges}
+use Rattle.cddl_recursion.specs.Edges.{flagged, Known, Has, Leads, by_row, by_chosen, by_group, by_type, by_opening, by_choice, by_opened_choice, row_node, chosen_node, row_steps, chosen_steps, is_group_call, opened_group, opened_row, within, number, edge_by, listed, edge_to, steps_edges, types_edges, name_edges, row_edges, rows_edges, place_edges, places_edges, all_edges}
 use Rattle.cddl_recursion.proofs.Pushing.{last_or_below}
 use Rattle.cddl_recursion.proofs.Freely.{In, in_list, contained, in_front, in_back, in_either}
 
@@ -200,18 +200,18 @@ module _ (rows places : ℕ) where
     opening_edges k = edge_to rows places (N.Unwrapping k) (row_node (opened_row (slice_get b.openings k)))
 
     abbrev choice_edges : ℕ → Meaning → List Edge
-    choice_edges k w = edge_to rows places (N.Choice k) (chosen_node w.group)
+    choice_edges k w = edge_to rows places (N.Choice k) (chosen_node (flagged b.choosable w.group))
 
     abbrev opened_choice_edges : ℕ → List Edge
-    opened_choice_edges k = edge_to rows places (N.OpenedChoice k) (chosen_node (opened_group (slice_get b.openings k)))
+    opened_choice_edges k = edge_to rows places (N.OpenedChoice k) (chosen_node (flagged b.choosable (opened_group (slice_get b.openings k))))
 
     in_place : (k : ℕ) (o : Option Meaning) (e : Edge) → slice_get b.meanings k ≡ o → In (place_edges rows places b k o) e → IsMade e
     in_place k None e f h = absurd h
     in_place k (Some w) e f h = by (in_either (name_edges rows places k w (is_group_call b w.call)) (opening_edges k ++ (choice_edges k w ++ opened_choice_edges k)) e h)
       where
         last : In (choice_edges k w) e ⊎ In (opened_choice_edges k) e → IsMade e
-        last (inl g) = let r = in_edge (N.Choice k) (chosen_node w.group) e g in record { from = N.Choice k; to = r.to; leads = by_choice f r.is_to; from_is = r.from_is; to_is = r.to_is }
-        last (inr g) = let r = in_edge (N.OpenedChoice k) (chosen_node (opened_group (slice_get b.openings k))) e g in record { from = N.OpenedChoice k; to = r.to; leads = by_opened_choice f r.is_to; from_is = r.from_is; to_is = r.to_is }
+        last (inl g) = let r = in_edge (N.Choice k) (chosen_node (flagged b.choosable w.group)) e g in record { from = N.Choice k; to = r.to; leads = by_choice f r.is_to; from_is = r.from_is; to_is = r.to_is }
+        last (inr g) = let r = in_edge (N.OpenedChoice k) (chosen_node (flagged b.choosable (opened_group (slice_get b.openings k)))) e g in record { from = N.OpenedChoice k; to = r.to; leads = by_opened_choice f r.is_to; from_is = r.from_is; to_is = r.to_is }
 
         second : In (opening_edges k) e ⊎ In (choice_edges k w ++ opened_choice_edges k) e → IsMade e
         second (inl g) = let r = in_edge (N.Unwrapping k) (row_node (opened_row (slice_get b.openings k))) e g in record { from = N.Unwrapping k; to = r.to; leads = by_opening f r.is_to; from_is = r.from_is; to_is = r.to_is }
@@ -281,5 +281,5 @@ module _ (rows places : ℕ) where
     is_made n m i j (by_group {k = k} {w = w} e c h) f g = of_place k w (edge_of i j) (number_is (N.Name k) i f).0 e (name_in k w (edge_of i j) (subst (λ x. In (name_edges rows places k w x) (edge_of i j)) (sym c) (edge_in (N.Name k) (row_node w.group) m i j h f g)))
     is_made n m i j (by_type {k = k} {w = w} {n = x} e c h) f g = of_place k w (edge_of i j) (number_is (N.Name k) i f).0 e (name_in k w (edge_of i j) (subst (λ x. In (name_edges rows places k w x) (edge_of i j)) (sym c) (types_in k w.types.items x i j (in_list w.types.items x h) f g)))
     is_made n m i j (by_opening {k = k} {w = w} e h) f g = of_place k w (edge_of i j) (number_is (N.Unwrapping k) i f).0 e (opening_in k w (edge_of i j) (edge_in (N.Unwrapping k) (row_node (opened_row (slice_get b.openings k))) m i j h f g))
-    is_made n m i j (by_choice {k = k} {w = w} e h) f g = of_place k w (edge_of i j) (number_is (N.Choice k) i f).0 e (choice_in k w (edge_of i j) (edge_in (N.Choice k) (chosen_node w.group) m i j h f g))
-    is_made n m i j (by_opened_choice {k = k} {w = w} e h) f g = of_place k w (edge_of i j) (number_is (N.OpenedChoice k) i f).0 e (opened_choice_in k w (edge_of i j) (edge_in (N.OpenedChoice k) (chosen_node (opened_group (slice_get b.openings k))) m i j h f g))
+    is_made n m i j (by_choice {k = k} {w = w} e h) f g = of_place k w (edge_of i j) (number_is (N.Choice k) i f).0 e (choice_in k w (edge_of i j) (edge_in (N.Choice k) (chosen_node (flagged b.choosable w.group)) m i j h f g))
+    is_made n m i j (by_opened_choice {k = k} {w = w} e h) f g = of_place k w (edge_of i j) (number_is (N.OpenedChoice k) i f).0 e (opened_choice_in k w (edge_of i j) (edge_in (N.OpenedChoice k) (chosen_node (flagged b.choosable (opened_group (slice_get b.openings k)))) m i j h f g))

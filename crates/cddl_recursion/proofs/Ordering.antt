@@ -12,6 +12,7 @@ use Rattle.cddl_closed.specs.Closed.{IsClosed}
 use Rattle.cddl_openings.specs.declared.openings.Opening.{Opening}
 use Rattle.cddl_openings.specs.declared.openings.Part.{Part}
 use Rattle.cddl_openings.specs.Openings.{AreOpenings}
+use Rattle.cddl_choosing.specs.Choosing.{AreChoosable}
 use Rattle.cddl_empty.specs.Empty.{AreEmpty}
 use Rattle.cddl_recursion.specs.declared.graph.Order.{Order}
 use Rattle.cddl_recursion.specs.declared.graph.Order.TheVariants as OrderV
@@ -66,14 +67,14 @@ module _ (xs : List Definition) (root : Text) (refs : List Ref) (b : Known) (is 
   order_is (OrderV.Ranks r) h = are_ranked r h
   order_is (OrderV.Cycles v) h = subst (AreCycles xs root refs) (sym h.are_flags) (flags_cycles xs root refs b is l.rows l.places rows_all places_all h.marks h.are_marks)
 
-abbrev pub known_of : Table → Closed → Kinds → List Opening → List Part → List Bool → Known
-known_of t closed kinds openings parts empty = record { texts = t.texts; rows = t.rows; kinds = kinds; places = closed.places.items; meanings = closed.meanings.items; openings = openings; parts = parts; may_be_empty = empty }
+abbrev pub known_of : Table → Closed → Kinds → List Opening → List Part → List Bool → List Bool → Known
+known_of t closed kinds openings parts choosable empty = record { texts = t.texts; rows = t.rows; kinds = kinds; places = closed.places.items; meanings = closed.meanings.items; openings = openings; parts = parts; choosable = choosable; may_be_empty = empty }
 
-module _ (t : Table) (equal : (n m : Option ℕ) (x : Tree) → Holds t n x → Holds t m x → n ≡ m) (reference : (n m : ℕ) (r s : Ref) → IsRef t n r → IsRef t m s → (n ≡ m) ↔ (r ≡ s)) (law : RanksOrCycles) (on : (xs : List Definition) (root : Text) → AreInstancesOn xs root) (l : Layout) (closed : Closed) (kinds : Kinds) (openings : List Opening) (empty : List Bool) (parts items : List Part) (same : parts ≡ items) (rows_all : l.rows ≡ length t.rows) (places_all : l.places ≡ length closed.meanings.items) (told : (xs : List Definition) (root : Text) (refs : List Ref) → IsClosed xs root refs t closed → AreKinds t.texts xs kinds → AreOpenings xs t refs openings → AreParts xs root refs t l.rows items) where
-  pub find_order_is : (given : List Edge) → given ≡ all_edges l.rows l.places (known_of t closed kinds openings parts empty) → (o : Order) → IsOrdered l given o → (xs : List Definition) (root : Text) (refs : List Ref) → IsClosed xs root refs t closed → AreKinds t.texts xs kinds → AreOpenings xs t refs openings → AreEmpty xs root t empty → IsOrder xs root refs t o
-  find_order_is given e o h xs root refs cl ki op em = order_is xs root refs (known_of t closed kinds openings parts empty) known l rows_all places_all law o (subst (λ es. IsOrdered l es o) e h)
+module _ (t : Table) (equal : (n m : Option ℕ) (x : Tree) → Holds t n x → Holds t m x → n ≡ m) (reference : (n m : ℕ) (r s : Ref) → IsRef t n r → IsRef t m s → (n ≡ m) ↔ (r ≡ s)) (law : RanksOrCycles) (on : (xs : List Definition) (root : Text) → AreInstancesOn xs root) (l : Layout) (closed : Closed) (kinds : Kinds) (openings : List Opening) (choosable empty : List Bool) (parts items : List Part) (same : parts ≡ items) (rows_all : l.rows ≡ length t.rows) (places_all : l.places ≡ length closed.meanings.items) (told : (xs : List Definition) (root : Text) (refs : List Ref) → IsClosed xs root refs t closed → AreKinds t.texts xs kinds → AreOpenings xs t refs openings → AreParts xs root refs t l.rows items) where
+  pub find_order_is : (given : List Edge) → given ≡ all_edges l.rows l.places (known_of t closed kinds openings parts choosable empty) → (o : Order) → IsOrdered l given o → (xs : List Definition) (root : Text) (refs : List Ref) → IsClosed xs root refs t closed → AreKinds t.texts xs kinds → AreOpenings xs t refs openings → AreChoosable xs root t choosable → AreEmpty xs root t empty → IsOrder xs root refs t o
+  find_order_is given e o h xs root refs cl ki op ch em = order_is xs root refs (known_of t closed kinds openings parts choosable empty) known l rows_all places_all law o (subst (λ es. IsOrdered l es o) e h)
     where
-      known : IsKnown xs root refs (known_of t closed kinds openings parts empty)
+      known : IsKnown xs root refs (known_of t closed kinds openings parts choosable empty)
       known = record {
         table = cl.table;
         instances = cl.instances;
@@ -82,6 +83,7 @@ module _ (t : Table) (equal : (n m : Option ℕ) (x : Tree) → Holds t n x → 
         kinds = ki;
         openings = op;
         parts = λ n x i r. subst (λ ps. AreParts xs root refs t l.rows ps) (sym same) (told xs root refs cl ki op) n x (subst (λ k. n < k) (sym rows_all) (holds_within t n (term_tree x) i)) i r;
+        choosable = ch;
         empty = em;
         on = on xs root;
         equal = equal;

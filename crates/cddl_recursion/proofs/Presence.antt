@@ -70,5 +70,5 @@ module _ (ds : List Definition) (root : Text) where
   reached on a b (A.means_group {r = r} {g = g} e f) h = on.group r g (first (at_name r) h) f
   reached on a b (A.opens_a_group {r = r} {g = g} e) h = on.opened_group r g (first (at_unwrapping r) h) e
   reached on a b (A.opens_content {r = r} {t = t} e) h = on.content r t (first (at_unwrapping r) h) e
-  reached on a b (A.chooses {r = r} {g = g} f) h = on.group r g (first (at_choice r) h) f
-  reached on a b (A.chooses_opened {r = r} {g = g} e) h = on.opened_group r g (first (at_opened_choice r) h) e
+  reached on a b (A.chooses {r = r} {g = g} f c) h = on.group r g (first (at_choice r) h) f
+  reached on a b (A.chooses_opened {r = r} {g = g} e c) h = on.opened_group r g (first (at_opened_choice r) h) e

@@ -19,6 +19,7 @@ use Rattle.cddl_terms.specs.Trees.{IsTerm, IsRef, IsGroup, IsEntries, IsEntry, t
 use Rattle.cddl_kinds.specs.Kinds.{AreKinds}
 use Rattle.cddl_closed.specs.declared.closed.Meaning.{Meaning}
 use Rattle.cddl_closed.specs.Closed.{AreAlternatives, no_alternatives, alternatives_of, AreReached, ArePlaces, IsMeaning, TermRow}
+use Rattle.cddl_choosing.specs.Choosing.{AreChoosable}
 use Rattle.cddl_openings.specs.declared.openings.Opening.{Opening}
 use Rattle.cddl_openings.specs.declared.openings.Part.{Part}
 use Rattle.cddl_openings.specs.Openings.{AreOpenings, IsOpened, nothing as opens_nothing, group_opened, type_opened, IsPart, a_type as part_type, a_group as part_group, an_opened_group}
@@ -31,7 +32,7 @@ use Rattle.cddl_recursion.specs.Edges as E
 use Rattle.cddl_recursion.specs.Edges.{Known, Has, Leads, by_row, by_chosen, by_group, by_type, by_opening, by_choice, by_opened_choice, row_node, chosen_node, name_node, unwrapping_node, choice_node, place_of, place_in, flagged, if_set, when, asks_here, text_asks, controls_here, part_node, part_at, part_in, steps_by, chosen_by, row_steps, chosen_steps, is_group_call, text_of, opened_row, opened_group}
 use Rattle.cddl_recursion.specs.Standing.{Stands, type_row, group_row, entries_row, entry_row, chosen_group_row, chosen_entries_row, chosen_entry_row, name_place, unwrapping_place, choice_place, opened_choice_place}
 use Rattle.cddl_recursion.proofs.Freely.{In, in_list, contained}
-use Rattle.cddl_recursion.proofs.Presence.{AreInstancesOn, front}
+use Rattle.cddl_recursion.proofs.Presence.{AreInstancesOn, first, front}
 
 -- alternatives tell their group
 
@@ -184,6 +185,7 @@ pub record IsKnown (xs : List Definition) (root : Text) (refs : List Ref) (b : K
   pub kinds : AreKinds b.texts xs b.kinds
   pub openings : AreOpenings xs (table_of b) refs b.openings
   pub parts : (n : ℕ) (x : Term) → IsTerm (table_of b) n x → AreReached xs root (points x) → (q : Part) × (slice_get b.parts n ≡ Some q) × IsPart (table_of b) refs (part_of xs x) q
+  pub choosable : AreChoosable xs root (table_of b) b.choosable
   pub empty : AreEmpty xs root (table_of b) b.may_be_empty
   pub on : AreInstancesOn xs root
   pub equal : (n m : Option ℕ) (x : Tree) → Holds (table_of b) n x → Holds (table_of b) m x → n ≡ m
@@ -527,20 +529,31 @@ module _ (xs : List Definition) (root : Text) (refs : List Ref) (b : Known) (is 
   unwrapping_step : (k : ℕ) (m : Node) (r : Ref) → slice_get refs k ≡ Some r → Leads b (N.Unwrapping k) m → Next (a_point (at_unwrapping r)) m
   unwrapping_step k m r e (by_opening f i) = let w = opening_at k r e in opens_by m r (opened xs r) (slice_get b.openings k) w.0 w.2 refl w.1 i
 
-  choice_step : (k : ℕ) (m : Node) (r : Ref) → slice_get refs k ≡ Some r → Leads b (N.Choice k) m → Next (a_point (at_choice r)) m
-  choice_step k m r e (by_choice {w = w} f i) =
+  choice_step : (k : ℕ) (m : Node) (r : Ref) → slice_get refs k ≡ Some r → AreReached xs root (at_choice r ∷ []) → Leads b (N.Choice k) m → Next (a_point (at_choice r)) m
+  choice_step k m r e c (by_choice {w = w} f i) =
       let is_meant = meant k r w e f in
-      let n = is_chosen w.group m i in
-      let g = group_of (group_choices xs r) w.group n.0 is_meant.group n.1 in
-      record { next = chosen_group g.0; asks = A.chooses g.1; stands = subst (λ z. Stands t refs z (chosen_group g.0)) (sym n.2) (chosen_group_row g.2) }
+      let n = is_chosen (flagged b.choosable w.group) m i in
+      let u = is_flagged b.choosable w.group n.0 n.1 in
+      let g = group_of (group_choices xs r) w.group n.0 is_meant.group u.0 in
+      record { next = chosen_group g.0; asks = A.chooses g.1 ((is.choosable.groups n.0 g.0 g.2 (is.on.group r g.0 (first xs root (at_choice r) c) g.1)).0 u.1); stands = subst (λ z. Stands t refs z (chosen_group g.0)) (sym n.2) (chosen_group_row g.2) }
 
-  chooses_by : (m : Node) (r : Ref) (y : Option Opened) (o : Option Opening) (q : Opening) → IsOpened t y q → opened xs r ≡ y → o ≡ Some q → chosen_node (opened_group o) ≡ Some m → Next (a_point (at_opened_choice r)) m
-  chooses_by m r y o q opens_nothing e f i = cc
-  chooses_by m r y o q (group_opened {n = n} {g = g} k) e f i = to_chosen (a_point (at_opened_choice r)) (chosen_group g) (group_tree g) (λ k j. chosen_group_row j) (A.chooses_opened e) (Some n) m k (sym (ap (λ z. chosen_node (opened_group z)) f) ∙ i)
-  chooses_by m r y o q (type_opened k) e f i = cc
+  -- from an opening, where its row is flagged
+  chooses_by : (m : Node) (r : Ref) (y : Option Opened) (o : Option Opening) (q : Opening) (n : ℕ) → IsOpened t y q → opened xs r ≡ y → o ≡ Some q → AreReached xs root (at_opened_choice r ∷ []) → opened_group o ≡ Some n → slice_get b.choosable n ≡ Some true → m ≡ N.Chosen n → Next (a_point (at_opened_choice r)) m
+  chooses_by m r y o q n opens_nothing e f c i u j = cc
+  chooses_by m r y o q n (group_opened {n = k} {g = g} h) e f c i u j =
+      let d : IsGroup t n g = subst (λ x. IsGroup t x g) (same (sym (ap opened_group f) ∙ i)) h in
+      record { next = chosen_group g; asks = A.chooses_opened e ((is.choosable.groups n g d (is.on.opened_group r g (first xs root (at_opened_choice r) c) e)).0 u); stands = subst (λ z. Stands t refs z (chosen_group g)) (sym j) (chosen_group_row d) }
+    where
+      same : Some k ≡ Some n → k ≡ n
+      same p = cc
+  chooses_by m r y o q n (type_opened k) e f c i u j = cc
 
-  opened_choice_step : (k : ℕ) (m : Node) (r : Ref) → slice_get refs k ≡ Some r → Leads b (N.OpenedChoice k) m → Next (a_point (at_opened_choice r)) m
-  opened_choice_step k m r e (by_opened_choice f i) = let w = opening_at k r e in chooses_by m r (opened xs r) (slice_get b.openings k) w.0 w.2 refl w.1 i
+  opened_choice_step : (k : ℕ) (m : Node) (r : Ref) → slice_get refs k ≡ Some r → AreReached xs root (at_opened_choice r ∷ []) → Leads b (N.OpenedChoice k) m → Next (a_point (at_opened_choice r)) m
+  opened_choice_step k m r e c (by_opened_choice f i) =
+      let w = opening_at k r e in
+      let n = is_chosen (flagged b.choosable (opened_group (slice_get b.openings k))) m i in
+      let u = is_flagged b.choosable (opened_group (slice_get b.openings k)) n.0 n.1 in
+      chooses_by m r (opened xs r) (slice_get b.openings k) w.0 n.0 w.2 refl w.1 c u.0 u.1 n.2
 
   pub sound : (n m : Node) (a : Asked) → Stands t refs n a → IsReached xs root a → Leads b n m → Next a m
   sound n m a (type_row {n = k} {x = x} h) r l = type_step k m x h l
@@ -552,5 +565,5 @@ module _ (xs : List Definition) (root : Text) (refs : List Ref) (b : Known) (is 
   sound n m a (chosen_entry_row {n = k} {e = x} h) r l = chosen_entry_step k m x h r l
   sound n m a (name_place {k = k} {r = s} h) r l = name_step k m s h l
   sound n m a (unwrapping_place {k = k} {r = s} h) r l = unwrapping_step k m s h l
-  sound n m a (choice_place {k = k} {r = s} h) r l = choice_step k m s h l
-  sound n m a (opened_choice_place {k = k} {r = s} h) r l = opened_choice_step k m s h l
+  sound n m a (choice_place {k = k} {r = s} h) r l = choice_step k m s h r l
+  sound n m a (opened_choice_place {k = k} {r = s} h) r l = opened_choice_step k m s h r l

@@ -2,6 +2,7 @@
 use Rattle.std.specs.Prelude.{◌≡◌, Bool, true, false, List, [], ◌∷◌, Contains, Option, Some}
 use Rattle.cddl_language.specs.Terms.{Text, Term, named, parens, array_of, unwrapped, choice_of, choice_of_name, simple_by, control, or, Ref, Group, sole, orelse, Entries, entries, Entry, typed, keyed, grouped, Key, Definition, alternatives, name_of}
 use Rattle.cddl_language.specs.Substitution.{type_choices, group_choices}
+use Rattle.cddl_language.specs.Choices.{can_choose}
 use Rattle.cddl_language.specs.Kinds.{opened, opens_group, opens_type, is_group, asks_type, names_group, opens, part_of}
 use Rattle.cddl_language.specs.Reach.{Point, at_name, at_unwrapping, at_choice, at_opened_choice, points, group_points, entries_points, entry_points}
 use Rattle.cddl_language.specs.Free.{IsAskedHere, MayBeEmpty}
@@ -33,7 +34,8 @@ abbrev pub IsReached : List Definition → Text → Asked → Type 0
 IsReached ds root a = AreReached ds root (asked_points a)
 
 module _ (ds : List Definition) where
-  -- The first asks the second. `&` asks the types that it chooses through the entries that have them.
+  -- The first asks the second. `&` asks the types that it chooses through the entries that have them, and what has a name or
+  -- is opened only where it can choose from it.
   pub data Asks : Asked → Asked → Type 0 where
     by_name : {r : Ref} → Asks (a_type (named r)) (a_point (at_name r))
     by_unwrapping : {r : Ref} → Asks (a_type (unwrapped r)) (a_point (at_unwrapping r))
@@ -68,8 +70,8 @@ module _ (ds : List Definition) where
     means_group : {r : Ref} {g : Group} → is_group ds (name_of r) ≡ true → alternatives g ≡ group_choices ds r → Asks (a_point (at_name r)) (a_group g)
     opens_a_group : {r : Ref} {g : Group} → opened ds r ≡ Some (opens_group g) → Asks (a_point (at_unwrapping r)) (a_group g)
     opens_content : {r : Ref} {t : Term} → opened ds r ≡ Some (opens_type t) → Asks (a_point (at_unwrapping r)) (a_type t)
-    chooses : {r : Ref} {g : Group} → alternatives g ≡ group_choices ds r → Asks (a_point (at_choice r)) (chosen_group g)
-    chooses_opened : {r : Ref} {g : Group} → opened ds r ≡ Some (opens_group g) → Asks (a_point (at_opened_choice r)) (chosen_group g)
+    chooses : {r : Ref} {g : Group} → alternatives g ≡ group_choices ds r → can_choose ds (alternatives g) ≡ true → Asks (a_point (at_choice r)) (chosen_group g)
+    chooses_opened : {r : Ref} {g : Group} → opened ds r ≡ Some (opens_group g) → can_choose ds (alternatives g) ≡ true → Asks (a_point (at_opened_choice r)) (chosen_group g)
 
   -- over one step or more
   pub data AsksOn : Asked → Asked → Type 0 where

@@ -26,6 +26,7 @@ pub record Known : Type 0 where
   pub meanings : List Meaning
   pub openings : List Opening
   pub parts : List Part
+  pub choosable : List Bool
   pub may_be_empty : List Bool
 
 abbrev pub row_node : Option ℕ → Option Node
@@ -187,8 +188,8 @@ pub data Leads (b : Known) : Node → Node → Type 0 where
   by_group : {k : ℕ} {w : Meaning} {m : Node} → slice_get b.meanings k ≡ Some w → is_group_call b w.call ≡ true → row_node w.group ≡ Some m → Leads b (N.Name k) m
   by_type : {k : ℕ} {w : Meaning} {n : ℕ} → slice_get b.meanings k ≡ Some w → is_group_call b w.call ≡ false → Contains w.types.items n → Leads b (N.Name k) (N.Row n)
   by_opening : {k : ℕ} {w : Meaning} {m : Node} → slice_get b.meanings k ≡ Some w → row_node (opened_row (slice_get b.openings k)) ≡ Some m → Leads b (N.Unwrapping k) m
-  by_choice : {k : ℕ} {w : Meaning} {m : Node} → slice_get b.meanings k ≡ Some w → chosen_node w.group ≡ Some m → Leads b (N.Choice k) m
-  by_opened_choice : {k : ℕ} {w : Meaning} {m : Node} → slice_get b.meanings k ≡ Some w → chosen_node (opened_group (slice_get b.openings k)) ≡ Some m → Leads b (N.OpenedChoice k) m
+  by_choice : {k : ℕ} {w : Meaning} {m : Node} → slice_get b.meanings k ≡ Some w → chosen_node (flagged b.choosable w.group) ≡ Some m → Leads b (N.Choice k) m
+  by_opened_choice : {k : ℕ} {w : Meaning} {m : Node} → slice_get b.meanings k ≡ Some w → chosen_node (flagged b.choosable (opened_group (slice_get b.openings k))) ≡ Some m → Leads b (N.OpenedChoice k) m
 
 -- Nodes by number: two for each row, and four for each place after these.
 
@@ -246,7 +247,7 @@ module _ (rows places : ℕ) where
 
     abbrev pub place_edges : ℕ → Option Meaning → List Edge
     place_edges k None = []
-    place_edges k (Some w) = name_edges k w (is_group_call b w.call) ++ (edge_to (N.Unwrapping k) (row_node (opened_row (slice_get b.openings k))) ++ (edge_to (N.Choice k) (chosen_node w.group) ++ edge_to (N.OpenedChoice k) (chosen_node (opened_group (slice_get b.openings k)))))
+    place_edges k (Some w) = name_edges k w (is_group_call b w.call) ++ (edge_to (N.Unwrapping k) (row_node (opened_row (slice_get b.openings k))) ++ (edge_to (N.Choice k) (chosen_node (flagged b.choosable w.group)) ++ edge_to (N.OpenedChoice k) (chosen_node (flagged b.choosable (opened_group (slice_get b.openings k))))))
 
     -- of the places below the number
     abbrev pub places_edges : ℕ → List Edge

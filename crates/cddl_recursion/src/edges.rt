@@ -6,8 +6,8 @@ ghost use Rattle.cddl_recursion.specs.Views.{known};
 
 use crate::node::{Layout, Node};
 use crate::steps::{
-    Steps, View, chosen_node, chosen_steps, is_group_call, opened_group, opened_row, opening_at,
-    row_node, row_steps,
+    Steps, View, chosen_node, chosen_steps, flagged, is_group_call, opened_group, opened_row,
+    opening_at, row_node, row_steps,
 };
 use cddl_closed::Meaning;
 use cddl_terms::Terms;
@@ -111,9 +111,9 @@ fn push_meaning(
     let opening = opening_at(view.openings, place);
     let opened = row_node(opened_row(opening));
     push(edges, layout, Node::Unwrapping(place), opened)?;
-    let chosen = chosen_node(meaning.group);
+    let chosen = chosen_node(flagged(view.choosable, meaning.group));
     push(edges, layout, Node::Choice(place), chosen)?;
-    let chosen = chosen_node(opened_group(opening));
+    let chosen = chosen_node(flagged(view.choosable, opened_group(opening)));
     push(edges, layout, Node::OpenedChoice(place), chosen)
 }
 

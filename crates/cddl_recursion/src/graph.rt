@@ -6,6 +6,7 @@ ghost use Rattle.cddl_language.specs.Terms.{Ref, Text};
 ghost use Rattle.cddl_kinds.specs.Kinds.{AreKinds};
 ghost use Rattle.cddl_closed.specs.Closed.{IsClosed};
 ghost use Rattle.cddl_openings.specs.Openings.{AreOpenings};
+ghost use Rattle.cddl_choosing.specs.Choosing.{AreChoosable};
 ghost use Rattle.cddl_empty.specs.Empty.{AreEmpty};
 ghost use Rattle.cddl_recursion.specs.Order.{IsOrder, IsOrdered, bound, rank, rank_at};
 
@@ -81,9 +82,10 @@ pub fn find_order(
     closed: &Closed,
     kinds: &Kinds,
     openings: &[Opening],
+    choosable: &[bool],
     may_be_empty: &[bool],
 ) -> Result<Order, AllocError>
-    ensures { IfOk result (λ o. (xs : List L.Definition) (root : Text) (refs : List Ref) → IsClosed xs root refs terms.now closed.now → AreKinds terms.now.texts xs kinds.now → AreOpenings xs terms.now refs openings.now → AreEmpty xs root terms.now may_be_empty.now → IsOrder xs root refs terms.now o) }
+    ensures { IfOk result (λ o. (xs : List L.Definition) (root : Text) (refs : List Ref) → IsClosed xs root refs terms.now closed.now → AreKinds terms.now.texts xs kinds.now → AreOpenings xs terms.now refs openings.now → AreChoosable xs root terms.now choosable.now → AreEmpty xs root terms.now may_be_empty.now → IsOrder xs root refs terms.now o) }
 {
     equal_numbers(terms);
     meanings_are_reached();
@@ -99,6 +101,7 @@ pub fn find_order(
         kinds,
         openings,
         parts: &parts,
+        choosable,
         may_be_empty,
     };
     let edges = edges_of(alloc, layout, terms, &view)?;

@@ -20,6 +20,7 @@ pub(crate) struct View<'a> {
     pub openings: &'a [Opening],
     /// For each row that is a type's what it is as an entry.
     pub parts: &'a [Part],
+    pub choosable: &'a [bool],
     pub may_be_empty: &'a [bool],
 }
 
@@ -167,7 +168,7 @@ fn place_of(places: &[Option<u32>], row: Option<u32>) -> Option<u32>
 }
 
 /// The row, where its flag is set.
-fn flagged(flags: &[bool], row: Option<u32>) -> Option<u32>
+pub(crate) fn flagged(flags: &[bool], row: Option<u32>) -> Option<u32>
     ensures { result ≡ by.flagged flags.now row }
 {
     let row = row?;

@@ -84,8 +84,9 @@ fn order_of(alloc: Global, terms: &Terms<'_>, reading: &Reading<'_>) -> Result<O
     let closed = &reading.meant.closed;
     let kinds = &reading.questions.naming.kinds;
     let openings = &reading.meant.openings;
+    let choosable = &reading.meant.choosable;
     let empty = may_be_empty(alloc, terms, closed, kinds, openings)?;
-    let order = find_order(alloc, terms, closed, kinds, openings, &empty)?;
+    let order = find_order(alloc, terms, closed, kinds, openings, choosable, &empty)?;
     Ok(order)
 }
 

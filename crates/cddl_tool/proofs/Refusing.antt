@@ -1,22 +1,31 @@
 -- What becomes of a text that has no table.
-use Rattle.std.proofs.Common.{◌≡◌, ℕ, List, ◌⊎◌, inl, inr, Option, refl, subst}
-use Rattle.cddl_one_rule.specs.Specification.{IsNone, IsRootRule, IsUnread}
-use Rattle.cddl_one_rule.specs.declared.unread.Unread.{Unread}
-use Rattle.cddl_one_rule.specs.declared.unread.Unread.TheVariants.{NotSupported, NoRoot, Memory}
+use Rattle.std.specs.Prelude.{IfSome}
+use Rattle.std.proofs.Common.{◌≡◌, ℕ, List, ◌⊎◌, Option, Some, None, subst}
+use Rattle.cddl_specification.specs.Text.{IsUnreadText}
+use Rattle.cddl_specification.specs.declared.unread.Unread.{Unread}
+use Rattle.cddl_specification.specs.declared.unread.Unread.TheVariants as UnreadV
+use Rattle.cddl_check.specs.declared.fault.Fault.{Fault}
 use Rattle.cddl_tool.specs.declared.status.TheConstants.{REFUSED, BROKEN}
-use Rattle.cddl_tool.specs.Acting.{status_unread}
+use Rattle.cddl_tool.specs.Acting.{IsRefusedText, is_wrong, not_yet}
 
--- the status says whether the text is a rule that is the root
+-- the status says that the text is refused, or that something broke
 abbrev pub Tells : List ℕ → Option (List ℕ) → ℕ → Type 0
-Tells text root status = ((status ≡ REFUSED) × IsNone text root) ⊎ ((status ≡ BROKEN) × IsRootRule text root)
+Tells text root status = ((status ≡ REFUSED) × IsRefusedText text root) ⊎ (status ≡ BROKEN)
 
-tells : (text : List ℕ) (root : Option (List ℕ)) (why : Unread) → IsUnread text root why → Tells text root (status_unread why)
-tells text root NotSupported h = inl (refl, λ name type rule is. h name type rule)
-tells text root NoRoot h = inl (refl, h.1)
-tells text root Memory h = inr (refl, h)
+pub refused_so : (text wanted : List ℕ) (given root : Option (List ℕ)) (why : Unread) (status : ℕ) → text ≡ wanted → given ≡ root → ((t : List ℕ) (r : Option (List ℕ)) → IsUnreadText t r why → Tells t r status) → IsUnreadText text given why → Tells wanted root status
+refused_so text wanted given root why status e f told h = told wanted root (subst (λ r. IsUnreadText wanted r why) f (subst (λ t. IsUnreadText t given why) e h))
 
-pub refused_so : (text wanted : List ℕ) (given root : Option (List ℕ)) (why : Unread) (status : ℕ) → text ≡ wanted → given ≡ root → status ≡ status_unread why → IsUnread text given why → Tells wanted root status
-refused_so text wanted given root why status e f g h =
-    let there : IsUnread wanted given why = subst (λ t. IsUnread t given why) e h in
-    let here : IsUnread wanted root why = subst (λ r. IsUnread wanted r why) f there in
-    rw g (tells wanted root why here)
+-- what holds anyway holds where there is a line
+pub anyway : {A : Type 0} (P : Type 0) (o : Option A) → P → IfSome o (λ (a : A). P)
+anyway P None h = tt
+anyway P (Some a) h = h
+
+-- the reason tells that a text is refused
+abbrev pub Refuses : Unread → Type 0
+Refuses why = (text : List ℕ) (root : Option (List ℕ)) → IsUnreadText text root why → IsRefusedText text root
+
+pub for_what_is_wrong : (f : Fault) → Refuses (UnreadV.Refused f)
+for_what_is_wrong f text root h = is_wrong h
+
+pub for_what_is_not_taken : (at : ℕ) → Refuses (UnreadV.NotYet at)
+for_what_is_not_taken at text root h = not_yet h

@@ -7,8 +7,8 @@ use Rattle.seq_run.specs.declared.end.End.{End}
 use Rattle.seq_run.specs.declared.end.End.TheVariants.{Clean, Failed}
 use Rattle.seq_run.specs.Judge.{Judge}
 use Rattle.seq_run.specs.Running.{Change, HasFailed, IsReported}
-use Rattle.cddl_one_rule.specs.declared.unread.Unread.{Unread}
-use Rattle.cddl_one_rule.specs.declared.unread.Unread.TheVariants.{NotSupported, NoRoot, Memory}
+use Rattle.cddl_specification.specs.Text.{IsNotYetText, IsWrongText}
+use Rattle.cddl_check.specs.declared.fault.Fault.{Fault}
 use Rattle.cddl_tool.specs.declared.choice.Task.{Task}
 use Rattle.cddl_tool.specs.declared.choice.Task.TheVariants.{Check, Validate, Show}
 use Rattle.cddl_tool.specs.declared.status.TheConstants.{REFUSED, BROKEN}
@@ -19,11 +19,10 @@ specification_of Check spec = spec
 specification_of Validate spec = spec
 specification_of Show spec = codes "a = any"
 
--- the status of a text that has no table
-abbrev pub status_unread : Unread → ℕ
-status_unread NotSupported = REFUSED
-status_unread NoRoot = REFUSED
-status_unread Memory = BROKEN
+-- Why the text, with this name as its root, is refused: for what is wrong with it, or for what this version does not take.
+pub data IsRefusedText (text : List ℕ) (root : Option (List ℕ)) : Type 0 where
+  is_wrong : {f : Fault} → IsWrongText text root f → IsRefusedText text root
+  not_yet : {at : ℕ} → IsNotYetText text root at → IsRefusedText text root
 
 -- the line that says that a specification is accepted
 abbrev pub accepted_line : List ℕ

@@ -1,19 +1,20 @@
 //! What the program does with a specification and a stream.
 
-ghost use Rattle.std.specs.Prelude.{◌≡◌, ◌≢◌, ◌≤◌, ◌⊎◌, IfOk, IfErr, IfSome, OnOk, option_map, string_bytes, vec_items};
+ghost use Rattle.std.specs.Prelude.{◌≡◌, ◌≢◌, ◌≤◌, ◌⊎◌, ℕ, List, Option, IfOk, IfErr, IfSome, OnOk, option_map, string_bytes, vec_items};
 ghost use Rattle.cbor_item.specs.Counted.{device_of};
-ghost use Rattle.cddl_one_rule.specs.Specification.{IsNone, IsRootRule, IsSpecification};
+ghost use Rattle.cddl_specification.specs.Text.{IsTabledText, IsUnreadText};
 ghost use Rattle.seq_run.specs.Judge.{judge_of};
 ghost use Rattle.seq_run.specs.Running.{IsFault, change_of};
 ghost use Rattle.seq_run.specs.declared.running.RunFault.{RunFault as RunFaults};
-ghost use Rattle.cddl_tool.specs.Acting.{specification_of, status_for, status_unread, IsAccepted, IsAnswered, IsCutOff};
+ghost use Rattle.cddl_tool.specs.Acting.{specification_of, status_for, IsAccepted, IsAnswered, IsCutOff, IsRefusedText};
 
 use crate::choice::{Options, Task};
 use crate::lines::{say, say_of_file};
 use crate::status::{BROKEN, FAILED, REFUSED};
 use cbor_item::{Counted, write_bytes};
-use cddl_one_rule::{Unread, read_specification};
+use cddl_specification::{Unread, read_specification};
 use cddl_table::Table;
+use cddl_token::Refusal;
 use seq_run::{End, RunFault, run};
 use std::alloc::Global;
 use std::io::{ErrorKind, Read, Write};
@@ -48,28 +49,28 @@ pub fn read_text<R: Read, E: Write>(
     }
 }
 
-/// Reads the specification: `spec`, or to show a stream `a = any`. Where the options name a root, it is the rule of this
-/// name.
+/// Reads the specification: `spec`, or to show a stream `a = any`. The root is the name that the options give, or the first
+/// rule.
 ///
 /// # Errors
 ///
-/// The exit status, with a line on `err`: [`REFUSED`] where the text is no specification, or its rule is not the root;
-/// [`BROKEN`] where an allocation was refused.
+/// The exit status, with a line on `err`: [`REFUSED`] where the text is no specification, or one that this version does not
+/// take; [`BROKEN`] where an allocation was refused.
 pub fn ready<E: Write>(
     alloc: Global,
     options: &Options,
     spec: &[u8],
     err: &mut Counted<E>,
 ) -> Result<Table, u8>
-    ensures found { IfOk result (IsSpecification (specification_of options.now.task spec.now) (option_map (λ s. string_bytes s) options.now.root)) }
+    ensures found { IfOk result (IsTabledText (specification_of options.now.task spec.now) (option_map (λ s. string_bytes s) options.now.root)) }
     ensures refused { IfErr result (λ status.
-        ((status ≡ REFUSED) × IsNone (specification_of options.now.task spec.now) (option_map (λ s. string_bytes s) options.now.root))
-        ⊎ ((status ≡ BROKEN) × IsRootRule (specification_of options.now.task spec.now) (option_map (λ s. string_bytes s) options.now.root))) }
+        ((status ≡ REFUSED) × IsRefusedText (specification_of options.now.task spec.now) (option_map (λ s. string_bytes s) options.now.root))
+        ⊎ (status ≡ BROKEN)) }
 {
     let text = specification_for(options.task, spec);
     match read_specification(alloc, text, root_of(options)) {
         Ok(table) => Ok(table),
-        Err(why) => Err(say_unread(why, err)),
+        Err(why) => Err(say_unread(alloc, why, err)),
     }
 }
 
@@ -84,22 +85,32 @@ fn root_of(options: &Options) -> Option<&str>
 }
 
 // Says why a text has no table, and answers the status.
-fn say_unread<E: Write>(why: Unread, err: &mut Counted<E>) -> u8
-    ensures { result ≡ status_unread why }
+fn say_unread<E: Write>(alloc: Global, why: Unread, err: &mut Counted<E>) -> u8
+    ensures { (text : List ℕ) (root : Option (List ℕ)) → IsUnreadText text root why → ((result ≡ REFUSED) × IsRefusedText text root) ⊎ (result ≡ BROKEN) }
 {
-    match why {
-        Unread::NotSupported => {
-            say(b"refused: specification not supported yet\n", err);
+    match line_of(alloc, why) {
+        Some(line) => {
+            say(line.as_str().as_bytes(), err);
             REFUSED
         }
-        Unread::NoRoot => {
-            say(b"refused: C5 NoRoot at byte 0\n", err);
-            REFUSED
-        }
-        Unread::Memory => {
+        None => {
             say(b"out of memory\n", err);
             BROKEN
         }
+    }
+}
+
+// The line of a refusal, if there is memory for it.
+fn line_of(alloc: Global, why: Unread) -> Option<String>
+    ensures { IfSome result (λ _. (text : List ℕ) (root : Option (List ℕ)) → IsUnreadText text root why → IsRefusedText text root) }
+{
+    match why {
+        Unread::Refused(fault) => {
+            let refusal = Refusal::At(fault.code, fault.at);
+            format!(in alloc; "{refusal}\n").ok()
+        }
+        Unread::NotYet(at) => format!(in alloc; "refused: C0 NotYet at byte {at}\n").ok(),
+        Unread::Memory => None,
     }
 }
 

@@ -12,3 +12,4 @@ pub use crate::choice::{Options, Task, Use};
 pub use crate::lines::{say, say_of_file};
 pub use crate::status::{BROKEN, FAILED, REFUSED};
 pub use crate::words::options;
+pub use cddl_specification::{Unread, read_specification};

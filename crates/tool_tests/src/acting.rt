@@ -81,10 +81,10 @@ static ROWS: [Row; 10] = [
     },
     Row {
         words: CHECK,
-        spec: b"b = float",
+        spec: b"b = float /",
         stream: b"",
         out: b"",
-        err: b"refused: specification not supported yet\n",
+        err: b"refused: S10 Unexpected at byte 11\n",
         status: 2,
     },
     Row {
@@ -129,10 +129,10 @@ static ROWS: [Row; 10] = [
     },
     Row {
         words: VALIDATE,
-        spec: b"a = float",
+        spec: b"a = {}",
         stream: b"\x17",
         out: b"",
-        err: b"refused: specification not supported yet\n",
+        err: b"refused: C0 NotYet at byte 4\n",
         status: 2,
     },
     Row {

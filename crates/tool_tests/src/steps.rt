@@ -1,10 +1,10 @@
 use cbor_read::Limits;
-use cddl_one_rule::read_specification;
+use cddl_tool::read_specification;
 use seq_run::{Cause, End, end_line, validate_pieces};
 use std::process::Abort;
 use std::test::Fail;
 
-// The type `uint` asks one question of an item.
+// `a = uint` asks four questions of an item: of `a`, of the name in it, of `uint`, and of its type.
 #[test]
 fn ends_where_the_steps_are_spent(rt: HostRuntime) -> Result<(), Fail> {
     let a = rt.alloc();
@@ -16,9 +16,9 @@ fn ends_where_the_steps_are_spent(rt: HostRuntime) -> Result<(), Fail> {
     };
     let piece: Vec<u8> = vec![in a; 1, 2]?;
     let pieces = vec![in a; piece]?;
-    let (end, _) = validate_pieces(a, &table, limits, 1, pieces.as_slice())?;
+    let (end, _) = validate_pieces(a, &table, limits, 4, pieces.as_slice())?;
     assert_eq!(rt; end, End::Clean { items: 2, bytes: 2 });
-    let (end, items) = validate_pieces(a, &table, limits, 0, pieces.as_slice())?;
+    let (end, items) = validate_pieces(a, &table, limits, 3, pieces.as_slice())?;
     let spent = End::Failed {
         items: 0,
         offset: 0,

@@ -7,10 +7,10 @@ use Rattle.cddl_nodes.proofs.Listing.{next_row}
 use Rattle.cddl_nodes.proofs.chosen.add_chosen.Goals as goal
 
 pub loop-entry-init : goal.loop-entry-init
-loop-entry-init c = λ s es src is re ns a. entry_walk_begun s c.args.terms.now es c.deref-entry-items.result.now ns _ re (subst (AlikeAll (EntryRow c.args.terms.now) (entry_list es)) (sym c.deref-entry-items.ensures.value) (c.in-Ok.ensures es is)) a
+loop-entry-init c = λ s es src is re can ns a. entry_walk_begun s c.args.terms.now es c.deref-entry-items.result.now ns _ re can (subst (AlikeAll (EntryRow c.args.terms.now) (entry_list es)) (sym c.deref-entry-items.ensures.value) (c.in-Ok.ensures es is)) a
 
 pub loop-entry-preserved : goal.loop-entry-preserved
-loop-entry-preserved c = λ s es src is re ns a. entry_walk_on s c.args.terms.now (ns ++ names_of_entries s c.args.terms.now es) _ _ _ _ _ c.chosen_entry.result (next_row c.deref-entry-items.result.now c.loop-entry.entry-index c.loop-entry-test.true) c.in_ok-push.ensures (λ e h q. c.chosen_entry.ensures s e src h q) (c.loop-entry.invariant s es src is re ns a)
+loop-entry-preserved c = λ s es src is re can ns a. entry_walk_on s c.args.terms.now (ns ++ names_of_entries s c.args.terms.now es) _ _ _ _ _ c.chosen_entry.result (next_row c.deref-entry-items.result.now c.loop-entry.entry-index c.loop-entry-test.true) c.in_ok-push.ensures (λ e h q may. c.chosen_entry.ensures s e src h q may) (c.loop-entry.invariant s es src is re can ns a)
 
 pub returns : goal.returns
-returns c = λ s es src is re ns a. entry_walk_ended s c.args.terms.now (ns ++ names_of_entries s c.args.terms.now es) _ _ (drop_of_length-le c.deref-entry-items.result.now c.loop-entry-test.false) (c.loop-entry.invariant s es src is re ns a)
+returns c = λ s es src is re can ns a. entry_walk_ended s c.args.terms.now (ns ++ names_of_entries s c.args.terms.now es) _ _ (drop_of_length-le c.deref-entry-items.result.now c.loop-entry-test.false) (c.loop-entry.invariant s es src is re can ns a)

@@ -11,4 +11,4 @@ pub returns-in-Instance : goal.returns-in-Instance
 returns-in-Instance c = IfOk-weaker c.instance_form.result _ _ (λ f h s n src is. instance_case s c.args.terms.now (λ m. IsTypeForm s c.args.terms.now m f) n c.in-Instance.place (subst (IsTypeOrigin s c.args.terms.now n) c.in-Instance.is is) (λ r e. h s c.args.terms.now r src e)) c.instance_form.ensures
 
 pub returns-in-Chosen : goal.returns-in-Chosen
-returns-in-Chosen c = IfOk-weaker c.chosen_form.result _ _ (λ f h s n src is. chosen_case s c.args.terms.now (λ m. IsTypeForm s c.args.terms.now m f) n c.in-Chosen.group (subst (IsTypeOrigin s c.args.terms.now n) c.in-Chosen.is is) (λ ess a re. h s ess src a re)) c.chosen_form.ensures
+returns-in-Chosen c = IfOk-weaker c.chosen_form.result _ _ (λ f h s n src is. chosen_case s c.args.terms.now (λ m. IsTypeForm s c.args.terms.now m f) n c.in-Chosen.group (subst (IsTypeOrigin s c.args.terms.now n) c.in-Chosen.is is) (λ ess a re can. h s ess src a re can)) c.chosen_form.ensures

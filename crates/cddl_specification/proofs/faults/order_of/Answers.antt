@@ -1,5 +1,6 @@
 use Rattle.std.proofs.Common.{sym, subst}
 use Rattle.cddl_language.specs.Faults.{definitions}
+use Rattle.cddl_choosing.specs.Choosing.{AreChoosable}
 use Rattle.cddl_openings.specs.Openings.{AreOpenings}
 use Rattle.cddl_empty.specs.Empty.{AreEmpty}
 use Rattle.cddl_specification.proofs.faults.order_of.Goals as goal
@@ -9,5 +10,6 @@ returns-clause-order c s worth tree root refs reading =
     let kinds = reading.asking.named.kinds in
     let first = subst (AreOpenings (definitions s) c.args.terms.now refs) (sym c.deref.ensures.value) reading.meant.openings in
     let second = subst (AreOpenings (definitions s) c.args.terms.now refs) (sym c.deref-2.ensures.value) reading.meant.openings in
-    let empty = subst (AreEmpty (definitions s) root c.args.terms.now) (sym c.deref-3.ensures.value) (c.in_ok-empty.ensures (definitions s) root refs reading.meant.closed kinds first) in
-    c.in_ok-order.ensures (definitions s) root refs reading.meant.closed kinds second empty
+    let flags = subst (AreChoosable (definitions s) root c.args.terms.now) (sym c.deref-3.ensures.value) reading.meant.choosable in
+    let empty = subst (AreEmpty (definitions s) root c.args.terms.now) (sym c.deref-4.ensures.value) (c.in_ok-empty.ensures (definitions s) root refs reading.meant.closed kinds first) in
+    c.in_ok-order.ensures (definitions s) root refs reading.meant.closed kinds second flags empty

@@ -1,0 +1,57 @@
+use crate::chain::told_of;
+use std::alloc::Global;
+
+/// What is told, by the name of the call, and the text of a specification.
+const ROWS: &str = "names | a b int nint uint | a = [b] b = int
+names | a p p int nint uint | a = [p<int>, p<p<int>>] p<t> = [t]
+types | 1/1 | a = #
+types | 2/1 | a = 1 / 2
+types | 3/1 | a = 1 a /= 2 / 3
+types | 1/1 | a = (1 / 2)
+groups | 1/1 2/2 | a = [g] g = (1, 2 // 3)
+opens | group type - | a = [* ~b] b = #6.1(c) c = #
+parts | type | a = [1]
+literals | 5/true | a = (5)
+literals | -/true | a = 5 / 6
+chooses | yes yes | a = &(g) g = (x: 1, y: 2)
+chooses | yes no | a = [&g] g = (? 1)
+empty | no yes | a = [g] g = (? 1 // 2)
+order | down down | a = [* b] b = #
+order | round round | a = b b = a
+order | round - | a = a / b b = #
+order | round | a = [x: &(~a)]
+order | down down | a = [g] g = (#, ? g)
+order | - round round | a = &(b) b = (y: &(c)) c = (x: &(b))
+asked | from4 whole9 whole12 | a = &(x: 1..2)
+nodes | 3 3 true | a = [5]";
+
+/// The parts of a row.
+fn parts_of(row: &str) -> Option<(&str, &str, &str)> {
+    let (what, rest) = row.split_once(" | ")?;
+    let (wanted, source) = rest.split_once(" | ")?;
+    Some((what, wanted, source))
+}
+
+fn is_right(alloc: Global, row: &str) -> bool {
+    match parts_of(row) {
+        Some((what, wanted, source)) => match told_of(alloc, source, what) {
+            Some(told) => told.as_str().trim_end() == wanted,
+            None => false,
+        },
+        None => false,
+    }
+}
+
+#[test]
+fn tells_of_texts(rt: HostRuntime) {
+    let alloc = rt.alloc();
+    assert!(rt; ROWS.lines().position(|row| !is_right(alloc, row)) == None);
+}
+
+// Run with each allocation refused in turn (`rt try --test --fail-alloc N`), this finds no other answer.
+#[test]
+fn tells_of_a_text_or_wants_memory(rt: HostRuntime) {
+    if let Some(told) = told_of(rt.alloc(), "a = b b = a", "order") {
+        assert!(rt; told.as_str() == "round round ");
+    }
+}

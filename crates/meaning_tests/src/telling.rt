@@ -1,0 +1,225 @@
+use crate::chain::Meant;
+use cddl_closed::{Meaning, alternatives, choices, entries};
+use cddl_literals::literal_row;
+use cddl_nodes::nodes_of;
+use cddl_openings::{Opening, Part, part_of};
+use cddl_reached::Question;
+use cddl_recursion::{Node, Order, Ranks, find_order};
+use cddl_terms::Terms;
+use std::alloc::Global;
+
+/// What is told of the instances of a text, by the name of the call that tells it. They stand in the order in which they are
+/// found, with the root first.
+pub(crate) fn told(alloc: Global, terms: &Terms<'_>, meant: &Meant, what: &str) -> Option<String> {
+    match what {
+        "opens" => of_openings(alloc, meant),
+        "asked" => of_asked(alloc, meant),
+        "order" => order_of(alloc, terms, meant),
+        "nodes" => nodes_in(alloc, terms, meant),
+        _ => of_each(alloc, terms, meant, what),
+    }
+}
+
+/// The word of an instance.
+fn word_of(
+    alloc: Global,
+    terms: &Terms<'_>,
+    meant: &Meant,
+    what: &str,
+    meaning: &Meaning,
+) -> Option<String> {
+    match what {
+        "names" => name_of(alloc, terms, meaning),
+        "types" => types_of(alloc, terms, meaning),
+        "groups" => group_of(alloc, terms, meaning),
+        "parts" => part_in(alloc, terms, meant, meaning),
+        "literals" => literal_in(alloc, terms, meant, meaning),
+        "chooses" => flag_in(alloc, &meant.choosable, meaning.group),
+        _ => flag_in(alloc, &meant.may_be_empty, meaning.group),
+    }
+}
+
+/// A word for each instance, and a space after each.
+fn of_each(alloc: Global, terms: &Terms<'_>, meant: &Meant, what: &str) -> Option<String> {
+    let mut words = String::new(alloc);
+    for meaning in &meant.closed.meanings {
+        let word = word_of(alloc, terms, meant, what, meaning)?;
+        words.push_str(word.as_str()).ok()?;
+        words.push_str(" ").ok()?;
+    }
+    Some(words)
+}
+
+fn text_in(alloc: Global, text: &str) -> Option<String> {
+    format!(in alloc; "{text}").ok()
+}
+
+fn flag_in(alloc: Global, flags: &[bool], row: Option<u32>) -> Option<String> {
+    match row {
+        Some(row) => match flags.get(row as usize) {
+            Some(true) => text_in(alloc, "yes"),
+            _ => text_in(alloc, "no"),
+        },
+        None => text_in(alloc, "-"),
+    }
+}
+
+fn name_of(alloc: Global, terms: &Terms<'_>, meaning: &Meaning) -> Option<String> {
+    let name = terms.row(meaning.call)?.text?;
+    text_in(alloc, terms.text(name)?)
+}
+
+/// How many choices the instance has, and how many its first one has by itself.
+fn types_of(alloc: Global, terms: &Terms<'_>, meaning: &Meaning) -> Option<String> {
+    let count = meaning.types.len();
+    match meaning.types.first() {
+        Some(row) => {
+            let inner = choices(alloc, terms, *row).ok()?.len();
+            format!(in alloc; "{count}/{inner}").ok()
+        }
+        None => format!(in alloc; "{count}").ok(),
+    }
+}
+
+/// How many alternatives the instance has, and how many entries its first one has.
+fn group_of(alloc: Global, terms: &Terms<'_>, meaning: &Meaning) -> Option<String> {
+    let Some(group) = meaning.group else {
+        return text_in(alloc, "-");
+    };
+    let rows = alternatives(alloc, terms, group).ok()?;
+    let count = rows.len();
+    let inner = entries(alloc, terms, *rows.first()?).ok()?.len();
+    format!(in alloc; "{count}/{inner}").ok()
+}
+
+fn of_openings(alloc: Global, meant: &Meant) -> Option<String> {
+    let mut words = String::new(alloc);
+    for opening in &meant.openings {
+        let word = match opening {
+            Opening::Nothing => "- ",
+            Opening::Group(_) => "group ",
+            Opening::Type(_) => "type ",
+        };
+        words.push_str(word).ok()?;
+    }
+    Some(words)
+}
+
+/// What the first choice of the instance is as an entry.
+fn part_in(alloc: Global, terms: &Terms<'_>, meant: &Meant, meaning: &Meaning) -> Option<String> {
+    let Some(row) = meaning.types.first() else {
+        return text_in(alloc, "-");
+    };
+    match part_of(terms, &meant.closed, &meant.kinds, &meant.openings, *row) {
+        Part::AsksType => text_in(alloc, "type"),
+        Part::NamesGroup(place) => format!(in alloc; "group{place}").ok(),
+        Part::Opens(place, _) => format!(in alloc; "opened{place}").ok(),
+    }
+}
+
+/// The value that the instance is, and whether its first choice is one.
+fn literal_in(
+    alloc: Global,
+    terms: &Terms<'_>,
+    meant: &Meant,
+    meaning: &Meaning,
+) -> Option<String> {
+    let place = (*meant.closed.places.get(meaning.call as usize)?)?;
+    let whole = match *meant.literals.get(place as usize)? {
+        Some(row) => terms.text(terms.row(row)?.text?)?,
+        None => "-",
+    };
+    let first = match meaning.types.first() {
+        Some(row) => literal_row(terms, &meant.closed, &meant.literals, *row).is_some(),
+        None => false,
+    };
+    format!(in alloc; "{whole}/{first}").ok()
+}
+
+fn of_asked(alloc: Global, meant: &Meant) -> Option<String> {
+    let mut words = String::new(alloc);
+    for asked in &meant.asked {
+        let sort = match asked.question {
+            Question::ChoosesFrom => "from",
+            Question::ChoosesByName => "name",
+            Question::IsWhole => "whole",
+        };
+        let at = asked.at;
+        let word = format!(in alloc; "{sort}{at} ").ok()?;
+        words.push_str(word.as_str()).ok()?;
+    }
+    Some(words)
+}
+
+/// Whether the ranks of what an instance means, opens and chooses from are within their bound.
+fn are_bounded(ranks: &Ranks, place: u32) -> bool {
+    let most = ranks.bound();
+    ranks.rank(Node::Name(place)) <= most
+        && ranks.rank(Node::Unwrapping(place)) <= most
+        && ranks.rank(Node::Choice(place)) <= most
+        && ranks.rank(Node::OpenedChoice(place)) <= most
+}
+
+/// Whether an instance is above the first of its choices, and this is above the row after it in which `&` would choose.
+fn is_above(ranks: &Ranks, place: u32, meaning: &Meaning) -> bool {
+    match meaning.types.first() {
+        Some(row) => ranks.rank(Node::Row(*row)) < ranks.rank(Node::Name(place)),
+        None => ranks.rank(Node::Name(place)) <= ranks.bound(),
+    }
+}
+
+/// Of each instance whether it is above what it means; or of each whether it comes back to itself.
+fn order_of(alloc: Global, terms: &Terms<'_>, meant: &Meant) -> Option<String> {
+    let order = find_order(
+        alloc,
+        terms,
+        &meant.closed,
+        &meant.kinds,
+        &meant.openings,
+        &meant.choosable,
+        &meant.may_be_empty,
+    )
+    .ok()?;
+    match order {
+        Order::Ranks(ranks) => of_ranks(alloc, meant, &ranks),
+        Order::Cycles(flags) => of_flags(alloc, &flags),
+    }
+}
+
+fn of_ranks(alloc: Global, meant: &Meant, ranks: &Ranks) -> Option<String> {
+    let mut words = String::new(alloc);
+    let mut place: u32 = 0;
+    for meaning in &meant.closed.meanings {
+        let right = are_bounded(ranks, place) && is_above(ranks, place, meaning);
+        words.push_str(if right { "down " } else { "up " }).ok()?;
+        place = place.checked_add(1)?;
+    }
+    Some(words)
+}
+
+fn of_flags(alloc: Global, flags: &[bool]) -> Option<String> {
+    let mut words = String::new(alloc);
+    for flag in flags {
+        words.push_str(if *flag { "round " } else { "- " }).ok()?;
+    }
+    Some(words)
+}
+
+/// How many types and groups are made, and what each type is of.
+fn nodes_in(alloc: Global, terms: &Terms<'_>, meant: &Meant) -> Option<String> {
+    let nodes = nodes_of(
+        alloc,
+        terms,
+        &meant.closed,
+        &meant.kinds,
+        &meant.openings,
+        &meant.literals,
+        &meant.choosable,
+        0,
+    )
+    .ok()?;
+    let types = nodes.types.len();
+    let groups = nodes.groups.len();
+    let same = types == nodes.type_origins.len() && groups == nodes.group_origins.len();
+    format!(in alloc; "{types} {groups} {same}").ok()
+}
