@@ -4,3 +4,6 @@ mod Turns
 mod Decides
 mod Verdicts
 mod Room
+mod Shapes
+mod Behind
+mod Rounds

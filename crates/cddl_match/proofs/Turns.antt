@@ -1,11 +1,12 @@
 -- Each turn keeps what the pending questions lead to.
-use Rattle.std.proofs.Common.{◌≡◌, ℕ, suc, ◌+◌, ◌<◌, List, [], ◌∷◌, ◌++◌, length, map, reverse, refl, ap, subst, ◌∙◌, arith}
+use Rattle.std.proofs.Common.{◌≡◌, ℕ, ◌+◌, ◌≤◌, List, [], ◌∷◌, ◌++◌, length, map, reverse, refl, ap, subst, ◌∙◌, arith}
 use Rattle.std.proofs.lemmas.List.{map-append, reverse-append}
 use Rattle.cddl_meaning.specs.Forms.{Language}
 use Rattle.cddl_meaning.specs.Judges.{Reply}
-use Rattle.cddl_meaning.specs.Moves.{Question, InRef, Move, Answered, Asks, Replies, replies, LeadsTo, at_once, after, first_move, next_move}
+use Rattle.cddl_meaning.specs.Moves.{Question, InRef, Move, Answered, Asks, Replies, LeadsTo, at_once, after, next_move}
 use Rattle.cddl_meaning.specs.Moves as M
 use Rattle.cddl_match.specs.Unwinding.{Unwinds, IsOnTheWay, stack_of}
+use Rattle.cddl_match.specs.Ahead.{ComesTo, Opens}
 use Rattle.cddl_match.specs.Views.{pending_view}
 use Rattle.cddl_match.specs.declared.questions.Pending.{Pending}
 
@@ -31,19 +32,19 @@ module _ {N G : Type 0} (l : Language N G) where
       comes : (r : Reply) (w : ℕ) → Replies l q r w → (u : ℕ) × LeadsTo l (Asks q InRef) r u × (w ≡ 0 + u)
       comes r w d = (w + 0, after d at_once, omega arith)
 
-  -- a question is asked
-  asked_leads : (q : Question N G) (o : M.Pending N G) (os : List (M.Pending N G)) (r : Reply) (u : ℕ) → Unwinds l (o ∷ os) (first_move l q) r u → Unwinds l os (Asks q o) r (suc u)
-  asked_leads q o [] r u (s, v, w, e, f, is) = subst (λ n. LeadsTo l (Asks q o) r n) (omega (arith, is)) (after (replies e) f)
-  asked_leads q o (p ∷ os) r u (s, v, w, e, (t, v2, w2, f, g, is2), is) = (t, suc v + v2, w2, after (replies e) f, g, omega (arith, is, is2))
+  -- a question is asked, and comes to a move
+  asked_leads : {q : Question N G} {m : Move N G} {k : ℕ} → Opens l q m k → (o : M.Pending N G) (os : List (M.Pending N G)) (r : Reply) (u : ℕ) → Unwinds l (o ∷ os) m r u → Unwinds l os (Asks q o) r (k + u)
+  asked_leads {q = q} {k = k} a o [] r u (s, v, w, e, f, is) = subst (λ n. LeadsTo l (Asks q o) r n) (omega (arith, is)) (after (a.leads s v e) f)
+  asked_leads {k = k} a o (p ∷ os) r u (s, v, w, e, (t, v2, w2, f, g, is2), is) = (t, k + v + v2, w2, after (a.leads s v e) f, g, omega (arith, is, is2))
 
-  asked_comes : (q : Question N G) (o : M.Pending N G) (os : List (M.Pending N G)) (r : Reply) (u : ℕ) → Unwinds l os (Asks q o) r u → (n : ℕ) × Unwinds l (o ∷ os) (first_move l q) r n × (u ≡ suc n)
-  asked_comes q o [] r u (after {s = s} {w = w} (replies {w = v} e) f) = (v + w, (s, v, w, e, f, refl), omega arith)
-  asked_comes q o (p ∷ os) r u (t, x, w2, after {s = s} {w = w} (replies {w = v} e) f, g, is) = (v + (w + w2), (s, v, w + w2, e, (t, w, w2, f, g, refl), refl), omega (arith, is))
+  asked_comes : {q : Question N G} {m : Move N G} {k : ℕ} → Opens l q m k → (o : M.Pending N G) (os : List (M.Pending N G)) (r : Reply) (u : ℕ) → Unwinds l os (Asks q o) r u → (n : ℕ) × Unwinds l (o ∷ os) m r n × (u ≡ k + n)
+  asked_comes a o [] r u (after {s = s} {v = v} {w = w} e f) = let x = a.comes s v e in (x.0 + w, (s, x.0, w, x.1, f, refl), omega (arith, x.2))
+  asked_comes a o (p ∷ os) r u (t, y, w2, after {s = s} {v = v} {w = w} e f, g, is) = let x = a.comes s v e in (x.0 + (w + w2), (s, x.0, w + w2, x.1, (t, w, w2, f, g, refl), refl), omega (arith, is, x.2))
 
-  pub asked : {first : Question N G} {taken : ℕ} {os : List (M.Pending N G)} {q : Question N G} {o : M.Pending N G} → IsOnTheWay l first taken os (Asks q o) → IsOnTheWay l first (taken + 1) (o ∷ os) (first_move l q)
-  asked {first = first} {taken = taken} {os = os} {q = q} {o = o} old = record {
-    leads = λ r u d. subst (λ n. Replies l first r n) (omega arith) (old.leads r (suc u) (asked_leads q o os r u d));
-    comes = λ r w d. let c = old.comes r w d in let a = asked_comes q o os r c.0 c.1 in (a.0, a.1, omega (arith, a.2, c.2));
+  pub asked : {first : Question N G} {taken k : ℕ} {os : List (M.Pending N G)} {q : Question N G} {o : M.Pending N G} {m : Move N G} → Opens l q m k → IsOnTheWay l first taken os (Asks q o) → IsOnTheWay l first (taken + k) (o ∷ os) m
+  asked {first = first} {os = os} {o = o} a old = record {
+    leads = λ r u d. subst (λ n. Replies l first r n) (omega arith) (old.leads r _ (asked_leads a o os r u d));
+    comes = λ r w d. let c = old.comes r w d in let x = asked_comes a o os r c.0 c.1 in (x.0, x.1, omega (arith, x.2, c.2));
   }
 
   -- a question is answered, and the one that asked it goes on
@@ -60,6 +61,21 @@ module _ {N G : Type 0} (l : Language N G) where
   pub finished : {first : Question N G} {taken : ℕ} {s : Reply} → IsOnTheWay l first taken [] (Answered s) → Replies l first s taken
   finished {first = first} {taken = taken} {s = s} old = subst (λ n. Replies l first s n) (omega arith) (old.leads s 0 at_once)
 
-  -- one more question is asked in any case
-  pub heavier : {first : Question N G} {taken : ℕ} {os : List (M.Pending N G)} {q : Question N G} {o : M.Pending N G} → IsOnTheWay l first taken os (Asks q o) → (r : Reply) (w : ℕ) → Replies l first r w → taken < w
-  heavier {os = os} {q = q} {o = o} old r w d = let c = old.comes r w d in let a = asked_comes q o os r c.0 c.1 in omega (arith, a.2, c.2)
+  -- so many questions more are asked in any case
+  pub heavier : {first : Question N G} {taken k : ℕ} {os : List (M.Pending N G)} {q : Question N G} {o : M.Pending N G} {m : Move N G} → Opens l q m k → IsOnTheWay l first taken os (Asks q o) → (r : Reply) (w : ℕ) → Replies l first r w → taken + k ≤ w
+  heavier {os = os} {o = o} a old r w d = let c = old.comes r w d in let x = asked_comes a o os r c.0 c.1 in omega (arith, x.2, c.2)
+
+  -- a move comes to another
+  go_leads : {m n : Move N G} {k : ℕ} → ComesTo l m n k → (os : List (M.Pending N G)) (r : Reply) (u : ℕ) → Unwinds l os n r u → Unwinds l os m r (k + u)
+  go_leads a [] r u d = a.leads r u d
+  go_leads a (o ∷ os) r u (s, v, w, d, f, is) = (s, _, w, a.leads s v d, f, omega (arith, is))
+
+  go_comes : {m n : Move N G} {k : ℕ} → ComesTo l m n k → (os : List (M.Pending N G)) (r : Reply) (u : ℕ) → Unwinds l os m r u → (v : ℕ) × Unwinds l os n r v × (u ≡ k + v)
+  go_comes a [] r u d = a.comes r u d
+  go_comes a (o ∷ os) r u (s, v, w, d, f, is) = let x = a.comes s v d in (x.0 + w, (s, x.0, w, x.1, f, refl), omega (arith, is, x.2))
+
+  pub gone_on : {first : Question N G} {taken k : ℕ} {os : List (M.Pending N G)} {m n : Move N G} → ComesTo l m n k → IsOnTheWay l first taken os m → IsOnTheWay l first (taken + k) os n
+  gone_on {first = first} {os = os} a old = record {
+    leads = λ r u d. subst (λ n. Replies l first r n) (omega arith) (old.leads r _ (go_leads a os r u d));
+    comes = λ r w d. let c = old.comes r w d in let x = go_comes a os r c.0 c.1 in (x.0, x.1, omega (arith, x.2, c.2));
+  }

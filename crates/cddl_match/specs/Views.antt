@@ -1,5 +1,5 @@
 -- What the code's questions, replies and frames stand for.
-use Rattle.std.specs.Prelude.{List, map}
+use Rattle.std.specs.Prelude.{ℕ, List, map, Bool, true, false}
 use Rattle.cbor_data.specs.Value.{Value, uint}
 use Rattle.cbor_item.specs.View.{view}
 use Rattle.cbor_item.specs.declared.item.Item.{Item}
@@ -16,8 +16,9 @@ use Rattle.cddl_match.specs.declared.questions.Reply.{Reply}
 use Rattle.cddl_match.specs.declared.questions.Reply.TheVariants.{Takes, Fails}
 use Rattle.cddl_match.specs.declared.questions.Pending.{Pending}
 use Rattle.cddl_match.specs.declared.questions.Pending.TheVariants as P
+use Rattle.cddl_match.specs.declared.questions.Rounds.{Rounds}
 use Rattle.cddl_match.specs.declared.questions.Move.{Move}
-use Rattle.cddl_match.specs.declared.questions.Move.TheVariants.{Answered, Asks}
+use Rattle.cddl_match.specs.declared.questions.Move.TheVariants.{Answered, Asks, Repeats}
 use Rattle.cddl_match.specs.declared.answers.Verdict.{Verdict}
 use Rattle.cddl_match.specs.declared.answers.Verdict.TheVariants.{Yes, No}
 
@@ -48,11 +49,26 @@ pending_view (P.Simple p) = M.InSimple p
 pending_view (P.Entry base xs) = M.InEntry base (values xs.now)
 pending_view (P.Sequence gs base far) = M.InSequence gs.now base far
 pending_view (P.Alternatives gs base q xs far) = M.InAlternatives gs.now base q (values xs.now) far
-pending_view (P.Repeat least most g base q xs far) = M.InRepeat least (most_view most) g base q (values xs.now) far
+pending_view (P.Repeat r) = M.InRepeat r.least (most_view r.most) r.group r.base r.place (values r.items.now) r.far
+
+abbrev pub rounds_move : Rounds → M.Move TypeId GroupId
+rounds_move r = M.repetition r.least (most_view r.most) r.group r.base r.place (values r.items.now) r.far
 
 abbrev pub move_view : Move → M.Move TypeId GroupId
 move_view (Answered r) = M.Answered (reply_view r)
 move_view (Asks q o) = M.Asks (question_view q) (pending_view o)
+move_view (Repeats r) = rounds_move r
+
+-- whether a move is of rounds, of which none was asked yet
+abbrev pub is_rounds : Move → Bool
+is_rounds (Answered r) = false
+is_rounds (Asks q o) = false
+is_rounds (Repeats r) = true
+
+-- The turns that a move takes before something is asked or answered.
+abbrev pub turns_of : Bool → ℕ
+turns_of true = 1
+turns_of false = 0
 
 -- what a type's reply says
 abbrev pub verdict_of : J.Reply → Verdict

@@ -10,7 +10,8 @@ ghost use Rattle.cddl_ranks.specs.Decided.{IsDecided};
 ghost use Rattle.cddl_table.specs.Language.{RootSays, language_of, root_form};
 
 use crate::answers::Verdict;
-use crate::moves::{first_move, next_move};
+use crate::looking::{Ahead, look_ahead, rounds_ahead};
+use crate::moves::next_move;
 use crate::questions::{Move, Pending, Question, Reply, Subject};
 use cbor_item::{Item, Sound};
 use cddl_table::{Table, TypeId};
@@ -44,13 +45,24 @@ pub fn verdict(
     loop {
         match next {
             Move::Asks(question, pending) => {
-                // One question more would be one too many.
-                if left == 0 {
+                let Ahead { next: first, asked } = look_ahead(table, question);
+                // The question takes at least so many.
+                if left < asked {
                     return Ok(Verdict::Spent);
                 }
-                left -= 1;
-                waiting.push(pending)?;
-                next = first_move(table, question);
+                left -= asked;
+                next = match first {
+                    Move::Answered(reply) => next_move(pending, reply),
+                    _ => {
+                        waiting.push(pending)?;
+                        first
+                    }
+                };
+            }
+            Move::Repeats(rounds) => {
+                let Ahead { next: first, asked } = rounds_ahead(table, rounds, left);
+                left -= asked;
+                next = first;
             }
             Move::Answered(reply) => match waiting.pop() {
                 None => return Ok(verdict_of(reply)),

@@ -4,6 +4,7 @@
 mod answers;
 mod judging;
 mod laws;
+mod looking;
 mod moves;
 mod places;
 mod questions;

@@ -1,16 +1,15 @@
 //! What is asked next, one small step for each form of type and group.
 
-ghost use Rattle.std.specs.Prelude.{◌≡◌, true};
+ghost use Rattle.std.specs.Prelude.{◌≡◌, false, true};
 ghost use Rattle.cbor_item.specs.View.{view};
 ghost use Rattle.cddl_meaning.specs.Judges.{is_over, one_less};
 ghost use Rattle.cddl_meaning.specs.Forms.{members_in, tag_in, simple_in, passes};
-ghost use Rattle.cddl_meaning.specs.Moves as M;
 ghost use Rattle.cddl_meaning.specs.Moves.{
+  Answered,
   InAlternatives,
   InChoice,
   InEntry,
   InHead,
-  InRepeat,
   InSequence,
   InSimple,
   array_move,
@@ -24,19 +23,22 @@ ghost use Rattle.cddl_meaning.specs.Moves.{
   next_member,
   next_move,
   next_part,
-  repetition,
   simple_move,
   tag_move,
   test_reply,
   type_move,
   yes_reply,
 };
-ghost use Rattle.cddl_match.specs.Views.{question_view, pending_view, move_view, reply_view, subject_view, values};
+ghost use Rattle.cddl_match.specs.Views.{is_rounds, question_view, pending_view, move_view, reply_view, rounds_move, subject_view, values};
+ghost use Rattle.cddl_match.specs.declared.questions.Pending.TheVariants as P;
+ghost use Rattle.cddl_match.specs.declared.questions.Rounds.{Rounds};
+ghost use Rattle.cddl_table.specs.declared.nodes.GroupId.{GroupId};
+ghost use Rattle.cddl_table.specs.declared.nodes.TypeId.{TypeId};
 ghost use Rattle.cddl_table.specs.Language.{language_of};
 ghost use Rattle.cddl_table.specs.Nodes.{group_view, most_view, tag_number_view, test_view, type_view};
 
 use crate::places::{place_after, plus};
-use crate::questions::{Move, Pending, Question, Reply, Subject};
+use crate::questions::{Move, Pending, Question, Reply, Rounds, Subject};
 use crate::tested::passes;
 use cbor_item::Item;
 use cddl_table::{Group, GroupId, Most, Node, Table, TagNumber, Test, TypeId};
@@ -67,13 +69,13 @@ fn passes_test(test: &Test, subject: Subject<'_>) -> bool
 }
 
 /// What a test replies: it fails at the item.
-fn test_move<'t, 'i>(test: &Test, place: usize, subject: Subject<'i>) -> Move<'t, 'i>
-    ensures { move_view result ≡ M.Answered (test_reply place (subject_view subject.entry) (passes (test_view test.now) (subject_view subject.entry))) }
+pub(crate) fn test_reply<'i>(test: &Test, place: usize, subject: Subject<'i>) -> Reply<'i>
+    ensures { reply_view result ≡ test_reply place (subject_view subject.entry) (passes (test_view test.now) (subject_view subject.entry)) }
 {
     if passes_test(test, subject) {
-        Move::Answered(yes_reply(place, subject))
+        yes_reply(place, subject)
     } else {
-        Move::Answered(Reply::Fails { far: place })
+        Reply::Fails { far: place }
     }
 }
 
@@ -167,7 +169,7 @@ fn next_alternative<'t, 'i>(
 }
 
 /// Whether no round may follow.
-fn is_over(most: Most) -> bool
+pub(crate) fn is_over(most: Most) -> bool
     ensures { result ≡ is_over (most_view most) }
 {
     matches!(most, Most::AtMost(0))
@@ -184,22 +186,22 @@ fn one_less(most: Most) -> Most
 }
 
 /// Another round of a repetition, unless there were as many as may be.
-fn repetition<'t, 'i>(
-    least: u64,
-    most: Most,
-    group: GroupId,
-    base: usize,
-    place: usize,
-    items: &'i [Item],
-    far: usize,
-) -> Move<'t, 'i>
-    ensures { move_view result ≡ repetition least (most_view most) group base place (values items.now) far }
+pub(crate) fn another_round<'t, 'i>(rounds: Rounds<'i>) -> Move<'t, 'i>
+    ensures asks { move_view result ≡ rounds_move rounds.entry }
+    ensures turns { is_rounds result ≡ false }
 {
-    if is_over(most) {
+    let Rounds {
+        group,
+        base,
+        place,
+        items,
+        ..
+    } = rounds;
+    if is_over(rounds.most) {
         return Move::Answered(Reply::Takes {
             left: items,
             next: place,
-            far,
+            far: rounds.far,
         });
     }
     Move::Asks(
@@ -209,15 +211,7 @@ fn repetition<'t, 'i>(
             place,
             items,
         },
-        Pending::Repeat {
-            least,
-            most,
-            group,
-            base,
-            place,
-            items,
-            far,
-        },
+        Pending::Repeat(rounds),
     )
 }
 
@@ -326,7 +320,7 @@ fn type_move<'t, 'i>(node: &'t Node, place: usize, subject: Subject<'i>) -> Move
     ensures { move_view result ≡ type_move (type_view node.now) place (subject_view subject.entry) }
 {
     match node {
-        Node::Plain(test) => return test_move(test, place, subject),
+        Node::Plain(test) => return Move::Answered(test_reply(test, place, subject)),
         Node::Ref(to) => return Move::Asks(
             Question::OfType {
                 node: *to,
@@ -384,7 +378,15 @@ fn group_move<'t, 'i>(
         Group::Sequence(parts) => return next_part(parts, base, place, items, base),
         Group::Alternatives(parts) => return next_alternative(parts, base, place, items, base),
         Group::Repeat { least, most, group } => {
-            return repetition(*least, *most, *group, base, place, items, base)
+            return Move::Repeats(Rounds {
+                least: *least,
+                most: *most,
+                group: *group,
+                base,
+                place,
+                items,
+                far: base,
+            })
         }
     }
 }
@@ -542,39 +544,31 @@ fn next_in_alternatives<'t, 'i>(
 }
 
 /// A round has failed: so does the repetition, unless there were enough rounds.
-fn end_of_rounds<'t, 'i>(least: u64, items: &'i [Item], place: usize, far: usize) -> Move<'t, 'i>
-    ensures { move_view result ≡ end_of_rounds least (values items.now) place far }
+fn end_of_rounds<'i>(least: u64, items: &'i [Item], place: usize, far: usize) -> Reply<'i>
+    ensures { Answered (reply_view result) ≡ end_of_rounds {N = TypeId} {G = GroupId} least (values items.now) place far }
 {
     if least > 0 {
-        return Move::Answered(Reply::Fails { far });
+        return Reply::Fails { far };
     }
-    Move::Answered(Reply::Takes {
+    Reply::Takes {
         left: items,
         next: place,
         far,
-    })
+    }
 }
 
 /// A round has taken items, or failed.
-fn next_in_repeat<'t, 'i>(
-    least: u64,
-    most: Most,
-    group: GroupId,
-    base: usize,
-    place: usize,
-    items: &'i [Item],
-    far: usize,
-    reply: Reply<'i>,
-) -> Move<'t, 'i>
-    ensures { move_view result ≡ next_move (InRepeat least (most_view most) group base place (values items.now) far) (reply_view reply.entry) }
+pub(crate) fn next_in_repeat<'t, 'i>(rounds: Rounds<'i>, reply: Reply<'i>) -> Move<'t, 'i>
+    ensures next { move_view result ≡ next_move (pending_view (P.Repeat rounds.entry)) (reply_view reply.entry) }
+    ensures group { (others : Rounds) → result ≡ Move.Repeats others → others.group ≡ rounds.entry.group }
 {
+    let Rounds { place, items, .. } = rounds;
     let (left, next, far) = match reply {
-        Reply::Fails { far: later } => return end_of_rounds(least, items, place, far.max(later)),
-        Reply::Takes {
-            left,
-            next,
-            far: later,
-        } => (left, next, far.max(later)),
+        Reply::Fails { far } => {
+            let far = rounds.far.max(far);
+            return Move::Answered(end_of_rounds(rounds.least, items, place, far));
+        }
+        Reply::Takes { left, next, far } => (left, next, rounds.far.max(far)),
     };
     // All rounds from here on would take no item either, so the minimum is met, and the repetition ends.
     if left.len() == items.len() {
@@ -584,8 +578,14 @@ fn next_in_repeat<'t, 'i>(
             far,
         });
     }
-    let least = least.saturating_sub(1);
-    repetition(least, one_less(most), group, base, next, left, far)
+    Move::Repeats(Rounds {
+        least: rounds.least.saturating_sub(1),
+        most: one_less(rounds.most),
+        place: next,
+        items: left,
+        far,
+        ..rounds
+    })
 }
 
 /// What a pending question asks next, or its reply, once it is told the reply to what it asked.
@@ -616,14 +616,6 @@ pub(crate) fn next_move<'t, 'i>(pending: Pending<'t, 'i>, reply: Reply<'i>) -> M
             items,
             far,
         } => return next_in_alternatives(parts, base, place, items, far, reply),
-        Pending::Repeat {
-            least,
-            most,
-            group,
-            base,
-            place,
-            items,
-            far,
-        } => return next_in_repeat(least, most, group, base, place, items, far, reply),
+        Pending::Repeat(rounds) => return next_in_repeat(rounds, reply),
     }
 }

@@ -89,16 +89,23 @@ pub(crate) enum Pending<'t, 'i> {
         items: &'i [Item],
         far: usize,
     },
-    /// A repetition, and how many more rounds it takes at least and at most, with the one that was asked about.
-    Repeat {
-        least: u64,
-        most: Most,
-        group: GroupId,
-        base: usize,
-        place: usize,
-        items: &'i [Item],
-        far: usize,
-    },
+    /// A repetition, and the rounds that are left, with the one that was asked about.
+    Repeat(Rounds<'i>),
+}
+
+/// How many more rounds of a group a repetition takes, and of what.
+#[derive(Clone, Copy)]
+pub(crate) struct Rounds<'i> {
+    pub(crate) least: u64,
+    pub(crate) most: Most,
+    pub(crate) group: GroupId,
+    /// The place of the array.
+    pub(crate) base: usize,
+    /// The place of the first of the items.
+    pub(crate) place: usize,
+    pub(crate) items: &'i [Item],
+    /// The greatest place that failed so far.
+    pub(crate) far: usize,
 }
 
 /// Either the reply, or what is asked first.
@@ -107,4 +114,6 @@ pub(crate) enum Move<'t, 'i> {
     Answered(Reply<'i>),
     /// What is asked, and what waits for its reply.
     Asks(Question<'i>, Pending<'t, 'i>),
+    /// The group of another round, unless there were as many as may be.
+    Repeats(Rounds<'i>),
 }

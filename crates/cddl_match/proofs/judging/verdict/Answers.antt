@@ -2,7 +2,7 @@ use Rattle.std.proofs.Common.{◌≡◌, [], sym, ◌∙◌, arith}
 use Rattle.cddl_table.specs.Language.{language_of, root_of}
 use Rattle.cddl_meaning.specs.Moves.{OfType}
 use Rattle.cddl_meaning.proofs.Lemmas.{said}
-use Rattle.cddl_match.proofs.Turns.{begun, asked, answered, finished, heavier, in_steps, stack_push, none_left}
+use Rattle.cddl_match.proofs.Turns.{begun, asked, answered, finished, gone_on, heavier, in_steps, stack_push, none_left}
 use Rattle.cddl_match.proofs.Decides.{decides}
 use Rattle.cddl_match.proofs.Verdicts.{said_yes, said_no}
 use Rattle.cddl_match.proofs.Room.{room}
@@ -14,26 +14,46 @@ loop-next-init c = record {
   leads = rw (c.new-waiting.ensures.items, c.first_question.ensures, c.item.ensures.same, c.root.ensures) (in_steps (omega arith) (begun (language_of c.args.table.now) (OfType (root_of c.args.table.now) 0 c.args.item.now)));
 }
 
-pub returns-then-left-eq0-clause-spent : goal.returns-then-left-eq0-clause-spent
-returns-then-left-eq0-clause-spent c = λ e a w d.
+pub returns-then-left-asked-clause-spent : goal.returns-then-left-asked-clause-spent
+returns-then-left-asked-clause-spent c = λ e a w d.
     let i = rw c.in-Asks.is at c.loop-next.invariant.leads in
-    let h = heavier (language_of c.args.table.now) i _ w (said (language_of c.args.table.now) (room c.args.item.now c.item.ensures.sound) d) in
-    omega (arith, h, c.if-left-eq0.true)
+    let h = heavier (language_of c.args.table.now) c.look_ahead-asked.ensures.0 i _ w (said (language_of c.args.table.now) (room c.args.item.now c.item.ensures.sound) d) in
+    omega (arith, h, c.if-left-asked.true, c.loop-next.invariant.within)
 
-pub loop-next-preserved-in-Asks : goal.loop-next-preserved-in-Asks
-loop-next-preserved-in-Asks c =
+pub loop-next-preserved-in-Answered-first : goal.loop-next-preserved-in-Answered-first
+loop-next-preserved-in-Answered-first c =
+    let i = rw c.in-Asks.is at c.loop-next.invariant.leads in
+    let o = rw c.in-Answered-first.is at c.look_ahead-asked.ensures.0 in
+    record {
+      within = omega (arith, c.loop-next.invariant.within);
+      leads = rw c.next_move-next.ensures (in_steps (omega (arith, c.loop-next.invariant.within, c.if-left-asked.false)) (answered (language_of c.args.table.now) (asked (language_of c.args.table.now) o i)));
+    }
+
+pub loop-next-preserved-in_ok-push-in_default : goal.loop-next-preserved-in_ok-push-in_default
+loop-next-preserved-in_ok-push-in_default c =
     let i = rw c.in-Asks.is at c.loop-next.invariant.leads in
     record {
       within = omega (arith, c.loop-next.invariant.within);
-      leads = rw (c.in_ok-push-in-Asks.ensures.items, stack_push, c.first_move-next.ensures) (in_steps (omega (arith, c.loop-next.invariant.within, c.if-left-eq0.false)) (asked (language_of c.args.table.now) i));
+      leads = rw (c.in_ok-push-in_default.ensures.items, stack_push) (in_steps (omega (arith, c.loop-next.invariant.within, c.if-left-asked.false)) (asked (language_of c.args.table.now) c.look_ahead-asked.ensures.0 i));
     }
+
+pub loop-next-preserved-in-Repeats : goal.loop-next-preserved-in-Repeats
+loop-next-preserved-in-Repeats c =
+    let i = rw c.in-Repeats.is at c.loop-next.invariant.leads in
+    record {
+      within = omega (arith, c.loop-next.invariant.within);
+      leads = in_steps (omega (arith, c.loop-next.invariant.within, c.rounds_ahead-asked.ensures.within)) (gone_on (language_of c.args.table.now) c.rounds_ahead-asked.ensures.comes i);
+    }
+
+pub loop-next-smaller-in-Repeats : goal.loop-next-smaller-in-Repeats
+loop-next-smaller-in-Repeats c = rw (c.in-Repeats.is, c.rounds_ahead-asked.ensures.turns) (omega arith)
 
 pub loop-next-preserved : goal.loop-next-preserved
 loop-next-preserved c =
     let i = rw (c.in-Answered.is, c.in-Some.ensures.items, stack_push) at c.loop-next.invariant.leads in
     record {
       within = c.loop-next.invariant.within;
-      leads = rw c.next_move-next.ensures (answered (language_of c.args.table.now) i);
+      leads = rw c.next_move-next-in-Some.ensures (answered (language_of c.args.table.now) i);
     }
 
 pub returns-in-None-clause-yes : goal.returns-in-None-clause-yes
@@ -48,11 +68,11 @@ returns-in-None-clause-no c = λ place e.
     let d = finished (language_of c.args.table.now) (rw (c.in-Answered.is, empty) at c.loop-next.invariant.leads) in
     (_, said_no (language_of c.args.table.now) _ (room c.args.item.now c.item.ensures.sound) (sym c.verdict_of.ensures ∙ cc e) d, omega arith)
 
-pub returns-then-left-eq0-clause-decided : goal.returns-then-left-eq0-clause-decided
-returns-then-left-eq0-clause-decided c = decides c.args.table.now c.args.item.now (room c.args.item.now c.item.ensures.sound)
+pub returns-then-left-asked-clause-decided : goal.returns-then-left-asked-clause-decided
+returns-then-left-asked-clause-decided c = decides c.args.table.now c.args.item.now (room c.args.item.now c.item.ensures.sound)
 
-pub returns-in_err-push-in-Asks-clause-decided : goal.returns-in_err-push-in-Asks-clause-decided
-returns-in_err-push-in-Asks-clause-decided c = decides c.args.table.now c.args.item.now (room c.args.item.now c.item.ensures.sound)
+pub returns-in_err-push-in_default-clause-decided : goal.returns-in_err-push-in_default-clause-decided
+returns-in_err-push-in_default-clause-decided c = decides c.args.table.now c.args.item.now (room c.args.item.now c.item.ensures.sound)
 
 pub returns-in-None-clause-decided : goal.returns-in-None-clause-decided
 returns-in-None-clause-decided c = decides c.args.table.now c.args.item.now (room c.args.item.now c.item.ensures.sound)

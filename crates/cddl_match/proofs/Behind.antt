@@ -1,0 +1,156 @@
+-- Names, choices of one and groups of one group reply as what is behind them.
+use Rattle.std.proofs.Common.{◌≡◌, ℕ, suc, ◌+◌, ◌<◌, ◌≤◌, ◌^◌, max, List, [], ◌∷◌, Option, Some, None, IfSome, Bool, true, false, refl, ap, sym, subst, ◌∙◌, arith}
+use Rattle.cbor_data.specs.Value.{Value}
+use Rattle.cddl_meaning.specs.Forms.{Language, Test, passes, Node, Plain, Ref, Choice, Group, Entry, GroupRef, Sequence, Alternatives, Most}
+use Rattle.cddl_meaning.specs.Judges.{Reply, Takes, Fails, is_over}
+use Rattle.cddl_meaning.specs.Moves as M
+use Rattle.cddl_meaning.specs.Moves.{Question, OfType, OfGroup, InRef, InChoice, InEntry, InSequence, InAlternatives, InRepeat, Move, Answered, Asks, Replies, replies, LeadsTo, at_once, after, first_move, type_move, group_move, next_move, next_round, repetition, test_reply}
+use Rattle.cddl_match.specs.Ahead.{ComesTo, Opens, AsksOn, IsTypeOf, IsGroupOf, IsLeaf, entry_reply, leaf_reply, leaf_asked}
+use Rattle.cddl_match.proofs.Shapes.{far_of, group_shape, IsTypeReply, says_yes, says_no, type_shape}
+
+module _ {N G : Type 0} (l : Language N G) where
+  -- nothing is asked yet
+  pub itself : (q : Question N G) → AsksOn l q q 0
+  itself q = record { leads = λ r w d. subst (λ n. Replies l q r n) (omega arith) d; comes = λ r w d. (w, d, omega arith) }
+
+  pub stays : (m : Move N G) → ComesTo l m m 0
+  stays m = record { leads = λ r w d. subst (λ n. LeadsTo l m r n) (omega arith) d; comes = λ r w d. (w, d, omega arith) }
+
+  pub further : {p q s : Question N G} {j k n : ℕ} → AsksOn l p q j → AsksOn l q s k → n ≡ j + k → AsksOn l p s n
+  further {p = p} {j = j} {k = k} a b e = record {
+    leads = λ r w d. subst (λ n. Replies l p r n) (omega (arith, e)) (a.leads r (k + w) (b.leads r w d));
+    comes = λ r w d. let x = a.comes r w d in let y = b.comes r x.0 x.1 in (y.0, y.1, omega (arith, x.2, y.2, e));
+  }
+
+  pub and_on : {m n o : Move N G} {j k i : ℕ} → ComesTo l m n j → ComesTo l n o k → i ≡ j + k → ComesTo l m o i
+  and_on {m = m} {j = j} {k = k} a b e = record {
+    leads = λ r w d. subst (λ n. LeadsTo l m r n) (omega (arith, e)) (a.leads r (k + w) (b.leads r w d));
+    comes = λ r w d. let x = a.comes r w d in let y = b.comes r x.0 x.1 in (y.0, y.1, omega (arith, x.2, y.2, e));
+  }
+
+  pub and_opens : {p q : Question N G} {m : Move N G} {j k n : ℕ} → AsksOn l p q j → Opens l q m k → n ≡ j + k → Opens l p m n
+  and_opens {p = p} {j = j} {k = k} a b e = record {
+    leads = λ r w d. subst (λ n. Replies l p r n) (omega (arith, e)) (a.leads r (k + w) (b.leads r w d));
+    comes = λ r w d. let x = a.comes r w d in let y = b.comes r x.0 x.1 in (y.0, y.1, omega (arith, x.2, y.2, e));
+  }
+
+  -- its first move
+  pub opens : (q : Question N G) → Opens l q (first_move l q) 1
+  opens q = record { leads = λ r w d. subst (λ n. Replies l q r n) (omega arith) (replies d); comes = λ r w d. opened d }
+    where
+      opened : {r : Reply} {w : ℕ} → Replies l q r w → (v : ℕ) × LeadsTo l (first_move l q) r v × (w ≡ 1 + v)
+      opened (replies {w = v} d) = (v, d, omega arith)
+
+  -- the reply is known, and the one that asked goes on
+  pub answers : {q : Question N G} {s : Reply} {k : ℕ} (o : M.Pending N G) → Opens l q (Answered s) k → ComesTo l (Asks q o) (next_move o s) k
+  answers {q = q} {s = s} {k = k} o a = record {
+    leads = λ r w d. subst (λ n. LeadsTo l (Asks q o) r n) (omega arith) (after (a.leads s 0 at_once) d);
+    comes = λ r w d. goes_on d;
+  }
+    where
+      same : {t r : Reply} {v w : ℕ} → LeadsTo l (Answered s) t v → LeadsTo l (next_move o t) r w → LeadsTo l (next_move o s) r w × (v ≡ 0)
+      same at_once f = (f, refl)
+
+      goes_on : {r : Reply} {u : ℕ} → LeadsTo l (Asks q o) r u → (w : ℕ) × LeadsTo l (next_move o s) r w × (u ≡ k + w)
+      goes_on (after {s = t} {v = v} {w = w} d f) =
+          let x = a.comes t v d in
+          let y = same x.1 f in
+          (w, y.0, omega (arith, x.2, y.1))
+
+  -- A question whose first move asks another one, and then replies so as that does.
+  asks_on : {p q : Question N G} {o : M.Pending N G} → first_move l p ≡ Asks q o → ((r : Reply) (w : ℕ) → Replies l q r w → next_move o r ≡ Answered r) → AsksOn l p q 1
+  asks_on {p = p} {q = q} {o = o} e h = record {
+    leads = λ r w d. subst (λ n. Replies l p r n) (omega arith) (replies (subst (λ m. LeadsTo l m r (w + 0)) (sym e) (after d (subst (λ m. LeadsTo l m r 0) (sym (h r w d)) at_once))));
+    comes = λ r w d. behind d;
+  }
+    where
+      told : {s r : Reply} {v : ℕ} → LeadsTo l (Answered s) r v → (s ≡ r) × (v ≡ 0)
+      told at_once = (refl, refl)
+
+      asked : {r : Reply} {w : ℕ} → LeadsTo l (Asks q o) r w → (v : ℕ) × Replies l q r v × (suc w ≡ 1 + v)
+      asked {r = r} (after {s = s} {v = v} {w = w} d f) =
+          let t = told (subst (λ m. LeadsTo l m r w) (h s v d) f) in
+          (v, subst (λ s. Replies l q s v) t.0 d, omega (arith, t.1))
+
+      behind : {r : Reply} {w : ℕ} → Replies l p r w → (v : ℕ) × Replies l q r v × (w ≡ 1 + v)
+      behind {r = r} (replies {w = w} d) = asked (subst (λ m. LeadsTo l m r w) e d)
+
+  pub by_ref : {n m : N} → l.type_at n ≡ Ref m → IsTypeOf l n m 1
+  by_ref e p x h = asks_on (ap (λ f. type_move f p x) e) (λ r w d. refl)
+
+  pub by_choice : {n m : N} → l.type_at n ≡ Choice (m ∷ []) → IsTypeOf l n m 1
+  by_choice {m = m} e p x h = asks_on (ap (λ f. type_move f p x) e) (λ r w d. alone (type_shape l h d))
+    where
+      alone : {r : Reply} → IsTypeReply p r → next_move {N = N} {G = G} (InChoice [] p x p) r ≡ Answered r
+      alone says_yes = refl
+      alone (says_no {far = far} i) = ap (λ k. Answered (Fails k)) (omega (arith, i))
+
+  pub by_group_ref : {g h : G} → l.group_at g ≡ GroupRef h → IsGroupOf l g h 1
+  by_group_ref e base q xs = asks_on (ap (λ f. group_move f base q xs) e) (λ r w d. refl)
+
+  pub by_sequence : {g h : G} → l.group_at g ≡ Sequence (h ∷ []) → IsGroupOf l g h 1
+  by_sequence e base q xs = asks_on (ap (λ f. group_move f base q xs) e) (λ r w d. alone r (group_shape l d))
+    where
+      alone : (r : Reply) → base ≤ far_of r → next_move {N = N} {G = G} (InSequence [] base base) r ≡ Answered r
+      alone (Takes left next far) i = ap (λ k. Answered (Takes left next k)) (omega (arith, i))
+      alone (Fails far) i = ap (λ k. Answered (Fails k)) (omega (arith, i))
+
+  pub by_alternatives : {g h : G} → l.group_at g ≡ Alternatives (h ∷ []) → IsGroupOf l g h 1
+  by_alternatives e base q xs = asks_on (ap (λ f. group_move f base q xs) e) (λ r w d. alone r (group_shape l d))
+    where
+      alone : (r : Reply) → base ≤ far_of r → next_move {N = N} {G = G} (InAlternatives [] base q xs base) r ≡ Answered r
+      alone (Takes left next far) i = ap (λ k. Answered (Takes left next k)) (omega (arith, i))
+      alone (Fails far) i = ap (λ k. Answered (Fails k)) (omega (arith, i))
+
+  -- what the only part of a list leads to, if there is just one
+  pub only_type : {n : N} {ms : List N} (o : Option N) → l.type_at n ≡ Choice ms → IfSome o (λ m. ms ≡ m ∷ []) → IfSome o (λ m. IsTypeOf l n m 1)
+  only_type None e h = h
+  only_type (Some m) e h = by_choice (e ∙ ap Choice h)
+
+  pub only_part : {g : G} {gs : List G} (o : Option G) → l.group_at g ≡ Sequence gs → IfSome o (λ h. gs ≡ h ∷ []) → IfSome o (λ h. IsGroupOf l g h 1)
+  only_part None e h = h
+  only_part (Some g) e h = by_sequence (e ∙ ap Sequence h)
+
+  pub only_alternative : {g : G} {gs : List G} (o : Option G) → l.group_at g ≡ Alternatives gs → IfSome o (λ h. gs ≡ h ∷ []) → IfSome o (λ h. IsGroupOf l g h 1)
+  only_alternative None e h = h
+  only_alternative (Some g) e h = by_alternatives (e ∙ ap Alternatives h)
+
+  -- a type that is a test
+  pub by_test : {n m : N} {t : Test} {k : ℕ} → IsTypeOf l n m k → l.type_at m ≡ Plain t → (p : ℕ) (x : Value) → p < 2 ^ 64 → Opens l (OfType n p x) (Answered (test_reply p x (passes t x))) (k + 1)
+  by_test {m = m} a e p x h = and_opens (a p x h) (subst (λ n. Opens l (OfType m p x) n 1) (ap (λ f. type_move f p x) e) (opens (OfType m p x))) refl
+
+  -- an entry of such a type
+  pub by_entry : {g : G} {n m : N} {t : Test} {k : ℕ} → l.group_at g ≡ Entry n → IsTypeOf l n m k → l.type_at m ≡ Plain t → IsLeaf l g t 0 k
+  by_entry {g = g} e a i base q [] h = subst (λ m. Opens l (OfGroup g base q []) m 1) (ap (λ f. group_move f base q []) e) (opens (OfGroup g base q []))
+  by_entry {g = g} {n = n} {t = t} {k = k} e a i base q (x ∷ xs) h =
+      let one = subst (λ m. Opens l (OfGroup g base q (x ∷ xs)) m 1) (ap (λ f. group_move f base q (x ∷ xs)) e) (opens (OfGroup g base q (x ∷ xs))) in
+      let all = answers (InEntry base xs) (by_test a i q x h) in
+      subst (λ m. Opens l (OfGroup g base q (x ∷ xs)) m (1 + k + 1)) (entered (test_reply q x (passes t x))) (then_comes one all (omega arith))
+    where
+      entered : (r : Reply) → next_move {N = N} {G = G} (InEntry base xs) r ≡ Answered (entry_reply base xs r)
+      entered (Takes left next far) = refl
+      entered (Fails far) = refl
+
+      then_comes : {q : Question N G} {m n : Move N G} {j k i : ℕ} → Opens l q m j → ComesTo l m n k → i ≡ j + k → Opens l q n i
+      then_comes {q = q} {j = j} {k = k} a b e = record {
+        leads = λ r w d. subst (λ n. Replies l q r n) (omega (arith, e)) (a.leads r (k + w) (b.leads r w d));
+        comes = λ r w d. let x = a.comes r w d in let y = b.comes r x.0 x.1 in (y.0, y.1, omega (arith, x.2, y.2, e));
+      }
+
+  -- a group that leads to such an entry
+  pub leads_to_leaf : {g h : G} (t : Test) {j : ℕ} (k : ℕ) → IsGroupOf l g h j → IsLeaf l h t 0 k → IsLeaf l g t j k
+  leads_to_leaf t k a b base q [] h = and_opens (a base q []) (b base q [] h) (omega arith)
+  leads_to_leaf t k a b base q (x ∷ xs) h = and_opens (a base q (x ∷ xs)) (b base q (x ∷ xs) h) (omega arith)
+
+  -- a round of such a group
+  pub a_round : {g : G} (least : ℕ) (most : Most) (base q : ℕ) (xs : List Value) (far j k : ℕ) (t : Test) → {n : ℕ} {s : Reply} {m : Move N G} → IsLeaf l g t j k → is_over most ≡ false → q < 2 ^ 64 → s ≡ leaf_reply t base q xs → n ≡ leaf_asked j k xs → m ≡ next_move (InRepeat least most g base q xs far) s → ComesTo l (repetition least most g base q xs far) m n
+  a_round {g = g} least most base q xs far j k t {n = n} leaf over h is asked e =
+      let o = InRepeat least most g base q xs far in
+      let one = answers o (leaf base q xs h) in
+      let there = subst (λ b. ComesTo l (next_round b least most g base q xs far) (next_move o (leaf_reply t base q xs)) (leaf_asked j k xs)) (sym over) one in
+      let then = subst (λ n. ComesTo l (repetition least most g base q xs far) (next_move o (leaf_reply t base q xs)) n) (sym asked) there in
+      subst (λ m. ComesTo l (repetition least most g base q xs far) m n) (sym (e ∙ ap (next_move o) is)) then
+
+pub asked_some : (j k : ℕ) (xs : List Value) → 1 ≤ leaf_asked j k xs
+asked_some j k [] = omega arith
+asked_some j k (x ∷ xs) = omega arith

@@ -1,0 +1,127 @@
+-- What replies look like: no failure shows before the item or the array that was asked about, and a type's yes tells no more
+-- than the place after the item.
+use Rattle.std.proofs.Common.{ℕ, zero, suc, ◌+◌, ◌-◌, ◌≤◌, ◌<◌, ◌^◌, length, List, [], ◌∷◌, Option, Some, None, Bool, true, false, nat_eq, max, arith}
+use Rattle.cbor_data.specs.Value.{Value}
+use Rattle.cddl_meaning.specs.Forms.{members_in, tag_in, simple_in, passes, TagNumber, any_number, exactly, such_as, Node, Plain, Ref, Choice, ArrayOf, TagOf, SimpleBy, Most, Group, Entry, GroupRef, Sequence, Alternatives, Repeat, Language}
+use Rattle.cddl_meaning.specs.Judges.{Reply, Takes, Fails, is_over, one_less}
+use Rattle.cddl_meaning.specs.Moves.{Question, OfType, OfGroup, Answered, Replies, replies, LeadsTo, at_once, after, plus, test_reply, array_reply, next_member, next_part, next_alternative, next_round, repetition, after_round, end_of_rounds, array_move, content_move, tag_move, simple_move, type_move, entry_move, group_move}
+
+-- the greatest place that failed
+abbrev pub far_of : Reply → ℕ
+far_of (Takes left next far) = far
+far_of (Fails far) = far
+
+-- a type's reply about the item at a place
+pub data IsTypeReply (p : ℕ) : Reply → Type 0 where
+  says_yes : {next : ℕ} → IsTypeReply p (Takes [] next 0)
+  says_no : {far : ℕ} → p ≤ far → IsTypeReply p (Fails far)
+
+before : {p q : ℕ} {r : Reply} → p ≤ q → IsTypeReply q r → IsTypeReply p r
+before h says_yes = says_yes
+before h (says_no e) = says_no (omega (arith, h, e))
+
+module _ {N G : Type 0} (l : Language N G) where
+  positive : {q : Question N G} {r : Reply} {w : ℕ} → Replies l q r w → 1 ≤ w
+  positive (replies e) = omega arith
+
+  kept : {base w : ℕ} {s r : Reply} → LeadsTo {N = N} {G = G} l (Answered s) r w → base ≤ far_of s → base ≤ far_of r
+  kept at_once h = h
+
+  kept_reply : {p w : ℕ} {s r : Reply} → LeadsTo {N = N} {G = G} l (Answered s) r w → IsTypeReply p s → IsTypeReply p r
+  kept_reply at_once h = h
+
+  -- what groups reply whose replies take so many questions at most, and types likewise
+  abbrev GroupsShow : ℕ → Type 0
+  GroupsShow n = (g : G) (base q w : ℕ) (xs : List Value) (r : Reply) → w ≤ n → Replies l (OfGroup g base q xs) r w → base ≤ far_of r
+
+  abbrev TypesShow : ℕ → Type 0
+  TypesShow n = (m : N) (p w : ℕ) (x : Value) (r : Reply) → p < 2 ^ 64 → w ≤ n → Replies l (OfType m p x) r w → IsTypeReply p r
+
+  entry_shape : (m : N) (base q : ℕ) (xs : List Value) → {w : ℕ} {r : Reply} → LeadsTo l (entry_move m base q xs) r w → base ≤ far_of r
+  entry_shape m base q [] at_once = omega arith
+  entry_shape m base q (x ∷ xs) (after {s = Takes left next far} d f) = kept f (omega arith)
+  entry_shape m base q (x ∷ xs) (after {s = Fails far} d f) = kept f (omega arith)
+
+  parts_shape : (gs : List G) (base q : ℕ) (xs : List Value) (far : ℕ) → {w : ℕ} {r : Reply} → base ≤ far → LeadsTo l (next_part gs base q xs far) r w → base ≤ far_of r
+  parts_shape [] base q xs far h at_once = h
+  parts_shape (g ∷ gs) base q xs far h (after {s = Takes left next later} d f) = parts_shape gs base next left (max far later) (omega (arith, h)) f
+  parts_shape (g ∷ gs) base q xs far h (after {s = Fails later} d f) = kept f (omega (arith, h))
+
+  alternatives_shape : (gs : List G) (base q : ℕ) (xs : List Value) (far : ℕ) → {w : ℕ} {r : Reply} → base ≤ far → LeadsTo l (next_alternative gs base q xs far) r w → base ≤ far_of r
+  alternatives_shape [] base q xs far h at_once = h
+  alternatives_shape (g ∷ gs) base q xs far h (after {s = Takes left next later} d f) = kept f (omega (arith, h))
+  alternatives_shape (g ∷ gs) base q xs far h (after {s = Fails later} d f) = alternatives_shape gs base q xs (max far later) (omega (arith, h)) f
+
+  last_shape : (least base : ℕ) (xs : List Value) (q far : ℕ) → {w : ℕ} {r : Reply} → base ≤ far → LeadsTo {N = N} {G = G} l (end_of_rounds least xs q far) r w → base ≤ far_of r
+  last_shape zero base xs q far h at_once = h
+  last_shape (suc least) base xs q far h at_once = h
+
+  round_shape : (same : Bool) (least : ℕ) (most : Most) (g : G) (base q : ℕ) (xs : List Value) (far : ℕ) (left : List Value) (next : ℕ) → {w : ℕ} {r : Reply} → base ≤ far → (LeadsTo l (repetition (least - 1) (one_less most) g base next left far) r w → base ≤ far_of r) → LeadsTo l (after_round same least most g base q xs far left next) r w → base ≤ far_of r
+  round_shape true least most g base q xs far left next h more at_once = h
+  round_shape false least most g base q xs far left next h more d = more d
+
+  rounds_shape : (n : ℕ) (over : Bool) (least : ℕ) (most : Most) (g : G) (base q : ℕ) (xs : List Value) (far : ℕ) → {w : ℕ} {r : Reply} → base ≤ far → w ≤ n → LeadsTo l (next_round over least most g base q xs far) r w → base ≤ far_of r
+  rounds_shape n true least most g base q xs far h b at_once = h
+  rounds_shape zero false least most g base q xs far h b (after d f) = absurd (omega (arith, b, positive d))
+  rounds_shape (suc n) false least most g base q xs far h b (after {s = Takes left next later} d f) = round_shape (nat_eq (length left) (length xs)) least most g base q xs (max far later) left next (omega (arith, h)) (λ e. rounds_shape n (is_over (one_less most)) (least - 1) (one_less most) g base next left (max far later) (omega (arith, h)) (omega (arith, b, positive d)) e) f
+  rounds_shape (suc n) false least most g base q xs far h b (after {s = Fails later} d f) = last_shape least base xs q (max far later) (omega (arith, h)) f
+
+  form_shape : (n : ℕ) → GroupsShow n → (f : Group N G) (base q : ℕ) (xs : List Value) → {w : ℕ} {r : Reply} → w ≤ n → LeadsTo l (group_move f base q xs) r w → base ≤ far_of r
+  form_shape n show (Entry m) base q xs b d = entry_shape m base q xs d
+  form_shape n show (GroupRef g) base q xs b (after {s = s} {v = v} d f) = kept f (show g base q v xs s (omega (arith, b)) d)
+  form_shape n show (Sequence gs) base q xs b d = parts_shape gs base q xs base (omega arith) d
+  form_shape n show (Alternatives gs) base q xs b d = alternatives_shape gs base q xs base (omega arith) d
+  form_shape n show (Repeat least most g) base q xs b d = rounds_shape n (is_over most) least most g base q xs base (omega arith) b d
+
+  groups_show : (n : ℕ) → GroupsShow n
+  groups_show zero g base q w xs r b d = absurd (omega (arith, b, positive d))
+  groups_show (suc n) g base q w xs r b (replies d) = form_shape n (groups_show n) (l.group_at g) base q xs (omega (arith, b)) d
+
+  pub group_shape : {g : G} {base q w : ℕ} {xs : List Value} {r : Reply} → Replies l (OfGroup g base q xs) r w → base ≤ far_of r
+  group_shape {g = g} {base = base} {q = q} {w = w} {xs = xs} {r = r} d = groups_show w g base q w xs r (omega arith) d
+
+  test_shape : (b : Bool) (p : ℕ) (x : Value) → {w : ℕ} {r : Reply} → LeadsTo {N = N} {G = G} l (Answered (test_reply p x b)) r w → IsTypeReply p r
+  test_shape true p x at_once = says_yes
+  test_shape false p x at_once = says_no (omega arith)
+
+  choice_shape : (ms : List N) (p : ℕ) (x : Value) (far : ℕ) → {w : ℕ} {r : Reply} → p ≤ far → LeadsTo l (next_member ms p x far) r w → IsTypeReply p r
+  choice_shape [] p x far e at_once = says_no e
+  choice_shape (m ∷ ms) p x far e (after {s = Takes left next later} d f) = kept_reply f says_yes
+  choice_shape (m ∷ ms) p x far e (after {s = Fails later} d f) = choice_shape ms p x (max far later) (omega (arith, e)) f
+
+  array_shape : (g : G) (p : ℕ) (o : Option (List Value)) → {w : ℕ} {r : Reply} → LeadsTo l (array_move g p o) r w → IsTypeReply p r
+  array_shape g p None at_once = says_no (omega arith)
+  array_shape g p (Some xs) (after {s = Takes [] next far} d f) = kept_reply f says_yes
+  array_shape g p (Some xs) (after {s = Takes (y ∷ ys) next far} d f) = kept_reply f (says_no (omega (arith, group_shape d)))
+  array_shape g p (Some xs) (after {s = Fails far} d f) = kept_reply f (says_no (group_shape d))
+
+  content_shape : (n : ℕ) → TypesShow n → (b : Bool) (m : N) (p : ℕ) (y : Value) → {w : ℕ} {r : Reply} → p < 2 ^ 64 → w ≤ n → LeadsTo l (content_move m p y b) r w → IsTypeReply p r
+  content_shape n show true m p y h b (after {s = s} {v = v} d f) = kept_reply f (before (omega (arith, h)) (show m (plus p 1) v y s (omega arith) (omega (arith, b)) d))
+  content_shape n show false m p y h b at_once = says_no (omega arith)
+
+  tag_shape : (n : ℕ) → TypesShow n → (t : TagNumber N) (m : N) (p : ℕ) (o : Option (ℕ × Value)) → {w : ℕ} {r : Reply} → p < 2 ^ 64 → w ≤ n → LeadsTo l (tag_move t m p o) r w → IsTypeReply p r
+  tag_shape n show t m p None h b at_once = says_no (omega arith)
+  tag_shape n show any_number m p (Some (k, y)) h b d = content_shape n show true m p y h b d
+  tag_shape n show (exactly i) m p (Some (k, y)) h b d = content_shape n show (nat_eq i k) m p y h b d
+  tag_shape n show (such_as i) m p (Some (k, y)) h b (after {s = Takes left next far} d f) = content_shape n show true m p y h (omega (arith, b)) f
+  tag_shape n show (such_as i) m p (Some (k, y)) h b (after {s = Fails far} d f) = kept_reply f (says_no (omega arith))
+
+  simple_shape : (m : N) (p : ℕ) (o : Option ℕ) → {w : ℕ} {r : Reply} → LeadsTo l (simple_move m p o) r w → IsTypeReply p r
+  simple_shape m p None at_once = says_no (omega arith)
+  simple_shape m p (Some n) (after {s = Takes left next far} d f) = kept_reply f says_yes
+  simple_shape m p (Some n) (after {s = Fails far} d f) = kept_reply f (says_no (omega arith))
+
+  node_shape : (n : ℕ) → TypesShow n → (f : Node N G) (p : ℕ) (x : Value) → {w : ℕ} {r : Reply} → p < 2 ^ 64 → w ≤ n → LeadsTo l (type_move f p x) r w → IsTypeReply p r
+  node_shape n show (Plain t) p x h b d = test_shape (passes t x) p x d
+  node_shape n show (Ref m) p x h b (after {s = s} {v = v} d f) = kept_reply f (show m p v x s h (omega (arith, b)) d)
+  node_shape n show (Choice ms) p x h b d = choice_shape ms p x p (omega arith) d
+  node_shape n show (ArrayOf g) p x h b d = array_shape g p (members_in x) d
+  node_shape n show (TagOf t m) p x h b d = tag_shape n show t m p (tag_in x) h b d
+  node_shape n show (SimpleBy m) p x h b d = simple_shape m p (simple_in x) d
+
+  types_show : (n : ℕ) → TypesShow n
+  types_show zero m p w x r h b d = absurd (omega (arith, b, positive d))
+  types_show (suc n) m p w x r h b (replies d) = node_shape n (types_show n) (l.type_at m) p x h (omega (arith, b)) d
+
+  pub type_shape : {m : N} {p w : ℕ} {x : Value} {r : Reply} → p < 2 ^ 64 → Replies l (OfType m p x) r w → IsTypeReply p r
+  type_shape {m = m} {p = p} {w = w} {x = x} {r = r} h d = types_show w m p w x r h (omega arith) d
