@@ -5,5 +5,5 @@ mod Decides
 mod Verdicts
 mod Room
 mod Shapes
-mod Behind
+mod Ways
 mod Rounds

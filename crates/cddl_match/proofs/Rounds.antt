@@ -1,14 +1,16 @@
--- Moves that are not of rounds.
-use Rattle.std.proofs.Common.{◌≡◌, ℕ, ◌≤◌, Bool, true, false, refl, arith}
-use Rattle.cddl_match.specs.Views.{is_rounds, turns_of}
+-- The turns of a move.
+use Rattle.std.proofs.Common.{◌≡◌, ◌≤◌, Bool, true, false, refl, arith}
+use Rattle.cddl_match.specs.Views.{goes_on, turns_of}
+use Rattle.cddl_match.specs.declared.questions.Parts.{Parts}
 use Rattle.cddl_match.specs.declared.questions.Rounds.{Rounds}
 use Rattle.cddl_match.specs.declared.questions.Move.{Move}
-use Rattle.cddl_match.specs.declared.questions.Move.TheVariants.{Answered, Asks, Repeats}
+use Rattle.cddl_match.specs.declared.questions.Move.TheVariants.{Answered, Asks, Repeats, GoesOn}
 
-pub not_rounds : (m : Move) → ((r : Rounds) → m ≡ Repeats r → ⊥) → is_rounds m ≡ false
-not_rounds (Answered r) h = refl
-not_rounds (Asks q o) h = refl
-not_rounds (Repeats r) h = absurd (h r refl)
+pub stays_so : (m : Move) → ((r : Rounds) → m ≡ Repeats r → ⊥) → ((p : Parts) → m ≡ GoesOn p → ⊥) → goes_on m ≡ false
+stays_so (Answered r) h i = refl
+stays_so (Asks q o) h i = refl
+stays_so (Repeats r) h i = absurd (h r refl)
+stays_so (GoesOn p) h i = absurd (i p refl)
 
 pub few_turns : (b : Bool) → turns_of b ≤ 1
 few_turns true = omega arith

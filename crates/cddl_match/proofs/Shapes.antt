@@ -1,10 +1,10 @@
 -- What replies look like: no failure shows before the item or the array that was asked about, and a type's yes tells no more
 -- than the place after the item.
-use Rattle.std.proofs.Common.{ℕ, zero, suc, ◌+◌, ◌-◌, ◌≤◌, ◌<◌, ◌^◌, length, List, [], ◌∷◌, Option, Some, None, Bool, true, false, nat_eq, max, arith}
+use Rattle.std.proofs.Common.{ℕ, zero, suc, ◌-◌, ◌≤◌, ◌<◌, ◌^◌, length, List, [], ◌∷◌, Option, Some, None, Bool, true, false, nat_eq, max, arith}
 use Rattle.cbor_data.specs.Value.{Value}
 use Rattle.cddl_meaning.specs.Forms.{members_in, tag_in, simple_in, passes, TagNumber, any_number, exactly, such_as, Node, Plain, Ref, Choice, ArrayOf, TagOf, SimpleBy, Most, Group, Entry, GroupRef, Sequence, Alternatives, Repeat, Language}
 use Rattle.cddl_meaning.specs.Judges.{Reply, Takes, Fails, is_over, one_less}
-use Rattle.cddl_meaning.specs.Moves.{Question, OfType, OfGroup, Answered, Replies, replies, LeadsTo, at_once, after, plus, test_reply, array_reply, next_member, next_part, next_alternative, next_round, repetition, after_round, end_of_rounds, array_move, content_move, tag_move, simple_move, type_move, entry_move, group_move}
+use Rattle.cddl_meaning.specs.Moves.{Question, OfType, OfGroup, Answered, Replies, replies, LeadsTo, at_once, after, plus, test_reply, next_member, next_part, next_alternative, next_round, repetition, after_round, end_of_rounds, array_move, content_move, tag_move, simple_move, type_move, entry_move, group_move}
 
 -- the greatest place that failed
 abbrev pub far_of : Reply → ℕ

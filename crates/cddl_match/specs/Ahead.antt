@@ -1,9 +1,9 @@
 -- What lies ahead of the matcher: several questions that are taken in one step.
-use Rattle.std.specs.Prelude.{◌≡◌, ℕ, ◌+◌, ◌<◌, ◌^◌, max, List, [], ◌∷◌}
+use Rattle.std.specs.Prelude.{◌≡◌, ℕ, ◌+◌, ◌<◌, ◌^◌, List, [], ◌∷◌, Bool}
 use Rattle.cbor_data.specs.Value.{Value}
-use Rattle.cddl_meaning.specs.Forms.{Language, Test, passes}
-use Rattle.cddl_meaning.specs.Judges.{Reply, Takes, Fails}
-use Rattle.cddl_meaning.specs.Moves.{Question, OfType, OfGroup, Move, Answered, Replies, LeadsTo, test_reply}
+use Rattle.cddl_meaning.specs.Forms.{Language, Node}
+use Rattle.cddl_meaning.specs.Judges.{Reply, Fails}
+use Rattle.cddl_meaning.specs.Moves.{Question, OfType, OfGroup, InEntry, Move, Answered, Replies, LeadsTo, next_move, next_member, test_reply, type_move}
 
 module _ {N G : Type 0} (l : Language N G) where
   -- The one move leads to what the other does, in so many questions more.
@@ -28,21 +28,18 @@ module _ {N G : Type 0} (l : Language N G) where
   abbrev pub IsGroupOf : G → G → ℕ → Type 0
   IsGroupOf g h k = (base q : ℕ) (xs : List Value) → AsksOn (OfGroup g base q xs) (OfGroup h base q xs) k
 
--- what one entry does whose type replies so of the first item
-abbrev pub entry_reply : (base : ℕ) → List Value → Reply → Reply
-entry_reply base xs (Takes left next far) = Takes xs next base
-entry_reply base xs (Fails far) = Fails (max base far)
+  -- Tests tell what a type of this form says of the item, in so many questions after the first.
+  abbrev pub IsTold : Node N G → Value → Bool → ℕ → Type 0
+  IsTold f x says k = (p : ℕ) → p < 2 ^ 64 → ComesTo (type_move f p x) (Answered (test_reply p x says)) k
 
--- what an entry does whose type is this test
-abbrev pub leaf_reply : Test → (base place : ℕ) → List Value → Reply
-leaf_reply t base q [] = Fails base
-leaf_reply t base q (x ∷ xs) = entry_reply base xs (test_reply q x (passes t x))
+  -- what a choice of these types says, and what a type does
+  abbrev pub AreTold : List N → Value → Bool → ℕ → Type 0
+  AreTold ms x says k = (p : ℕ) → p < 2 ^ 64 → ComesTo (next_member ms p x p) (Answered (test_reply p x says)) k
 
--- the questions for that, with as many more before the entry, and before the test
-abbrev pub leaf_asked : ℕ → ℕ → List Value → ℕ
-leaf_asked j k [] = j + 1
-leaf_asked j k (x ∷ xs) = j + 1 + k + 1
+  abbrev pub IsTypeTold : N → Value → Bool → ℕ → Type 0
+  IsTypeTold n x says k = (p : ℕ) → p < 2 ^ 64 → Opens (OfType n p x) (Answered (test_reply p x says)) k
 
--- The group does what such an entry does.
-abbrev pub IsLeaf : {N G : Type 0} → Language N G → G → Test → ℕ → ℕ → Type 0
-IsLeaf l g t j k = (base q : ℕ) (xs : List Value) → q < 2 ^ 64 → Opens l (OfGroup g base q xs) (Answered (leaf_reply t base q xs)) (leaf_asked j k xs)
+  -- The group leads to an entry in j questions, and from the entry's type k lead to one of this form.
+  pub record IsEntered (g : G) (f : Node N G) (j k : ℕ) : Type 0 where
+    pub none : (base q : ℕ) → Opens (OfGroup g base q []) (Answered (Fails base)) (j + 1)
+    pub some : (base q : ℕ) (x : Value) (xs : List Value) (says : Bool) (m : ℕ) (r : Reply) → q < 2 ^ 64 → IsTold f x says m → Answered r ≡ next_move {N = N} {G = G} (InEntry base xs) (test_reply q x says) → Opens (OfGroup g base q (x ∷ xs)) (Answered r) (m + (j + 1 + k + 1))

@@ -17,8 +17,9 @@ use Rattle.cddl_match.specs.declared.questions.Reply.TheVariants.{Takes, Fails}
 use Rattle.cddl_match.specs.declared.questions.Pending.{Pending}
 use Rattle.cddl_match.specs.declared.questions.Pending.TheVariants as P
 use Rattle.cddl_match.specs.declared.questions.Rounds.{Rounds}
+use Rattle.cddl_match.specs.declared.questions.Parts.{Parts}
 use Rattle.cddl_match.specs.declared.questions.Move.{Move}
-use Rattle.cddl_match.specs.declared.questions.Move.TheVariants.{Answered, Asks, Repeats}
+use Rattle.cddl_match.specs.declared.questions.Move.TheVariants.{Answered, Asks, Repeats, GoesOn}
 use Rattle.cddl_match.specs.declared.answers.Verdict.{Verdict}
 use Rattle.cddl_match.specs.declared.answers.Verdict.TheVariants.{Yes, No}
 
@@ -54,16 +55,21 @@ pending_view (P.Repeat r) = M.InRepeat r.least (most_view r.most) r.group r.base
 abbrev pub rounds_move : Rounds → M.Move TypeId GroupId
 rounds_move r = M.repetition r.least (most_view r.most) r.group r.base r.place (values r.items.now) r.far
 
+abbrev pub parts_move : Parts → M.Move TypeId GroupId
+parts_move p = M.next_part p.parts.now p.base p.place (values p.items.now) p.far
+
 abbrev pub move_view : Move → M.Move TypeId GroupId
 move_view (Answered r) = M.Answered (reply_view r)
 move_view (Asks q o) = M.Asks (question_view q) (pending_view o)
 move_view (Repeats r) = rounds_move r
+move_view (GoesOn p) = parts_move p
 
--- whether a move is of rounds, of which none was asked yet
-abbrev pub is_rounds : Move → Bool
-is_rounds (Answered r) = false
-is_rounds (Asks q o) = false
-is_rounds (Repeats r) = true
+-- whether a move is of rounds or of a sequence, of which nothing was asked yet
+abbrev pub goes_on : Move → Bool
+goes_on (Answered r) = false
+goes_on (Asks q o) = false
+goes_on (Repeats r) = true
+goes_on (GoesOn p) = true
 
 -- The turns that a move takes before something is asked or answered.
 abbrev pub turns_of : Bool → ℕ

@@ -10,7 +10,7 @@ ghost use Rattle.cddl_ranks.specs.Decided.{IsDecided};
 ghost use Rattle.cddl_table.specs.Language.{RootSays, language_of, root_form};
 
 use crate::answers::Verdict;
-use crate::looking::{Ahead, look_ahead, rounds_ahead};
+use crate::looking::{Ahead, look_ahead, parts_ahead, rounds_ahead};
 use crate::moves::next_move;
 use crate::questions::{Move, Pending, Question, Reply, Subject};
 use cbor_item::{Item, Sound};
@@ -61,6 +61,11 @@ pub fn verdict(
             }
             Move::Repeats(rounds) => {
                 let Ahead { next: first, asked } = rounds_ahead(table, rounds, left);
+                left -= asked;
+                next = first;
+            }
+            Move::GoesOn(parts) => {
+                let Ahead { next: first, asked } = parts_ahead(table, parts, left);
                 left -= asked;
                 next = first;
             }

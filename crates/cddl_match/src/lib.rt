@@ -2,12 +2,14 @@
 #![tactic(auto)]
 
 mod answers;
+mod behind;
 mod judging;
 mod laws;
 mod looking;
 mod moves;
 mod places;
 mod questions;
+mod telling;
 mod tested;
 
 pub use crate::answers::Verdict;

@@ -1,150 +1,32 @@
-//! What a question comes to at once: names, choices of one and groups of one only lead to what is behind them, and a group of
-//! one entry whose type is a test is answered by that test.
+//! What questions come to at once: more than one of them is taken in a step where tests alone tell what is said.
 
-ghost use Rattle.std.specs.Prelude.{◌≡◌, ◌<◌, ◌≤◌, ◌^◌, [], ◌∷◌, false, IfSome};
-ghost use Rattle.cddl_meaning.specs.Forms.{Language};
+ghost use Rattle.std.specs.Prelude.{◌≡◌, ◌≤◌, false, IfSome};
 ghost use Rattle.cddl_meaning.specs.Moves as M;
-ghost use Rattle.cddl_match.specs.Ahead.{ComesTo, IsGroupOf, IsLeaf, IsTypeOf, Opens, leaf_asked, leaf_reply};
-ghost use Rattle.cddl_match.specs.Views.{is_rounds, move_view, question_view, reply_view, rounds_move, subject_view, values};
+ghost use Rattle.cddl_match.specs.Ahead.{ComesTo, IsEntered, Opens};
+ghost use Rattle.cddl_match.specs.Views.{goes_on, move_view, parts_move, question_view, reply_view, rounds_move, subject_view, values};
 ghost use Rattle.cddl_table.specs.Language.{language_of};
-ghost use Rattle.cddl_table.specs.Nodes.{test_view};
+ghost use Rattle.cddl_table.specs.Nodes.{type_view};
 ghost use Rattle.cddl_table.specs.declared.nodes.GroupId.{GroupId};
-ghost use Rattle.cddl_table.specs.declared.nodes.TypeId.{TypeId};
+ghost use Rattle.cddl_match.specs.declared.questions.Rounds.{Rounds};
 
-use crate::moves::{another_round, first_move, is_over, next_in_repeat, test_reply};
-use crate::questions::{Move, Question, Reply, Rounds, Subject};
+use crate::behind::{group_behind, type_behind};
+use crate::moves::{
+    another_part, another_round, entry_reply, first_move, is_over, next_in_repeat,
+    next_in_sequence, said_reply,
+};
+use crate::questions::{Move, Parts, Question, Reply, Rounds, Subject};
+use crate::telling::form_tells;
 use cbor_item::Item;
-use cddl_table::{Group, GroupId, Node, Table, Test, TypeId};
+use cddl_table::{Group, GroupId, Node, Table, TypeId};
 
-/// So many names, choices of one and groups of one are looked through at once. What is behind more of them takes single
-/// questions, so that no way is looked through again and again.
-const FARTHEST: u8 = 8;
+/// Choices in choices are looked into so deep.
+const DEEPEST: u8 = 3;
 
-/// A group of one entry whose type is a test.
-#[derive(Clone, Copy)]
-pub(crate) struct Leaf<'t> {
-    test: &'t Test,
-    /// The questions that lead to the entry.
-    groups: u8,
-    /// The questions that lead from the entry's type to the test.
-    types: u8,
-}
-
-/// A move that a question, or rounds, come to, and how many questions are asked until then.
+/// A move that something comes to, and how many questions are asked until then.
 #[derive(Clone, Copy)]
 pub(crate) struct Ahead<'t, 'i> {
     pub(crate) next: Move<'t, 'i>,
     pub(crate) asked: u64,
-}
-
-/// The only one of the parts.
-fn only<Id: Copy>(parts: &[Id]) -> Option<Id>
-    ensures { IfSome result (λ part. parts.now ≡ part ∷ []) }
-{
-    match parts {
-        [part] => Some(*part),
-        _ => None,
-    }
-}
-
-/// The type that a name or a choice of one leads to.
-fn next_type(table: &Table, node: TypeId) -> Option<TypeId>
-    ensures { IfSome result (λ next. IsTypeOf (language_of table.now) node next 1) }
-{
-    match table.node(node)? {
-        Node::Ref(to) => Some(*to),
-        Node::Choice(members) => only(members),
-        _ => None,
-    }
-}
-
-/// The group that a name or a group of one group leads to.
-fn next_group(table: &Table, group: GroupId) -> Option<GroupId>
-    ensures { IfSome result (λ next. IsGroupOf (language_of table.now) group next 1) }
-{
-    match table.group(group)? {
-        Group::Ref(to) => Some(*to),
-        Group::Sequence(parts) => only(parts),
-        Group::Alternatives(parts) => only(parts),
-        _ => None,
-    }
-}
-
-/// The type behind names and choices of one, and how many of them there are.
-fn type_behind(table: &Table, node: TypeId) -> (TypeId, u8)
-    ensures { IsTypeOf (language_of table.now) node result.0 result.1 }
-{
-    let mut behind = node;
-    let mut asked = 0;
-    while asked < FARTHEST {
-        match next_type(table, behind) {
-            Some(next) => behind = next,
-            None => break,
-        }
-        asked += 1;
-    }
-    (behind, asked)
-}
-
-/// The group behind names and groups of one group, and how many of them there are.
-fn group_behind(table: &Table, group: GroupId) -> (GroupId, u8)
-    ensures { IsGroupOf (language_of table.now) group result.0 result.1 }
-{
-    let mut behind = group;
-    let mut asked = 0;
-    while asked < FARTHEST {
-        match next_group(table, behind) {
-            Some(next) => behind = next,
-            None => break,
-        }
-        asked += 1;
-    }
-    (behind, asked)
-}
-
-/// What the entry asks, if the group is one and its type is a test.
-fn leaf_at<'t>(table: &'t Table, group: GroupId, groups: u8) -> Option<Leaf<'t>>
-    ensures { IfSome result (λ leaf. IsLeaf (language_of table.now) group (test_view leaf.test.now) 0 leaf.types × (leaf.groups ≡ groups)) }
-{
-    let node = match table.group(group)? {
-        Group::Entry(node) => *node,
-        _ => return None,
-    };
-    let (node, types) = type_behind(table, node);
-    match table.node(node)? {
-        Node::Plain(test) => Some(Leaf {
-            test,
-            groups,
-            types,
-        }),
-        _ => None,
-    }
-}
-
-/// What such a group does with the items, and how many questions that takes.
-fn told<'i>(leaf: Leaf<'_>, base: usize, place: usize, items: &'i [Item]) -> (Reply<'i>, u64)
-    ensures reply { reply_view result.0 ≡ leaf_reply (test_view leaf.entry.test.now) base place (values items.now) }
-    ensures asked { result.1 ≡ leaf_asked leaf.entry.groups leaf.entry.types (values items.now) }
-    ensures fits { place < 2 ^ 64 }
-{
-    let groups = u64::from(leaf.groups) + 1;
-    match items {
-        [] => (Reply::Fails { far: base }, groups),
-        [item, rest @ ..] => {
-            let asked = groups + u64::from(leaf.types) + 1;
-            match test_reply(leaf.test, place, Subject::Item(item)) {
-                Reply::Takes { next, .. } => (
-                    Reply::Takes {
-                        left: rest,
-                        next,
-                        far: base,
-                    },
-                    asked,
-                ),
-                Reply::Fails { far } => (Reply::Fails { far: base.max(far) }, asked),
-            }
-        }
-    }
 }
 
 /// What a type comes to.
@@ -181,13 +63,6 @@ fn group_ahead<'t, 'i>(
     ensures { Opens (language_of table.now) (M.OfGroup group base place (values items.now)) (move_view result.next) result.asked × (1 ≤ result.asked) }
 {
     let (group, passed) = group_behind(table, group);
-    if let Some(leaf) = leaf_at(table, group, passed) {
-        let (reply, asked) = told(leaf, base, place, items);
-        return Ahead {
-            next: Move::Answered(reply),
-            asked,
-        };
-    }
     Ahead {
         next: first_move(
             table,
@@ -221,21 +96,93 @@ pub(crate) fn look_ahead<'t, 'i>(table: &'t Table, question: Question<'i>) -> Ah
     }
 }
 
-/// Rounds of such a group, one after the other, as far as the steps go.
-fn rounds_of<'t, 'i>(leaf: Leaf<'_>, rounds: Rounds<'i>, steps: u64) -> Ahead<'t, 'i>
-    ensures comes { (l : Language TypeId GroupId) → IsLeaf l rounds.entry.group (test_view leaf.entry.test.now) leaf.entry.groups leaf.entry.types → ComesTo l (rounds_move rounds.entry) (move_view result.next) result.asked }
+/// The entry that a group leads to.
+#[derive(Clone, Copy)]
+struct Entered<'t> {
+    /// The form of the type behind the entry's own.
+    form: &'t Node,
+    /// The questions that lead to the entry.
+    groups: u8,
+    /// The questions that lead from the entry's type to the one behind it.
+    types: u8,
+}
+
+/// The entry that the group leads to, if it leads to one.
+fn entry_at<'t>(table: &'t Table, group: GroupId) -> Option<Entered<'t>>
+    ensures { IfSome result (λ it. IsEntered (language_of table.now) group (type_view it.form.now) it.groups it.types) }
+{
+    let (behind, groups) = group_behind(table, group);
+    let node = match table.group(behind)? {
+        Group::Entry(node) => *node,
+        _ => return None,
+    };
+    let (node, types) = type_behind(table, node);
+    Some(Entered {
+        form: table.node(node)?,
+        groups,
+        types,
+    })
+}
+
+/// What the entry does with the items where tests alone tell it, and how many questions that takes.
+fn told<'i>(
+    table: &Table,
+    entered: Entered<'_>,
+    base: usize,
+    place: usize,
+    items: &'i [Item],
+) -> Option<(Reply<'i>, u64)>
+    ensures told { (g : GroupId) → IsEntered (language_of table.now) g (type_view entered.entry.form.now) entered.entry.groups entered.entry.types → IfSome result (λ it. Opens (language_of table.now) (M.OfGroup g base place (values items.now)) (M.Answered (reply_view it.0)) it.1) }
+    ensures some { IfSome result (λ it. 1 ≤ it.1) }
+{
+    let groups = u64::from(entered.groups) + 1;
+    match items {
+        [] => Some((Reply::Fails { far: base }, groups)),
+        [item, rest @ ..] => {
+            let subject = Subject::Item(item);
+            let (says, more) = form_tells(table, entered.form, subject, DEEPEST)?;
+            let reply = entry_reply(base, rest, said_reply(place, subject, says));
+            let asked = more.checked_add(groups + u64::from(entered.types) + 1)?;
+            Some((reply, asked))
+        }
+    }
+}
+
+/// What a group does with the items where tests alone tell it, and how many questions that takes.
+fn group_told<'i>(
+    table: &Table,
+    group: GroupId,
+    base: usize,
+    place: usize,
+    items: &'i [Item],
+) -> Option<(Reply<'i>, u64)>
+    ensures told { IfSome result (λ it. Opens (language_of table.now) (M.OfGroup group base place (values items.now)) (M.Answered (reply_view it.0)) it.1) }
+    ensures some { IfSome result (λ it. 1 ≤ it.1) }
+{
+    let entered = entry_at(table, group)?;
+    told(table, entered, base, place, items)
+}
+
+/// Rounds of an entry, one after the other, as far as tests alone tell them and the steps go.
+fn rounds_of<'t, 'i>(
+    table: &Table,
+    entered: Entered<'_>,
+    rounds: Rounds<'i>,
+    steps: u64,
+) -> Ahead<'t, 'i>
+    ensures comes { IsEntered (language_of table.now) rounds.entry.group (type_view entered.entry.form.now) entered.entry.groups entered.entry.types → ComesTo (language_of table.now) (rounds_move rounds.entry) (move_view result.next) result.asked }
     ensures within { result.asked ≤ steps }
-    ensures turns { is_rounds result.next ≡ false }
+    ensures turns { goes_on result.next ≡ false }
 {
     let mut rounds = rounds;
     let mut asked = 0;
-    loop {
-        let (reply, more) = told(leaf, rounds.base, rounds.place, rounds.items);
-        if is_over(rounds.most) || more > steps - asked {
-            return Ahead {
-                next: another_round(rounds),
-                asked,
-            };
+    while !is_over(rounds.most) {
+        let (reply, more) = match told(table, entered, rounds.base, rounds.place, rounds.items) {
+            Some(told) => told,
+            None => break,
+        };
+        if more > steps - asked {
+            break;
         }
         asked += more;
         match next_in_repeat(rounds, reply) {
@@ -243,9 +190,13 @@ fn rounds_of<'t, 'i>(leaf: Leaf<'_>, rounds: Rounds<'i>, steps: u64) -> Ahead<'t
             next => return Ahead { next, asked },
         }
     }
+    Ahead {
+        next: another_round(rounds),
+        asked,
+    }
 }
 
-/// What rounds come to: a test answers one after the other, as far as the steps go; else the first of them is asked.
+/// What rounds come to: some of them that are told at once, and the question for the next one.
 pub(crate) fn rounds_ahead<'t, 'i>(
     table: &'t Table,
     rounds: Rounds<'i>,
@@ -253,14 +204,59 @@ pub(crate) fn rounds_ahead<'t, 'i>(
 ) -> Ahead<'t, 'i>
     ensures comes { ComesTo (language_of table.now) (rounds_move rounds.entry) (move_view result.next) result.asked }
     ensures within { result.asked ≤ steps }
-    ensures turns { is_rounds result.next ≡ false }
+    ensures turns { goes_on result.next ≡ false }
 {
-    let (group, passed) = group_behind(table, rounds.group);
-    if let Some(leaf) = leaf_at(table, group, passed) {
-        return rounds_of(leaf, rounds, steps);
+    if let Some(entered) = entry_at(table, rounds.group) {
+        return rounds_of(table, entered, rounds, steps);
     }
     Ahead {
         next: another_round(rounds),
         asked: 0,
+    }
+}
+
+/// What a sequence comes to after its next group, where that is told at once, and how many questions that takes.
+fn part_told<'t, 'i>(table: &Table, left: Parts<'t, 'i>) -> Option<(Move<'t, 'i>, u64)>
+    ensures comes { IfSome result (λ it. ComesTo (language_of table.now) (parts_move left.entry) (move_view it.0) it.1) }
+    ensures kind { IfSome result (λ it. (rounds : Rounds) → it.0 ≡ Move.Repeats rounds → ⊥) }
+    ensures some { IfSome result (λ it. 1 ≤ it.1) }
+{
+    let Parts {
+        base,
+        place,
+        items,
+        far,
+        ..
+    } = left;
+    let (part, others) = left.parts.split_first()?;
+    let (reply, asked) = group_told(table, *part, base, place, items)?;
+    Some((next_in_sequence(others, base, far, reply), asked))
+}
+
+/// What a sequence comes to: some of its groups that are told at once, and the question for the next one.
+pub(crate) fn parts_ahead<'t, 'i>(
+    table: &'t Table,
+    parts: Parts<'t, 'i>,
+    steps: u64,
+) -> Ahead<'t, 'i>
+    ensures comes { ComesTo (language_of table.now) (parts_move parts.entry) (move_view result.next) result.asked }
+    ensures within { result.asked ≤ steps }
+    ensures turns { goes_on result.next ≡ false }
+{
+    let mut left = parts;
+    let mut asked = 0;
+    while let Some((next, more)) = part_told(table, left) {
+        if more > steps - asked {
+            break;
+        }
+        asked += more;
+        match next {
+            Move::GoesOn(others) => left = others,
+            next => return Ahead { next, asked },
+        }
+    }
+    Ahead {
+        next: another_part(left),
+        asked,
     }
 }

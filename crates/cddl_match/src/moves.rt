@@ -4,8 +4,8 @@ ghost use Rattle.std.specs.Prelude.{◌≡◌, false, true};
 ghost use Rattle.cbor_item.specs.View.{view};
 ghost use Rattle.cddl_meaning.specs.Judges.{is_over, one_less};
 ghost use Rattle.cddl_meaning.specs.Forms.{members_in, tag_in, simple_in, passes};
+ghost use Rattle.cddl_meaning.specs.Moves as M;
 ghost use Rattle.cddl_meaning.specs.Moves.{
-  Answered,
   InAlternatives,
   InChoice,
   InEntry,
@@ -22,15 +22,15 @@ ghost use Rattle.cddl_meaning.specs.Moves.{
   next_alternative,
   next_member,
   next_move,
-  next_part,
   simple_move,
   tag_move,
   test_reply,
   type_move,
   yes_reply,
 };
-ghost use Rattle.cddl_match.specs.Views.{is_rounds, question_view, pending_view, move_view, reply_view, rounds_move, subject_view, values};
+ghost use Rattle.cddl_match.specs.Views.{goes_on, question_view, parts_move, pending_view, move_view, reply_view, rounds_move, subject_view, values};
 ghost use Rattle.cddl_match.specs.declared.questions.Pending.TheVariants as P;
+ghost use Rattle.cddl_match.specs.declared.questions.Parts.{Parts};
 ghost use Rattle.cddl_match.specs.declared.questions.Rounds.{Rounds};
 ghost use Rattle.cddl_table.specs.declared.nodes.GroupId.{GroupId};
 ghost use Rattle.cddl_table.specs.declared.nodes.TypeId.{TypeId};
@@ -38,7 +38,7 @@ ghost use Rattle.cddl_table.specs.Language.{language_of};
 ghost use Rattle.cddl_table.specs.Nodes.{group_view, most_view, tag_number_view, test_view, type_view};
 
 use crate::places::{place_after, plus};
-use crate::questions::{Move, Pending, Question, Reply, Rounds, Subject};
+use crate::questions::{Move, Parts, Pending, Question, Reply, Rounds, Subject};
 use crate::tested::passes;
 use cbor_item::Item;
 use cddl_table::{Group, GroupId, Most, Node, Table, TagNumber, Test, TypeId};
@@ -59,7 +59,7 @@ fn yes_reply<'i>(place: usize, subject: Subject<'i>) -> Reply<'i>
 }
 
 /// Whether an item, or a number as an unsigned item, passes a test.
-fn passes_test(test: &Test, subject: Subject<'_>) -> bool
+pub(crate) fn passes_test(test: &Test, subject: Subject<'_>) -> bool
     ensures { result ≡ passes (test_view test.now) (subject_view subject.entry) }
 {
     match subject {
@@ -68,11 +68,11 @@ fn passes_test(test: &Test, subject: Subject<'_>) -> bool
     }
 }
 
-/// What a test replies: it fails at the item.
-pub(crate) fn test_reply<'i>(test: &Test, place: usize, subject: Subject<'i>) -> Reply<'i>
-    ensures { reply_view result ≡ test_reply place (subject_view subject.entry) (passes (test_view test.now) (subject_view subject.entry)) }
+/// What a test replies that says this: it fails at the item.
+pub(crate) fn said_reply<'i>(place: usize, subject: Subject<'i>, says: bool) -> Reply<'i>
+    ensures { reply_view result ≡ test_reply place (subject_view subject.entry) says }
 {
-    if passes_test(test, subject) {
+    if says {
         yes_reply(place, subject)
     } else {
         Reply::Fails { far: place }
@@ -107,33 +107,31 @@ fn next_member<'t, 'i>(
 }
 
 /// The next group of a sequence, with what the one before left.
-fn next_part<'t, 'i>(
-    parts: &'t [GroupId],
-    base: usize,
-    place: usize,
-    items: &'i [Item],
-    far: usize,
-) -> Move<'t, 'i>
-    ensures { move_view result ≡ next_part parts.now base place (values items.now) far }
+pub(crate) fn another_part<'t, 'i>(left: Parts<'t, 'i>) -> Move<'t, 'i>
+    ensures asks { move_view result ≡ parts_move left.entry }
+    ensures turns { goes_on result ≡ false }
 {
-    match parts {
+    let Parts {
+        base,
+        place,
+        items,
+        far,
+        ..
+    } = left;
+    match left.parts {
         [] => Move::Answered(Reply::Takes {
             left: items,
             next: place,
             far,
         }),
-        [part, others @ ..] => Move::Asks(
+        [part, parts @ ..] => Move::Asks(
             Question::OfGroup {
                 group: *part,
                 base,
                 place,
                 items,
             },
-            Pending::Sequence {
-                parts: others,
-                base,
-                far,
-            },
+            Pending::Sequence { parts, base, far },
         ),
     }
 }
@@ -188,7 +186,7 @@ fn one_less(most: Most) -> Most
 /// Another round of a repetition, unless there were as many as may be.
 pub(crate) fn another_round<'t, 'i>(rounds: Rounds<'i>) -> Move<'t, 'i>
     ensures asks { move_view result ≡ rounds_move rounds.entry }
-    ensures turns { is_rounds result ≡ false }
+    ensures turns { goes_on result ≡ false }
 {
     let Rounds {
         group,
@@ -320,7 +318,9 @@ fn type_move<'t, 'i>(node: &'t Node, place: usize, subject: Subject<'i>) -> Move
     ensures { move_view result ≡ type_move (type_view node.now) place (subject_view subject.entry) }
 {
     match node {
-        Node::Plain(test) => return Move::Answered(test_reply(test, place, subject)),
+        Node::Plain(test) => {
+            return Move::Answered(said_reply(place, subject, passes_test(test, subject)))
+        }
         Node::Ref(to) => return Move::Asks(
             Question::OfType {
                 node: *to,
@@ -375,7 +375,15 @@ fn group_move<'t, 'i>(
                 Pending::Ref,
             )
         }
-        Group::Sequence(parts) => return next_part(parts, base, place, items, base),
+        Group::Sequence(parts) => {
+            return Move::GoesOn(Parts {
+                parts,
+                base,
+                place,
+                items,
+                far: base,
+            })
+        }
         Group::Alternatives(parts) => return next_alternative(parts, base, place, items, base),
         Group::Repeat { least, most, group } => {
             return Move::Repeats(Rounds {
@@ -481,37 +489,45 @@ fn next_in_simple<'t, 'i>(place: usize, reply: Reply<'i>) -> Move<'t, 'i>
     }
 }
 
-/// The item of an entry has matched, or not.
-fn next_in_entry<'t, 'i>(base: usize, rest: &'i [Item], reply: Reply<'i>) -> Move<'t, 'i>
-    ensures { move_view result ≡ next_move (InEntry base (values rest.now)) (reply_view reply.entry) }
+/// What an entry does whose item has matched, or not.
+pub(crate) fn entry_reply<'i>(base: usize, rest: &'i [Item], reply: Reply<'i>) -> Reply<'i>
+    ensures { M.Answered (reply_view result) ≡ next_move {N = TypeId} {G = GroupId} (InEntry base (values rest.now)) (reply_view reply.entry) }
 {
     match reply {
-        Reply::Takes { next, .. } => Move::Answered(Reply::Takes {
+        Reply::Takes { next, .. } => Reply::Takes {
             left: rest,
             next,
             far: base,
-        }),
-        Reply::Fails { far: later } => Move::Answered(Reply::Fails {
+        },
+        Reply::Fails { far: later } => Reply::Fails {
             far: base.max(later),
-        }),
+        },
     }
 }
 
 /// A group of a sequence has taken items, or failed: nothing is given back, so the sequence fails with it.
-fn next_in_sequence<'t, 'i>(
+pub(crate) fn next_in_sequence<'t, 'i>(
     parts: &'t [GroupId],
     base: usize,
     far: usize,
     reply: Reply<'i>,
 ) -> Move<'t, 'i>
-    ensures { move_view result ≡ next_move (InSequence parts.now base far) (reply_view reply.entry) }
+    ensures next { move_view result ≡ next_move (InSequence parts.now base far) (reply_view reply.entry) }
+    ensures parts { (left : Parts) → result ≡ Move.GoesOn left → left.parts.now ≡ parts.now }
+    ensures kind { (rounds : Rounds) → result ≡ Move.Repeats rounds → ⊥ }
 {
     match reply {
         Reply::Takes {
             left,
             next,
             far: later,
-        } => next_part(parts, base, next, left, far.max(later)),
+        } => Move::GoesOn(Parts {
+            parts,
+            base,
+            place: next,
+            items: left,
+            far: far.max(later),
+        }),
         Reply::Fails { far: later } => Move::Answered(Reply::Fails {
             far: far.max(later),
         }),
@@ -545,7 +561,7 @@ fn next_in_alternatives<'t, 'i>(
 
 /// A round has failed: so does the repetition, unless there were enough rounds.
 fn end_of_rounds<'i>(least: u64, items: &'i [Item], place: usize, far: usize) -> Reply<'i>
-    ensures { Answered (reply_view result) ≡ end_of_rounds {N = TypeId} {G = GroupId} least (values items.now) place far }
+    ensures { M.Answered (reply_view result) ≡ end_of_rounds {N = TypeId} {G = GroupId} least (values items.now) place far }
 {
     if least > 0 {
         return Reply::Fails { far };
@@ -561,6 +577,7 @@ fn end_of_rounds<'i>(least: u64, items: &'i [Item], place: usize, far: usize) ->
 pub(crate) fn next_in_repeat<'t, 'i>(rounds: Rounds<'i>, reply: Reply<'i>) -> Move<'t, 'i>
     ensures next { move_view result ≡ next_move (pending_view (P.Repeat rounds.entry)) (reply_view reply.entry) }
     ensures group { (others : Rounds) → result ≡ Move.Repeats others → others.group ≡ rounds.entry.group }
+    ensures kind { (parts : Parts) → result ≡ Move.GoesOn parts → ⊥ }
 {
     let Rounds { place, items, .. } = rounds;
     let (left, next, far) = match reply {
@@ -607,7 +624,7 @@ pub(crate) fn next_move<'t, 'i>(pending: Pending<'t, 'i>, reply: Reply<'i>) -> M
             content,
         } => return next_in_head(node, place, content, reply),
         Pending::Simple { place } => return next_in_simple(place, reply),
-        Pending::Entry { base, rest } => return next_in_entry(base, rest, reply),
+        Pending::Entry { base, rest } => return Move::Answered(entry_reply(base, rest, reply)),
         Pending::Sequence { parts, base, far } => return next_in_sequence(parts, base, far, reply),
         Pending::Alternatives {
             parts,

@@ -108,6 +108,19 @@ pub(crate) struct Rounds<'i> {
     pub(crate) far: usize,
 }
 
+/// The groups of a sequence that are left, and the items that are left for them.
+#[derive(Clone, Copy)]
+pub(crate) struct Parts<'t, 'i> {
+    pub(crate) parts: &'t [GroupId],
+    /// The place of the array.
+    pub(crate) base: usize,
+    /// The place of the first of the items.
+    pub(crate) place: usize,
+    pub(crate) items: &'i [Item],
+    /// The greatest place that failed so far.
+    pub(crate) far: usize,
+}
+
 /// Either the reply, or what is asked first.
 #[derive(Clone, Copy)]
 pub(crate) enum Move<'t, 'i> {
@@ -116,4 +129,6 @@ pub(crate) enum Move<'t, 'i> {
     Asks(Question<'i>, Pending<'t, 'i>),
     /// The group of another round, unless there were as many as may be.
     Repeats(Rounds<'i>),
+    /// The next group of a sequence, unless there is none.
+    GoesOn(Parts<'t, 'i>),
 }

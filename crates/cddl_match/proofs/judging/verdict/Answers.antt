@@ -48,6 +48,17 @@ loop-next-preserved-in-Repeats c =
 pub loop-next-smaller-in-Repeats : goal.loop-next-smaller-in-Repeats
 loop-next-smaller-in-Repeats c = rw (c.in-Repeats.is, c.rounds_ahead-asked.ensures.turns) (omega arith)
 
+pub loop-next-preserved-in-GoesOn : goal.loop-next-preserved-in-GoesOn
+loop-next-preserved-in-GoesOn c =
+    let i = rw c.in-GoesOn.is at c.loop-next.invariant.leads in
+    record {
+      within = omega (arith, c.loop-next.invariant.within);
+      leads = in_steps (omega (arith, c.loop-next.invariant.within, c.parts_ahead-asked.ensures.within)) (gone_on (language_of c.args.table.now) c.parts_ahead-asked.ensures.comes i);
+    }
+
+pub loop-next-smaller-in-GoesOn : goal.loop-next-smaller-in-GoesOn
+loop-next-smaller-in-GoesOn c = rw (c.in-GoesOn.is, c.parts_ahead-asked.ensures.turns) (omega arith)
+
 pub loop-next-preserved : goal.loop-next-preserved
 loop-next-preserved c =
     let i = rw (c.in-Answered.is, c.in-Some.ensures.items, stack_push) at c.loop-next.invariant.leads in

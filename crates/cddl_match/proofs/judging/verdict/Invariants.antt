@@ -1,7 +1,7 @@
 use Rattle.std.proofs.Common.{◌≤◌, ◌-◌, ◌+◌, ◌*◌, length}
 use Rattle.cddl_meaning.specs.Moves.{OfType}
 use Rattle.cddl_table.specs.Language.{language_of, root_of}
-use Rattle.cddl_match.specs.Views.{is_rounds, move_view, turns_of}
+use Rattle.cddl_match.specs.Views.{goes_on, move_view, turns_of}
 use Rattle.cddl_match.specs.Unwinding.{IsOnTheWay, stack_of}
 use Rattle.cddl_match.proofs.judging.verdict.Given as goal
 
@@ -13,4 +13,4 @@ invariant-loop-next l = record {
 }
 
 abbrev pub decreases-loop-next : goal.decreases-loop-next
-decreases-loop-next l = 4 * l.left + 2 * length l.waiting.items + turns_of (is_rounds l.next)
+decreases-loop-next l = 4 * l.left + 2 * length l.waiting.items + turns_of (goes_on l.next)

@@ -1,24 +1,28 @@
 use Rattle.std.proofs.Common.{refl, sym, subst, ◌∙◌, arith}
-use Rattle.cddl_table.specs.Nodes.{most_view, test_view}
-use Rattle.cddl_match.specs.Ahead.{IsLeaf}
+use Rattle.cddl_table.specs.Language.{language_of}
+use Rattle.cddl_table.specs.Nodes.{most_view, type_view}
+use Rattle.cddl_match.specs.Ahead.{IsEntered}
 use Rattle.cddl_match.specs.Views.{values}
-use Rattle.cddl_match.proofs.Behind.{and_on, stays, a_round}
-use Rattle.cddl_match.proofs.Rounds.{not_rounds}
+use Rattle.cddl_match.proofs.Ways.{and_on, stays, a_round}
+use Rattle.cddl_match.proofs.Rounds.{stays_so}
 use Rattle.cddl_match.proofs.looking.rounds_of.Goals as goal
 
-pub loop-reply-init : goal.loop-reply-init
-loop-reply-init c = record { within = omega arith; group = refl; comes = λ k leaf. stays k _ }
+pub loop-entered-init : goal.loop-entered-init
+loop-entered-init c = record { within = omega arith; group = refl; comes = λ entered. stays (language_of c.args.table.now) _ }
 
-pub loop-reply-preserved : goal.loop-reply-preserved
-loop-reply-preserved c = record {
-  within = omega (arith, c.loop-reply.invariant.within, c.if-more-steps.false);
-  group = c.in-Repeats.ensures.group _ refl ∙ c.loop-reply.invariant.group;
-  comes = λ k leaf. and_on k (c.loop-reply.invariant.comes k leaf) (a_round k c.loop-reply.rounds.least (most_view c.loop-reply.rounds.most) c.loop-reply.rounds.base c.loop-reply.rounds.place (values c.loop-reply.rounds.items.now) c.loop-reply.rounds.far c.args.leaf.groups c.args.leaf.types (test_view c.args.leaf.test.now) (subst (λ g. IsLeaf k g (test_view c.args.leaf.test.now) c.args.leaf.groups c.args.leaf.types) (sym c.loop-reply.invariant.group) leaf) (sym c.is_over.ensures ∙ c.if-is_over.false) c.told-more.ensures.fits c.told-more.ensures.reply c.told-more.ensures.asked c.in-Repeats.ensures.next) refl;
+pub loop-entered-smaller : goal.loop-entered-smaller
+loop-entered-smaller c = omega (arith, c.loop-entered.invariant.within, c.if-more-steps.false, c.in-Some.ensures.some)
+
+pub loop-entered-preserved : goal.loop-entered-preserved
+loop-entered-preserved c = record {
+  within = omega (arith, c.loop-entered.invariant.within, c.if-more-steps.false);
+  group = c.in-Repeats.ensures.group _ refl ∙ c.loop-entered.invariant.group;
+  comes = λ entered. and_on (language_of c.args.table.now) (c.loop-entered.invariant.comes entered) (a_round (language_of c.args.table.now) c.loop-entered.rounds.least (most_view c.loop-entered.rounds.most) c.loop-entered.rounds.group c.loop-entered.rounds.base c.loop-entered.rounds.place (values c.loop-entered.rounds.items.now) c.loop-entered.rounds.far (c.in-Some.ensures.told c.loop-entered.rounds.group (subst (λ g. IsEntered (language_of c.args.table.now) g (type_view c.args.entered.form.now) c.args.entered.groups c.args.entered.types) (sym c.loop-entered.invariant.group) entered)) (sym c.is_over.ensures ∙ c.loop-entered-test.true) c.in-Repeats.ensures.next) refl;
 }
 
 pub returns-in_default : goal.returns-in_default
 returns-in_default c = record {
-  comes = λ k leaf. and_on k (c.loop-reply.invariant.comes k leaf) (a_round k c.loop-reply.rounds.least (most_view c.loop-reply.rounds.most) c.loop-reply.rounds.base c.loop-reply.rounds.place (values c.loop-reply.rounds.items.now) c.loop-reply.rounds.far c.args.leaf.groups c.args.leaf.types (test_view c.args.leaf.test.now) (subst (λ g. IsLeaf k g (test_view c.args.leaf.test.now) c.args.leaf.groups c.args.leaf.types) (sym c.loop-reply.invariant.group) leaf) (sym c.is_over.ensures ∙ c.if-is_over.false) c.told-more.ensures.fits c.told-more.ensures.reply c.told-more.ensures.asked c.next_in_repeat.ensures.next) refl;
-  within = omega (arith, c.loop-reply.invariant.within, c.if-more-steps.false);
-  turns = not_rounds _ c.in_default.not-Repeats;
+  comes = λ entered. and_on (language_of c.args.table.now) (c.loop-entered.invariant.comes entered) (a_round (language_of c.args.table.now) c.loop-entered.rounds.least (most_view c.loop-entered.rounds.most) c.loop-entered.rounds.group c.loop-entered.rounds.base c.loop-entered.rounds.place (values c.loop-entered.rounds.items.now) c.loop-entered.rounds.far (c.in-Some.ensures.told c.loop-entered.rounds.group (subst (λ g. IsEntered (language_of c.args.table.now) g (type_view c.args.entered.form.now) c.args.entered.groups c.args.entered.types) (sym c.loop-entered.invariant.group) entered)) (sym c.is_over.ensures ∙ c.loop-entered-test.true) c.next_in_repeat.ensures.next) refl;
+  within = omega (arith, c.loop-entered.invariant.within, c.if-more-steps.false);
+  turns = stays_so _ c.in_default.not-Repeats c.next_in_repeat.ensures.kind;
 }

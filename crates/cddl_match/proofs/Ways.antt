@@ -1,11 +1,11 @@
 -- Names, choices of one and groups of one group reply as what is behind them.
-use Rattle.std.proofs.Common.{◌≡◌, ℕ, suc, ◌+◌, ◌<◌, ◌≤◌, ◌^◌, max, List, [], ◌∷◌, Option, Some, None, IfSome, Bool, true, false, refl, ap, sym, subst, ◌∙◌, arith}
+use Rattle.std.proofs.Common.{◌≡◌, ℕ, suc, ◌+◌, ◌≤◌, List, [], ◌∷◌, Option, Some, None, IfSome, Bool, true, false, refl, ap, sym, subst, ◌∙◌, arith}
 use Rattle.cbor_data.specs.Value.{Value}
-use Rattle.cddl_meaning.specs.Forms.{Language, Test, passes, Node, Plain, Ref, Choice, Group, Entry, GroupRef, Sequence, Alternatives, Most}
+use Rattle.cddl_meaning.specs.Forms.{Language, Test, passes, Node, Plain, Ref, Choice, Entry, GroupRef, Sequence, Alternatives, Most}
 use Rattle.cddl_meaning.specs.Judges.{Reply, Takes, Fails, is_over}
 use Rattle.cddl_meaning.specs.Moves as M
-use Rattle.cddl_meaning.specs.Moves.{Question, OfType, OfGroup, InRef, InChoice, InEntry, InSequence, InAlternatives, InRepeat, Move, Answered, Asks, Replies, replies, LeadsTo, at_once, after, first_move, type_move, group_move, next_move, next_round, repetition, test_reply}
-use Rattle.cddl_match.specs.Ahead.{ComesTo, Opens, AsksOn, IsTypeOf, IsGroupOf, IsLeaf, entry_reply, leaf_reply, leaf_asked}
+use Rattle.cddl_meaning.specs.Moves.{Question, OfType, OfGroup, InRef, InChoice, InEntry, InSequence, InAlternatives, InRepeat, Move, Answered, Asks, Replies, replies, LeadsTo, at_once, after, first_move, type_move, group_move, next_move, next_member, next_part, next_round, repetition}
+use Rattle.cddl_match.specs.Ahead.{ComesTo, Opens, AsksOn, IsTypeOf, IsGroupOf, IsTold, AreTold, IsTypeTold, IsEntered}
 use Rattle.cddl_match.proofs.Shapes.{far_of, group_shape, IsTypeReply, says_yes, says_no, type_shape}
 
 module _ {N G : Type 0} (l : Language N G) where
@@ -115,42 +115,53 @@ module _ {N G : Type 0} (l : Language N G) where
   only_alternative None e h = h
   only_alternative (Some g) e h = by_alternatives (e ∙ ap Alternatives h)
 
-  -- a type that is a test
-  pub by_test : {n m : N} {t : Test} {k : ℕ} → IsTypeOf l n m k → l.type_at m ≡ Plain t → (p : ℕ) (x : Value) → p < 2 ^ 64 → Opens l (OfType n p x) (Answered (test_reply p x (passes t x))) (k + 1)
-  by_test {m = m} a e p x h = and_opens (a p x h) (subst (λ n. Opens l (OfType m p x) n 1) (ap (λ f. type_move f p x) e) (opens (OfType m p x))) refl
+  then_comes : {q : Question N G} {m n : Move N G} {j k i : ℕ} → Opens l q m j → ComesTo l m n k → i ≡ j + k → Opens l q n i
+  then_comes {q = q} {j = j} {k = k} a b e = record {
+    leads = λ r w d. subst (λ n. Replies l q r n) (omega (arith, e)) (a.leads r (k + w) (b.leads r w d));
+    comes = λ r w d. let x = a.comes r w d in let y = b.comes r x.0 x.1 in (y.0, y.1, omega (arith, x.2, y.2, e));
+  }
 
-  -- an entry of such a type
-  pub by_entry : {g : G} {n m : N} {t : Test} {k : ℕ} → l.group_at g ≡ Entry n → IsTypeOf l n m k → l.type_at m ≡ Plain t → IsLeaf l g t 0 k
-  by_entry {g = g} e a i base q [] h = subst (λ m. Opens l (OfGroup g base q []) m 1) (ap (λ f. group_move f base q []) e) (opens (OfGroup g base q []))
-  by_entry {g = g} {n = n} {t = t} {k = k} e a i base q (x ∷ xs) h =
-      let one = subst (λ m. Opens l (OfGroup g base q (x ∷ xs)) m 1) (ap (λ f. group_move f base q (x ∷ xs)) e) (opens (OfGroup g base q (x ∷ xs))) in
-      let all = answers (InEntry base xs) (by_test a i q x h) in
-      subst (λ m. Opens l (OfGroup g base q (x ∷ xs)) m (1 + k + 1)) (entered (test_reply q x (passes t x))) (then_comes one all (omega arith))
-    where
-      entered : (r : Reply) → next_move {N = N} {G = G} (InEntry base xs) r ≡ Answered (entry_reply base xs r)
-      entered (Takes left next far) = refl
-      entered (Fails far) = refl
+  -- what tests tell
 
-      then_comes : {q : Question N G} {m n : Move N G} {j k i : ℕ} → Opens l q m j → ComesTo l m n k → i ≡ j + k → Opens l q n i
-      then_comes {q = q} {j = j} {k = k} a b e = record {
-        leads = λ r w d. subst (λ n. Replies l q r n) (omega (arith, e)) (a.leads r (k + w) (b.leads r w d));
-        comes = λ r w d. let x = a.comes r w d in let y = b.comes r x.0 x.1 in (y.0, y.1, omega (arith, x.2, y.2, e));
-      }
+  pub by_test : (t : Test) (x : Value) → IsTold l (Plain t) x (passes t x) 0
+  by_test t x p h = stays _
 
-  -- a group that leads to such an entry
-  pub leads_to_leaf : {g h : G} (t : Test) {j : ℕ} (k : ℕ) → IsGroupOf l g h j → IsLeaf l h t 0 k → IsLeaf l g t j k
-  leads_to_leaf t k a b base q [] h = and_opens (a base q []) (b base q [] h) (omega arith)
-  leads_to_leaf t k a b base q (x ∷ xs) h = and_opens (a base q (x ∷ xs)) (b base q (x ∷ xs) h) (omega arith)
+  pub no_member : (x : Value) → AreTold l [] x false 0
+  no_member x p h = stays _
 
-  -- a round of such a group
-  pub a_round : {g : G} (least : ℕ) (most : Most) (base q : ℕ) (xs : List Value) (far j k : ℕ) (t : Test) → {n : ℕ} {s : Reply} {m : Move N G} → IsLeaf l g t j k → is_over most ≡ false → q < 2 ^ 64 → s ≡ leaf_reply t base q xs → n ≡ leaf_asked j k xs → m ≡ next_move (InRepeat least most g base q xs far) s → ComesTo l (repetition least most g base q xs far) m n
-  a_round {g = g} least most base q xs far j k t {n = n} leaf over h is asked e =
+  pub this_member : {m : N} {ms : List N} {x : Value} {k : ℕ} → IsTypeTold l m x true k → AreTold l (m ∷ ms) x true k
+  this_member {ms = ms} {x = x} a p h = answers (InChoice ms p x p) (a p h)
+
+  pub not_this_member : {m : N} {ms : List N} {x : Value} (says : Bool) {j k n : ℕ} → IsTypeTold l m x false j → AreTold l ms x says k → n ≡ j + k → AreTold l (m ∷ ms) x says n
+  not_this_member {m = m} {ms = ms} {x = x} says {j = j} a b e p h =
+      and_on (subst (λ far. ComesTo l (next_member (m ∷ ms) p x p) (next_member ms p x far) j) (omega arith) (answers (InChoice ms p x p) (a p h))) (b p h) e
+
+  pub told_behind : {n m : N} {f : Node N G} (x : Value) (says : Bool) {j k i : ℕ} → IsTypeOf l n m j → l.type_at m ≡ f → IsTold l f x says k → i ≡ k + (j + 1) → IsTypeTold l n x says i
+  told_behind {m = m} {f = f} x says {j = j} {k = k} a e b i p h =
+      and_opens (a p x h) (then_comes (subst (λ f. Opens l (OfType m p x) (type_move f p x) 1) e (opens (OfType m p x))) (b p h) refl) (omega (arith, i))
+
+  -- an entry of such a type, and a group that leads to one
+  pub by_entry : {g : G} {n m : N} {f : Node N G} {k : ℕ} → l.group_at g ≡ Entry n → IsTypeOf l n m k → l.type_at m ≡ f → IsEntered l g f 0 k
+  by_entry {g = g} {n = n} {f = f} {k = k} e a i = record {
+    none = λ base q. subst (λ m. Opens l (OfGroup g base q []) m 1) (ap (λ f. group_move f base q []) e) (opens (OfGroup g base q []));
+    some = λ base q x xs says m r h b is.
+        let one = subst (λ m. Opens l (OfGroup g base q (x ∷ xs)) m 1) (ap (λ f. group_move f base q (x ∷ xs)) e) (opens (OfGroup g base q (x ∷ xs))) in
+        let all = answers (InEntry base xs) (told_behind x says {j = k} a i b refl q h) in
+        subst (λ o. Opens l (OfGroup g base q (x ∷ xs)) o (m + (0 + 1 + k + 1))) (sym is) (then_comes one all (omega arith));
+  }
+
+  pub leads_to_entry : {g h : G} {f : Node N G} {j k : ℕ} → IsGroupOf l g h j → IsEntered l h f 0 k → IsEntered l g f j k
+  leads_to_entry a b = record {
+    none = λ base q. and_opens (a base q []) (b.none base q) (omega arith);
+    some = λ base q x xs says m r i c is. and_opens (a base q (x ∷ xs)) (b.some base q x xs says m r i c is) (omega arith);
+  }
+
+  -- the group of a round, or of a sequence, is told at once
+  pub a_round : (least : ℕ) (most : Most) (g : G) (base q : ℕ) (xs : List Value) (far : ℕ) → {n : ℕ} {s : Reply} {m : Move N G} → Opens l (OfGroup g base q xs) (Answered s) n → is_over most ≡ false → m ≡ next_move (InRepeat least most g base q xs far) s → ComesTo l (repetition least most g base q xs far) m n
+  a_round least most g base q xs far {n = n} {s = s} a over e =
       let o = InRepeat least most g base q xs far in
-      let one = answers o (leaf base q xs h) in
-      let there = subst (λ b. ComesTo l (next_round b least most g base q xs far) (next_move o (leaf_reply t base q xs)) (leaf_asked j k xs)) (sym over) one in
-      let then = subst (λ n. ComesTo l (repetition least most g base q xs far) (next_move o (leaf_reply t base q xs)) n) (sym asked) there in
-      subst (λ m. ComesTo l (repetition least most g base q xs far) m n) (sym (e ∙ ap (next_move o) is)) then
+      subst (λ m. ComesTo l (repetition least most g base q xs far) m n) (sym e) (subst (λ b. ComesTo l (next_round b least most g base q xs far) (next_move o s) n) (sym over) (answers o a))
 
-pub asked_some : (j k : ℕ) (xs : List Value) → 1 ≤ leaf_asked j k xs
-asked_some j k [] = omega arith
-asked_some j k (x ∷ xs) = omega arith
+  pub a_part : (g : G) (gs : List G) (base q : ℕ) (xs : List Value) (far : ℕ) → {n : ℕ} {s : Reply} {m : Move N G} → Opens l (OfGroup g base q xs) (Answered s) n → m ≡ next_move (InSequence gs base far) s → ComesTo l (next_part (g ∷ gs) base q xs far) m n
+  a_part g gs base q xs far {n = n} {s = s} a e =
+      subst (λ m. ComesTo l (next_part (g ∷ gs) base q xs far) m n) (sym e) (answers (InSequence gs base far) a)

@@ -1,7 +1,7 @@
 use Rattle.std.proofs.Common.{refl}
 use Rattle.cddl_table.specs.Language.{language_of}
-use Rattle.cddl_match.proofs.Behind.{itself, further}
-use Rattle.cddl_match.proofs.looking.group_behind.Goals as goal
+use Rattle.cddl_match.proofs.Ways.{itself, further}
+use Rattle.cddl_match.proofs.behind.group_behind.Goals as goal
 
 pub loop-asked-init : goal.loop-asked-init
 loop-asked-init c = λ base q xs. itself (language_of c.args.table.now) _
