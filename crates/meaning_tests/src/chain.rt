@@ -1,5 +1,6 @@
 ghost use Rattle.cddl_parse.specs.States.{EndsInEnd};
 
+use crate::faults::fault_of;
 use crate::telling::told;
 use cddl_choosing::choosable;
 use cddl_closed::{Closed, close};
@@ -99,7 +100,12 @@ fn in_tree<'s>(alloc: Global, tree: &Tree<'s>, what: &str) -> Option<String> {
     let mut terms = Terms::new(alloc);
     let survey = survey_of(alloc, &mut terms, tree).ok()?;
     let meant = meant_in(alloc, &mut terms, tree, &survey)?;
-    told(alloc, &terms, &meant, what)
+    match what {
+        "opened" | "unwrapped" | "range" | "recursion" => {
+            fault_of(alloc, &terms, tree, &survey, &meant, what)
+        }
+        _ => told(alloc, &terms, &meant, what),
+    }
 }
 
 fn in_tokens(alloc: Global, found: &[Token<'_>], what: &str) -> Option<String>

@@ -1,4 +1,6 @@
 use crate::chain::told_of;
+use cddl_instances::Found;
+use cddl_root_faults::too_many;
 use std::alloc::Global;
 
 /// What is told, by the name of the call, and the text of a specification.
@@ -23,7 +25,18 @@ order | round | a = [x: &(~a)]
 order | down down | a = [g] g = (#, ? g)
 order | - round round | a = &(b) b = (y: &(c)) c = (x: &(b))
 asked | from4 whole9 whole12 | a = &(x: 1..2)
-nodes | 3 3 true | a = [5]";
+nodes | 3 3 true | a = [5]
+opened | - | a = [* ~b] b = #6.1(c) c = #
+opened | 5 | a = [~b] b = #
+unwrapped | 5 | a = [~b, &(? 1)] b = #
+unwrapped | 4 | a = &g g = (? 1)
+unwrapped | - | a = &(x: 1)
+range | - | a = 1..2
+range | 7 | a = 0..b b = #
+range | 5 | a = [3*2 #]
+recursion | - | a = [* a]
+recursion | 0 | a = b b = a
+recursion | 8 | a = [g] g = (? #, g)";
 
 /// The parts of a row.
 fn parts_of(row: &str) -> Option<(&str, &str, &str)> {
@@ -46,6 +59,12 @@ fn is_right(alloc: Global, row: &str) -> bool {
 fn tells_of_texts(rt: HostRuntime) {
     let alloc = rt.alloc();
     assert!(rt; ROWS.lines().position(|row| !is_right(alloc, row)) == None);
+}
+
+#[test]
+fn tells_of_too_many_instances(rt: HostRuntime) {
+    assert!(rt; too_many(&Found::TooMany) == Some(0));
+    assert!(rt; too_many(&Found::Instances(Vec::new(rt.alloc()))) == None);
 }
 
 // Run with each allocation refused in turn (`rt try --test --fail-alloc N`), this finds no other answer.
