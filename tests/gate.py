@@ -24,6 +24,7 @@ from concurrent.futures import ThreadPoolExecutor
 
 import recognizer
 from run_grammar import run_grammar
+from run_memory import run_memory
 from run_rows import TOP, run_rows
 from test_imports import are_imports_clean
 from test_wrong_edits import run_tests
@@ -121,6 +122,7 @@ def rows():
     passed = failed = 0
     for name, run in (
         ("rows on the built program", lambda: run_rows(PROGRAM)),
+        ("commands with each request for memory refused", lambda: run_memory(PROGRAM)),
         ("rows of the grammar", lambda: run_grammar(OUTLINE)),
         ("comparisons with a plain recognizer", lambda: recognizer.compare(OUTLINE)),
     ):

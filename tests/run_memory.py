@@ -1,0 +1,96 @@
+#!/usr/bin/env python3
+"""Runs the program with each of its requests for memory refused in turn, by tests/refuse.c.
+
+    run_memory.py PROGRAM
+
+A run whose request was refused has to end as the run with ample memory does; or with status 3 and the one line 'out of memory'
+on standard error, where what it printed before is a beginning of what it prints with ample memory. There is a line for each
+command with its number of requests. The last line is 'N passed, M failed', and the status is 0 only where none failed.
+"""
+import argparse
+import os
+import shutil
+import subprocess
+import sys
+import tempfile
+from concurrent.futures import ThreadPoolExecutor
+
+HERE = os.path.dirname(os.path.abspath(__file__))
+TOP = os.path.dirname(HERE)
+AT_ONCE = 3
+GATEWAY = os.path.join(TOP, "examples", "gateway.cddl")
+BROKEN = os.path.join(TOP, "examples", "broken.cborseq")
+# Words of a command, in which a text that is no file's name stands for a file with this text.
+COMMANDS = [
+    ["check", GATEWAY],
+    ["validate", GATEWAY, BROKEN],
+    ["show", BROKEN],
+    ["check", "a = [b, c<int>, ~d, &(x: 1)]\nb = (int // tstr)\nc<t> = [* t]\nd = #6.1(any)\n"],
+    ["check", "a = [b]\nb = (int // c)\n"],
+    ["check", "a = [~b]\nb = int\n"],
+    ["check", "r = [a]\na = [g]\ng = (? int, g)\n"],
+    ["check", "r = [a]\na = [5..tstr, 3*2 int]\n"],
+    ["check", "r = (a: 1, b: [c])\nc = (d //\n"],
+    ["check", "a /= 1 / 'x' / h'00' / b64'AA' / \"\\u{1F600}\" / -1 / 0x13 / #7.20 / #6.<b>(c)\nb = 1..2\nc = any\n$s /= 3\nd = [* $$g, $s]\n"],
+    ["check", "--root", "s", "r = int\ns = [* ~t]\nt = [+ r]\n"],
+]
+
+
+def run(words, shim, **how):
+    """The status of a run, and what it printed on standard output and on standard error."""
+    env = {**os.environ, **how, "LD_PRELOAD": shim}
+    ran = subprocess.run(words, env=env, stdin=subprocess.DEVNULL, stdout=subprocess.PIPE, stderr=subprocess.PIPE)
+    return ran.returncode, ran.stdout, ran.stderr
+
+
+def is_right(ample, told):
+    status, out, err = told
+    return told == ample or (status == 3 and err == b"out of memory\n" and ample[1].startswith(out))
+
+
+def run_command(words, shim, folder, pool):
+    """Whether each run of a command is right, and how many requests for memory it makes."""
+    count = f"{folder}/count"
+    ample = run(words, shim, COUNT=count)
+    with open(count, encoding="ascii") as file:
+        made = int(file.read())
+    told = pool.map(lambda number: (number, run(words, shim, REFUSE=str(number))), range(1, made + 1))
+    wrong = [(number, it) for number, it in told if not is_right(ample, it)]
+    for number, it in wrong[:3]:
+        print(f"with request {number} refused: status {it[0]}, {it[1][-200:]!r}, {it[2]!r}")
+    return not wrong, made
+
+
+def run_memory(program):
+    """Runs all commands, and returns how many passed and failed."""
+    passed = failed = 0
+    with tempfile.TemporaryDirectory() as folder, ThreadPoolExecutor(AT_ONCE) as pool:
+        shim = f"{folder}/refuse.so"
+        compiler = shutil.which("cc") or shutil.which("clang") or "cc"
+        subprocess.run([compiler, "-O1", "-shared", "-fPIC", "-o", shim, f"{HERE}/refuse.c"], check=True)
+        for place, command in enumerate(COMMANDS):
+            words = [os.path.abspath(program)]
+            for word in command:
+                if "\n" in word:
+                    path = f"{folder}/{place}.cddl"
+                    with open(path, "w", encoding="utf-8") as file:
+                        file.write(word)
+                    word = path
+                words.append(word)
+            good, made = run_command(words, shim, folder, pool)
+            passed, failed = passed + good, failed + (not good)
+            told = command[0] + (" a text" if place > 2 else " an example")
+            print(f"{told}: {made} requests, {'passed' if good else 'FAILED'}", flush=True)
+    return passed, failed
+
+
+def main():
+    words = argparse.ArgumentParser(description="Refuses each request of a program for memory in turn.")
+    words.add_argument("program")
+    passed, failed = run_memory(words.parse_args().program)
+    print(f"{passed} passed, {failed} failed")
+    return 1 if failed else 0
+
+
+if __name__ == "__main__":
+    sys.exit(main())
