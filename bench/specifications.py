@@ -7,7 +7,8 @@
 added; what the empty one costs is taken off. The columns: the speed on the larger specification, in MiB/s, the growth of the
 processor time from the smaller one to the larger, which is 2 where the cost grows with the size alone, and the peak memory on
 the larger one for each of its bytes. Then 'PROGRAM validate' reads a stream of arrays of some 100 bytes against a specification
-that asks about each item in them, and against 'any', by turns; the ratio of the two processor times is printed.
+that asks about each item in them, and against 'any', by turns; the ratio of the least processor time of the one to that of the
+other is printed.
 
 The status is 1 where a specification is not answered as expected, where a growth is outside 1.4 to 2.8, or where the ratio is
 over 1.3.
@@ -132,13 +133,15 @@ def streams(program, folder):
     specifications = {"any": "r = any\n", "arrays": (
         "r = [name: tstr, unit: unit, number: uint, time: uint, * sample<uint>]\n"
         'unit = "Cel" / "%RH" / tstr\nsample<v> = (value: v)\n')}
-    times = dict.fromkeys(specifications, 0.0)
+    times = dict.fromkeys(specifications, float("inf"))
     for name, text in specifications.items():
         with open(os.path.join(folder, f"{name}.cddl"), "w", encoding="ascii") as file:
             file.write(text)
-    for _ in range(RUNS):
+    # Other work on the machine only adds to a time, so the least of several is the nearest.
+    for _ in range(2 * RUNS):
         for name in specifications:
-            times[name] += spent([program, "validate", os.path.join(folder, f"{name}.cddl"), path])[0]
+            taken, _ = spent([program, "validate", os.path.join(folder, f"{name}.cddl"), path])
+            times[name] = min(times[name], taken)
     ratio = times["arrays"] / times["any"]
     print(f"\n{MESSAGES} arrays of {os.path.getsize(path) // MESSAGES} bytes, each item asked about: {ratio:.2f} times 'any'")
     return ratio > MOST_RATIO

@@ -1,10 +1,10 @@
 use crate::chain::Meant;
+use crate::telling::order_in;
 use cddl_environment::names;
 use cddl_live_sites::live_sites;
 use cddl_range_faults::bad_range;
 use cddl_reached::reached_sites;
 use cddl_reached_faults::{not_unwrappable, not_unwrapped, nothing_chosen};
-use cddl_recursion::find_order;
 use cddl_root_faults::recursion;
 use cddl_sites::Found;
 use cddl_survey::Survey;
@@ -73,15 +73,6 @@ fn returning(
 ) -> Option<Option<usize>> {
     let count = terms.text_count();
     let names = names(alloc, count, &survey.known, &survey.definitions).ok()?;
-    let order = find_order(
-        alloc,
-        terms,
-        &meant.closed,
-        &meant.kinds,
-        &meant.openings,
-        &meant.choosable,
-        &meant.may_be_empty,
-    )
-    .ok()?;
+    let order = order_in(alloc, terms, meant)?;
     Some(recursion(terms, tree, &names, &meant.closed, &order))
 }

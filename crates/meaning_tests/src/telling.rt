@@ -168,9 +168,9 @@ fn is_above(ranks: &Ranks, place: u32, meaning: &Meaning) -> bool {
     }
 }
 
-/// Of each instance whether it is above what it means; or of each whether it comes back to itself.
-fn order_of(alloc: Global, terms: &Terms<'_>, meant: &Meant) -> Option<String> {
-    let order = find_order(
+/// The order of what is asked of an item.
+pub(crate) fn order_in(alloc: Global, terms: &Terms<'_>, meant: &Meant) -> Option<Order> {
+    find_order(
         alloc,
         terms,
         &meant.closed,
@@ -179,8 +179,12 @@ fn order_of(alloc: Global, terms: &Terms<'_>, meant: &Meant) -> Option<String> {
         &meant.choosable,
         &meant.may_be_empty,
     )
-    .ok()?;
-    match order {
+    .ok()
+}
+
+/// Of each instance whether it is above what it means; or of each whether it comes back to itself.
+fn order_of(alloc: Global, terms: &Terms<'_>, meant: &Meant) -> Option<String> {
+    match order_in(alloc, terms, meant)? {
         Order::Ranks(ranks) => of_ranks(alloc, meant, &ranks),
         Order::Cycles(flags) => of_flags(alloc, &flags),
     }
