@@ -12,6 +12,7 @@ from what the program printed.
   words                 the words after the program's name. The program runs in an empty folder; SPEC names a file there
                         with the row's specification
   spec, spec_hex        the specification: a text, or bytes in hex. Without either there is no such file
+  spec_parts            the same, as a list of [text, count]
   spec_file             the same, as a file of this repository
   stdin, stdin_parts    the stream: bytes in hex, or a list of [hex, count], each taken count times. Without either the
                         program is run once, with empty standard input
@@ -81,6 +82,8 @@ def spec_of(row):
         return file_of(row["spec_file"])
     if "spec_hex" in row:
         return bytes.fromhex(row["spec_hex"])
+    if "spec_parts" in row:
+        return spelled(row["spec_parts"])
     return row["spec"].encode() if "spec" in row else None
 
 
