@@ -1,9 +1,22 @@
 -- Languages that are alike say the same of each item, at the same place, with the same weight.
-use Rattle.std.proofs.Common.{ℕ, List}
-use Rattle.cbor_data.specs.Value.{Value}
-use Rattle.cddl_meaning.specs.Forms.{TagNumber, Node, Most, Group, Language}
-use Rattle.cddl_meaning.specs.Judges.{Answer, Reply, Says, passed, missed, ref, choice, no_array, array, no_tag, tagged, other_tag, no_simple, simple_such, other_simple, Numbers, whichever, this_number, other_number, by_head, Chooses, no_more, this_one, not_this, Does, missing, matches, differs, group_ref, sequence, alternatives, repeat, DoesEach, all_done, one_fails, and_then, DoesFirst, all_fail, one_takes, or_else, Repeats, full, too_few, enough, empty_round, round}
-use Rattle.cddl_meaning.specs.Alike.{flipped, AlikeAll, none, both, AlikeNumbers, any_numbers, same_number, heads, AlikeTypes, plain, refs, choices, arrays, tags, simples, AlikeGroups, entries, group_refs, sequences, alternates, repeats, AreAlike}
+use Rattle.std.proofs.Common.{◌≡◌, ℕ, suc, ◌+◌, length, List, ◌∷◌, nat_le, ◌&&◌, refl, sym, subst, ap, ◌∙◌}
+use Rattle.cbor_data.specs.Value.{Value, Pairs, pair}
+use Rattle.cddl_meaning.specs.Forms.{TagNumber, MapEntry, Node, Most, Group, Language}
+use Rattle.cddl_meaning.specs.Judges.{Answer, Reply, Says, passed, missed, ref, choice, no_array, array, no_tag, tagged, other_tag, no_simple, simple_such, other_simple, no_map, map, Fate, count_of, is_up_to_most, are_enough, first_stray, first_failing, by_counts, shown_by, alternative_says, either, Maps, no_alternative, alternative, Sorts, all_sorted, sort, Belongs, nowhere, other_key, here, cut_here, handed_on, Numbers, whichever, this_number, other_number, by_head, Chooses, no_more, this_one, not_this, Does, missing, matches, differs, group_ref, sequence, alternatives, repeat, DoesEach, all_done, one_fails, and_then, DoesFirst, all_fail, one_takes, or_else, Repeats, full, too_few, enough, empty_round, round}
+use Rattle.cddl_meaning.specs.Alike as A
+use Rattle.cddl_meaning.specs.Alike.{flipped, AlikeAll, none, both, AlikeNumbers, any_numbers, same_number, heads, AlikeEntries, no_entries, entry, AlikeMaps, no_alternatives, AlikeTypes, plain, refs, choices, arrays, tags, simples, maps, AlikeGroups, entries, group_refs, sequences, alternates, repeats, AreAlike}
+
+module _ {N M : Type 0} (R : N → M → Type 0) where
+  as_many : {ds : List (MapEntry N)} {es : List (MapEntry M)} → AlikeEntries R ds es → length ds ≡ length es
+  as_many no_entries = refl
+  as_many (entry a b c r s t) = ap suc (as_many t)
+
+  enough_too : {ds : List (MapEntry N)} {es : List (MapEntry M)} (i : ℕ) (fs : List Fate) → AlikeEntries R ds es → are_enough ds i fs ≡ are_enough es i fs
+  enough_too i fs no_entries = refl
+  enough_too i fs (entry {e = e} a b c r s t) = rw (a, b) (ap (λ z. (nat_le e.least (count_of i fs) && is_up_to_most (count_of i fs) e.most) && z) (enough_too (suc i) fs t))
+
+  alternative_too : {ds : List (MapEntry N)} {es : List (MapEntry M)} (p : ℕ) (fs : List Fate) → AlikeEntries R ds es → alternative_says ds p fs ≡ alternative_says es p fs
+  alternative_too p fs r = ap (λ b. shown_by (first_stray fs) (shown_by (first_failing fs) (by_counts p b))) (enough_too 0 fs r)
 
 module _ {N G M H : Type 0} (l : Language N G) (k : Language M H) (R : N → M → Type 0) (S : G → H → Type 0) (i : AreAlike l k R S) where
   mutual
@@ -20,6 +33,25 @@ module _ {N G M H : Type 0} (l : Language N G) (k : Language M H) (R : N → M �
     says_too (no_simple h) (simples r) = no_simple h
     says_too (simple_such {m = n} e d) (simples {m = m} r) = simple_such e (says_too d (i.types n m r))
     says_too (other_simple {m = n} e d) (simples {m = m} r) = other_simple e (says_too d (i.types n m r))
+    says_too (no_map h) (maps r) = no_map h
+    says_too (map e d) (maps r) = map e (maps_too d r)
+
+    maps_too : {dss : List (List (MapEntry N))} {ess : List (List (MapEntry M))} {p w : ℕ} {ps : Pairs} {b a : Answer} → Maps l dss p ps b a w → AlikeMaps R dss ess → Maps k ess p ps b a w
+    maps_too no_alternative no_alternatives = no_alternative
+    maps_too {p = p} {ps = ps} {b = b} {a = a} (alternative {w = w} {fs = fs} d e) (A.alternative {ess = ess} r rs) =
+        alternative (sorts_too d r) (subst (λ c. Maps k ess p ps (either b c) a w) (alternative_too R p fs r) (maps_too e rs))
+
+    sorts_too : {ds : List (MapEntry N)} {es : List (MapEntry M)} {q w : ℕ} {ps : Pairs} {fs : List Fate} → Sorts l ds q ps fs w → AlikeEntries R ds es → Sorts k es q ps fs w
+    sorts_too all_sorted r = all_sorted
+    sorts_too {es = es} (sort {q = q} {v = v} {w = w} {k = c} {x = x} {ps = ps} {f = f} {fs = fs} d e) r =
+        subst (λ n. Sorts k es q (pair c x ps) (f ∷ fs) (suc n + v + w)) (sym (as_many R r)) (sort (belongs_too d r) (sorts_too e r))
+
+    belongs_too : {ds : List (MapEntry N)} {es : List (MapEntry M)} {j q w : ℕ} {c x : Value} {f : Fate} → Belongs l ds j q c x f w → AlikeEntries R ds es → Belongs k es j q c x f w
+    belongs_too nowhere no_entries = nowhere
+    belongs_too (other_key d b) (entry {d = m} {e = n} y z o r s rs) = other_key (says_too d (i.types m.key_type n.key_type r)) (belongs_too b rs)
+    belongs_too (here d b) (entry {d = m} {e = n} y z o r s rs) = here (says_too d (i.types m.key_type n.key_type r)) (says_too b (i.types m.value_type n.value_type s))
+    belongs_too (cut_here h d b) (entry {d = m} {e = n} y z o r s rs) = cut_here (sym o ∙ h) (says_too d (i.types m.key_type n.key_type r)) (says_too b (i.types m.value_type n.value_type s))
+    belongs_too (handed_on h d b t) (entry {d = m} {e = n} y z o r s rs) = handed_on (sym o ∙ h) (says_too d (i.types m.key_type n.key_type r)) (says_too b (i.types m.value_type n.value_type s)) (belongs_too t rs)
 
     pub numbers_too : {s : TagNumber N} {t : TagNumber M} {p n w : ℕ} {a : Answer} → Numbers l s p n a w → AlikeNumbers R s t → Numbers k t p n a w
     numbers_too whichever any_numbers = whichever
@@ -67,6 +99,14 @@ flip_numbers R any_numbers = any_numbers
 flip_numbers R same_number = same_number
 flip_numbers R (heads r) = heads r
 
+flip_entries : {N M : Type 0} (R : N → M → Type 0) {ds : List (MapEntry N)} {es : List (MapEntry M)} → AlikeEntries R ds es → AlikeEntries (flipped R) es ds
+flip_entries R no_entries = no_entries
+flip_entries R (entry a b c r s t) = entry (sym a) (sym b) (sym c) r s (flip_entries R t)
+
+flip_maps : {N M : Type 0} (R : N → M → Type 0) {dss : List (List (MapEntry N))} {ess : List (List (MapEntry M))} → AlikeMaps R dss ess → AlikeMaps (flipped R) ess dss
+flip_maps R no_alternatives = no_alternatives
+flip_maps R (A.alternative r rs) = A.alternative (flip_entries R r) (flip_maps R rs)
+
 flip_types : {N G M H : Type 0} (R : N → M → Type 0) (S : G → H → Type 0) {f : Node N G} {e : Node M H} → AlikeTypes R S f e → AlikeTypes (flipped R) (flipped S) e f
 flip_types R S plain = plain
 flip_types R S (refs r) = refs r
@@ -74,6 +114,7 @@ flip_types R S (choices r) = choices (flip_all R r)
 flip_types R S (arrays r) = arrays r
 flip_types R S (tags t r) = tags (flip_numbers R t) r
 flip_types R S (simples r) = simples r
+flip_types R S (maps r) = maps (flip_maps R r)
 
 flip_groups : {N G M H : Type 0} (R : N → M → Type 0) (S : G → H → Type 0) {f : Group N G} {e : Group M H} → AlikeGroups R S f e → AlikeGroups (flipped R) (flipped S) e f
 flip_groups R S (entries r) = entries r

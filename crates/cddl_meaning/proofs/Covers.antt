@@ -1,7 +1,7 @@
 -- What a group takes ends where it says.
 use Rattle.std.proofs.Common.{◌≡◌, ℕ, suc, ◌+◌, ◌≤◌, List, [], ◌∷◌, refl, sym, ap, arith}
-use Rattle.cbor_data.specs.Value.{Value, uint, nint, bytes, text, array, pairs, tag, simple, float, Values, no_values, value, place_count, values_place_count}
-use Rattle.cddl_meaning.specs.Forms.{list_of, members_in, tag_in, simple_in, Group, Most, Language}
+use Rattle.cbor_data.specs.Value.{Value, uint, nint, bytes, text, array, pairs, tag, simple, float, Values, no_values, value, Pairs, place_count, values_place_count, pairs_place_count}
+use Rattle.cddl_meaning.specs.Forms.{list_of, members_in, pairs_in, tag_in, simple_in, Group, Most, Language}
 use Rattle.cddl_meaning.specs.Judges.{Takes, Does, matches, group_ref, sequence, alternatives, repeat, DoesEach, all_done, and_then, DoesFirst, one_takes, or_else, Repeats, full, enough, empty_round, round}
 use Rattle.std.specs.Prelude.{Option, Some, None}
 
@@ -40,6 +40,12 @@ tag_places (tag m z) y n e =
     let h : z ≡ y = ap (content_or z) e in
     rw h refl
 tag_places _ y n e = cc e
+
+pub map_places : (x : Value) (ps : Pairs) → pairs_in x ≡ Some ps → place_count x ≡ suc (pairs_place_count ps)
+map_places (pairs qs) ps e =
+    let h : qs ≡ ps = cc e in
+    rw h refl
+map_places _ ps e = cc e
 
 pub simple_places : (x : Value) (n : ℕ) → simple_in x ≡ Some n → place_count x ≡ 1
 simple_places (array xs) n e = cc e

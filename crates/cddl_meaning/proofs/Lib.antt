@@ -3,5 +3,6 @@ mod Alike
 mod Covers
 mod Means
 mod Once
+mod Tallies
 mod Inside
 mod Matches

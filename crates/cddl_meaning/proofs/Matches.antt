@@ -1,12 +1,13 @@
 -- What the definition says, the moves reply.
-use Rattle.std.proofs.Common.{◌≡◌, ◌≢◌, ℕ, suc, ◌+◌, ◌-◌, ◌<◌, ◌≤◌, ◌^◌, max, length, List, [], Some, true, false, nat_eq, refl, subst, sym, ap, ◌∙◌, arith}
+use Rattle.std.proofs.Common.{◌≡◌, ◌≢◌, ℕ, suc, ◌+◌, ◌-◌, ◌<◌, ◌≤◌, ◌^◌, max, length, List, [], ◌∷◌, Some, true, false, nat_eq, refl, subst, sym, ap, ◌∙◌, arith}
 use Rattle.std.proofs.lemmas.Bool.Decides.{nat_tests}
-use Rattle.cbor_data.specs.Value.{Value, place_count}
-use Rattle.cddl_meaning.specs.Forms.{members_in, tag_in, simple_in, TagNumber, Node, Most, Group, Language}
-use Rattle.cddl_meaning.specs.Judges.{Answer, Yes, No, Reply, Takes, Fails, ArraySays, whole, over, failed, one_less, Says, passed, missed, ref, choice, no_array, array, no_tag, tagged, other_tag, no_simple, simple_such, other_simple, Numbers, whichever, this_number, other_number, by_head, Chooses, no_more, this_one, not_this, Does, missing, matches, differs, group_ref, sequence, alternatives, repeat, DoesEach, all_done, one_fails, and_then, DoesFirst, all_fail, one_takes, or_else, Repeats, full, too_few, enough, empty_round, round}
-use Rattle.cddl_meaning.specs.Moves.{Question, OfType, OfGroup, Pending, InRef, InRepeat, Move, Answered, Asks, plus, yes_reply, reply_of, test_reply, next_member, next_part, next_alternative, repetition, after_round, tag_move, type_move, group_move, first_move, array_reply, next_move, Replies, replies, LeadsTo, at_once, after}
+use Rattle.cbor_data.specs.Value.{Value, place_count, Pairs, no_pairs, pair, pairs_place_count}
+use Rattle.cddl_meaning.specs.Forms.{members_in, pairs_in, tag_in, simple_in, TagNumber, MapEntry, Node, Most, Group, Language}
+use Rattle.cddl_meaning.specs.Judges.{Answer, Yes, No, Reply, Takes, Fails, ArraySays, whole, over, failed, one_less, Says, passed, missed, ref, choice, no_array, array, no_tag, tagged, other_tag, no_simple, simple_such, other_simple, no_map, map, Fate, alternative_says, either, Maps, no_alternative, alternative, Sorts, all_sorted, sort, Belongs, nowhere, other_key, here, cut_here, handed_on, Numbers, whichever, this_number, other_number, by_head, Chooses, no_more, this_one, not_this, Does, missing, matches, differs, group_ref, sequence, alternatives, repeat, DoesEach, all_done, one_fails, and_then, DoesFirst, all_fail, one_takes, or_else, Repeats, full, too_few, enough, empty_round, round}
+use Rattle.cddl_meaning.specs.Moves.{Question, OfType, OfGroup, Tally, tallied, Sorting, Pending, InRef, InRepeat, InValue, Move, Answered, Asks, Tries, plus, yes_reply, reply_of, test_reply, answer_reply, either_reply, fresh, tally_says, next_member, next_part, next_alternative, next_way, next_pair, sorted, next_entry, repetition, after_round, tag_move, type_move, group_move, first_move, array_reply, next_move, Replies, replies, LeadsTo, at_once, after, tries}
 use Rattle.cddl_meaning.proofs.Once.{ends_once}
-use Rattle.cddl_meaning.proofs.Covers.{places_of, covers, any_places, array_places, tag_places, simple_places}
+use Rattle.cddl_meaning.proofs.Covers.{places_of, covers, any_places, array_places, map_places, tag_places, simple_places}
+use Rattle.cddl_meaning.proofs.Tallies.{all_tallied, tally_is}
 
 -- so many places from here on have numbers
 abbrev pub Fits : ℕ → ℕ → Type 0
@@ -45,6 +46,19 @@ tag_reply p n x y (No far) h e = refl
 pub next_place : (p n : ℕ) → 1 ≤ n → Fits p n → plus p 1 ≡ suc p
 next_place p n k h = plus_is p 1 (omega (arith, h, k)) ∙ omega arith
 
+pub map_reply : (p : ℕ) (x : Value) {ps : Pairs} (a : Answer) → Fits p (place_count x) → pairs_in x ≡ Some ps → answer_reply (suc p + pairs_place_count ps) a ≡ reply_of p x a
+map_reply p x {ps = ps} Yes h e = ap (λ b. Takes [] b 0) ((omega (arith, map_places x ps e)) ∙ sym (plus_is p (place_count x) h))
+map_reply p x (No far) h e = refl
+
+pub either_is : (b : ℕ) (a c : Answer) → either_reply (answer_reply b a) (answer_reply b c) ≡ answer_reply b (either a c)
+either_is b Yes c = refl
+either_is b (No p) Yes = refl
+either_is b (No p) (No q) = refl
+
+-- the place of a map's first key
+pub below : (p n : ℕ) → Fits (suc p) n → plus p 1 ≡ suc p
+below p n h = plus_is p 1 (omega (arith, h)) ∙ omega arith
+
 pub simple_reply : (p n : ℕ) (x : Value) → simple_in x ≡ Some n → Takes [] (plus p 1) 0 ≡ yes_reply p x
 simple_reply p n x e = ap (λ n. Takes [] (plus p n) 0) (sym (simple_places x n e))
 
@@ -71,6 +85,10 @@ module _ {N G : Type 0} (l : Language N G) where
   round_leads {least = least} {most = most} {g = g} {p = p} {q = q} {b = b} {far = far} {later = later} {w = w} {xs = xs} {left = left} {r = r} n d e =
       after d (subst (λ c. LeadsTo l (after_round c least most g p q xs (max far later) left b) r w) (sym n) e)
 
+  value_ends : {e : MapEntry N} {es : List (MapEntry N)} {i v w : ℕ} {t r : Reply} (s : Sorting N) → s.value_place ≡ s.key_place + place_count s.key → Replies l (OfType e.value_type (s.key_place + place_count s.key) s.held) t v → LeadsTo l (next_move (InValue e es i s) t) r w → LeadsTo l (Asks (OfType e.value_type s.value_place s.held) (InValue e es i s)) r (v + w)
+  value_ends {e = e} {es = es} {i = i} {v = v} {w = w} {r = r} s k d g =
+      subst (λ z. LeadsTo l (Asks (OfType e.value_type z s.held) (InValue e es i s)) r (v + w)) (sym k) (after d g)
+
   mutual
     says_ends : {f : Node N G} {p w : ℕ} {x : Value} {a : Answer} → Fits p (place_count x) → Says l f p x a w → LeadsBy (type_move f p x) (reply_of p x a) w
     says_ends h (passed {p = p} {x = x} e) = at_end (ap (test_reply p x) e)
@@ -85,6 +103,40 @@ module _ {N G : Type 0} (l : Language N G) where
     says_ends h (no_simple e) = record { weight = 0; one_more = refl; ends = rw e at_once }
     says_ends h (simple_such {p = p} {n = n} {x = x} e d) = record { weight = _; one_more = refl; ends = rw e (after_that (ask_by (says_ends (omega (arith, h, any_places x)) d)) (ap Answered (simple_reply p n x e))) }
     says_ends h (other_simple {x = x} e d) = record { weight = _; one_more = refl; ends = rw e (after_that (ask_by (says_ends (omega (arith, h, any_places x)) d)) refl) }
+    says_ends h (no_map e) = record { weight = 0; one_more = refl; ends = rw e at_once }
+    says_ends h (map {ess = ess} {p = p} {w = w} {x = x} {ps = ps} {a = a} e d) =
+        record { weight = _; one_more = refl; ends = rw e (subst (λ r. LeadsTo l (next_way ess p ps (Fails p)) r w) (map_reply p x a h e) (maps_ends (omega (arith, h, map_places x ps e)) d)) }
+
+    maps_ends : {ess : List (List (MapEntry N))} {p w : ℕ} {ps : Pairs} {sofar a : Answer} → Fits (suc p) (pairs_place_count ps) → Maps l ess p ps sofar a w → LeadsTo l (next_way ess p ps (answer_reply (suc p + pairs_place_count ps) sofar)) (answer_reply (suc p + pairs_place_count ps) a) w
+    maps_ends h no_alternative = at_once
+    maps_ends h (alternative {es = es} {ess = ess} {p = p} {v = v} {w = w} {ps = ps} {sofar = sofar} {a = a} {fs = fs} d e) =
+        let b = suc p + pairs_place_count ps in
+        let f : LeadsTo l (next_pair es p (plus p 1) ps (fresh es)) (answer_reply b (alternative_says es p fs)) v = rw (below p (pairs_place_count ps) h) (subst (λ c. LeadsTo l (next_pair es p (suc p) ps (fresh es)) (answer_reply b c) v) (tally_is es p fs) (sorts_ends p (fresh es) h d)) in
+        let g : LeadsTo l (next_way ess p ps (either_reply (answer_reply b sofar) (answer_reply b (alternative_says es p fs)))) (answer_reply b a) w = rw (either_is b sofar (alternative_says es p fs)) (maps_ends h e) in
+        after (replies f) g
+
+    sorts_ends : (p : ℕ) (t : Tally) {es : List (MapEntry N)} {q w : ℕ} {ps : Pairs} {fs : List Fate} → Fits q (pairs_place_count ps) → Sorts l es q ps fs w → LeadsTo l (next_pair es p q ps t) (answer_reply (q + pairs_place_count ps) (tally_says es p (all_tallied t fs))) w
+    sorts_ends p t h (all_sorted {es = es} {q = q}) = subst (λ b. LeadsTo l (next_pair es p q no_pairs t) (answer_reply b (tally_says es p t)) 0) (omega arith) at_once
+    sorts_ends p t h (sort {es = es} {q = q} {v = v} {w = w} {k = k} {x = x} {ps = ps} {f = f} {fs = fs} d e) =
+        let a = tally_says es p (all_tallied t (f ∷ fs)) in
+        let i : plus q (place_count k) ≡ q + place_count k = plus_is q (place_count k) (omega (arith, h)) in
+        let j : plus (q + place_count k) (place_count x) ≡ q + place_count k + place_count x = plus_is (q + place_count k) (place_count x) (omega (arith, h)) in
+        let s : Sorting N = record { entries = es; base = p; key_place = q; key = k; value_place = plus q (place_count k); held = x; next_place = plus (plus q (place_count k)) (place_count x); rest = ps; tally = t } in
+        let z : s.next_place ≡ q + place_count k + place_count x = rw i j in
+        let y : LeadsTo l (sorted s f) (answer_reply (q + place_count k + place_count x + pairs_place_count ps) a) w = rw z (sorts_ends p (tallied t f) (omega (arith, h)) e) in
+        let g : LeadsTo l (sorted s f) (answer_reply (q + pairs_place_count (pair k x ps)) a) w = subst (λ b. LeadsTo l (sorted s f) (answer_reply b a) w) (omega arith) y in
+        subst (λ w. LeadsTo l (Tries s) (answer_reply (q + pairs_place_count (pair k x ps)) a) w) (omega arith) (tries (belongs_ends s (omega (arith, h)) i d g))
+
+    belongs_ends : {es : List (MapEntry N)} {i v w : ℕ} {f : Fate} {r : Reply} (s : Sorting N) → Fits s.key_place (place_count s.key + place_count s.held) → s.value_place ≡ s.key_place + place_count s.key → Belongs l es i s.key_place s.key s.held f v → LeadsTo l (sorted s f) r w → LeadsTo l (next_entry es i s) r (v + w)
+    belongs_ends s h k nowhere g = less g
+    belongs_ends {w = w} {r = r} s h k (other_key {e = e} {es = es} {i = i} d b) g =
+        subst (λ n. LeadsTo l (next_entry (e ∷ es) i s) r n) (omega arith) (after (ask_by (says_ends (omega (arith, h)) d)) (belongs_ends s h k b g))
+    belongs_ends {w = w} {r = r} s h k (here {e = e} {es = es} {i = i} d b) g =
+        subst (λ n. LeadsTo l (next_entry (e ∷ es) i s) r n) (omega arith) (after (ask_by (says_ends (omega (arith, h)) d)) (value_ends {e = e} {w = w} s k (ask_by (says_ends (omega (arith, h)) b)) g))
+    belongs_ends {w = w} {r = r} s h k (cut_here {e = e} {es = es} {i = i} {far = far} c d b) g =
+        subst (λ n. LeadsTo l (next_entry (e ∷ es) i s) r n) (omega arith) (after (ask_by (says_ends (omega (arith, h)) d)) (value_ends {e = e} {w = w} s k (ask_by (says_ends (omega (arith, h)) b)) (rw c g)))
+    belongs_ends {w = w} {r = r} s h k (handed_on {e = e} {es = es} {i = i} {w = z} c d b m) g =
+        subst (λ n. LeadsTo l (next_entry (e ∷ es) i s) r n) (omega arith) (after (ask_by (says_ends (omega (arith, h)) d)) (value_ends {e = e} {w = z + w} s k (ask_by (says_ends (omega (arith, h)) b)) (rw c (belongs_ends s h k m g))))
 
     -- the number is meant, and the content goes on
     number_ends : {t : TagNumber N} {m : N} {p n v w : ℕ} {y : Value} {r : Reply} → Fits p 1 → Numbers l t p n Yes v → LeadsTo l (Asks (OfType m (plus p 1) y) InRef) r w → LeadsTo l (tag_move t m p (Some (n, y))) r (v + w)

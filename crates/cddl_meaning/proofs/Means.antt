@@ -1,12 +1,13 @@
 -- What the moves reply, the definition says.
 use Rattle.std.proofs.Common.{◌≡◌, ◌≢◌, ℕ, zero, suc, ◌+◌, ◌-◌, ◌≤◌, max, length, List, [], ◌∷◌, Option, Some, None, Bool, true, false, nat_eq, refl, subst, sym, ap, ◌∙◌, arith}
 use Rattle.std.proofs.lemmas.Bool.Decides.{nat_tests}
-use Rattle.cbor_data.specs.Value.{Value, place_count}
-use Rattle.cddl_meaning.specs.Forms.{Test, passes, members_in, tag_in, simple_in, TagNumber, any_number, exactly, such_as, Node, Plain, Ref, Choice, ArrayOf, TagOf, SimpleBy, Most, Group, Entry, GroupRef, Sequence, Alternatives, Repeat, Language}
-use Rattle.cddl_meaning.specs.Judges.{Answer, Yes, No, Reply, Takes, Fails, whole, over, failed, is_over, one_less, Says, passed, missed, ref, choice, no_array, array, no_tag, tagged, other_tag, no_simple, simple_such, other_simple, Numbers, whichever, this_number, other_number, by_head, Chooses, no_more, this_one, not_this, Does, missing, matches, differs, group_ref, sequence, alternatives, repeat, DoesEach, all_done, one_fails, and_then, DoesFirst, all_fail, one_takes, or_else, Repeats, full, too_few, enough, empty_round, round}
-use Rattle.cddl_meaning.proofs.Covers.{places_of, covers, any_places, array_places, tag_places}
-use Rattle.cddl_meaning.proofs.Matches.{Fits, plus_is, next_place, array_covers, tag_reply, simple_reply}
-use Rattle.cddl_meaning.specs.Moves.{Question, OfType, OfGroup, InRef, Answered, Asks, plus, reply_of, test_reply, next_member, next_part, next_alternative, next_round, repetition, after_round, end_of_rounds, array_move, content_move, tag_move, simple_move, type_move, group_move, Replies, replies, LeadsTo, at_once, after}
+use Rattle.cbor_data.specs.Value.{Value, place_count, Pairs, no_pairs, pair, pairs_place_count}
+use Rattle.cddl_meaning.specs.Forms.{Test, passes, members_in, pairs_in, tag_in, simple_in, TagNumber, any_number, exactly, such_as, MapEntry, Node, Plain, Ref, Choice, ArrayOf, TagOf, SimpleBy, MapOf, Most, Group, Entry, GroupRef, Sequence, Alternatives, Repeat, Language}
+use Rattle.cddl_meaning.specs.Judges.{Answer, Yes, No, Reply, Takes, Fails, whole, over, failed, is_over, one_less, Says, passed, missed, ref, choice, no_array, array, no_tag, tagged, other_tag, no_simple, simple_such, other_simple, no_map, map, Fate, BelongsTo, Stray, alternative_says, either, Maps, no_alternative, alternative, Sorts, all_sorted, sort, Belongs, nowhere, other_key, here, cut_here, handed_on, Numbers, whichever, this_number, other_number, by_head, Chooses, no_more, this_one, not_this, Does, missing, matches, differs, group_ref, sequence, alternatives, repeat, DoesEach, all_done, one_fails, and_then, DoesFirst, all_fail, one_takes, or_else, Repeats, full, too_few, enough, empty_round, round}
+use Rattle.cddl_meaning.proofs.Covers.{places_of, covers, any_places, array_places, map_places, tag_places}
+use Rattle.cddl_meaning.proofs.Matches.{Fits, plus_is, next_place, below, array_covers, tag_reply, simple_reply, map_reply, either_is}
+use Rattle.cddl_meaning.proofs.Tallies.{all_tallied, tally_is}
+use Rattle.cddl_meaning.specs.Moves.{Question, OfType, OfGroup, OfAlternative, Tally, tallied, fresh, tally_says, Sorting, InRef, Answered, Asks, plus, reply_of, test_reply, answer_reply, either_reply, next_member, next_part, next_alternative, next_round, repetition, after_round, end_of_rounds, array_move, content_move, tag_move, simple_move, next_way, map_move, next_pair, sorted, next_entry, after_value, type_move, group_move, Replies, replies, LeadsTo, at_once, after, tries}
 
 is_equal : (m n : ℕ) → nat_eq m n ≡ true → m ≡ n
 is_equal m n h = grind (arith, nat_tests)
@@ -88,12 +89,93 @@ module _ {N G : Type 0} (l : Language N G) where
   stepped_in : {g : G} {p v : ℕ} (x : Value) {xs : List Value} {r : Reply} → Fits p (place_count x) → Replies l (OfGroup g p (plus p 1) xs) r v → Replies l (OfGroup g p (suc p) xs) r v
   stepped_in {g = g} {p = p} {v = v} x {xs = xs} {r = r} h d = subst (λ q. Replies l (OfGroup g p q xs) r v) (next_place p (place_count x) (any_places x) h) d
 
+  record MapsIt (ess : List (List (MapEntry N))) (p : ℕ) (ps : Pairs) (sofar : Answer) (r : Reply) (w : ℕ) : Type 0 where
+    answer : Answer
+    is : r ≡ answer_reply (suc p + pairs_place_count ps) answer
+    maps : Maps l ess p ps sofar answer w
+
+  record SortsIt (es : List (MapEntry N)) (p q : ℕ) (ps : Pairs) (t : Tally) (r : Reply) (w : ℕ) : Type 0 where
+    fates : List Fate
+    is : r ≡ answer_reply (q + pairs_place_count ps) (tally_says es p (all_tallied t fates))
+    sorts : Sorts l es q ps fates w
+
+  record AlternativeIt (es : List (MapEntry N)) (p : ℕ) (ps : Pairs) (r : Reply) (w : ℕ) : Type 0 where
+    fates : List Fate
+    is : r ≡ answer_reply (suc p + pairs_place_count ps) (alternative_says es p fates)
+    weight : ℕ
+    one_more : suc weight ≡ w
+    sorts : Sorts l es (suc p) ps fates weight
+
+  record BelongsIt (es : List (MapEntry N)) (i : ℕ) (s : Sorting N) (r : Reply) (w : ℕ) : Type 0 where
+    fate : Fate
+    before : ℕ
+    after_it : ℕ
+    total : before + after_it ≡ w
+    belongs : Belongs l es i s.key_place s.key s.held fate before
+    goes_on : LeadsTo l (sorted s fate) r after_it
+
   -- the questions of weight k at most have the definition's replies
   record Known (k : ℕ) : Type 0 where
     types : {n : N} {p w : ℕ} {x : Value} {r : Reply} → Fits p (place_count x) → w ≤ k → Replies l (OfType n p x) r w → SaysIt (l.type_at n) p x r w
     groups : {g : G} {p q w : ℕ} {xs : List Value} {r : Reply} → Fits q (places_of xs) → w ≤ k → Replies l (OfGroup g p q xs) r w → Does l (l.group_at g) p q xs r w
+    alternatives : {es : List (MapEntry N)} {p w : ℕ} {ps : Pairs} {r : Reply} → Fits (suc p) (pairs_place_count ps) → w ≤ k → Replies l (OfAlternative es p ps) r w → AlternativeIt es p ps r w
 
   module _ (k : ℕ) (known : Known k) where
+    maps_from : (ess : List (List (MapEntry N))) {p w : ℕ} {ps : Pairs} {r : Reply} (sofar : Answer) → Fits (suc p) (pairs_place_count ps) → w ≤ k → LeadsTo l (next_way ess p ps (answer_reply (suc p + pairs_place_count ps) sofar)) r w → MapsIt ess p ps sofar r w
+    maps_from [] sofar f h at_once = record { answer = sofar; is = refl; maps = no_alternative }
+    maps_from (es ∷ ess) {p = p} {ps = ps} {r = r} sofar f h (after {v = v} {w = w} d e) =
+        let b = suc p + pairs_place_count ps in
+        let t = known.alternatives f (omega (arith, h)) d in
+        let c = alternative_says es p t.fates in
+        let g = subst (λ o. LeadsTo l (next_way ess p ps o) r w) (either_is b sofar c) (subst (λ o. LeadsTo l (next_way ess p ps (either_reply (answer_reply b sofar) o)) r w) t.is e) in
+        let m = maps_from ess (either sofar c) f (omega (arith, h)) g in
+        record { answer = m.answer; is = m.is; maps = subst (λ v. Maps l (es ∷ ess) p ps sofar m.answer (v + w)) t.one_more (alternative t.sorts m.maps) }
+
+    map_from : {ess : List (List (MapEntry N))} {p w : ℕ} {x : Value} {r : Reply} (o : Option Pairs) → pairs_in x ≡ o → Fits p (place_count x) → w ≤ k → LeadsTo l (map_move ess p o) r w → SaysIt (MapOf ess) p x r (suc w)
+    map_from {p = p} None i f h at_once = record { answer = No p; is = refl; says = no_map i }
+    map_from {ess = ess} {p = p} {x = x} (Some ps) i f h e =
+        let m = maps_from ess (No p) (omega (arith, f, map_places x ps i)) h e in
+        record { answer = m.answer; is = m.is ∙ map_reply p x m.answer f i; says = map i m.maps }
+
+    -- the value type has said no
+    value_from : {e : MapEntry N} {es : List (MapEntry N)} {i far u v w : ℕ} {s : Sorting N} {r : Reply} (c : Bool) → e.cuts ≡ c → Says l (l.type_at e.key_type) s.key_place s.key Yes u → Says l (l.type_at e.value_type) (s.key_place + place_count s.key) s.held (No far) v → (LeadsTo l (next_entry es (suc i) s) r w → BelongsIt es (suc i) s r w) → LeadsTo l (after_value c es i s far) r w → BelongsIt (e ∷ es) i s r (u + (v + w))
+    value_from {i = i} {far = far} {u = u} {v = v} {w = w} true c d b rest e = record { fate = BelongsTo i (No far); before = u + v; after_it = w; total = omega arith; belongs = cut_here c d b; goes_on = e }
+    value_from {u = u} {v = v} false c d b rest e =
+        let t = rest e in
+        record { fate = t.fate; before = u + (v + t.before); after_it = t.after_it; total = omega (arith, t.total); belongs = handed_on c d b t.belongs; goes_on = t.goes_on }
+
+    belongs_from : (es : List (MapEntry N)) (i : ℕ) (s : Sorting N) {w : ℕ} {r : Reply} → Fits s.key_place (place_count s.key + place_count s.held) → s.value_place ≡ s.key_place + place_count s.key → w ≤ k → LeadsTo l (next_entry es i s) r w → BelongsIt es i s r w
+    belongs_from [] i s {w = w} f z h e = record { fate = Stray s.key_place; before = 0; after_it = w; total = omega arith; belongs = nowhere; goes_on = e }
+    belongs_from (e ∷ es) i s f z h (after {s = Takes left b later} {v = v} d (after {s = Takes also c last} {v = u} {w = w} d' g)) =
+        let t = known.types (omega (arith, f)) (omega (arith, h)) d in
+        let y = known.types (omega (arith, f)) (omega (arith, h)) (subst (λ q. Replies l (OfType e.value_type q s.held) (Takes also c last) u) z d') in
+        record { fate = BelongsTo i Yes; before = v + u; after_it = w; total = omega arith; belongs = here (yes_of t) (yes_of y); goes_on = g }
+    belongs_from (e ∷ es) i s f z h (after {s = Takes left b later} {v = v} d (after {s = Fails far} {v = u} {w = w} d' g)) =
+        let t = known.types (omega (arith, f)) (omega (arith, h)) d in
+        let y = known.types (omega (arith, f)) (omega (arith, h)) (subst (λ q. Replies l (OfType e.value_type q s.held) (Fails far) u) z d') in
+        value_from {e = e} {s = s} e.cuts refl (yes_of t) (no_of y) (λ g. belongs_from es (suc i) s f z (omega (arith, h)) g) g
+    belongs_from (e ∷ es) i s f z h (after {s = Fails far} {v = v} {w = w} d g) =
+        let t = known.types (omega (arith, f)) (omega (arith, h)) d in
+        let m = belongs_from es (suc i) s f z (omega (arith, h)) g in
+        record { fate = m.fate; before = v + m.before; after_it = m.after_it; total = omega (arith, m.total); belongs = other_key (no_of t) m.belongs; goes_on = m.goes_on }
+
+    -- a pair is sorted, and so are those after it
+    one_more_pair : {es : List (MapEntry N)} {p q u v w : ℕ} {c x : Value} {ps : Pairs} {t : Tally} (f : Fate) {r : Reply} → Belongs l es 0 q c x f u → u + v ≡ w → SortsIt es p (q + place_count c + place_count x) ps (tallied t f) r v → SortsIt es p q (pair c x ps) t r (suc (length es) + w)
+    one_more_pair {es = es} {p = p} {q = q} {c = c} {x = x} {ps = ps} {t = t} f {r = r} b e m =
+        record { fates = f ∷ m.fates; is = m.is ∙ ap (λ b. answer_reply b (tally_says es p (all_tallied (tallied t f) m.fates))) (omega arith); sorts = subst (λ w. Sorts l es q (pair c x ps) (f ∷ m.fates) w) (omega (arith, e)) (sort b m.sorts) }
+
+    sorts_from : (ps : Pairs) {es : List (MapEntry N)} {p q w : ℕ} {t : Tally} {r : Reply} → Fits q (pairs_place_count ps) → w ≤ k → LeadsTo l (next_pair es p q ps t) r w → SortsIt es p q ps t r w
+    sorts_from no_pairs {es = es} {p = p} {q = q} {t = t} f h at_once = record { fates = []; is = ap (λ b. answer_reply b (tally_says es p t)) (omega arith); sorts = all_sorted }
+    sorts_from (pair c x ps) {es = es} {p = p} {q = q} {t = t} {r = r} f h (tries {s = s} {w = w} e) =
+        let i : plus q (place_count c) ≡ q + place_count c = plus_is q (place_count c) (omega (arith, f)) in
+        let j : plus (q + place_count c) (place_count x) ≡ q + place_count c + place_count x = plus_is (q + place_count c) (place_count x) (omega (arith, f)) in
+        let next : ℕ = q + place_count c + place_count x in
+        let b : BelongsIt es 0 s r w = belongs_from es 0 s (omega (arith, f)) i (omega (arith, h)) e in
+        let z : s.next_place ≡ next = rw i j in
+        let g : LeadsTo l (next_pair es p next ps (tallied t b.fate)) r b.after_it = subst (λ q'. LeadsTo l (next_pair es p q' ps (tallied t b.fate)) r b.after_it) z b.goes_on in
+        let d : b.after_it ≤ k = omega (arith, h, b.total) in
+        one_more_pair b.fate b.belongs b.total (sorts_from ps (omega (arith, f)) d g)
+
     choose_from : (ms : List N) {p far w : ℕ} {x : Value} {r : Reply} → Fits p (place_count x) → w ≤ k → LeadsTo l (next_member ms p x far) r w → ChoosesIt ms p x far r w
     choose_from [] {far = far} f h at_once = record { answer = No far; is = refl; chooses = no_more }
     choose_from (m ∷ ms) {p = p} {far = far} {x = x} f h (after {s = Takes left b later} d at_once) =
@@ -149,6 +231,7 @@ module _ {N G : Type 0} (l : Language N G) where
     form_from (ArrayOf g) {x = x} f h e = array_from (members_in x) refl f h e
     form_from (TagOf t m) {x = x} f h e = tag_from (tag_in x) refl f h e
     form_from (SimpleBy m) {x = x} f h e = simple_from (simple_in x) refl f h e
+    form_from (MapOf ess) {x = x} f h e = map_from (pairs_in x) refl f h e
 
     each_from : (gs : List G) {p q far w : ℕ} {xs : List Value} {r : Reply} → Fits q (places_of xs) → w ≤ k → LeadsTo l (next_part gs p q xs far) r w → DoesEach l gs p q xs far r w
     each_from [] f h at_once = all_done
@@ -197,11 +280,17 @@ module _ {N G : Type 0} (l : Language N G) where
   mutual
     type_within : (k : ℕ) {n : N} {p w : ℕ} {x : Value} {r : Reply} → Fits p (place_count x) → w ≤ k → Replies l (OfType n p x) r w → SaysIt (l.type_at n) p x r w
     type_within zero f h (replies e) = absurd (omega (arith, h))
-    type_within (suc k) {n = n} f h (replies e) = form_from k (record { types = type_within k; groups = group_within k }) (l.type_at n) f (omega (arith, h)) e
+    type_within (suc k) {n = n} f h (replies e) = form_from k (record { types = type_within k; groups = group_within k; alternatives = alternative_within k }) (l.type_at n) f (omega (arith, h)) e
 
     group_within : (k : ℕ) {g : G} {p q w : ℕ} {xs : List Value} {r : Reply} → Fits q (places_of xs) → w ≤ k → Replies l (OfGroup g p q xs) r w → Does l (l.group_at g) p q xs r w
     group_within zero f h (replies e) = absurd (omega (arith, h))
-    group_within (suc k) {g = g} f h (replies e) = group_form_from k (record { types = type_within k; groups = group_within k }) (l.group_at g) f (omega (arith, h)) e
+    group_within (suc k) {g = g} f h (replies e) = group_form_from k (record { types = type_within k; groups = group_within k; alternatives = alternative_within k }) (l.group_at g) f (omega (arith, h)) e
+
+    alternative_within : (k : ℕ) {es : List (MapEntry N)} {p w : ℕ} {ps : Pairs} {r : Reply} → Fits (suc p) (pairs_place_count ps) → w ≤ k → Replies l (OfAlternative es p ps) r w → AlternativeIt es p ps r w
+    alternative_within zero f h (replies e) = absurd (omega (arith, h))
+    alternative_within (suc k) {es = es} {p = p} {ps = ps} {r = r} f h (replies {w = w} e) =
+        let s = sorts_from k (record { types = type_within k; groups = group_within k; alternatives = alternative_within k }) ps f (omega (arith, h)) (subst (λ q. LeadsTo l (next_pair es p q ps (fresh es)) r w) (below p (pairs_place_count ps) f) e) in
+        record { fates = s.fates; is = s.is ∙ ap (answer_reply (suc p + pairs_place_count ps)) (tally_is es p s.fates); weight = w; one_more = refl; sorts = s.sorts }
 
   pub means : {n : N} {p w : ℕ} {x : Value} {r : Reply} → Fits p (place_count x) → Replies l (OfType n p x) r w → SaysIt (l.type_at n) p x r w
   means {w = w} f d = type_within w f (omega arith) d

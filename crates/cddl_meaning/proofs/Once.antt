@@ -1,8 +1,8 @@
 -- A question has one reply at most, and one weight.
-use Rattle.std.proofs.Common.{◌≡◌, ℕ, suc, refl, ap, sym, subst}
+use Rattle.std.proofs.Common.{◌≡◌, ℕ, suc, ◌+◌, length, refl, ap, sym, subst}
 use Rattle.cddl_meaning.specs.Forms.{Language}
 use Rattle.cddl_meaning.specs.Judges.{Reply}
-use Rattle.cddl_meaning.specs.Moves.{Question, Move, Replies, replies, LeadsTo, at_once, after, next_move}
+use Rattle.cddl_meaning.specs.Moves.{Question, Move, Replies, replies, LeadsTo, at_once, after, tries, next_move}
 
 pub record Same {A : Type 0} (a b : A) (w v : ℕ) : Type 0 where
   pub result : a ≡ b
@@ -19,3 +19,6 @@ module _ {N G : Type 0} (l : Language N G) where
         let h = replies_once d e in
         let i = ends_once f (subst (λ s. LeadsTo l (next_move o s) b u) (sym h.result) g) in
         record { result = i.result; weight = cc (h.weight, i.weight) }
+    ends_once (tries {s = s} d) (tries e) =
+        let h = ends_once d e in
+        record { result = h.result; weight = ap (λ w. suc (length s.entries) + w) h.weight }

@@ -2,8 +2,8 @@
 --
 -- So one specification may have several tables: equal types are one row in the one and two in the other. R relates the
 -- names of types, S those of groups.
-use Rattle.std.specs.Prelude.{ℕ, List, [], ◌∷◌}
-use Rattle.cddl_meaning.specs.Forms.{Test, TagNumber, any_number, exactly, such_as, Node, Plain, Ref, Choice, ArrayOf, TagOf, SimpleBy, Most, Group, Entry, GroupRef, Sequence, Alternatives, Repeat, Language}
+use Rattle.std.specs.Prelude.{◌≡◌, ℕ, List, [], ◌∷◌}
+use Rattle.cddl_meaning.specs.Forms.{Test, TagNumber, any_number, exactly, such_as, MapEntry, Node, Plain, Ref, Choice, ArrayOf, TagOf, SimpleBy, MapOf, Most, Group, Entry, GroupRef, Sequence, Alternatives, Repeat, Language}
 
 -- as many names, related one by one in their order
 pub data AlikeAll {N M : Type 0} (R : N → M → Type 0) : List N → List M → Type 0 where
@@ -16,6 +16,16 @@ pub data AlikeNumbers {N M : Type 0} (R : N → M → Type 0) : TagNumber N → 
   same_number : {n : ℕ} → AlikeNumbers R (exactly n) (exactly n)
   heads : {n : N} {m : M} → R n m → AlikeNumbers R (such_as n) (such_as m)
 
+-- entries of maps with the same bounds and the same cuts, of related types
+pub data AlikeEntries {N M : Type 0} (R : N → M → Type 0) : List (MapEntry N) → List (MapEntry M) → Type 0 where
+  no_entries : AlikeEntries R [] []
+  entry : {d : MapEntry N} {e : MapEntry M} {ds : List (MapEntry N)} {es : List (MapEntry M)} → d.least ≡ e.least → d.most ≡ e.most → d.cuts ≡ e.cuts → R d.key_type e.key_type → R d.value_type e.value_type → AlikeEntries R ds es → AlikeEntries R (d ∷ ds) (e ∷ es)
+
+-- as many alternatives, alike one by one in their order
+pub data AlikeMaps {N M : Type 0} (R : N → M → Type 0) : List (List (MapEntry N)) → List (List (MapEntry M)) → Type 0 where
+  no_alternatives : AlikeMaps R [] []
+  alternative : {ds : List (MapEntry N)} {es : List (MapEntry M)} {dss : List (List (MapEntry N))} {ess : List (List (MapEntry M))} → AlikeEntries R ds es → AlikeMaps R dss ess → AlikeMaps R (ds ∷ dss) (es ∷ ess)
+
 -- the same form of type, of related parts
 pub data AlikeTypes {N G M H : Type 0} (R : N → M → Type 0) (S : G → H → Type 0) : Node N G → Node M H → Type 0 where
   plain : {t : Test} → AlikeTypes R S (Plain t) (Plain t)
@@ -24,6 +34,7 @@ pub data AlikeTypes {N G M H : Type 0} (R : N → M → Type 0) (S : G → H →
   arrays : {g : G} {h : H} → S g h → AlikeTypes R S (ArrayOf g) (ArrayOf h)
   tags : {s : TagNumber N} {t : TagNumber M} {n : N} {m : M} → AlikeNumbers R s t → R n m → AlikeTypes R S (TagOf s n) (TagOf t m)
   simples : {n : N} {m : M} → R n m → AlikeTypes R S (SimpleBy n) (SimpleBy m)
+  maps : {dss : List (List (MapEntry N))} {ess : List (List (MapEntry M))} → AlikeMaps R dss ess → AlikeTypes R S (MapOf dss) (MapOf ess)
 
 -- the same form of group, of related parts, and as often
 pub data AlikeGroups {N G M H : Type 0} (R : N → M → Type 0) (S : G → H → Type 0) : Group N G → Group M H → Type 0 where

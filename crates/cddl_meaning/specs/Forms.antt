@@ -3,7 +3,7 @@
 use Rattle.std.specs.Prelude.{ℕ, List, [], ◌∷◌, Option, Some, None, Bool, true, false, nat_lt, nat_le, nat_eq, ◌&&◌}
 use Rattle.cbor_data.specs.declared.Width.{Width}
 use Rattle.cbor_data.specs.Same.{same_value, same_width}
-use Rattle.cbor_data.specs.Value.{Value, uint, nint, bytes, text, array, pairs, tag, simple, float, Values, no_values, value}
+use Rattle.cbor_data.specs.Value.{Value, uint, nint, bytes, text, array, pairs, tag, simple, float, Values, no_values, value, Pairs}
 
 -- What is asked of an item by itself (RFC 8610 sections 2.2.1, 2.2.2.1 and 2.2.3): `any` and `#`, a major type, a simple
 -- value, a float of one width, a value, or a range.
@@ -73,6 +73,11 @@ abbrev pub members_in : Value → Option (List Value)
 members_in (array xs) = Some (list_of xs)
 members_in _ = None
 
+-- the pairs of a map, in their order
+abbrev pub pairs_in : Value → Option Pairs
+pairs_in (pairs ps) = Some ps
+pairs_in _ = None
+
 -- the number and the content of a tag
 abbrev pub tag_in : Value → Option (ℕ × Value)
 tag_in (tag n x) = Some (n, x)
@@ -89,6 +94,20 @@ pub data TagNumber (N : Type 0) : Type 0 where
   exactly : ℕ → TagNumber N
   such_as : N → TagNumber N
 
+-- how often at most: `a*b`, or `a*` with no end (section 3.2)
+pub data Most : Type 0 where
+  at_most : ℕ → Most
+  any_number_of : Most
+
+-- An entry of a map (section 3.5): how many pairs may belong to it, which keys they have, and what their values are to be.
+-- Where it cuts, a pair whose key it takes belongs to it and to no later entry, whatever the value.
+pub record MapEntry (N : Type 0) : Type 0 where
+  pub least : ℕ
+  pub most : Most
+  pub key_type : N
+  pub cuts : Bool
+  pub value_type : N
+
 -- A node is a type whose parts are types named by N and groups named by G.
 pub data Node (N G : Type 0) : Type 0 where
   Plain : Test → Node N G
@@ -102,11 +121,8 @@ pub data Node (N G : Type 0) : Type 0 where
   TagOf : TagNumber N → N → Node N G
   -- `#7.<type>`: the simple values to whose number the type says yes
   SimpleBy : N → Node N G
-
--- how often at most: `a*b`, or `a*` with no end (section 3.2)
-pub data Most : Type 0 where
-  at_most : ℕ → Most
-  any_number_of : Most
+  -- `{ group }`: the alternatives that the group stands for, each a list of entries
+  MapOf : List (List (MapEntry N)) → Node N G
 
 -- A group, asked of a list of items: the members of an array from one of them on.
 pub data Group (N G : Type 0) : Type 0 where

@@ -4,11 +4,17 @@
 -- fail, and no other is asked then. A group takes items from the front, as many rounds as an occurrence can, or fails and
 -- takes none; what it has taken it never gives back, whatever fails after it.
 --
+-- A map matches if one of its alternatives says yes. Each pair belongs to the first entry whose key type says yes to its
+-- key, and which cuts or whose value type says yes to its value. An alternative says yes if each pair belongs to an entry,
+-- each value is as its entry says, and as many pairs belong to each entry as it asks for. All alternatives are tried, and
+-- in each of them all pairs, also after one that failed.
+--
 -- Each derivation has a weight, the number of its judgements: a type said something of an item, or a group did something
--- with a list. A place is an item's number in preorder, a key before its value.
-use Rattle.std.specs.Prelude.{◌≡◌, ◌≢◌, ℕ, zero, suc, ◌+◌, ◌-◌, max, length, List, [], ◌∷◌, Some, None, Bool, true, false}
-use Rattle.cbor_data.specs.Value.{Value, uint, place_count}
-use Rattle.cddl_meaning.specs.Forms.{Test, passes, members_in, tag_in, simple_in, TagNumber, any_number, exactly, such_as, Node, Plain, Ref, Choice, ArrayOf, TagOf, SimpleBy, Most, at_most, any_number_of, Group, Entry, GroupRef, Sequence, Alternatives, Repeat, Language}
+-- with a list; and in a map one for each alternative, one for each pair in each alternative, and one for each pair with
+-- each entry of the alternative, tried or not. A place is an item's number in preorder, a key before its value.
+use Rattle.std.specs.Prelude.{◌≡◌, ◌≢◌, ℕ, zero, suc, ◌+◌, ◌-◌, max, length, List, [], ◌∷◌, Option, Some, None, Bool, true, false, nat_le, nat_eq, ◌&&◌, if◌then◌else◌}
+use Rattle.cbor_data.specs.Value.{Value, uint, place_count, Pairs, no_pairs, pair}
+use Rattle.cddl_meaning.specs.Forms.{Test, passes, members_in, pairs_in, tag_in, simple_in, TagNumber, any_number, exactly, such_as, MapEntry, Node, Plain, Ref, Choice, ArrayOf, TagOf, SimpleBy, MapOf, Most, at_most, any_number_of, Group, Entry, GroupRef, Sequence, Alternatives, Repeat, Language}
 
 -- What a type says: yes; or no, with the place where it shows. That is the greatest place of all trials that failed, but for
 -- those of types that then said yes.
@@ -40,9 +46,64 @@ one_less (at_most zero) = at_most zero
 one_less (at_most (suc n)) = at_most n
 one_less any_number_of = any_number_of
 
+-- so many pairs may belong to an entry
+abbrev pub is_up_to_most : ℕ → Most → Bool
+is_up_to_most n (at_most m) = nat_le n m
+is_up_to_most n any_number_of = true
+
+-- What becomes of a pair: it belongs to the entry of this number, whose value type says this of its value; or its key, at
+-- this place, belongs to none.
+pub data Fate : Type 0 where
+  BelongsTo : (number : ℕ) → (says : Answer) → Fate
+  Stray : (place : ℕ) → Fate
+
+-- how many of these pairs belong to the entry of this number
+abbrev pub count_of : ℕ → List Fate → ℕ
+count_of i [] = 0
+count_of i (BelongsTo j a ∷ fs) = if nat_eq j i then suc (count_of i fs) else count_of i fs
+count_of i (Stray q ∷ fs) = count_of i fs
+
+-- As many belong to each of these entries as it asks for. The first of them has the number i.
+abbrev pub are_enough : {N : Type 0} → List (MapEntry N) → ℕ → List Fate → Bool
+are_enough [] i fs = true
+are_enough (e ∷ es) i fs = (nat_le e.least (count_of i fs) && is_up_to_most (count_of i fs) e.most) && are_enough es (suc i) fs
+
+-- the first stray key
+abbrev pub first_stray : List Fate → Option ℕ
+first_stray [] = None
+first_stray (BelongsTo j a ∷ fs) = first_stray fs
+first_stray (Stray q ∷ fs) = Some q
+
+-- where the first value shows that is not as its entry says
+abbrev pub first_failing : List Fate → Option ℕ
+first_failing [] = None
+first_failing (BelongsTo j Yes ∷ fs) = first_failing fs
+first_failing (BelongsTo j (No far) ∷ fs) = Some far
+first_failing (Stray q ∷ fs) = first_failing fs
+
+abbrev pub by_counts : ℕ → Bool → Answer
+by_counts p true = Yes
+by_counts p false = No p
+
+-- a no that shows here, if anywhere; else this
+abbrev pub shown_by : Option ℕ → Answer → Answer
+shown_by (Some q) a = No q
+shown_by None a = a
+
+-- What an alternative says of a map at p by the fates of its pairs. A no shows at the first stray key; else where the first
+-- failing value shows it; else at the map.
+abbrev pub alternative_says : {N : Type 0} → List (MapEntry N) → ℕ → List Fate → Answer
+alternative_says es p fs = shown_by (first_stray fs) (shown_by (first_failing fs) (by_counts p (are_enough es 0 fs)))
+
+-- yes if one of them says yes; else no, with the greater place
+abbrev pub either : Answer → Answer → Answer
+either Yes b = Yes
+either (No p) Yes = Yes
+either (No p) (No q) = No (max p q)
+
 mutual
-  -- The type says this of the item x at the place p. A no shows at the item itself, or, in a choice, an array or a tag,
-  -- wherever a part of it shows its own. The number of a tag or of a simple value has the place of its item.
+  -- The type says this of the item x at the place p. A no shows at the item itself, or, in a choice, an array, a tag or a
+  -- map, wherever a part of it shows its own. The number of a tag or of a simple value has the place of its item.
   pub data Says {N G : Type 0} (l : Language N G) : Node N G → ℕ → Value → Answer → ℕ → Type 0 where
     passed : {t : Test} {p : ℕ} {x : Value} → passes t x ≡ true → Says l (Plain t) p x Yes 1
     missed : {t : Test} {p : ℕ} {x : Value} → passes t x ≡ false → Says l (Plain t) p x (No p) 1
@@ -56,6 +117,27 @@ mutual
     no_simple : {m : N} {p : ℕ} {x : Value} → simple_in x ≡ None → Says l (SimpleBy m) p x (No p) 1
     simple_such : {m : N} {p n w : ℕ} {x : Value} → simple_in x ≡ Some n → Says l (l.type_at m) p (uint n) Yes w → Says l (SimpleBy m) p x Yes (suc w)
     other_simple : {m : N} {p n far w : ℕ} {x : Value} → simple_in x ≡ Some n → Says l (l.type_at m) p (uint n) (No far) w → Says l (SimpleBy m) p x (No p) (suc w)
+    no_map : {ess : List (List (MapEntry N))} {p : ℕ} {x : Value} → pairs_in x ≡ None → Says l (MapOf ess) p x (No p) 1
+    map : {ess : List (List (MapEntry N))} {p w : ℕ} {x : Value} {ps : Pairs} {a : Answer} → pairs_in x ≡ Some ps → Maps l ess p ps (No p) a w → Says l (MapOf ess) p x a (suc w)
+
+  -- These alternatives say this of a map at p with these pairs, after others that said `sofar`.
+  pub data Maps {N G : Type 0} (l : Language N G) : List (List (MapEntry N)) → ℕ → Pairs → (sofar : Answer) → Answer → ℕ → Type 0 where
+    no_alternative : {p : ℕ} {ps : Pairs} {sofar : Answer} → Maps l [] p ps sofar sofar 0
+    alternative : {es : List (MapEntry N)} {ess : List (List (MapEntry N))} {p v w : ℕ} {ps : Pairs} {sofar a : Answer} {fs : List Fate} → Sorts l es (suc p) ps fs v → Maps l ess p ps (either sofar (alternative_says es p fs)) a w → Maps l (es ∷ ess) p ps sofar a (suc v + w)
+
+  -- Each of these pairs, the first key at q, has its fate in an alternative of these entries.
+  pub data Sorts {N G : Type 0} (l : Language N G) : List (MapEntry N) → ℕ → Pairs → List Fate → ℕ → Type 0 where
+    all_sorted : {es : List (MapEntry N)} {q : ℕ} → Sorts l es q no_pairs [] 0
+    sort : {es : List (MapEntry N)} {q v w : ℕ} {k x : Value} {ps : Pairs} {f : Fate} {fs : List Fate} → Belongs l es 0 q k x f v → Sorts l es (q + place_count k + place_count x) ps fs w → Sorts l es q (pair k x ps) (f ∷ fs) (suc (length es) + v + w)
+
+  -- The pair of the key k, which is at q, and the value x belongs to the first of these entries that takes it. The first of
+  -- them has the number i.
+  pub data Belongs {N G : Type 0} (l : Language N G) : List (MapEntry N) → (i : ℕ) → ℕ → Value → Value → Fate → ℕ → Type 0 where
+    nowhere : {i q : ℕ} {k x : Value} → Belongs l [] i q k x (Stray q) 0
+    other_key : {e : MapEntry N} {es : List (MapEntry N)} {i q far v w : ℕ} {k x : Value} {f : Fate} → Says l (l.type_at e.key_type) q k (No far) v → Belongs l es (suc i) q k x f w → Belongs l (e ∷ es) i q k x f (v + w)
+    here : {e : MapEntry N} {es : List (MapEntry N)} {i q v w : ℕ} {k x : Value} → Says l (l.type_at e.key_type) q k Yes v → Says l (l.type_at e.value_type) (q + place_count k) x Yes w → Belongs l (e ∷ es) i q k x (BelongsTo i Yes) (v + w)
+    cut_here : {e : MapEntry N} {es : List (MapEntry N)} {i q far v w : ℕ} {k x : Value} → e.cuts ≡ true → Says l (l.type_at e.key_type) q k Yes v → Says l (l.type_at e.value_type) (q + place_count k) x (No far) w → Belongs l (e ∷ es) i q k x (BelongsTo i (No far)) (v + w)
+    handed_on : {e : MapEntry N} {es : List (MapEntry N)} {i q far u v w : ℕ} {k x : Value} {f : Fate} → e.cuts ≡ false → Says l (l.type_at e.key_type) q k Yes u → Says l (l.type_at e.value_type) (q + place_count k) x (No far) v → Belongs l es (suc i) q k x f w → Belongs l (e ∷ es) i q k x f (u + (v + w))
 
   -- The number n of a tag at p is meant, or not.
   pub data Numbers {N G : Type 0} (l : Language N G) : TagNumber N → ℕ → ℕ → Answer → ℕ → Type 0 where

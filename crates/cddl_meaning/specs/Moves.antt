@@ -1,14 +1,36 @@
 -- The moves of a matcher, as functions: each is a reply, or a question and what waits for its reply. They reply just what
 -- the definition says, wherever places have numbers below 2^64.
-use Rattle.std.specs.Prelude.{ℕ, zero, suc, ◌+◌, ◌-◌, ◌^◌, min, max, length, List, [], ◌∷◌, Option, Some, None, Bool, true, false, nat_eq}
-use Rattle.cbor_data.specs.Value.{Value, uint, place_count}
-use Rattle.cddl_meaning.specs.Forms.{passes, members_in, tag_in, simple_in, TagNumber, any_number, exactly, such_as, Node, Plain, Ref, Choice, ArrayOf, TagOf, SimpleBy, Most, Group, Entry, GroupRef, Sequence, Alternatives, Repeat, Language}
-use Rattle.cddl_meaning.specs.Judges.{Answer, Yes, No, Reply, Takes, Fails, is_over, one_less}
+use Rattle.std.specs.Prelude.{ℕ, zero, suc, ◌+◌, ◌-◌, ◌^◌, min, max, length, List, [], ◌∷◌, Option, Some, None, Bool, true, false, nat_eq, nat_le, ◌&&◌}
+use Rattle.cbor_data.specs.Value.{Value, uint, place_count, Pairs, no_pairs, pair}
+use Rattle.cddl_meaning.specs.Forms.{passes, members_in, pairs_in, tag_in, simple_in, TagNumber, any_number, exactly, such_as, MapEntry, Node, Plain, Ref, Choice, ArrayOf, TagOf, SimpleBy, MapOf, Most, Group, Entry, GroupRef, Sequence, Alternatives, Repeat, Language}
+use Rattle.cddl_meaning.specs.Judges.{Answer, Yes, No, Reply, Takes, Fails, is_over, one_less, is_up_to_most, Fate, BelongsTo, Stray, by_counts, shown_by}
 
--- A question asks a type of an item at a place, or a group of items, the first of them at a place, of the array at a base.
+-- A question asks a type of an item at a place; a group of items, the first of them at a place, of the array at a base; or
+-- an alternative of the pairs of the map at a base.
 pub data Question (N G : Type 0) : Type 0 where
   OfType : N → (place : ℕ) → Value → Question N G
   OfGroup : G → (base place : ℕ) → List Value → Question N G
+  OfAlternative : List (MapEntry N) → (base : ℕ) → Pairs → Question N G
+
+-- An alternative's pairs so far: how many belong to each of its entries, the first stray key, and where the first failing
+-- value shows.
+pub record Tally : Type 0 where
+  pub counts : List ℕ
+  pub stray : Option ℕ
+  pub failing : Option ℕ
+
+-- A pair that is sorted: the alternative, and the map's place; the pair with its places, and the place after it; the pairs
+-- that are left; and the tally of those before.
+pub record Sorting (N : Type 0) : Type 0 where
+  pub entries : List (MapEntry N)
+  pub base : ℕ
+  pub key_place : ℕ
+  pub key : Value
+  pub value_place : ℕ
+  pub held : Value
+  pub next_place : ℕ
+  pub rest : Pairs
+  pub tally : Tally
 
 -- what waits for the reply to the question that it asked
 pub data Pending (N G : Type 0) : Type 0 where
@@ -30,11 +52,18 @@ pub data Pending (N G : Type 0) : Type 0 where
   InAlternatives : List G → (base place : ℕ) → List Value → (far : ℕ) → Pending N G
   -- the rounds that are left, with the one that is asked about
   InRepeat : (least : ℕ) → Most → G → (base place : ℕ) → List Value → (far : ℕ) → Pending N G
+  -- the alternatives that are left, and what those before replied
+  InMap : List (List (MapEntry N)) → (base : ℕ) → Pairs → (sofar : Reply) → Pending N G
+  -- the entry whose key type is asked, those after it, and its number
+  InKey : MapEntry N → List (MapEntry N) → (number : ℕ) → Sorting N → Pending N G
+  -- the same, where its value type is asked
+  InValue : MapEntry N → List (MapEntry N) → (number : ℕ) → Sorting N → Pending N G
 
--- either the reply, or what is asked first
+-- Either the reply, or what is asked first; or a pair is tried with the entries of its alternative.
 pub data Move (N G : Type 0) : Type 0 where
   Answered : Reply → Move N G
   Asks : Question N G → Pending N G → Move N G
+  Tries : Sorting N → Move N G
 
 -- a sum that stays at the greatest number; a sound item has fewer places
 abbrev pub plus : ℕ → ℕ → ℕ
@@ -59,6 +88,51 @@ abbrev pub array_reply : Reply → Reply
 array_reply (Takes [] next far) = Takes [] next 0
 array_reply (Takes (x ∷ xs) next far) = Fails (max far next)
 array_reply (Fails far) = Fails far
+
+-- what is said of an item that ends before this place, as a reply
+abbrev pub answer_reply : ℕ → Answer → Reply
+answer_reply next Yes = Takes [] next 0
+answer_reply next (No far) = Fails far
+
+-- yes if one of them is yes; else the greater place
+abbrev pub either_reply : Reply → Reply → Reply
+either_reply (Takes left next far) r = Takes left next far
+either_reply (Fails p) (Takes left next far) = Takes left next far
+either_reply (Fails p) (Fails q) = Fails (max p q)
+
+-- no pair was sorted
+abbrev pub no_counts : {N : Type 0} → List (MapEntry N) → List ℕ
+no_counts [] = []
+no_counts (e ∷ es) = 0 ∷ no_counts es
+
+abbrev pub fresh : {N : Type 0} → List (MapEntry N) → Tally
+fresh es = record { counts = no_counts es; stray = None; failing = None }
+
+-- one more for the entry of this number
+abbrev pub counted : ℕ → List ℕ → List ℕ
+counted i [] = []
+counted zero (n ∷ ns) = suc n ∷ ns
+counted (suc i) (n ∷ ns) = n ∷ counted i ns
+
+-- the first place that shows is kept
+abbrev pub first_of : Option ℕ → ℕ → Option ℕ
+first_of (Some p) q = Some p
+first_of None q = Some q
+
+-- the tally with one pair more
+abbrev pub tallied : Tally → Fate → Tally
+tallied t (BelongsTo i Yes) = record { counts = counted i t.counts; stray = t.stray; failing = t.failing }
+tallied t (BelongsTo i (No far)) = record { counts = counted i t.counts; stray = t.stray; failing = first_of t.failing far }
+tallied t (Stray q) = record { counts = t.counts; stray = first_of t.stray q; failing = t.failing }
+
+-- as many pairs belong to each entry as it asks for
+abbrev pub enough_of : {N : Type 0} → List (MapEntry N) → List ℕ → Bool
+enough_of (e ∷ es) (n ∷ ns) = (nat_le e.least n && is_up_to_most n e.most) && enough_of es ns
+enough_of _ _ = true
+
+-- what an alternative says of a map at p whose pairs are all tallied
+abbrev pub tally_says : {N : Type 0} → List (MapEntry N) → ℕ → Tally → Answer
+tally_says es p t = shown_by t.stray (shown_by t.failing (by_counts p (enough_of es t.counts)))
 
 module _ {N G : Type 0} where
   -- the next member of a choice of types
@@ -117,6 +191,34 @@ module _ {N G : Type 0} where
   simple_move m p None = Answered (Fails p)
   simple_move m p (Some n) = Asks (OfType m p (uint n)) (InSimple p)
 
+  -- the next alternative of a map
+  abbrev pub next_way : List (List (MapEntry N)) → ℕ → Pairs → Reply → Move N G
+  next_way [] p ps sofar = Answered sofar
+  next_way (es ∷ ess) p ps sofar = Asks (OfAlternative es p ps) (InMap ess p ps sofar)
+
+  abbrev pub map_move : List (List (MapEntry N)) → ℕ → Option Pairs → Move N G
+  map_move ess p None = Answered (Fails p)
+  map_move ess p (Some ps) = next_way ess p ps (Fails p)
+
+  -- the next pair of an alternative, its key at q
+  abbrev pub next_pair : List (MapEntry N) → ℕ → ℕ → Pairs → Tally → Move N G
+  next_pair es base q no_pairs t = Answered (answer_reply q (tally_says es base t))
+  next_pair es base q (pair k x ps) t = Tries (record { entries = es; base = base; key_place = q; key = k; value_place = plus q (place_count k); held = x; next_place = plus (plus q (place_count k)) (place_count x); rest = ps; tally = t })
+
+  -- The pair's fate is known.
+  abbrev pub sorted : Sorting N → Fate → Move N G
+  sorted s f = next_pair s.entries s.base s.next_place s.rest (tallied s.tally f)
+
+  -- The pair is tried with the next entry, which has this number.
+  abbrev pub next_entry : List (MapEntry N) → ℕ → Sorting N → Move N G
+  next_entry [] i s = sorted s (Stray s.key_place)
+  next_entry (e ∷ es) i s = Asks (OfType e.key_type s.key_place s.key) (InKey e es i s)
+
+  -- An entry whose value type has said no keeps the pair if it cuts.
+  abbrev pub after_value : Bool → List (MapEntry N) → ℕ → Sorting N → ℕ → Move N G
+  after_value true es i s far = sorted s (BelongsTo i (No far))
+  after_value false es i s far = next_entry es (suc i) s
+
   -- what a type asks first
   abbrev pub type_move : Node N G → ℕ → Value → Move N G
   type_move (Plain t) p x = Answered (test_reply p x (passes t x))
@@ -125,6 +227,7 @@ module _ {N G : Type 0} where
   type_move (ArrayOf g) p x = array_move g p (members_in x)
   type_move (TagOf t m) p x = tag_move t m p (tag_in x)
   type_move (SimpleBy m) p x = simple_move m p (simple_in x)
+  type_move (MapOf ess) p x = map_move ess p (pairs_in x)
 
   -- An entry asks about the first item.
   abbrev pub entry_move : N → ℕ → ℕ → List Value → Move N G
@@ -143,6 +246,7 @@ module _ {N G : Type 0} where
   abbrev pub first_move : Language N G → Question N G → Move N G
   first_move l (OfType n p x) = type_move (l.type_at n) p x
   first_move l (OfGroup g base q xs) = group_move (l.group_at g) base q xs
+  first_move l (OfAlternative es base ps) = next_pair es base (plus base 1) ps (fresh es)
 
   -- what a pending question asks next, or its reply, once what it asked has this reply
   abbrev pub next_move : Pending N G → Reply → Move N G
@@ -162,8 +266,14 @@ module _ {N G : Type 0} where
   next_move (InAlternatives gs base q xs far) (Fails later) = next_alternative gs base q xs (max far later)
   next_move (InRepeat least most g base q xs far) (Takes left next later) = after_round (nat_eq (length left) (length xs)) least most g base q xs (max far later) left next
   next_move (InRepeat least most g base q xs far) (Fails later) = end_of_rounds least xs q (max far later)
+  next_move (InMap ess p ps sofar) r = next_way ess p ps (either_reply sofar r)
+  next_move (InKey e es i s) (Takes left next later) = Asks (OfType e.value_type s.value_place s.held) (InValue e es i s)
+  next_move (InKey e es i s) (Fails later) = next_entry es (suc i) s
+  next_move (InValue e es i s) (Takes left next later) = sorted s (BelongsTo i Yes)
+  next_move (InValue e es i s) (Fails later) = after_value e.cuts es i s later
 
-  -- A question's reply by the moves, with the number of questions that are asked on the way.
+  -- A question's reply by the moves, with the number of questions that are asked on the way, and one more for each pair that
+  -- is tried and for each entry of its alternative.
   mutual
     pub data Replies (l : Language N G) : Question N G → Reply → ℕ → Type 0 where
       replies : {q : Question N G} {r : Reply} {w : ℕ} → LeadsTo l (first_move l q) r w → Replies l q r (suc w)
@@ -172,3 +282,4 @@ module _ {N G : Type 0} where
     pub data LeadsTo (l : Language N G) : Move N G → Reply → ℕ → Type 0 where
       at_once : {r : Reply} → LeadsTo l (Answered r) r 0
       after : {q : Question N G} {o : Pending N G} {s r : Reply} {v w : ℕ} → Replies l q s v → LeadsTo l (next_move o s) r w → LeadsTo l (Asks q o) r (v + w)
+      tries : {s : Sorting N} {r : Reply} {w : ℕ} → LeadsTo l (next_entry s.entries 0 s) r w → LeadsTo l (Tries s) r (suc (length s.entries) + w)
