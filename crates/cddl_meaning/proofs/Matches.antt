@@ -85,6 +85,11 @@ module _ {N G : Type 0} (l : Language N G) where
   round_leads {least = least} {most = most} {g = g} {p = p} {q = q} {b = b} {far = far} {later = later} {w = w} {xs = xs} {left = left} {r = r} n d e =
       after d (subst (λ c. LeadsTo l (after_round c least most g p q xs (max far later) left b) r w) (sym n) e)
 
+  -- no more fates than places
+  pub as_many : {es : List (MapEntry N)} {q w : ℕ} {ps : Pairs} {fs : List Fate} → Sorts l es q ps fs w → length fs ≤ pairs_place_count ps
+  as_many all_sorted = omega arith
+  as_many (sort {k = k} d e) = omega (arith, any_places k, as_many e)
+
   value_ends : {e : MapEntry N} {es : List (MapEntry N)} {i v w : ℕ} {t r : Reply} (s : Sorting N) → s.value_place ≡ s.key_place + place_count s.key → Replies l (OfType e.value_type (s.key_place + place_count s.key) s.held) t v → LeadsTo l (next_move (InValue e es i s) t) r w → LeadsTo l (Asks (OfType e.value_type s.value_place s.held) (InValue e es i s)) r (v + w)
   value_ends {e = e} {es = es} {i = i} {v = v} {w = w} {r = r} s k d g =
       subst (λ z. LeadsTo l (Asks (OfType e.value_type z s.held) (InValue e es i s)) r (v + w)) (sym k) (after d g)
@@ -111,7 +116,7 @@ module _ {N G : Type 0} (l : Language N G) where
     maps_ends h no_alternative = at_once
     maps_ends h (alternative {es = es} {ess = ess} {p = p} {v = v} {w = w} {ps = ps} {sofar = sofar} {a = a} {fs = fs} d e) =
         let b = suc p + pairs_place_count ps in
-        let f : LeadsTo l (next_pair es p (plus p 1) ps (fresh es)) (answer_reply b (alternative_says es p fs)) v = rw (below p (pairs_place_count ps) h) (subst (λ c. LeadsTo l (next_pair es p (suc p) ps (fresh es)) (answer_reply b c) v) (tally_is es p fs) (sorts_ends p (fresh es) h d)) in
+        let f : LeadsTo l (next_pair es p (plus p 1) ps (fresh es)) (answer_reply b (alternative_says es p fs)) v = rw (below p (pairs_place_count ps) h) (subst (λ c. LeadsTo l (next_pair es p (suc p) ps (fresh es)) (answer_reply b c) v) (tally_is es p fs (omega (arith, h, as_many d))) (sorts_ends p (fresh es) h d)) in
         let g : LeadsTo l (next_way ess p ps (either_reply (answer_reply b sofar) (answer_reply b (alternative_says es p fs)))) (answer_reply b a) w = rw (either_is b sofar (alternative_says es p fs)) (maps_ends h e) in
         after (replies f) g
 

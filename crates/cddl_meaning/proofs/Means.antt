@@ -5,7 +5,7 @@ use Rattle.cbor_data.specs.Value.{Value, place_count, Pairs, no_pairs, pair, pai
 use Rattle.cddl_meaning.specs.Forms.{Test, passes, members_in, pairs_in, tag_in, simple_in, TagNumber, any_number, exactly, such_as, MapEntry, Node, Plain, Ref, Choice, ArrayOf, TagOf, SimpleBy, MapOf, Most, Group, Entry, GroupRef, Sequence, Alternatives, Repeat, Language}
 use Rattle.cddl_meaning.specs.Judges.{Answer, Yes, No, Reply, Takes, Fails, whole, over, failed, is_over, one_less, Says, passed, missed, ref, choice, no_array, array, no_tag, tagged, other_tag, no_simple, simple_such, other_simple, no_map, map, Fate, BelongsTo, Stray, alternative_says, either, Maps, no_alternative, alternative, Sorts, all_sorted, sort, Belongs, nowhere, other_key, here, cut_here, handed_on, Numbers, whichever, this_number, other_number, by_head, Chooses, no_more, this_one, not_this, Does, missing, matches, differs, group_ref, sequence, alternatives, repeat, DoesEach, all_done, one_fails, and_then, DoesFirst, all_fail, one_takes, or_else, Repeats, full, too_few, enough, empty_round, round}
 use Rattle.cddl_meaning.proofs.Covers.{places_of, covers, any_places, array_places, map_places, tag_places}
-use Rattle.cddl_meaning.proofs.Matches.{Fits, plus_is, next_place, below, array_covers, tag_reply, simple_reply, map_reply, either_is}
+use Rattle.cddl_meaning.proofs.Matches.{Fits, plus_is, next_place, below, array_covers, tag_reply, simple_reply, map_reply, either_is, as_many}
 use Rattle.cddl_meaning.proofs.Tallies.{all_tallied, tally_is}
 use Rattle.cddl_meaning.specs.Moves.{Question, OfType, OfGroup, OfAlternative, Tally, tallied, fresh, tally_says, Sorting, InRef, Answered, Asks, plus, reply_of, test_reply, answer_reply, either_reply, next_member, next_part, next_alternative, next_round, repetition, after_round, end_of_rounds, array_move, content_move, tag_move, simple_move, next_way, map_move, next_pair, sorted, next_entry, after_value, type_move, group_move, Replies, replies, LeadsTo, at_once, after, tries}
 
@@ -290,7 +290,7 @@ module _ {N G : Type 0} (l : Language N G) where
     alternative_within zero f h (replies e) = absurd (omega (arith, h))
     alternative_within (suc k) {es = es} {p = p} {ps = ps} {r = r} f h (replies {w = w} e) =
         let s = sorts_from k (record { types = type_within k; groups = group_within k; alternatives = alternative_within k }) ps f (omega (arith, h)) (subst (λ q. LeadsTo l (next_pair es p q ps (fresh es)) r w) (below p (pairs_place_count ps) f) e) in
-        record { fates = s.fates; is = s.is ∙ ap (answer_reply (suc p + pairs_place_count ps)) (tally_is es p s.fates); weight = w; one_more = refl; sorts = s.sorts }
+        record { fates = s.fates; is = s.is ∙ ap (answer_reply (suc p + pairs_place_count ps)) (tally_is es p s.fates (omega (arith, f, as_many l s.sorts))); weight = w; one_more = refl; sorts = s.sorts }
 
   pub means : {n : N} {p w : ℕ} {x : Value} {r : Reply} → Fits p (place_count x) → Replies l (OfType n p x) r w → SaysIt (l.type_at n) p x r w
   means {w = w} f d = type_within w f (omega arith) d

@@ -1,9 +1,9 @@
 -- A tally that walks along the pairs of an alternative tells what their fates do.
-use Rattle.std.proofs.Common.{◌≡◌, ℕ, zero, suc, ◌+◌, ◌<◌, List, [], ◌∷◌, Option, Some, None, true, false, nat_eq, nat_le, ◌&&◌, refl, sym, ap, ◌∙◌, arith}
+use Rattle.std.proofs.Common.{◌≡◌, ℕ, zero, suc, ◌+◌, ◌<◌, ◌^◌, length, List, [], ◌∷◌, Option, Some, None, true, false, nat_eq, nat_le, ◌&&◌, refl, sym, ap, ◌∙◌, arith}
 use Rattle.std.proofs.lemmas.Bool.Decides.{nat_tests}
 use Rattle.cddl_meaning.specs.Forms.{MapEntry}
 use Rattle.cddl_meaning.specs.Judges.{Yes, No, is_up_to_most, Fate, BelongsTo, Stray, count_of, are_enough, first_stray, first_failing, alternative_says, Answer}
-use Rattle.cddl_meaning.specs.Moves.{Tally, no_counts, fresh, counted, first_of, tallied, enough_of, tally_says}
+use Rattle.cddl_meaning.specs.Moves.{plus, Tally, no_counts, fresh, counted, first_of, tallied, enough_of, tally_says}
 
 -- the tally after these pairs
 abbrev pub all_tallied : Tally → List Fate → Tally
@@ -65,26 +65,47 @@ added_before : (i j : ℕ) (a : Answer) (ns : List ℕ) (fs : List Fate) → j <
 added_before i j a [] fs h = refl
 added_before i j a (n ∷ ns) fs h = rw (lower_number j i h) (ap (λ ms. (n + count_of i fs) ∷ ms) (added_before (suc i) j a ns fs (omega (arith, h))))
 
+-- so many pairs more can be counted
+abbrev AllFit : ℕ → List ℕ → Type 0
+AllFit k [] = Unit {0}
+AllFit k (n ∷ ns) = (n + k < 2 ^ 64) × AllFit k ns
+
+one_less_fits : (k : ℕ) (ns : List ℕ) → AllFit (suc k) ns → AllFit k ns
+one_less_fits k [] h = tt
+one_less_fits k (n ∷ ns) h = (omega (arith, h.0), one_less_fits k ns h.1)
+
+one_more : (n k : ℕ) → n + suc k < 2 ^ 64 → plus n 1 ≡ n + 1
+one_more n k h = grind (arith)
+
+counted_fits : (k j : ℕ) (ns : List ℕ) → AllFit (suc k) ns → AllFit k (counted j ns)
+counted_fits k j [] h = tt
+counted_fits k zero (n ∷ ns) h = (omega (arith, one_more n k h.0, h.0), one_less_fits k ns h.1)
+counted_fits k (suc j) (n ∷ ns) h = (omega (arith, h.0), counted_fits k j ns h.1)
+
+none_fit : {N : Type 0} (k : ℕ) (es : List (MapEntry N)) → k < 2 ^ 64 → AllFit k (no_counts es)
+none_fit k [] h = tt
+none_fit k (e ∷ es) h = (omega (arith, h), none_fit k es h)
+
 -- a pair of one of these
-added_one : (i k j : ℕ) (a : Answer) (ns : List ℕ) (fs : List Fate) → k ≡ i + j → added i (counted j ns) fs ≡ added i ns (BelongsTo k a ∷ fs)
-added_one i k j a [] fs e = refl
-added_one i k zero a (n ∷ ns) fs e =
+added_one : (m i k j : ℕ) (a : Answer) (ns : List ℕ) (fs : List Fate) → AllFit (suc m) ns → k ≡ i + j → added i (counted j ns) fs ≡ added i ns (BelongsTo k a ∷ fs)
+added_one m i k j a [] fs f e = refl
+added_one m i k zero a (n ∷ ns) fs f e =
     let h : k ≡ i = omega (arith, e) in
-    rw h (rw (equal_numbers i) (cc (one_more n (count_of i fs), sym (added_before (suc i) i a ns fs (omega arith)))))
+    rw h (rw (equal_numbers i) (cc (shifted (count_of i fs), sym (added_before (suc i) i a ns fs (omega arith)))))
   where
-    one_more : (n c : ℕ) → suc n + c ≡ n + suc c
-    one_more n c = omega arith
-added_one i k (suc j) a (n ∷ ns) fs e =
-    rw (higher k i (omega (arith, e))) (ap (λ ms. (n + count_of i fs) ∷ ms) (added_one (suc i) k j a ns fs (omega (arith, e))))
+    shifted : (c : ℕ) → plus n 1 + c ≡ n + suc c
+    shifted c = omega (arith, one_more n m f.0)
+added_one m i k (suc j) a (n ∷ ns) fs f e =
+    rw (higher k i (omega (arith, e))) (ap (λ ms. (n + count_of i fs) ∷ ms) (added_one m (suc i) k j a ns fs f.1 (omega (arith, e))))
   where
     higher : (k i : ℕ) → i < k → nat_eq k i ≡ false
     higher k i h = grind (arith, nat_tests)
 
-counts_of : (t : Tally) (fs : List Fate) → (all_tallied t fs).counts ≡ added 0 t.counts fs
-counts_of t [] = sym (added_none 0 t.counts)
-counts_of t (BelongsTo j Yes ∷ fs) = counts_of (tallied t (BelongsTo j Yes)) fs ∙ added_one 0 j j Yes t.counts fs (omega arith)
-counts_of t (BelongsTo j (No far) ∷ fs) = counts_of (tallied t (BelongsTo j (No far))) fs ∙ added_one 0 j j (No far) t.counts fs (omega arith)
-counts_of t (Stray q ∷ fs) = counts_of (tallied t (Stray q)) fs ∙ sym (added_stray 0 q t.counts fs)
+counts_of : (t : Tally) (fs : List Fate) → AllFit (length fs) t.counts → (all_tallied t fs).counts ≡ added 0 t.counts fs
+counts_of t [] h = sym (added_none 0 t.counts)
+counts_of t (BelongsTo j Yes ∷ fs) h = counts_of (tallied t (BelongsTo j Yes)) fs (counted_fits (length fs) j t.counts h) ∙ added_one (length fs) 0 j j Yes t.counts fs h (omega arith)
+counts_of t (BelongsTo j (No far) ∷ fs) h = counts_of (tallied t (BelongsTo j (No far))) fs (counted_fits (length fs) j t.counts h) ∙ added_one (length fs) 0 j j (No far) t.counts fs h (omega arith)
+counts_of t (Stray q ∷ fs) h = counts_of (tallied t (Stray q)) fs (one_less_fits (length fs) t.counts h) ∙ sym (added_stray 0 q t.counts fs)
 
 module _ {N : Type 0} where
   enough_is : (es : List (MapEntry N)) (i : ℕ) (fs : List Fate) → enough_of es (added i (no_counts es) fs) ≡ are_enough es i fs
@@ -94,5 +115,5 @@ module _ {N : Type 0} where
       begins : (c : ℕ) → 0 + c ≡ c
       begins c = omega arith
 
-  pub tally_is : (es : List (MapEntry N)) (p : ℕ) (fs : List Fate) → tally_says es p (all_tallied (fresh es) fs) ≡ alternative_says es p fs
-  tally_is es p fs = rw (stray_of (fresh es) fs, failing_of (fresh es) fs, counts_of (fresh es) fs, enough_is es 0 fs) refl
+  pub tally_is : (es : List (MapEntry N)) (p : ℕ) (fs : List Fate) → length fs < 2 ^ 64 → tally_says es p (all_tallied (fresh es) fs) ≡ alternative_says es p fs
+  tally_is es p fs h = rw (stray_of (fresh es) fs, failing_of (fresh es) fs, counts_of (fresh es) fs (none_fit (length fs) es h), enough_is es 0 fs) refl

@@ -108,10 +108,10 @@ no_counts (e ∷ es) = 0 ∷ no_counts es
 abbrev pub fresh : {N : Type 0} → List (MapEntry N) → Tally
 fresh es = record { counts = no_counts es; stray = None; failing = None }
 
--- one more for the entry of this number
+-- one more for the entry of this number, as far as 2^64 - 1: a map has fewer pairs
 abbrev pub counted : ℕ → List ℕ → List ℕ
 counted i [] = []
-counted zero (n ∷ ns) = suc n ∷ ns
+counted zero (n ∷ ns) = plus n 1 ∷ ns
 counted (suc i) (n ∷ ns) = n ∷ counted i ns
 
 -- the first place that shows is kept
