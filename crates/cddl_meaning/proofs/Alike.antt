@@ -1,8 +1,8 @@
 -- Languages that are alike say the same of each item, at the same place, with the same weight.
-use Rattle.std.proofs.Common.{◌≡◌, ℕ, suc, ◌+◌, length, List, ◌∷◌, nat_le, ◌&&◌, refl, sym, subst, ap, ◌∙◌}
+use Rattle.std.proofs.Common.{[], ◌∷◌, ◌≡◌, ℕ, suc, ◌+◌, length, List, ◌∷◌, nat_le, ◌&&◌, refl, sym, subst, ap, ◌∙◌}
 use Rattle.cbor_data.specs.Value.{Value, Pairs, pair}
 use Rattle.cddl_meaning.specs.Forms.{TagNumber, MapEntry, Node, Most, Group, Language}
-use Rattle.cddl_meaning.specs.Judges.{Answer, Reply, Says, passed, missed, ref, choice, no_array, array, no_tag, tagged, other_tag, no_simple, simple_such, other_simple, no_map, map, Fate, count_of, is_up_to_most, are_enough, first_stray, first_failing, by_counts, shown_by, alternative_says, either, Maps, no_alternative, alternative, Sorts, all_sorted, sort, Belongs, nowhere, other_key, here, cut_here, handed_on, Numbers, whichever, this_number, other_number, by_head, Chooses, no_more, this_one, not_this, Does, missing, matches, differs, group_ref, sequence, alternatives, repeat, DoesEach, all_done, one_fails, and_then, DoesFirst, all_fail, one_takes, or_else, Repeats, full, too_few, enough, empty_round, round}
+use Rattle.cddl_meaning.specs.Judges.{Answer, Yes, No, Reply, Says, passed, missed, ref, choice, no_array, array, no_tag, tagged, other_tag, no_simple, simple_such, other_simple, no_map, map, Fate, BelongsTo, count_of, is_up_to_most, are_enough, first_stray, first_failing, by_counts, shown_by, alternative_says, either, Maps, no_alternative, alternative, Sorts, all_sorted, sort, Belongs, nowhere, other_key, here, cut_here, handed_on, Numbers, whichever, this_number, other_number, by_head, Chooses, no_more, this_one, not_this, Does, missing, matches, differs, group_ref, sequence, alternatives, repeat, DoesEach, all_done, one_fails, and_then, DoesFirst, all_fail, one_takes, or_else, Repeats, full, too_few, enough, empty_round, round}
 use Rattle.cddl_meaning.specs.Alike as A
 use Rattle.cddl_meaning.specs.Alike.{flipped, AlikeAll, none, both, AlikeNumbers, any_numbers, same_number, heads, AlikeEntries, no_entries, entry, AlikeMaps, no_alternatives, AlikeTypes, plain, refs, choices, arrays, tags, simples, maps, AlikeGroups, entries, group_refs, sequences, alternates, repeats, AreAlike}
 
@@ -11,12 +11,12 @@ module _ {N M : Type 0} (R : N → M → Type 0) where
   as_many no_entries = refl
   as_many (entry a b c r s t) = ap suc (as_many t)
 
-  enough_too : {ds : List (MapEntry N)} {es : List (MapEntry M)} (i : ℕ) (fs : List Fate) → AlikeEntries R ds es → are_enough ds i fs ≡ are_enough es i fs
-  enough_too i fs no_entries = refl
-  enough_too i fs (entry {e = e} a b c r s t) = rw (a, b) (ap (λ z. (nat_le e.least (count_of i fs) && is_up_to_most (count_of i fs) e.most) && z) (enough_too (suc i) fs t))
+  enough_too : {ds : List (MapEntry N)} {es : List (MapEntry M)} (fs : List Fate) → AlikeEntries R ds es → are_enough ds fs ≡ are_enough es fs
+  enough_too fs no_entries = refl
+  enough_too fs (entry {e = e} {es = es} a b c r s t) = rw (a, b, as_many t) (ap (λ z. (nat_le e.least (count_of (length es) fs) && is_up_to_most (count_of (length es) fs) e.most) && z) (enough_too fs t))
 
   alternative_too : {ds : List (MapEntry N)} {es : List (MapEntry M)} (p : ℕ) (fs : List Fate) → AlikeEntries R ds es → alternative_says ds p fs ≡ alternative_says es p fs
-  alternative_too p fs r = ap (λ b. shown_by (first_stray fs) (shown_by (first_failing fs) (by_counts p b))) (enough_too 0 fs r)
+  alternative_too p fs r = ap (λ b. shown_by (first_stray fs) (shown_by (first_failing fs) (by_counts p b))) (enough_too fs r)
 
 module _ {N G M H : Type 0} (l : Language N G) (k : Language M H) (R : N → M → Type 0) (S : G → H → Type 0) (i : AreAlike l k R S) where
   mutual
@@ -46,11 +46,15 @@ module _ {N G M H : Type 0} (l : Language N G) (k : Language M H) (R : N → M �
     sorts_too {es = es} (sort {q = q} {v = v} {w = w} {k = c} {x = x} {ps = ps} {f = f} {fs = fs} d e) r =
         subst (λ n. Sorts k es q (pair c x ps) (f ∷ fs) (suc n + v + w)) (sym (as_many R r)) (sort (belongs_too d r) (sorts_too e r))
 
-    belongs_too : {ds : List (MapEntry N)} {es : List (MapEntry M)} {j q w : ℕ} {c x : Value} {f : Fate} → Belongs l ds j q c x f w → AlikeEntries R ds es → Belongs k es j q c x f w
+    belongs_too : {ds : List (MapEntry N)} {es : List (MapEntry M)} {q w : ℕ} {c x : Value} {f : Fate} → Belongs l ds q c x f w → AlikeEntries R ds es → Belongs k es q c x f w
     belongs_too nowhere no_entries = nowhere
     belongs_too (other_key d b) (entry {d = m} {e = n} y z o r s rs) = other_key (says_too d (i.types m.key_type n.key_type r)) (belongs_too b rs)
-    belongs_too (here d b) (entry {d = m} {e = n} y z o r s rs) = here (says_too d (i.types m.key_type n.key_type r)) (says_too b (i.types m.value_type n.value_type s))
-    belongs_too (cut_here h d b) (entry {d = m} {e = n} y z o r s rs) = cut_here (sym o ∙ h) (says_too d (i.types m.key_type n.key_type r)) (says_too b (i.types m.value_type n.value_type s))
+    belongs_too {es = []} (here d b) r = elim r [ ]
+    belongs_too {es = []} (cut_here h d b) r = elim r [ ]
+    belongs_too {es = n ∷ es} {q = q} {c = c} {x = x} (here {v = v} {w = w} d b) (entry {d = m} y z o r s rs) =
+        subst (λ i. Belongs k (n ∷ es) q c x (BelongsTo i Yes) (v + w)) (sym (as_many R rs)) (here (says_too d (i.types m.key_type n.key_type r)) (says_too b (i.types m.value_type n.value_type s)))
+    belongs_too {es = n ∷ es} {q = q} {c = c} {x = x} (cut_here {far = far} {v = v} {w = w} h d b) (entry {d = m} y z o r s rs) =
+        subst (λ i. Belongs k (n ∷ es) q c x (BelongsTo i (No far)) (v + w)) (sym (as_many R rs)) (cut_here (sym o ∙ h) (says_too d (i.types m.key_type n.key_type r)) (says_too b (i.types m.value_type n.value_type s)))
     belongs_too (handed_on h d b t) (entry {d = m} {e = n} y z o r s rs) = handed_on (sym o ∙ h) (says_too d (i.types m.key_type n.key_type r)) (says_too b (i.types m.value_type n.value_type s)) (belongs_too t rs)
 
     pub numbers_too : {s : TagNumber N} {t : TagNumber M} {p n w : ℕ} {a : Answer} → Numbers l s p n a w → AlikeNumbers R s t → Numbers k t p n a w

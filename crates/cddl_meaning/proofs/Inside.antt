@@ -56,7 +56,7 @@ either_shows p end (No far) Yes h k = tt
 either_shows p end (No far) (No later) h k = (omega (arith, h.0, k.0), omega (arith, h.1, k.1))
 
 alternative_shows : {N : Type 0} (es : List (MapEntry N)) (p end : ℕ) (fs : List Fate) → p < end → AllShow p end fs → Shows p end (alternative_says es p fs)
-alternative_shows es p end fs h a = shown p end (first_stray fs) (shown_by (first_failing fs) (by_counts p (are_enough es 0 fs))) (stray_shows p end fs a) (shown p end (first_failing fs) (by_counts p (are_enough es 0 fs)) (failing_shows p end fs a) (by_counts_shows p end (are_enough es 0 fs) h))
+alternative_shows es p end fs h a = shown p end (first_stray fs) (shown_by (first_failing fs) (by_counts p (are_enough es fs))) (stray_shows p end fs a) (shown p end (first_failing fs) (by_counts p (are_enough es fs)) (failing_shows p end fs a) (by_counts_shows p end (are_enough es fs) h))
 
 module _ {N G : Type 0} (l : Language N G) where
   mutual
@@ -90,7 +90,7 @@ module _ {N G : Type 0} (l : Language N G) where
     sorts_inside from end h k all_sorted = tt
     sorts_inside from end h k (sort d e) = (belongs_inside from end h (omega (arith, k)) d, sorts_inside from end (omega (arith, h)) (omega (arith, k)) e)
 
-    belongs_inside : (from end : ℕ) {es : List (MapEntry N)} {i q w : ℕ} {k x : Value} {f : Fate} → from ≤ q → q + place_count k + place_count x ≤ end → Belongs l es i q k x f w → FateShows from end f
+    belongs_inside : (from end : ℕ) {es : List (MapEntry N)} {q w : ℕ} {k x : Value} {f : Fate} → from ≤ q → q + place_count k + place_count x ≤ end → Belongs l es q k x f w → FateShows from end f
     belongs_inside from end h j (nowhere {k = k}) = (h, omega (arith, j, any_places k))
     belongs_inside from end h j (other_key d b) = belongs_inside from end h j b
     belongs_inside from end h j (here d b) = tt

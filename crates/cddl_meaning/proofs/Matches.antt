@@ -90,9 +90,9 @@ module _ {N G : Type 0} (l : Language N G) where
   as_many all_sorted = omega arith
   as_many (sort {k = k} d e) = omega (arith, any_places k, as_many e)
 
-  value_ends : {e : MapEntry N} {es : List (MapEntry N)} {i v w : ℕ} {t r : Reply} (s : Sorting N) → s.value_place ≡ s.key_place + place_count s.key → Replies l (OfType e.value_type (s.key_place + place_count s.key) s.held) t v → LeadsTo l (next_move (InValue e es i s) t) r w → LeadsTo l (Asks (OfType e.value_type s.value_place s.held) (InValue e es i s)) r (v + w)
-  value_ends {e = e} {es = es} {i = i} {v = v} {w = w} {r = r} s k d g =
-      subst (λ z. LeadsTo l (Asks (OfType e.value_type z s.held) (InValue e es i s)) r (v + w)) (sym k) (after d g)
+  value_ends : {e : MapEntry N} {es : List (MapEntry N)} {v w : ℕ} {t r : Reply} (s : Sorting N) → s.value_place ≡ s.key_place + place_count s.key → Replies l (OfType e.value_type (s.key_place + place_count s.key) s.held) t v → LeadsTo l (next_move (InValue e es s) t) r w → LeadsTo l (Asks (OfType e.value_type s.value_place s.held) (InValue e es s)) r (v + w)
+  value_ends {e = e} {es = es} {v = v} {w = w} {r = r} s k d g =
+      subst (λ z. LeadsTo l (Asks (OfType e.value_type z s.held) (InValue e es s)) r (v + w)) (sym k) (after d g)
 
   mutual
     says_ends : {f : Node N G} {p w : ℕ} {x : Value} {a : Answer} → Fits p (place_count x) → Says l f p x a w → LeadsBy (type_move f p x) (reply_of p x a) w
@@ -132,16 +132,16 @@ module _ {N G : Type 0} (l : Language N G) where
         let g : LeadsTo l (sorted s f) (answer_reply (q + pairs_place_count (pair k x ps)) a) w = subst (λ b. LeadsTo l (sorted s f) (answer_reply b a) w) (omega arith) y in
         subst (λ w. LeadsTo l (Tries s) (answer_reply (q + pairs_place_count (pair k x ps)) a) w) (omega arith) (tries (belongs_ends s (omega (arith, h)) i d g))
 
-    belongs_ends : {es : List (MapEntry N)} {i v w : ℕ} {f : Fate} {r : Reply} (s : Sorting N) → Fits s.key_place (place_count s.key + place_count s.held) → s.value_place ≡ s.key_place + place_count s.key → Belongs l es i s.key_place s.key s.held f v → LeadsTo l (sorted s f) r w → LeadsTo l (next_entry es i s) r (v + w)
+    belongs_ends : {es : List (MapEntry N)} {v w : ℕ} {f : Fate} {r : Reply} (s : Sorting N) → Fits s.key_place (place_count s.key + place_count s.held) → s.value_place ≡ s.key_place + place_count s.key → Belongs l es s.key_place s.key s.held f v → LeadsTo l (sorted s f) r w → LeadsTo l (next_entry es s) r (v + w)
     belongs_ends s h k nowhere g = less g
-    belongs_ends {w = w} {r = r} s h k (other_key {e = e} {es = es} {i = i} d b) g =
-        subst (λ n. LeadsTo l (next_entry (e ∷ es) i s) r n) (omega arith) (after (ask_by (says_ends (omega (arith, h)) d)) (belongs_ends s h k b g))
-    belongs_ends {w = w} {r = r} s h k (here {e = e} {es = es} {i = i} d b) g =
-        subst (λ n. LeadsTo l (next_entry (e ∷ es) i s) r n) (omega arith) (after (ask_by (says_ends (omega (arith, h)) d)) (value_ends {e = e} {w = w} s k (ask_by (says_ends (omega (arith, h)) b)) g))
-    belongs_ends {w = w} {r = r} s h k (cut_here {e = e} {es = es} {i = i} {far = far} c d b) g =
-        subst (λ n. LeadsTo l (next_entry (e ∷ es) i s) r n) (omega arith) (after (ask_by (says_ends (omega (arith, h)) d)) (value_ends {e = e} {w = w} s k (ask_by (says_ends (omega (arith, h)) b)) (rw c g)))
-    belongs_ends {w = w} {r = r} s h k (handed_on {e = e} {es = es} {i = i} {w = z} c d b m) g =
-        subst (λ n. LeadsTo l (next_entry (e ∷ es) i s) r n) (omega arith) (after (ask_by (says_ends (omega (arith, h)) d)) (value_ends {e = e} {w = z + w} s k (ask_by (says_ends (omega (arith, h)) b)) (rw c (belongs_ends s h k m g))))
+    belongs_ends {w = w} {r = r} s h k (other_key {e = e} {es = es} d b) g =
+        subst (λ n. LeadsTo l (next_entry (e ∷ es) s) r n) (omega arith) (after (ask_by (says_ends (omega (arith, h)) d)) (belongs_ends s h k b g))
+    belongs_ends {w = w} {r = r} s h k (here {e = e} {es = es} d b) g =
+        subst (λ n. LeadsTo l (next_entry (e ∷ es) s) r n) (omega arith) (after (ask_by (says_ends (omega (arith, h)) d)) (value_ends {e = e} {w = w} s k (ask_by (says_ends (omega (arith, h)) b)) g))
+    belongs_ends {w = w} {r = r} s h k (cut_here {e = e} {es = es} c d b) g =
+        subst (λ n. LeadsTo l (next_entry (e ∷ es) s) r n) (omega arith) (after (ask_by (says_ends (omega (arith, h)) d)) (value_ends {e = e} {w = w} s k (ask_by (says_ends (omega (arith, h)) b)) (rw c g)))
+    belongs_ends {w = w} {r = r} s h k (handed_on {e = e} {es = es} {w = z} c d b m) g =
+        subst (λ n. LeadsTo l (next_entry (e ∷ es) s) r n) (omega arith) (after (ask_by (says_ends (omega (arith, h)) d)) (value_ends {e = e} {w = z + w} s k (ask_by (says_ends (omega (arith, h)) b)) (rw c (belongs_ends s h k m g))))
 
     -- the number is meant, and the content goes on
     number_ends : {t : TagNumber N} {m : N} {p n v w : ℕ} {y : Value} {r : Reply} → Fits p 1 → Numbers l t p n Yes v → LeadsTo l (Asks (OfType m (plus p 1) y) InRef) r w → LeadsTo l (tag_move t m p (Some (n, y))) r (v + w)

@@ -106,12 +106,12 @@ module _ {N G : Type 0} (l : Language N G) where
     one_more : suc weight ≡ w
     sorts : Sorts l es (suc p) ps fates weight
 
-  record BelongsIt (es : List (MapEntry N)) (i : ℕ) (s : Sorting N) (r : Reply) (w : ℕ) : Type 0 where
+  record BelongsIt (es : List (MapEntry N)) (s : Sorting N) (r : Reply) (w : ℕ) : Type 0 where
     fate : Fate
     before : ℕ
     after_it : ℕ
     total : before + after_it ≡ w
-    belongs : Belongs l es i s.key_place s.key s.held fate before
+    belongs : Belongs l es s.key_place s.key s.held fate before
     goes_on : LeadsTo l (sorted s fate) r after_it
 
   -- the questions of weight k at most have the definition's replies
@@ -138,29 +138,29 @@ module _ {N G : Type 0} (l : Language N G) where
         record { answer = m.answer; is = m.is ∙ map_reply p x m.answer f i; says = map i m.maps }
 
     -- the value type has said no
-    value_from : {e : MapEntry N} {es : List (MapEntry N)} {i far u v w : ℕ} {s : Sorting N} {r : Reply} (c : Bool) → e.cuts ≡ c → Says l (l.type_at e.key_type) s.key_place s.key Yes u → Says l (l.type_at e.value_type) (s.key_place + place_count s.key) s.held (No far) v → (LeadsTo l (next_entry es (suc i) s) r w → BelongsIt es (suc i) s r w) → LeadsTo l (after_value c es i s far) r w → BelongsIt (e ∷ es) i s r (u + (v + w))
-    value_from {i = i} {far = far} {u = u} {v = v} {w = w} true c d b rest e = record { fate = BelongsTo i (No far); before = u + v; after_it = w; total = omega arith; belongs = cut_here c d b; goes_on = e }
+    value_from : {e : MapEntry N} {es : List (MapEntry N)} {far u v w : ℕ} {s : Sorting N} {r : Reply} (c : Bool) → e.cuts ≡ c → Says l (l.type_at e.key_type) s.key_place s.key Yes u → Says l (l.type_at e.value_type) (s.key_place + place_count s.key) s.held (No far) v → (LeadsTo l (next_entry es s) r w → BelongsIt es s r w) → LeadsTo l (after_value c es s far) r w → BelongsIt (e ∷ es) s r (u + (v + w))
+    value_from {es = es} {far = far} {u = u} {v = v} {w = w} true c d b rest e = record { fate = BelongsTo (length es) (No far); before = u + v; after_it = w; total = omega arith; belongs = cut_here c d b; goes_on = e }
     value_from {u = u} {v = v} false c d b rest e =
         let t = rest e in
         record { fate = t.fate; before = u + (v + t.before); after_it = t.after_it; total = omega (arith, t.total); belongs = handed_on c d b t.belongs; goes_on = t.goes_on }
 
-    belongs_from : (es : List (MapEntry N)) (i : ℕ) (s : Sorting N) {w : ℕ} {r : Reply} → Fits s.key_place (place_count s.key + place_count s.held) → s.value_place ≡ s.key_place + place_count s.key → w ≤ k → LeadsTo l (next_entry es i s) r w → BelongsIt es i s r w
-    belongs_from [] i s {w = w} f z h e = record { fate = Stray s.key_place; before = 0; after_it = w; total = omega arith; belongs = nowhere; goes_on = e }
-    belongs_from (e ∷ es) i s f z h (after {s = Takes left b later} {v = v} d (after {s = Takes also c last} {v = u} {w = w} d' g)) =
+    belongs_from : (es : List (MapEntry N)) (s : Sorting N) {w : ℕ} {r : Reply} → Fits s.key_place (place_count s.key + place_count s.held) → s.value_place ≡ s.key_place + place_count s.key → w ≤ k → LeadsTo l (next_entry es s) r w → BelongsIt es s r w
+    belongs_from [] s {w = w} f z h e = record { fate = Stray s.key_place; before = 0; after_it = w; total = omega arith; belongs = nowhere; goes_on = e }
+    belongs_from (e ∷ es) s f z h (after {s = Takes left b later} {v = v} d (after {s = Takes also c last} {v = u} {w = w} d' g)) =
         let t = known.types (omega (arith, f)) (omega (arith, h)) d in
         let y = known.types (omega (arith, f)) (omega (arith, h)) (subst (λ q. Replies l (OfType e.value_type q s.held) (Takes also c last) u) z d') in
-        record { fate = BelongsTo i Yes; before = v + u; after_it = w; total = omega arith; belongs = here (yes_of t) (yes_of y); goes_on = g }
-    belongs_from (e ∷ es) i s f z h (after {s = Takes left b later} {v = v} d (after {s = Fails far} {v = u} {w = w} d' g)) =
+        record { fate = BelongsTo (length es) Yes; before = v + u; after_it = w; total = omega arith; belongs = here (yes_of t) (yes_of y); goes_on = g }
+    belongs_from (e ∷ es) s f z h (after {s = Takes left b later} {v = v} d (after {s = Fails far} {v = u} {w = w} d' g)) =
         let t = known.types (omega (arith, f)) (omega (arith, h)) d in
         let y = known.types (omega (arith, f)) (omega (arith, h)) (subst (λ q. Replies l (OfType e.value_type q s.held) (Fails far) u) z d') in
-        value_from {e = e} {s = s} e.cuts refl (yes_of t) (no_of y) (λ g. belongs_from es (suc i) s f z (omega (arith, h)) g) g
-    belongs_from (e ∷ es) i s f z h (after {s = Fails far} {v = v} {w = w} d g) =
+        value_from {e = e} {s = s} e.cuts refl (yes_of t) (no_of y) (λ g. belongs_from es s f z (omega (arith, h)) g) g
+    belongs_from (e ∷ es) s f z h (after {s = Fails far} {v = v} {w = w} d g) =
         let t = known.types (omega (arith, f)) (omega (arith, h)) d in
-        let m = belongs_from es (suc i) s f z (omega (arith, h)) g in
+        let m = belongs_from es s f z (omega (arith, h)) g in
         record { fate = m.fate; before = v + m.before; after_it = m.after_it; total = omega (arith, m.total); belongs = other_key (no_of t) m.belongs; goes_on = m.goes_on }
 
     -- a pair is sorted, and so are those after it
-    one_more_pair : {es : List (MapEntry N)} {p q u v w : ℕ} {c x : Value} {ps : Pairs} {t : Tally} (f : Fate) {r : Reply} → Belongs l es 0 q c x f u → u + v ≡ w → SortsIt es p (q + place_count c + place_count x) ps (tallied t f) r v → SortsIt es p q (pair c x ps) t r (suc (length es) + w)
+    one_more_pair : {es : List (MapEntry N)} {p q u v w : ℕ} {c x : Value} {ps : Pairs} {t : Tally} (f : Fate) {r : Reply} → Belongs l es q c x f u → u + v ≡ w → SortsIt es p (q + place_count c + place_count x) ps (tallied t f) r v → SortsIt es p q (pair c x ps) t r (suc (length es) + w)
     one_more_pair {es = es} {p = p} {q = q} {c = c} {x = x} {ps = ps} {t = t} f {r = r} b e m =
         record { fates = f ∷ m.fates; is = m.is ∙ ap (λ b. answer_reply b (tally_says es p (all_tallied (tallied t f) m.fates))) (omega arith); sorts = subst (λ w. Sorts l es q (pair c x ps) (f ∷ m.fates) w) (omega (arith, e)) (sort b m.sorts) }
 
@@ -170,7 +170,7 @@ module _ {N G : Type 0} (l : Language N G) where
         let i : plus q (place_count c) ≡ q + place_count c = plus_is q (place_count c) (omega (arith, f)) in
         let j : plus (q + place_count c) (place_count x) ≡ q + place_count c + place_count x = plus_is (q + place_count c) (place_count x) (omega (arith, f)) in
         let next : ℕ = q + place_count c + place_count x in
-        let b : BelongsIt es 0 s r w = belongs_from es 0 s (omega (arith, f)) i (omega (arith, h)) e in
+        let b : BelongsIt es s r w = belongs_from es s (omega (arith, f)) i (omega (arith, h)) e in
         let z : s.next_place ≡ next = rw i j in
         let g : LeadsTo l (next_pair es p next ps (tallied t b.fate)) r b.after_it = subst (λ q'. LeadsTo l (next_pair es p q' ps (tallied t b.fate)) r b.after_it) z b.goes_on in
         let d : b.after_it ≤ k = omega (arith, h, b.total) in

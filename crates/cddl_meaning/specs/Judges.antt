@@ -51,22 +51,22 @@ abbrev pub is_up_to_most : ℕ → Most → Bool
 is_up_to_most n (at_most m) = nat_le n m
 is_up_to_most n any_number_of = true
 
--- What becomes of a pair: it belongs to the entry of this number, whose value type says this of its value; or its key, at
--- this place, belongs to none.
+-- What becomes of a pair: it belongs to the entry with so many entries after it, whose value type says this of its value; or
+-- its key, at this place, belongs to none.
 pub data Fate : Type 0 where
-  BelongsTo : (number : ℕ) → (says : Answer) → Fate
+  BelongsTo : (after : ℕ) → (says : Answer) → Fate
   Stray : (place : ℕ) → Fate
 
--- how many of these pairs belong to the entry of this number
+-- how many of these pairs belong to the entry with n entries after it
 abbrev pub count_of : ℕ → List Fate → ℕ
-count_of i [] = 0
-count_of i (BelongsTo j a ∷ fs) = if nat_eq j i then suc (count_of i fs) else count_of i fs
-count_of i (Stray q ∷ fs) = count_of i fs
+count_of n [] = 0
+count_of n (BelongsTo m a ∷ fs) = if nat_eq m n then suc (count_of n fs) else count_of n fs
+count_of n (Stray q ∷ fs) = count_of n fs
 
--- As many belong to each of these entries as it asks for. The first of them has the number i.
-abbrev pub are_enough : {N : Type 0} → List (MapEntry N) → ℕ → List Fate → Bool
-are_enough [] i fs = true
-are_enough (e ∷ es) i fs = (nat_le e.least (count_of i fs) && is_up_to_most (count_of i fs) e.most) && are_enough es (suc i) fs
+-- As many belong to each of these entries, which are the last of an alternative, as it asks for.
+abbrev pub are_enough : {N : Type 0} → List (MapEntry N) → List Fate → Bool
+are_enough [] fs = true
+are_enough (e ∷ es) fs = (nat_le e.least (count_of (length es) fs) && is_up_to_most (count_of (length es) fs) e.most) && are_enough es fs
 
 -- the first stray key
 abbrev pub first_stray : List Fate → Option ℕ
@@ -93,7 +93,7 @@ shown_by None a = a
 -- What an alternative says of a map at p by the fates of its pairs. A no shows at the first stray key; else where the first
 -- failing value shows it; else at the map.
 abbrev pub alternative_says : {N : Type 0} → List (MapEntry N) → ℕ → List Fate → Answer
-alternative_says es p fs = shown_by (first_stray fs) (shown_by (first_failing fs) (by_counts p (are_enough es 0 fs)))
+alternative_says es p fs = shown_by (first_stray fs) (shown_by (first_failing fs) (by_counts p (are_enough es fs)))
 
 -- yes if one of them says yes; else no, with the greater place
 abbrev pub either : Answer → Answer → Answer
@@ -128,16 +128,16 @@ mutual
   -- Each of these pairs, the first key at q, has its fate in an alternative of these entries.
   pub data Sorts {N G : Type 0} (l : Language N G) : List (MapEntry N) → ℕ → Pairs → List Fate → ℕ → Type 0 where
     all_sorted : {es : List (MapEntry N)} {q : ℕ} → Sorts l es q no_pairs [] 0
-    sort : {es : List (MapEntry N)} {q v w : ℕ} {k x : Value} {ps : Pairs} {f : Fate} {fs : List Fate} → Belongs l es 0 q k x f v → Sorts l es (q + place_count k + place_count x) ps fs w → Sorts l es q (pair k x ps) (f ∷ fs) (suc (length es) + v + w)
+    sort : {es : List (MapEntry N)} {q v w : ℕ} {k x : Value} {ps : Pairs} {f : Fate} {fs : List Fate} → Belongs l es q k x f v → Sorts l es (q + place_count k + place_count x) ps fs w → Sorts l es q (pair k x ps) (f ∷ fs) (suc (length es) + v + w)
 
-  -- The pair of the key k, which is at q, and the value x belongs to the first of these entries that takes it. The first of
-  -- them has the number i.
-  pub data Belongs {N G : Type 0} (l : Language N G) : List (MapEntry N) → (i : ℕ) → ℕ → Value → Value → Fate → ℕ → Type 0 where
-    nowhere : {i q : ℕ} {k x : Value} → Belongs l [] i q k x (Stray q) 0
-    other_key : {e : MapEntry N} {es : List (MapEntry N)} {i q far v w : ℕ} {k x : Value} {f : Fate} → Says l (l.type_at e.key_type) q k (No far) v → Belongs l es (suc i) q k x f w → Belongs l (e ∷ es) i q k x f (v + w)
-    here : {e : MapEntry N} {es : List (MapEntry N)} {i q v w : ℕ} {k x : Value} → Says l (l.type_at e.key_type) q k Yes v → Says l (l.type_at e.value_type) (q + place_count k) x Yes w → Belongs l (e ∷ es) i q k x (BelongsTo i Yes) (v + w)
-    cut_here : {e : MapEntry N} {es : List (MapEntry N)} {i q far v w : ℕ} {k x : Value} → e.cuts ≡ true → Says l (l.type_at e.key_type) q k Yes v → Says l (l.type_at e.value_type) (q + place_count k) x (No far) w → Belongs l (e ∷ es) i q k x (BelongsTo i (No far)) (v + w)
-    handed_on : {e : MapEntry N} {es : List (MapEntry N)} {i q far u v w : ℕ} {k x : Value} {f : Fate} → e.cuts ≡ false → Says l (l.type_at e.key_type) q k Yes u → Says l (l.type_at e.value_type) (q + place_count k) x (No far) v → Belongs l es (suc i) q k x f w → Belongs l (e ∷ es) i q k x f (u + (v + w))
+  -- The pair of the key k, which is at q, and the value x belongs to the first of these entries that takes it. They are the
+  -- last of an alternative.
+  pub data Belongs {N G : Type 0} (l : Language N G) : List (MapEntry N) → ℕ → Value → Value → Fate → ℕ → Type 0 where
+    nowhere : {q : ℕ} {k x : Value} → Belongs l [] q k x (Stray q) 0
+    other_key : {e : MapEntry N} {es : List (MapEntry N)} {q far v w : ℕ} {k x : Value} {f : Fate} → Says l (l.type_at e.key_type) q k (No far) v → Belongs l es q k x f w → Belongs l (e ∷ es) q k x f (v + w)
+    here : {e : MapEntry N} {es : List (MapEntry N)} {q v w : ℕ} {k x : Value} → Says l (l.type_at e.key_type) q k Yes v → Says l (l.type_at e.value_type) (q + place_count k) x Yes w → Belongs l (e ∷ es) q k x (BelongsTo (length es) Yes) (v + w)
+    cut_here : {e : MapEntry N} {es : List (MapEntry N)} {q far v w : ℕ} {k x : Value} → e.cuts ≡ true → Says l (l.type_at e.key_type) q k Yes v → Says l (l.type_at e.value_type) (q + place_count k) x (No far) w → Belongs l (e ∷ es) q k x (BelongsTo (length es) (No far)) (v + w)
+    handed_on : {e : MapEntry N} {es : List (MapEntry N)} {q far u v w : ℕ} {k x : Value} {f : Fate} → e.cuts ≡ false → Says l (l.type_at e.key_type) q k Yes u → Says l (l.type_at e.value_type) (q + place_count k) x (No far) v → Belongs l es q k x f w → Belongs l (e ∷ es) q k x f (u + (v + w))
 
   -- The number n of a tag at p is meant, or not.
   pub data Numbers {N G : Type 0} (l : Language N G) : TagNumber N → ℕ → ℕ → Answer → ℕ → Type 0 where

@@ -1,6 +1,6 @@
 -- The moves of a matcher, as functions: each is a reply, or a question and what waits for its reply. They reply just what
 -- the definition says, wherever places have numbers below 2^64.
-use Rattle.std.specs.Prelude.{ℕ, zero, suc, ◌+◌, ◌-◌, ◌^◌, min, max, length, List, [], ◌∷◌, Option, Some, None, Bool, true, false, nat_eq, nat_le, ◌&&◌}
+use Rattle.std.specs.Prelude.{ℕ, zero, suc, ◌+◌, ◌-◌, ◌^◌, min, max, length, List, [], ◌∷◌, Option, Some, None, Bool, true, false, nat_eq, nat_le, ◌&&◌, if◌then◌else◌}
 use Rattle.cbor_data.specs.Value.{Value, uint, place_count, Pairs, no_pairs, pair}
 use Rattle.cddl_meaning.specs.Forms.{passes, members_in, pairs_in, tag_in, simple_in, TagNumber, any_number, exactly, such_as, MapEntry, Node, Plain, Ref, Choice, ArrayOf, TagOf, SimpleBy, MapOf, Most, Group, Entry, GroupRef, Sequence, Alternatives, Repeat, Language}
 use Rattle.cddl_meaning.specs.Judges.{Answer, Yes, No, Reply, Takes, Fails, is_over, one_less, is_up_to_most, Fate, BelongsTo, Stray, by_counts, shown_by}
@@ -54,10 +54,10 @@ pub data Pending (N G : Type 0) : Type 0 where
   InRepeat : (least : ℕ) → Most → G → (base place : ℕ) → List Value → (far : ℕ) → Pending N G
   -- the alternatives that are left, and what those before replied
   InMap : List (List (MapEntry N)) → (base : ℕ) → Pairs → (sofar : Reply) → Pending N G
-  -- the entry whose key type is asked, those after it, and its number
-  InKey : MapEntry N → List (MapEntry N) → (number : ℕ) → Sorting N → Pending N G
+  -- the entry whose key type is asked, and those after it
+  InKey : MapEntry N → List (MapEntry N) → Sorting N → Pending N G
   -- the same, where its value type is asked
-  InValue : MapEntry N → List (MapEntry N) → (number : ℕ) → Sorting N → Pending N G
+  InValue : MapEntry N → List (MapEntry N) → Sorting N → Pending N G
 
 -- Either the reply, or what is asked first; or a pair is tried with the entries of its alternative.
 pub data Move (N G : Type 0) : Type 0 where
@@ -108,11 +108,10 @@ no_counts (e ∷ es) = 0 ∷ no_counts es
 abbrev pub fresh : {N : Type 0} → List (MapEntry N) → Tally
 fresh es = record { counts = no_counts es; stray = None; failing = None }
 
--- one more for the entry of this number, as far as 2^64 - 1: a map has fewer pairs
+-- one more for the entry with i entries after it, as far as 2^64 - 1: a map has fewer pairs
 abbrev pub counted : ℕ → List ℕ → List ℕ
 counted i [] = []
-counted zero (n ∷ ns) = plus n 1 ∷ ns
-counted (suc i) (n ∷ ns) = n ∷ counted i ns
+counted i (n ∷ ns) = if nat_eq i (length ns) then plus n 1 ∷ ns else n ∷ counted i ns
 
 -- the first place that shows is kept
 abbrev pub first_of : Option ℕ → ℕ → Option ℕ
@@ -209,15 +208,15 @@ module _ {N G : Type 0} where
   abbrev pub sorted : Sorting N → Fate → Move N G
   sorted s f = next_pair s.entries s.base s.next_place s.rest (tallied s.tally f)
 
-  -- The pair is tried with the next entry, which has this number.
-  abbrev pub next_entry : List (MapEntry N) → ℕ → Sorting N → Move N G
-  next_entry [] i s = sorted s (Stray s.key_place)
-  next_entry (e ∷ es) i s = Asks (OfType e.key_type s.key_place s.key) (InKey e es i s)
+  -- The pair is tried with the next entry.
+  abbrev pub next_entry : List (MapEntry N) → Sorting N → Move N G
+  next_entry [] s = sorted s (Stray s.key_place)
+  next_entry (e ∷ es) s = Asks (OfType e.key_type s.key_place s.key) (InKey e es s)
 
   -- An entry whose value type has said no keeps the pair if it cuts.
-  abbrev pub after_value : Bool → List (MapEntry N) → ℕ → Sorting N → ℕ → Move N G
-  after_value true es i s far = sorted s (BelongsTo i (No far))
-  after_value false es i s far = next_entry es (suc i) s
+  abbrev pub after_value : Bool → List (MapEntry N) → Sorting N → ℕ → Move N G
+  after_value true es s far = sorted s (BelongsTo (length es) (No far))
+  after_value false es s far = next_entry es s
 
   -- what a type asks first
   abbrev pub type_move : Node N G → ℕ → Value → Move N G
@@ -267,10 +266,10 @@ module _ {N G : Type 0} where
   next_move (InRepeat least most g base q xs far) (Takes left next later) = after_round (nat_eq (length left) (length xs)) least most g base q xs (max far later) left next
   next_move (InRepeat least most g base q xs far) (Fails later) = end_of_rounds least xs q (max far later)
   next_move (InMap ess p ps sofar) r = next_way ess p ps (either_reply sofar r)
-  next_move (InKey e es i s) (Takes left next later) = Asks (OfType e.value_type s.value_place s.held) (InValue e es i s)
-  next_move (InKey e es i s) (Fails later) = next_entry es (suc i) s
-  next_move (InValue e es i s) (Takes left next later) = sorted s (BelongsTo i Yes)
-  next_move (InValue e es i s) (Fails later) = after_value e.cuts es i s later
+  next_move (InKey e es s) (Takes left next later) = Asks (OfType e.value_type s.value_place s.held) (InValue e es s)
+  next_move (InKey e es s) (Fails later) = next_entry es s
+  next_move (InValue e es s) (Takes left next later) = sorted s (BelongsTo (length es) Yes)
+  next_move (InValue e es s) (Fails later) = after_value e.cuts es s later
 
   -- A question's reply by the moves, with the number of questions that are asked on the way, and one more for each pair that
   -- is tried and for each entry of its alternative.
@@ -282,4 +281,4 @@ module _ {N G : Type 0} where
     pub data LeadsTo (l : Language N G) : Move N G → Reply → ℕ → Type 0 where
       at_once : {r : Reply} → LeadsTo l (Answered r) r 0
       after : {q : Question N G} {o : Pending N G} {s r : Reply} {v w : ℕ} → Replies l q s v → LeadsTo l (next_move o s) r w → LeadsTo l (Asks q o) r (v + w)
-      tries : {s : Sorting N} {r : Reply} {w : ℕ} → LeadsTo l (next_entry s.entries 0 s) r w → LeadsTo l (Tries s) r (suc (length s.entries) + w)
+      tries : {s : Sorting N} {r : Reply} {w : ℕ} → LeadsTo l (next_entry s.entries s) r w → LeadsTo l (Tries s) r (suc (length s.entries) + w)

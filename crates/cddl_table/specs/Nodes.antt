@@ -1,9 +1,11 @@
 -- Types and groups of lists as a language: what each number stands for.
-use Rattle.std.specs.Prelude.{List, [], Option, Some, None, slice_get}
+use Rattle.std.specs.Prelude.{List, [], map, Option, Some, None, slice_get}
 use Rattle.cbor_data.specs.Value.{Value, uint, nint}
 use Rattle.cbor_item.specs.View.{view}
 use Rattle.cddl_meaning.specs.Forms as F
 use Rattle.cddl_meaning.specs.Forms.{Language}
+use Rattle.std.specs.declared.vec.Vec.{Vec}
+use Rattle.std.specs.declared.alloc.Global.{Global}
 use Rattle.cddl_table.specs.declared.nodes.TypeId.{TypeId}
 use Rattle.cddl_table.specs.declared.nodes.GroupId.{GroupId}
 use Rattle.cddl_table.specs.declared.nodes.Whole.{Whole}
@@ -12,6 +14,7 @@ use Rattle.cddl_table.specs.declared.nodes.Test.{Test}
 use Rattle.cddl_table.specs.declared.nodes.Test.TheVariants as T
 use Rattle.cddl_table.specs.declared.nodes.TagNumber.{TagNumber}
 use Rattle.cddl_table.specs.declared.nodes.TagNumber.TheVariants as K
+use Rattle.cddl_table.specs.declared.nodes.MapEntry.{MapEntry}
 use Rattle.cddl_table.specs.declared.nodes.Node.{Node}
 use Rattle.cddl_table.specs.declared.nodes.Node.TheVariants as N
 use Rattle.cddl_table.specs.declared.nodes.Most.{Most}
@@ -44,6 +47,16 @@ abbrev pub most_view : Most → F.Most
 most_view (M.AtMost n) = F.at_most n
 most_view M.Any = F.any_number_of
 
+-- an entry of a map, and the entries of an alternative
+abbrev pub entry_view : MapEntry → F.MapEntry TypeId
+entry_view e = record { least = e.least; most = most_view e.most; key_type = e.key_type; cuts = e.cuts; value_type = e.value_type }
+
+abbrev pub entries_view : List MapEntry → List (F.MapEntry TypeId)
+entries_view es = map entry_view es
+
+abbrev pub alternatives_view : List (Vec MapEntry Global) → List (List (F.MapEntry TypeId))
+alternatives_view ess = map (λ (es : Vec MapEntry Global). entries_view es.items) ess
+
 -- the form of a type
 abbrev pub type_view : Node → F.Node TypeId GroupId
 type_view (N.Plain t) = F.Plain (test_view t)
@@ -52,6 +65,7 @@ type_view (N.Choice ms) = F.Choice ms.items
 type_view (N.ArrayOf g) = F.ArrayOf g
 type_view (N.TagOf t m) = F.TagOf (tag_number_view t) m
 type_view (N.SimpleBy m) = F.SimpleBy m
+type_view (N.MapOf ess) = F.MapOf (alternatives_view ess.items)
 
 -- the form of a group
 abbrev pub group_view : Group → F.Group TypeId GroupId

@@ -56,6 +56,30 @@ pub enum TagNumber {
     SuchAs(TypeId),
 }
 
+/// How often at most.
+#[derive(Clone, Copy, Debug, PartialEq, Eq)]
+pub enum Most {
+    /// So often.
+    AtMost(u64),
+    /// As often as may be.
+    Any,
+}
+
+/// An entry of a map: the pairs that belong to it.
+#[derive(Clone, Copy, Debug, PartialEq, Eq)]
+pub struct MapEntry {
+    /// So many pairs at least.
+    pub least: u64,
+    /// So many pairs at most.
+    pub most: Most,
+    /// The type of their keys.
+    pub key_type: TypeId,
+    /// Whether a pair of such a key belongs to no later entry, whatever its value.
+    pub cuts: bool,
+    /// The type of their values.
+    pub value_type: TypeId,
+}
+
 /// A type, asked of an item.
 #[derive(Drop)]
 pub enum Node {
@@ -71,15 +95,8 @@ pub enum Node {
     TagOf(TagNumber, TypeId),
     /// Simple values to whose number, as an unsigned item, this type says yes.
     SimpleBy(TypeId),
-}
-
-/// How often at most.
-#[derive(Clone, Copy, Debug, PartialEq, Eq)]
-pub enum Most {
-    /// So often.
-    AtMost(u64),
-    /// As often as may be.
-    Any,
+    /// A map to which one of these alternatives says yes, each the list of its entries.
+    MapOf(Vec<Vec<MapEntry>>),
 }
 
 /// A group, asked of a list of items.

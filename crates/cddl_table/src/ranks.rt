@@ -135,7 +135,7 @@ fn is_type_ranked(node: &Node, types: &[usize], groups: &[usize], rank: usize) -
     ensures { IsTrue result ↔ IsTypeRanked (type_rank_in types.now) (group_rank_in groups.now) rank (type_view node.now) }
 {
     match node {
-        Node::Plain(_) | Node::TagOf(_, _) => true,
+        Node::Plain(_) | Node::TagOf(_, _) | Node::MapOf(_) => true,
         Node::Ref(id) | Node::SimpleBy(id) => rank_at(types, id.number) < rank,
         Node::Choice(ids) => are_types_below(ids, types, rank),
         Node::ArrayOf(id) => rank_at(groups, id.number) < rank,
