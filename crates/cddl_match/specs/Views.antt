@@ -1,25 +1,29 @@
 -- What the code's questions, replies and frames stand for.
 use Rattle.std.specs.Prelude.{ℕ, List, map, Bool, true, false}
-use Rattle.cbor_data.specs.Value.{Value, uint}
-use Rattle.cbor_item.specs.View.{view}
+use Rattle.cbor_data.specs.Value.{Value, uint, place_count}
+use Rattle.cbor_item.specs.View.{pairs_view, view}
 use Rattle.cbor_item.specs.declared.item.Item.{Item}
 use Rattle.cddl_meaning.specs.Judges as J
 use Rattle.cddl_meaning.specs.Moves as M
 use Rattle.cddl_table.specs.declared.nodes.TypeId.{TypeId}
 use Rattle.cddl_table.specs.declared.nodes.GroupId.{GroupId}
-use Rattle.cddl_table.specs.Nodes.{most_view}
+use Rattle.cddl_table.specs.Nodes.{alternatives_view, entries_view, entry_view, most_view}
 use Rattle.cddl_match.specs.declared.questions.Subject.{Subject}
 use Rattle.cddl_match.specs.declared.questions.Subject.TheVariants as S
 use Rattle.cddl_match.specs.declared.questions.Question.{Question}
-use Rattle.cddl_match.specs.declared.questions.Question.TheVariants.{OfType, OfGroup}
+use Rattle.cddl_match.specs.declared.questions.Question.TheVariants.{OfType, OfGroup, OfAlternative}
 use Rattle.cddl_match.specs.declared.questions.Reply.{Reply}
 use Rattle.cddl_match.specs.declared.questions.Reply.TheVariants.{Takes, Fails}
+use Rattle.cddl_match.specs.declared.questions.Tally.{Tally}
+use Rattle.cddl_match.specs.declared.questions.Fate.{Fate}
+use Rattle.cddl_match.specs.declared.questions.Fate.TheVariants as T
+use Rattle.cddl_match.specs.declared.questions.Sorting.{Sorting}
 use Rattle.cddl_match.specs.declared.questions.Pending.{Pending}
 use Rattle.cddl_match.specs.declared.questions.Pending.TheVariants as P
 use Rattle.cddl_match.specs.declared.questions.Rounds.{Rounds}
 use Rattle.cddl_match.specs.declared.questions.Parts.{Parts}
 use Rattle.cddl_match.specs.declared.questions.Move.{Move}
-use Rattle.cddl_match.specs.declared.questions.Move.TheVariants.{Answered, Asks, Repeats, GoesOn}
+use Rattle.cddl_match.specs.declared.questions.Move.TheVariants.{Answered, Asks, Repeats, GoesOn, Tries}
 use Rattle.cddl_match.specs.declared.answers.Verdict.{Verdict}
 use Rattle.cddl_match.specs.declared.answers.Verdict.TheVariants.{Yes, No}
 
@@ -32,10 +36,33 @@ abbrev pub subject_view : Subject → Value
 subject_view (S.Item i) = view i.now
 subject_view (S.Number n) = uint n
 
+-- a tally, what becomes of a pair, and a pair that is sorted
+abbrev pub tally_view : Tally → M.Tally
+tally_view t = record { counts = t.counts.items; stray = t.stray; failing = t.failing }
+
+abbrev pub fate_view : Fate → J.Fate
+fate_view (T.Matches n) = J.BelongsTo n J.Yes
+fate_view (T.Fails n far) = J.BelongsTo n (J.No far)
+fate_view (T.Stray p) = J.Stray p
+
+abbrev pub sorting_view : Sorting → M.Sorting TypeId
+sorting_view s = record {
+  entries = entries_view s.entries.now;
+  base = s.base;
+  key_place = s.place;
+  key = view s.pair.now.0;
+  value_place = M.plus s.place (place_count (view s.pair.now.0));
+  held = view s.pair.now.1;
+  next_place = M.plus (M.plus s.place (place_count (view s.pair.now.0))) (place_count (view s.pair.now.1));
+  rest = pairs_view s.rest.now;
+  tally = tally_view s.tally.value;
+}
+
 -- a question, a reply, what waits, and a move, each as the definitions have it
 abbrev pub question_view : Question → M.Question TypeId GroupId
 question_view (OfType n p x) = M.OfType n p (subject_view x)
 question_view (OfGroup g base q xs) = M.OfGroup g base q (values xs.now)
+question_view (OfAlternative es base ps) = M.OfAlternative (entries_view es.now) base (pairs_view ps.now)
 
 abbrev pub reply_view : Reply → J.Reply
 reply_view (Takes left next far) = J.Takes (values left.now) next far
@@ -51,6 +78,9 @@ pending_view (P.Entry base xs) = M.InEntry base (values xs.now)
 pending_view (P.Sequence gs base far) = M.InSequence gs.now base far
 pending_view (P.Alternatives gs base q xs far) = M.InAlternatives gs.now base q (values xs.now) far
 pending_view (P.Repeat r) = M.InRepeat r.least (most_view r.most) r.group r.base r.place (values r.items.now) r.far
+pending_view (P.Map ess base ps sofar) = M.InMap (alternatives_view ess.now) base (pairs_view ps.now) (reply_view sofar)
+pending_view (P.Key e es s) = M.InKey (entry_view e.now) (entries_view es.now) (sorting_view s)
+pending_view (P.Value e es s) = M.InValue (entry_view e.now) (entries_view es.now) (sorting_view s)
 
 abbrev pub rounds_move : Rounds → M.Move TypeId GroupId
 rounds_move r = M.repetition r.least (most_view r.most) r.group r.base r.place (values r.items.now) r.far
@@ -63,6 +93,7 @@ move_view (Answered r) = M.Answered (reply_view r)
 move_view (Asks q o) = M.Asks (question_view q) (pending_view o)
 move_view (Repeats r) = rounds_move r
 move_view (GoesOn p) = parts_move p
+move_view (Tries s) = M.Tries (sorting_view s)
 
 -- whether a move is of rounds or of a sequence, of which nothing was asked yet
 abbrev pub goes_on : Move → Bool
@@ -70,6 +101,7 @@ goes_on (Answered r) = false
 goes_on (Asks q o) = false
 goes_on (Repeats r) = true
 goes_on (GoesOn p) = true
+goes_on (Tries s) = false
 
 -- The turns that a move takes before something is asked or answered.
 abbrev pub turns_of : Bool → ℕ

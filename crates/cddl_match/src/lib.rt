@@ -9,6 +9,7 @@ mod looking;
 mod moves;
 mod places;
 mod questions;
+mod sorting;
 mod telling;
 mod tested;
 

@@ -1,6 +1,6 @@
 //! What questions come to at once: more than one of them is taken in a step where tests alone tell what is said.
 
-ghost use Rattle.std.specs.Prelude.{◌≡◌, ◌≤◌, false, IfSome};
+ghost use Rattle.std.specs.Prelude.{◌≡◌, ◌≤◌, false, IfOk, IfSome};
 ghost use Rattle.cddl_meaning.specs.Moves as M;
 ghost use Rattle.cddl_match.specs.Ahead.{ComesTo, IsEntered, Opens};
 ghost use Rattle.cddl_match.specs.Views.{goes_on, move_view, parts_move, question_view, reply_view, rounds_move, subject_view, values};
@@ -11,19 +11,21 @@ ghost use Rattle.cddl_match.specs.declared.questions.Rounds.{Rounds};
 
 use crate::behind::{group_behind, type_behind};
 use crate::moves::{
-    another_part, another_round, entry_reply, first_move, is_over, next_in_repeat,
-    next_in_sequence, said_reply,
+    another_part, another_round, entry_reply, first_of_group, first_of_type, is_over,
+    next_in_repeat, next_in_sequence, said_reply,
 };
 use crate::questions::{Move, Parts, Question, Reply, Rounds, Subject};
+use crate::sorting::alternative_move;
 use crate::telling::form_tells;
 use cbor_item::Item;
 use cddl_table::{Group, GroupId, Node, Table, TypeId};
+use std::alloc::{AllocError, Global};
 
 /// Choices in choices are looked into so deep.
 const DEEPEST: u8 = 3;
 
 /// A move that something comes to, and how many questions are asked until then.
-#[derive(Clone, Copy)]
+#[derive(Drop)]
 pub(crate) struct Ahead<'t, 'i> {
     pub(crate) next: Move<'t, 'i>,
     pub(crate) asked: u64,
@@ -40,14 +42,7 @@ fn type_ahead<'t, 'i>(
 {
     let (node, passed) = type_behind(table, node);
     Ahead {
-        next: first_move(
-            table,
-            Question::OfType {
-                node,
-                place,
-                subject,
-            },
-        ),
+        next: first_of_type(table, node, place, subject),
         asked: u64::from(passed) + 1,
     }
 }
@@ -64,35 +59,43 @@ fn group_ahead<'t, 'i>(
 {
     let (group, passed) = group_behind(table, group);
     Ahead {
-        next: first_move(
-            table,
-            Question::OfGroup {
-                group,
-                base,
-                place,
-                items,
-            },
-        ),
+        next: first_of_group(table, group, base, place, items),
         asked: u64::from(passed) + 1,
     }
 }
 
 /// What a question comes to.
-pub(crate) fn look_ahead<'t, 'i>(table: &'t Table, question: Question<'i>) -> Ahead<'t, 'i>
-    ensures { Opens (language_of table.now) (question_view question.entry) (move_view result.next) result.asked × (1 ≤ result.asked) }
+///
+/// # Errors
+///
+/// `AllocError` where there is no memory for the tally of an alternative.
+pub(crate) fn look_ahead<'t, 'i>(
+    alloc: Global,
+    table: &'t Table,
+    question: Question<'t, 'i>,
+) -> Result<Ahead<'t, 'i>, AllocError>
+    ensures { IfOk result (λ it. Opens (language_of table.now) (question_view question.entry) (move_view it.next) it.asked × (1 ≤ it.asked)) }
 {
     match question {
         Question::OfType {
             node,
             place,
             subject,
-        } => type_ahead(table, node, place, subject),
+        } => Ok(type_ahead(table, node, place, subject)),
         Question::OfGroup {
             group,
             base,
             place,
             items,
-        } => group_ahead(table, group, base, place, items),
+        } => Ok(group_ahead(table, group, base, place, items)),
+        Question::OfAlternative {
+            entries,
+            base,
+            pairs,
+        } => Ok(Ahead {
+            next: alternative_move(alloc, entries, base, pairs)?,
+            asked: 1,
+        }),
     }
 }
 

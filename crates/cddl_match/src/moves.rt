@@ -12,6 +12,8 @@ ghost use Rattle.cddl_meaning.specs.Moves.{
   InHead,
   InSequence,
   InSimple,
+  OfGroup,
+  OfType,
   array_move,
   array_reply,
   content_move,
@@ -28,7 +30,7 @@ ghost use Rattle.cddl_meaning.specs.Moves.{
   type_move,
   yes_reply,
 };
-ghost use Rattle.cddl_match.specs.Views.{goes_on, question_view, parts_move, pending_view, move_view, reply_view, rounds_move, subject_view, values};
+ghost use Rattle.cddl_match.specs.Views.{goes_on, parts_move, pending_view, move_view, reply_view, rounds_move, subject_view, values};
 ghost use Rattle.cddl_match.specs.declared.questions.Pending.TheVariants as P;
 ghost use Rattle.cddl_match.specs.declared.questions.Parts.{Parts};
 ghost use Rattle.cddl_match.specs.declared.questions.Rounds.{Rounds};
@@ -39,6 +41,7 @@ ghost use Rattle.cddl_table.specs.Nodes.{group_view, most_view, tag_number_view,
 
 use crate::places::{place_after, plus};
 use crate::questions::{Move, Parts, Pending, Question, Reply, Rounds, Subject};
+use crate::sorting::{map_move, next_in_key, next_in_map, next_in_value};
 use crate::tested::passes;
 use cbor_item::Item;
 use cddl_table::{Group, GroupId, Most, Node, Table, TagNumber, Test, TypeId};
@@ -333,6 +336,7 @@ fn type_move<'t, 'i>(node: &'t Node, place: usize, subject: Subject<'i>) -> Move
         Node::ArrayOf(group) => return array_move(*group, place, subject),
         Node::TagOf(number, content) => return tag_move(*number, *content, place, subject),
         Node::SimpleBy(head) => return simple_move(*head, place, subject),
+        Node::MapOf(alternatives) => return map_move(alternatives, place, subject),
     }
 }
 
@@ -399,28 +403,34 @@ fn group_move<'t, 'i>(
     }
 }
 
-/// What a question asks first, or its reply.
-pub(crate) fn first_move<'t, 'i>(table: &'t Table, question: Question<'i>) -> Move<'t, 'i>
-    ensures { move_view result ≡ first_move (language_of table.now) (question_view question.entry) }
+/// What a type asks first, or its reply.
+pub(crate) fn first_of_type<'t, 'i>(
+    table: &'t Table,
+    node: TypeId,
+    place: usize,
+    subject: Subject<'i>,
+) -> Move<'t, 'i>
+    ensures { move_view result ≡ first_move (language_of table.now) (OfType node place (subject_view subject.entry)) }
 {
-    match question {
-        Question::OfType {
-            node,
-            place,
-            subject,
-        } => match table.node(node) {
-            Some(node) => type_move(node, place, subject),
-            None => Move::Answered(Reply::Fails { far: place }),
-        },
-        Question::OfGroup {
-            group,
-            base,
-            place,
-            items,
-        } => match table.group(group) {
-            Some(group) => group_move(group, base, place, items),
-            None => Move::Answered(Reply::Fails { far: base }),
-        },
+    match table.node(node) {
+        Some(node) => type_move(node, place, subject),
+        None => Move::Answered(Reply::Fails { far: place }),
+    }
+}
+
+/// What a group asks first, or its reply.
+pub(crate) fn first_of_group<'t, 'i>(
+    table: &'t Table,
+    group: GroupId,
+    base: usize,
+    place: usize,
+    items: &'i [Item],
+) -> Move<'t, 'i>
+    ensures { move_view result ≡ first_move (language_of table.now) (OfGroup group base place (values items.now)) }
+{
+    match table.group(group) {
+        Some(group) => group_move(group, base, place, items),
+        None => Move::Answered(Reply::Fails { far: base }),
     }
 }
 
@@ -634,5 +644,21 @@ pub(crate) fn next_move<'t, 'i>(pending: Pending<'t, 'i>, reply: Reply<'i>) -> M
             far,
         } => return next_in_alternatives(parts, base, place, items, far, reply),
         Pending::Repeat(rounds) => return next_in_repeat(rounds, reply),
+        Pending::Map {
+            alternatives,
+            base,
+            pairs,
+            sofar,
+        } => return next_in_map(alternatives, base, pairs, sofar, reply),
+        Pending::Key {
+            entry,
+            others,
+            sorting,
+        } => return next_in_key(entry, others, sorting, reply),
+        Pending::Value {
+            entry,
+            others,
+            sorting,
+        } => return next_in_value(entry, others, sorting, reply),
     }
 }

@@ -1,7 +1,7 @@
 //! Questions, the replies to them, and what waits for a reply.
 
 use cbor_item::Item;
-use cddl_table::{GroupId, Most, TypeId};
+use cddl_table::{GroupId, MapEntry, Most, TypeId};
 
 /// What a type is asked of.
 #[derive(Clone, Copy)]
@@ -12,9 +12,9 @@ pub(crate) enum Subject<'i> {
     Number(u64),
 }
 
-/// A type asked of an item, or a group asked of items.
+/// A type asked of an item, a group asked of items, or an alternative of a map asked of pairs.
 #[derive(Clone, Copy)]
-pub(crate) enum Question<'i> {
+pub(crate) enum Question<'t, 'i> {
     OfType {
         node: TypeId,
         place: usize,
@@ -27,6 +27,12 @@ pub(crate) enum Question<'i> {
         /// The place of the first of the items.
         place: usize,
         items: &'i [Item],
+    },
+    OfAlternative {
+        entries: &'t [MapEntry],
+        /// The place of the map.
+        base: usize,
+        pairs: &'i [(Item, Item)],
     },
 }
 
@@ -46,8 +52,50 @@ pub(crate) enum Reply<'i> {
     },
 }
 
-/// What waits for the reply to the question that it asked. `far` is the greatest place that failed so far.
+/// What an alternative's pairs have come to so far.
+#[derive(Drop)]
+pub(crate) struct Tally {
+    /// How many pairs belong to each entry.
+    pub(crate) counts: Vec<u64>,
+    /// The place of the first key that belongs to no entry.
+    pub(crate) stray: Option<usize>,
+    /// Where the first value shows that is not as its entry says.
+    pub(crate) failing: Option<usize>,
+}
+
+/// What becomes of a pair. An entry is named by how many entries come after it.
 #[derive(Clone, Copy)]
+pub(crate) enum Fate {
+    /// It belongs to this entry, and its value is as the entry says.
+    Matches { after: usize },
+    /// It belongs to this entry, and its value is not as the entry says.
+    Fails {
+        after: usize,
+        /// Where that shows.
+        far: usize,
+    },
+    /// Its key, at this place, belongs to no entry.
+    Stray { place: usize },
+}
+
+/// A pair that is sorted to the entries of an alternative.
+#[derive(Drop)]
+pub(crate) struct Sorting<'t, 'i> {
+    /// All entries of the alternative.
+    pub(crate) entries: &'t [MapEntry],
+    /// The place of the map.
+    pub(crate) base: usize,
+    /// The place of the pair's key.
+    pub(crate) place: usize,
+    pub(crate) pair: &'i (Item, Item),
+    /// The pairs after this one.
+    pub(crate) rest: &'i [(Item, Item)],
+    /// What the pairs before this one have come to.
+    pub(crate) tally: Box<Tally>,
+}
+
+/// What waits for the reply to the question that it asked. `far` is the greatest place that failed so far.
+#[derive(Drop)]
 pub(crate) enum Pending<'t, 'i> {
     /// The reply is this one's, too.
     Ref,
@@ -91,6 +139,25 @@ pub(crate) enum Pending<'t, 'i> {
     },
     /// A repetition, and the rounds that are left, with the one that was asked about.
     Repeat(Rounds<'i>),
+    /// A map, its alternatives that are left, and what those before replied.
+    Map {
+        alternatives: &'t [Vec<MapEntry>],
+        base: usize,
+        pairs: &'i [(Item, Item)],
+        sofar: Reply<'i>,
+    },
+    /// An entry of a map whose key type was asked, and those after it.
+    Key {
+        entry: &'t MapEntry,
+        others: &'t [MapEntry],
+        sorting: Sorting<'t, 'i>,
+    },
+    /// An entry of a map whose value type was asked, and those after it.
+    Value {
+        entry: &'t MapEntry,
+        others: &'t [MapEntry],
+        sorting: Sorting<'t, 'i>,
+    },
 }
 
 /// How many more rounds of a group a repetition takes, and of what.
@@ -122,13 +189,15 @@ pub(crate) struct Parts<'t, 'i> {
 }
 
 /// Either the reply, or what is asked first.
-#[derive(Clone, Copy)]
+#[derive(Drop)]
 pub(crate) enum Move<'t, 'i> {
     Answered(Reply<'i>),
     /// What is asked, and what waits for its reply.
-    Asks(Question<'i>, Pending<'t, 'i>),
+    Asks(Question<'t, 'i>, Pending<'t, 'i>),
     /// The group of another round, unless there were as many as may be.
     Repeats(Rounds<'i>),
     /// The next group of a sequence, unless there is none.
     GoesOn(Parts<'t, 'i>),
+    /// A pair is tried with the entries of its alternative.
+    Tries(Sorting<'t, 'i>),
 }

@@ -5,6 +5,6 @@ mod nodes;
 mod ranks;
 mod table;
 
-pub use crate::nodes::{Group, GroupId, Most, Node, TagNumber, Test, TypeId, Whole};
+pub use crate::nodes::{Group, GroupId, MapEntry, Most, Node, TagNumber, Test, TypeId, Whole};
 pub use crate::ranks::{NotRanked, Ranks};
 pub use crate::table::Table;

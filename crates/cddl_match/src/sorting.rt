@@ -1,0 +1,327 @@
+//! How the pairs of a map are sorted to the entries of an alternative.
+
+ghost use Rattle.std.specs.Prelude.{◌≡◌, ◌≤◌, ◌+◌, suc, Some, IfNone, IfOk, IfSome};
+ghost use Rattle.cbor_data.specs.Value.{place_count};
+ghost use Rattle.cbor_item.specs.View.{pairs_view, view};
+ghost use Rattle.cddl_meaning.specs.Forms.{pairs_in};
+ghost use Rattle.cddl_meaning.specs.Judges.{is_up_to_most};
+ghost use Rattle.cddl_meaning.specs.Moves as M;
+ghost use Rattle.cddl_meaning.specs.Moves.{
+  InKey,
+  InValue,
+  OfAlternative,
+  answer_reply,
+  counted,
+  either_reply,
+  enough_of,
+  first_move,
+  fresh,
+  map_move,
+  next_entry,
+  next_move,
+  next_pair,
+  next_way,
+  no_counts,
+  plus,
+  sorted,
+  tallied,
+  tally_says,
+};
+ghost use Rattle.cddl_match.specs.Views.{fate_view, move_view, reply_view, sorting_view, subject_view, tally_view};
+ghost use Rattle.cddl_table.specs.Language.{language_of};
+ghost use Rattle.cddl_table.specs.Nodes.{alternatives_view, entries_view, entry_view, most_view};
+
+use crate::places::{place_after, plus};
+use crate::questions::{Fate, Move, Pending, Question, Reply, Sorting, Subject, Tally};
+use cbor_item::Item;
+use cddl_table::{MapEntry, Most};
+use std::alloc::{AllocError, Global};
+
+/// The number of the entry with so many entries after it.
+fn number_of(entries: usize, after: usize) -> Option<usize>
+    ensures some { IfSome result (λ number. number + suc after ≡ entries) }
+    ensures none { IfNone result (entries ≤ after) }
+{
+    entries.checked_sub(after)?.checked_sub(1)
+}
+
+/// Counts a pair for the entry with so many entries after it.
+fn count_pair(counts: &mut Vec<u64>, after: usize)
+    ensures { counts.new.items ≡ counted after counts.old.items }
+{
+    if let Some(number) = number_of(counts.len(), after) {
+        if let Some(count) = counts.get_mut(number) {
+            *count = count.saturating_add(1);
+        }
+    }
+}
+
+/// Takes in what has become of a pair.
+fn tally_pair(tally: &mut Tally, fate: Fate)
+    ensures { tally_view tally.new ≡ tallied (tally_view tally.old) (fate_view fate) }
+{
+    match fate {
+        Fate::Matches { after } => count_pair(&mut tally.counts, after),
+        Fate::Fails { after, far } => {
+            count_pair(&mut tally.counts, after);
+            tally.failing = tally.failing.or(Some(far));
+        }
+        Fate::Stray { place } => tally.stray = tally.stray.or(Some(place)),
+    }
+}
+
+/// Before any pair of an alternative with these entries.
+fn empty_tally(alloc: Global, entries: &[MapEntry]) -> Result<Tally, AllocError>
+    ensures { IfOk result (λ tally. tally_view tally ≡ fresh (entries_view entries.now)) }
+{
+    let mut counts = Vec::new(alloc);
+    for _ in entries {
+        counts.push(0)?;
+    }
+    Ok(Tally {
+        counts,
+        stray: None,
+        failing: None,
+    })
+}
+
+/// Whether so many pairs may belong to an entry.
+fn is_up_to(count: u64, most: Most) -> bool
+    ensures { result ≡ is_up_to_most count (most_view most) }
+{
+    match most {
+        Most::AtMost(most) => count <= most,
+        Most::Any => true,
+    }
+}
+
+/// Whether as many pairs belong to each entry as it asks for.
+fn are_enough(entries: &[MapEntry], counts: &[u64]) -> bool
+    ensures { result ≡ enough_of (entries_view entries.now) counts.now }
+{
+    for (entry, count) in entries.iter().zip(counts) {
+        if *count < entry.least || !is_up_to(*count, entry.most) {
+            return false;
+        }
+    }
+    true
+}
+
+/// What an alternative replies once all pairs of the map at `base`, which ends before `next`, are tallied.
+fn alternative_reply<'i>(entries: &[MapEntry], base: usize, next: usize, tally: &Tally) -> Reply<'i>
+    ensures { reply_view result ≡ answer_reply next (tally_says (entries_view entries.now) base (tally_view tally.now)) }
+{
+    if let Some(far) = tally.stray {
+        return Reply::Fails { far };
+    }
+    if let Some(far) = tally.failing {
+        return Reply::Fails { far };
+    }
+    if !are_enough(entries, &tally.counts) {
+        return Reply::Fails { far: base };
+    }
+    Reply::Takes {
+        left: &[],
+        next,
+        far: 0,
+    }
+}
+
+/// The next pair of an alternative, its key at `place`; the reply, where there is none.
+fn next_pair<'t, 'i>(
+    entries: &'t [MapEntry],
+    base: usize,
+    place: usize,
+    pairs: &'i [(Item, Item)],
+    tally: Box<Tally>,
+) -> Move<'t, 'i>
+    ensures { move_view result ≡ next_pair (entries_view entries.now) base place (pairs_view pairs.now) (tally_view tally.value) }
+{
+    match pairs {
+        [] => Move::Answered(alternative_reply(entries, base, place, &tally)),
+        [pair, rest @ ..] => Move::Tries(Sorting {
+            entries,
+            base,
+            place,
+            pair,
+            rest,
+            tally,
+        }),
+    }
+}
+
+/// An alternative asks first about the first pair of the map at `base`.
+///
+/// # Errors
+///
+/// `AllocError` where there is no memory for the tally.
+pub(crate) fn alternative_move<'t, 'i>(
+    alloc: Global,
+    entries: &'t [MapEntry],
+    base: usize,
+    pairs: &'i [(Item, Item)],
+) -> Result<Move<'t, 'i>, AllocError>
+    ensures { IfOk result (λ m. move_view m ≡ next_pair (entries_view entries.now) base (plus base 1) (pairs_view pairs.now) (fresh (entries_view entries.now))) }
+{
+    let tally = Box::new(alloc, empty_tally(alloc, entries)?)?;
+    Ok(next_pair(entries, base, plus(base, 1), pairs, tally))
+}
+
+/// The place of the pair's value.
+fn value_place(sorting: &Sorting<'_, '_>) -> usize
+    ensures { result ≡ (sorting_view sorting.now).value_place }
+{
+    place_after(&sorting.pair.0, sorting.place)
+}
+
+/// It is known what becomes of the pair, and the next one is sorted.
+fn sorted<'t, 'i>(sorting: Sorting<'t, 'i>, fate: Fate) -> Move<'t, 'i>
+    ensures { move_view result ≡ sorted (sorting_view sorting.entry) (fate_view fate) }
+{
+    let place = place_after(&sorting.pair.1, value_place(&sorting));
+    let Sorting {
+        entries,
+        base,
+        rest,
+        mut tally,
+        ..
+    } = sorting;
+    tally_pair(&mut tally, fate);
+    next_pair(entries, base, place, rest, tally)
+}
+
+/// The pair is tried with the next of these entries.
+pub(crate) fn next_entry<'t, 'i>(
+    entries: &'t [MapEntry],
+    sorting: Sorting<'t, 'i>,
+) -> Move<'t, 'i>
+    ensures { move_view result ≡ next_entry (entries_view entries.now) (sorting_view sorting.entry) }
+{
+    let place = sorting.place;
+    match entries {
+        [] => sorted(sorting, Fate::Stray { place }),
+        [entry, others @ ..] => Move::Asks(
+            Question::OfType {
+                node: entry.key_type,
+                place,
+                subject: Subject::Item(&sorting.pair.0),
+            },
+            Pending::Key {
+                entry,
+                others,
+                sorting,
+            },
+        ),
+    }
+}
+
+/// An entry's key type has replied: where it says yes, the entry asks about the value.
+pub(crate) fn next_in_key<'t, 'i>(
+    entry: &'t MapEntry,
+    others: &'t [MapEntry],
+    sorting: Sorting<'t, 'i>,
+    reply: Reply<'i>,
+) -> Move<'t, 'i>
+    ensures { move_view result ≡ next_move (InKey (entry_view entry.now) (entries_view others.now) (sorting_view sorting.entry)) (reply_view reply.entry) }
+{
+    match reply {
+        Reply::Takes { .. } => Move::Asks(
+            Question::OfType {
+                node: entry.value_type,
+                place: value_place(&sorting),
+                subject: Subject::Item(&sorting.pair.1),
+            },
+            Pending::Value {
+                entry,
+                others,
+                sorting,
+            },
+        ),
+        Reply::Fails { .. } => next_entry(others, sorting),
+    }
+}
+
+/// An entry's value type has replied: where it says no, the pair is the entry's only if it cuts.
+pub(crate) fn next_in_value<'t, 'i>(
+    entry: &'t MapEntry,
+    others: &'t [MapEntry],
+    sorting: Sorting<'t, 'i>,
+    reply: Reply<'i>,
+) -> Move<'t, 'i>
+    ensures { move_view result ≡ next_move (InValue (entry_view entry.now) (entries_view others.now) (sorting_view sorting.entry)) (reply_view reply.entry) }
+{
+    let after = others.len();
+    match reply {
+        Reply::Takes { .. } => sorted(sorting, Fate::Matches { after }),
+        Reply::Fails { far } if entry.cuts => sorted(sorting, Fate::Fails { after, far }),
+        Reply::Fails { .. } => next_entry(others, sorting),
+    }
+}
+
+/// The next alternative of the map at `base`; what those before replied, where there is none.
+fn next_way<'t, 'i>(
+    alternatives: &'t [Vec<MapEntry>],
+    base: usize,
+    pairs: &'i [(Item, Item)],
+    sofar: Reply<'i>,
+) -> Move<'t, 'i>
+    ensures { move_view result ≡ next_way (alternatives_view alternatives.now) base (pairs_view pairs.now) (reply_view sofar.entry) }
+{
+    match alternatives {
+        [] => Move::Answered(sofar),
+        [entries, alternatives @ ..] => Move::Asks(
+            Question::OfAlternative {
+                entries,
+                base,
+                pairs,
+            },
+            Pending::Map {
+                alternatives,
+                base,
+                pairs,
+                sofar,
+            },
+        ),
+    }
+}
+
+/// A map asks its alternatives, all of them.
+pub(crate) fn map_move<'t, 'i>(
+    alternatives: &'t [Vec<MapEntry>],
+    place: usize,
+    subject: Subject<'i>,
+) -> Move<'t, 'i>
+    ensures { move_view result ≡ map_move (alternatives_view alternatives.now) place (pairs_in (subject_view subject.entry)) }
+{
+    let no = Reply::Fails { far: place };
+    match subject {
+        Subject::Item(Item::Map(pairs)) => next_way(alternatives, place, pairs, no),
+        _ => Move::Answered(no),
+    }
+}
+
+/// The yes of one of them; else a no that shows at the greater place.
+fn either_reply<'i>(sofar: Reply<'i>, reply: Reply<'i>) -> Reply<'i>
+    ensures { reply_view result ≡ either_reply (reply_view sofar.entry) (reply_view reply.entry) }
+{
+    match (sofar, reply) {
+        (Reply::Fails { far }, Reply::Fails { far: later }) => Reply::Fails {
+            far: far.max(later),
+        },
+        (Reply::Fails { .. }, _) => reply,
+        _ => sofar,
+    }
+}
+
+/// An alternative of a map has replied.
+pub(crate) fn next_in_map<'t, 'i>(
+    alternatives: &'t [Vec<MapEntry>],
+    base: usize,
+    pairs: &'i [(Item, Item)],
+    sofar: Reply<'i>,
+    reply: Reply<'i>,
+) -> Move<'t, 'i>
+    ensures { move_view result ≡ next_move (M.InMap (alternatives_view alternatives.now) base (pairs_view pairs.now) (reply_view sofar.entry)) (reply_view reply.entry) }
+{
+    next_way(alternatives, base, pairs, either_reply(sofar, reply))
+}
