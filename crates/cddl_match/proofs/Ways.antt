@@ -147,7 +147,7 @@ module _ {N G : Type 0} (l : Language N G) where
     some = λ base q x xs says m r h b is.
         let one = subst (λ m. Opens l (OfGroup g base q (x ∷ xs)) m 1) (ap (λ f. group_move f base q (x ∷ xs)) e) (opens (OfGroup g base q (x ∷ xs))) in
         let all = answers (InEntry base xs) (told_behind x says {j = k} a i b refl q h) in
-        subst (λ o. Opens l (OfGroup g base q (x ∷ xs)) o (m + (0 + 1 + k + 1))) (sym is) (then_comes one all (omega arith));
+        subst (λ o. Opens l (OfGroup g base q (x ∷ xs)) o (m + (0 + 1 + (k + 1)))) (sym is) (then_comes one all (omega arith));
   }
 
   pub leads_to_entry : {g h : G} {f : Node N G} {j k : ℕ} → IsGroupOf l g h j → IsEntered l h f 0 k → IsEntered l g f j k

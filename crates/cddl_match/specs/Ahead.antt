@@ -42,4 +42,4 @@ module _ {N G : Type 0} (l : Language N G) where
   -- The group leads to an entry in j questions, and from the entry's type k lead to one of this form.
   pub record IsEntered (g : G) (f : Node N G) (j k : ℕ) : Type 0 where
     pub none : (base q : ℕ) → Opens (OfGroup g base q []) (Answered (Fails base)) (j + 1)
-    pub some : (base q : ℕ) (x : Value) (xs : List Value) (says : Bool) (m : ℕ) (r : Reply) → q < 2 ^ 64 → IsTold f x says m → Answered r ≡ next_move {N = N} {G = G} (InEntry base xs) (test_reply q x says) → Opens (OfGroup g base q (x ∷ xs)) (Answered r) (m + (j + 1 + k + 1))
+    pub some : (base q : ℕ) (x : Value) (xs : List Value) (says : Bool) (m : ℕ) (r : Reply) → q < 2 ^ 64 → IsTold f x says m → Answered r ≡ next_move {N = N} {G = G} (InEntry base xs) (test_reply q x says) → Opens (OfGroup g base q (x ∷ xs)) (Answered r) (m + (j + 1 + (k + 1)))

@@ -1,16 +1,21 @@
 //! What a type says of an item, within a number of steps. The questions that wait are in a `Vec`, so types may nest as
 //! they like.
 
-ghost use Rattle.std.specs.Prelude.{◌≡◌, ◌<◌, ◌≤◌, ℕ};
+ghost use Rattle.std.specs.Prelude.{◌≡◌, ◌<◌, ◌≤◌, ◌+◌, ◌*◌, ◌∷◌, ℕ, IfOk, vec_len};
 ghost use Rattle.cbor_item.specs.View.{view};
+ghost use Rattle.cddl_meaning.specs.Forms.{Language};
 ghost use Rattle.cddl_meaning.specs.Judges.{Answer};
+ghost use Rattle.cddl_meaning.specs.Moves as M;
 ghost use Rattle.cddl_meaning.specs.Moves.{OfType};
-ghost use Rattle.cddl_match.specs.Views.{question_view, reply_view, verdict_of};
+ghost use Rattle.cddl_match.specs.Unwinding.{IsOnTheWay, stack_of};
+ghost use Rattle.cddl_match.specs.Views.{goes_on, move_view, pending_view, question_view, reply_view, turns_of, verdict_of};
 ghost use Rattle.cddl_ranks.specs.Decided.{IsDecided};
 ghost use Rattle.cddl_table.specs.Language.{RootSays, language_of, root_form};
+ghost use Rattle.cddl_table.specs.declared.nodes.GroupId.{GroupId};
+ghost use Rattle.cddl_table.specs.declared.nodes.TypeId.{TypeId};
 
 use crate::answers::Verdict;
-use crate::looking::{Ahead, look_ahead, parts_ahead, rounds_ahead};
+use crate::looking::{Ahead, look_ahead, move_ahead};
 use crate::moves::next_move;
 use crate::questions::{Move, Pending, Question, Reply, Subject};
 use cbor_item::{Item, Sound};
@@ -51,30 +56,36 @@ pub fn verdict(
                     return Ok(Verdict::Spent);
                 }
                 left -= asked;
-                next = match first {
-                    Move::Answered(reply) => next_move(pending, reply),
-                    _ => {
-                        waiting.push(pending)?;
-                        first
-                    }
-                };
-            }
-            Move::Repeats(rounds) => {
-                let Ahead { next: first, asked } = rounds_ahead(table, rounds, left);
-                left -= asked;
-                next = first;
-            }
-            Move::GoesOn(parts) => {
-                let Ahead { next: first, asked } = parts_ahead(table, parts, left);
-                left -= asked;
-                next = first;
+                next = after_first(&mut waiting, pending, first)?;
             }
             Move::Answered(reply) => match waiting.pop() {
                 None => return Ok(verdict_of(reply)),
                 Some(pending) => next = next_move(pending, reply),
             },
+            Move::Repeats(_) | Move::GoesOn(_) => {
+                let Ahead { next: first, asked } = move_ahead(table, next, left);
+                left -= asked;
+                next = first;
+            }
         }
     }
+}
+
+/// What is next after the first move of a question: what asked it goes on where that is the reply, and else waits.
+fn after_first<'t, 'i>(
+    waiting: &mut Vec<Pending<'t, 'i>>,
+    pending: Pending<'t, 'i>,
+    first: Move<'t, 'i>,
+) -> Result<Move<'t, 'i>, AllocError>
+    ensures leads { IfOk result (λ next. (l : Language TypeId GroupId) (q : M.Question TypeId GroupId) (taken : ℕ) → IsOnTheWay l q taken (pending_view pending.entry ∷ stack_of waiting.old.items) (move_view first.entry) → IsOnTheWay l q taken (stack_of waiting.new.items) (move_view next)) }
+    // The loop ends: a step counts for 4, what waits for 2, and a move of rounds or of a sequence for 1.
+    ensures turns { IfOk result (λ next. 2 * vec_len waiting.new + turns_of (goes_on next) ≤ 2 * vec_len waiting.old + 3) }
+{
+    if let Move::Answered(reply) = first {
+        return Ok(next_move(pending, reply));
+    }
+    waiting.push(pending)?;
+    Ok(first)
 }
 
 /// What is asked first: a type, of an item, whose place is 0.

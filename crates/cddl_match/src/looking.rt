@@ -127,43 +127,47 @@ fn entry_at<'t>(table: &'t Table, group: GroupId) -> Option<Entered<'t>>
     })
 }
 
-/// What the entry does with the items where tests alone tell it, and how many questions that takes.
+/// What the entry does with the items where tests alone tell it, and how many questions that takes, if not over `steps`.
 fn told<'i>(
     table: &Table,
     entered: Entered<'_>,
     base: usize,
     place: usize,
     items: &'i [Item],
+    steps: u64,
 ) -> Option<(Reply<'i>, u64)>
     ensures told { (g : GroupId) → IsEntered (language_of table.now) g (type_view entered.entry.form.now) entered.entry.groups entered.entry.types → IfSome result (λ it. Opens (language_of table.now) (M.OfGroup g base place (values items.now)) (M.Answered (reply_view it.0)) it.1) }
-    ensures some { IfSome result (λ it. 1 ≤ it.1) }
+    ensures within { IfSome result (λ it. (1 ≤ it.1) × (it.1 ≤ steps)) }
 {
     let groups = u64::from(entered.groups) + 1;
+    let left = steps.checked_sub(groups)?;
     match items {
         [] => Some((Reply::Fails { far: base }, groups)),
         [item, rest @ ..] => {
+            let types = u64::from(entered.types) + 1;
+            let left = left.checked_sub(types)?;
             let subject = Subject::Item(item);
-            let (says, more) = form_tells(table, entered.form, subject, DEEPEST)?;
+            let (says, more) = form_tells(table, entered.form, subject, DEEPEST, left)?;
             let reply = entry_reply(base, rest, said_reply(place, subject, says));
-            let asked = more.checked_add(groups + u64::from(entered.types) + 1)?;
-            Some((reply, asked))
+            Some((reply, more + (groups + types)))
         }
     }
 }
 
-/// What a group does with the items where tests alone tell it, and how many questions that takes.
+/// What a group does with the items where tests alone tell it, and how many questions that takes, if not over `steps`.
 fn group_told<'i>(
     table: &Table,
     group: GroupId,
     base: usize,
     place: usize,
     items: &'i [Item],
+    steps: u64,
 ) -> Option<(Reply<'i>, u64)>
     ensures told { IfSome result (λ it. Opens (language_of table.now) (M.OfGroup group base place (values items.now)) (M.Answered (reply_view it.0)) it.1) }
-    ensures some { IfSome result (λ it. 1 ≤ it.1) }
+    ensures within { IfSome result (λ it. (1 ≤ it.1) × (it.1 ≤ steps)) }
 {
     let entered = entry_at(table, group)?;
-    told(table, entered, base, place, items)
+    told(table, entered, base, place, items, steps)
 }
 
 /// Rounds of an entry, one after the other, as far as tests alone tell them and the steps go.
@@ -180,13 +184,16 @@ fn rounds_of<'t, 'i>(
     let mut rounds = rounds;
     let mut asked = 0;
     while !is_over(rounds.most) {
-        let (reply, more) = match told(table, entered, rounds.base, rounds.place, rounds.items) {
+        let Rounds {
+            base,
+            place,
+            items,
+            ..
+        } = rounds;
+        let (reply, more) = match told(table, entered, base, place, items, steps - asked) {
             Some(told) => told,
             None => break,
         };
-        if more > steps - asked {
-            break;
-        }
         asked += more;
         match next_in_repeat(rounds, reply) {
             Move::Repeats(others) => rounds = others,
@@ -200,11 +207,7 @@ fn rounds_of<'t, 'i>(
 }
 
 /// What rounds come to: some of them that are told at once, and the question for the next one.
-pub(crate) fn rounds_ahead<'t, 'i>(
-    table: &'t Table,
-    rounds: Rounds<'i>,
-    steps: u64,
-) -> Ahead<'t, 'i>
+fn rounds_ahead<'t, 'i>(table: &'t Table, rounds: Rounds<'i>, steps: u64) -> Ahead<'t, 'i>
     ensures comes { ComesTo (language_of table.now) (rounds_move rounds.entry) (move_view result.next) result.asked }
     ensures within { result.asked ≤ steps }
     ensures turns { goes_on result.next ≡ false }
@@ -218,40 +221,27 @@ pub(crate) fn rounds_ahead<'t, 'i>(
     }
 }
 
-/// What a sequence comes to after its next group, where that is told at once, and how many questions that takes.
-fn part_told<'t, 'i>(table: &Table, left: Parts<'t, 'i>) -> Option<(Move<'t, 'i>, u64)>
+/// What a sequence comes to after its next group, where that is told at once, and how many questions that takes, if not over
+/// `steps`.
+fn part_told<'t, 'i>(table: &Table, left: Parts<'t, 'i>, steps: u64) -> Option<(Move<'t, 'i>, u64)>
     ensures comes { IfSome result (λ it. ComesTo (language_of table.now) (parts_move left.entry) (move_view it.0) it.1) }
     ensures kind { IfSome result (λ it. (rounds : Rounds) → it.0 ≡ Move.Repeats rounds → ⊥) }
-    ensures some { IfSome result (λ it. 1 ≤ it.1) }
+    ensures within { IfSome result (λ it. (1 ≤ it.1) × (it.1 ≤ steps)) }
 {
-    let Parts {
-        base,
-        place,
-        items,
-        far,
-        ..
-    } = left;
     let (part, others) = left.parts.split_first()?;
-    let (reply, asked) = group_told(table, *part, base, place, items)?;
-    Some((next_in_sequence(others, base, far, reply), asked))
+    let (reply, asked) = group_told(table, *part, left.base, left.place, left.items, steps)?;
+    Some((next_in_sequence(others, left.base, left.far, reply), asked))
 }
 
 /// What a sequence comes to: some of its groups that are told at once, and the question for the next one.
-pub(crate) fn parts_ahead<'t, 'i>(
-    table: &'t Table,
-    parts: Parts<'t, 'i>,
-    steps: u64,
-) -> Ahead<'t, 'i>
+fn parts_ahead<'t, 'i>(table: &'t Table, parts: Parts<'t, 'i>, steps: u64) -> Ahead<'t, 'i>
     ensures comes { ComesTo (language_of table.now) (parts_move parts.entry) (move_view result.next) result.asked }
     ensures within { result.asked ≤ steps }
     ensures turns { goes_on result.next ≡ false }
 {
     let mut left = parts;
     let mut asked = 0;
-    while let Some((next, more)) = part_told(table, left) {
-        if more > steps - asked {
-            break;
-        }
+    while let Some((next, more)) = part_told(table, left, steps - asked) {
         asked += more;
         match next {
             Move::GoesOn(others) => left = others,
@@ -261,5 +251,18 @@ pub(crate) fn parts_ahead<'t, 'i>(
     Ahead {
         next: another_part(left),
         asked,
+    }
+}
+
+/// What a move comes to: rounds and sequences go on as far as tests alone tell them and the steps go.
+pub(crate) fn move_ahead<'t, 'i>(table: &'t Table, next: Move<'t, 'i>, steps: u64) -> Ahead<'t, 'i>
+    ensures comes { ComesTo (language_of table.now) (move_view next.entry) (move_view result.next) result.asked }
+    ensures within { result.asked ≤ steps }
+    ensures turns { goes_on result.next ≡ false }
+{
+    match next {
+        Move::Repeats(rounds) => rounds_ahead(table, rounds, steps),
+        Move::GoesOn(parts) => parts_ahead(table, parts, steps),
+        Move::Answered(_) | Move::Asks(..) => Ahead { next, asked: 0 },
     }
 }

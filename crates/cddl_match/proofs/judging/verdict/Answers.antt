@@ -20,52 +20,27 @@ returns-then-left-asked-clause-spent c = λ e a w d.
     let h = heavier (language_of c.args.table.now) c.look_ahead-asked.ensures.0 i _ w (said (language_of c.args.table.now) (room c.args.item.now c.item.ensures.sound) d) in
     omega (arith, h, c.if-left-asked.true, c.loop-next.invariant.within)
 
-pub loop-next-preserved-in-Answered-first : goal.loop-next-preserved-in-Answered-first
-loop-next-preserved-in-Answered-first c =
-    let i = rw c.in-Asks.is at c.loop-next.invariant.leads in
-    let o = rw c.in-Answered-first.is at c.look_ahead-asked.ensures.0 in
-    record {
-      within = omega (arith, c.loop-next.invariant.within);
-      leads = rw c.next_move-next.ensures (in_steps (omega (arith, c.loop-next.invariant.within, c.if-left-asked.false)) (answered (language_of c.args.table.now) (asked (language_of c.args.table.now) o i)));
-    }
-
-pub loop-next-preserved-in_ok-push-in_default : goal.loop-next-preserved-in_ok-push-in_default
-loop-next-preserved-in_ok-push-in_default c =
+pub loop-next-preserved-in-Asks : goal.loop-next-preserved-in-Asks
+loop-next-preserved-in-Asks c =
     let i = rw c.in-Asks.is at c.loop-next.invariant.leads in
     record {
       within = omega (arith, c.loop-next.invariant.within);
-      leads = rw (c.in_ok-push-in_default.ensures.items, stack_push) (in_steps (omega (arith, c.loop-next.invariant.within, c.if-left-asked.false)) (asked (language_of c.args.table.now) c.look_ahead-asked.ensures.0 i));
+      leads = in_steps (omega (arith, c.loop-next.invariant.within, c.if-left-asked.false)) (c.in_ok-next-in-Asks.ensures.leads (language_of c.args.table.now) _ _ (asked (language_of c.args.table.now) c.look_ahead-asked.ensures.0 i));
     }
 
-pub loop-next-preserved-in-Repeats : goal.loop-next-preserved-in-Repeats
-loop-next-preserved-in-Repeats c =
-    let i = rw c.in-Repeats.is at c.loop-next.invariant.leads in
-    record {
-      within = omega (arith, c.loop-next.invariant.within);
-      leads = in_steps (omega (arith, c.loop-next.invariant.within, c.rounds_ahead-asked.ensures.within)) (gone_on (language_of c.args.table.now) c.rounds_ahead-asked.ensures.comes i);
-    }
-
-pub loop-next-smaller-in-Repeats : goal.loop-next-smaller-in-Repeats
-loop-next-smaller-in-Repeats c = rw (c.in-Repeats.is, c.rounds_ahead-asked.ensures.turns) (omega arith)
-
-pub loop-next-preserved-in-GoesOn : goal.loop-next-preserved-in-GoesOn
-loop-next-preserved-in-GoesOn c =
-    let i = rw c.in-GoesOn.is at c.loop-next.invariant.leads in
-    record {
-      within = omega (arith, c.loop-next.invariant.within);
-      leads = in_steps (omega (arith, c.loop-next.invariant.within, c.parts_ahead-asked.ensures.within)) (gone_on (language_of c.args.table.now) c.parts_ahead-asked.ensures.comes i);
-    }
-
-pub loop-next-smaller-in-GoesOn : goal.loop-next-smaller-in-GoesOn
-loop-next-smaller-in-GoesOn c = rw (c.in-GoesOn.is, c.parts_ahead-asked.ensures.turns) (omega arith)
-
-pub loop-next-preserved : goal.loop-next-preserved
-loop-next-preserved c =
+pub loop-next-preserved-in-Some : goal.loop-next-preserved-in-Some
+loop-next-preserved-in-Some c =
     let i = rw (c.in-Answered.is, c.in-Some.ensures.items, stack_push) at c.loop-next.invariant.leads in
     record {
       within = c.loop-next.invariant.within;
-      leads = rw c.next_move-next-in-Some.ensures (answered (language_of c.args.table.now) i);
+      leads = rw c.next_move-next.ensures (answered (language_of c.args.table.now) i);
     }
+
+pub loop-next-preserved : goal.loop-next-preserved
+loop-next-preserved c = record {
+  within = omega (arith, c.loop-next.invariant.within);
+  leads = in_steps (omega (arith, c.loop-next.invariant.within, c.move_ahead-asked.ensures.within)) (gone_on (language_of c.args.table.now) c.move_ahead-asked.ensures.comes c.loop-next.invariant.leads);
+}
 
 pub returns-in-None-clause-yes : goal.returns-in-None-clause-yes
 returns-in-None-clause-yes c = λ e.
@@ -82,8 +57,8 @@ returns-in-None-clause-no c = λ place e.
 pub returns-then-left-asked-clause-decided : goal.returns-then-left-asked-clause-decided
 returns-then-left-asked-clause-decided c = decides c.args.table.now c.args.item.now (room c.args.item.now c.item.ensures.sound)
 
-pub returns-in_err-push-in_default-clause-decided : goal.returns-in_err-push-in_default-clause-decided
-returns-in_err-push-in_default-clause-decided c = decides c.args.table.now c.args.item.now (room c.args.item.now c.item.ensures.sound)
+pub returns-in_err-next-in-Asks-clause-decided : goal.returns-in_err-next-in-Asks-clause-decided
+returns-in_err-next-in-Asks-clause-decided c = decides c.args.table.now c.args.item.now (room c.args.item.now c.item.ensures.sound)
 
 pub returns-in-None-clause-decided : goal.returns-in-None-clause-decided
 returns-in-None-clause-decided c = decides c.args.table.now c.args.item.now (room c.args.item.now c.item.ensures.sound)

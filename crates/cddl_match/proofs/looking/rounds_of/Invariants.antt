@@ -6,12 +6,12 @@ use Rattle.cddl_match.specs.Views.{rounds_move}
 use Rattle.cddl_match.proofs.looking.rounds_of.Given as goal
 
 -- the rounds that are left are of the same group, and the first ones come to them
-abbrev pub invariant-loop-entered : goal.invariant-loop-entered
-invariant-loop-entered l = record {
+abbrev pub invariant-loop-base : goal.invariant-loop-base
+invariant-loop-base l = record {
   within : l.asked ≤ l.fn.steps;
   group : l.rounds.group ≡ l.fn.rounds.group;
   comes : IsEntered (language_of l.fn.table) l.fn.rounds.group (type_view l.fn.entered.form.now) l.fn.entered.groups l.fn.entered.types → ComesTo (language_of l.fn.table) (rounds_move l.fn.rounds) (rounds_move l.rounds) l.asked;
 }
 
-abbrev pub decreases-loop-entered : goal.decreases-loop-entered
-decreases-loop-entered l = l.fn.steps - l.asked
+abbrev pub decreases-loop-base : goal.decreases-loop-base
+decreases-loop-base l = l.fn.steps - l.asked

@@ -1,4 +1,4 @@
-use Rattle.std.proofs.Common.{ℕ, ◌+◌, ◌*◌, Bool, drop}
+use Rattle.std.proofs.Common.{ℕ, ◌+◌, ◌*◌, ◌≤◌, Bool, drop}
 use Rattle.cddl_match.specs.Ahead.{AreTold}
 use Rattle.cddl_match.specs.Views.{subject_view}
 use Rattle.cddl_table.specs.Language.{language_of}
@@ -15,4 +15,7 @@ decreases-type_tells l = 3 * l.depth + 1
 
 -- those so far said no
 abbrev pub invariant-one_tells-loop-member : goal.invariant-one_tells-loop-member
-invariant-one_tells-loop-member l = (says : Bool) (k : ℕ) → AreTold (language_of l.fn.table) (drop l.member-index l.fn.members) (subject_view l.fn.subject) says k → AreTold (language_of l.fn.table) l.fn.members (subject_view l.fn.subject) says (l.asked + k)
+invariant-one_tells-loop-member l = record {
+  within : l.asked ≤ l.fn.most;
+  told : (says : Bool) (k : ℕ) → AreTold (language_of l.fn.table) (drop l.member-index l.fn.members) (subject_view l.fn.subject) says k → AreTold (language_of l.fn.table) l.fn.members (subject_view l.fn.subject) says (l.asked + k);
+}
