@@ -1,10 +1,10 @@
 -- What replies look like: no failure shows before the item or the array that was asked about, and a type's yes tells no more
 -- than the place after the item.
-use Rattle.std.proofs.Common.{ℕ, zero, suc, ◌-◌, ◌≤◌, ◌<◌, ◌^◌, length, List, [], ◌∷◌, Option, Some, None, Bool, true, false, nat_eq, max, arith}
-use Rattle.cbor_data.specs.Value.{Value}
-use Rattle.cddl_meaning.specs.Forms.{members_in, tag_in, simple_in, passes, TagNumber, any_number, exactly, such_as, Node, Plain, Ref, Choice, ArrayOf, TagOf, SimpleBy, Most, Group, Entry, GroupRef, Sequence, Alternatives, Repeat, Language}
-use Rattle.cddl_meaning.specs.Judges.{Reply, Takes, Fails, is_over, one_less}
-use Rattle.cddl_meaning.specs.Moves.{Question, OfType, OfGroup, Answered, Replies, replies, LeadsTo, at_once, after, plus, test_reply, next_member, next_part, next_alternative, next_round, repetition, after_round, end_of_rounds, array_move, content_move, tag_move, simple_move, type_move, entry_move, group_move}
+use Rattle.std.proofs.Common.{ℕ, zero, suc, ◌+◌, ◌-◌, ◌≤◌, ◌<◌, ◌^◌, length, List, [], ◌∷◌, Option, Some, None, Bool, true, false, nat_eq, max, arith}
+use Rattle.cbor_data.specs.Value.{Value, Pairs, no_pairs, pair, place_count}
+use Rattle.cddl_meaning.specs.Forms.{members_in, pairs_in, tag_in, simple_in, passes, TagNumber, any_number, exactly, such_as, MapEntry, Node, Plain, Ref, Choice, ArrayOf, TagOf, SimpleBy, MapOf, Most, Group, Entry, GroupRef, Sequence, Alternatives, Repeat, Language}
+use Rattle.cddl_meaning.specs.Judges.{Answer, Yes, No, Reply, Takes, Fails, is_over, one_less, Fate, BelongsTo, Stray, by_counts, shown_by}
+use Rattle.cddl_meaning.specs.Moves.{Question, OfType, OfGroup, OfAlternative, Tally, tallied, fresh, first_of, enough_of, tally_says, answer_reply, either_reply, Sorting, Answered, Replies, replies, LeadsTo, at_once, after, tries, plus, test_reply, next_way, map_move, next_pair, sorted, next_entry, after_value, next_member, next_part, next_alternative, next_round, repetition, after_round, end_of_rounds, array_move, content_move, tag_move, simple_move, type_move, entry_move, group_move}
 
 -- the greatest place that failed
 abbrev pub far_of : Reply → ℕ
@@ -19,6 +19,50 @@ pub data IsTypeReply (p : ℕ) : Reply → Type 0 where
 before : {p q : ℕ} {r : Reply} → p ≤ q → IsTypeReply q r → IsTypeReply p r
 before h says_yes = says_yes
 before h (says_no e) = says_no (omega (arith, h, e))
+
+-- not before this place: a no, what becomes of a pair, and a place that shows if there is one
+abbrev IsLate : ℕ → Answer → Type 0
+IsLate p Yes = Unit {0}
+IsLate p (No far) = p ≤ far
+
+abbrev IsFateLate : ℕ → Fate → Type 0
+IsFateLate p (BelongsTo n a) = IsLate p a
+IsFateLate p (Stray q) = p ≤ q
+
+abbrev NotBefore : ℕ → Option ℕ → Type 0
+NotBefore p None = Unit {0}
+NotBefore p (Some q) = p ≤ q
+
+shown_late : (p : ℕ) (o : Option ℕ) (a : Answer) → NotBefore p o → IsLate p a → IsLate p (shown_by o a)
+shown_late p None a h i = i
+shown_late p (Some q) a h i = h
+
+counts_late : (p : ℕ) (b : Bool) → IsLate p (by_counts p b)
+counts_late p true = tt
+counts_late p false = omega arith
+
+answer_shape : (p q : ℕ) (a : Answer) → IsLate p a → IsTypeReply p (answer_reply q a)
+answer_shape p q Yes h = says_yes
+answer_shape p q (No far) h = says_no h
+
+first_late : (p q : ℕ) (o : Option ℕ) → NotBefore p o → p ≤ q → NotBefore p (first_of o q)
+first_late p q None h i = i
+first_late p q (Some k) h i = h
+
+stray_late : (p : ℕ) (t : Tally) (f : Fate) → NotBefore p t.stray → IsFateLate p f → NotBefore p (tallied t f).stray
+stray_late p t (BelongsTo n Yes) h i = h
+stray_late p t (BelongsTo n (No far)) h i = h
+stray_late p t (Stray q) h i = first_late p q t.stray h i
+
+failing_late : (p : ℕ) (t : Tally) (f : Fate) → NotBefore p t.failing → IsFateLate p f → NotBefore p (tallied t f).failing
+failing_late p t (BelongsTo n Yes) h i = h
+failing_late p t (BelongsTo n (No far)) h i = first_late p far t.failing h i
+failing_late p t (Stray q) h i = h
+
+either_shape : (p : ℕ) (a b : Reply) → IsTypeReply p a → IsTypeReply p b → IsTypeReply p (either_reply a b)
+either_shape p (Takes left next far) b h i = h
+either_shape p (Fails k) (Takes left next far) h i = i
+either_shape p (Fails k) (Fails m) (says_no h) (says_no i) = says_no (omega (arith, h, i))
 
 module _ {N G : Type 0} (l : Language N G) where
   positive : {q : Question N G} {r : Reply} {w : ℕ} → Replies l q r w → 1 ≤ w
@@ -111,6 +155,43 @@ module _ {N G : Type 0} (l : Language N G) where
   simple_shape m p (Some n) (after {s = Takes left next far} d f) = kept_reply f says_yes
   simple_shape m p (Some n) (after {s = Fails far} d f) = kept_reply f (says_no (omega arith))
 
+  alternative_shape : (p : ℕ) (es : List (MapEntry N)) (q : ℕ) (t : Tally) → {w : ℕ} {r : Reply} → NotBefore p t.stray → NotBefore p t.failing → LeadsTo {N = N} {G = G} l (Answered (answer_reply q (tally_says es p t))) r w → IsTypeReply p r
+  alternative_shape p es q t h i d = kept_reply d (answer_shape p q (tally_says es p t) (shown_late p t.stray (shown_by t.failing (by_counts p (enough_of es t.counts))) h (shown_late p t.failing (by_counts p (enough_of es t.counts)) i (counts_late p (enough_of es t.counts)))))
+
+  -- what is left of an alternative after a pair
+  abbrev RestShows : ℕ → ℕ → Sorting N → Type 0
+  RestShows n p s = (f : Fate) (w : ℕ) (r : Reply) → IsFateLate p f → w ≤ n → LeadsTo l (sorted s f) r w → IsTypeReply p r
+
+  value_shape : (n p : ℕ) (s : Sorting N) → RestShows n p s → (cuts : Bool) (es : List (MapEntry N)) (far w : ℕ) (r : Reply) → p ≤ far → w ≤ n → (LeadsTo l (next_entry es s) r w → IsTypeReply p r) → LeadsTo l (after_value cuts es s far) r w → IsTypeReply p r
+  value_shape n p s rest true es far w r h b more d = rest (BelongsTo (length es) (No far)) w r h b d
+  value_shape n p s rest false es far w r h b more d = more d
+
+  far_late : (p q far : ℕ) → p ≤ q → IsTypeReply q (Fails far) → p ≤ far
+  far_late p q far h (says_no i) = omega (arith, h, i)
+
+  entries_shape : (n p : ℕ) → TypesShow n → (s : Sorting N) → p ≤ s.key_place → p ≤ s.value_place → s.value_place < 2 ^ 64 → RestShows n p s → (es : List (MapEntry N)) (w : ℕ) (r : Reply) → w ≤ n → LeadsTo l (next_entry es s) r w → IsTypeReply p r
+  entries_shape n p show s h i j rest [] w r b d = rest (Stray s.key_place) w r h b d
+  entries_shape n p show s h i j rest (e ∷ es) w r b (after {s = Takes left next far} d (after {s = Takes left' next' far'} {w = u} d' f)) = rest (BelongsTo (length es) Yes) u r tt (omega (arith, b)) f
+  entries_shape n p show s h i j rest (e ∷ es) w r b (after {s = Takes left next far} d (after {s = Fails later} {v = v} {w = u} d' f)) =
+      value_shape n p s rest e.cuts es later u r (far_late p s.value_place later i (show e.value_type s.value_place v s.held (Fails later) j (omega (arith, b)) d')) (omega (arith, b)) (λ g. entries_shape n p show s h i j rest es u r (omega (arith, b)) g) f
+  entries_shape n p show s h i j rest (e ∷ es) w r b (after {s = Fails later} {w = u} d f) = entries_shape n p show s h i j rest es u r (omega (arith, b)) f
+
+  pairs_shape : (n p : ℕ) → TypesShow n → (es : List (MapEntry N)) (ps : Pairs) (q : ℕ) (t : Tally) → p ≤ q → q < 2 ^ 64 → NotBefore p t.stray → NotBefore p t.failing → (w : ℕ) (r : Reply) → w ≤ n → LeadsTo l (next_pair es p q ps t) r w → IsTypeReply p r
+  pairs_shape n p show es no_pairs q t h j a c w r b d = alternative_shape p es q t a c d
+  pairs_shape n p show es (pair k x ps) q t h j a c w r b (tries {s = s} {w = u} d) =
+      let i : p ≤ plus q (place_count k) = omega (arith, h, j) in
+      let v : plus q (place_count k) < 2 ^ 64 = omega arith in
+      entries_shape n p show s h i v (λ f w r g b d. pairs_shape n p show es ps (plus (plus q (place_count k)) (place_count x)) (tallied t f) (omega (arith, i, v)) (omega arith) (stray_late p t f a g) (failing_late p t f c g) w r b d) es u r (omega (arith, b)) d
+
+  ways_shape : (n : ℕ) → TypesShow n → (ess : List (List (MapEntry N))) (p : ℕ) (ps : Pairs) (sofar : Reply) (w : ℕ) (r : Reply) → p < 2 ^ 64 → w ≤ n → IsTypeReply p sofar → LeadsTo l (next_way ess p ps sofar) r w → IsTypeReply p r
+  ways_shape n show [] p ps sofar w r h b k d = kept_reply d k
+  ways_shape n show (es ∷ ess) p ps sofar w r h b k (after {s = s} {v = v} {w = u} (replies {w = t} d) f) =
+      ways_shape n show ess p ps (either_reply sofar s) u r h (omega (arith, b)) (either_shape p sofar s k (pairs_shape n p show es ps (plus p 1) (fresh es) (omega (arith, h)) (omega arith) tt tt t s (omega (arith, b)) d)) f
+
+  map_shape : (n : ℕ) → TypesShow n → (ess : List (List (MapEntry N))) (p : ℕ) (o : Option Pairs) → {w : ℕ} {r : Reply} → p < 2 ^ 64 → w ≤ n → LeadsTo l (map_move ess p o) r w → IsTypeReply p r
+  map_shape n show ess p None h b at_once = says_no (omega arith)
+  map_shape n show ess p (Some ps) {w = w} {r = r} h b d = ways_shape n show ess p ps (Fails p) w r h b (says_no (omega arith)) d
+
   node_shape : (n : ℕ) → TypesShow n → (f : Node N G) (p : ℕ) (x : Value) → {w : ℕ} {r : Reply} → p < 2 ^ 64 → w ≤ n → LeadsTo l (type_move f p x) r w → IsTypeReply p r
   node_shape n show (Plain t) p x h b d = test_shape (passes t x) p x d
   node_shape n show (Ref m) p x h b (after {s = s} {v = v} d f) = kept_reply f (show m p v x s h (omega (arith, b)) d)
@@ -118,6 +199,7 @@ module _ {N G : Type 0} (l : Language N G) where
   node_shape n show (ArrayOf g) p x h b d = array_shape g p (members_in x) d
   node_shape n show (TagOf t m) p x h b d = tag_shape n show t m p (tag_in x) h b d
   node_shape n show (SimpleBy m) p x h b d = simple_shape m p (simple_in x) d
+  node_shape n show (MapOf ess) p x h b d = map_shape n show ess p (pairs_in x) h b d
 
   types_show : (n : ℕ) → TypesShow n
   types_show zero m p w x r h b d = absurd (omega (arith, b, positive d))

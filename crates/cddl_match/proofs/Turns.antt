@@ -1,5 +1,5 @@
 -- Each turn keeps what the pending questions lead to.
-use Rattle.std.proofs.Common.{◌≡◌, ℕ, ◌+◌, ◌≤◌, List, [], ◌∷◌, ◌++◌, length, map, reverse, refl, ap, subst, ◌∙◌, arith}
+use Rattle.std.proofs.Common.{◌≡◌, ℕ, ◌+◌, ◌<◌, ◌≤◌, List, [], ◌∷◌, ◌++◌, length, map, reverse, refl, ap, subst, ◌∙◌, arith}
 use Rattle.std.proofs.lemmas.List.{map-append, reverse-append}
 use Rattle.cddl_meaning.specs.Forms.{Language}
 use Rattle.cddl_meaning.specs.Judges.{Reply}
@@ -79,3 +79,11 @@ module _ {N G : Type 0} (l : Language N G) where
     leads = λ r u d. subst (λ n. Replies l first r n) (omega arith) (old.leads r _ (go_leads a os r u d));
     comes = λ r w d. let c = old.comes r w d in let x = go_comes a os r c.0 c.1 in (x.0, x.1, omega (arith, x.2, c.2));
   }
+
+  -- A move takes more than so many.
+  over_leads : {m : Move N G} {k : ℕ} → ((r : Reply) (w : ℕ) → LeadsTo l m r w → k < w) → (os : List (M.Pending N G)) (r : Reply) (u : ℕ) → Unwinds l os m r u → k < u
+  over_leads a [] r u d = a r u d
+  over_leads a (o ∷ os) r u (s, v, w, d, f, is) = omega (arith, a s v d, is)
+
+  pub over : {first : Question N G} {taken k : ℕ} {os : List (M.Pending N G)} {m : Move N G} → ((r : Reply) (w : ℕ) → LeadsTo l m r w → k < w) → IsOnTheWay l first taken os m → (r : Reply) (w : ℕ) → Replies l first r w → taken + k < w
+  over {os = os} a old r w d = let c = old.comes r w d in omega (arith, over_leads a os r c.0 c.1, c.2)

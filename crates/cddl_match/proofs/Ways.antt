@@ -1,5 +1,5 @@
 -- Names, choices of one and groups of one group reply as what is behind them.
-use Rattle.std.proofs.Common.{◌≡◌, ℕ, suc, ◌+◌, ◌≤◌, List, [], ◌∷◌, Option, Some, None, IfSome, Bool, true, false, refl, ap, sym, subst, ◌∙◌, arith}
+use Rattle.std.proofs.Common.{◌≡◌, ℕ, suc, ◌+◌, ◌≤◌, ◌<◌, length, List, [], ◌∷◌, Option, Some, None, IfSome, Bool, true, false, refl, ap, sym, subst, ◌∙◌, arith}
 use Rattle.cbor_data.specs.Value.{Value}
 use Rattle.cddl_meaning.specs.Forms.{Language, Test, passes, Node, Plain, Ref, Choice, Entry, GroupRef, Sequence, Alternatives, Most}
 use Rattle.cddl_meaning.specs.Judges.{Reply, Takes, Fails, is_over}
@@ -165,3 +165,13 @@ module _ {N G : Type 0} (l : Language N G) where
   pub a_part : (g : G) (gs : List G) (base q : ℕ) (xs : List Value) (far : ℕ) → {n : ℕ} {s : Reply} {m : Move N G} → Opens l (OfGroup g base q xs) (Answered s) n → m ≡ next_move (InSequence gs base far) s → ComesTo l (next_part (g ∷ gs) base q xs far) m n
   a_part g gs base q xs far {n = n} {s = s} a e =
       subst (λ m. ComesTo l (next_part (g ∷ gs) base q xs far) m n) (sym e) (answers (InSequence gs base far) a)
+
+  -- a pair is tried with the entries of its alternative
+  pub a_pair : (s : M.Sorting N) → ComesTo l (M.Tries s) (M.next_entry s.entries s) (suc (length s.entries))
+  a_pair s = record { leads = λ r w d. M.tries d; comes = λ r w d. by d }
+    where
+      by : {r : Reply} {w : ℕ} → LeadsTo l (M.Tries s) r w → (v : ℕ) × LeadsTo l (M.next_entry s.entries s) r v × (w ≡ suc (length s.entries) + v)
+      by (M.tries {w = v} d) = (v, d, refl)
+
+  pub more_than : (s : M.Sorting N) (k : ℕ) → k ≤ length s.entries → (r : Reply) (w : ℕ) → LeadsTo l (M.Tries s) r w → k < w
+  more_than s k h r w d = let x = (a_pair s).comes r w d in omega (arith, x.2, h)

@@ -15,7 +15,7 @@ ghost use Rattle.cddl_table.specs.declared.nodes.GroupId.{GroupId};
 ghost use Rattle.cddl_table.specs.declared.nodes.TypeId.{TypeId};
 
 use crate::answers::Verdict;
-use crate::looking::{Ahead, look_ahead, move_ahead};
+use crate::looking::{Ahead, look_ahead, move_ahead, pair_ahead};
 use crate::moves::next_move;
 use crate::questions::{Move, Pending, Question, Reply, Subject};
 use cbor_item::{Item, Sound};
@@ -29,7 +29,7 @@ use std::alloc::{AllocError, Global};
 ///
 /// # Errors
 ///
-/// `AllocError` where there is no memory for the questions that wait.
+/// `AllocError` where there is no memory for the questions that wait, or for the tally of a map's pairs.
 pub fn verdict(
     alloc: Global,
     table: &Table,
@@ -50,7 +50,7 @@ pub fn verdict(
     loop {
         match next {
             Move::Asks(question, pending) => {
-                let Ahead { next: first, asked } = look_ahead(table, question);
+                let Ahead { next: first, asked } = look_ahead(alloc, table, question)?;
                 // The question takes at least so many.
                 if left < asked {
                     return Ok(Verdict::Spent);
@@ -61,6 +61,14 @@ pub fn verdict(
             Move::Answered(reply) => match waiting.pop() {
                 None => return Ok(verdict_of(reply)),
                 Some(pending) => next = next_move(pending, reply),
+            },
+            Move::Tries(sorting) => match pair_ahead(sorting, left) {
+                // The pair takes more.
+                None => return Ok(Verdict::Spent),
+                Some(Ahead { next: first, asked }) => {
+                    left -= asked;
+                    next = first;
+                }
             },
             Move::Repeats(_) | Move::GoesOn(_) => {
                 let Ahead { next: first, asked } = move_ahead(table, next, left);
@@ -89,7 +97,7 @@ fn after_first<'t, 'i>(
 }
 
 /// What is asked first: a type, of an item, whose place is 0.
-fn first_question<'i>(node: TypeId, item: &'i Item) -> Question<'i>
+fn first_question<'t, 'i>(node: TypeId, item: &'i Item) -> Question<'t, 'i>
     ensures { question_view result ≡ OfType node 0 (view item.now) }
 {
     Question::OfType {

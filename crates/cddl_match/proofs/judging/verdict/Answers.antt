@@ -2,7 +2,7 @@ use Rattle.std.proofs.Common.{◌≡◌, [], sym, ◌∙◌, arith}
 use Rattle.cddl_table.specs.Language.{language_of, root_of}
 use Rattle.cddl_meaning.specs.Moves.{OfType}
 use Rattle.cddl_meaning.proofs.Lemmas.{said}
-use Rattle.cddl_match.proofs.Turns.{begun, asked, answered, finished, gone_on, heavier, in_steps, stack_push, none_left}
+use Rattle.cddl_match.proofs.Turns.{begun, asked, answered, finished, gone_on, heavier, over, in_steps, stack_push, none_left}
 use Rattle.cddl_match.proofs.Decides.{decides}
 use Rattle.cddl_match.proofs.Verdicts.{said_yes, said_no}
 use Rattle.cddl_match.proofs.Room.{room}
@@ -35,6 +35,12 @@ loop-next-preserved-in-Some c =
       within = c.loop-next.invariant.within;
       leads = rw c.next_move-next.ensures (answered (language_of c.args.table.now) i);
     }
+
+pub returns-in-None-in-Tries-clause-spent : goal.returns-in-None-in-Tries-clause-spent
+returns-in-None-in-Tries-clause-spent c = λ e a w d.
+    let i = rw c.in-Tries.is at c.loop-next.invariant.leads in
+    let h = over (language_of c.args.table.now) (c.in-None-2.ensures.spent (language_of c.args.table.now)) i _ w (said (language_of c.args.table.now) (room c.args.item.now c.item.ensures.sound) d) in
+    omega (arith, h, c.loop-next.invariant.within)
 
 pub loop-next-preserved : goal.loop-next-preserved
 loop-next-preserved c = record {
