@@ -1,6 +1,6 @@
 -- What ranks say of each form.
 use Rattle.std.proofs.Common.{◌≡◌, ℕ, zero, suc, ◌<◌, ◌≤◌, List, [], ◌∷◌, length, slice_index_or, Contains, refl, subst, arith}
-use Rattle.cddl_meaning.specs.Forms.{Node, Plain, Ref, Choice, ArrayOf, TagOf, SimpleBy, Group, Entry, GroupRef, Sequence, Alternatives, Repeat, Language}
+use Rattle.cddl_meaning.specs.Forms.{Node, Plain, Ref, Choice, ArrayOf, TagOf, SimpleBy, MapOf, Group, Entry, GroupRef, Sequence, Alternatives, Repeat, Language}
 use Rattle.cddl_ranks.specs.Ranked.{MayBeEmpty, Name, a_type, a_group, IsFreeInType, same_item, member, all_items, its_number, IsFreePart, front, past_empty, IsFreeInGroup, same_list, part, alternative, a_round, IsFree, in_type, in_group, IsRanked, LeadsTo, at_once, by_way}
 use Rattle.cddl_ranks.specs.Flags.{AreBelow, IsTypeRanked}
 
@@ -59,6 +59,7 @@ module _ {N G : Type 0} (l : Language N G) (rank : Name N G → ℕ) where
   type_ranked r (ArrayOf g) h = h (a_group g) all_items
   type_ranked r (TagOf t m) h = tt
   type_ranked r (SimpleBy m) h = h (a_type m) its_number
+  type_ranked r (MapOf ess) h = tt
 
   group_ranked : (r : ℕ) (f : Group N G) → ((h : G) → IsFreeInGroup l f h → groups_by h < r) → IsGroupRanked l groups_by r f
   group_ranked r (Entry m) h = tt

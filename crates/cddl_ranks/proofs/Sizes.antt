@@ -1,9 +1,9 @@
 -- Sizes of items, of what is in them, and of their bytes.
-use Rattle.std.proofs.Common.{◌≡◌, ℕ, suc, ◌≤◌, List, [], ◌∷◌, refl, ap, arith}
+use Rattle.std.proofs.Common.{◌≡◌, ℕ, suc, ◌<◌, ◌≤◌, List, [], ◌∷◌, refl, ap, arith}
 use Rattle.std.specs.Prelude.{Option, Some, None}
-use Rattle.cbor_data.specs.Value.{Value, uint, nint, bytes, text, array, pairs, tag, simple, float, Values, no_values, value}
-use Rattle.cddl_meaning.specs.Forms.{list_of, members_in, tag_in}
-use Rattle.cddl_ranks.specs.Size.{size, values_size, list_size}
+use Rattle.cbor_data.specs.Value.{Value, uint, nint, bytes, text, array, pairs, tag, simple, float, Values, no_values, value, Pairs, pair}
+use Rattle.cddl_meaning.specs.Forms.{list_of, members_in, pairs_in, tag_in}
+use Rattle.cddl_ranks.specs.Size.{size, values_size, pairs_size, list_size}
 
 pub size_some : (x : Value) → 1 ≤ size x
 size_some (uint n) = omega arith
@@ -39,3 +39,15 @@ tag_size (tag m z) y n e =
     let h : z ≡ y = ap (content_or z) e in
     omega (arith, ap size h)
 tag_size _ y n e = cc e
+
+pub map_size : (x : Value) (ps : Pairs) → pairs_in x ≡ Some ps → suc (pairs_size ps) ≤ size x
+map_size (pairs qs) ps e =
+    let h : qs ≡ ps = cc e in
+    omega (arith, ap pairs_size h)
+map_size _ ps e = cc e
+
+pub key_less : (k x : Value) (ps : Pairs) → size k < pairs_size (pair k x ps)
+key_less k x ps = omega (arith, size_some x)
+
+pub value_less : (k x : Value) (ps : Pairs) → size x < pairs_size (pair k x ps)
+value_less k x ps = omega (arith, size_some k)

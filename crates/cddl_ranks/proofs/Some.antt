@@ -1,16 +1,16 @@
 -- Each type says something of each item, and each group does something with each list.
 use Rattle.std.proofs.Common.{◌≡◌, ℕ, zero, suc, ◌+◌, ◌-◌, ◌^◌, ◌<◌, ◌≤◌, ◌⊎◌, inl, inr, max, length, List, [], ◌∷◌, Option, Some, None, Bool, true, false, nat_eq, refl, subst, ap, arith}
 use Rattle.std.proofs.lemmas.Bool.Decides.{nat_tests}
-use Rattle.cbor_data.specs.Value.{Value, uint, place_count}
-use Rattle.cddl_meaning.specs.Forms.{Test, passes, members_in, tag_in, simple_in, TagNumber, any_number, exactly, such_as, Node, Plain, Ref, Choice, ArrayOf, TagOf, SimpleBy, Most, Group, Entry, GroupRef, Sequence, Alternatives, Repeat, Language}
-use Rattle.cddl_meaning.specs.Judges.{Answer, Yes, No, Reply, Takes, Fails, whole, over, failed, is_over, one_less, Says, passed, missed, ref, choice, no_array, array, no_tag, tagged, other_tag, no_simple, simple_such, other_simple, Numbers, whichever, this_number, other_number, by_head, Chooses, no_more, this_one, not_this, Does, missing, matches, differs, group_ref, sequence, alternatives, repeat, DoesEach, all_done, one_fails, and_then, DoesFirst, all_fail, one_takes, or_else, Repeats, full, too_few, enough, empty_round, round}
+use Rattle.cbor_data.specs.Value.{Value, uint, place_count, Pairs, no_pairs, pair}
+use Rattle.cddl_meaning.specs.Forms.{Test, passes, members_in, pairs_in, tag_in, simple_in, TagNumber, any_number, exactly, such_as, MapEntry, Node, Plain, Ref, Choice, ArrayOf, TagOf, SimpleBy, MapOf, Most, Group, Entry, GroupRef, Sequence, Alternatives, Repeat, Language}
+use Rattle.cddl_meaning.specs.Judges.{Answer, Yes, No, Reply, Takes, Fails, whole, over, failed, is_over, one_less, Says, passed, missed, ref, choice, no_array, array, no_tag, tagged, other_tag, no_simple, simple_such, other_simple, no_map, map, Fate, BelongsTo, Stray, alternative_says, either, Maps, no_alternative, alternative, Sorts, all_sorted, sort, Belongs, nowhere, other_key, here, cut_here, handed_on, Numbers, whichever, this_number, other_number, by_head, Chooses, no_more, this_one, not_this, Does, missing, matches, differs, group_ref, sequence, alternatives, repeat, DoesEach, all_done, one_fails, and_then, DoesFirst, all_fail, one_takes, or_else, Repeats, full, too_few, enough, empty_round, round}
 use Rattle.cddl_meaning.proofs.Lemmas.{one_saying}
 use Rattle.cddl_ranks.specs.Decided.{IsDecided}
-use Rattle.cddl_ranks.specs.Size.{size, list_size}
+use Rattle.cddl_ranks.specs.Size.{size, pairs_size, list_size}
 use Rattle.cddl_ranks.specs.Ranked.{MayBeEmpty, Name, IsRanked}
 use Rattle.cddl_ranks.specs.Flags.{AreBelow, IsTypeRanked}
 use Rattle.cddl_ranks.proofs.ByForm.{LeadsDown, IsGroupRanked, IsRankedByForm, types_by, groups_by, by_form}
-use Rattle.cddl_ranks.proofs.Sizes.{size_some, all_some, array_size, tag_size}
+use Rattle.cddl_ranks.proofs.Sizes.{size_some, all_some, array_size, tag_size, map_size, key_less, value_less}
 use Rattle.cddl_ranks.proofs.Takes.{IsBehind}
 use Rattle.cddl_ranks.proofs.Induction.{IsLess, for_types, for_groups}
 use Rattle.cddl_ranks.proofs.Well.{does_well}
@@ -36,6 +36,21 @@ module _ {N G : Type 0} (l : Language N G) (type_rank : N → ℕ) (group_rank :
     answer : Answer
     weight : ℕ
     chooses : Chooses l ms p x far answer weight
+
+  record BelongsSome (es : List (MapEntry N)) (i q : ℕ) (k x : Value) : Type 0 where
+    fate : Fate
+    weight : ℕ
+    belongs : Belongs l es i q k x fate weight
+
+  record SortsSome (es : List (MapEntry N)) (q : ℕ) (ps : Pairs) : Type 0 where
+    fates : List Fate
+    weight : ℕ
+    sorts : Sorts l es q ps fates weight
+
+  record MapsSome (ess : List (List (MapEntry N))) (p : ℕ) (ps : Pairs) (sofar : Answer) : Type 0 where
+    answer : Answer
+    weight : ℕ
+    maps : Maps l ess p ps sofar answer weight
 
   record EachSome (gs : List G) (p q : ℕ) (xs : List Value) (far : ℕ) : Type 0 where
     reply : Reply
@@ -78,6 +93,18 @@ module _ {N G : Type 0} (l : Language N G) (type_rank : N → ℕ) (group_rank :
   simple_next : (m : N) (p n : ℕ) (x : Value) (a : Answer) (w : ℕ) → simple_in x ≡ Some n → Says l (l.type_at m) p (uint n) a w → SaysSome (SimpleBy m) p x
   simple_next m p n x Yes w e d = record { answer = Yes; weight = suc w; says = simple_such e d }
   simple_next m p n x (No far) w e d = record { answer = No p; weight = suc w; says = other_simple e d }
+
+  cut_next : (e : MapEntry N) (es : List (MapEntry N)) (i q : ℕ) (k x : Value) (far v w : ℕ) (c : Bool) → e.cuts ≡ c → Says l (l.type_at e.key_type) q k Yes v → Says l (l.type_at e.value_type) (q + place_count k) x (No far) w → BelongsSome es (suc i) q k x → BelongsSome (e ∷ es) i q k x
+  cut_next e es i q k x far v w true c d b others = record { fate = BelongsTo i (No far); weight = v + w; belongs = cut_here c d b }
+  cut_next e es i q k x far v w false c d b others = record { fate = others.fate; weight = v + (w + others.weight); belongs = handed_on c d b others.belongs }
+
+  value_next : (e : MapEntry N) (es : List (MapEntry N)) (i q : ℕ) (k x : Value) (v : ℕ) (a : Answer) (w : ℕ) → Says l (l.type_at e.key_type) q k Yes v → Says l (l.type_at e.value_type) (q + place_count k) x a w → BelongsSome es (suc i) q k x → BelongsSome (e ∷ es) i q k x
+  value_next e es i q k x v Yes w d b others = record { fate = BelongsTo i Yes; weight = v + w; belongs = here d b }
+  value_next e es i q k x v (No far) w d b others = cut_next e es i q k x far v w e.cuts refl d b others
+
+  key_next : (e : MapEntry N) (es : List (MapEntry N)) (i q : ℕ) (k x : Value) (a : Answer) (v : ℕ) → Says l (l.type_at e.key_type) q k a v → SaysSome (l.type_at e.value_type) (q + place_count k) x → BelongsSome es (suc i) q k x → BelongsSome (e ∷ es) i q k x
+  key_next e es i q k x Yes v d b others = value_next e es i q k x v b.answer b.weight d b.says others
+  key_next e es i q k x (No far) v d b others = record { fate = others.fate; weight = v + others.weight; belongs = other_key d others.belongs }
 
   plain_some : (t : Test) (p : ℕ) (x : Value) (c : Bool) → passes t x ≡ c → SaysSome (Plain t) p x
   plain_some t p x true e = record { answer = Yes; weight = 1; says = passed e }
@@ -131,6 +158,32 @@ module _ {N G : Type 0} (l : Language N G) (type_rank : N → ℕ) (group_rank :
     simple_some m p x h u None e = record { answer = No p; weight = 1; says = no_simple e }
     simple_some m p x h u (Some n) e = let d = types m p (uint n) (inr (omega (arith, h), u)) in simple_next m p n x d.answer d.weight e d.says
 
+    belongs_some : (es : List (MapEntry N)) (i q : ℕ) (k x : Value) → size k < S → size x < S → BelongsSome es i q k x
+    belongs_some [] i q k x h j = record { fate = Stray q; weight = 0; belongs = nowhere }
+    belongs_some (e ∷ es) i q k x h j =
+        let d = types e.key_type q k (inl h) in
+        key_next e es i q k x d.answer d.weight d.says (types e.value_type (q + place_count k) x (inl j)) (belongs_some es (suc i) q k x h j)
+
+    sorts_some : (es : List (MapEntry N)) (q : ℕ) (ps : Pairs) → pairs_size ps < S → SortsSome es q ps
+    sorts_some es q no_pairs h = record { fates = []; weight = 0; sorts = all_sorted }
+    sorts_some es q (pair k x ps) h =
+        let d = belongs_some es 0 q k x (omega (arith, h, key_less k x ps)) (omega (arith, h, value_less k x ps)) in
+        let e = sorts_some es (q + place_count k + place_count x) ps (omega (arith, h)) in
+        record { fates = d.fate ∷ e.fates; weight = suc (length es) + d.weight + e.weight; sorts = sort d.belongs e.sorts }
+
+    maps_some : (ess : List (List (MapEntry N))) (p : ℕ) (ps : Pairs) (sofar : Answer) → pairs_size ps < S → MapsSome ess p ps sofar
+    maps_some [] p ps sofar h = record { answer = sofar; weight = 0; maps = no_alternative }
+    maps_some (es ∷ ess) p ps sofar h =
+        let d = sorts_some es (suc p) ps h in
+        let e = maps_some ess p ps (either sofar (alternative_says es p d.fates)) h in
+        record { answer = e.answer; weight = suc d.weight + e.weight; maps = alternative d.sorts e.maps }
+
+    map_some : (ess : List (List (MapEntry N))) (p : ℕ) (x : Value) → size x ≤ S → (o : Option Pairs) → pairs_in x ≡ o → SaysSome (MapOf ess) p x
+    map_some ess p x h None e = record { answer = No p; weight = 1; says = no_map e }
+    map_some ess p x h (Some ps) e =
+        let d = maps_some ess p ps (No p) (omega (arith, h, map_size x ps e)) in
+        record { answer = d.answer; weight = suc d.weight; says = map e d.maps }
+
     pub type_some : (t : Node N G) (p : ℕ) (x : Value) → size x ≤ S → IsTypeRanked type_rank group_rank R t → SaysSome t p x
     type_some (Plain t) p x h k = plain_some t p x (passes t x) refl
     type_some (Ref m) p x h k = let d = types m p x (inr (h, k)) in record { answer = d.answer; weight = suc d.weight; says = ref d.says }
@@ -138,6 +191,7 @@ module _ {N G : Type 0} (l : Language N G) (type_rank : N → ℕ) (group_rank :
     type_some (ArrayOf g) p x h k = array_some g p x h k (members_in x) refl
     type_some (TagOf t m) p x h k = tag_some t m p x h (tag_in x) refl
     type_some (SimpleBy m) p x h k = simple_some m p x (omega (arith, h, size_some x)) k (simple_in x) refl
+    type_some (MapOf ess) p x h k = map_some ess p x h (pairs_in x) refl
 
     first_some : (gs : List G) (p q : ℕ) (xs : List Value) (far : ℕ) → list_size xs ≤ S → AreBelow group_rank R gs → FirstSome gs p q xs far
     first_some [] p q xs far h b = record { reply = Fails far; weight = 0; does = all_fail }
@@ -210,6 +264,7 @@ module _ {N G : Type 0} (l : Language N G) (type_rank : N → ℕ) (group_rank :
     any_type_ranked (ArrayOf g) = omega (arith, ranked.group_bound g)
     any_type_ranked (TagOf t m) = tt
     any_type_ranked (SimpleBy m) = omega (arith, ranked.type_bound m)
+    any_type_ranked (MapOf ess) = tt
 
     any_group_ranked : (t : Group N G) → IsGroupRanked l group_rank (suc bound) t
     any_group_ranked (Entry m) = tt

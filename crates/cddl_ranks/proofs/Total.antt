@@ -1,16 +1,16 @@
 -- Each question has a reply by the moves, and each question on the way is below the one that asks it.
 use Rattle.std.proofs.Common.{◌≡◌, ℕ, zero, suc, ◌+◌, ◌-◌, ◌<◌, ◌≤◌, ◌⊎◌, inl, inr, max, length, List, [], ◌∷◌, Option, Some, None, Bool, true, false, nat_eq, refl, ap, arith}
 use Rattle.std.proofs.lemmas.Bool.Decides.{nat_tests}
-use Rattle.cbor_data.specs.Value.{Value, uint}
-use Rattle.cddl_meaning.specs.Forms.{passes, members_in, tag_in, simple_in, TagNumber, any_number, exactly, such_as, Node, Plain, Ref, Choice, ArrayOf, TagOf, SimpleBy, Most, Group, Entry, GroupRef, Sequence, Alternatives, Repeat, Language}
-use Rattle.cddl_meaning.specs.Judges.{Reply, Takes, Fails, is_over, one_less}
-use Rattle.cddl_meaning.specs.Moves.{Question, OfType, OfGroup, Pending, InChoice, InHead, InSimple, InEntry, InSequence, InAlternatives, InRepeat, Move, Answered, Asks, plus, test_reply, array_reply, next_member, next_part, next_alternative, next_round, repetition, after_round, end_of_rounds, array_move, content_move, tag_move, simple_move, type_move, entry_move, group_move, next_move}
-use Rattle.cddl_ranks.specs.Size.{size, list_size, size_of}
+use Rattle.cbor_data.specs.Value.{Value, uint, place_count, Pairs, no_pairs, pair}
+use Rattle.cddl_meaning.specs.Forms.{passes, members_in, pairs_in, tag_in, simple_in, TagNumber, any_number, exactly, such_as, MapEntry, Node, Plain, Ref, Choice, ArrayOf, TagOf, SimpleBy, MapOf, Most, Group, Entry, GroupRef, Sequence, Alternatives, Repeat, Language}
+use Rattle.cddl_meaning.specs.Judges.{Yes, No, Reply, Takes, Fails, is_over, one_less, Fate, BelongsTo, Stray}
+use Rattle.cddl_meaning.specs.Moves.{Question, OfType, OfGroup, OfAlternative, Tally, Sorting, Pending, InChoice, InHead, InSimple, InEntry, InSequence, InAlternatives, InRepeat, InKey, InValue, Move, Answered, Asks, plus, test_reply, array_reply, next_member, next_part, next_alternative, next_round, repetition, after_round, end_of_rounds, array_move, content_move, tag_move, simple_move, either_reply, answer_reply, fresh, tallied, tally_says, next_way, map_move, next_pair, sorted, next_entry, after_value, type_move, entry_move, group_move, next_move}
+use Rattle.cddl_ranks.specs.Size.{size, pairs_size, list_size}
 use Rattle.cddl_ranks.specs.Ranked.{MayBeEmpty, named, every_part, one_of_them, no_minimum, no_round, an_empty_round, AllMayBeEmpty, no_part, this_part, OneMayBeEmpty, this_one, another}
 use Rattle.cddl_ranks.specs.Flags.{AreBelow, IsTypeRanked}
 use Rattle.cddl_ranks.proofs.ByForm.{LeadsDown, IsGroupRanked, IsRankedByForm}
-use Rattle.cddl_ranks.proofs.Down.{rank_of, RepliesDown, replies, EndsDown, at_once, after}
-use Rattle.cddl_ranks.proofs.Sizes.{size_some, all_some, array_size, tag_size}
+use Rattle.cddl_ranks.proofs.Down.{IsBelow, RepliesDown, replies, EndsDown, at_once, after, tries}
+use Rattle.cddl_ranks.proofs.Sizes.{size_some, all_some, array_size, tag_size, map_size, key_less, value_less}
 use Rattle.cddl_ranks.proofs.Takes.{IsShorter, IsBehind, TakesWell, AnyReply, takes_as, takes_more, takes_less, entry_takes}
 use Rattle.cddl_ranks.proofs.Induction.{IsLess, for_types, for_groups}
 
@@ -44,13 +44,48 @@ module _ {N G : Type 0} (l : Language N G) (type_rank : N → ℕ) (group_rank :
   abbrev GroupsReply : ℕ → ℕ → Type 0
   GroupsReply S R = (g : G) (base q : ℕ) (ys : List Value) → IsLess (list_size ys) (group_rank g) S R → Replied (OfGroup g base q ys) (TakesWell (Empty g) ys)
 
+  at_end : {S R : ℕ} (r : Reply) (IsGood : Reply → Type 0) → IsGood r → Ending S R (Answered r) IsGood
+  at_end r IsGood h = record { reply = r; weight = 0; ends = at_once; good = h }
+
+  then : {S R : ℕ} {q : Question N G} {o : Pending N G} {s : Reply} {w : ℕ} {IsGood : Reply → Type 0} → IsBelow type_rank group_rank q o S R → RepliesDown l type_rank group_rank q s w → Ending S R (next_move o s) IsGood → Ending S R (Asks q o) IsGood
+  then {w = w} i d e = record { reply = e.reply; weight = w + e.weight; ends = after i d e.ends; good = e.good }
+
+  -- The keys and values of an alternative are of a size below S.
+  module _ (S R : ℕ) (types : TypesReply S R) where
+    -- The value type has said no.
+    cut_next : (es : List (MapEntry N)) (i : ℕ) (s : Sorting N) (far : ℕ) (c : Bool) → ((f : Fate) → Ending S R (sorted s f) AnyReply) → Ending S R (next_entry es (suc i) s) AnyReply → Ending S R (after_value c es i s far) AnyReply
+    cut_next es i s far true known others = known (BelongsTo i (No far))
+    cut_next es i s far false known others = others
+
+    value_next : (e : MapEntry N) (es : List (MapEntry N)) (i : ℕ) (s : Sorting N) (r : Reply) → ((f : Fate) → Ending S R (sorted s f) AnyReply) → Ending S R (next_entry es (suc i) s) AnyReply → Ending S R (next_move (InValue e es i s) r) AnyReply
+    value_next e es i s (Takes left b later) known others = known (BelongsTo i Yes)
+    value_next e es i s (Fails later) known others = cut_next es i s later e.cuts known others
+
+    key_next : (e : MapEntry N) (es : List (MapEntry N)) (i : ℕ) (s : Sorting N) (r : Reply) → size s.held < S → ((f : Fate) → Ending S R (sorted s f) AnyReply) → Ending S R (next_entry es (suc i) s) AnyReply → Ending S R (next_move (InKey e es i s) r) AnyReply
+    key_next e es i s (Takes left b later) h known others =
+        let d = types e.value_type s.value_place s.held (inl h) in
+        then (inl h) d.replies_down (value_next e es i s d.reply known others)
+    key_next e es i s (Fails later) h known others = others
+
+    entries_total : (es : List (MapEntry N)) (i : ℕ) (s : Sorting N) → size s.key < S → size s.held < S → ((f : Fate) → Ending S R (sorted s f) AnyReply) → Ending S R (next_entry es i s) AnyReply
+    entries_total [] i s h k known = known (Stray s.key_place)
+    entries_total (e ∷ es) i s h k known =
+        let d = types e.key_type s.key_place s.key (inl h) in
+        then (inl h) d.replies_down (key_next e es i s d.reply k known (entries_total es (suc i) s h k known))
+
+    pairs_total : (es : List (MapEntry N)) (base q : ℕ) (ps : Pairs) (t : Tally) → pairs_size ps ≤ S → Ending S R (next_pair es base q ps t) AnyReply
+    pairs_total es base q no_pairs t h = at_end (answer_reply q (tally_says es base t)) AnyReply tt
+    pairs_total es base q (pair k x ps) t h =
+        let s : Sorting N = record { entries = es; base = base; key_place = q; key = k; value_place = plus q (place_count k); held = x; next_place = plus (plus q (place_count k)) (place_count x); rest = ps; tally = t } in
+        let d = entries_total es 0 s (omega (arith, h, key_less k x ps)) (omega (arith, h, value_less k x ps)) (λ f. pairs_total es base s.next_place ps (tallied t f) (omega (arith, h))) in
+        record { reply = d.reply; weight = suc (length es) + d.weight; ends = tries d.ends; good = tt }
+
+  alternative_total : (es : List (MapEntry N)) (base : ℕ) (ps : Pairs) → TypesReply (pairs_size ps) 0 → Replied (OfAlternative es base ps) AnyReply
+  alternative_total es base ps types =
+      let d = pairs_total (pairs_size ps) 0 types es base (plus base 1) ps (fresh es) (omega arith) in
+      record { reply = d.reply; weight = suc d.weight; replies_down = replies d.ends; good = tt }
+
   module _ (S R : ℕ) (types : TypesReply S R) (groups : GroupsReply S R) where
-    at_end : (r : Reply) (IsGood : Reply → Type 0) → IsGood r → Ending S R (Answered r) IsGood
-    at_end r IsGood h = record { reply = r; weight = 0; ends = at_once; good = h }
-
-    then : {q : Question N G} {o : Pending N G} {s : Reply} {w : ℕ} {IsGood : Reply → Type 0} → IsLess (size_of q) (rank_of type_rank group_rank q) S R → RepliesDown l type_rank group_rank q s w → Ending S R (next_move o s) IsGood → Ending S R (Asks q o) IsGood
-    then {w = w} i d e = record { reply = e.reply; weight = w + e.weight; ends = after i d e.ends; good = e.good }
-
     choose_next : (m : N) (ms : List N) (p : ℕ) (x : Value) (far : ℕ) (s : Reply) → ((far : ℕ) → Ending S R (next_member ms p x far) AnyReply) → Ending S R (next_move (InChoice ms p x far) s) AnyReply
     choose_next m ms p x far (Takes left b later) rest = at_end (Takes [] b 0) AnyReply tt
     choose_next m ms p x far (Fails later) rest = rest (max far later)
@@ -96,6 +131,20 @@ module _ {N G : Type 0} (l : Language N G) (type_rank : N → ℕ) (group_rank :
         let d = types m p (uint n) (inr (i, u)) in
         then (inr (i, u)) d.replies_down (number_next p d.reply)
 
+    smaller : (y : Value) (r s : ℕ) → s < S → IsLess (size y) r s 0 → size y < S
+    smaller y r s h (inl i) = omega (arith, h, i)
+    smaller y r s h (inr i) = omega (arith, h, i.0)
+
+    ways_total : (ess : List (List (MapEntry N))) (p : ℕ) (ps : Pairs) (sofar : Reply) → pairs_size ps < S → Ending S R (next_way ess p ps sofar) AnyReply
+    ways_total [] p ps sofar h = at_end sofar AnyReply tt
+    ways_total (es ∷ ess) p ps sofar h =
+        let d = alternative_total es p ps (λ m q y i. types m q y (inl (smaller y (type_rank m) (pairs_size ps) h i))) in
+        then (h, refl) d.replies_down (ways_total ess p ps (either_reply sofar d.reply) h)
+
+    map_total : (ess : List (List (MapEntry N))) (p : ℕ) (x : Value) → size x ≤ S → (o : Option Pairs) → pairs_in x ≡ o → Ending S R (map_move ess p o) AnyReply
+    map_total ess p x h None e = at_end (Fails p) AnyReply tt
+    map_total ess p x h (Some ps) e = ways_total ess p ps (Fails p) (omega (arith, h, map_size x ps e))
+
     type_total : (t : Node N G) (p : ℕ) (x : Value) → size x ≤ S → IsTypeRanked type_rank group_rank R t → Ending S R (type_move t p x) AnyReply
     type_total (Plain t) p x h k = at_end (test_reply p x (passes t x)) AnyReply tt
     type_total (Ref m) p x h k = let d = types m p x (inr (h, k)) in then (inr (h, k)) d.replies_down (at_end d.reply AnyReply tt)
@@ -103,6 +152,7 @@ module _ {N G : Type 0} (l : Language N G) (type_rank : N → ℕ) (group_rank :
     type_total (ArrayOf g) p x h k = array_total g p x h k (members_in x) refl
     type_total (TagOf t m) p x h k = tag_total t m p x h (tag_in x) refl
     type_total (SimpleBy m) p x h k = simple_total m p (omega (arith, h, size_some x)) k (simple_in x)
+    type_total (MapOf ess) p x h k = map_total ess p x h (pairs_in x) refl
 
     first_next : (g : G) (gs : List G) (base q : ℕ) (ys : List Value) (far : ℕ) (s : Reply) → TakesWell (Empty g) ys s → ((far : ℕ) → Ending S R (next_alternative gs base q ys far) (TakesWell (OneMayBeEmpty l gs) ys)) → Ending S R (next_move (InAlternatives gs base q ys far) s) (TakesWell (OneMayBeEmpty l (g ∷ gs)) ys)
     first_next g gs base q ys far (Takes left b later) good rest = at_end (Takes left b (max far later)) (TakesWell (OneMayBeEmpty l (g ∷ gs)) ys) (takes_as (Empty g) (OneMayBeEmpty l (g ∷ gs)) (λ e. this_one e) ys (Takes left b later) good)
@@ -210,3 +260,6 @@ module _ {N G : Type 0} (l : Language N G) (type_rank : N → ℕ) (group_rank :
 
     pub group_replies : (g : G) (base q : ℕ) (ys : List Value) → Replied (OfGroup g base q ys) (TakesWell (Empty g) ys)
     group_replies = for_groups type_rank group_rank (λ m p y. Replied (OfType m p y) AnyReply) (λ g base q ys. Replied (OfGroup g base q ys) (TakesWell (Empty g) ys)) type_step group_step
+
+    pub alternative_replies : (es : List (MapEntry N)) (base : ℕ) (ps : Pairs) → Replied (OfAlternative es base ps) AnyReply
+    alternative_replies es base ps = alternative_total es base ps (λ m q y i. type_replies m q y)

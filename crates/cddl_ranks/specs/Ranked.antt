@@ -30,7 +30,8 @@ pub data Name (N G : Type 0) : Type 0 where
   a_group : G → Name N G
 
 -- What a type may ask of the same item is free in it, and so are what it asks of all items of an array and of the number
--- of a simple value, which are as large. An array's items and a tag's content and number are smaller than the item.
+-- of a simple value, which are as large. An array's items, a tag's content and number, and a map's keys and values are
+-- smaller than the item, so nothing is free in a map.
 pub data IsFreeInType {N G : Type 0} : Node N G → Name N G → Type 0 where
   same_item : {m : N} → IsFreeInType (Ref m) (a_type m)
   member : {ms : List N} {m : N} → Contains ms m → IsFreeInType (Choice ms) (a_type m)

@@ -1,7 +1,7 @@
 -- How large an item is: one for itself, and as much as all that is in it, where each byte of a string counts one.
 use Rattle.std.specs.Prelude.{ℕ, suc, ◌+◌, length, List, [], ◌∷◌}
 use Rattle.cbor_data.specs.Value.{Value, uint, nint, bytes, text, array, pairs, tag, simple, float, Values, no_values, value, Pairs, no_pairs, pair}
-use Rattle.cddl_meaning.specs.Moves.{Question, OfType, OfGroup}
+use Rattle.cddl_meaning.specs.Moves.{Question, OfType, OfGroup, OfAlternative}
 
 abbrev mutual
   pub size : Value → ℕ
@@ -28,7 +28,8 @@ abbrev pub list_size : List Value → ℕ
 list_size [] = 1
 list_size (x ∷ xs) = size x + list_size xs
 
--- the size of what is asked about
+-- The size of what is asked about. An alternative's pairs count as their map does.
 abbrev pub size_of : {N G : Type 0} → Question N G → ℕ
 size_of (OfType n p x) = size x
 size_of (OfGroup g base q xs) = list_size xs
+size_of (OfAlternative es base ps) = suc (pairs_size ps)

@@ -12,7 +12,7 @@ ghost use Rattle.cddl_meaning.specs.Moves.{Question, OfType, Pending, Move, Repl
 ghost use Rattle.cddl_ranks.specs.Decided.{IsDecided};
 ghost use Rattle.cddl_ranks.specs.Example.{example, example_rank};
 ghost use Rattle.cddl_ranks.specs.Ranked.{IsRanked, LeadsTo, MayBeEmpty, Name};
-ghost use Rattle.cddl_ranks.specs.Reached.{IsReached};
+ghost use Rattle.cddl_ranks.specs.Reached.{IsReached, one_for_empty_map};
 ghost use Rattle.cddl_ranks.specs.Size.{size, size_of};
 
 /// In a ranked language each type, in any form over its names, says something of each item, wherever that stands; each
@@ -30,10 +30,11 @@ pub fn decided<N, G>()
 {}
 
 /// In a ranked language no more questions are ever open than there are ranks, 0 among them, times the size of what the
-/// first one is asked about: for a type, times the length of the item's preferred bytes.
+/// first one is asked about: for a type, times the length of the item's preferred bytes. There is one more only while an
+/// alternative is asked of a map without pairs.
 pub fn few_open<N, G>()
-    ensures size { (l : Language N G) (rank : Name N G → ℕ) (bound : ℕ) → IsRanked l rank bound → (first : Question N G) (os : List (Pending N G)) (m : Move N G) → IsReached l first os m → length os ≤ (bound + 1) * size_of first }
-    ensures bytes { (l : Language N G) (rank : Name N G → ℕ) (bound : ℕ) → IsRanked l rank bound → (n : N) (p : ℕ) (x : Value) (os : List (Pending N G)) (m : Move N G) → IsReached l (OfType n p x) os m → length os ≤ (bound + 1) * length (preferred x) }
+    ensures size { (l : Language N G) (rank : Name N G → ℕ) (bound : ℕ) → IsRanked l rank bound → (first : Question N G) (os : List (Pending N G)) (m : Move N G) → IsReached l first os m → length os ≤ (bound + 1) * size_of first + one_for_empty_map os }
+    ensures bytes { (l : Language N G) (rank : Name N G → ℕ) (bound : ℕ) → IsRanked l rank bound → (n : N) (p : ℕ) (x : Value) (os : List (Pending N G)) (m : Move N G) → IsReached l (OfType n p x) os m → length os ≤ (bound + 1) * length (preferred x) + one_for_empty_map os }
 {}
 
 /// An item is no larger than its preferred bytes, and than its bytes in any spelling.
