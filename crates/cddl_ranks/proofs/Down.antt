@@ -40,7 +40,7 @@ module _ {N G : Type 0} where
     pub data EndsDown (l : Language N G) (type_rank : N → ℕ) (group_rank : G → ℕ) : ℕ → ℕ → Move N G → Reply → ℕ → Type 0 where
       at_once : {S R : ℕ} {r : Reply} → EndsDown l type_rank group_rank S R (Answered r) r 0
       after : {S R v w : ℕ} {q : Question N G} {o : Pending N G} {s r : Reply} → IsBelow type_rank group_rank q o S R → RepliesDown l type_rank group_rank q s v → EndsDown l type_rank group_rank S R (next_move o s) r w → EndsDown l type_rank group_rank S R (Asks q o) r (v + w)
-      tries : {S R w : ℕ} {s : Sorting N} {r : Reply} → EndsDown l type_rank group_rank S R (next_entry s.entries 0 s) r w → EndsDown l type_rank group_rank S R (Tries s) r (suc (length s.entries) + w)
+      tries : {S R w : ℕ} {s : Sorting N} {r : Reply} → EndsDown l type_rank group_rank S R (next_entry s.entries s) r w → EndsDown l type_rank group_rank S R (Tries s) r (suc (length s.entries) + w)
 
 module _ {N G : Type 0} (l : Language N G) (type_rank : N → ℕ) (group_rank : G → ℕ) where
   mutual

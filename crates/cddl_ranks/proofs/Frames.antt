@@ -29,7 +29,7 @@ module _ {N G : Type 0} (l : Language N G) (type_rank : N → ℕ) (group_rank :
   goes_asked (before (replies d)) = within bottom d
   goes_asked (within w (after i (replies d) e)) = within (upon i w e) d
 
-  goes_tried : {s : Sorting N} {os : List (Pending N G)} → GoesDown os (Tries s) → GoesDown os (next_entry s.entries 0 s)
+  goes_tried : {s : Sorting N} {os : List (Pending N G)} → GoesDown os (Tries s) → GoesDown os (next_entry s.entries s)
   goes_tried (within w (tries e)) = within w e
 
   goes_answered : {s : Reply} {o : Pending N G} {os : List (Pending N G)} → GoesDown (o ∷ os) (Answered s) → GoesDown os (next_move o s)

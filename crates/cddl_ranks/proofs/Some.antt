@@ -37,10 +37,10 @@ module _ {N G : Type 0} (l : Language N G) (type_rank : N → ℕ) (group_rank :
     weight : ℕ
     chooses : Chooses l ms p x far answer weight
 
-  record BelongsSome (es : List (MapEntry N)) (i q : ℕ) (k x : Value) : Type 0 where
+  record BelongsSome (es : List (MapEntry N)) (q : ℕ) (k x : Value) : Type 0 where
     fate : Fate
     weight : ℕ
-    belongs : Belongs l es i q k x fate weight
+    belongs : Belongs l es q k x fate weight
 
   record SortsSome (es : List (MapEntry N)) (q : ℕ) (ps : Pairs) : Type 0 where
     fates : List Fate
@@ -94,17 +94,17 @@ module _ {N G : Type 0} (l : Language N G) (type_rank : N → ℕ) (group_rank :
   simple_next m p n x Yes w e d = record { answer = Yes; weight = suc w; says = simple_such e d }
   simple_next m p n x (No far) w e d = record { answer = No p; weight = suc w; says = other_simple e d }
 
-  cut_next : (e : MapEntry N) (es : List (MapEntry N)) (i q : ℕ) (k x : Value) (far v w : ℕ) (c : Bool) → e.cuts ≡ c → Says l (l.type_at e.key_type) q k Yes v → Says l (l.type_at e.value_type) (q + place_count k) x (No far) w → BelongsSome es (suc i) q k x → BelongsSome (e ∷ es) i q k x
-  cut_next e es i q k x far v w true c d b others = record { fate = BelongsTo i (No far); weight = v + w; belongs = cut_here c d b }
-  cut_next e es i q k x far v w false c d b others = record { fate = others.fate; weight = v + (w + others.weight); belongs = handed_on c d b others.belongs }
+  cut_next : (e : MapEntry N) (es : List (MapEntry N)) (q : ℕ) (k x : Value) (far v w : ℕ) (c : Bool) → e.cuts ≡ c → Says l (l.type_at e.key_type) q k Yes v → Says l (l.type_at e.value_type) (q + place_count k) x (No far) w → BelongsSome es q k x → BelongsSome (e ∷ es) q k x
+  cut_next e es q k x far v w true c d b others = record { fate = BelongsTo (length es) (No far); weight = v + w; belongs = cut_here c d b }
+  cut_next e es q k x far v w false c d b others = record { fate = others.fate; weight = v + (w + others.weight); belongs = handed_on c d b others.belongs }
 
-  value_next : (e : MapEntry N) (es : List (MapEntry N)) (i q : ℕ) (k x : Value) (v : ℕ) (a : Answer) (w : ℕ) → Says l (l.type_at e.key_type) q k Yes v → Says l (l.type_at e.value_type) (q + place_count k) x a w → BelongsSome es (suc i) q k x → BelongsSome (e ∷ es) i q k x
-  value_next e es i q k x v Yes w d b others = record { fate = BelongsTo i Yes; weight = v + w; belongs = here d b }
-  value_next e es i q k x v (No far) w d b others = cut_next e es i q k x far v w e.cuts refl d b others
+  value_next : (e : MapEntry N) (es : List (MapEntry N)) (q : ℕ) (k x : Value) (v : ℕ) (a : Answer) (w : ℕ) → Says l (l.type_at e.key_type) q k Yes v → Says l (l.type_at e.value_type) (q + place_count k) x a w → BelongsSome es q k x → BelongsSome (e ∷ es) q k x
+  value_next e es q k x v Yes w d b others = record { fate = BelongsTo (length es) Yes; weight = v + w; belongs = here d b }
+  value_next e es q k x v (No far) w d b others = cut_next e es q k x far v w e.cuts refl d b others
 
-  key_next : (e : MapEntry N) (es : List (MapEntry N)) (i q : ℕ) (k x : Value) (a : Answer) (v : ℕ) → Says l (l.type_at e.key_type) q k a v → SaysSome (l.type_at e.value_type) (q + place_count k) x → BelongsSome es (suc i) q k x → BelongsSome (e ∷ es) i q k x
-  key_next e es i q k x Yes v d b others = value_next e es i q k x v b.answer b.weight d b.says others
-  key_next e es i q k x (No far) v d b others = record { fate = others.fate; weight = v + others.weight; belongs = other_key d others.belongs }
+  key_next : (e : MapEntry N) (es : List (MapEntry N)) (q : ℕ) (k x : Value) (a : Answer) (v : ℕ) → Says l (l.type_at e.key_type) q k a v → SaysSome (l.type_at e.value_type) (q + place_count k) x → BelongsSome es q k x → BelongsSome (e ∷ es) q k x
+  key_next e es q k x Yes v d b others = value_next e es q k x v b.answer b.weight d b.says others
+  key_next e es q k x (No far) v d b others = record { fate = others.fate; weight = v + others.weight; belongs = other_key d others.belongs }
 
   plain_some : (t : Test) (p : ℕ) (x : Value) (c : Bool) → passes t x ≡ c → SaysSome (Plain t) p x
   plain_some t p x true e = record { answer = Yes; weight = 1; says = passed e }
@@ -158,16 +158,16 @@ module _ {N G : Type 0} (l : Language N G) (type_rank : N → ℕ) (group_rank :
     simple_some m p x h u None e = record { answer = No p; weight = 1; says = no_simple e }
     simple_some m p x h u (Some n) e = let d = types m p (uint n) (inr (omega (arith, h), u)) in simple_next m p n x d.answer d.weight e d.says
 
-    belongs_some : (es : List (MapEntry N)) (i q : ℕ) (k x : Value) → size k < S → size x < S → BelongsSome es i q k x
-    belongs_some [] i q k x h j = record { fate = Stray q; weight = 0; belongs = nowhere }
-    belongs_some (e ∷ es) i q k x h j =
+    belongs_some : (es : List (MapEntry N)) (q : ℕ) (k x : Value) → size k < S → size x < S → BelongsSome es q k x
+    belongs_some [] q k x h j = record { fate = Stray q; weight = 0; belongs = nowhere }
+    belongs_some (e ∷ es) q k x h j =
         let d = types e.key_type q k (inl h) in
-        key_next e es i q k x d.answer d.weight d.says (types e.value_type (q + place_count k) x (inl j)) (belongs_some es (suc i) q k x h j)
+        key_next e es q k x d.answer d.weight d.says (types e.value_type (q + place_count k) x (inl j)) (belongs_some es q k x h j)
 
     sorts_some : (es : List (MapEntry N)) (q : ℕ) (ps : Pairs) → pairs_size ps < S → SortsSome es q ps
     sorts_some es q no_pairs h = record { fates = []; weight = 0; sorts = all_sorted }
     sorts_some es q (pair k x ps) h =
-        let d = belongs_some es 0 q k x (omega (arith, h, key_less k x ps)) (omega (arith, h, value_less k x ps)) in
+        let d = belongs_some es q k x (omega (arith, h, key_less k x ps)) (omega (arith, h, value_less k x ps)) in
         let e = sorts_some es (q + place_count k + place_count x) ps (omega (arith, h)) in
         record { fates = d.fate ∷ e.fates; weight = suc (length es) + d.weight + e.weight; sorts = sort d.belongs e.sorts }
 

@@ -53,31 +53,31 @@ module _ {N G : Type 0} (l : Language N G) (type_rank : N → ℕ) (group_rank :
   -- The keys and values of an alternative are of a size below S.
   module _ (S R : ℕ) (types : TypesReply S R) where
     -- The value type has said no.
-    cut_next : (es : List (MapEntry N)) (i : ℕ) (s : Sorting N) (far : ℕ) (c : Bool) → ((f : Fate) → Ending S R (sorted s f) AnyReply) → Ending S R (next_entry es (suc i) s) AnyReply → Ending S R (after_value c es i s far) AnyReply
-    cut_next es i s far true known others = known (BelongsTo i (No far))
-    cut_next es i s far false known others = others
+    cut_next : (es : List (MapEntry N)) (s : Sorting N) (far : ℕ) (c : Bool) → ((f : Fate) → Ending S R (sorted s f) AnyReply) → Ending S R (next_entry es s) AnyReply → Ending S R (after_value c es s far) AnyReply
+    cut_next es s far true known others = known (BelongsTo (length es) (No far))
+    cut_next es s far false known others = others
 
-    value_next : (e : MapEntry N) (es : List (MapEntry N)) (i : ℕ) (s : Sorting N) (r : Reply) → ((f : Fate) → Ending S R (sorted s f) AnyReply) → Ending S R (next_entry es (suc i) s) AnyReply → Ending S R (next_move (InValue e es i s) r) AnyReply
-    value_next e es i s (Takes left b later) known others = known (BelongsTo i Yes)
-    value_next e es i s (Fails later) known others = cut_next es i s later e.cuts known others
+    value_next : (e : MapEntry N) (es : List (MapEntry N)) (s : Sorting N) (r : Reply) → ((f : Fate) → Ending S R (sorted s f) AnyReply) → Ending S R (next_entry es s) AnyReply → Ending S R (next_move (InValue e es s) r) AnyReply
+    value_next e es s (Takes left b later) known others = known (BelongsTo (length es) Yes)
+    value_next e es s (Fails later) known others = cut_next es s later e.cuts known others
 
-    key_next : (e : MapEntry N) (es : List (MapEntry N)) (i : ℕ) (s : Sorting N) (r : Reply) → size s.held < S → ((f : Fate) → Ending S R (sorted s f) AnyReply) → Ending S R (next_entry es (suc i) s) AnyReply → Ending S R (next_move (InKey e es i s) r) AnyReply
-    key_next e es i s (Takes left b later) h known others =
+    key_next : (e : MapEntry N) (es : List (MapEntry N)) (s : Sorting N) (r : Reply) → size s.held < S → ((f : Fate) → Ending S R (sorted s f) AnyReply) → Ending S R (next_entry es s) AnyReply → Ending S R (next_move (InKey e es s) r) AnyReply
+    key_next e es s (Takes left b later) h known others =
         let d = types e.value_type s.value_place s.held (inl h) in
-        then (inl h) d.replies_down (value_next e es i s d.reply known others)
-    key_next e es i s (Fails later) h known others = others
+        then (inl h) d.replies_down (value_next e es s d.reply known others)
+    key_next e es s (Fails later) h known others = others
 
-    entries_total : (es : List (MapEntry N)) (i : ℕ) (s : Sorting N) → size s.key < S → size s.held < S → ((f : Fate) → Ending S R (sorted s f) AnyReply) → Ending S R (next_entry es i s) AnyReply
-    entries_total [] i s h k known = known (Stray s.key_place)
-    entries_total (e ∷ es) i s h k known =
+    entries_total : (es : List (MapEntry N)) (s : Sorting N) → size s.key < S → size s.held < S → ((f : Fate) → Ending S R (sorted s f) AnyReply) → Ending S R (next_entry es s) AnyReply
+    entries_total [] s h k known = known (Stray s.key_place)
+    entries_total (e ∷ es) s h k known =
         let d = types e.key_type s.key_place s.key (inl h) in
-        then (inl h) d.replies_down (key_next e es i s d.reply k known (entries_total es (suc i) s h k known))
+        then (inl h) d.replies_down (key_next e es s d.reply k known (entries_total es s h k known))
 
     pairs_total : (es : List (MapEntry N)) (base q : ℕ) (ps : Pairs) (t : Tally) → pairs_size ps ≤ S → Ending S R (next_pair es base q ps t) AnyReply
     pairs_total es base q no_pairs t h = at_end (answer_reply q (tally_says es base t)) AnyReply tt
     pairs_total es base q (pair k x ps) t h =
         let s : Sorting N = record { entries = es; base = base; key_place = q; key = k; value_place = plus q (place_count k); held = x; next_place = plus (plus q (place_count k)) (place_count x); rest = ps; tally = t } in
-        let d = entries_total es 0 s (omega (arith, h, key_less k x ps)) (omega (arith, h, value_less k x ps)) (λ f. pairs_total es base s.next_place ps (tallied t f) (omega (arith, h))) in
+        let d = entries_total es s (omega (arith, h, key_less k x ps)) (omega (arith, h, value_less k x ps)) (λ f. pairs_total es base s.next_place ps (tallied t f) (omega (arith, h))) in
         record { reply = d.reply; weight = suc (length es) + d.weight; ends = tries d.ends; good = tt }
 
   alternative_total : (es : List (MapEntry N)) (base : ℕ) (ps : Pairs) → TypesReply (pairs_size ps) 0 → Replied (OfAlternative es base ps) AnyReply

@@ -12,7 +12,7 @@ pub data IsReached {N G : Type 0} (l : Language N G) (first : Question N G) : Li
   -- a question is asked: it is open now
   asked : {q : Question N G} {o : Pending N G} {os : List (Pending N G)} → IsReached l first os (Asks q o) → IsReached l first (o ∷ os) (first_move l q)
   -- a pair is tried with the entries of its alternative
-  tried : {s : Sorting N} {os : List (Pending N G)} → IsReached l first os (Tries s) → IsReached l first os (next_entry s.entries 0 s)
+  tried : {s : Sorting N} {os : List (Pending N G)} → IsReached l first os (Tries s) → IsReached l first os (next_entry s.entries s)
   -- the last open question has its reply, and the one that asked it goes on
   answered : {s : Reply} {o : Pending N G} {os : List (Pending N G)} → IsReached l first (o ∷ os) (Answered s) → IsReached l first os (next_move o s)
 
