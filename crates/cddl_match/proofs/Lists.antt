@@ -1,14 +1,20 @@
 -- The members of an array, as a list and back.
-use Rattle.std.proofs.Common.{◌≡◌, List, [], ◌∷◌, Some, refl, ap, ◌∙◌}
+use Rattle.std.proofs.Common.{◌≡◌, ℕ, zero, suc, ◌+◌, ◌<◌, ◌≤◌, length, replicate, slice_index_or, slice_set, List, [], ◌∷◌, Some, true, false, nat_eq, refl, ap, ◌∙◌, arith}
+use Rattle.std.proofs.lemmas.Bool.Decides.{nat_tests}
 use Rattle.cbor_data.specs.Value.{Value, array, values_of}
-use Rattle.cbor_item.specs.View.{view}
+use Rattle.cbor_item.specs.View.{pairs_view, view}
 use Rattle.cbor_item.specs.declared.item.Item.{Item}
-use Rattle.cbor_item.specs.declared.item.Item.TheVariants.{Array}
-use Rattle.cbor_item.proofs.Lemmas.{view-Array}
+use Rattle.cbor_item.specs.declared.item.Item.TheVariants.{Array, Map}
+use Rattle.cbor_item.proofs.Lemmas.{view-Array, view-Map}
 use Rattle.std.specs.declared.vec.Vec.{Vec}
 use Rattle.std.specs.declared.alloc.Global.{Global}
 use Rattle.cddl_match.specs.Views.{values}
-use Rattle.cddl_meaning.specs.Forms.{list_of, members_in}
+use Rattle.cddl_meaning.specs.Forms.{list_of, members_in, pairs_in}
+use Rattle.cddl_meaning.specs.Forms as F
+use Rattle.cddl_meaning.specs.Moves.{plus, counted, enough_of, no_counts}
+use Rattle.cddl_table.specs.declared.nodes.TypeId.{TypeId}
+use Rattle.cddl_table.specs.Nodes.{entries_view}
+use Rattle.cddl_table.specs.declared.nodes.MapEntry.{MapEntry}
 
 pub list_of_values : (xs : List Value) → list_of (values_of xs) ≡ xs
 list_of_values [] = refl
@@ -19,3 +25,38 @@ members_of_values xs = ap Some (list_of_values xs)
 
 pub members_of_array : (v : Vec Item Global) → members_in (view (Array v)) ≡ Some (values v.items)
 members_of_array v = ap members_in (view-Array v) ∙ members_of_values (values v.items)
+
+pub pairs_of_map : (v : Vec (Item × Item) Global) → pairs_in (view (Map v)) ≡ Some (pairs_view v.items)
+pairs_of_map v = ap pairs_in (view-Map v)
+
+-- counts of pairs
+
+pub counted_none : (m : ℕ) (ns : List ℕ) → length ns ≤ m → ns ≡ counted m ns
+counted_none m [] h = refl
+counted_none m (n ∷ ns) h = rw (other m (length ns) (omega (arith, h))) (ap (λ ms. n ∷ ms) (counted_none m ns (omega (arith, h))))
+  where
+    other : (m k : ℕ) → k < m → nat_eq m k ≡ false
+    other m k h = grind (arith, nat_tests)
+
+pub counted_written : (ns : List ℕ) (k m v : ℕ) → k + suc m ≡ length ns → v ≡ slice_index_or ns k v → slice_set ns k (plus v 1) ≡ counted m ns
+counted_written [] k m v h e = absurd (omega (arith, h))
+counted_written (n ∷ ns) zero m v h e = rw (same m (length ns) (omega (arith, h)), e) refl
+  where
+    same : (m k : ℕ) → m ≡ k → nat_eq m k ≡ true
+    same m k h = grind (arith, nat_tests)
+counted_written (n ∷ ns) (suc k) m v h e = rw (other m (length ns) (omega (arith, h))) (ap (λ ms. n ∷ ms) (counted_written ns k m v (omega (arith, h)) e))
+  where
+    other : (m k : ℕ) → m < k → nat_eq m k ≡ false
+    other m k h = grind (arith, nat_tests)
+
+pub none_counted : (es : List MapEntry) → replicate (length es) 0 ≡ no_counts (entries_view es)
+none_counted [] = refl
+none_counted (e ∷ es) = ap (λ ns. 0 ∷ ns) (none_counted es)
+
+pub as_many_entries : (es : List MapEntry) → length (entries_view es) ≡ length es
+as_many_entries [] = refl
+as_many_entries (e ∷ es) = ap suc (as_many_entries es)
+
+pub enough_of_none : (es : List (F.MapEntry TypeId)) (ns : List ℕ) → ns ≡ [] → true ≡ enough_of es ns
+enough_of_none [] ns e = refl
+enough_of_none (x ∷ es) ns e = rw e refl

@@ -1,10 +1,10 @@
 -- What replies look like: no failure shows before the item or the array that was asked about, and a type's yes tells no more
 -- than the place after the item.
-use Rattle.std.proofs.Common.{ℕ, zero, suc, ◌+◌, ◌-◌, ◌≤◌, ◌<◌, ◌^◌, length, List, [], ◌∷◌, Option, Some, None, Bool, true, false, nat_eq, max, arith}
+use Rattle.std.proofs.Common.{ℕ, zero, suc, ◌-◌, ◌≤◌, ◌<◌, ◌^◌, length, List, [], ◌∷◌, Option, Some, None, Bool, true, false, nat_eq, max, arith}
 use Rattle.cbor_data.specs.Value.{Value, Pairs, no_pairs, pair, place_count}
 use Rattle.cddl_meaning.specs.Forms.{members_in, pairs_in, tag_in, simple_in, passes, TagNumber, any_number, exactly, such_as, MapEntry, Node, Plain, Ref, Choice, ArrayOf, TagOf, SimpleBy, MapOf, Most, Group, Entry, GroupRef, Sequence, Alternatives, Repeat, Language}
 use Rattle.cddl_meaning.specs.Judges.{Answer, Yes, No, Reply, Takes, Fails, is_over, one_less, Fate, BelongsTo, Stray, by_counts, shown_by}
-use Rattle.cddl_meaning.specs.Moves.{Question, OfType, OfGroup, OfAlternative, Tally, tallied, fresh, first_of, enough_of, tally_says, answer_reply, either_reply, Sorting, Answered, Replies, replies, LeadsTo, at_once, after, tries, plus, test_reply, next_way, map_move, next_pair, sorted, next_entry, after_value, next_member, next_part, next_alternative, next_round, repetition, after_round, end_of_rounds, array_move, content_move, tag_move, simple_move, type_move, entry_move, group_move}
+use Rattle.cddl_meaning.specs.Moves.{Question, OfType, OfGroup, Tally, tallied, fresh, first_of, enough_of, tally_says, answer_reply, either_reply, Sorting, Answered, Replies, replies, LeadsTo, at_once, after, tries, plus, test_reply, next_way, map_move, next_pair, sorted, next_entry, after_value, next_member, next_part, next_alternative, next_round, repetition, after_round, end_of_rounds, array_move, content_move, tag_move, simple_move, type_move, entry_move, group_move}
 
 -- the greatest place that failed
 abbrev pub far_of : Reply → ℕ

@@ -166,12 +166,15 @@ module _ {N G : Type 0} (l : Language N G) where
   a_part g gs base q xs far {n = n} {s = s} a e =
       subst (λ m. ComesTo l (next_part (g ∷ gs) base q xs far) m n) (sym e) (answers (InSequence gs base far) a)
 
-  -- a pair is tried with the entries of its alternative
-  pub a_pair : (s : M.Sorting N) → ComesTo l (M.Tries s) (M.next_entry s.entries s) (suc (length s.entries))
-  a_pair s = record { leads = λ r w d. M.tries d; comes = λ r w d. by d }
+  tries_on : (s : M.Sorting N) → ComesTo l (M.Tries s) (M.next_entry s.entries s) (suc (length s.entries))
+  tries_on s = record { leads = λ r w d. M.tries d; comes = λ r w d. by d }
     where
       by : {r : Reply} {w : ℕ} → LeadsTo l (M.Tries s) r w → (v : ℕ) × LeadsTo l (M.next_entry s.entries s) r v × (w ≡ suc (length s.entries) + v)
       by (M.tries {w = v} d) = (v, d, refl)
 
+  -- a pair is tried with the entries of its alternative
+  pub a_pair : (s : M.Sorting N) {m : Move N G} {k : ℕ} → m ≡ M.next_entry s.entries s → k ≡ suc (length s.entries) → ComesTo l (M.Tries s) m k
+  a_pair s e i = rw (e, i) (tries_on s)
+
   pub more_than : (s : M.Sorting N) (k : ℕ) → k ≤ length s.entries → (r : Reply) (w : ℕ) → LeadsTo l (M.Tries s) r w → k < w
-  more_than s k h r w d = let x = (a_pair s).comes r w d in omega (arith, x.2, h)
+  more_than s k h r w d = let x = (tries_on s).comes r w d in omega (arith, x.2, h)

@@ -273,7 +273,8 @@ pub(crate) fn move_ahead<'t, 'i>(table: &'t Table, next: Move<'t, 'i>, steps: u6
 /// What a pair of a map comes to: the question of the first entry. A pair takes a step, and one more for each entry of its
 /// alternative. None where there are not so many.
 pub(crate) fn pair_ahead<'t, 'i>(sorting: Sorting<'t, 'i>, steps: u64) -> Option<Ahead<'t, 'i>>
-    ensures comes { (l : Language TypeId GroupId) → IfSome result (λ it. ComesTo l (M.Tries (sorting_view sorting.entry)) (move_view it.next) it.asked × (1 ≤ it.asked) × (it.asked ≤ steps)) }
+    ensures comes { (l : Language TypeId GroupId) → IfSome result (λ it. ComesTo l (M.Tries (sorting_view sorting.entry)) (move_view it.next) it.asked) }
+    ensures within { IfSome result (λ it. (1 ≤ it.asked) × (it.asked ≤ steps)) }
     ensures spent { (l : Language TypeId GroupId) → IfNone result ((r : J.Reply) (w : ℕ) → M.LeadsTo l (M.Tries (sorting_view sorting.entry)) r w → steps < w) }
 {
     let entries = sorting.entries;

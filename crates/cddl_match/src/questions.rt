@@ -67,7 +67,9 @@ pub(crate) struct Tally {
 #[derive(Clone, Copy)]
 pub(crate) enum Fate {
     /// It belongs to this entry, and its value is as the entry says.
-    Matches { after: usize },
+    Matches {
+        after: usize,
+    },
     /// It belongs to this entry, and its value is not as the entry says.
     Fails {
         after: usize,
@@ -75,7 +77,9 @@ pub(crate) enum Fate {
         far: usize,
     },
     /// Its key, at this place, belongs to no entry.
-    Stray { place: usize },
+    Stray {
+        place: usize,
+    },
 }
 
 /// A pair that is sorted to the entries of an alternative.

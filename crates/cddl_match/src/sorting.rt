@@ -74,12 +74,8 @@ fn tally_pair(tally: &mut Tally, fate: Fate)
 fn empty_tally(alloc: Global, entries: &[MapEntry]) -> Result<Tally, AllocError>
     ensures { IfOk result (λ tally. tally_view tally ≡ fresh (entries_view entries.now)) }
 {
-    let mut counts = Vec::new(alloc);
-    for _ in entries {
-        counts.push(0)?;
-    }
     Ok(Tally {
-        counts,
+        counts: vec![in alloc; 0; entries.len()]?,
         stray: None,
         failing: None,
     })
@@ -99,10 +95,16 @@ fn is_up_to(count: u64, most: Most) -> bool
 fn are_enough(entries: &[MapEntry], counts: &[u64]) -> bool
     ensures { result ≡ enough_of (entries_view entries.now) counts.now }
 {
-    for (entry, count) in entries.iter().zip(counts) {
-        if *count < entry.least || !is_up_to(*count, entry.most) {
+    let mut left = counts;
+    for entry in entries {
+        let (count, rest) = match left.split_first() {
+            Some((count, rest)) => (*count, rest),
+            None => return true,
+        };
+        if count < entry.least || !is_up_to(count, entry.most) {
             return false;
         }
+        left = rest;
     }
     true
 }
@@ -191,10 +193,7 @@ fn sorted<'t, 'i>(sorting: Sorting<'t, 'i>, fate: Fate) -> Move<'t, 'i>
 }
 
 /// The pair is tried with the next of these entries.
-pub(crate) fn next_entry<'t, 'i>(
-    entries: &'t [MapEntry],
-    sorting: Sorting<'t, 'i>,
-) -> Move<'t, 'i>
+pub(crate) fn next_entry<'t, 'i>(entries: &'t [MapEntry], sorting: Sorting<'t, 'i>) -> Move<'t, 'i>
     ensures { move_view result ≡ next_entry (entries_view entries.now) (sorting_view sorting.entry) }
 {
     let place = sorting.place;
@@ -286,6 +285,7 @@ fn next_way<'t, 'i>(
 }
 
 /// A map asks its alternatives, all of them.
+#[tactic(auto, using(crate::proofs::Lists::pairs_of_map))]
 pub(crate) fn map_move<'t, 'i>(
     alternatives: &'t [Vec<MapEntry>],
     place: usize,

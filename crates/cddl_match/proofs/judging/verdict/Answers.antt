@@ -3,6 +3,8 @@ use Rattle.cddl_table.specs.Language.{language_of, root_of}
 use Rattle.cddl_meaning.specs.Moves.{OfType}
 use Rattle.cddl_meaning.proofs.Lemmas.{said}
 use Rattle.cddl_match.proofs.Turns.{begun, asked, answered, finished, gone_on, heavier, over, in_steps, stack_push, none_left}
+use Rattle.cddl_match.specs.Views.{goes_on}
+use Rattle.cddl_match.proofs.Rounds.{few_turns}
 use Rattle.cddl_match.proofs.Decides.{decides}
 use Rattle.cddl_match.proofs.Verdicts.{said_yes, said_no}
 use Rattle.cddl_match.proofs.Room.{room}
@@ -17,7 +19,7 @@ loop-next-init c = record {
 pub returns-then-left-asked-clause-spent : goal.returns-then-left-asked-clause-spent
 returns-then-left-asked-clause-spent c = λ e a w d.
     let i = rw c.in-Asks.is at c.loop-next.invariant.leads in
-    let h = heavier (language_of c.args.table.now) c.look_ahead-asked.ensures.0 i _ w (said (language_of c.args.table.now) (room c.args.item.now c.item.ensures.sound) d) in
+    let h = heavier (language_of c.args.table.now) c.in_ok-first-in-Asks.ensures.0 i _ w (said (language_of c.args.table.now) (room c.args.item.now c.item.ensures.sound) d) in
     omega (arith, h, c.if-left-asked.true, c.loop-next.invariant.within)
 
 pub loop-next-preserved-in-Asks : goal.loop-next-preserved-in-Asks
@@ -25,7 +27,7 @@ loop-next-preserved-in-Asks c =
     let i = rw c.in-Asks.is at c.loop-next.invariant.leads in
     record {
       within = omega (arith, c.loop-next.invariant.within);
-      leads = in_steps (omega (arith, c.loop-next.invariant.within, c.if-left-asked.false)) (c.in_ok-next-in-Asks.ensures.leads (language_of c.args.table.now) _ _ (asked (language_of c.args.table.now) c.look_ahead-asked.ensures.0 i));
+      leads = in_steps (omega (arith, c.loop-next.invariant.within, c.if-left-asked.false)) (c.in_ok-next-in-Asks.ensures.leads (language_of c.args.table.now) _ _ (asked (language_of c.args.table.now) c.in_ok-first-in-Asks.ensures.0 i));
     }
 
 pub loop-next-preserved-in-Some : goal.loop-next-preserved-in-Some
@@ -36,16 +38,33 @@ loop-next-preserved-in-Some c =
       leads = rw c.next_move-next.ensures (answered (language_of c.args.table.now) i);
     }
 
-pub returns-in-None-in-Tries-clause-spent : goal.returns-in-None-in-Tries-clause-spent
-returns-in-None-in-Tries-clause-spent c = λ e a w d.
+pub returns-in-None-pair_ahead-clause-spent : goal.returns-in-None-pair_ahead-clause-spent
+returns-in-None-pair_ahead-clause-spent c = λ e a w d.
     let i = rw c.in-Tries.is at c.loop-next.invariant.leads in
-    let h = over (language_of c.args.table.now) (c.in-None-2.ensures.spent (language_of c.args.table.now)) i _ w (said (language_of c.args.table.now) (room c.args.item.now c.item.ensures.sound) d) in
+    let h = over (language_of c.args.table.now) (c.in-None-pair_ahead.ensures.spent (language_of c.args.table.now)) i _ w (said (language_of c.args.table.now) (room c.args.item.now c.item.ensures.sound) d) in
     omega (arith, h, c.loop-next.invariant.within)
+
+pub loop-next-preserved-in-Some-pair_ahead : goal.loop-next-preserved-in-Some-pair_ahead
+loop-next-preserved-in-Some-pair_ahead c =
+    let i = rw c.in-Tries.is at c.loop-next.invariant.leads in
+    record {
+      within = omega (arith, c.loop-next.invariant.within);
+      leads = in_steps (omega (arith, c.loop-next.invariant.within, c.in-Some-pair_ahead.ensures.within)) (gone_on (language_of c.args.table.now) (c.in-Some-pair_ahead.ensures.comes (language_of c.args.table.now)) i);
+    }
+
+pub loop-next-smaller-in-Some-pair_ahead : goal.loop-next-smaller-in-Some-pair_ahead
+loop-next-smaller-in-Some-pair_ahead c = omega (arith, c.in-Some-pair_ahead.ensures.within, few_turns (goes_on c.in-Some-pair_ahead.field-0.next))
+
+pub returns-in-None-pair_ahead-clause-decided : goal.returns-in-None-pair_ahead-clause-decided
+returns-in-None-pair_ahead-clause-decided c = decides c.args.table.now c.args.item.now (room c.args.item.now c.item.ensures.sound)
+
+pub returns-in_err-first-in-Asks-clause-decided : goal.returns-in_err-first-in-Asks-clause-decided
+returns-in_err-first-in-Asks-clause-decided c = decides c.args.table.now c.args.item.now (room c.args.item.now c.item.ensures.sound)
 
 pub loop-next-preserved : goal.loop-next-preserved
 loop-next-preserved c = record {
   within = omega (arith, c.loop-next.invariant.within);
-  leads = in_steps (omega (arith, c.loop-next.invariant.within, c.move_ahead-asked.ensures.within)) (gone_on (language_of c.args.table.now) c.move_ahead-asked.ensures.comes c.loop-next.invariant.leads);
+  leads = in_steps (omega (arith, c.loop-next.invariant.within, c.move_ahead-first.ensures.within)) (gone_on (language_of c.args.table.now) c.move_ahead-first.ensures.comes c.loop-next.invariant.leads);
 }
 
 pub returns-in-None-clause-yes : goal.returns-in-None-clause-yes

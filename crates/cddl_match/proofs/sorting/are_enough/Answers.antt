@@ -1,0 +1,8 @@
+use Rattle.std.proofs.Common.{sym, ◌∙◌, drop}
+use Rattle.cddl_table.specs.Nodes.{entries_view}
+use Rattle.cddl_match.proofs.Lists.{enough_of_none}
+use Rattle.cddl_match.proofs.Turns.{none_left}
+use Rattle.cddl_match.proofs.sorting.are_enough.Goals as goal
+
+pub returns-in-None : goal.returns-in-None
+returns-in-None c = enough_of_none (entries_view (drop c.loop-entry.entry-index c.args.entries.now)) c.loop-entry.left.now (none_left _ c.in-None.ensures.cases) ∙ sym c.loop-entry.invariant
