@@ -1,5 +1,5 @@
 -- The members of an array, as a list and back.
-use Rattle.std.proofs.Common.{◌≡◌, ℕ, zero, suc, ◌+◌, ◌<◌, ◌≤◌, length, replicate, slice_index_or, slice_set, List, [], ◌∷◌, Some, true, false, nat_eq, refl, ap, ◌∙◌, arith}
+use Rattle.std.proofs.Common.{◌≡◌, ℕ, zero, suc, ◌+◌, ◌<◌, ◌≤◌, length, replicate, slice_index_or, slice_set, List, [], ◌∷◌, Option, Some, None, true, false, nat_eq, refl, ap, ◌∙◌, arith}
 use Rattle.std.proofs.lemmas.Bool.Decides.{nat_tests}
 use Rattle.cbor_data.specs.Value.{Value, array, values_of}
 use Rattle.cbor_item.specs.View.{pairs_view, view}
@@ -8,9 +8,11 @@ use Rattle.cbor_item.specs.declared.item.Item.TheVariants.{Array, Map}
 use Rattle.cbor_item.proofs.Lemmas.{view-Array, view-Map}
 use Rattle.std.specs.declared.vec.Vec.{Vec}
 use Rattle.std.specs.declared.alloc.Global.{Global}
-use Rattle.cddl_match.specs.Views.{values}
+use Rattle.cddl_match.specs.Views.{fated, values}
+use Rattle.cddl_match.specs.declared.questions.Fate.{Fate}
 use Rattle.cddl_meaning.specs.Forms.{list_of, members_in, pairs_in}
 use Rattle.cddl_meaning.specs.Forms as F
+use Rattle.cddl_meaning.specs.Moves as M
 use Rattle.cddl_meaning.specs.Moves.{plus, counted, enough_of, no_counts}
 use Rattle.cddl_table.specs.declared.nodes.TypeId.{TypeId}
 use Rattle.cddl_table.specs.Nodes.{entries_view}
@@ -60,3 +62,7 @@ as_many_entries (e ∷ es) = ap suc (as_many_entries es)
 pub enough_of_none : (es : List (F.MapEntry TypeId)) (ns : List ℕ) → ns ≡ [] → true ≡ enough_of es ns
 enough_of_none [] ns e = refl
 enough_of_none (x ∷ es) ns e = rw e refl
+
+pub handed_on : (s : M.Sorting TypeId) (es : List (F.MapEntry TypeId)) (o : Option Fate) → ((f : Fate) → o ≡ Some f → ⊥) → fated s es o ≡ M.next_entry es s
+handed_on s es None h = refl
+handed_on s es (Some f) h = absurd (h f refl)

@@ -1,8 +1,9 @@
 -- What the code's questions, replies and frames stand for.
-use Rattle.std.specs.Prelude.{ℕ, List, map, Bool, true, false}
+use Rattle.std.specs.Prelude.{ℕ, List, map, Option, Some, None, Bool, true, false}
 use Rattle.cbor_data.specs.Value.{Value, uint, place_count}
 use Rattle.cbor_item.specs.View.{pairs_view, view}
 use Rattle.cbor_item.specs.declared.item.Item.{Item}
+use Rattle.cddl_meaning.specs.Forms as F
 use Rattle.cddl_meaning.specs.Judges as J
 use Rattle.cddl_meaning.specs.Moves as M
 use Rattle.cddl_table.specs.declared.nodes.TypeId.{TypeId}
@@ -57,6 +58,11 @@ sorting_view s = record {
   rest = pairs_view s.rest.now;
   tally = tally_view s.tally.value;
 }
+
+-- What an entry with these entries after it leads to: it hands the pair on to them, or it is known what becomes of the pair.
+abbrev pub fated : M.Sorting TypeId → List (F.MapEntry TypeId) → Option Fate → M.Move TypeId GroupId
+fated s es None = M.next_entry es s
+fated s es (Some f) = M.sorted s (fate_view f)
 
 -- a question, a reply, what waits, and a move, each as the definitions have it
 abbrev pub question_view : Question → M.Question TypeId GroupId

@@ -15,8 +15,9 @@ ghost use Rattle.cddl_table.specs.declared.nodes.GroupId.{GroupId};
 ghost use Rattle.cddl_table.specs.declared.nodes.TypeId.{TypeId};
 
 use crate::answers::Verdict;
-use crate::looking::{Ahead, look_ahead, move_ahead, pair_ahead};
+use crate::looking::{Ahead, look_ahead, move_ahead};
 use crate::moves::next_move;
+use crate::pairs::pairs_ahead;
 use crate::questions::{Move, Pending, Question, Reply, Subject};
 use cbor_item::{Item, Sound};
 use cddl_table::{Table, TypeId};
@@ -62,8 +63,8 @@ pub fn verdict(
                 None => return Ok(verdict_of(reply)),
                 Some(pending) => next = next_move(pending, reply),
             },
-            Move::Tries(sorting) => match pair_ahead(sorting, left) {
-                // The pair takes more.
+            Move::Tries(sorting) => match pairs_ahead(table, sorting, left) {
+                // The pairs take more.
                 None => return Ok(Verdict::Spent),
                 Some(Ahead { next: first, asked }) => {
                     left -= asked;

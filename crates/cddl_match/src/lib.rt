@@ -7,6 +7,7 @@ mod judging;
 mod laws;
 mod looking;
 mod moves;
+mod pairs;
 mod places;
 mod questions;
 mod sorting;

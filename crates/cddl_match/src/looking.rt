@@ -1,15 +1,12 @@
 //! What questions come to at once: more than one of them is taken in a step where tests alone tell what is said.
 
-ghost use Rattle.std.specs.Prelude.{◌≡◌, ◌≤◌, false, ℕ, ◌<◌, IfNone, IfOk, IfSome};
-ghost use Rattle.cddl_meaning.specs.Forms.{Language};
-ghost use Rattle.cddl_meaning.specs.Judges as J;
+ghost use Rattle.std.specs.Prelude.{◌≡◌, ◌≤◌, false, IfOk, IfSome};
 ghost use Rattle.cddl_meaning.specs.Moves as M;
 ghost use Rattle.cddl_match.specs.Ahead.{ComesTo, IsEntered, Opens};
-ghost use Rattle.cddl_match.specs.Views.{goes_on, move_view, parts_move, question_view, reply_view, rounds_move, sorting_view, subject_view, values};
+ghost use Rattle.cddl_match.specs.Views.{goes_on, move_view, parts_move, question_view, reply_view, rounds_move, subject_view, values};
 ghost use Rattle.cddl_table.specs.Language.{language_of};
 ghost use Rattle.cddl_table.specs.Nodes.{type_view};
 ghost use Rattle.cddl_table.specs.declared.nodes.GroupId.{GroupId};
-ghost use Rattle.cddl_table.specs.declared.nodes.TypeId.{TypeId};
 ghost use Rattle.cddl_match.specs.declared.questions.Rounds.{Rounds};
 
 use crate::behind::{group_behind, type_behind};
@@ -17,15 +14,12 @@ use crate::moves::{
     another_part, another_round, entry_reply, first_of_group, first_of_type, is_over,
     next_in_repeat, next_in_sequence, said_reply,
 };
-use crate::questions::{Move, Parts, Question, Reply, Rounds, Sorting, Subject};
-use crate::sorting::{alternative_move, next_entry};
-use crate::telling::form_tells;
+use crate::questions::{Move, Parts, Question, Reply, Rounds, Subject};
+use crate::sorting::alternative_move;
+use crate::telling::{DEEPEST, form_tells};
 use cbor_item::Item;
 use cddl_table::{Group, GroupId, Node, Table, TypeId};
 use std::alloc::{AllocError, Global};
-
-/// Choices in choices are looked into so deep.
-const DEEPEST: u8 = 3;
 
 /// A move that something comes to, and how many questions are asked until then.
 #[derive(Drop)]
@@ -268,22 +262,4 @@ pub(crate) fn move_ahead<'t, 'i>(table: &'t Table, next: Move<'t, 'i>, steps: u6
         Move::GoesOn(parts) => parts_ahead(table, parts, steps),
         Move::Answered(_) | Move::Asks(..) | Move::Tries(_) => Ahead { next, asked: 0 },
     }
-}
-
-/// What a pair of a map comes to: the question of the first entry. A pair takes a step, and one more for each entry of its
-/// alternative. None where there are not so many.
-pub(crate) fn pair_ahead<'t, 'i>(sorting: Sorting<'t, 'i>, steps: u64) -> Option<Ahead<'t, 'i>>
-    ensures comes { (l : Language TypeId GroupId) → IfSome result (λ it. ComesTo l (M.Tries (sorting_view sorting.entry)) (move_view it.next) it.asked) }
-    ensures within { IfSome result (λ it. (1 ≤ it.asked) × (it.asked ≤ steps)) }
-    ensures spent { (l : Language TypeId GroupId) → IfNone result ((r : J.Reply) (w : ℕ) → M.LeadsTo l (M.Tries (sorting_view sorting.entry)) r w → steps < w) }
-{
-    let entries = sorting.entries;
-    let asked = (entries.len() as u64).checked_add(1)?;
-    if steps < asked {
-        return None;
-    }
-    Some(Ahead {
-        next: next_entry(entries, sorting),
-        asked,
-    })
 }

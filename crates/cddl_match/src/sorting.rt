@@ -170,14 +170,14 @@ pub(crate) fn alternative_move<'t, 'i>(
 }
 
 /// The place of the pair's value.
-fn value_place(sorting: &Sorting<'_, '_>) -> usize
+pub(crate) fn value_place(sorting: &Sorting<'_, '_>) -> usize
     ensures { result ≡ (sorting_view sorting.now).value_place }
 {
     place_after(&sorting.pair.0, sorting.place)
 }
 
 /// It is known what becomes of the pair, and the next one is sorted.
-fn sorted<'t, 'i>(sorting: Sorting<'t, 'i>, fate: Fate) -> Move<'t, 'i>
+pub(crate) fn sorted<'t, 'i>(sorting: Sorting<'t, 'i>, fate: Fate) -> Move<'t, 'i>
     ensures { move_view result ≡ sorted (sorting_view sorting.entry) (fate_view fate) }
 {
     let place = place_after(&sorting.pair.1, value_place(&sorting));

@@ -11,8 +11,11 @@ use crate::moves::passes_test;
 use crate::questions::Subject;
 use cddl_table::{Node, Table, TypeId};
 
+/// Choices in choices are looked into so deep, so that few tests are made in vain where something else is in them.
+pub(crate) const DEEPEST: u8 = 3;
+
 /// Whether a type of this form says yes, and how many questions that takes after the first, if not over `most`. Choices are
-/// looked into as deep as this, so that few tests are made in vain where something else is in them.
+/// looked into as deep as this.
 #[cycle(telling)]
 pub(crate) fn form_tells(
     table: &Table,
@@ -54,7 +57,7 @@ fn one_tells(
 
 /// Whether a type says yes, and how many questions that takes, if not over `most`.
 #[cycle(telling)]
-fn type_tells(
+pub(crate) fn type_tells(
     table: &Table,
     node: TypeId,
     subject: Subject<'_>,

@@ -38,25 +38,25 @@ loop-next-preserved-in-Some c =
       leads = rw c.next_move-next.ensures (answered (language_of c.args.table.now) i);
     }
 
-pub returns-in-None-pair_ahead-clause-spent : goal.returns-in-None-pair_ahead-clause-spent
-returns-in-None-pair_ahead-clause-spent c = λ e a w d.
+pub returns-in-None-pairs_ahead-clause-spent : goal.returns-in-None-pairs_ahead-clause-spent
+returns-in-None-pairs_ahead-clause-spent c = λ e a w d.
     let i = rw c.in-Tries.is at c.loop-next.invariant.leads in
-    let h = over (language_of c.args.table.now) (c.in-None-pair_ahead.ensures.spent (language_of c.args.table.now)) i _ w (said (language_of c.args.table.now) (room c.args.item.now c.item.ensures.sound) d) in
+    let h = over (language_of c.args.table.now) c.in-None-pairs_ahead.ensures.spent i _ w (said (language_of c.args.table.now) (room c.args.item.now c.item.ensures.sound) d) in
     omega (arith, h, c.loop-next.invariant.within)
 
-pub loop-next-preserved-in-Some-pair_ahead : goal.loop-next-preserved-in-Some-pair_ahead
-loop-next-preserved-in-Some-pair_ahead c =
+pub loop-next-preserved-in-Some-pairs_ahead : goal.loop-next-preserved-in-Some-pairs_ahead
+loop-next-preserved-in-Some-pairs_ahead c =
     let i = rw c.in-Tries.is at c.loop-next.invariant.leads in
     record {
       within = omega (arith, c.loop-next.invariant.within);
-      leads = in_steps (omega (arith, c.loop-next.invariant.within, c.in-Some-pair_ahead.ensures.within)) (gone_on (language_of c.args.table.now) (c.in-Some-pair_ahead.ensures.comes (language_of c.args.table.now)) i);
+      leads = in_steps (omega (arith, c.loop-next.invariant.within, c.in-Some-pairs_ahead.ensures.within)) (gone_on (language_of c.args.table.now) c.in-Some-pairs_ahead.ensures.comes i);
     }
 
-pub loop-next-smaller-in-Some-pair_ahead : goal.loop-next-smaller-in-Some-pair_ahead
-loop-next-smaller-in-Some-pair_ahead c = omega (arith, c.in-Some-pair_ahead.ensures.within, few_turns (goes_on c.in-Some-pair_ahead.field-0.next))
+pub loop-next-smaller-in-Some-pairs_ahead : goal.loop-next-smaller-in-Some-pairs_ahead
+loop-next-smaller-in-Some-pairs_ahead c = omega (arith, c.in-Some-pairs_ahead.ensures.within, few_turns (goes_on c.in-Some-pairs_ahead.field-0.next))
 
-pub returns-in-None-pair_ahead-clause-decided : goal.returns-in-None-pair_ahead-clause-decided
-returns-in-None-pair_ahead-clause-decided c = decides c.args.table.now c.args.item.now (room c.args.item.now c.item.ensures.sound)
+pub returns-in-None-pairs_ahead-clause-decided : goal.returns-in-None-pairs_ahead-clause-decided
+returns-in-None-pairs_ahead-clause-decided c = decides c.args.table.now c.args.item.now (room c.args.item.now c.item.ensures.sound)
 
 pub returns-in_err-first-in-Asks-clause-decided : goal.returns-in_err-first-in-Asks-clause-decided
 returns-in_err-first-in-Asks-clause-decided c = decides c.args.table.now c.args.item.now (room c.args.item.now c.item.ensures.sound)
