@@ -1,6 +1,8 @@
 use cbor_item::{Item, Sound};
 use cddl_match::{Verdict, verdict};
-use cddl_table::{Group, GroupId, Most, Node, Ranks, Table, TagNumber, Test, TypeId, Whole};
+use cddl_table::{
+    Group, GroupId, MapEntry, Most, Node, Ranks, Table, TagNumber, Test, TypeId, Whole,
+};
 use std::alloc::{AllocError, Global};
 use std::process::Abort;
 use std::test::Fail;
@@ -11,7 +13,7 @@ enum Form {
     Nint(u64),
     Empty,
     Array(&'static [Form]),
-    Pair(&'static (Form, Form)),
+    Map(&'static [(Form, Form)]),
     Tag(u64, &'static Form),
     Simple(u8),
 }
@@ -25,9 +27,12 @@ fn array_of(alloc: Global, members: &[Form]) -> Result<Item, AllocError> {
     Ok(Item::Array(items))
 }
 
-fn map_of(alloc: Global, key: Item, value: Item) -> Result<Item, AllocError> {
+#[cycle(items)]
+fn map_of(alloc: Global, forms: &[(Form, Form)]) -> Result<Item, AllocError> {
     let mut pairs = Vec::new(alloc);
-    pairs.push((key, value))?;
+    for (key, value) in forms {
+        pairs.push((item_of(alloc, key)?, item_of(alloc, value)?))?;
+    }
     Ok(Item::Map(pairs))
 }
 
@@ -42,7 +47,7 @@ fn item_of(alloc: Global, form: &Form) -> Result<Item, AllocError> {
         Form::Nint(n) => Ok(Item::Nint(*n)),
         Form::Empty => Ok(Item::Text(String::new(alloc))),
         Form::Array(members) => array_of(alloc, *members),
-        Form::Pair((key, value)) => map_of(alloc, item_of(alloc, key)?, item_of(alloc, value)?),
+        Form::Map(pairs) => map_of(alloc, *pairs),
         Form::Tag(number, content) => tag_of(alloc, *number, item_of(alloc, *content)?),
         Form::Simple(n) => Ok(Item::Simple(*n)),
     }
@@ -52,6 +57,9 @@ fn item_of(alloc: Global, form: &Form) -> Result<Item, AllocError> {
 type Row = (usize, Form, Verdict);
 
 const YES: Verdict = Verdict::Yes;
+
+/// An entry of a map: the type of its keys, whether it cuts, the type of its values, and how many pairs it takes.
+type Member = (usize, bool, usize, u64, Most);
 
 /// A type of a table. Its parts are numbers of the same table.
 #[derive(Clone, Copy)]
@@ -65,6 +73,7 @@ enum Kind {
     /// What the number has to be, and the content.
     Tag(usize, usize),
     Simple(usize),
+    Map(&'static [&'static [Member]]),
 }
 
 /// A group of a table.
@@ -100,6 +109,31 @@ fn between(least: u64, last: u64, closed: bool) -> Test {
     }
 }
 
+fn entries_of(alloc: Global, members: &[Member]) -> Result<Vec<MapEntry>, AllocError> {
+    let mut out = Vec::new(alloc);
+    for (key, cuts, value, least, most) in members {
+        out.push(MapEntry {
+            least: *least,
+            most: *most,
+            key_type: TypeId { number: *key },
+            cuts: *cuts,
+            value_type: TypeId { number: *value },
+        })?;
+    }
+    Ok(out)
+}
+
+fn alternatives_of(
+    alloc: Global,
+    alternatives: &[&'static [Member]],
+) -> Result<Vec<Vec<MapEntry>>, AllocError> {
+    let mut out = Vec::new(alloc);
+    for members in alternatives {
+        out.push(entries_of(alloc, *members)?)?;
+    }
+    Ok(out)
+}
+
 fn node_of(alloc: Global, kind: Kind) -> Result<Node, AllocError> {
     Ok(match kind {
         Kind::Anything => Node::Plain(Test::Anything),
@@ -112,6 +146,7 @@ fn node_of(alloc: Global, kind: Kind) -> Result<Node, AllocError> {
             TypeId { number },
         ),
         Kind::Simple(number) => Node::SimpleBy(TypeId { number }),
+        Kind::Map(alternatives) => Node::MapOf(alternatives_of(alloc, alternatives)?),
     })
 }
 
@@ -297,7 +332,7 @@ static ARRAY_ROWS: [Row; 18] = [
     ),
     (
         10,
-        Form::Array(&[Form::Pair(&(ONE, Form::Array(&[ONE]))), Form::Empty]),
+        Form::Array(&[Form::Map(&[(ONE, Form::Array(&[ONE]))]), Form::Empty]),
         Verdict::No { place: 5 },
     ),
     (
@@ -394,8 +429,12 @@ fn check_steps(
 }
 
 /// What a type says of an item, and None where there is no memory.
-fn verdict_or_none(alloc: Global, number: usize, form: &Form) -> Option<Verdict> {
-    let table = table_of(alloc, &KINDS, &PARTS, &ORDER, number).ok()??;
+fn verdict_or_none(
+    alloc: Global,
+    table: Result<Option<Table>, AllocError>,
+    form: &Form,
+) -> Option<Verdict> {
+    let table = table.ok()??;
     let item = Sound::try_new(alloc, item_of(alloc, form).ok()?).ok()?;
     verdict(alloc, &table, &item, 1000).ok()
 }
@@ -403,7 +442,8 @@ fn verdict_or_none(alloc: Global, number: usize, form: &Form) -> Option<Verdict>
 // Run with each allocation refused in turn (`rt try --test --fail-alloc N`), this finds no third answer.
 #[test]
 fn judges_or_wants_memory(rt: HostRuntime) {
-    let verdict = verdict_or_none(rt.alloc(), 7, &TWO_ONES);
+    let table = table_of(rt.alloc(), &KINDS, &PARTS, &ORDER, 7);
+    let verdict = verdict_or_none(rt.alloc(), table, &TWO_ONES);
     assert!(rt; matches!(verdict, None | Some(Verdict::Yes)));
 }
 
@@ -448,5 +488,187 @@ static ROUND_ORDER: Order = Order {
 fn refuses_what_leads_back_at_once(rt: HostRuntime) -> Result<(), Fail> {
     let table = table_of(rt.alloc(), &[Kind::Array(1)], &ROUND, &ROUND_ORDER, 0)?;
     assert!(rt; table.is_none());
+    Ok(())
+}
+
+// Maps of small numbers and texts: `1:` and `2:` are keys that are one number.
+const ONCE: Most = Most::AtMost(1);
+
+static MAPS: [Kind; 18] = [
+    // int, uint, nint
+    Kind::Choice(&[1, 2]),
+    Kind::Major(0),
+    Kind::Major(1),
+    // 3: tstr
+    Kind::Major(3),
+    // 4, 5: 1 and 2
+    Kind::Between(1, 1, true),
+    Kind::Between(2, 2, true),
+    Kind::Anything,
+    // 7: { 1: int, ? 2: tstr }
+    Kind::Map(&[&[(4, true, 0, 1, ONCE), (5, true, 3, 0, ONCE)]]),
+    // 8: { (1: 1 // 2: 2), tstr: int }
+    Kind::Map(&[
+        &[(4, true, 4, 1, ONCE), (3, true, 0, 1, ONCE)],
+        &[(5, true, 5, 1, ONCE), (3, true, 0, 1, ONCE)],
+    ]),
+    // 9: { ? (1: 1, 2: 2) }
+    Kind::Map(&[&[(4, true, 4, 1, ONCE), (5, true, 5, 1, ONCE)], &[]]),
+    // 10: { int => tstr, 1 => any }
+    Kind::Map(&[&[(0, false, 3, 1, ONCE), (4, false, 6, 1, ONCE)]]),
+    // 11: { ? int => int, * int => int }
+    Kind::Map(&[&[(0, false, 0, 0, ONCE), (0, false, 0, 0, Most::Any)]]),
+    // 12: { 1: int, * int => any }
+    Kind::Map(&[&[(4, true, 0, 1, ONCE), (0, false, 6, 0, Most::Any)]]),
+    // 13: { 1: 1, 2: int // 1: 2 }
+    Kind::Map(&[
+        &[(4, true, 4, 1, ONCE), (5, true, 0, 1, ONCE)],
+        &[(4, true, 5, 1, ONCE)],
+    ]),
+    // 14: { + (1 => int, 2 => int) }
+    Kind::Map(&[
+        &[(4, false, 0, 1, Most::Any), (5, false, 0, 0, Most::Any)],
+        &[(4, false, 0, 0, Most::Any), (5, false, 0, 1, Most::Any)],
+    ]),
+    // 15: { * int => [* int] }
+    Kind::Map(&[&[(0, false, 16, 0, Most::Any)]]),
+    // 16: [* int]
+    Kind::Array(1),
+    // 17: no alternative
+    Kind::Map(&[]),
+];
+
+static MAP_PARTS: [Part; 2] = [Part::Entry(0), Part::Repeat(0, Most::Any, 0)];
+
+static MAP_ORDER: Order = Order {
+    types: &[1, 0, 0, 0, 0, 0, 0, 0, 0, 0, 0, 0, 0, 0, 0, 0, 2, 0],
+    groups: &[0, 1],
+    may_be_empty: &[false, true],
+};
+
+const TWO: Form = Form::Uint(2);
+
+const TEXT: Form = Form::Empty;
+
+const NONE: Form = Form::Map(&[]);
+
+static MAP_ROWS: [Row; 30] = [
+    (7, Form::Map(&[(ONE, ONE)]), YES),
+    (7, Form::Map(&[(TWO, TEXT), (ONE, ONE)]), YES),
+    // A pair is missing, which shows at the map.
+    (7, NONE, Verdict::No { place: 0 }),
+    (7, ONE, Verdict::No { place: 0 }),
+    // a value, at its own place
+    (
+        7,
+        Form::Map(&[(ONE, ONE), (TWO, TWO)]),
+        Verdict::No { place: 4 },
+    ),
+    // A key that belongs nowhere shows before a value that fails, wherever it stands.
+    (
+        7,
+        Form::Map(&[(ONE, TEXT), (TEXT, ONE)]),
+        Verdict::No { place: 3 },
+    ),
+    (
+        7,
+        Form::Map(&[(ONE, TEXT), (TWO, TWO)]),
+        Verdict::No { place: 2 },
+    ),
+    // either alternative
+    (8, Form::Map(&[(TWO, TWO), (TEXT, ONE)]), YES),
+    (8, Form::Map(&[(TEXT, ONE), (ONE, ONE)]), YES),
+    // the greatest place of both
+    (
+        8,
+        Form::Map(&[(ONE, ONE), (TWO, TWO)]),
+        Verdict::No { place: 3 },
+    ),
+    (9, NONE, YES),
+    (9, Form::Map(&[(ONE, ONE), (TWO, TWO)]), YES),
+    (9, Form::Map(&[(ONE, ONE)]), Verdict::No { place: 1 }),
+    // Where nothing cuts, a value that fails hands its pair on.
+    (10, Form::Map(&[(ONE, ONE), (TWO, TEXT)]), YES),
+    (10, Form::Map(&[(TWO, TEXT), (ONE, ONE)]), YES),
+    // An entry keeps its pairs, also those over its maximum.
+    (
+        10,
+        Form::Map(&[(ONE, TEXT), (TWO, TEXT)]),
+        Verdict::No { place: 0 },
+    ),
+    (11, Form::Map(&[(ONE, ONE)]), YES),
+    (
+        11,
+        Form::Map(&[(ONE, ONE), (TWO, TWO)]),
+        Verdict::No { place: 0 },
+    ),
+    // A cut keeps the pair from the entries after it.
+    (12, Form::Map(&[(TWO, TEXT), (ONE, ONE)]), YES),
+    (
+        12,
+        Form::Map(&[(TWO, TEXT), (ONE, TEXT)]),
+        Verdict::No { place: 4 },
+    ),
+    // A cut does not keep it from the other alternatives.
+    (13, Form::Map(&[(ONE, TWO)]), YES),
+    (
+        13,
+        Form::Map(&[(ONE, Form::Uint(3))]),
+        Verdict::No { place: 2 },
+    ),
+    (14, NONE, Verdict::No { place: 0 }),
+    (14, Form::Map(&[(TWO, ONE)]), YES),
+    (14, Form::Map(&[(TWO, ONE), (ONE, ONE)]), YES),
+    // values that tests alone do not tell
+    (
+        15,
+        Form::Map(&[(ONE, Form::Array(&[ONE])), (TWO, Form::Array(&[]))]),
+        YES,
+    ),
+    (
+        15,
+        Form::Map(&[(ONE, Form::Array(&[])), (TWO, ONE)]),
+        Verdict::No { place: 3 },
+    ),
+    (15, NONE, YES),
+    // no alternative
+    (17, NONE, Verdict::No { place: 0 }),
+    (17, ONE, Verdict::No { place: 0 }),
+];
+
+#[test]
+fn judges_maps(rt: HostRuntime) -> Result<(), Fail> {
+    check_rows(&rt, rt.alloc(), &MAPS, &MAP_PARTS, &MAP_ORDER, &MAP_ROWS)
+}
+
+// As above.
+#[test]
+fn sorts_or_wants_memory(rt: HostRuntime) {
+    let table = table_of(rt.alloc(), &MAPS, &MAP_PARTS, &MAP_ORDER, 15);
+    let verdict = verdict_or_none(rt.alloc(), table, &Form::Map(&[(ONE, TWO_ONES)]));
+    assert!(rt; matches!(verdict, None | Some(Verdict::Yes)));
+}
+
+/// Maps, and the steps that they take.
+static MAP_STEPS: [(usize, Form, u64); 5] = [
+    // the map, and its alternative
+    (7, NONE, 2),
+    // and the pair, with each of two entries; the key, the value and uint
+    (7, Form::Map(&[(ONE, ONE)]), 8),
+    // the key asked of both entries, and the value
+    (7, Form::Map(&[(TWO, TEXT)]), 8),
+    // two alternatives
+    (9, NONE, 3),
+    // the pair and its entry; the key and uint; the array, the repetition and its round
+    (15, Form::Map(&[(ONE, Form::Array(&[]))]), 9),
+];
+
+#[test]
+fn counts_steps_in_maps(rt: HostRuntime) -> Result<(), Fail> {
+    for (number, form, steps) in MAP_STEPS.iter() {
+        let table = table_of(rt.alloc(), &MAPS, &MAP_PARTS, &MAP_ORDER, *number)?;
+        let table = table.expect(&rt, "ranks");
+        check_steps(&rt, rt.alloc(), &table, *number, form, *steps)?;
+    }
     Ok(())
 }
