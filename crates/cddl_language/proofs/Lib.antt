@@ -9,6 +9,7 @@ pub mod Instances
 pub mod MapsFaulty
 pub mod MapsFlat
 pub mod MapsNone
+pub mod MapsStand
 pub mod NoCycle
 pub mod Numbers
 pub mod OneFault

@@ -8,7 +8,7 @@ use Rattle.cddl_language.specs.Prelude.{prelude}
 use Rattle.cddl_language.specs.Reach.{at_root}
 use Rattle.cddl_language.specs.Reading.{definitions_in, group_of, rules_of}
 use Rattle.cddl_language.specs.Sites.{in_body}
-use Rattle.cddl_language.specs.MapFaults.{HasNoKey, HasMapShape, HasTooManyAlternatives, whole, asks, at_once, itself, never, of_opened, by_itself, by_group, its_own, with_these, comes_back, occurs_badly, of_map, of_name}
+use Rattle.cddl_language.specs.MapFaults.{HasNoKey, HasMapShape, HasTooManyAlternatives, whole, asks, at_once, through, itself, never, of_opened, by_itself, by_group, its_own, with_these, comes_back, occurs_badly, of_map, of_name}
 use Rattle.cddl_language.specs.MapFaults as F
 use Rattle.cddl_language.specs.Maps.{Alternatives, alternatives_of}
 use Rattle.cddl_language.specs.Terms.{alternatives}
@@ -40,8 +40,12 @@ too_many = record { rule = _; arguments = _; token = T.token K.BraceOpen 4 (code
 
 pub in_opened : HasNoKey (rules_of (T.two_rules T.map_of_opened T.two_ints).tree) (codes "m") 16
 unfolding prelude
-in_opened = record { rule = T.two_ints; arguments = _; owner = _; entry = T.once (T.name 16 (codes "int")); spliced = of_opened (of_map (in_body (record { reached = at_root; named = refl; present = (0, omega arith, refl) }) (0, omega arith, refl)) (0, omega arith, refl)) refl (at_once (record { head = _; sign = _; types = _; is_rule = refl; present = (1, omega arith, refl); named = refl; bare = F.in_parens itself }) refl) (0, omega arith, refl); lacks = asks refl; offset = refl }
+in_opened = record { rule = T.two_ints; arguments = _; owner = _; entry = T.once (T.name 16 (codes "int")); spliced = of_opened (of_map (in_body (record { reached = at_root; named = refl; present = (0, omega arith, refl) }) (0, omega arith, refl)) (0, omega arith, refl)) refl (at_once (1, omega arith, refl) refl (F.in_parens itself) refl) (0, omega arith, refl); lacks = asks refl; offset = refl }
 
 pub twice : HasMapShape (rules_of T.map_of_twice.tree) (codes "m") 6
 unfolding prelude digit_value
 twice = occurs_badly (of_map (in_body (record { reached = at_root; named = refl; present = (0, omega arith, refl) }) (0, omega arith, refl)) (0, omega arith, refl)) (never refl refl) refl
+
+pub behind_prelude : HasNoKey (rules_of (T.two_rules T.map_of_bytes T.bstr_is_map).tree) (codes "m") 23
+unfolding prelude
+behind_prelude = record { rule = T.bstr_is_map; arguments = _; owner = _; entry = T.once (T.name 23 (codes "int")); spliced = of_opened (of_map (in_body (record { reached = at_root; named = refl; present = (0, omega arith, refl) }) (0, omega arith, refl)) (0, omega arith, refl)) refl (through refl refl refl refl (at_once (1, omega arith, refl) refl itself refl)) (0, omega arith, refl); lacks = asks refl; offset = refl }

@@ -2,13 +2,14 @@
 use Rattle.std.specs.Prelude.{◌≡◌, ℕ, zero, suc, ◌<◌, ◌⊎◌, false, List, [], ◌∷◌, ◌++◌, flat_map, length, Contains, Option, Some, None}
 use Rattle.cddl_token.specs.declared.Token.{Token}
 use Rattle.cddl_syntax.specs.Syntax as S
-use Rattle.cddl_language.specs.Terms.{Text, Term, Ref, Entries, Entry, typed, keyed, grouped, Definition, alternatives, entry_list, occurrence_of, name_of, arguments_of, lone}
-use Rattle.cddl_language.specs.Reading.{ref_of, group_of, entry_of, name_in, parameters_in, definitions_in}
+use Rattle.cddl_language.specs.Terms.{Text, Term, named, Ref, Entries, Entry, typed, keyed, grouped, of_types, Definition, alternatives, entry_list, stripped, occurrence_of, name_of, arguments_of, lone}
+use Rattle.cddl_language.specs.Environment.{is_in, definitions_of}
+use Rattle.cddl_language.specs.Reading.{group_of, entry_of, rule_name, name_in, parameters_in, definitions_in}
 use Rattle.cddl_language.specs.Substitution.{fill_ref, fill_group, fill_entry, group_choices}
 use Rattle.cddl_language.specs.Kinds.{Part, asks_type, names_group, opens, part_of}
 use Rattle.cddl_language.specs.Reach.{Point, at_name, at_unwrapping}
 use Rattle.cddl_language.specs.Maps.{Alternatives, members, occurs, alternatives_of}
-use Rattle.cddl_language.specs.Sites.{a_map, ref_name, is_parameter, IsReached}
+use Rattle.cddl_language.specs.Sites.{a_map, IsReached}
 
 -- Of closed entries.
 
@@ -135,51 +136,43 @@ group_between (S.map_of o g c) = Some g
 group_between (S.array_of o g c) = Some g
 group_between _ = None
 
-module _ (rs : List S.Rule) (root : Text) where
-  -- The rule is one of the reference's name, and makes it this type.
-  pub record IsTypeOf (f : Ref) (r : S.Rule) (x : S.Type2) : Type 0 where
-    pub head : S.RuleName
-    pub sign : S.AssignT
-    pub types : S.Types
-    pub is_rule : r ≡ S.type_rule head sign types
-    pub present : Contains rs r
-    pub named : name_in r ≡ name_of f
-    pub bare : IsBare x types
-
-  -- where in the text the group stands that `~` of a closed reference opens: in which rule, with which arguments
+module _ (rs : List S.Rule) where
+  -- Where in the text the group stands that `~` of a closed reference opens: in which rule, with which arguments. The way
+  -- through names may go through the prelude.
   pub data StandsAt : Ref → S.Rule → List Term → S.Group → Type 0 where
-    at_once : {f : Ref} {r : S.Rule} {x : S.Type2} {g : S.Group} → IsTypeOf f r x → group_between x ≡ Some g → StandsAt f r (arguments_of f) g
-    through : {f : Ref} {q r : S.Rule} {xs : List Term} {h : S.Ref} {g : S.Group} → IsTypeOf f q (S.typename h) → is_parameter q (ref_name h) ≡ false → StandsAt (fill_ref (parameters_in q) (arguments_of f) (ref_of h)) r xs g → StandsAt f r xs g
+    at_once : {f : Ref} {n : S.RuleName} {a : S.AssignT} {t : S.Types} {x : S.Type2} {g : S.Group} → Contains rs (S.type_rule n a t) → rule_name n ≡ name_of f → IsBare x t → group_between x ≡ Some g → StandsAt f (S.type_rule n a t) (arguments_of f) g
+    through : {f h : Ref} {d : Definition} {t : Term} {r : S.Rule} {xs : List Term} {g : S.Group} → definitions_of (definitions_in rs) (name_of f) ≡ d ∷ [] → d.body ≡ of_types t → stripped t ≡ named h → is_in d.parameters (name_of h) ≡ false → StandsAt (fill_ref d.parameters (arguments_of f) h) r xs g → StandsAt f r xs g
 
-  -- An entry in the rule r, where its instance has the arguments xs, is spliced into a map that is reached; with the
-  -- reference in whose group it stands, unless that is the map's own.
-  pub data IsSpliced : S.Rule → List Term → Option Point → S.GrpEnt → Type 0 where
-    of_map : {r : S.Rule} {xs : List Term} {t : Token} {g : S.Group} {e : S.GrpEnt} → IsReached rs root r xs (a_map t g) → Contains (group_entries g) e → IsSpliced r xs None e
-    of_parens : {r : S.Rule} {xs : List Term} {q : Option Point} {o : Option Token} {p c : Token} {g : S.Group} {e : S.GrpEnt} → IsSpliced r xs q (S.grouped o p g c) → Contains (group_entries g) e → IsSpliced r xs q e
-    of_name : {r s : S.Rule} {xs : List Term} {q : Option Point} {d e : S.GrpEnt} {f : Ref} → IsSpliced r xs q d → point_in (definitions_in rs) (closed_entry r xs d) ≡ Some (at_name f) → Contains rs s → name_in s ≡ name_of f → Contains (rule_entries s) e → IsSpliced s (arguments_of f) (Some (at_name f)) e
-    of_opened : {r s : S.Rule} {xs ys : List Term} {q : Option Point} {d e : S.GrpEnt} {f : Ref} {g : S.Group} → IsSpliced r xs q d → point_in (definitions_in rs) (closed_entry r xs d) ≡ Some (at_unwrapping f) → StandsAt f s ys g → Contains (group_entries g) e → IsSpliced s ys (Some (at_unwrapping f)) e
+  module _ (root : Text) where
+    -- An entry in the rule r, where its instance has the arguments xs, is spliced into a map that is reached; with the
+    -- reference in whose group it stands, unless that is the map's own.
+    pub data IsSpliced : S.Rule → List Term → Option Point → S.GrpEnt → Type 0 where
+      of_map : {r : S.Rule} {xs : List Term} {t : Token} {g : S.Group} {e : S.GrpEnt} → IsReached rs root r xs (a_map t g) → Contains (group_entries g) e → IsSpliced r xs None e
+      of_parens : {r : S.Rule} {xs : List Term} {q : Option Point} {o : Option Token} {p c : Token} {g : S.Group} {e : S.GrpEnt} → IsSpliced r xs q (S.grouped o p g c) → Contains (group_entries g) e → IsSpliced r xs q e
+      of_name : {r s : S.Rule} {xs : List Term} {q : Option Point} {d e : S.GrpEnt} {f : Ref} → IsSpliced r xs q d → point_in (definitions_in rs) (closed_entry r xs d) ≡ Some (at_name f) → Contains rs s → name_in s ≡ name_of f → Contains (rule_entries s) e → IsSpliced s (arguments_of f) (Some (at_name f)) e
+      of_opened : {r s : S.Rule} {xs ys : List Term} {q : Option Point} {d e : S.GrpEnt} {f : Ref} {g : S.Group} → IsSpliced r xs q d → point_in (definitions_in rs) (closed_entry r xs d) ≡ Some (at_unwrapping f) → StandsAt f s ys g → Contains (group_entries g) e → IsSpliced s ys (Some (at_unwrapping f)) e
 
-  -- C16: an entry of a map that has no key and is no group.
-  pub record HasNoKey (at : ℕ) : Type 0 where
-    pub rule : S.Rule
-    pub arguments : List Term
-    pub owner : Option Point
-    pub entry : S.GrpEnt
-    pub spliced : IsSpliced rule arguments owner entry
-    pub lacks : LacksKey (definitions_in rs) (closed_entry rule arguments entry)
-    pub offset : at ≡ entry_at entry
+    -- C16: an entry of a map that has no key and is no group.
+    pub record HasNoKey (at : ℕ) : Type 0 where
+      pub rule : S.Rule
+      pub arguments : List Term
+      pub owner : Option Point
+      pub entry : S.GrpEnt
+      pub spliced : IsSpliced rule arguments owner entry
+      pub lacks : LacksKey (definitions_in rs) (closed_entry rule arguments entry)
+      pub offset : at ≡ entry_at entry
 
-  -- C17: an entry of a map that leads back to the reference in whose group it stands; a group that may not occur so.
-  pub data HasMapShape (at : ℕ) : Type 0 where
-    comes_back : {r : S.Rule} {xs : List Term} {p : Point} {e : S.GrpEnt} → IsSpliced r xs (Some p) e → LeadsTo (definitions_in rs) p (closed_entry r xs e) → at ≡ entry_at e → HasMapShape at
-    occurs_badly : {r : S.Rule} {xs : List Term} {q : Option Point} {e : S.GrpEnt} → IsSpliced r xs q e → OccursBadly (definitions_in rs) (closed_entry r xs e) → at ≡ entry_at e → HasMapShape at
+    -- C17: an entry of a map that leads back to the reference in whose group it stands; a group that may not occur so.
+    pub data HasMapShape (at : ℕ) : Type 0 where
+      comes_back : {r : S.Rule} {xs : List Term} {p : Point} {e : S.GrpEnt} → IsSpliced r xs (Some p) e → LeadsTo (definitions_in rs) p (closed_entry r xs e) → at ≡ entry_at e → HasMapShape at
+      occurs_badly : {r : S.Rule} {xs : List Term} {q : Option Point} {e : S.GrpEnt} → IsSpliced r xs q e → OccursBadly (definitions_in rs) (closed_entry r xs e) → at ≡ entry_at e → HasMapShape at
 
-  -- C18: a map whose group, or a part of it, has more alternatives than may be, or more entries in them.
-  pub record HasTooManyAlternatives (at : ℕ) : Type 0 where
-    pub rule : S.Rule
-    pub arguments : List Term
-    pub token : Token
-    pub group : S.Group
-    pub reached : IsReached rs root rule arguments (a_map token group)
-    pub many : HasTooMany (definitions_in rs) (alternatives (fill_group (parameters_in rule) arguments (group_of group)))
-    pub offset : at ≡ token.start
+    -- C18: a map whose group, or a part of it, has more alternatives than may be, or more entries in them.
+    pub record HasTooManyAlternatives (at : ℕ) : Type 0 where
+      pub rule : S.Rule
+      pub arguments : List Term
+      pub token : Token
+      pub group : S.Group
+      pub reached : IsReached rs root rule arguments (a_map token group)
+      pub many : HasTooMany (definitions_in rs) (alternatives (fill_group (parameters_in rule) arguments (group_of group)))
+      pub offset : at ≡ token.start

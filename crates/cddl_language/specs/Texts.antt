@@ -221,6 +221,13 @@ map_of_opened = type_is 0 (codes "m") (is_type (map 4 (one_entry (once (unwrappe
 abbrev pub two_ints : S.Rule
 two_ints = type_is 10 (codes "a") (is_type (S.parens (token ParenOpen 14 (codes "(")) (is_type (array 15 (two_entries (once (name 16 (codes "int"))) (once (name 21 (codes "int")))))) (token ParenClose 25 (codes ")"))))
 
+-- `m = { ~bytes }` and `bstr = {int}`
+abbrev pub map_of_bytes : S.Rule
+map_of_bytes = type_is 0 (codes "m") (is_type (map 4 (one_entry (once (unwrapped 6 (codes "bytes"))))))
+
+abbrev pub bstr_is_map : S.Rule
+bstr_is_map = type_is 15 (codes "bstr") (is_type (map 22 (one_entry (once (name 23 (codes "int"))))))
+
 -- `m = { 2*2 (1 => int) }`
 abbrev pub map_of_twice : Specification
 map_of_twice = one_rule (type_is 0 (codes "m") (is_type (map 4 (one_entry (S.grouped (Some (token Occur 6 (codes "2*2"))) (token ParenOpen 10 (codes "(")) (one_entry (to_int 11 (codes "1"))) (token ParenClose 19 (codes ")")))))))

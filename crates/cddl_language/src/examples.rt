@@ -112,6 +112,7 @@ pub fn map_faults()
     ensures too_many { HasTooManyAlternatives (rules_of T.map_of_ten.tree) (codes "m") 4 }
     ensures in_parens { HasMapShape (rules_of (T.two_rules T.map_of_g T.g_in_parens).tree) (codes "m") 23 }
     ensures in_opened { HasNoKey (rules_of (T.two_rules T.map_of_opened T.two_ints).tree) (codes "m") 16 }
+    ensures behind_prelude { HasNoKey (rules_of (T.two_rules T.map_of_bytes T.bstr_is_map).tree) (codes "m") 23 }
     ensures twice { HasMapShape (rules_of T.map_of_twice.tree) (codes "m") 6 }
 {}
 

@@ -21,3 +21,6 @@ returns-clause-in_opened c = M.in_opened
 
 pub returns-clause-twice : goal.returns-clause-twice
 returns-clause-twice c = M.twice
+
+pub returns-clause-behind_prelude : goal.returns-clause-behind_prelude
+returns-clause-behind_prelude c = M.behind_prelude
