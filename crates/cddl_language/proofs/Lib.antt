@@ -6,6 +6,10 @@ pub mod Endless
 pub mod Faulty
 pub mod Further
 pub mod Instances
+pub mod MapsFaulty
+pub mod MapsFlat
+pub mod MapsNone
+pub mod MapsStand
 pub mod NoCycle
 pub mod Numbers
 pub mod OneFault

@@ -1,8 +1,9 @@
 -- Small specifications, as definitions, on which the definitions here are tried.
-use Rattle.std.specs.Prelude.{ℕ, zero, suc, true, false, List, [], ◌∷◌, Some, None, codes}
-use Rattle.cddl_language.specs.Terms.{Text, Term, number, literal, range, choice_of, named, parens, map_of, array_of, unwrapped, tagged, or, Ref, call, no_terms, term, Group, sole, orelse, no_entries, entries, Entry, typed, keyed, grouped, bareword, is, type_or, group_or, of_types, of_entry, Definition, lone, hash}
+use Rattle.std.specs.Prelude.{ℕ, zero, suc, true, false, List, [], ◌∷◌, Option, Some, None, codes}
+use Rattle.cddl_language.specs.Terms.{Text, Term, number, literal, range, choice_of, named, parens, map_of, array_of, unwrapped, tagged, or, Ref, call, no_terms, term, Group, sole, orelse, Entries, no_entries, entries, Entry, typed, keyed, grouped, of_type, bareword, is, type_or, group_or, of_types, of_entry, Definition, lone, hash}
 use Rattle.cddl_meaning.specs.Forms as F
-use Rattle.cddl_meaning.specs.Forms.{Node, Language}
+use Rattle.cddl_meaning.specs.Forms.{Node, Language, at_most, any_number_of}
+use Rattle.cddl_language.specs.Maps.{Member}
 use Rattle.cddl_language.specs.Prelude.{definition, plain}
 use Rattle.cddl_ranks.specs.Ranked.{Name, a_type}
 
@@ -133,3 +134,64 @@ one_test = record { type_at = node_at; group_at = λ g. F.Alternatives [] }
 abbrev pub rank_at : Name ℕ ℕ → ℕ
 rank_at (a_type zero) = 1
 rank_at _ = 0
+
+-- two entries with a comma between them
+abbrev pub two : Entry → Entry → Entries
+two d e = entries (entries no_entries d true) e false
+
+-- `n: 1` for such a number, `n => int`, and the members that these make
+abbrev pub word : Text → Text → Entry
+word n v = keyed None (bareword n) (literal (number v))
+
+abbrev pub to_int : Option Text → Text → Entry
+to_int o v = keyed o (of_type (literal (number v)) false) int
+
+abbrev pub of_word : Text → Text → Member
+of_word n v = record { least = 1; most = at_most 1; key = bareword n; value = literal (number v) }
+
+abbrev pub ints_from : ℕ → Text → Member
+ints_from n v = record { least = n; most = any_number_of; key = of_type (literal (number v)) false; value = int }
+
+abbrev pub x_member : Member
+x_member = record { least = 1; most = at_most 1; key = bareword (codes "x"); value = int }
+
+-- `(a: 1 // b: 2), c: 3`
+abbrev pub a_or_b_then_c : Group
+a_or_b_then_c = sole (two (grouped None (orelse (sole (lone (word (codes "a") (codes "1")))) (lone (word (codes "b") (codes "2"))))) (word (codes "c") (codes "3")))
+
+-- `(a: 1 // b: 2), (c: 3 // d: 4)`
+abbrev pub two_of_four : Group
+two_of_four = sole (two (grouped None (orelse (sole (lone (word (codes "a") (codes "1")))) (lone (word (codes "b") (codes "2"))))) (grouped None (orelse (sole (lone (word (codes "c") (codes "3")))) (lone (word (codes "d") (codes "4"))))))
+
+-- `? (a: 1, b: 2)`
+abbrev pub maybe_both : Group
+maybe_both = sole (lone (grouped (Some (codes "?")) (sole (two (word (codes "a") (codes "1")) (word (codes "b") (codes "2"))))))
+
+-- `* (? 1 => int, * 2 => int)`, `* (1 => int, 2 => int)`, and `+ (1 => int // 2 => int)`
+abbrev pub any_of_free : Group
+any_of_free = sole (lone (grouped (Some (codes "*")) (sole (two (to_int (Some (codes "?")) (codes "1")) (to_int (Some (codes "*")) (codes "2"))))))
+
+abbrev pub any_of_both : Group
+any_of_both = sole (lone (grouped (Some (codes "*")) (sole (two (to_int None (codes "1")) (to_int None (codes "2"))))))
+
+abbrev pub some_of_either : Group
+some_of_either = sole (lone (grouped (Some (codes "+")) (orelse (sole (lone (to_int None (codes "1")))) (lone (to_int None (codes "2"))))))
+
+-- `+ (? 1 => int)`, and `+ (1 => int, 2 => int)`
+abbrev pub some_of_maybe : Group
+some_of_maybe = sole (lone (grouped (Some (codes "+")) (sole (lone (to_int (Some (codes "?")) (codes "1"))))))
+
+abbrev pub some_of_both : Group
+some_of_both = sole (lone (grouped (Some (codes "+")) (sole (two (to_int None (codes "1")) (to_int None (codes "2"))))))
+
+-- `a, c`; with `some_names` both are groups
+abbrev pub two_names : Group
+two_names = sole (two (typed None (plain (codes "a"))) (typed None (plain (codes "c"))))
+
+-- `* n`
+abbrev pub any_of : Text → Group
+any_of n = sole (lone (typed (Some (codes "*")) (plain n)))
+
+-- `g = (a: 1, ? g)`
+abbrev pub of_itself : List Definition
+of_itself = group_is (codes "g") (grouped None (sole (two (word (codes "a") (codes "1")) (typed (Some (codes "?")) (plain (codes "g")))))) ∷ []

@@ -6,6 +6,8 @@ pub mod Free
 pub mod Kinds
 pub mod Language
 pub mod Literals
+pub mod MapFaults
+pub mod Maps
 pub mod Numbers
 pub mod Sites
 pub mod Prelude

@@ -1,8 +1,8 @@
 -- Small specifications, as trees with their tokens, on which faults are tried.
-use Rattle.std.specs.Prelude.{ℕ, ◌+◌, length, [], None, Some, codes}
+use Rattle.std.specs.Prelude.{ℕ, zero, suc, ◌+◌, length, [], None, Some, codes}
 use Rattle.cddl_token.specs.declared.Token.{Token}
 use Rattle.cddl_token.specs.declared.Kind.{Kind}
-use Rattle.cddl_token.specs.declared.Kind.TheVariants.{Name, NameOpen, Control, Number, Occur, Text as TextToken, Hash, Assign, GroupAssign, Slash, Range, Comma, Colon, ParenOpen, ParenClose, BracketOpen, BracketClose, AngleClose, Tilde, Ampersand, End}
+use Rattle.cddl_token.specs.declared.Kind.TheVariants.{Name, NameOpen, Control, Number, Occur, Text as TextToken, Hash, Assign, GroupAssign, Slash, DoubleSlash, Range, Comma, Colon, ParenOpen, ParenClose, BracketOpen, BracketClose, BraceOpen, BraceClose, Arrow, AngleClose, Tilde, Ampersand, End}
 use Rattle.cddl_syntax.specs.Syntax as S
 use Rattle.cddl_language.specs.Terms.{Text}
 use Rattle.cddl_language.specs.Faults.{Specification}
@@ -172,3 +172,62 @@ three_to_two = one_rule (type_is 0 (codes "a") (is_type (array 4 (one_entry (occ
 -- `t = [* t]`
 abbrev pub lists : Specification
 lists = one_rule (type_is 0 (codes "t") (is_type (array 4 (one_entry (occurring 5 (codes "*") (name 7 (codes "t")))))))
+
+-- `{group}`, the brace at the offset
+abbrev pub map : ℕ → S.Group → S.Type2
+map at g = S.map_of (token BraceOpen at (codes "{")) g (token BraceClose (at + 100) (codes "}"))
+
+-- `n => int`, the number at the offset
+abbrev pub to_int : ℕ → Text → S.GrpEnt
+to_int at n = S.keyed None (S.type_key (S.one (number at n)) None (token Arrow (at + 2) (codes "=>"))) (is_type (name (at + 5) (codes "int")))
+
+-- `a = {int}`
+abbrev pub map_of_int : Specification
+map_of_int = one_rule (type_is 0 (codes "a") (is_type (map 4 (one_entry (once (name 5 (codes "int")))))))
+
+-- `m = { * (1 => int, 2 => int) }`
+abbrev pub map_of_pairs : Specification
+map_of_pairs = one_rule (type_is 0 (codes "m") (is_type (map 4 (one_entry (S.grouped (Some (token Occur 6 (codes "*"))) (token ParenOpen 8 (codes "(")) (two_entries (to_int 9 (codes "1")) (to_int 19 (codes "2"))) (token ParenClose 27 (codes ")")))))))
+
+-- `m = { g }`, and what follows
+abbrev pub map_of_g : S.Rule
+map_of_g = type_is 0 (codes "m") (is_type (map 4 (one_entry (once (name 6 (codes "g"))))))
+
+-- `a: int`
+abbrev pub a_int : ℕ → S.GrpEnt
+a_int at = S.keyed None (S.bareword (token Name at (codes "a")) (token Colon (at + 1) (codes ":"))) (is_type (name (at + 3) (codes "int")))
+
+-- `g = (a: int, ? g)`
+abbrev pub g_of_itself : S.Rule
+g_of_itself = group_is 10 (codes "g") (a_group 14 (two_entries (a_int 15) (occurring 23 (codes "?") (name 25 (codes "g")))))
+
+-- `g = (a: int, (? g))`
+abbrev pub g_in_parens : S.Rule
+g_in_parens = group_is 10 (codes "g") (a_group 14 (two_entries (a_int 15) (a_group 23 (one_entry (occurring 24 (codes "?") (name 26 (codes "g")))))))
+
+-- so many times `(1 => int // 2 => int)`
+abbrev pub either_so_often : ℕ → S.GrpChoice
+either_so_often zero = S.no_entries
+either_so_often (suc k) = S.entries (either_so_often k) (a_group 6 (S.orelse (one_entry (to_int 7 (codes "1"))) (token DoubleSlash 16 (codes "//")) (S.entries S.no_entries (to_int 19 (codes "2")) None))) (Some (token Comma 28 (codes ",")))
+
+-- `m = { (1 => int // 2 => int), .. }`, ten times
+abbrev pub map_of_ten : Specification
+map_of_ten = one_rule (type_is 0 (codes "m") (is_type (map 4 (S.sole (either_so_often 10)))))
+
+-- `m = { ~a }` and `a = ([int, int])`
+abbrev pub map_of_opened : S.Rule
+map_of_opened = type_is 0 (codes "m") (is_type (map 4 (one_entry (once (unwrapped 6 (codes "a"))))))
+
+abbrev pub two_ints : S.Rule
+two_ints = type_is 10 (codes "a") (is_type (S.parens (token ParenOpen 14 (codes "(")) (is_type (array 15 (two_entries (once (name 16 (codes "int"))) (once (name 21 (codes "int")))))) (token ParenClose 25 (codes ")"))))
+
+-- `m = { ~bytes }` and `bstr = {int}`
+abbrev pub map_of_bytes : S.Rule
+map_of_bytes = type_is 0 (codes "m") (is_type (map 4 (one_entry (once (unwrapped 6 (codes "bytes"))))))
+
+abbrev pub bstr_is_map : S.Rule
+bstr_is_map = type_is 15 (codes "bstr") (is_type (map 22 (one_entry (once (name 23 (codes "int"))))))
+
+-- `m = { 2*2 (1 => int) }`
+abbrev pub map_of_twice : Specification
+map_of_twice = one_rule (type_is 0 (codes "m") (is_type (map 4 (one_entry (S.grouped (Some (token Occur 6 (codes "2*2"))) (token ParenOpen 10 (codes "(")) (one_entry (to_int 11 (codes "1"))) (token ParenClose 19 (codes ")")))))))

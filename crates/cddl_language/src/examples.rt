@@ -12,11 +12,13 @@ ghost use Rattle.cddl_language.specs.Faults.{IsAccepted, IsFaultAt};
 ghost use Rattle.cddl_language.specs.Kinds.{is_group, opened, opens_group, opens_type};
 ghost use Rattle.cddl_language.specs.Language.{language, type, type_node};
 ghost use Rattle.cddl_language.specs.Literals.{Values, literal_of};
+ghost use Rattle.cddl_language.specs.MapFaults.{HasMapShape, HasNoKey, HasTooManyAlternatives};
+ghost use Rattle.cddl_language.specs.Maps.{map_alternatives};
 ghost use Rattle.cddl_language.specs.Numbers.{hash_form, least_in, most_in, numbered, tag_number, uint_in};
 ghost use Rattle.cddl_language.specs.Prelude.{definition, plain};
 ghost use Rattle.cddl_language.specs.Reach.{Point, at_name, points_in};
 ghost use Rattle.cddl_language.specs.Free.{LeadsTo};
-ghost use Rattle.cddl_language.specs.Reading.{definitions_in};
+ghost use Rattle.cddl_language.specs.Reading.{definitions_in, rules_of};
 ghost use Rattle.cddl_language.specs.StandsFor.{StandsFor};
 ghost use Rattle.cddl_language.specs.Substitution.{type_choices};
 ghost use Rattle.cddl_language.specs.Texts as T;
@@ -83,6 +85,35 @@ pub fn choices()
     ensures chosen_types { chosen E.nested (E.group_of_name (codes "g")) ≡ Some (E.int ∷ E.tstr ∷ plain (codes "k") ∷ []) }
     ensures not_once { chosen E.not_to_choose (E.group_of_name (codes "g")) ≡ None }
     ensures endless { chosen E.not_to_choose (E.group_of_name (codes "h")) ≡ None }
+{}
+
+/// Alternatives of the groups of maps, and groups that have none.
+pub fn maps()
+    ensures row { map_alternatives [] E.a_or_b_then_c ≡ Some ((E.of_word (codes "a") (codes "1") ∷ E.of_word (codes "c") (codes "3") ∷ []) ∷ (E.of_word (codes "b") (codes "2") ∷ E.of_word (codes "c") (codes "3") ∷ []) ∷ []) }
+    ensures slowest { map_alternatives [] E.two_of_four ≡ Some ((E.of_word (codes "a") (codes "1") ∷ E.of_word (codes "c") (codes "3") ∷ []) ∷ (E.of_word (codes "a") (codes "1") ∷ E.of_word (codes "d") (codes "4") ∷ []) ∷ (E.of_word (codes "b") (codes "2") ∷ E.of_word (codes "c") (codes "3") ∷ []) ∷ (E.of_word (codes "b") (codes "2") ∷ E.of_word (codes "d") (codes "4") ∷ []) ∷ []) }
+    ensures optional { map_alternatives [] E.maybe_both ≡ Some ((E.of_word (codes "a") (codes "1") ∷ E.of_word (codes "b") (codes "2") ∷ []) ∷ [] ∷ []) }
+    ensures any { map_alternatives [] E.any_of_free ≡ Some ((E.ints_from 0 (codes "1") ∷ E.ints_from 0 (codes "2") ∷ []) ∷ []) }
+    ensures some { map_alternatives [] E.some_of_either ≡ Some ((E.ints_from 1 (codes "1") ∷ E.ints_from 0 (codes "2") ∷ []) ∷ (E.ints_from 0 (codes "1") ∷ E.ints_from 1 (codes "2") ∷ []) ∷ []) }
+    ensures named { map_alternatives E.some_names E.two_names ≡ Some ((E.x_member ∷ E.x_member ∷ []) ∷ []) }
+    ensures socket { map_alternatives [] (E.group_of_name (codes "$$x")) ≡ Some [] }
+    ensures any_of_socket { map_alternatives [] (E.any_of (codes "$$x")) ≡ Some ([] ∷ []) }
+    ensures any_of_pairs { map_alternatives [] E.any_of_both ≡ None }
+    ensures some_of_pairs { map_alternatives [] E.some_of_both ≡ None }
+    ensures some_of_optional { map_alternatives [] E.some_of_maybe ≡ None }
+    ensures of_itself { map_alternatives E.of_itself (E.group_of_name (codes "g")) ≡ None }
+    ensures without_key { map_alternatives [] (E.group_of_name (codes "int")) ≡ None }
+{}
+
+/// Faults of maps, each at its byte. Parentheses on the way back to a group are an entry, those of a whole body are not.
+pub fn map_faults()
+    ensures without_key { HasNoKey (rules_of T.map_of_int.tree) (codes "a") 5 }
+    ensures of_pairs { HasMapShape (rules_of T.map_of_pairs.tree) (codes "m") 6 }
+    ensures comes_back { HasMapShape (rules_of (T.two_rules T.map_of_g T.g_of_itself).tree) (codes "m") 23 }
+    ensures too_many { HasTooManyAlternatives (rules_of T.map_of_ten.tree) (codes "m") 4 }
+    ensures in_parens { HasMapShape (rules_of (T.two_rules T.map_of_g T.g_in_parens).tree) (codes "m") 23 }
+    ensures in_opened { HasNoKey (rules_of (T.two_rules T.map_of_opened T.two_ints).tree) (codes "m") 16 }
+    ensures behind_prelude { HasNoKey (rules_of (T.two_rules T.map_of_bytes T.bstr_is_map).tree) (codes "m") 23 }
+    ensures twice { HasMapShape (rules_of T.map_of_twice.tree) (codes "m") 6 }
 {}
 
 /// What the language says of items: `int` of 1; `[* int, int]` of `[1]`, where nothing is given back; `[~u]` with

@@ -2,9 +2,13 @@
 //! here do nothing: their contracts are laws, and examples.
 #![tactic(auto)]
 
-ghost use Rattle.std.specs.Prelude.{◌+◌, ◌≢◌, ◌↔◌, map, length, slice_index, [], ◌∷◌, ◌≡◌, ℕ, suc, Contains, Bool, List, true, Some};
+ghost use Rattle.std.specs.Prelude.{◌+◌, ◌≢◌, ◌↔◌, ◌≤◌, ◌⊎◌, map, length, slice_index, [], ◌∷◌, ◌≡◌, ℕ, suc, Contains, Bool, List, true, Some, None};
 ghost use Rattle.cddl_token.specs.declared.Code.{Code};
+ghost use Rattle.cddl_token.specs.declared.Token.{Token};
+ghost use Rattle.cddl_syntax.specs.Syntax as S;
 ghost use Rattle.cddl_syntax.specs.Syntax.{Cddl, Rule};
+ghost use Rattle.cddl_language.specs.Sites.{IsReached, a_map};
+ghost use Rattle.cddl_language.specs.Substitution.{fill_group};
 ghost use Rattle.cddl_language.specs.Faults.{IsAccepted, IsRefused, Specification, definitions, root_of, rules};
 ghost use Rattle.cddl_language.specs.Free.{IsOnCycle};
 ghost use Rattle.cddl_language.specs.Kinds.{Opened, is_group_in, opened_in};
@@ -12,6 +16,8 @@ ghost use Rattle.cbor_data.specs.Value.{Value};
 ghost use Rattle.cddl_meaning.specs.Forms.{Choice, Language, any_number_of, at_most, exactly};
 ghost use Rattle.cddl_meaning.specs.Judges.{Answer, Says};
 ghost use Rattle.cddl_language.specs.Choices.{chosen, chosen_by_name};
+ghost use Rattle.cddl_language.specs.MapFaults.{ComesBack, GoesThrough, HasMapShape, HasNoKey, IsSplicedInto, LacksKey, OccursBadly};
+ghost use Rattle.cddl_language.specs.Maps.{Alternatives, alternatives_in, map_alternatives};
 ghost use Rattle.cddl_language.specs.Language.{Saying, language, type, reference, type_node};
 ghost use Rattle.cddl_language.specs.StandsFor.{StandsFor};
 ghost use Rattle.cddl_ranks.specs.Ranked.{Name};
@@ -19,9 +25,9 @@ ghost use Rattle.cddl_literal.specs.Numbers.{IsUint, number_after};
 ghost use Rattle.cddl_token.specs.Numbers.{IsHashNumber, IsStar, IsTagNumberOpen};
 ghost use Rattle.cddl_language.specs.Numbers.{hash_form, least_in, most_in, numbered, tag_number, uint_in};
 ghost use Rattle.cddl_language.specs.Literals.{AreRight, AreTokens, Holds, Values};
-ghost use Rattle.cddl_language.specs.Reading.{name_in};
-ghost use Rattle.cddl_language.specs.Reach.{Point, Reaches, points_in, ref_at};
-ghost use Rattle.cddl_language.specs.Terms.{Definition, Group, Literal, Ref, Term, Text, call, choice_of, choice_of_name, name_of, no_terms};
+ghost use Rattle.cddl_language.specs.Reading.{definitions_in, group_of, name_in, parameters_in};
+ghost use Rattle.cddl_language.specs.Reach.{Point, Reaches, most_instances, points_in, ref_at};
+ghost use Rattle.cddl_language.specs.Terms.{Definition, Entries, Entry, Group, Literal, Ref, Term, Text, alternatives, call, choice_of, choice_of_name, name_of, no_terms};
 
 pub mod examples;
 
@@ -42,10 +48,34 @@ pub fn chosen_types_say()
     ensures name { (worth : Values) (ds : List Definition) (r : Ref) (ts : List Term) → chosen_by_name ds r ≡ Some ts → (p : ℕ) (x : Value) (a : Answer) → Saying (language worth ds) (Choice (map type ts)) p x a ↔ Saying (language worth ds) (type_node worth ds (type (choice_of_name r))) p x a }
 {}
 
-/// Once `~` has opened something, or a name is a group's, ways through more names change nothing.
+/// Where the group of a map has alternatives, each entry that is spliced into it has a key or is a group, none leads back to the
+/// reference in whose group it is, and each group may occur as often as it says.
+pub fn flat_maps_are_right()
+    ensures keys { (ds : List Definition) (g : Group) (mss : Alternatives) → map_alternatives ds g ≡ Some mss → (e : Entry) → IsSplicedInto ds e (alternatives g) → LacksKey ds e → ⊥ }
+    ensures ways { (ds : List Definition) (g : Group) (mss : Alternatives) → map_alternatives ds g ≡ Some mss → (e : Entry) → ComesBack ds (alternatives g) e → ⊥ }
+    ensures occurrences { (ds : List Definition) (g : Group) (mss : Alternatives) → map_alternatives ds g ≡ Some mss → (e : Entry) → IsSplicedInto ds e (alternatives g) → OccursBadly ds e → ⊥ }
+{}
+
+/// What is wrong with the group of a map that a root reaches, stands at a byte of the text: an entry that is spliced into it and
+/// has neither a key nor a group, a group that may not occur so, and a way that comes back.
+pub fn map_faults_stand()
+    ensures keys { (rs : List Rule) (root : Text) (r : Rule) (xs : List Term) (t : Token) (g : S.Group) → IsReached rs root r xs (a_map t g) → (e : Entry) → IsSplicedInto (definitions_in rs) e (alternatives (fill_group (parameters_in r) xs (group_of g))) → LacksKey (definitions_in rs) e → (at : ℕ) × HasNoKey rs root at }
+    ensures occurrences { (rs : List Rule) (root : Text) (r : Rule) (xs : List Term) (t : Token) (g : S.Group) → IsReached rs root r xs (a_map t g) → (e : Entry) → IsSplicedInto (definitions_in rs) e (alternatives (fill_group (parameters_in r) xs (group_of g))) → OccursBadly (definitions_in rs) e → (at : ℕ) × HasMapShape rs root at }
+    ensures ways { (rs : List Rule) (root : Text) (r : Rule) (xs : List Term) (t : Token) (g : S.Group) → IsReached rs root r xs (a_map t g) → (e : Entry) → ComesBack (definitions_in rs) (alternatives (fill_group (parameters_in r) xs (group_of g))) e → (at : ℕ) × HasMapShape rs root at }
+{}
+
+/// Where the group of a map has no alternatives, an entry that is spliced into it has neither a key nor a group, or is a group
+/// that may not occur so; or a way into it goes through more names than there may be instances, so it comes back to one.
+pub fn maps_without_alternatives()
+    ensures { (ds : List Definition) (g : Group) → map_alternatives ds g ≡ None → ((e : Entry) × IsSplicedInto ds e (alternatives g) × (LacksKey ds e ⊎ OccursBadly ds e)) ⊎ GoesThrough ds (suc most_instances) (alternatives g) }
+{}
+
+/// Once `~` has opened something, a name is a group's, or a group in a map has alternatives, ways through more names change
+/// nothing.
 pub fn more_names_change_nothing()
     ensures opened { (ds : List Definition) (k : ℕ) (r : Ref) (o : Opened) → opened_in k ds r ≡ Some o → opened_in (suc k) ds r ≡ Some o }
     ensures group { (ds : List Definition) (k : ℕ) (n : Text) → is_group_in k ds n ≡ true → is_group_in (suc k) ds n ≡ true }
+    ensures alternatives { (ds : List Definition) (k n : ℕ) → k ≤ n → (ess : List Entries) (mss : Alternatives) → alternatives_in ds k ess ≡ Some mss → alternatives_in ds n ess ≡ Some mss }
 {}
 
 /// One fault is told at most, of one code at one byte, and none of an accepted specification.
