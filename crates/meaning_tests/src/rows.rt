@@ -6,6 +6,7 @@ use std::alloc::Global;
 /// What is told, by the name of the call, and the text of a specification.
 const ROWS: &str = "names | a b int nint uint | a = [b] b = int
 names | a p p int nint uint | a = [p<int>, p<p<int>>] p<t> = [t]
+names | a i i | a = [i<1>, i<0x1>] i<n> = n
 types | 1/1 | a = #
 types | 2/1 | a = 1 / 2
 types | 3/1 | a = 1 a /= 2 / 3
