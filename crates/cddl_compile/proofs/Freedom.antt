@@ -1,7 +1,7 @@
 -- What is free in a form, form by form, and in forms that are alike.
 use Rattle.std.proofs.Common.{◌≡◌, List, inl, inr, refl, sym, subst}
-use Rattle.cddl_meaning.specs.Forms.{Node, Plain, Ref, Choice, ArrayOf, TagOf, SimpleBy, Group, Entry, GroupRef, Sequence, Alternatives, Repeat, Language}
-use Rattle.cddl_meaning.specs.Alike.{AlikeAll, none, both, AlikeTypes, plain, refs, choices, arrays, tags, simples, AlikeGroups, entries, group_refs, sequences, alternates, repeats, AreAlike}
+use Rattle.cddl_meaning.specs.Forms.{Node, Plain, Ref, Choice, ArrayOf, TagOf, SimpleBy, MapOf, Group, Entry, GroupRef, Sequence, Alternatives, Repeat, Language}
+use Rattle.cddl_meaning.specs.Alike.{AlikeAll, none, both, AlikeTypes, plain, refs, choices, arrays, tags, simples, maps, AlikeGroups, entries, group_refs, sequences, alternates, repeats, AreAlike}
 use Rattle.cddl_ranks.specs.Ranked.{MayBeEmpty, named, every_part, one_of_them, no_minimum, no_round, an_empty_round, AllMayBeEmpty, no_part, this_part, OneMayBeEmpty, this_one, another, a_type, a_group, IsFreeInType, same_item, member, all_items, its_number, IsFreePart, front, past_empty, IsFreeInGroup, same_list, part, alternative, a_round}
 use Rattle.cddl_compile.proofs.Lists.{IsIn, from_contains}
 
@@ -12,6 +12,7 @@ FreeType (Choice ns) m = IsIn m ns
 FreeType (ArrayOf g) m = ⊥
 FreeType (TagOf t n) m = ⊥
 FreeType (SimpleBy n) m = m ≡ n
+FreeType (MapOf ess) m = ⊥
 
 abbrev pub FreeItems : {N G : Type 0} → Node N G → G → Type 0
 FreeItems (Plain t) h = ⊥
@@ -20,6 +21,7 @@ FreeItems (Choice ns) h = ⊥
 FreeItems (ArrayOf g) h = h ≡ g
 FreeItems (TagOf t n) h = ⊥
 FreeItems (SimpleBy n) h = ⊥
+FreeItems (MapOf ess) h = ⊥
 
 abbrev pub FreeGroup : {N G : Type 0} → Language N G → Group N G → G → Type 0
 FreeGroup l (Entry n) h = ⊥
@@ -56,6 +58,7 @@ module _ {N G M H : Type 0} (l : Language N G) (k : Language M H) (R : N → M �
   free_types_alike f g (arrays s) m h = absurd h
   free_types_alike f g (tags a r) m h = absurd h
   free_types_alike f g (simples {n = n} r) m h = (n, refl, subst (R n) (sym h) r)
+  free_types_alike f g (maps a) m h = absurd h
 
   pub free_items_alike : (f : Node N G) (g : Node M H) → AlikeTypes R S f g → (b : H) → FreeItems g b → (a : G) × FreeItems f a × S a b
   free_items_alike f g plain b h = absurd h
@@ -64,6 +67,7 @@ module _ {N G M H : Type 0} (l : Language N G) (k : Language M H) (R : N → M �
   free_items_alike f g (arrays {g = a} s) b h = (a, refl, subst (S a) (sym h) s)
   free_items_alike f g (tags a r) b h = absurd h
   free_items_alike f g (simples r) b h = absurd h
+  free_items_alike f g (maps a) b h = absurd h
 
   -- What may be empty in the second language may be so in the first.
   mutual

@@ -1,6 +1,6 @@
 -- What a search keeps.
 use Rattle.std.proofs.Common.{◌≡◌, ℕ, ◌<◌, ◌≤◌, ◌+◌, List, [], ◌∷◌, ◌++◌, Some, Option, length, sym, ap, subst, ◌∙◌, ◌⊎◌, inl, inr, slice_get, arith}
-use Rattle.cddl_meaning.specs.Alike.{AlikeAll, none, both, AlikeTypes, plain, refs, choices, arrays, tags, simples, AlikeNumbers, any_numbers, same_number, heads, AlikeGroups, entries, group_refs, sequences, alternates, repeats}
+use Rattle.cddl_meaning.specs.Alike.{AlikeAll, none, both, AlikeTypes, plain, refs, choices, arrays, tags, simples, maps, AlikeNumbers, any_numbers, same_number, heads, AlikeEntries, no_entries, entry, AlikeMaps, no_alternatives, alternative, AlikeGroups, entries, group_refs, sequences, alternates, repeats}
 use Rattle.cddl_meaning.specs.Forms as F
 use Rattle.std.proofs.lemmas.Bool.{cases_lt}
 use Rattle.cddl_language.specs.Language.{GroupName, TypeName, first_of, group_form, reference, type_node}
@@ -46,6 +46,22 @@ module _ {N O M G P H : Type 0} (A : N → O → Type 0) (B : G → P → Type 0
   numbers_joined n (F.exactly k) m same_number same_number = same_number
   numbers_joined n (F.such_as o) m (heads {n = p} a) (heads {m = q} c) = heads (types p o q a c)
 
+  entries_joined : (ds : List (F.MapEntry N)) (bs : List (F.MapEntry O)) (es : List (F.MapEntry M)) → AlikeEntries A ds bs → AlikeEntries C bs es → AlikeEntries R ds es
+  entries_joined [] [] [] no_entries no_entries = no_entries
+  entries_joined [] [] (e ∷ es) a c = elim c [ ]
+  entries_joined [] (b ∷ bs) es a c = elim a [ ]
+  entries_joined (d ∷ ds) [] es a c = elim a [ ]
+  entries_joined (d ∷ ds) (b ∷ bs) [] a c = elim c [ ]
+  entries_joined (d ∷ ds) (b ∷ bs) (e ∷ es) (entry least most cuts key value later) (entry least' most' cuts' key' value' cs) = entry (least ∙ least') (most ∙ most') (cuts ∙ cuts') (types d.key_type b.key_type e.key_type key key') (types d.value_type b.value_type e.value_type value value') (entries_joined ds bs es later cs)
+
+  maps_joined : (dss : List (List (F.MapEntry N))) (bss : List (List (F.MapEntry O))) (ess : List (List (F.MapEntry M))) → AlikeMaps A dss bss → AlikeMaps C bss ess → AlikeMaps R dss ess
+  maps_joined [] [] [] no_alternatives no_alternatives = no_alternatives
+  maps_joined [] [] (es ∷ ess) a c = elim c [ ]
+  maps_joined [] (bs ∷ bss) ess a c = elim a [ ]
+  maps_joined (ds ∷ dss) [] ess a c = elim a [ ]
+  maps_joined (ds ∷ dss) (bs ∷ bss) [] a c = elim c [ ]
+  maps_joined (ds ∷ dss) (bs ∷ bss) (es ∷ ess) (alternative a later) (alternative c cs) = alternative (entries_joined ds bs es a c) (maps_joined dss bss ess later cs)
+
   pub types_joined : (n : F.Node N G) (o : F.Node O P) (m : F.Node M H) → AlikeTypes A B n o → AlikeTypes C D o m → AlikeTypes R S n m
   types_joined n (F.Plain t) m plain plain = plain
   types_joined n (F.Ref o) m (refs {n = p} a) (refs {m = q} c) = refs (types p o q a c)
@@ -53,6 +69,7 @@ module _ {N O M G P H : Type 0} (A : N → O → Type 0) (B : G → P → Type 0
   types_joined n (F.ArrayOf o) m (arrays {g = p} a) (arrays {h = q} c) = arrays (groups p o q a c)
   types_joined n (F.TagOf k o) m (tags {s = v} {n = p} e a) (tags {t = w} {m = q} f c) = tags (numbers_joined v k w e f) (types p o q a c)
   types_joined n (F.SimpleBy o) m (simples {n = p} a) (simples {m = q} c) = simples (types p o q a c)
+  types_joined n (F.MapOf bss) m (maps {dss = dss} a) (maps {ess = ess} c) = maps (maps_joined dss bss ess a c)
 
   pub groups_joined : (n : F.Group N G) (o : F.Group O P) (m : F.Group M H) → AlikeGroups A B n o → AlikeGroups C D o m → AlikeGroups R S n m
   groups_joined n (F.Entry o) m (entries {n = p} a) (entries {m = q} c) = entries (types p o q a c)
@@ -80,6 +97,18 @@ module _ {N M G H : Type 0} (A : N → M → Type 0) (B : G → H → Type 0) (R
   numbers_kept n m same_number = same_number
   numbers_kept n m (heads {n = p} {m = q} a) = heads (types p q a)
 
+  entries_kept : (ds : List (F.MapEntry N)) (es : List (F.MapEntry M)) → AlikeEntries A ds es → AlikeEntries R ds es
+  entries_kept [] [] no_entries = no_entries
+  entries_kept [] (e ∷ es) a = elim a [ ]
+  entries_kept (d ∷ ds) [] a = elim a [ ]
+  entries_kept (d ∷ ds) (e ∷ es) (entry least most cuts key value later) = entry least most cuts (types d.key_type e.key_type key) (types d.value_type e.value_type value) (entries_kept ds es later)
+
+  maps_kept : (dss : List (List (F.MapEntry N))) (ess : List (List (F.MapEntry M))) → AlikeMaps A dss ess → AlikeMaps R dss ess
+  maps_kept [] [] no_alternatives = no_alternatives
+  maps_kept [] (es ∷ ess) a = elim a [ ]
+  maps_kept (ds ∷ dss) [] a = elim a [ ]
+  maps_kept (ds ∷ dss) (es ∷ ess) (alternative a later) = alternative (entries_kept ds es a) (maps_kept dss ess later)
+
   pub types_kept : (n : F.Node N G) (m : F.Node M H) → AlikeTypes A B n m → AlikeTypes R S n m
   types_kept n m plain = plain
   types_kept n m (refs {n = p} {m = q} a) = refs (types p q a)
@@ -87,6 +116,7 @@ module _ {N M G H : Type 0} (A : N → M → Type 0) (B : G → H → Type 0) (R
   types_kept n m (arrays {g = p} {h = q} a) = arrays (groups p q a)
   types_kept n m (tags {s = v} {t = w} {n = p} {m = q} e a) = tags (numbers_kept v w e) (types p q a)
   types_kept n m (simples {n = p} {m = q} a) = simples (types p q a)
+  types_kept n m (maps {dss = dss} {ess = ess} a) = maps (maps_kept dss ess a)
 
   pub groups_kept : (n : F.Group N G) (m : F.Group M H) → AlikeGroups A B n m → AlikeGroups R S n m
   groups_kept n m (entries {n = p} {m = q} a) = entries (types p q a)
