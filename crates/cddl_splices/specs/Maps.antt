@@ -1,5 +1,5 @@
 -- Alternatives of maps, by the parts of rows.
-use Rattle.std.specs.Prelude.{◌≡◌, List, Option}
+use Rattle.std.specs.Prelude.{◌≡◌, Option}
 use Rattle.cddl_meaning.specs.Alike.{AlikeAll}
 use Rattle.cddl_texts.specs.Occurrence.{most_in}
 use Rattle.cddl_language.specs.Terms.{Text, keyed}

@@ -2,6 +2,7 @@
 #![tactic(auto)]
 
 mod bounds;
+pub mod laws;
 mod parts;
 
 pub use crate::parts::parts_of;
