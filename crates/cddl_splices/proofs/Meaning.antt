@@ -121,8 +121,9 @@ module _ (xs : List Definition) (root : Text) (t : Table) (parts : List P.Part) 
   complete (suc zero) n g h r mss e = group_stands (names_in xs (suc zero)) (λ ms i. sym (same_some i)) (λ m f a b ms i. complete zero m f a b ms (sym (group_is xs zero f) ∙ i)) n g h r mss e
   complete (suc (suc k)) n g h r mss e = group_stands (names_in xs (suc (suc k))) (λ ms i. sym (same_some i)) (λ m f a b ms i. complete (suc k) m f a b ms (sym (group_is xs (suc k) f) ∙ i)) n g h r mss e
 
-  pub map_stands : (k n : ℕ) (g : Group) → IsGroup t n g → AreReached xs root (group_points g) → (mss : M.Alternatives) → alternatives_in xs k (alternatives g) ≡ Some mss → (nss : S.Alternatives) × StandsFor parts n nss × AreAlternatives t mss nss
-  map_stands k n g h r mss e = let s = complete k n g h r mss (sym (group_is xs k g) ∙ e) in (s.own, s.stands_for, s.alike)
+  pub choices_stand_so : (k n : ℕ) (ess : List Entries) → IsOf xs root t ess n → (mss : M.Alternatives) → alternatives_in xs k ess ≡ Some mss → (nss : S.Alternatives) × StandsFor parts n nss × AreAlternatives t mss nss
+  choices_stand_so k n _ no_choices mss e = ([], stands are.nothing S.nothing, subst (λ ns. AreAlternatives t ns []) (same_some (sym (in_is xs k []) ∙ e)) A.none)
+  choices_stand_so k n _ (choices_of g h r) mss e = let s = complete k n g h r mss (sym (group_is xs k g) ∙ e) in (s.own, s.stands_for, s.alike)
 
   -- What a part stands for, maps have, where one name more adds nothing.
   module _ (part_reached : (x : Term) (r : Ref) → AreReached xs root (points x) → part_of xs x ≡ names_group r → Reaches xs root r) (opening_reached : (x : Term) (r : Ref) (g : Group) → AreReached xs root (points x) → part_of xs x ≡ opens r g → Reaches xs root r) (m : ℕ) (back : Carries xs root (names_in xs (suc m)) (names_in xs m)) where
@@ -190,5 +191,5 @@ module _ (xs : List Definition) (root : Text) (t : Table) (parts : List P.Part) 
       entry_by (keyed o q x) h (of_keyed k) S.entry r = record { own = _; is = refl; alike = A.both (A.both (record { least = k.least; most = k.most; entry = (o, h) }) A.none) A.none }
       entry_by (grouped o g) h (of_grouped {b = b} k a) (S.occurs s i) r = occurs_has o b k (group_told s g a r) i
 
-    pub map_has : (n : ℕ) (g : Group) → IsGroup t n g → AreReached xs root (group_points g) → (nss : S.Alternatives) → StandsFor parts n nss → (mss : M.Alternatives) × (alternatives_in xs m (alternatives g) ≡ Some mss) × AreAlternatives t mss nss
-    map_has n g h r nss s = let k = group_told s g h r in (k.own, group_is xs m g ∙ k.is, k.alike)
+    pub choices_told : (n : ℕ) (ess : List Entries) → IsOf xs root t ess n → (nss : S.Alternatives) → StandsFor parts n nss → (mss : M.Alternatives) × (alternatives_in xs m ess ≡ Some mss) × AreAlternatives t mss nss
+    choices_told n ess a nss s = let k = choices_have s (λ g h r. group_told s g h r) ess a in (k.own, k.is, k.alike)
