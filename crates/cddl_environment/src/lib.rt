@@ -6,6 +6,3 @@ pub mod laws;
 mod places;
 
 pub use crate::environment::{Name, names};
-
-#[cfg(test)]
-mod tests;

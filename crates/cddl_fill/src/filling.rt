@@ -75,7 +75,7 @@ fn has_parts(terms: &Terms<'_>, row: Row) -> bool
         && is_part(terms, row.second)
 }
 
-pub(crate) fn is_part(terms: &Terms<'_>, number: Option<u32>) -> bool
+fn is_part(terms: &Terms<'_>, number: Option<u32>) -> bool
     ensures { IsTrue result ↔ IsPart terms.now number }
 {
     is_below(number, terms.len())

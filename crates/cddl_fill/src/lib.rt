@@ -11,6 +11,3 @@ mod store;
 mod template;
 
 pub use crate::template::Template;
-
-#[cfg(test)]
-mod tests;

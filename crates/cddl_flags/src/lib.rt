@@ -27,6 +27,3 @@ pub fn flags_of(alloc: Global, groups: &[Group]) -> Result<Vec<bool>, AllocError
     flags.truncate(groups.len());
     Ok(flags)
 }
-
-#[cfg(test)]
-mod tests;

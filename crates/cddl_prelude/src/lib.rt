@@ -4,7 +4,5 @@
 mod lines;
 mod numbering;
 mod prelude;
-#[cfg(test)]
-mod tests;
 
 pub use crate::prelude::add_prelude;

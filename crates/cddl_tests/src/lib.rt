@@ -1,7 +1,9 @@
-//! The tests of the crates that read the literals and the tokens of CDDL, of the one that numbers terms, and of the one that
-//! matches items: a crate with tests of its own is proved twice.
+//! The tests of the crates that read the literals and the tokens of CDDL, of the one that numbers terms, of the one that flags
+//! groups, and of the one that matches items: a crate with tests of its own is proved twice.
 #![tactic(auto)]
 
+#[cfg(test)]
+mod flags;
 #[cfg(test)]
 mod literal;
 #[cfg(test)]

@@ -16,6 +16,3 @@ pub use names::{is_group_socket, is_known_control, is_socket};
 pub use numbers::uint;
 pub use occurrences::{Occurrence, occurrence_of};
 pub use tags::{TagNumber, tag_number};
-
-#[cfg(test)]
-mod tests;

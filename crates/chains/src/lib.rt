@@ -94,6 +94,3 @@ fn answer_of(link: Link) -> Option<u32>
         Link::Next(_) => None,
     }
 }
-
-#[cfg(test)]
-mod tests;

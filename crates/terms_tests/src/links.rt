@@ -1,4 +1,4 @@
-use crate::{Link, ends};
+use chains::{Link, ends};
 use std::alloc::{AllocError, Global};
 
 const END: Link = Link::End(7);

@@ -1,4 +1,4 @@
-use crate::flags_of;
+use cddl_flags::flags_of;
 use cddl_table::{Group, GroupId, Most, TypeId};
 use std::alloc::{AllocError, Global};
 

@@ -1,4 +1,4 @@
-use crate::{Name, names};
+use cddl_environment::{Name, names};
 use cddl_terms::{Body, Definition, Sign};
 use std::alloc::{AllocError, Global};
 

@@ -1,4 +1,4 @@
-use crate::{
+use cddl_texts::{
     HashForm, TagNumber, hash_form, is_bad_hash, is_group_socket, is_known_control, is_socket,
     occurrence_of, tag_number, uint,
 };

@@ -1,8 +1,18 @@
-use crate::Template;
-use crate::filling::is_part;
-use crate::store::push;
+ghost use Rattle.std.specs.Prelude.{◌↔◌, IsTrue};
+ghost use Rattle.cddl_terms.specs.Table.{IsPart};
+
+use cddl_fill::Template;
 use cddl_terms::{Form, NoRoom, Terms};
 use std::alloc::Global;
+
+fn is_part(terms: &Terms<'_>, number: Option<u32>) -> bool
+    ensures { IsTrue result ↔ IsPart terms.now number }
+{
+    match number {
+        Some(number) => (number as usize) < terms.len(),
+        None => true,
+    }
+}
 
 /// The number of a row, whose parts have to be there.
 fn add<'s>(
@@ -67,9 +77,25 @@ fn fill_pair<'s>(
     let template = Template::new(alloc, terms, &numbers, body)?;
     let mut arguments = Vec::new(alloc);
     for text in names {
-        push(&mut arguments, name(terms, Form::Named, text)?)?;
+        let number = name(terms, Form::Named, text)?;
+        if arguments.push(number).is_err() {
+            return Err(NoRoom);
+        }
     }
     template.fill(alloc, terms, &arguments)
+}
+
+fn is_pair_in<'s>(
+    alloc: Global,
+    terms: &mut Terms<'s>,
+    parameters: [&'s str; 2],
+    names: &[&'s str],
+    one: &'s str,
+    form: Form,
+    other: &'s str,
+) -> Result<bool, NoRoom> {
+    let filled = fill_pair(alloc, terms, parameters, names)?;
+    Ok(filled == pair(terms, one, form, other)?)
 }
 
 /// Whether `[t, ~u, ]` filled so is `[one, other, ]`.
@@ -82,8 +108,7 @@ fn is_pair<'s>(
     other: &'s str,
 ) -> Result<bool, NoRoom> {
     let mut terms = Terms::new(alloc);
-    let filled = fill_pair(alloc, &mut terms, parameters, names)?;
-    Ok(filled == pair(&mut terms, one, form, other)?)
+    is_pair_in(alloc, &mut terms, parameters, names, one, form, other)
 }
 
 /// The type in a choice with itself, and that in a choice with itself, so often.
@@ -95,18 +120,37 @@ fn doubled(terms: &mut Terms<'_>, value: u32, times: u32) -> Result<u32, NoRoom>
     Ok(whole)
 }
 
+/// The name as a type, in 2 to the 1,000 places.
+fn many<'s>(terms: &mut Terms<'s>, text: &'s str) -> Result<u32, NoRoom> {
+    let value = name(terms, Form::Named, text)?;
+    doubled(terms, value, 1000)
+}
+
+/// What the body is with `int` in the place of `t`.
+fn with_int(alloc: Global, terms: &mut Terms<'_>, body: u32) -> Result<u32, NoRoom> {
+    let parameter = terms.add_text("t")?;
+    let int = name(terms, Form::Named, "int")?;
+    let template = Template::new(alloc, terms, &[parameter], body)?;
+    template.fill(alloc, terms, &[int])
+}
+
+/// What `t` in many places is with `int` in its place, and how many rows were added for it.
+fn fill_many(alloc: Global, terms: &mut Terms<'_>) -> Result<(u32, usize), NoRoom> {
+    let body = many(terms, "t")?;
+    let before = terms.len();
+    let filled = with_int(alloc, terms, body)?;
+    Ok((filled, terms.len().saturating_sub(before)))
+}
+
+fn is_shared(alloc: Global, terms: &mut Terms<'_>) -> Result<bool, NoRoom> {
+    let (filled, added) = fill_many(alloc, terms)?;
+    Ok(added == 1002 && many(terms, "int")? == filled)
+}
+
 /// Whether a body that is shared in 2 to the 1,000 places is filled, one row at a time.
 fn shares(alloc: Global) -> Result<bool, NoRoom> {
     let mut terms = Terms::new(alloc);
-    let parameter = terms.add_text("t")?;
-    let name_t = name(&mut terms, Form::Named, "t")?;
-    let body = doubled(&mut terms, name_t, 1000)?;
-    let before = terms.len();
-    let int = name(&mut terms, Form::Named, "int")?;
-    let template = Template::new(alloc, &terms, &[parameter], body)?;
-    let filled = template.fill(alloc, &mut terms, &[int])?;
-    let after = terms.len();
-    Ok(after.saturating_sub(before) == 1002 && doubled(&mut terms, int, 1000)? == filled)
+    is_shared(alloc, &mut terms)
 }
 
 #[test]

@@ -1,0 +1,14 @@
+//! The tests of the crates that read the texts of tokens, number the prelude, fill bodies, and find where names are defined and
+//! where chains end: a crate with tests of its own is proved twice.
+#![tactic(auto)]
+
+#[cfg(test)]
+mod environment;
+#[cfg(test)]
+mod fill;
+#[cfg(test)]
+mod links;
+#[cfg(test)]
+mod prelude;
+#[cfg(test)]
+mod texts;
