@@ -1,0 +1,65 @@
+//! What groups in maps stand for (RFC 8610 section 3.5): the alternatives of parts that are known by numbers, and what can be
+//! told of them before any is made.
+#![tactic(auto)]
+
+mod search;
+pub mod summary;
+
+ghost use Rattle.std.specs.Prelude.{◌≡◌, IfOk};
+ghost use Rattle.splices.specs.Summaries.{AreSummaries};
+
+pub use crate::summary::{Sorts, Summary};
+use crate::search::first_search;
+use std::alloc::{AllocError, Global};
+
+/// How often at least and at most; None is without an end.
+#[derive(Clone, Copy)]
+pub struct Bounds {
+    pub least: u64,
+    pub most: Option<u64>,
+}
+
+/// A part of what groups in maps say. Others are named by their numbers; a number that is no part's stands for nothing.
+#[derive(Clone, Copy)]
+pub enum Part {
+    /// An entry without a key, which a map may not have.
+    Refused,
+    /// An entry with a key. It goes by the number of this part.
+    Entry(Bounds),
+    /// No entries: one alternative, without members.
+    Empty,
+    /// A choice of nothing: no alternative.
+    Nothing,
+    /// What another part has.
+    Same(usize),
+    /// All ways to take an alternative of the first and then one of the second, the first slowest.
+    Both(usize, usize),
+    /// The alternatives of the first, then those of the second.
+    Either(usize, usize),
+    /// A group with an occurrence.
+    Occurs(Bounds, usize),
+}
+
+/// An entry of an alternative: how many pairs may belong to it.
+#[derive(Clone, Copy)]
+pub struct Member {
+    /// The number of the part that the entry is.
+    pub entry: usize,
+    pub bounds: Bounds,
+}
+
+/// For each part a summary of the alternatives that it stands for, or None where it stands for nothing.
+///
+/// The time is linear in the parts, whatever they are, and nothing recurses. An error comes only where memory is refused.
+pub fn summaries(alloc: Global, parts: &[Part]) -> Result<Vec<Option<Summary>>, AllocError>
+    ensures { IfOk result (λ v. AreSummaries parts.now v.items) }
+{
+    let mut search = first_search(alloc, parts.len())?;
+    for number in 0..parts.len() {
+        search.visit(parts, number)?;
+    }
+    Ok(search.summaries)
+}
+
+#[cfg(test)]
+mod tests;
