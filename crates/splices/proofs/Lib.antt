@@ -5,3 +5,4 @@ pub mod Lists
 pub mod Counts
 pub mod Summing
 pub mod Steps
+pub mod Asked

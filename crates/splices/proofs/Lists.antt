@@ -1,5 +1,5 @@
 -- What is at a place of a list.
-use Rattle.std.proofs.Common.{◌≡◌, ℕ, zero, suc, ◌+◌, ◌-◌, ◌<◌, ◌≤◌, List, [], ◌∷◌, ◌++◌, length, take, set, replicate, Bool, true, false, Option, Some, None, ◌⊎◌, inl, inr, slice_get, slice_index_or, refl, sym, ap, subst, ◌∙◌, arith}
+use Rattle.std.proofs.Common.{◌≡◌, ℕ, zero, suc, ◌+◌, ◌<◌, ◌≤◌, List, [], ◌∷◌, ◌++◌, length, take, set, replicate, Bool, true, false, Some, None, ◌⊎◌, inl, inr, slice_get, slice_index_or, refl, ap, subst, arith}
 use Rattle.splices.specs.Search.{count_unseen}
 use Rattle.splices.proofs.Once.{same_some}
 
@@ -8,6 +8,11 @@ never_some x e = cc
 
 pub true_false : {A : Type 0} → true ≡ false → A
 true_false e = cc
+
+pub less_or : (a b : ℕ) → (a < b) ⊎ (b ≤ a)
+less_or a zero = inr (omega arith)
+less_or zero (suc b) = inl (omega arith)
+less_or (suc a) (suc b) = elim (less_or a b) [ inl h ↦ inl (omega (arith, h)) | inr h ↦ inr (omega (arith, h)) ]
 
 pub within : {A : Type 0} (xs : List A) (i : ℕ) (x : A) → slice_get xs i ≡ Some x → i < length xs
 within [] i x e = absurd (never_some x e)

@@ -1,7 +1,6 @@
 -- A part stands for one list of alternatives at most, and for none where it comes back to itself.
-use Rattle.std.proofs.Common.{◌≡◌, ℕ, List, ◌++◌, Option, Some, refl, sym, ap, subst, ◌∙◌, slice_get}
+use Rattle.std.proofs.Common.{◌≡◌, ℕ, List, ◌++◌, Some, refl, sym, ap, subst, ◌∙◌, slice_get}
 use Rattle.splices.specs.declared.Part.{Part}
-use Rattle.splices.specs.declared.Part.TheVariants.{Same, Both, Either, Occurs}
 use Rattle.splices.specs.Splices.{Alternatives, ways, occurring, StandsFor, stands, Splices, entry, empty, nothing, same, both, either, occurs}
 use Rattle.splices.specs.Search.{Has, has_same, has_first, has_second, has_one, has_other, has_group, LeadsTo, LeadsOn, leads, leads_on}
 

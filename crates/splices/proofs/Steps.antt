@@ -1,15 +1,15 @@
 -- Each step of the search keeps what holds on the way, and at its end all summaries are right.
-use Rattle.std.proofs.Common.{◌≡◌, ◌⊎◌, ℕ, zero, suc, ◌+◌, ◌*◌, ◌-◌, ◌<◌, ◌≤◌, List, [], ◌∷◌, ◌++◌, length, set, take, replicate, Bool, true, false, if◌then◌else◌, Option, Some, None, Result, Ok, Err, IfOk, inl, inr, slice_get, slice_index_or, refl, sym, ap, subst, ◌∙◌, arith}
+use Rattle.std.proofs.Common.{◌≡◌, ◌⊎◌, ℕ, zero, suc, ◌+◌, ◌-◌, ◌<◌, ◌≤◌, List, [], ◌∷◌, ◌++◌, length, set, replicate, Bool, true, false, if◌then◌else◌, Option, Some, None, Result, Ok, Err, IfOk, inl, inr, slice_get, slice_index_or, refl, sym, ap, subst, ◌∙◌, arith}
 use Rattle.std.proofs.lemmas.Option.{slice_get-get_or}
 use Rattle.splices.specs.declared.Bounds.{Bounds}
 use Rattle.splices.specs.declared.Part.{Part}
 use Rattle.splices.specs.declared.Part.TheVariants.{Refused, Entry, Empty, Nothing, Same, Both, Either, Occurs}
 use Rattle.splices.specs.declared.summary.Summary.{Summary}
 use Rattle.splices.specs.Splices.{Alternatives, ways, occurring, StandsFor, stands, Splices, entry, empty, nothing, same, both, either, occurs}
-use Rattle.splices.specs.Summaries.{Describes, HasSummary, IsSummary, AreSummaries}
-use Rattle.splices.specs.Search.{State, Has, has_same, has_first, has_second, has_one, has_other, has_group, LeadsTo, LeadsOn, leads, leads_on, IsOnPath, IsKept, IsEnded, Keeps, unseen, or_else, next_of, entered, left, at, value, joining, occurring_so, occurring_summary, both_summary, either_summary, count_unseen, gap}
+use Rattle.splices.specs.Summaries.{IsSummary, AreSummaries}
+use Rattle.splices.specs.Search.{State, Has, has_same, has_first, has_second, has_one, has_other, has_group, LeadsTo, LeadsOn, leads, leads_on, IsOnPath, IsKept, IsEnded, Keeps, unseen, or_else, next_of, entered, left, at, value, joining, occurring_so, both_summary, either_summary, gap}
 use Rattle.splices.proofs.Once.{same_some, splices_at, join_to, no_round, once}
-use Rattle.splices.proofs.Lists.{never_some, true_false, within, there_is, read_there, read_past, false_there, set_length, set_there, after_set, still_true, push_length, push_there, push_before, after_push, take_there, take_before, take_length, replicate_at, replicate_length, none_left, one_seen}
+use Rattle.splices.proofs.Lists.{never_some, true_false, less_or, within, there_is, read_there, read_past, false_there, set_length, set_there, after_set, still_true, push_length, push_there, push_before, after_push, take_there, take_before, take_length, replicate_at, replicate_length, none_left, one_seen}
 use Rattle.splices.proofs.Summing.{of_entry, of_empty, of_nothing, of_both, of_either, of_occurring, Agree}
 
 -- what is not yet seen
@@ -182,11 +182,6 @@ module _ (parts : List Part) (s : State) (kept : IsKept parts s) where
         where
           none : (mss : Alternatives) → StandsFor parts c mss → ⊥
           none mss (stands {p = q} e d) = let k = within parts c q e in omega (arith, l, k)
-
-      less_or : (a b : ℕ) → (a < b) ⊎ (b ≤ a)
-      less_or a zero = inr (omega arith)
-      less_or zero (suc b) = inl (omega arith)
-      less_or (suc a) (suc b) = elim (less_or a b) [ inl h ↦ inl (omega (arith, h)) | inr h ↦ inr (omega (arith, h)) ]
 
       pub top_value : next_of s.seen p ≡ None → IsSummary parts n (value s.summaries p)
       top_value e = value_is parts n s.summaries p there (λ c h. elim (less_or c (length parts)) [ inl l ↦ child_within e c h l | inr l ↦ child_past c l ])

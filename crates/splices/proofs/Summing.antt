@@ -1,17 +1,17 @@
 -- What each way to make a summary of others says of the alternatives.
-use Rattle.std.proofs.Common.{◌≡◌, ◌<◌, ◌≤◌, ℕ, zero, suc, ◌+◌, ◌*◌, min, List, [], ◌∷◌, ◌++◌, map, length, Bool, true, false, not, cond, ◌&&◌, ◌||◌, if◌then◌else◌, Option, Some, None, refl, sym, ap, ◌∙◌, nat_eq, nat_lt, arith}
+use Rattle.std.proofs.Common.{◌≡◌, ℕ, zero, suc, ◌+◌, ◌*◌, List, [], ◌∷◌, ◌++◌, map, length, Bool, true, false, not, ◌&&◌, ◌||◌, if◌then◌else◌, Option, Some, None, refl, sym, ap, ◌∙◌, nat_eq, nat_lt, arith}
 use Rattle.std.specs.List.{list_all}
 use Rattle.std.proofs.lemmas.Bool.Decides.{nat_tests}
 use Rattle.splices.specs.declared.Bounds.{Bounds}
 use Rattle.splices.specs.declared.Member.{Member}
 use Rattle.splices.specs.declared.summary.Sorts.{Sorts}
 use Rattle.splices.specs.declared.summary.Summary.{Summary}
-use Rattle.splices.specs.Splices.{Alternatives, members, ways, is_optional, is_needed, may_repeat, is_open, from, each_needed, occurring, entry_of}
-use Rattle.splices.specs.Sorts.{Sort, empty, optional, needed, other, sort, no_sorts, only, joined, sorts_of, any_closed}
+use Rattle.splices.specs.Splices.{Alternatives, members, ways, is_optional, is_needed, is_open, from, each_needed, occurring, entry_of}
+use Rattle.splices.specs.Sorts.{empty, optional, needed, other, sort, only, joined, sorts_of, any_closed}
 use Rattle.splices.specs.Summaries.{capped, Describes}
 use Rattle.splices.specs.Search.{beside_sorts, single_sort, entry_summary, empty_summary, no_summary, both_summary, either_summary, occurring_summary}
 use Rattle.splices.proofs.SortSets.{beside, sort_append, sorts_append, sorts_ways, same_joined}
-use Rattle.splices.proofs.Marks.{some, closed_append, closed_both, closed_ways, closed_from, append_nothing, by_minimum, only_one, not_none, not_one, all_repeat, all_needed}
+use Rattle.splices.proofs.Marks.{closed_append, closed_both, closed_ways, closed_from, append_nothing, by_minimum, only_one, not_none, not_one, all_repeat, all_needed}
 use Rattle.splices.proofs.Counts.{cap_sum, cap_product, some_is, length_ways, members_both, members_ways, length_from, length_needed, members_needed}
 
 same_two : {A B : Type 0} {a b c d : A} (f : A → A → B) → a ≡ c → b ≡ d → f a b ≡ f c d

@@ -1,12 +1,12 @@
 -- How summaries are made of one another, and the search that makes them: its states, and what holds on the way.
-use Rattle.std.specs.Prelude.{◌≡◌, ◌⊎◌, ℕ, zero, suc, ◌+◌, ◌*◌, ◌-◌, ◌<◌, List, [], ◌∷◌, ◌++◌, length, set, take, Bool, true, false, if◌then◌else◌, ◌&&◌, ◌||◌, not, nat_eq, nat_lt, Option, Some, None, slice_get, slice_index_or}
+use Rattle.std.specs.Prelude.{◌≡◌, ◌⊎◌, ℕ, zero, suc, ◌+◌, ◌*◌, ◌-◌, List, [], ◌∷◌, ◌++◌, length, set, take, Bool, true, false, if◌then◌else◌, ◌&&◌, ◌||◌, not, nat_eq, nat_lt, is_none, Option, Some, None, slice_get, slice_index_or}
 use Rattle.splices.specs.declared.Bounds.{Bounds}
 use Rattle.splices.specs.declared.Part.{Part}
 use Rattle.splices.specs.declared.Part.TheVariants.{Refused, Entry, Empty, Nothing, Same, Both, Either, Occurs}
 use Rattle.splices.specs.declared.summary.Sorts.{Sorts}
 use Rattle.splices.specs.declared.summary.Summary.{Summary}
 use Rattle.splices.specs.declared.search.Search.{Search}
-use Rattle.splices.specs.Splices.{Alternatives, is_open, StandsFor}
+use Rattle.splices.specs.Splices.{is_open}
 use Rattle.splices.specs.Sorts.{Sort, empty, optional, needed, other, no_sorts, only, joined}
 use Rattle.splices.specs.Summaries.{capped, IsSummary}
 
@@ -74,9 +74,19 @@ abbrev pub occurring_so : Bounds → Option Summary → Option Summary
 occurring_so b (Some s) = occurring_summary b.least b.most s
 occurring_so b None = None
 
+-- whether a group may not occur so; one that stands for nothing is taken for one of no alternative
+abbrev pub refuses : Bounds → Option Summary → Bool
+refuses b (Some s) = is_none (occurring_summary b.least b.most s)
+refuses b None = is_none (occurring_summary b.least b.most no_summary)
+
 -- what is known at a number
 abbrev pub at : List (Option Summary) → ℕ → Option Summary
 at ss n = slice_index_or ss n None
+
+-- whether the part is a group that may not occur so
+abbrev pub bad : List (Option Summary) → Part → Bool
+bad ss (Occurs b a) = refuses b (at ss a)
+bad ss _ = false
 
 -- the summary of a part by those of the parts that it has
 abbrev pub value : List (Option Summary) → Part → Option Summary

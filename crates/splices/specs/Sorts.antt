@@ -1,9 +1,9 @@
 -- The sorts of alternatives, by which it is told which occurrences a group may have.
-use Rattle.std.specs.Prelude.{ℕ, Bool, true, false, if◌then◌else◌, ◌&&◌, ◌||◌, not, List, [], ◌∷◌}
+use Rattle.std.specs.Prelude.{Bool, true, false, if◌then◌else◌, ◌||◌, not, List, [], ◌∷◌}
 use Rattle.std.specs.List.{list_all, list_any}
 use Rattle.splices.specs.declared.Member.{Member}
 use Rattle.splices.specs.declared.summary.Sorts.{Sorts}
-use Rattle.splices.specs.Splices.{Alternatives, members, is_optional, is_open, is_needed}
+use Rattle.splices.specs.Splices.{Alternatives, is_optional, is_open, is_needed}
 
 -- without members; only members of minimum 0; one member, of minimum 1; other ones
 pub data Sort : Type 0 where

@@ -1,7 +1,7 @@
-ghost use Rattle.std.specs.Prelude.{◌≡◌, ◌+◌, ◌*◌, slice_index_or};
+ghost use Rattle.std.specs.Prelude.{◌≡◌, ◌+◌, ◌*◌};
 ghost use Rattle.splices.specs.Summaries.{capped};
 ghost use Rattle.splices.specs.Sorts.{joined, only};
-ghost use Rattle.splices.specs.Search.{at, beside_sorts, both_summary, either_summary, entry_summary, joining, needed_summary, no_summary, empty_summary, occurring_so, occurring_summary, repeated_summary, single_sort, value};
+ghost use Rattle.splices.specs.Search.{at, beside_sorts, both_summary, either_summary, entry_summary, needed_summary, no_summary, empty_summary, occurring_summary, refuses, repeated_summary, single_sort, value};
 
 use crate::{Bounds, Part};
 
@@ -253,4 +253,12 @@ pub fn summary_of(summaries: &[Option<Summary>], part: Part) -> Option<Summary>
         }
         Part::Occurs(bounds, group) => of_occurring(bounds, summary_at(summaries, group)?),
     }
+}
+
+/// Whether a group with this summary may not occur so. One that stands for nothing is taken for one of no alternative, which
+/// may occur as often as any group may.
+pub fn is_refused(bounds: Bounds, group: Option<Summary>) -> bool
+    ensures { result ≡ refuses bounds group }
+{
+    of_occurring(bounds, group.unwrap_or(of_nothing())).is_none()
 }

@@ -1,5 +1,5 @@
-use Rattle.std.proofs.Common.{rules, ◌≡◌, ◌<◌, ap, subst, sym}
-use Rattle.splices.specs.Search.{IsKept, Keeps, entered, gap, left, state, value}
+use Rattle.std.proofs.Common.{rules, ◌<◌, subst, sym}
+use Rattle.splices.specs.Search.{IsKept, Keeps, entered, gap, state}
 use Rattle.splices.proofs.Steps.{IsStep, top_within, top_summary, next_within, goes_on, goes_back, ok_then}
 use Rattle.splices.proofs.search.Search.step.Goals as goal
 
