@@ -126,6 +126,7 @@ repeats ms = both (shape_is ms) (open_is ms) ∙ by (only (sort ms)).other (any_
   where
     both : {a b c d : Bool} → a ≡ b → c ≡ d → (a && c) ≡ (b && d)
     both p q = cc
+
     by : (a b : Bool) → not a && not b ≡ not (b || a)
     by true true = refl
     by true false = refl

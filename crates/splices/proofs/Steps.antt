@@ -197,6 +197,7 @@ module _ (parts : List Part) (s : State) (kept : IsKept parts s) where
           less zero (suc b) = inl (omega arith)
           less (suc a) zero = inr (inr (omega arith))
           less (suc a) (suc b) = elim (less a b) [ inl k ↦ inl (omega (arith, k)) | inr k ↦ elim k [ inl q ↦ inr (inl (ap suc q)) | inr q ↦ inr (inr (omega (arith, q))) ] ]
+
           by : (i < length s.path - 1) ⊎ ((i ≡ length s.path - 1) ⊎ (length s.path - 1 < i)) → i < length s.path - 1
           by (inl k) = k
           by (inr (inl q)) = absurd (h (same_some n x (sym top ∙ (ap (slice_get s.path) (sym q) ∙ e))))

@@ -4,16 +4,16 @@
 
 pub mod laws;
 mod search;
-pub mod summary;
+mod summary;
 
 ghost use Rattle.std.specs.Prelude.{◌≡◌, ◌↔◌, true, IfOk};
 ghost use Rattle.splices.specs.Search.{bad};
 ghost use Rattle.splices.specs.Splices.{Alternatives};
 ghost use Rattle.splices.specs.Summaries.{AreSummaries, AreTooMany, Describes, OccursBadly};
 
-pub use crate::summary::{Sorts, Summary};
 use crate::search::first_search;
-use crate::summary::{MOST_ALTERNATIVES, MOST_MEMBERS, is_refused, summary_at};
+pub use crate::summary::{MOST_ALTERNATIVES, MOST_MEMBERS, Sorts, Summary};
+use crate::summary::{is_refused, summary_at};
 use std::alloc::{AllocError, Global};
 
 /// How often at least and at most; None is without an end.

@@ -134,7 +134,7 @@ fn of_empty() -> Summary
 }
 
 /// Of no alternative.
-fn of_nothing() -> Summary
+pub fn of_nothing() -> Summary
     ensures { result ≡ no_summary }
 {
     Summary {
