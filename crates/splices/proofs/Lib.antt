@@ -6,3 +6,4 @@ pub mod Counts
 pub mod Summing
 pub mod Steps
 pub mod Asked
+pub mod Making

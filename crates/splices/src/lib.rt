@@ -3,6 +3,7 @@
 #![tactic(auto)]
 
 pub mod laws;
+mod pieces;
 mod search;
 mod summary;
 
