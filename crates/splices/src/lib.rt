@@ -2,6 +2,7 @@
 //! told of them before any is made.
 #![tactic(auto)]
 
+mod build;
 pub mod laws;
 mod pieces;
 mod search;
