@@ -7,3 +7,4 @@ pub mod Summing
 pub mod Steps
 pub mod Asked
 pub mod Making
+pub mod Tasks

@@ -88,3 +88,20 @@ task_weight (Occur o) = 1
 abbrev pub load : List Task → ℕ
 load [] = 0
 load (t ∷ ts) = task_weight t + load ts
+
+-- each way on through parts ends after so many
+abbrev pub Ends : List Part → ℕ → ℕ → Type 0
+Ends parts zero n = ⊥
+Ends parts (suc k) n = (c : ℕ) → LeadsTo parts n c → Ends parts k c
+
+pub record IsReady (parts : List Part) (n k : ℕ) : Type 0 where
+  pub small : IsSmall parts n
+  pub ends : Ends parts k n
+
+-- no list that is to be made is too large
+abbrev pub AreReady : List Part → List Task → Type 0
+AreReady parts [] = Unit {0}
+AreReady parts (Make n k ∷ ts) = IsReady parts n k × AreReady parts ts
+AreReady parts (Beside ∷ ts) = AreReady parts ts
+AreReady parts (After ∷ ts) = AreReady parts ts
+AreReady parts (Occur o ∷ ts) = AreReady parts ts

@@ -1,5 +1,5 @@
 ghost use Rattle.std.specs.Prelude.{◌≡◌, ◌++◌, ◌∷◌, ◌<◌, ◌+◌, [], ℕ, IfOk, IsTrue, List, Some, length, map, reverse, slice_get, true, vec_items};
-ghost use Rattle.splices.specs.Building.{Build, IsDone, Yields, build, is_large, load, made, result_is, split, task_weight};
+ghost use Rattle.splices.specs.Building.{AreReady, IsDone, Yields, build, is_large, made, result_is, split};
 ghost use Rattle.splices.specs.Splices.{Alternatives, occurring, ways};
 ghost use Rattle.splices.specs.Search.{at};
 ghost use Rattle.splices.specs.Summaries.{AreSummaries};
@@ -29,7 +29,38 @@ pub struct Builder {
     pub lists: Vec<Vec<Vec<Member>>>,
 }
 
+/// The builder of the list of this part.
+pub fn builder_of(alloc: Global, number: usize, depth: usize) -> Result<Builder, AllocError>
+    ensures tasks { IfOk result (λ b. (build b).tasks ≡ Task.Make number depth ∷ []) }
+    ensures lists { IfOk result (λ b. (build b).lists ≡ []) }
+{
+    let mut tasks = Vec::new(alloc);
+    tasks.push(Task::Make(number, depth))?;
+    Ok(Builder {
+        tasks,
+        lists: Vec::new(alloc),
+    })
+}
+
 impl Builder {
+    /// Does all tasks, and says whether there is a list.
+    pub fn run(
+        &mut self,
+        alloc: Global,
+        parts: &[Part],
+        summaries: &[Option<Summary>],
+    ) -> Result<bool, AllocError>
+        ensures list { AreSummaries parts.now summaries.now → (all : Alternatives) → Yields parts.now (build self.old).tasks (build self.old).lists all → IfOk result (λ goes. goes ≡ true → (build self.new).lists ≡ all ∷ []) }
+        ensures goes { AreSummaries parts.now summaries.now → (all : Alternatives) → Yields parts.now (build self.old).tasks (build self.old).lists all → AreReady parts.now (build self.old).tasks → IfOk result (λ goes. goes ≡ true) }
+    {
+        while let Some(task) = self.tasks.pop() {
+            if !self.step(alloc, parts, summaries, task)? {
+                return Ok(false);
+            }
+        }
+        Ok(true)
+    }
+
     /// Does the task, and says whether there is a list to be made.
     fn step(
         &mut self,

@@ -8,11 +8,13 @@ mod pieces;
 mod search;
 mod summary;
 
-ghost use Rattle.std.specs.Prelude.{◌≡◌, ◌↔◌, true, IfOk};
+ghost use Rattle.std.specs.Prelude.{◌≡◌, ◌↔◌, true, IfOk, IfSome, IsSome, map, vec_items};
+ghost use Rattle.splices.specs.Building.{IsSmall};
 ghost use Rattle.splices.specs.Search.{bad};
-ghost use Rattle.splices.specs.Splices.{Alternatives};
+ghost use Rattle.splices.specs.Splices.{Alternatives, StandsFor};
 ghost use Rattle.splices.specs.Summaries.{AreSummaries, AreTooMany, Describes, OccursBadly};
 
+use crate::build::builder_of;
 use crate::search::first_search;
 pub use crate::summary::{MOST_ALTERNATIVES, MOST_MEMBERS, Sorts, Summary};
 use crate::summary::{is_refused, summary_at};
@@ -89,6 +91,29 @@ pub fn is_too_large(summary: Summary) -> bool
     ensures { (mss : Alternatives) → Describes mss summary → (result ≡ true) ↔ AreTooMany mss }
 {
     summary.alternatives > MOST_ALTERNATIVES || summary.members > MOST_MEMBERS
+}
+
+/// The alternatives that the part stands for, by its summaries: None where it stands for nothing, and where it or a part that
+/// it needs has too many. A part that stands for no alternative needs no other.
+///
+/// Nothing recurses, and no list is made that would be too large. An error comes only where memory is refused.
+pub fn alternatives(
+    alloc: Global,
+    parts: &[Part],
+    summaries: &[Option<Summary>],
+    number: usize,
+) -> Result<Option<Vec<Vec<Member>>>, AllocError>
+    ensures right { AreSummaries parts.now summaries.now → IfOk result (λ o. IfSome o (λ v. StandsFor parts.now number (map vec_items v.items))) }
+    ensures all { AreSummaries parts.now summaries.now → IsSmall parts.now number → IfOk result IsSome }
+{
+    if summary_at(summaries, number).is_none() {
+        return Ok(None);
+    }
+    let mut builder = builder_of(alloc, number, parts.len())?;
+    if !builder.run(alloc, parts, summaries)? {
+        return Ok(None);
+    }
+    Ok(builder.lists.pop())
 }
 
 #[cfg(test)]
