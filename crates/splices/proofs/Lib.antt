@@ -8,3 +8,5 @@ pub mod Steps
 pub mod Asked
 pub mod Making
 pub mod Tasks
+pub mod Depth
+pub mod Ending

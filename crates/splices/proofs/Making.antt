@@ -1,5 +1,5 @@
 -- How lists of alternatives grow while they are made.
-use Rattle.std.proofs.Common.{◌≡◌, ℕ, zero, suc, ◌+◌, ◌<◌, ◌≤◌, List, [], ◌∷◌, ◌++◌, map, length, take, drop, replicate, Option, Some, None, slice_get, slice_index_or, refl, sym, ap, subst, ◌∙◌, append_assoc, arith}
+use Rattle.std.proofs.Common.{◌≡◌, ℕ, zero, suc, ◌+◌, ◌<◌, List, [], ◌∷◌, ◌++◌, map, length, take, drop, replicate, Some, slice_get, slice_index_or, refl, sym, ap, ◌∙◌, append_assoc, arith}
 use Rattle.splices.specs.declared.Member.{Member}
 use Rattle.splices.specs.Splices.{Alternatives, members, behind, ways, from, each_needed}
 use Rattle.splices.proofs.Once.{same_some}
@@ -21,7 +21,7 @@ take_suc [] i x e = absurd (never_some x e)
 take_suc (y ∷ s) zero x e = ap (λ z. z ∷ []) (same_some y x e)
 take_suc (y ∷ s) (suc i) x e = ap (λ zs. y ∷ zs) (take_suc s i x e)
 
-map_push : {A B : Type 0} (f : A → B) (xs : List A) (v : A) → map f (xs ++ v ∷ []) ≡ map f xs ++ f v ∷ []
+pub map_push : {A B : Type 0} (f : A → B) (xs : List A) (v : A) → map f (xs ++ v ∷ []) ≡ map f xs ++ f v ∷ []
 map_push f [] v = refl
 map_push f (x ∷ xs) v = ap (λ ys. f x ∷ ys) (map_push f xs v)
 
@@ -40,7 +40,7 @@ get_map f [] i x e = absurd (never_some x e)
 get_map f (y ∷ xs) zero x e = ap (λ z. Some (f z)) (same_some y x e)
 get_map f (y ∷ xs) (suc i) x e = get_map f xs i x e
 
-length_map : {A B : Type 0} (f : A → B) (xs : List A) → length (map f xs) ≡ length xs
+pub length_map : {A B : Type 0} (f : A → B) (xs : List A) → length (map f xs) ≡ length xs
 length_map f [] = refl
 length_map f (x ∷ xs) = ap suc (length_map f xs)
 

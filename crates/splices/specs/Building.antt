@@ -1,6 +1,5 @@
 -- How a list of alternatives is made: tasks wait, the last one comes next, and so do the lists that were made.
-use Rattle.std.specs.Prelude.{◌≡◌, ◌⊎◌, ℕ, zero, suc, ◌+◌, ◌*◌, ◌<◌, List, [], ◌∷◌, ◌++◌, length, map, reverse, replicate, Bool, true, false, if◌then◌else◌, ◌||◌, nat_eq, nat_lt, Option, Some, None, slice_get, vec_items}
-use Rattle.splices.specs.declared.Bounds.{Bounds}
+use Rattle.std.specs.Prelude.{◌≡◌, ℕ, zero, suc, ◌+◌, ◌*◌, List, [], ◌∷◌, ◌++◌, map, reverse, replicate, Bool, true, false, if◌then◌else◌, ◌||◌, nat_eq, nat_lt, Option, Some, None, slice_get, vec_items}
 use Rattle.splices.specs.declared.Member.{Member}
 use Rattle.splices.specs.declared.Part.{Part}
 use Rattle.splices.specs.declared.Part.TheVariants.{Entry, Same, Both, Either, Occurs}

@@ -88,10 +88,7 @@ fn member_from(least: u64, member: Member) -> Member
 }
 
 /// All members of the alternatives, in order, none of them needed.
-fn all_from_none(
-    alloc: Global,
-    alternatives: &[Vec<Member>],
-) -> Result<Vec<Member>, AllocError>
+fn all_from_none(alloc: Global, alternatives: &[Vec<Member>]) -> Result<Vec<Member>, AllocError>
     ensures { IfOk result (λ v. v.items ≡ map (from 0) (members (map vec_items alternatives.now))) }
 {
     let mut all = Vec::new(alloc);

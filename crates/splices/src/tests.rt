@@ -1,4 +1,4 @@
-use crate::{Bounds, Part, Summary, is_too_large, occurs_badly, summaries};
+use crate::{Bounds, Member, Part, Summary, alternatives, is_too_large, occurs_badly, summaries};
 use std::alloc::{AllocError, Global};
 
 const ONCE: Bounds = Bounds {
@@ -134,10 +134,80 @@ fn tells_what_is_too_large(rt: HostRuntime) -> Result<(), AllocError> {
     Ok(())
 }
 
+/// The alternatives of the last part.
+fn last_alternatives(
+    alloc: Global,
+    parts: &[Part],
+) -> Result<Option<Vec<Vec<Member>>>, AllocError> {
+    let found = summaries(alloc, parts)?;
+    alternatives(alloc, parts, &found, parts.len() - 1)
+}
+
+/// Whether the last part has so many alternatives, of which this one has these entries, each so often at least.
+fn has(
+    alloc: Global,
+    parts: &[Part],
+    count: usize,
+    number: usize,
+    members: &[(usize, u64)],
+) -> Result<bool, AllocError> {
+    let Some(found) = last_alternatives(alloc, parts)? else {
+        return Ok(false);
+    };
+    if found.len() != count || number >= count || found[number].len() != members.len() {
+        return Ok(false);
+    }
+    let mut right = true;
+    for (member, wanted) in found[number].iter().zip(members) {
+        right = right && member.entry == wanted.0 && member.bounds.least == wanted.1;
+    }
+    Ok(right)
+}
+
+#[test]
+fn makes_alternatives(rt: HostRuntime) -> Result<(), AllocError> {
+    let alloc = rt.alloc();
+    let entry = Part::Entry(ONCE);
+    let choice = [entry, entry, Part::Either(0, 1), Part::Both(2, 2)];
+    assert!(rt; has(alloc, &choice, 4, 1, &[(0, 1), (1, 1)])?);
+    assert!(rt; has(alloc, &choice, 4, 2, &[(1, 1), (0, 1)])?);
+    let optional = [entry, Part::Occurs(OPTIONAL, 0)];
+    assert!(rt; has(alloc, &optional, 2, 0, &[(0, 1)])? && has(alloc, &optional, 2, 1, &[])?);
+    let repeated = [entry, entry, Part::Either(0, 1), Part::Occurs(REPEATED, 2)];
+    assert!(rt; has(alloc, &repeated, 1, 0, &[(0, 0), (1, 0)])?);
+    let needed = [entry, entry, Part::Either(0, 1), Part::Occurs(NEEDED, 2)];
+    assert!(rt; has(alloc, &needed, 2, 1, &[(0, 0), (1, 1)])?);
+    assert!(rt; last_alternatives(alloc, &[entry, Part::Both(0, 1)])?.is_none());
+    Ok(())
+}
+
+#[test]
+fn makes_nothing_large(rt: HostRuntime) -> Result<(), AllocError> {
+    let alloc = rt.alloc();
+    let mut parts = doubled(alloc, 20)?;
+    assert!(rt; last_alternatives(alloc, &parts)?.is_none());
+    parts.push(Part::Nothing)?;
+    parts.push(Part::Both(21, 22))?;
+    let Some(none) = last_alternatives(alloc, &parts)? else {
+        return Ok(());
+    };
+    assert!(rt; none.is_empty());
+    Ok(())
+}
+
 // Run with each allocation refused in turn (`rt try --test --fail-alloc N`), this finds no other answer.
 #[test]
 fn answers_or_wants_memory(rt: HostRuntime) {
     if let Ok(right) = counts(rt.alloc(), &[Part::Same(1), Part::Empty], 1, 0) {
+        assert!(rt; right);
+    }
+    if let Ok(right) = has(
+        rt.alloc(),
+        &[Part::Entry(ONCE), Part::Both(0, 0)],
+        1,
+        0,
+        &[(0, 1), (0, 1)],
+    ) {
         assert!(rt; right);
     }
 }

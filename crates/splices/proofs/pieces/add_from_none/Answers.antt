@@ -1,6 +1,5 @@
-use Rattle.std.proofs.Common.{◌≡◌, ◌++◌, ◌∷◌, [], ◌∙◌, ap, slice_index_or}
+use Rattle.std.proofs.Common.{◌++◌, ◌∷◌, [], ◌∙◌, ap}
 use Rattle.std.proofs.lemmas.Option.{slice_get-get_or}
-use Rattle.splices.specs.Splices.{from}
 use Rattle.splices.proofs.Making.{one_member}
 use Rattle.splices.proofs.pieces.add_from_none.Goals as goal
 

@@ -1,4 +1,3 @@
-use Rattle.std.proofs.Common.{IfOk}
 use Rattle.splices.specs.Splices.{Alternatives}
 use Rattle.splices.specs.Summaries.{AreSummaries}
 use Rattle.splices.specs.Building.{AreReady, Yields, build, load}
