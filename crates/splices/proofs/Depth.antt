@@ -1,8 +1,8 @@
 -- A way on through parts that stand for something meets no part twice, and so ends after as many as there are.
 use Rattle.std.proofs.Common.{◌≡◌, ◌⊎◌, ℕ, zero, suc, ◌+◌, ◌<◌, ◌≤◌, List, [], ◌∷◌, length, set, replicate, Bool, true, false, inl, inr, slice_index_or, refl, sym, ap, subst, ◌∙◌, arith}
 use Rattle.splices.specs.declared.Part.{Part}
-use Rattle.splices.specs.Splices.{Alternatives, StandsFor, stands, Splices, entry, empty, nothing, same, both, either, occurs}
-use Rattle.splices.specs.Search.{LeadsTo, LeadsOn, leads, Has, has_same, has_first, has_second, has_one, has_other, has_group, count_unseen}
+use Rattle.splices.specs.Splices.{Alternatives, StandsFor, stands, Splices, entry, empty, nothing, same, both, either, occurs, LeadsTo, Has, has_same, has_first, has_second, has_one, has_other, has_group}
+use Rattle.splices.specs.Search.{LeadsOn, leads, count_unseen}
 use Rattle.splices.specs.Building.{Ends}
 use Rattle.splices.proofs.Once.{splices_at, join_to, no_round}
 use Rattle.splices.proofs.Lists.{within, there_is, read_there, replicate_at, replicate_length, one_seen}

@@ -7,8 +7,8 @@ use Rattle.splices.specs.declared.summary.Summary.{Summary}
 use Rattle.splices.specs.declared.build.Task.{Task}
 use Rattle.splices.specs.declared.build.Task.TheVariants.{Make}
 use Rattle.splices.specs.Splices.{Alternatives, StandsFor}
-use Rattle.splices.specs.Summaries.{IsSummary}
-use Rattle.splices.specs.Building.{IsSmall, AreReady, Yields}
+use Rattle.splices.specs.Summaries.{IsSummary, IsSmall}
+use Rattle.splices.specs.Building.{AreReady, Yields}
 use Rattle.splices.proofs.Lists.{true_false}
 use Rattle.splices.proofs.Making.{map_push, length_map}
 use Rattle.splices.proofs.Depth.{all_end}

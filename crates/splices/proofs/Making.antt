@@ -1,5 +1,5 @@
 -- How lists of alternatives grow while they are made.
-use Rattle.std.proofs.Common.{◌≡◌, ℕ, zero, suc, ◌+◌, ◌<◌, List, [], ◌∷◌, ◌++◌, map, length, take, drop, replicate, Some, slice_get, slice_index_or, refl, sym, ap, ◌∙◌, append_assoc, arith}
+use Rattle.std.proofs.Common.{◌≡◌, ℕ, zero, suc, ◌+◌, ◌<◌, List, [], ◌∷◌, ◌++◌, map, length, take, drop, set, replicate, Some, slice_get, slice_index_or, refl, sym, ap, ◌∙◌, append_assoc, arith}
 use Rattle.splices.specs.declared.Member.{Member}
 use Rattle.splices.specs.Splices.{Alternatives, members, behind, ways, from, each_needed}
 use Rattle.splices.proofs.Once.{same_some}
@@ -84,3 +84,40 @@ pub one_member : (ms ns : List Member) (x : Member) (s : List Member) (i : ℕ) 
 one_member ms ns x s i all at e h =
     let rest = map (from 0) (drop (i + 1) s) in
     ap (λ ks. ks ++ rest) e ∙ (append_assoc ms (from 0 x ∷ []) rest ∙ (ap (λ zs. ms ++ map (from 0) zs) (sym (drop_more s i x at)) ∙ h))
+
+-- the members are put behind each alternative, in its place
+
+map_set : {A B : Type 0} (f : A → B) (xs : List A) (i : ℕ) (v : A) → map f (set xs i v) ≡ set (map f xs) i (f v)
+map_set f [] i v = refl
+map_set f (x ∷ xs) zero v = refl
+map_set f (x ∷ xs) (suc i) v = ap (λ ys. f x ∷ ys) (map_set f xs i v)
+
+-- the place where the one list ends
+one_put : (g : List Member → List Member) (mss kss : Alternatives) (i : ℕ) (m : List Member) → slice_get kss i ≡ Some m → mss ≡ map g (take i kss) ++ drop i kss → set mss i (g m) ≡ map g (take (suc i) kss) ++ drop (suc i) kss
+one_put g mss kss i m e h = ap (λ xs. set xs i (g m)) h ∙ at_place kss i e
+  where
+    at_place : (kss : Alternatives) (i : ℕ) → slice_get kss i ≡ Some m → set (map g (take i kss) ++ drop i kss) i (g m) ≡ map g (take (suc i) kss) ++ drop (suc i) kss
+    at_place [] i f = absurd (never_some m f)
+    at_place (k ∷ kss) zero f = ap (λ z. g z ∷ kss) (sym (same_some k m f))
+    at_place (k ∷ kss) (suc i) f = ap (λ zs. g k ∷ zs) (at_place kss i f)
+
+get_back : (kss : Alternatives) (g : List Member → List Member) (i : ℕ) (m : List Member) → slice_get (map g (take i kss) ++ drop i kss) i ≡ Some m → slice_get kss i ≡ Some m
+get_back [] g zero m e = e
+get_back [] g (suc i) m e = absurd (never_some m e)
+get_back (k ∷ kss) g zero m e = e
+get_back (k ∷ kss) g (suc i) m e = get_back kss g i m e
+
+module _ {X : Type 0} (f : X → List Member) where
+  pub put_one : (xs ys : List X) (v x : X) (ns : List Member) (kss : Alternatives) (i : ℕ) → slice_get xs i ≡ Some x → ys ≡ set xs i v → f v ≡ f x ++ ns → map f xs ≡ map (λ ms. ms ++ ns) (take i kss) ++ drop i kss → map f ys ≡ map (λ ms. ms ++ ns) (take (i + 1) kss) ++ drop (i + 1) kss
+  put_one xs ys v x ns kss i at e h is =
+      let there : slice_get kss i ≡ Some (f x) = get_back kss (λ ms. ms ++ ns) i (f x) (ap (λ zs. slice_get zs i) (sym is) ∙ get_map f xs i x at) in
+      ap (map f) e ∙ (map_set f xs i v ∙ (ap (λ w. set (map f xs) i w) h ∙ (one_put (λ ms. ms ++ ns) (map f xs) kss i (f x) there is ∙ ap (λ k. map (λ ms. ms ++ ns) (take k kss) ++ drop k kss) (one_more i))))
+
+pub ways_one : (mss : Alternatives) (ns : List Member) → map (λ ms. ms ++ ns) mss ≡ ways mss (ns ∷ [])
+ways_one [] ns = refl
+ways_one (ms ∷ mss) ns = ap (λ kss. (ms ++ ns) ∷ kss) (ways_one mss ns)
+
+pub one_second : {X : Type 0} (xs : List X) (x : X) → length xs ≡ 1 → slice_get xs 0 ≡ Some x → xs ≡ x ∷ []
+one_second [] x e h = absurd (never_some x h)
+one_second (y ∷ []) x e h = ap (λ z. z ∷ []) (same_some y x h)
+one_second (y ∷ z ∷ xs) x e h = absurd (omega (arith, e))

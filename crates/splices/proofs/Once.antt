@@ -1,8 +1,8 @@
 -- A part stands for one list of alternatives at most, and for none where it comes back to itself.
 use Rattle.std.proofs.Common.{◌≡◌, ℕ, List, ◌++◌, Some, refl, sym, ap, subst, ◌∙◌, slice_get}
 use Rattle.splices.specs.declared.Part.{Part}
-use Rattle.splices.specs.Splices.{Alternatives, ways, occurring, StandsFor, stands, Splices, entry, empty, nothing, same, both, either, occurs}
-use Rattle.splices.specs.Search.{Has, has_same, has_first, has_second, has_one, has_other, has_group, LeadsTo, LeadsOn, leads, leads_on}
+use Rattle.splices.specs.Splices.{Alternatives, ways, occurring, StandsFor, stands, Splices, entry, empty, nothing, same, both, either, occurs, Has, has_same, has_first, has_second, has_one, has_other, has_group, LeadsTo}
+use Rattle.splices.specs.Search.{LeadsOn, leads, leads_on}
 
 pub same_some : {A : Type 0} (x y : A) → Some x ≡ Some y → x ≡ y
 same_some x y e = cc

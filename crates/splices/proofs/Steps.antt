@@ -5,9 +5,9 @@ use Rattle.splices.specs.declared.Bounds.{Bounds}
 use Rattle.splices.specs.declared.Part.{Part}
 use Rattle.splices.specs.declared.Part.TheVariants.{Refused, Entry, Empty, Nothing, Same, Both, Either, Occurs}
 use Rattle.splices.specs.declared.summary.Summary.{Summary}
-use Rattle.splices.specs.Splices.{Alternatives, ways, occurring, StandsFor, stands, Splices, entry, empty, nothing, same, both, either, occurs}
+use Rattle.splices.specs.Splices.{Alternatives, ways, occurring, StandsFor, stands, Splices, entry, empty, nothing, same, both, either, occurs, Has, has_same, has_first, has_second, has_one, has_other, has_group, LeadsTo}
 use Rattle.splices.specs.Summaries.{IsSummary, AreSummaries}
-use Rattle.splices.specs.Search.{State, Has, has_same, has_first, has_second, has_one, has_other, has_group, LeadsTo, LeadsOn, leads, leads_on, IsOnPath, IsKept, IsEnded, Keeps, unseen, or_else, next_of, entered, left, at, value, joining, occurring_so, both_summary, either_summary, gap}
+use Rattle.splices.specs.Search.{State, LeadsOn, leads, leads_on, IsOnPath, IsKept, IsEnded, Keeps, unseen, or_else, next_of, entered, left, at, value, joining, occurring_so, both_summary, either_summary, gap}
 use Rattle.splices.proofs.Once.{same_some, splices_at, join_to, no_round, once}
 use Rattle.splices.proofs.Lists.{never_some, true_false, less_or, within, there_is, read_there, read_past, false_there, set_length, set_there, after_set, still_true, push_length, push_there, push_before, after_push, take_there, take_before, take_length, replicate_at, replicate_length, none_left, one_seen}
 use Rattle.splices.proofs.Summing.{of_entry, of_empty, of_nothing, of_both, of_either, of_occurring, Agree}

@@ -7,10 +7,10 @@ use Rattle.splices.specs.declared.Part.TheVariants.{Refused, Entry, Empty, Nothi
 use Rattle.splices.specs.declared.summary.Summary.{Summary}
 use Rattle.splices.specs.declared.build.Task.{Task}
 use Rattle.splices.specs.declared.build.Task.TheVariants.{Make, Beside, After, Occur}
-use Rattle.splices.specs.Splices.{Alternatives, members, StandsFor, stands, Splices, entry, empty, nothing, same, both, either, occurs}
-use Rattle.splices.specs.Summaries.{Describes, IsSummary, AreSummaries, AreTooMany}
-use Rattle.splices.specs.Search.{LeadsTo, Has, has_same, has_first, has_second, has_one, has_other, has_group, at}
-use Rattle.splices.specs.Building.{itself, inside, IsSmall, Build, is_large, split, made_deep, made, result_is, IsDone, Yields, weight, task_weight, load, IsReady, AreReady}
+use Rattle.splices.specs.Splices.{Alternatives, members, StandsFor, stands, Splices, entry, empty, nothing, same, both, either, occurs, LeadsTo, Has, has_same, has_first, has_second, has_one, has_other, has_group}
+use Rattle.splices.specs.Summaries.{Describes, IsSummary, AreSummaries, AreTooMany, itself, inside, IsSmall}
+use Rattle.splices.specs.Search.{at}
+use Rattle.splices.specs.Building.{Build, is_large, split, made_deep, made, result_is, IsDone, Yields, weight, task_weight, load, IsReady, AreReady}
 use Rattle.splices.proofs.Once.{same_some, once}
 use Rattle.splices.proofs.Lists.{never_some, true_false}
 use Rattle.splices.proofs.Asked.{at_is, too_many}

@@ -1,26 +1,14 @@
 -- How a list of alternatives is made: tasks wait, the last one comes next, and so do the lists that were made.
 use Rattle.std.specs.Prelude.{◌≡◌, ℕ, zero, suc, ◌+◌, ◌*◌, List, [], ◌∷◌, ◌++◌, map, reverse, replicate, Bool, true, false, if◌then◌else◌, ◌||◌, nat_eq, nat_lt, Option, Some, None, slice_get, vec_items}
-use Rattle.splices.specs.declared.Member.{Member}
 use Rattle.splices.specs.declared.Part.{Part}
 use Rattle.splices.specs.declared.Part.TheVariants.{Entry, Same, Both, Either, Occurs}
 use Rattle.splices.specs.declared.summary.Summary.{Summary}
 use Rattle.splices.specs.declared.build.Task.{Task}
 use Rattle.splices.specs.declared.build.Task.TheVariants.{Make, Beside, After, Occur}
 use Rattle.splices.specs.declared.build.Builder.{Builder}
-use Rattle.splices.specs.Splices.{Alternatives, ways, occurring, entry_of, StandsFor}
-use Rattle.splices.specs.Summaries.{AreTooMany}
-use Rattle.splices.specs.Search.{LeadsTo, at}
-
--- Of what the part needs: itself, and where it has alternatives, what the parts that it has need.
-pub data Needs (parts : List Part) : ℕ → ℕ → Type 0 where
-  itself : {n : ℕ} → Needs parts n n
-  inside : {n c x : ℕ} {ms : List Member} {mss : Alternatives} → StandsFor parts n (ms ∷ mss) → LeadsTo parts n c → Needs parts c x → Needs parts n x
-
--- the part stands for something, and nothing that it needs has too many alternatives or members
-pub record IsSmall (parts : List Part) (n : ℕ) : Type 0 where
-  pub alternatives : Alternatives
-  pub stands_for : StandsFor parts n alternatives
-  pub small : (x : ℕ) (mss : Alternatives) → Needs parts n x → StandsFor parts x mss → AreTooMany mss → ⊥
+use Rattle.splices.specs.Splices.{Alternatives, ways, occurring, entry_of, StandsFor, LeadsTo}
+use Rattle.splices.specs.Summaries.{IsSmall}
+use Rattle.splices.specs.Search.{at}
 
 -- The last ones come first here.
 pub record Build : Type 0 where

@@ -6,7 +6,7 @@ use Rattle.splices.specs.declared.Part.TheVariants.{Refused, Entry, Empty, Nothi
 use Rattle.splices.specs.declared.summary.Sorts.{Sorts}
 use Rattle.splices.specs.declared.summary.Summary.{Summary}
 use Rattle.splices.specs.declared.search.Search.{Search}
-use Rattle.splices.specs.Splices.{is_open}
+use Rattle.splices.specs.Splices.{is_open, LeadsTo}
 use Rattle.splices.specs.Sorts.{Sort, empty, optional, needed, other, no_sorts, only, joined}
 use Rattle.splices.specs.Summaries.{capped, IsSummary}
 
@@ -130,20 +130,6 @@ entered n s = record { seen = set s.seen n true; summaries = s.summaries; path =
 -- the last of the path has this summary
 abbrev pub left : ℕ → Option Summary → State → State
 left n o s = record { seen = s.seen; summaries = set s.summaries n o; path = take (length s.path - 1) s.path }
-
--- the one part has the other
-pub data Has : Part → ℕ → Type 0 where
-  has_same : {a : ℕ} → Has (Same a) a
-  has_first : {a b : ℕ} → Has (Both a b) a
-  has_second : {a b : ℕ} → Has (Both a b) b
-  has_one : {a b : ℕ} → Has (Either a b) a
-  has_other : {a b : ℕ} → Has (Either a b) b
-  has_group : {b : Bounds} {a : ℕ} → Has (Occurs b a) a
-
-pub record LeadsTo (parts : List Part) (x y : ℕ) : Type 0 where
-  pub part : Part
-  pub there : slice_get parts x ≡ Some part
-  pub has : Has part y
 
 -- over one part or more
 pub data LeadsOn (parts : List Part) : ℕ → ℕ → Type 0 where

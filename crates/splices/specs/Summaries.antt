@@ -1,11 +1,12 @@
 -- What summaries say of alternatives.
-use Rattle.std.specs.Prelude.{◌≡◌, ◌⊎◌, ◌<◌, ◌+◌, ℕ, min, List, length, Option, Some, None, slice_get}
+use Rattle.std.specs.Prelude.{◌≡◌, ◌⊎◌, ◌<◌, ◌+◌, ℕ, min, List, ◌∷◌, length, Option, Some, None, slice_get}
 use Rattle.splices.specs.declared.Part.{Part}
 use Rattle.splices.specs.declared.Part.TheVariants.{Occurs}
 use Rattle.splices.specs.declared.Bounds.{Bounds}
+use Rattle.splices.specs.declared.Member.{Member}
 use Rattle.splices.specs.declared.summary.Summary.{Summary}
 use Rattle.splices.specs.declared.summary.TheConstants.{MOST_ALTERNATIVES, MOST_MEMBERS}
-use Rattle.splices.specs.Splices.{Alternatives, members, occurring, StandsFor}
+use Rattle.splices.specs.Splices.{Alternatives, members, occurring, StandsFor, LeadsTo}
 use Rattle.splices.specs.Sorts.{any_closed, sorts_of}
 
 -- exact up to the limit of members
@@ -36,6 +37,17 @@ pub record AreSummaries (parts : List Part) (summaries : List (Option Summary)) 
 -- more alternatives than there may be, or more members in them together
 abbrev pub AreTooMany : Alternatives → Type 0
 AreTooMany mss = (MOST_ALTERNATIVES < length mss) ⊎ (MOST_MEMBERS < length (members mss))
+
+-- Of what the part needs: itself, and where it has alternatives, what the parts that it has need.
+pub data Needs (parts : List Part) : ℕ → ℕ → Type 0 where
+  itself : {n : ℕ} → Needs parts n n
+  inside : {n c x : ℕ} {ms : List Member} {mss : Alternatives} → StandsFor parts n (ms ∷ mss) → LeadsTo parts n c → Needs parts c x → Needs parts n x
+
+-- the part stands for something, and nothing that it needs has too many alternatives or members
+pub record IsSmall (parts : List Part) (n : ℕ) : Type 0 where
+  pub alternatives : Alternatives
+  pub stands_for : StandsFor parts n alternatives
+  pub small : (x : ℕ) (mss : Alternatives) → Needs parts n x → StandsFor parts x mss → AreTooMany mss → ⊥
 
 -- The part is a group with an occurrence that no group may have, or that its alternatives may not have.
 pub data OccursBadly (parts : List Part) (n : ℕ) : Type 0 where

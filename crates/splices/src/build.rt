@@ -4,7 +4,7 @@ ghost use Rattle.splices.specs.Splices.{Alternatives, occurring, ways};
 ghost use Rattle.splices.specs.Search.{at};
 ghost use Rattle.splices.specs.Summaries.{AreSummaries};
 
-use crate::pieces::{empty_ones, entry_alone, occurring_ones, ways_of};
+use crate::pieces::{empty_ones, entry_alone, occurring_ones, ways_beside};
 use crate::summary::{MOST_ALTERNATIVES, MOST_MEMBERS, Summary, summary_at};
 use crate::{Bounds, Member, Part};
 use std::alloc::{AllocError, Global};
@@ -90,7 +90,7 @@ impl Builder {
         let Some(first) = self.lists.pop() else {
             return Ok(false);
         };
-        self.lists.push(ways_of(alloc, &first, &second)?)?;
+        self.lists.push(ways_beside(alloc, first, &second)?)?;
         Ok(true)
     }
 

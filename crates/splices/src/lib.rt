@@ -9,10 +9,9 @@ mod search;
 mod summary;
 
 ghost use Rattle.std.specs.Prelude.{◌≡◌, ◌↔◌, true, IfOk, IfSome, IsSome, map, vec_items};
-ghost use Rattle.splices.specs.Building.{IsSmall};
 ghost use Rattle.splices.specs.Search.{bad};
 ghost use Rattle.splices.specs.Splices.{Alternatives, StandsFor};
-ghost use Rattle.splices.specs.Summaries.{AreSummaries, AreTooMany, Describes, OccursBadly};
+ghost use Rattle.splices.specs.Summaries.{AreSummaries, AreTooMany, Describes, IsSmall, OccursBadly};
 
 use crate::build::builder_of;
 use crate::search::first_search;

@@ -38,8 +38,34 @@ fn only_one(alloc: Global, members: Vec<Member>) -> Result<Vec<Vec<Member>>, All
     Ok(alternatives)
 }
 
-/// All ways to take an alternative of the first and then one of the second, the first slowest.
-pub fn ways_of(
+/// All ways to take an alternative of the first and then one of the second, the first slowest. Where there is one second, it
+/// is put behind each of the first, which stay where they are: so rows of entries grow in place.
+pub fn ways_beside(
+    alloc: Global,
+    mut first: Vec<Vec<Member>>,
+    second: &[Vec<Member>],
+) -> Result<Vec<Vec<Member>>, AllocError>
+    ensures { IfOk result (λ v. map vec_items v.items ≡ ways (map vec_items first.items) (map vec_items second.now)) }
+{
+    if second.len() != 1 {
+        return ways_of(alloc, &first, second);
+    }
+    put_behind(&mut first, &second[0])?;
+    Ok(first)
+}
+
+/// Puts the members behind each alternative.
+fn put_behind(alternatives: &mut Vec<Vec<Member>>, members: &[Member]) -> Result<(), AllocError>
+    ensures { IfOk result (λ _. map vec_items alternatives.new.items ≡ map (λ ms. ms ++ members.now) (map vec_items alternatives.old.items)) }
+{
+    for number in 0..alternatives.len() {
+        alternatives[number].extend_from_slice(members)?;
+    }
+    Ok(())
+}
+
+/// All ways to take an alternative of each, as new ones.
+fn ways_of(
     alloc: Global,
     first: &[Vec<Member>],
     second: &[Vec<Member>],

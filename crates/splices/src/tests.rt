@@ -119,18 +119,19 @@ fn doubled(alloc: Global, times: usize) -> Result<Vec<Part>, AllocError> {
     Ok(parts)
 }
 
+/// Whether the part has a summary that is too large.
+fn is_large_at(found: &[Option<Summary>], number: usize) -> bool {
+    match found.get(number).copied() {
+        Some(Some(summary)) => is_too_large(summary),
+        _ => false,
+    }
+}
+
 #[test]
 fn tells_what_is_too_large(rt: HostRuntime) -> Result<(), AllocError> {
     let found = summaries(rt.alloc(), &doubled(rt.alloc(), 100_000)?)?;
-    let mut large = 0;
-    for summary in &found {
-        if let Some(summary) = *summary {
-            if is_too_large(summary) {
-                large += 1;
-            }
-        }
-    }
-    assert!(rt; found.len() == 100_002 && large == 99_992);
+    assert!(rt; !is_large_at(&found, 9) && is_large_at(&found, 10));
+    assert!(rt; is_large_at(&found, 100_001));
     Ok(())
 }
 
@@ -140,7 +141,7 @@ fn last_alternatives(
     parts: &[Part],
 ) -> Result<Option<Vec<Vec<Member>>>, AllocError> {
     let found = summaries(alloc, parts)?;
-    alternatives(alloc, parts, &found, parts.len() - 1)
+    alternatives(alloc, parts, &found, parts.len().saturating_sub(1))
 }
 
 /// Whether the last part has so many alternatives, of which this one has these entries, each so often at least.
