@@ -114,6 +114,3 @@ pub fn alternatives(
     }
     Ok(builder.lists.pop())
 }
-
-#[cfg(test)]
-mod tests;

@@ -1,4 +1,4 @@
-use crate::{Bounds, Member, Part, Summary, alternatives, is_too_large, occurs_badly, summaries};
+use splices::{Bounds, Member, Part, Summary, alternatives, is_too_large, occurs_badly, summaries};
 use std::alloc::{AllocError, Global};
 
 const ONCE: Bounds = Bounds {
