@@ -1,1 +1,5 @@
 pub mod Splices
+pub mod Sorts
+pub mod Summaries
+pub mod Search
+pub mod Building

@@ -80,3 +80,17 @@ mutual
     both : {n a b : ℕ} {mss nss : Alternatives} → StandsFor parts a mss → StandsFor parts b nss → Splices parts n (Both a b) (ways mss nss)
     either : {n a b : ℕ} {mss nss : Alternatives} → StandsFor parts a mss → StandsFor parts b nss → Splices parts n (Either a b) (mss ++ nss)
     occurs : {n a : ℕ} {b : Bounds} {mss nss : Alternatives} → StandsFor parts a mss → occurring b.least b.most mss ≡ Some nss → Splices parts n (Occurs b a) nss
+
+-- the one part has the other
+pub data Has : Part → ℕ → Type 0 where
+  has_same : {a : ℕ} → Has (Same a) a
+  has_first : {a b : ℕ} → Has (Both a b) a
+  has_second : {a b : ℕ} → Has (Both a b) b
+  has_one : {a b : ℕ} → Has (Either a b) a
+  has_other : {a b : ℕ} → Has (Either a b) b
+  has_group : {b : Bounds} {a : ℕ} → Has (Occurs b a) a
+
+pub record LeadsTo (parts : List Part) (x y : ℕ) : Type 0 where
+  pub part : Part
+  pub there : slice_get parts x ≡ Some part
+  pub has : Has part y
