@@ -16,7 +16,7 @@ use Rattle.cddl_language.specs.Reading.{text_of, ref_of, terms_of, followed, ter
 use Rattle.cddl_language.specs.Environment.{is_same, is_in}
 use Rattle.cddl_language.specs.Substitution.{argument, argument_for, or_else, fill, fill_ref, fill_all, fill_group, fill_body}
 use Rattle.cddl_language.specs.Reach.{Point, at_name, at_unwrapping, at_choice, ref_at, points, group_points, body_points, Reaches, onward, IsPresent, instance, standing}
-use Rattle.cddl_language.specs.Sites.{Site, a_name, an_unwrapping, a_choice_of, a_choice_of_name, an_operation, arguments, argument_list, ref_token, ref_name, outer_sites, ref_at_site, is_parameter, demands_type, closed_arguments, IsReached, in_body, in_argument, used, IsInstance}
+use Rattle.cddl_language.specs.Sites.{Site, a_name, an_unwrapping, a_choice_of, a_choice_of_name, a_map, an_operation, arguments, argument_list, ref_token, ref_name, outer_sites, ref_at_site, is_parameter, demands_type, closed_arguments, IsReached, in_body, in_argument, used, IsInstance}
 use Rattle.cddl_language.specs.Faults.{Specification, rules, definitions, HasSite, HasName, parameter_twice, by_parameter, type_name}
 
 same_or : (b c : Bool) → (b || c) ≡ false → (b ≡ false) × (c ≡ false)
@@ -121,9 +121,12 @@ module _ (s : Specification) (root : Text) (clear : IsClear s) where
   pub standing_there : (r : S.Rule) (xs : List Term) (q : Site) (f : S.Ref) (p : Point) → IsReached (rules s) root r xs q → ref_at_site q ≡ Some f → is_parameter r (ref_name f) ≡ false → point_at q (fill_ref (parameters_in r) xs (ref_of f)) ≡ Some p → IsPresent (definitions s) root p
   standing_there r xs q f p h e n w = let v = closed_point (parameters_in r) xs q f e n in subst (λ m. IsPresent (definitions s) root m) (Standing.same_some (sym v.1.1.1 ∙ w)) (present r xs q v.0 h v.1.0)
 
-  -- what stands in the group after `&`, and in an operand
+  -- what stands in the group after `&` and of a map, and in an operand
   pub in_group_there : (r : S.Rule) (xs : List Term) (t : Token) (g : S.Group) (p : Point) → IsReached (rules s) root r xs (a_choice_of t g) → Contains (group_points (fill_group (parameters_in r) xs (group_of g))) p → Reaches (definitions s) root (ref_at p)
   in_group_there r xs t g p h c = present_reach (definitions s) root p (present r xs (a_choice_of t g) p h c)
+
+  pub in_map_there : (r : S.Rule) (xs : List Term) (t : Token) (g : S.Group) (p : Point) → IsReached (rules s) root r xs (a_map t g) → Contains (group_points (fill_group (parameters_in r) xs (group_of g))) p → Reaches (definitions s) root (ref_at p)
+  in_map_there r xs t g p h c = present_reach (definitions s) root p (present r xs (a_map t g) p h c)
 
   pub chosen_there : (r : S.Rule) (xs : List Term) (t : Token) (f : S.Ref) → IsReached (rules s) root r xs (a_choice_of_name t f) → Reaches (definitions s) root (fill_ref (parameters_in r) xs (ref_of f))
   chosen_there r xs t f h = let p = at_choice (fill_ref (parameters_in r) xs (ref_of f)) in present_reach (definitions s) root p (present r xs (a_choice_of_name t f) p h (Standing.at_head p []))

@@ -19,7 +19,7 @@ use Rattle.cddl_reached.specs.Calls.{refs_named}
 use Rattle.cddl_reached.specs.Reached.{AreReachedSites}
 use Rattle.cddl_reached.specs.declared.asked.Asked.{Asked}
 use Rattle.cddl_reached.specs.declared.asked.Question.TheVariants as QuestionV
-use Rattle.cddl_reached.specs.Asked.{AreAnswers, no_answers, further_answer, AreAsked, IsAnswer, IsAsked, choosing, choosing_by_name, first_end, last_end, Wanted, WasAsked, end_of, first_part, last_part, wanted_all, wanted_at, wanted_each, wanted_in, wanted_some, wanted_there}
+use Rattle.cddl_reached.specs.Asked.{AreAnswers, no_answers, further_answer, AreAsked, IsAnswer, IsAsked, choosing, choosing_by_name, first_end, last_end, of_map, Wanted, WasAsked, end_of, first_part, last_part, wanted_all, wanted_at, wanted_each, wanted_in, wanted_some, wanted_there}
 use Rattle.cddl_reached.proofs.Lists.{IsIn, contained_place, contains, in_either, in_first, in_second, is_in}
 use Rattle.cddl_reached.proofs.Reaching.{Laws, instance_of, ref_of_instance}
 
@@ -85,7 +85,9 @@ module _ (trees : Trees) (rs : List S.Rule) (root : Text) (t : Table) (r : S.Rul
           first_end {x = x} {y = y} {o = o} (reach e.0 e.1.0) g (subst (Holds t (Some a.row)) (ap (λ (v : Wanted). v.tree) e.1.1 ∙ trees.term (parameters_in r) (arguments_of e.0) (term_of2 x)) k.holds) (k.at ∙ ap (λ (v : Wanted). v.at) e.1.1) (k.question ∙ ap (λ (v : Wanted). v.question) e.1.1)
       by false g m = absurd m
   asked_first (an_entry e) reach a w h k = absurd h
-  asked_first (a_map u g) reach a w h k = absurd h
+  asked_first (a_map u g) reach a w h k =
+      let e = in_each (parameters_in r) w (record { at = u.start; question = QuestionV.MapGroup; tree = group_tree (group_of g) }) refs h in
+      of_map {u = u} {g = g} (reach e.0 e.1.0) (subst (Holds t (Some a.row)) (ap (λ (v : Wanted). v.tree) e.1.1 ∙ trees.group (parameters_in r) (arguments_of e.0) (group_of g)) k.holds) (k.at ∙ ap (λ (v : Wanted). v.at) e.1.1) (k.question ∙ ap (λ (v : Wanted). v.question) e.1.1)
 
   asked_last : (p : Site) → ((i : Ref) → IsIn i refs → IsReached rs root r (arguments_of i) p) → (a : Asked) (w : Wanted) → IsIn w (wanted_some (parameters_in r) (last_part p) refs) → IsAnswer t a w → IsAsked rs root t a
   asked_last (a_name b f) reach a w h k = absurd h
@@ -149,4 +151,5 @@ module _ (laws : Laws) (trees : Trees) (s : Specification) (root : Text) (clear 
     references = λ r xs u f h. was_asked r xs (a_choice_of_name u f) (record { at = u.start; question = QuestionV.ChoosesByName; tree = ref_tree (ref_of f) }) (ref_tree (fill_ref (parameters_in r) xs (ref_of f))) h (inl refl) (trees.reference (parameters_in r) xs (ref_of f));
     first_ends = λ r xs x y o h e. was_asked r xs (an_operation x o y) (end_of x) (term_tree (fill (parameters_in r) xs (term_of2 x))) h (inl (first_of_range x y o e)) (trees.term (parameters_in r) xs (term_of2 x));
     last_ends = λ r xs x y o h e. was_asked r xs (an_operation x o y) (end_of y) (term_tree (fill (parameters_in r) xs (term_of2 y))) h (inr (last_of_range x y o e)) (trees.term (parameters_in r) xs (term_of2 y));
+    maps = λ r xs u g h. was_asked r xs (a_map u g) (record { at = u.start; question = QuestionV.MapGroup; tree = group_tree (group_of g) }) (group_tree (fill_group (parameters_in r) xs (group_of g))) h (inl refl) (trees.group (parameters_in r) xs (group_of g));
   }

@@ -6,7 +6,7 @@ use Rattle.cddl_tree.specs.declared.tree.Leaf.{Leaf}
 use Rattle.cddl_tree.specs.View.{view_group, view_ref, view_type2}
 use Rattle.cddl_language.specs.Faults.{is_range_sign, operand_at}
 use Rattle.cddl_language.specs.Reading.{group_of, name_in, parameters_in, ref_of, term_of2}
-use Rattle.cddl_language.specs.Sites.{IsReached, Site, a_choice_of, a_choice_of_name, an_operation}
+use Rattle.cddl_language.specs.Sites.{IsReached, Site, a_choice_of, a_choice_of_name, a_map, an_operation}
 use Rattle.cddl_language.specs.Substitution.{fill, fill_group, fill_ref}
 use Rattle.cddl_language.specs.Terms.{Ref, Term, Text, arguments_of}
 use Rattle.cddl_terms.specs.declared.definition.Definition.{Definition}
@@ -40,6 +40,7 @@ abbrev pub first_part : Site → Option Wanted
 first_part (a_choice_of u g) = Some (record { at = u.start; question = QuestionV.ChoosesFrom; tree = group_tree (group_of g) })
 first_part (a_choice_of_name u f) = Some (record { at = u.start; question = QuestionV.ChoosesByName; tree = ref_tree (ref_of f) })
 first_part (an_operation x o y) = if is_range_sign o then Some (end_of x) else None
+first_part (a_map u g) = Some (record { at = u.start; question = QuestionV.MapGroup; tree = group_tree (group_of g) })
 first_part _ = None
 
 abbrev pub last_part : Site → Option Wanted
@@ -52,11 +53,13 @@ abbrev pub question_of : Node → Question
 question_of (NodeV.Group g) = QuestionV.ChoosesFrom
 question_of (NodeV.Reference f) = QuestionV.ChoosesByName
 question_of (NodeV.Operand x) = QuestionV.IsWhole
+question_of (NodeV.Map g) = QuestionV.MapGroup
 
 abbrev pub node_tree : (Leaf → Token) → Node → Tree
 node_tree read (NodeV.Group g) = group_tree (group_of (view_group read g.now))
 node_tree read (NodeV.Reference f) = ref_tree (ref_of (view_ref read f.now))
 node_tree read (NodeV.Operand x) = term_tree (term_of2 (view_type2 read x.now))
+node_tree read (NodeV.Map g) = group_tree (group_of (view_group read g.now))
 
 abbrev pub wanted : (Leaf → Token) → Part → Wanted
 wanted read p = record { at = p.at; question = question_of p.node; tree = node_tree read p.node }
@@ -117,6 +120,7 @@ module _ (rs : List S.Rule) (root : Text) (t : Table) where
     choosing_by_name : {r : S.Rule} {xs : List Term} {u : Token} {f : S.Ref} → IsReached rs root r xs (a_choice_of_name u f) → IsRef t a.row (fill_ref (parameters_in r) xs (ref_of f)) → a.at ≡ u.start → a.question ≡ QuestionV.ChoosesByName → IsAsked a
     first_end : {r : S.Rule} {xs : List Term} {x y : S.Type2} {o : S.Operator} → IsReached rs root r xs (an_operation x o y) → is_range_sign o ≡ true → IsTerm t a.row (fill (parameters_in r) xs (term_of2 x)) → a.at ≡ operand_at x → a.question ≡ QuestionV.IsWhole → IsAsked a
     last_end : {r : S.Rule} {xs : List Term} {x y : S.Type2} {o : S.Operator} → IsReached rs root r xs (an_operation x o y) → is_range_sign o ≡ true → IsTerm t a.row (fill (parameters_in r) xs (term_of2 y)) → a.at ≡ operand_at y → a.question ≡ QuestionV.IsWhole → IsAsked a
+    of_map : {r : S.Rule} {xs : List Term} {u : Token} {g : S.Group} → IsReached rs root r xs (a_map u g) → IsGroup t a.row (fill_group (parameters_in r) xs (group_of g)) → a.at ≡ u.start → a.question ≡ QuestionV.MapGroup → IsAsked a
 
   -- the question was asked of the row of this tree
   pub record WasAsked (answers : List Asked) (at : ℕ) (q : Question) (x : Tree) : Type 0 where
@@ -132,3 +136,4 @@ module _ (rs : List S.Rule) (root : Text) (t : Table) where
     pub references : (r : S.Rule) (xs : List Term) (u : Token) (f : S.Ref) → IsReached rs root r xs (a_choice_of_name u f) → WasAsked answers u.start QuestionV.ChoosesByName (ref_tree (fill_ref (parameters_in r) xs (ref_of f)))
     pub first_ends : (r : S.Rule) (xs : List Term) (x y : S.Type2) (o : S.Operator) → IsReached rs root r xs (an_operation x o y) → is_range_sign o ≡ true → WasAsked answers (operand_at x) QuestionV.IsWhole (term_tree (fill (parameters_in r) xs (term_of2 x)))
     pub last_ends : (r : S.Rule) (xs : List Term) (x y : S.Type2) (o : S.Operator) → IsReached rs root r xs (an_operation x o y) → is_range_sign o ≡ true → WasAsked answers (operand_at y) QuestionV.IsWhole (term_tree (fill (parameters_in r) xs (term_of2 y)))
+    pub maps : (r : S.Rule) (xs : List Term) (u : Token) (g : S.Group) → IsReached rs root r xs (a_map u g) → WasAsked answers u.start QuestionV.MapGroup (group_tree (fill_group (parameters_in r) xs (group_of g)))

@@ -41,6 +41,8 @@ pub enum Question {
     ChoosesByName,
     /// Whether the type is a whole number, as an end of a range has to be (section 2.2.2.1).
     IsWhole,
+    /// What the group of a map stands for (section 3.5).
+    MapGroup,
 }
 
 /// What is asked of at a site, in one instance.
@@ -54,8 +56,8 @@ pub struct Asked {
     pub question: Question,
 }
 
-/// What is asked of at the sites that the root reaches, in each instance: of the group or the reference after `&`, and of both
-/// ends of a range.
+/// What is asked of at the sites that the root reaches, in each instance: of the group or the reference after `&`, of both ends
+/// of a range, and of the group of a map.
 ///
 /// It costs the sites times the instances of their rule: for each site the rows of its part are visited once, and then each row
 /// that holds a parameter is hashed once for each instance. Memory is needed for each answer.

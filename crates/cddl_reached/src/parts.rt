@@ -20,6 +20,7 @@ pub(crate) enum Node<'t> {
     Group(&'t Group),
     Reference(&'t Ref),
     Operand(&'t Type2),
+    Map(&'t Group),
 }
 
 /// A node, and the offset at which a fault of it is told.
@@ -29,7 +30,7 @@ pub(crate) struct Part<'t> {
     pub(crate) node: Node<'t>,
 }
 
-/// What is asked of at the site: a group or a reference after `&`, or the first end of a range.
+/// What is asked of at the site: a group or a reference after `&`, the first end of a range, or the group of a map.
 pub(crate) fn first_part<'t>(tree: &Tree<'_>, site: Site<'t>) -> Option<Part<'t>>
     ensures { option_map (wanted (token_of tree.now)) result ≡ by.first_part (view_site (token_of tree.now) site.entry) }
 {
@@ -43,6 +44,10 @@ pub(crate) fn first_part<'t>(tree: &Tree<'_>, site: Site<'t>) -> Option<Part<'t>
             node: Node::Reference(name),
         }),
         Site::Operation { left, operator, .. } if is_range(operator) => Some(operand(tree, left)),
+        Site::Map { opening, group } => Some(Part {
+            at: tree.token(opening).start,
+            node: Node::Map(group),
+        }),
         _ => None,
     }
 }
@@ -85,6 +90,7 @@ pub(crate) fn question_of(node: Node<'_>) -> Question
         Node::Group(_) => Question::ChoosesFrom,
         Node::Reference(_) => Question::ChoosesByName,
         Node::Operand(_) => Question::IsWhole,
+        Node::Map(_) => Question::MapGroup,
     }
 }
 
@@ -98,7 +104,7 @@ pub(crate) fn read_node<'s>(
     ensures stands { IfOk result (λ n. Holds terms.new (Some n) (node_tree (token_of tree.now) node.entry)) }
 {
     match node {
-        Node::Group(group) => read_group(terms, tree, group),
+        Node::Group(group) | Node::Map(group) => read_group(terms, tree, group),
         Node::Reference(name) => read_reference(terms, tree, name),
         Node::Operand(operand) => read_operand(terms, tree, operand),
     }

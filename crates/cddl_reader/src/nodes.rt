@@ -16,8 +16,12 @@ use cddl_tree::{
 };
 
 /// The number of a type.
+///
+/// # Errors
+///
+/// `NoRoom` where memory is refused, or each number of 32 bits is taken. The table may have grown.
 #[cycle(nodes)]
-pub(crate) fn read_types<'s>(
+pub fn read_types<'s>(
     terms: &mut Terms<'s>,
     tree: &Tree<'s>,
     types: &Types,
@@ -240,8 +244,12 @@ fn read_entries<'s>(
 }
 
 /// The number of an entry, without its comma.
+///
+/// # Errors
+///
+/// `NoRoom` where memory is refused, or each number of 32 bits is taken. The table may have grown.
 #[cycle(nodes)]
-pub(crate) fn read_entry<'s>(
+pub fn read_entry<'s>(
     terms: &mut Terms<'s>,
     tree: &Tree<'s>,
     entry: &GrpEnt,

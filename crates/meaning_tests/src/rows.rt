@@ -25,6 +25,8 @@ order | round | a = [x: &(~a)]
 order | down down | a = [g] g = (#, ? g)
 order | - round round | a = &(b) b = (y: &(c)) c = (x: &(b))
 asked | from4 whole9 whole12 | a = &(x: 1..2)
+asked | map4 map12 | a = {x: {}}
+asked | map16 map16 map19 map19 | a = [p<int>, p<tstr>] p<t> = {x: {}}
 nodes | 3 3 true | a = [5]
 opened | - | a = [* ~b] b = #6.1(c) c = #
 opened | 5 | a = [~b] b = #

@@ -143,6 +143,7 @@ fn of_asked(alloc: Global, meant: &Meant) -> Option<String> {
             Question::ChoosesFrom => "from",
             Question::ChoosesByName => "name",
             Question::IsWhole => "whole",
+            Question::MapGroup => "map",
         };
         let at = asked.at;
         let word = format!(in alloc; "{sort}{at} ").ok()?;
