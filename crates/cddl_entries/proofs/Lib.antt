@@ -1,0 +1,5 @@
+pub mod Adding
+pub mod Looping
+pub mod Nodes
+pub mod Opening
+pub mod Standing
