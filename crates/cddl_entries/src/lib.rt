@@ -3,6 +3,7 @@
 
 mod bare;
 mod entry;
+pub mod laws;
 mod listing;
 mod push;
 mod walk;
