@@ -12,7 +12,7 @@ use cddl_literals::literals;
 use cddl_live_sites::live_sites;
 use cddl_openings::{Opening, openings_of};
 use cddl_parse::{parse, tokens_end};
-use cddl_reached::{Asked, questions, reached_sites};
+use cddl_reached::{Asked, entry_questions, questions, reached_sites};
 use cddl_rule_faults::root_of;
 use cddl_survey::{Survey, survey_of};
 use cddl_terms::Terms;
@@ -25,6 +25,7 @@ use std::alloc::Global;
 pub(crate) struct Meant {
     pub found: Vec<Instance>,
     pub asked: Vec<Asked>,
+    pub entries: Vec<Asked>,
     pub closed: Closed,
     pub kinds: Kinds,
     pub openings: Vec<Opening>,
@@ -49,17 +50,19 @@ fn found_in(alloc: Global, terms: &mut Terms<'_>, survey: &Survey<'_>) -> Option
     }
 }
 
-/// What is asked at the sites that the root reaches.
+/// What is asked at the sites that the root reaches, and of entries.
 fn asked_in<'s>(
     alloc: Global,
     terms: &mut Terms<'s>,
     tree: &Tree<'s>,
     survey: &Survey<'_>,
     found: &[Instance],
-) -> Option<Vec<Asked>> {
+) -> Option<(Vec<Asked>, Vec<Asked>)> {
     let live = live_sites(alloc, terms, tree, survey).ok()?;
     let reached = reached_sites(alloc, terms, survey, &live, found).ok()?;
-    questions(alloc, terms, tree, survey, &reached, found).ok()
+    let asked = questions(alloc, terms, tree, survey, &reached, found).ok()?;
+    let entries = entry_questions(alloc, terms, tree, survey, &reached, found).ok()?;
+    Some((asked, entries))
 }
 
 /// The kinds of the names of the table.
@@ -76,7 +79,7 @@ fn meant_in<'s>(
     survey: &Survey<'_>,
 ) -> Option<Meant> {
     let found = found_in(alloc, terms, survey)?;
-    let asked = asked_in(alloc, terms, tree, survey, &found)?;
+    let (asked, entries) = asked_in(alloc, terms, tree, survey, &found)?;
     let closed = close(alloc, terms, &found).ok()?;
     let kinds = kinds_in(alloc, terms, survey)?;
     let most = survey.known.len() + survey.definitions.len();
@@ -87,6 +90,7 @@ fn meant_in<'s>(
     Some(Meant {
         found,
         asked,
+        entries,
         closed,
         kinds,
         openings,
