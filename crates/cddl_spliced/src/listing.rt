@@ -1,20 +1,26 @@
 ghost use Rattle.std.specs.Prelude.{◌≡◌, IfOk, List, slice_get};
 ghost use Rattle.cddl_closed.specs.Closed.{IsClosed};
 ghost use Rattle.cddl_kinds.specs.Kinds.{AreKinds};
+ghost use Rattle.cddl_live.specs.Live.{IsClear};
+ghost use Rattle.cddl_reached.specs.Asked.{AreEntriesAsked};
+ghost use Rattle.cddl_language.specs.Faults.{Specification, definitions, rules};
 ghost use Rattle.cddl_language.specs.Terms as L;
 ghost use Rattle.cddl_language.specs.Terms.{Ref, Text};
 ghost use Rattle.cddl_openings.specs.Endings.{AreEndings};
 ghost use Rattle.cddl_openings.specs.Openings.{AreOpenings};
-ghost use Rattle.cddl_spliced.specs.Spliced.{AreWays};
+ghost use Rattle.cddl_spliced.specs.Spliced.{AreSpliced, AreWays};
 ghost use Rattle.cddl_spliced.specs.Steps as by;
 
 use crate::edges::{edges_of, fact_of};
 use crate::owners::{Owner, Way, owner_of, target_of};
 use cddl_closed::Closed;
+use cddl_entries::laws::{bare_groups, spliced_groups};
 use cddl_kinds::Kinds;
+use cddl_live::{reached_parts, reached_rules};
 use cddl_openings::Opening;
 use cddl_reached::Asked;
 use cddl_terms::Terms;
+use cddl_terms::laws::equal_numbers;
 use implications::following;
 use std::alloc::{AllocError, Global};
 
@@ -44,7 +50,14 @@ pub fn spliced_entries(
     openings: &[Opening],
     endings: &[Option<u32>],
     asked: &[Asked],
-) -> Result<Vec<Spliced>, AllocError> {
+) -> Result<Vec<Spliced>, AllocError>
+    ensures { IfOk result (λ v. (s : Specification) (root : Text) (refs : List Ref) → IsClear s → IsClosed (definitions s) root refs terms.now closed.now → AreKinds terms.now.texts (definitions s) kinds.now → AreOpenings (definitions s) terms.now refs openings.now → AreEndings (definitions s) terms.now refs endings.now → AreEntriesAsked (rules s) root terms.now asked.now → AreSpliced (rules s) root terms.now refs v.items) }
+{
+    equal_numbers(terms);
+    spliced_groups();
+    bare_groups();
+    reached_parts();
+    reached_rules();
     let ways = ways_of(alloc, terms, closed, kinds, openings, endings, asked)?;
     let edges = edges_of(alloc, &ways)?;
     let flags = following(alloc, FACTS, &edges)?;
