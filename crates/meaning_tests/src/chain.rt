@@ -10,10 +10,11 @@ use cddl_instances::{Found, Instance, instances};
 use cddl_kinds::{Kinds, kinds_of};
 use cddl_literals::literals;
 use cddl_live_sites::live_sites;
-use cddl_openings::{Opening, openings_of};
+use cddl_openings::{Opening, endings_of, openings_of};
 use cddl_parse::{parse, tokens_end};
 use cddl_reached::{Asked, entry_questions, questions, reached_sites};
 use cddl_rule_faults::root_of;
+use cddl_spliced::{Spliced, spliced_entries};
 use cddl_survey::{Survey, survey_of};
 use cddl_terms::Terms;
 use cddl_token::{Token, tokens};
@@ -29,6 +30,7 @@ pub(crate) struct Meant {
     pub closed: Closed,
     pub kinds: Kinds,
     pub openings: Vec<Opening>,
+    pub spliced: Vec<Spliced>,
     pub literals: Vec<Option<u32>>,
     pub choosable: Vec<bool>,
     pub may_be_empty: Vec<bool>,
@@ -84,6 +86,9 @@ fn meant_in<'s>(
     let kinds = kinds_in(alloc, terms, survey)?;
     let most = survey.known.len() + survey.definitions.len();
     let openings = openings_of(alloc, terms, &closed, &kinds, most).ok()?;
+    let endings = endings_of(alloc, terms, &closed, most).ok()?;
+    let spliced =
+        spliced_entries(alloc, terms, &closed, &kinds, &openings, &endings, &entries).ok()?;
     let literals = literals(alloc, terms, &closed, &kinds).ok()?;
     let choosable = choosable(alloc, terms, &closed, &kinds, &openings).ok()?;
     let may_be_empty = may_be_empty(alloc, terms, &closed, &kinds, &openings).ok()?;
@@ -94,6 +99,7 @@ fn meant_in<'s>(
         closed,
         kinds,
         openings,
+        spliced,
         literals,
         choosable,
         may_be_empty,

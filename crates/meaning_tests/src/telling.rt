@@ -6,6 +6,7 @@ use cddl_openings::{Opening, Part, part_of};
 use cddl_entries::Holder;
 use cddl_reached::{Asked, Question};
 use cddl_recursion::{Node, Order, Ranks, find_order};
+use cddl_spliced::Owner;
 use cddl_terms::Terms;
 use std::alloc::Global;
 
@@ -16,6 +17,7 @@ pub(crate) fn told(alloc: Global, terms: &Terms<'_>, meant: &Meant, what: &str) 
         "opens" => of_openings(alloc, meant),
         "asked" => of_asked(alloc, &meant.asked),
         "entries" => of_asked(alloc, &meant.entries),
+        "spliced" => of_spliced(alloc, meant),
         "order" => order_of(alloc, terms, meant),
         "nodes" => nodes_in(alloc, terms, meant),
         _ => of_each(alloc, terms, meant, what),
@@ -152,6 +154,21 @@ fn of_asked(alloc: Global, questions: &[Asked]) -> Option<String> {
         };
         let at = asked.at;
         let word = format!(in alloc; "{sort}{at} ").ok()?;
+        words.push_str(word.as_str()).ok()?;
+    }
+    Some(words)
+}
+
+fn of_spliced(alloc: Global, meant: &Meant) -> Option<String> {
+    let mut words = String::new(alloc);
+    for entry in &meant.spliced {
+        let owner = match entry.owner {
+            Owner::Map => "map",
+            Owner::Named(_) => "named",
+            Owner::Opened(_) => "opened",
+        };
+        let at = entry.at;
+        let word = format!(in alloc; "{owner}{at} ").ok()?;
         words.push_str(word.as_str()).ok()?;
     }
     Some(words)
