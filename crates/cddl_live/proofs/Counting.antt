@@ -42,7 +42,7 @@ after_equals n (x ∷ xs) r c e s = go (λ d. after_equals n xs r d e s) (is_sam
     go again false h = again (unless_equal n x r xs e (other_text (name_in x) n h) c)
 
 -- each counts, if its definition is that of the first by `=`
-counts : (n : Text) (rs : List S.Rule) (r : S.Rule) → Contains rs r → name_in r ≡ n → ((q : S.Rule) → is_equals (sign_of r) ≡ true → first_equals rs n ≡ Some q → definition_of r ≡ definition_of q) → Contains (counting false (named_so n (definitions_in rs))) (definition_of r)
+pub counts : (n : Text) (rs : List S.Rule) (r : S.Rule) → Contains rs r → name_in r ≡ n → ((q : S.Rule) → is_equals (sign_of r) ≡ true → first_equals rs n ≡ Some q → definition_of r ≡ definition_of q) → Contains (counting false (named_so n (definitions_in rs))) (definition_of r)
 counts n [] r c e one = none_in c
 counts n (x ∷ xs) r c e one = go (λ d f. counts n xs r d e f) (is_same (name_in x) n) refl one
   where

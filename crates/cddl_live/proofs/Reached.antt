@@ -9,14 +9,14 @@ use Rattle.std.proofs.lemmas.List.Elements.{Contains-append_left, Contains-appen
 use Rattle.cddl_token.specs.declared.Token.{Token}
 use Rattle.cddl_syntax.specs.Syntax as S
 use Rattle.cddl_live.proofs.Standing as Standing
-use Rattle.cddl_live.proofs.Counting.{in_meaning, argument_at, token_at}
+use Rattle.cddl_live.proofs.Counting.{in_meaning, argument_at, counts, token_at}
 use Rattle.cddl_live.specs.Live.{IsLive, outer, inner, slot, IsClear, point_at}
 use Rattle.cddl_language.specs.Terms.{Text, Term, Definition, Ref, call, Terms, no_terms, term, named, unwrapped, name_of, arguments_of, term_list}
-use Rattle.cddl_language.specs.Reading.{text_of, ref_of, terms_of, followed, term_of1, term_of2, group_of, parameters_in, parameter_tokens, rule_head, definition_of}
-use Rattle.cddl_language.specs.Environment.{is_same, is_in}
+use Rattle.cddl_language.specs.Reading.{text_of, ref_of, terms_of, followed, term_of1, term_of2, group_of, parameters_in, name_in, parameter_tokens, rule_head, definition_of}
+use Rattle.cddl_language.specs.Environment.{counting, definitions_of, from_prelude, is_in, is_same, named_so}
 use Rattle.cddl_language.specs.Substitution.{argument, argument_for, or_else, fill, fill_ref, fill_all, fill_group, fill_body}
 use Rattle.cddl_language.specs.Reach.{Point, at_name, at_unwrapping, at_choice, ref_at, points, group_points, body_points, Reaches, onward, IsPresent, instance, standing}
-use Rattle.cddl_language.specs.Sites.{Site, a_name, an_unwrapping, a_choice_of, a_choice_of_name, an_operation, arguments, argument_list, ref_token, ref_name, outer_sites, ref_at_site, is_parameter, demands_type, closed_arguments, IsReached, in_body, in_argument, used, IsInstance}
+use Rattle.cddl_language.specs.Sites.{Site, a_name, an_unwrapping, a_choice_of, a_choice_of_name, a_map, an_operation, arguments, argument_list, ref_token, ref_name, outer_sites, ref_at_site, is_parameter, demands_type, closed_arguments, IsReached, in_body, in_argument, used, IsInstance}
 use Rattle.cddl_language.specs.Faults.{Specification, rules, definitions, HasSite, HasName, parameter_twice, by_parameter, type_name}
 
 same_or : (b c : Bool) → (b || c) ≡ false → (b ≡ false) × (c ≡ false)
@@ -121,9 +121,12 @@ module _ (s : Specification) (root : Text) (clear : IsClear s) where
   pub standing_there : (r : S.Rule) (xs : List Term) (q : Site) (f : S.Ref) (p : Point) → IsReached (rules s) root r xs q → ref_at_site q ≡ Some f → is_parameter r (ref_name f) ≡ false → point_at q (fill_ref (parameters_in r) xs (ref_of f)) ≡ Some p → IsPresent (definitions s) root p
   standing_there r xs q f p h e n w = let v = closed_point (parameters_in r) xs q f e n in subst (λ m. IsPresent (definitions s) root m) (Standing.same_some (sym v.1.1.1 ∙ w)) (present r xs q v.0 h v.1.0)
 
-  -- what stands in the group after `&`, and in an operand
+  -- what stands in the group after `&` and of a map, and in an operand
   pub in_group_there : (r : S.Rule) (xs : List Term) (t : Token) (g : S.Group) (p : Point) → IsReached (rules s) root r xs (a_choice_of t g) → Contains (group_points (fill_group (parameters_in r) xs (group_of g))) p → Reaches (definitions s) root (ref_at p)
   in_group_there r xs t g p h c = present_reach (definitions s) root p (present r xs (a_choice_of t g) p h c)
+
+  pub in_map_there : (r : S.Rule) (xs : List Term) (t : Token) (g : S.Group) (p : Point) → IsReached (rules s) root r xs (a_map t g) → Contains (group_points (fill_group (parameters_in r) xs (group_of g))) p → Reaches (definitions s) root (ref_at p)
+  in_map_there r xs t g p h c = present_reach (definitions s) root p (present r xs (a_map t g) p h c)
 
   pub chosen_there : (r : S.Rule) (xs : List Term) (t : Token) (f : S.Ref) → IsReached (rules s) root r xs (a_choice_of_name t f) → Reaches (definitions s) root (fill_ref (parameters_in r) xs (ref_of f))
   chosen_there r xs t f h = let p = at_choice (fill_ref (parameters_in r) xs (ref_of f)) in present_reach (definitions s) root p (present r xs (a_choice_of_name t f) p h (Standing.at_head p []))
@@ -134,6 +137,10 @@ module _ (s : Specification) (root : Text) (clear : IsClear s) where
   pub in_last_there : (r : S.Rule) (xs : List Term) (x y : S.Type2) (o : S.Operator) (p : Point) → IsReached (rules s) root r xs (an_operation x o y) → Contains (points (fill (parameters_in r) xs (term_of2 y))) p → Reaches (definitions s) root (ref_at p)
   in_last_there r xs x y o p h c = present_reach (definitions s) root p (present r xs (an_operation x o y) p h (Contains-append_right (points (fill (parameters_in r) xs (term_of2 x))) (points (fill (parameters_in r) xs (term_of2 y))) p c))
 
+  -- what stands in a rule's body
+  pub in_body_there : (r : S.Rule) (i : Ref) (p : Point) → IsInstance (rules s) root r i → Contains (body_points (fill_body (definition_of r).parameters (arguments_of i) (definition_of r).body)) p → Reaches (definitions s) root (ref_at p)
+  in_body_there r i p h c = onward h.reached (in_meaning (rules s) r i p h.present h.named (λ m e f. clear.one_equals h.present e f) c) refl
+
   same_name : (ps : List Text) (xs : List Term) (f : S.Ref) → name_of (fill_ref ps xs (ref_of f)) ≡ ref_name f
   same_name ps xs (S.name t) = refl
   same_name ps xs (S.applied o a z) = refl
@@ -141,3 +148,7 @@ module _ (s : Specification) (root : Text) (clear : IsClear s) where
   pub reached : (r : S.Rule) (i : Ref) (p : Site) → IsInstance (rules s) root r i → IsLive (rules s) r p → IsReached (rules s) root r (arguments_of i) p
   reached r i p h (outer c) = in_body h c
   reached r i p h (inner {q = q} {f = f} {x = x} k l e n v (slot {s = t} {u = u} {g = g} m y z w a b) c) = let d = reached r i q h l in let j = references r (arguments_of i) q f d e n in in_argument d e (used k n z (reached t (fill_ref (parameters_in r) (arguments_of i) (ref_of f)) u (record { reached = j; named = same_name (parameters_in r) (arguments_of i) f ∙ sym z; present = y }) w) a b v) c
+
+-- what a rule says is among what its name means
+pub is_defined : (s : Specification) → IsClear s → (r : S.Rule) → Contains (rules s) r → Contains (definitions_of (definitions s) (name_in r)) (definition_of r)
+is_defined s clear r c = Contains-append_right (from_prelude (definitions s) (name_in r)) (counting false (named_so (name_in r) (definitions s))) (definition_of r) (counts (name_in r) (rules s) r c refl (λ q e f. clear.one_equals c e f))

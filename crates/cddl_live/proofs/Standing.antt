@@ -45,6 +45,7 @@ site_points ps xs (an_unwrapping b u r) = points (fill ps xs (unwrapped (ref_of 
 site_points ps xs (a_choice_of_name a r) = at_choice (fill_ref ps xs (ref_of r)) ∷ []
 site_points ps xs (a_choice_of a g) = group_points (fill_group ps xs (group_of g))
 site_points ps xs (an_operation x o y) = points (fill ps xs (term_of2 x)) ++ points (fill ps xs (term_of2 y))
+site_points ps xs (a_map a g) = group_points (fill_group ps xs (group_of g))
 site_points ps xs _ = []
 
 no_outer : (r : S.Ref) {C : Type 0} (q : Site) → Contains (in_ref false r) q → C
@@ -85,7 +86,7 @@ module _ (ps : List Text) (xs : List Term) (q : Site) (p : Point) (h : Contains 
     points_type2 b (S.literal v) c = none_in c
     points_type2 b (S.typename r) c = on_cons (a_name b r) (in_ref false r) q c (λ e. subst (λ m. Contains (site_points ps xs m) p) (sym e) h) (λ d. no_outer r q d)
     points_type2 b (S.parens o t z) c = points_types b t c
-    points_type2 b (S.map_of o g z) c = on_cons (a_map o g) (in_group false g) q c (λ e. none_in (subst (λ m. Contains (site_points ps xs m) p) (sym e) h)) (λ d. points_group g d)
+    points_type2 b (S.map_of o g z) c = on_cons (a_map o g) (in_group false g) q c (λ e. subst (λ m. Contains (site_points ps xs m) p) (sym e) h) (λ d. points_group g d)
     points_type2 b (S.array_of o g z) c = points_group g c
     points_type2 b (S.unwrapped u r) c = on_cons (an_unwrapping b u r) (in_ref false r) q c (λ e. subst (λ m. Contains (site_points ps xs m) p) (sym e) h) (λ d. no_outer r q d)
     points_type2 b (S.choice_of a o g z) c = on_cons (a_choice_of a g) (in_group false g) q c (λ e. subst (λ m. Contains (site_points ps xs m) p) (sym e) h) (λ d. points_group g d)

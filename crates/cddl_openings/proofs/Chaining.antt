@@ -84,9 +84,9 @@ pub name_there : (t : Table) (k : ℕ) (r : Ref) → IsRef t k r → (m : ℕ) �
 name_there t k (call n ts) (part e (some_text {n = m} g) a b) = (m, ap text_in e, g)
 
 -- what a row itself opens: it is no name
-record Holding (t : Table) (places : List (Option ℕ)) (n : ℕ) (o : Opened) : Type 0 where
-  place : named_place t.rows places n ≡ None
-  opening : IsOpened t (Some o) (opening_at t.rows (Some n))
+pub record Holding (t : Table) (places : List (Option ℕ)) (n : ℕ) (o : Opened) : Type 0 where
+  pub place : named_place t.rows places n ≡ None
+  pub opening : IsOpened t (Some o) (opening_at t.rows (Some n))
 
 module _ (t : Table) (places : List (Option ℕ)) (n : ℕ) where
   holds_group : (g : Group) (o : Opened) (i : Option ℕ) → Some (opens_group g) ≡ Some o → Holds t i (group_tree g) → IsOpened t (Some o) (group_opening i)
@@ -98,7 +98,7 @@ module _ (t : Table) (places : List (Option ℕ)) (n : ℕ) where
   made : (o : Opened) (r : Row) → slice_get t.rows n ≡ Some r → place_in places (Some r) ≡ None → IsOpened t (Some o) (opening_by (Some r)) → Holding t places n o
   made o r e p h = record { place = ap (place_in places) e ∙ p; opening = subst (λ z. IsOpened t (Some o) (opening_by z)) (sym e) h }
 
-  holding : (x : Term) (o : Opened) → held x ≡ Some o → IsTerm t n x → Holding t places n o
+  pub holding : (x : Term) (o : Opened) → held x ≡ Some o → IsTerm t n x → Holding t places n o
   holding (map_of g) o e (part {i = i} q h a b) = made o _ q refl (holds_group g o i e a)
   holding (array_of g) o e (part {i = i} q h a b) = made o _ q refl (holds_group g o i e a)
   holding (tagged m x) o e (part {i = i} q h a b) = made o _ q refl (holds_type x o i e a)
@@ -117,7 +117,7 @@ module _ (t : Table) (places : List (Option ℕ)) (n : ℕ) where
 
 -- Links.
 
-link_there : (rows : List Row) (places : List (Option ℕ)) (stripped : List ℕ) (ms : List Meaning) (k : ℕ) (m : Meaning) (l : Link) → slice_get ms k ≡ Some m → slice_index_or (links_of rows places stripped ms) k l ≡ link_of rows places stripped m
+pub link_there : (rows : List Row) (places : List (Option ℕ)) (stripped : List ℕ) (ms : List Meaning) (k : ℕ) (m : Meaning) (l : Link) → slice_get ms k ≡ Some m → slice_index_or (links_of rows places stripped ms) k l ≡ link_of rows places stripped m
 link_there rows places stripped [] k m l e = cc
 link_there rows places stripped (z ∷ ms) zero m l e = ap (link_of rows places stripped) (same z m e)
   where
@@ -134,7 +134,7 @@ one_row t y [] h = elim h [ ]
 one_row t y (n ∷ []) (both h hs) = (n, refl, h)
 one_row t y (n ∷ m ∷ ns) (both h hs) = elim hs [ ]
 
-within : {A : Type 0} (xs : List A) (k : ℕ) (x : A) → slice_get xs k ≡ Some x → k < length xs
+pub within : {A : Type 0} (xs : List A) (k : ℕ) (x : A) → slice_get xs k ≡ Some x → k < length xs
 within [] k x e = cc
 within (y ∷ ys) zero x e = omega arith
 within (y ∷ ys) (suc k) x e = let h = within ys k x e in omega (arith, h)
@@ -156,12 +156,12 @@ module _ (t : Table) (one_ref : (n m : ℕ) (a b : Ref) → IsRef t n a → IsRe
 
   module _ (links : List Link) (are : links ≡ links_of t.rows places c.stripped.items c.meanings.items) where
     -- where an instance has one choice, its link goes from the row of this out of its parentheses
-    record LinksFrom (k : ℕ) (y : Term) : Type 0 where
-      row : ℕ
-      term : IsTerm t row (stripped y)
-      link : slice_index_or links k (LinkV.Next k) ≡ link_from t.rows places row
+    pub record LinksFrom (k : ℕ) (y : Term) : Type 0 where
+      pub row : ℕ
+      pub term : IsTerm t row (stripped y)
+      pub link : slice_index_or links k (LinkV.Next k) ≡ link_from t.rows places row
 
-    links_from : (k : ℕ) (r : Ref) (y : Term) → slice_get refs k ≡ Some r → type_choices xs r ≡ y ∷ [] → LinksFrom k y
+    pub links_from : (k : ℕ) (r : Ref) (y : Term) → slice_get refs k ≡ Some r → type_choices xs r ≡ y ∷ [] → LinksFrom k y
     links_from k r y e f =
         let m = alike_at (IsMeaning xs t) refs c.meanings.items is.meanings k r e in
         let n = one_row t y m.0.types.items (subst (λ ys. AlikeAll (TermRow t) ys m.0.types.items) f m.2.types) in

@@ -30,7 +30,7 @@ no_argument (p ∷ ps) (x ∷ xs) n e = by (is_same p n) (no_argument ps xs n) e
     by true i e = cc
     by false i e = i e
 
-no_argument_for : (ps : List Text) (xs : List Term) (r : Ref) → is_in ps (name_of r) ≡ false → argument_for ps xs r ≡ None
+pub no_argument_for : (ps : List Text) (xs : List Term) (r : Ref) → is_in ps (name_of r) ≡ false → argument_for ps xs r ≡ None
 no_argument_for ps xs (call n no_terms) e = no_argument ps xs n e
 no_argument_for ps xs (call n (term t ts)) e = refl
 
@@ -44,7 +44,7 @@ module _ (next : Ref → Option Opened) (ps : List Text) (xs : List Term) (o : O
   inside y (through s e f) = through s e f
 
   -- the type, filled, leads to what it is said to open
-  type_leads : (t : Term) → opened_term next ps xs (stripped t) ≡ Some o → LeadsBy next o (fill ps xs t)
+  pub type_leads : (t : Term) → opened_term next ps xs (stripped t) ≡ Some o → LeadsBy next o (fill ps xs t)
   type_leads (parens t) e = inside (fill ps xs t) (type_leads t e)
   type_leads (named r) e = by_name r (is_in ps (name_of r)) refl e
   type_leads (map_of g) e = itself e

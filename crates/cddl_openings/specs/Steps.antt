@@ -70,6 +70,19 @@ abbrev pub links_of : List Row → List (Option ℕ) → List ℕ → List Meani
 links_of rows places stripped [] = []
 links_of rows places stripped (m ∷ ms) = link_of rows places stripped m ∷ links_of rows places stripped ms
 
+-- the same with the instance's own row at the end
+
+abbrev pub ended_at : ℕ → Link → Link
+ended_at call (LinkV.End n) = LinkV.End call
+ended_at call (LinkV.Next k) = LinkV.Next k
+
+abbrev pub own_link_of : List Row → List (Option ℕ) → List ℕ → Meaning → Link
+own_link_of rows places stripped m = ended_at m.call (link_of rows places stripped m)
+
+abbrev pub own_links_of : List Row → List (Option ℕ) → List ℕ → List Meaning → List Link
+own_links_of rows places stripped [] = []
+own_links_of rows places stripped (m ∷ ms) = own_link_of rows places stripped m ∷ own_links_of rows places stripped ms
+
 -- What is opened at the end of a way.
 
 abbrev pub group_opening : Option ℕ → Opening

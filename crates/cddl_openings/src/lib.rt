@@ -1,10 +1,12 @@
 //! What `~` of each instance of a specification opens, and whether an entry's type is a type or a group, by rows of a table.
 #![tactic(auto)]
 
+mod endings;
 pub mod laws;
 mod links;
 mod openings;
 mod parts;
 
+pub use crate::endings::endings_of;
 pub use crate::openings::{Opening, Part, openings_of};
 pub use crate::parts::part_of;

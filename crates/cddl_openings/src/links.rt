@@ -27,7 +27,7 @@ pub(crate) fn links(
     Ok(links)
 }
 
-fn link_of(terms: &Terms<'_>, closed: &Closed, meaning: &Meaning) -> Link
+pub(crate) fn link_of(terms: &Terms<'_>, closed: &Closed, meaning: &Meaning) -> Link
     ensures { result ≡ by.link_of terms.now.rows closed.now.places.items closed.now.stripped.items meaning.now }
 {
     match sole_row(&closed.stripped, &meaning.types) {

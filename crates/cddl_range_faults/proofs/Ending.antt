@@ -38,6 +38,7 @@ module _ (s : Specification) (worth : Values) (root : Text) (t : Table) (laws : 
   end_there : (a : Asked) → IsAsked (rules s) root t a → AsksWhole a → IsEnd (definitions s) root worth t a.row
   end_there a (A.choosing h is e q) asks = cc
   end_there a (A.choosing_by_name h is e q) asks = cc
+  end_there a (A.of_map h is e q) asks = cc
   end_there a (A.first_end {r = r} {xs = xs} {x = x} {y = y} {o = o} h z is e q) asks = record {
     end = fill (parameters_in r) xs (term_of2 x);
     row = is;
@@ -67,6 +68,10 @@ module _ (s : Specification) (worth : Values) (root : Text) (t : Table) (laws : 
       at_asked a at (A.choosing_by_name h is e q) bad = absurd (other (sym q ∙ bad.asked))
         where
           other : QuestionV.ChoosesByName ≡ QuestionV.IsWhole → ⊥
+          other e = cc
+      at_asked a at (A.of_map h is e q) bad = absurd (other (sym q ∙ bad.asked))
+        where
+          other : QuestionV.MapGroup ≡ QuestionV.IsWhole → ⊥
           other e = cc
       at_asked a at (A.first_end {r = r} {xs = xs} {x = x} {y = y} {o = o} h z is e q) bad = at_first_end {r = r} {xs = xs} {x = x} {y = y} {o = o} h z (same_whole a.row bad.end (fill (parameters_in r) xs (term_of2 x)) bad.row is bad.not_whole) (bad.offset ∙ e)
       at_asked a at (A.last_end {r = r} {xs = xs} {x = x} {y = y} {o = o} h z is e q) bad = at_last_end {r = r} {xs = xs} {x = x} {y = y} {o = o} h z (same_whole a.row bad.end (fill (parameters_in r) xs (term_of2 y)) bad.row is bad.not_whole) (bad.offset ∙ e)

@@ -7,11 +7,11 @@ use Rattle.cddl_language.specs.Faults.{Specification, definitions, is_range_sign
 use Rattle.cddl_language.specs.Reading.{group_of, name_in, parameters_in, ref_of, term_of2}
 use Rattle.cddl_language.specs.Sites.{IsReached, Site, a_name, an_unwrapping, a_choice_of, a_choice_of_name, a_hash, an_operation, an_entry, a_map}
 use Rattle.cddl_language.specs.StandsFor.{AreInstances}
-use Rattle.cddl_language.specs.Substitution.{fill, fill_group, fill_ref}
-use Rattle.cddl_language.specs.Terms.{Group, Ref, Term, Text, arguments_of}
+use Rattle.cddl_language.specs.Substitution.{fill, fill_entry, fill_group, fill_ref}
+use Rattle.cddl_language.specs.Terms.{Entry, Group, Ref, Term, Text, arguments_of}
 use Rattle.cddl_terms.specs.Filled.{filled, term_trees}
-use Rattle.cddl_terms.specs.Table.{Holds, Table, Tree}
-use Rattle.cddl_terms.specs.Trees.{group_tree, ref_tree, term_tree}
+use Rattle.cddl_terms.specs.Table.{Holds, Table, Tree, nothing}
+use Rattle.cddl_terms.specs.Trees.{entry_tree, group_tree, ref_tree, term_tree}
 use Rattle.cddl_live.specs.Live.{IsClear}
 use Rattle.cddl_sites.specs.declared.site.Found.{Found}
 use Rattle.cddl_sites.specs.View.{view_site}
@@ -19,50 +19,51 @@ use Rattle.cddl_reached.specs.Calls.{refs_named}
 use Rattle.cddl_reached.specs.Reached.{AreReachedSites}
 use Rattle.cddl_reached.specs.declared.asked.Asked.{Asked}
 use Rattle.cddl_reached.specs.declared.asked.Question.TheVariants as QuestionV
-use Rattle.cddl_reached.specs.Asked.{AreAnswers, no_answers, further_answer, AreAsked, IsAnswer, IsAsked, choosing, choosing_by_name, first_end, last_end, Wanted, WasAsked, end_of, first_part, last_part, wanted_all, wanted_at, wanted_each, wanted_in, wanted_some, wanted_there}
+use Rattle.cddl_reached.specs.Asked.{AreAnswers, no_answers, further_answer, AreAsked, IsAnswer, IsAsked, choosing, choosing_by_name, first_end, last_end, of_map, Wanted, WasAsked, end_of, first_part, last_part, wanted_all, wanted_at, wanted_by, wanted_each, wanted_in, wanted_some, wanted_there}
 use Rattle.cddl_reached.proofs.Lists.{IsIn, contained_place, contains, in_either, in_first, in_second, is_in}
 use Rattle.cddl_reached.proofs.Reaching.{Laws, instance_of, ref_of_instance}
 
 -- Answers, one for one.
 
-answer_of : (t : Table) (answers : List Asked) (ws : List Wanted) (a : Asked) → AreAnswers t answers ws → IsIn a answers → (w : Wanted) × (IsIn w ws × IsAnswer t a w)
+pub answer_of : (t : Table) (answers : List Asked) (ws : List Wanted) (a : Asked) → AreAnswers t answers ws → IsIn a answers → (w : Wanted) × (IsIn w ws × IsAnswer t a w)
 answer_of t answers ws a no_answers k = absurd k
 answer_of t answers ws a (further_answer {a = b} {w = v} h hs) (inl e) = (v, (inl refl, subst (λ x. IsAnswer t x v) (sym e) h))
 answer_of t answers ws a (further_answer {answers = more} {ws = vs} h hs) (inr k) = let w = answer_of t more vs a hs k in (w.0, (inr w.1.0, w.1.1))
 
-wanted_answer : (t : Table) (answers : List Asked) (ws : List Wanted) (w : Wanted) → AreAnswers t answers ws → IsIn w ws → (a : Asked) × (IsIn a answers × IsAnswer t a w)
+pub wanted_answer : (t : Table) (answers : List Asked) (ws : List Wanted) (w : Wanted) → AreAnswers t answers ws → IsIn w ws → (a : Asked) × (IsIn a answers × IsAnswer t a w)
 wanted_answer t answers ws w no_answers k = absurd k
 wanted_answer t answers ws w (further_answer {a = b} {w = v} h hs) (inl e) = (b, (inl refl, subst (IsAnswer t b) (sym e) h))
 wanted_answer t answers ws w (further_answer {answers = more} {ws = vs} h hs) (inr k) = let a = wanted_answer t more vs w hs k in (a.0, (inr a.1.0, a.1.1))
 
-in_each : (ps : List Text) (v w : Wanted) (refs : List Ref) → IsIn v (wanted_each ps w refs) → (r : Ref) × (IsIn r refs × (v ≡ wanted_in ps w r))
+pub in_each : (ps : List Text) (v w : Wanted) (refs : List Ref) → IsIn v (wanted_each ps w refs) → (r : Ref) × (IsIn r refs × (v ≡ wanted_in ps w r))
 in_each ps v w [] h = absurd h
 in_each ps v w (r ∷ refs) (inl e) = (r, (inl refl, e))
 in_each ps v w (r ∷ refs) (inr h) = let q = in_each ps v w refs h in (q.0, (inr q.1.0, q.1.1))
 
-each_in : (ps : List Text) (w : Wanted) (refs : List Ref) (r : Ref) → IsIn r refs → IsIn (wanted_in ps w r) (wanted_each ps w refs)
+pub each_in : (ps : List Text) (w : Wanted) (refs : List Ref) (r : Ref) → IsIn r refs → IsIn (wanted_in ps w r) (wanted_each ps w refs)
 each_in ps w [] r h = absurd h
 each_in ps w (q ∷ refs) r (inl e) = inl (ap (wanted_in ps w) e)
 each_in ps w (q ∷ refs) r (inr h) = inr (each_in ps w refs r h)
 
-module _ (read : Leaf → Token) (rs : List S.Rule) (refs : List Ref) where
-  in_all : (fs : List Found) (w : Wanted) → IsIn w (wanted_all read rs refs fs) → (f : Found) × (IsIn f fs × IsIn w (wanted_at read rs refs f))
+module _ {A : Type 0} (of : A → List Wanted) where
+  pub in_all : (xs : List A) (w : Wanted) → IsIn w (wanted_by of xs) → (x : A) × (IsIn x xs × IsIn w (of x))
   in_all [] w h = absurd h
-  in_all (f ∷ fs) w h = by (in_either (wanted_at read rs refs f) (wanted_all read rs refs fs) w h) (in_all fs w)
+  in_all (x ∷ xs) w h = by (in_either (of x) (wanted_by of xs) w h) (in_all xs w)
     where
-      by : IsIn w (wanted_at read rs refs f) ⊎ IsIn w (wanted_all read rs refs fs) → (IsIn w (wanted_all read rs refs fs) → (g : Found) × (IsIn g fs × IsIn w (wanted_at read rs refs g))) → (g : Found) × (((g ≡ f) ⊎ IsIn g fs) × IsIn w (wanted_at read rs refs g))
-      by (inl k) so = (f, (inl refl, k))
+      by : IsIn w (of x) ⊎ IsIn w (wanted_by of xs) → (IsIn w (wanted_by of xs) → (y : A) × (IsIn y xs × IsIn w (of y))) → (y : A) × (((y ≡ x) ⊎ IsIn y xs) × IsIn w (of y))
+      by (inl k) so = (x, (inl refl, k))
       by (inr k) so = let q = so k in (q.0, (inr q.1.0, q.1.1))
 
-  all_in : (fs : List Found) (w : Wanted) (f : Found) → IsIn f fs → IsIn w (wanted_at read rs refs f) → IsIn w (wanted_all read rs refs fs)
-  all_in [] w f h k = absurd h
-  all_in (g ∷ fs) w f (inl e) k = in_first (wanted_at read rs refs g) (wanted_all read rs refs fs) w (subst (λ x. IsIn w (wanted_at read rs refs x)) e k)
-  all_in (g ∷ fs) w f (inr h) k = in_second (wanted_at read rs refs g) (wanted_all read rs refs fs) w (all_in fs w f h k)
+  pub all_in : (xs : List A) (w : Wanted) (x : A) → IsIn x xs → IsIn w (of x) → IsIn w (wanted_by of xs)
+  all_in [] w x h k = absurd h
+  all_in (y ∷ xs) w x (inl e) k = in_first (of y) (wanted_by of xs) w (subst (λ z. IsIn w (of z)) e k)
+  all_in (y ∷ xs) w x (inr h) k = in_second (of y) (wanted_by of xs) w (all_in xs w x h k)
 
 -- To put arguments into a tree is to put them into what it is of.
 pub record Trees : Type 0 where
   pub term : (ps : List Text) (xs : List Term) (t : Term) → filled ps (term_trees xs) (term_tree t) ≡ term_tree (fill ps xs t)
   pub reference : (ps : List Text) (xs : List Term) (r : Ref) → filled ps (term_trees xs) (ref_tree r) ≡ ref_tree (fill_ref ps xs r)
+  pub entry : (ps : List Text) (xs : List Term) (e : Entry) → filled ps (term_trees xs) (entry_tree e) ≡ entry_tree (fill_entry ps xs e)
   pub group : (ps : List Text) (xs : List Term) (g : Group) → filled ps (term_trees xs) (group_tree g) ≡ group_tree (fill_group ps xs g)
 
 -- What is asked at a site of the rule, of these references.
@@ -71,10 +72,10 @@ module _ (trees : Trees) (rs : List S.Rule) (root : Text) (t : Table) (r : S.Rul
   asked_first (a_name b f) reach a w h k = absurd h
   asked_first (an_unwrapping b u f) reach a w h k = absurd h
   asked_first (a_choice_of u g) reach a w h k =
-      let e = in_each (parameters_in r) w (record { at = u.start; question = QuestionV.ChoosesFrom; tree = group_tree (group_of g) }) refs h in
+      let e = in_each (parameters_in r) w (record { at = u.start; question = QuestionV.ChoosesFrom; tree = group_tree (group_of g); call = nothing }) refs h in
       choosing {u = u} {g = g} (reach e.0 e.1.0) (subst (Holds t (Some a.row)) (ap (λ (v : Wanted). v.tree) e.1.1 ∙ trees.group (parameters_in r) (arguments_of e.0) (group_of g)) k.holds) (k.at ∙ ap (λ (v : Wanted). v.at) e.1.1) (k.question ∙ ap (λ (v : Wanted). v.question) e.1.1)
   asked_first (a_choice_of_name u f) reach a w h k =
-      let e = in_each (parameters_in r) w (record { at = u.start; question = QuestionV.ChoosesByName; tree = ref_tree (ref_of f) }) refs h in
+      let e = in_each (parameters_in r) w (record { at = u.start; question = QuestionV.ChoosesByName; tree = ref_tree (ref_of f); call = nothing }) refs h in
       choosing_by_name {u = u} {f = f} (reach e.0 e.1.0) (subst (Holds t (Some a.row)) (ap (λ (v : Wanted). v.tree) e.1.1 ∙ trees.reference (parameters_in r) (arguments_of e.0) (ref_of f)) k.holds) (k.at ∙ ap (λ (v : Wanted). v.at) e.1.1) (k.question ∙ ap (λ (v : Wanted). v.question) e.1.1)
   asked_first (a_hash u) reach a w h k = absurd h
   asked_first (an_operation x o y) reach a w h k = by (is_range_sign o) refl h
@@ -85,7 +86,9 @@ module _ (trees : Trees) (rs : List S.Rule) (root : Text) (t : Table) (r : S.Rul
           first_end {x = x} {y = y} {o = o} (reach e.0 e.1.0) g (subst (Holds t (Some a.row)) (ap (λ (v : Wanted). v.tree) e.1.1 ∙ trees.term (parameters_in r) (arguments_of e.0) (term_of2 x)) k.holds) (k.at ∙ ap (λ (v : Wanted). v.at) e.1.1) (k.question ∙ ap (λ (v : Wanted). v.question) e.1.1)
       by false g m = absurd m
   asked_first (an_entry e) reach a w h k = absurd h
-  asked_first (a_map u g) reach a w h k = absurd h
+  asked_first (a_map u g) reach a w h k =
+      let e = in_each (parameters_in r) w (record { at = u.start; question = QuestionV.MapGroup; tree = group_tree (group_of g); call = nothing }) refs h in
+      of_map {u = u} {g = g} (reach e.0 e.1.0) (subst (Holds t (Some a.row)) (ap (λ (v : Wanted). v.tree) e.1.1 ∙ trees.group (parameters_in r) (arguments_of e.0) (group_of g)) k.holds) (k.at ∙ ap (λ (v : Wanted). v.at) e.1.1) (k.question ∙ ap (λ (v : Wanted). v.question) e.1.1)
 
   asked_last : (p : Site) → ((i : Ref) → IsIn i refs → IsReached rs root r (arguments_of i) p) → (a : Asked) (w : Wanted) → IsIn w (wanted_some (parameters_in r) (last_part p) refs) → IsAnswer t a w → IsAsked rs root t a
   asked_last (a_name b f) reach a w h k = absurd h
@@ -112,7 +115,7 @@ module _ (laws : Laws) (trees : Trees) (s : Specification) (root : Text) (clear 
   sound : (a : Asked) → IsIn a answers → IsAsked (rules s) root t a
   sound a h =
       let w = answer_of t answers (wanted_all read (rules s) refs fs) a all h in
-      let f = in_all read (rules s) refs fs w.0 w.1.0 in
+      let f = in_all (wanted_at read (rules s) refs) fs w.0 w.1.0 in
       let so = reached.sound f.0 (contains fs f.0 f.1.0) in
       let p = view_site read f.0.site in
       let named = refs_named (name_in so.rule) refs in
@@ -133,7 +136,7 @@ module _ (laws : Laws) (trees : Trees) (s : Specification) (root : Text) (clear 
       let one = each_in (parameters_in r) w named i.0 (ref_of_instance laws s root clear refs are r i.0 i.1.0) in
       let site = subst (λ q. IsIn v (wanted_there refs (Some r) q)) (sym f.same) (in_part (parameters_in r) p w named v part one) in
       let at = subst (λ o. IsIn v (wanted_there refs o (view_site read f.found.site))) (sym (ap (slice_get (rules s)) f.place ∙ k.1)) site in
-      let a = wanted_answer t answers (wanted_all read (rules s) refs fs) v all (all_in read (rules s) refs fs v f.found (is_in fs f.found f.contained) at) in
+      let a = wanted_answer t answers (wanted_all read (rules s) refs fs) v all (all_in (wanted_at read (rules s) refs) fs v f.found (is_in fs f.found f.contained) at) in
       record { asked = a.0; contained = contains answers a.0 a.1.0; same_at = a.1.1.at; same_question = a.1.1.question; holds = subst (Holds t (Some a.0.row)) (ap (λ ys. filled (parameters_in r) (term_trees ys) w.tree) (sym i.1.1) ∙ same) a.1.1.holds }
 
   first_of_range : (x y : S.Type2) (o : S.Operator) → is_range_sign o ≡ true → first_part (an_operation x o y) ≡ Some (end_of x)
@@ -145,8 +148,9 @@ module _ (laws : Laws) (trees : Trees) (s : Specification) (root : Text) (clear 
   pub are_asked : AreAsked (rules s) root t answers
   are_asked = record {
     sound = λ a h. sound a (is_in answers a h);
-    groups = λ r xs u g h. was_asked r xs (a_choice_of u g) (record { at = u.start; question = QuestionV.ChoosesFrom; tree = group_tree (group_of g) }) (group_tree (fill_group (parameters_in r) xs (group_of g))) h (inl refl) (trees.group (parameters_in r) xs (group_of g));
-    references = λ r xs u f h. was_asked r xs (a_choice_of_name u f) (record { at = u.start; question = QuestionV.ChoosesByName; tree = ref_tree (ref_of f) }) (ref_tree (fill_ref (parameters_in r) xs (ref_of f))) h (inl refl) (trees.reference (parameters_in r) xs (ref_of f));
+    groups = λ r xs u g h. was_asked r xs (a_choice_of u g) (record { at = u.start; question = QuestionV.ChoosesFrom; tree = group_tree (group_of g); call = nothing }) (group_tree (fill_group (parameters_in r) xs (group_of g))) h (inl refl) (trees.group (parameters_in r) xs (group_of g));
+    references = λ r xs u f h. was_asked r xs (a_choice_of_name u f) (record { at = u.start; question = QuestionV.ChoosesByName; tree = ref_tree (ref_of f); call = nothing }) (ref_tree (fill_ref (parameters_in r) xs (ref_of f))) h (inl refl) (trees.reference (parameters_in r) xs (ref_of f));
     first_ends = λ r xs x y o h e. was_asked r xs (an_operation x o y) (end_of x) (term_tree (fill (parameters_in r) xs (term_of2 x))) h (inl (first_of_range x y o e)) (trees.term (parameters_in r) xs (term_of2 x));
     last_ends = λ r xs x y o h e. was_asked r xs (an_operation x o y) (end_of y) (term_tree (fill (parameters_in r) xs (term_of2 y))) h (inr (last_of_range x y o e)) (trees.term (parameters_in r) xs (term_of2 y));
+    maps = λ r xs u g h. was_asked r xs (a_map u g) (record { at = u.start; question = QuestionV.MapGroup; tree = group_tree (group_of g); call = nothing }) (group_tree (fill_group (parameters_in r) xs (group_of g))) h (inl refl) (trees.group (parameters_in r) xs (group_of g));
   }

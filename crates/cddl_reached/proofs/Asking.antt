@@ -17,13 +17,13 @@ use Rattle.cddl_sites.specs.declared.site.Found.{Found}
 use Rattle.cddl_sites.specs.View.{view_site}
 use Rattle.cddl_reached.specs.Calls.{refs_named}
 use Rattle.cddl_reached.specs.declared.asked.Asked.{Asked}
-use Rattle.cddl_reached.specs.Asked.{AreAnswers, no_answers, further_answer, AreReady, IsAnswer, IsReady, Wanted, first_part, last_part, wanted_all, wanted_at, wanted_each, wanted_in, wanted_some, wanted_there}
+use Rattle.cddl_reached.specs.Asked.{AreAnswers, no_answers, further_answer, AreReady, IsAnswer, IsReady, Wanted, first_part, last_part, wanted_at, wanted_by, wanted_one, wanted_each, wanted_in, wanted_some, wanted_there}
 use Rattle.cddl_reached.proofs.Lists.{next_drop, none_more, one_of}
 
 -- What a table's growth keeps.
 
 answer_kept : (old new : Table) → ((n : Option ℕ) (x : Tree) → Holds old n x → Holds new n x) → (a : Asked) (w : Wanted) → IsAnswer old a w → IsAnswer new a w
-answer_kept old new kept a w h = record { at = h.at; question = h.question; holds = kept (Some a.row) w.tree h.holds }
+answer_kept old new kept a w h = record { at = h.at; question = h.question; holds = kept (Some a.row) w.tree h.holds; call = kept (Some a.call) w.call h.call }
 
 pub answers_kept : (old new : Table) → ((n : Option ℕ) (x : Tree) → Holds old n x → Holds new n x) → (answers : List Asked) (ws : List Wanted) → AreAnswers old answers ws → AreAnswers new answers ws
 answers_kept old new kept answers ws no_answers = no_answers
@@ -91,57 +91,75 @@ all_filled t ps w refs ws left answers none so = by so.after so.whole (subst (λ
     by [] e h = subst (λ rs. AreAnswers t answers (ws ++ wanted_each ps w rs)) (sym (e ∙ none_more so.before)) so.are_done
     by (r ∷ rs) e h = elim h [ ]
 
--- Some sites are served, and these are left.
-module _ (read : Leaf → Token) (rs : List S.Rule) (refs : List Ref) (all : List Found) where
-  pub record IsGoing (t : Table) (left : List Found) (answers : List Asked) : Type 0 where
+-- Some sites or entries are served, and these are left.
+module _ (A : Type 0) (of : A → List Wanted) (all : List A) where
+  pub record IsGoing (t : Table) (left : List A) (answers : List Asked) : Type 0 where
     pub before : List Wanted
-    pub whole : wanted_all read rs refs all ≡ before ++ wanted_all read rs refs left
+    pub whole : wanted_by of all ≡ before ++ wanted_by of left
     pub answered : AreAnswers t answers before
 
   pub none_gone : (t : Table) → IsGoing t all []
   none_gone t = record { before = []; whole = refl; answered = no_answers }
 
-  one_gone : (old new : Table) (f : Found) (left : List Found) (answers more : List Asked) → ((ws : List Wanted) → AreAnswers old answers ws → AreAnswers new more (ws ++ wanted_at read rs refs f)) → IsGoing old (f ∷ left) answers → IsGoing new left more
+  one_gone : (old new : Table) (f : A) (left : List A) (answers more : List Asked) → ((ws : List Wanted) → AreAnswers old answers ws → AreAnswers new more (ws ++ of f)) → IsGoing old (f ∷ left) answers → IsGoing new left more
   one_gone old new f left answers more is so = record {
-    before = so.before ++ wanted_at read rs refs f;
-    whole = so.whole ∙ sym (append_assoc so.before (wanted_at read rs refs f) (wanted_all read rs refs left));
+    before = so.before ++ of f;
+    whole = so.whole ∙ sym (append_assoc so.before (of f) (wanted_by of left));
     answered = is so.before so.answered;
   }
 
-  pub next_gone : (old new : Table) (i : ℕ) (f : Found) (answers more : List Asked) → i < length all → f ≡ get_or all i f → ((ws : List Wanted) → AreAnswers old answers ws → AreAnswers new more (ws ++ wanted_at read rs refs f)) → IsGoing old (drop i all) answers → IsGoing new (drop (i + 1) all) more
-  next_gone old new i f answers more l e is so = one_gone old new f (drop (i + 1) all) answers more is (subst (λ fs. IsGoing old fs answers) (next_drop all i f l ∙ ap (λ (g : Found). g ∷ drop (i + 1) all) (sym e)) so)
+  pub next_gone : (old new : Table) (i : ℕ) (f : A) (answers more : List Asked) → i < length all → f ≡ get_or all i f → ((ws : List Wanted) → AreAnswers old answers ws → AreAnswers new more (ws ++ of f)) → IsGoing old (drop i all) answers → IsGoing new (drop (i + 1) all) more
+  next_gone old new i f answers more l e is so = one_gone old new f (drop (i + 1) all) answers more is (subst (λ fs. IsGoing old fs answers) (next_drop all i f l ∙ ap (λ (g : A). g ∷ drop (i + 1) all) (sym e)) so)
 
-  pub all_gone : (t : Table) (left : List Found) (answers : List Asked) → left ≡ [] → IsGoing t left answers → AreAnswers t answers (wanted_all read rs refs all)
-  all_gone t left answers none so = subst (AreAnswers t answers) (sym (so.whole ∙ ap (λ fs. so.before ++ wanted_all read rs refs fs) none ∙ none_more so.before)) so.answered
+  pub all_gone : (t : Table) (left : List A) (answers : List Asked) → left ≡ [] → IsGoing t left answers → AreAnswers t answers (wanted_by of all)
+  all_gone t left answers none so = subst (AreAnswers t answers) (sym (so.whole ∙ ap (λ fs. so.before ++ wanted_by of fs) none ∙ none_more so.before)) so.answered
 
--- What one site adds.
-module _ (t : Table) (read : Leaf → Token) (rs : List S.Rule) (refs : List Ref) (ls : List (List ℕ)) (ds : List Definition) (ready : AreReady t rs refs ls ds) (f : Found) where
-  without_definition : slice_get ds f.rule ≡ None → wanted_at read rs refs f ≡ []
-  without_definition e = by (slice_get rs f.rule) refl
+-- Where the rule at a place has no definition, or its name no instances, nothing is added. (`of`: what is wanted at the rule.)
+module _ (t : Table) (rs : List S.Rule) (refs : List Ref) (ls : List (List ℕ)) (ds : List Definition) (ready : AreReady t rs refs ls ds) (k : ℕ) (of : Option S.Rule → List Wanted) (nothing_of : of None ≡ []) where
+  without_definition : slice_get ds k ≡ None → of (slice_get rs k) ≡ []
+  without_definition e = by (slice_get rs k) refl
     where
-      by : (o : Option S.Rule) → slice_get rs f.rule ≡ o → wanted_there refs o (view_site read f.site) ≡ []
-      by None g = refl
-      by (Some r) g = absurd (none-some (ready.some f.rule r g).definition (sym e ∙ (ready.some f.rule r g).there))
+      by : (o : Option S.Rule) → slice_get rs k ≡ o → of o ≡ []
+      by None g = nothing_of
+      by (Some r) g = absurd (none-some (ready.some k r g).definition (sym e ∙ (ready.some k r g).there))
 
-  without_calls : (d : Definition) → slice_get ds f.rule ≡ Some d → slice_get ls d.name ≡ None → wanted_at read rs refs f ≡ []
-  without_calls d there e = by (slice_get rs f.rule) refl
+  without_calls : (d : Definition) → slice_get ds k ≡ Some d → slice_get ls d.name ≡ None → of (slice_get rs k) ≡ []
+  without_calls d there e = by (slice_get rs k) refl
     where
-      by : (o : Option S.Rule) → slice_get rs f.rule ≡ o → wanted_there refs o (view_site read f.site) ≡ []
-      by None g = refl
+      by : (o : Option S.Rule) → slice_get rs k ≡ o → of o ≡ []
+      by None g = nothing_of
       by (Some r) g =
-          let w = ready.some f.rule r g in
-          let same = one_of (slice_get ds f.rule) d w.definition there w.there in
+          let w = ready.some k r g in
+          let same = one_of (slice_get ds k) d w.definition there w.there in
           absurd (none-some w.calls (sym e ∙ ap (λ (x : Definition). slice_get ls x.name) same ∙ w.listed))
 
-  nothing_added : (answers : List Asked) (ws : List Wanted) → wanted_at read rs refs f ≡ [] → AreAnswers t answers ws → AreAnswers t answers (ws ++ wanted_at read rs refs f)
+  nothing_added : (answers : List Asked) (ws : List Wanted) → of (slice_get rs k) ≡ [] → AreAnswers t answers ws → AreAnswers t answers (ws ++ of (slice_get rs k))
   nothing_added answers ws e so = subst (AreAnswers t answers) (sym (ap (λ (vs : List Wanted). ws ++ vs) e ∙ none_more ws)) so
 
-  pub no_definition : (answers : List Asked) (ws : List Wanted) → slice_get ds f.rule ≡ None → AreAnswers t answers ws → AreAnswers t answers (ws ++ wanted_at read rs refs f)
+  pub no_definition : (answers : List Asked) (ws : List Wanted) → slice_get ds k ≡ None → AreAnswers t answers ws → AreAnswers t answers (ws ++ of (slice_get rs k))
   no_definition answers ws e so = nothing_added answers ws (without_definition e) so
 
-  pub no_calls : (answers : List Asked) (ws : List Wanted) (d : Definition) → slice_get ds f.rule ≡ Some d → slice_get ls d.name ≡ None → AreAnswers t answers ws → AreAnswers t answers (ws ++ wanted_at read rs refs f)
+  pub no_calls : (answers : List Asked) (ws : List Wanted) (d : Definition) → slice_get ds k ≡ Some d → slice_get ls d.name ≡ None → AreAnswers t answers ws → AreAnswers t answers (ws ++ of (slice_get rs k))
   no_calls answers ws d there e so = nothing_added answers ws (without_calls d there e) so
 
+-- What one site adds, and what one entry does.
+module _ (t : Table) (read : Leaf → Token) (rs : List S.Rule) (refs : List Ref) (ls : List (List ℕ)) (ds : List Definition) (ready : AreReady t rs refs ls ds) where
+  pub part_asked : (k : ℕ) (new : Table) (answers more : List Asked) (ws : List Wanted) (d : Definition) (calls c1 : List ℕ) (v w : Wanted) → slice_get ds k ≡ Some d → slice_get ls d.name ≡ Some calls → c1 ≡ calls → v ≡ w → ((ps : List Text) (qs : List Ref) (vs : List Wanted) → AreTexts t.texts d.parameters.items ps → AreTrees t c1 (map ref_tree qs) → AreAnswers t answers vs → AreAnswers new more (vs ++ wanted_each ps v qs)) → AreAnswers t answers ws → AreAnswers new more (ws ++ wanted_one refs (slice_get rs k) w)
+  part_asked k new answers more ws d calls c1 v w there listed same same_wanted one so = by (slice_get rs k) refl
+    where
+      by : (o : Option S.Rule) → slice_get rs k ≡ o → AreAnswers new more (ws ++ wanted_one refs o w)
+      by None g = absurd (none-some d (sym (ready.none k g) ∙ there))
+      by (Some r) g =
+          let is = ready.some k r g in
+          let ps = parameters_in r in
+          let named = refs_named (name_in r) refs in
+          let same_definition = one_of (slice_get ds k) is.definition d is.there there in
+          let listed_there = one_of (slice_get ls d.name) is.calls calls (ap (λ (x : Definition). slice_get ls x.name) (sym same_definition) ∙ is.listed) listed in
+          let are_texts = subst (λ (x : Definition). AreTexts t.texts x.parameters.items ps) same_definition is.parameters in
+          let are_trees = subst (λ ns. AreTrees t ns (map ref_tree named)) listed_there is.trees in
+          subst (λ x. AreAnswers new more (ws ++ wanted_each ps x named)) same_wanted (one ps named ws are_texts (subst (λ ns. AreTrees t ns (map ref_tree named)) (sym same) are_trees) so)
+
+module _ (t : Table) (read : Leaf → Token) (rs : List S.Rule) (refs : List Ref) (ls : List (List ℕ)) (ds : List Definition) (ready : AreReady t rs refs ls ds) (f : Found) where
   -- the first part adds its answers, and then the last part
   pub site_asked : (mid new : Table) (answers more all : List Asked) (ws : List Wanted) (d : Definition) (calls c1 c2 : List ℕ) (first last : Option Wanted) → slice_get ds f.rule ≡ Some d → slice_get ls d.name ≡ Some calls → c1 ≡ calls → c2 ≡ calls → first ≡ first_part (view_site read f.site) → last ≡ last_part (view_site read f.site) → ((ns : List ℕ) (xs : List Text) → AreTexts t.texts ns xs → AreTexts mid.texts ns xs) → ((ns : List ℕ) (xs : List Tree) → AreTrees t ns xs → AreTrees mid ns xs) → ((ps : List Text) (qs : List Ref) (vs : List Wanted) → AreTexts t.texts d.parameters.items ps → AreTrees t c1 (map ref_tree qs) → AreAnswers t answers vs → AreAnswers mid more (vs ++ wanted_some ps first qs)) → ((ps : List Text) (qs : List Ref) (vs : List Wanted) → AreTexts mid.texts d.parameters.items ps → AreTrees mid c2 (map ref_tree qs) → AreAnswers mid more vs → AreAnswers new all (vs ++ wanted_some ps last qs)) → AreAnswers t answers ws → AreAnswers new all (ws ++ wanted_at read rs refs f)
   site_asked mid new answers more all ws d calls c1 c2 first last there listed same1 same2 is_first is_last texts trees one two so = by (slice_get rs f.rule) refl

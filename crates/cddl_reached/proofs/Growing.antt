@@ -4,15 +4,16 @@ use Rattle.cddl_syntax.specs.Syntax as S
 use Rattle.cddl_language.specs.Reading.{group_of, parameters_in, ref_of, term_of2}
 use Rattle.cddl_language.specs.Substitution.{bodies, fill, fill_group, fill_ref}
 use Rattle.cddl_language.specs.Terms as L
-use Rattle.cddl_language.specs.Terms.{Ref, Term, Text}
+use Rattle.cddl_language.specs.Terms.{Ref, Term, Text, arguments_of}
+use Rattle.cddl_language.specs.MapFaults.{closed_entry}
 use Rattle.cddl_terms.specs.declared.definition.Body.{Body}
 use Rattle.cddl_terms.specs.Definitions.{IsBody}
 use Rattle.cddl_terms.specs.Table.{Holds, Table, Tree}
-use Rattle.cddl_terms.specs.Trees.{group_tree, ref_tree, term_tree}
+use Rattle.cddl_terms.specs.Trees.{entry_tree, group_tree, ref_tree, term_tree}
 use Rattle.cddl_instances.specs.declared.found.Instance.{Instance}
 use Rattle.cddl_instances.specs.Bodies.{AreBodies, no_bodies, further_body}
 use Rattle.cddl_instances.specs.Found.{AreFound, none_found, further_found}
-use Rattle.cddl_reached.specs.Asked.{AreAsked, IsAsked, WasAsked, choosing, choosing_by_name, first_end, last_end}
+use Rattle.cddl_reached.specs.Asked.{AreAsked, AreEntriesAsked, IsAsked, IsEntryAsked, WasAsked, WasAskedIn, choosing, choosing_by_name, first_end, last_end, of_map, of_map_entry, of_rule_entry}
 use Rattle.cddl_reached.specs.declared.asked.Asked.{Asked}
 use Rattle.cddl_reached.specs.declared.asked.Question.{Question}
 
@@ -31,6 +32,7 @@ module _ (old new : Table) (trees : (n : Option ℕ) (x : Tree) → Holds old n 
   one_kept a (choosing_by_name {r = r} {xs = xs} {u = u} {f = f} h is e q) = choosing_by_name {r = r} {xs = xs} {u = u} {f = f} h (trees (Some a.row) (ref_tree (fill_ref (parameters_in r) xs (ref_of f))) is) e q
   one_kept a (first_end {r = r} {xs = xs} {x = x} {y = y} {o = o} h s is e q) = first_end {r = r} {xs = xs} {x = x} {y = y} {o = o} h s (trees (Some a.row) (term_tree (fill (parameters_in r) xs (term_of2 x))) is) e q
   one_kept a (last_end {r = r} {xs = xs} {x = x} {y = y} {o = o} h s is e q) = last_end {r = r} {xs = xs} {x = x} {y = y} {o = o} h s (trees (Some a.row) (term_tree (fill (parameters_in r) xs (term_of2 y))) is) e q
+  one_kept a (of_map {r = r} {xs = xs} {u = u} {g = g} h is e q) = of_map {r = r} {xs = xs} {u = u} {g = g} h (trees (Some a.row) (group_tree (fill_group (parameters_in r) xs (group_of g))) is) e q
 
   answer_kept : (answers : List Asked) (at : ℕ) (q : Question) (x : Tree) → WasAsked rs root old answers at q x → WasAsked rs root new answers at q x
   answer_kept answers at q x w = record { asked = w.asked; contained = w.contained; same_at = w.same_at; same_question = w.same_question; holds = trees (Some w.asked.row) x w.holds }
@@ -42,7 +44,22 @@ module _ (old new : Table) (trees : (n : Option ℕ) (x : Tree) → Holds old n 
     references = λ r xs u f h. answer_kept answers _ _ _ (are.references r xs u f h);
     first_ends = λ r xs x y o h s. answer_kept answers _ _ _ (are.first_ends r xs x y o h s);
     last_ends = λ r xs x y o h s. answer_kept answers _ _ _ (are.last_ends r xs x y o h s);
+    maps = λ r xs u g h. answer_kept answers _ _ _ (are.maps r xs u g h);
   }
+
+  entry_kept : (a : Asked) → IsEntryAsked rs root old a → IsEntryAsked rs root new a
+  entry_kept a (of_map_entry {r = r} {xs = xs} {u = u} {g = g} {e = e} h c is at q) = of_map_entry {r = r} {xs = xs} {u = u} {g = g} {e = e} h c (trees (Some a.row) (entry_tree (closed_entry r xs e)) is) at q
+  entry_kept a (of_rule_entry {r = r} {i = i} {h = k} {e = e} h c call is at q) = of_rule_entry {r = r} {i = i} {h = k} {e = e} h c (trees (Some a.call) (ref_tree i) call) (trees (Some a.row) (entry_tree (closed_entry r (arguments_of i) e)) is) at q
+
+  all_entries_kept : (answers : List Asked) → AreEntriesAsked rs root old answers → AreEntriesAsked rs root new answers
+  all_entries_kept answers are = record {
+    sound = λ a c. entry_kept a (are.sound a c);
+    maps = λ r xs u g e h c. answer_kept answers _ _ _ (are.maps r xs u g e h c);
+    rules = λ r i h e is c. let w = are.rules r i h e is c in record { was = record { asked = w.was.asked; contained = w.was.contained; same_at = w.was.same_at; same_question = w.was.same_question; holds = trees (Some w.was.asked.row) (entry_tree (closed_entry r (arguments_of i) e)) w.was.holds }; call = trees (Some w.was.asked.call) (ref_tree i) w.call };
+  }
+
+pub entries_kept : (old new : Table) → ((n : Option ℕ) (x : Tree) → Holds old n x → Holds new n x) → (rs : List S.Rule) (root : Text) (answers : List Asked) → AreEntriesAsked rs root old answers → AreEntriesAsked rs root new answers
+entries_kept old new trees rs root answers are = all_entries_kept old new trees rs root answers are
 
 pub asked_kept : (old new : Table) → ((n : Option ℕ) (x : Tree) → Holds old n x → Holds new n x) → (rs : List S.Rule) (root : Text) (answers : List Asked) → AreAsked rs root old answers → AreAsked rs root new answers
 asked_kept old new trees rs root answers are = all_kept old new trees rs root answers are

@@ -4,5 +4,6 @@ pub mod Growing
 pub mod Listing
 pub mod Lists
 pub mod Named
+pub mod Placing
 pub mod Reaching
 pub mod Reading

@@ -5,17 +5,22 @@ use Rattle.cddl_syntax.specs.Syntax as S
 use Rattle.cddl_tree.specs.declared.tree.Leaf.{Leaf}
 use Rattle.cddl_tree.specs.View.{view_group, view_ref, view_type2}
 use Rattle.cddl_language.specs.Faults.{is_range_sign, operand_at}
-use Rattle.cddl_language.specs.Reading.{group_of, name_in, parameters_in, ref_of, term_of2}
-use Rattle.cddl_language.specs.Sites.{IsReached, Site, a_choice_of, a_choice_of_name, an_operation}
+use Rattle.cddl_language.specs.MapFaults.{closed_entry, entry_at}
+use Rattle.cddl_language.specs.Reading.{entry_of, group_of, name_in, parameters_in, ref_of, term_of2}
+use Rattle.cddl_language.specs.Sites.{IsInstance, IsReached, Site, a_choice_of, a_choice_of_name, a_map, an_operation}
 use Rattle.cddl_language.specs.Substitution.{fill, fill_group, fill_ref}
 use Rattle.cddl_language.specs.Terms.{Ref, Term, Text, arguments_of}
 use Rattle.cddl_terms.specs.declared.definition.Definition.{Definition}
 use Rattle.cddl_terms.specs.Definitions.{AreTexts}
 use Rattle.cddl_terms.specs.Filled.{filled, term_trees}
-use Rattle.cddl_terms.specs.Table.{Holds, Table, Tree}
-use Rattle.cddl_terms.specs.Trees.{IsGroup, IsRef, IsTerm, group_tree, ref_tree, term_tree}
+use Rattle.cddl_terms.specs.Table.{Holds, Table, Tree, nothing}
+use Rattle.cddl_terms.specs.Trees.{IsEntry, IsGroup, IsRef, IsTerm, entry_tree, group_tree, ref_tree, term_tree}
 use Rattle.cddl_fill.specs.Templates.{AreTrees}
 use Rattle.cddl_sites.specs.declared.site.Found.{Found}
+use Rattle.cddl_entries.specs.declared.entry.Holder.{Holder}
+use Rattle.cddl_entries.specs.declared.entry.Holder.TheVariants as HolderV
+use Rattle.cddl_entries.specs.declared.entry.TextEntry.{TextEntry}
+use Rattle.cddl_entries.specs.Entries.{group_inside, opened_inside, rule_inside, view_node}
 use Rattle.cddl_sites.specs.View.{view_site}
 use Rattle.cddl_reached.specs.Calls.{refs_named}
 use Rattle.cddl_reached.specs.declared.asked.Asked.{Asked}
@@ -25,21 +30,24 @@ use Rattle.cddl_reached.specs.declared.parts.Node.{Node}
 use Rattle.cddl_reached.specs.declared.parts.Node.TheVariants as NodeV
 use Rattle.cddl_reached.specs.declared.parts.Part.{Part}
 
--- A question of the row of a tree, and the offset of its fault.
+-- A question of the row of a tree, and the offset of its fault; with the reference of the instance, or nothing before there is
+-- one.
 pub record Wanted : Type 0 where
   pub at : ℕ
   pub question : Question
   pub tree : Tree
+  pub call : Tree
 
 -- What is asked of at a site, with the rule's parameters in it.
 
 abbrev pub end_of : S.Type2 → Wanted
-end_of x = record { at = operand_at x; question = QuestionV.IsWhole; tree = term_tree (term_of2 x) }
+end_of x = record { at = operand_at x; question = QuestionV.IsWhole; tree = term_tree (term_of2 x); call = nothing }
 
 abbrev pub first_part : Site → Option Wanted
-first_part (a_choice_of u g) = Some (record { at = u.start; question = QuestionV.ChoosesFrom; tree = group_tree (group_of g) })
-first_part (a_choice_of_name u f) = Some (record { at = u.start; question = QuestionV.ChoosesByName; tree = ref_tree (ref_of f) })
+first_part (a_choice_of u g) = Some (record { at = u.start; question = QuestionV.ChoosesFrom; tree = group_tree (group_of g); call = nothing })
+first_part (a_choice_of_name u f) = Some (record { at = u.start; question = QuestionV.ChoosesByName; tree = ref_tree (ref_of f); call = nothing })
 first_part (an_operation x o y) = if is_range_sign o then Some (end_of x) else None
+first_part (a_map u g) = Some (record { at = u.start; question = QuestionV.MapGroup; tree = group_tree (group_of g); call = nothing })
 first_part _ = None
 
 abbrev pub last_part : Site → Option Wanted
@@ -48,22 +56,18 @@ last_part _ = None
 
 -- the same of the code's parts
 
-abbrev pub question_of : Node → Question
-question_of (NodeV.Group g) = QuestionV.ChoosesFrom
-question_of (NodeV.Reference f) = QuestionV.ChoosesByName
-question_of (NodeV.Operand x) = QuestionV.IsWhole
-
 abbrev pub node_tree : (Leaf → Token) → Node → Tree
 node_tree read (NodeV.Group g) = group_tree (group_of (view_group read g.now))
 node_tree read (NodeV.Reference f) = ref_tree (ref_of (view_ref read f.now))
 node_tree read (NodeV.Operand x) = term_tree (term_of2 (view_type2 read x.now))
+node_tree read (NodeV.Entry e) = entry_tree (entry_of (view_node read e))
 
 abbrev pub wanted : (Leaf → Token) → Part → Wanted
-wanted read p = record { at = p.at; question = question_of p.node; tree = node_tree read p.node }
+wanted read p = record { at = p.at; question = p.question; tree = node_tree read p.node; call = nothing }
 
 -- with the arguments of a reference in the place of these parameters
 abbrev pub wanted_in : List Text → Wanted → Ref → Wanted
-wanted_in ps w r = record { at = w.at; question = w.question; tree = filled ps (term_trees (arguments_of r)) w.tree }
+wanted_in ps w r = record { at = w.at; question = w.question; tree = filled ps (term_trees (arguments_of r)) w.tree; call = ref_tree r }
 
 -- of each of these references
 abbrev pub wanted_each : List Text → Wanted → List Ref → List Wanted
@@ -82,9 +86,28 @@ wanted_there refs (Some r) p = wanted_some (parameters_in r) (first_part p) (ref
 abbrev pub wanted_at : (Leaf → Token) → List S.Rule → List Ref → Found → List Wanted
 wanted_at read rs refs f = wanted_there refs (slice_get rs f.rule) (view_site read f.site)
 
+-- by each of these
+abbrev pub wanted_by : {A : Type 0} → (A → List Wanted) → List A → List Wanted
+wanted_by of [] = []
+wanted_by of (x ∷ xs) = of x ++ wanted_by of xs
+
 abbrev pub wanted_all : (Leaf → Token) → List S.Rule → List Ref → List Found → List Wanted
-wanted_all read rs refs [] = []
-wanted_all read rs refs (f ∷ fs) = wanted_at read rs refs f ++ wanted_all read rs refs fs
+wanted_all read rs refs fs = wanted_by (wanted_at read rs refs) fs
+
+-- of an entry in a rule, in the instances of its name among these
+
+abbrev pub entry_wanted : Holder → S.GrpEnt → Wanted
+entry_wanted h e = record { at = entry_at e; question = QuestionV.Entry h; tree = entry_tree (entry_of e); call = nothing }
+
+abbrev pub wanted_one : List Ref → Option S.Rule → Wanted → List Wanted
+wanted_one refs None w = []
+wanted_one refs (Some r) w = wanted_each (parameters_in r) w (refs_named (name_in r) refs)
+
+abbrev pub wanted_entry : (Leaf → Token) → List S.Rule → List Ref → TextEntry → List Wanted
+wanted_entry read rs refs x = wanted_one refs (slice_get rs x.rule) (entry_wanted x.holder (view_node read x.node))
+
+abbrev pub wanted_entries : (Leaf → Token) → List S.Rule → List Ref → List TextEntry → List Wanted
+wanted_entries read rs refs xs = wanted_by (wanted_entry read rs refs) xs
 
 -- What was asked, one for one.
 
@@ -92,6 +115,7 @@ pub record IsAnswer (t : Table) (a : Asked) (w : Wanted) : Type 0 where
   pub at : a.at ≡ w.at
   pub question : a.question ≡ w.question
   pub holds : Holds t (Some a.row) w.tree
+  pub call : Holds t (Some a.call) w.call
 
 pub data AreAnswers (t : Table) : List Asked → List Wanted → Type 0 where
   no_answers : AreAnswers t [] []
@@ -117,6 +141,7 @@ module _ (rs : List S.Rule) (root : Text) (t : Table) where
     choosing_by_name : {r : S.Rule} {xs : List Term} {u : Token} {f : S.Ref} → IsReached rs root r xs (a_choice_of_name u f) → IsRef t a.row (fill_ref (parameters_in r) xs (ref_of f)) → a.at ≡ u.start → a.question ≡ QuestionV.ChoosesByName → IsAsked a
     first_end : {r : S.Rule} {xs : List Term} {x y : S.Type2} {o : S.Operator} → IsReached rs root r xs (an_operation x o y) → is_range_sign o ≡ true → IsTerm t a.row (fill (parameters_in r) xs (term_of2 x)) → a.at ≡ operand_at x → a.question ≡ QuestionV.IsWhole → IsAsked a
     last_end : {r : S.Rule} {xs : List Term} {x y : S.Type2} {o : S.Operator} → IsReached rs root r xs (an_operation x o y) → is_range_sign o ≡ true → IsTerm t a.row (fill (parameters_in r) xs (term_of2 y)) → a.at ≡ operand_at y → a.question ≡ QuestionV.IsWhole → IsAsked a
+    of_map : {r : S.Rule} {xs : List Term} {u : Token} {g : S.Group} → IsReached rs root r xs (a_map u g) → IsGroup t a.row (fill_group (parameters_in r) xs (group_of g)) → a.at ≡ u.start → a.question ≡ QuestionV.MapGroup → IsAsked a
 
   -- the question was asked of the row of this tree
   pub record WasAsked (answers : List Asked) (at : ℕ) (q : Question) (x : Tree) : Type 0 where
@@ -132,3 +157,27 @@ module _ (rs : List S.Rule) (root : Text) (t : Table) where
     pub references : (r : S.Rule) (xs : List Term) (u : Token) (f : S.Ref) → IsReached rs root r xs (a_choice_of_name u f) → WasAsked answers u.start QuestionV.ChoosesByName (ref_tree (fill_ref (parameters_in r) xs (ref_of f)))
     pub first_ends : (r : S.Rule) (xs : List Term) (x y : S.Type2) (o : S.Operator) → IsReached rs root r xs (an_operation x o y) → is_range_sign o ≡ true → WasAsked answers (operand_at x) QuestionV.IsWhole (term_tree (fill (parameters_in r) xs (term_of2 x)))
     pub last_ends : (r : S.Rule) (xs : List Term) (x y : S.Type2) (o : S.Operator) → IsReached rs root r xs (an_operation x o y) → is_range_sign o ≡ true → WasAsked answers (operand_at y) QuestionV.IsWhole (term_tree (fill (parameters_in r) xs (term_of2 y)))
+    pub maps : (r : S.Rule) (xs : List Term) (u : Token) (g : S.Group) → IsReached rs root r xs (a_map u g) → WasAsked answers u.start QuestionV.MapGroup (group_tree (fill_group (parameters_in r) xs (group_of g)))
+
+-- Of entries: each in a map that is reached, and each in a rule's own group or in the one that `~` of its name opens, in each of
+-- its instances.
+
+abbrev pub held_inside : Holder → S.Rule → List S.GrpEnt
+held_inside HolderV.Map r = []
+held_inside HolderV.Rule r = rule_inside r
+held_inside HolderV.Opened r = opened_inside r
+
+module _ (rs : List S.Rule) (root : Text) (t : Table) where
+  pub data IsEntryAsked (a : Asked) : Type 0 where
+    of_map_entry : {r : S.Rule} {xs : List Term} {u : Token} {g : S.Group} {e : S.GrpEnt} → IsReached rs root r xs (a_map u g) → Contains (group_inside g) e → IsEntry t a.row (closed_entry r xs e) → a.at ≡ entry_at e → a.question ≡ QuestionV.Entry HolderV.Map → IsEntryAsked a
+    of_rule_entry : {r : S.Rule} {i : Ref} {h : Holder} {e : S.GrpEnt} → IsInstance rs root r i → Contains (held_inside h r) e → IsRef t a.call i → IsEntry t a.row (closed_entry r (arguments_of i) e) → a.at ≡ entry_at e → a.question ≡ QuestionV.Entry h → IsEntryAsked a
+
+  -- in the instance of this reference
+  pub record WasAskedIn (answers : List Asked) (i : Ref) (at : ℕ) (q : Question) (x : Tree) : Type 0 where
+    pub was : WasAsked rs root t answers at q x
+    pub call : IsRef t was.asked.call i
+
+  pub record AreEntriesAsked (answers : List Asked) : Type 0 where
+    pub sound : (a : Asked) → Contains answers a → IsEntryAsked a
+    pub maps : (r : S.Rule) (xs : List Term) (u : Token) (g : S.Group) (e : S.GrpEnt) → IsReached rs root r xs (a_map u g) → Contains (group_inside g) e → WasAsked rs root t answers (entry_at e) (QuestionV.Entry HolderV.Map) (entry_tree (closed_entry r xs e))
+    pub rules : (r : S.Rule) (i : Ref) (h : Holder) (e : S.GrpEnt) → IsInstance rs root r i → Contains (held_inside h r) e → WasAskedIn answers i (entry_at e) (QuestionV.Entry h) (entry_tree (closed_entry r (arguments_of i) e))

@@ -13,15 +13,16 @@ ghost use Rattle.cddl_reached.specs.Reached.{AreReachedSites};
 ghost use Rattle.cddl_survey.specs.Survey.{IsSurvey};
 ghost use Rattle.cddl_syntax.specs.Syntax.{Rule};
 ghost use Rattle.cddl_terms.specs.Definitions.{AreTexts};
-ghost use Rattle.cddl_terms.specs.Table.{Grows, Tree as TermTree};
+ghost use Rattle.cddl_terms.specs.Table.{Grows, Tree as TermTree, nothing};
 ghost use Rattle.cddl_terms.specs.Trees.{ref_tree};
 ghost use Rattle.cddl_tree.specs.View.{token_of, view};
 
 use crate::arguments::filled_with;
 use crate::calls::{calls_by_name, calls_of};
 use crate::laws::answers_grow;
-use crate::parts::{Part, first_part, last_part, question_of, read_node};
+use crate::parts::{Part, first_part, last_part, read_node};
 use crate::store::push;
+use cddl_entries::Holder;
 use cddl_fill::Template;
 use cddl_instances::Instance;
 use cddl_live::reached_sites as reached_sites_are_live;
@@ -41,6 +42,10 @@ pub enum Question {
     ChoosesByName,
     /// Whether the type is a whole number, as an end of a range has to be (section 2.2.2.1).
     IsWhole,
+    /// What the group of a map stands for (section 3.5).
+    MapGroup,
+    /// Whether the entry can stand in a map.
+    Entry(Holder),
 }
 
 /// What is asked of at a site, in one instance.
@@ -51,11 +56,13 @@ pub struct Asked {
     /// The row of the group, of the reference or of the type, with the arguments of the instance in the place of the
     /// parameters.
     pub row: u32,
+    /// The row of the instance's reference.
+    pub call: u32,
     pub question: Question,
 }
 
-/// What is asked of at the sites that the root reaches, in each instance: of the group or the reference after `&`, and of both
-/// ends of a range.
+/// What is asked of at the sites that the root reaches, in each instance: of the group or the reference after `&`, of both ends
+/// of a range, and of the group of a map.
 ///
 /// It costs the sites times the instances of their rule: for each site the rows of its part are visited once, and then each row
 /// that holds a parameter is hashed once for each instance. Memory is needed for each answer.
@@ -126,7 +133,7 @@ fn ask_site<'s>(
     ask(alloc, terms, tree, definition, calls, last, asked)
 }
 
-fn definition_at(definitions: &[Definition], place: usize) -> Option<&Definition>
+pub(crate) fn definition_at(definitions: &[Definition], place: usize) -> Option<&Definition>
     ensures { option_copied result ≡ slice_get definitions.now place }
 {
     definitions.get(place)
@@ -151,7 +158,7 @@ fn ask<'s>(
     }
 }
 
-fn ask_part<'s>(
+pub(crate) fn ask_part<'s>(
     alloc: Global,
     terms: &mut Terms<'s>,
     tree: &Tree<'s>,
@@ -166,8 +173,7 @@ fn ask_part<'s>(
     answers_grow();
     let row = read_node(terms, tree, part.node)?;
     let template = Template::new(alloc, terms, &definition.parameters, row)?;
-    let question = question_of(part.node);
-    ask_each(alloc, terms, &template, calls, part.at, question, asked)
+    ask_each(alloc, terms, &template, calls, part.at, part.question, asked)
 }
 
 /// Adds the question of the template's row, filled for each of the references.
@@ -181,12 +187,20 @@ fn ask_each(
     asked: &mut Vec<Asked>,
 ) -> Result<(), NoRoom>
     ensures grows { Grows terms.old terms.new }
-    ensures answers { OnOk result ((ps : List Text) (x : TermTree) (refs : List Ref) (ws : List Wanted) → IsTemplate terms.old ps template.now x → AreTrees terms.old calls.now (map ref_tree refs) → AreAnswers terms.old asked.old.items ws → AreAnswers terms.new asked.new.items (ws ++ wanted_each ps (record { at = at; question = question; tree = x }) refs)) }
+    ensures answers { OnOk result ((ps : List Text) (x : TermTree) (refs : List Ref) (ws : List Wanted) → IsTemplate terms.old ps template.now x → AreTrees terms.old calls.now (map ref_tree refs) → AreAnswers terms.old asked.old.items ws → AreAnswers terms.new asked.new.items (ws ++ wanted_each ps (record { at = at; question = question; tree = x; call = nothing }) refs)) }
 {
     answers_grow();
     for call in calls {
         let row = filled_with(alloc, terms, template, *call)?;
-        push(asked, Asked { at, row, question })?;
+        push(
+            asked,
+            Asked {
+                at,
+                row,
+                call: *call,
+                question,
+            },
+        )?;
     }
     Ok(())
 }

@@ -4,10 +4,12 @@
 mod arguments;
 mod asked;
 mod calls;
+mod entries;
 pub mod laws;
 mod parts;
 mod reached;
 mod store;
 
 pub use crate::asked::{Asked, Question, questions};
+pub use crate::entries::entry_questions;
 pub use crate::reached::reached_sites;

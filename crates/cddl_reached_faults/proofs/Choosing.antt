@@ -21,7 +21,7 @@ use Rattle.cddl_choosing.specs.Choosing.{AreChoosable}
 use Rattle.cddl_reached.specs.declared.asked.Asked.{Asked}
 use Rattle.cddl_reached.specs.declared.asked.Question.{Question}
 use Rattle.cddl_reached.specs.declared.asked.Question.TheVariants as QuestionV
-use Rattle.cddl_reached.specs.Asked.{AreAsked, IsAsked, choosing, choosing_by_name, first_end, last_end}
+use Rattle.cddl_reached.specs.Asked.{AreAsked, IsAsked, choosing, choosing_by_name, first_end, last_end, of_map}
 use Rattle.cddl_reached_faults.specs.Choices.{ChoosesFromNone, from_none, from_no_name, chooses, flag_in, from_group, from_meaning, is_choosable_by_name, meaning_in, place_in, unchosen_at, unless}
 use Rattle.cddl_reached_faults.specs.Least.{least_over}
 use Rattle.cddl_reached_faults.proofs.Least.{least_of_all}
@@ -91,6 +91,9 @@ module _ (s : Specification) (root : Text) (refs : List Ref) (t : Table) (c : Cl
   sound a at (last_end h o is e q) k =
       let w = unless_at (chooses c flags a.question a.row) a.at at k in
       absurd (true≢false (sym (with_question QuestionV.IsWhole a q) ∙ w.0))
+  sound a at (of_map h is e q) k =
+      let w = unless_at (chooses c flags a.question a.row) a.at at k in
+      absurd (true≢false (sym (with_question QuestionV.MapGroup a q) ∙ w.0))
 
   module _ (asked : List Asked) (are : AreAsked (rules s) root t asked) where
     complete : (at : ℕ) → ChoosesFromNone s root at → (a : Asked) × (Contains asked a × (unchosen_at c flags a ≡ Some at))

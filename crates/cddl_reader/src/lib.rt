@@ -6,4 +6,4 @@ mod leaves;
 mod nodes;
 
 pub use crate::definitions::read;
-pub use crate::nodes::{read_group, read_operand, read_reference};
+pub use crate::nodes::{read_entry, read_group, read_operand, read_reference, read_type_entry};

@@ -240,8 +240,12 @@ fn read_entries<'s>(
 }
 
 /// The number of an entry, without its comma.
+///
+/// # Errors
+///
+/// `NoRoom` where memory is refused, or each number of 32 bits is taken. The table may have grown.
 #[cycle(nodes)]
-pub(crate) fn read_entry<'s>(
+pub fn read_entry<'s>(
     terms: &mut Terms<'s>,
     tree: &Tree<'s>,
     entry: &GrpEnt,
@@ -285,4 +289,20 @@ fn read_key<'s>(terms: &mut Terms<'s>, tree: &Tree<'s>, key: &MemberKey) -> Resu
             terms.add_node(Form::LiteralKey, None, Some(number), None)
         }
     }
+}
+
+/// The number of an entry that is a type alone.
+///
+/// # Errors
+///
+/// `NoRoom` where memory is refused, or each number of 32 bits is taken. The table may have grown.
+pub fn read_type_entry<'s>(
+    terms: &mut Terms<'s>,
+    tree: &Tree<'s>,
+    types: &Types,
+) -> Result<u32, NoRoom>
+    ensures grows { Grows terms.old terms.new }
+    ensures entry { IfOk result (λ n. IsEntry terms.new n (entry_of (S.typed None (view_types (token_of tree.now) types.now)))) }
+{
+    read_inside(terms, tree, Form::Typed, None, types)
 }

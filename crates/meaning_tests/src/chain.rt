@@ -10,10 +10,11 @@ use cddl_instances::{Found, Instance, instances};
 use cddl_kinds::{Kinds, kinds_of};
 use cddl_literals::literals;
 use cddl_live_sites::live_sites;
-use cddl_openings::{Opening, openings_of};
+use cddl_openings::{Opening, endings_of, openings_of};
 use cddl_parse::{parse, tokens_end};
-use cddl_reached::{Asked, questions, reached_sites};
+use cddl_reached::{Asked, entry_questions, questions, reached_sites};
 use cddl_rule_faults::root_of;
+use cddl_spliced::{Spliced, spliced_entries};
 use cddl_survey::{Survey, survey_of};
 use cddl_terms::Terms;
 use cddl_token::{Token, tokens};
@@ -25,9 +26,11 @@ use std::alloc::Global;
 pub(crate) struct Meant {
     pub found: Vec<Instance>,
     pub asked: Vec<Asked>,
+    pub entries: Vec<Asked>,
     pub closed: Closed,
     pub kinds: Kinds,
     pub openings: Vec<Opening>,
+    pub spliced: Vec<Spliced>,
     pub literals: Vec<Option<u32>>,
     pub choosable: Vec<bool>,
     pub may_be_empty: Vec<bool>,
@@ -49,17 +52,19 @@ fn found_in(alloc: Global, terms: &mut Terms<'_>, survey: &Survey<'_>) -> Option
     }
 }
 
-/// What is asked at the sites that the root reaches.
+/// What is asked at the sites that the root reaches, and of entries.
 fn asked_in<'s>(
     alloc: Global,
     terms: &mut Terms<'s>,
     tree: &Tree<'s>,
     survey: &Survey<'_>,
     found: &[Instance],
-) -> Option<Vec<Asked>> {
+) -> Option<(Vec<Asked>, Vec<Asked>)> {
     let live = live_sites(alloc, terms, tree, survey).ok()?;
     let reached = reached_sites(alloc, terms, survey, &live, found).ok()?;
-    questions(alloc, terms, tree, survey, &reached, found).ok()
+    let asked = questions(alloc, terms, tree, survey, &reached, found).ok()?;
+    let entries = entry_questions(alloc, terms, tree, survey, &reached, found).ok()?;
+    Some((asked, entries))
 }
 
 /// The kinds of the names of the table.
@@ -76,20 +81,25 @@ fn meant_in<'s>(
     survey: &Survey<'_>,
 ) -> Option<Meant> {
     let found = found_in(alloc, terms, survey)?;
-    let asked = asked_in(alloc, terms, tree, survey, &found)?;
+    let (asked, entries) = asked_in(alloc, terms, tree, survey, &found)?;
     let closed = close(alloc, terms, &found).ok()?;
     let kinds = kinds_in(alloc, terms, survey)?;
     let most = survey.known.len() + survey.definitions.len();
     let openings = openings_of(alloc, terms, &closed, &kinds, most).ok()?;
+    let endings = endings_of(alloc, terms, &closed, most).ok()?;
+    let spliced =
+        spliced_entries(alloc, terms, &closed, &kinds, &openings, &endings, &entries).ok()?;
     let literals = literals(alloc, terms, &closed, &kinds).ok()?;
     let choosable = choosable(alloc, terms, &closed, &kinds, &openings).ok()?;
     let may_be_empty = may_be_empty(alloc, terms, &closed, &kinds, &openings).ok()?;
     Some(Meant {
         found,
         asked,
+        entries,
         closed,
         kinds,
         openings,
+        spliced,
         literals,
         choosable,
         may_be_empty,

@@ -26,6 +26,16 @@ order | round | a = [x: &(~a)]
 order | down down | a = [g] g = (#, ? g)
 order | - round round | a = &(b) b = (y: &(c)) c = (x: &(b))
 asked | from4 whole9 whole12 | a = &(x: 1..2)
+asked | map4 map8 | a = {x: {}}
+asked | map29 map29 map33 map33 | a = [p<int>, p<tstr>] p<t> = {x: {}}
+entries | own5 rule4 opened5 | a = {x: 1}
+entries | own5 rule4 opened5 rule17 rule23 rule24 | a = {? (g)} g = (x: 1, (y: 2))
+entries | own30 own30 rule4 opened5 opened13 rule29 rule29 opened30 opened30 | a = [p<int>, p<tstr>] p<t> = {x: t}
+spliced | map5 named17 named23 named24 | a = {? (g)} g = (x: 1, (y: 2))
+spliced | map5 named13 named19 | a = {g} g = (x: 1, g)
+spliced | map5 map20 opened20 | a = {~b} b = c c = {x: 1}
+spliced | map5 opened20 | a = {~b} b = c c = [x: 1]
+spliced |  | a = [g] g = (x: 1)
 nodes | 3 3 true | a = [5]
 opened | - | a = [* ~b] b = #6.1(c) c = #
 opened | 5 | a = [~b] b = #

@@ -3,8 +3,10 @@ use cddl_closed::{Meaning, alternatives, choices, entries};
 use cddl_literals::literal_row;
 use cddl_nodes::nodes_of;
 use cddl_openings::{Opening, Part, part_of};
-use cddl_reached::Question;
+use cddl_entries::Holder;
+use cddl_reached::{Asked, Question};
 use cddl_recursion::{Node, Order, Ranks, find_order};
+use cddl_spliced::Owner;
 use cddl_terms::Terms;
 use std::alloc::Global;
 
@@ -13,7 +15,9 @@ use std::alloc::Global;
 pub(crate) fn told(alloc: Global, terms: &Terms<'_>, meant: &Meant, what: &str) -> Option<String> {
     match what {
         "opens" => of_openings(alloc, meant),
-        "asked" => of_asked(alloc, meant),
+        "asked" => of_asked(alloc, &meant.asked),
+        "entries" => of_asked(alloc, &meant.entries),
+        "spliced" => of_spliced(alloc, meant),
         "order" => order_of(alloc, terms, meant),
         "nodes" => nodes_in(alloc, terms, meant),
         _ => of_each(alloc, terms, meant, what),
@@ -136,16 +140,35 @@ fn literal_in(
     format!(in alloc; "{whole}/{first}").ok()
 }
 
-fn of_asked(alloc: Global, meant: &Meant) -> Option<String> {
+fn of_asked(alloc: Global, questions: &[Asked]) -> Option<String> {
     let mut words = String::new(alloc);
-    for asked in &meant.asked {
+    for asked in questions {
         let sort = match asked.question {
             Question::ChoosesFrom => "from",
             Question::ChoosesByName => "name",
             Question::IsWhole => "whole",
+            Question::MapGroup => "map",
+            Question::Entry(Holder::Map) => "own",
+            Question::Entry(Holder::Rule) => "rule",
+            Question::Entry(Holder::Opened) => "opened",
         };
         let at = asked.at;
         let word = format!(in alloc; "{sort}{at} ").ok()?;
+        words.push_str(word.as_str()).ok()?;
+    }
+    Some(words)
+}
+
+fn of_spliced(alloc: Global, meant: &Meant) -> Option<String> {
+    let mut words = String::new(alloc);
+    for entry in &meant.spliced {
+        let owner = match entry.owner {
+            Owner::Map => "map",
+            Owner::Named(_) => "named",
+            Owner::Opened(_) => "opened",
+        };
+        let at = entry.at;
+        let word = format!(in alloc; "{owner}{at} ").ok()?;
         words.push_str(word.as_str()).ok()?;
     }
     Some(words)

@@ -1,4 +1,4 @@
-use Rattle.cddl_live.proofs.Reached.{chosen_there, in_first_there, in_group_there, in_last_there}
+use Rattle.cddl_live.proofs.Reached.{chosen_there, in_first_there, in_group_there, in_last_there, in_map_there}
 use Rattle.cddl_live.proofs.reached_parts.Goals as goal
 
 pub returns-clause-reference : goal.returns-clause-reference
@@ -12,3 +12,6 @@ returns-clause-first c = in_first_there
 
 pub returns-clause-last : goal.returns-clause-last
 returns-clause-last c = in_last_there
+
+pub returns-clause-map : goal.returns-clause-map
+returns-clause-map c = in_map_there

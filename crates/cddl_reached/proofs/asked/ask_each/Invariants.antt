@@ -1,6 +1,6 @@
 use Rattle.std.proofs.Common.{List, drop, map}
 use Rattle.cddl_language.specs.Terms.{Ref, Text}
-use Rattle.cddl_terms.specs.Table.{Grows, Tree}
+use Rattle.cddl_terms.specs.Table.{Grows, Tree, nothing}
 use Rattle.cddl_terms.specs.Trees.{ref_tree}
 use Rattle.cddl_fill.specs.Templates.{AreTrees, IsTemplate}
 use Rattle.cddl_reached.specs.Asked.{AreAnswers, Wanted}
@@ -10,5 +10,5 @@ use Rattle.cddl_reached.proofs.asked.ask_each.Given as goal
 abbrev pub invariant-loop-call : goal.invariant-loop-call
 invariant-loop-call l = record {
   grown : Grows l.fn.terms l.terms;
-  done : (ps : List Text) (x : Tree) (refs : List Ref) (ws : List Wanted) → IsTemplate l.fn.terms ps l.template x → AreTrees l.fn.terms l.calls (map ref_tree refs) → AreAnswers l.fn.terms l.fn.asked.items ws → IsFilling l.terms ps (record { at = l.at; question = l.question; tree = x }) refs ws (drop l.call-index l.calls) l.asked.items;
+  done : (ps : List Text) (x : Tree) (refs : List Ref) (ws : List Wanted) → IsTemplate l.fn.terms ps l.template x → AreTrees l.fn.terms l.calls (map ref_tree refs) → AreAnswers l.fn.terms l.fn.asked.items ws → IsFilling l.terms ps (record { at = l.at; question = l.question; tree = x; call = nothing }) refs ws (drop l.call-index l.calls) l.asked.items;
 }

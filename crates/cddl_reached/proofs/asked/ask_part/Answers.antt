@@ -14,4 +14,4 @@ returns-clause-answers c = on_ok c.ask_each.result _ _ (λ h ps refs ws texts tr
     let grown = c.in_ok-row.ensures.grows in
     let x = node_tree (token_of c.args.tree.now) c.args.part.node in
     let is = c.in_ok-template.ensures ps x (subst (λ ns. AreTexts mid.texts ns ps) (sym c.deref.ensures.value) (keeps.texts old mid grown c.args.definition.now.parameters.items ps texts)) c.in_ok-row.ensures.stands in
-    subst (λ q. AreAnswers c.ask_each.new.terms c.ask_each.new.asked.items (ws ++ wanted_each ps (record { at = c.args.part.at; question = q; tree = x }) refs)) c.question_of-question.ensures (h ps x refs ws is (keeps.trees old mid grown c.args.calls.now (map ref_tree refs) trees) (keeps.answers old mid grown c.args.asked.now.items ws so))) c.ask_each.ensures.answers
+    h ps x refs ws is (keeps.trees old mid grown c.args.calls.now (map ref_tree refs) trees) (keeps.answers old mid grown c.args.asked.now.items ws so)) c.ask_each.ensures.answers

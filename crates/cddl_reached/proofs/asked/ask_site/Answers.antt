@@ -1,16 +1,17 @@
-use Rattle.std.proofs.Common.{option_copied, option_map, sym, ap, ◌∙◌}
+use Rattle.std.proofs.Common.{option_copied, option_map, refl, sym, ap, ◌∙◌}
 use Rattle.cddl_environment.specs.Places.{lists}
 use Rattle.cddl_tree.specs.View.{token_of}
-use Rattle.cddl_reached.specs.Asked.{wanted}
+use Rattle.cddl_sites.specs.View.{view_site}
+use Rattle.cddl_reached.specs.Asked.{wanted, wanted_there}
 use Rattle.cddl_reached.proofs.Asking.{no_calls, no_definition, site_asked}
 use Rattle.cddl_reached.proofs.Lists.{on_ok}
 use Rattle.cddl_reached.proofs.asked.ask_site.Goals as goal
 
 pub returns-in_default-clause-answers : goal.returns-in_default-clause-answers
-returns-in_default-clause-answers c = λ rs refs ws ready so. no_definition c.args.terms.now (token_of c.args.tree.now) rs refs (lists c.args.calls.now) c.args.definitions.now ready c.args.site c.args.asked.now.items ws (sym c.definition_at.ensures ∙ ap option_copied c.in_default.is) so
+returns-in_default-clause-answers c = λ rs refs ws ready so. no_definition c.args.terms.now rs refs (lists c.args.calls.now) c.args.definitions.now ready c.args.site.rule (λ o. wanted_there refs o (view_site (token_of c.args.tree.now) c.args.site.site)) refl c.args.asked.now.items ws (sym c.definition_at.ensures ∙ ap option_copied c.in_default.is) so
 
 pub returns-in_default-calls_of-clause-answers : goal.returns-in_default-calls_of-clause-answers
-returns-in_default-calls_of-clause-answers c = λ rs refs ws ready so. no_calls c.args.terms.now (token_of c.args.tree.now) rs refs (lists c.args.calls.now) c.args.definitions.now ready c.args.site c.args.asked.now.items ws c.in-Some.definition.now (sym c.in-Some.ensures) (sym c.calls_of.ensures ∙ ap (option_map (λ v. v.now.items)) c.in_default-calls_of.is) so
+returns-in_default-calls_of-clause-answers c = λ rs refs ws ready so. no_calls c.args.terms.now rs refs (lists c.args.calls.now) c.args.definitions.now ready c.args.site.rule (λ o. wanted_there refs o (view_site (token_of c.args.tree.now) c.args.site.site)) refl c.args.asked.now.items ws c.in-Some.definition.now (sym c.in-Some.ensures) (sym c.calls_of.ensures ∙ ap (option_map (λ v. v.now.items)) c.in_default-calls_of.is) so
 
 pub returns-clause-answers : goal.returns-clause-answers
 returns-clause-answers c = on_ok c.ask-2.result _ _ (λ h rs refs ws ready so.

@@ -15,7 +15,7 @@ returns-clause-asked c = IfOk-weaker c.ask_all.result _ _ (λ v h s root refs sa
     let t = c.args.terms.now in
     let ds = c.deref.result.now in
     let laws : Laws = record { live = c.reached_sites.ensures.live; instance = c.reached_sites.ensures.instance; reached = c.reached_sites.ensures.reached } in
-    let trees : Trees = record { term = c.filled_trees.ensures.term; reference = c.filled_trees.ensures.reference; group = c.filled_trees.ensures.group } in
+    let trees : Trees = record { term = c.filled_trees.ensures.term; reference = c.filled_trees.ensures.reference; entry = c.filled_trees.ensures.entry; group = c.filled_trees.ensures.group } in
     let defined = subst (λ x. AreDefinitions t ds (definitions_in (rules_of x))) (sym same) (subst (λ xs. AreDefinitions t xs (defined_in c.args.tree.now)) (sym c.deref.ensures.value) is.text_read) in
     let ready = are_ready t is.table (rules s) ds defined (definitions s) c.args.found.now refs found (lists c.deref-2.result.now) (ap lists c.deref-2.ensures.value ∙ c.in-Ok.ensures) in
     are_asked laws trees s root clear refs are (token_of c.args.tree.now) c.args.reached.now reached c.ask_all.new.terms v.items (h (rules s) refs ready)) c.ask_all.ensures.answers
