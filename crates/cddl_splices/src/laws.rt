@@ -1,0 +1,43 @@
+//! Laws: functions that do nothing, whose contracts are for proofs.
+
+ghost use Rattle.std.specs.Prelude.{◌≡◌, ◌≤◌, ℕ, List, Some, length};
+ghost use Rattle.splices.specs.declared.Part.{Part};
+ghost use Rattle.splices.specs.Splices.{Alternatives, StandsFor};
+ghost use Rattle.cddl_language.specs.Maps as M;
+ghost use Rattle.cddl_language.specs.Maps.{alternatives_of, map_alternatives};
+ghost use Rattle.cddl_language.specs.Reach.{group_points, most_instances};
+ghost use Rattle.cddl_language.specs.StandsFor.{AreInstances};
+ghost use Rattle.cddl_language.specs.Terms.{Definition, Entries, Group, Ref, Text};
+ghost use Rattle.cddl_terms.specs.Table.{Table};
+ghost use Rattle.cddl_terms.specs.Trees.{IsGroup};
+ghost use Rattle.cddl_closed.specs.Closed.{AreReached};
+ghost use Rattle.cddl_choosing.specs.Signs.{HaveEntries};
+ghost use Rattle.cddl_splices.specs.Maps.{AreAlternatives};
+ghost use Rattle.cddl_splices.specs.Parts.{AreParts, IsOf};
+
+use cddl_choosing::laws::{growing_sets_settle, opened_names_are_types};
+use cddl_closed::laws::meanings_are_reached;
+use cddl_language::more_names_change_nothing;
+use cddl_openings::laws::{opened_is_reached, part_is_reached};
+
+/// The part of a group's row stands for alternatives exactly where the group of a map has some, and they are the same: where
+/// the map has alternatives, the part stands for the same, and where the part stands for something, the map has the same.
+pub fn parts_stand_for_maps()
+    ensures some { (xs : List Definition) (root : Text) (t : Table) (parts : List Part) → AreParts xs root t parts → (n : ℕ) (g : Group) → IsGroup t n g → AreReached xs root (group_points g) → (mss : M.Alternatives) → map_alternatives xs g ≡ Some mss → (nss : Alternatives) × StandsFor parts n nss × AreAlternatives t mss nss }
+    ensures only { (xs : List Definition) (root : Text) (refs : List Ref) (t : Table) (parts : List Part) → HaveEntries xs → AreInstances xs root refs → length refs ≤ most_instances → AreParts xs root t parts → (n : ℕ) (g : Group) → IsGroup t n g → AreReached xs root (group_points g) → (nss : Alternatives) → StandsFor parts n nss → (mss : M.Alternatives) × (map_alternatives xs g ≡ Some mss) × AreAlternatives t mss nss }
+{
+    parts_stand_for_choices();
+}
+
+/// The same of the choices of any group: one in parentheses, named, or opened.
+pub fn parts_stand_for_choices()
+    ensures some { (xs : List Definition) (root : Text) (t : Table) (parts : List Part) → AreParts xs root t parts → (n : ℕ) (ess : List Entries) → IsOf xs root t ess n → (mss : M.Alternatives) → alternatives_of xs ess ≡ Some mss → (nss : Alternatives) × StandsFor parts n nss × AreAlternatives t mss nss }
+    ensures only { (xs : List Definition) (root : Text) (refs : List Ref) (t : Table) (parts : List Part) → HaveEntries xs → AreInstances xs root refs → length refs ≤ most_instances → AreParts xs root t parts → (n : ℕ) (ess : List Entries) → IsOf xs root t ess n → (nss : Alternatives) → StandsFor parts n nss → (mss : M.Alternatives) × (alternatives_of xs ess ≡ Some mss) × AreAlternatives t mss nss }
+{
+    growing_sets_settle();
+    meanings_are_reached();
+    more_names_change_nothing();
+    opened_is_reached();
+    opened_names_are_types();
+    part_is_reached();
+}
