@@ -1,1 +1,4 @@
 pub mod Splices
+pub mod Sorts
+pub mod Summaries
+pub mod Search

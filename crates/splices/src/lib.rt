@@ -1,5 +1,21 @@
-//! What groups in maps stand for (RFC 8610 section 3.5): the alternatives of parts that are known by numbers.
+//! What groups in maps stand for (RFC 8610 section 3.5): the alternatives of parts that are known by numbers, and what can be
+//! told of them before any is made.
 #![tactic(auto)]
+
+pub mod laws;
+mod pieces;
+mod search;
+mod summary;
+
+ghost use Rattle.std.specs.Prelude.{◌≡◌, ◌↔◌, true, IfOk};
+ghost use Rattle.splices.specs.Search.{bad};
+ghost use Rattle.splices.specs.Splices.{Alternatives};
+ghost use Rattle.splices.specs.Summaries.{AreSummaries, AreTooMany, Describes, OccursBadly};
+
+use crate::search::first_search;
+pub use crate::summary::{MOST_ALTERNATIVES, MOST_MEMBERS, Sorts, Summary};
+use crate::summary::{is_refused, summary_at};
+use std::alloc::{AllocError, Global};
 
 /// How often at least and at most; None is without an end.
 #[derive(Clone, Copy)]
@@ -36,3 +52,43 @@ pub struct Member {
     pub entry: usize,
     pub bounds: Bounds,
 }
+
+/// For each part a summary of the alternatives that it stands for, or None where it stands for nothing.
+///
+/// The time is linear in the parts, whatever they are, and nothing recurses. An error comes only where memory is refused.
+pub fn summaries(alloc: Global, parts: &[Part]) -> Result<Vec<Option<Summary>>, AllocError>
+    ensures { IfOk result (λ v. AreSummaries parts.now v.items) }
+{
+    let mut search = first_search(alloc, parts.len())?;
+    for number in 0..parts.len() {
+        search.visit(parts, number)?;
+    }
+    Ok(search.summaries)
+}
+
+/// Whether the part is a group with an occurrence that no group may have, or that its alternatives may not have (section 3.2).
+pub fn occurs_badly(parts: &[Part], summaries: &[Option<Summary>], number: usize) -> bool
+    ensures { AreSummaries parts.now summaries.now → (result ≡ true) ↔ OccursBadly parts.now number }
+{
+    number < parts.len() && is_bad(summaries, parts[number])
+}
+
+/// Whether a part with these summaries below it is a group that may not occur so.
+fn is_bad(summaries: &[Option<Summary>], part: Part) -> bool
+    ensures { result ≡ bad summaries.now part }
+{
+    match part {
+        Part::Occurs(bounds, group) => is_refused(bounds, summary_at(summaries, group)),
+        _ => false,
+    }
+}
+
+/// Whether there are more alternatives than there may be, or more members in them together.
+pub fn is_too_large(summary: Summary) -> bool
+    ensures { (mss : Alternatives) → Describes mss summary → (result ≡ true) ↔ AreTooMany mss }
+{
+    summary.alternatives > MOST_ALTERNATIVES || summary.members > MOST_MEMBERS
+}
+
+#[cfg(test)]
+mod tests;
