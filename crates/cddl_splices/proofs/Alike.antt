@@ -1,5 +1,5 @@
 -- What groups with occurrences have, of alternatives whose members are the same.
-use Rattle.std.proofs.Common.{◌≡◌, ℕ, zero, suc, nat_eq, nat_le, Bool, true, false, if◌then◌else◌, ◌&&◌, ◌||◌, List, ◌++◌, map, Option, Some, None, refl, sym, ap, subst, ◌∙◌}
+use Rattle.std.proofs.Common.{◌≡◌, ◌↔◌, ℕ, zero, suc, nat_eq, nat_le, Bool, true, false, if◌then◌else◌, ◌&&◌, ◌||◌, List, ◌++◌, map, Option, Some, None, refl, sym, ap, subst, ◌∙◌}
 use Rattle.std.specs.List.{list_all}
 use Rattle.cddl_meaning.specs.Alike as A
 use Rattle.cddl_meaning.specs.Alike.{AlikeAll}
@@ -13,6 +13,9 @@ use Rattle.splices.specs.declared.Member.{Member}
 use Rattle.splices.specs.Splices as S
 use Rattle.cddl_splices.specs.Parts.{HasBounds}
 use Rattle.cddl_splices.specs.Maps.{IsMember, AreAlternatives}
+
+some_none : {A : Type 0} {x : A} → Some x ≡ None → ⊥
+some_none e = cc
 
 pub appended : {N O : Type 0} {R : N → O → Type 0} {xs us : List N} {ys vs : List O} → AlikeAll R xs ys → AlikeAll R us vs → AlikeAll R (xs ++ us) (ys ++ vs)
 appended A.none k = k
@@ -102,3 +105,11 @@ module _ (t : Table) where
   pub occurs : (o : Option Text) (b : Bounds) → HasBounds o b → {mss : M.Alternatives} {nss : S.Alternatives} → AreAlternatives t mss nss → Alike (M.occurs o mss) (S.occurring b.least b.most nss)
   occurs o b h {mss = mss} {nss = nss} a =
       subst (λ k. Alike (M.occurring k (N.most_of o) mss) (S.occurring b.least b.most nss)) h.least (subst (λ k. Alike (M.occurring b.least k mss) (S.occurring b.least b.most nss)) h.most (occurring b.least b.most a))
+
+  -- either may occur so where the other may
+  pub refused_alike : (o : Option Text) (b : Bounds) → HasBounds o b → (mss : M.Alternatives) (nss : S.Alternatives) → AreAlternatives t mss nss → (M.occurs o mss ≡ None) ↔ (S.occurring b.least b.most nss ≡ None)
+  refused_alike o b h mss nss a = by (M.occurs o mss) (S.occurring b.least b.most nss) (occurs o b h a)
+    where
+      by : (p : Option M.Alternatives) (q : Option S.Alternatives) → Alike p q → (p ≡ None) ↔ (q ≡ None)
+      by _ _ nones = ((λ e. refl), (λ e. refl))
+      by _ _ (somes l) = ((λ e. absurd (some_none e)), (λ e. absurd (some_none e)))

@@ -2,7 +2,7 @@
 use Rattle.std.proofs.Common.{◌≡◌, ℕ, zero, suc, List, [], ◌∷◌, ◌++◌, Option, Some, None, refl, sym, ap, subst, ◌∙◌, arith, slice_get}
 use Rattle.std.proofs.lemmas.List.Elements.{Contains-append_left, Contains-append_right}
 use Rattle.cddl_meaning.specs.Alike as A
-use Rattle.cddl_language.specs.Terms.{Text, Term, Ref, Group, sole, orelse, Entries, no_entries, entries, Entry, typed, keyed, grouped, Definition, alternatives}
+use Rattle.cddl_language.specs.Terms.{Text, Term, Ref, Group, sole, orelse, Entries, no_entries, entries, Entry, typed, keyed, grouped, Definition, alternatives, lone}
 use Rattle.cddl_language.specs.Kinds.{Part, asks_type, names_group, opens, part_of}
 use Rattle.cddl_language.specs.Maps as M
 use Rattle.cddl_language.specs.Maps.{joined, combined, occurring_so, in_part, in_group, in_entries, in_entry, alternatives_in}
@@ -20,7 +20,7 @@ use Rattle.cddl_splices.specs.Parts.{HasBounds, IsOf, no_choices, choices_of, Is
 use Rattle.cddl_splices.specs.Maps.{AreAlternatives}
 use Rattle.cddl_splices.proofs.Alike.{Alike, nones, somes, appended, occurs, ways}
 use Rattle.cddl_splices.proofs.Lists.{there, within}
-use Rattle.cddl_splices.proofs.Options.{both_combined, both_joined, no_some, occurring_some, same_some}
+use Rattle.cddl_splices.proofs.Options.{both_combined, both_joined, lone_has, no_some, occurring_some, same_some}
 use Rattle.cddl_splices.proofs.Through.{Carries, carried_part, group_is, in_is, names_in}
 
 left : (xs : List Definition) (root : Text) (ps qs : List Point) → AreReached xs root (ps ++ qs) → AreReached xs root ps
@@ -125,6 +125,17 @@ module _ (xs : List Definition) (root : Text) (t : Table) (parts : List P.Part) 
   choices_stand_so k n _ no_choices mss e = ([], stands are.nothing S.nothing, subst (λ ns. AreAlternatives t ns []) (same_some (sym (in_is xs k []) ∙ e)) A.none)
   choices_stand_so k n _ (choices_of g h r) mss e = let s = complete k n g h r mss (sym (group_is xs k g) ∙ e) in (s.own, s.stands_for, s.alike)
 
+  complete_entry : (k n : ℕ) (x : Entry) → IsEntry t n x → AreReached xs root (entry_points x) → (mss : M.Alternatives) → in_entry xs (names_in xs k) x ≡ Some mss → StandsSo n mss
+  complete_entry zero n x h r mss e = entry_stands (names_in xs zero) (λ ms i. absurd (no_some i)) (λ m f a b ms i. absurd (no_some i)) n x h r mss e
+  complete_entry (suc zero) n x h r mss e = entry_stands (names_in xs (suc zero)) (λ ms i. sym (same_some i)) (λ m f a b ms i. complete zero m f a b ms (sym (group_is xs zero f) ∙ i)) n x h r mss e
+  complete_entry (suc (suc k)) n x h r mss e = entry_stands (names_in xs (suc (suc k))) (λ ms i. sym (same_some i)) (λ m f a b ms i. complete (suc k) m f a b ms (sym (group_is xs (suc k) f) ∙ i)) n x h r mss e
+
+  lone_is : (k : ℕ) (x : Entry) → alternatives_in xs k (lone x ∷ []) ≡ in_entry xs (names_in xs k) x
+  lone_is k x = in_is xs k (lone x ∷ []) ∙ lone_has xs (names_in xs k) x
+
+  pub entry_stands_so : (k n : ℕ) (x : Entry) → IsEntry t n x → AreReached xs root (entry_points x) → (mss : M.Alternatives) → alternatives_in xs k (lone x ∷ []) ≡ Some mss → (nss : S.Alternatives) × StandsFor parts n nss × AreAlternatives t mss nss
+  entry_stands_so k n x h r mss e = let s = complete_entry k n x h r mss (sym (lone_is k x) ∙ e) in (s.own, s.stands_for, s.alike)
+
   -- What a part stands for, maps have, where one name more adds nothing.
   module _ (part_reached : (x : Term) (r : Ref) → AreReached xs root (points x) → part_of xs x ≡ names_group r → Reaches xs root r) (opening_reached : (x : Term) (r : Ref) (g : Group) → AreReached xs root (points x) → part_of xs x ≡ opens r g → Reaches xs root r) (m : ℕ) (back : Carries xs root (names_in xs (suc m)) (names_in xs m)) where
     abbrev next : List Entries → Option M.Alternatives
@@ -193,3 +204,6 @@ module _ (xs : List Definition) (root : Text) (t : Table) (parts : List P.Part) 
 
     pub choices_told : (n : ℕ) (ess : List Entries) → IsOf xs root t ess n → (nss : S.Alternatives) → StandsFor parts n nss → (mss : M.Alternatives) × (alternatives_in xs m ess ≡ Some mss) × AreAlternatives t mss nss
     choices_told n ess a nss s = let k = choices_have s (λ g h r. group_told s g h r) ess a in (k.own, k.is, k.alike)
+
+    pub lone_told : (n : ℕ) (x : Entry) → IsEntry t n x → AreReached xs root (entry_points x) → (nss : S.Alternatives) → StandsFor parts n nss → (mss : M.Alternatives) × (alternatives_in xs m (lone x ∷ []) ≡ Some mss) × AreAlternatives t mss nss
+    lone_told n x h r nss s = let k = entry_told s x h r in (k.own, lone_is m x ∙ k.is, k.alike)

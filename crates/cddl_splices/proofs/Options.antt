@@ -1,8 +1,8 @@
 -- Options of alternatives.
-use Rattle.std.proofs.Common.{◌≡◌, true, false, List, [], ◌∷◌, ◌++◌, Option, Some, None, is_some, refl, sym, ap, ◌∙◌}
+use Rattle.std.proofs.Common.{◌≡◌, true, false, List, [], ◌∷◌, ◌++◌, map, Option, Some, None, is_some, refl, sym, ap, ◌∙◌}
 use Rattle.std.proofs.lemmas.List.{append-nil, append_assoc}
-use Rattle.cddl_language.specs.Terms.{Text, Group, sole, orelse, Entries, Definition, alternatives}
-use Rattle.cddl_language.specs.Maps.{Alternatives, ways, joined, combined, occurs, occurring_so, in_group, in_entries, in_each}
+use Rattle.cddl_language.specs.Terms.{Text, Group, sole, orelse, Entries, Entry, Definition, alternatives, lone}
+use Rattle.cddl_language.specs.Maps.{Alternatives, Member, ways, joined, combined, occurs, occurring_so, in_group, in_entries, in_entry, in_each}
 
 pub no_some : {A : Type 0} {x : A} → None ≡ Some x → ⊥
 no_some e = cc
@@ -74,3 +74,16 @@ module _ (ds : List Definition) (next : List Entries → Option Alternatives) wh
   pub group_each : (g : Group) → in_group ds next g ≡ in_each ds next (alternatives g)
   group_each (sole es) = joined_nothing (in_entries ds next es)
   group_each (orelse g es) = ap (λ o. joined o (in_entries ds next es)) (group_each g) ∙ each_more (alternatives g) es
+
+-- An entry by itself has what it has.
+
+same_behind : (nss : Alternatives) → map (λ (ns : List Member). [] ++ ns) nss ≡ nss
+same_behind [] = refl
+same_behind (ns ∷ nss) = ap (λ mss. ns ∷ mss) (same_behind nss)
+
+by_itself : (o : Option Alternatives) → joined (combined (Some ([] ∷ [])) o) (Some []) ≡ o
+by_itself (Some nss) = ap Some (append-nil (ways ([] ∷ []) nss) ∙ append-nil (map (λ (ns : List Member). [] ++ ns) nss) ∙ same_behind nss)
+by_itself None = refl
+
+pub lone_has : (ds : List Definition) (next : List Entries → Option Alternatives) (x : Entry) → in_each ds next (lone x ∷ []) ≡ in_entry ds next x
+lone_has ds next x = by_itself (in_entry ds next x)

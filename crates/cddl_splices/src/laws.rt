@@ -1,19 +1,20 @@
 //! Laws: functions that do nothing, whose contracts are for proofs.
 
-ghost use Rattle.std.specs.Prelude.{◌≡◌, ◌≤◌, ℕ, List, Some, length};
+ghost use Rattle.std.specs.Prelude.{◌≡◌, ◌≤◌, ◌↔◌, ◌∷◌, [], ℕ, List, None, Option, Some, length};
+ghost use Rattle.splices.specs.declared.Bounds.{Bounds};
 ghost use Rattle.splices.specs.declared.Part.{Part};
-ghost use Rattle.splices.specs.Splices.{Alternatives, StandsFor};
+ghost use Rattle.splices.specs.Splices.{Alternatives, StandsFor, occurring};
 ghost use Rattle.cddl_language.specs.Maps as M;
 ghost use Rattle.cddl_language.specs.Maps.{alternatives_of, map_alternatives};
-ghost use Rattle.cddl_language.specs.Reach.{group_points, most_instances};
+ghost use Rattle.cddl_language.specs.Reach.{entry_points, group_points, most_instances};
 ghost use Rattle.cddl_language.specs.StandsFor.{AreInstances};
-ghost use Rattle.cddl_language.specs.Terms.{Definition, Entries, Group, Ref, Text};
+ghost use Rattle.cddl_language.specs.Terms.{Definition, Entries, Entry, Group, Ref, Text, lone};
 ghost use Rattle.cddl_terms.specs.Table.{Table};
-ghost use Rattle.cddl_terms.specs.Trees.{IsGroup};
+ghost use Rattle.cddl_terms.specs.Trees.{IsEntry, IsGroup};
 ghost use Rattle.cddl_closed.specs.Closed.{AreReached};
 ghost use Rattle.cddl_choosing.specs.Signs.{HaveEntries};
 ghost use Rattle.cddl_splices.specs.Maps.{AreAlternatives};
-ghost use Rattle.cddl_splices.specs.Parts.{AreParts, IsOf};
+ghost use Rattle.cddl_splices.specs.Parts.{AreParts, HasBounds, IsOf};
 
 use cddl_choosing::laws::{growing_sets_settle, opened_names_are_types};
 use cddl_closed::laws::meanings_are_reached;
@@ -41,3 +42,21 @@ pub fn parts_stand_for_choices()
     opened_names_are_types();
     part_is_reached();
 }
+
+/// The same of an entry by itself.
+pub fn parts_stand_for_entries()
+    ensures some { (xs : List Definition) (root : Text) (t : Table) (parts : List Part) → AreParts xs root t parts → (n : ℕ) (e : Entry) → IsEntry t n e → AreReached xs root (entry_points e) → (mss : M.Alternatives) → alternatives_of xs (lone e ∷ []) ≡ Some mss → (nss : Alternatives) × StandsFor parts n nss × AreAlternatives t mss nss }
+    ensures only { (xs : List Definition) (root : Text) (refs : List Ref) (t : Table) (parts : List Part) → HaveEntries xs → AreInstances xs root refs → length refs ≤ most_instances → AreParts xs root t parts → (n : ℕ) (e : Entry) → IsEntry t n e → AreReached xs root (entry_points e) → (nss : Alternatives) → StandsFor parts n nss → (mss : M.Alternatives) × (alternatives_of xs (lone e ∷ []) ≡ Some mss) × AreAlternatives t mss nss }
+{
+    growing_sets_settle();
+    meanings_are_reached();
+    more_names_change_nothing();
+    opened_is_reached();
+    opened_names_are_types();
+    part_is_reached();
+}
+
+/// Where alternatives are the same, a group of the ones may occur so exactly where one of the others may.
+pub fn groups_occur_alike()
+    ensures { (t : Table) (o : Option Text) (b : Bounds) → HasBounds o b → (mss : M.Alternatives) (nss : Alternatives) → AreAlternatives t mss nss → (M.occurs o mss ≡ None) ↔ (occurring b.least b.most nss ≡ None) }
+{}
