@@ -1,7 +1,7 @@
 -- The entries of choices.
 use Rattle.std.proofs.Common.{◌⊎◌, inl, inr, List, [], ◌∷◌, ◌++◌, refl, subst}
 use Rattle.std.specs.Prelude.{Contains}
-use Rattle.cddl_language.specs.Terms.{Entries, entries, Entry, Group, alternatives, entry_list, lone}
+use Rattle.cddl_language.specs.Terms.{Entries, entries, Entry, entry_list, lone}
 use Rattle.cddl_language.specs.MapFaults.{entries_of}
 use Rattle.cddl_map_faults.proofs.Lists.{IsIn, from_contains, from_flat, in_cases, in_left, in_right, to_contains, to_flat}
 use Rattle.std.specs.Prelude.{Bool}

@@ -4,7 +4,7 @@ use Rattle.splices.specs.declared.Part.{Part}
 use Rattle.splices.specs.declared.summary.Summary.{Summary}
 use Rattle.splices.specs.Splices.{Alternatives, StandsFor, stands}
 use Rattle.splices.specs.Summaries.{AreTooMany, Describes, HasSummary}
-use Rattle.cddl_map_faults.specs.Large.{AreFlags, HasLarge, group, further, IsLarge}
+use Rattle.cddl_map_faults.specs.Large.{AreFlags, IsLarge}
 use Rattle.cddl_map_faults.proofs.Lists.{after_push, from_set, there, to_set, within}
 use Rattle.cddl_map_faults.specs.Rules.{is_set}
 

@@ -1,12 +1,12 @@
 -- What follows from the implications of parts.
-use Rattle.std.proofs.Common.{◌≡◌, ◌↔◌, ℕ, zero, suc, ◌+◌, ◌<◌, ◌⊎◌, inl, inr, Bool, true, false, if◌then◌else◌, ◌||◌, List, [], ◌∷◌, length, Option, Some, None, refl, sym, ap, subst, ◌∙◌, arith, slice_get}
+use Rattle.std.proofs.Common.{◌≡◌, ℕ, zero, suc, ◌+◌, ◌⊎◌, inl, inr, Bool, true, false, if◌then◌else◌, ◌||◌, List, [], ◌∷◌, length, Option, Some, None, refl, sym, subst, arith, slice_get}
 use Rattle.std.proofs.Math.Nat.{zero-add}
 use Rattle.implications.specs.declared.Implication.{Implication}
 use Rattle.implications.specs.Implications.{AreFollowing, Follows, concludes}
 use Rattle.splices.specs.declared.Bounds.{Bounds}
 use Rattle.splices.specs.declared.Part.{Part}
 use Rattle.splices.specs.declared.Part.TheVariants as PartV
-use Rattle.splices.specs.Search.{Has, has_same, has_first, has_second, has_one, has_other, has_group, LeadsTo}
+use Rattle.splices.specs.Search.{Has, has_same, has_first, has_second, has_one, has_other, has_group}
 use Rattle.cddl_map_faults.specs.Large.{AreFlags, HasLarge, group, further, IsLarge}
 use Rattle.cddl_map_faults.specs.Rules.{all_rules, is_set, need, rule, rules_by}
 use Rattle.cddl_map_faults.proofs.Lists.{IsIn, from_get, from_set, in_cases, in_left, in_right, to_get, to_set, within}

@@ -1,36 +1,21 @@
 -- Entries that lack a key, and groups that occur badly.
-use Rattle.std.proofs.Common.{◌≡◌, ◌↔◌, ◌⊎◌, inl, inr, ℕ, zero, suc, ◌+◌, ◌<◌, ◌≤◌, true, List, [], ◌∷◌, ◌++◌, length, Option, Some, None, refl, sym, ap, subst, ◌∙◌, arith, slice_get}
-use Rattle.std.specs.Prelude.{Contains}
-use Rattle.std.proofs.lemmas.List.Elements.{Contains-append_left, Contains-append_right}
+use Rattle.std.proofs.Common.{◌≡◌, ◌↔◌, ℕ, zero, suc, List, [], Option, Some, None, refl, sym, ap, ◌∙◌, slice_get}
 use Rattle.cddl_meaning.specs.Alike as A
-use Rattle.cddl_language.specs.Terms.{Text, Term, Group, sole, orelse, Entries, no_entries, entries, Entry, typed, keyed, grouped, Definition, alternatives, lone, occurrence_of, entry_list}
+use Rattle.cddl_language.specs.Terms.{Text, Entry, typed, keyed, grouped, Definition, occurrence_of}
 use Rattle.cddl_language.specs.Kinds as K
 use Rattle.cddl_language.specs.Kinds.{part_of}
-use Rattle.cddl_language.specs.Maps as M
-use Rattle.cddl_language.specs.Maps.{alternatives_of}
-use Rattle.cddl_language.specs.MapFaults as F
-use Rattle.cddl_language.specs.MapFaults.{group_of_part, group_in, entries_of, IsSplicedInto, its_own, further, LacksKey, asks, OccursBadly, never, with_these, HasTooMany, whole, an_entry, its_group}
-use Rattle.cddl_language.specs.Reach.{Point, group_points, entries_points, entry_points}
-use Rattle.cddl_terms.specs.Table.{Table, Tree, Holds, part}
-use Rattle.cddl_terms.specs.Trees.{IsGroup, IsEntries, IsEntry, group_tree, entries_tree, entry_tree}
+use Rattle.cddl_language.specs.MapFaults.{group_of_part, LacksKey, asks, OccursBadly, never, with_these}
+use Rattle.cddl_language.specs.Reach.{entry_points}
+use Rattle.cddl_terms.specs.Table.{Table}
+use Rattle.cddl_terms.specs.Trees.{IsEntry, entry_tree}
 use Rattle.cddl_closed.specs.Closed.{AreReached}
-use Rattle.splices.specs.declared.Bounds.{Bounds}
 use Rattle.splices.specs.declared.Part as P
 use Rattle.splices.specs.declared.Part.TheVariants as PartV
-use Rattle.splices.specs.Search.{Has, has_same, has_first, has_second, has_one, has_other, has_group}
 use Rattle.splices.specs.Splices as S
 use Rattle.splices.specs.Splices.{StandsFor, stands}
 use Rattle.splices.specs.Summaries as Y
-use Rattle.cddl_splices.specs.Parts.{HasBounds, IsOf, no_choices, choices_of, IsPartOfGroup, of_sole, of_orelse, IsPartOfEntries, of_none, of_more, IsPartOfEntry, of_type, of_named, of_keyed, of_grouped, AreParts}
-use Rattle.cddl_splices.specs.Maps.{AreAlternatives}
-use Rattle.cddl_map_faults.specs.declared.MapFaults.{MapFaults}
-use Rattle.cddl_map_faults.specs.Faults.{AreFaults, HasFaults}
-use Rattle.cddl_map_faults.specs.Large as L
-use Rattle.cddl_map_faults.specs.Large.{HasLarge, HasPartFaults, IsLarge}
-use Rattle.cddl_map_faults.proofs.Entries.{in_choices, in_earlier, in_last, in_last_choice, in_lone, of_choices, of_one}
-use Rattle.cddl_map_faults.proofs.Lists.{IsIn, in_cases, there, within}
-use Rattle.cddl_map_faults.proofs.Sizes.{too_many}
-use Rattle.cddl_map_faults.proofs.Parts.{group_named, group_there, no_some, part_there, same_part}
+use Rattle.cddl_splices.specs.Parts.{IsPartOfEntry, of_type, of_named, of_keyed, of_grouped, AreParts}
+use Rattle.cddl_map_faults.proofs.Parts.{OccurAlike, StandAlike, group_named, group_there, no_some, part_there, same_part}
 
 -- what may not occur so even with no alternatives may never occur so
 never_so : (least : ℕ) (most : Option ℕ) → S.occurring least most [] ≡ None → (mss : S.Alternatives) → S.occurring least most mss ≡ None
@@ -67,26 +52,24 @@ module _ (xs : List Definition) (root : Text) (t : Table) (parts : List P.Part) 
       let k = refused_lacks e c.0 ((are.each n c.0 c.1).entry e h r) in
       ((λ i. k.0 (same_part xs root t parts are n c.0 PartV.Refused c.1 i)), (λ l. c.1 ∙ ap Some (k.1 l)))
 
-  -- what parts stand for, and how often groups of it may occur
-  module _ (some : (n : ℕ) (ess : List Entries) → IsOf xs root t ess n → (mss : M.Alternatives) → alternatives_of xs ess ≡ Some mss → (nss : S.Alternatives) × StandsFor parts n nss × AreAlternatives t mss nss) (only : (n : ℕ) (ess : List Entries) → IsOf xs root t ess n → (nss : S.Alternatives) → StandsFor parts n nss → (mss : M.Alternatives) × (alternatives_of xs ess ≡ Some mss) × AreAlternatives t mss nss) where
-    module _ (alike : (o : Option Text) (b : Bounds) → HasBounds o b → (mss : M.Alternatives) (nss : S.Alternatives) → AreAlternatives t mss nss → (M.occurs o mss ≡ None) ↔ (S.occurring b.least b.most nss ≡ None)) where
-      occurs_so : (n : ℕ) (e : Entry) → IsEntry t n e → AreReached xs root (entry_points e) → Y.OccursBadly parts n → OccursBadly xs e
-      occurs_so n e h r (Y.never b a i f) =
-          let k = group_named xs root t parts are n e h r b a i in
-          never k.1 ((alike (occurrence_of e) b k.2 [] [] A.none).1 (f []))
-      occurs_so n e h r (Y.not_so b a nss i s g) =
-          let k = group_named xs root t parts are n e h r b a i in
-          let m = only a k.0 k.3 nss s in
-          with_these k.1 m.1 ((alike (occurrence_of e) b k.2 m.0 nss m.2).1 g)
+  module _ (same : StandAlike xs root t parts) (alike : OccurAlike t) where
+    occurs_so : (n : ℕ) (e : Entry) → IsEntry t n e → AreReached xs root (entry_points e) → Y.OccursBadly parts n → OccursBadly xs e
+    occurs_so n e h r (Y.never b a i f) =
+        let k = group_named xs root t parts are n e h r b a i in
+        never k.1 ((alike (occurrence_of e) b k.2 [] [] A.none).1 (f []))
+    occurs_so n e h r (Y.not_so b a nss i s g) =
+        let k = group_named xs root t parts are n e h r b a i in
+        let m = same.group_only a k.0 k.3 nss s in
+        with_these k.1 m.1 ((alike (occurrence_of e) b k.2 m.0 nss m.2).1 g)
 
-      so_occurs : (n : ℕ) (e : Entry) → IsEntry t n e → AreReached xs root (entry_points e) → OccursBadly xs e → Y.OccursBadly parts n
-      so_occurs n e h r (never {fss = fss} i f) =
-          let k = group_there xs root t parts are n e h r fss i in
-          Y.never k.0 k.1 k.2 (never_so (k.0).least (k.0).most ((alike (occurrence_of e) k.0 k.3 [] [] A.none).0 f))
-      so_occurs n e h r (with_these {fss = fss} {mss = mss} i j f) =
-          let k = group_there xs root t parts are n e h r fss i in
-          let m = some k.1 fss k.4 mss j in
-          Y.not_so k.0 k.1 m.0 k.2 m.1 ((alike (occurrence_of e) k.0 k.3 mss m.0 m.2).0 f)
+    so_occurs : (n : ℕ) (e : Entry) → IsEntry t n e → AreReached xs root (entry_points e) → OccursBadly xs e → Y.OccursBadly parts n
+    so_occurs n e h r (never {fss = fss} i f) =
+        let k = group_there xs root t parts are n e h r fss i in
+        Y.never k.0 k.1 k.2 (never_so (k.0).least (k.0).most ((alike (occurrence_of e) k.0 k.3 [] [] A.none).0 f))
+    so_occurs n e h r (with_these {fss = fss} {mss = mss} i j f) =
+        let k = group_there xs root t parts are n e h r fss i in
+        let m = same.group_some k.1 fss k.4 mss j in
+        Y.not_so k.0 k.1 m.0 k.2 m.1 ((alike (occurrence_of e) k.0 k.3 mss m.0 m.2).0 f)
 
-      pub occurs_badly : (n : ℕ) (e : Entry) → IsEntry t n e → AreReached xs root (entry_points e) → Y.OccursBadly parts n ↔ OccursBadly xs e
-      occurs_badly n e h r = (occurs_so n e h r, so_occurs n e h r)
+    pub occurs_badly : (n : ℕ) (e : Entry) → IsEntry t n e → AreReached xs root (entry_points e) → Y.OccursBadly parts n ↔ OccursBadly xs e
+    occurs_badly n e h r = (occurs_so n e h r, so_occurs n e h r)

@@ -1,35 +1,33 @@
 -- The parts of the rows of entries.
-use Rattle.std.proofs.Common.{◌≡◌, ◌↔◌, ◌⊎◌, inl, inr, ℕ, zero, suc, ◌+◌, ◌<◌, ◌≤◌, true, List, [], ◌∷◌, ◌++◌, length, Option, Some, None, refl, sym, ap, subst, ◌∙◌, arith, slice_get}
-use Rattle.std.specs.Prelude.{Contains}
+use Rattle.std.proofs.Common.{◌≡◌, ◌↔◌, ℕ, List, [], ◌∷◌, ◌++◌, Option, Some, None, refl, sym, subst, ◌∙◌, arith, slice_get}
 use Rattle.std.proofs.lemmas.List.Elements.{Contains-append_left, Contains-append_right}
-use Rattle.cddl_meaning.specs.Alike as A
-use Rattle.cddl_language.specs.Terms.{Text, Term, Group, sole, orelse, Entries, no_entries, entries, Entry, typed, keyed, grouped, Definition, alternatives, lone, occurrence_of, entry_list}
-use Rattle.cddl_language.specs.Kinds as K
-use Rattle.cddl_language.specs.Kinds.{part_of}
+use Rattle.cddl_language.specs.Terms.{Text, Entries, Entry, typed, keyed, grouped, Definition, lone, occurrence_of}
 use Rattle.cddl_language.specs.Maps as M
 use Rattle.cddl_language.specs.Maps.{alternatives_of}
-use Rattle.cddl_language.specs.MapFaults as F
-use Rattle.cddl_language.specs.MapFaults.{group_of_part, group_in, entries_of, IsSplicedInto, its_own, further, LacksKey, asks, OccursBadly, never, with_these, HasTooMany, whole, an_entry, its_group}
-use Rattle.cddl_language.specs.Reach.{Point, group_points, entries_points, entry_points}
+use Rattle.cddl_language.specs.MapFaults.{group_in}
+use Rattle.cddl_language.specs.Reach.{Point, entry_points}
 use Rattle.cddl_terms.specs.Table.{Table, Tree, Holds, part}
-use Rattle.cddl_terms.specs.Trees.{IsGroup, IsEntries, IsEntry, group_tree, entries_tree, entry_tree}
+use Rattle.cddl_terms.specs.Trees.{IsEntry, entry_tree}
 use Rattle.cddl_closed.specs.Closed.{AreReached}
 use Rattle.splices.specs.declared.Bounds.{Bounds}
 use Rattle.splices.specs.declared.Part as P
 use Rattle.splices.specs.declared.Part.TheVariants as PartV
-use Rattle.splices.specs.Search.{Has, has_same, has_first, has_second, has_one, has_other, has_group}
 use Rattle.splices.specs.Splices as S
 use Rattle.splices.specs.Splices.{StandsFor, stands}
-use Rattle.splices.specs.Summaries as Y
-use Rattle.cddl_splices.specs.Parts.{HasBounds, IsOf, no_choices, choices_of, IsPartOfGroup, of_sole, of_orelse, IsPartOfEntries, of_none, of_more, IsPartOfEntry, of_type, of_named, of_keyed, of_grouped, AreParts}
+use Rattle.cddl_splices.specs.Parts.{HasBounds, IsOf, choices_of, IsPartOfEntry, of_type, of_named, of_keyed, of_grouped, AreParts}
 use Rattle.cddl_splices.specs.Maps.{AreAlternatives}
-use Rattle.cddl_map_faults.specs.declared.MapFaults.{MapFaults}
-use Rattle.cddl_map_faults.specs.Faults.{AreFaults, HasFaults}
-use Rattle.cddl_map_faults.specs.Large as L
-use Rattle.cddl_map_faults.specs.Large.{HasLarge, HasPartFaults, IsLarge}
-use Rattle.cddl_map_faults.proofs.Entries.{in_choices, in_earlier, in_last, in_last_choice, in_lone, of_choices, of_one}
-use Rattle.cddl_map_faults.proofs.Lists.{IsIn, in_cases, there, within}
-use Rattle.cddl_map_faults.proofs.Sizes.{too_many}
+use Rattle.cddl_map_faults.proofs.Lists.{there, within}
+
+-- A group, or an entry by itself, has alternatives just where the part of its row stands for the same.
+pub record StandAlike (xs : List Definition) (root : Text) (t : Table) (parts : List P.Part) : Type 0 where
+  pub group_some : (n : ℕ) (ess : List Entries) → IsOf xs root t ess n → (mss : M.Alternatives) → alternatives_of xs ess ≡ Some mss → (nss : S.Alternatives) × StandsFor parts n nss × AreAlternatives t mss nss
+  pub group_only : (n : ℕ) (ess : List Entries) → IsOf xs root t ess n → (nss : S.Alternatives) → StandsFor parts n nss → (mss : M.Alternatives) × (alternatives_of xs ess ≡ Some mss) × AreAlternatives t mss nss
+  pub entry_some : (n : ℕ) (e : Entry) → IsEntry t n e → AreReached xs root (entry_points e) → (mss : M.Alternatives) → alternatives_of xs (lone e ∷ []) ≡ Some mss → (nss : S.Alternatives) × StandsFor parts n nss × AreAlternatives t mss nss
+  pub entry_only : (n : ℕ) (e : Entry) → IsEntry t n e → AreReached xs root (entry_points e) → (nss : S.Alternatives) → StandsFor parts n nss → (mss : M.Alternatives) × (alternatives_of xs (lone e ∷ []) ≡ Some mss) × AreAlternatives t mss nss
+
+-- Groups of the same alternatives may occur alike.
+abbrev pub OccurAlike : Table → Type 0
+OccurAlike t = (o : Option Text) (b : Bounds) → HasBounds o b → (mss : M.Alternatives) (nss : S.Alternatives) → AreAlternatives t mss nss → (M.occurs o mss ≡ None) ↔ (S.occurring b.least b.most nss ≡ None)
 
 pub no_some : {A : Type 0} {x : A} → None ≡ Some x → ⊥
 no_some e = cc

@@ -1,5 +1,5 @@
 -- Alternatives that are the same are as many, and have as many members.
-use Rattle.std.proofs.Common.{◌≡◌, ◌↔◌, ◌⊎◌, ◌+◌, ◌<◌, inl, inr, ℕ, suc, List, [], ◌∷◌, ◌++◌, length, refl, sym, ap, subst, ◌∙◌, length-append}
+use Rattle.std.proofs.Common.{◌≡◌, ◌↔◌, ◌+◌, ◌<◌, inl, inr, suc, List, length, refl, sym, ap, subst, ◌∙◌, length-append}
 use Rattle.cddl_meaning.specs.Alike as A
 use Rattle.cddl_meaning.specs.Alike.{AlikeAll}
 use Rattle.cddl_language.specs.Maps as M
@@ -7,7 +7,7 @@ use Rattle.cddl_language.specs.MapFaults as F
 use Rattle.cddl_terms.specs.Table.{Table}
 use Rattle.splices.specs.Splices as S
 use Rattle.splices.specs.Summaries.{AreTooMany}
-use Rattle.cddl_splices.specs.Maps.{IsMember, AreAlternatives}
+use Rattle.cddl_splices.specs.Maps.{AreAlternatives}
 
 as_many : {N O : Type 0} {R : N → O → Type 0} {xs : List N} {ys : List O} → AlikeAll R xs ys → length xs ≡ length ys
 as_many A.none = refl

@@ -1,18 +1,14 @@
 -- Groups that have too many alternatives, themselves or in a part.
-use Rattle.std.proofs.Common.{◌≡◌, ◌↔◌, ◌⊎◌, inl, inr, ℕ, zero, suc, ◌+◌, ◌<◌, ◌≤◌, true, List, [], ◌∷◌, ◌++◌, length, Option, Some, None, refl, sym, ap, subst, ◌∙◌, arith, slice_get}
+use Rattle.std.proofs.Common.{◌≡◌, ◌↔◌, ◌⊎◌, inl, inr, ℕ, List, [], ◌∷◌, ◌++◌, Some, sym, subst, ◌∙◌, arith, slice_get}
 use Rattle.std.specs.Prelude.{Contains}
-use Rattle.std.proofs.lemmas.List.Elements.{Contains-append_left, Contains-append_right}
-use Rattle.cddl_meaning.specs.Alike as A
-use Rattle.cddl_language.specs.Terms.{Text, Term, Group, sole, orelse, Entries, no_entries, entries, Entry, typed, keyed, grouped, Definition, alternatives, lone, occurrence_of, entry_list}
-use Rattle.cddl_language.specs.Kinds as K
-use Rattle.cddl_language.specs.Kinds.{part_of}
+use Rattle.cddl_language.specs.Terms.{Text, Group, sole, orelse, Entries, no_entries, entries, Entry, Definition, alternatives, lone, entry_list}
 use Rattle.cddl_language.specs.Maps as M
 use Rattle.cddl_language.specs.Maps.{alternatives_of}
 use Rattle.cddl_language.specs.MapFaults as F
 use Rattle.cddl_language.specs.MapFaults.{group_of_part, group_in, entries_of, IsSplicedInto, its_own, further, LacksKey, asks, OccursBadly, never, with_these, HasTooMany, whole, an_entry, its_group}
-use Rattle.cddl_language.specs.Reach.{Point, group_points, entries_points, entry_points}
-use Rattle.cddl_terms.specs.Table.{Table, Tree, Holds, part}
-use Rattle.cddl_terms.specs.Trees.{IsGroup, IsEntries, IsEntry, group_tree, entries_tree, entry_tree}
+use Rattle.cddl_language.specs.Reach.{group_points, entries_points, entry_points}
+use Rattle.cddl_terms.specs.Table.{Table}
+use Rattle.cddl_terms.specs.Trees.{IsGroup, IsEntries, IsEntry, group_tree, entries_tree}
 use Rattle.cddl_closed.specs.Closed.{AreReached}
 use Rattle.splices.specs.declared.Bounds.{Bounds}
 use Rattle.splices.specs.declared.Part as P
@@ -21,16 +17,13 @@ use Rattle.splices.specs.Search.{Has, has_same, has_first, has_second, has_one, 
 use Rattle.splices.specs.Splices as S
 use Rattle.splices.specs.Splices.{StandsFor, stands}
 use Rattle.splices.specs.Summaries as Y
-use Rattle.cddl_splices.specs.Parts.{HasBounds, IsOf, no_choices, choices_of, IsPartOfGroup, of_sole, of_orelse, IsPartOfEntries, of_none, of_more, IsPartOfEntry, of_type, of_named, of_keyed, of_grouped, AreParts}
-use Rattle.cddl_splices.specs.Maps.{AreAlternatives}
-use Rattle.cddl_map_faults.specs.declared.MapFaults.{MapFaults}
-use Rattle.cddl_map_faults.specs.Faults.{AreFaults, HasFaults}
+use Rattle.cddl_splices.specs.Parts.{IsOf, no_choices, choices_of, IsPartOfGroup, of_sole, of_orelse, IsPartOfEntries, of_none, of_more, AreParts}
 use Rattle.cddl_map_faults.specs.Large as L
 use Rattle.cddl_map_faults.specs.Large.{HasLarge, HasPartFaults, IsLarge}
 use Rattle.cddl_map_faults.proofs.Entries.{in_choices, in_earlier, in_last, in_last_choice, in_lone, of_choices, of_one}
-use Rattle.cddl_map_faults.proofs.Lists.{IsIn, in_cases, there, within}
+use Rattle.cddl_map_faults.proofs.Lists.{IsIn, in_cases}
 use Rattle.cddl_map_faults.proofs.Sizes.{too_many}
-use Rattle.cddl_map_faults.proofs.Parts.{IsGroupAt, refused_at, keyed_at, group_at, entry_at, group_there, group_told, left, no_some, part_there, right, same_some}
+use Rattle.cddl_map_faults.proofs.Parts.{StandAlike, IsGroupAt, refused_at, keyed_at, group_at, entry_at, group_there, group_told, left, part_there, right, same_some}
 
 -- choices that stand for too many
 record IsMany (xs : List Definition) (ess : List Entries) : Type 0 where
@@ -61,25 +54,25 @@ module _ (xs : List Definition) where
   as_fault ess (group_many s g m) = record { part = _; is_part = its_group s g; alternatives = m.alternatives; stands_for = m.stands_for; too_many = m.too_many }
 
 module _ (xs : List Definition) (root : Text) (t : Table) (parts : List P.Part) (are : AreParts xs root t parts) where
-  module _ (some : (n : ℕ) (ess : List Entries) → IsOf xs root t ess n → (mss : M.Alternatives) → alternatives_of xs ess ≡ Some mss → (nss : S.Alternatives) × StandsFor parts n nss × AreAlternatives t mss nss) (only : (n : ℕ) (ess : List Entries) → IsOf xs root t ess n → (nss : S.Alternatives) → StandsFor parts n nss → (mss : M.Alternatives) × (alternatives_of xs ess ≡ Some mss) × AreAlternatives t mss nss) (entry_some : (n : ℕ) (e : Entry) → IsEntry t n e → AreReached xs root (entry_points e) → (mss : M.Alternatives) → alternatives_of xs (lone e ∷ []) ≡ Some mss → (nss : S.Alternatives) × StandsFor parts n nss × AreAlternatives t mss nss) (entry_only : (n : ℕ) (e : Entry) → IsEntry t n e → AreReached xs root (entry_points e) → (nss : S.Alternatives) → StandsFor parts n nss → (mss : M.Alternatives) × (alternatives_of xs (lone e ∷ []) ≡ Some mss) × AreAlternatives t mss nss) where
+  module _ (same : StandAlike xs root t parts) where
     group_is_many : (n : ℕ) (ess : List Entries) → IsOf xs root t ess n → IsLarge parts n → IsMany xs ess
     group_is_many n ess i l =
-        let k = only n ess i l.alternatives l.stands_for in
+        let k = same.group_only n ess i l.alternatives l.stands_for in
         record { alternatives = k.0; stands_for = k.1; too_many = (too_many t k.0 l.alternatives k.2).1 l.too_many }
 
     entry_is_many : (n : ℕ) (e : Entry) → IsEntry t n e → AreReached xs root (entry_points e) → IsLarge parts n → IsMany xs (lone e ∷ [])
     entry_is_many n e h r l =
-        let k = entry_only n e h r l.alternatives l.stands_for in
+        let k = same.entry_only n e h r l.alternatives l.stands_for in
         record { alternatives = k.0; stands_for = k.1; too_many = (too_many t k.0 l.alternatives k.2).1 l.too_many }
 
     group_is_large : (n : ℕ) (ess : List Entries) → IsOf xs root t ess n → IsMany xs ess → IsLarge parts n
     group_is_large n ess i m =
-        let k = some n ess i m.alternatives m.stands_for in
+        let k = same.group_some n ess i m.alternatives m.stands_for in
         record { alternatives = k.0; stands_for = k.1; too_many = (too_many t m.alternatives k.0 k.2).0 m.too_many }
 
     entry_is_large : (n : ℕ) (e : Entry) → IsEntry t n e → AreReached xs root (entry_points e) → IsMany xs (lone e ∷ []) → IsLarge parts n
     entry_is_large n e h r m =
-        let k = entry_some n e h r m.alternatives m.stands_for in
+        let k = same.entry_some n e h r m.alternatives m.stands_for in
         record { alternatives = k.0; stands_for = k.1; too_many = (too_many t m.alternatives k.0 k.2).0 m.too_many }
 
     -- What has a large part has too many.

@@ -56,11 +56,7 @@ pub(crate) fn having_large(
 }
 
 /// The implications of all parts.
-fn rules_of(
-    alloc: Global,
-    parts: &[Part],
-    large: &[bool],
-) -> Result<Vec<Implication>, AllocError>
+fn rules_of(alloc: Global, parts: &[Part], large: &[bool]) -> Result<Vec<Implication>, AllocError>
     ensures { IfOk result (λ v. v.items ≡ all_rules large.now 0 parts.now) }
 {
     let mut rules = Vec::new(alloc);

@@ -1,4 +1,4 @@
-use Rattle.std.proofs.Common.{rules, ◌≡◌, ◌+◌, ◌∙◌, ◌↔◌, ℕ, Bool, true, None, Some, ap, length, subst, sym, slice_get}
+use Rattle.std.proofs.Common.{rules, ◌≡◌, ◌+◌, ◌∙◌, ◌↔◌, true, None, Some, ap, length, subst, sym, slice_get}
 use Rattle.cddl_map_faults.specs.Large.{IsLarge}
 use Rattle.cddl_map_faults.proofs.Flags.{are_flags, large_within, one_more}
 use Rattle.cddl_map_faults.proofs.Lists.{at_place, push_length}
