@@ -1,0 +1,9 @@
+pub mod Entries
+pub mod Flags
+pub mod Following
+pub mod Lists
+pub mod Meaning
+pub mod Parts
+pub mod Sizes
+pub mod Spliced
+pub mod Told
