@@ -641,11 +641,13 @@ fn judges_maps(rt: HostRuntime) -> Result<(), Fail> {
     check_rows(&rt, rt.alloc(), &MAPS, &MAP_PARTS, &MAP_ORDER, &MAP_ROWS)
 }
 
+const MAP_OF_ARRAY: Form = Form::Map(&[(ONE, TWO_ONES)]);
+
 // As above.
 #[test]
 fn sorts_or_wants_memory(rt: HostRuntime) {
     let table = table_of(rt.alloc(), &MAPS, &MAP_PARTS, &MAP_ORDER, 15);
-    let verdict = verdict_or_none(rt.alloc(), table, &Form::Map(&[(ONE, TWO_ONES)]));
+    let verdict = verdict_or_none(rt.alloc(), table, &MAP_OF_ARRAY);
     assert!(rt; matches!(verdict, None | Some(Verdict::Yes)));
 }
 
