@@ -6,7 +6,7 @@ use Rattle.implications.specs.Implications.{AreFollowing, Follows, concludes}
 use Rattle.splices.specs.declared.Bounds.{Bounds}
 use Rattle.splices.specs.declared.Part.{Part}
 use Rattle.splices.specs.declared.Part.TheVariants as PartV
-use Rattle.splices.specs.Search.{Has, has_same, has_first, has_second, has_one, has_other, has_group}
+use Rattle.splices.specs.Splices.{Has, has_same, has_first, has_second, has_one, has_other, has_group}
 use Rattle.cddl_map_faults.specs.Large.{AreFlags, HasLarge, group, further, IsLarge}
 use Rattle.cddl_map_faults.specs.Rules.{all_rules, is_set, need, rule, rules_by}
 use Rattle.cddl_map_faults.proofs.Lists.{IsIn, from_get, from_set, in_cases, in_left, in_right, to_get, to_set, within}

@@ -13,7 +13,7 @@ use Rattle.cddl_closed.specs.Closed.{AreReached}
 use Rattle.splices.specs.declared.Bounds.{Bounds}
 use Rattle.splices.specs.declared.Part as P
 use Rattle.splices.specs.declared.Part.TheVariants as PartV
-use Rattle.splices.specs.Search.{Has, has_same, has_first, has_second, has_one, has_other, has_group}
+use Rattle.splices.specs.Splices.{Has, has_same, has_first, has_second, has_one, has_other, has_group}
 use Rattle.splices.specs.Splices as S
 use Rattle.splices.specs.Splices.{StandsFor, stands}
 use Rattle.splices.specs.Summaries as Y

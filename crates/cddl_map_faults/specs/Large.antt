@@ -3,7 +3,7 @@ use Rattle.std.specs.Prelude.{◌≡◌, ◌⊎◌, ◌↔◌, ℕ, Bool, true, 
 use Rattle.splices.specs.declared.Bounds.{Bounds}
 use Rattle.splices.specs.declared.Part.{Part}
 use Rattle.splices.specs.declared.Part.TheVariants.{Refused, Occurs}
-use Rattle.splices.specs.Search.{LeadsTo}
+use Rattle.splices.specs.Splices.{LeadsTo}
 use Rattle.splices.specs.Splices.{Alternatives, StandsFor}
 use Rattle.splices.specs.Summaries.{AreTooMany, OccursBadly}
 use Rattle.cddl_map_faults.specs.declared.MapFaults.{MapFaults}
