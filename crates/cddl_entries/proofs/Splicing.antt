@@ -1,14 +1,14 @@
 -- What stands in parentheses of what is spliced into a map is spliced into it.
-use Rattle.std.proofs.Common.{◌≡◌, ℕ, zero, suc, ◌<◌, ◌⊎◌, inl, inr, List, [], ◌∷◌, ◌++◌, Option, Some, None, refl, sym, ap, subst, ◌∙◌, arith}
+use Rattle.std.proofs.Common.{◌≡◌, ℕ, zero, suc, ◌<◌, ◌⊎◌, inl, inr, List, [], ◌∷◌, ◌++◌, Option, Some, None, refl, sym, subst, arith}
 use Rattle.std.specs.List.{Contains}
 use Rattle.std.proofs.lemmas.List.Elements.{Contains-append_left, Contains-append_right, Contains-append_cases}
 use Rattle.cddl_token.specs.declared.Token.{Token}
 use Rattle.cddl_syntax.specs.Syntax as S
-use Rattle.cddl_language.specs.Terms.{Term, Text, Ref}
+use Rattle.cddl_language.specs.Terms.{Term, Text}
 use Rattle.cddl_language.specs.Reach.{Point, at_name, at_unwrapping}
 use Rattle.cddl_language.specs.MapFaults.{IsBare, in_parens, itself, IsSpliced, of_map, of_name, of_opened, of_parens, choice_entries, group_between, group_entries, rule_entries}
-use Rattle.cddl_entries.specs.Entries.{bare_operand, bare_type1, bare_types, choice_inside, entry_inside, group_inside, rule_inside}
-use Rattle.cddl_entries.specs.Spliced.{AreSplicedIn, IsAmongSpliced, IsBareGroup, IsSplicedPoint, of_a_map, of_a_name, of_an_opening}
+use Rattle.cddl_entries.specs.Entries.{bare_operand, bare_types, choice_inside, entry_inside, group_inside, rule_inside}
+use Rattle.cddl_entries.specs.Spliced.{AreSplicedIn, IsAmongSpliced, IsBareGroup, of_a_map, of_a_name, of_an_opening}
 
 beyond_zero : (k : ℕ) → k < 0 → ⊥
 beyond_zero k h = omega arith

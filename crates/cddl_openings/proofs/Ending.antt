@@ -6,8 +6,8 @@ use Rattle.chains.specs.Chains.{AreEnds, end_by, end_within}
 use Rattle.cddl_language.specs.Terms as L
 use Rattle.cddl_language.specs.Terms.{Text, Term, literal, named, parens, map_of, array_of, unwrapped, choice_of, choice_of_name, tagged, tagged_by, simple_by, hash, range, control, or, Ref, call, Body, of_types, of_entry, Definition, choices, stripped, term_list, name_of, arguments_of}
 use Rattle.cddl_language.specs.Environment.{definitions_of, is_group_socket, is_in, most_names}
-use Rattle.cddl_language.specs.Substitution.{argument_for, bodies, fill, fill_body, fill_ref, or_else}
-use Rattle.cddl_language.specs.Kinds.{Opened, opened, opened_body, opened_by, opened_in, opened_term}
+use Rattle.cddl_language.specs.Substitution.{bodies, fill, fill_body, fill_ref, or_else}
+use Rattle.cddl_language.specs.Kinds.{Opened, opened_body, opened_by, opened_in, opened_term}
 use Rattle.cddl_language.specs.Reach.{Reaches, points}
 use Rattle.cddl_terms.specs.declared.row.Form.{Form}
 use Rattle.cddl_terms.specs.declared.row.Form.TheVariants as F
@@ -17,11 +17,11 @@ use Rattle.cddl_terms.specs.Trees.{IsRef, IsTerm}
 use Rattle.cddl_closed.specs.declared.closed.Closed.{Closed}
 use Rattle.cddl_closed.specs.declared.closed.Meaning.{Meaning}
 use Rattle.cddl_closed.specs.Closed.{AreReached, IsClosed, IsMeaning}
-use Rattle.cddl_openings.specs.Endings.{AreEndings, EndsAt, IsOneType, LeadsOn, at_once, through, is_name}
-use Rattle.cddl_openings.specs.Steps.{ended_at, link_from, link_of, link_to, links_of, named_place, own_link_of, own_links_of, place_at, place_by, place_in}
+use Rattle.cddl_openings.specs.Endings.{AreEndings, EndsAt, at_once, through, is_name}
+use Rattle.cddl_openings.specs.Steps.{ended_at, link_to, links_of, named_place, own_link_of, own_links_of, place_at, place_by, place_in}
 use Rattle.cddl_openings.proofs.Joining.{alike_at}
 use Rattle.cddl_openings.proofs.Leading.{Leads, body_reached, held, name_reached, no_argument_for, sole_type, type_leads}
-use Rattle.cddl_openings.proofs.Chaining.{LinksFrom, holding, instance_reached, link_there, links_from, place_found, refers, within}
+use Rattle.cddl_openings.proofs.Chaining.{holding, instance_reached, link_there, links_from, place_found, refers, within}
 
 -- What a type of a definition opens, filled: itself, or what `next` says of a name that is no parameter.
 data WayOf (next : Ref → Option Opened) (ps : List Text) (xs : List Term) (o : Opened) (t : Term) : Type 0 where

@@ -13,7 +13,7 @@ use Rattle.cddl_terms.specs.Trees.{entry_tree, group_tree, ref_tree, term_tree}
 use Rattle.cddl_instances.specs.declared.found.Instance.{Instance}
 use Rattle.cddl_instances.specs.Bodies.{AreBodies, no_bodies, further_body}
 use Rattle.cddl_instances.specs.Found.{AreFound, none_found, further_found}
-use Rattle.cddl_reached.specs.Asked.{AreAsked, AreEntriesAsked, IsAsked, IsEntryAsked, WasAsked, WasAskedIn, choosing, choosing_by_name, first_end, last_end, of_map, of_map_entry, of_rule_entry}
+use Rattle.cddl_reached.specs.Asked.{AreAsked, AreEntriesAsked, IsAsked, IsEntryAsked, WasAsked, choosing, choosing_by_name, first_end, last_end, of_map, of_map_entry, of_rule_entry}
 use Rattle.cddl_reached.specs.declared.asked.Asked.{Asked}
 use Rattle.cddl_reached.specs.declared.asked.Question.{Question}
 

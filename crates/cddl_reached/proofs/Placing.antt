@@ -1,5 +1,5 @@
 -- What was asked of entries, one by one, is what is to be asked.
-use Rattle.std.proofs.Common.{◌≡◌, ℕ, List, [], ◌∷◌, ◌++◌, ◌⊎◌, inl, inr, Option, Some, None, slice_get, refl, sym, ap, subst, ◌∙◌}
+use Rattle.std.proofs.Common.{◌≡◌, ℕ, List, [], Option, Some, None, slice_get, refl, sym, ap, subst, ◌∙◌}
 use Rattle.std.specs.List.{Contains}
 use Rattle.cddl_token.specs.declared.Token.{Token}
 use Rattle.cddl_syntax.specs.Syntax as S
@@ -10,12 +10,10 @@ use Rattle.cddl_language.specs.Reading.{entry_of, name_in, parameters_in}
 use Rattle.cddl_language.specs.Sites.{IsInstance, IsReached, a_map}
 use Rattle.cddl_language.specs.StandsFor.{AreInstances}
 use Rattle.cddl_language.specs.Terms.{Ref, Term, Text, arguments_of}
-use Rattle.cddl_terms.specs.Filled.{filled, term_trees}
 use Rattle.cddl_terms.specs.Table.{Holds, Table}
-use Rattle.cddl_terms.specs.Trees.{IsEntry, IsRef, entry_tree, ref_tree}
+use Rattle.cddl_terms.specs.Trees.{IsEntry, entry_tree}
 use Rattle.cddl_live.specs.Live.{IsClear}
 use Rattle.cddl_sites.specs.declared.site.Found.{Found}
-use Rattle.cddl_sites.specs.View.{view_site}
 use Rattle.cddl_entries.specs.declared.entry.Holder.{Holder}
 use Rattle.cddl_entries.specs.declared.entry.Holder.TheVariants as HolderV
 use Rattle.cddl_entries.specs.declared.entry.TextEntry.{TextEntry}
@@ -24,7 +22,7 @@ use Rattle.cddl_reached.specs.Calls.{refs_named}
 use Rattle.cddl_reached.specs.Reached.{AreReachedSites}
 use Rattle.cddl_reached.specs.declared.asked.Asked.{Asked}
 use Rattle.cddl_reached.specs.declared.asked.Question.TheVariants as QuestionV
-use Rattle.cddl_reached.specs.Asked.{AreAnswers, AreEntriesAsked, IsAnswer, IsEntryAsked, Wanted, WasAsked, WasAskedIn, entry_wanted, held_inside, of_map_entry, of_rule_entry, wanted_each, wanted_entries, wanted_entry, wanted_in, wanted_one}
+use Rattle.cddl_reached.specs.Asked.{AreAnswers, AreEntriesAsked, IsAnswer, IsEntryAsked, Wanted, WasAsked, WasAskedIn, entry_wanted, held_inside, of_map_entry, of_rule_entry, wanted_entries, wanted_entry, wanted_in, wanted_one}
 use Rattle.cddl_reached.proofs.Answering.{Trees, all_in, answer_of, each_in, in_all, in_each, wanted_answer}
 use Rattle.cddl_reached.proofs.Lists.{IsIn, contained_place, contains, is_in, one_of}
 use Rattle.cddl_reached.proofs.Reaching.{Laws, instance_of, ref_of_instance}

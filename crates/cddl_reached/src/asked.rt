@@ -173,7 +173,15 @@ pub(crate) fn ask_part<'s>(
     answers_grow();
     let row = read_node(terms, tree, part.node)?;
     let template = Template::new(alloc, terms, &definition.parameters, row)?;
-    ask_each(alloc, terms, &template, calls, part.at, part.question, asked)
+    ask_each(
+        alloc,
+        terms,
+        &template,
+        calls,
+        part.at,
+        part.question,
+        asked,
+    )
 }
 
 /// Adds the question of the template's row, filled for each of the references.

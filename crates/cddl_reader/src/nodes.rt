@@ -245,11 +245,7 @@ fn read_entries<'s>(
 ///
 /// `NoRoom` where memory is refused, or each number of 32 bits is taken. The table may have grown.
 #[cycle(nodes)]
-pub fn read_entry<'s>(
-    terms: &mut Terms<'s>,
-    tree: &Tree<'s>,
-    entry: &GrpEnt,
-) -> Result<u32, NoRoom>
+pub fn read_entry<'s>(terms: &mut Terms<'s>, tree: &Tree<'s>, entry: &GrpEnt) -> Result<u32, NoRoom>
     ensures grows { Grows terms.old terms.new }
     ensures entry { IfOk result (λ n. IsEntry terms.new n (entry_of (view_grpent (token_of tree.now) entry.now))) }
 {

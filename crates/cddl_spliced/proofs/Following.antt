@@ -1,5 +1,5 @@
 -- What is told of is what is spliced into maps.
-use Rattle.std.proofs.Common.{◌≡◌, ◌≢◌, ◌↔◌, ℕ, zero, suc, ◌+◌, ◌*◌, ◌<◌, ◌≤◌, ◌⊎◌, inl, inr, Bool, true, false, if◌then◌else◌, List, [], ◌∷◌, ◌++◌, length, Option, Some, None, refl, sym, ap, subst, ◌∙◌, slice_get, slice_index_or, arith}
+use Rattle.std.proofs.Common.{◌≡◌, ◌↔◌, ℕ, zero, suc, ◌+◌, ◌*◌, ◌<◌, Bool, true, List, [], ◌∷◌, length, Option, Some, None, refl, sym, ap, subst, ◌∙◌, slice_get, arith}
 use Rattle.std.specs.Prelude.{Contains}
 use Rattle.cddl_token.specs.declared.Token.{Token}
 use Rattle.cddl_syntax.specs.Syntax as S
@@ -7,33 +7,32 @@ use Rattle.cddl_language.specs.Environment.{definitions_of}
 use Rattle.cddl_language.specs.Faults.{Specification, definitions, rules}
 use Rattle.cddl_language.specs.MapFaults as M
 use Rattle.cddl_language.specs.MapFaults.{IsSpliced, StandsAt, closed_entry, entry_at, point_in}
-use Rattle.cddl_language.specs.Reach.{Point, Reaches, at_name, at_unwrapping, body_points, entry_points, group_points, most_instances, ref_at}
-use Rattle.cddl_language.specs.Reading.{body_of, definition_of, group_of, name_in, parameters_in, term_of}
+use Rattle.cddl_language.specs.Reach.{Point, Reaches, at_name, at_unwrapping, body_points, entry_points, group_points, ref_at}
+use Rattle.cddl_language.specs.Reading.{body_of, definition_of, group_of, name_in, parameters_in}
 use Rattle.cddl_language.specs.Sites.{IsInstance, IsReached, a_map as map_site}
 use Rattle.cddl_language.specs.Substitution.{fill_body, fill_group}
-use Rattle.cddl_language.specs.Terms as L
 use Rattle.cddl_language.specs.Terms.{Entry, Ref, Term, Text, arguments_of, name_of}
 use Rattle.implications.specs.declared.Implication.{Implication}
 use Rattle.implications.specs.Implications.{AreFollowing, Follows, concludes}
 use Rattle.cddl_terms.specs.Table.{Table}
-use Rattle.cddl_terms.specs.Trees.{IsEntry, IsRef, entry_tree}
+use Rattle.cddl_terms.specs.Trees.{IsEntry, IsRef}
 use Rattle.cddl_closed.specs.declared.closed.Closed.{Closed}
 use Rattle.cddl_closed.specs.Closed.{AreReached, IsClosed}
 use Rattle.cddl_openings.specs.Endings.{LeadsOn}
 use Rattle.cddl_entries.specs.declared.entry.Holder.{Holder}
 use Rattle.cddl_entries.specs.declared.entry.Holder.TheVariants as HolderV
-use Rattle.cddl_entries.specs.Entries.{bare_types, group_inside, opened_in, opened_inside, rule_inside, some_inside}
-use Rattle.cddl_entries.specs.Spliced.{AreSplicedIn, IsAmongSpliced, IsSplicedPoint, of_a_map, of_a_name, of_an_opening}
+use Rattle.cddl_entries.specs.Entries.{group_inside, opened_in, rule_inside, some_inside}
+use Rattle.cddl_entries.specs.Spliced.{AreSplicedIn, IsAmongSpliced, of_a_map, of_a_name, of_an_opening}
 use Rattle.cddl_reached.specs.declared.asked.Asked.{Asked}
 use Rattle.cddl_reached.specs.declared.asked.Question.TheVariants as QuestionV
-use Rattle.cddl_reached.specs.Asked.{AreEntriesAsked, IsEntryAsked, WasAsked, held_inside, of_map_entry, of_rule_entry}
+use Rattle.cddl_reached.specs.Asked.{AreEntriesAsked, IsEntryAsked, held_inside, of_map_entry, of_rule_entry}
 use Rattle.cddl_spliced.specs.declared.listing.Spliced.{Spliced}
 use Rattle.cddl_spliced.specs.declared.owners.Owner.{Owner}
 use Rattle.cddl_spliced.specs.declared.owners.Owner.TheVariants as OwnerV
 use Rattle.cddl_spliced.specs.declared.owners.Way.{Way}
-use Rattle.cddl_spliced.specs.Spliced.{AreSpliced, AreWays, IsOwner, IsSplicedEntry, IsSplicedOwner, IsTarget, IsWay, WasSpliced, a_map, a_name, an_opening, nowhere, of_map, of_point, somewhere}
-use Rattle.cddl_spliced.specs.Steps.{asked_by, edge, edges_of, fact_of, flagged, is_flagged, named as named_owner, opened as opened_owner, owner_of, place_of}
-use Rattle.cddl_spliced.proofs.Telling.{EdgeParts, FlaggedParts, edge_in, edge_made, edge_parts, fact_same, flag_true, flagged_from, flagged_in, flagged_made, flagged_parts, in_edges, one_place}
+use Rattle.cddl_spliced.specs.Spliced.{AreSpliced, AreWays, IsOwner, IsSplicedEntry, IsSplicedOwner, IsTarget, IsWay, WasSpliced, a_map, a_name, an_opening, of_map, of_point, somewhere}
+use Rattle.cddl_spliced.specs.Steps.{asked_by, edges_of, fact_of, flagged, is_flagged, named as named_owner, opened as opened_owner, owner_of, place_of}
+use Rattle.cddl_spliced.proofs.Telling.{edge_in, edge_made, edge_parts, fact_same, flag_true, flagged_from, flagged_in, flagged_made, flagged_parts, in_edges, one_place}
 use Rattle.cddl_spliced.proofs.Inside.{contains_at, none_in, place_in, points_bare, points_group, points_rule}
 use Rattle.cddl_spliced.proofs.Leading.{placed}
 use Rattle.cddl_spliced.proofs.Standing.{Bare, leads_stand, stand_leads}

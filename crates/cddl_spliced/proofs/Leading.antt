@@ -1,12 +1,11 @@
 -- To whose group an entry leads.
-use Rattle.std.proofs.Common.{◌≡◌, ◌↔◌, ℕ, zero, suc, ◌<◌, Bool, true, false, if◌then◌else◌, List, [], ◌∷◌, Option, Some, None, refl, sym, ap, subst, ◌∙◌, slice_get, arith}
+use Rattle.std.proofs.Common.{◌≡◌, ◌↔◌, ℕ, zero, suc, Bool, true, false, if◌then◌else◌, List, [], ◌∷◌, Option, Some, None, refl, sym, ap, subst, ◌∙◌, slice_get, arith}
 use Rattle.std.specs.Prelude.{Contains}
 use Rattle.cddl_language.specs.Terms as L
 use Rattle.cddl_language.specs.Terms.{Text, Term, literal, number, text, bytes, named, parens, map_of, array_of, unwrapped, choice_of, choice_of_name, tagged, tagged_by, simple_by, hash, range, control, or, Ref, Group, Entry, typed, keyed, grouped, stripped}
 use Rattle.cddl_language.specs.Kinds as K
 use Rattle.cddl_language.specs.Kinds.{Opened, opens_group, opens_type, opened, opened_part, part_of, stripped_part, is_group}
 use Rattle.cddl_language.specs.MapFaults.{point_in, point_of_part}
-use Rattle.cddl_terms.specs.declared.row.Row.{Row}
 use Rattle.cddl_terms.specs.Table.{Table, Tree, nothing, node, Holds, no_part, part}
 use Rattle.cddl_terms.specs.Trees.{IsEntry, IsRef, IsTerm, term_tree}
 use Rattle.cddl_closed.specs.declared.closed.Closed.{Closed}

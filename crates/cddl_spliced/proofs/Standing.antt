@@ -1,13 +1,13 @@
 -- Where the group stands that `~` opens: at the end of its way.
-use Rattle.std.proofs.Common.{◌≡◌, ℕ, Bool, true, false, List, [], ◌∷◌, Some, None, refl, sym, ap, subst, ◌∙◌, true≢false}
+use Rattle.std.proofs.Common.{◌≡◌, false, List, [], ◌∷◌, Some, refl, sym, ap, subst, ◌∙◌, true≢false}
 use Rattle.std.specs.Prelude.{Contains}
 use Rattle.cddl_syntax.specs.Syntax as S
-use Rattle.cddl_language.specs.Environment.{definitions_of, is_in}
+use Rattle.cddl_language.specs.Environment.{definitions_of}
 use Rattle.cddl_language.specs.MapFaults as M
 use Rattle.cddl_language.specs.MapFaults.{IsBare, StandsAt, group_between}
 use Rattle.cddl_language.specs.Reading.{definition_of, definitions_in, name_in, rule_name, term_of}
 use Rattle.cddl_language.specs.Substitution.{fill_ref}
-use Rattle.cddl_language.specs.Terms.{Term, named, Ref, Body, of_types, of_entry, Definition, stripped, name_of, arguments_of}
+use Rattle.cddl_language.specs.Terms.{Term, named, Ref, of_types, Definition, stripped, name_of, arguments_of}
 use Rattle.cddl_openings.specs.Endings.{IsOneType, LeadsOn, at_once, through, is_name}
 use Rattle.cddl_entries.specs.Entries.{bare_types, opened_in}
 use Rattle.cddl_entries.specs.Spliced.{IsBareGroup}

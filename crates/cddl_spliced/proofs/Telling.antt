@@ -8,7 +8,7 @@ use Rattle.cddl_spliced.specs.declared.listing.Spliced.{Spliced}
 use Rattle.cddl_spliced.specs.declared.owners.Owner.{Owner}
 use Rattle.cddl_spliced.specs.declared.owners.Owner.TheVariants as OwnerV
 use Rattle.cddl_spliced.specs.declared.owners.Way.{Way}
-use Rattle.cddl_spliced.specs.Steps.{edge, edges_of, entry_with, fact_holds, fact_of, flag_in, flagged, flagged_entry, implied, is_flagged, owner_of, with_edge, with_entry}
+use Rattle.cddl_spliced.specs.Steps.{edge, edges_of, entry_with, fact_holds, fact_of, flag_in, flagged, flagged_entry, implied, is_flagged, with_edge, with_entry}
 use Rattle.cddl_spliced.proofs.Inside.{at_head, behind, none_in, on_cons}
 
 -- Edges.

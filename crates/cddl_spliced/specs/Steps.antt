@@ -1,5 +1,5 @@
 -- What is done with one entry.
-use Rattle.std.specs.Prelude.{ℕ, ◌+◌, ◌*◌, Bool, true, false, if◌then◌else◌, List, [], ◌∷◌, ◌++◌, Option, Some, None, option_map, slice_get}
+use Rattle.std.specs.Prelude.{ℕ, ◌+◌, ◌*◌, Bool, true, false, if◌then◌else◌, List, [], ◌∷◌, Option, Some, None, slice_get}
 use Rattle.implications.specs.declared.Implication.{Implication}
 use Rattle.cddl_terms.specs.declared.row.Form.{Form}
 use Rattle.cddl_terms.specs.declared.row.Form.TheVariants as F

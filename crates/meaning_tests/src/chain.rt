@@ -87,8 +87,9 @@ fn meant_in<'s>(
     let most = survey.known.len() + survey.definitions.len();
     let openings = openings_of(alloc, terms, &closed, &kinds, most).ok()?;
     let endings = endings_of(alloc, terms, &closed, most).ok()?;
-    let spliced =
-        spliced_entries(alloc, terms, &closed, &kinds, &openings, &endings, &entries).ok()?;
+    let spliced = spliced_entries(
+        alloc, terms, &closed, &kinds, &openings, &endings, &entries,
+    ).ok()?;
     let literals = literals(alloc, terms, &closed, &kinds).ok()?;
     let choosable = choosable(alloc, terms, &closed, &kinds, &openings).ok()?;
     let may_be_empty = may_be_empty(alloc, terms, &closed, &kinds, &openings).ok()?;

@@ -1,9 +1,9 @@
 use crate::chain::Meant;
 use cddl_closed::{Meaning, alternatives, choices, entries};
+use cddl_entries::Holder;
 use cddl_literals::literal_row;
 use cddl_nodes::nodes_of;
 use cddl_openings::{Opening, Part, part_of};
-use cddl_entries::Holder;
 use cddl_reached::{Asked, Question};
 use cddl_recursion::{Node, Order, Ranks, find_order};
 use cddl_spliced::Owner;

@@ -1,4 +1,4 @@
-use Rattle.std.proofs.Common.{subst, sym, ◌∙◌}
+use Rattle.std.proofs.Common.{subst}
 use Rattle.std.proofs.lemmas.Result.{IfOk-weaker}
 use Rattle.chains.specs.Chains.{AreEnds}
 use Rattle.cddl_openings.proofs.Ending.{are_endings}

@@ -1,8 +1,8 @@
-use Rattle.std.proofs.Common.{◌++◌, map, sym, subst}
+use Rattle.std.proofs.Common.{map, sym, subst}
 use Rattle.cddl_terms.specs.Definitions.{AreTexts}
 use Rattle.cddl_terms.specs.Trees.{ref_tree}
 use Rattle.cddl_tree.specs.View.{token_of}
-use Rattle.cddl_reached.specs.Asked.{AreAnswers, node_tree, wanted_each}
+use Rattle.cddl_reached.specs.Asked.{node_tree}
 use Rattle.cddl_reached.proofs.Lists.{on_ok}
 use Rattle.cddl_reached.proofs.asked.ask_part.Goals as goal
 

@@ -7,7 +7,6 @@ use Rattle.cddl_terms.specs.Definitions.{AreDefinitions}
 use Rattle.cddl_survey.specs.Survey.{defined_in}
 use Rattle.cddl_tree.specs.View.{token_of}
 use Rattle.cddl_entries.specs.Entries.{AreEntries}
-use Rattle.cddl_reached.specs.Asked.{AreAnswers, wanted_entries}
 use Rattle.cddl_reached.proofs.Answering.{Trees}
 use Rattle.cddl_reached.proofs.Placing.{entries_are_asked}
 use Rattle.cddl_reached.proofs.Reaching.{Laws, are_ready}

@@ -1,4 +1,4 @@
-use Rattle.std.proofs.Common.{◌≤◌, ◌+◌, drop, drop_of_length-le, length, refl, sym, subst, arith}
+use Rattle.std.proofs.Common.{◌≤◌, ◌+◌, drop, drop_of_length-le, length, sym, subst, arith}
 use Rattle.cddl_reached.specs.declared.asked.Question.TheVariants as QuestionV
 use Rattle.cddl_spliced.specs.Spliced.{IsWay}
 use Rattle.cddl_spliced.proofs.Walking.{IsGoing, all_gone, next_gone, none_gone}
