@@ -17,7 +17,6 @@ ghost use Rattle.cddl_map_faults.specs.Large.{AreFlags, HasLarge, HasPartFaults,
 
 use crate::large::{having_large, is_set, large_parts};
 use cddl_splices::laws::{groups_occur_alike, parts_stand_for_choices, parts_stand_for_entries};
-use splices::laws::all_described;
 use splices::{Part, Summary, occurs_badly};
 use std::alloc::{AllocError, Global};
 

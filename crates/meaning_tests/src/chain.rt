@@ -10,15 +10,18 @@ use cddl_instances::{Found, Instance, instances};
 use cddl_kinds::{Kinds, kinds_of};
 use cddl_literals::literals;
 use cddl_live_sites::live_sites;
+use cddl_map_faults::{MapFaults, map_faults};
 use cddl_openings::{Opening, endings_of, openings_of};
 use cddl_parse::{parse, tokens_end};
 use cddl_reached::{Asked, entry_questions, questions, reached_sites};
 use cddl_rule_faults::root_of;
 use cddl_spliced::{Spliced, spliced_entries};
+use cddl_splices::parts_of;
 use cddl_survey::{Survey, survey_of};
 use cddl_terms::Terms;
 use cddl_token::{Token, tokens};
 use cddl_tree::{Tree, discard};
+use splices::summaries;
 use std::alloc::Global;
 
 /// What is known of the instances of a text.
@@ -33,6 +36,7 @@ pub(crate) struct Meant {
     pub spliced: Vec<Spliced>,
     pub literals: Vec<Option<u32>>,
     pub choosable: Vec<bool>,
+    pub map_faults: Vec<MapFaults>,
     pub may_be_empty: Vec<bool>,
 }
 
@@ -74,6 +78,19 @@ fn kinds_in(alloc: Global, terms: &Terms<'_>, survey: &Survey<'_>) -> Option<Kin
     kinds_of(alloc, terms, &names, &survey.known, &survey.definitions).ok()
 }
 
+/// What is wrong in the groups of maps.
+fn map_faults_in(
+    alloc: Global,
+    terms: &Terms<'_>,
+    closed: &Closed,
+    kinds: &Kinds,
+    openings: &[Opening],
+) -> Option<Vec<MapFaults>> {
+    let parts = parts_of(alloc, terms, closed, kinds, openings).ok()?;
+    let summaries = summaries(alloc, &parts).ok()?;
+    map_faults(alloc, &parts, &summaries).ok()
+}
+
 fn meant_in<'s>(
     alloc: Global,
     terms: &mut Terms<'s>,
@@ -92,6 +109,7 @@ fn meant_in<'s>(
     ).ok()?;
     let literals = literals(alloc, terms, &closed, &kinds).ok()?;
     let choosable = choosable(alloc, terms, &closed, &kinds, &openings).ok()?;
+    let map_faults = map_faults_in(alloc, terms, &closed, &kinds, &openings)?;
     let may_be_empty = may_be_empty(alloc, terms, &closed, &kinds, &openings).ok()?;
     Some(Meant {
         found,
@@ -103,6 +121,7 @@ fn meant_in<'s>(
         spliced,
         literals,
         choosable,
+        map_faults,
         may_be_empty,
     })
 }

@@ -18,6 +18,12 @@ literals | 5/true | a = (5)
 literals | -/true | a = 5 / 6
 chooses | yes yes | a = &(g) g = (x: 1, y: 2)
 chooses | yes no | a = [&g] g = (? 1)
+maps | k k. | a = {g} g = (1, y: 2)
+maps | k o. ... | a = {g} g = (* h, y: 2) h = (x: 1, y: 1 // z: 1)
+maps | k o. kk | a = {g} g = (2*3 h, x: 1) h = (1, 1)
+maps | k ......... .. | a = {g} g = (h, h, h, h, h, h, h, h, h) h = (x: 1 // y: 1)
+maps | k ..........! .. | a = {g} g = (h, h, h, h, h, h, h, h, h, h) h = (x: 1 // y: 1)
+maps | k ........... - .. | a = {g} g = (h, h, h, h, h, h, h, h, h, h, $$s) h = (x: 1 // y: 1)
 empty | no yes | a = [g] g = (? 1 // 2)
 order | down down | a = [* b] b = #
 order | round round | a = b b = a

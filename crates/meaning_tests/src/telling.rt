@@ -38,6 +38,7 @@ fn word_of(
         "groups" => group_of(alloc, terms, meaning),
         "parts" => part_in(alloc, terms, meant, meaning),
         "literals" => literal_in(alloc, terms, meant, meaning),
+        "maps" => wrong_in(alloc, terms, meant, meaning),
         "chooses" => flag_in(alloc, &meant.choosable, meaning.group),
         _ => flag_in(alloc, &meant.may_be_empty, meaning.group),
     }
@@ -94,6 +95,31 @@ fn group_of(alloc: Global, terms: &Terms<'_>, meaning: &Meaning) -> Option<Strin
     let count = rows.len();
     let inner = entries(alloc, terms, *rows.first()?).ok()?.len();
     format!(in alloc; "{count}/{inner}").ok()
+}
+
+/// What is wrong in a map with each entry of the instance's alternatives, and whether its group has too many.
+fn wrong_in(alloc: Global, terms: &Terms<'_>, meant: &Meant, meaning: &Meaning) -> Option<String> {
+    let Some(group) = meaning.group else {
+        return text_in(alloc, "-");
+    };
+    let mut word = String::new(alloc);
+    for row in &alternatives(alloc, terms, group).ok()? {
+        for entry in &entries(alloc, terms, *row).ok()? {
+            word.push_str(wrong_with(meant, *entry)).ok()?;
+        }
+    }
+    if meant.map_faults.get(group as usize)?.has_too_many {
+        word.push_str("!").ok()?;
+    }
+    Some(word)
+}
+
+fn wrong_with(meant: &Meant, entry: u32) -> &'static str {
+    match meant.map_faults.get(entry as usize) {
+        Some(faults) if faults.lacks_key => "k",
+        Some(faults) if faults.occurs_badly => "o",
+        _ => ".",
+    }
 }
 
 fn of_openings(alloc: Global, meant: &Meant) -> Option<String> {
