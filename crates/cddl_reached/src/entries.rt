@@ -1,7 +1,7 @@
 //! What is asked of entries of the text, in each instance.
 
 ghost use Rattle.std.specs.Prelude.{◌≡◌, ◌++◌, IfOk, List, OnOk};
-ghost use Rattle.cddl_language.specs.Faults.{Specification, definitions, rules};
+ghost use Rattle.cddl_language.specs.Faults.{Specification, definitions as definitions_of_text, rules};
 ghost use Rattle.cddl_language.specs.StandsFor.{AreInstances};
 ghost use Rattle.cddl_language.specs.Terms.{Ref, Text};
 ghost use Rattle.cddl_environment.specs.Places.{lists};
@@ -9,20 +9,19 @@ ghost use Rattle.cddl_instances.specs.Found.{AreFound};
 ghost use Rattle.cddl_live.specs.Live.{IsClear};
 ghost use Rattle.cddl_reached.specs.Asked.{AreAnswers, AreEntriesAsked, AreReady, Wanted, wanted_entries, wanted_entry};
 ghost use Rattle.cddl_reached.specs.Reached.{AreReachedSites};
-ghost use Rattle.cddl_survey.specs.Survey.{IsSurvey};
 ghost use Rattle.cddl_syntax.specs.Syntax.{Rule};
+ghost use Rattle.cddl_terms.specs.Definitions.{AreDefinitions};
 ghost use Rattle.cddl_terms.specs.Table.{Grows};
 ghost use Rattle.cddl_tree.specs.View.{token_of, view};
 
 use crate::asked::{Asked, ask_part, definition_at};
 use crate::calls::{calls_by_name, calls_of};
-use crate::laws::answers_grow;
+use crate::laws::{answers_grow, is_table};
 use crate::parts::entry_part;
 use cddl_entries::{TextEntry, entries};
 use cddl_instances::Instance;
 use cddl_live::reached_sites as reached_sites_are_live;
 use cddl_sites::Found;
-use cddl_survey::Survey;
 use cddl_terms::laws::filled_trees;
 use cddl_terms::{Definition, NoRoom, Terms};
 use cddl_tree::Tree;
@@ -31,18 +30,19 @@ use std::alloc::Global;
 /// What is asked of the entries of each map that is reached, and of those of each rule's own group and of the map or the array
 /// that its body is: in each instance. So each entry that is spliced into a map is among them.
 ///
-/// It costs the entries times the instances of their rule, as `questions` does. An error comes where memory is refused, or each
+/// The definitions are those of the text, the sites those that are reached, and the instances those of the root. It costs the
+/// entries times the instances of their rule, as `questions` does. An error comes where memory is refused, or each
 /// number of 32 bits is taken; then some rows may have been added. It may come, too, where a number is not of this table.
 pub fn entry_questions<'s, 't>(
     alloc: Global,
     terms: &mut Terms<'s>,
     tree: &'t Tree<'s>,
-    survey: &Survey<'_>,
+    definitions: &[Definition],
     reached: &[Found<'t>],
     found: &[Instance],
 ) -> Result<Vec<Asked>, NoRoom>
     ensures grows { Grows terms.old terms.new }
-    ensures asked { IfOk result (λ v. (s : Specification) (root : Text) (refs : List Ref) → s.tree ≡ view tree.now → IsClear s → IsSurvey terms.old tree.now survey.now → AreReachedSites (rules s) root (token_of tree.now) reached.now → AreInstances (definitions s) root refs → AreFound (definitions s) terms.old found.now refs → AreEntriesAsked (rules s) root terms.new v.items) }
+    ensures asked { IfOk result (λ v. (s : Specification) (root : Text) (refs : List Ref) → s.tree ≡ view tree.now → IsClear s → AreDefinitions terms.old definitions.now (definitions_of_text s) → AreReachedSites (rules s) root (token_of tree.now) reached.now → AreInstances (definitions_of_text s) root refs → AreFound (definitions_of_text s) terms.old found.now refs → AreEntriesAsked (rules s) root terms.new v.items) }
 {
     reached_sites_are_live();
     filled_trees();
@@ -52,7 +52,8 @@ pub fn entry_questions<'s, 't>(
     let Ok(calls) = calls_by_name(alloc, terms, found) else {
         return Err(NoRoom);
     };
-    ask_entries(alloc, terms, tree, &survey.definitions, &calls, &listed)
+    is_table(terms);
+    ask_entries(alloc, terms, tree, definitions, &calls, &listed)
 }
 
 fn ask_entries<'s>(

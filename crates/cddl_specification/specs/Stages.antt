@@ -20,18 +20,23 @@ use Rattle.cddl_live.specs.Live.{IsClear}
 use Rattle.cddl_check.specs.Codes.{text_codes}
 use Rattle.cddl_check.specs.First.{IsFirst}
 use Rattle.cddl_instances.specs.Found.{AreFound}
-use Rattle.cddl_reached.specs.Asked.{AreAsked}
+use Rattle.cddl_reached.specs.Asked.{AreAsked, AreEntriesAsked}
 use Rattle.cddl_reached.specs.Reached.{AreReachedSites}
 use Rattle.cddl_closed.specs.Closed.{IsClosed}
 use Rattle.cddl_openings.specs.Openings.{AreOpenings}
 use Rattle.cddl_literals.specs.Literals.{AreLiterals}
 use Rattle.cddl_choosing.specs.Choosing.{AreChoosable}
+use Rattle.cddl_language.specs.MapFaults.{HasMapShape, HasNoKey, HasTooManyAlternatives}
+use Rattle.splices.specs.Summaries.{AreSummaries}
+use Rattle.cddl_splices.specs.Parts.{AreParts}
 use Rattle.cddl_reached_faults.specs.Unwrapping.{OpensWrongly}
 use Rattle.cddl_specification.specs.declared.closing.Meant.{Meant}
 use Rattle.cddl_specification.specs.declared.finding.Instanced.{Instanced}
+use Rattle.cddl_specification.specs.declared.mapping.MapFaults.{MapFaults}
 use Rattle.cddl_specification.specs.declared.questioning.Naming.{Naming}
 use Rattle.cddl_specification.specs.declared.questioning.Questions.{Questions}
 use Rattle.cddl_specification.specs.declared.reading.Reading.{Reading}
+use Rattle.cddl_specification.specs.declared.splicing.Splices.{Splices}
 
 -- The specification has this tree, of tokens, and this name as its root, and the values are right for it.
 pub record IsGiven (s : Specification) (worth : Values) (x : Tree) (name : Option Text) : Type 0 where
@@ -72,6 +77,7 @@ pub record IsNamed (s : Specification) (t : Table) (v : Survey) (x : Naming) : T
 pub record IsAsking (s : Specification) (root : Text) (t : Table) (v : Survey) (x : Questions) : Type 0 where
   pub named : IsNamed s t v x.naming
   pub asked : AreAsked (rules s) root t x.asked.items
+  pub entries : AreEntriesAsked (rules s) root t x.entries.items
   pub opens : IsLeast (OpensWrongly s root) x.opens
 
 -- What the instances mean, open, write, and may be chosen from.
@@ -81,6 +87,23 @@ pub record IsMeant (s : Specification) (root : Text) (refs : List Ref) (t : Tabl
   pub literals : AreLiterals (definitions s) t refs x.literals.items
   pub choosable : AreChoosable (definitions s) root t x.choosable.items
 
+-- What the groups in maps stand for.
+pub record AreSplices (s : Specification) (root : Text) (t : Table) (x : Splices) : Type 0 where
+  pub parts : AreParts (definitions s) root t x.parts.items
+  pub summaries : AreSummaries x.parts.items x.summaries.items
+
+-- The least offsets of what is wrong in maps.
+pub record AreMapFaults (s : Specification) (root : Text) (x : MapFaults) : Type 0 where
+  pub no_key : IsLeast (HasNoKey (rules s) root) x.no_key
+  pub shape : IsLeast (HasMapShape (rules s) root) x.shape
+  pub too_many : IsLeast (HasTooManyAlternatives (rules s) root) x.too_many
+
+-- Nothing is wrong in maps.
+pub record AreFlat (s : Specification) (root : Text) : Type 0 where
+  pub keyed : IsLeast (HasNoKey (rules s) root) None
+  pub shaped : IsLeast (HasMapShape (rules s) root) None
+  pub few : IsLeast (HasTooManyAlternatives (rules s) root) None
+
 -- All of this, for a text in which nothing is wrong.
 pub record IsReading (s : Specification) (worth : Values) (root : Text) (refs : List Ref) (t : Table) (tree : Tree) (x : Reading) : Type 0 where
   pub right : IsRight s worth
@@ -88,3 +111,4 @@ pub record IsReading (s : Specification) (worth : Values) (root : Text) (refs : 
   pub number : slice_get t.texts x.instanced.root ≡ Some root
   pub asking : IsAsking s root t x.survey x.questions
   pub meant : IsMeant s root refs t x.meant
+  pub splices : AreSplices s root t x.splices

@@ -1,6 +1,6 @@
 //! What is wrong with what the root reaches.
 
-ghost use Rattle.std.specs.Prelude.{◌≡◌, IfErr, IfOk, List};
+ghost use Rattle.std.specs.Prelude.{◌≡◌, IfErr, IfOk, List, None, OnOk};
 ghost use Rattle.cddl_language.specs.Faults.{HasBadRange, HasNotUnwrappable, HasRecursion, IsAccepted, Specification, definitions};
 ghost use Rattle.cddl_language.specs.Literals.{AreRight, AreTokens, Values};
 ghost use Rattle.cddl_language.specs.Terms.{Ref, Text};
@@ -10,9 +10,10 @@ ghost use Rattle.cddl_survey.specs.Least.{IsLeast};
 ghost use Rattle.cddl_tree.specs.View.{view};
 ghost use Rattle.cddl_tree.specs.declared.tree.Tree.{Tree as Trees};
 ghost use Rattle.cddl_specification.specs.Outcome.{IsStopped};
-ghost use Rattle.cddl_specification.specs.Stages.{IsReading};
+ghost use Rattle.cddl_specification.specs.Stages.{AreFlat, IsReading};
 ghost use Rattle.cddl_specification.specs.declared.unread.Unread.TheVariants as Why;
 
+use crate::mapping::faults_of_maps;
 use crate::reading::Reading;
 use crate::unread::{Unread, refused};
 use cddl_check::laws::root_faults_are_told;
@@ -48,8 +49,28 @@ pub(crate) fn ranks_of(
     if let Some(at) = range_of(terms, tree, reading) {
         return Err(refused(Code::BadRange, at));
     }
+    splice_maps(alloc, terms, reading)?;
     let ranks = ranks_in(order)?;
     Ok(ranks)
+}
+
+/// Nothing, where nothing is wrong in the groups of maps; or the first fault there, where none of a lower code stands.
+fn splice_maps(alloc: Global, terms: &Terms<'_>, reading: &Reading<'_>) -> Result<(), Unread>
+    ensures flat { OnOk result ((s : Specification) (worth : Values) (tree : Trees) (root : Text) (refs : List Ref) → IsReading s worth root refs terms.now tree reading.now → AreFlat s root) }
+    ensures stopped { IfErr result (λ e. (s : Specification) (worth : Values) (tree : Trees) (root : Text) (refs : List Ref) → IsReading s worth root refs terms.now tree reading.now → IsLeast (HasNotUnwrappable s root) None → IsLeast (HasRecursion s root) None → IsLeast (HasBadRange s worth root) None → IsStopped s worth e) }
+{
+    root_faults_are_told();
+    let maps = faults_of_maps(alloc, terms, reading)?;
+    if let Some(at) = maps.no_key {
+        return Err(refused(Code::NoKey, at));
+    }
+    if let Some(at) = maps.shape {
+        return Err(refused(Code::MapShape, at));
+    }
+    if let Some(at) = maps.too_many {
+        return Err(refused(Code::TooManyAlternatives, at));
+    }
+    Ok(())
 }
 
 /// The ranks of an order in which nothing comes back to itself.

@@ -4,10 +4,12 @@
 mod closing;
 mod faults;
 mod finding;
+mod mapping;
 mod outcome;
 mod questioning;
 mod reading;
 mod specification;
+mod splicing;
 mod tabling;
 mod text;
 mod unread;

@@ -20,12 +20,12 @@ pub enum Outcome {
     Accepted(Table),
     /// Its first fault.
     Refused(Fault),
-    /// The offset in bytes of a map or of a control, which this version reads and does not take.
+    /// The offset in bytes of a control, which this version reads and does not take.
     NotYet(usize),
 }
 
 /// What is told of the specification of this tree (RFC 8610): its table; or of the lowest code that stands anywhere the least
-/// offset; or, before that, the least offset of a map or of a control that is known. Its root is the given name, or the first
+/// offset; or, before that, the least offset of a control that is known. Its root is the given name, or the first
 /// rule's. The tree is one of tokens, as `cddl_parse` makes it.
 ///
 /// The time and the memory are those of the stages together: n log n for a text of n bytes until the instances are known, of

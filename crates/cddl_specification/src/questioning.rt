@@ -15,7 +15,8 @@ use crate::finding::Instanced;
 use crate::unread::Unread;
 use cddl_environment::{Name, names};
 use cddl_kinds::{Kinds, kinds_of};
-use cddl_reached::{Asked, questions};
+use cddl_reached::laws::{instances_grow, questions_grow};
+use cddl_reached::{Asked, entry_questions, questions};
 use cddl_reached_faults::not_unwrapped;
 use cddl_survey::Survey;
 use cddl_terms::Terms;
@@ -33,8 +34,10 @@ pub(crate) struct Naming {
 /// What is asked of at the sites that the root reaches.
 #[derive(Drop)]
 pub(crate) struct Questions {
-    /// What is asked of `&` and of ranges.
+    /// What is asked of `&`, of ranges and of maps.
     pub asked: Vec<Asked>,
+    /// What is asked of the entries that may be spliced into maps.
+    pub entries: Vec<Asked>,
     /// The least offset of `~` that opens nothing, or a group where a type is demanded.
     pub opens: Option<usize>,
     /// The names of the table after it grew.
@@ -54,6 +57,8 @@ pub(crate) fn ask<'s>(
     ensures memory { IfErr result (λ e. e ≡ Why.Memory) }
 {
     growing_keeps();
+    instances_grow();
+    questions_grow();
     let opens = not_unwrapped(alloc, terms, tree, survey, &instanced.reached)?;
     let asked = questions(
         alloc,
@@ -63,9 +68,18 @@ pub(crate) fn ask<'s>(
         &instanced.reached,
         &instanced.instances,
     )?;
+    let entries = entry_questions(
+        alloc,
+        terms,
+        tree,
+        &survey.definitions,
+        &instanced.reached,
+        &instanced.instances,
+    )?;
     let naming = naming_of(alloc, terms, survey)?;
     Ok(Questions {
         asked,
+        entries,
         opens,
         naming,
     })

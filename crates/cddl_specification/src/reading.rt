@@ -12,9 +12,10 @@ ghost use Rattle.cddl_specification.specs.Stages.{IsGiven, IsReading};
 use crate::closing::{Meant, close_instances};
 use crate::finding::{Instanced, find_instances};
 use crate::questioning::{Questions, ask};
+use crate::splicing::{Splices, splices_of};
 use crate::text::clear_text;
 use crate::unread::Unread;
-use cddl_reached::laws::{instances_grow, questions_grow};
+use cddl_reached::laws::{entry_questions_grow, instances_grow, questions_grow};
 use cddl_survey::Survey;
 use cddl_terms::Terms;
 use cddl_terms::laws::growing_keeps;
@@ -28,6 +29,7 @@ pub(crate) struct Reading<'t> {
     pub instanced: Instanced<'t>,
     pub questions: Questions,
     pub meant: Meant,
+    pub splices: Splices,
 }
 
 /// What is found of a specification in whose text nothing is wrong, and whose root has no more instances than may be.
@@ -43,16 +45,19 @@ pub(crate) fn read_tree<'s, 't>(
     growing_keeps();
     instances_grow();
     questions_grow();
+    entry_questions_grow();
     let survey = clear_text(alloc, terms, tree, given)?;
     let instanced = find_instances(alloc, terms, tree, &survey, given)?;
     let questions = ask(alloc, terms, tree, &survey, &instanced)?;
     let most = survey.known.len() + survey.definitions.len();
     let kinds = &questions.naming.kinds;
     let meant = close_instances(alloc, terms, &instanced.instances, kinds, most)?;
+    let splices = splices_of(alloc, terms, kinds, &meant)?;
     Ok(Reading {
         survey,
         instanced,
         questions,
         meant,
+        splices,
     })
 }

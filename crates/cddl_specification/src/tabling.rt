@@ -17,6 +17,7 @@ use crate::reading::{Reading, read_tree};
 use crate::unread::Unread;
 use cddl_check::laws::root_is_type;
 use cddl_compile::{Unmade, table_of};
+use cddl_nodes::Source;
 use cddl_recursion::Ranks;
 use cddl_table::Table;
 use cddl_terms::Terms;
@@ -51,18 +52,16 @@ fn table_from(
 {
     root_is_type();
     let meant = &reading.meant;
-    let made = table_of(
-        alloc,
-        terms,
-        &meant.closed,
-        &reading.questions.naming.kinds,
-        &meant.openings,
-        &meant.literals,
-        &meant.choosable,
-        ranks,
-        reading.instanced.root,
-    );
-    match made {
+    let source = Source {
+        closed: &meant.closed,
+        kinds: &reading.questions.naming.kinds,
+        openings: &meant.openings,
+        literals: &meant.literals,
+        choosable: &meant.choosable,
+        parts: &reading.splices.parts,
+        summaries: &reading.splices.summaries,
+    };
+    match table_of(alloc, terms, &source, ranks, reading.instanced.root) {
         Ok(table) => Ok(table),
         Err(why) => Err(unmade(why)),
     }

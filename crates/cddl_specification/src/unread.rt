@@ -16,7 +16,7 @@ pub enum Unread {
     Memory,
     /// What is wrong, and where.
     Refused(Fault),
-    /// The offset in bytes of a map or of a control, which this version reads and does not take.
+    /// The offset in bytes of a control, which this version reads and does not take.
     NotYet(usize),
 }
 

@@ -67,7 +67,7 @@ fn asked_in<'s>(
     let live = live_sites(alloc, terms, tree, survey).ok()?;
     let reached = reached_sites(alloc, terms, survey, &live, found).ok()?;
     let asked = questions(alloc, terms, tree, survey, &reached, found).ok()?;
-    let entries = entry_questions(alloc, terms, tree, survey, &reached, found).ok()?;
+    let entries = entry_questions(alloc, terms, tree, &survey.definitions, &reached, found).ok()?;
     Some((asked, entries))
 }
 
