@@ -52,9 +52,7 @@ pub fn coming_back(
     let Some(layout) = layout else {
         return Err(AllocError);
     };
-    let targets = targets_of(
-        alloc, terms, closed, kinds, openings, endings, layout.parts,
-    )?;
+    let targets = targets_of(alloc, terms, closed, kinds, openings, endings, layout.parts)?;
     let edges = edges_of(alloc, layout, &parts, &targets, spliced)?;
     marked(alloc, layout, &edges)
 }

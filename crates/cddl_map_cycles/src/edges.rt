@@ -1,7 +1,7 @@
 //! The edges of the graph: to the parts of a row, to the group to which an entry leads, from an owner to the entries in its
 //! group, and from these to their rows.
 
-ghost use Rattle.std.specs.Prelude.{◌≡◌, ◌++◌, IfOk, option_map, slice_get};
+ghost use Rattle.std.specs.Prelude.{◌≡◌, ◌++◌, IfOk, slice_get};
 ghost use Rattle.cddl_map_cycles.specs.Edges as by;
 
 use crate::layout::Layout;
@@ -49,10 +49,16 @@ fn push_row(
 ) -> Result<(), AllocError>
     ensures { IfOk result (λ _. edges.new.items ≡ edges.old.items ++ by.part_edges layout targets.now row (slice_get parts.now row)) }
 {
-    match parts.get(row as usize) {
-        Some(part) => push_part(edges, layout, targets, row, *part),
-        None => Ok(()),
-    }
+    let Some(part) = part_at(parts, row) else {
+        return Ok(());
+    };
+    push_part(edges, layout, targets, row, part)
+}
+
+fn part_at(parts: &[Part], row: u32) -> Option<Part>
+    ensures { result ≡ slice_get parts.now row }
+{
+    parts.get(row as usize).copied()
 }
 
 /// The edges from a row with this part.
@@ -110,10 +116,16 @@ fn push_entry(
 ) -> Result<(), AllocError>
     ensures { IfOk result (λ _. edges.new.items ≡ edges.old.items ++ by.entry_edges layout place (slice_get spliced.now place)) }
 {
-    match spliced.get(place as usize) {
-        Some(entry) => push_owned(edges, layout, layout.entry(place), *entry),
-        None => Ok(()),
-    }
+    let Some(entry) = entry_at(spliced, place) else {
+        return Ok(());
+    };
+    push_owned(edges, layout, layout.entry(place), entry)
+}
+
+fn entry_at(spliced: &[Spliced], place: u32) -> Option<Spliced>
+    ensures { result ≡ slice_get spliced.now place }
+{
+    spliced.get(place as usize).copied()
 }
 
 /// The edges to and from the node of an entry, if it does not stand in a map's own group.

@@ -10,11 +10,7 @@ use cycles::{Edge, Order, order_of};
 use std::alloc::{AllocError, Global};
 
 /// For each entry of the list whether its node is on a cycle of these edges.
-pub(crate) fn marked(
-    alloc: Global,
-    layout: Layout,
-    edges: &[Edge],
-) -> Result<Vec<bool>, AllocError>
+pub(crate) fn marked(alloc: Global, layout: Layout, edges: &[Edge]) -> Result<Vec<bool>, AllocError>
     ensures { IfOk result (λ v. AreMarked layout edges.now v.items) }
 {
     ranks_or_cycles();
