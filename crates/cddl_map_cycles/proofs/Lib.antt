@@ -1,2 +1,5 @@
 mod Growing
 mod Lists
+mod Owners
+mod Rows
+mod Ways
