@@ -1,10 +1,10 @@
 -- The node of an entry leads back to itself just where the entry leads back to a reference in whose group it stands.
-use Rattle.std.proofs.Common.{◌≡◌, ◌↔◌, ◌⊎◌, inl, inr, ℕ, suc, ◌+◌, ◌*◌, ◌<◌, ◌≤◌, List, [], ◌∷◌, ◌++◌, length, Bool, true, Option, Some, None, refl, sym, ap, subst, ◌∙◌, arith, slice_get}
+use Rattle.std.proofs.Common.{◌≡◌, ◌⊎◌, inl, inr, ℕ, suc, ◌+◌, ◌*◌, ◌<◌, ◌≤◌, List, [], ◌∷◌, ◌++◌, length, Bool, Option, Some, refl, sym, ap, subst, ◌∙◌, arith, slice_get}
 use Rattle.std.specs.Prelude.{Contains}
 use Rattle.cycles.specs.Graph.{LeadsOn}
 use Rattle.cddl_language.specs.Terms.{Text, Ref, Group, sole, orelse, Entries, no_entries, entries, Entry, Definition, alternatives, lone}
 use Rattle.cddl_language.specs.Kinds.{Opened, opened_in}
-use Rattle.cddl_language.specs.MapFaults.{entries_of, group_in, point_in, IsSplicedInto, its_own, further, LeadsTo, by_itself, by_group}
+use Rattle.cddl_language.specs.MapFaults.{entries_of, group_in, point_in, IsSplicedInto, its_own, LeadsTo, by_itself, by_group}
 use Rattle.cddl_language.specs.Reach.{Point, group_points, entries_points, entry_points}
 use Rattle.cddl_terms.specs.Table.{Table, Tree, Holds}
 use Rattle.cddl_terms.specs.Trees.{IsGroup, IsEntries, IsEntry, group_tree, entries_tree, entry_tree}
@@ -16,14 +16,13 @@ use Rattle.splices.specs.Splices.{Has, has_same, has_first, has_second, has_one,
 use Rattle.cddl_splices.specs.Parts.{IsOf, no_choices, choices_of, IsPartOfGroup, of_sole, of_orelse, IsPartOfEntries, of_none, of_more, AreParts}
 use Rattle.cddl_spliced.specs.declared.listing.Spliced.{Spliced}
 use Rattle.cddl_spliced.specs.declared.owners.Owner.{Owner}
-use Rattle.cddl_spliced.specs.declared.owners.Owner.TheVariants as OwnerV
 use Rattle.cddl_spliced.specs.Spliced.{IsOwner, IsTarget, a_name, an_opening, somewhere}
 use Rattle.cddl_map_cycles.specs.declared.layout.Layout.{Layout}
 use Rattle.cddl_map_cycles.specs.Coming.{AreComingBack, AreMarked, AreTargets, LeadsBack}
 use Rattle.cddl_map_cycles.specs.Edges.{nodes, entry_node, owner_node}
 use Rattle.cddl_map_cycles.proofs.Lists.{same_some, within}
-use Rattle.cddl_map_cycles.proofs.Owners.{AreOnce, HasGroup, one_group, one_owner, point_group, none_is_some}
-use Rattle.cddl_map_cycles.proofs.Rows.{IsGroupAt, refused_at, keyed_at, group_at, deeper, group_there, group_told, in_choices, in_earlier, in_last, in_last_choice, in_lone, left, node_within, of_within, right, row_inside, row_within, spliced_row, wider}
+use Rattle.cddl_map_cycles.proofs.Owners.{AreOnce, HasGroup, one_owner, point_group}
+use Rattle.cddl_map_cycles.proofs.Rows.{IsGroupAt, refused_at, keyed_at, group_at, deeper, group_there, group_told, in_choices, in_earlier, in_last, in_last_choice, in_lone, left, node_within, of_within, right, row_inside, spliced_row, wider}
 use Rattle.cddl_map_cycles.proofs.Ways.{Link, Step, to_part, to_owner, to_entry, to_row, Way, arrived, onward, edges, join, leads_on, one_owner_node, owner_behind, way_of}
 
 abbrev pub More : List Definition → Type 0
@@ -283,15 +282,16 @@ module _ (xs : List Definition) (root : Text) (t : Table) (refs : List Ref) (mor
         let row_low = row_inside xs root t parts are x.row (entry_tree e) h in
         let way = back_way x.owner b.reference o.0 x.row e b.owns o.1 o.2 h r b.back in
         leads_on l parts targets spliced
-          (record { step = to_row is_entry there o.1; begins = is_node; ends = node_within xs root t parts are l all targets spliced x.row row_low })
-          (join l parts targets spliced way (onward (record { step = to_entry is_entry there o.1; begins = o.2; ends = is_node }) arrived))
+        (record { step = to_row is_entry there o.1; begins = is_node; ends = node_within xs root t parts are l all targets spliced x.row row_low })
+        (join l parts targets spliced way (onward (record { step = to_entry is_entry there o.1; begins = o.2; ends = is_node }) arrived))
 
     pub are_coming_back : (flags : List Bool) → AreMarked l (edges l parts targets spliced) flags → AreComingBack xs root t refs spliced flags
     are_coming_back flags marked = record {
       all = marked.all ∙ entries_all;
       each = λ i x e there h r. (
         (λ f. leads_back i x there ((marked.each i (low i x there)).0 f) e h r),
-        (λ b. (marked.each i (low i x there)).1 (has_way_back i x there e h r b)));
+        (λ b. (marked.each i (low i x there)).1 (has_way_back i x there e h r b)),
+      );
     }
       where
         low : (i : ℕ) (x : Spliced) → slice_get spliced i ≡ Some x → i < l.entries

@@ -1,16 +1,16 @@
 -- A reference has one owner, and an owner one group.
-use Rattle.std.proofs.Common.{◌≡◌, ◌≢◌, ℕ, zero, suc, ◌<◌, ◌⊎◌, inl, inr, Bool, true, false, if◌then◌else◌, List, [], ◌∷◌, length, Option, Some, None, refl, sym, ap, subst, ◌∙◌, slice_get, slice_index_or, true≢false, arith}
+use Rattle.std.proofs.Common.{◌≡◌, ◌≢◌, ℕ, zero, suc, ◌<◌, ◌⊎◌, inl, inr, Bool, true, false, if◌then◌else◌, List, [], ◌∷◌, Option, Some, None, refl, sym, ap, subst, ◌∙◌, slice_get, slice_index_or, true≢false, arith}
 use Rattle.std.specs.Prelude.{AllPairs}
 use Rattle.cddl_language.specs.Environment.{definitions_of, is_in, is_group_socket, most_names}
 use Rattle.cddl_language.specs.Kinds.{Opened, opens_group, opens_type, opened, opened_body, opened_by, opened_in, opened_part, opened_term, Part, asks_type, names_group, opens, part_of, stripped_part, is_group}
 use Rattle.cddl_language.specs.MapFaults.{group_in, group_of_part, point_in, point_of_part}
 use Rattle.cddl_language.specs.Reach.{Point, at_name, at_unwrapping}
 use Rattle.cddl_language.specs.Substitution.{fill_ref, group_choices}
-use Rattle.cddl_language.specs.Terms.{Text, Term, literal, named, parens, map_of, array_of, unwrapped, choice_of, choice_of_name, tagged, tagged_by, simple_by, hash, range, control, or, Ref, call, Group, Entries, Entry, typed, keyed, grouped, Body, of_types, of_entry, Definition, alternatives, arguments_of, name_of, stripped, term_list}
+use Rattle.cddl_language.specs.Terms.{Term, literal, named, parens, map_of, array_of, unwrapped, choice_of, choice_of_name, tagged, tagged_by, simple_by, hash, range, control, or, Ref, call, Group, Entries, Entry, typed, keyed, grouped, of_types, Definition, alternatives, arguments_of, name_of, stripped}
 use Rattle.cddl_openings.specs.Endings.{IsOneType, LeadsOn, at_once, through, is_name}
 use Rattle.cddl_spliced.specs.declared.owners.Owner.{Owner}
 use Rattle.cddl_spliced.specs.declared.owners.Owner.TheVariants as OwnerV
-use Rattle.cddl_spliced.specs.Spliced.{IsOwner, a_map, a_name, an_opening}
+use Rattle.cddl_spliced.specs.Spliced.{IsOwner, a_name, an_opening}
 use Rattle.cddl_map_cycles.proofs.Lists.{same_some, within}
 
 no_some : {A : Type 0} {x : A} → None ≡ Some x → ⊥

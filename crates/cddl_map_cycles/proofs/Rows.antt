@@ -1,8 +1,8 @@
 -- The rows of entries that are spliced into a group, and ways to them.
-use Rattle.std.proofs.Common.{◌≡◌, ◌⊎◌, inl, inr, ℕ, ◌+◌, ◌*◌, ◌<◌, ◌≤◌, List, [], ◌∷◌, ◌++◌, length, Option, Some, None, refl, sym, ap, subst, ◌∙◌, arith, slice_get}
+use Rattle.std.proofs.Common.{◌≡◌, ◌⊎◌, inl, inr, ℕ, ◌<◌, List, [], ◌∷◌, ◌++◌, length, Option, Some, None, refl, sym, subst, ◌∙◌, arith, slice_get}
 use Rattle.std.specs.Prelude.{Bool, Contains}
 use Rattle.std.proofs.lemmas.List.Elements.{Contains-append_left, Contains-append_right}
-use Rattle.cddl_language.specs.Terms.{Text, Ref, Group, sole, orelse, Entries, no_entries, entries, Entry, typed, keyed, grouped, Definition, alternatives, lone, entry_list}
+use Rattle.cddl_language.specs.Terms.{Text, Group, sole, orelse, Entries, no_entries, entries, Entry, typed, keyed, grouped, Definition, alternatives, lone, entry_list}
 use Rattle.cddl_language.specs.MapFaults.{group_in, entries_of, IsSplicedInto, its_own, further}
 use Rattle.cddl_language.specs.Reach.{Point, group_points, entries_points, entry_points}
 use Rattle.cddl_terms.specs.Table.{Table, Tree, Holds, part}
@@ -12,14 +12,14 @@ use Rattle.splices.specs.declared.Bounds.{Bounds}
 use Rattle.splices.specs.declared.Part as P
 use Rattle.splices.specs.declared.Part.TheVariants as PartV
 use Rattle.splices.specs.Splices.{Has, has_same, has_first, has_second, has_one, has_other, has_group}
-use Rattle.cddl_splices.specs.Parts.{IsOf, no_choices, choices_of, IsPartOfGroup, of_sole, of_orelse, IsPartOfEntries, of_none, of_more, IsPartOfEntry, of_type, of_named, of_keyed, of_grouped, AreParts}
+use Rattle.cddl_splices.specs.Parts.{IsOf, no_choices, choices_of, IsPartOfGroup, of_sole, of_orelse, IsPartOfEntries, of_more, IsPartOfEntry, of_type, of_named, of_keyed, of_grouped, AreParts}
 use Rattle.cddl_spliced.specs.declared.listing.Spliced.{Spliced}
 use Rattle.cddl_spliced.specs.declared.owners.Owner.{Owner}
 use Rattle.cddl_map_cycles.specs.declared.layout.Layout.{Layout}
 use Rattle.cddl_map_cycles.specs.Edges.{nodes}
 use Rattle.cddl_map_cycles.proofs.Lists.{IsIn, in_left, in_right, in_cases, from_contains, to_contains, from_flat, to_flat, there, within, same_some}
 use Rattle.cddl_map_cycles.proofs.Owners.{none_is_some}
-use Rattle.cddl_map_cycles.proofs.Ways.{Link, Step, to_part, Way, onward}
+use Rattle.cddl_map_cycles.proofs.Ways.{Link, to_part, Way, onward}
 
 -- The entries of choices.
 

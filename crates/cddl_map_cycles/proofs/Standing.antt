@@ -1,5 +1,5 @@
 -- What is spliced into a map by a reference stands in the group of that reference.
-use Rattle.std.proofs.Common.{◌≡◌, ◌⊎◌, inl, inr, ℕ, zero, suc, ◌<◌, List, [], ◌∷◌, ◌++◌, Option, Some, None, refl, sym, ap, subst, ◌∙◌, arith, slice_get}
+use Rattle.std.proofs.Common.{◌≡◌, ◌⊎◌, inl, inr, ℕ, zero, suc, List, [], ◌∷◌, ◌++◌, Option, Some, None, refl, sym, ap, subst, ◌∙◌, slice_get}
 use Rattle.std.specs.Prelude.{Contains, map, flat_map}
 use Rattle.cddl_token.specs.declared.Token.{Token}
 use Rattle.cddl_syntax.specs.Syntax as S
@@ -10,13 +10,13 @@ use Rattle.cddl_language.specs.MapFaults.{IsBare, itself, in_parens, IsSpliced, 
 use Rattle.cddl_language.specs.Reach.{Point, at_name, at_unwrapping}
 use Rattle.cddl_language.specs.Reading as R
 use Rattle.cddl_language.specs.Reading.{body_of, definition_of, definitions_in, entry_of, group_of, name_in, parameters_in, rule_name, term_of, term_of2}
-use Rattle.cddl_language.specs.Substitution.{bodies, body_alternatives, fill_body, fill_entries, fill_entry, fill_group, group_choices}
-use Rattle.cddl_language.specs.Terms.{Text, Term, named, map_of, array_of, Ref, call, Terms, Group, Entries, Entry, Body, of_types, Definition, alternatives, arguments_of, entry_list, lone, name_of, stripped, term_list}
+use Rattle.cddl_language.specs.Substitution.{body_alternatives, fill_body, fill_entries, fill_entry, fill_group, group_choices}
+use Rattle.cddl_language.specs.Terms.{Text, Term, Ref, call, Group, Entries, Entry, Body, Definition, alternatives, arguments_of, entry_list, lone, name_of, stripped, term_list}
 use Rattle.cddl_terms.specs.Table.{Table}
 use Rattle.cddl_spliced.specs.declared.listing.Spliced.{Spliced}
-use Rattle.cddl_spliced.specs.Spliced.{AreSpliced, IsOwner, a_map, a_name, an_opening, IsSplicedEntry, IsSplicedOwner, of_map as owner_map, of_point}
+use Rattle.cddl_spliced.specs.Spliced.{AreSpliced, IsOwner, a_name, an_opening, IsSplicedEntry}
 use Rattle.cddl_map_cycles.proofs.Back.{More, StandsInside}
-use Rattle.cddl_map_cycles.proofs.Lists.{IsIn, in_left, in_right, in_cases, from_contains, from_get, to_contains, to_flat, same_some}
+use Rattle.cddl_map_cycles.proofs.Lists.{IsIn, in_left, in_right, in_cases, from_contains, from_get, to_contains, same_some}
 use Rattle.cddl_map_cycles.proofs.Owners.{HasGroup, has_named, has_opened, none_is_some, one_group, opened_one, opened_through, opened_types, point_group}
 use Rattle.cddl_map_cycles.proofs.Rows.{deeper, in_choices, in_last_choice, to_one}
 

@@ -1,5 +1,5 @@
 -- The edges of the graph are its steps, and ways go over them.
-use Rattle.std.proofs.Common.{◌≡◌, ℕ, zero, suc, ◌+◌, ◌*◌, ◌<◌, ◌≤◌, ◌⊎◌, inl, inr, Bool, true, false, List, [], ◌∷◌, ◌++◌, length, Option, Some, None, refl, sym, ap, subst, ◌∙◌, slice_get, arith}
+use Rattle.std.proofs.Common.{◌≡◌, ℕ, zero, suc, ◌+◌, ◌*◌, ◌<◌, ◌≤◌, ◌⊎◌, inl, inr, Bool, true, List, [], ◌∷◌, ◌++◌, length, Option, Some, None, refl, sym, ap, subst, ◌∙◌, slice_get, arith}
 use Rattle.cycles.specs.declared.Edge.{Edge}
 use Rattle.cycles.specs.Graph.{IsEdge, LeadsOn, at_once, onwards, AreOnCycles}
 use Rattle.splices.specs.declared.Bounds.{Bounds}
@@ -219,7 +219,8 @@ cycles_marked l es marks flags are e = record {
   all = ap length e ∙ flags_length l marks l.entries;
   each = λ i h. (
     (λ f. (are.each (entry_node l i)).0 (is_marked (slice_get marks (entry_node l i)) (same_some (sym (there i h) ∙ f)))),
-    (λ f. there i h ∙ ap (λ o. Some (mark_in o)) ((are.each (entry_node l i)).1 f)));
+    (λ f. there i h ∙ ap (λ o. Some (mark_in o)) ((are.each (entry_node l i)).1 f)),
+  );
 }
   where
     there : (i : ℕ) → i < l.entries → slice_get flags i ≡ Some (mark_in (slice_get marks (entry_node l i)))
@@ -230,7 +231,8 @@ ranks_marked l es flags never e = record {
   all = ap length e ∙ flags_length l [] l.entries;
   each = λ i h. (
     (λ f. absurd (not_true (entry_node l i) (is_marked (slice_get no_marks (entry_node l i)) (same_some (sym (there i h) ∙ f))))),
-    (λ f. absurd (never (entry_node l i) f)));
+    (λ f. absurd (never (entry_node l i) f)),
+  );
 }
   where
     no_marks : List Bool

@@ -1,4 +1,4 @@
-use Rattle.std.proofs.Common.{sym, ap, subst, ◌∙◌}
+use Rattle.std.proofs.Common.{ap, ◌∙◌}
 use Rattle.std.proofs.lemmas.Result.{IfOk-weaker}
 use Rattle.cddl_map_cycles.specs.Edges.{all_edges}
 use Rattle.cddl_map_cycles.proofs.Whole.{told_back}

@@ -1,4 +1,4 @@
-use Rattle.std.proofs.Common.{sym, ap, subst, ◌∙◌}
+use Rattle.std.proofs.Common.{ap, subst, ◌∙◌}
 use Rattle.std.proofs.lemmas.Result.{IfOk-weaker}
 use Rattle.cycles.specs.Graph.{AreOnCycles, AreRanks, IsOrder}
 use Rattle.cddl_map_cycles.specs.Edges.{flags_below, nodes}
