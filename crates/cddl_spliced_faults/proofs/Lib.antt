@@ -1,5 +1,5 @@
-pub mod Alternatives
-pub mod Keys
+pub mod Crowding
+pub mod Keyless
 pub mod Least
 pub mod Rows
-pub mod Shapes
+pub mod Shaping

@@ -2,7 +2,7 @@ use Rattle.std.proofs.Common.{sym, subst}
 use Rattle.cddl_language.specs.Faults.{rules}
 use Rattle.cddl_language.specs.MapFaults.{HasTooManyAlternatives}
 use Rattle.cddl_survey.specs.Least.{IsLeast}
-use Rattle.cddl_spliced_faults.proofs.Alternatives.{least_crowded}
+use Rattle.cddl_spliced_faults.proofs.Crowding.{least_crowded}
 use Rattle.cddl_spliced_faults.proofs.alternatives.too_many_alternatives.Goals as goal
 
 pub returns : goal.returns

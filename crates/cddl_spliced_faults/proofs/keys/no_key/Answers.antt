@@ -2,7 +2,7 @@ use Rattle.std.proofs.Common.{sym, subst}
 use Rattle.cddl_language.specs.Faults.{rules}
 use Rattle.cddl_language.specs.MapFaults.{HasNoKey}
 use Rattle.cddl_survey.specs.Least.{IsLeast}
-use Rattle.cddl_spliced_faults.proofs.Keys.{least_keyless}
+use Rattle.cddl_spliced_faults.proofs.Keyless.{least_keyless}
 use Rattle.cddl_spliced_faults.proofs.keys.no_key.Goals as goal
 
 pub returns : goal.returns

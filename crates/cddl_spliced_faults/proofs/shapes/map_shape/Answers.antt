@@ -2,7 +2,7 @@ use Rattle.std.proofs.Common.{sym, subst}
 use Rattle.cddl_language.specs.Faults.{rules}
 use Rattle.cddl_language.specs.MapFaults.{HasMapShape}
 use Rattle.cddl_survey.specs.Least.{IsLeast}
-use Rattle.cddl_spliced_faults.proofs.Shapes.{least_shape}
+use Rattle.cddl_spliced_faults.proofs.Shaping.{least_shape}
 use Rattle.cddl_spliced_faults.proofs.shapes.map_shape.Goals as goal
 
 pub returns : goal.returns
