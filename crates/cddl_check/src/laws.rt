@@ -8,6 +8,7 @@ ghost use Rattle.cddl_language.specs.Environment.{definitions_of, is_in_prelude}
 ghost use Rattle.cddl_language.specs.Faults.{HasBadRange, HasNotUnwrappable, HasRecursion, HasTooManyInstances, IsAccepted, IsFaultAt, IsRefused, Specification, definitions, first_rule, root_of, rules};
 ghost use Rattle.cddl_language.specs.Kinds.{is_group};
 ghost use Rattle.cddl_language.specs.Literals.{Values};
+ghost use Rattle.cddl_language.specs.MapFaults.{HasMapShape, HasNoKey, HasTooManyAlternatives};
 ghost use Rattle.cddl_language.specs.Reading.{parameters_in};
 ghost use Rattle.cddl_language.specs.Terms.{Text};
 ghost use Rattle.cddl_live.specs.Live.{IsClear};
@@ -15,7 +16,7 @@ ghost use Rattle.cddl_survey.specs.Least.{IsLeast};
 ghost use Rattle.cddl_survey.specs.Survey.{IsSurvey};
 ghost use Rattle.cddl_survey.specs.declared.survey.Survey.{Survey as Surveys};
 ghost use Rattle.cddl_syntax.specs.Syntax as S;
-ghost use Rattle.cddl_token.specs.declared.Code.TheVariants.{TooManyInstances, NotUnwrappable, Recursion, BadRange};
+ghost use Rattle.cddl_token.specs.declared.Code.TheVariants.{TooManyInstances, NotUnwrappable, Recursion, BadRange, NoKey, MapShape, TooManyAlternatives};
 ghost use Rattle.cddl_tree.specs.View.{view};
 ghost use Rattle.cddl_tree.specs.declared.tree.Tree.{Tree};
 
@@ -40,7 +41,10 @@ pub fn root_faults_are_told()
     ensures unwrapping { (s : Specification) (worth : Values) (root : Text) → root_of s ≡ Some root → IsFirst (IsFaultAt s worth) text_codes None → IsLeast (HasTooManyInstances s root) None → (at : ℕ) → IsLeast (HasNotUnwrappable s root) (Some at) → IsRefused s worth NotUnwrappable at }
     ensures recursion { (s : Specification) (worth : Values) (root : Text) → root_of s ≡ Some root → IsFirst (IsFaultAt s worth) text_codes None → IsLeast (HasTooManyInstances s root) None → IsLeast (HasNotUnwrappable s root) None → (at : ℕ) → IsLeast (HasRecursion s root) (Some at) → IsRefused s worth Recursion at }
     ensures range { (s : Specification) (worth : Values) (root : Text) → root_of s ≡ Some root → IsFirst (IsFaultAt s worth) text_codes None → IsLeast (HasTooManyInstances s root) None → IsLeast (HasNotUnwrappable s root) None → IsLeast (HasRecursion s root) None → (at : ℕ) → IsLeast (HasBadRange s worth root) (Some at) → IsRefused s worth BadRange at }
-    ensures accepted { (s : Specification) (worth : Values) (root : Text) → root_of s ≡ Some root → IsFirst (IsFaultAt s worth) text_codes None → IsLeast (HasTooManyInstances s root) None → IsLeast (HasNotUnwrappable s root) None → IsLeast (HasRecursion s root) None → IsLeast (HasBadRange s worth root) None → IsAccepted s worth }
+    ensures key { (s : Specification) (worth : Values) (root : Text) → root_of s ≡ Some root → IsFirst (IsFaultAt s worth) text_codes None → IsLeast (HasTooManyInstances s root) None → IsLeast (HasNotUnwrappable s root) None → IsLeast (HasRecursion s root) None → IsLeast (HasBadRange s worth root) None → (at : ℕ) → IsLeast (HasNoKey (rules s) root) (Some at) → IsRefused s worth NoKey at }
+    ensures shape { (s : Specification) (worth : Values) (root : Text) → root_of s ≡ Some root → IsFirst (IsFaultAt s worth) text_codes None → IsLeast (HasTooManyInstances s root) None → IsLeast (HasNotUnwrappable s root) None → IsLeast (HasRecursion s root) None → IsLeast (HasBadRange s worth root) None → IsLeast (HasNoKey (rules s) root) None → (at : ℕ) → IsLeast (HasMapShape (rules s) root) (Some at) → IsRefused s worth MapShape at }
+    ensures alternatives { (s : Specification) (worth : Values) (root : Text) → root_of s ≡ Some root → IsFirst (IsFaultAt s worth) text_codes None → IsLeast (HasTooManyInstances s root) None → IsLeast (HasNotUnwrappable s root) None → IsLeast (HasRecursion s root) None → IsLeast (HasBadRange s worth root) None → IsLeast (HasNoKey (rules s) root) None → IsLeast (HasMapShape (rules s) root) None → (at : ℕ) → IsLeast (HasTooManyAlternatives (rules s) root) (Some at) → IsRefused s worth TooManyAlternatives at }
+    ensures accepted { (s : Specification) (worth : Values) (root : Text) → root_of s ≡ Some root → IsFirst (IsFaultAt s worth) text_codes None → IsLeast (HasTooManyInstances s root) None → IsLeast (HasNotUnwrappable s root) None → IsLeast (HasRecursion s root) None → IsLeast (HasBadRange s worth root) None → IsLeast (HasNoKey (rules s) root) None → IsLeast (HasMapShape (rules s) root) None → IsLeast (HasTooManyAlternatives (rules s) root) None → IsAccepted s worth }
 {}
 
 /// A text without a fault keeps all that is asked for its live sites to be reached.

@@ -22,6 +22,7 @@ use Rattle.cddl_language.specs.Literals.{Values}
 use Rattle.cddl_language.specs.Free as R
 use Rattle.cddl_language.specs.Free.{IsFree, IsFreeInSome, IsFreeInChoice, LeadsTo, LeadsOn}
 use Rattle.cddl_language.specs.Sites.{Site, a_name, an_unwrapping, a_choice_of, a_choice_of_name, a_hash, an_operation, an_entry, a_map, sites, outer_sites, ref_at_site, ref_name, arguments, IsReached, in_body, in_argument, IsUsed, used}
+use Rattle.cddl_language.specs.MapFaults.{HasMapShape, HasNoKey, HasTooManyAlternatives, IsSpliced, comes_back, occurs_badly, of_map, of_name, of_opened, of_parens}
 use Rattle.cddl_language.specs.Faults as F
 use Rattle.cddl_language.specs.Faults.{IsFaultAt, IsAccepted, parameter_count, first_equals, first_rule, rules, HasSite, HasName}
 use Rattle.cddl_language.specs.Texts as T
@@ -140,6 +141,13 @@ unused r xs f x e (used k a b c d g h) = none_is_some (subst (λ z. slice_get (a
 places_reached : (r : S.Rule) (xs : List Term) (p : Site) → IsReached (rule ∷ []) (codes "t") r xs p → IsThere p
 places_reached s ys o (in_body {r = r} {p = p} i c) = in_rule p (subst (λ q. Contains (outer_sites q) p) (only i.present) c)
 places_reached s ys o (in_argument {r = r} {xs = xs} {q = q} {f = f} {x = x} h e u c) = absurd (unused r xs f x (its_name q f (places_reached r xs q h) e) u)
+
+-- No map is reached.
+nothing_spliced : (r : S.Rule) (xs : List Term) (q : Option Point) (e : S.GrpEnt) → IsSpliced (rule ∷ []) (codes "t") r xs q e → ⊥
+nothing_spliced r xs q e (of_map {t = u} {g = g} h c) = places_reached r xs (a_map u g) h
+nothing_spliced r xs q e (of_parens {o = o} {p = p} {c = z} {g = g} s c) = nothing_spliced r xs q (S.grouped o p g z) s
+nothing_spliced s xs q e (of_name {r = r} {xs = ys} {q = p} {d = d} h n c k m) = nothing_spliced r ys p d h
+nothing_spliced s xs q e (of_opened {r = r} {xs = ys} {q = p} {d = d} h n c m) = nothing_spliced r ys p d h
 
 -- No name is free in what it means, since the entry asks a type of an item.
 
@@ -270,6 +278,16 @@ module _ (worth : Values) (at : ℕ) where
   good_ranges (F.last_end {r = r} {xs = xs} {x = x} {y = y} {o = o} p s h e) = places_reached r xs (an_operation x o y) p
   good_ranges (F.bounds {r = r} {xs = xs} {e = e} {t = o} p h f k) = within_bounds e o (places_reached r xs (an_entry e) p) h f
 
+  has_keys : HasNoKey (rule ∷ []) (codes "t") at → ⊥
+  has_keys f = nothing_spliced f.rule f.arguments f.owner f.entry f.spliced
+
+  good_maps : HasMapShape (rule ∷ []) (codes "t") at → ⊥
+  good_maps (comes_back {r = r} {xs = xs} {p = p} {e = e} s h k) = nothing_spliced r xs (Some p) e s
+  good_maps (occurs_badly {r = r} {xs = xs} {q = q} {e = e} s h k) = nothing_spliced r xs q e s
+
+  few_alternatives : HasTooManyAlternatives (rule ∷ []) (codes "t") at → ⊥
+  few_alternatives f = places_reached f.rule f.arguments (a_map f.token f.group) f.reached
+
   no_fault : (c : Code) → IsFaultAt T.lists worth c at → ⊥
   no_fault C.Duplicate f = no_duplicate f
   no_fault C.KindClash f = no_clash f
@@ -284,6 +302,9 @@ module _ (worth : Values) (at : ℕ) where
   no_fault C.NotUnwrappable f = no_unwrapping f
   no_fault C.Recursion f = no_recursion f
   no_fault C.BadRange f = good_ranges f
+  no_fault C.NoKey f = has_keys f
+  no_fault C.MapShape f = good_maps f
+  no_fault C.TooManyAlternatives f = few_alternatives f
   no_fault _ f = f
 
 pub accepted : (worth : Values) → IsAccepted T.lists worth

@@ -378,6 +378,17 @@ module _ (rs : List S.Rule) where
     spliced_stands {e = e} (its_own c) h = h e c
     spliced_stands (further {fss = fss} {d = d} c g s) h = spliced_stands s (λ e k. let w = h d c in let u = group_stands w.0 d w.1 fss g e k in (u.0, u.1))
 
+    -- an entry that stands in a map has the reference
+    abbrev HasReference : Point → Type 0
+    HasReference p = (s : S.Rule) × (ys : List Term) × (u : Option Point) × (d : S.GrpEnt) × IsSpliced rs root s ys u d × (point_in ds (closed_entry s ys d) ≡ Some p)
+
+    reference_of : (p : Point) (e : Entry) → StandsSomewhere e → point_in ds e ≡ Some p → HasReference p
+    reference_of p e w i = ((w.1).rule, (w.1).arguments, w.0, (w.1).entry, (w.1).spliced, ap (point_in ds) (w.1).same ∙ i)
+
+    pub reference_stands : (r : S.Rule) (xs : List Term) (q : Option Point) (e : S.GrpEnt) (p : Point) → IsSpliced rs root r xs q e → LeadsTo ds p (closed_entry r xs e) → HasReference p
+    reference_stands r xs q e p s (by_itself i) = (r, xs, q, e, s, i)
+    reference_stands r xs q e p s (by_group {d = d} {fss = fss} g i j) = reference_of p d (spliced_stands i (λ x c. let w = entry_stands r xs q e s fss g x c in (w.0, w.1))) j
+
     module _ {r : S.Rule} {xs : List Term} {t : Token} {g : S.Group} (reached : IsReached rs root r xs (a_map t g)) where
       abbrev own : List Entries
       own = alternatives (fill_group (parameters_in r) xs (group_of g))

@@ -3,7 +3,7 @@
 use Rattle.std.specs.Prelude.{◌≡◌, ◌≢◌, ℕ, ◌<◌, ◌≤◌, ◌⊎◌, Bool, true, false, if◌then◌else◌, ◌&&◌, List, [], ◌∷◌, length, Contains, AllPairs, Option, Some, None, slice_get, codes}
 use Rattle.cddl_token.specs.declared.Token.{Token}
 use Rattle.cddl_token.specs.declared.Code.{Code}
-use Rattle.cddl_token.specs.declared.Code.TheVariants.{Duplicate, KindClash, Undefined, Arity, NoRoot, BadRoot, GroupAsType, HashForm, UnknownControl, TooManyInstances, NotUnwrappable, Recursion, BadRange}
+use Rattle.cddl_token.specs.declared.Code.TheVariants.{Duplicate, KindClash, Undefined, Arity, NoRoot, BadRoot, GroupAsType, HashForm, UnknownControl, TooManyInstances, NotUnwrappable, Recursion, BadRange, NoKey, MapShape, TooManyAlternatives}
 use Rattle.cddl_syntax.specs.Syntax as S
 use Rattle.cddl_meaning.specs.Forms.{Most, at_most, any_number_of}
 use Rattle.cddl_language.specs.Numbers as N
@@ -17,6 +17,7 @@ use Rattle.cddl_language.specs.Reach.{Reaches, Point, ref_at, most_instances}
 use Rattle.cddl_language.specs.Literals.{Values, whole_of}
 use Rattle.cddl_language.specs.Choices.{chosen, chosen_by_name}
 use Rattle.cddl_language.specs.Free.{IsOnCycle}
+use Rattle.cddl_language.specs.MapFaults.{HasNoKey, HasMapShape, HasTooManyAlternatives}
 use Rattle.cddl_language.specs.Sites.{Site, a_name, an_unwrapping, a_choice_of, a_choice_of_name, a_hash, an_operation, an_entry, arguments, ref_token, ref_name, sites, ref_at_site, is_parameter, IsReached}
 
 -- a tree, and the name that was given as its root, if one was
@@ -234,6 +235,9 @@ IsFaultAt s worth TooManyInstances at = OfRoot (root_of s) (λ n. HasTooManyInst
 IsFaultAt s worth NotUnwrappable at = OfRoot (root_of s) (λ n. HasNotUnwrappable s n at)
 IsFaultAt s worth Recursion at = OfRoot (root_of s) (λ n. HasRecursion s n at)
 IsFaultAt s worth BadRange at = OfRoot (root_of s) (λ n. HasBadRange s worth n at)
+IsFaultAt s worth NoKey at = OfRoot (root_of s) (λ n. HasNoKey (rules s) n at)
+IsFaultAt s worth MapShape at = OfRoot (root_of s) (λ n. HasMapShape (rules s) n at)
+IsFaultAt s worth TooManyAlternatives at = OfRoot (root_of s) (λ n. HasTooManyAlternatives (rules s) n at)
 IsFaultAt s worth _ at = ⊥
 
 -- the number of a code, as it is printed
@@ -251,6 +255,9 @@ number_of TooManyInstances = 10
 number_of NotUnwrappable = 11
 number_of Recursion = 12
 number_of BadRange = 14
+number_of NoKey = 16
+number_of MapShape = 17
+number_of TooManyAlternatives = 18
 number_of _ = 0
 
 -- The fault that is told: of the lowest code that stands anywhere, the least offset.

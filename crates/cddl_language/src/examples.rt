@@ -22,7 +22,7 @@ ghost use Rattle.cddl_language.specs.Reading.{definitions_in, rules_of};
 ghost use Rattle.cddl_language.specs.StandsFor.{StandsFor};
 ghost use Rattle.cddl_language.specs.Substitution.{type_choices};
 ghost use Rattle.cddl_language.specs.Texts as T;
-ghost use Rattle.cddl_token.specs.declared.Code.TheVariants.{Arity, BadRange, BadRoot, Duplicate, GroupAsType, HashForm, KindClash, NoRoot, NotUnwrappable, Recursion, TooManyInstances, Undefined, UnknownControl};
+ghost use Rattle.cddl_token.specs.declared.Code.TheVariants.{Arity, BadRange, BadRoot, Duplicate, GroupAsType, HashForm, KindClash, MapShape, NoKey, NoRoot, NotUnwrappable, Recursion, TooManyAlternatives, TooManyInstances, Undefined, UnknownControl};
 ghost use Rattle.cddl_language.specs.Terms.{Text, call, no_terms, entries, hash, no_entries, number, sole, typed};
 
 /// Numbers in the texts of tokens.
@@ -147,6 +147,9 @@ pub fn faults()
     ensures to_text { (worth : Values) → IsFaultAt T.to_text worth BadRange 7 }
     ensures to_parameter { (worth : Values) → IsFaultAt T.to_parameter worth BadRange 22 }
     ensures three_to_two { (worth : Values) → IsFaultAt T.three_to_two worth BadRange 5 }
+    ensures without_key { (worth : Values) → IsFaultAt T.map_of_int worth NoKey 5 }
+    ensures of_pairs { (worth : Values) → IsFaultAt T.map_of_pairs worth MapShape 6 }
+    ensures too_many { (worth : Values) → IsFaultAt T.map_of_ten worth TooManyAlternatives 4 }
 {}
 
 /// `t = [* t]` is accepted: its entry asks `t` of an item, so the name is not free in what it means.

@@ -2,7 +2,7 @@
 //! here do nothing: their contracts are laws, and examples.
 #![tactic(auto)]
 
-ghost use Rattle.std.specs.Prelude.{◌+◌, ◌≢◌, ◌↔◌, ◌≤◌, ◌⊎◌, map, length, slice_index, [], ◌∷◌, ◌≡◌, ℕ, suc, Contains, Bool, List, true, Some, None};
+ghost use Rattle.std.specs.Prelude.{◌+◌, ◌≢◌, ◌↔◌, ◌≤◌, ◌⊎◌, map, length, slice_index, [], ◌∷◌, ◌≡◌, ℕ, suc, Contains, Bool, List, Option, true, Some, None};
 ghost use Rattle.cddl_token.specs.declared.Code.{Code};
 ghost use Rattle.cddl_token.specs.declared.Token.{Token};
 ghost use Rattle.cddl_syntax.specs.Syntax as S;
@@ -16,7 +16,7 @@ ghost use Rattle.cbor_data.specs.Value.{Value};
 ghost use Rattle.cddl_meaning.specs.Forms.{Choice, Language, any_number_of, at_most, exactly};
 ghost use Rattle.cddl_meaning.specs.Judges.{Answer, Says};
 ghost use Rattle.cddl_language.specs.Choices.{chosen, chosen_by_name};
-ghost use Rattle.cddl_language.specs.MapFaults.{ComesBack, GoesThrough, HasMapShape, HasNoKey, IsSplicedInto, LacksKey, OccursBadly};
+ghost use Rattle.cddl_language.specs.MapFaults.{ComesBack, GoesThrough, HasMapShape, HasNoKey, IsSpliced, IsSplicedInto, LacksKey, LeadsTo, OccursBadly, closed_entry, point_in};
 ghost use Rattle.cddl_language.specs.Maps.{Alternatives, alternatives_in, map_alternatives};
 ghost use Rattle.cddl_language.specs.Language.{Saying, language, type, reference, type_node};
 ghost use Rattle.cddl_language.specs.StandsFor.{StandsFor};
@@ -57,11 +57,13 @@ pub fn flat_maps_are_right()
 {}
 
 /// What is wrong with the group of a map that a root reaches, stands at a byte of the text: an entry that is spliced into it and
-/// has neither a key nor a group, a group that may not occur so, and a way that comes back.
+/// has neither a key nor a group, a group that may not occur so, and a way that comes back. And where an entry that stands in a map
+/// leads to a reference, one that stands in a map has it.
 pub fn map_faults_stand()
     ensures keys { (rs : List Rule) (root : Text) (r : Rule) (xs : List Term) (t : Token) (g : S.Group) → IsReached rs root r xs (a_map t g) → (e : Entry) → IsSplicedInto (definitions_in rs) e (alternatives (fill_group (parameters_in r) xs (group_of g))) → LacksKey (definitions_in rs) e → (at : ℕ) × HasNoKey rs root at }
     ensures occurrences { (rs : List Rule) (root : Text) (r : Rule) (xs : List Term) (t : Token) (g : S.Group) → IsReached rs root r xs (a_map t g) → (e : Entry) → IsSplicedInto (definitions_in rs) e (alternatives (fill_group (parameters_in r) xs (group_of g))) → OccursBadly (definitions_in rs) e → (at : ℕ) × HasMapShape rs root at }
     ensures ways { (rs : List Rule) (root : Text) (r : Rule) (xs : List Term) (t : Token) (g : S.Group) → IsReached rs root r xs (a_map t g) → (e : Entry) → ComesBack (definitions_in rs) (alternatives (fill_group (parameters_in r) xs (group_of g))) e → (at : ℕ) × HasMapShape rs root at }
+    ensures leads { (rs : List Rule) (root : Text) (r : Rule) (xs : List Term) (q : Option Point) (e : S.GrpEnt) (p : Point) → IsSpliced rs root r xs q e → LeadsTo (definitions_in rs) p (closed_entry r xs e) → (s : Rule) × (ys : List Term) × (u : Option Point) × (d : S.GrpEnt) × IsSpliced rs root s ys u d × (point_in (definitions_in rs) (closed_entry s ys d) ≡ Some p) }
 {}
 
 /// Where the group of a map has no alternatives, an entry that is spliced into it has neither a key nor a group, or is a group

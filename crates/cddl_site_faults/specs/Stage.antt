@@ -5,12 +5,17 @@ use Rattle.cddl_syntax.specs.Syntax as S
 use Rattle.cddl_language.specs.Environment.{is_in}
 use Rattle.cddl_language.specs.Faults.{HasSite, Specification, known_controls}
 use Rattle.cddl_language.specs.Reading.{control_name}
-use Rattle.cddl_language.specs.Sites.{Site, a_map, an_operation}
+use Rattle.cddl_language.specs.Sites.{Site, an_operation}
 
--- C0: a map, or a control that is known.
-pub data HasNotYet (s : Specification) (at : ℕ) : Type 0 where
-  map_there : {r : S.Rule} {t : Token} {g : S.Group} → HasSite s r (a_map t g) → at ≡ t.start → HasNotYet s at
-  control_there : {r : S.Rule} {x y : S.Type2} {t : Token} → HasSite s r (an_operation x (S.control t) y) → is_in known_controls (control_name t) ≡ true → at ≡ t.start → HasNotYet s at
+-- C0: a control that is known.
+pub record HasNotYet (s : Specification) (at : ℕ) : Type 0 where
+  pub rule : S.Rule
+  pub left : S.Type2
+  pub token : Token
+  pub right : S.Type2
+  pub found : HasSite s rule (an_operation left (S.control token) right)
+  pub known : is_in known_controls (control_name token) ≡ true
+  pub offset : at ≡ token.start
 
 -- at one site
 
@@ -23,5 +28,4 @@ IsKnownOperator _ at = ⊥
 
 abbrev pub IsNotYetAt : Site → ℕ → Type 0
 IsNotYetAt (an_operation x o y) at = IsKnownOperator o at
-IsNotYetAt (a_map t g) at = Unit {0} × (at ≡ t.start)
 IsNotYetAt _ at = ⊥

@@ -17,7 +17,7 @@ use cddl_texts::is_known_control;
 use cddl_token::Token;
 use cddl_tree::{Operator, Tree};
 
-/// The least offset of a map or of a known control, which this version does not take.
+/// The least offset of a known control, which this version does not take.
 ///
 /// It takes a time in proportion to the sites and to the texts of their tokens.
 pub fn not_yet(tree: &Tree<'_>, survey: &Survey<'_>) -> Option<usize>
@@ -35,7 +35,6 @@ fn not_yet_at(tree: &Tree<'_>, site: Site<'_>) -> Option<usize>
     ensures { IsLeast (IsNotYetAt (view_site (token_of tree.now) site.entry)) result }
 {
     match site {
-        Site::Map { opening, .. } => Some(tree.token(opening).start),
         Site::Operation { operator, .. } => known_operator(tree, operator),
         _ => None,
     }

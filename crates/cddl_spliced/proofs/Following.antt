@@ -238,6 +238,7 @@ module _ (s : Specification) (root : Text) (laws : Laws s root) (t : Table) (one
             entry = h.entry;
             row = subst (λ n. IsEntry t n (closed_entry h.rule h.arguments h.entry)) (sym parts.row) h.row;
             offset = parts.at ∙ h.offset;
+            reached = h.reached;
             each = λ k o sp. h.each k (subst (λ w. IsOwner (definitions s) refs w k) parts.same o) sp;
             owner = q.0;
             owns = subst (λ w. IsOwner (definitions s) refs w q.0) (sym parts.same) q.1.0;
@@ -249,7 +250,9 @@ module _ (s : Specification) (root : Text) (laws : Laws s root) (t : Table) (one
           let among = laws.every r ys q e sp in
           let h = listed r ys q e among.entries among.are among.contained (flagged_owner r ys q e sp) in
           let x : Spliced = record { owner = h.owner; row = h.one.row; at = h.one.at } in
-          record { found = x; contained = flagged_in places flags asked h.one x h.contained (flagged_made flags (owner_of places h.one) h.owner h.one h.owns (λ n k. (following.each n).1 (h.follows n k))); row = h.row; offset = h.offset; owns = h.stands }
+          let own = held h.one h.owner h.owns (are.sound h.one h.contained) in
+          let same : closed_entry own.rule own.arguments own.entry ≡ closed_entry r ys e = (one_entry h.one.row h.one.row (closed_entry own.rule own.arguments own.entry) (closed_entry r ys e) own.row h.row).0 refl in
+          record { found = x; contained = flagged_in places flags asked h.one x h.contained (flagged_made flags (owner_of places h.one) h.owner h.one h.owns (λ n k. (following.each n).1 (h.follows n k))); row = h.row; offset = h.offset; reached = subst (λ z. AreReached (definitions s) root (entry_points z)) same own.reached; owns = h.stands }
 
       pub are_spliced : AreSpliced (rules s) root t refs (flagged places flags asked)
       are_spliced = record { sound = sound; complete = complete }

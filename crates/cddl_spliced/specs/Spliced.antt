@@ -44,13 +44,15 @@ module _ (rs : List S.Rule) (root : Text) (t : Table) (refs : List Ref) where
     of_map : IsSplicedOwner None
     of_point : {p : Point} → IsSplicedPoint rs root p → IsSplicedOwner (Some p)
 
-  -- An entry that is told of is spliced into a map by each of its owners that is, and there is one.
+  -- An entry that is told of is spliced into a map by each of its owners that is, and there is one. All references that stand in
+  -- it are instances.
   pub record IsSplicedEntry (x : Spliced) : Type 0 where
     pub rule : S.Rule
     pub arguments : List Term
     pub entry : S.GrpEnt
     pub row : IsEntry t x.row (closed_entry rule arguments entry)
     pub offset : x.at ≡ entry_at entry
+    pub reached : AreReached (definitions_in rs) root (entry_points (closed_entry rule arguments entry))
     pub each : (q : Option Point) → IsOwner (definitions_in rs) refs x.owner q → IsSplicedOwner q → IsSpliced rs root rule arguments q entry
     pub owner : Option Point
     pub owns : IsOwner (definitions_in rs) refs x.owner owner
@@ -61,6 +63,7 @@ module _ (rs : List S.Rule) (root : Text) (t : Table) (refs : List Ref) where
     pub contained : Contains xs found
     pub row : IsEntry t found.row (closed_entry rule arguments entry)
     pub offset : found.at ≡ entry_at entry
+    pub reached : AreReached (definitions_in rs) root (entry_points (closed_entry rule arguments entry))
     pub owns : IsOwner (definitions_in rs) refs found.owner q
 
   pub record AreSpliced (xs : List Spliced) : Type 0 where

@@ -1,4 +1,4 @@
-use Rattle.cddl_check.proofs.Staging.{none_told, range_told, recursion_told, too_many_told, unwrapping_told}
+use Rattle.cddl_check.proofs.Staging.{alternatives_told, key_told, none_told, range_told, recursion_told, shape_told, too_many_told, unwrapping_told}
 use Rattle.cddl_check.proofs.laws.root_faults_are_told.Goals as goal
 
 pub returns-clause-too_many : goal.returns-clause-too_many
@@ -12,6 +12,15 @@ returns-clause-recursion c = recursion_told
 
 pub returns-clause-range : goal.returns-clause-range
 returns-clause-range c = range_told
+
+pub returns-clause-key : goal.returns-clause-key
+returns-clause-key c = key_told
+
+pub returns-clause-shape : goal.returns-clause-shape
+returns-clause-shape c = shape_told
+
+pub returns-clause-alternatives : goal.returns-clause-alternatives
+returns-clause-alternatives c = alternatives_told
 
 pub returns-clause-accepted : goal.returns-clause-accepted
 returns-clause-accepted c = none_told

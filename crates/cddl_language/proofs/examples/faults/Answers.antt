@@ -1,4 +1,5 @@
 use Rattle.cddl_language.proofs.Faulty as F
+use Rattle.cddl_language.proofs.MapsFaulty as M
 use Rattle.cddl_language.proofs.examples.faults.Goals as goal
 
 pub returns-clause-defined_twice : goal.returns-clause-defined_twice
@@ -57,3 +58,12 @@ returns-clause-to_parameter c = F.to_parameter
 
 pub returns-clause-three_to_two : goal.returns-clause-three_to_two
 returns-clause-three_to_two c = F.three_to_two
+
+pub returns-clause-without_key : goal.returns-clause-without_key
+returns-clause-without_key c = λ worth. M.without_key
+
+pub returns-clause-of_pairs : goal.returns-clause-of_pairs
+returns-clause-of_pairs c = λ worth. M.of_pairs
+
+pub returns-clause-too_many : goal.returns-clause-too_many
+returns-clause-too_many c = λ worth. M.too_many

@@ -1,0 +1,5 @@
+pub mod Crowding
+pub mod Keyless
+pub mod Least
+pub mod Rows
+pub mod Shaping
