@@ -1,5 +1,5 @@
 #!/usr/bin/env python3
-"""Measures the built program on specifications of two sizes, one twice the other, and on a stream of small arrays.
+"""Measures the built program on specifications of two sizes, one twice the other, on a stream of small arrays, and on large maps.
 
     specifications.py PROGRAM
 
@@ -8,10 +8,13 @@ added; what the empty one costs is taken off. The columns: the speed on the larg
 processor time from the smaller one to the larger, which is 2 where the cost grows with the size alone, and the peak memory on
 the larger one for each of its bytes. Then 'PROGRAM validate' reads a stream of arrays of some 100 bytes against a specification
 that asks about each item in them, and against 'any', by turns; the ratio of the least processor time of the one to that of the
-other is printed.
+other is printed. Last it reads streams of maps with 100,000 and with 200,000 pairs in the same way. The columns: that ratio
+for the larger maps, the growth of the processor time, and the peak memory for each pair of a map, with the specification and
+with 'any'.
 
-The status is 1 where a specification is not answered as expected, where a growth is outside 1.4 to 2.8, or where the ratio is
-over 1.3.
+The status is 1 where a specification is not answered as expected, where its growth is outside 1.4 to 2.8, where the ratio for
+arrays is over 1.3 or one for maps over 2, where the growth for maps is outside 1.4 to 3.4 (more keys than the processor's caches
+hold take longer each), or where the specification takes over 64 bytes for a pair more than 'any'.
 """
 import argparse
 import os
@@ -19,7 +22,8 @@ import subprocess
 import sys
 import tempfile
 
-from streams import encoded, head
+from run import peak
+from streams import encoded, head, map_of_numbers, map_of_texts
 
 KIB = 1 << 10
 SIZES = 256 * KIB, 512 * KIB
@@ -27,6 +31,9 @@ RUNS = 3
 LEAST, MOST = 1.4, 2.8
 MOST_RATIO = 1.3
 MESSAGES = 40_000
+PAIRS = 100_000, 200_000
+MAPS_AT_A_TIME = 4
+MOST_MAP_RATIO, MOST_MAP_GROWTH, MOST_BYTES_A_PAIR = 2, 3.4, 64
 ACCEPTED = "accepted\n"
 
 
@@ -49,6 +56,8 @@ def doubling(size):
     return "r = a0<int>\n" + "\n".join(rules) + f"\na{steps}<t> = [* int]\n"
 
 
+GROUP = "g = (" + ", ".join(f"? key{n}: int" for n in range(20)) + ")\n"
+
 SPECIFICATIONS = [
     ("rules that each refer to the next", "r = [a0]\n", "aN = [aM]\n", "aN = int\n", "refused: C10 TooManyInstances at byte 0\n"),
     ("rules that the root does not reach", "r = int\n", "aN = [aN, ? tstr]\n", "", ACCEPTED),
@@ -64,6 +73,18 @@ SPECIFICATIONS = [
     ("names that are undefined", "r = [int", ", uN", "]\n", "refused: C3 Undefined at byte 10\n"),
     ("ranges and occurrences", "r = [int", ", N*M 1..M", "]\n", ACCEPTED),
     ("a choice by & from many entries", "r = &(x: int", ", kN: N", ")\n", ACCEPTED),
+    ("a wide map", "r = {a: int", ', ? "the key with the number N" => N', "}\n", ACCEPTED),
+    ("a map with too many entries", "r = {a: int", ", N: N", "}\n", "refused: C18 TooManyAlternatives at byte 4\n"),
+    ("an entry without a key in a map", "r = {int", ", N: N", "}\n", "refused: C16 NoKey at byte 5\n"),
+    ("groups that occur as they may not", "r = {a: 1", ", * (N: 1, b: 1)", "}\n", "refused: C17 MapShape at byte 11\n"),
+    ("parentheses in a map, 120 deep", "r = {a: int", ", " + "(" * 120 + "N: 1" + ")" * 120, "}\n", ACCEPTED),
+    ("many small maps", "r = [int", ", {a: N, ? b: tstr}", "]\n", ACCEPTED),
+    ("maps, 128 deep", "r = int", " / " + "{a: " * 128 + "N" + "}" * 128, "\n", ACCEPTED),
+    ("many maps with one group", "r = [int", ", {g, N: N}", f"]\n{GROUP}", ACCEPTED),
+    ("many maps with a group that comes back", "r = [s]\ng = (a: 1, ? h)\nh = (b: 1, ? g)\ns = [int", ", {g, N: N}", "]\n",
+     "refused: C17 MapShape at byte 19\n"),
+    ("maps of 20 groups of two alternatives", "r = [int", ", {" + ", ".join(["(N: 1 // M: 1)"] * 20) + "}", "]\n",
+     "refused: C18 TooManyAlternatives at byte 10\n"),
 ]
 
 
@@ -125,35 +146,66 @@ def message(number):
         1_790_000_000 + number) + samples
 
 
-def streams(program, folder):
-    path = os.path.join(folder, "messages.cborseq")
+def written(folder, name, content):
+    """The path of a new file with this text or these bytes."""
+    path = os.path.join(folder, name)
     with open(path, "wb") as file:
-        for number in range(MESSAGES):
-            file.write(message(number))
-    specifications = {"any": "r = any\n", "arrays": (
-        "r = [name: tstr, unit: unit, number: uint, time: uint, * sample<uint>]\n"
-        'unit = "Cel" / "%RH" / tstr\nsample<v> = (value: v)\n')}
-    times = dict.fromkeys(specifications, float("inf"))
-    for name, text in specifications.items():
-        with open(os.path.join(folder, f"{name}.cddl"), "w", encoding="ascii") as file:
-            file.write(text)
-    # Other work on the machine only adds to a time, so the least of several is the nearest.
+        file.write(content if isinstance(content, bytes) else content.encode())
+    return path
+
+
+def least_times(program, specifications, paths):
+    """For each stream and each specification the least processor time of several runs, in turns: other work on the machine only
+    adds to a time, so the least is the nearest."""
+    times = [dict.fromkeys(specifications, float("inf")) for _ in paths]
     for _ in range(2 * RUNS):
-        for name in specifications:
-            taken, _ = spent([program, "validate", os.path.join(folder, f"{name}.cddl"), path])
-            times[name] = min(times[name], taken)
+        for path, found in zip(paths, times):
+            for name, specification in specifications.items():
+                taken, _ = spent([program, "validate", specification, path])
+                found[name] = min(found[name], taken)
+    return times
+
+
+def arrays(program, folder):
+    path = written(folder, "messages.cborseq", b"".join(map(message, range(MESSAGES))))
+    specifications = {"any": written(folder, "any.cddl", "r = any\n"), "arrays": written(folder, "arrays.cddl", (
+        "r = [name: tstr, unit: unit, number: uint, time: uint, * sample<uint>]\n"
+        'unit = "Cel" / "%RH" / tstr\nsample<v> = (value: v)\n'))}
+    times, = least_times(program, specifications, [path])
     ratio = times["arrays"] / times["any"]
     print(f"\n{MESSAGES} arrays of {os.path.getsize(path) // MESSAGES} bytes, each item asked about: {ratio:.2f} times 'any'")
     return ratio > MOST_RATIO
 
 
+def maps(program, folder):
+    # the least of the keys that the numbers are, so each of these entries has a pair
+    literals = ", ".join(f"? {(1 << 20) + n} => uint" for n in range(20))
+    any_item = written(folder, "any.cddl", "r = any\n")
+    bad = False
+    print(f"\n{'maps':44} {'to any':>7} {'growth':>7} {'a pair':>7} {'of any':>7}")
+    for name, make, text in (
+        ("texts against * tstr => any", map_of_texts, "r = { * tstr => any }\n"),
+        ("numbers against * int => any", map_of_numbers, "r = { * int => any }\n"),
+        ("numbers against 20 keys and * int => any", map_of_numbers, f"r = {{ {literals}, * int => any }}\n"),
+    ):
+        specifications = {"any": any_item, "map": written(folder, "map.cddl", text)}
+        paths = [written(folder, f"{count}.cborseq", make(count).unit * MAPS_AT_A_TIME) for count in PAIRS]
+        small, large = least_times(program, specifications, paths)
+        ratio, growth = large["map"] / large["any"], large["map"] / small["map"]
+        room = {key: peak(paths[1], [program, "validate", path]) / PAIRS[1] for key, path in specifications.items()}
+        print(f"{name:44} {ratio:7.2f} {growth:7.2f} {room['map']:7.0f} {room['any']:7.0f}", flush=True)
+        more = room["map"] - room["any"]
+        bad = bad or ratio > MOST_MAP_RATIO or not LEAST <= growth <= MOST_MAP_GROWTH or more > MOST_BYTES_A_PAIR
+    return bad
+
+
 def main():
-    words = argparse.ArgumentParser(description="Measures the checker of specifications, and the matcher of arrays.")
+    words = argparse.ArgumentParser(description="Measures the checker of specifications, and the matcher of arrays and maps.")
     words.add_argument("program")
     program = os.path.abspath(words.parse_args().program)
     with tempfile.TemporaryDirectory() as folder:
-        bad = check_all(program, folder)
-        return 1 if streams(program, folder) or bad else 0
+        bad = [check_all(program, folder), arrays(program, folder), maps(program, folder)]
+    return 1 if any(bad) else 0
 
 
 if __name__ == "__main__":

@@ -18,13 +18,15 @@ from concurrent.futures import ThreadPoolExecutor
 HERE = os.path.dirname(os.path.abspath(__file__))
 TOP = os.path.dirname(HERE)
 AT_ONCE = 3
-GATEWAY = os.path.join(TOP, "examples", "gateway.cddl")
-BROKEN = os.path.join(TOP, "examples", "broken.cborseq")
+GATEWAY, BROKEN, COSE, COSE_BROKEN = (
+    os.path.join(TOP, "examples", name)
+    for name in ("gateway.cddl", "broken.cborseq", "cose_sign1.cddl", "cose_sign1_broken.cborseq"))
 # Words of a command, in which a text that is no file's name stands for a file with this text.
 COMMANDS = [
     ["check", GATEWAY],
     ["validate", GATEWAY, BROKEN],
     ["show", BROKEN],
+    ["validate", COSE, COSE_BROKEN],
     ["check", "a = [b, c<int>, ~d, &(x: 1)]\nb = (int // tstr)\nc<t> = [* t]\nd = #6.1(any)\n"],
     ["check", "a = [b]\nb = (int // c)\n"],
     ["check", "a = [~b]\nb = int\n"],
@@ -32,6 +34,12 @@ COMMANDS = [
     ["check", "r = [a]\na = [5..tstr, 3*2 int]\n"],
     ["check", "r = (a: 1, b: [c])\nc = (d //\n"],
     ["check", "a /= 1 / 'x' / h'00' / b64'AA' / \"\\u{1F600}\" / -1 / 0x13 / #7.20 / #6.<b>(c)\nb = 1..2\nc = any\n$s /= 3\nd = [* $$g, $s]\n"],
+    ["check", "m = {a: int, ? 1 ^ => m, k => [* m], (b: 1 // c: 2), ? (d: 1), * $$e, + p<5>, ~n, 2*3 #6.<7>({int => any}) => any}\n"
+     "k = 1 / 'x'\n$$e //= (? 6 => tstr // * 7 => bool)\np<t> = (t => t)\nn = {e: 1}\n"],
+    ["check", "m = {a: int, g}\ng = (b: int, [* m])\n"],
+    ["check", "m = {* (a: int // b: int, c: int)}\n"],
+    ["check", "m = {g}\ng = (a: int, ? h)\nh = (b: int, ? g)\n"],
+    ["check", "m = {f, f, k}\nf = (k, k, k, k, k)\nk = (a: 1 // b: 1)\n"],
     ["check", "--root", "s", "r = int\ns = [* ~t]\nt = [+ r]\n"],
 ]
 
@@ -79,7 +87,7 @@ def run_memory(program):
                 words.append(word)
             good, made = run_command(words, shim, folder, pool)
             passed, failed = passed + good, failed + (not good)
-            told = command[0] + (" a text" if place > 2 else " an example")
+            told = command[0] + (" a text" if "\n" in "".join(command) else " an example")
             print(f"{told}: {made} requests, {'passed' if good else 'FAILED'}", flush=True)
     return passed, failed
 

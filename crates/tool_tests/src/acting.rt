@@ -129,10 +129,10 @@ static ROWS: [Row; 10] = [
     },
     Row {
         words: VALIDATE,
-        spec: b"a = {}",
+        spec: b"a = uint .size 1",
         stream: b"\x17",
         out: b"",
-        err: b"refused: C0 NotYet at byte 4\n",
+        err: b"refused: C0 NotYet at byte 9\n",
         status: 2,
     },
     Row {
