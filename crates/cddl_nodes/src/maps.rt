@@ -1,6 +1,9 @@
 //! The forms of maps (RFC 8610 section 3.5), and of the keys in them.
 
 ghost use Rattle.std.specs.Prelude.{◌≡◌, IfOk, List, Option, Some, map, slice_get, vec_items};
+ghost use Rattle.std.specs.String.{string_bytes};
+ghost use Rattle.cbor_data.specs.Value as V;
+ghost use Rattle.cbor_item.specs.View.{view};
 ghost use Rattle.cddl_meaning.specs.Alike.{AlikeAll};
 ghost use Rattle.cddl_language.specs.Language.{word};
 ghost use Rattle.cddl_language.specs.Maps as M;
@@ -39,9 +42,15 @@ pub(crate) fn word_form(alloc: Global, terms: &Terms<'_>, text: u32) -> Result<T
         return Err(NoRoom);
     };
     match String::from_str(alloc, name) {
-        Ok(word) => Ok(TypeForm::Plain(Test::Equals(Item::Text(word)))),
+        Ok(word) => Ok(TypeForm::Plain(Test::Equals(text_item(word)))),
         Err(_) => Err(NoRoom),
     }
+}
+
+fn text_item(text: String) -> Item
+    ensures { view result ≡ V.text (string_bytes text) }
+{
+    Item::Text(text)
 }
 
 /// A map with one of the alternatives that the group of the row stands for. Where it stands for none, no item is such a map.
@@ -54,12 +63,12 @@ pub(crate) fn map_form(
     ensures { IfOk result (λ f. (s : Sense) (g : Group) → IsSource s terms.now source.now → IsGroup terms.now group g → IsKnown s (L.map_of g) → IsTermForm s terms.now (L.map_of g) f) }
 {
     all_described();
+    known_members();
+    parts_stand_for_maps();
+    texts_have_entries();
     if !stands_for_some(source, group) {
         return Ok(nothing(alloc));
     }
-    parts_stand_for_maps();
-    known_members();
-    texts_have_entries();
     let Ok(Some(members)) = alternatives(alloc, source.parts, source.summaries, group as usize)
     else {
         return Err(NoRoom);
