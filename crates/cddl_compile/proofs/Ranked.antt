@@ -119,6 +119,7 @@ module _ (s : Sense) (t : Table) (r : Ranks) (given : Given s t r) (v : Nodes) (
   type_most (T.Instance k) = twice_most (rank r (N.Name k)) (bound r) (given.ranked.most (N.Name k))
   type_most (T.Chosen (Some n)) = twice_most (rank r (N.Chosen n)) (bound r) (given.ranked.most (N.Chosen n))
   type_most (T.Chosen None) = none_most (bound r)
+  type_most (T.Word n) = none_most (bound r)
 
   group_most : (o : GroupOrigin) → group_rank r o ≤ 2 * bound r + 1
   group_most (G.Alternatives (Some n)) = twice_most (rank r (N.Row n)) (bound r) (given.ranked.most (N.Row n))

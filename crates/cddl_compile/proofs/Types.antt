@@ -7,7 +7,8 @@ use Rattle.cddl_language.specs.Literals.{whole_of}
 use Rattle.cddl_language.specs.Substitution.{type_choices, group_choices}
 use Rattle.cddl_language.specs.Kinds.{Opened, opens_group, opens_type, opened, is_group, Part, asks_type, names_group, opens, part_of}
 use Rattle.cddl_language.specs.Choices.{can_choose, chosen, chosen_by_name}
-use Rattle.cddl_language.specs.Language.{TypeName, type, reference, GroupName, nothing, choice, content, between, chosen_part_name, chosen_name, chosen_names, term_node, type_node}
+use Rattle.cddl_language.specs.Maps.{Alternatives, map_alternatives}
+use Rattle.cddl_language.specs.Language.{TypeName, type, reference, GroupName, nothing, choice, content, between, map_node, chosen_part_name, chosen_name, chosen_names, term_node, type_node}
 use Rattle.cddl_language.specs.Reach.{Reaches, at_name, at_unwrapping, at_choice, at_opened_choice, points, group_points, entries_points, entry_points}
 use Rattle.cddl_terms.specs.Table.{Table}
 use Rattle.cddl_terms.specs.Trees.{IsTerm, IsGroup, IsEntries, IsEntry}
@@ -19,7 +20,7 @@ use Rattle.cddl_recursion.specs.Asking.{a_type, a_group, chosen_group, chosen_en
 use Rattle.cddl_recursion.specs.Standing.{type_row, group_row, chosen_group_row, chosen_entries_row, chosen_entry_row, name_place, unwrapping_place, choice_place, opened_choice_place}
 use Rattle.cddl_recursion.specs.Order.{rank}
 use Rattle.cddl_nodes.specs.Basis.{Sense}
-use Rattle.cddl_nodes.specs.Origins.{all_points, IsTypeOrigin, of_row, of_instance, of_chosen, IsGroupOrigin}
+use Rattle.cddl_nodes.specs.Origins.{all_points, IsTypeOrigin, of_row, of_instance, of_chosen, of_word, IsGroupOrigin}
 use Rattle.cddl_nodes.specs.declared.origin.GroupOrigin.{GroupOrigin}
 use Rattle.cddl_nodes.specs.declared.origin.TypeOrigin.{TypeOrigin}
 use Rattle.cddl_nodes.specs.declared.origin.TypeOrigin.TheVariants as T
@@ -67,6 +68,14 @@ between_items : (c : Bool) (a b : Option Value) (g : GroupName) → FreeItems (b
 between_items c (Some a) (Some b) g h = h
 between_items c (Some a) None g h = h
 between_items c None b g h = h
+
+map_free : (o : Option Alternatives) (m : TypeName) → FreeType (map_node o) m → ⊥
+map_free (Some mss) m h = h
+map_free None m h = h
+
+map_items : (o : Option Alternatives) (g : GroupName) → FreeItems (map_node o) g → ⊥
+map_items (Some mss) g h = h
+map_items None g h = h
 
 module _ (s : Sense) (t : Table) (r : Ranks) (given : Given s t r) where
   -- What `&` chooses from has a rank below that of the row that it chooses from.
@@ -202,7 +211,7 @@ module _ (s : Sense) (t : Table) (r : Ranks) (given : Given s t r) where
       let e = named_free (is_group s.definitions (name_of q)) q m f in
       below_instance s t r q p (subst (λ (z : TypeName). IsTypeOrigin s t z p) e u) (rank r (N.Row n)) (λ k i g. step s t r given.ranked (N.Row n) (N.Name k) (a_type (named q)) (a_point (at_name q)) (type_row h) (name_place i) c A.by_name)
   type_in_row n (parens x) h c m p f u = below_row s t r x p (subst (λ (z : TypeName). IsTypeOrigin s t z p) f u) (rank r (N.Row n)) (λ j i. step s t r given.ranked (N.Row n) (N.Row j) (a_type (parens x)) (a_type x) (type_row h) (type_row i) c A.in_parens)
-  type_in_row n (map_of g) h c m p f u = absurd f
+  type_in_row n (map_of g) h c m p f u = absurd (map_free (map_alternatives s.definitions g) m f)
   type_in_row n (array_of g) h c m p f u = absurd f
   type_in_row n (unwrapped q) h c m p f u =
       let e = content_free (opened s.definitions q) m f in
@@ -244,7 +253,7 @@ module _ (s : Sense) (t : Table) (r : Ranks) (given : Given s t r) where
   items_in_row n (literal v) h c g p f u = absurd f
   items_in_row n (named q) h c g p f u = absurd (named_items (is_group s.definitions (name_of q)) q g f)
   items_in_row n (parens x) h c g p f u = absurd f
-  items_in_row n (map_of i) h c g p f u = absurd f
+  items_in_row n (map_of i) h c g p f u = absurd (map_items (map_alternatives s.definitions i) g f)
   items_in_row n (array_of i) h c g p f u = below_group s t r i p (subst (λ (z : GroupName). IsGroupOrigin s t z p) f u) (rank r (N.Row n)) (λ j k. step s t r given.ranked (N.Row n) (N.Row j) (a_type (array_of i)) (a_group i) (type_row h) (group_row k) c A.in_array)
   items_in_row n (unwrapped q) h c g p f u = absurd (content_items (opened s.definitions q) g f)
   items_in_row n (choice_of i) h c g p f u = absurd (choice_items (chosen s.definitions i) (chosen_names s.worth s.definitions (alternatives i)) g f)
@@ -273,8 +282,10 @@ module _ (s : Sense) (t : Table) (r : Ranks) (given : Given s t r) where
   types_down x o (of_row {n = n} {x = y} h c w) m p f u = type_in_row n y h c m p f u
   types_down x o (of_instance {k = k} {r = q} e g) m p f u = type_in_meaning k q e g (given.instance k q e) m p f u
   types_down x o (of_chosen {o = i} {ess = ess} a c w can) m p f u = reached_in ess i a c m p f u
+  types_down x o (of_word e) m p f u = absurd f
 
   pub items_down : (x : TypeName) (o : TypeOrigin) → IsTypeOrigin s t x o → (g : GroupName) (p : GroupOrigin) → FreeItems (type_node s.worth s.definitions x) g → IsGroupOrigin s t g p → group_rank r p < type_rank r o
   items_down x o (of_row {n = n} {x = y} h c w) g p f u = items_in_row n y h c g p f u
   items_down x o (of_instance e i) g p f u = absurd f
   items_down x o (of_chosen a c w can) g p f u = absurd f
+  items_down x o (of_word e) g p f u = absurd f

@@ -8,13 +8,14 @@ use Rattle.cddl_recursion.specs.declared.graph.Ranks.{Ranks}
 use Rattle.cddl_recursion.specs.declared.node.Node.TheVariants as N
 use Rattle.cddl_recursion.specs.Order.{rank}
 
--- Twice the rank of the node that it is of. An entry is above its rounds, which are of the same row.
+-- Twice the rank of the node that it is of. An entry is above its rounds, which are of the same row. A word asks nothing else.
 
 abbrev pub type_rank : Ranks → TypeOrigin → ℕ
 type_rank r (T.Row n) = 2 * rank r (N.Row n)
 type_rank r (T.Instance k) = 2 * rank r (N.Name k)
 type_rank r (T.Chosen (Some n)) = 2 * rank r (N.Chosen n)
 type_rank r (T.Chosen None) = 0
+type_rank r (T.Word n) = 0
 
 abbrev pub group_rank : Ranks → GroupOrigin → ℕ
 group_rank r (G.Alternatives (Some n)) = 2 * rank r (N.Row n)

@@ -55,7 +55,7 @@ fn type_rank(ranks: &Ranks, origin: TypeOrigin) -> Result<usize, NoRoom>
         TypeOrigin::Row(row) => twice(ranks.rank(Node::Row(row))),
         TypeOrigin::Instance(place) => twice(ranks.rank(Node::Name(place))),
         TypeOrigin::Chosen(Some(row)) => twice(ranks.rank(Node::Chosen(row))),
-        TypeOrigin::Chosen(None) => Ok(0),
+        TypeOrigin::Chosen(None) | TypeOrigin::Word(_) => Ok(0),
     }
 }
 

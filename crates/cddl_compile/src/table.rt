@@ -4,7 +4,7 @@ ghost use Rattle.std.specs.Prelude.{◌≡◌, ℕ, IfErr, IfOk, List, Some, fal
 ghost use Rattle.cddl_language.specs.Kinds.{is_group};
 ghost use Rattle.cddl_language.specs.StandsFor.{StandsFor};
 ghost use Rattle.cddl_compile.specs.Ranks.{group_rank, type_rank};
-ghost use Rattle.cddl_nodes.specs.Basis.{IsBasis, Sense};
+ghost use Rattle.cddl_nodes.specs.Basis.{IsSource, Sense};
 ghost use Rattle.cddl_recursion.specs.Order.{AreRanked};
 ghost use Rattle.cddl_ranks.specs.Flags.{AreFlags};
 ghost use Rattle.cddl_ranks.specs.Ranked.{IsRanked};
@@ -17,12 +17,9 @@ ghost use Rattle.cddl_compile.specs.declared.table.Unmade.TheVariants as Why;
 
 use crate::ranks::{group_ranks, type_ranks};
 use crate::root::root_place;
-use cddl_closed::Closed;
 use cddl_closed::laws::{meaning_at, meanings_are_reached};
 use cddl_flags::flags_of;
-use cddl_kinds::Kinds;
-use cddl_nodes::{Nodes, nodes_of};
-use cddl_openings::Opening;
+use cddl_nodes::{Nodes, Source, nodes_of};
 use cddl_openings::laws::part_is_reached;
 use cddl_recursion::Ranks;
 use cddl_table::{Ranks as NodeRanks, Table};
@@ -58,8 +55,8 @@ impl From<AllocError> for Unmade {
 /// The table of a specification (RFC 8610 sections 2 and 3): a type or a group for each of its instances and for what their
 /// parts ask for, each with a rank that is above those of what it asks of the same item.
 ///
-/// It is given the table of terms, what the instances mean, kinds of names, what `~` of each instance opens, the literal that
-/// each is, from which groups `&` can choose, ranks of what they ask, and the number of the root's name.
+/// It is given the table of terms, what is known of the instances and of the rows, ranks of what they ask, and the number of the
+/// root's name.
 ///
 /// It takes time and memory in proportion to the forms that are made. Nothing recurses.
 ///
@@ -70,27 +67,21 @@ impl From<AllocError> for Unmade {
 pub fn table_of(
     alloc: Global,
     terms: &Terms<'_>,
-    closed: &Closed,
-    kinds: &Kinds,
-    openings: &[Opening],
-    literals: &[Option<u32>],
-    choosable: &[bool],
+    source: &Source<'_>,
     ranks: &Ranks,
     root: u32,
 ) -> Result<Table, Unmade>
-    ensures stands { IfOk result (λ table. (s : Sense) → IsBasis s terms.now closed.now kinds.now openings.now literals.now choosable.now → slice_get terms.now.texts root ≡ Some s.root → is_group s.definitions s.root ≡ false → AreRanked s.definitions s.root s.refs terms.now ranks.now → StandsFor s.worth s.definitions s.root (language_of table) (root_of table) (rank_of table) (ranks_of table)) }
-    ensures ranked { IfErr result (λ why. why ≡ Why.NotRanked → (s : Sense) → IsBasis s terms.now closed.now kinds.now openings.now literals.now choosable.now → slice_get terms.now.texts root ≡ Some s.root → is_group s.definitions s.root ≡ false → AreRanked s.definitions s.root s.refs terms.now ranks.now → ⊥) }
+    ensures stands { IfOk result (λ table. (s : Sense) → IsSource s terms.now source.now → slice_get terms.now.texts root ≡ Some s.root → is_group s.definitions s.root ≡ false → AreRanked s.definitions s.root s.refs terms.now ranks.now → StandsFor s.worth s.definitions s.root (language_of table) (root_of table) (rank_of table) (ranks_of table)) }
+    ensures ranked { IfErr result (λ why. why ≡ Why.NotRanked → (s : Sense) → IsSource s terms.now source.now → slice_get terms.now.texts root ≡ Some s.root → is_group s.definitions s.root ≡ false → AreRanked s.definitions s.root s.refs terms.now ranks.now → ⊥) }
 {
     equal_numbers(terms);
     meaning_at();
     meanings_are_reached();
     part_is_reached();
-    let Some(place) = root_place(terms, closed, root) else {
+    let Some(place) = root_place(terms, source.closed, root) else {
         return Err(Unmade::NotRanked);
     };
-    let nodes = nodes_of(
-        alloc, terms, closed, kinds, openings, literals, choosable, place,
-    )?;
+    let nodes = nodes_of(alloc, terms, source, place)?;
     let ranks = ranks_of(alloc, ranks, &nodes)?;
     ranked_table(nodes, ranks)
 }

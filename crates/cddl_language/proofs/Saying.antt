@@ -1,7 +1,7 @@
 -- What the language of small specifications says of items.
 use Rattle.std.specs.Prelude.{◌≡◌, ℕ, suc, false, if◌then◌else◌, Some, map, List, [], ◌∷◌, codes}
 use Rattle.std.proofs.Common.{refl, sym, ap, ◌∙◌, subst, arith}
-use Rattle.cbor_data.specs.Value.{Value, uint, text, array, value, no_values}
+use Rattle.cbor_data.specs.Value.{Value, uint, text, array, pairs, pair, no_pairs, value, no_values}
 use Rattle.cddl_literal.specs.Numbers.{Meaning, UintOf, digit_value}
 use Rattle.cddl_meaning.specs.Forms.{Node, Plain}
 use Rattle.cddl_meaning.specs.Forms as F
@@ -12,7 +12,7 @@ use Rattle.cddl_language.specs.Language.{TypeName, GroupName, between, language,
 use Rattle.cddl_language.specs.Literals.{Values, whole}
 use Rattle.cddl_language.specs.Prelude.{plain, prelude}
 use Rattle.cddl_language.specs.Substitution.{type_choices}
-use Rattle.cddl_language.specs.Terms.{Term, Ref, Definition, hash, name_of, named, number}
+use Rattle.cddl_language.specs.Terms.{Term, Ref, Definition, hash, map_of, name_of, named, number}
 
 -- the name of a type says what the choice of these types says, where it is what the name means
 named_says : (worth : Values) (ds : List Definition) (r : Ref) (ts : List Term) (p w : ℕ) (x : Value) (a : J.Answer) → is_group ds (name_of r) ≡ false → type_choices ds r ≡ ts → J.Chooses (language worth ds) (map type ts) p x p a w → J.Says (language worth ds) (type_node worth ds (type (named r))) p x a (suc (suc w))
@@ -74,3 +74,11 @@ below_three worth one three = subst (λ (n : Node TypeName GroupName). J.Says (l
 -- `&(x: int, y: tstr)` says yes to 1, by its first type
 pub one_of_two : (worth : Values) → J.Says (language worth []) (type_node worth [] (type E.one_of_two)) 0 (uint 1) J.Yes 6
 one_of_two worth = J.choice (J.this_one (int_takes_one worth 0))
+
+-- `{x: int}` says yes to `{"x": 1}`
+pub takes_x : (worth : Values) → J.Says (language worth []) (type_node worth [] (type (map_of E.x_int))) 0 (pairs (pair (text (codes "x")) (uint 1) no_pairs)) J.Yes 10
+takes_x worth = J.map refl (J.alternative (J.sort (J.here (J.passed refl) (int_takes_one worth 2)) J.all_sorted) J.no_alternative)
+
+-- and no to `{"y": 1}`, at the key
+pub strays : (worth : Values) → J.Says (language worth []) (type_node worth [] (type (map_of E.x_int))) 0 (pairs (pair (text (codes "y")) (uint 1) no_pairs)) (J.No 1) 5
+strays worth = J.map refl (J.alternative (J.sort (J.other_key (J.missed refl) J.nowhere) J.all_sorted) J.no_alternative)

@@ -1,22 +1,26 @@
 -- The language of closed terms: what form of type or group each of them is (RFC 8610 sections 2 and 3). What a type then
 -- says of an item is told by `Says` of `cddl_meaning`, over this language.
 use Rattle.std.specs.Prelude.{ℕ, ltb, Bool, if◌then◌else◌, List, [], ◌∷◌, ◌++◌, map, Option, Some, None}
+use Rattle.cbor_data.specs.Value as V
 use Rattle.cbor_data.specs.Value.{Value}
 use Rattle.cddl_meaning.specs.Forms as F
 use Rattle.cddl_meaning.specs.Forms.{Node, Language}
 use Rattle.cddl_meaning.specs.Judges.{Answer, Says}
 use Rattle.cddl_language.specs.Numbers.{least_of, most_of, occurs_once, tag_number, hash_form, hash_test}
-use Rattle.cddl_language.specs.Terms.{Text, Term, literal, named, parens, map_of, array_of, unwrapped, choice_of, choice_of_name, tagged, tagged_by, simple_by, hash, range, control, or, Ref, Entries, Entry, typed, keyed, grouped, Definition, choices, alternatives, entry_list, occurrence_of, name_of}
+use Rattle.cddl_language.specs.Terms.{Text, Term, literal, named, parens, map_of, array_of, unwrapped, choice_of, choice_of_name, tagged, tagged_by, simple_by, hash, range, control, or, Ref, Entries, Entry, typed, keyed, grouped, Key, of_type, bareword, of_value, Definition, choices, alternatives, entry_list, occurrence_of, name_of}
 use Rattle.cddl_language.specs.Substitution.{type_choices, group_choices}
 use Rattle.cddl_language.specs.Kinds.{Opened, opens_type, opened, is_group, Part, asks_type, names_group, opens, part_of}
 use Rattle.cddl_language.specs.Literals.{Values, item_of, whole_of}
 use Rattle.cddl_language.specs.Choices.{chosen, chosen_by_name}
+use Rattle.cddl_language.specs.Maps.{Alternatives, Member, cuts, map_alternatives}
 
--- the name of a type: a closed term, a closed reference, or what `&` chooses from in these alternatives
+-- the name of a type: a closed term, a closed reference, what `&` chooses from in these alternatives, or the text string that a
+-- bareword is as a key
 pub data TypeName : Type 0 where
   type : Term → TypeName
   reference : Ref → TypeName
   chosen_of : List Entries → TypeName
+  word : Text → TypeName
 
 -- the name of a group: alternatives, one of them, an entry, or one round of it
 pub data GroupName : Type 0 where
@@ -43,7 +47,22 @@ abbrev pub between : Bool → Option Value → Option Value → Node TypeName Gr
 between closed (Some a) (Some b) = F.Plain (F.between a b closed)
 between closed _ _ = nothing
 
--- What is refused is `nothing` here. Maps and controls have no meaning yet.
+-- Entries of maps (section 3.5). A bareword as a key is the text string of its name (section 3.5.1).
+
+abbrev pub key_name : Key → TypeName
+key_name (of_type t c) = type t
+key_name (bareword n) = word n
+key_name (of_value v) = type (literal v)
+
+abbrev pub map_entry : Member → F.MapEntry TypeName
+map_entry m = record { least = m.least; most = m.most; key_type = key_name m.key; cuts = cuts m.key; value_type = type m.value }
+
+-- a map with one of these alternatives, where there are some
+abbrev pub map_node : Option Alternatives → Node TypeName GroupName
+map_node (Some mss) = F.MapOf (map (map map_entry) mss)
+map_node None = nothing
+
+-- What is refused is `nothing` here. Controls have no meaning yet.
 module _ (worth : Values) (ds : List Definition) where
   -- What `&` chooses from: the types of the entries in order, and for a group in them the choice of its own.
 
@@ -75,13 +94,14 @@ module _ (worth : Values) (ds : List Definition) where
   term_node (hash n) = F.Plain (hash_test (hash_form n))
   term_node (range a c b) = between c (whole_of worth ds a) (whole_of worth ds b)
   term_node (or t u) = F.Choice (map type (choices (or t u)))
-  term_node (map_of g) = nothing
+  term_node (map_of g) = map_node (map_alternatives ds g)
   term_node (control a n b) = nothing
 
   abbrev pub type_node : TypeName → Node TypeName GroupName
   type_node (type t) = term_node t
   type_node (reference r) = F.Choice (map type (type_choices ds r))
   type_node (chosen_of ess) = F.Choice (chosen_names ess)
+  type_node (word n) = F.Plain (F.equals (V.text n))
 
   -- An entry asks its type of one item, or does what its group does. Keys in arrays are for the reader (section 3.4).
   abbrev pub part_form : Term → Part → F.Group TypeName GroupName

@@ -1,7 +1,7 @@
 //! Examples of the definitions, by computing.
 
 ghost use Rattle.std.specs.Prelude.{◌≡◌, ℕ, [], ◌∷◌, Some, None, codes, false, true};
-ghost use Rattle.cbor_data.specs.Value.{Value, array, no_values, text, uint, value};
+ghost use Rattle.cbor_data.specs.Value.{Value, array, no_pairs, no_values, pair, pairs, text, uint, value};
 ghost use Rattle.cddl_meaning.specs.Forms.{any_number_of, at_most, exactly};
 ghost use Rattle.cddl_meaning.specs.Judges.{No, Says, Yes};
 ghost use Rattle.cddl_literal.specs.Numbers.{Meaning, UintOf};
@@ -23,7 +23,7 @@ ghost use Rattle.cddl_language.specs.StandsFor.{StandsFor};
 ghost use Rattle.cddl_language.specs.Substitution.{type_choices};
 ghost use Rattle.cddl_language.specs.Texts as T;
 ghost use Rattle.cddl_token.specs.declared.Code.TheVariants.{Arity, BadRange, BadRoot, Duplicate, GroupAsType, HashForm, KindClash, MapShape, NoKey, NoRoot, NotUnwrappable, Recursion, TooManyAlternatives, TooManyInstances, Undefined, UnknownControl};
-ghost use Rattle.cddl_language.specs.Terms.{Text, call, no_terms, entries, hash, no_entries, number, sole, typed};
+ghost use Rattle.cddl_language.specs.Terms.{Text, call, no_terms, entries, hash, map_of, no_entries, number, sole, typed};
 
 /// Numbers in the texts of tokens.
 pub fn numbers()
@@ -117,13 +117,16 @@ pub fn map_faults()
 {}
 
 /// What the language says of items: `int` of 1; `[* int, int]` of `[1]`, where nothing is given back; `[~u]` with
-/// `u = #6.32(tstr)` of `["a"]`; `&(x: int, y: tstr)` of 1; `1...3` of 3.
+/// `u = #6.32(tstr)` of `["a"]`; `&(x: int, y: tstr)` of 1; `1...3` of 3; `{x: int}` of `{"x": 1}`, and of `{"y": 1}`, where the
+/// key belongs to no entry.
 pub fn items()
     ensures int { (worth : Values) (p : ℕ) → Says (language worth []) (type_node worth [] (type E.int)) p (uint 1) Yes 5 }
     ensures greedy { (worth : Values) → Says (language worth []) (type_node worth [] (type E.ints_then_int)) 0 (array (value (uint 1) no_values)) (No 0) 12 }
     ensures content { (worth : Values) → Says (language worth E.tagged_text) (type_node worth E.tagged_text (type E.opened_text)) 0 (array (value (text (codes "a")) no_values)) Yes 8 }
     ensures choice { (worth : Values) → Says (language worth []) (type_node worth [] (type E.one_of_two)) 0 (uint 1) Yes 6 }
     ensures range { (worth : Values) → worth (number (codes "1")) ≡ UintOf 1 → worth (number (codes "3")) ≡ UintOf 3 → Says (language worth []) (type_node worth [] (type E.below_three)) 0 (uint 3) (No 0) 1 }
+    ensures pairs { (worth : Values) → Says (language worth []) (type_node worth [] (type (map_of E.x_int))) 0 (pairs (pair (text (codes "x")) (uint 1) no_pairs)) Yes 10 }
+    ensures stray { (worth : Values) → Says (language worth []) (type_node worth [] (type (map_of E.x_int))) 0 (pairs (pair (text (codes "y")) (uint 1) no_pairs)) (No 1) 5 }
 {}
 
 /// A fault of each code at its byte, but for `TooManyInstances`, which has an example of its own.

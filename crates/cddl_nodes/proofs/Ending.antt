@@ -4,7 +4,7 @@ use Rattle.std.specs.Prelude.{Contains}
 use Rattle.std.proofs.lemmas.Bool.{cases_lt}
 use Rattle.std.proofs.lemmas.Option.{slice_get_within, slice_get-get_or}
 use Rattle.cddl_meaning.specs.Alike.{AlikeAll, none, both, AlikeTypes, AlikeGroups}
-use Rattle.cddl_language.specs.Language.{GroupName, TypeName, type, chosen_of, first_of, each_of, entry, round, group_form, reference, type_node}
+use Rattle.cddl_language.specs.Language.{GroupName, TypeName, type, chosen_of, first_of, each_of, entry, round, group_form, reference, type_node, word}
 use Rattle.cddl_language.specs.StandsFor as Stands
 use Rattle.cddl_language.specs.StandsFor.{HasNode}
 use Rattle.cddl_language.specs.Substitution.{group_choices}
@@ -18,7 +18,7 @@ use Rattle.cddl_table.specs.declared.nodes.TypeId.{TypeId}
 use Rattle.cddl_nodes.specs.Basis.{Sense}
 use Rattle.cddl_nodes.specs.Nodes.{AreNodes, IsNameOfGroup, IsNameOfType}
 use Rattle.cddl_nodes.specs.Numbers.{AreNamed, HasGroupNumber, HasTypeNumber, Keys}
-use Rattle.cddl_nodes.specs.Origins.{IsGroupOrigin, IsTypeOrigin, of_row, of_instance, of_chosen, of_alternatives, of_sequence, of_entry, of_round}
+use Rattle.cddl_nodes.specs.Origins.{IsGroupOrigin, IsTypeOrigin, of_row, of_instance, of_chosen, of_word, of_alternatives, of_sequence, of_entry, of_round}
 use Rattle.cddl_nodes.specs.Search.{HasNumber, of_type, of_group, HasSearch, IsSearch, IsWhole, keys_in}
 use Rattle.cddl_nodes.specs.declared.search.Search.{Search}
 use Rattle.cddl_nodes.specs.declared.making.Nodes.{Nodes}
@@ -125,6 +125,7 @@ module _ (s : Sense) (t : Table) (terms : (n : ℕ) (a b : Term) → IsTerm t n 
   one_type_name n m (O.Row k) (of_row {x = x} h r w) (of_row {x = y} g q z) = ap type (terms k x y h g)
   one_type_name n m (O.Instance k) (of_instance {r = x} e w) (of_instance {r = y} f z) = ap reference (same_one (slice_get s.refs k) x y e f)
   one_type_name n m (O.Chosen o) (of_chosen {ess = x} h r w can) (of_chosen {ess = y} g q z may) = ap chosen_of (one_group o x y h g)
+  one_type_name n m (O.Word k) (of_word {n = x} e) (of_word {n = y} f) = ap word (same_one (slice_get t.texts k) x y e f)
 
   one_group_name : (n m : GroupName) (o : GroupOrigin) → IsGroupOrigin s t n o → IsGroupOrigin s t m o → n ≡ m
   one_group_name n m (G.Alternatives o) (of_alternatives {ess = x} h r w) (of_alternatives {ess = y} g q z) = ap first_of (one_group o x y h g)

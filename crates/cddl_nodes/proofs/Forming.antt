@@ -26,7 +26,7 @@ use Rattle.cddl_openings.specs.declared.openings.Part.TheVariants as PartV
 use Rattle.cddl_literals.specs.Literals.{IsWritten, no_value, value_of}
 use Rattle.cddl_nodes.specs.Basis.{Sense}
 use Rattle.cddl_nodes.specs.Lookups.{between_view, is_flagged, is_over, opened_view}
-use Rattle.cddl_nodes.specs.Origins.{AreKnown, AreKnownEntries, IsKnown, IsKnownEntry, IsKnownGroup, IsTypeOrigin, of_row, of_instance, of_chosen, IsGroupOrigin, of_alternatives, of_sequence, of_entry, of_round, IsAsked, asks_type, asks_named, asks_opened}
+use Rattle.cddl_nodes.specs.Origins.{AreKnown, AreKnownEntries, IsKnown, IsKnownEntry, IsKnownGroup, IsTypeOrigin, of_row, of_instance, of_chosen, of_word, IsGroupOrigin, of_alternatives, of_sequence, of_entry, of_round, IsAsked, asks_type, asks_named, asks_opened}
 use Rattle.cddl_nodes.specs.Shapes.{IsShape, a_literal, a_name, in_parens, an_array, an_unwrapping, a_choice_of, a_choice_of_name, a_tag, a_tag_by, a_simple, a_hash, a_range, a_range_below, a_choice, a_map, a_control, IsEntryShape, a_typed, a_keyed, a_group}
 use Rattle.cddl_nodes.specs.declared.asked.Asked.TheVariants as A
 use Rattle.cddl_nodes.specs.declared.origin.GroupOrigin.{GroupOrigin}
@@ -82,9 +82,11 @@ module _ (t : Table) (P : Term → Type 0) where
   pub or_case : (x : Term) → IsShape t x S.Or → ((y z : Term) → P (or y z)) → P x
   or_case x (a_choice {a = y} {b = z}) f = f y z
 
-  pub other_case : (x : Term) → IsShape t x S.Other → ((g : Group) → P (map_of g)) → ((y z : Term) (n : Text) → P (control y n z)) → P x
-  other_case x (a_map {g = g}) f g' = f g
-  other_case x (a_control {a = y} {b = z} {n = n}) f g' = g' y z n
+  pub map_case : (x : Term) → (k : ℕ) → IsShape t x (S.MapOf k) → ((g : Group) → IsGroup t k g → P (map_of g)) → P x
+  map_case x k (a_map {g = g} h) f = f g h
+
+  pub other_case : (x : Term) → IsShape t x S.Other → ((y z : Term) (n : Text) → P (control y n z)) → P x
+  other_case x (a_control {a = y} {b = z} {n = n}) f = f y z n
 
 module _ (t : Table) (P : Entry → Type 0) where
   pub typed_case : (x : Entry) → (k : ℕ) → IsEntryShape t x (E.Typed k) → ((o : Option Text) (y : Term) → IsTerm t k y → P (typed o y)) → P x
@@ -315,6 +317,9 @@ module _ (s : Sense) (t : Table) (P : TypeName → Type 0) where
 
   pub chosen_case : (n : TypeName) → (o : Option ℕ) → IsTypeOrigin s t n (O.Chosen o) → ((ess : List Entries) → AreAlternatives t ess o → AreKnown s ess → can_choose s.definitions ess ≡ true → P (L.chosen_of ess)) → P n
   chosen_case n o (of_chosen {ess = ess} h re w can) f = f ess h (re, w) can
+
+  pub word_case : (n : TypeName) → (k : ℕ) → IsTypeOrigin s t n (O.Word k) → ((w : Text) → slice_get t.texts k ≡ Some w → P (L.word w)) → P n
+  word_case n k (of_word {n = w} e) f = f w e
 
 module _ (s : Sense) (t : Table) (P : GroupName → Type 0) where
   pub alternatives_case : (n : GroupName) → (o : Option ℕ) → IsGroupOrigin s t n (GO.Alternatives o) → ((ess : List Entries) → AreAlternatives t ess o → AreKnown s ess → P (first_of ess)) → P n

@@ -2,7 +2,10 @@ pub mod Ending
 pub mod Forming
 pub mod Knowing
 pub mod Listing
+pub mod Mapping
+pub mod Members
 pub mod Numbering
+pub mod Pairing
 pub mod Reaching
 pub mod Searching
 pub mod Shaping

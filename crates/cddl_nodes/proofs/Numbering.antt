@@ -1,16 +1,23 @@
 -- Numbers that are given, and what is made with them.
+use Rattle.std.specs.declared.alloc.Global.{Global}
+use Rattle.std.specs.declared.vec.Vec.{Vec}
 use Rattle.std.proofs.Common.{◌≡◌, ℕ, zero, suc, List, [], ◌∷◌, ◌++◌, Some, length, refl, sym, ap, subst, ◌∙◌, ◌⊎◌, inl, inr, slice_get}
-use Rattle.cddl_meaning.specs.Alike.{AlikeAll, none, both, AlikeTypes, plain, refs, choices, arrays, tags, simples, AlikeNumbers, any_numbers, same_number, heads, AlikeGroups, entries, group_refs, sequences, alternates, repeats}
+use Rattle.cddl_meaning.specs.Alike.{AlikeAll, none, both, AlikeTypes, plain, refs, choices, arrays, tags, simples, maps, AlikeNumbers, any_numbers, same_number, heads, AlikeGroups, entries, group_refs, sequences, alternates, repeats}
 use Rattle.cddl_meaning.specs.Forms as F
 use Rattle.cddl_language.specs.Language.{TypeName, GroupName}
 use Rattle.cddl_terms.specs.Table.{Table}
+use Rattle.cddl_table.specs.Nodes.{alternatives_view, entry_view}
+use Rattle.cddl_table.specs.declared.nodes.MapEntry.{MapEntry}
 use Rattle.cddl_table.specs.declared.nodes.TypeId.{TypeId}
 use Rattle.cddl_table.specs.declared.nodes.GroupId.{GroupId}
 use Rattle.cddl_nodes.specs.Basis.{Sense}
-use Rattle.cddl_nodes.specs.Numbers.{AreNamed, Extends, IsGroupAt, IsTypeAt, Keys, MakesGroup, MakesNumber, MakesType, NumbersGroup, NumbersGroups, NumbersType, NumbersTypes}
-use Rattle.cddl_nodes.specs.Origins.{IsGroupOrigin, IsTypeOrigin}
+use Rattle.cddl_nodes.specs.Forms.{entry_form_view, map_form_view}
+use Rattle.cddl_nodes.specs.Numbers.{AreEntriesAt, AreNamed, Extends, IsEntryAt, IsGroupAt, IsTypeAt, Keys, MakesGroup, MakesNumber, MakesType, NumbersGroup, NumbersGroups, NumbersMap, NumbersType, NumbersTypes}
+use Rattle.cddl_nodes.specs.Origins.{IsEntryOf, IsGroupOrigin, IsTypeOrigin}
+use Rattle.cddl_nodes.specs.declared.form.EntryForm.{EntryForm}
 use Rattle.cddl_nodes.specs.declared.origin.GroupOrigin.{GroupOrigin}
 use Rattle.cddl_nodes.specs.declared.origin.TypeOrigin.{TypeOrigin}
+use Rattle.cddl_nodes.proofs.Pairing.{map_alike, map_back}
 use Rattle.cddl_nodes.proofs.Listing.{alike_more, alike_pushed, append_none, appended}
 
 pub get_cases : {A : Type 0} (xs : List A) (y : A) (i : ℕ) (x : A) → slice_get (xs ++ y ∷ []) i ≡ Some x → (slice_get xs i ≡ Some x) ⊎ ((i ≡ length xs) × (x ≡ y))
@@ -67,6 +74,12 @@ type_stays a b g o m e = g.types m.number o e
 pub group_stays : (a b : Keys) → Extends a b → (o : GroupOrigin) (m : GroupId) → IsGroupAt a o m → IsGroupAt b o m
 group_stays a b g o m e = g.groups m.number o e
 
+pub entry_stays : (a b : Keys) → Extends a b → (f : EntryForm) (m : MapEntry) → IsEntryAt a f m → IsEntryAt b f m
+entry_stays a b g f m h = record { least = h.least; most = h.most; cuts = h.cuts; key = g.types m.key_type.number f.key h.key; value = g.types m.value_type.number f.value h.value }
+
+pub entries_stay : (a b : Keys) → Extends a b → (fs : Vec EntryForm Global) (ms : Vec MapEntry Global) → AreEntriesAt a fs ms → AreEntriesAt b fs ms
+entries_stay a b g fs ms h = alike_more (IsEntryAt a) (IsEntryAt b) (entry_stays a b g) fs.items ms.items h
+
 -- What is made of forms.
 
 pub made_any : (ks : Keys) → MakesNumber ks ks F.any_number F.any_number
@@ -118,6 +131,12 @@ made_simple old new o m w = record { grows = w.grows; there = simples w.there; n
   where
     by : (s : Sense) (t : Table) (n : F.Node TypeName GroupName) → AlikeTypes (IsTypeOrigin s t) (IsGroupOrigin s t) n (F.SimpleBy o) → AreNamed s t old → AreNamed s t new
     by s t n (simples {n = k} h) so = w.named s t k h so
+
+pub made_map : (old new : Keys) (fss : List (Vec EntryForm Global)) (mss : List (Vec MapEntry Global)) → NumbersMap old new fss mss → MakesType old new (F.MapOf (map_form_view fss)) (F.MapOf (alternatives_view mss))
+made_map old new fss mss w = record { grows = w.grows; there = maps (map_alike (IsTypeAt new) entry_form_view entry_view fss mss w.there); named = λ s t n h so. by s t n h so }
+  where
+    by : (s : Sense) (t : Table) (n : F.Node TypeName GroupName) → AlikeTypes (IsTypeOrigin s t) (IsGroupOrigin s t) n (F.MapOf (map_form_view fss)) → AreNamed s t old → AreNamed s t new
+    by s t n (maps {dss = dss} h) so = w.named s t dss (map_back (IsTypeOrigin s t) entry_form_view dss fss h) so
 
 pub made_entry : (old new : Keys) (o : TypeOrigin) (m : TypeId) → NumbersType old new o m → MakesGroup old new (F.Entry o) (F.Entry m)
 made_entry old new o m w = record { grows = w.grows; there = entries w.there; named = λ s t n h so. by s t n h so }

@@ -13,6 +13,10 @@ use Rattle.cddl_openings.specs.declared.openings.Opening.{Opening}
 use Rattle.cddl_openings.specs.Openings.{AreOpenings}
 use Rattle.cddl_literals.specs.Literals.{AreLiterals}
 use Rattle.cddl_choosing.specs.Choosing.{AreChoosable}
+use Rattle.cddl_splices.specs.Parts.{AreParts}
+use Rattle.splices.specs.declared.Part.{Part}
+use Rattle.splices.specs.declared.summary.Summary.{Summary}
+use Rattle.splices.specs.Summaries.{AreSummaries}
 use Rattle.cddl_nodes.specs.declared.source.Source.{Source}
 
 -- a text's tree and its definitions, the root's name, the instances in order, and what written values stand for
@@ -23,14 +27,16 @@ pub record Sense : Type 0 where
   pub root : Text
   pub refs : List Ref
 
-pub record IsBasis (s : Sense) (t : Table) (c : Closed) (kinds : Kinds) (openings : List Opening) (literals : List (Option ℕ)) (flags : List Bool) : Type 0 where
+pub record IsBasis (s : Sense) (t : Table) (c : Closed) (kinds : Kinds) (openings : List Opening) (literals : List (Option ℕ)) (flags : List Bool) (parts : List Part) (summaries : List (Option Summary)) : Type 0 where
   pub closed : IsClosed s.definitions s.root s.refs t c
   pub kinds_are : AreKinds t.texts s.definitions kinds
   pub openings_are : AreOpenings s.definitions t s.refs openings
   pub literals_are : AreLiterals s.definitions t s.refs literals
   pub choosable : AreChoosable s.definitions s.root t flags
+  pub parts_are : AreParts s.definitions s.root t parts
+  pub summaries_are : AreSummaries parts summaries
   pub defined : s.definitions ≡ definitions_in (rules_of s.tree)
   pub right : AreRight s.tree s.worth
 
 abbrev pub IsSource : Sense → Table → Source → Type 0
-IsSource s t src = IsBasis s t src.closed.now src.kinds.now src.openings.now src.literals.now src.choosable.now
+IsSource s t src = IsBasis s t src.closed.now src.kinds.now src.openings.now src.literals.now src.choosable.now src.parts.now src.summaries.now

@@ -5,6 +5,7 @@ use Rattle.cddl_meaning.specs.Forms as F
 use Rattle.cddl_terms.specs.declared.row.Row.{Row}
 use Rattle.cddl_openings.specs.declared.openings.Opening.{Opening}
 use Rattle.cddl_openings.specs.declared.openings.Opening.TheVariants as OpeningV
+use Rattle.splices.specs.declared.summary.Summary.{Summary}
 use Rattle.cddl_nodes.specs.declared.origin.GroupOrigin.{GroupOrigin}
 use Rattle.cddl_nodes.specs.declared.origin.TypeOrigin.{TypeOrigin}
 use Rattle.cddl_nodes.specs.declared.origin.TypeOrigin.TheVariants as T
@@ -16,6 +17,11 @@ flattened (Some o) = o
 abbrev pub is_flagged : Option Bool → Bool
 is_flagged (Some true) = true
 is_flagged _ = false
+
+-- whether what is looked up stands for something
+abbrev pub is_told : Option (Option Summary) → Bool
+is_told (Some (Some s)) = true
+is_told _ = false
 
 abbrev pub opened_view : Opening → F.Node TypeOrigin GroupOrigin
 opened_view (OpeningV.Type n) = F.Ref (T.Row n)

@@ -4,10 +4,17 @@ use Rattle.cddl_meaning.specs.Alike.{AlikeAll, AlikeGroups, AlikeNumbers, AlikeT
 use Rattle.cddl_meaning.specs.Forms as F
 use Rattle.cddl_language.specs.Language.{TypeName, GroupName}
 use Rattle.cddl_terms.specs.Table.{Table}
+use Rattle.std.specs.declared.alloc.Global.{Global}
+use Rattle.std.specs.declared.vec.Vec.{Vec}
+use Rattle.cddl_table.specs.Nodes.{entry_view}
+use Rattle.cddl_table.specs.declared.nodes.MapEntry.{MapEntry}
 use Rattle.cddl_table.specs.declared.nodes.TypeId.{TypeId}
 use Rattle.cddl_table.specs.declared.nodes.GroupId.{GroupId}
 use Rattle.cddl_nodes.specs.Basis.{Sense}
-use Rattle.cddl_nodes.specs.Origins.{IsGroupOrigin, IsTypeOrigin}
+use Rattle.cddl_nodes.specs.Entries.{IsAlikeEntry}
+use Rattle.cddl_nodes.specs.Forms.{entry_form_view}
+use Rattle.cddl_nodes.specs.Origins.{IsEntryOf, IsGroupOrigin, IsTypeOrigin}
+use Rattle.cddl_nodes.specs.declared.form.EntryForm.{EntryForm}
 use Rattle.cddl_nodes.specs.declared.numbers.Numbers.{Numbers}
 use Rattle.cddl_nodes.specs.declared.origin.GroupOrigin.{GroupOrigin}
 use Rattle.cddl_nodes.specs.declared.origin.TypeOrigin.{TypeOrigin}
@@ -57,6 +64,32 @@ pub record NumbersGroups (old new : Keys) (os : List GroupOrigin) (ms : List Gro
   pub grows : Extends old new
   pub there : AlikeAll (IsGroupAt new) os ms
   pub named : (s : Sense) (t : Table) (ns : List GroupName) → AlikeAll (IsGroupOrigin s t) ns os → AreNamed s t old → AreNamed s t new
+
+-- Of entries of maps.
+
+abbrev pub IsEntryAt : Keys → EntryForm → MapEntry → Type 0
+IsEntryAt ks f m = IsAlikeEntry (IsTypeAt ks) (entry_form_view f) (entry_view m)
+
+abbrev pub AreEntriesAt : Keys → Vec EntryForm Global → Vec MapEntry Global → Type 0
+AreEntriesAt ks fs ms = AlikeAll (IsEntryAt ks) fs.items ms.items
+
+abbrev pub AreEntriesOf : Sense → Table → List (F.MapEntry TypeName) → Vec EntryForm Global → Type 0
+AreEntriesOf s t ds fs = AlikeAll (IsEntryOf s t) ds fs.items
+
+pub record NumbersEntry (old new : Keys) (f : EntryForm) (m : MapEntry) : Type 0 where
+  pub grows : Extends old new
+  pub there : IsEntryAt new f m
+  pub named : (s : Sense) (t : Table) (d : F.MapEntry TypeName) → IsEntryOf s t d f → AreNamed s t old → AreNamed s t new
+
+pub record NumbersEntries (old new : Keys) (fs : List EntryForm) (ms : List MapEntry) : Type 0 where
+  pub grows : Extends old new
+  pub there : AlikeAll (IsEntryAt new) fs ms
+  pub named : (s : Sense) (t : Table) (ds : List (F.MapEntry TypeName)) → AlikeAll (IsEntryOf s t) ds fs → AreNamed s t old → AreNamed s t new
+
+pub record NumbersMap (old new : Keys) (fss : List (Vec EntryForm Global)) (mss : List (Vec MapEntry Global)) : Type 0 where
+  pub grows : Extends old new
+  pub there : AlikeAll (AreEntriesAt new) fss mss
+  pub named : (s : Sense) (t : Table) (dss : List (List (F.MapEntry TypeName))) → AlikeAll (AreEntriesOf s t) dss fss → AreNamed s t old → AreNamed s t new
 
 -- What is made of a form, with numbers for its parts.
 

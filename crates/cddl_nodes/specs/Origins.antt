@@ -1,23 +1,30 @@
 -- What the types and groups of the table are of.
 use Rattle.std.specs.Prelude.{◌≡◌, ℕ, true, false, List, [], ◌∷◌, ◌++◌, map, Option, Some, slice_get}
+use Rattle.std.specs.declared.alloc.Global.{Global}
+use Rattle.std.specs.declared.vec.Vec.{Vec}
 use Rattle.cddl_meaning.specs.Alike.{AlikeAll, AlikeTypes, AlikeGroups}
-use Rattle.cddl_language.specs.Terms.{Literal, Term, Ref, Group, Entries, Entry, alternatives, entry_list, name_of}
+use Rattle.cddl_meaning.specs.Forms as F
+use Rattle.cddl_language.specs.Terms.{Text, Literal, Term, Ref, Group, Entries, Entry, Key, alternatives, entry_list, name_of}
 use Rattle.cddl_language.specs.Substitution.{group_choices}
 use Rattle.cddl_language.specs.Choices.{can_choose}
+use Rattle.cddl_language.specs.Maps.{Alternatives, Member, cuts}
 use Rattle.cddl_language.specs.Kinds as K
 use Rattle.cddl_language.specs.Kinds.{is_group}
-use Rattle.cddl_language.specs.Reach.{Point, points, group_points, entries_points, entry_points}
+use Rattle.cddl_language.specs.Reach.{Point, points, group_points, entries_points, entry_points, key_points}
 use Rattle.cddl_language.specs.Language as L
-use Rattle.cddl_language.specs.Language.{TypeName, type, chosen_of, GroupName, first_of, each_of, entry, round, reference, type_node}
+use Rattle.cddl_language.specs.Language.{TypeName, type, chosen_of, GroupName, first_of, each_of, entry, round, reference, type_node, word}
 use Rattle.cddl_terms.specs.Table.{Table}
 use Rattle.cddl_terms.specs.Trees.{IsTerm, IsEntries, IsEntry}
 use Rattle.cddl_closed.specs.Closed.{AreAlternatives, AreReached}
-use Rattle.cddl_written.specs.Written.{AllIn, AllInGroup, AllInEntries, AllInEntry, IsMeant}
+use Rattle.cddl_written.specs.Written.{AllIn, AllInGroup, AllInEntries, AllInEntry, AllInKey, IsMeant}
 use Rattle.cddl_nodes.specs.Basis.{Sense}
-use Rattle.cddl_nodes.specs.Forms.{group_form_view, type_form_view}
+use Rattle.cddl_nodes.specs.Entries.{IsAlikeEntry}
+use Rattle.cddl_nodes.specs.Forms.{entry_form_view, group_form_view, type_form_view}
 use Rattle.cddl_nodes.specs.declared.asked.Asked.{Asked}
 use Rattle.cddl_nodes.specs.declared.asked.Asked.TheVariants as A
+use Rattle.cddl_nodes.specs.declared.form.EntryForm.{EntryForm}
 use Rattle.cddl_nodes.specs.declared.form.GroupForm.{GroupForm}
+use Rattle.cddl_nodes.specs.declared.form.KeyForm.{KeyForm}
 use Rattle.cddl_nodes.specs.declared.form.TypeForm.{TypeForm}
 use Rattle.cddl_nodes.specs.declared.origin.GroupOrigin.{GroupOrigin}
 use Rattle.cddl_nodes.specs.declared.origin.GroupOrigin.TheVariants as G
@@ -54,6 +61,22 @@ module _ (s : Sense) where
   abbrev pub AreKnown : List Entries → Type 0
   AreKnown ess = IsReached s (all_points ess) × AllInEach (IsMeant s.worth) ess
 
+  abbrev pub IsKnownKey : Key → Type 0
+  IsKnownKey k = IsReached s (key_points k) × AllInKey (IsMeant s.worth) k
+
+  -- of entries of maps
+
+  abbrev pub IsKnownMember : Member → Type 0
+  IsKnownMember m = IsKnownKey m.key × IsKnown m.value
+
+  abbrev pub AreKnownMembers : List Member → Type 0
+  AreKnownMembers [] = Unit {0}
+  AreKnownMembers (m ∷ ms) = IsKnownMember m × AreKnownMembers ms
+
+  abbrev pub AreKnownAlternatives : Alternatives → Type 0
+  AreKnownAlternatives [] = Unit {0}
+  AreKnownAlternatives (ms ∷ mss) = AreKnownMembers ms × AreKnownAlternatives mss
+
 -- The names of the types and groups that are of these numbers. All references that stand in them are instances, and each
 -- written value in them is taken for what it stands for. What `&` chooses from is of these only where it can choose from it.
 module _ (s : Sense) (t : Table) where
@@ -61,6 +84,7 @@ module _ (s : Sense) (t : Table) where
     of_row : {n : ℕ} {x : Term} → IsTerm t n x → IsReached s (points x) → AllIn (IsMeant s.worth) x → IsTypeOrigin (type x) (T.Row n)
     of_instance : {k : ℕ} {r : Ref} → slice_get s.refs k ≡ Some r → is_group s.definitions (name_of r) ≡ false → IsTypeOrigin (reference r) (T.Instance k)
     of_chosen : {o : Option ℕ} {ess : List Entries} → AreAlternatives t ess o → IsReached s (all_points ess) → AllInEach (IsMeant s.worth) ess → can_choose s.definitions ess ≡ true → IsTypeOrigin (chosen_of ess) (T.Chosen o)
+    of_word : {k : ℕ} {n : Text} → slice_get t.texts k ≡ Some n → IsTypeOrigin (word n) (T.Word k)
 
   pub data IsGroupOrigin : GroupName → GroupOrigin → Type 0 where
     of_alternatives : {o : Option ℕ} {ess : List Entries} → AreAlternatives t ess o → IsReached s (all_points ess) → AllInEach (IsMeant s.worth) ess → IsGroupOrigin (first_of ess) (G.Alternatives o)
@@ -98,6 +122,21 @@ module _ (s : Sense) (t : Table) where
   -- these, and then those of the entries
   abbrev pub AddsChosen : Entries → (old new : List TypeOrigin) → Type 0
   AddsChosen es old new = (ns : List TypeName) → AlikeAll IsTypeOrigin ns old → AlikeAll IsTypeOrigin (ns ++ map (λ e. L.chosen_name s.worth s.definitions e) (entry_list es)) new
+
+  -- entries of maps
+
+  abbrev pub IsEntryOf : F.MapEntry TypeName → EntryForm → Type 0
+  IsEntryOf d f = IsAlikeEntry IsTypeOrigin d (entry_form_view f)
+
+  abbrev pub IsMemberForm : Member → EntryForm → Type 0
+  IsMemberForm m f = IsEntryOf (L.map_entry m) f
+
+  abbrev pub AreMapForms : Alternatives → List (Vec EntryForm Global) → Type 0
+  AreMapForms mss fss = AlikeAll (λ (ms : List Member) (fs : Vec EntryForm Global). AlikeAll IsMemberForm ms fs.items) mss fss
+
+  -- of a key: its type, and whether it cuts
+  abbrev pub IsKeyForm : Key → KeyForm → Type 0
+  IsKeyForm k f = IsTypeOrigin (L.key_name k) f.origin × (cuts k ≡ f.cuts)
 
   -- of groups likewise
   abbrev pub IsAlternativesForm : List Entries → GroupForm → Type 0

@@ -1,11 +1,14 @@
 -- What the rows of terms and of entries are.
-use Rattle.std.specs.Prelude.{◌≡◌, ℕ, true, false, Option, Some, None, slice_get}
+use Rattle.std.specs.Prelude.{◌≡◌, ℕ, Bool, true, false, Option, Some, None, slice_get}
 use Rattle.cddl_language.specs.Terms.{Text, Term, Ref, Group, Literal, literal, named, parens, map_of, array_of, unwrapped, choice_of, choice_of_name, tagged, tagged_by, simple_by, hash, range, control, or, Key, Entry, typed, keyed, grouped}
 use Rattle.cddl_terms.specs.declared.row.Form.{Form}
 use Rattle.cddl_terms.specs.declared.row.Form.TheVariants as F
 use Rattle.cddl_terms.specs.declared.row.Row.{Row}
 use Rattle.cddl_terms.specs.Table.{Table}
 use Rattle.cddl_terms.specs.Trees.{IsTerm, IsRef, IsGroup}
+use Rattle.cddl_nodes.specs.declared.form.KeyForm.{KeyForm}
+use Rattle.cddl_nodes.specs.declared.origin.TypeOrigin.TheVariants as T
+use Rattle.cddl_nodes.specs.declared.shape.Pair.{Pair}
 use Rattle.cddl_nodes.specs.declared.shape.Shape.{Shape}
 use Rattle.cddl_nodes.specs.declared.shape.Shape.TheVariants as S
 use Rattle.cddl_nodes.specs.declared.shape.EntryShape.{EntryShape}
@@ -34,6 +37,7 @@ form_shape_by F.Text m i j = S.Literal
 form_shape_by F.Bytes m i j = S.Literal
 form_shape_by F.Named m i j = with_part S.Named i
 form_shape_by F.Parens m i j = with_part S.Parens i
+form_shape_by F.MapOf m i j = with_part S.MapOf i
 form_shape_by F.ArrayOf m i j = with_part S.ArrayOf i
 form_shape_by F.Unwrapped m i j = with_part S.Unwrapped i
 form_shape_by F.ChoiceOf m i j = with_part S.ChoiceOf i
@@ -62,7 +66,7 @@ pub data IsShape (t : Table) : Term → Shape → Type 0 where
   a_range : {m k : ℕ} {a b : Term} → IsTerm t m a → IsTerm t k b → IsShape t (range a true b) (S.Range m k)
   a_range_below : {m k : ℕ} {a b : Term} → IsTerm t m a → IsTerm t k b → IsShape t (range a false b) (S.RangeBelow m k)
   a_choice : {a b : Term} → IsShape t (or a b) S.Or
-  a_map : {g : Group} → IsShape t (map_of g) S.Other
+  a_map : {k : ℕ} {g : Group} → IsGroup t k g → IsShape t (map_of g) (S.MapOf k)
   a_control : {a b : Term} {n : Text} → IsShape t (control a n b) S.Other
 
 abbrev pub entry_with : (ℕ → EntryShape) → Option ℕ → EntryShape
@@ -79,3 +83,30 @@ pub data IsEntryShape (t : Table) : Entry → EntryShape → Type 0 where
   a_typed : {k : ℕ} {o : Option Text} {x : Term} → IsTerm t k x → IsEntryShape t (typed o x) (E.Typed k)
   a_keyed : {k : ℕ} {o : Option Text} {y : Key} {x : Term} → IsTerm t k x → IsEntryShape t (keyed o y x) (E.Keyed k)
   a_group : {k : ℕ} {o : Option Text} {g : Group} → IsGroup t k g → IsEntryShape t (grouped o g) (E.Grouped k)
+
+-- the key and the type of an entry
+
+abbrev pub pair_with : Option ℕ → Option ℕ → Option Pair
+pair_with (Some i) (Some j) = Some (record { key = i; value = j })
+pair_with _ _ = None
+
+abbrev pub pair_by : Form → (first second : Option ℕ) → Option Pair
+pair_by F.Keyed i j = pair_with i j
+pair_by _ i j = None
+
+-- the type of a key, and whether it cuts
+
+abbrev pub type_key : Bool → Option ℕ → Option KeyForm
+type_key cuts None = None
+type_key cuts (Some i) = Some (record { origin = T.Row i; cuts = cuts })
+
+abbrev pub word_key : Option ℕ → Option KeyForm
+word_key None = None
+word_key (Some m) = Some (record { origin = T.Word m; cuts = true })
+
+abbrev pub key_by : Form → (text first : Option ℕ) → Option KeyForm
+key_by F.TypeKey m i = type_key false i
+key_by F.CutKey m i = type_key true i
+key_by F.LiteralKey m i = type_key true i
+key_by F.Bareword m i = word_key m
+key_by _ m i = None

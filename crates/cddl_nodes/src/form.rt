@@ -1,7 +1,12 @@
 //! Forms of types and groups, whose parts are told by what they are of.
 
+ghost use Rattle.std.specs.Prelude.{◌≡◌, []};
+ghost use Rattle.cddl_meaning.specs.Forms as F;
+ghost use Rattle.cddl_nodes.specs.Forms.{type_form_view};
+
 use crate::origin::{GroupOrigin, TypeOrigin};
 use cddl_table::{Most, Test};
+use std::alloc::Global;
 
 /// Which tag numbers are meant.
 #[derive(Clone, Copy)]
@@ -9,6 +14,23 @@ pub(crate) enum TagForm {
     Any,
     Exactly(u64),
     SuchAs(TypeOrigin),
+}
+
+/// The type of a key, and whether it cuts.
+#[derive(Clone, Copy)]
+pub(crate) struct KeyForm {
+    pub origin: TypeOrigin,
+    pub cuts: bool,
+}
+
+/// An entry of a map, as `MapEntry` of a table.
+#[derive(Clone, Copy)]
+pub(crate) struct EntryForm {
+    pub least: u64,
+    pub most: Most,
+    pub key: TypeOrigin,
+    pub cuts: bool,
+    pub value: TypeOrigin,
 }
 
 /// A form of type, as `Node` of a table.
@@ -20,6 +42,14 @@ pub(crate) enum TypeForm {
     ArrayOf(GroupOrigin),
     TagOf(TagForm, TypeOrigin),
     SimpleBy(TypeOrigin),
+    MapOf(Vec<Vec<EntryForm>>),
+}
+
+/// The type that says no to every item.
+pub(crate) fn nothing(alloc: Global) -> TypeForm
+    ensures { type_form_view result ≡ F.Choice [] }
+{
+    TypeForm::Choice(Vec::new(alloc))
 }
 
 /// A form of group, as `Group` of a table.

@@ -1,17 +1,18 @@
-//! A law: a function that does nothing, whose contract is for proofs.
+//! Laws: functions that do nothing, whose contracts are for proofs.
 
-ghost use Rattle.std.specs.Prelude.{◌≡◌, Contains, Some};
+ghost use Rattle.std.specs.Prelude.{◌≡◌, Contains, List, Some};
+ghost use Rattle.cddl_language.specs.Maps.{Alternatives, alternatives_of};
 ghost use Rattle.cddl_language.specs.Kinds.{opened, opens_group, opens_type};
 ghost use Rattle.cddl_language.specs.Reach.{Reaches};
 ghost use Rattle.cddl_language.specs.Substitution.{group_choices, type_choices};
-ghost use Rattle.cddl_language.specs.Terms.{Group, Ref, Term, alternatives};
+ghost use Rattle.cddl_language.specs.Terms.{Entries, Group, Ref, Term, alternatives};
 ghost use Rattle.cddl_terms.specs.Table.{Table};
 ghost use Rattle.cddl_nodes.specs.Basis.{IsSource, Sense};
-ghost use Rattle.cddl_nodes.specs.Origins.{AreKnown, IsKnown, IsKnownGroup};
+ghost use Rattle.cddl_nodes.specs.Origins.{AreKnown, AreKnownAlternatives, IsKnown, IsKnownGroup};
 ghost use Rattle.cddl_nodes.specs.declared.source.Source.{Source as ASource};
 
 use cddl_closed::laws::meanings_are_reached;
-use cddl_openings::laws::opened_is_reached;
+use cddl_openings::laws::{opened_is_reached, part_is_reached};
 use cddl_written::reached_values;
 
 /// In what an instance means, and in what `~` of it opens, all references are instances, and each written value is taken for
@@ -26,4 +27,13 @@ pub(crate) fn known_instances()
     meanings_are_reached();
     opened_is_reached();
     reached_values();
+}
+
+/// In the entries of the alternatives that known choices stand for in a map, all references are instances, and each written value
+/// is taken for what it stands for.
+pub(crate) fn known_members()
+    ensures { (s : Sense) (t : Table) (src : ASource) → IsSource s t src → (ess : List Entries) → AreKnown s ess → (mss : Alternatives) → alternatives_of s.definitions ess ≡ Some mss → AreKnownAlternatives s mss }
+{
+    known_instances();
+    part_is_reached();
 }

@@ -10,6 +10,7 @@ mod laws;
 mod lists;
 mod literals;
 mod making;
+mod maps;
 mod numbers;
 mod origin;
 mod search;
@@ -21,3 +22,4 @@ mod types;
 
 pub use crate::making::{Nodes, nodes_of};
 pub use crate::origin::{GroupOrigin, TypeOrigin};
+pub use crate::source::Source;

@@ -1,7 +1,7 @@
 ghost use Rattle.std.specs.Prelude.{◌≡◌, IfOk, Some, false, slice_get};
 ghost use Rattle.cddl_language.specs.Kinds.{is_group};
 ghost use Rattle.cddl_language.specs.Terms.{call, no_terms};
-ghost use Rattle.cddl_nodes.specs.Basis.{IsBasis, Sense};
+ghost use Rattle.cddl_nodes.specs.Basis.{IsSource, Sense};
 ghost use Rattle.cddl_nodes.specs.Nodes.{AreNodes};
 
 use crate::instances::number_instances;
@@ -9,9 +9,6 @@ use crate::numbers::Numbers;
 use crate::origin::{GroupOrigin, TypeOrigin};
 use crate::search::Search;
 use crate::source::Source;
-use cddl_closed::Closed;
-use cddl_kinds::Kinds;
-use cddl_openings::Opening;
 use cddl_table::{Group, Node, TypeId};
 use cddl_terms::laws::equal_numbers;
 use cddl_terms::{NoRoom, Terms};
@@ -34,45 +31,34 @@ pub struct Nodes {
 
 /// The types and groups of a specification (RFC 8610 sections 2 and 3), for all its instances and for what their parts ask for.
 ///
-/// It is given the table of terms, what the instances mean, what `~` of each opens, the literal that each is, from which groups
-/// `&` can choose, and the place of the root among the instances.
+/// It is given the table of terms, what is known of the instances and of the rows, and the place of the root among the instances.
 ///
 /// Each type and group is made once. It takes time and memory in proportion to the forms that are made, with a hash for each
 /// part of them. Nothing recurses.
 ///
 /// # Errors
 ///
-/// [`NoRoom`] where memory is refused. It may come, too, where a row or a place is not there, and where a text has a number that
-/// no token has, or a literal that is not spelled rightly.
+/// [`NoRoom`] where memory is refused. It may come, too, where a row or a place is not there, where a text has a number that no
+/// token has, or a literal that is not spelled rightly, and where the group of a map, or a part that it needs, has more
+/// alternatives or entries than `splices` makes.
 pub fn nodes_of(
     alloc: Global,
     terms: &Terms<'_>,
-    closed: &Closed,
-    kinds: &Kinds,
-    openings: &[Opening],
-    literals: &[Option<u32>],
-    choosable: &[bool],
+    source: &Source<'_>,
     root: u32,
 ) -> Result<Nodes, NoRoom>
-    ensures { IfOk result (λ v. (s : Sense) → IsBasis s terms.now closed.now kinds.now openings.now literals.now choosable.now → slice_get s.refs root ≡ Some (call s.root no_terms) → is_group s.definitions s.root ≡ false → AreNodes s terms.now v) }
+    ensures { IfOk result (λ v. (s : Sense) → IsSource s terms.now source.now → slice_get s.refs root ≡ Some (call s.root no_terms) → is_group s.definitions s.root ≡ false → AreNodes s terms.now v) }
 {
     equal_numbers(terms);
-    let source = Source {
-        closed,
-        kinds,
-        openings,
-        literals,
-        choosable,
-    };
     let mut numbers = Numbers::new(alloc);
     let top = numbers.number_type(TypeOrigin::Instance(root))?;
-    number_instances(&mut numbers, terms, &source)?;
+    number_instances(&mut numbers, terms, source)?;
     let mut search = Search {
         numbers,
         types: Vec::new(alloc),
         groups: Vec::new(alloc),
     };
-    search.run(alloc, terms, &source)?;
+    search.run(alloc, terms, source)?;
     let nodes = finish(alloc, search, top)?;
     Ok(nodes)
 }

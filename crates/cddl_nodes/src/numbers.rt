@@ -4,12 +4,12 @@ ghost use Rattle.std.specs.Prelude.{◌≡◌, IfOk, Some, [], slice_get};
 ghost use Rattle.cddl_table.specs.Nodes.{group_view, tag_number_view, type_view};
 ghost use Rattle.cddl_terms.specs.Table.{Adds};
 ghost use Rattle.cddl_nodes.specs.Forms.{group_form_view, tag_form_view, type_form_view};
-ghost use Rattle.cddl_nodes.specs.Numbers.{MakesGroup, MakesNumber, MakesType, NumbersGroup, NumbersGroups, NumbersType, NumbersTypes, keys_of};
+ghost use Rattle.cddl_nodes.specs.Numbers.{MakesGroup, MakesNumber, MakesType, NumbersEntries, NumbersEntry, NumbersGroup, NumbersGroups, NumbersMap, NumbersType, NumbersTypes, keys_of};
 
-use crate::form::{GroupForm, TagForm, TypeForm};
+use crate::form::{EntryForm, GroupForm, TagForm, TypeForm};
 use crate::origin::{GroupOrigin, TypeOrigin};
 use crate::store::push;
-use cddl_table::{Group, GroupId, Node, TagNumber, TypeId};
+use cddl_table::{Group, GroupId, MapEntry, Node, TagNumber, TypeId};
 use cddl_terms::NoRoom;
 use indexmap::IndexSet;
 use std::alloc::{AllocError, Global};
@@ -120,6 +120,52 @@ impl Numbers {
         Ok(numbers)
     }
 
+    /// An entry of a map, with numbers for its types.
+    fn number_entry(&mut self, form: EntryForm) -> Result<MapEntry, NoRoom>
+        ensures { IfOk result (λ m. NumbersEntry (keys_of self.old) (keys_of self.new) form m) }
+    {
+        let key_type = self.number_type(form.key)?;
+        let value_type = self.number_type(form.value)?;
+        Ok(MapEntry {
+            least: form.least,
+            most: form.most,
+            key_type,
+            cuts: form.cuts,
+            value_type,
+        })
+    }
+
+    fn number_entries(
+        &mut self,
+        alloc: Global,
+        forms: &[EntryForm],
+    ) -> Result<Vec<MapEntry>, NoRoom>
+        ensures { IfOk result (λ v. NumbersEntries (keys_of self.old) (keys_of self.new) forms.now v.items) }
+    {
+        let mut entries = Vec::new(alloc);
+        for form in forms {
+            let entry = self.number_entry(*form)?;
+            push(&mut entries, entry)?;
+        }
+        Ok(entries)
+    }
+
+    /// The alternatives of a map, with numbers for the types of their entries.
+    fn number_map(
+        &mut self,
+        alloc: Global,
+        forms: &[Vec<EntryForm>],
+    ) -> Result<Vec<Vec<MapEntry>>, NoRoom>
+        ensures { IfOk result (λ v. NumbersMap (keys_of self.old) (keys_of self.new) forms.now v.items) }
+    {
+        let mut alternatives = Vec::new(alloc);
+        for alternative in forms {
+            let entries = self.number_entries(alloc, alternative)?;
+            push(&mut alternatives, entries)?;
+        }
+        Ok(alternatives)
+    }
+
     fn tag_number(&mut self, form: TagForm) -> Result<TagNumber, NoRoom>
         ensures { IfOk result (λ m. MakesNumber (keys_of self.old) (keys_of self.new) (tag_form_view form) (tag_number_view m)) }
     {
@@ -159,6 +205,10 @@ impl Numbers {
             TypeForm::SimpleBy(origin) => {
                 let number = self.number_type(origin)?;
                 Ok(Node::SimpleBy(number))
+            }
+            TypeForm::MapOf(forms) => {
+                let alternatives = self.number_map(alloc, &forms)?;
+                Ok(Node::MapOf(alternatives))
             }
         }
     }

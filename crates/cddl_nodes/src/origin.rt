@@ -7,6 +7,8 @@ pub enum TypeOrigin {
     Instance(u32),
     /// What `&` chooses from in the alternatives of a group's row, or in none.
     Chosen(Option<u32>),
+    /// The text string that the bareword with this text is as a key.
+    Word(u32),
 }
 
 /// What a group of the table is of, by numbers.

@@ -13,6 +13,7 @@ pub(crate) enum Shape {
     Literal,
     Named(u32),
     Parens(u32),
+    MapOf(u32),
     ArrayOf(u32),
     Unwrapped(u32),
     ChoiceOf(u32),
@@ -39,6 +40,13 @@ pub(crate) enum EntryShape {
     Other,
 }
 
+/// The rows of the key and of the type of an entry.
+#[derive(Clone, Copy)]
+pub(crate) struct Pair {
+    pub key: u32,
+    pub value: u32,
+}
+
 pub(crate) fn shape_at(terms: &Terms<'_>, number: u32) -> Shape
     ensures { (x : Term) → IsTerm terms.now number x → IsShape terms.now x result }
 {
@@ -55,6 +63,7 @@ fn shape_of(row: Row) -> Shape
         Form::Number | Form::Text | Form::Bytes => Shape::Literal,
         Form::Named => row.first.map_or(Shape::Other, Shape::Named),
         Form::Parens => row.first.map_or(Shape::Other, Shape::Parens),
+        Form::MapOf => row.first.map_or(Shape::Other, Shape::MapOf),
         Form::ArrayOf => row.first.map_or(Shape::Other, Shape::ArrayOf),
         Form::Unwrapped => row.first.map_or(Shape::Other, Shape::Unwrapped),
         Form::ChoiceOf => row.first.map_or(Shape::Other, Shape::ChoiceOf),

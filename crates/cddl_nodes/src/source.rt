@@ -1,13 +1,23 @@
 use cddl_closed::Closed;
 use cddl_kinds::Kinds;
 use cddl_openings::Opening;
+use splices::{Part, Summary};
 
-/// What is known of the instances of a specification.
+/// What is known of the instances of a specification and of the rows of its terms.
 #[derive(Clone, Copy)]
-pub(crate) struct Source<'a> {
+pub struct Source<'a> {
+    /// The instances, and what they mean.
     pub closed: &'a Closed,
+    /// Which names are groups'.
     pub kinds: &'a Kinds,
+    /// What `~` of each instance opens, by its place.
     pub openings: &'a [Opening],
+    /// The row of the literal that each instance is, if it is one, by its place.
     pub literals: &'a [Option<u32>],
+    /// For each row whether `&` can choose from the group that it is.
     pub choosable: &'a [bool],
+    /// What each row says in the group of a map.
+    pub parts: &'a [Part],
+    /// What is told of the alternatives of each of these parts.
+    pub summaries: &'a [Option<Summary>],
 }

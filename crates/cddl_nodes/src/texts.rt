@@ -99,7 +99,7 @@ pub(crate) fn times_at(terms: &Terms<'_>, text: u32) -> Result<Times, NoRoom>
     }
 }
 
-fn most_of(most: Option<u64>) -> Most
+pub(crate) fn most_of(most: Option<u64>) -> Most
     ensures { most_view result ≡ most_in most }
 {
     match most {

@@ -18,10 +18,11 @@ ghost use Rattle.cddl_nodes.specs.Origins.{AreKnown, IsChosenForm, IsInstanceFor
 
 use crate::asked::{group_at, is_group, meaning_there, place_at};
 use crate::chosen::chosen;
-use crate::form::{TagForm, TypeForm};
+use crate::form::{TagForm, TypeForm, nothing};
 use crate::laws::known_instances;
 use crate::lists::row_origins;
 use crate::literals::{item_at, range_form};
+use crate::maps::{map_form, word_form};
 use crate::origin::{GroupOrigin, TypeOrigin};
 use crate::shape::{Shape, shape_at};
 use crate::source::Source;
@@ -47,6 +48,7 @@ pub(crate) fn type_form(
         TypeOrigin::Row(row) => row_form(alloc, terms, source, row),
         TypeOrigin::Instance(place) => instance_form(alloc, source, place),
         TypeOrigin::Chosen(group) => chosen_form(alloc, terms, source, group),
+        TypeOrigin::Word(text) => word_form(alloc, terms, text),
     }
 }
 
@@ -63,6 +65,7 @@ fn row_form(
         Shape::Literal => literal_form(alloc, terms, row),
         Shape::Named(call) => named_form(alloc, terms, source, call),
         Shape::Parens(part) => Ok(TypeForm::Ref(TypeOrigin::Row(part))),
+        Shape::MapOf(group) => map_form(alloc, terms, source, group),
         Shape::ArrayOf(group) => Ok(TypeForm::ArrayOf(GroupOrigin::Alternatives(Some(group)))),
         Shape::Unwrapped(call) => unwrapped_form(alloc, terms, source, call),
         Shape::ChoiceOf(group) => choice_form(alloc, terms, source, group),
@@ -79,13 +82,6 @@ fn row_form(
         Shape::Or => or_form(alloc, terms, row),
         Shape::Other => Ok(nothing(alloc)),
     }
-}
-
-/// The type that says no to every item.
-fn nothing(alloc: Global) -> TypeForm
-    ensures { type_form_view result ≡ F.Choice [] }
-{
-    TypeForm::Choice(Vec::new(alloc))
 }
 
 fn literal_form(alloc: Global, terms: &Terms<'_>, row: u32) -> Result<TypeForm, NoRoom>

@@ -43,6 +43,8 @@ spliced | map5 map20 opened20 | a = {~b} b = c c = {x: 1}
 spliced | map5 opened20 | a = {~b} b = c c = [x: 1]
 spliced |  | a = [g] g = (x: 1)
 nodes | 3 3 true | a = [5]
+nodes | 11 0 true | a = {x: int}
+nodes | 9 0 true | a = {int}
 opened | - | a = [* ~b] b = #6.1(c) c = #
 opened | 5 | a = [~b] b = #
 unwrapped | 5 | a = [~b, &(? 1)] b = #

@@ -3,12 +3,14 @@ use crate::coming::of_coming_back;
 use cddl_closed::{Meaning, alternatives, choices, entries};
 use cddl_entries::Holder;
 use cddl_literals::literal_row;
-use cddl_nodes::nodes_of;
+use cddl_nodes::{Source, nodes_of};
 use cddl_openings::{Opening, Part, part_of};
 use cddl_reached::{Asked, Question};
 use cddl_recursion::{Node, Order, Ranks, find_order};
 use cddl_spliced::Owner;
+use cddl_splices::parts_of;
 use cddl_terms::Terms;
+use splices::summaries;
 use std::alloc::Global;
 
 /// What is told of the instances of a text, by the name of the call that tells it. They stand in the order in which they are
@@ -262,17 +264,18 @@ fn of_flags(alloc: Global, flags: &[bool]) -> Option<String> {
 
 /// How many types and groups are made, and what each type is of.
 fn nodes_in(alloc: Global, terms: &Terms<'_>, meant: &Meant) -> Option<String> {
-    let nodes = nodes_of(
-        alloc,
-        terms,
-        &meant.closed,
-        &meant.kinds,
-        &meant.openings,
-        &meant.literals,
-        &meant.choosable,
-        0,
-    )
-    .ok()?;
+    let parts = parts_of(alloc, terms, &meant.closed, &meant.kinds, &meant.openings).ok()?;
+    let summaries = summaries(alloc, &parts).ok()?;
+    let source = Source {
+        closed: &meant.closed,
+        kinds: &meant.kinds,
+        openings: &meant.openings,
+        literals: &meant.literals,
+        choosable: &meant.choosable,
+        parts: &parts,
+        summaries: &summaries,
+    };
+    let nodes = nodes_of(alloc, terms, &source, 0).ok()?;
     let types = nodes.types.len();
     let groups = nodes.groups.len();
     let same = types == nodes.type_origins.len() && groups == nodes.group_origins.len();

@@ -15,3 +15,9 @@ returns-clause-choice c = S.one_of_two
 
 pub returns-clause-range : goal.returns-clause-range
 returns-clause-range c = S.below_three
+
+pub returns-clause-pairs : goal.returns-clause-pairs
+returns-clause-pairs c = S.takes_x
+
+pub returns-clause-stray : goal.returns-clause-stray
+returns-clause-stray c = S.strays

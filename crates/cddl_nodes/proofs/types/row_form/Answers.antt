@@ -9,7 +9,7 @@ use Rattle.cddl_nodes.specs.declared.form.TagForm.TheVariants as K
 use Rattle.cddl_nodes.specs.declared.form.TypeForm.TheVariants as T
 use Rattle.cddl_nodes.specs.declared.origin.GroupOrigin.TheVariants as GO
 use Rattle.cddl_nodes.specs.declared.origin.TypeOrigin.TheVariants as O
-use Rattle.cddl_nodes.proofs.Forming.{array_case, choice_of_case, choice_of_name_case, hash_case, literal_case, named_case, nothing_form, or_case, other_case, parens_case, range_below_case, range_case, simple_case, tagged_by_case, tagged_case, unwrapped_case}
+use Rattle.cddl_nodes.proofs.Forming.{array_case, choice_of_case, choice_of_name_case, hash_case, literal_case, map_case, named_case, nothing_form, or_case, other_case, parens_case, range_below_case, range_case, simple_case, tagged_by_case, tagged_case, unwrapped_case}
 use Rattle.cddl_nodes.proofs.Knowing.{group_known}
 use Rattle.cddl_nodes.proofs.Reaching.{reached_left, reached_right}
 use Rattle.cddl_nodes.proofs.types.row_form.Goals as goal
@@ -22,6 +22,9 @@ returns-in-Named c = IfOk-weaker c.named_form.result _ _ (λ f h s x src is re. 
 
 pub returns-in-Parens : goal.returns-in-Parens
 returns-in-Parens c s x src is re = parens_case c.args.terms.now (λ y. IsKnown s y → IsTermForm s c.args.terms.now y (T.Ref (O.Row c.in-Parens.part))) x c.in-Parens.part (c.in-Parens.ensures x is) (λ y it q. refs (of_row it q.0 q.1)) re
+
+pub returns-in-MapOf : goal.returns-in-MapOf
+returns-in-MapOf c = IfOk-weaker c.map_form.result _ _ (λ f h s x src is re. map_case c.args.terms.now (λ y. IsKnown s y → IsTermForm s c.args.terms.now y f) x c.in-MapOf.group (c.in-MapOf.ensures x is) (λ g it q. h s g src it q) re) c.map_form.ensures
 
 pub returns-in-ArrayOf : goal.returns-in-ArrayOf
 returns-in-ArrayOf c s x src is re = array_case c.args.terms.now (λ y. IsKnown s y → IsTermForm s c.args.terms.now y (T.ArrayOf (GO.Alternatives (Some c.in-ArrayOf.group)))) x c.in-ArrayOf.group (c.in-ArrayOf.ensures x is) (λ g it q. arrays (of_alternatives (alternatives_of g it) (group_known s g q).0 (group_known s g q).1)) re
@@ -57,4 +60,4 @@ pub returns-in-Or : goal.returns-in-Or
 returns-in-Or c = IfOk-weaker c.or_form.result _ _ (λ f h s x src is re. or_case c.args.terms.now (λ y. IsTerm c.args.terms.now c.args.row y → IsKnown s y → IsTermForm s c.args.terms.now y f) x (c.in-Or.ensures x is) (λ y z it q. h s y z it q) is re) c.or_form.ensures
 
 pub returns-in-Other : goal.returns-in-Other
-returns-in-Other c s x src is re = other_case c.args.terms.now (λ y. IsTermForm s c.args.terms.now y c.nothing.result) x (c.in-Other.ensures x is) (λ g. nothing_form s c.args.terms.now _ c.nothing.ensures) (λ y z n. nothing_form s c.args.terms.now _ c.nothing.ensures)
+returns-in-Other c s x src is re = other_case c.args.terms.now (λ y. IsTermForm s c.args.terms.now y c.nothing.result) x (c.in-Other.ensures x is) (λ y z n. nothing_form s c.args.terms.now _ c.nothing.ensures)

@@ -1,9 +1,9 @@
 use Rattle.std.proofs.Common.{subst, sym}
 use Rattle.cddl_meaning.specs.Forms as F
-use Rattle.cddl_table.specs.Nodes.{tag_number_view, test_view}
+use Rattle.cddl_table.specs.Nodes.{alternatives_view, tag_number_view, test_view}
 use Rattle.cddl_nodes.specs.Forms.{tag_form_view, type_form_view}
-use Rattle.cddl_nodes.specs.Numbers.{MakesType, NumbersTypes, keys_of}
-use Rattle.cddl_nodes.proofs.Numbering.{made_array, made_choice, made_plain, made_ref, made_simple, made_tag}
+use Rattle.cddl_nodes.specs.Numbers.{MakesType, NumbersMap, NumbersTypes, keys_of}
+use Rattle.cddl_nodes.proofs.Numbering.{made_array, made_choice, made_map, made_plain, made_ref, made_simple, made_tag}
 use Rattle.cddl_nodes.proofs.numbers.Numbers.type_node.Goals as goal
 
 pub returns-in-Plain : goal.returns-in-Plain
@@ -23,3 +23,6 @@ returns-in_ok-content-in-TagOf c = subst (λ f. MakesType (keys_of c.args.self.n
 
 pub returns-in_ok-number-in-SimpleBy : goal.returns-in_ok-number-in-SimpleBy
 returns-in_ok-number-in-SimpleBy c = subst (λ f. MakesType (keys_of c.args.self.now) (keys_of c.number_type-in-SimpleBy.new.self) (type_form_view f) (F.SimpleBy c.in_ok-number-in-SimpleBy.number)) (sym c.in-SimpleBy.is) (made_simple (keys_of c.args.self.now) (keys_of c.number_type-in-SimpleBy.new.self) c.in-SimpleBy.origin c.in_ok-number-in-SimpleBy.number c.in_ok-number-in-SimpleBy.ensures)
+
+pub returns-in_ok-alternatives-in-MapOf : goal.returns-in_ok-alternatives-in-MapOf
+returns-in_ok-alternatives-in-MapOf c = subst (λ f. MakesType (keys_of c.args.self.now) (keys_of c.number_map.new.self) (type_form_view f) (F.MapOf (alternatives_view c.in_ok-alternatives-in-MapOf.alternatives.items))) (sym c.in-MapOf.is) (made_map (keys_of c.args.self.now) (keys_of c.number_map.new.self) c.in-MapOf.forms.items c.in_ok-alternatives-in-MapOf.alternatives.items (subst (λ fss. NumbersMap (keys_of c.args.self.now) (keys_of c.number_map.new.self) fss c.in_ok-alternatives-in-MapOf.alternatives.items) c.deref-in-MapOf.ensures.value c.in_ok-alternatives-in-MapOf.ensures))
