@@ -3,6 +3,7 @@ use Rattle.cddl_language.specs.Faults.{HasBadRange, HasNotUnwrappable, HasRecurs
 use Rattle.cddl_recursion.specs.Order.{IsOrder}
 use Rattle.cddl_survey.specs.Least.{IsLeast}
 use Rattle.cddl_specification.specs.Outcome.{IsStopped}
+use Rattle.cddl_specification.proofs.Handing.{handed}
 use Rattle.cddl_specification.proofs.faults.ranks_of.Goals as goal
 
 pub returns-in-Some-clause-stopped : goal.returns-in-Some-clause-stopped
@@ -28,13 +29,22 @@ returns-in-Some-range_of-clause-stopped c s worth root refs tree tokens right re
     let told = c.root_faults_are_told.ensures.range s worth root reading.rooted.rooted reading.right.no_fault reading.rooted.no_more opened returning c.in-Some-range_of.at least in
     subst (IsStopped s worth) (sym c.refused-in-Some-range_of.ensures) (reading.right.not_yet, told)
 
+pub returns-in_err-splice_maps-clause-stopped : goal.returns-in_err-splice_maps-clause-stopped
+returns-in_err-splice_maps-clause-stopped c = handed _ _ c.in_err-splice_maps.field-0.0 c.from_residual-in_err-splice_maps.ensures.1 (λ s worth root refs tree tokens right reading.
+    let opened : IsLeast (HasNotUnwrappable s root) None = subst (IsLeast (HasNotUnwrappable s root)) c.in_default.is (c.unwrapping.ensures s worth c.args.tree.now root refs reading) in
+    let order = c.in_ok-order.ensures.order s worth c.args.tree.now root refs reading in
+    let returning : IsLeast (HasRecursion s root) None = subst (IsLeast (HasRecursion s root)) c.in_default-recursion_of.is (c.recursion_of.ensures s worth root refs tree reading order) in
+    let ranges : IsLeast (HasBadRange s worth root) None = subst (IsLeast (HasBadRange s worth root)) c.in_default-range_of.is (c.range_of.ensures s worth root refs tree tokens right reading) in
+    c.in_err-splice_maps.ensures.stopped s worth c.args.tree.now root refs reading opened returning ranges)
+
 pub returns-clause-accepted : goal.returns-clause-accepted
 returns-clause-accepted c s worth root refs tree tokens right reading =
     let opened : IsLeast (HasNotUnwrappable s root) None = subst (IsLeast (HasNotUnwrappable s root)) c.in_default.is (c.unwrapping.ensures s worth c.args.tree.now root refs reading) in
     let order = c.in_ok-order.ensures.order s worth c.args.tree.now root refs reading in
     let returning : IsLeast (HasRecursion s root) None = subst (IsLeast (HasRecursion s root)) c.in_default-recursion_of.is (c.recursion_of.ensures s worth root refs tree reading order) in
     let ranges : IsLeast (HasBadRange s worth root) None = subst (IsLeast (HasBadRange s worth root)) c.in_default-range_of.is (c.range_of.ensures s worth root refs tree tokens right reading) in
-    c.root_faults_are_told.ensures.accepted s worth root reading.rooted.rooted reading.right.no_fault reading.rooted.no_more opened returning ranges
+    let flat = c.in_ok-splice_maps.ensures.flat s worth c.args.tree.now root refs reading in
+    c.root_faults_are_told.ensures.accepted s worth root reading.rooted.rooted reading.right.no_fault reading.rooted.no_more opened returning ranges flat.keyed flat.shaped flat.few
 
 pub returns-clause-ranked : goal.returns-clause-ranked
 returns-clause-ranked c s worth root refs tree tokens right reading = subst (IsOrder (definitions s) root refs c.args.terms.now) c.in_ok-ranks.ensures.ranked (c.in_ok-order.ensures.order s worth c.args.tree.now root refs reading)

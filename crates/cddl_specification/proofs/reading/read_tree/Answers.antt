@@ -20,6 +20,7 @@ returns-clause-read c s worth given =
     let found = subst (λ is. AreFound (definitions s) c.ask.new.terms is f.1) (sym c.deref.ensures.value) (c.instances_grow.ensures _ _ grown (definitions s) _ f.1 f.2.found) in
     let known = definitions_length _ _ _ asking.named.known in
     let own = definitions_length _ _ _ asking.named.defined in
+    let kinds = subst (λ ts. AreKinds ts (definitions s) c.in_ok-questions.questions.naming.kinds) (sym texts) asking.named.kinds in
     let meant = c.in_ok-meant.ensures.meant s f.0 f.1 f.2.rooted.instances f.2.rooted.few found asking.named.kinds (omega (arith, known, own)) in (
       f.0,
       f.1,
@@ -32,12 +33,14 @@ returns-clause-read c s worth given =
             known = c.growing_keeps.ensures.definitions _ _ further _ _ asking.named.known;
             defined = c.growing_keeps.ensures.definitions _ _ further _ _ asking.named.defined;
             names = subst (λ ts. AreNames (length ts) c.in_ok-survey.survey.known.items c.in_ok-survey.survey.definitions.items c.in_ok-questions.questions.naming.names.items) (sym texts) asking.named.names;
-            kinds = subst (λ ts. AreKinds ts (definitions s) c.in_ok-questions.questions.naming.kinds) (sym texts) asking.named.kinds;
+            kinds = kinds;
           };
           asked = c.questions_grow.ensures _ _ further (rules s) f.0 _ asking.asked;
+          entries = c.entry_questions_grow.ensures _ _ further (rules s) f.0 _ asking.entries;
           opens = asking.opens;
         };
         meant = meant;
+        splices = c.in_ok-splices.ensures.found s f.0 f.1 kinds meant;
       },
     )
 

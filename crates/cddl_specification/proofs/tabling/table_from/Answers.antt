@@ -5,6 +5,8 @@ use Rattle.cddl_language.specs.Terms.{Ref, Text}
 use Rattle.cddl_literals.specs.Literals.{AreLiterals}
 use Rattle.cddl_openings.specs.Openings.{AreOpenings}
 use Rattle.cddl_choosing.specs.Choosing.{AreChoosable}
+use Rattle.cddl_splices.specs.Parts.{AreParts}
+use Rattle.splices.specs.Summaries.{AreSummaries}
 use Rattle.cddl_nodes.specs.Basis.{Sense}
 use Rattle.cddl_compile.specs.declared.table.Unmade.{Unmade}
 use Rattle.cddl_compile.specs.declared.table.Unmade.TheVariants as UnmadeV
@@ -22,6 +24,8 @@ returns-in-Ok-clause-stands c s worth tree root refs right reading ranked = c.in
   openings_are = subst (AreOpenings (definitions s) c.args.terms.now refs) (sym c.deref.ensures.value) reading.meant.openings;
   literals_are = subst (AreLiterals (definitions s) c.args.terms.now refs) (sym c.deref-2.ensures.value) reading.meant.literals;
   choosable = subst (AreChoosable (definitions s) root c.args.terms.now) (sym c.deref-3.ensures.value) reading.meant.choosable;
+  parts_are = subst (AreParts (definitions s) root c.args.terms.now) (sym c.deref-4.ensures.value) reading.splices.parts;
+  summaries_are = subst (λ ps. AreSummaries ps c.deref-5.result.now) (sym c.deref-4.ensures.value) (subst (AreSummaries c.args.reading.now.splices.parts.items) (sym c.deref-5.ensures.value) reading.splices.summaries);
   defined = refl;
   right = right;
 }) reading.number (c.root_is_type.ensures.is_type s worth root reading.rooted.rooted reading.right.no_fault) ranked
@@ -37,6 +41,8 @@ returns-in-Err-clause-stopped c s worth tree root refs right reading ranked = su
   openings_are = subst (AreOpenings (definitions s) c.args.terms.now refs) (sym c.deref.ensures.value) reading.meant.openings;
   literals_are = subst (AreLiterals (definitions s) c.args.terms.now refs) (sym c.deref-2.ensures.value) reading.meant.literals;
   choosable = subst (AreChoosable (definitions s) root c.args.terms.now) (sym c.deref-3.ensures.value) reading.meant.choosable;
+  parts_are = subst (AreParts (definitions s) root c.args.terms.now) (sym c.deref-4.ensures.value) reading.splices.parts;
+  summaries_are = subst (λ ps. AreSummaries ps c.deref-5.result.now) (sym c.deref-4.ensures.value) (subst (AreSummaries c.args.reading.now.splices.parts.items) (sym c.deref-5.ensures.value) reading.splices.summaries);
   defined = refl;
   right = right;
 }) reading.number (c.root_is_type.ensures.is_type s worth root reading.rooted.rooted reading.right.no_fault) ranked))
