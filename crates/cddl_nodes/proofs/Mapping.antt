@@ -2,16 +2,16 @@
 use Rattle.std.specs.declared.alloc.Global.{Global}
 use Rattle.std.specs.declared.vec.Vec.{Vec}
 use Rattle.std.specs.Prelude.{vec_items}
-use Rattle.std.proofs.Common.{◌≡◌, ℕ, Bool, true, false, List, [], ◌∷◌, ◌++◌, map, Option, Some, None, refl, sym, ap, subst, ◌∙◌, slice_get}
+use Rattle.std.proofs.Common.{◌≡◌, ℕ, true, false, List, [], ◌∷◌, ◌++◌, map, Option, Some, None, refl, sym, ap, subst, ◌∙◌, slice_get}
 use Rattle.cddl_meaning.specs.Alike.{AlikeAll, none, both, AlikeTypes, maps}
 use Rattle.cddl_meaning.specs.Forms as F
 use Rattle.cddl_language.specs.Language as L
 use Rattle.cddl_language.specs.Language.{TypeName, GroupName}
 use Rattle.cddl_language.specs.Maps as M
 use Rattle.cddl_language.specs.Maps.{Alternatives}
-use Rattle.cddl_language.specs.Terms.{Text, Literal, number, text, bytes, Term, literal, Entry, keyed, Key, of_type, bareword, of_value}
+use Rattle.cddl_language.specs.Terms.{Text, Term, literal, keyed, Key, of_type, bareword, of_value}
 use Rattle.cddl_terms.specs.declared.row.Row.{Row}
-use Rattle.cddl_terms.specs.Table.{Table, Holds, part, some_text}
+use Rattle.cddl_terms.specs.Table.{Table, part, some_text}
 use Rattle.cddl_terms.specs.Trees.{IsTerm, IsEntry, IsKey, key_tree, literal_tree, term_tree}
 use Rattle.cddl_splices.specs.Maps.{AreAlternatives, IsMember}
 use Rattle.splices.specs.declared.Member.{Member}
@@ -20,7 +20,7 @@ use Rattle.cddl_nodes.specs.Basis.{Sense}
 use Rattle.cddl_nodes.specs.Forms.{entry_form_view, map_form_view}
 use Rattle.cddl_nodes.specs.Lookups.{is_told}
 use Rattle.cddl_nodes.specs.Origins.{AreKnownAlternatives, AreKnownMembers, AreMapForms, IsGroupOrigin, IsKeyForm, IsKnownKey, IsKnownMember, IsMemberForm, IsTypeOrigin, of_row, of_word}
-use Rattle.cddl_nodes.specs.Shapes.{key_by, pair_by, pair_with, type_key, word_key}
+use Rattle.cddl_nodes.specs.Shapes.{key_by, pair_by, pair_with, type_key}
 use Rattle.cddl_nodes.specs.declared.form.EntryForm.{EntryForm}
 use Rattle.cddl_nodes.specs.declared.form.KeyForm.{KeyForm}
 use Rattle.cddl_nodes.specs.declared.origin.GroupOrigin.{GroupOrigin}

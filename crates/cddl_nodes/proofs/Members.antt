@@ -10,7 +10,7 @@ use Rattle.cddl_language.specs.Reach.{points, key_points, group_points, entries_
 use Rattle.cddl_language.specs.Substitution.{group_choices}
 use Rattle.cddl_language.specs.Terms.{Text, Term, Ref, Group, sole, orelse, Entries, no_entries, entries, Entry, typed, keyed, grouped, alternatives}
 use Rattle.cddl_nodes.specs.Basis.{Sense}
-use Rattle.cddl_nodes.specs.Origins.{AreKnown, AreKnownAlternatives, AreKnownEntries, AreKnownMembers, IsKnown, IsKnownEntry, IsKnownGroup, IsKnownMember}
+use Rattle.cddl_nodes.specs.Origins.{AreKnown, AreKnownAlternatives, AreKnownEntries, AreKnownMembers, IsKnown, IsKnownEntry, IsKnownGroup}
 use Rattle.cddl_nodes.proofs.Knowing.{first_known, rest_known}
 use Rattle.cddl_nodes.proofs.Reaching.{reached_left, reached_right}
 

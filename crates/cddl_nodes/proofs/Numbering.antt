@@ -13,7 +13,7 @@ use Rattle.cddl_table.specs.declared.nodes.GroupId.{GroupId}
 use Rattle.cddl_nodes.specs.Basis.{Sense}
 use Rattle.cddl_nodes.specs.Forms.{entry_form_view, map_form_view}
 use Rattle.cddl_nodes.specs.Numbers.{AreEntriesAt, AreNamed, Extends, IsEntryAt, IsGroupAt, IsTypeAt, Keys, MakesGroup, MakesNumber, MakesType, NumbersGroup, NumbersGroups, NumbersMap, NumbersType, NumbersTypes}
-use Rattle.cddl_nodes.specs.Origins.{IsEntryOf, IsGroupOrigin, IsTypeOrigin}
+use Rattle.cddl_nodes.specs.Origins.{IsGroupOrigin, IsTypeOrigin}
 use Rattle.cddl_nodes.specs.declared.form.EntryForm.{EntryForm}
 use Rattle.cddl_nodes.specs.declared.origin.GroupOrigin.{GroupOrigin}
 use Rattle.cddl_nodes.specs.declared.origin.TypeOrigin.{TypeOrigin}

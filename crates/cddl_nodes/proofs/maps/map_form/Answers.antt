@@ -1,8 +1,8 @@
-use Rattle.std.proofs.Common.{List, map, sym, subst, vec_items}
+use Rattle.std.proofs.Common.{map, sym, subst, vec_items}
 use Rattle.cddl_choosing.specs.Signs.{HaveEntries}
 use Rattle.cddl_language.specs.Maps.{map_alternatives}
 use Rattle.cddl_language.specs.Reading.{rules_of}
-use Rattle.cddl_language.specs.Terms.{Definition, alternatives}
+use Rattle.cddl_language.specs.Terms.{alternatives}
 use Rattle.cddl_splices.specs.Maps.{AreAlternatives}
 use Rattle.cddl_nodes.proofs.Knowing.{group_known}
 use Rattle.cddl_nodes.proofs.Mapping.{map_formed, no_map_formed, untold}
