@@ -6,4 +6,4 @@ mod listing;
 mod owners;
 
 pub use crate::listing::{Spliced, spliced_entries};
-pub use crate::owners::Owner;
+pub use crate::owners::{Owner, target_of};

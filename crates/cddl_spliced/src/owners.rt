@@ -90,8 +90,11 @@ fn number_at(numbers: &[Option<u32>], place: u32) -> Option<u32>
     numbers.get(place as usize).copied().flatten()
 }
 
-/// To whose group the entry of this row leads, if it names or opens one.
-pub(crate) fn target_of(
+/// To whose group the entry of this row leads, if it names or opens one (RFC 8610 sections 3.5 and 3.7).
+///
+/// The kinds, the openings and the endings are those of the instances. Of a row that is no entry's, and of one that stands for
+/// what has references that are no instances, it says nothing.
+pub fn target_of(
     terms: &Terms<'_>,
     closed: &Closed,
     kinds: &Kinds,

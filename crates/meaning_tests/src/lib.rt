@@ -5,6 +5,8 @@
 #[cfg(test)]
 mod chain;
 #[cfg(test)]
+mod coming;
+#[cfg(test)]
 mod faults;
 #[cfg(test)]
 mod rows;

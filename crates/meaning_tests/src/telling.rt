@@ -1,4 +1,5 @@
 use crate::chain::Meant;
+use crate::coming::of_coming_back;
 use cddl_closed::{Meaning, alternatives, choices, entries};
 use cddl_entries::Holder;
 use cddl_literals::literal_row;
@@ -18,6 +19,7 @@ pub(crate) fn told(alloc: Global, terms: &Terms<'_>, meant: &Meant, what: &str) 
         "asked" => of_asked(alloc, &meant.asked),
         "entries" => of_asked(alloc, &meant.entries),
         "spliced" => of_spliced(alloc, meant),
+        "back" => of_coming_back(alloc, terms, meant),
         "order" => order_of(alloc, terms, meant),
         "nodes" => nodes_in(alloc, terms, meant),
         _ => of_each(alloc, terms, meant, what),
