@@ -12,7 +12,7 @@ use Rattle.cddl_spliced.specs.declared.listing.Spliced.{Spliced}
 use Rattle.cddl_spliced.specs.Spliced.{AreSpliced, IsSplicedEntry, of_point}
 use Rattle.cddl_survey.specs.Least.{IsLeast}
 use Rattle.cddl_terms.specs.Table.{Table}
-use Rattle.cddl_spliced_faults.specs.Coming.{AreComingBack, LeadsBack}
+use Rattle.cddl_map_cycles.specs.Coming.{AreComingBack, LeadsBack}
 use Rattle.cddl_spliced_faults.specs.Least.{least_from}
 use Rattle.cddl_spliced_faults.specs.Lookups as L
 use Rattle.cddl_spliced_faults.specs.Lookups.{flag_in, is_set, shape_at, told_if}

@@ -6,7 +6,7 @@ ghost use Rattle.cddl_language.specs.MapFaults.{HasMapShape};
 ghost use Rattle.cddl_language.specs.Terms.{Ref, Text};
 ghost use Rattle.cddl_map_faults.specs.Faults.{AreFaults};
 ghost use Rattle.cddl_spliced.specs.Spliced.{AreSpliced};
-ghost use Rattle.cddl_spliced_faults.specs.Coming.{AreComingBack};
+ghost use Rattle.cddl_map_cycles.specs.Coming.{AreComingBack};
 ghost use Rattle.cddl_spliced_faults.specs.Least.{least_from};
 ghost use Rattle.cddl_spliced_faults.specs.Lookups as by;
 ghost use Rattle.cddl_survey.specs.Least.{IsLeast};
