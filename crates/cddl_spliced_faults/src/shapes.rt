@@ -22,11 +22,7 @@ use cddl_survey::lesser;
 /// so often (RFC 8610 section 3.5).
 ///
 /// It takes a time in proportion to the entries.
-pub fn map_shape(
-    spliced: &[Spliced],
-    faults: &[MapFaults],
-    coming_back: &[bool],
-) -> Option<usize>
+pub fn map_shape(spliced: &[Spliced], faults: &[MapFaults], coming_back: &[bool]) -> Option<usize>
     ensures { (s : Specification) (root : Text) (t : Table) (refs : List Ref) → AreSpliced (rules s) root t refs spliced.now → AreFaults (definitions s) root t faults.now → AreComingBack (definitions s) root t refs spliced.now coming_back.now → IsLeast (HasMapShape (rules s) root) result }
 {
     map_faults_stand();

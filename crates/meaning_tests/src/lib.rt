@@ -9,6 +9,8 @@ mod coming;
 #[cfg(test)]
 mod faults;
 #[cfg(test)]
+mod maps;
+#[cfg(test)]
 mod rows;
 #[cfg(test)]
 mod telling;

@@ -1,5 +1,6 @@
 use crate::chain::Meant;
 use crate::coming::of_coming_back;
+use crate::maps::of_map_faults;
 use cddl_closed::{Meaning, alternatives, choices, entries};
 use cddl_entries::Holder;
 use cddl_literals::literal_row;
@@ -22,6 +23,7 @@ pub(crate) fn told(alloc: Global, terms: &Terms<'_>, meant: &Meant, what: &str) 
         "entries" => of_asked(alloc, &meant.entries),
         "spliced" => of_spliced(alloc, meant),
         "back" => of_coming_back(alloc, terms, meant),
+        "wrong maps" => of_map_faults(alloc, terms, meant),
         "order" => order_of(alloc, terms, meant),
         "nodes" => nodes_in(alloc, terms, meant),
         _ => of_each(alloc, terms, meant, what),
