@@ -12,28 +12,28 @@ returns-in-Some-clause-stopped c s worth tree root refs reading opened returning
     let told = c.root_faults_are_told.ensures.key s worth root reading.rooted.rooted reading.right.no_fault reading.rooted.no_more opened returning ranges c.in-Some.at least in
     subst (IsStopped s worth) (sym c.refused.ensures) (reading.right.not_yet, told)
 
-pub returns-in-Some-2-clause-stopped : goal.returns-in-Some-2-clause-stopped
-returns-in-Some-2-clause-stopped c s worth tree root refs reading opened returning ranges =
+pub returns-in-Some-shape-clause-stopped : goal.returns-in-Some-shape-clause-stopped
+returns-in-Some-shape-clause-stopped c s worth tree root refs reading opened returning ranges =
     let maps = c.in_ok-maps.ensures.found s worth tree root refs reading in
     let keyed : IsLeast (HasNoKey (rules s) root) None = subst (IsLeast (HasNoKey (rules s) root)) c.in_default.is maps.no_key in
-    let least = subst (IsLeast (HasMapShape (rules s) root)) c.in-Some-2.is maps.shape in
-    let told = c.root_faults_are_told.ensures.shape s worth root reading.rooted.rooted reading.right.no_fault reading.rooted.no_more opened returning ranges keyed c.in-Some-2.at least in
-    subst (IsStopped s worth) (sym c.refused-2.ensures) (reading.right.not_yet, told)
+    let least = subst (IsLeast (HasMapShape (rules s) root)) c.in-Some-shape.is maps.shape in
+    let told = c.root_faults_are_told.ensures.shape s worth root reading.rooted.rooted reading.right.no_fault reading.rooted.no_more opened returning ranges keyed c.in-Some-shape.at least in
+    subst (IsStopped s worth) (sym c.refused-in-Some-shape.ensures) (reading.right.not_yet, told)
 
-pub returns-in-Some-3-clause-stopped : goal.returns-in-Some-3-clause-stopped
-returns-in-Some-3-clause-stopped c s worth tree root refs reading opened returning ranges =
+pub returns-in-Some-too_many-clause-stopped : goal.returns-in-Some-too_many-clause-stopped
+returns-in-Some-too_many-clause-stopped c s worth tree root refs reading opened returning ranges =
     let maps = c.in_ok-maps.ensures.found s worth tree root refs reading in
     let keyed : IsLeast (HasNoKey (rules s) root) None = subst (IsLeast (HasNoKey (rules s) root)) c.in_default.is maps.no_key in
-    let shaped : IsLeast (HasMapShape (rules s) root) None = subst (IsLeast (HasMapShape (rules s) root)) c.in_default-2.is maps.shape in
-    let least = subst (IsLeast (HasTooManyAlternatives (rules s) root)) c.in-Some-3.is maps.too_many in
-    let told = c.root_faults_are_told.ensures.alternatives s worth root reading.rooted.rooted reading.right.no_fault reading.rooted.no_more opened returning ranges keyed shaped c.in-Some-3.at least in
-    subst (IsStopped s worth) (sym c.refused-3.ensures) (reading.right.not_yet, told)
+    let shaped : IsLeast (HasMapShape (rules s) root) None = subst (IsLeast (HasMapShape (rules s) root)) c.in_default-shape.is maps.shape in
+    let least = subst (IsLeast (HasTooManyAlternatives (rules s) root)) c.in-Some-too_many.is maps.too_many in
+    let told = c.root_faults_are_told.ensures.alternatives s worth root reading.rooted.rooted reading.right.no_fault reading.rooted.no_more opened returning ranges keyed shaped c.in-Some-too_many.at least in
+    subst (IsStopped s worth) (sym c.refused-in-Some-too_many.ensures) (reading.right.not_yet, told)
 
 pub returns-clause-flat : goal.returns-clause-flat
 returns-clause-flat c s worth tree root refs reading =
     let maps = c.in_ok-maps.ensures.found s worth tree root refs reading in
     record {
       keyed = subst (IsLeast (HasNoKey (rules s) root)) c.in_default.is maps.no_key;
-      shaped = subst (IsLeast (HasMapShape (rules s) root)) c.in_default-2.is maps.shape;
-      few = subst (IsLeast (HasTooManyAlternatives (rules s) root)) c.in_default-3.is maps.too_many;
+      shaped = subst (IsLeast (HasMapShape (rules s) root)) c.in_default-shape.is maps.shape;
+      few = subst (IsLeast (HasTooManyAlternatives (rules s) root)) c.in_default-too_many.is maps.too_many;
     }
