@@ -1,5 +1,5 @@
 -- Entries without keys.
-use Rattle.std.proofs.Common.{◌≡◌, ℕ, List, Option, Some, None, slice_get, sym, ap, ◌∙◌}
+use Rattle.std.proofs.Common.{◌≡◌, ℕ, List, Some, None, slice_get, sym, ap, ◌∙◌}
 use Rattle.cddl_language.specs.Faults.{Specification, definitions, rules}
 use Rattle.cddl_language.specs.MapFaults.{HasNoKey, closed_entry}
 use Rattle.cddl_language.specs.Terms.{Ref, Text}

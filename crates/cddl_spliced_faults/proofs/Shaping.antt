@@ -1,5 +1,5 @@
 -- Groups in maps that come back to themselves, or that may not occur so.
-use Rattle.std.proofs.Common.{◌≡◌, ℕ, Bool, true, false, ◌||◌, List, Option, Some, None, slice_get, refl, sym, ap, subst, ◌∙◌}
+use Rattle.std.proofs.Common.{◌≡◌, ℕ, Bool, true, false, ◌||◌, List, Option, Some, None, slice_get, refl, sym, ap, ◌∙◌}
 use Rattle.cddl_syntax.specs.Syntax as S
 use Rattle.cddl_language.specs.Faults.{Specification, definitions, rules}
 use Rattle.cddl_language.specs.MapFaults.{HasMapShape, IsSpliced, LeadsTo, closed_entry, comes_back, occurs_badly, point_in}
