@@ -11,8 +11,10 @@ import shutil
 import subprocess
 import sys
 import tempfile
+import types
 
 from functions import functions_of
+from wrong_edits import is_refusal
 
 HERE = os.path.dirname(os.path.abspath(__file__))
 SOURCES = {
@@ -198,6 +200,16 @@ def run_on_functions():
     return found == wanted and [it for it in names if it and names[it].is_named(closure)] == [("pile", "PileFromVec", "from")]
 
 
+def run_on_answers():
+    """Whether the answers of kits are told apart, of those that answer a truth value and of those that answer a word."""
+    plain, worded = types.SimpleNamespace(), types.SimpleNamespace(REFUSED="refused", AT_LIMIT="at a limit")
+    answers = [(plain, True), (plain, False), (worded, "refused"), (worded, "at a limit"), (worded, "not refused")]
+    told = [is_refusal(*it) for it in answers]
+    if told != [True, False, True, True, False]:
+        print(f"answers of kits are told as {told}")
+    return told == [True, False, True, True, False]
+
+
 def write(folder, edits):
     """Writes a repository with the crate 'sample' and these of its edits."""
     shutil.rmtree(f"{folder}/crates", ignore_errors=True)
@@ -237,7 +249,7 @@ def run_tests(rt):
     """Runs all tests, and returns how many passed and failed."""
     with tempfile.TemporaryDirectory(prefix="wrong-test-") as folder:
         os.makedirs(f"{folder}/.git")
-        done = [run_on_functions(), run(rt, folder, list(EDITS)), run(rt, folder, [])]
+        done = [run_on_functions(), run_on_answers(), run(rt, folder, list(EDITS)), run(rt, folder, [])]
     return sum(done), len(done) - sum(done)
 
 

@@ -45,6 +45,11 @@ def load_kit(command):
     return made
 
 
+def is_refusal(kit, said):
+    """Whether the kit's answer on an edit is that it is refused: some kits answer a truth value, others one of their words."""
+    return said if isinstance(said, bool) else said in (kit.REFUSED, kit.AT_LIMIT)
+
+
 def hunks(old, new):
     """The lines that differ: the first of the old text's, the one after the last, and the new lines."""
     a, b = old.split("\n"), new.split("\n")
@@ -275,8 +280,8 @@ class Trial:
         is_sound = len(edits) > 1 and not self.kit.checked(self.crate, {}, ONE_JOB, kept).returncode
         found = {}
         for edit in edits:
-            kind, text = self.kit.must_fail(self.crate, edit.path, ONE_JOB, kept if is_sound else None)
-            found[edit] = kind in (self.kit.REFUSED, self.kit.AT_LIMIT), text.replace("must-fail ", "wrong ", 1)
+            said, text = self.kit.must_fail(self.crate, edit.path, ONE_JOB, kept if is_sound else None)
+            found[edit] = is_refusal(self.kit, said), text.replace("must-fail ", "wrong ", 1)
         return found
 
     def words_below(self, words):
