@@ -4,4 +4,6 @@ mod PreferredLength
 mod Spelled
 mod BadText
 mod SameLaws
+mod Embedding
+mod Told
 pub mod Lemmas

@@ -8,3 +8,4 @@ pub mod Sequence
 pub mod Notation
 pub mod Same
 pub mod Codes
+pub mod Embedded

@@ -2,10 +2,11 @@
 #![tactic(auto)]
 
 ghost use Rattle.std.specs.Prelude.{◌≡◌, ◌≤◌, ◌*◌, ℕ, List, ◌++◌, length};
-ghost use Rattle.cbor_data.specs.Value.{Value};
+ghost use Rattle.cbor_data.specs.Value.{Value, Values};
 ghost use Rattle.cbor_data.specs.Forms.{Spells, IsWellFormed};
 ghost use Rattle.cbor_data.specs.Preferred.{preferred};
 ghost use Rattle.cbor_data.specs.Sound.{IsSound};
+ghost use Rattle.cbor_data.specs.Embedded.{EmbedsAll};
 
 /// How many bits a float has.
 #[derive(Clone, Copy, Debug, PartialEq, Eq)]
@@ -63,4 +64,9 @@ pub fn preferred_spells()
 /// one at most nine (RFC 8949 section 3).
 pub fn preferred_length()
     ensures { (x : Value) (b : List ℕ) → Spells x b → length (preferred x) ≤ 9 * length b }
+{}
+
+/// Bytes hold one list of valid items at most (RFC 8742).
+pub fn one_list()
+    ensures { (b : List ℕ) (xs ys : Values) → EmbedsAll b xs → EmbedsAll b ys → xs ≡ ys }
 {}

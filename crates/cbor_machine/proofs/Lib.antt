@@ -4,4 +4,5 @@ mod Refusing
 mod Shallow
 mod Telling
 mod OneFault
+mod Embedding
 pub mod Lemmas

@@ -2,8 +2,9 @@
 //! written forms say (RFC 8949 section 3). The functions here do nothing: their contracts are the laws.
 #![tactic(auto)]
 
-ghost use Rattle.std.specs.Prelude.{◌≡◌, ◌≢◌, ℕ, ◌+◌, ◌<◌, List, [], ◌∷◌, ◌++◌, length, Some, None};
-ghost use Rattle.cbor_data.specs.Value.{AreBytes};
+ghost use Rattle.std.specs.Prelude.{◌≡◌, ◌≢◌, ℕ, ◌+◌, ◌<◌, List, [], ◌∷◌, ◌++◌, length, Some, None, ◌⊎◌};
+ghost use Rattle.cbor_data.specs.Value.{Value, Values, AreBytes};
+ghost use Rattle.cbor_data.specs.Embedded.{Embeds, EmbedsAll};
 ghost use Rattle.cbor_data.specs.Forms.{IsWellFormed, Begins, IsUnfinished};
 ghost use Rattle.cbor_data.specs.Faults.{Bounds, BeginsWithin, IsKindOf, IsFaultOf};
 ghost use Rattle.cbor_data.specs.declared.FaultKind.{FaultKind};
@@ -37,4 +38,10 @@ pub fn refused_is_of_its_kind()
 pub fn one_fault()
     ensures { (l : Bounds) (o : ℕ) (b : List ℕ) (k k' : FaultKind) (at at' : ℕ) → AreBytes b →
         IsFaultOf l o b k at → IsFaultOf l o b k' at' → (k ≡ k') × (at ≡ at') }
+{}
+
+/// Bytes hold a list of valid items (RFC 8742), or one valid item, or they do not: either can be told.
+pub fn held_or_not()
+    ensures list { (b : List ℕ) → AreBytes b → ((xs : Values) × EmbedsAll b xs) ⊎ ((xs : Values) → EmbedsAll b xs → ⊥) }
+    ensures single { (b : List ℕ) → AreBytes b → ((x : Value) × Embeds b x) ⊎ ((x : Value) → Embeds b x → ⊥) }
 {}

@@ -3,3 +3,5 @@ mod Pieces
 mod Following
 mod Valued
 mod Turned
+mod Firsts
+mod Joined

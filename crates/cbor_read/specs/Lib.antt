@@ -4,3 +4,4 @@ pub mod Outcomes
 pub mod Steps
 pub mod Turns
 pub mod Fronts
+pub mod Firsts

@@ -1,6 +1,7 @@
 //! Reads CBOR items (RFC 8949 section 3) one after the other from pieces of any size.
 #![tactic(auto)]
 
+mod embedding;
 mod fault;
 mod follow;
 mod front;
@@ -10,6 +11,7 @@ mod reader;
 mod value;
 
 pub use cbor_data::FaultKind;
+pub use embedding::embedded;
 pub use fault::{Fault, Stop};
 pub use front::{Front, read_front};
 pub use laws::one_fault;

@@ -1,8 +1,8 @@
 -- What is free in a form, form by form, and in forms that are alike.
-use Rattle.std.proofs.Common.{◌≡◌, List, inl, inr, refl, sym, subst}
-use Rattle.cddl_meaning.specs.Forms.{Node, Plain, Ref, Choice, ArrayOf, TagOf, SimpleBy, MapOf, Group, Entry, GroupRef, Sequence, Alternatives, Repeat, Language}
-use Rattle.cddl_meaning.specs.Alike.{AlikeAll, none, both, AlikeTypes, plain, refs, choices, arrays, tags, simples, maps, AlikeGroups, entries, group_refs, sequences, alternates, repeats, AreAlike}
-use Rattle.cddl_ranks.specs.Ranked.{MayBeEmpty, named, every_part, one_of_them, no_minimum, no_round, an_empty_round, AllMayBeEmpty, no_part, this_part, OneMayBeEmpty, this_one, another, a_type, a_group, IsFreeInType, same_item, member, all_items, its_number, IsFreePart, front, past_empty, IsFreeInGroup, same_list, part, alternative, a_round}
+use Rattle.std.proofs.Common.{◌≡◌, ◌⊎◌, List, inl, inr, refl, sym, subst}
+use Rattle.cddl_meaning.specs.Forms.{Node, Plain, Ref, Choice, ArrayOf, TagOf, SimpleBy, MapOf, Both, Such, Group, Entry, GroupRef, Sequence, Alternatives, Repeat, Language}
+use Rattle.cddl_meaning.specs.Alike.{AlikeAll, none, both, AlikeTypes, plain, refs, choices, arrays, tags, simples, maps, boths, suches, AlikeGroups, entries, group_refs, sequences, alternates, repeats, AreAlike}
+use Rattle.cddl_ranks.specs.Ranked.{MayBeEmpty, named, every_part, one_of_them, no_minimum, no_round, an_empty_round, AllMayBeEmpty, no_part, this_part, OneMayBeEmpty, this_one, another, a_type, a_group, IsFreeInType, same_item, member, all_items, its_number, left_side, right_side, tested, IsFreePart, front, past_empty, IsFreeInGroup, same_list, part, alternative, a_round}
 use Rattle.cddl_compile.proofs.Lists.{IsIn, from_contains}
 
 abbrev pub FreeType : {N G : Type 0} → Node N G → N → Type 0
@@ -13,6 +13,8 @@ FreeType (ArrayOf g) m = ⊥
 FreeType (TagOf t n) m = ⊥
 FreeType (SimpleBy n) m = m ≡ n
 FreeType (MapOf ess) m = ⊥
+FreeType (Both n o) m = (m ≡ n) ⊎ (m ≡ o)
+FreeType (Such n t) m = m ≡ n
 
 abbrev pub FreeItems : {N G : Type 0} → Node N G → G → Type 0
 FreeItems (Plain t) h = ⊥
@@ -22,6 +24,8 @@ FreeItems (ArrayOf g) h = h ≡ g
 FreeItems (TagOf t n) h = ⊥
 FreeItems (SimpleBy n) h = ⊥
 FreeItems (MapOf ess) h = ⊥
+FreeItems (Both n o) h = ⊥
+FreeItems (Such n t) h = ⊥
 
 abbrev pub FreeGroup : {N G : Type 0} → Language N G → Group N G → G → Type 0
 FreeGroup l (Entry n) h = ⊥
@@ -35,6 +39,9 @@ module _ {N G : Type 0} where
   free_type f m same_item = refl
   free_type f m (member {ms = ms} c) = from_contains ms m c
   free_type f m its_number = refl
+  free_type f m left_side = inl refl
+  free_type f m right_side = inr refl
+  free_type f m tested = refl
 
   pub free_items : (f : Node N G) (g : G) → IsFreeInType f (a_group g) → FreeItems f g
   free_items f g all_items = refl
@@ -59,6 +66,9 @@ module _ {N G M H : Type 0} (l : Language N G) (k : Language M H) (R : N → M �
   free_types_alike f g (tags a r) m h = absurd h
   free_types_alike f g (simples {n = n} r) m h = (n, refl, subst (R n) (sym h) r)
   free_types_alike f g (maps a) m h = absurd h
+  free_types_alike f g (boths {n = n} r s) m (inl h) = (n, inl refl, subst (R n) (sym h) r)
+  free_types_alike f g (boths {o = o} r s) m (inr h) = (o, inr refl, subst (R o) (sym h) s)
+  free_types_alike f g (suches {n = n} r) m h = (n, refl, subst (R n) (sym h) r)
 
   pub free_items_alike : (f : Node N G) (g : Node M H) → AlikeTypes R S f g → (b : H) → FreeItems g b → (a : G) × FreeItems f a × S a b
   free_items_alike f g plain b h = absurd h
@@ -68,6 +78,8 @@ module _ {N G M H : Type 0} (l : Language N G) (k : Language M H) (R : N → M �
   free_items_alike f g (tags a r) b h = absurd h
   free_items_alike f g (simples r) b h = absurd h
   free_items_alike f g (maps a) b h = absurd h
+  free_items_alike f g (boths r s) b h = absurd h
+  free_items_alike f g (suches r) b h = absurd h
 
   -- What may be empty in the second language may be so in the first.
   mutual

@@ -2,9 +2,9 @@
 -- than the place after the item.
 use Rattle.std.proofs.Common.{ℕ, zero, suc, ◌-◌, ◌≤◌, ◌<◌, ◌^◌, length, List, [], ◌∷◌, Option, Some, None, Bool, true, false, nat_eq, max, arith}
 use Rattle.cbor_data.specs.Value.{Value, Pairs, no_pairs, pair, place_count}
-use Rattle.cddl_meaning.specs.Forms.{members_in, pairs_in, tag_in, simple_in, passes, TagNumber, any_number, exactly, such_as, MapEntry, Node, Plain, Ref, Choice, ArrayOf, TagOf, SimpleBy, MapOf, Most, Group, Entry, GroupRef, Sequence, Alternatives, Repeat, Language}
+use Rattle.cddl_meaning.specs.Forms.{Test, members_in, pairs_in, tag_in, simple_in, passes, TagNumber, any_number, exactly, such_as, MapEntry, Node, Plain, Ref, Choice, ArrayOf, TagOf, SimpleBy, MapOf, Both, Such, Most, Group, Entry, GroupRef, Sequence, Alternatives, Repeat, Language}
 use Rattle.cddl_meaning.specs.Judges.{Answer, Yes, No, Reply, Takes, Fails, is_over, one_less, Fate, BelongsTo, Stray, by_counts, shown_by}
-use Rattle.cddl_meaning.specs.Moves.{Question, OfType, OfGroup, Tally, tallied, fresh, first_of, enough_of, tally_says, answer_reply, either_reply, Sorting, Answered, Replies, replies, LeadsTo, at_once, after, tries, plus, test_reply, next_way, map_move, next_pair, sorted, next_entry, after_value, next_member, next_part, next_alternative, next_round, repetition, after_round, end_of_rounds, array_move, content_move, tag_move, simple_move, type_move, entry_move, group_move}
+use Rattle.cddl_meaning.specs.Moves.{Question, OfType, OfGroup, Tally, tallied, fresh, first_of, enough_of, tally_says, answer_reply, either_reply, Sorting, Answered, Replies, replies, LeadsTo, at_once, after, tries, plus, test_reply, such_reply, next_way, map_move, next_pair, sorted, next_entry, after_value, next_member, next_part, next_alternative, next_round, repetition, after_round, end_of_rounds, array_move, content_move, tag_move, simple_move, type_move, entry_move, group_move}
 
 -- the greatest place that failed
 abbrev pub far_of : Reply → ℕ
@@ -128,6 +128,10 @@ module _ {N G : Type 0} (l : Language N G) where
   test_shape true p x at_once = says_yes
   test_shape false p x at_once = says_no (omega arith)
 
+  such_shape : (b : Bool) (p next : ℕ) → {w : ℕ} {r : Reply} → LeadsTo {N = N} {G = G} l (Answered (such_reply p next b)) r w → IsTypeReply p r
+  such_shape true p next at_once = says_yes
+  such_shape false p next at_once = says_no (omega arith)
+
   choice_shape : (ms : List N) (p : ℕ) (x : Value) (far : ℕ) → {w : ℕ} {r : Reply} → p ≤ far → LeadsTo l (next_member ms p x far) r w → IsTypeReply p r
   choice_shape [] p x far e at_once = says_no e
   choice_shape (m ∷ ms) p x far e (after {s = Takes left next later} d f) = kept_reply f says_yes
@@ -200,6 +204,10 @@ module _ {N G : Type 0} (l : Language N G) where
   node_shape n show (TagOf t m) p x h b d = tag_shape n show t m p (tag_in x) h b d
   node_shape n show (SimpleBy m) p x h b d = simple_shape m p (simple_in x) d
   node_shape n show (MapOf ess) p x h b d = map_shape n show ess p (pairs_in x) h b d
+  node_shape n show (Both m o) p x h b (after {s = Takes left next far} d (after {s = s} {v = v} e f)) = kept_reply f (show o p v x s h (omega (arith, b)) e)
+  node_shape n show (Both m o) p x h b (after {s = Fails far} {v = v} d f) = kept_reply f (show m p v x (Fails far) h (omega (arith, b)) d)
+  node_shape n show (Such m t) p x h b (after {s = Takes left next far} d f) = such_shape (passes t x) p next f
+  node_shape n show (Such m t) p x h b (after {s = Fails far} {v = v} d f) = kept_reply f (show m p v x (Fails far) h (omega (arith, b)) d)
 
   types_show : (n : ℕ) → TypesShow n
   types_show zero m p w x r h b d = absurd (omega (arith, b, positive d))

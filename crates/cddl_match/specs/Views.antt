@@ -8,7 +8,7 @@ use Rattle.cddl_meaning.specs.Judges as J
 use Rattle.cddl_meaning.specs.Moves as M
 use Rattle.cddl_table.specs.declared.nodes.TypeId.{TypeId}
 use Rattle.cddl_table.specs.declared.nodes.GroupId.{GroupId}
-use Rattle.cddl_table.specs.Nodes.{alternatives_view, entries_view, entry_view, most_view}
+use Rattle.cddl_table.specs.Nodes.{alternatives_view, entries_view, entry_view, most_view, test_view}
 use Rattle.cddl_match.specs.declared.questions.Subject.{Subject}
 use Rattle.cddl_match.specs.declared.questions.Subject.TheVariants as S
 use Rattle.cddl_match.specs.declared.questions.Question.{Question}
@@ -87,6 +87,8 @@ pending_view (P.Repeat r) = M.InRepeat r.least (most_view r.most) r.group r.base
 pending_view (P.Map ess base ps sofar) = M.InMap (alternatives_view ess.now) base (pairs_view ps.now) (reply_view sofar)
 pending_view (P.Key e es s) = M.InKey (entry_view e.now) (entries_view es.now) (sorting_view s)
 pending_view (P.Value e es s) = M.InValue (entry_view e.now) (entries_view es.now) (sorting_view s)
+pending_view (P.Left m p x) = M.InLeft m p (subject_view x)
+pending_view (P.Such t p x) = M.InSuch (test_view t.now) p (subject_view x)
 
 abbrev pub rounds_move : Rounds → M.Move TypeId GroupId
 rounds_move r = M.repetition r.least (most_view r.most) r.group r.base r.place (values r.items.now) r.far

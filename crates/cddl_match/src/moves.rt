@@ -3,15 +3,17 @@
 ghost use Rattle.std.specs.Prelude.{◌≡◌, false, true};
 ghost use Rattle.cbor_item.specs.View.{view};
 ghost use Rattle.cddl_meaning.specs.Judges.{is_over, one_less};
-ghost use Rattle.cddl_meaning.specs.Forms.{members_in, tag_in, simple_in, passes};
+ghost use Rattle.cddl_meaning.specs.Forms.{Both, Such, members_in, tag_in, simple_in, passes};
 ghost use Rattle.cddl_meaning.specs.Moves as M;
 ghost use Rattle.cddl_meaning.specs.Moves.{
   InAlternatives,
   InChoice,
   InEntry,
   InHead,
+  InLeft,
   InSequence,
   InSimple,
+  InSuch,
   OfGroup,
   OfType,
   array_move,
@@ -25,6 +27,7 @@ ghost use Rattle.cddl_meaning.specs.Moves.{
   next_member,
   next_move,
   simple_move,
+  such_reply,
   tag_move,
   test_reply,
   type_move,
@@ -316,6 +319,52 @@ fn simple_move<'t, 'i>(node: TypeId, place: usize, subject: Subject<'i>) -> Move
     }
 }
 
+/// Of two types the left one is asked first.
+fn both_move<'t, 'i>(
+    left: TypeId,
+    right: TypeId,
+    place: usize,
+    subject: Subject<'i>,
+) -> Move<'t, 'i>
+    ensures { move_view result ≡ type_move (Both left right) place (subject_view subject.entry) }
+{
+    Move::Asks(
+        Question::OfType {
+            node: left,
+            place,
+            subject,
+        },
+        Pending::Left {
+            node: right,
+            place,
+            subject,
+        },
+    )
+}
+
+/// The type is asked before its test.
+fn such_move<'t, 'i>(
+    node: TypeId,
+    test: &'t Test,
+    place: usize,
+    subject: Subject<'i>,
+) -> Move<'t, 'i>
+    ensures { move_view result ≡ type_move (Such node (test_view test.now)) place (subject_view subject.entry) }
+{
+    Move::Asks(
+        Question::OfType {
+            node,
+            place,
+            subject,
+        },
+        Pending::Such {
+            test,
+            place,
+            subject,
+        },
+    )
+}
+
 /// What a type asks first, or its reply.
 fn type_move<'t, 'i>(node: &'t Node, place: usize, subject: Subject<'i>) -> Move<'t, 'i>
     ensures { move_view result ≡ type_move (type_view node.now) place (subject_view subject.entry) }
@@ -337,6 +386,8 @@ fn type_move<'t, 'i>(node: &'t Node, place: usize, subject: Subject<'i>) -> Move
         Node::TagOf(number, content) => return tag_move(*number, *content, place, subject),
         Node::SimpleBy(head) => return simple_move(*head, place, subject),
         Node::MapOf(alternatives) => return map_move(alternatives, place, subject),
+        Node::Both(left, right) => return both_move(*left, *right, place, subject),
+        Node::Such(of, test) => return such_move(*of, test, place, subject),
     }
 }
 
@@ -496,6 +547,60 @@ fn next_in_simple<'t, 'i>(place: usize, reply: Reply<'i>) -> Move<'t, 'i>
             far: 0,
         }),
         Reply::Fails { .. } => Move::Answered(Reply::Fails { far: place }),
+    }
+}
+
+/// The left one of two types has said yes, and the right one is asked of the same item; or it has said no, for both.
+fn next_in_left<'t, 'i>(
+    node: TypeId,
+    place: usize,
+    subject: Subject<'i>,
+    reply: Reply<'i>,
+) -> Move<'t, 'i>
+    ensures { move_view result ≡ next_move (InLeft node place (subject_view subject.entry)) (reply_view reply.entry) }
+{
+    match reply {
+        Reply::Takes { .. } => Move::Asks(
+            Question::OfType {
+                node,
+                place,
+                subject,
+            },
+            Pending::Ref,
+        ),
+        Reply::Fails { far } => Move::Answered(Reply::Fails { far }),
+    }
+}
+
+/// What a test replies that says this, after a type that has told the place after the item.
+fn such_reply<'i>(place: usize, next: usize, says: bool) -> Reply<'i>
+    ensures { reply_view result ≡ such_reply place next says }
+{
+    if says {
+        Reply::Takes {
+            left: &[],
+            next,
+            far: 0,
+        }
+    } else {
+        Reply::Fails { far: place }
+    }
+}
+
+/// A type has said yes, and the item has to pass the test; or it has said no.
+fn next_in_such<'t, 'i>(
+    test: &'t Test,
+    place: usize,
+    subject: Subject<'i>,
+    reply: Reply<'i>,
+) -> Move<'t, 'i>
+    ensures { move_view result ≡ next_move (InSuch (test_view test.now) place (subject_view subject.entry)) (reply_view reply.entry) }
+{
+    match reply {
+        Reply::Takes { next, .. } => {
+            Move::Answered(such_reply(place, next, passes_test(test, subject)))
+        }
+        Reply::Fails { far } => Move::Answered(Reply::Fails { far }),
     }
 }
 
@@ -660,5 +765,15 @@ pub(crate) fn next_move<'t, 'i>(pending: Pending<'t, 'i>, reply: Reply<'i>) -> M
             others,
             sorting,
         } => return next_in_value(entry, others, sorting, reply),
+        Pending::Left {
+            node,
+            place,
+            subject,
+        } => return next_in_left(node, place, subject, reply),
+        Pending::Such {
+            test,
+            place,
+            subject,
+        } => return next_in_such(test, place, subject, reply),
     }
 }

@@ -1,7 +1,7 @@
 //! Questions, the replies to them, and what waits for a reply.
 
 use cbor_item::Item;
-use cddl_table::{GroupId, MapEntry, Most, TypeId};
+use cddl_table::{GroupId, MapEntry, Most, Test, TypeId};
 
 /// What a type is asked of.
 #[derive(Clone, Copy)]
@@ -161,6 +161,18 @@ pub(crate) enum Pending<'t, 'i> {
         entry: &'t MapEntry,
         others: &'t [MapEntry],
         sorting: Sorting<'t, 'i>,
+    },
+    /// The left one of two types, and the right one, which is asked if the left says yes.
+    Left {
+        node: TypeId,
+        place: usize,
+        subject: Subject<'i>,
+    },
+    /// A type, and the test that an item has to pass if the type says yes.
+    Such {
+        test: &'t Test,
+        place: usize,
+        subject: Subject<'i>,
     },
 }
 

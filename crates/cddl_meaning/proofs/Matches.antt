@@ -3,8 +3,8 @@ use Rattle.std.proofs.Common.{◌≡◌, ◌≢◌, ℕ, suc, ◌+◌, ◌-◌, 
 use Rattle.std.proofs.lemmas.Bool.Decides.{nat_tests}
 use Rattle.cbor_data.specs.Value.{Value, place_count, Pairs, no_pairs, pair, pairs_place_count}
 use Rattle.cddl_meaning.specs.Forms.{members_in, pairs_in, tag_in, simple_in, TagNumber, MapEntry, Node, Most, Group, Language}
-use Rattle.cddl_meaning.specs.Judges.{Answer, Yes, No, Reply, Takes, Fails, ArraySays, whole, over, failed, one_less, Says, passed, missed, ref, choice, no_array, array, no_tag, tagged, other_tag, no_simple, simple_such, other_simple, no_map, map, Fate, alternative_says, either, Maps, no_alternative, alternative, Sorts, all_sorted, sort, Belongs, nowhere, other_key, here, cut_here, handed_on, Numbers, whichever, this_number, other_number, by_head, Chooses, no_more, this_one, not_this, Does, missing, matches, differs, group_ref, sequence, alternatives, repeat, DoesEach, all_done, one_fails, and_then, DoesFirst, all_fail, one_takes, or_else, Repeats, full, too_few, enough, empty_round, round}
-use Rattle.cddl_meaning.specs.Moves.{Question, OfType, OfGroup, Tally, tallied, Sorting, Pending, InRef, InRepeat, InValue, Move, Answered, Asks, Tries, plus, yes_reply, reply_of, test_reply, answer_reply, either_reply, fresh, tally_says, next_member, next_part, next_alternative, next_way, next_pair, sorted, next_entry, repetition, after_round, tag_move, type_move, group_move, first_move, array_reply, next_move, Replies, replies, LeadsTo, at_once, after, tries}
+use Rattle.cddl_meaning.specs.Judges.{Answer, Yes, No, Reply, Takes, Fails, ArraySays, whole, over, failed, one_less, Says, passed, missed, ref, choice, no_array, array, no_tag, tagged, other_tag, no_simple, simple_such, other_simple, no_map, map, left_no, left_yes, none_such, such_passed, such_missed, Fate, alternative_says, either, Maps, no_alternative, alternative, Sorts, all_sorted, sort, Belongs, nowhere, other_key, here, cut_here, handed_on, Numbers, whichever, this_number, other_number, by_head, Chooses, no_more, this_one, not_this, Does, missing, matches, differs, group_ref, sequence, alternatives, repeat, DoesEach, all_done, one_fails, and_then, DoesFirst, all_fail, one_takes, or_else, Repeats, full, too_few, enough, empty_round, round}
+use Rattle.cddl_meaning.specs.Moves.{Question, OfType, OfGroup, Tally, tallied, Sorting, Pending, InRef, InRepeat, InValue, Move, Answered, Asks, Tries, plus, yes_reply, reply_of, test_reply, such_reply, answer_reply, either_reply, fresh, tally_says, next_member, next_part, next_alternative, next_way, next_pair, sorted, next_entry, repetition, after_round, tag_move, type_move, group_move, first_move, array_reply, next_move, Replies, replies, LeadsTo, at_once, after, tries}
 use Rattle.cddl_meaning.proofs.Once.{ends_once}
 use Rattle.cddl_meaning.proofs.Covers.{places_of, covers, any_places, array_places, map_places, tag_places, simple_places}
 use Rattle.cddl_meaning.proofs.Tallies.{all_tallied, tally_is}
@@ -111,6 +111,11 @@ module _ {N G : Type 0} (l : Language N G) where
     says_ends h (no_map e) = record { weight = 0; one_more = refl; ends = rw e at_once }
     says_ends h (map {ess = ess} {p = p} {w = w} {x = x} {ps = ps} {a = a} e d) =
         record { weight = _; one_more = refl; ends = rw e (subst (λ r. LeadsTo l (next_way ess p ps (Fails p)) r w) (map_reply p x a h e) (maps_ends (omega (arith, h, map_places x ps e)) d)) }
+    says_ends h (left_no d) = record { weight = _; one_more = refl; ends = after_that (ask_by (says_ends h d)) refl }
+    says_ends h (left_yes d e) = record { weight = _; one_more = refl; ends = after (ask_by (says_ends h d)) (after_that (ask_by (says_ends h e)) refl) }
+    says_ends h (none_such d) = record { weight = _; one_more = refl; ends = after_that (ask_by (says_ends h d)) refl }
+    says_ends h (such_passed {p = p} {x = x} d i) = record { weight = _; one_more = refl; ends = after_that (ask_by (says_ends h d)) (ap (λ b. Answered (such_reply p (plus p (place_count x)) b)) i) }
+    says_ends h (such_missed {p = p} {x = x} d i) = record { weight = _; one_more = refl; ends = after_that (ask_by (says_ends h d)) (ap (λ b. Answered (such_reply p (plus p (place_count x)) b)) i) }
 
     maps_ends : {ess : List (List (MapEntry N))} {p w : ℕ} {ps : Pairs} {sofar a : Answer} → Fits (suc p) (pairs_place_count ps) → Maps l ess p ps sofar a w → LeadsTo l (next_way ess p ps (answer_reply (suc p + pairs_place_count ps) sofar)) (answer_reply (suc p + pairs_place_count ps) a) w
     maps_ends h no_alternative = at_once

@@ -2,12 +2,12 @@
 use Rattle.std.proofs.Common.{◌≡◌, ◌≢◌, ℕ, zero, suc, ◌+◌, ◌-◌, ◌≤◌, max, length, List, [], ◌∷◌, Option, Some, None, Bool, true, false, nat_eq, refl, subst, sym, ap, ◌∙◌, arith}
 use Rattle.std.proofs.lemmas.Bool.Decides.{nat_tests}
 use Rattle.cbor_data.specs.Value.{Value, place_count, Pairs, no_pairs, pair, pairs_place_count}
-use Rattle.cddl_meaning.specs.Forms.{Test, passes, members_in, pairs_in, tag_in, simple_in, TagNumber, any_number, exactly, such_as, MapEntry, Node, Plain, Ref, Choice, ArrayOf, TagOf, SimpleBy, MapOf, Most, Group, Entry, GroupRef, Sequence, Alternatives, Repeat, Language}
-use Rattle.cddl_meaning.specs.Judges.{Answer, Yes, No, Reply, Takes, Fails, whole, over, failed, is_over, one_less, Says, passed, missed, ref, choice, no_array, array, no_tag, tagged, other_tag, no_simple, simple_such, other_simple, no_map, map, Fate, BelongsTo, Stray, alternative_says, either, Maps, no_alternative, alternative, Sorts, all_sorted, sort, Belongs, nowhere, other_key, here, cut_here, handed_on, Numbers, whichever, this_number, other_number, by_head, Chooses, no_more, this_one, not_this, Does, missing, matches, differs, group_ref, sequence, alternatives, repeat, DoesEach, all_done, one_fails, and_then, DoesFirst, all_fail, one_takes, or_else, Repeats, full, too_few, enough, empty_round, round}
+use Rattle.cddl_meaning.specs.Forms.{Test, passes, members_in, pairs_in, tag_in, simple_in, TagNumber, any_number, exactly, such_as, MapEntry, Node, Plain, Ref, Choice, ArrayOf, TagOf, SimpleBy, MapOf, Both, Such, Most, Group, Entry, GroupRef, Sequence, Alternatives, Repeat, Language}
+use Rattle.cddl_meaning.specs.Judges.{Answer, Yes, No, Reply, Takes, Fails, whole, over, failed, is_over, one_less, Says, passed, missed, ref, choice, no_array, array, no_tag, tagged, other_tag, no_simple, simple_such, other_simple, no_map, map, left_no, left_yes, none_such, such_passed, such_missed, Fate, BelongsTo, Stray, alternative_says, either, Maps, no_alternative, alternative, Sorts, all_sorted, sort, Belongs, nowhere, other_key, here, cut_here, handed_on, Numbers, whichever, this_number, other_number, by_head, Chooses, no_more, this_one, not_this, Does, missing, matches, differs, group_ref, sequence, alternatives, repeat, DoesEach, all_done, one_fails, and_then, DoesFirst, all_fail, one_takes, or_else, Repeats, full, too_few, enough, empty_round, round}
 use Rattle.cddl_meaning.proofs.Covers.{places_of, covers, any_places, array_places, map_places, tag_places}
 use Rattle.cddl_meaning.proofs.Matches.{Fits, plus_is, next_place, below, array_covers, tag_reply, simple_reply, map_reply, either_is, as_many}
 use Rattle.cddl_meaning.proofs.Tallies.{all_tallied, tally_is}
-use Rattle.cddl_meaning.specs.Moves.{Question, OfType, OfGroup, OfAlternative, Tally, tallied, fresh, tally_says, Sorting, InRef, Answered, Asks, plus, reply_of, test_reply, answer_reply, either_reply, next_member, next_part, next_alternative, next_round, repetition, after_round, end_of_rounds, array_move, content_move, tag_move, simple_move, next_way, map_move, next_pair, sorted, next_entry, after_value, type_move, group_move, Replies, replies, LeadsTo, at_once, after, tries}
+use Rattle.cddl_meaning.specs.Moves.{Question, OfType, OfGroup, OfAlternative, Tally, tallied, fresh, tally_says, Sorting, InRef, Answered, Asks, plus, reply_of, test_reply, such_reply, answer_reply, either_reply, next_member, next_part, next_alternative, next_round, repetition, after_round, end_of_rounds, array_move, content_move, tag_move, simple_move, next_way, map_move, next_pair, sorted, next_entry, after_value, type_move, group_move, Replies, replies, LeadsTo, at_once, after, tries}
 
 is_equal : (m n : ℕ) → nat_eq m n ≡ true → m ≡ n
 is_equal m n h = grind (arith, nat_tests)
@@ -113,6 +113,10 @@ module _ {N G : Type 0} (l : Language N G) where
     total : before + after_it ≡ w
     belongs : Belongs l es s.key_place s.key s.held fate before
     goes_on : LeadsTo l (sorted s fate) r after_it
+
+  such_says : {m : N} {t : Test} {p b far v : ℕ} {x : Value} {left : List Value} (c : Bool) → passes t x ≡ c → SaysIt (l.type_at m) p x (Takes left b far) v → SaysIt (Such m t) p x (such_reply p b c) (suc (v + 0))
+  such_says {m = m} {t = t} {p = p} {x = x} true e s = record { answer = Yes; is = ap (λ b. Takes [] b 0) (next_of s); says = subst (λ w. Says l (Such m t) p x Yes w) (omega arith) (such_passed (yes_of s) e) }
+  such_says {m = m} {t = t} {p = p} {x = x} false e s = record { answer = No p; is = refl; says = subst (λ w. Says l (Such m t) p x (No p) w) (omega arith) (such_missed (yes_of s) e) }
 
   -- the questions of weight k at most have the definition's replies
   record Known (k : ℕ) : Type 0 where
@@ -232,6 +236,15 @@ module _ {N G : Type 0} (l : Language N G) where
     form_from (TagOf t m) {x = x} f h e = tag_from (tag_in x) refl f h e
     form_from (SimpleBy m) {x = x} f h e = simple_from (simple_in x) refl f h e
     form_from (MapOf ess) {x = x} f h e = map_from (pairs_in x) refl f h e
+    form_from (Both m n) {p = p} {x = x} f h (after {s = Takes left b later} d (after e at_once)) =
+        let s = known.types f (omega (arith, h)) d in
+        let t = known.types f (omega (arith, h)) e in
+        record { answer = t.answer; is = t.is; says = subst (λ w. Says l (Both m n) p x t.answer w) (omega arith) (left_yes (yes_of s) t.says) }
+    form_from (Both m n) {p = p} {x = x} f h (after {s = Fails later} d at_once) =
+        record { answer = No later; is = refl; says = subst (λ w. Says l (Both m n) p x (No later) w) (omega arith) (left_no (no_of (known.types f (omega (arith, h)) d))) }
+    form_from (Such m t) {x = x} f h (after {s = Takes left b later} d at_once) = such_says (passes t x) refl (known.types f (omega (arith, h)) d)
+    form_from (Such m t) {p = p} {x = x} f h (after {s = Fails later} d at_once) =
+        record { answer = No later; is = refl; says = subst (λ w. Says l (Such m t) p x (No later) w) (omega arith) (none_such (no_of (known.types f (omega (arith, h)) d))) }
 
     each_from : (gs : List G) {p q far w : ℕ} {xs : List Value} {r : Reply} → Fits q (places_of xs) → w ≤ k → LeadsTo l (next_part gs p q xs far) r w → DoesEach l gs p q xs far r w
     each_from [] f h at_once = all_done

@@ -1,12 +1,13 @@
 -- Forms of types and groups (RFC 8610 sections 2 and 3), whose parts are named in some way: by numbers of a table, or by
 -- the trees of a specification themselves.
-use Rattle.std.specs.Prelude.{ℕ, List, [], ◌∷◌, Option, Some, None, Bool, true, false, nat_lt, nat_le, nat_eq, ◌&&◌}
+use Rattle.std.specs.Prelude.{ℕ, ◌^◌, length, List, [], ◌∷◌, Option, Some, None, Bool, true, false, nat_lt, nat_le, nat_eq, ◌&&◌, ◌||◌, not}
 use Rattle.cbor_data.specs.declared.Width.{Width}
 use Rattle.cbor_data.specs.Same.{same_value, same_width}
 use Rattle.cbor_data.specs.Value.{Value, uint, nint, bytes, text, array, pairs, tag, simple, float, Values, no_values, value, Pairs}
 
 -- What is asked of an item by itself (RFC 8610 sections 2.2.1, 2.2.2.1 and 2.2.3): `any` and `#`, a major type, a simple
--- value, a float of one width, a value, or a range.
+-- value, a float of one width, a value, or a range; and what the controls `.ne`, `.lt`, `.le`, `.gt`, `.ge` and `.size`
+-- ask (section 3.8; `.eq` asks for a value).
 pub data Test : Type 0 where
   anything : Test
   of_major : ℕ → Test
@@ -15,6 +16,14 @@ pub data Test : Type 0 where
   equals : Value → Test
   -- from one whole number to another, with the last in `a..b`, without it in `a...b`
   between : (least last : Value) → (closed : Bool) → Test
+  differs_from : Value → Test
+  -- a whole number that is less than this one; this one or less; greater; this one or greater
+  less_than : Value → Test
+  at_most_number : Value → Test
+  greater_than : Value → Test
+  at_least_number : Value → Test
+  -- as many bytes as a member of these ranges says, each a first and a last number
+  sized : List (ℕ × ℕ) → Test
 
 -- the major type (RFC 8949 section 3.1)
 abbrev pub major_of : Value → ℕ
@@ -52,6 +61,23 @@ abbrev pub is_float : Width → Value → Bool
 is_float w (float v n) = same_width v w
 is_float w _ = false
 
+-- the number lies in one of the ranges
+abbrev pub is_member : ℕ → List (ℕ × ℕ) → Bool
+is_member n [] = false
+is_member n (r ∷ rs) = (nat_le r.0 n && nat_le n r.1) || is_member n rs
+
+-- The unsigned number is less than 256^m for a member m of the ranges, and so for their greatest member.
+abbrev pub fits_in : ℕ → List (ℕ × ℕ) → Bool
+fits_in n [] = false
+fits_in n (r ∷ rs) = (nat_le r.0 r.1 && nat_lt n (256 ^ r.1)) || fits_in n rs
+
+-- The size of a text is the number of its bytes, not of its characters. Items of other kinds have no size (section 3.8.1).
+abbrev pub has_size : List (ℕ × ℕ) → Value → Bool
+has_size rs (uint n) = fits_in n rs
+has_size rs (bytes b) = is_member (length b) rs
+has_size rs (text b) = is_member (length b) rs
+has_size rs _ = false
+
 -- An item passes a test. A value is matched by the same value alone: numbers of other kinds, and floats of other widths,
 -- differ.
 abbrev pub passes : Test → Value → Bool
@@ -62,6 +88,12 @@ passes (float_of w) x = is_float w x
 passes (equals v) x = same_value x v
 passes (between least last true) x = is_up_to least x && is_up_to x last
 passes (between least last false) x = is_up_to least x && is_below x last
+passes (differs_from v) x = not (same_value x v)
+passes (less_than v) x = is_below x v
+passes (at_most_number v) x = is_up_to x v
+passes (greater_than v) x = is_below v x
+passes (at_least_number v) x = is_up_to v x
+passes (sized rs) x = has_size rs x
 
 -- the members as a list
 abbrev pub list_of : Values → List Value
@@ -123,6 +155,10 @@ pub data Node (N G : Type 0) : Type 0 where
   SimpleBy : N → Node N G
   -- `{ group }`: the alternatives that the group stands for, each a list of entries
   MapOf : List (List (MapEntry N)) → Node N G
+  -- `.and` and `.within` (section 3.8.5): what both say yes to
+  Both : N → N → Node N G
+  -- a control by a test (section 3.8): what the type says yes to, if it passes
+  Such : N → Test → Node N G
 
 -- A group, asked of a list of items: the members of an array from one of them on.
 pub data Group (N G : Type 0) : Type 0 where

@@ -9,12 +9,15 @@
 -- each value is as its entry says, and as many pairs belong to each entry as it asks for. All alternatives are tried, and
 -- in each of them all pairs, also after one that failed.
 --
+-- Where two types have to say yes, the left is asked first, and the right only if it has said yes; a no is that of the one
+-- that said it. A test behind a type is tried if that has said yes, and its no shows at the item.
+--
 -- Each derivation has a weight, the number of its judgements: a type said something of an item, or a group did something
 -- with a list; and in a map one for each alternative, one for each pair in each alternative, and one for each pair with
 -- each entry of the alternative, tried or not. A place is an item's number in preorder, a key before its value.
 use Rattle.std.specs.Prelude.{◌≡◌, ◌≢◌, ℕ, zero, suc, ◌+◌, ◌-◌, max, length, List, [], ◌∷◌, Option, Some, None, Bool, true, false, nat_le, nat_eq, ◌&&◌, if◌then◌else◌}
 use Rattle.cbor_data.specs.Value.{Value, uint, place_count, Pairs, no_pairs, pair}
-use Rattle.cddl_meaning.specs.Forms.{Test, passes, members_in, pairs_in, tag_in, simple_in, TagNumber, any_number, exactly, such_as, MapEntry, Node, Plain, Ref, Choice, ArrayOf, TagOf, SimpleBy, MapOf, Most, at_most, any_number_of, Group, Entry, GroupRef, Sequence, Alternatives, Repeat, Language}
+use Rattle.cddl_meaning.specs.Forms.{Test, passes, members_in, pairs_in, tag_in, simple_in, TagNumber, any_number, exactly, such_as, MapEntry, Node, Plain, Ref, Choice, ArrayOf, TagOf, SimpleBy, MapOf, Both, Such, Most, at_most, any_number_of, Group, Entry, GroupRef, Sequence, Alternatives, Repeat, Language}
 
 -- What a type says: yes; or no, with the place where it shows. That is the greatest place of all trials that failed, but for
 -- those of types that then said yes.
@@ -102,8 +105,8 @@ either (No p) Yes = Yes
 either (No p) (No q) = No (max p q)
 
 mutual
-  -- The type says this of the item x at the place p. A no shows at the item itself, or, in a choice, an array, a tag or a
-  -- map, wherever a part of it shows its own. The number of a tag or of a simple value has the place of its item.
+  -- The type says this of the item x at the place p. A no shows at the item itself, or, in a choice, an array, a tag, a map
+  -- or a control, wherever a part of it shows its own. The number of a tag or of a simple value has the place of its item.
   pub data Says {N G : Type 0} (l : Language N G) : Node N G → ℕ → Value → Answer → ℕ → Type 0 where
     passed : {t : Test} {p : ℕ} {x : Value} → passes t x ≡ true → Says l (Plain t) p x Yes 1
     missed : {t : Test} {p : ℕ} {x : Value} → passes t x ≡ false → Says l (Plain t) p x (No p) 1
@@ -119,6 +122,11 @@ mutual
     other_simple : {m : N} {p n far w : ℕ} {x : Value} → simple_in x ≡ Some n → Says l (l.type_at m) p (uint n) (No far) w → Says l (SimpleBy m) p x (No p) (suc w)
     no_map : {ess : List (List (MapEntry N))} {p : ℕ} {x : Value} → pairs_in x ≡ None → Says l (MapOf ess) p x (No p) 1
     map : {ess : List (List (MapEntry N))} {p w : ℕ} {x : Value} {ps : Pairs} {a : Answer} → pairs_in x ≡ Some ps → Maps l ess p ps (No p) a w → Says l (MapOf ess) p x a (suc w)
+    left_no : {m n : N} {p far w : ℕ} {x : Value} → Says l (l.type_at m) p x (No far) w → Says l (Both m n) p x (No far) (suc w)
+    left_yes : {m n : N} {p v w : ℕ} {x : Value} {a : Answer} → Says l (l.type_at m) p x Yes v → Says l (l.type_at n) p x a w → Says l (Both m n) p x a (suc (v + w))
+    none_such : {m : N} {t : Test} {p far w : ℕ} {x : Value} → Says l (l.type_at m) p x (No far) w → Says l (Such m t) p x (No far) (suc w)
+    such_passed : {m : N} {t : Test} {p w : ℕ} {x : Value} → Says l (l.type_at m) p x Yes w → passes t x ≡ true → Says l (Such m t) p x Yes (suc w)
+    such_missed : {m : N} {t : Test} {p w : ℕ} {x : Value} → Says l (l.type_at m) p x Yes w → passes t x ≡ false → Says l (Such m t) p x (No p) (suc w)
 
   -- These alternatives say this of a map at p with these pairs, after others that said `sofar`.
   pub data Maps {N G : Type 0} (l : Language N G) : List (List (MapEntry N)) → ℕ → Pairs → (sofar : Answer) → Answer → ℕ → Type 0 where

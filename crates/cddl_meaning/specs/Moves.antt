@@ -2,7 +2,7 @@
 -- the definition says, wherever places have numbers below 2^64.
 use Rattle.std.specs.Prelude.{ℕ, zero, suc, ◌+◌, ◌-◌, ◌^◌, min, max, length, List, [], ◌∷◌, Option, Some, None, Bool, true, false, nat_eq, nat_le, ◌&&◌, if◌then◌else◌}
 use Rattle.cbor_data.specs.Value.{Value, uint, place_count, Pairs, no_pairs, pair}
-use Rattle.cddl_meaning.specs.Forms.{passes, members_in, pairs_in, tag_in, simple_in, TagNumber, any_number, exactly, such_as, MapEntry, Node, Plain, Ref, Choice, ArrayOf, TagOf, SimpleBy, MapOf, Most, Group, Entry, GroupRef, Sequence, Alternatives, Repeat, Language}
+use Rattle.cddl_meaning.specs.Forms.{Test, passes, members_in, pairs_in, tag_in, simple_in, TagNumber, any_number, exactly, such_as, MapEntry, Node, Plain, Ref, Choice, ArrayOf, TagOf, SimpleBy, MapOf, Both, Such, Most, Group, Entry, GroupRef, Sequence, Alternatives, Repeat, Language}
 use Rattle.cddl_meaning.specs.Judges.{Answer, Yes, No, Reply, Takes, Fails, is_over, one_less, is_up_to_most, Fate, BelongsTo, Stray, by_counts, shown_by}
 
 -- A question asks a type of an item at a place; a group of items, the first of them at a place, of the array at a base; or
@@ -58,6 +58,10 @@ pub data Pending (N G : Type 0) : Type 0 where
   InKey : MapEntry N → List (MapEntry N) → Sorting N → Pending N G
   -- the same, where its value type is asked
   InValue : MapEntry N → List (MapEntry N) → Sorting N → Pending N G
+  -- the right type, which is asked of the item if the left says yes
+  InLeft : N → (place : ℕ) → Value → Pending N G
+  -- the test, which the item has to pass if the type says yes
+  InSuch : Test → (place : ℕ) → Value → Pending N G
 
 -- Either the reply, or what is asked first; or a pair is tried with the entries of its alternative.
 pub data Move (N G : Type 0) : Type 0 where
@@ -82,6 +86,11 @@ reply_of p x (No far) = Fails far
 abbrev pub test_reply : ℕ → Value → Bool → Reply
 test_reply p x true = yes_reply p x
 test_reply p x false = Fails p
+
+-- a test's reply behind a type that has told the place after the item
+abbrev pub such_reply : ℕ → (next : ℕ) → Bool → Reply
+such_reply p next true = Takes [] next 0
+such_reply p next false = Fails p
 
 -- An array's reply, by what its group did: the first item that is left shows a no.
 abbrev pub array_reply : Reply → Reply
@@ -227,6 +236,8 @@ module _ {N G : Type 0} where
   type_move (TagOf t m) p x = tag_move t m p (tag_in x)
   type_move (SimpleBy m) p x = simple_move m p (simple_in x)
   type_move (MapOf ess) p x = map_move ess p (pairs_in x)
+  type_move (Both m n) p x = Asks (OfType m p x) (InLeft n p x)
+  type_move (Such m t) p x = Asks (OfType m p x) (InSuch t p x)
 
   -- An entry asks about the first item.
   abbrev pub entry_move : N → ℕ → ℕ → List Value → Move N G
@@ -270,6 +281,10 @@ module _ {N G : Type 0} where
   next_move (InKey e es s) (Fails later) = next_entry es s
   next_move (InValue e es s) (Takes left next later) = sorted s (BelongsTo (length es) Yes)
   next_move (InValue e es s) (Fails later) = after_value e.cuts es s later
+  next_move (InLeft n p x) (Takes left next later) = Asks (OfType n p x) InRef
+  next_move (InLeft n p x) (Fails later) = Answered (Fails later)
+  next_move (InSuch t p x) (Takes left next later) = Answered (such_reply p next (passes t x))
+  next_move (InSuch t p x) (Fails later) = Answered (Fails later)
 
   -- A question's reply by the moves, with the number of questions that are asked on the way, and one more for each pair that
   -- is tried and for each entry of its alternative.

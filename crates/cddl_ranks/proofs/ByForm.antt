@@ -1,7 +1,7 @@
 -- What ranks say of each form.
 use Rattle.std.proofs.Common.{◌≡◌, ℕ, zero, suc, ◌<◌, ◌≤◌, List, [], ◌∷◌, length, slice_index_or, Contains, refl, subst, arith}
-use Rattle.cddl_meaning.specs.Forms.{Node, Plain, Ref, Choice, ArrayOf, TagOf, SimpleBy, MapOf, Group, Entry, GroupRef, Sequence, Alternatives, Repeat, Language}
-use Rattle.cddl_ranks.specs.Ranked.{MayBeEmpty, Name, a_type, a_group, IsFreeInType, same_item, member, all_items, its_number, IsFreePart, front, past_empty, IsFreeInGroup, same_list, part, alternative, a_round, IsFree, in_type, in_group, IsRanked, LeadsTo, at_once, by_way}
+use Rattle.cddl_meaning.specs.Forms.{Node, Plain, Ref, Choice, ArrayOf, TagOf, SimpleBy, MapOf, Both, Such, Group, Entry, GroupRef, Sequence, Alternatives, Repeat, Language}
+use Rattle.cddl_ranks.specs.Ranked.{MayBeEmpty, Name, a_type, a_group, IsFreeInType, same_item, member, all_items, its_number, left_side, right_side, tested, IsFreePart, front, past_empty, IsFreeInGroup, same_list, part, alternative, a_round, IsFree, in_type, in_group, IsRanked, LeadsTo, at_once, by_way}
 use Rattle.cddl_ranks.specs.Flags.{AreBelow, IsTypeRanked}
 
 -- the parts of a sequence that are free in it have a rank below r
@@ -60,6 +60,8 @@ module _ {N G : Type 0} (l : Language N G) (rank : Name N G → ℕ) where
   type_ranked r (TagOf t m) h = tt
   type_ranked r (SimpleBy m) h = h (a_type m) its_number
   type_ranked r (MapOf ess) h = tt
+  type_ranked r (Both m n) h = (h (a_type m) left_side, h (a_type n) right_side)
+  type_ranked r (Such m t) h = h (a_type m) tested
 
   group_ranked : (r : ℕ) (f : Group N G) → ((h : G) → IsFreeInGroup l f h → groups_by h < r) → IsGroupRanked l groups_by r f
   group_ranked r (Entry m) h = tt
@@ -85,6 +87,9 @@ module _ {N G : Type 0} (l : Language N G) (rank : Name N G → ℕ) where
   down_type r f (a_type m) h (member {ms = ms} c) = each_below types_by r ms h m c
   down_type r f (a_group g) h all_items = h
   down_type r f (a_type m) h its_number = h
+  down_type r f (a_type m) h left_side = h.0
+  down_type r f (a_type m) h right_side = h.1
+  down_type r f (a_type m) h tested = h
 
   down_group : (r : ℕ) (f : Group N G) (g : G) → IsGroupRanked l groups_by r f → IsFreeInGroup l f g → groups_by g < r
   down_group r f g h same_list = h

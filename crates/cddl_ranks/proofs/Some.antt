@@ -2,8 +2,8 @@
 use Rattle.std.proofs.Common.{◌≡◌, ℕ, zero, suc, ◌+◌, ◌-◌, ◌^◌, ◌<◌, ◌≤◌, ◌⊎◌, inl, inr, max, length, List, [], ◌∷◌, Option, Some, None, Bool, true, false, nat_eq, refl, subst, ap, arith}
 use Rattle.std.proofs.lemmas.Bool.Decides.{nat_tests}
 use Rattle.cbor_data.specs.Value.{Value, uint, place_count, Pairs, no_pairs, pair}
-use Rattle.cddl_meaning.specs.Forms.{Test, passes, members_in, pairs_in, tag_in, simple_in, TagNumber, any_number, exactly, such_as, MapEntry, Node, Plain, Ref, Choice, ArrayOf, TagOf, SimpleBy, MapOf, Most, Group, Entry, GroupRef, Sequence, Alternatives, Repeat, Language}
-use Rattle.cddl_meaning.specs.Judges.{Answer, Yes, No, Reply, Takes, Fails, whole, over, failed, is_over, one_less, Says, passed, missed, ref, choice, no_array, array, no_tag, tagged, other_tag, no_simple, simple_such, other_simple, no_map, map, Fate, BelongsTo, Stray, alternative_says, either, Maps, no_alternative, alternative, Sorts, all_sorted, sort, Belongs, nowhere, other_key, here, cut_here, handed_on, Numbers, whichever, this_number, other_number, by_head, Chooses, no_more, this_one, not_this, Does, missing, matches, differs, group_ref, sequence, alternatives, repeat, DoesEach, all_done, one_fails, and_then, DoesFirst, all_fail, one_takes, or_else, Repeats, full, too_few, enough, empty_round, round}
+use Rattle.cddl_meaning.specs.Forms.{Test, passes, members_in, pairs_in, tag_in, simple_in, TagNumber, any_number, exactly, such_as, MapEntry, Node, Plain, Ref, Choice, ArrayOf, TagOf, SimpleBy, MapOf, Both, Such, Most, Group, Entry, GroupRef, Sequence, Alternatives, Repeat, Language}
+use Rattle.cddl_meaning.specs.Judges.{Answer, Yes, No, Reply, Takes, Fails, whole, over, failed, is_over, one_less, Says, passed, missed, ref, choice, no_array, array, no_tag, tagged, other_tag, no_simple, simple_such, other_simple, no_map, map, left_no, left_yes, none_such, such_passed, such_missed, Fate, BelongsTo, Stray, alternative_says, either, Maps, no_alternative, alternative, Sorts, all_sorted, sort, Belongs, nowhere, other_key, here, cut_here, handed_on, Numbers, whichever, this_number, other_number, by_head, Chooses, no_more, this_one, not_this, Does, missing, matches, differs, group_ref, sequence, alternatives, repeat, DoesEach, all_done, one_fails, and_then, DoesFirst, all_fail, one_takes, or_else, Repeats, full, too_few, enough, empty_round, round}
 use Rattle.cddl_meaning.proofs.Lemmas.{one_saying}
 use Rattle.cddl_ranks.specs.Decided.{IsDecided}
 use Rattle.cddl_ranks.specs.Size.{size, pairs_size, list_size}
@@ -184,6 +184,18 @@ module _ {N G : Type 0} (l : Language N G) (type_rank : N → ℕ) (group_rank :
         let d = maps_some ess p ps (No p) (omega (arith, h, map_size x ps e)) in
         record { answer = d.answer; weight = suc d.weight; says = map e d.maps }
 
+    both_some : (m n : N) (p : ℕ) (x : Value) (a : Answer) (w : ℕ) → Says l (l.type_at m) p x a w → SaysSome (l.type_at n) p x → SaysSome (Both m n) p x
+    both_some m n p x Yes w d e = record { answer = e.answer; weight = suc (w + e.weight); says = left_yes d e.says }
+    both_some m n p x (No far) w d e = record { answer = No far; weight = suc w; says = left_no d }
+
+    tested_some : (m : N) (t : Test) (p : ℕ) (x : Value) (w : ℕ) → Says l (l.type_at m) p x Yes w → (b : Bool) → passes t x ≡ b → SaysSome (Such m t) p x
+    tested_some m t p x w d true e = record { answer = Yes; weight = suc w; says = such_passed d e }
+    tested_some m t p x w d false e = record { answer = No p; weight = suc w; says = such_missed d e }
+
+    such_some : (m : N) (t : Test) (p : ℕ) (x : Value) (a : Answer) (w : ℕ) → Says l (l.type_at m) p x a w → SaysSome (Such m t) p x
+    such_some m t p x Yes w d = tested_some m t p x w d (passes t x) refl
+    such_some m t p x (No far) w d = record { answer = No far; weight = suc w; says = none_such d }
+
     pub type_some : (t : Node N G) (p : ℕ) (x : Value) → size x ≤ S → IsTypeRanked type_rank group_rank R t → SaysSome t p x
     type_some (Plain t) p x h k = plain_some t p x (passes t x) refl
     type_some (Ref m) p x h k = let d = types m p x (inr (h, k)) in record { answer = d.answer; weight = suc d.weight; says = ref d.says }
@@ -192,6 +204,8 @@ module _ {N G : Type 0} (l : Language N G) (type_rank : N → ℕ) (group_rank :
     type_some (TagOf t m) p x h k = tag_some t m p x h (tag_in x) refl
     type_some (SimpleBy m) p x h k = simple_some m p x (omega (arith, h, size_some x)) k (simple_in x) refl
     type_some (MapOf ess) p x h k = map_some ess p x h (pairs_in x) refl
+    type_some (Both m n) p x h k = let d = types m p x (inr (h, k.0)) in both_some m n p x d.answer d.weight d.says (types n p x (inr (h, k.1)))
+    type_some (Such m t) p x h k = let d = types m p x (inr (h, k)) in such_some m t p x d.answer d.weight d.says
 
     first_some : (gs : List G) (p q : ℕ) (xs : List Value) (far : ℕ) → list_size xs ≤ S → AreBelow group_rank R gs → FirstSome gs p q xs far
     first_some [] p q xs far h b = record { reply = Fails far; weight = 0; does = all_fail }
@@ -265,6 +279,8 @@ module _ {N G : Type 0} (l : Language N G) (type_rank : N → ℕ) (group_rank :
     any_type_ranked (TagOf t m) = tt
     any_type_ranked (SimpleBy m) = omega (arith, ranked.type_bound m)
     any_type_ranked (MapOf ess) = tt
+    any_type_ranked (Both m n) = (omega (arith, ranked.type_bound m), omega (arith, ranked.type_bound n))
+    any_type_ranked (Such m t) = omega (arith, ranked.type_bound m)
 
     any_group_ranked : (t : Group N G) → IsGroupRanked l group_rank (suc bound) t
     any_group_ranked (Entry m) = tt

@@ -2,9 +2,9 @@
 use Rattle.std.proofs.Common.{◌≡◌, ℕ, zero, suc, ◌+◌, ◌-◌, ◌<◌, ◌≤◌, ◌⊎◌, inl, inr, max, length, List, [], ◌∷◌, Option, Some, None, Bool, true, false, nat_eq, refl, ap, arith}
 use Rattle.std.proofs.lemmas.Bool.Decides.{nat_tests}
 use Rattle.cbor_data.specs.Value.{Value, uint, place_count, Pairs, no_pairs, pair}
-use Rattle.cddl_meaning.specs.Forms.{passes, members_in, pairs_in, tag_in, simple_in, TagNumber, any_number, exactly, such_as, MapEntry, Node, Plain, Ref, Choice, ArrayOf, TagOf, SimpleBy, MapOf, Most, Group, Entry, GroupRef, Sequence, Alternatives, Repeat, Language}
+use Rattle.cddl_meaning.specs.Forms.{Test, passes, members_in, pairs_in, tag_in, simple_in, TagNumber, any_number, exactly, such_as, MapEntry, Node, Plain, Ref, Choice, ArrayOf, TagOf, SimpleBy, MapOf, Both, Such, Most, Group, Entry, GroupRef, Sequence, Alternatives, Repeat, Language}
 use Rattle.cddl_meaning.specs.Judges.{Yes, No, Reply, Takes, Fails, is_over, one_less, Fate, BelongsTo, Stray}
-use Rattle.cddl_meaning.specs.Moves.{Question, OfType, OfGroup, OfAlternative, Tally, Sorting, Pending, InChoice, InHead, InSimple, InEntry, InSequence, InAlternatives, InRepeat, InKey, InValue, Move, Answered, Asks, plus, test_reply, array_reply, next_member, next_part, next_alternative, next_round, repetition, after_round, end_of_rounds, array_move, content_move, tag_move, simple_move, either_reply, answer_reply, fresh, tallied, tally_says, next_way, map_move, next_pair, sorted, next_entry, after_value, type_move, entry_move, group_move, next_move}
+use Rattle.cddl_meaning.specs.Moves.{Question, OfType, OfGroup, OfAlternative, Tally, Sorting, Pending, InChoice, InHead, InSimple, InEntry, InSequence, InAlternatives, InRepeat, InKey, InValue, InLeft, InSuch, Move, Answered, Asks, plus, test_reply, such_reply, array_reply, next_member, next_part, next_alternative, next_round, repetition, after_round, end_of_rounds, array_move, content_move, tag_move, simple_move, either_reply, answer_reply, fresh, tallied, tally_says, next_way, map_move, next_pair, sorted, next_entry, after_value, type_move, entry_move, group_move, next_move}
 use Rattle.cddl_ranks.specs.Size.{size, pairs_size, list_size}
 use Rattle.cddl_ranks.specs.Ranked.{MayBeEmpty, named, every_part, one_of_them, no_minimum, no_round, an_empty_round, AllMayBeEmpty, no_part, this_part, OneMayBeEmpty, this_one, another}
 use Rattle.cddl_ranks.specs.Flags.{AreBelow, IsTypeRanked}
@@ -145,6 +145,14 @@ module _ {N G : Type 0} (l : Language N G) (type_rank : N → ℕ) (group_rank :
     map_total ess p x h None e = at_end (Fails p) AnyReply tt
     map_total ess p x h (Some ps) e = ways_total ess p ps (Fails p) (omega (arith, h, map_size x ps e))
 
+    left_next : (n : N) (p : ℕ) (x : Value) (s : Reply) → IsLess (size x) (type_rank n) S R → Ending S R (next_move (InLeft n p x) s) AnyReply
+    left_next n p x (Takes left b later) i = let d = types n p x i in then i d.replies_down (at_end d.reply AnyReply tt)
+    left_next n p x (Fails later) i = at_end (Fails later) AnyReply tt
+
+    such_next : (t : Test) (p : ℕ) (x : Value) (s : Reply) → Ending S R (next_move (InSuch t p x) s) AnyReply
+    such_next t p x (Takes left b later) = at_end (such_reply p b (passes t x)) AnyReply tt
+    such_next t p x (Fails later) = at_end (Fails later) AnyReply tt
+
     type_total : (t : Node N G) (p : ℕ) (x : Value) → size x ≤ S → IsTypeRanked type_rank group_rank R t → Ending S R (type_move t p x) AnyReply
     type_total (Plain t) p x h k = at_end (test_reply p x (passes t x)) AnyReply tt
     type_total (Ref m) p x h k = let d = types m p x (inr (h, k)) in then (inr (h, k)) d.replies_down (at_end d.reply AnyReply tt)
@@ -153,6 +161,8 @@ module _ {N G : Type 0} (l : Language N G) (type_rank : N → ℕ) (group_rank :
     type_total (TagOf t m) p x h k = tag_total t m p x h (tag_in x) refl
     type_total (SimpleBy m) p x h k = simple_total m p (omega (arith, h, size_some x)) k (simple_in x)
     type_total (MapOf ess) p x h k = map_total ess p x h (pairs_in x) refl
+    type_total (Both m n) p x h k = let d = types m p x (inr (h, k.0)) in then (inr (h, k.0)) d.replies_down (left_next n p x d.reply (inr (h, k.1)))
+    type_total (Such m t) p x h k = let d = types m p x (inr (h, k)) in then (inr (h, k)) d.replies_down (such_next t p x d.reply)
 
     first_next : (g : G) (gs : List G) (base q : ℕ) (ys : List Value) (far : ℕ) (s : Reply) → TakesWell (Empty g) ys s → ((far : ℕ) → Ending S R (next_alternative gs base q ys far) (TakesWell (OneMayBeEmpty l gs) ys)) → Ending S R (next_move (InAlternatives gs base q ys far) s) (TakesWell (OneMayBeEmpty l (g ∷ gs)) ys)
     first_next g gs base q ys far (Takes left b later) good rest = at_end (Takes left b (max far later)) (TakesWell (OneMayBeEmpty l (g ∷ gs)) ys) (takes_as (Empty g) (OneMayBeEmpty l (g ∷ gs)) (λ e. this_one e) ys (Takes left b later) good)

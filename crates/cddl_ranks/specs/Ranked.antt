@@ -1,6 +1,6 @@
 -- Languages in which no type and no group leads back to itself before an item was surely taken or gone into.
 use Rattle.std.specs.Prelude.{◌≡◌, ℕ, ◌<◌, ◌≤◌, List, [], ◌∷◌, true, Contains}
-use Rattle.cddl_meaning.specs.Forms.{Node, Ref, Choice, ArrayOf, SimpleBy, Most, Group, GroupRef, Sequence, Alternatives, Repeat, Language}
+use Rattle.cddl_meaning.specs.Forms.{Test, Node, Ref, Choice, ArrayOf, SimpleBy, Both, Such, Most, Group, GroupRef, Sequence, Alternatives, Repeat, Language}
 use Rattle.cddl_meaning.specs.Judges.{is_over}
 
 mutual
@@ -37,6 +37,9 @@ pub data IsFreeInType {N G : Type 0} : Node N G → Name N G → Type 0 where
   member : {ms : List N} {m : N} → Contains ms m → IsFreeInType (Choice ms) (a_type m)
   all_items : {g : G} → IsFreeInType (ArrayOf g) (a_group g)
   its_number : {m : N} → IsFreeInType (SimpleBy m) (a_type m)
+  left_side : {m n : N} → IsFreeInType (Both m n) (a_type m)
+  right_side : {m n : N} → IsFreeInType (Both m n) (a_type n)
+  tested : {m : N} {t : Test} → IsFreeInType (Such m t) (a_type m)
 
 -- of the parts of a sequence, the first and those after groups that may all take no item
 pub data IsFreePart {N G : Type 0} (l : Language N G) : List G → G → Type 0 where

@@ -1,5 +1,5 @@
 -- Types and groups of lists as a language: what each number stands for.
-use Rattle.std.specs.Prelude.{List, [], map, Option, Some, None, slice_get}
+use Rattle.std.specs.Prelude.{ℕ, List, [], map, Option, Some, None, slice_get}
 use Rattle.cbor_data.specs.Value.{Value, uint, nint}
 use Rattle.cbor_item.specs.View.{view}
 use Rattle.cddl_meaning.specs.Forms as F
@@ -10,6 +10,7 @@ use Rattle.cddl_table.specs.declared.nodes.TypeId.{TypeId}
 use Rattle.cddl_table.specs.declared.nodes.GroupId.{GroupId}
 use Rattle.cddl_table.specs.declared.nodes.Whole.{Whole}
 use Rattle.cddl_table.specs.declared.nodes.Whole.TheVariants as W
+use Rattle.cddl_table.specs.declared.nodes.SizeRange.{SizeRange}
 use Rattle.cddl_table.specs.declared.nodes.Test.{Test}
 use Rattle.cddl_table.specs.declared.nodes.Test.TheVariants as T
 use Rattle.cddl_table.specs.declared.nodes.TagNumber.{TagNumber}
@@ -27,6 +28,13 @@ abbrev pub whole_view : Whole → Value
 whole_view (W.Uint n) = uint n
 whole_view (W.Nint n) = nint n
 
+-- ranges of numbers of bytes, each by its first and its last
+abbrev pub size_view : SizeRange → ℕ × ℕ
+size_view r = (r.least, r.last)
+
+abbrev pub sizes_view : List SizeRange → List (ℕ × ℕ)
+sizes_view rs = map size_view rs
+
 -- a test; of a literal only its value counts
 abbrev pub test_view : Test → F.Test
 test_view T.Anything = F.anything
@@ -35,6 +43,12 @@ test_view (T.Simple n) = F.simple_value n
 test_view (T.Float w) = F.float_of w
 test_view (T.Equals i) = F.equals (view i)
 test_view (T.Between least last closed) = F.between (whole_view least) (whole_view last) closed
+test_view (T.Differs i) = F.differs_from (view i)
+test_view (T.Less n) = F.less_than (whole_view n)
+test_view (T.AtMost n) = F.at_most_number (whole_view n)
+test_view (T.Greater n) = F.greater_than (whole_view n)
+test_view (T.AtLeast n) = F.at_least_number (whole_view n)
+test_view (T.Sized rs) = F.sized (sizes_view rs.items)
 
 -- which tag numbers are meant
 abbrev pub tag_number_view : TagNumber → F.TagNumber TypeId
@@ -66,6 +80,8 @@ type_view (N.ArrayOf g) = F.ArrayOf g
 type_view (N.TagOf t m) = F.TagOf (tag_number_view t) m
 type_view (N.SimpleBy m) = F.SimpleBy m
 type_view (N.MapOf ess) = F.MapOf (alternatives_view ess.items)
+type_view (N.Both m n) = F.Both m n
+type_view (N.Such m t) = F.Such m (test_view t)
 
 -- the form of a group
 abbrev pub group_view : Group → F.Group TypeId GroupId

@@ -5,6 +5,8 @@ mod nodes;
 mod ranks;
 mod table;
 
-pub use crate::nodes::{Group, GroupId, MapEntry, Most, Node, TagNumber, Test, TypeId, Whole};
+pub use crate::nodes::{
+    Group, GroupId, MapEntry, Most, Node, SizeRange, TagNumber, Test, TypeId, Whole,
+};
 pub use crate::ranks::{NotRanked, Ranks};
 pub use crate::table::Table;

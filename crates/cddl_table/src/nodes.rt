@@ -24,6 +24,15 @@ pub enum Whole {
     Nint(u64),
 }
 
+/// Numbers of bytes, from the first to the last. There is none in it where the last is below the first.
+#[derive(Clone, Copy, Debug, PartialEq, Eq)]
+pub struct SizeRange {
+    /// The first number.
+    pub least: u64,
+    /// The last number.
+    pub last: u64,
+}
+
 /// What is asked of an item by itself.
 #[derive(Drop)]
 pub enum Test {
@@ -43,6 +52,18 @@ pub enum Test {
         last: Whole,
         closed: bool,
     },
+    /// The items that are not equal to this one (RFC 8610 section 3.8.6).
+    Differs(Item),
+    /// Whole numbers below this one (RFC 8610 section 3.8.6).
+    Less(Whole),
+    /// Whole numbers up to this one.
+    AtMost(Whole),
+    /// Whole numbers above this one.
+    Greater(Whole),
+    /// Whole numbers from this one on.
+    AtLeast(Whole),
+    /// Strings of such a number of bytes, and unsigned numbers that so many bytes can hold (RFC 8610 section 3.8.1).
+    Sized(Vec<SizeRange>),
 }
 
 /// Which tag numbers are meant.
@@ -97,6 +118,10 @@ pub enum Node {
     SimpleBy(TypeId),
     /// A map to which one of these alternatives says yes, each the list of its entries.
     MapOf(Vec<Vec<MapEntry>>),
+    /// What both types say yes to, of which the left one is asked first.
+    Both(TypeId, TypeId),
+    /// What this type says yes to, if it passes the test.
+    Such(TypeId, Test),
 }
 
 /// A group, asked of a list of items.

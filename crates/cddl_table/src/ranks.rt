@@ -136,7 +136,10 @@ fn is_type_ranked(node: &Node, types: &[usize], groups: &[usize], rank: usize) -
 {
     match node {
         Node::Plain(_) | Node::TagOf(_, _) | Node::MapOf(_) => true,
-        Node::Ref(id) | Node::SimpleBy(id) => rank_at(types, id.number) < rank,
+        Node::Ref(id) | Node::SimpleBy(id) | Node::Such(id, _) => rank_at(types, id.number) < rank,
+        Node::Both(left, right) => {
+            rank_at(types, left.number) < rank && rank_at(types, right.number) < rank
+        }
         Node::Choice(ids) => are_types_below(ids, types, rank),
         Node::ArrayOf(id) => rank_at(groups, id.number) < rank,
     }

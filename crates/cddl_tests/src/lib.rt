@@ -3,6 +3,8 @@
 #![tactic(auto)]
 
 #[cfg(test)]
+mod controls;
+#[cfg(test)]
 mod flags;
 #[cfg(test)]
 mod literal;

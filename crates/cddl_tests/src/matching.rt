@@ -1,17 +1,19 @@
 use cbor_item::{Item, Sound};
 use cddl_match::{Verdict, verdict};
 use cddl_table::{
-    Group, GroupId, MapEntry, Most, Node, Ranks, Table, TagNumber, Test, TypeId, Whole,
+    Group, GroupId, MapEntry, Most, Node, Ranks, SizeRange, Table, TagNumber, Test, TypeId, Whole,
 };
 use std::alloc::{AllocError, Global};
 use std::process::Abort;
 use std::test::Fail;
 
 /// An item of a row.
-enum Form {
+pub(crate) enum Form {
     Uint(u64),
     Nint(u64),
     Empty,
+    Text(&'static str),
+    Bytes(&'static [u8]),
     Array(&'static [Form]),
     Map(&'static [(Form, Form)]),
     Tag(u64, &'static Form),
@@ -36,6 +38,12 @@ fn map_of(alloc: Global, forms: &[(Form, Form)]) -> Result<Item, AllocError> {
     Ok(Item::Map(pairs))
 }
 
+fn bytes_of(alloc: Global, bytes: &[u8]) -> Result<Item, AllocError> {
+    let mut out = Vec::new(alloc);
+    out.extend_from_slice(bytes)?;
+    Ok(Item::Bytes(out))
+}
+
 fn tag_of(alloc: Global, number: u64, content: Item) -> Result<Item, AllocError> {
     Ok(Item::Tag(number, Box::new(alloc, content)?))
 }
@@ -46,6 +54,8 @@ fn item_of(alloc: Global, form: &Form) -> Result<Item, AllocError> {
         Form::Uint(n) => Ok(Item::Uint(*n)),
         Form::Nint(n) => Ok(Item::Nint(*n)),
         Form::Empty => Ok(Item::Text(String::new(alloc))),
+        Form::Text(text) => Ok(Item::Text(String::from_str(alloc, *text)?)),
+        Form::Bytes(bytes) => bytes_of(alloc, *bytes),
         Form::Array(members) => array_of(alloc, *members),
         Form::Map(pairs) => map_of(alloc, *pairs),
         Form::Tag(number, content) => tag_of(alloc, *number, item_of(alloc, *content)?),
@@ -54,16 +64,28 @@ fn item_of(alloc: Global, form: &Form) -> Result<Item, AllocError> {
 }
 
 /// The number of a type, an item, and what the type says of it.
-type Row = (usize, Form, Verdict);
+pub(crate) type Row = (usize, Form, Verdict);
 
-const YES: Verdict = Verdict::Yes;
+pub(crate) const YES: Verdict = Verdict::Yes;
 
 /// An entry of a map: the type of its keys, whether it cuts, the type of its values, and how many pairs it takes.
-type Member = (usize, bool, usize, u64, Most);
+pub(crate) type Member = (usize, bool, usize, u64, Most);
+
+/// A test behind a type.
+#[derive(Clone, Copy)]
+pub(crate) enum Asked {
+    Differs(u64),
+    Less(Whole),
+    AtMost(Whole),
+    Greater(Whole),
+    AtLeast(Whole),
+    /// The first and the last number of each range.
+    Sized(&'static [(u64, u64)]),
+}
 
 /// A type of a table. Its parts are numbers of the same table.
 #[derive(Clone, Copy)]
-enum Kind {
+pub(crate) enum Kind {
     Anything,
     Major(u8),
     /// From the first to the last; whether with the last.
@@ -74,11 +96,14 @@ enum Kind {
     Tag(usize, usize),
     Simple(usize),
     Map(&'static [&'static [Member]]),
+    /// The left type and the right one.
+    Both(usize, usize),
+    Such(usize, Asked),
 }
 
 /// A group of a table.
 #[derive(Clone, Copy)]
-enum Part {
+pub(crate) enum Part {
     Entry(usize),
     Sequence(&'static [usize]),
     Alternatives(&'static [usize]),
@@ -107,6 +132,28 @@ fn between(least: u64, last: u64, closed: bool) -> Test {
         last: Whole::Uint(last),
         closed,
     }
+}
+
+fn sizes_of(alloc: Global, ranges: &[(u64, u64)]) -> Result<Vec<SizeRange>, AllocError> {
+    let mut out = Vec::new(alloc);
+    for (least, last) in ranges {
+        out.push(SizeRange {
+            least: *least,
+            last: *last,
+        })?;
+    }
+    Ok(out)
+}
+
+fn test_of(alloc: Global, asked: Asked) -> Result<Test, AllocError> {
+    Ok(match asked {
+        Asked::Differs(number) => Test::Differs(Item::Uint(number)),
+        Asked::Less(number) => Test::Less(number),
+        Asked::AtMost(number) => Test::AtMost(number),
+        Asked::Greater(number) => Test::Greater(number),
+        Asked::AtLeast(number) => Test::AtLeast(number),
+        Asked::Sized(ranges) => Test::Sized(sizes_of(alloc, ranges)?),
+    })
 }
 
 fn entries_of(alloc: Global, members: &[Member]) -> Result<Vec<MapEntry>, AllocError> {
@@ -147,6 +194,8 @@ fn node_of(alloc: Global, kind: Kind) -> Result<Node, AllocError> {
         ),
         Kind::Simple(number) => Node::SimpleBy(TypeId { number }),
         Kind::Map(alternatives) => Node::MapOf(alternatives_of(alloc, alternatives)?),
+        Kind::Both(left, right) => Node::Both(TypeId { number: left }, TypeId { number: right }),
+        Kind::Such(number, asked) => Node::Such(TypeId { number }, test_of(alloc, asked)?),
     })
 }
 
@@ -164,10 +213,10 @@ fn group_of(alloc: Global, part: Part) -> Result<Group, AllocError> {
 }
 
 /// The ranks of types and groups, and a flag for each group that may take no item.
-struct Order {
-    types: &'static [usize],
-    groups: &'static [usize],
-    may_be_empty: &'static [bool],
+pub(crate) struct Order {
+    pub(crate) types: &'static [usize],
+    pub(crate) groups: &'static [usize],
+    pub(crate) may_be_empty: &'static [bool],
 }
 
 fn ranks_of(alloc: Global, order: &Order) -> Result<Ranks, AllocError> {
@@ -185,7 +234,7 @@ fn ranks_of(alloc: Global, order: &Order) -> Result<Ranks, AllocError> {
 }
 
 /// The table of these types and groups, whose root is the type of this number, if their ranks go down.
-fn table_of(
+pub(crate) fn table_of(
     alloc: Global,
     kinds: &[Kind],
     parts: &[Part],
@@ -210,7 +259,7 @@ fn verdict_in(alloc: Global, table: &Table, form: &Form, steps: u64) -> Result<V
     Ok(verdict(alloc, table, &item, steps)?)
 }
 
-fn check_rows(
+pub(crate) fn check_rows(
     rt: &impl Abort,
     alloc: Global,
     kinds: &[Kind],
@@ -286,7 +335,7 @@ static ORDER: Order = Order {
     ],
 };
 
-const ONE: Form = Form::Uint(1);
+pub(crate) const ONE: Form = Form::Uint(1);
 
 const TWO_ONES: Form = Form::Array(&[ONE, ONE]);
 
@@ -411,7 +460,7 @@ fn counts_steps(rt: HostRuntime) -> Result<(), Fail> {
 }
 
 /// So many steps tell, and one fewer does not.
-fn check_steps(
+pub(crate) fn check_steps(
     rt: &impl Abort,
     alloc: Global,
     table: &Table,
@@ -546,9 +595,9 @@ static MAP_ORDER: Order = Order {
     may_be_empty: &[false, true],
 };
 
-const TWO: Form = Form::Uint(2);
+pub(crate) const TWO: Form = Form::Uint(2);
 
-const TEXT: Form = Form::Empty;
+pub(crate) const TEXT: Form = Form::Empty;
 
 const NONE: Form = Form::Map(&[]);
 

@@ -24,20 +24,29 @@ fn three_numbers(terms: &mut Terms<'_>) -> Result<(u32, u32, u32), NoRoom> {
     Ok((first, second, again))
 }
 
+/// Whether equal rows have one number, and no row has one that was not given.
+fn are_rows_numbered(terms: &mut Terms<'_>) -> bool {
+    let numbers = three_numbers(terms);
+    let second = terms.row(1);
+    let is_second = matches!(
+        second,
+        Some(Row {
+            form: Form::NoEntries,
+            ..
+        })
+    );
+    matches!(numbers, Ok((0, 1, 0))) && terms.len() == 2 && is_second && terms.row(2).is_none()
+}
+
+/// The same of a new table, which is dropped here and in no test: each assertion after a table shows its destruction.
+fn are_new_rows_numbered(alloc: Global) -> bool {
+    let mut terms = Terms::new(alloc);
+    are_rows_numbered(&mut terms)
+}
+
 #[test]
 fn numbers_equal_rows_once(rt: HostRuntime) {
-    let mut terms = Terms::new(rt.alloc());
-    let numbers = three_numbers(&mut terms);
-    assert!(rt; matches!(numbers, Ok((0, 1, 0))) && terms.len() == 2);
-    assert!(rt;
-        matches!(
-            terms.row(1),
-            Some(Row {
-                form: Form::NoEntries,
-                ..
-            })
-        ) && terms.row(2).is_none()
-    );
+    assert!(rt; are_new_rows_numbered(rt.alloc()));
 }
 
 /// The numbers of two texts, and of the first again.
@@ -52,13 +61,24 @@ fn three_texts<'s>(
     Ok((first, second, again))
 }
 
+/// Whether equal texts have one number, by which they are found.
+fn are_texts_numbered(terms: &mut Terms<'_>) -> bool {
+    let numbers = three_texts(terms, "int", "tstr");
+    matches!(numbers, Ok((0, 1, 0)))
+        && terms.find_text("tstr") == Some(1)
+        && terms.find_text("bstr").is_none()
+        && terms.text(0) == Some("int")
+        && terms.text(2).is_none()
+}
+
+fn are_new_texts_numbered(alloc: Global) -> bool {
+    let mut terms = Terms::new(alloc);
+    are_texts_numbered(&mut terms)
+}
+
 #[test]
 fn numbers_equal_texts_once(rt: HostRuntime) {
-    let mut terms = Terms::new(rt.alloc());
-    let numbers = three_texts(&mut terms, "int", "tstr");
-    assert!(rt; matches!(numbers, Ok((0, 1, 0))));
-    assert!(rt; terms.find_text("tstr") == Some(1) && terms.find_text("bstr").is_none());
-    assert!(rt; terms.text(0) == Some("int") && terms.text(2).is_none());
+    assert!(rt; are_new_texts_numbered(rt.alloc()));
 }
 
 /// The number of the name's use as a type, as `int`: a reference without arguments.
@@ -68,25 +88,39 @@ fn number_of_use<'s>(terms: &mut Terms<'s>, name: &'s str) -> Result<u32, NoRoom
     terms.add_node(Form::Named, None, Some(reference), None)
 }
 
+/// Whether the uses of two names are rows of their own, over their texts.
+fn are_nodes_numbered(terms: &mut Terms<'_>) -> bool {
+    let one = number_of_use(terms, "int");
+    let other = number_of_use(terms, "tstr");
+    let call = terms.row(3);
+    let is_call = matches!(
+        call,
+        Some(Row {
+            form: Form::Call,
+            text: Some(1),
+            first: Some(0),
+            second: None,
+        })
+    );
+    matches!((one, other), (Ok(2), Ok(4))) && terms.len() == 5 && is_call
+}
+
+/// Whether the texts of these uses are in their order.
+fn are_texts_in_order(terms: &Terms<'_>) -> bool {
+    terms.text_count() == 2
+        && terms.text_at(2).is_none()
+        && terms.text_at(0) == Some("int")
+        && terms.text_at(1) == Some("tstr")
+}
+
+fn are_new_nodes_numbered(alloc: Global) -> bool {
+    let mut terms = Terms::new(alloc);
+    are_nodes_numbered(&mut terms) && are_texts_in_order(&terms)
+}
+
 #[test]
 fn numbers_nodes_and_texts(rt: HostRuntime) {
-    let mut terms = Terms::new(rt.alloc());
-    let one = number_of_use(&mut terms, "int");
-    let other = number_of_use(&mut terms, "tstr");
-    assert!(rt; matches!((one, other), (Ok(2), Ok(4))) && terms.len() == 5);
-    assert!(rt;
-        matches!(
-            terms.row(3),
-            Some(Row {
-                form: Form::Call,
-                text: Some(1),
-                first: Some(0),
-                second: None,
-            })
-        )
-    );
-    assert!(rt; terms.text_count() == 2 && terms.text_at(2).is_none());
-    assert!(rt; terms.text_at(0) == Some("int") && terms.text_at(1) == Some("tstr"));
+    assert!(rt; are_new_nodes_numbered(rt.alloc()));
 }
 
 /// Whether there was room for two texts and two rows; then they have their numbers.
