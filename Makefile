@@ -6,7 +6,7 @@ PREFIX  = /usr/local
 
 MAKEFLAGS += --no-print-directory
 
-.PHONY: build run test quick bench install clean
+.PHONY: build run test quick edits bench install clean
 
 # Proves the program and every crate below it, and leaves it at build/cddlseq. 'rt run' is what proves, compiles and
 # links; it also runs the program, here for its help.
@@ -23,6 +23,10 @@ test:
 # For work in progress: what changed is proved, over what earlier checks kept, and all tests and rows are run.
 quick:
 	@$(PYTHON) tests/gate.py --quick --rt "$(RT)"
+
+# Tries all wrong bodies, those of crates/*/wrong/inner/ too, of which the gate only sees that they apply.
+edits:
+	@$(PYTHON) tests/wrong_edits.py --rt "$(RT)" --inner
 
 bench: build
 	@$(PYTHON) bench/run.py build/cddlseq

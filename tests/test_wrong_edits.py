@@ -14,7 +14,7 @@ import tempfile
 import types
 
 from functions import functions_of
-from wrong_edits import is_refusal
+from wrong_edits import is_refusal, load_kit
 
 HERE = os.path.dirname(os.path.abspath(__file__))
 SOURCES = {
@@ -229,15 +229,18 @@ def write(folder, edits):
         shutil.copy(f"{HERE}/{name}", f"{folder}/tests/{name}")
 
 
-def run(rt, folder, edits):
-    """Runs these edits, and returns whether each line, the count and the status are as they are to be."""
+def run(rt, folder, edits, anew=True):
+    """Runs these edits, all anew or with what an earlier run was told, and returns whether each line, the count and the
+    status are as they are to be."""
     write(folder, edits)
-    words = [sys.executable, "-B", f"{folder}/tests/wrong_edits.py", "--rt", rt]
+    words = [sys.executable, "-B", f"{folder}/tests/wrong_edits.py", "--rt", rt, *["--anew"][:anew]]
     ran = subprocess.run(words, stdin=subprocess.DEVNULL, stdout=subprocess.PIPE, stderr=subprocess.STDOUT, text=True)
     good = sum(EDITS[it][3].startswith("refused") for it in edits)
     lines = {it.split(":")[0]: it for it in ran.stdout.split("\n") if it.startswith("wrong ")}
     is_right = {it: lines.get(f"wrong sample/{it}.edit", "").startswith(f"wrong sample/{it}.edit: {EDITS[it][3]}") for it in edits}
     is_right["count"] = ran.stdout.split("\n")[-2:] == [f"{good} passed, {len(edits) - good} failed", ""]
+    known = sum(it.endswith("(by an earlier run)") for it in lines.values())
+    is_right["known"] = known == (0 if anew or not hasattr(load_kit(rt), "Kept") else good)
     is_right["status"] = ran.returncode == (1 if good < len(edits) else 0)
     wrong = [it for it in is_right if not is_right[it]]
     if wrong:
@@ -250,6 +253,7 @@ def run_tests(rt):
     with tempfile.TemporaryDirectory(prefix="wrong-test-") as folder:
         os.makedirs(f"{folder}/.git")
         done = [run_on_functions(), run_on_answers(), run(rt, folder, list(EDITS)), run(rt, folder, [])]
+        done.append(run(rt, folder, ["near_is_halved", "least_is_nine"], anew=False))
     return sum(done), len(done) - sum(done)
 
 

@@ -1,15 +1,19 @@
 #!/usr/bin/env python3
 """Tries the wrong bodies of crates/NAME/wrong/*.edit, many in one check: the prover must refuse each. See docs/GATE.md.
 
-    wrong_edits.py [--rt COMMAND] [NAME..]
+    wrong_edits.py [--rt COMMAND] [--anew] [--inner] [NAME..]
 
-An edit has the format of the kit's must-fail edits. The last line is 'N passed, M failed', and the status is 0 only
+With --inner the edits of wrong/inner/ are tried too, of which the gate only sees that they apply. An edit has the format of the kit's must-fail edits. The last line is 'N passed, M failed', and the status is 0 only
 where none failed. The crates below are taken from crates/*/out/rlib where that is newer than their sources, as 'rt ci'
 leaves it, and are proved here where it is not.
+
+What was refused is kept on this machine, beside what 'rt ci' keeps: by a sum of the kit, of this script, of the crate and
+those below it, and of the edit. A later run takes it from there, and with --anew tries all.
 """
 import argparse
 import collections
 import difflib
+import hashlib
 import importlib.machinery
 import importlib.util
 import os
@@ -27,6 +31,9 @@ TOP = os.path.dirname(os.path.dirname(os.path.abspath(__file__)))
 ONE_JOB = ["--jobs", "1"]
 MOST_AT_ONCE = 3
 NAME = re.compile(r"[A-Za-z0-9_-][A-Za-z0-9_.-]*\.edit")
+NAMING = "its name is of letters, digits, _, - and . and ends in .edit"
+# The folder in wrong/ with edits that the gate does not try.
+INNER = "inner"
 LINE = re.compile(r"fn (\S+): (.*)")
 PLACE = re.compile(r"(?:\./)?(src/\S+\.rt):(\d+):\d+: error")
 LAW = re.compile(r"^law: (.*)$", re.MULTILINE)
@@ -48,6 +55,30 @@ def load_kit(command):
 def is_refusal(kit, said):
     """Whether the kit's answer on an edit is that it is refused: some kits answer a truth value, others one of their words."""
     return said if isinstance(said, bool) else said in (kit.REFUSED, kit.AT_LIMIT)
+
+
+class Results:
+    """What earlier runs on this machine were told of edits that are refused, in a kit that keeps such results."""
+
+    def __init__(self, kit, crates, anew):
+        keeps = all(hasattr(kit, it) for it in ("Kept", "stamp_of", "REFUSED"))
+        self.kit, self.stamps = kit, {}
+        self.kept = kit.Kept(crates, anew) if keeps else None
+        self.script = [hashlib.sha256(open(f"{TOP}/tests/{it}", "rb").read()).hexdigest() for it in ("functions.py", "wrong_edits.py")]
+
+    def name(self, crate, path):
+        sum = hashlib.sha256(repr((self.script, self.kit.stamp_of(crate, self.stamps))).encode()).hexdigest()
+        return self.kept.of_edit(path, sum)
+
+    def of(self, crate, path):
+        """What an earlier run was told of this edit, or None."""
+        found = self.kept.tried(self.name(crate, path)) if self.kept else None
+        return found[1] if found and found[0] == self.kit.REFUSED else None
+
+    def keep(self, crate, path, text):
+        """Keeps what was told of an edit that is refused, unless a file that it rests on was changed meanwhile."""
+        if self.kept and all(map(self.kept.is_untouched, [crate, *crate.below()])):
+            self.kept.keep_tried(self.name(crate, path), self.kit.REFUSED, text)
 
 
 def hunks(old, new):
@@ -101,8 +132,8 @@ class Edit:
 class Trial:
     """The edits of one crate, tried over what the checks before kept in a folder of this run."""
 
-    def __init__(self, kit, crate):
-        self.kit, self.crate = kit, crate
+    def __init__(self, kit, crate, results, with_inner=False):
+        self.kit, self.crate, self.results, self.with_inner = kit, crate, results, with_inner
         self.sources = texts_below(crate.folder, "src", ".rt")
         self.proofs = texts_below(crate.folder, "proofs", ".antt")
         self.functions = functions_of(self.sources)
@@ -123,27 +154,43 @@ class Trial:
     def run(self):
         """The lines on each edit, with whether it is refused."""
         good, bad = edits_of(self.crate)
-        why = "an edit is directly in wrong/, and its name is of letters, digits, _, - and . and ends in .edit"
-        told = [(False, f"{self.label(it)}: BAD EDIT: {why}") for it in bad]
-        edits = [Edit(self, it) for it in good]
+        told = [(False, f"{self.label(it)}: BAD EDIT: an edit is in wrong/ or wrong/inner/, and {NAMING}") for it in bad]
+        inner = [it for it in good if os.path.basename(os.path.dirname(it)) == INNER]
+        if not self.with_inner:
+            good = [it for it in good if it not in inner]
+            why = {it: self.kit.read_edit(it, self.crate.folder)[1] for it in inner}
+            told += [(False, f"{self.label(it)}: BAD EDIT: {why[it]}") for it in inner if why[it]]
+        known = {it: self.results.of(self.crate, it) for it in good}
+        told += [(True, f"{text} (by an earlier run)") for text in known.values() if text]
+        edits = [Edit(self, it) for it in good if not known[it]]
+        return told + self.tried(edits) if edits else told
+
+    def tried(self, edits):
+        """The lines on these edits, with whether each is refused."""
+        told = []
         with tempfile.TemporaryDirectory(prefix="wrong-") as room:
-            edited, plain = self.folders_of_proofs(room)
-            refused = self.try_many([it for it in edits if it.function], edited, plain)
-            by_law = self.try_laws([it for it in edits if it.law], plain)
-            alone = self.try_alone([it for it in edits if not it.law and not refused.get(it)], plain)
+            kept = self.folder_of_proofs(room)
+            refused = self.try_many([it for it in edits if it.function], kept)
+            by_law = self.try_laws([it for it in edits if it.law], kept)
+            alone = self.try_alone([it for it in edits if not it.law and not refused.get(it)], kept)
         for edit in edits:
             said = by_law.get(edit) or f"refused, as it must be: {refused.get(edit, '')[:160]}"
             told.append(alone.get(edit) or (said.startswith("refused"), f"{self.label(edit.path)}: {said}"))
+            if told[-1][0]:
+                self.results.keep(self.crate, edit.path, told[-1][1])
         return told
 
-    def folders_of_proofs(self, room):
-        """The folders in which checks keep proofs: those with edits in the functions themselves, and all others. A check
-        writes over what one before kept of a function, so that each begins with what the crate's own checks kept; where
-        they kept nothing, one folder serves both."""
+    def folder_of_proofs(self, room):
+        """The folder in which this run's checks keep proofs. It begins with what a check of the crate on this machine kept,
+        here or in another checkout, where there is such."""
         own = f"{self.crate.folder}/out/incremental"
-        if not os.path.isdir(own):
-            return room, room
-        return [shutil.copytree(own, f"{room}/{it}") for it in ("edited", "plain")]
+        if not os.path.isdir(own) and hasattr(self.kit, "work_for"):
+            own = self.kit.work_for(self.crate)
+        try:
+            return shutil.copytree(own, f"{room}/kept") if own and os.path.isdir(own) else room
+        except (OSError, shutil.Error):
+            # another check writes there just now
+            return room
 
     def try_laws(self, edits, kept):
         """What is to be told of each edit that names a law, after a check of this law alone with the edit."""
@@ -161,14 +208,14 @@ class Trial:
             return "BAD EDIT: it does not compile or read"
         return f"refused, as it must be: {why[0][:160]}" if why else "NOT REFUSED: its law is proved even so"
 
-    def try_many(self, edits, kept, plain):
-        """What checks of many edits say of each that they refuse. The first has an edit of each function, in place.
-        There a caller's goals are not all tried where a callee is refused, and so what is left is tried in other ways."""
-        refused = self.try_together(apart(edits, lambda it, other: False), kept)
-        left = [it for it in edits if it not in refused]
-        beside = [it for it in left if it not in self.broken and self.can_stand_beside(it.function)]
-        refused.update(self.try_beside(beside, plain))
-        left = [it for it in left if it not in refused and it not in self.broken]
+    def try_many(self, edits, kept):
+        """What checks of many edits say of each that they refuse. Where a callee is refused, not all goals of its callers are
+        tried. So in the first check an edit is made in its function where no other edited one leads there, and else in a copy
+        of the function beside it. What is left is tried in turns."""
+        placed = [it for it in apart(edits, lambda it, other: False) if not any(self.leads(other, it) for other in edits)]
+        beside = [it for it in edits if it not in placed and self.can_stand_beside(it.function)]
+        refused = self.try_at_once(placed, beside, kept)
+        left = [it for it in edits if it not in refused and it not in self.broken]
         while left:
             turn = apart(left, self.reaches)
             refused.update(self.try_together(turn, kept))
@@ -178,6 +225,26 @@ class Trial:
     def reaches(self, edit, other):
         """Whether the one edit's function calls the other's, itself or through others, as far as their names tell."""
         return other.function.name in self.words_below(edit.words)
+
+    def leads(self, edit, other):
+        """Whether the one edit's function calls the other's, which has another proof."""
+        return edit.function.group() != other.function.group() and self.reaches(edit, other)
+
+    def try_at_once(self, placed, beside, kept):
+        """What one check says of each edit that it refuses: of those made in their functions, and of those made beside."""
+        copies = self.copies(beside)
+        tried = {**{it.function: it for it in placed}, **{copy: edit for edit, _, copy in copies}}
+        is_whole, found = self.check(self.with_copies(copies, placed), tried, kept) if tried else (True, [])
+        groups, beside_them = {it.function.group() for it in placed}, {copy for _, _, copy in copies}
+        others = [words for of, words, _ in found if of not in beside_them and not (of and of.group() in groups)]
+        if not is_whole or not all(it == "proved" or RESTS.match(it) for it in others):
+            left = [[it for it in each if it not in self.broken] for each in (placed, beside)]
+            if left != [placed, beside]:
+                return self.try_at_once(*left, kept)
+            return {**self.try_together(placed, kept), **self.try_beside(beside, kept)}
+        whys = {of.group(): why for of, words, why in found if of and of not in beside_them and IS_REFUSED.match(words)}
+        in_place = {it: whys[it.function.group()] for it in placed if it.function.group() in whys}
+        return {**in_place, **refused_beside(copies, found)}
 
     def can_stand_beside(self, function):
         """Whether a copy under another name has the same goals: a method of a trait, or one that calls itself, does not."""
@@ -197,12 +264,10 @@ class Trial:
             return {}
         copies = self.copies(edits)
         is_whole, found = self.check(self.with_copies(copies), {copy: edit for edit, _, copy in copies}, kept)
-        said = {copy: [(words, why) for of, words, why in found if of == copy] for _, _, copy in copies}
-        if not is_whole or not all(words == "proved" for of, words, _ in found if of not in said):
+        beside_them = {copy for _, _, copy in copies}
+        if not is_whole or not all(words == "proved" for of, words, _ in found if of not in beside_them):
             return self.in_parts(self.try_beside, edits, kept)
-        lost = {of for edit, of, copy in copies if not said[copy] or not edit and any(it != "proved" for it, _ in said[copy])}
-        why = {edit: next((why for it, why in said[copy] if IS_REFUSED.match(it)), "") for edit, of, copy in copies if of not in lost}
-        return {edit: it for edit, it in why.items() if edit}
+        return refused_beside(copies, found)
 
     def copies(self, edits):
         """The copies of the edited functions, one with each edit and where it is needed one without: the edit, the function
@@ -213,21 +278,24 @@ class Trial:
             found += [(edit, of, of.called(f"{of.name}_tried_{at}")) for at, edit in enumerate(own)]
         return found
 
-    def with_copies(self, copies):
-        """The texts of the files with these copies, and of the copies' proofs."""
-        lines, texts = {file: text.split("\n") for file, text in self.sources.items()}, {}
-        for edit, of, copy in sorted(copies, key=lambda it: it[1].last, reverse=True):
+    def with_copies(self, copies, placed=()):
+        """The texts of the files with these copies and with these edits in place, and of the copies' proofs."""
+        parts, texts = collections.defaultdict(list), {}
+        for edit in placed:
+            for file, found in edit.hunks.items():
+                parts[file] += found
+        for edit, of, copy in copies:
             old = self.sources[of.file].split("\n")
             new = with_hunks(old, edit.hunks[of.file]) if edit else old
             item = new[of.first : of.last + 1 + len(new) - len(old)]
             item[of.head - of.first] = re.sub(rf"\bfn {of.name}\b", f"fn {copy.name}", item[of.head - of.first], count=1)
             # at the end of its file, if it is no method: a function whose lines move is checked anew
-            at = of.last + 1 if item[of.head - of.first].startswith(" ") else len(lines[of.file]) - 1
-            lines[of.file][at:at] = ["", *item]
+            at = of.last + 1 if item[of.head - of.first].startswith(" ") else len(old) - 1
+            parts[of.file].append((at, at, ["", *item]))
             for file in self.proofs_of(of):
                 to = f"proofs/{copy.proof().replace('.', '/')}/{os.path.basename(file)}"
                 texts[to] = self.proofs[file].replace(f"proofs.{of.proof()}.", f"proofs.{copy.proof()}.")
-        return {**texts, **{file: "\n".join(it) for file, it in lines.items()}}
+        return {**texts, **{file: "\n".join(with_hunks(self.sources[file].split("\n"), it)) for file, it in parts.items()}}
 
     def label(self, path):
         return f"wrong {self.crate.name}/{os.path.basename(path)}"
@@ -318,6 +386,15 @@ def texts_below(folder, part, ending):
     return found
 
 
+def refused_beside(copies, found):
+    """What a check says of each edit in a copy: an empty text where that is proved. It says nothing where the copy without
+    an edit is not proved."""
+    said = {copy: [(words, why) for of, words, why in found if of == copy] for _, _, copy in copies}
+    lost = {of for edit, of, copy in copies if not said[copy] or not edit and any(it != "proved" for it, _ in said[copy])}
+    why = {edit: next((why for it, why in said[copy] if IS_REFUSED.match(it)), "") for edit, of, copy in copies if of not in lost}
+    return {edit: it for edit, it in why.items() if edit}
+
+
 def at_fault(lines, texts, functions):
     """Those of the functions in which the check finds errors of the language: the head nearest above each is theirs."""
     found = set()
@@ -330,10 +407,10 @@ def at_fault(lines, texts, functions):
 
 def edits_of(crate):
     """The edits of the crate's wrong/, and what else is there and is not only to be read."""
-    good, bad = [], []
-    for at, _, names in os.walk(f"{crate.folder}/wrong"):
+    good, bad, top = [], [], f"{crate.folder}/wrong"
+    for at, _, names in os.walk(top):
         for name in sorted(names):
-            is_edit = at == f"{crate.folder}/wrong" and NAME.fullmatch(name)
+            is_edit = at in (top, f"{top}/{INNER}") and NAME.fullmatch(name)
             if is_edit or not name.endswith(".md"):
                 (good if is_edit else bad).append(f"{at}/{name}")
     return good, bad
@@ -366,11 +443,13 @@ def build_below(kit, crates):
     return not any(it.build_rlib(ONE_JOB, anew=False) for it in below)
 
 
-def run_wrong(rt, names=()):
+def run_wrong(rt, names=(), anew=False, with_inner=False):
     """Tries the edits of these crates, or of all, prints a line for each, and returns how many passed and failed."""
     kit = load_kit(rt)
     kit.rtlib.guarded()
-    crates = [it for it in kit.rtlib.crates_below(TOP) if any(edits_of(it)) and (not names or it.name in names)]
+    every = kit.rtlib.crates_below(TOP)
+    results = Results(kit, every, anew)
+    crates = [it for it in every if any(edits_of(it)) and (not names or it.name in names)]
     if not build_below(kit, crates):
         print("the crates below are not proved, so no edit is tried")
         return 0, 1
@@ -378,7 +457,7 @@ def run_wrong(rt, names=()):
     lanes = min(MOST_AT_ONCE, kit.processors(), *(int(0.85 * kit.free() / kit.need(it)) for it in crates[:1]))
     passed = failed = 0
     with ThreadPoolExecutor(max(lanes, 1)) as pool:
-        for it in as_completed([pool.submit(Trial(kit, crate).run) for crate in crates]):
+        for it in as_completed([pool.submit(Trial(kit, crate, results, with_inner).run) for crate in crates]):
             for is_refused, text in it.result():
                 print(text, flush=True)
                 passed, failed = passed + is_refused, failed + (not is_refused)
@@ -388,9 +467,11 @@ def run_wrong(rt, names=()):
 def main():
     words = argparse.ArgumentParser(description="Tries the edits of crates/*/wrong, many in one check.")
     words.add_argument("--rt", default="rt", help="the command of the Rattle toolchain")
+    words.add_argument("--anew", action="store_true", help="try those too that an earlier run on this machine saw refused")
+    words.add_argument("--inner", action="store_true", help="try those of wrong/inner/ too")
     words.add_argument("names", nargs="*", metavar="NAME", help="a crate; all, where none is named")
     given = words.parse_args()
-    passed, failed = run_wrong(given.rt, given.names)
+    passed, failed = run_wrong(given.rt, given.names, given.anew, given.inner)
     print(f"{passed} passed, {failed} failed")
     return 1 if failed else 0
 
