@@ -1,4 +1,3 @@
-pub mod Lemmas
 mod Lists
 mod Turns
 mod Decides
