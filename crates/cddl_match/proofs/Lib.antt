@@ -1,4 +1,5 @@
 mod Lists
+mod Held
 mod Turns
 mod Decides
 mod Verdicts
