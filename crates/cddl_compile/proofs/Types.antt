@@ -3,12 +3,13 @@ use Rattle.std.proofs.Common.{◌≡◌, ℕ, ◌*◌, ◌<◌, Bool, true, fals
 use Rattle.cbor_data.specs.Value.{Value}
 use Rattle.cddl_meaning.specs.Forms as F
 use Rattle.cddl_language.specs.Terms.{Text, Term, literal, named, parens, map_of, array_of, unwrapped, choice_of, choice_of_name, tagged, tagged_by, simple_by, hash, range, control, or, Ref, Group, sole, orelse, Entries, no_entries, entries, Entry, typed, keyed, grouped, alternatives, choices, entry_list, name_of}
+use Rattle.cddl_language.specs.Controls.{Control, left_alone, left_and_right, held_item, held_sequence, by_value, control_of, is_asked_here}
 use Rattle.cddl_language.specs.Literals.{whole_of}
 use Rattle.cddl_language.specs.Substitution.{type_choices, group_choices}
 use Rattle.cddl_language.specs.Kinds.{Opened, opens_group, opens_type, opened, is_group, Part, asks_type, names_group, opens, part_of}
 use Rattle.cddl_language.specs.Choices.{can_choose, chosen, chosen_by_name}
 use Rattle.cddl_language.specs.Maps.{Alternatives, map_alternatives}
-use Rattle.cddl_language.specs.Language.{TypeName, type, reference, GroupName, nothing, choice, content, between, map_node, chosen_part_name, chosen_name, chosen_names, term_node, type_node}
+use Rattle.cddl_language.specs.Language.{TypeName, type, reference, GroupName, nothing, choice, content, between, map_node, control_node, chosen_part_name, chosen_name, chosen_names, term_node, type_node}
 use Rattle.cddl_language.specs.Reach.{Reaches, at_name, at_unwrapping, at_choice, at_opened_choice, points, group_points, entries_points, entry_points}
 use Rattle.cddl_terms.specs.Table.{Table}
 use Rattle.cddl_terms.specs.Trees.{IsTerm, IsGroup, IsEntries, IsEntry}
@@ -76,6 +77,23 @@ map_free None m h = h
 map_items : (o : Option Alternatives) (g : GroupName) → FreeItems (map_node o) g → ⊥
 map_items (Some mss) g h = h
 map_items None g h = h
+
+control_free : (o : Option Control) (a b : Term) (m : TypeName) → FreeType {G = GroupName} (control_node o a b) m → (m ≡ type a) ⊎ ((m ≡ type b) × (is_asked_here o ≡ true))
+control_free None a b m h = absurd h
+control_free (Some left_alone) a b m h = inl h
+control_free (Some left_and_right) a b m (inl e) = inl e
+control_free (Some left_and_right) a b m (inr e) = inr (e, refl)
+control_free (Some held_item) a b m h = absurd h
+control_free (Some held_sequence) a b m h = absurd h
+control_free (Some by_value) a b m h = absurd h
+
+control_items : (o : Option Control) (a b : Term) (g : GroupName) → FreeItems {N = TypeName} (control_node o a b) g → ⊥
+control_items None a b g h = h
+control_items (Some left_alone) a b g h = h
+control_items (Some left_and_right) a b g h = h
+control_items (Some held_item) a b g h = h
+control_items (Some held_sequence) a b g h = h
+control_items (Some by_value) a b g h = h
 
 module _ (s : Sense) (t : Table) (r : Ranks) (given : Given s t r) where
   -- What `&` chooses from has a rank below that of the row that it chooses from.
@@ -246,7 +264,11 @@ module _ (s : Sense) (t : Table) (r : Ranks) (given : Given s t r) where
   type_in_row n (simple_by x) h c m p f u = below_row s t r x p (subst (λ (z : TypeName). IsTypeOrigin s t z p) f u) (rank r (N.Row n)) (λ j i. step s t r given.ranked (N.Row n) (N.Row j) (a_type (simple_by x)) (a_type x) (type_row h) (type_row i) c A.in_head)
   type_in_row n (hash a) h c m p f u = absurd f
   type_in_row n (range a b x) h c m p f u = absurd (between_free b (whole_of s.worth s.definitions a) (whole_of s.worth s.definitions x) m f)
-  type_in_row n (control a b x) h c m p f u = absurd f
+  type_in_row n (control a b x) h c m p f u = by (control_free (control_of b) a x m f)
+    where
+      by : (m ≡ type a) ⊎ ((m ≡ type x) × (is_asked_here (control_of b) ≡ true)) → type_rank r p < 2 * rank r (N.Row n)
+      by (inl e) = below_row s t r a p (subst (λ (z : TypeName). IsTypeOrigin s t z p) e u) (rank r (N.Row n)) (λ j i. step s t r given.ranked (N.Row n) (N.Row j) (a_type (control a b x)) (a_type a) (type_row h) (type_row i) c A.in_left)
+      by (inr e) = below_row s t r x p (subst (λ (z : TypeName). IsTypeOrigin s t z p) e.0 u) (rank r (N.Row n)) (λ j i. step s t r given.ranked (N.Row n) (N.Row j) (a_type (control a b x)) (a_type x) (type_row h) (type_row i) c (A.in_controller e.1))
   type_in_row n (or x z) h c m p f u = members_down n x z h c m p f u
 
   items_in_row : (n : ℕ) (x : Term) → IsTerm t n x → AreReached s.definitions s.root (points x) → (g : GroupName) (p : GroupOrigin) → FreeItems (term_node s.worth s.definitions x) g → IsGroupOrigin s t g p → group_rank r p < 2 * rank r (N.Row n)
@@ -263,7 +285,7 @@ module _ (s : Sense) (t : Table) (r : Ranks) (given : Given s t r) where
   items_in_row n (simple_by x) h c g p f u = absurd f
   items_in_row n (hash a) h c g p f u = absurd f
   items_in_row n (range a b x) h c g p f u = absurd (between_items b (whole_of s.worth s.definitions a) (whole_of s.worth s.definitions x) g f)
-  items_in_row n (control a b x) h c g p f u = absurd f
+  items_in_row n (control a b x) h c g p f u = absurd (control_items (control_of b) a x g f)
   items_in_row n (or x z) h c g p f u = absurd f
 
   -- of what an instance means

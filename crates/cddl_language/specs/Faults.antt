@@ -1,6 +1,6 @@
 -- What is wrong with a specification, and at which byte. The faults to `UnknownControl` are looked for in the whole text,
 -- the others in what the root reaches. The sections are RFC 8610's.
-use Rattle.std.specs.Prelude.{◌≡◌, ◌≢◌, ℕ, ◌<◌, ◌≤◌, ◌⊎◌, Bool, true, false, if◌then◌else◌, ◌&&◌, List, [], ◌∷◌, length, Contains, AllPairs, Option, Some, None, slice_get, codes}
+use Rattle.std.specs.Prelude.{◌≡◌, ◌≢◌, ℕ, ◌<◌, ◌≤◌, ◌⊎◌, Bool, true, false, if◌then◌else◌, ◌&&◌, List, [], ◌∷◌, length, Contains, AllPairs, Option, Some, None, slice_get}
 use Rattle.cddl_token.specs.declared.Token.{Token}
 use Rattle.cddl_token.specs.declared.Code.{Code}
 use Rattle.cddl_token.specs.declared.Code.TheVariants.{Duplicate, KindClash, Undefined, Arity, NoRoot, BadRoot, GroupAsType, HashForm, UnknownControl, TooManyInstances, NotUnwrappable, Recursion, BadRange, NoKey, MapShape, TooManyAlternatives}
@@ -10,7 +10,8 @@ use Rattle.cddl_language.specs.Numbers as N
 use Rattle.cddl_language.specs.Numbers.{hash_form, least_of, most_of}
 use Rattle.cddl_language.specs.Terms.{Text, Term, Ref, Group, Definition, name_of}
 use Rattle.cddl_language.specs.Reading.{text_of, control_name, occurrence, term_of2, ref_of, group_of, rule_head, name_in, name_at, parameters_in, parameter_tokens, sign_of, definition_of, rules_of, definitions_in}
-use Rattle.cddl_language.specs.Environment.{is_same, is_in, is_equals, named_so, definitions_of, is_in_prelude, is_socket}
+use Rattle.cddl_language.specs.Controls.{control_of}
+use Rattle.cddl_language.specs.Environment.{is_same, is_equals, named_so, definitions_of, is_in_prelude, is_socket}
 use Rattle.cddl_language.specs.Substitution.{fill, fill_ref, fill_group}
 use Rattle.cddl_language.specs.Kinds.{Opened, opens_group, opened, is_group, is_group_definition}
 use Rattle.cddl_language.specs.Reach.{Reaches, Point, ref_at, most_instances}
@@ -140,16 +141,13 @@ pub record HasBadHash (s : Specification) (at : ℕ) : Type 0 where
   pub offset : at ≡ token.start
 
 -- C9: a control that is not known (section 3.8; RFC 9165).
-abbrev pub known_controls : List Text
-known_controls = codes "size" ∷ codes "cbor" ∷ codes "cborseq" ∷ codes "and" ∷ codes "within" ∷ codes "eq" ∷ codes "ne" ∷ codes "lt" ∷ codes "le" ∷ codes "gt" ∷ codes "ge" ∷ codes "default" ∷ codes "plus" ∷ codes "cat" ∷ codes "det" ∷ []
-
 pub record HasUnknownControl (s : Specification) (at : ℕ) : Type 0 where
   pub rule : S.Rule
   pub left : S.Type2
   pub token : Token
   pub right : S.Type2
   pub found : HasSite s rule (an_operation left (S.control token) right)
-  pub unknown : is_in known_controls (control_name token) ≡ false
+  pub unknown : control_of (control_name token) ≡ None
   pub offset : at ≡ token.start
 
 -- C10: more instances than may be: a limit of this program.

@@ -1,6 +1,7 @@
 -- Free references: those that are asked before an item is surely taken or gone into. A cycle of them asks the same
 -- question again for ever, so it is refused (RFC 8610 does not say what it would mean).
-use Rattle.std.specs.Prelude.{◌≡◌, ◌⊎◌, Bool, true, false, List, ◌∷◌, Contains, Option, Some, codes}
+use Rattle.std.specs.Prelude.{◌≡◌, Bool, true, false, List, ◌∷◌, Contains, Option, Some}
+use Rattle.cddl_language.specs.Controls.{control_of, is_asked_here}
 use Rattle.cddl_language.specs.Numbers.{least_of}
 use Rattle.cddl_language.specs.Terms.{Text, Term, named, parens, array_of, unwrapped, choice_of, choice_of_name, simple_by, control, or, Ref, Group, Entries, no_entries, entries, Entry, typed, keyed, grouped, Key, Definition, alternatives, occurrence_of, name_of}
 use Rattle.cddl_language.specs.Substitution.{type_choices, group_choices}
@@ -25,10 +26,6 @@ mutual
     this_may : {es : Entries} {ess : List Entries} → MayBeEmpty ds es → SomeMayBeEmpty ds (es ∷ ess)
     later_may : {es : Entries} {ess : List Entries} → SomeMayBeEmpty ds ess → SomeMayBeEmpty ds (es ∷ ess)
 
--- controls whose controller is asked of the same item, or of what is in the same byte string
-abbrev pub IsAskedHere : Text → Type 0
-IsAskedHere n = (n ≡ codes "and") ⊎ ((n ≡ codes "within") ⊎ (n ≡ codes "cborseq"))
-
 module _ (ds : List Definition) where
   -- the reference stands free in the type, in a list of alternatives, in one, in an entry
   mutual
@@ -43,7 +40,7 @@ module _ (ds : List Definition) where
       in_choice : {g : Group} → IsFreeInChoice p (alternatives g) → IsFree p (choice_of g)
       in_head : {h : Term} → IsFree p h → IsFree p (simple_by h)
       in_left : {a b : Term} {n : Text} → IsFree p a → IsFree p (control a n b)
-      in_controller : {a b : Term} {n : Text} → IsAskedHere n → IsFree p b → IsFree p (control a n b)
+      in_controller : {a b : Term} {n : Text} → is_asked_here (control_of n) ≡ true → IsFree p b → IsFree p (control a n b)
 
     pub data IsFreeInSome (p : Point) : List Entries → Type 0 where
       in_this : {es : Entries} {ess : List Entries} → IsFreeInEach p es → IsFreeInSome p (es ∷ ess)

@@ -6,6 +6,7 @@ use Rattle.cbor_data.specs.Value.{Value}
 use Rattle.cddl_meaning.specs.Forms as F
 use Rattle.cddl_meaning.specs.Forms.{Node, Language}
 use Rattle.cddl_meaning.specs.Judges.{Answer, Says}
+use Rattle.cddl_language.specs.Controls.{Control, left_alone, left_and_right, control_of}
 use Rattle.cddl_language.specs.Numbers.{least_of, most_of, occurs_once, tag_number, hash_form, hash_test}
 use Rattle.cddl_language.specs.Terms.{Text, Term, literal, named, parens, map_of, array_of, unwrapped, choice_of, choice_of_name, tagged, tagged_by, simple_by, hash, range, control, or, Ref, Entries, Entry, typed, keyed, grouped, Key, of_type, bareword, of_value, Definition, choices, alternatives, entry_list, occurrence_of, name_of}
 use Rattle.cddl_language.specs.Substitution.{type_choices, group_choices}
@@ -62,7 +63,13 @@ abbrev pub map_node : Option Alternatives → Node TypeName GroupName
 map_node (Some mss) = F.MapOf (map (map map_entry) mss)
 map_node None = nothing
 
--- What is refused is `nothing` here. Controls have no meaning yet.
+-- A control of two types (section 3.8). Of controllers that are values, and of what byte strings hold, nothing is said yet.
+abbrev pub control_node : Option Control → Term → Term → Node TypeName GroupName
+control_node (Some left_alone) a b = F.Ref (type a)
+control_node (Some left_and_right) a b = F.Both (type a) (type b)
+control_node _ a b = nothing
+
+-- What is refused is `nothing` here.
 module _ (worth : Values) (ds : List Definition) where
   -- What `&` chooses from: the types of the entries in order, and for a group in them the choice of its own.
 
@@ -95,7 +102,7 @@ module _ (worth : Values) (ds : List Definition) where
   term_node (range a c b) = between c (whole_of worth ds a) (whole_of worth ds b)
   term_node (or t u) = F.Choice (map type (choices (or t u)))
   term_node (map_of g) = map_node (map_alternatives ds g)
-  term_node (control a n b) = nothing
+  term_node (control a n b) = control_node (control_of n) a b
 
   abbrev pub type_node : TypeName → Node TypeName GroupName
   type_node (type t) = term_node t
@@ -135,3 +142,7 @@ module _ (worth : Values) (ds : List Definition) where
 -- the type says this of the item, in however many judgements
 abbrev pub Saying : Language TypeName GroupName → Node TypeName GroupName → ℕ → Value → Answer → Type 0
 Saying l m p x a = (w : ℕ) × Says l m p x a w
+
+-- the closed type says this of the item
+abbrev pub TermSays : Values → List Definition → Term → ℕ → Value → Answer → Type 0
+TermSays worth ds t p x a = Saying (language worth ds) (type_node worth ds (type t)) p x a

@@ -1,4 +1,5 @@
 pub mod Choices
+pub mod Controls
 pub mod Environment
 pub mod Examples
 pub mod Faults

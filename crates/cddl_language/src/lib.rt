@@ -2,7 +2,7 @@
 //! here do nothing: their contracts are laws, and examples.
 #![tactic(auto)]
 
-ghost use Rattle.std.specs.Prelude.{◌+◌, ◌≢◌, ◌↔◌, ◌≤◌, ◌⊎◌, map, length, slice_index, [], ◌∷◌, ◌≡◌, ℕ, suc, Contains, Bool, List, Option, true, Some, None};
+ghost use Rattle.std.specs.Prelude.{◌+◌, ◌≢◌, ◌↔◌, ◌≤◌, ◌⊎◌, map, length, slice_index, [], ◌∷◌, ◌≡◌, ℕ, suc, Contains, Bool, List, Option, true, Some, None, codes};
 ghost use Rattle.cddl_token.specs.declared.Code.{Code};
 ghost use Rattle.cddl_token.specs.declared.Token.{Token};
 ghost use Rattle.cddl_syntax.specs.Syntax as S;
@@ -14,11 +14,11 @@ ghost use Rattle.cddl_language.specs.Free.{IsOnCycle};
 ghost use Rattle.cddl_language.specs.Kinds.{Opened, is_group_in, opened_in};
 ghost use Rattle.cbor_data.specs.Value.{Value};
 ghost use Rattle.cddl_meaning.specs.Forms.{Choice, Language, any_number_of, at_most, exactly};
-ghost use Rattle.cddl_meaning.specs.Judges.{Answer, Says};
+ghost use Rattle.cddl_meaning.specs.Judges.{Answer, No, Says, Yes};
 ghost use Rattle.cddl_language.specs.Choices.{chosen, chosen_by_name};
 ghost use Rattle.cddl_language.specs.MapFaults.{ComesBack, GoesThrough, HasMapShape, HasNoKey, IsSpliced, IsSplicedInto, LacksKey, LeadsTo, OccursBadly, closed_entry, point_in};
 ghost use Rattle.cddl_language.specs.Maps.{Alternatives, alternatives_in, map_alternatives};
-ghost use Rattle.cddl_language.specs.Language.{Saying, language, type, reference, type_node};
+ghost use Rattle.cddl_language.specs.Language.{Saying, TermSays, language, type, reference, type_node};
 ghost use Rattle.cddl_language.specs.StandsFor.{StandsFor};
 ghost use Rattle.cddl_ranks.specs.Ranked.{Name};
 ghost use Rattle.cddl_literal.specs.Numbers.{IsUint, number_after};
@@ -27,7 +27,7 @@ ghost use Rattle.cddl_language.specs.Numbers.{hash_form, least_in, most_in, numb
 ghost use Rattle.cddl_language.specs.Literals.{AreRight, AreTokens, Holds, Values};
 ghost use Rattle.cddl_language.specs.Reading.{definitions_in, group_of, name_in, parameters_in};
 ghost use Rattle.cddl_language.specs.Reach.{Point, Reaches, most_instances, points_in, ref_at};
-ghost use Rattle.cddl_language.specs.Terms.{Definition, Entries, Entry, Group, Literal, Ref, Term, Text, alternatives, call, choice_of, choice_of_name, name_of, no_terms};
+ghost use Rattle.cddl_language.specs.Terms.{Definition, Entries, Entry, Group, Literal, Ref, Term, Text, alternatives, call, choice_of, choice_of_name, control, name_of, no_terms};
 
 pub mod examples;
 
@@ -46,6 +46,16 @@ pub fn names_are_instances()
 pub fn chosen_types_say()
     ensures group { (worth : Values) (ds : List Definition) (g : Group) (ts : List Term) → chosen ds g ≡ Some ts → (p : ℕ) (x : Value) (a : Answer) → Saying (language worth ds) (Choice (map type ts)) p x a ↔ Saying (language worth ds) (type_node worth ds (type (choice_of g))) p x a }
     ensures name { (worth : Values) (ds : List Definition) (r : Ref) (ts : List Term) → chosen_by_name ds r ≡ Some ts → (p : ℕ) (x : Value) (a : Answer) → Saying (language worth ds) (Choice (map type ts)) p x a ↔ Saying (language worth ds) (type_node worth ds (type (choice_of_name r))) p x a }
+{}
+
+/// A control by `.and` or `.within` says yes where the type on its left and its controller do; the left one is asked first, and a
+/// no shows where the type shows it that says it. A control by `.default` says what the type on its left says.
+pub fn controls_of_types_say()
+    ensures both { (worth : Values) (ds : List Definition) (a b : Term) (p : ℕ) (x : Value) → TermSays worth ds (control a (codes "and") b) p x Yes ↔ (TermSays worth ds a p x Yes × TermSays worth ds b p x Yes) }
+    ensures left { (worth : Values) (ds : List Definition) (a b : Term) (p : ℕ) (x : Value) (far : ℕ) → TermSays worth ds a p x (No far) → TermSays worth ds (control a (codes "and") b) p x (No far) }
+    ensures right { (worth : Values) (ds : List Definition) (a b : Term) (p : ℕ) (x : Value) (far : ℕ) → TermSays worth ds a p x Yes → TermSays worth ds b p x (No far) → TermSays worth ds (control a (codes "and") b) p x (No far) }
+    ensures within { (worth : Values) (ds : List Definition) (a b : Term) (p : ℕ) (x : Value) (o : Answer) → TermSays worth ds (control a (codes "within") b) p x o ↔ TermSays worth ds (control a (codes "and") b) p x o }
+    ensures default { (worth : Values) (ds : List Definition) (a b : Term) (p : ℕ) (x : Value) (o : Answer) → TermSays worth ds (control a (codes "default") b) p x o ↔ TermSays worth ds a p x o }
 {}
 
 /// Where the group of a map has alternatives, each entry that is spliced into it has a key or is a group, none leads back to the

@@ -3,14 +3,15 @@ use Rattle.std.proofs.Common.{◌≡◌, ℕ, Bool, true, false, if◌then◌els
 use Rattle.std.specs.Prelude.{is_some}
 use Rattle.cbor_data.specs.Value.{Value}
 use Rattle.cddl_literal.specs.Numbers.{Meaning}
-use Rattle.cddl_meaning.specs.Alike.{AlikeAll, none, both, AlikeTypes, plain, refs, choices as some_choices, tags, AlikeNumbers, any_numbers, same_number, AlikeGroups, entries as some_entries, group_refs, sequences, alternates, repeats}
+use Rattle.cddl_meaning.specs.Alike.{AlikeAll, none, both, AlikeTypes, plain, refs, choices as some_choices, tags, boths, AlikeNumbers, any_numbers, same_number, AlikeGroups, entries as some_entries, group_refs, sequences, alternates, repeats}
 use Rattle.cddl_meaning.specs.Forms as F
+use Rattle.cddl_language.specs.Controls.{Control, left_alone, left_and_right, held_item, held_sequence, by_value, control_of}
 use Rattle.cddl_language.specs.Numbers as N
 use Rattle.cddl_language.specs.Terms.{no_entries, entries, Text, Term, Literal, literal, named, name_of, parens, map_of, array_of, unwrapped, choice_of, choice_of_name, tagged, tagged_by, simple_by, hash, range, control, or, Ref, Group, Entries, Entry, Key, typed, keyed, grouped, alternatives, entry_list}
 use Rattle.cddl_language.specs.Kinds as K
 use Rattle.cddl_language.specs.Kinds.{Opened, opens_group, opens_type, opened, is_group}
 use Rattle.cddl_language.specs.Choices.{can_choose, chosen, chosen_in}
-use Rattle.cddl_language.specs.Reach.{most_instances}
+use Rattle.cddl_language.specs.Reach.{most_instances, points}
 use Rattle.cddl_language.specs.Substitution.{group_choices}
 use Rattle.cddl_language.specs.Language as L
 use Rattle.cddl_language.specs.Language.{TypeName, type, GroupName, first_of, each_of, entry, round}
@@ -25,7 +26,7 @@ use Rattle.cddl_openings.specs.declared.openings.Opening.{Opening}
 use Rattle.cddl_openings.specs.declared.openings.Part.TheVariants as PartV
 use Rattle.cddl_literals.specs.Literals.{IsWritten, no_value, value_of}
 use Rattle.cddl_nodes.specs.Basis.{Sense}
-use Rattle.cddl_nodes.specs.Lookups.{between_view, is_flagged, is_over, opened_view}
+use Rattle.cddl_nodes.specs.Lookups.{between_view, control_form_view, is_flagged, is_over, opened_view}
 use Rattle.cddl_nodes.specs.Origins.{AreKnown, AreKnownEntries, IsKnown, IsKnownEntry, IsKnownGroup, IsTypeOrigin, of_row, of_instance, of_chosen, of_word, IsGroupOrigin, of_alternatives, of_sequence, of_entry, of_round, IsAsked, asks_type, asks_named, asks_opened}
 use Rattle.cddl_nodes.specs.Shapes.{IsShape, a_literal, a_name, in_parens, an_array, an_unwrapping, a_choice_of, a_choice_of_name, a_tag, a_tag_by, a_simple, a_hash, a_range, a_range_below, a_choice, a_map, a_control, IsEntryShape, a_typed, a_keyed, a_group}
 use Rattle.cddl_nodes.specs.declared.asked.Asked.TheVariants as A
@@ -35,6 +36,7 @@ use Rattle.cddl_nodes.specs.declared.origin.TypeOrigin.{TypeOrigin}
 use Rattle.cddl_nodes.specs.declared.origin.TypeOrigin.TheVariants as O
 use Rattle.cddl_nodes.specs.declared.shape.EntryShape.TheVariants as E
 use Rattle.cddl_nodes.specs.declared.shape.Shape.TheVariants as S
+use Rattle.cddl_nodes.proofs.Reaching.{reached_left, reached_right}
 use Rattle.cddl_nodes.proofs.Listing.{alike_pushed, flat, flat_map_one, IsWalk, walk_ended, walk_on}
 use Rattle.cddl_nodes.proofs.Knowing.{EachEntry, EachType, and_entry, and_type, each_entry, first_known, group_known, no_entry, no_type, rest_known}
 
@@ -85,8 +87,11 @@ module _ (t : Table) (P : Term → Type 0) where
   pub map_case : (x : Term) → (k : ℕ) → IsShape t x (S.MapOf k) → ((g : Group) → IsGroup t k g → P (map_of g)) → P x
   map_case x k (a_map {g = g} h) f = f g h
 
-  pub other_case : (x : Term) → IsShape t x S.Other → ((y z : Term) (n : Text) → P (control y n z)) → P x
-  other_case x (a_control {a = y} {b = z} {n = n}) f = f y z n
+  pub control_case : (x : Term) → (m i k : ℕ) → IsShape t x (S.Control m i k) → ((n : Text) (y z : Term) → slice_get t.texts m ≡ Some n → IsTerm t i y → IsTerm t k z → P (control y n z)) → P x
+  control_case x m i k (a_control {a = y} {b = z} {n = n} e g h) f = f n y z e g h
+
+  pub other_case : (x : Term) → IsShape t x S.Other → P x
+  other_case x h = elim h [ ]
 
 module _ (t : Table) (P : Entry → Type 0) where
   pub typed_case : (x : Entry) → (k : ℕ) → IsEntryShape t x (E.Typed k) → ((o : Option Text) (y : Term) → IsTerm t k y → P (typed o y)) → P x
@@ -185,6 +190,24 @@ module _ (s : Sense) (t : Table) where
       by o p nothing g = some_choices none
       by o p (group_opened h) g = some_choices none
       by o p (type_opened {x = x} h) g = refs (of_row h (g x refl).0 (g x refl).1)
+
+  -- The two types of a control are known where it is.
+  pub left_known : (y z : Term) (n : Text) → IsKnown s (control y n z) → IsKnown s y
+  left_known y z n re = (reached_left s (points y) (points z) re.0, re.1.0)
+
+  pub right_known : (y z : Term) (n : Text) → IsKnown s (control y n z) → IsKnown s z
+  right_known y z n re = (reached_right s (points y) (points z) re.0, re.1.1)
+
+  control_by : (k : Option Control) (y z : Term) (i j : ℕ) → IsTerm t i y → IsTerm t j z → IsKnown s y → IsKnown s z → Forms (L.control_node k y z) (control_form_view k i j)
+  control_by (Some left_alone) y z i j g h p q = refs (of_row g p.0 p.1)
+  control_by (Some left_and_right) y z i j g h p q = boths (of_row g p.0 p.1) (of_row h q.0 q.1)
+  control_by (Some held_item) y z i j g h p q = some_choices none
+  control_by (Some held_sequence) y z i j g h p q = some_choices none
+  control_by (Some by_value) y z i j g h p q = some_choices none
+  control_by None y z i j g h p q = some_choices none
+
+  pub control_formed : (y z : Term) (n : Text) (i j : ℕ) (k : Option Control) (f : F.Node TypeOrigin GroupOrigin) → k ≡ control_of n → f ≡ control_form_view k i j → IsTerm t i y → IsTerm t j z → IsKnown s (control y n z) → Forms (L.term_node s.worth s.definitions (control y n z)) f
+  control_formed y z n i j k f e d g h re = subst (λ o. Forms (L.control_node o y z) f) e (subst (Forms (L.control_node k y z)) (sym d) (control_by k y z i j g h (left_known y z n re) (right_known y z n re)))
 
   pub chosen_so : (o : Option (List Term)) (ns : List TypeName) (f : F.Node TypeOrigin GroupOrigin) → is_some o ≡ true → Forms (F.Choice ns) f → Forms (L.choice o ns) f
   chosen_so (Some ts) ns f e h = h

@@ -65,7 +65,7 @@ shaped t n (simple_by x) (part {m = m} {i = i} {j = j} e h a b) = (_, e, at_part
 shaped t n (hash s) (part e (some_text g) a b) = (_, e, a_hash g)
 shaped t n (range y true x) (part {m = m} {i = i} {j = j} e h a b) = (_, e, at_part t i (term_tree y) (λ o. IsShape t (range y true x) (form_shape_by F.Range m o j)) (term_is_node y) a (λ k h. at_part t j (term_tree x) (λ o. IsShape t (range y true x) (form_shape_by F.Range m (Some k) o)) (term_is_node x) b (λ l g. a_range h g)))
 shaped t n (range y false x) (part {m = m} {i = i} {j = j} e h a b) = (_, e, at_part t i (term_tree y) (λ o. IsShape t (range y false x) (form_shape_by F.RangeBelow m o j)) (term_is_node y) a (λ k h. at_part t j (term_tree x) (λ o. IsShape t (range y false x) (form_shape_by F.RangeBelow m (Some k) o)) (term_is_node x) b (λ l g. a_range_below h g)))
-shaped t n (control y s x) (part e h a b) = (_, e, a_control)
+shaped t n (control y s x) (part {i = i} {j = j} e (some_text {n = m} g) a b) = (_, e, at_part t i (term_tree y) (λ o. IsShape t (control y s x) (form_shape_by F.Control (Some m) o j)) (term_is_node y) a (λ k h. at_part t j (term_tree x) (λ o. IsShape t (control y s x) (form_shape_by F.Control (Some m) (Some k) o)) (term_is_node x) b (λ l q. a_control g h q)))
 shaped t n (or y x) (part e h a b) = (_, e, a_choice)
 
 one_row : (o : Option Row) (r s : Row) → o ≡ Some r → o ≡ Some s → r ≡ s

@@ -34,6 +34,7 @@ type_form_view (T.ArrayOf o) = F.ArrayOf o
 type_form_view (T.TagOf n o) = F.TagOf (tag_form_view n) o
 type_form_view (T.SimpleBy o) = F.SimpleBy o
 type_form_view (T.MapOf ess) = F.MapOf (map_form_view ess.items)
+type_form_view (T.Both o p) = F.Both o p
 
 abbrev pub group_form_view : GroupForm → F.Group TypeOrigin GroupOrigin
 group_form_view (G.Entry o) = F.Entry o

@@ -2,6 +2,7 @@
 use Rattle.std.specs.Prelude.{ℕ, ltb, Bool, true, false, [], Option, Some, None}
 use Rattle.cbor_data.specs.Value.{Value}
 use Rattle.cddl_meaning.specs.Forms as F
+use Rattle.cddl_language.specs.Controls.{Control, left_alone, left_and_right}
 use Rattle.cddl_terms.specs.declared.row.Row.{Row}
 use Rattle.cddl_openings.specs.declared.openings.Opening.{Opening}
 use Rattle.cddl_openings.specs.declared.openings.Opening.TheVariants as OpeningV
@@ -26,6 +27,12 @@ is_told _ = false
 abbrev pub opened_view : Opening → F.Node TypeOrigin GroupOrigin
 opened_view (OpeningV.Type n) = F.Ref (T.Row n)
 opened_view _ = F.Choice []
+
+-- what a control makes of the rows of its two types
+abbrev pub control_form_view : Option Control → ℕ → ℕ → F.Node TypeOrigin GroupOrigin
+control_form_view (Some left_alone) left right = F.Ref (T.Row left)
+control_form_view (Some left_and_right) left right = F.Both (T.Row left) (T.Row right)
+control_form_view _ left right = F.Choice []
 
 abbrev pub between_view : Bool → Option Value → Option Value → F.Node TypeOrigin GroupOrigin
 between_view closed (Some a) (Some b) = F.Plain (F.between a b closed)

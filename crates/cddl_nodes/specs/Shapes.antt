@@ -24,11 +24,16 @@ abbrev pub with_parts : (ℕ → ℕ → Shape) → Option ℕ → Option ℕ �
 with_parts f (Some m) (Some n) = f m n
 with_parts f _ _ = S.Other
 
+abbrev pub with_all : (ℕ → ℕ → ℕ → Shape) → Option ℕ → Option ℕ → Option ℕ → Shape
+with_all f (Some k) (Some m) (Some n) = f k m n
+with_all f _ _ _ = S.Other
+
 abbrev pub pair_shape_by : Form → (text first second : Option ℕ) → Shape
 pair_shape_by F.Tagged m i j = with_parts S.Tagged m i
 pair_shape_by F.TaggedBy m i j = with_parts S.TaggedBy i j
 pair_shape_by F.Range m i j = with_parts S.Range i j
 pair_shape_by F.RangeBelow m i j = with_parts S.RangeBelow i j
+pair_shape_by F.Control m i j = with_all S.Control m i j
 pair_shape_by _ m i j = S.Other
 
 abbrev pub form_shape_by : Form → (text first second : Option ℕ) → Shape
@@ -67,7 +72,7 @@ pub data IsShape (t : Table) : Term → Shape → Type 0 where
   a_range_below : {m k : ℕ} {a b : Term} → IsTerm t m a → IsTerm t k b → IsShape t (range a false b) (S.RangeBelow m k)
   a_choice : {a b : Term} → IsShape t (or a b) S.Or
   a_map : {k : ℕ} {g : Group} → IsGroup t k g → IsShape t (map_of g) (S.MapOf k)
-  a_control : {a b : Term} {n : Text} → IsShape t (control a n b) S.Other
+  a_control : {m i k : ℕ} {a b : Term} {n : Text} → slice_get t.texts m ≡ Some n → IsTerm t i a → IsTerm t k b → IsShape t (control a n b) (S.Control m i k)
 
 abbrev pub entry_with : (ℕ → EntryShape) → Option ℕ → EntryShape
 entry_with f None = E.Other

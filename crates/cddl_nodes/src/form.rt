@@ -43,6 +43,7 @@ pub(crate) enum TypeForm {
     TagOf(TagForm, TypeOrigin),
     SimpleBy(TypeOrigin),
     MapOf(Vec<Vec<EntryForm>>),
+    Both(TypeOrigin, TypeOrigin),
 }
 
 /// The type that says no to every item.

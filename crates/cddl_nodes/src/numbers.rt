@@ -210,6 +210,11 @@ impl Numbers {
                 let alternatives = self.number_map(alloc, &forms)?;
                 Ok(Node::MapOf(alternatives))
             }
+            TypeForm::Both(left, right) => {
+                let left = self.number_type(left)?;
+                let right = self.number_type(right)?;
+                Ok(Node::Both(left, right))
+            }
         }
     }
 

@@ -27,6 +27,8 @@ pub(crate) enum Shape {
     Hash(u32),
     Range(u32, u32),
     RangeBelow(u32, u32),
+    /// A text, the type on the left, and the controller.
+    Control(u32, u32, u32),
     Or,
     Other,
 }
@@ -84,6 +86,7 @@ fn pair_shape_of(row: Row) -> Shape
         (Form::TaggedBy, _, Some(head), Some(content)) => Shape::TaggedBy(head, content),
         (Form::Range, _, Some(least), Some(last)) => Shape::Range(least, last),
         (Form::RangeBelow, _, Some(least), Some(last)) => Shape::RangeBelow(least, last),
+        (Form::Control, Some(text), Some(left), Some(right)) => Shape::Control(text, left, right),
         _ => Shape::Other,
     }
 }

@@ -1,9 +1,11 @@
-//! What the texts of tags and of `#` say.
+//! What the texts of tags, of `#` and of controls say.
 
-ghost use Rattle.std.specs.Prelude.{◌≡◌, ◌<◌, ◌^◌, IfOk, Some, slice_get};
+ghost use Rattle.std.specs.Prelude.{◌≡◌, ◌<◌, ◌^◌, IfOk, Some, option_map, slice_get};
 ghost use Rattle.cddl_meaning.specs.Forms as F;
+ghost use Rattle.cddl_language.specs.Controls as C;
 ghost use Rattle.cddl_language.specs.Numbers as N;
 ghost use Rattle.cddl_language.specs.Terms.{Text};
+ghost use Rattle.cddl_texts.specs.Controls.{control_view};
 ghost use Rattle.cddl_texts.specs.HashForm.{form as form_of};
 ghost use Rattle.cddl_texts.specs.Occurrence.{most_in};
 ghost use Rattle.cddl_table.specs.Nodes.{most_view, test_view};
@@ -15,7 +17,7 @@ use crate::form::TagForm;
 use cbor_data::Width;
 use cddl_table::{Most, Test};
 use cddl_terms::{NoRoom, Terms};
-use cddl_texts::{HashForm, TagNumber, hash_form, occurrence_of, tag_number};
+use cddl_texts::{Control, HashForm, TagNumber, control_of, hash_form, occurrence_of, tag_number};
 
 /// The number of the tag's opening with this text.
 pub(crate) fn tag_at(terms: &Terms<'_>, text: u32) -> Result<TagForm, NoRoom>
@@ -28,6 +30,16 @@ pub(crate) fn tag_at(terms: &Terms<'_>, text: u32) -> Result<TagForm, NoRoom>
         TagNumber::Any => Ok(TagForm::Any),
         TagNumber::Exactly(number) => Ok(TagForm::Exactly(number)),
         TagNumber::TooGreat => Err(NoRoom),
+    }
+}
+
+/// The control with this text as its name, if it is known.
+pub(crate) fn control_at(terms: &Terms<'_>, text: u32) -> Option<Control>
+    ensures { (n : Text) → slice_get terms.now.texts text ≡ Some n → option_map control_view result ≡ C.control_of n }
+{
+    match terms.text(text) {
+        Some(name) => control_of(name),
+        None => None,
     }
 }
 

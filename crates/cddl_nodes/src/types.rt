@@ -1,6 +1,6 @@
 //! The forms of types.
 
-ghost use Rattle.std.specs.Prelude.{◌≡◌, IfOk, List, Some, [], slice_get, true};
+ghost use Rattle.std.specs.Prelude.{◌≡◌, IfOk, List, Some, [], option_map, slice_get, true};
 ghost use Rattle.cddl_meaning.specs.Forms as F;
 ghost use Rattle.cddl_language.specs.Choices.{can_choose};
 ghost use Rattle.cddl_language.specs.Language.{TypeName};
@@ -9,11 +9,12 @@ ghost use Rattle.cddl_language.specs.Terms as L;
 ghost use Rattle.cddl_language.specs.Terms.{Entries, Group, Ref, Term, Text};
 ghost use Rattle.cddl_closed.specs.Closed.{AreAlternatives};
 ghost use Rattle.cddl_terms.specs.Table.{Table};
+ghost use Rattle.cddl_texts.specs.Controls.{control_view};
 ghost use Rattle.cddl_terms.specs.Trees.{IsGroup, IsRef, IsTerm};
 ghost use Rattle.cddl_written.specs.Written.{IsMeant};
 ghost use Rattle.cddl_nodes.specs.Basis.{IsSource, Sense};
 ghost use Rattle.cddl_nodes.specs.Forms.{type_form_view};
-ghost use Rattle.cddl_nodes.specs.Lookups.{is_flagged, opened_view};
+ghost use Rattle.cddl_nodes.specs.Lookups.{control_form_view, is_flagged, opened_view};
 ghost use Rattle.cddl_nodes.specs.Origins.{AreKnown, IsChosenForm, IsInstanceForm, IsKnown, IsReached, IsTermForm, IsTypeForm, IsTypeOrigin};
 
 use crate::asked::{group_at, is_group, meaning_there, place_at};
@@ -26,13 +27,14 @@ use crate::maps::{map_form, word_form};
 use crate::origin::{GroupOrigin, TypeOrigin};
 use crate::shape::{Shape, shape_at};
 use crate::source::Source;
-use crate::texts::{hash_at, tag_at};
+use crate::texts::{control_at, hash_at, tag_at};
 use cddl_closed::choices;
 use cddl_closed::laws::meaning_at;
 use cddl_openings::Opening;
 use cddl_openings::laws::opening_stands;
 use cddl_table::Test;
 use cddl_terms::{NoRoom, Terms};
+use cddl_texts::Control;
 use std::alloc::Global;
 
 /// The form of the type that is of this.
@@ -80,6 +82,7 @@ fn row_form(
         Shape::Range(least, last) => range_form(alloc, terms, source, least, last, true),
         Shape::RangeBelow(least, last) => range_form(alloc, terms, source, least, last, false),
         Shape::Or => or_form(alloc, terms, row),
+        Shape::Control(name, left, right) => Ok(control_form(alloc, terms, name, left, right)),
         Shape::Other => Ok(nothing(alloc)),
     }
 }
@@ -221,6 +224,25 @@ fn or_form(alloc: Global, terms: &Terms<'_>, row: u32) -> Result<TypeForm, NoRoo
     match row_origins(alloc, &rows) {
         Ok(origins) => Ok(TypeForm::Choice(origins)),
         Err(_) => Err(NoRoom),
+    }
+}
+
+/// What a control asks: the type on its left and the controller, or that type alone.
+fn control_form(alloc: Global, terms: &Terms<'_>, name: u32, left: u32, right: u32) -> TypeForm
+    ensures { (s : Sense) (n : Text) (a b : Term) → slice_get terms.now.texts name ≡ Some n → IsTerm terms.now left a → IsTerm terms.now right b → IsKnown s (L.control a n b) → IsTermForm s terms.now (L.control a n b) result }
+{
+    known_form(alloc, control_at(terms, name), left, right)
+}
+
+fn known_form(alloc: Global, control: Option<Control>, left: u32, right: u32) -> TypeForm
+    ensures { type_form_view result ≡ control_form_view (option_map control_view control) left right }
+{
+    match control {
+        Some(Control::LeftAlone) => TypeForm::Ref(TypeOrigin::Row(left)),
+        Some(Control::LeftAndRight) => {
+            TypeForm::Both(TypeOrigin::Row(left), TypeOrigin::Row(right))
+        }
+        _ => nothing(alloc),
     }
 }
 

@@ -19,7 +19,7 @@ use Rattle.cddl_recursion.specs.declared.node.Node.TheVariants as N
 use Rattle.cddl_recursion.specs.Asking as A
 use Rattle.cddl_recursion.specs.Asking.{Asked, a_type, a_group, some_entries, an_entry, chosen_group, chosen_entries, chosen_entry, a_point, Asks, IsReached}
 use Rattle.cddl_recursion.specs.Edges as E
-use Rattle.cddl_recursion.specs.Edges.{Known, Has, Leads, by_row, by_chosen, by_group, by_type, by_opening, by_choice, by_opened_choice, row_node, chosen_node, name_node, unwrapping_node, choice_node, place_of, place_in, flagged, if_set, when, asks_here, text_asks, controls_here, part_node, part_at, part_in, steps_by, chosen_by, row_steps, chosen_steps, is_group_call, text_of, opened_row, opened_group}
+use Rattle.cddl_recursion.specs.Edges.{Known, Has, Leads, by_row, by_chosen, by_group, by_type, by_opening, by_choice, by_opened_choice, row_node, chosen_node, name_node, unwrapping_node, choice_node, place_of, place_in, flagged, if_set, when, asks_here, text_asks, part_node, part_at, part_in, steps_by, chosen_by, row_steps, chosen_steps, is_group_call, text_of, opened_row, opened_group}
 use Rattle.cddl_recursion.specs.Standing.{Stands, type_row, group_row, entries_row, entry_row, chosen_group_row, chosen_entries_row, chosen_entry_row, name_place, unwrapping_place, choice_place, opened_choice_place}
 use Rattle.cddl_recursion.proofs.Freely.{in_list, contained}
 use Rattle.cddl_recursion.proofs.Presence.{first, front}
@@ -250,7 +250,7 @@ module _ (xs : List Definition) (root : Text) (refs : List Ref) (b : Known) (is 
       let w = W.row_at b i.0 F.Control (Some x) (term_tree y) (term_tree z) i.2 in
       let p = part_row w.second (term_tree z) (W.term_is_node z) w.has_second in
       let d = W.text_there b.texts w.name x w.has_name in
-      let f : asks_here b.texts w.name ≡ true = ap (asks_here b.texts) d.1 ∙ ap text_asks d.2 ∙ W.control_asked x c in
+      let f : asks_here b.texts w.name ≡ true = ap (asks_here b.texts) d.1 ∙ ap text_asks d.2 ∙ c in
       found n (N.Row i.0) (N.Row p.0) (a_type z) i.1 (type_row p.2) (by_row w.there (inr (ap (λ z. row_node (when z w.second)) f ∙ p.1)))
   ahead n a next (A.sole_entries {es = es}) s h =
       let i = of_group n (sole es) s in

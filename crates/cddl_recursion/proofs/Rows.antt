@@ -1,10 +1,9 @@
 -- The steps by rows and places are those of what they stand for.
 use Rattle.std.proofs.Common.{◌≡◌, ℕ, zero, suc, ◌<◌, inl, inr, Bool, true, false, ◌||◌, List, [], ◌∷◌, ◌++◌, length, Option, Some, None, refl, sym, ap, subst, ◌∙◌, slice_get, codes}
-use Rattle.std.specs.Cmp.Lexicographic.{same_text}
 use Rattle.std.proofs.lemmas.Option.{slice_get_within}
 use Rattle.cddl_meaning.specs.Alike.{AlikeAll, both}
-use Rattle.cddl_language.specs.Environment.{is_in, is_same}
-use Rattle.cddl_language.specs.Free.{IsAskedHere, MayBeEmpty}
+use Rattle.cddl_language.specs.Controls.{control_of, is_asked_here}
+use Rattle.cddl_language.specs.Free.{MayBeEmpty}
 use Rattle.cddl_language.specs.Kinds as K
 use Rattle.cddl_language.specs.Kinds.{Opened, opens_group, opens_type, opened, is_group, asks_type, names_group, opens, part_of}
 use Rattle.cddl_language.specs.Reach.{at_name, at_unwrapping, at_choice, at_opened_choice, points, entries_points, entry_points}
@@ -29,7 +28,7 @@ use Rattle.cddl_recursion.specs.declared.node.Node.TheVariants as N
 use Rattle.cddl_recursion.specs.Asking as A
 use Rattle.cddl_recursion.specs.Asking.{Asked, a_type, a_group, some_entries, an_entry, chosen_group, chosen_entries, chosen_entry, a_point, Asks, IsReached}
 use Rattle.cddl_recursion.specs.Edges as E
-use Rattle.cddl_recursion.specs.Edges.{Known, Has, Leads, by_row, by_chosen, by_group, by_type, by_opening, by_choice, by_opened_choice, row_node, chosen_node, name_node, unwrapping_node, choice_node, place_of, place_in, flagged, if_set, when, asks_here, text_asks, controls_here, part_node, part_at, part_in, steps_by, chosen_by, row_steps, chosen_steps, is_group_call, text_of, opened_row, opened_group}
+use Rattle.cddl_recursion.specs.Edges.{Known, Has, Leads, by_row, by_chosen, by_group, by_type, by_opening, by_choice, by_opened_choice, row_node, chosen_node, name_node, unwrapping_node, choice_node, place_of, place_in, flagged, if_set, when, asks_here, text_asks, part_node, part_at, part_in, steps_by, chosen_by, row_steps, chosen_steps, is_group_call, text_of, opened_row, opened_group}
 use Rattle.cddl_recursion.specs.Standing.{Stands, type_row, group_row, entries_row, entry_row, chosen_group_row, chosen_entries_row, chosen_entry_row, name_place, unwrapping_place, choice_place, opened_choice_place}
 use Rattle.cddl_recursion.proofs.Freely.{In, in_list, contained}
 use Rattle.cddl_recursion.proofs.Presence.{AreInstancesOn, first, front}
@@ -105,22 +104,6 @@ slice_in {X = X} (y ∷ xs) zero x e = inl (same y x e)
     same : (y z : X) → Some y ≡ Some z → y ≡ z
     same y z e = cc
 slice_in (y ∷ xs) (suc k) x e = inr (slice_in xs k x e)
-
--- names of controls
-
-asked_control : (x : Text) → is_in controls_here x ≡ true → IsAskedHere x
-asked_control x e = by (is_same (codes "and") x) (is_same (codes "within") x) (is_same (codes "cborseq") x) (λ h. same_text (codes "and") x (sym h)) (λ h. same_text (codes "within") x (sym h)) (λ h. same_text (codes "cborseq") x (sym h)) e
-  where
-    by : (a b c : Bool) → (a ≡ true → codes "and" ≡ x) → (b ≡ true → codes "within" ≡ x) → (c ≡ true → codes "cborseq" ≡ x) → a || (b || (c || false)) ≡ true → IsAskedHere x
-    by true b c f g h e = inl (sym (f refl))
-    by false true c f g h e = inr (inl (sym (g refl)))
-    by false false true f g h e = inr (inr (sym (h refl)))
-    by false false false f g h e = cc
-
-pub control_asked : (x : Text) → IsAskedHere x → is_in controls_here x ≡ true
-control_asked x (inl e) = subst (λ y. is_in controls_here y ≡ true) (sym e) refl
-control_asked x (inr (inl e)) = subst (λ y. is_in controls_here y ≡ true) (sym e) refl
-control_asked x (inr (inr e)) = subst (λ y. is_in controls_here y ≡ true) (sym e) refl
 
 -- trees
 
@@ -366,8 +349,8 @@ module _ (xs : List Definition) (root : Text) (refs : List Ref) (b : Known) (is 
           let k = is_row (when (asks_here b.texts w.name) w.second) m e in
           let v = when_true (asks_here b.texts w.name) w.second k.0 k.1 in
           let d = text_there b.texts w.name x w.has_name in
-          let f : is_in controls_here x ≡ true = sym (ap (asks_here b.texts) d.1 ∙ ap text_asks d.2) ∙ v.0 in
-          to_row (a_type (control y x z)) (a_type z) (term_tree z) (λ k i. type_row i) (A.in_controller (asked_control x f)) w.second m w.has_second (ap row_node (v.1) ∙ ap Some (sym k.2))
+          let f : is_asked_here (control_of x) ≡ true = sym (ap (asks_here b.texts) d.1 ∙ ap text_asks d.2) ∙ v.0 in
+          to_row (a_type (control y x z)) (a_type z) (term_tree z) (λ k i. type_row i) (A.in_controller f) w.second m w.has_second (ap row_node (v.1) ∙ ap Some (sym k.2))
   type_step n m (literal (number x)) h l = absurd (no_steps n F.Number (Some x) nothing nothing (λ o p q. refl) h m l)
   type_step n m (literal (text x)) h l = absurd (no_steps n F.Text (Some x) nothing nothing (λ o p q. refl) h m l)
   type_step n m (literal (bytes x)) h l = absurd (no_steps n F.Bytes (Some x) nothing nothing (λ o p q. refl) h m l)

@@ -5,7 +5,8 @@ use Rattle.cddl_language.specs.Substitution.{type_choices, group_choices}
 use Rattle.cddl_language.specs.Choices.{can_choose}
 use Rattle.cddl_language.specs.Kinds.{opened, opens_group, opens_type, is_group, asks_type, names_group, opens, part_of}
 use Rattle.cddl_language.specs.Reach.{Point, at_name, at_unwrapping, at_choice, at_opened_choice, points, group_points, entries_points, entry_points}
-use Rattle.cddl_language.specs.Free.{IsAskedHere, MayBeEmpty}
+use Rattle.cddl_language.specs.Controls.{control_of, is_asked_here}
+use Rattle.cddl_language.specs.Free.{MayBeEmpty}
 use Rattle.cddl_closed.specs.Closed.{AreReached}
 
 -- a type, a group or a part of one; one from which `&` chooses; a reference by itself, after `~` or after `&`
@@ -47,7 +48,7 @@ module _ (ds : List Definition) where
     in_choice : {g : Group} → Asks (a_type (choice_of g)) (chosen_group g)
     in_head : {h : Term} → Asks (a_type (simple_by h)) (a_type h)
     in_left : {a b : Term} {n : Text} → Asks (a_type (control a n b)) (a_type a)
-    in_controller : {a b : Term} {n : Text} → IsAskedHere n → Asks (a_type (control a n b)) (a_type b)
+    in_controller : {a b : Term} {n : Text} → is_asked_here (control_of n) ≡ true → Asks (a_type (control a n b)) (a_type b)
     sole_entries : {es : Entries} → Asks (a_group (sole es)) (some_entries es)
     other_alternatives : {g : Group} {es : Entries} → Asks (a_group (orelse g es)) (a_group g)
     last_alternative : {g : Group} {es : Entries} → Asks (a_group (orelse g es)) (some_entries es)

@@ -1,7 +1,7 @@
 -- The steps that the code takes, by rows and places, and the edges that it makes of them.
-use Rattle.std.specs.Prelude.{◌≡◌, ◌⊎◌, ℕ, zero, suc, ◌+◌, ◌*◌, ltb, cond, Bool, ◌||◌, true, false, List, [], ◌∷◌, ◌++◌, Contains, Option, Some, None, codes, slice_get}
+use Rattle.std.specs.Prelude.{◌≡◌, ◌⊎◌, ℕ, zero, suc, ◌+◌, ◌*◌, ltb, cond, Bool, ◌||◌, true, false, List, [], ◌∷◌, ◌++◌, Contains, Option, Some, None, slice_get}
 use Rattle.cycles.specs.declared.Edge.{Edge}
-use Rattle.cddl_language.specs.Environment.{is_in}
+use Rattle.cddl_language.specs.Controls.{control_of, is_asked_here}
 use Rattle.cddl_language.specs.Terms.{Text}
 use Rattle.cddl_terms.specs.declared.row.Form.{Form}
 use Rattle.cddl_terms.specs.declared.row.Form.TheVariants as F
@@ -95,12 +95,9 @@ opened_row (Some OpeningV.Nothing) = None
 opened_row (Some (OpeningV.Group n)) = Some n
 opened_row (Some (OpeningV.Type n)) = Some n
 
-abbrev pub controls_here : List Text
-controls_here = codes "and" ∷ codes "within" ∷ codes "cborseq" ∷ []
-
 abbrev pub text_asks : Option Text → Bool
 text_asks None = false
-text_asks (Some x) = is_in controls_here x
+text_asks (Some x) = is_asked_here (control_of x)
 
 abbrev pub asks_here : List Text → Option ℕ → Bool
 asks_here texts None = false

@@ -1,8 +1,8 @@
 //! The steps from a node to what it asks, by the form of its row.
 
-ghost use Rattle.std.specs.Prelude.{◌≡◌, nat_eq, option_map};
-ghost use Rattle.std.specs.Cmp.Lexicographic.{pointwise};
-ghost use Rattle.std.specs.List.{list_any};
+ghost use Rattle.std.specs.Prelude.{◌≡◌, option_map};
+ghost use Rattle.cddl_language.specs.Controls as L;
+ghost use Rattle.cddl_texts.specs.Controls.{control_view};
 ghost use Rattle.cddl_recursion.specs.Edges as by;
 ghost use Rattle.cddl_recursion.specs.Views.{known};
 
@@ -11,6 +11,7 @@ use cddl_closed::Closed;
 use cddl_kinds::Kinds;
 use cddl_openings::{Opening, Part};
 use cddl_terms::{Form, Row, Terms};
+use cddl_texts::{Control, control_of};
 
 /// What is known of the rows of a table and of the instances.
 #[derive(Drop)]
@@ -223,10 +224,7 @@ pub(crate) fn opened_row(opening: Option<Opening>) -> Option<u32>
     }
 }
 
-/// The controls whose controller is asked of the same item, or of what is in the same byte string.
-const CONTROLS_HERE: [&str; 3] = ["and", "within", "cborseq"];
-
-/// Whether the controller of a control of this name is asked of the same item.
+/// Whether the controller of a control of this name is asked of the same item, or of all that a byte string holds.
 fn asks_here(terms: &Terms<'_>, name: Option<u32>) -> bool
     ensures { result ≡ by.asks_here terms.now.texts name }
 {
@@ -240,16 +238,15 @@ fn text_asks(text: Option<&str>) -> bool
     ensures { result ≡ by.text_asks (option_map (λ t. t.now) text.entry) }
 {
     match text {
-        Some(text) => is_among(&CONTROLS_HERE, text),
+        Some(text) => is_asked_here(control_of(text)),
         None => false,
     }
 }
 
-/// Whether the name is one of these.
-fn is_among(names: &[&str], name: &str) -> bool
-    ensures { result ≡ list_any (λ n. pointwise nat_eq n.now name.now) names.now }
+fn is_asked_here(control: Option<Control>) -> bool
+    ensures { result ≡ L.is_asked_here (option_map control_view control) }
 {
-    names.iter().any(|known| *known == name)
+    matches!(control, Some(Control::LeftAndRight | Control::HeldSequence))
 }
 
 /// Whether what the reference of the row calls is a group.

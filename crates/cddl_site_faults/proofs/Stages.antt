@@ -16,12 +16,12 @@ told_from s r (a_choice_of_name t f) p h k = absurd k
 told_from s r (a_hash t) p h k = absurd k
 told_from s r (an_operation x (S.range t) y) p h k = absurd k
 told_from s r (an_operation x (S.range_below t) y) p h k = absurd k
-told_from s r (an_operation x (S.control t) y) p h k = record { rule = r; left = x; token = t; right = y; found = h; known = k.0; offset = k.1 }
+told_from s r (an_operation x (S.control t) y) p h k = record { rule = r; left = x; token = t; right = y; found = h; left_out = k.0; offset = k.1 }
 told_from s r (an_entry e) p h k = absurd k
 told_from s r (a_map t g) p h k = absurd k
 
 told_to : (s : Specification) (p : ℕ) → HasNotYet s p → IsTold s (λ r. IsNotYetAt) p
-told_to s p h = record { rule = h.rule; site = an_operation h.left (S.control h.token) h.right; found = h.found; told = (h.known, h.offset) }
+told_to s p h = record { rule = h.rule; site = an_operation h.left (S.control h.token) h.right; found = h.found; told = (h.left_out, h.offset) }
 
 pub not_yets : (s : Specification) (o : Option ℕ) → IsLeast (IsTold s (λ r. IsNotYetAt)) o → IsLeast (HasNotYet s) o
 not_yets s o h = alike (IsTold s (λ r. IsNotYetAt)) (HasNotYet s) (λ p k. told_from s k.rule k.site p k.found k.told) (told_to s) o h

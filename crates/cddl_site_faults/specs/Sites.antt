@@ -3,8 +3,9 @@ use Rattle.std.specs.Prelude.{◌≡◌, ◌≢◌, ℕ, Bool, true, false, if�
 use Rattle.cddl_token.specs.declared.Token.{Token}
 use Rattle.cddl_syntax.specs.Syntax as S
 use Rattle.cddl_language.specs.Terms.{Definition}
-use Rattle.cddl_language.specs.Environment.{definitions_of, is_in, is_socket}
-use Rattle.cddl_language.specs.Faults.{HasName, IsBadHash, Specification, definitions, known_controls, parameter_count}
+use Rattle.cddl_language.specs.Controls.{control_of}
+use Rattle.cddl_language.specs.Environment.{definitions_of, is_socket}
+use Rattle.cddl_language.specs.Faults.{HasName, IsBadHash, Specification, definitions, parameter_count}
 use Rattle.cddl_language.specs.Kinds.{is_group}
 use Rattle.cddl_language.specs.Numbers.{hash_form}
 use Rattle.cddl_language.specs.Reading.{control_name, text_of}
@@ -22,7 +23,7 @@ IsBadHashAt _ at = ⊥
 -- a control that is not known
 
 abbrev pub IsUnknownControlToken : Token → ℕ → Type 0
-IsUnknownControlToken t at = (is_in known_controls (control_name t) ≡ false) × (at ≡ t.start)
+IsUnknownControlToken t at = (control_of (control_name t) ≡ None) × (at ≡ t.start)
 
 abbrev pub IsUnknownOperator : S.Operator → ℕ → Type 0
 IsUnknownOperator (S.control t) at = IsUnknownControlToken t at

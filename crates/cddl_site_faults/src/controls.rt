@@ -13,7 +13,7 @@ use cddl_sites::Site;
 use cddl_sites::laws::found_sites;
 use cddl_survey::{Survey, lesser};
 use cddl_terms::control_name;
-use cddl_texts::is_known_control;
+use cddl_texts::control_of;
 use cddl_token::Token;
 use cddl_tree::{Operator, Tree};
 
@@ -52,9 +52,8 @@ fn unknown_operator(tree: &Tree<'_>, operator: Operator) -> Option<usize>
 fn unknown_control_token(token: &Token<'_>) -> Option<usize>
     ensures { IsLeast (IsUnknownControlToken token.now) result }
 {
-    if is_known_control(control_name(token.text)) {
-        None
-    } else {
-        Some(token.start)
+    match control_of(control_name(token.text)) {
+        Some(_) => None,
+        None => Some(token.start),
     }
 }

@@ -13,7 +13,7 @@ use Rattle.cddl_specification.specs.declared.outcome.Outcome.TheVariants as Outc
 use Rattle.cddl_specification.specs.declared.unread.Unread.{Unread}
 use Rattle.cddl_specification.specs.declared.unread.Unread.TheVariants as UnreadV
 
--- no control that is known; accepted, and the table stands for it
+-- no control that this version does not take; accepted, and the table stands for it
 abbrev pub IsTabled : Specification → Values → Table → Type 0
 IsTabled s worth table = IsLeast (HasNotYet s) None × IsAccepted s worth × (root : Text) × (root_of s ≡ Some root) × StandsFor worth (definitions s) root (language_of table) (top_of table) (rank_of table) (ranks_of table)
 

@@ -1,3 +1,4 @@
+pub mod Controls
 pub mod HashForm
 pub mod Occurrence
 pub mod TagNumber

@@ -1,9 +1,10 @@
-//! What the texts of tokens of CDDL say: numbers, occurrences, tag numbers, forms of `#`, and kinds of names.
+//! What the texts of tokens of CDDL say: numbers, occurrences, tag numbers, forms of `#`, controls, and kinds of names.
 //!
 //! Each call takes any text. Its answer is that of the definitions of `cddl_language`, which say something of texts that no
 //! token has, too.
 #![tactic(auto)]
 
+mod controls;
 mod hashes;
 mod names;
 mod numbers;
@@ -11,8 +12,9 @@ mod occurrences;
 mod parts;
 mod tags;
 
+pub use controls::{Control, control_of};
 pub use hashes::{HashForm, hash_form, is_bad_hash};
-pub use names::{is_group_socket, is_known_control, is_socket};
+pub use names::{is_group_socket, is_socket};
 pub use numbers::uint;
 pub use occurrences::{Occurrence, occurrence_of};
 pub use tags::{TagNumber, tag_number};

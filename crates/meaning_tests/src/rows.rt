@@ -31,6 +31,8 @@ order | round - | a = a / b b = #
 order | round | a = [x: &(~a)]
 order | down down | a = [g] g = (#, ? g)
 order | - round round | a = &(b) b = (y: &(c)) c = (x: &(b))
+order | round | a = # .and a
+order | down | a = # .default a
 asked | from4 whole9 whole12 | a = &(x: 1..2)
 asked | map4 map8 | a = {x: {}}
 asked | map29 map29 map33 map33 | a = [p<int>, p<tstr>] p<t> = {x: {}}
@@ -45,6 +47,8 @@ spliced |  | a = [g] g = (x: 1)
 nodes | 3 3 true | a = [5]
 nodes | 11 0 true | a = {x: int}
 nodes | 9 0 true | a = {int}
+nodes | 4 0 true | a = # .and 5
+nodes | 3 0 true | a = # .default 5
 opened | - | a = [* ~b] b = #6.1(c) c = #
 opened | 5 | a = [~b] b = #
 unwrapped | 5 | a = [~b, &(? 1)] b = #

@@ -1,5 +1,5 @@
 use cddl_texts::{
-    HashForm, TagNumber, hash_form, is_bad_hash, is_group_socket, is_known_control, is_socket,
+    Control, HashForm, TagNumber, control_of, hash_form, is_bad_hash, is_group_socket, is_socket,
     occurrence_of, tag_number, uint,
 };
 
@@ -64,8 +64,9 @@ fn tells_forms_of_hash(rt: HostRuntime) {
 
 #[test]
 fn tells_names(rt: HostRuntime) {
-    assert!(rt; is_known_control("size") && is_known_control("det"));
-    assert!(rt; !is_known_control("sizes") && !is_known_control(""));
+    assert!(rt; control_of("within") == Some(Control::LeftAndRight));
+    assert!(rt; control_of("det") == Some(Control::ByValue));
+    assert!(rt; control_of("sizes").is_none() && control_of("").is_none());
     assert!(rt; is_socket("$a") && is_socket("$$a") && !is_socket("a$"));
     assert!(rt; is_group_socket("$$a") && !is_group_socket("$a"));
 }

@@ -9,7 +9,7 @@ use Rattle.cddl_nodes.specs.declared.form.TagForm.TheVariants as K
 use Rattle.cddl_nodes.specs.declared.form.TypeForm.TheVariants as T
 use Rattle.cddl_nodes.specs.declared.origin.GroupOrigin.TheVariants as GO
 use Rattle.cddl_nodes.specs.declared.origin.TypeOrigin.TheVariants as O
-use Rattle.cddl_nodes.proofs.Forming.{array_case, choice_of_case, choice_of_name_case, hash_case, literal_case, map_case, named_case, nothing_form, or_case, other_case, parens_case, range_below_case, range_case, simple_case, tagged_by_case, tagged_case, unwrapped_case}
+use Rattle.cddl_nodes.proofs.Forming.{array_case, choice_of_case, choice_of_name_case, control_case, hash_case, literal_case, map_case, named_case, or_case, other_case, parens_case, range_below_case, range_case, simple_case, tagged_by_case, tagged_case, unwrapped_case}
 use Rattle.cddl_nodes.proofs.Knowing.{group_known}
 use Rattle.cddl_nodes.proofs.Reaching.{reached_left, reached_right}
 use Rattle.cddl_nodes.proofs.types.row_form.Goals as goal
@@ -59,5 +59,8 @@ returns-in-RangeBelow c = IfOk-weaker c.range_form-in-RangeBelow.result _ _ (λ 
 pub returns-in-Or : goal.returns-in-Or
 returns-in-Or c = IfOk-weaker c.or_form.result _ _ (λ f h s x src is re. or_case c.args.terms.now (λ y. IsTerm c.args.terms.now c.args.row y → IsKnown s y → IsTermForm s c.args.terms.now y f) x (c.in-Or.ensures x is) (λ y z it q. h s y z it q) is re) c.or_form.ensures
 
+pub returns-in-Control : goal.returns-in-Control
+returns-in-Control c s x src is re = control_case c.args.terms.now (λ y. IsKnown s y → IsTermForm s c.args.terms.now y c.control_form.result) x c.in-Control.name c.in-Control.left c.in-Control.right (c.in-Control.ensures x is) (λ n y z e g h q. c.control_form.ensures s n y z e g h q) re
+
 pub returns-in-Other : goal.returns-in-Other
-returns-in-Other c s x src is re = other_case c.args.terms.now (λ y. IsTermForm s c.args.terms.now y c.nothing.result) x (c.in-Other.ensures x is) (λ y z n. nothing_form s c.args.terms.now _ c.nothing.ensures)
+returns-in-Other c s x src is re = other_case c.args.terms.now (λ y. IsTermForm s c.args.terms.now y c.nothing.result) x (c.in-Other.ensures x is)

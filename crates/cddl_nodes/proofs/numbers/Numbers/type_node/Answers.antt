@@ -3,7 +3,7 @@ use Rattle.cddl_meaning.specs.Forms as F
 use Rattle.cddl_table.specs.Nodes.{alternatives_view, tag_number_view, test_view}
 use Rattle.cddl_nodes.specs.Forms.{tag_form_view, type_form_view}
 use Rattle.cddl_nodes.specs.Numbers.{MakesType, NumbersMap, NumbersTypes, keys_of}
-use Rattle.cddl_nodes.proofs.Numbering.{made_array, made_choice, made_map, made_plain, made_ref, made_simple, made_tag}
+use Rattle.cddl_nodes.proofs.Numbering.{made_array, made_both, made_choice, made_map, made_plain, made_ref, made_simple, made_tag}
 use Rattle.cddl_nodes.proofs.numbers.Numbers.type_node.Goals as goal
 
 pub returns-in-Plain : goal.returns-in-Plain
@@ -26,3 +26,6 @@ returns-in_ok-number-in-SimpleBy c = subst (λ f. MakesType (keys_of c.args.self
 
 pub returns-in_ok-alternatives-in-MapOf : goal.returns-in_ok-alternatives-in-MapOf
 returns-in_ok-alternatives-in-MapOf c = subst (λ f. MakesType (keys_of c.args.self.now) (keys_of c.number_map.new.self) (type_form_view f) (F.MapOf (alternatives_view c.in_ok-alternatives-in-MapOf.alternatives.items))) (sym c.in-MapOf.is) (made_map (keys_of c.args.self.now) (keys_of c.number_map.new.self) c.in-MapOf.forms.items c.in_ok-alternatives-in-MapOf.alternatives.items (subst (λ fss. NumbersMap (keys_of c.args.self.now) (keys_of c.number_map.new.self) fss c.in_ok-alternatives-in-MapOf.alternatives.items) c.deref-in-MapOf.ensures.value c.in_ok-alternatives-in-MapOf.ensures))
+
+pub returns-in_ok-right-in-Both : goal.returns-in_ok-right-in-Both
+returns-in_ok-right-in-Both c = subst (λ f. MakesType (keys_of c.args.self.now) (keys_of c.number_type-in-Both-2.new.self) (type_form_view f) (F.Both c.in_ok-left-in-Both.left c.in_ok-right-in-Both.right)) (sym c.in-Both.is) (made_both (keys_of c.args.self.now) (keys_of c.number_type-in-Both.new.self) (keys_of c.number_type-in-Both-2.new.self) c.in-Both.left c.in-Both.right c.in_ok-left-in-Both.left c.in_ok-right-in-Both.right c.in_ok-left-in-Both.ensures c.in_ok-right-in-Both.ensures)

@@ -1,0 +1,34 @@
+-- The controls by their names, given without the `.` (RFC 8610 section 3.8; RFC 9165): the type on the left of a control is
+-- asked of an item first, and the controller on its right as the name says.
+use Rattle.std.specs.Prelude.{Bool, true, false, if◌then◌else◌, List, [], ◌∷◌, Option, Some, None, codes}
+use Rattle.cddl_language.specs.Terms.{Text}
+use Rattle.cddl_language.specs.Environment.{is_in}
+
+pub data Control : Type 0 where
+  -- the controller is not asked (section 3.8.6)
+  left_alone : Control
+  -- the controller is asked of the same item (section 3.8.5)
+  left_and_right : Control
+  -- the controller is asked of the item that a byte string holds, or of the array of those that it holds (section 3.8.4)
+  held_item : Control
+  held_sequence : Control
+  -- a value is compared with the item, counts it, or makes a literal with the other side
+  by_value : Control
+
+abbrev pub controls : List (List Text × Control)
+controls = (codes "default" ∷ [], left_alone) ∷ (codes "and" ∷ codes "within" ∷ [], left_and_right) ∷ (codes "cbor" ∷ [], held_item) ∷ (codes "cborseq" ∷ [], held_sequence) ∷ (codes "size" ∷ codes "eq" ∷ codes "ne" ∷ codes "lt" ∷ codes "le" ∷ codes "gt" ∷ codes "ge" ∷ codes "plus" ∷ codes "cat" ∷ codes "det" ∷ [], by_value) ∷ []
+
+abbrev pub control_among : List (List Text × Control) → Text → Option Control
+control_among [] n = None
+control_among (c ∷ cs) n = if is_in c.0 n then Some c.1 else control_among cs n
+
+-- the control of this name, where it is known
+abbrev pub control_of : Text → Option Control
+control_of n = control_among controls n
+
+-- The controller is asked before an item is surely taken or gone into: of the same item, or of the array of all that a byte
+-- string holds. The one item that a byte string holds is smaller than the string.
+abbrev pub is_asked_here : Option Control → Bool
+is_asked_here (Some left_and_right) = true
+is_asked_here (Some held_sequence) = true
+is_asked_here _ = false
