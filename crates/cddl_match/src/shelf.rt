@@ -22,8 +22,8 @@ pub(crate) struct Cells {
 #[derive(Drop)]
 pub(crate) struct Shelf<'i> {
     pub(crate) alloc: Global,
-    pub(crate) cells: &'i Cells,
-    pub(crate) filled: usize,
+    cells: &'i Cells,
+    filled: usize,
 }
 
 impl Cells {
@@ -73,6 +73,15 @@ fn put(cell: &OnceBox<Item>, item: Box<Item>) -> Option<&Item>
 }
 
 impl<'i> Shelf<'i> {
+    /// No cell is filled yet.
+    pub(crate) fn new(alloc: Global, cells: &'i Cells) -> Shelf<'i> {
+        Shelf {
+            alloc,
+            cells,
+            filled: 0,
+        }
+    }
+
     /// The item, for as long as the cells.
     ///
     /// # Errors
