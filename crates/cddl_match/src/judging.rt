@@ -27,9 +27,9 @@ use cbor_item::{Item, Sound};
 use cddl_table::{Table, TypeId};
 use std::alloc::{AllocError, Global};
 
-/// So many byte strings deep, what they hold is let go as soon as it is judged. The number is small, since each of them
-/// takes room on the program's stack.
-const DEEPEST: u8 = 16;
+/// So many byte strings deep, each is judged by a call of its own. The number is small, since calls take room on the
+/// program's stack.
+const MOST_CALLS: u8 = 16;
 
 /// What the root type of the table says of the item.
 ///
@@ -57,14 +57,15 @@ pub fn verdict(
     let item = item.item();
     let cells = Cells::new(alloc);
     let shelf = Shelf::new(alloc, &cells);
-    match type_reply(table, table.root(), item, steps, DEEPEST, shelf)? {
+    match type_reply(table, table.root(), item, steps, MOST_CALLS, shelf)? {
         None => Ok(Verdict::Spent),
         Some((reply, _)) => Ok(verdict_of(reply)),
     }
 }
 
-/// What a type replies about an item, and how many of the steps are then left; or `None` where more are needed. So deep in
-/// byte strings, what they hold is judged by a call of its own, and let go then; below that it is put on the shelf.
+/// What a type replies about an item, and how many of the steps are then left; or `None` where more are needed. Byte strings
+/// in it are judged by calls of their own as deep as this, and what they hold is let go of then. What deeper ones hold is
+/// put on the shelf.
 #[cycle(judging)]
 fn type_reply<'i>(
     table: &Table,
@@ -161,7 +162,7 @@ fn after_first<'t, 'i>(
     first: Move<'t, 'i>,
 ) -> Result<Move<'t, 'i>, AllocError>
     ensures leads { IfOk result (λ next. (l : Language TypeId GroupId) (q : M.Question TypeId GroupId) (taken : ℕ) → IsOnTheWay l q taken (pending_view pending.entry ∷ stack_of waiting.old.items) (move_view first.entry) → IsOnTheWay l q taken (stack_of waiting.new.items) (move_view next)) }
-    // The loop ends: a step counts for 4, what waits for 2, and a move of rounds or of a sequence for 1.
+    // The loop ends: a step counts for 4, what waits for 2, and a move of rounds, of a sequence or of a reading for 1.
     ensures turns { IfOk result (λ next. 2 * vec_len waiting.new + turns_of (goes_on next) ≤ 2 * vec_len waiting.old + 3) }
 {
     if let Move::Answered(reply) = first {

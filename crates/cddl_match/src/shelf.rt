@@ -1,4 +1,4 @@
-//! Where items that were read in byte strings are kept until a verdict is found, so that questions may refer to them.
+//! Where items that were read in byte strings are kept, so that questions may refer to them.
 
 ghost use Rattle.std.specs.Prelude.{◌≡◌, IfOk, IfSome};
 
@@ -39,12 +39,12 @@ impl Cells {
         let Some(place) = number.checked_add(1) else {
             return Ok(None);
         };
-        let level = place.ilog2();
-        let size = 1 << level;
+        let order = place.ilog2();
+        let size = 1 << order;
         let chunks = self
             .chunks
             .get_or_try_init(move || boxed_cells(alloc, MOST_CHUNKS))?;
-        let Some(chunk) = chunks.get(level as usize) else {
+        let Some(chunk) = chunks.get(order as usize) else {
             return Ok(None);
         };
         let cells = chunk.get_or_try_init(move || boxed_cells(alloc, size))?;
