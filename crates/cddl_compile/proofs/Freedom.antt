@@ -1,8 +1,8 @@
 -- What is free in a form, form by form, and in forms that are alike.
 use Rattle.std.proofs.Common.{◌≡◌, ◌⊎◌, List, inl, inr, refl, sym, subst}
-use Rattle.cddl_meaning.specs.Forms.{Node, Plain, Ref, Choice, ArrayOf, TagOf, SimpleBy, MapOf, Both, Such, Group, Entry, GroupRef, Sequence, Alternatives, Repeat, Language}
-use Rattle.cddl_meaning.specs.Alike.{AlikeAll, none, both, AlikeTypes, plain, refs, choices, arrays, tags, simples, maps, boths, suches, AlikeGroups, entries, group_refs, sequences, alternates, repeats, AreAlike}
-use Rattle.cddl_ranks.specs.Ranked.{MayBeEmpty, named, every_part, one_of_them, no_minimum, no_round, an_empty_round, AllMayBeEmpty, no_part, this_part, OneMayBeEmpty, this_one, another, a_type, a_group, IsFreeInType, same_item, member, all_items, its_number, left_side, right_side, tested, IsFreePart, front, past_empty, IsFreeInGroup, same_list, part, alternative, a_round}
+use Rattle.cddl_meaning.specs.Forms.{Node, Plain, Ref, Choice, ArrayOf, TagOf, SimpleBy, MapOf, Both, Such, Holding, one_item, sequence_of_items, Group, Entry, GroupRef, Sequence, Alternatives, Repeat, Language}
+use Rattle.cddl_meaning.specs.Alike.{AlikeAll, none, both, AlikeTypes, plain, refs, choices, arrays, tags, simples, maps, boths, suches, holdings, AlikeGroups, entries, group_refs, sequences, alternates, repeats, AreAlike}
+use Rattle.cddl_ranks.specs.Ranked.{MayBeEmpty, named, every_part, one_of_them, no_minimum, no_round, an_empty_round, AllMayBeEmpty, no_part, this_part, OneMayBeEmpty, this_one, another, a_type, a_group, IsFreeInType, same_item, member, all_items, its_number, left_side, right_side, tested, holder, sequence_held, IsFreePart, front, past_empty, IsFreeInGroup, same_list, part, alternative, a_round}
 use Rattle.cddl_compile.proofs.Lists.{IsIn, from_contains}
 
 abbrev pub FreeType : {N G : Type 0} → Node N G → N → Type 0
@@ -15,6 +15,8 @@ FreeType (SimpleBy n) m = m ≡ n
 FreeType (MapOf ess) m = ⊥
 FreeType (Both n o) m = (m ≡ n) ⊎ (m ≡ o)
 FreeType (Such n t) m = m ≡ n
+FreeType (Holding n one_item o) m = m ≡ n
+FreeType (Holding n sequence_of_items o) m = (m ≡ n) ⊎ (m ≡ o)
 
 abbrev pub FreeItems : {N G : Type 0} → Node N G → G → Type 0
 FreeItems (Plain t) h = ⊥
@@ -26,6 +28,7 @@ FreeItems (SimpleBy n) h = ⊥
 FreeItems (MapOf ess) h = ⊥
 FreeItems (Both n o) h = ⊥
 FreeItems (Such n t) h = ⊥
+FreeItems (Holding n c o) h = ⊥
 
 abbrev pub FreeGroup : {N G : Type 0} → Language N G → Group N G → G → Type 0
 FreeGroup l (Entry n) h = ⊥
@@ -42,6 +45,9 @@ module _ {N G : Type 0} where
   free_type f m left_side = inl refl
   free_type f m right_side = inr refl
   free_type f m tested = refl
+  free_type f m (holder {c = one_item}) = refl
+  free_type f m (holder {c = sequence_of_items}) = inl refl
+  free_type f m sequence_held = inr refl
 
   pub free_items : (f : Node N G) (g : G) → IsFreeInType f (a_group g) → FreeItems f g
   free_items f g all_items = refl
@@ -69,6 +75,9 @@ module _ {N G M H : Type 0} (l : Language N G) (k : Language M H) (R : N → M �
   free_types_alike f g (boths {n = n} r s) m (inl h) = (n, inl refl, subst (R n) (sym h) r)
   free_types_alike f g (boths {o = o} r s) m (inr h) = (o, inr refl, subst (R o) (sym h) s)
   free_types_alike f g (suches {n = n} r) m h = (n, refl, subst (R n) (sym h) r)
+  free_types_alike f g (holdings {n = n} {c = one_item} r s) m h = (n, refl, subst (R n) (sym h) r)
+  free_types_alike f g (holdings {n = n} {c = sequence_of_items} r s) m (inl h) = (n, inl refl, subst (R n) (sym h) r)
+  free_types_alike f g (holdings {o = o} {c = sequence_of_items} r s) m (inr h) = (o, inr refl, subst (R o) (sym h) s)
 
   pub free_items_alike : (f : Node N G) (g : Node M H) → AlikeTypes R S f g → (b : H) → FreeItems g b → (a : G) × FreeItems f a × S a b
   free_items_alike f g plain b h = absurd h
@@ -80,6 +89,7 @@ module _ {N G M H : Type 0} (l : Language N G) (k : Language M H) (R : N → M �
   free_items_alike f g (maps a) b h = absurd h
   free_items_alike f g (boths r s) b h = absurd h
   free_items_alike f g (suches r) b h = absurd h
+  free_items_alike f g (holdings r s) b h = absurd h
 
   -- What may be empty in the second language may be so in the first.
   mutual

@@ -1,5 +1,5 @@
-pub mod Lemmas
 mod Lists
+mod Held
 mod Turns
 mod Decides
 mod Verdicts

@@ -2,9 +2,9 @@
 -- than the place after the item.
 use Rattle.std.proofs.Common.{ℕ, zero, suc, ◌-◌, ◌≤◌, ◌<◌, ◌^◌, length, List, [], ◌∷◌, Option, Some, None, Bool, true, false, nat_eq, max, arith}
 use Rattle.cbor_data.specs.Value.{Value, Pairs, no_pairs, pair, place_count}
-use Rattle.cddl_meaning.specs.Forms.{Test, members_in, pairs_in, tag_in, simple_in, passes, TagNumber, any_number, exactly, such_as, MapEntry, Node, Plain, Ref, Choice, ArrayOf, TagOf, SimpleBy, MapOf, Both, Such, Most, Group, Entry, GroupRef, Sequence, Alternatives, Repeat, Language}
+use Rattle.cddl_meaning.specs.Forms.{members_in, pairs_in, bytes_in, tag_in, simple_in, passes, TagNumber, any_number, exactly, such_as, Content, MapEntry, Node, Plain, Ref, Choice, ArrayOf, TagOf, SimpleBy, MapOf, Both, Such, Holding, Most, Group, Entry, GroupRef, Sequence, Alternatives, Repeat, Language}
 use Rattle.cddl_meaning.specs.Judges.{Answer, Yes, No, Reply, Takes, Fails, is_over, one_less, Fate, BelongsTo, Stray, by_counts, shown_by}
-use Rattle.cddl_meaning.specs.Moves.{Question, OfType, OfGroup, Tally, tallied, fresh, first_of, enough_of, tally_says, answer_reply, either_reply, Sorting, Answered, Replies, replies, LeadsTo, at_once, after, tries, plus, test_reply, such_reply, next_way, map_move, next_pair, sorted, next_entry, after_value, next_member, next_part, next_alternative, next_round, repetition, after_round, end_of_rounds, array_move, content_move, tag_move, simple_move, type_move, entry_move, group_move}
+use Rattle.cddl_meaning.specs.Moves.{Question, OfType, OfGroup, Tally, tallied, fresh, first_of, enough_of, tally_says, answer_reply, either_reply, Sorting, Answered, Replies, replies, LeadsTo, at_once, after, tries, reads, reads_nothing, read_move, plus, test_reply, such_reply, next_way, map_move, next_pair, sorted, next_entry, after_value, next_member, next_part, next_alternative, next_round, repetition, after_round, end_of_rounds, array_move, content_move, tag_move, simple_move, type_move, entry_move, group_move}
 
 -- the greatest place that failed
 abbrev pub far_of : Reply → ℕ
@@ -196,6 +196,12 @@ module _ {N G : Type 0} (l : Language N G) where
   map_shape n show ess p None h b at_once = says_no (omega arith)
   map_shape n show ess p (Some ps) {w = w} {r = r} h b d = ways_shape n show ess p ps (Fails p) w r h b (says_no (omega arith)) d
 
+  read_shape : (c : Content) (m : N) (p next : ℕ) (o : Option (List ℕ)) → {w : ℕ} {r : Reply} → LeadsTo l (read_move c m p next o) r w → IsTypeReply p r
+  read_shape c m p next None at_once = says_no (omega arith)
+  read_shape c m p next (Some b) (reads h (after {s = Takes left after_it far} d f)) = kept_reply f says_yes
+  read_shape c m p next (Some b) (reads h (after {s = Fails far} d f)) = kept_reply f (says_no (omega arith))
+  read_shape c m p next (Some b) (reads_nothing h) = says_no (omega arith)
+
   node_shape : (n : ℕ) → TypesShow n → (f : Node N G) (p : ℕ) (x : Value) → {w : ℕ} {r : Reply} → p < 2 ^ 64 → w ≤ n → LeadsTo l (type_move f p x) r w → IsTypeReply p r
   node_shape n show (Plain t) p x h b d = test_shape (passes t x) p x d
   node_shape n show (Ref m) p x h b (after {s = s} {v = v} d f) = kept_reply f (show m p v x s h (omega (arith, b)) d)
@@ -208,6 +214,8 @@ module _ {N G : Type 0} (l : Language N G) where
   node_shape n show (Both m o) p x h b (after {s = Fails far} {v = v} d f) = kept_reply f (show m p v x (Fails far) h (omega (arith, b)) d)
   node_shape n show (Such m t) p x h b (after {s = Takes left next far} d f) = such_shape (passes t x) p next f
   node_shape n show (Such m t) p x h b (after {s = Fails far} {v = v} d f) = kept_reply f (show m p v x (Fails far) h (omega (arith, b)) d)
+  node_shape n show (Holding m c o) p x h b (after {s = Takes left next far} d f) = read_shape c o p next (bytes_in x) f
+  node_shape n show (Holding m c o) p x h b (after {s = Fails far} {v = v} d f) = kept_reply f (show m p v x (Fails far) h (omega (arith, b)) d)
 
   types_show : (n : ℕ) → TypesShow n
   types_show zero m p w x r h b d = absurd (omega (arith, b, positive d))

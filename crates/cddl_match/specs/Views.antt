@@ -8,7 +8,7 @@ use Rattle.cddl_meaning.specs.Judges as J
 use Rattle.cddl_meaning.specs.Moves as M
 use Rattle.cddl_table.specs.declared.nodes.TypeId.{TypeId}
 use Rattle.cddl_table.specs.declared.nodes.GroupId.{GroupId}
-use Rattle.cddl_table.specs.Nodes.{alternatives_view, entries_view, entry_view, most_view, test_view}
+use Rattle.cddl_table.specs.Nodes.{alternatives_view, content_view, entries_view, entry_view, most_view, test_view}
 use Rattle.cddl_match.specs.declared.questions.Subject.{Subject}
 use Rattle.cddl_match.specs.declared.questions.Subject.TheVariants as S
 use Rattle.cddl_match.specs.declared.questions.Question.{Question}
@@ -23,8 +23,9 @@ use Rattle.cddl_match.specs.declared.questions.Pending.{Pending}
 use Rattle.cddl_match.specs.declared.questions.Pending.TheVariants as P
 use Rattle.cddl_match.specs.declared.questions.Rounds.{Rounds}
 use Rattle.cddl_match.specs.declared.questions.Parts.{Parts}
+use Rattle.cddl_match.specs.declared.questions.Reading.{Reading}
 use Rattle.cddl_match.specs.declared.questions.Move.{Move}
-use Rattle.cddl_match.specs.declared.questions.Move.TheVariants.{Answered, Asks, Repeats, GoesOn, Tries}
+use Rattle.cddl_match.specs.declared.questions.Move.TheVariants.{Answered, Asks, Repeats, GoesOn, Tries, Reads}
 use Rattle.cddl_match.specs.declared.answers.Verdict.{Verdict}
 use Rattle.cddl_match.specs.declared.answers.Verdict.TheVariants.{Yes, No}
 
@@ -89,6 +90,8 @@ pending_view (P.Key e es s) = M.InKey (entry_view e.now) (entries_view es.now) (
 pending_view (P.Value e es s) = M.InValue (entry_view e.now) (entries_view es.now) (sorting_view s)
 pending_view (P.Left m p x) = M.InLeft m p (subject_view x)
 pending_view (P.Such t p x) = M.InSuch (test_view t.now) p (subject_view x)
+pending_view (P.Holder c m p x) = M.InHolder (content_view c) m p (subject_view x)
+pending_view (P.Held p next) = M.InHeld p next
 
 abbrev pub rounds_move : Rounds → M.Move TypeId GroupId
 rounds_move r = M.repetition r.least (most_view r.most) r.group r.base r.place (values r.items.now) r.far
@@ -96,20 +99,25 @@ rounds_move r = M.repetition r.least (most_view r.most) r.group r.base r.place (
 abbrev pub parts_move : Parts → M.Move TypeId GroupId
 parts_move p = M.next_part p.parts.now p.base p.place (values p.items.now) p.far
 
+abbrev pub reading_move : Reading → M.Move TypeId GroupId
+reading_move r = M.Reads (content_view r.content) r.bytes.now r.node r.place r.next
+
 abbrev pub move_view : Move → M.Move TypeId GroupId
 move_view (Answered r) = M.Answered (reply_view r)
 move_view (Asks q o) = M.Asks (question_view q) (pending_view o)
 move_view (Repeats r) = rounds_move r
 move_view (GoesOn p) = parts_move p
 move_view (Tries s) = M.Tries (sorting_view s)
+move_view (Reads r) = reading_move r
 
--- whether a move is of rounds or of a sequence, of which nothing was asked yet
+-- whether a move is of rounds or of a sequence, of which nothing was asked yet, or of a byte string that was not read yet
 abbrev pub goes_on : Move → Bool
 goes_on (Answered r) = false
 goes_on (Asks q o) = false
 goes_on (Repeats r) = true
 goes_on (GoesOn p) = true
 goes_on (Tries s) = false
+goes_on (Reads r) = true
 
 -- The turns that a move takes before something is asked or answered.
 abbrev pub turns_of : Bool → ℕ

@@ -2,6 +2,7 @@
 //! they like.
 
 ghost use Rattle.std.specs.Prelude.{◌≡◌, ◌<◌, ◌≤◌, ◌+◌, ◌*◌, ◌∷◌, ℕ, IfOk, vec_len};
+ghost use Rattle.cbor_data.specs.Sound.{IsSound};
 ghost use Rattle.cbor_item.specs.View.{view};
 ghost use Rattle.cddl_meaning.specs.Forms.{Language};
 ghost use Rattle.cddl_meaning.specs.Judges.{Answer};
@@ -19,6 +20,7 @@ use crate::looking::{Ahead, look_ahead, move_ahead};
 use crate::moves::next_move;
 use crate::pairs::pairs_ahead;
 use crate::questions::{Move, Pending, Question, Reply, Subject};
+use crate::shelf::{Cells, Shelf};
 use cbor_item::{Item, Sound};
 use cddl_table::{Table, TypeId};
 use std::alloc::{AllocError, Global};
@@ -30,7 +32,8 @@ use std::alloc::{AllocError, Global};
 ///
 /// # Errors
 ///
-/// `AllocError` where there is no memory for the questions that wait, or for the tally of a map's pairs.
+/// `AllocError` where there is no memory for the questions that wait, for the tally of a map's pairs, or for what byte
+/// strings hold.
 pub fn verdict(
     alloc: Global,
     table: &Table,
@@ -45,9 +48,33 @@ pub fn verdict(
     // Where the steps are spent, more judgements are in it.
     ensures spent { result ≡ Ok Verdict.Spent → (a : Answer) (w : ℕ) → RootSays table.now item.now a w → steps < w }
 {
+    let item = item.item();
+    let cells = Cells::new(alloc);
+    let shelf = Shelf {
+        alloc,
+        cells: &cells,
+        filled: 0,
+    };
+    judged(alloc, table, item, steps, shelf)
+}
+
+/// The same, with a shelf for what byte strings hold.
+fn judged<'i>(
+    alloc: Global,
+    table: &Table,
+    item: &'i Item,
+    steps: u64,
+    shelf: Shelf<'i>,
+) -> Result<Verdict, AllocError>
+    requires { IsSound (view item.now) }
+    ensures yes { result ≡ Ok Verdict.Yes → (w : ℕ) × RootSays table.now (view item.now) Answer.Yes w × (w ≤ steps) }
+    ensures no { (place : ℕ) → result ≡ Ok (Verdict.No place) → (w : ℕ) × RootSays table.now (view item.now) (Answer.No place) w × (w ≤ steps) }
+    ensures spent { result ≡ Ok Verdict.Spent → (a : Answer) (w : ℕ) → RootSays table.now (view item.now) a w → steps < w }
+{
+    let mut shelf = shelf;
     let mut left = steps;
     let mut waiting: Vec<Pending<'_, '_>> = Vec::new(alloc);
-    let mut next = Move::Asks(first_question(table.root(), item.item()), Pending::Ref);
+    let mut next = Move::Asks(first_question(table.root(), item), Pending::Ref);
     loop {
         match next {
             Move::Asks(question, pending) => {
@@ -71,8 +98,8 @@ pub fn verdict(
                     next = first;
                 }
             },
-            Move::Repeats(_) | Move::GoesOn(_) => {
-                let Ahead { next: first, asked } = move_ahead(table, next, left);
+            Move::Repeats(_) | Move::GoesOn(_) | Move::Reads(_) => {
+                let Ahead { next: first, asked } = move_ahead(table, &mut shelf, next, left)?;
                 left -= asked;
                 next = first;
             }

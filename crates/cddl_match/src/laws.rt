@@ -2,6 +2,7 @@
 
 ghost use Rattle.std.specs.Prelude.{◌≡◌, ◌+◌, ◌<◌, ◌^◌, ℕ};
 ghost use Rattle.cbor_data.specs.Value.{Value, place_count};
+ghost use Rattle.cddl_meaning.specs.Size.{size};
 ghost use Rattle.cddl_meaning.specs.Forms.{Language, Node};
 ghost use Rattle.cddl_meaning.specs.Judges.{Answer, Says};
 ghost use Rattle.cddl_ranks.specs.Decided.{IsDecided};
@@ -10,17 +11,16 @@ ghost use Rattle.cddl_table.specs.declared.nodes.GroupId.{GroupId};
 ghost use Rattle.cddl_table.specs.declared.nodes.TypeId.{TypeId};
 ghost use Rattle.cddl_table.specs.declared.table.Table.{Table};
 
-/// A type says one thing at most of an item whose places have numbers below 2^64, and in one number of judgements; so does
-/// a table. It does nothing.
+/// A type says one thing at most of an item whose place and size are below 2^64 together, and in one number of judgements;
+/// so does a table. It does nothing.
 pub fn one_answer()
-    ensures node { (l : Language TypeId GroupId) (n : Node TypeId GroupId) (p v w : ℕ) (x : Value) (a b : Answer) → p + place_count x < 2 ^ 64 → Says l n p x a v → Says l n p x b w → (b ≡ a) × (w ≡ v) }
-    ensures table { (table : Table) (x : Value) (a b : Answer) (v w : ℕ) → place_count x < 2 ^ 64 → RootSays table x a v → RootSays table x b w → (b ≡ a) × (w ≡ v) }
+    ensures node { (l : Language TypeId GroupId) (n : Node TypeId GroupId) (p v w : ℕ) (x : Value) (a b : Answer) → p + size x < 2 ^ 64 → Says l n p x a v → Says l n p x b w → (b ≡ a) × (w ≡ v) }
+    ensures table { (table : Table) (x : Value) (a b : Answer) (v w : ℕ) → size x < 2 ^ 64 → RootSays table x a v → RootSays table x b w → (b ≡ a) × (w ≡ v) }
 {}
 
-/// A table says exactly one thing of an item whose places have numbers below 2^64, and in one number of judgements. It does
-/// nothing.
+/// A table says exactly one thing of an item whose size is below 2^64, and in one number of judgements. It does nothing.
 pub fn decided()
-    ensures { (table : Table) (x : Value) → place_count x < 2 ^ 64 → IsDecided (language_of table) (root_form table) 0 x }
+    ensures { (table : Table) (x : Value) → size x < 2 ^ 64 → IsDecided (language_of table) (root_form table) 0 x }
 {}
 
 /// Where a table says no of an item, that shows at a place in it. It does nothing.

@@ -10,6 +10,8 @@ mod moves;
 mod pairs;
 mod places;
 mod questions;
+mod reading;
+mod shelf;
 mod sorting;
 mod telling;
 mod tested;

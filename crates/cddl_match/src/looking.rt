@@ -7,6 +7,7 @@ ghost use Rattle.cddl_match.specs.Views.{goes_on, move_view, parts_move, questio
 ghost use Rattle.cddl_table.specs.Language.{language_of};
 ghost use Rattle.cddl_table.specs.Nodes.{type_view};
 ghost use Rattle.cddl_table.specs.declared.nodes.GroupId.{GroupId};
+ghost use Rattle.cddl_match.specs.declared.questions.Reading.{Reading};
 ghost use Rattle.cddl_match.specs.declared.questions.Rounds.{Rounds};
 
 use crate::behind::{group_behind, type_behind};
@@ -15,6 +16,8 @@ use crate::moves::{
     next_in_repeat, next_in_sequence, said_reply,
 };
 use crate::questions::{Move, Parts, Question, Reply, Rounds, Subject};
+use crate::reading::reading_ahead;
+use crate::shelf::Shelf;
 use crate::sorting::alternative_move;
 use crate::telling::{DEEPEST, form_tells};
 use cbor_item::Item;
@@ -223,6 +226,7 @@ fn rounds_ahead<'t, 'i>(table: &'t Table, rounds: Rounds<'i>, steps: u64) -> Ahe
 fn part_told<'t, 'i>(table: &Table, left: Parts<'t, 'i>, steps: u64) -> Option<(Move<'t, 'i>, u64)>
     ensures comes { IfSome result (λ it. ComesTo (language_of table.now) (parts_move left.entry) (move_view it.0) it.1) }
     ensures kind { IfSome result (λ it. (rounds : Rounds) → it.0 ≡ Move.Repeats rounds → ⊥) }
+    ensures reads { IfSome result (λ it. (reading : Reading) → it.0 ≡ Move.Reads reading → ⊥) }
     ensures within { IfSome result (λ it. (1 ≤ it.1) × (it.1 ≤ steps)) }
 {
     let (part, others) = left.parts.split_first()?;
@@ -251,15 +255,29 @@ fn parts_ahead<'t, 'i>(table: &'t Table, parts: Parts<'t, 'i>, steps: u64) -> Ah
     }
 }
 
-/// What a move comes to: rounds and sequences go on as far as tests alone tell them and the steps go.
-pub(crate) fn move_ahead<'t, 'i>(table: &'t Table, next: Move<'t, 'i>, steps: u64) -> Ahead<'t, 'i>
-    ensures comes { ComesTo (language_of table.now) (move_view next.entry) (move_view result.next) result.asked }
-    ensures within { result.asked ≤ steps }
-    ensures turns { goes_on result.next ≡ false }
+/// What a move comes to: rounds and sequences go on as far as tests alone tell them and the steps go, and a byte string is
+/// read.
+///
+/// # Errors
+///
+/// `AllocError` where there is no memory for what a byte string holds.
+pub(crate) fn move_ahead<'t, 'i>(
+    table: &'t Table,
+    shelf: &mut Shelf<'i>,
+    next: Move<'t, 'i>,
+    steps: u64,
+) -> Result<Ahead<'t, 'i>, AllocError>
+    ensures comes { IfOk result (λ it. ComesTo (language_of table.now) (move_view next.entry) (move_view it.next) it.asked) }
+    ensures within { IfOk result (λ it. it.asked ≤ steps) }
+    ensures turns { IfOk result (λ it. goes_on it.next ≡ false) }
 {
     match next {
-        Move::Repeats(rounds) => rounds_ahead(table, rounds, steps),
-        Move::GoesOn(parts) => parts_ahead(table, parts, steps),
-        Move::Answered(_) | Move::Asks(..) | Move::Tries(_) => Ahead { next, asked: 0 },
+        Move::Repeats(rounds) => Ok(rounds_ahead(table, rounds, steps)),
+        Move::GoesOn(parts) => Ok(parts_ahead(table, parts, steps)),
+        Move::Reads(reading) => Ok(Ahead {
+            next: reading_ahead(shelf, reading)?,
+            asked: 0,
+        }),
+        Move::Answered(_) | Move::Asks(..) | Move::Tries(_) => Ok(Ahead { next, asked: 0 }),
     }
 }

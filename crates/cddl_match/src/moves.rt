@@ -3,13 +3,15 @@
 ghost use Rattle.std.specs.Prelude.{◌≡◌, false, true};
 ghost use Rattle.cbor_item.specs.View.{view};
 ghost use Rattle.cddl_meaning.specs.Judges.{is_over, one_less};
-ghost use Rattle.cddl_meaning.specs.Forms.{Both, Such, members_in, tag_in, simple_in, passes};
+ghost use Rattle.cddl_meaning.specs.Forms.{Both, Such, Holding, bytes_in, members_in, tag_in, simple_in, passes};
 ghost use Rattle.cddl_meaning.specs.Moves as M;
 ghost use Rattle.cddl_meaning.specs.Moves.{
   InAlternatives,
   InChoice,
   InEntry,
   InHead,
+  InHeld,
+  InHolder,
   InLeft,
   InSequence,
   InSimple,
@@ -26,6 +28,7 @@ ghost use Rattle.cddl_meaning.specs.Moves.{
   next_alternative,
   next_member,
   next_move,
+  read_move,
   simple_move,
   such_reply,
   tag_move,
@@ -36,18 +39,19 @@ ghost use Rattle.cddl_meaning.specs.Moves.{
 ghost use Rattle.cddl_match.specs.Views.{goes_on, parts_move, pending_view, move_view, reply_view, rounds_move, subject_view, values};
 ghost use Rattle.cddl_match.specs.declared.questions.Pending.TheVariants as P;
 ghost use Rattle.cddl_match.specs.declared.questions.Parts.{Parts};
+ghost use Rattle.cddl_match.specs.declared.questions.Reading.{Reading};
 ghost use Rattle.cddl_match.specs.declared.questions.Rounds.{Rounds};
 ghost use Rattle.cddl_table.specs.declared.nodes.GroupId.{GroupId};
 ghost use Rattle.cddl_table.specs.declared.nodes.TypeId.{TypeId};
 ghost use Rattle.cddl_table.specs.Language.{language_of};
-ghost use Rattle.cddl_table.specs.Nodes.{group_view, most_view, tag_number_view, test_view, type_view};
+ghost use Rattle.cddl_table.specs.Nodes.{content_view, group_view, most_view, tag_number_view, test_view, type_view};
 
 use crate::places::{place_after, plus};
-use crate::questions::{Move, Parts, Pending, Question, Reply, Rounds, Subject};
+use crate::questions::{Move, Parts, Pending, Question, Reading, Reply, Rounds, Subject};
 use crate::sorting::{map_move, next_in_key, next_in_map, next_in_value};
 use crate::tested::passes;
 use cbor_item::Item;
-use cddl_table::{Group, GroupId, Most, Node, Table, TagNumber, Test, TypeId};
+use cddl_table::{Content, Group, GroupId, Most, Node, Table, TagNumber, Test, TypeId};
 
 /// A yes. It tells the place after the item, so that nobody counts the item's places a second time.
 fn yes_reply<'i>(place: usize, subject: Subject<'i>) -> Reply<'i>
@@ -365,6 +369,31 @@ fn such_move<'t, 'i>(
     )
 }
 
+/// A byte string's own type is asked before what the string holds.
+fn holding_move<'t, 'i>(
+    of: TypeId,
+    content: Content,
+    node: TypeId,
+    place: usize,
+    subject: Subject<'i>,
+) -> Move<'t, 'i>
+    ensures { move_view result ≡ type_move (Holding of (content_view content) node) place (subject_view subject.entry) }
+{
+    Move::Asks(
+        Question::OfType {
+            node: of,
+            place,
+            subject,
+        },
+        Pending::Holder {
+            content,
+            node,
+            place,
+            subject,
+        },
+    )
+}
+
 /// What a type asks first, or its reply.
 fn type_move<'t, 'i>(node: &'t Node, place: usize, subject: Subject<'i>) -> Move<'t, 'i>
     ensures { move_view result ≡ type_move (type_view node.now) place (subject_view subject.entry) }
@@ -388,6 +417,9 @@ fn type_move<'t, 'i>(node: &'t Node, place: usize, subject: Subject<'i>) -> Move
         Node::MapOf(alternatives) => return map_move(alternatives, place, subject),
         Node::Both(left, right) => return both_move(*left, *right, place, subject),
         Node::Such(of, test) => return such_move(*of, test, place, subject),
+        Node::Holding(of, content, node) => {
+            return holding_move(*of, *content, *node, place, subject)
+        }
     }
 }
 
@@ -604,6 +636,58 @@ fn next_in_such<'t, 'i>(
     }
 }
 
+/// A byte string is read. Another item holds nothing.
+fn read_move<'t, 'i>(
+    content: Content,
+    node: TypeId,
+    place: usize,
+    next: usize,
+    subject: Subject<'i>,
+) -> Move<'t, 'i>
+    ensures { move_view result ≡ read_move (content_view content) node place next (bytes_in (subject_view subject.entry)) }
+{
+    match subject {
+        Subject::Item(Item::Bytes(bytes)) => Move::Reads(Reading {
+            content,
+            bytes,
+            node,
+            place,
+            next,
+        }),
+        _ => Move::Answered(Reply::Fails { far: place }),
+    }
+}
+
+/// A byte string's own type has said yes, and what the string holds is asked about; or it has said no.
+fn next_in_holder<'t, 'i>(
+    content: Content,
+    node: TypeId,
+    place: usize,
+    subject: Subject<'i>,
+    reply: Reply<'i>,
+) -> Move<'t, 'i>
+    ensures { move_view result ≡ next_move (InHolder (content_view content) node place (subject_view subject.entry)) (reply_view reply.entry) }
+{
+    match reply {
+        Reply::Takes { next, .. } => return read_move(content, node, place, next, subject),
+        Reply::Fails { far } => return Move::Answered(Reply::Fails { far }),
+    }
+}
+
+/// What a byte string holds is as it has to be; or it is not, which shows at the string.
+fn held_reply<'i>(place: usize, next: usize, reply: Reply<'i>) -> Reply<'i>
+    ensures { M.Answered (reply_view result) ≡ next_move {N = TypeId} {G = GroupId} (InHeld place next) (reply_view reply.entry) }
+{
+    match reply {
+        Reply::Takes { .. } => Reply::Takes {
+            left: &[],
+            next,
+            far: 0,
+        },
+        Reply::Fails { .. } => Reply::Fails { far: place },
+    }
+}
+
 /// What an entry does whose item has matched, or not.
 pub(crate) fn entry_reply<'i>(base: usize, rest: &'i [Item], reply: Reply<'i>) -> Reply<'i>
     ensures { M.Answered (reply_view result) ≡ next_move {N = TypeId} {G = GroupId} (InEntry base (values rest.now)) (reply_view reply.entry) }
@@ -630,6 +714,7 @@ pub(crate) fn next_in_sequence<'t, 'i>(
     ensures next { move_view result ≡ next_move (InSequence parts.now base far) (reply_view reply.entry) }
     ensures parts { (left : Parts) → result ≡ Move.GoesOn left → left.parts.now ≡ parts.now }
     ensures kind { (rounds : Rounds) → result ≡ Move.Repeats rounds → ⊥ }
+    ensures reads { (reading : Reading) → result ≡ Move.Reads reading → ⊥ }
 {
     match reply {
         Reply::Takes {
@@ -693,6 +778,7 @@ pub(crate) fn next_in_repeat<'t, 'i>(rounds: Rounds<'i>, reply: Reply<'i>) -> Mo
     ensures next { move_view result ≡ next_move (pending_view (P.Repeat rounds.entry)) (reply_view reply.entry) }
     ensures group { (others : Rounds) → result ≡ Move.Repeats others → others.group ≡ rounds.entry.group }
     ensures kind { (parts : Parts) → result ≡ Move.GoesOn parts → ⊥ }
+    ensures reads { (reading : Reading) → result ≡ Move.Reads reading → ⊥ }
 {
     let Rounds { place, items, .. } = rounds;
     let (left, next, far) = match reply {
@@ -775,5 +861,12 @@ pub(crate) fn next_move<'t, 'i>(pending: Pending<'t, 'i>, reply: Reply<'i>) -> M
             place,
             subject,
         } => return next_in_such(test, place, subject, reply),
+        Pending::Holder {
+            content,
+            node,
+            place,
+            subject,
+        } => return next_in_holder(content, node, place, subject, reply),
+        Pending::Held { place, next } => return Move::Answered(held_reply(place, next, reply)),
     }
 }

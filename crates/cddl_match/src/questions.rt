@@ -1,7 +1,7 @@
 //! Questions, the replies to them, and what waits for a reply.
 
 use cbor_item::Item;
-use cddl_table::{GroupId, MapEntry, Most, Test, TypeId};
+use cddl_table::{Content, GroupId, MapEntry, Most, Test, TypeId};
 
 /// What a type is asked of.
 #[derive(Clone, Copy)]
@@ -174,6 +174,31 @@ pub(crate) enum Pending<'t, 'i> {
         place: usize,
         subject: Subject<'i>,
     },
+    /// A byte string's own type, and the one that is asked of what the string holds, if the first says yes.
+    Holder {
+        content: Content,
+        node: TypeId,
+        place: usize,
+        subject: Subject<'i>,
+    },
+    /// A byte string whose content was asked about, and the place after it.
+    Held {
+        place: usize,
+        next: usize,
+    },
+}
+
+/// A byte string that is to be read.
+#[derive(Clone, Copy)]
+pub(crate) struct Reading<'i> {
+    pub(crate) content: Content,
+    pub(crate) bytes: &'i [u8],
+    /// What is asked of what the string holds.
+    pub(crate) node: TypeId,
+    /// The place of the string.
+    pub(crate) place: usize,
+    /// The place after it.
+    pub(crate) next: usize,
 }
 
 /// How many more rounds of a group a repetition takes, and of what.
@@ -216,4 +241,6 @@ pub(crate) enum Move<'t, 'i> {
     GoesOn(Parts<'t, 'i>),
     /// A pair is tried with the entries of its alternative.
     Tries(Sorting<'t, 'i>),
+    /// A type is asked of what a byte string holds.
+    Reads(Reading<'i>),
 }

@@ -1,8 +1,10 @@
--- What a group takes ends where it says.
+-- What a group takes ends where it says, and what it leaves is no larger.
 use Rattle.std.proofs.Common.{◌≡◌, ℕ, suc, ◌+◌, ◌≤◌, List, [], ◌∷◌, refl, sym, ap, arith}
 use Rattle.cbor_data.specs.Value.{Value, uint, nint, bytes, text, array, pairs, tag, simple, float, Values, no_values, value, Pairs, place_count, values_place_count, pairs_place_count}
 use Rattle.cddl_meaning.specs.Forms.{list_of, members_in, pairs_in, tag_in, simple_in, Group, Most, Language}
 use Rattle.cddl_meaning.specs.Judges.{Takes, Does, matches, group_ref, sequence, alternatives, repeat, DoesEach, all_done, and_then, DoesFirst, one_takes, or_else, Repeats, full, enough, empty_round, round}
+use Rattle.cddl_meaning.specs.Size.{list_size}
+use Rattle.cddl_meaning.proofs.Sizes.{few_places}
 use Rattle.std.specs.Prelude.{Option, Some, None}
 
 -- how many places items have together
@@ -75,3 +77,26 @@ module _ {N G : Type 0} (l : Language N G) where
     covers_rounds (enough i d) = refl
     covers_rounds (empty_round i d e) = refl
     covers_rounds (round i d n e) = omega (arith, covers d, covers_rounds e)
+
+  -- how far the places of what is left may go
+  mutual
+    pub leaves : {f : Group N G} {p q b far w : ℕ} {xs left : List Value} → Does l f p q xs (Takes left b far) w → b + list_size left ≤ q + list_size xs
+    leaves (matches {x = x} d) = omega (arith, few_places x)
+    leaves (group_ref d) = leaves d
+    leaves (sequence d) = leaves_each d
+    leaves (alternatives d) = leaves_first d
+    leaves (repeat d) = leaves_rounds d
+
+    leaves_each : {gs : List G} {p q far b later w : ℕ} {xs left : List Value} → DoesEach l gs p q xs far (Takes left b later) w → b + list_size left ≤ q + list_size xs
+    leaves_each all_done = omega arith
+    leaves_each (and_then d e) = omega (arith, leaves d, leaves_each e)
+
+    leaves_first : {gs : List G} {p q far b later w : ℕ} {xs left : List Value} → DoesFirst l gs p q xs far (Takes left b later) w → b + list_size left ≤ q + list_size xs
+    leaves_first (one_takes d) = leaves d
+    leaves_first (or_else d e) = leaves_first e
+
+    leaves_rounds : {least : ℕ} {most : Most} {g : G} {p q far b later w : ℕ} {xs left : List Value} → Repeats l least most g p q xs far (Takes left b later) w → b + list_size left ≤ q + list_size xs
+    leaves_rounds (full i) = omega arith
+    leaves_rounds (enough i d) = omega arith
+    leaves_rounds (empty_round i d e) = omega arith
+    leaves_rounds (round i d n e) = omega (arith, leaves d, leaves_rounds e)

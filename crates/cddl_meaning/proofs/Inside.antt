@@ -2,7 +2,7 @@
 use Rattle.std.proofs.Common.{◌≡◌, ℕ, suc, ◌+◌, ◌<◌, ◌≤◌, List, [], ◌∷◌, Option, Some, None, Bool, true, false, arith}
 use Rattle.cbor_data.specs.Value.{Value, place_count, Pairs, pairs_place_count}
 use Rattle.cddl_meaning.specs.Forms.{MapEntry, Node, Most, Group, Language}
-use Rattle.cddl_meaning.specs.Judges.{Answer, Yes, No, Reply, Takes, Fails, over, failed, Says, missed, ref, choice, no_array, array, no_tag, tagged, other_tag, no_simple, other_simple, no_map, map, left_no, left_yes, none_such, such_missed, Fate, BelongsTo, Stray, are_enough, first_stray, first_failing, by_counts, shown_by, alternative_says, either, Maps, no_alternative, alternative, Sorts, all_sorted, sort, Belongs, nowhere, other_key, here, cut_here, handed_on, Chooses, no_more, not_this, Does, missing, matches, differs, group_ref, sequence, alternatives, repeat, DoesEach, all_done, one_fails, and_then, DoesFirst, all_fail, one_takes, or_else, Repeats, full, too_few, enough, empty_round, round}
+use Rattle.cddl_meaning.specs.Judges.{Answer, Yes, No, Reply, Takes, Fails, over, failed, Says, missed, ref, choice, no_array, array, no_tag, tagged, other_tag, no_simple, other_simple, no_map, map, left_no, left_yes, none_such, such_missed, holder_no, no_string, holds_nothing, held_no, Fate, BelongsTo, Stray, are_enough, first_stray, first_failing, by_counts, shown_by, alternative_says, either, Maps, no_alternative, alternative, Sorts, all_sorted, sort, Belongs, nowhere, other_key, here, cut_here, handed_on, Chooses, no_more, not_this, Does, missing, matches, differs, group_ref, sequence, alternatives, repeat, DoesEach, all_done, one_fails, and_then, DoesFirst, all_fail, one_takes, or_else, Repeats, full, too_few, enough, empty_round, round}
 use Rattle.cddl_meaning.proofs.Covers.{places_of, covers, any_places, array_places, map_places, tag_places}
 
 -- between the array and the end of its items, and what is left begins no earlier than before
@@ -84,6 +84,10 @@ module _ {N G : Type 0} (l : Language N G) where
     says_inside (left_yes d e) = says_inside e
     says_inside (none_such d) = says_inside d
     says_inside (such_missed {x = x} d e) = (omega arith, omega (arith, any_places x))
+    says_inside (holder_no d) = says_inside d
+    says_inside (no_string {x = x} d e) = (omega arith, omega (arith, any_places x))
+    says_inside (holds_nothing {x = x} d e n) = (omega arith, omega (arith, any_places x))
+    says_inside (held_no {x = x} d e h b) = (omega arith, omega (arith, any_places x))
 
     maps_inside : (end : ℕ) {ess : List (List (MapEntry N))} {p w : ℕ} {ps : Pairs} {sofar a : Answer} → suc p + pairs_place_count ps ≡ end → Shows p end sofar → Maps l ess p ps sofar a w → Shows p end a
     maps_inside end h s no_alternative = s

@@ -1,8 +1,10 @@
 pub mod Lemmas
 mod Alike
 mod Covers
+mod Held
 mod Means
 mod Once
+mod Sizes
 mod Tallies
 mod Inside
 mod Matches

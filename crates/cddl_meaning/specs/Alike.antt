@@ -3,7 +3,7 @@
 -- So one specification may have several tables: equal types are one row in the one and two in the other. R relates the
 -- names of types, S those of groups.
 use Rattle.std.specs.Prelude.{◌≡◌, ℕ, List, [], ◌∷◌}
-use Rattle.cddl_meaning.specs.Forms.{Test, TagNumber, any_number, exactly, such_as, MapEntry, Node, Plain, Ref, Choice, ArrayOf, TagOf, SimpleBy, MapOf, Both, Such, Most, Group, Entry, GroupRef, Sequence, Alternatives, Repeat, Language}
+use Rattle.cddl_meaning.specs.Forms.{Test, TagNumber, any_number, exactly, such_as, Content, MapEntry, Node, Plain, Ref, Choice, ArrayOf, TagOf, SimpleBy, MapOf, Both, Such, Holding, Most, Group, Entry, GroupRef, Sequence, Alternatives, Repeat, Language}
 
 -- as many names, related one by one in their order
 pub data AlikeAll {N M : Type 0} (R : N → M → Type 0) : List N → List M → Type 0 where
@@ -37,6 +37,7 @@ pub data AlikeTypes {N G M H : Type 0} (R : N → M → Type 0) (S : G → H →
   maps : {dss : List (List (MapEntry N))} {ess : List (List (MapEntry M))} → AlikeMaps R dss ess → AlikeTypes R S (MapOf dss) (MapOf ess)
   boths : {n o : N} {m q : M} → R n m → R o q → AlikeTypes R S (Both n o) (Both m q)
   suches : {n : N} {m : M} {t : Test} → R n m → AlikeTypes R S (Such n t) (Such m t)
+  holdings : {n o : N} {m q : M} {c : Content} → R n m → R o q → AlikeTypes R S (Holding n c o) (Holding m c q)
 
 -- the same form of group, of related parts, and as often
 pub data AlikeGroups {N G M H : Type 0} (R : N → M → Type 0) (S : G → H → Type 0) : Group N G → Group M H → Type 0 where

@@ -110,6 +110,11 @@ abbrev pub pairs_in : Value → Option Pairs
 pairs_in (pairs ps) = Some ps
 pairs_in _ = None
 
+-- the bytes of a byte string
+abbrev pub bytes_in : Value → Option (List ℕ)
+bytes_in (bytes b) = Some b
+bytes_in _ = None
+
 -- the number and the content of a tag
 abbrev pub tag_in : Value → Option (ℕ × Value)
 tag_in (tag n x) = Some (n, x)
@@ -125,6 +130,11 @@ pub data TagNumber (N : Type 0) : Type 0 where
   any_number : TagNumber N
   exactly : ℕ → TagNumber N
   such_as : N → TagNumber N
+
+-- What a control reads in a byte string (section 3.8.4): one item, `.cbor`; or a CBOR sequence, `.cborseq`.
+pub data Content : Type 0 where
+  one_item : Content
+  sequence_of_items : Content
 
 -- how often at most: `a*b`, or `a*` with no end (section 3.2)
 pub data Most : Type 0 where
@@ -159,6 +169,8 @@ pub data Node (N G : Type 0) : Type 0 where
   Both : N → N → Node N G
   -- a control by a test (section 3.8): what the type says yes to, if it passes
   Such : N → Test → Node N G
+  -- `.cbor` and `.cborseq`: the byte strings to which the first type says yes, and the second one to what they hold
+  Holding : N → Content → N → Node N G
 
 -- A group, asked of a list of items: the members of an array from one of them on.
 pub data Group (N G : Type 0) : Type 0 where

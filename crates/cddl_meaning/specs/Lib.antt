@@ -1,4 +1,6 @@
 pub mod Forms
+pub mod Held
 pub mod Judges
 pub mod Alike
 pub mod Moves
+pub mod Size

@@ -1,6 +1,6 @@
 -- What a search keeps.
 use Rattle.std.proofs.Common.{◌≡◌, ℕ, ◌<◌, ◌≤◌, ◌+◌, List, [], ◌∷◌, ◌++◌, Some, Option, length, sym, ap, subst, ◌∙◌, ◌⊎◌, inl, inr, slice_get, arith}
-use Rattle.cddl_meaning.specs.Alike.{AlikeAll, none, both, AlikeTypes, plain, refs, choices, arrays, tags, simples, maps, boths, suches, AlikeNumbers, any_numbers, same_number, heads, AlikeEntries, no_entries, entry, AlikeMaps, no_alternatives, alternative, AlikeGroups, entries, group_refs, sequences, alternates, repeats}
+use Rattle.cddl_meaning.specs.Alike.{AlikeAll, none, both, AlikeTypes, plain, refs, choices, arrays, tags, simples, maps, boths, suches, holdings, AlikeNumbers, any_numbers, same_number, heads, AlikeEntries, no_entries, entry, AlikeMaps, no_alternatives, alternative, AlikeGroups, entries, group_refs, sequences, alternates, repeats}
 use Rattle.cddl_meaning.specs.Forms as F
 use Rattle.std.proofs.lemmas.Bool.{cases_lt}
 use Rattle.cddl_language.specs.Language.{GroupName, TypeName, first_of, group_form, reference, type_node}
@@ -72,6 +72,7 @@ module _ {N O M G P H : Type 0} (A : N → O → Type 0) (B : G → P → Type 0
   types_joined n (F.MapOf bss) m (maps {dss = dss} a) (maps {ess = ess} c) = maps (maps_joined dss bss ess a c)
   types_joined n (F.Both o z) m (boths {n = p} {o = u} a b) (boths {m = q} {q = v} c d) = boths (types p o q a c) (types u z v b d)
   types_joined n (F.Such o t) m (suches {n = p} a) (suches {m = q} c) = suches (types p o q a c)
+  types_joined n (F.Holding o t z) m (holdings {n = p} {o = u} a b) (holdings {m = q} {q = v} c d) = holdings (types p o q a c) (types u z v b d)
 
   pub groups_joined : (n : F.Group N G) (o : F.Group O P) (m : F.Group M H) → AlikeGroups A B n o → AlikeGroups C D o m → AlikeGroups R S n m
   groups_joined n (F.Entry o) m (entries {n = p} a) (entries {m = q} c) = entries (types p o q a c)
@@ -121,6 +122,7 @@ module _ {N M G H : Type 0} (A : N → M → Type 0) (B : G → H → Type 0) (R
   types_kept n m (maps {dss = dss} {ess = ess} a) = maps (maps_kept dss ess a)
   types_kept n m (boths {n = p} {o = u} {m = q} {q = v} a b) = boths (types p q a) (types u v b)
   types_kept n m (suches {n = p} {m = q} a) = suches (types p q a)
+  types_kept n m (holdings {n = p} {o = u} {m = q} {q = v} a b) = holdings (types p q a) (types u v b)
 
   pub groups_kept : (n : F.Group N G) (m : F.Group M H) → AlikeGroups A B n m → AlikeGroups R S n m
   groups_kept n m (entries {n = p} {m = q} a) = entries (types p q a)

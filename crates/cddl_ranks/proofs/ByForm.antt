@@ -1,7 +1,7 @@
 -- What ranks say of each form.
 use Rattle.std.proofs.Common.{◌≡◌, ℕ, zero, suc, ◌<◌, ◌≤◌, List, [], ◌∷◌, length, slice_index_or, Contains, refl, subst, arith}
-use Rattle.cddl_meaning.specs.Forms.{Node, Plain, Ref, Choice, ArrayOf, TagOf, SimpleBy, MapOf, Both, Such, Group, Entry, GroupRef, Sequence, Alternatives, Repeat, Language}
-use Rattle.cddl_ranks.specs.Ranked.{MayBeEmpty, Name, a_type, a_group, IsFreeInType, same_item, member, all_items, its_number, left_side, right_side, tested, IsFreePart, front, past_empty, IsFreeInGroup, same_list, part, alternative, a_round, IsFree, in_type, in_group, IsRanked, LeadsTo, at_once, by_way}
+use Rattle.cddl_meaning.specs.Forms.{Node, Plain, Ref, Choice, ArrayOf, TagOf, SimpleBy, MapOf, Both, Such, Holding, one_item, sequence_of_items, Group, Entry, GroupRef, Sequence, Alternatives, Repeat, Language}
+use Rattle.cddl_ranks.specs.Ranked.{MayBeEmpty, Name, a_type, a_group, IsFreeInType, same_item, member, all_items, its_number, left_side, right_side, tested, holder, sequence_held, IsFreePart, front, past_empty, IsFreeInGroup, same_list, part, alternative, a_round, IsFree, in_type, in_group, IsRanked, LeadsTo, at_once, by_way}
 use Rattle.cddl_ranks.specs.Flags.{AreBelow, IsTypeRanked}
 
 -- the parts of a sequence that are free in it have a rank below r
@@ -62,6 +62,8 @@ module _ {N G : Type 0} (l : Language N G) (rank : Name N G → ℕ) where
   type_ranked r (MapOf ess) h = tt
   type_ranked r (Both m n) h = (h (a_type m) left_side, h (a_type n) right_side)
   type_ranked r (Such m t) h = h (a_type m) tested
+  type_ranked r (Holding m one_item n) h = h (a_type m) holder
+  type_ranked r (Holding m sequence_of_items n) h = (h (a_type m) holder, h (a_type n) sequence_held)
 
   group_ranked : (r : ℕ) (f : Group N G) → ((h : G) → IsFreeInGroup l f h → groups_by h < r) → IsGroupRanked l groups_by r f
   group_ranked r (Entry m) h = tt
@@ -90,6 +92,9 @@ module _ {N G : Type 0} (l : Language N G) (rank : Name N G → ℕ) where
   down_type r f (a_type m) h left_side = h.0
   down_type r f (a_type m) h right_side = h.1
   down_type r f (a_type m) h tested = h
+  down_type r f (a_type m) h (holder {c = one_item}) = h
+  down_type r f (a_type m) h (holder {c = sequence_of_items}) = h.0
+  down_type r f (a_type n) h sequence_held = h.1
 
   down_group : (r : ℕ) (f : Group N G) (g : G) → IsGroupRanked l groups_by r f → IsFreeInGroup l f g → groups_by g < r
   down_group r f g h same_list = h

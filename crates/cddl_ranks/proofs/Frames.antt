@@ -1,17 +1,19 @@
 -- Each open question is below the one that asked it, so few are open.
-use Rattle.std.proofs.Common.{◌≡◌, ℕ, suc, ◌+◌, ◌*◌, ◌<◌, ◌≤◌, inl, inr, length, List, [], ◌∷◌, refl, arith}
+use Rattle.std.proofs.Common.{◌≡◌, ℕ, suc, ◌+◌, ◌*◌, ◌<◌, ◌≤◌, inl, inr, length, List, [], ◌∷◌, refl, subst, arith}
 use Rattle.std.proofs.Math.Nat.{mul-le-mul_left}
-use Rattle.cbor_data.specs.Value.{no_pairs, pair}
-use Rattle.cddl_meaning.specs.Forms.{Language}
-use Rattle.cddl_meaning.specs.Judges.{Reply}
-use Rattle.cddl_meaning.specs.Moves.{Question, OfType, OfGroup, OfAlternative, Sorting, Pending, InRef, InMap, Move, Answered, Asks, Tries, Replies, first_move, next_move, next_entry}
+use Rattle.cbor_data.specs.Value.{Value, no_pairs, pair}
+use Rattle.cddl_meaning.specs.Forms.{Content, Language}
+use Rattle.cddl_meaning.specs.Held.{Holds}
+use Rattle.cddl_meaning.specs.Judges.{Reply, Fails}
+use Rattle.cddl_meaning.specs.Moves.{Question, OfType, OfGroup, OfAlternative, Sorting, Pending, InRef, InMap, InHeld, Move, Answered, Asks, Tries, Reads, Replies, first_move, next_move, next_entry}
 use Rattle.cddl_ranks.specs.Ranked.{Name, IsRanked}
-use Rattle.cddl_ranks.specs.Size.{size, pairs_size, list_size, size_of}
+use Rattle.cddl_meaning.specs.Size.{size, pairs_size, list_size, size_of}
 use Rattle.cddl_ranks.proofs.ByForm.{IsRankedByForm, types_by, groups_by, by_form}
-use Rattle.cddl_ranks.specs.Reached.{IsReached, begun, asked, tried, answered, one_for_empty_map}
+use Rattle.cddl_ranks.specs.Reached.{IsReached, begun, asked, tried, read, read_nothing, answered, one_for_empty_map}
 use Rattle.cddl_ranks.proofs.Induction.{IsLess}
-use Rattle.cddl_ranks.proofs.Sizes.{size_some, all_some, key_less}
-use Rattle.cddl_ranks.proofs.Down.{height_of, rank_of, IsMapOf, IsBelow, plain_replies, RepliesDown, replies, EndsDown, at_once, after, tries}
+use Rattle.cddl_meaning.proofs.Lemmas.{size_some, all_some, key_less}
+use Rattle.cddl_ranks.proofs.Down.{height_of, rank_of, IsMapOf, IsBelow, plain_replies, RepliesDown, replies, EndsDown, at_once, after, tries, reads, reads_nothing}
+use Rattle.cddl_meaning.proofs.Lemmas.{held_once}
 use Rattle.cddl_ranks.proofs.Total.{type_replies, group_replies, alternative_replies}
 
 module _ {N G : Type 0} (l : Language N G) (type_rank : N → ℕ) (group_rank : G → ℕ) (first : Question N G) where
@@ -32,6 +34,14 @@ module _ {N G : Type 0} (l : Language N G) (type_rank : N → ℕ) (group_rank :
   goes_tried : {s : Sorting N} {os : List (Pending N G)} → GoesDown os (Tries s) → GoesDown os (next_entry s.entries s)
   goes_tried (within w (tries e)) = within w e
 
+  goes_read : {c : Content} {b : List ℕ} {n : N} {p next : ℕ} {y : Value} {os : List (Pending N G)} → Holds c b y → GoesDown os (Reads c b n p next) → GoesDown os (Asks (OfType n 0 y) (InHeld p next))
+  goes_read {n = n} {p = p} {next = next} h (within {q = q} {s = s} {w = v} w (reads k e)) = within w (subst (λ y. EndsDown l type_rank group_rank (height_of q) (rank_of type_rank group_rank q) (Asks (OfType n 0 y) (InHeld p next)) s v) (held_once h k) e)
+  goes_read {y = y} h (within w (reads_nothing k)) = absurd (k y h)
+
+  goes_unread : {c : Content} {b : List ℕ} {n : N} {p next : ℕ} {os : List (Pending N G)} → ((y : Value) → Holds c b y → ⊥) → GoesDown os (Reads c b n p next) → GoesDown os (Answered (Fails p))
+  goes_unread k (within w (reads {y = y} h e)) = absurd (k y h)
+  goes_unread k (within w (reads_nothing n)) = within w at_once
+
   goes_answered : {s : Reply} {o : Pending N G} {os : List (Pending N G)} → GoesDown (o ∷ os) (Answered s) → GoesDown os (next_move o s)
   goes_answered (within bottom at_once) = replied
   goes_answered (within (upon i w e) at_once) = within w e
@@ -40,6 +50,8 @@ module _ {N G : Type 0} (l : Language N G) (type_rank : N → ℕ) (group_rank :
   reached_down d begun = before d.2
   reached_down d (asked h) = goes_asked (reached_down d h)
   reached_down d (tried h) = goes_tried (reached_down d h)
+  reached_down d (read k h) = goes_read k (reached_down d h)
+  reached_down d (read_nothing k h) = goes_unread k (reached_down d h)
   reached_down d (answered h) = goes_answered (reached_down d h)
 
   module _ (bound : ℕ) (ranks : (q : Question N G) → rank_of type_rank group_rank q ≤ bound) where

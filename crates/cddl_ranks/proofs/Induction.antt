@@ -1,7 +1,7 @@
 -- What holds of each question, if it holds of those below, holds of all: by the size of what is asked, and by rank.
 use Rattle.std.proofs.Common.{ℕ, zero, suc, ◌<◌, ◌≤◌, ◌⊎◌, inl, inr, List, arith}
 use Rattle.cbor_data.specs.Value.{Value}
-use Rattle.cddl_ranks.specs.Size.{size, list_size}
+use Rattle.cddl_meaning.specs.Size.{size, list_size}
 
 -- smaller, or no larger and of a lower rank
 abbrev pub IsLess : ℕ → ℕ → ℕ → ℕ → Type 0

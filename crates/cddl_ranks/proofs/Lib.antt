@@ -1,4 +1,4 @@
-mod Sizes
+mod Readable
 mod Takes
 mod Induction
 mod ByForm

@@ -2,15 +2,17 @@
 use Rattle.std.proofs.Common.{◌≡◌, ℕ, zero, suc, ◌+◌, ◌-◌, ◌^◌, ◌<◌, ◌≤◌, ◌⊎◌, inl, inr, max, length, List, [], ◌∷◌, Option, Some, None, Bool, true, false, nat_eq, refl, subst, ap, arith}
 use Rattle.std.proofs.lemmas.Bool.Decides.{nat_tests}
 use Rattle.cbor_data.specs.Value.{Value, uint, place_count, Pairs, no_pairs, pair}
-use Rattle.cddl_meaning.specs.Forms.{Test, passes, members_in, pairs_in, tag_in, simple_in, TagNumber, any_number, exactly, such_as, MapEntry, Node, Plain, Ref, Choice, ArrayOf, TagOf, SimpleBy, MapOf, Both, Such, Most, Group, Entry, GroupRef, Sequence, Alternatives, Repeat, Language}
-use Rattle.cddl_meaning.specs.Judges.{Answer, Yes, No, Reply, Takes, Fails, whole, over, failed, is_over, one_less, Says, passed, missed, ref, choice, no_array, array, no_tag, tagged, other_tag, no_simple, simple_such, other_simple, no_map, map, left_no, left_yes, none_such, such_passed, such_missed, Fate, BelongsTo, Stray, alternative_says, either, Maps, no_alternative, alternative, Sorts, all_sorted, sort, Belongs, nowhere, other_key, here, cut_here, handed_on, Numbers, whichever, this_number, other_number, by_head, Chooses, no_more, this_one, not_this, Does, missing, matches, differs, group_ref, sequence, alternatives, repeat, DoesEach, all_done, one_fails, and_then, DoesFirst, all_fail, one_takes, or_else, Repeats, full, too_few, enough, empty_round, round}
+use Rattle.cddl_meaning.specs.Forms.{Test, passes, members_in, pairs_in, bytes_in, tag_in, simple_in, TagNumber, any_number, exactly, such_as, Content, one_item, sequence_of_items, MapEntry, Node, Plain, Ref, Choice, ArrayOf, TagOf, SimpleBy, MapOf, Both, Such, Holding, Most, Group, Entry, GroupRef, Sequence, Alternatives, Repeat, Language}
+use Rattle.cddl_meaning.specs.Judges.{Answer, Yes, No, Reply, Takes, Fails, whole, over, failed, is_over, one_less, Says, passed, missed, ref, choice, no_array, array, no_tag, tagged, other_tag, no_simple, simple_such, other_simple, no_map, map, left_no, left_yes, none_such, such_passed, such_missed, holder_no, no_string, holds_nothing, held_yes, held_no, Fate, BelongsTo, Stray, alternative_says, either, Maps, no_alternative, alternative, Sorts, all_sorted, sort, Belongs, nowhere, other_key, here, cut_here, handed_on, Numbers, whichever, this_number, other_number, by_head, Chooses, no_more, this_one, not_this, Does, missing, matches, differs, group_ref, sequence, alternatives, repeat, DoesEach, all_done, one_fails, and_then, DoesFirst, all_fail, one_takes, or_else, Repeats, full, too_few, enough, empty_round, round}
 use Rattle.cddl_meaning.proofs.Lemmas.{one_saying}
 use Rattle.cddl_ranks.specs.Decided.{IsDecided}
-use Rattle.cddl_ranks.specs.Size.{size, pairs_size, list_size}
+use Rattle.cddl_meaning.specs.Size.{size, pairs_size, list_size}
 use Rattle.cddl_ranks.specs.Ranked.{MayBeEmpty, Name, IsRanked}
 use Rattle.cddl_ranks.specs.Flags.{AreBelow, IsTypeRanked}
 use Rattle.cddl_ranks.proofs.ByForm.{LeadsDown, IsGroupRanked, IsRankedByForm, types_by, groups_by, by_form}
-use Rattle.cddl_ranks.proofs.Sizes.{size_some, all_some, array_size, tag_size, map_size, key_less, value_less}
+use Rattle.cddl_meaning.proofs.Lemmas.{size_some, all_some, array_size, tag_size, map_size, string_size, size_spelled, held_size, key_less, value_less}
+use Rattle.cddl_meaning.specs.Held.{Holds, item}
+use Rattle.cddl_ranks.proofs.Readable.{Told, told}
 use Rattle.cddl_ranks.proofs.Takes.{IsBehind}
 use Rattle.cddl_ranks.proofs.Induction.{IsLess, for_types, for_groups}
 use Rattle.cddl_ranks.proofs.Well.{does_well}
@@ -196,6 +198,29 @@ module _ {N G : Type 0} (l : Language N G) (type_rank : N → ℕ) (group_rank :
     such_some m t p x Yes w d = tested_some m t p x w d (passes t x) refl
     such_some m t p x (No far) w d = record { answer = No far; weight = suc w; says = none_such d }
 
+    held_some : (m n : N) (c : Content) (p : ℕ) (x y : Value) (b : List ℕ) (w : ℕ) → Says l (l.type_at m) p x Yes w → bytes_in x ≡ Some b → Holds c b y → (a : Answer) (v : ℕ) → Says l (l.type_at n) 0 y a v → SaysSome (Holding m c n) p x
+    held_some m n c p x y b w d e k Yes v f = record { answer = Yes; weight = suc (w + v); says = held_yes d e k f }
+    held_some m n c p x y b w d e k (No far) v f = record { answer = No p; weight = suc (w + v); says = held_no d e k f }
+
+    told_some : (m n : N) (c : Content) (p : ℕ) (x : Value) (b : List ℕ) (w : ℕ) → Says l (l.type_at m) p x Yes w → bytes_in x ≡ Some b → ((y : Value) → Holds c b y → IsLess (size y) (type_rank n) S R) → Told c b → SaysSome (Holding m c n) p x
+    told_some m n c p x b w d e i (inl t) = let f = types n 0 t.0 (i t.0 t.1) in held_some m n c p x t.0 b w d e t.1 f.answer f.weight f.says
+    told_some m n c p x b w d e i (inr k) = record { answer = No p; weight = suc w; says = holds_nothing d e k }
+
+    read_some : (m n : N) (c : Content) (p : ℕ) (x : Value) (w : ℕ) → Says l (l.type_at m) p x Yes w → ((b : List ℕ) (y : Value) → bytes_in x ≡ Some b → Holds c b y → IsLess (size y) (type_rank n) S R) → (o : Option (List ℕ)) → bytes_in x ≡ o → SaysSome (Holding m c n) p x
+    read_some m n c p x w d i None e = record { answer = No p; weight = suc w; says = no_string d e }
+    read_some m n c p x w d i (Some b) e = told_some m n c p x b w d e (λ y k. i b y e k) (told c b)
+
+    holding_some : (m n : N) (c : Content) (p : ℕ) (x : Value) (a : Answer) (w : ℕ) → Says l (l.type_at m) p x a w → ((b : List ℕ) (y : Value) → bytes_in x ≡ Some b → Holds c b y → IsLess (size y) (type_rank n) S R) → SaysSome (Holding m c n) p x
+    holding_some m n c p x Yes w d i = read_some m n c p x w d i (bytes_in x) refl
+    holding_some m n c p x (No far) w d i = record { answer = No far; weight = suc w; says = holder_no d }
+
+    -- what a byte string holds is smaller, or the array of a sequence and of lower rank
+    item_less : (n : N) (x : Value) → size x ≤ S → (b : List ℕ) (y : Value) → bytes_in x ≡ Some b → Holds one_item b y → IsLess (size y) (type_rank n) S R
+    item_less n x h b y e (item k) = inl (omega (arith, h, string_size x b e, size_spelled y b k.spells))
+
+    items_less : (n : N) (x : Value) → size x ≤ S → type_rank n < R → (b : List ℕ) (y : Value) → bytes_in x ≡ Some b → Holds sequence_of_items b y → IsLess (size y) (type_rank n) S R
+    items_less n x h u b y e k = inr (omega (arith, h, string_size x b e, held_size k), u)
+
     pub type_some : (t : Node N G) (p : ℕ) (x : Value) → size x ≤ S → IsTypeRanked type_rank group_rank R t → SaysSome t p x
     type_some (Plain t) p x h k = plain_some t p x (passes t x) refl
     type_some (Ref m) p x h k = let d = types m p x (inr (h, k)) in record { answer = d.answer; weight = suc d.weight; says = ref d.says }
@@ -206,6 +231,8 @@ module _ {N G : Type 0} (l : Language N G) (type_rank : N → ℕ) (group_rank :
     type_some (MapOf ess) p x h k = map_some ess p x h (pairs_in x) refl
     type_some (Both m n) p x h k = let d = types m p x (inr (h, k.0)) in both_some m n p x d.answer d.weight d.says (types n p x (inr (h, k.1)))
     type_some (Such m t) p x h k = let d = types m p x (inr (h, k)) in such_some m t p x d.answer d.weight d.says
+    type_some (Holding m one_item n) p x h k = let d = types m p x (inr (h, k)) in holding_some m n one_item p x d.answer d.weight d.says (item_less n x h)
+    type_some (Holding m sequence_of_items n) p x h k = let d = types m p x (inr (h, k.0)) in holding_some m n sequence_of_items p x d.answer d.weight d.says (items_less n x h k.1)
 
     first_some : (gs : List G) (p q : ℕ) (xs : List Value) (far : ℕ) → list_size xs ≤ S → AreBelow group_rank R gs → FirstSome gs p q xs far
     first_some [] p q xs far h b = record { reply = Fails far; weight = 0; does = all_fail }
@@ -281,6 +308,8 @@ module _ {N G : Type 0} (l : Language N G) (type_rank : N → ℕ) (group_rank :
     any_type_ranked (MapOf ess) = tt
     any_type_ranked (Both m n) = (omega (arith, ranked.type_bound m), omega (arith, ranked.type_bound n))
     any_type_ranked (Such m t) = omega (arith, ranked.type_bound m)
+    any_type_ranked (Holding m one_item n) = omega (arith, ranked.type_bound m)
+    any_type_ranked (Holding m sequence_of_items n) = (omega (arith, ranked.type_bound m), omega (arith, ranked.type_bound n))
 
     any_group_ranked : (t : Group N G) → IsGroupRanked l group_rank (suc bound) t
     any_group_ranked (Entry m) = tt
@@ -296,7 +325,7 @@ module _ {N G : Type 0} (l : Language N G) (type_rank : N → ℕ) (group_rank :
     any_group t p q xs = group_some (list_size xs) (suc bound) (λ m p y i. named_type m p y) (λ g p q ys i. named_group g p q ys) t p q xs (omega arith) (any_group_ranked t)
 
 module _ {N G : Type 0} (l : Language N G) (rank : Name N G → ℕ) (bound : ℕ) (ranked : IsRanked l rank bound) where
-  pub is_decided : (t : Node N G) (p : ℕ) (x : Value) → p + place_count x < 2 ^ 64 → IsDecided l t p x
+  pub is_decided : (t : Node N G) (p : ℕ) (x : Value) → p + size x < 2 ^ 64 → IsDecided l t p x
   is_decided t p x h =
       let d = any_type l (types_by l rank) (groups_by l rank) bound (by_form l rank ranked) t p x in
       record { answer = d.answer; weight = d.weight; says = d.says; only = λ a w e. one_saying l h d.says e }

@@ -2,8 +2,8 @@
 use Rattle.std.proofs.Common.{◌≡◌, ℕ, ◌<◌, ◌⊎◌, inl, inr, length, List, ◌∷◌, ap, ◌∙◌, arith}
 use Rattle.cbor_data.specs.Value.{Value}
 use Rattle.cddl_meaning.specs.Judges.{Reply, Takes, Fails}
-use Rattle.cddl_ranks.specs.Size.{list_size}
-use Rattle.cddl_ranks.proofs.Sizes.{size_some}
+use Rattle.cddl_meaning.specs.Size.{list_size}
+use Rattle.cddl_meaning.proofs.Lemmas.{size_some}
 
 -- fewer items, of a smaller size
 abbrev pub IsShorter : List Value → List Value → Type 0

@@ -2,15 +2,17 @@
 use Rattle.std.proofs.Common.{◌≡◌, ℕ, zero, suc, ◌+◌, ◌-◌, ◌<◌, ◌≤◌, ◌⊎◌, inl, inr, max, length, List, [], ◌∷◌, Option, Some, None, Bool, true, false, nat_eq, refl, ap, arith}
 use Rattle.std.proofs.lemmas.Bool.Decides.{nat_tests}
 use Rattle.cbor_data.specs.Value.{Value, uint, place_count, Pairs, no_pairs, pair}
-use Rattle.cddl_meaning.specs.Forms.{Test, passes, members_in, pairs_in, tag_in, simple_in, TagNumber, any_number, exactly, such_as, MapEntry, Node, Plain, Ref, Choice, ArrayOf, TagOf, SimpleBy, MapOf, Both, Such, Most, Group, Entry, GroupRef, Sequence, Alternatives, Repeat, Language}
+use Rattle.cddl_meaning.specs.Forms.{Test, passes, members_in, pairs_in, bytes_in, tag_in, simple_in, TagNumber, any_number, exactly, such_as, Content, one_item, sequence_of_items, MapEntry, Node, Plain, Ref, Choice, ArrayOf, TagOf, SimpleBy, MapOf, Both, Such, Holding, Most, Group, Entry, GroupRef, Sequence, Alternatives, Repeat, Language}
 use Rattle.cddl_meaning.specs.Judges.{Yes, No, Reply, Takes, Fails, is_over, one_less, Fate, BelongsTo, Stray}
-use Rattle.cddl_meaning.specs.Moves.{Question, OfType, OfGroup, OfAlternative, Tally, Sorting, Pending, InChoice, InHead, InSimple, InEntry, InSequence, InAlternatives, InRepeat, InKey, InValue, InLeft, InSuch, Move, Answered, Asks, plus, test_reply, such_reply, array_reply, next_member, next_part, next_alternative, next_round, repetition, after_round, end_of_rounds, array_move, content_move, tag_move, simple_move, either_reply, answer_reply, fresh, tallied, tally_says, next_way, map_move, next_pair, sorted, next_entry, after_value, type_move, entry_move, group_move, next_move}
-use Rattle.cddl_ranks.specs.Size.{size, pairs_size, list_size}
+use Rattle.cddl_meaning.specs.Moves.{Question, OfType, OfGroup, OfAlternative, Tally, Sorting, Pending, InChoice, InHead, InSimple, InEntry, InSequence, InAlternatives, InRepeat, InKey, InValue, InLeft, InSuch, InHolder, InHeld, Move, Answered, Asks, plus, test_reply, such_reply, array_reply, next_member, next_part, next_alternative, next_round, repetition, after_round, end_of_rounds, array_move, content_move, tag_move, simple_move, read_move, either_reply, answer_reply, fresh, tallied, tally_says, next_way, map_move, next_pair, sorted, next_entry, after_value, type_move, entry_move, group_move, next_move}
+use Rattle.cddl_meaning.specs.Size.{size, pairs_size, list_size}
 use Rattle.cddl_ranks.specs.Ranked.{MayBeEmpty, named, every_part, one_of_them, no_minimum, no_round, an_empty_round, AllMayBeEmpty, no_part, this_part, OneMayBeEmpty, this_one, another}
 use Rattle.cddl_ranks.specs.Flags.{AreBelow, IsTypeRanked}
 use Rattle.cddl_ranks.proofs.ByForm.{LeadsDown, IsGroupRanked, IsRankedByForm}
-use Rattle.cddl_ranks.proofs.Down.{IsBelow, RepliesDown, replies, EndsDown, at_once, after, tries}
-use Rattle.cddl_ranks.proofs.Sizes.{size_some, all_some, array_size, tag_size, map_size, key_less, value_less}
+use Rattle.cddl_ranks.proofs.Down.{IsBelow, RepliesDown, replies, EndsDown, at_once, after, tries, reads, reads_nothing}
+use Rattle.cddl_meaning.proofs.Lemmas.{size_some, all_some, array_size, tag_size, map_size, string_size, size_spelled, held_size, key_less, value_less}
+use Rattle.cddl_meaning.specs.Held.{Holds, item}
+use Rattle.cddl_ranks.proofs.Readable.{Told, told}
 use Rattle.cddl_ranks.proofs.Takes.{IsShorter, IsBehind, TakesWell, AnyReply, takes_as, takes_more, takes_less, entry_takes}
 use Rattle.cddl_ranks.proofs.Induction.{IsLess, for_types, for_groups}
 
@@ -153,6 +155,32 @@ module _ {N G : Type 0} (l : Language N G) (type_rank : N → ℕ) (group_rank :
     such_next t p x (Takes left b later) = at_end (such_reply p b (passes t x)) AnyReply tt
     such_next t p x (Fails later) = at_end (Fails later) AnyReply tt
 
+    held_next : (p next : ℕ) (s : Reply) → Ending S R (next_move (InHeld p next) s) AnyReply
+    held_next p next (Takes left b later) = at_end (Takes [] next 0) AnyReply tt
+    held_next p next (Fails later) = at_end (Fails p) AnyReply tt
+
+    told_total : (c : Content) (b : List ℕ) (n : N) (p next : ℕ) → ((y : Value) → Holds c b y → IsLess (size y) (type_rank n) S R) → Told c b → Ending S R (read_move c n p next (Some b)) AnyReply
+    told_total c b n p next i (inl t) =
+        let d = types n 0 t.0 (i t.0 t.1) in
+        let e = then (i t.0 t.1) d.replies_down (held_next p next d.reply) in
+        record { reply = e.reply; weight = e.weight; ends = reads t.1 e.ends; good = tt }
+    told_total c b n p next i (inr k) = record { reply = Fails p; weight = 0; ends = reads_nothing k; good = tt }
+
+    read_total : (c : Content) (n : N) (p next : ℕ) (x : Value) → ((b : List ℕ) (y : Value) → bytes_in x ≡ Some b → Holds c b y → IsLess (size y) (type_rank n) S R) → (o : Option (List ℕ)) → bytes_in x ≡ o → Ending S R (read_move c n p next o) AnyReply
+    read_total c n p next x i None e = at_end (Fails p) AnyReply tt
+    read_total c n p next x i (Some b) e = told_total c b n p next (λ y h. i b y e h) (told c b)
+
+    holder_next : (c : Content) (n : N) (p : ℕ) (x : Value) (s : Reply) → ((b : List ℕ) (y : Value) → bytes_in x ≡ Some b → Holds c b y → IsLess (size y) (type_rank n) S R) → Ending S R (next_move (InHolder c n p x) s) AnyReply
+    holder_next c n p x (Takes left b later) i = read_total c n p b x i (bytes_in x) refl
+    holder_next c n p x (Fails later) i = at_end (Fails later) AnyReply tt
+
+    -- what a byte string holds is smaller, or the array of a sequence and of lower rank
+    item_less : (n : N) (x : Value) → size x ≤ S → (b : List ℕ) (y : Value) → bytes_in x ≡ Some b → Holds one_item b y → IsLess (size y) (type_rank n) S R
+    item_less n x h b y e (item k) = inl (omega (arith, h, string_size x b e, size_spelled y b k.spells))
+
+    items_less : (n : N) (x : Value) → size x ≤ S → type_rank n < R → (b : List ℕ) (y : Value) → bytes_in x ≡ Some b → Holds sequence_of_items b y → IsLess (size y) (type_rank n) S R
+    items_less n x h u b y e k = inr (omega (arith, h, string_size x b e, held_size k), u)
+
     type_total : (t : Node N G) (p : ℕ) (x : Value) → size x ≤ S → IsTypeRanked type_rank group_rank R t → Ending S R (type_move t p x) AnyReply
     type_total (Plain t) p x h k = at_end (test_reply p x (passes t x)) AnyReply tt
     type_total (Ref m) p x h k = let d = types m p x (inr (h, k)) in then (inr (h, k)) d.replies_down (at_end d.reply AnyReply tt)
@@ -163,6 +191,8 @@ module _ {N G : Type 0} (l : Language N G) (type_rank : N → ℕ) (group_rank :
     type_total (MapOf ess) p x h k = map_total ess p x h (pairs_in x) refl
     type_total (Both m n) p x h k = let d = types m p x (inr (h, k.0)) in then (inr (h, k.0)) d.replies_down (left_next n p x d.reply (inr (h, k.1)))
     type_total (Such m t) p x h k = let d = types m p x (inr (h, k)) in then (inr (h, k)) d.replies_down (such_next t p x d.reply)
+    type_total (Holding m one_item n) p x h k = let d = types m p x (inr (h, k)) in then (inr (h, k)) d.replies_down (holder_next one_item n p x d.reply (item_less n x h))
+    type_total (Holding m sequence_of_items n) p x h k = let d = types m p x (inr (h, k.0)) in then (inr (h, k.0)) d.replies_down (holder_next sequence_of_items n p x d.reply (items_less n x h k.1))
 
     first_next : (g : G) (gs : List G) (base q : ℕ) (ys : List Value) (far : ℕ) (s : Reply) → TakesWell (Empty g) ys s → ((far : ℕ) → Ending S R (next_alternative gs base q ys far) (TakesWell (OneMayBeEmpty l gs) ys)) → Ending S R (next_move (InAlternatives gs base q ys far) s) (TakesWell (OneMayBeEmpty l (g ∷ gs)) ys)
     first_next g gs base q ys far (Takes left b later) good rest = at_end (Takes left b (max far later)) (TakesWell (OneMayBeEmpty l (g ∷ gs)) ys) (takes_as (Empty g) (OneMayBeEmpty l (g ∷ gs)) (λ e. this_one e) ys (Takes left b later) good)

@@ -1,6 +1,6 @@
 -- Ranks form by form, where a flag of each group tells whether it may take no item: a tool for tests of ranks.
 use Rattle.std.specs.Prelude.{◌≡◌, ℕ, zero, suc, ◌<◌, List, [], ◌∷◌, Bool, true, false, ◌&&◌, ◌||◌, ◌↔◌}
-use Rattle.cddl_meaning.specs.Forms.{Node, Plain, Ref, Choice, ArrayOf, TagOf, SimpleBy, MapOf, Both, Such, Group, Entry, GroupRef, Sequence, Alternatives, Repeat, Language}
+use Rattle.cddl_meaning.specs.Forms.{Node, Plain, Ref, Choice, ArrayOf, TagOf, SimpleBy, MapOf, Both, Such, Holding, one_item, sequence_of_items, Group, Entry, GroupRef, Sequence, Alternatives, Repeat, Language}
 use Rattle.cddl_meaning.specs.Judges.{is_over}
 use Rattle.cddl_ranks.specs.Ranked.{MayBeEmpty}
 
@@ -46,6 +46,8 @@ IsTypeRanked type_rank group_rank r (SimpleBy m) = type_rank m < r
 IsTypeRanked type_rank group_rank r (MapOf ess) = Unit {0}
 IsTypeRanked type_rank group_rank r (Both m n) = (type_rank m < r) × (type_rank n < r)
 IsTypeRanked type_rank group_rank r (Such m t) = type_rank m < r
+IsTypeRanked type_rank group_rank r (Holding m one_item n) = type_rank m < r
+IsTypeRanked type_rank group_rank r (Holding m sequence_of_items n) = (type_rank m < r) × (type_rank n < r)
 
 -- what is free in this group, by the flags, has a rank below r
 abbrev pub IsGroupRankedBy : {N G : Type 0} → (G → Bool) → (G → ℕ) → ℕ → Group N G → Type 0

@@ -1,4 +1,3 @@
-pub mod Size
 pub mod Ranked
 pub mod Flags
 pub mod Reached

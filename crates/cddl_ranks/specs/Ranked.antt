@@ -1,6 +1,6 @@
 -- Languages in which no type and no group leads back to itself before an item was surely taken or gone into.
 use Rattle.std.specs.Prelude.{◌≡◌, ℕ, ◌<◌, ◌≤◌, List, [], ◌∷◌, true, Contains}
-use Rattle.cddl_meaning.specs.Forms.{Test, Node, Ref, Choice, ArrayOf, SimpleBy, Both, Such, Most, Group, GroupRef, Sequence, Alternatives, Repeat, Language}
+use Rattle.cddl_meaning.specs.Forms.{Test, Content, sequence_of_items, Node, Ref, Choice, ArrayOf, SimpleBy, Both, Such, Holding, Most, Group, GroupRef, Sequence, Alternatives, Repeat, Language}
 use Rattle.cddl_meaning.specs.Judges.{is_over}
 
 mutual
@@ -29,9 +29,10 @@ pub data Name (N G : Type 0) : Type 0 where
   a_type : N → Name N G
   a_group : G → Name N G
 
--- What a type may ask of the same item is free in it, and so are what it asks of all items of an array and of the number
--- of a simple value, which are as large. An array's items, a tag's content and number, and a map's keys and values are
--- smaller than the item, so nothing is free in a map.
+-- What a type may ask of the same item is free in it, and so are what it asks of all items of an array, of the number of a
+-- simple value, and of the array of a sequence in a byte string, which may be as large. An array's items, a tag's content
+-- and number, a map's keys and values, and the one item in a byte string are smaller than the item, so nothing is free in a
+-- map.
 pub data IsFreeInType {N G : Type 0} : Node N G → Name N G → Type 0 where
   same_item : {m : N} → IsFreeInType (Ref m) (a_type m)
   member : {ms : List N} {m : N} → Contains ms m → IsFreeInType (Choice ms) (a_type m)
@@ -40,6 +41,8 @@ pub data IsFreeInType {N G : Type 0} : Node N G → Name N G → Type 0 where
   left_side : {m n : N} → IsFreeInType (Both m n) (a_type m)
   right_side : {m n : N} → IsFreeInType (Both m n) (a_type n)
   tested : {m : N} {t : Test} → IsFreeInType (Such m t) (a_type m)
+  holder : {m n : N} {c : Content} → IsFreeInType (Holding m c n) (a_type m)
+  sequence_held : {m n : N} → IsFreeInType (Holding m sequence_of_items n) (a_type n)
 
 -- of the parts of a sequence, the first and those after groups that may all take no item
 pub data IsFreePart {N G : Type 0} (l : Language N G) : List G → G → Type 0 where

@@ -3,7 +3,7 @@
 #![tactic(auto)]
 
 ghost use Rattle.std.specs.Prelude.{◌≡◌, ◌+◌, ◌*◌, ◌<◌, ◌≤◌, ◌^◌, ℕ, List, length};
-ghost use Rattle.cbor_data.specs.Value.{Value, place_count};
+ghost use Rattle.cbor_data.specs.Value.{Value};
 ghost use Rattle.cbor_data.specs.Forms.{Spells};
 ghost use Rattle.cbor_data.specs.Preferred.{preferred};
 ghost use Rattle.cddl_meaning.specs.Forms.{Node, Ref, Group, Language};
@@ -13,7 +13,7 @@ ghost use Rattle.cddl_ranks.specs.Decided.{IsDecided};
 ghost use Rattle.cddl_ranks.specs.Example.{example, example_rank};
 ghost use Rattle.cddl_ranks.specs.Ranked.{IsRanked, LeadsTo, MayBeEmpty, Name};
 ghost use Rattle.cddl_ranks.specs.Reached.{IsReached, one_for_empty_map};
-ghost use Rattle.cddl_ranks.specs.Size.{size, size_of};
+ghost use Rattle.cddl_meaning.specs.Size.{size, size_of};
 
 /// In a ranked language each type, in any form over its names, says something of each item, wherever that stands; each
 /// group does something with each list; and the moves reply to each question.
@@ -23,10 +23,10 @@ pub fn some_answer<N, G>()
     ensures by_moves { (l : Language N G) (rank : Name N G → ℕ) (bound : ℕ) → IsRanked l rank bound → (q : Question N G) → (r : Reply) × (w : ℕ) × Replies l q r w }
 {}
 
-/// In a ranked language a type says exactly one thing of an item whose places have numbers below 2^64, and in one number of
-/// judgements.
+/// In a ranked language a type says exactly one thing of an item whose place and size are below 2^64 together, and in one
+/// number of judgements.
 pub fn decided<N, G>()
-    ensures { (l : Language N G) (rank : Name N G → ℕ) (bound : ℕ) → IsRanked l rank bound → (n : Node N G) (p : ℕ) (x : Value) → p + place_count x < 2 ^ 64 → IsDecided l n p x }
+    ensures { (l : Language N G) (rank : Name N G → ℕ) (bound : ℕ) → IsRanked l rank bound → (n : Node N G) (p : ℕ) (x : Value) → p + size x < 2 ^ 64 → IsDecided l n p x }
 {}
 
 /// In a ranked language no more questions are ever open than there are ranks, 0 among them, times the size of what the

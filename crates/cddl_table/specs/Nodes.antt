@@ -16,6 +16,8 @@ use Rattle.cddl_table.specs.declared.nodes.Test.TheVariants as T
 use Rattle.cddl_table.specs.declared.nodes.TagNumber.{TagNumber}
 use Rattle.cddl_table.specs.declared.nodes.TagNumber.TheVariants as K
 use Rattle.cddl_table.specs.declared.nodes.MapEntry.{MapEntry}
+use Rattle.cddl_table.specs.declared.nodes.Content.{Content}
+use Rattle.cddl_table.specs.declared.nodes.Content.TheVariants as C
 use Rattle.cddl_table.specs.declared.nodes.Node.{Node}
 use Rattle.cddl_table.specs.declared.nodes.Node.TheVariants as N
 use Rattle.cddl_table.specs.declared.nodes.Most.{Most}
@@ -71,6 +73,11 @@ entries_view es = map entry_view es
 abbrev pub alternatives_view : List (Vec MapEntry Global) → List (List (F.MapEntry TypeId))
 alternatives_view ess = map (λ (es : Vec MapEntry Global). entries_view es.items) ess
 
+-- what is read in a byte string
+abbrev pub content_view : Content → F.Content
+content_view C.OneItem = F.one_item
+content_view C.Sequence = F.sequence_of_items
+
 -- the form of a type
 abbrev pub type_view : Node → F.Node TypeId GroupId
 type_view (N.Plain t) = F.Plain (test_view t)
@@ -82,6 +89,7 @@ type_view (N.SimpleBy m) = F.SimpleBy m
 type_view (N.MapOf ess) = F.MapOf (alternatives_view ess.items)
 type_view (N.Both m n) = F.Both m n
 type_view (N.Such m t) = F.Such m (test_view t)
+type_view (N.Holding m c n) = F.Holding m (content_view c) n
 
 -- the form of a group
 abbrev pub group_view : Group → F.Group TypeId GroupId

@@ -6,7 +6,7 @@ mod ranks;
 mod table;
 
 pub use crate::nodes::{
-    Group, GroupId, MapEntry, Most, Node, SizeRange, TagNumber, Test, TypeId, Whole,
+    Content, Group, GroupId, MapEntry, Most, Node, SizeRange, TagNumber, Test, TypeId, Whole,
 };
 pub use crate::ranks::{NotRanked, Ranks};
 pub use crate::table::Table;

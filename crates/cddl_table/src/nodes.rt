@@ -101,6 +101,15 @@ pub struct MapEntry {
     pub value_type: TypeId,
 }
 
+/// What is read in a byte string (RFC 8610 section 3.8.4).
+#[derive(Clone, Copy, Debug, PartialEq, Eq)]
+pub enum Content {
+    /// One item.
+    OneItem,
+    /// A CBOR sequence, as the array of its items (RFC 8742).
+    Sequence,
+}
+
 /// A type, asked of an item.
 #[derive(Drop)]
 pub enum Node {
@@ -122,6 +131,8 @@ pub enum Node {
     Both(TypeId, TypeId),
     /// What this type says yes to, if it passes the test.
     Such(TypeId, Test),
+    /// The byte strings to which the first type says yes, and the second one to what they hold.
+    Holding(TypeId, Content, TypeId),
 }
 
 /// A group, asked of a list of items.

@@ -6,7 +6,7 @@ ghost use Rattle.cddl_meaning.specs.Judges.{is_over};
 ghost use Rattle.cddl_table.specs.Nodes.{group_or_none, group_view, language_in, most_view, type_or_none, type_view};
 ghost use Rattle.cddl_table.specs.Ranks.{flag_in, greatest, group_rank_in, type_rank_in};
 
-use crate::nodes::{Group, GroupId, Most, Node, TypeId};
+use crate::nodes::{Content, Group, GroupId, Most, Node, TypeId};
 use thiserror::Error;
 
 /// A rank for each type and group, each known by its number, and whether each group may take no item. What has no rank here
@@ -136,8 +136,11 @@ fn is_type_ranked(node: &Node, types: &[usize], groups: &[usize], rank: usize) -
 {
     match node {
         Node::Plain(_) | Node::TagOf(_, _) | Node::MapOf(_) => true,
-        Node::Ref(id) | Node::SimpleBy(id) | Node::Such(id, _) => rank_at(types, id.number) < rank,
-        Node::Both(left, right) => {
+        Node::Ref(id)
+        | Node::SimpleBy(id)
+        | Node::Such(id, _)
+        | Node::Holding(id, Content::OneItem, _) => rank_at(types, id.number) < rank,
+        Node::Both(left, right) | Node::Holding(left, Content::Sequence, right) => {
             rank_at(types, left.number) < rank && rank_at(types, right.number) < rank
         }
         Node::Choice(ids) => are_types_below(ids, types, rank),

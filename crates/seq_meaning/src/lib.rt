@@ -5,7 +5,8 @@
 ghost use Rattle.std.specs.Prelude.{◌≡◌, ◌<◌, ◌≤◌, ◌^◌, ◌↔◌, ℕ, List, length};
 ghost use Rattle.cbor_data.specs.Faults.{Bounds, last_offset};
 ghost use Rattle.cbor_data.specs.Sequence.{Found};
-ghost use Rattle.cbor_data.specs.Value.{AreBytes, Value, place_count};
+ghost use Rattle.cbor_data.specs.Value.{AreBytes, Value};
+ghost use Rattle.cddl_meaning.specs.Size.{size};
 ghost use Rattle.cddl_language.specs.Language.{language, reference, type_node};
 ghost use Rattle.cddl_language.specs.Literals.{Values};
 ghost use Rattle.cddl_language.specs.StandsFor.{StandsFor};
@@ -40,10 +41,10 @@ pub fn one_end_by_text()
     written_is_read_back();
 }
 
-/// A text for which a table stands says exactly one thing of an item whose places have numbers below 2^64, and in one number of
+/// A text for which a table stands says exactly one thing of an item whose size is below 2^64, and in one number of
 /// judgements.
 pub fn text_is_decided()
-    ensures { (worth : Values) (ds : List Definition) (root : Text) (table : Table) → StandsFor worth ds root (language_of table) (root_of table) (rank_of table) (ranks_of table) → (x : Value) → place_count x < 2 ^ 64 → IsDecided (language worth ds) (type_node worth ds (reference (call root no_terms))) 0 x }
+    ensures { (worth : Values) (ds : List Definition) (root : Text) (table : Table) → StandsFor worth ds root (language_of table) (root_of table) (rank_of table) (ranks_of table) → (x : Value) → size x < 2 ^ 64 → IsDecided (language worth ds) (type_node worth ds (reference (call root no_terms))) 0 x }
 {
     decided();
 }

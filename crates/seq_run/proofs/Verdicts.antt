@@ -3,7 +3,8 @@ use Rattle.std.proofs.Common.{◌≡◌, ℕ, ◌<◌, ◌^◌, List, arith}
 use Rattle.cbor_data.specs.Value.{Value, place_count}
 use Rattle.cbor_data.specs.Faults.{Bounds, IsItem}
 use Rattle.cddl_meaning.specs.Judges.{Answer, Yes, No}
-use Rattle.cddl_match.proofs.Lemmas.{places_spelled}
+use Rattle.cddl_meaning.specs.Size.{size}
+use Rattle.cddl_meaning.proofs.Lemmas.{size_spelled}
 use Rattle.cddl_table.specs.Language.{RootSays}
 use Rattle.cddl_table.specs.declared.table.Table.{Table}
 use Rattle.seq_run.specs.Judge.{Judge}
@@ -11,14 +12,14 @@ use Rattle.seq_run.specs.Ends.{Accepts, Misses, Overruns}
 
 -- the laws of the matcher that a session rests on
 abbrev pub OneAnswer : Type 0
-OneAnswer = (table : Table) (x : Value) (a b : Answer) (v w : ℕ) → place_count x < 2 ^ 64 → RootSays table x a v → RootSays table x b w → (b ≡ a) × (w ≡ v)
+OneAnswer = (table : Table) (x : Value) (a b : Answer) (v w : ℕ) → size x < 2 ^ 64 → RootSays table x a v → RootSays table x b w → (b ≡ a) × (w ≡ v)
 
 abbrev pub ShowsInside : Type 0
 ShowsInside = (table : Table) (x : Value) (place w : ℕ) → RootSays table x (No place) w → place < place_count x
 
--- its places have numbers below 2^64
-item_room : (l : Bounds) (o : ℕ) (x : Value) (b : List ℕ) → IsItem l o x b → place_count x < 2 ^ 64
-item_room l o x b item = omega (arith, places_spelled x b item.spells, item.placed)
+-- its size is below 2^64
+item_room : (l : Bounds) (o : ℕ) (x : Value) (b : List ℕ) → IsItem l o x b → size x < 2 ^ 64
+item_room l o x b item = omega (arith, size_spelled x b item.spells, item.placed)
 
 module _ (one : OneAnswer) where
   same_answer : (table : Table) {l : Bounds} {o v w : ℕ} {x : Value} {b : List ℕ} {a c : Answer} → IsItem l o x b → RootSays table x a v → RootSays table x c w → c ≡ a

@@ -1,4 +1,5 @@
-use Rattle.cddl_ranks.proofs.Bytes.{size_preferred, size_spelled}
+use Rattle.cddl_meaning.proofs.Lemmas.{size_spelled}
+use Rattle.cddl_ranks.proofs.Bytes.{size_preferred}
 use Rattle.cddl_ranks.proofs.no_larger.Goals as goal
 
 pub returns-clause-preferred : goal.returns-clause-preferred

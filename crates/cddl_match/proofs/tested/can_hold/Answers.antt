@@ -1,4 +1,4 @@
-use Rattle.std.proofs.Common.{◌≡◌, ◌^◌, nat_lt, ℕ, ◌<◌, ◌≤◌, true, arith, sym}
+use Rattle.std.proofs.Common.{◌≡◌, ◌^◌, nat_lt, ℕ, ◌<◌, ◌≤◌, true, arith}
 use Rattle.std.proofs.lemmas.Bool.Decides.{nat_tests}
 use Rattle.std.proofs.Math.Nat.{pow-le-pow_right}
 use Rattle.cddl_match.proofs.tested.can_hold.Goals as goal

@@ -1,0 +1,69 @@
+-- What a byte string holds, and what a reading of it comes to.
+use Rattle.std.proofs.Common.{◌≡◌, ℕ, ◌+◌, List, [], ◌∷◌, ◌++◌, length, map, sym, ap, subst, ◌∙◌, append_assoc, arith}
+use Rattle.std.proofs.lemmas.List.{append-nil, map-append}
+use Rattle.std.specs.Prelude.{Option, Some, None, MatchOption}
+use Rattle.cbor_item.specs.View.{view}
+use Rattle.cbor_item.specs.declared.item.Item.{Item}
+use Rattle.cbor_data.specs.Value.{Value, array, Values, no_values, value, values_of}
+use Rattle.cbor_data.specs.Embedded.{Embeds, EmbedsAll, none, one_more}
+use Rattle.cbor_data.proofs.Lemmas.{one_embedded}
+use Rattle.cddl_meaning.specs.Forms.{Content, one_item, sequence_of_items, Language}
+use Rattle.cddl_meaning.specs.Held.{Holds, item, items}
+use Rattle.cddl_meaning.specs.Judges.{Reply, Fails}
+use Rattle.cddl_meaning.specs.Moves.{OfType, InHeld, Answered, Asks, Reads, LeadsTo, at_once, reads, reads_nothing}
+use Rattle.cddl_meaning.proofs.Lemmas.{held_once}
+use Rattle.cddl_match.specs.Ahead.{ComesTo}
+
+of_one : {b : List ℕ} {x : Value} → EmbedsAll b (value x no_values) → Embeds b x
+of_one {x = x} (one_more {b = b} h none) = subst (λ c. Embeds c x) (sym (append-nil b)) h
+
+as_list : {b : List ℕ} {x : Value} → Embeds b x → EmbedsAll b (value x no_values)
+as_list {b = b} {x = x} h = subst (λ c. EmbedsAll c (value x no_values)) (append-nil b) (one_more h none)
+
+the_one : (xs : List Value) (y : Value) → values_of xs ≡ value y no_values → xs ≡ y ∷ []
+the_one [] y e = cc e
+the_one (x ∷ []) y e = let h : x ≡ y = cc e in ap (λ z. z ∷ []) h
+the_one (x ∷ z ∷ xs) y e = cc e
+
+holds_one : (b : List ℕ) (xs : List Value) (x : Value) → EmbedsAll b (values_of xs) → xs ≡ x ∷ [] → Holds one_item b x
+holds_one b xs x e i = item (of_one (subst (λ ys. EmbedsAll b (values_of ys)) i e))
+
+not_one : (b : List ℕ) (xs : List Value) → EmbedsAll b (values_of xs) → ((x : Value) → xs ≡ x ∷ [] → ⊥) → (y : Value) → Holds one_item b y → ⊥
+not_one b xs e n y (item h) = n y (the_one xs y (one_embedded b (values_of xs) (value y no_values) e (as_list h)))
+
+pub one_held : (b : List ℕ) (xs : List Value) (o : Option Item) → EmbedsAll b (values_of xs) → MatchOption o ((x : Value) → xs ≡ x ∷ [] → ⊥) (λ i. xs ≡ view i ∷ []) → MatchOption o ((y : Value) → Holds one_item b y → ⊥) (λ i. Holds one_item b (view i))
+one_held b xs None e h = not_one b xs e h
+one_held b xs (Some i) e h = holds_one b xs (view i) e h
+
+pub holds_none : (c : Content) (b : List ℕ) → ((xs : Values) → EmbedsAll b xs → ⊥) → (y : Value) → Holds c b y → ⊥
+holds_none c b n y (item h) = n (value y no_values) (as_list h)
+holds_none c b n y (items {xs = xs} h) = n xs h
+
+pub holds_list : (b : List ℕ) (xs ys : List Value) → ys ≡ xs → EmbedsAll b (values_of xs) → Holds sequence_of_items b (array (values_of ys))
+holds_list b xs ys i e = items (subst (λ zs. EmbedsAll b (values_of zs)) (sym i) e)
+
+-- items that were sound, one by one
+pub one_more_plain : (xs ys : List Item) (i : Item) (x : Value) (old rest all : List Value) → ys ≡ xs ++ i ∷ [] → view i ≡ x → old ≡ x ∷ rest → map view xs ++ old ≡ all → map view ys ++ rest ≡ all
+one_more_plain xs ys i x old rest all e v o h = rw (e, map-append view xs (i ∷ []), append_assoc (map view xs) (view i ∷ []) rest, v, sym o) h
+
+pub all_plain : (xs : List Item) (rest all : List Value) → length rest ≡ 0 → map view xs ++ rest ≡ all → map view xs ≡ all
+all_plain xs [] all e h = sym (append-nil (map view xs)) ∙ h
+all_plain xs (x ∷ rest) all e h = absurd (omega (arith, e))
+
+module _ {N G : Type 0} (l : Language N G) where
+  pub reads_on : (c : Content) (b : List ℕ) (n : N) (p next : ℕ) (y : Value) → Holds c b y → ComesTo {N = N} {G = G} l (Reads c b n p next) (Asks (OfType n 0 y) (InHeld p next)) 0
+  reads_on c b n p next y h = record { leads = λ r w d. subst (λ v. LeadsTo l (Reads c b n p next) r v) (omega arith) (reads h d); comes = comes }
+    where
+      comes : (r : Reply) (w : ℕ) → LeadsTo {N = N} {G = G} l (Reads c b n p next) r w → (v : ℕ) × LeadsTo l (Asks (OfType n 0 y) (InHeld p next)) r v × (w ≡ 0 + v)
+      comes r w (reads k d) = (w, subst (λ z. LeadsTo l (Asks (OfType n 0 z) (InHeld p next)) r w) (held_once h k) d, omega arith)
+      comes r w (reads_nothing k) = absurd (k y h)
+
+  pub reads_none : (c : Content) (b : List ℕ) (n : N) (p next : ℕ) → ((y : Value) → Holds c b y → ⊥) → ComesTo {N = N} {G = G} l (Reads c b n p next) (Answered (Fails p)) 0
+  reads_none c b n p next h = record { leads = leads; comes = comes }
+    where
+      leads : (r : Reply) (w : ℕ) → LeadsTo {N = N} {G = G} l (Answered (Fails p)) r w → LeadsTo l (Reads c b n p next) r (0 + w)
+      leads r w at_once = reads_nothing h
+
+      comes : (r : Reply) (w : ℕ) → LeadsTo {N = N} {G = G} l (Reads c b n p next) r w → (v : ℕ) × LeadsTo {N = N} {G = G} l (Answered (Fails p)) r v × (w ≡ 0 + v)
+      comes r w (reads {y = y} k d) = absurd (h y k)
+      comes r w (reads_nothing k) = (0, at_once, omega arith)
