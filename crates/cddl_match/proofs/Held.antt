@@ -1,5 +1,5 @@
 -- What a byte string holds, and what a reading of it comes to.
-use Rattle.std.proofs.Common.{◌≡◌, ℕ, ◌+◌, List, [], ◌∷◌, ◌++◌, length, map, sym, ap, subst, ◌∙◌, append_assoc, arith}
+use Rattle.std.proofs.Common.{◌≡◌, ℕ, ◌+◌, ◌<◌, List, [], ◌∷◌, ◌++◌, length, map, sym, ap, subst, ◌∙◌, append_assoc, arith}
 use Rattle.std.proofs.lemmas.List.{append-nil, map-append}
 use Rattle.std.specs.Prelude.{Option, Some, None, MatchOption}
 use Rattle.cbor_item.specs.View.{view}
@@ -10,9 +10,10 @@ use Rattle.cbor_data.proofs.Lemmas.{one_embedded}
 use Rattle.cddl_meaning.specs.Forms.{Content, one_item, sequence_of_items, Language}
 use Rattle.cddl_meaning.specs.Held.{Holds, item, items}
 use Rattle.cddl_meaning.specs.Judges.{Reply, Fails}
-use Rattle.cddl_meaning.specs.Moves.{OfType, InHeld, Answered, Asks, Reads, LeadsTo, at_once, reads, reads_nothing}
+use Rattle.cddl_meaning.specs.Moves.{OfType, InHeld, Answered, Asks, Reads, Replies, LeadsTo, at_once, after, reads, reads_nothing, next_move}
 use Rattle.cddl_meaning.proofs.Lemmas.{held_once}
-use Rattle.cddl_match.specs.Ahead.{ComesTo}
+use Rattle.cddl_match.specs.Ahead.{ComesTo, Opens}
+use Rattle.cddl_match.proofs.Ways.{and_on, answers}
 
 of_one : {b : List ℕ} {x : Value} → EmbedsAll b (value x no_values) → Embeds b x
 of_one {x = x} (one_more {b = b} h none) = subst (λ c. Embeds c x) (sym (append-nil b)) h
@@ -67,3 +68,12 @@ module _ {N G : Type 0} (l : Language N G) where
       comes : (r : Reply) (w : ℕ) → LeadsTo {N = N} {G = G} l (Reads c b n p next) r w → (v : ℕ) × LeadsTo {N = N} {G = G} l (Answered (Fails p)) r v × (w ≡ 0 + v)
       comes r w (reads {y = y} k d) = absurd (h y k)
       comes r w (reads_nothing k) = (0, at_once, omega arith)
+
+  -- what a type replies about what the string holds
+  pub told_held : (c : Content) (b : List ℕ) (n : N) (p next : ℕ) (y : Value) {s r : Reply} {k : ℕ} → Holds c b y → Opens {N = N} {G = G} l (OfType n 0 y) (Answered s) k → Answered r ≡ next_move {N = N} {G = G} (InHeld p next) s → ComesTo l (Reads c b n p next) (Answered r) k
+  told_held c b n p next y {k = k} h a e = subst (λ m. ComesTo l (Reads c b n p next) m k) (sym e) (and_on l (reads_on c b n p next y h) (answers l (InHeld p next) a) (omega arith))
+
+  -- it takes more than so many
+  pub heavier_held : (c : Content) (b : List ℕ) (n : N) (p next : ℕ) (y : Value) (k : ℕ) → Holds c b y → ((r : Reply) (w : ℕ) → Replies {N = N} {G = G} l (OfType n 0 y) r w → k < w) → (r : Reply) (w : ℕ) → LeadsTo l (Reads c b n p next) r w → k < w
+  heavier_held c b n p next y k h more r w (reads i (after {s = s} {v = v} d e)) = omega (arith, more s v (subst (λ z. Replies l (OfType n 0 z) s v) (held_once h i) d))
+  heavier_held c b n p next y k h more r w (reads_nothing i) = absurd (i y h)

@@ -1,6 +1,6 @@
 -- The turns of a move.
-use Rattle.std.proofs.Common.{◌≡◌, ◌≤◌, Bool, true, false, refl, arith}
-use Rattle.cddl_match.specs.Views.{goes_on, turns_of}
+use Rattle.std.proofs.Common.{◌≡◌, false, refl}
+use Rattle.cddl_match.specs.Views.{goes_on}
 use Rattle.cddl_match.specs.declared.questions.Parts.{Parts}
 use Rattle.cddl_match.specs.declared.questions.Reading.{Reading}
 use Rattle.cddl_match.specs.declared.questions.Rounds.{Rounds}
@@ -14,7 +14,3 @@ stays_so (Repeats r) h i j = absurd (h r refl)
 stays_so (GoesOn p) h i j = absurd (i p refl)
 stays_so (Tries s) h i j = refl
 stays_so (Reads r) h i j = absurd (j r refl)
-
-pub few_turns : (b : Bool) → turns_of b ≤ 1
-few_turns true = omega arith
-few_turns false = omega arith

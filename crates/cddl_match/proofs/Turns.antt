@@ -58,8 +58,8 @@ module _ {N G : Type 0} (l : Language N G) where
   }
 
   -- the first question is answered
-  pub finished : {first : Question N G} {taken : ℕ} {s : Reply} → IsOnTheWay l first taken [] (Answered s) → Replies l first s taken
-  finished {first = first} {taken = taken} {s = s} old = subst (λ n. Replies l first s n) (omega arith) (old.leads s 0 at_once)
+  pub replied : {q : Question N G} {s : Reply} {k : ℕ} → Opens l q (Answered s) k → Replies l q s k
+  replied {q = q} {s = s} a = subst (λ n. Replies l q s n) (omega arith) (a.leads s 0 at_once)
 
   -- so many questions more are asked in any case
   pub heavier : {first : Question N G} {taken k : ℕ} {os : List (M.Pending N G)} {q : Question N G} {o : M.Pending N G} {m : Move N G} → Opens l q m k → IsOnTheWay l first taken os (Asks q o) → (r : Reply) (w : ℕ) → Replies l first r w → taken + k ≤ w

@@ -675,7 +675,7 @@ fn next_in_holder<'t, 'i>(
 }
 
 /// What a byte string holds is as it has to be; or it is not, which shows at the string.
-fn held_reply<'i>(place: usize, next: usize, reply: Reply<'i>) -> Reply<'i>
+pub(crate) fn held_reply<'i>(place: usize, next: usize, reply: Reply<'_>) -> Reply<'i>
     ensures { M.Answered (reply_view result) ≡ next_move {N = TypeId} {G = GroupId} (InHeld place next) (reply_view reply.entry) }
 {
     match reply {

@@ -42,7 +42,11 @@ fn plain_items(alloc: Global, items: Vec<Sound>) -> Result<Vec<Item>, AllocError
 }
 
 /// What a byte string of these bytes holds, if it holds something.
-fn held_in(alloc: Global, content: Content, bytes: &[u8]) -> Result<Option<Item>, AllocError>
+pub(crate) fn held_in(
+    alloc: Global,
+    content: Content,
+    bytes: &[u8],
+) -> Result<Option<Item>, AllocError>
     ensures { IfOk result (λ held. MatchOption held ((y : Value) → Holds (content_view content) bytes.now y → ⊥) (λ item. Holds (content_view content) bytes.now (view item))) }
 {
     let Some(items) = embedded(alloc, bytes)? else {

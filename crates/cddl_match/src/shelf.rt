@@ -1,4 +1,4 @@
-//! Where items that were read in byte strings are kept until a verdict is found, so that questions may refer to them.
+//! Where items that were read in byte strings are kept, so that questions may refer to them.
 
 ghost use Rattle.std.specs.Prelude.{◌≡◌, IfOk, IfSome};
 
@@ -22,8 +22,8 @@ pub(crate) struct Cells {
 #[derive(Drop)]
 pub(crate) struct Shelf<'i> {
     pub(crate) alloc: Global,
-    pub(crate) cells: &'i Cells,
-    pub(crate) filled: usize,
+    cells: &'i Cells,
+    filled: usize,
 }
 
 impl Cells {
@@ -39,12 +39,12 @@ impl Cells {
         let Some(place) = number.checked_add(1) else {
             return Ok(None);
         };
-        let level = place.ilog2();
-        let size = 1 << level;
+        let order = place.ilog2();
+        let size = 1 << order;
         let chunks = self
             .chunks
             .get_or_try_init(move || boxed_cells(alloc, MOST_CHUNKS))?;
-        let Some(chunk) = chunks.get(level as usize) else {
+        let Some(chunk) = chunks.get(order as usize) else {
             return Ok(None);
         };
         let cells = chunk.get_or_try_init(move || boxed_cells(alloc, size))?;
@@ -73,6 +73,15 @@ fn put(cell: &OnceBox<Item>, item: Box<Item>) -> Option<&Item>
 }
 
 impl<'i> Shelf<'i> {
+    /// No cell is filled yet.
+    pub(crate) fn new(alloc: Global, cells: &'i Cells) -> Shelf<'i> {
+        Shelf {
+            alloc,
+            cells,
+            filled: 0,
+        }
+    }
+
     /// The item, for as long as the cells.
     ///
     /// # Errors

@@ -5,6 +5,8 @@
 #[cfg(test)]
 mod controls;
 #[cfg(test)]
+mod embedded;
+#[cfg(test)]
 mod flags;
 #[cfg(test)]
 mod literal;

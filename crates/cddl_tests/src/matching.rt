@@ -1,7 +1,7 @@
 use cbor_item::{Item, Sound};
 use cddl_match::{Verdict, verdict};
 use cddl_table::{
-    Group, GroupId, MapEntry, Most, Node, Ranks, SizeRange, Table, TagNumber, Test, TypeId, Whole,
+    Content, Group, GroupId, MapEntry, Most, Node, Ranks, SizeRange, Table, TagNumber, Test, TypeId, Whole,
 };
 use std::alloc::{AllocError, Global};
 use std::process::Abort;
@@ -99,6 +99,8 @@ pub(crate) enum Kind {
     /// The left type and the right one.
     Both(usize, usize),
     Such(usize, Asked),
+    /// A byte string's own type, what is read, and what the string holds.
+    Holding(usize, Content, usize),
 }
 
 /// A group of a table.
@@ -196,6 +198,9 @@ fn node_of(alloc: Global, kind: Kind) -> Result<Node, AllocError> {
         Kind::Map(alternatives) => Node::MapOf(alternatives_of(alloc, alternatives)?),
         Kind::Both(left, right) => Node::Both(TypeId { number: left }, TypeId { number: right }),
         Kind::Such(number, asked) => Node::Such(TypeId { number }, test_of(alloc, asked)?),
+        Kind::Holding(of, content, number) => {
+            Node::Holding(TypeId { number: of }, content, TypeId { number })
+        }
     })
 }
 
