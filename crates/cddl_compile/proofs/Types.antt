@@ -83,8 +83,9 @@ control_free None a b m h = absurd h
 control_free (Some left_alone) a b m h = inl h
 control_free (Some left_and_right) a b m (inl e) = inl e
 control_free (Some left_and_right) a b m (inr e) = inr (e, refl)
-control_free (Some held_item) a b m h = absurd h
-control_free (Some held_sequence) a b m h = absurd h
+control_free (Some held_item) a b m h = inl h
+control_free (Some held_sequence) a b m (inl e) = inl e
+control_free (Some held_sequence) a b m (inr e) = inr (e, refl)
 control_free (Some by_value) a b m h = absurd h
 
 control_items : (o : Option Control) (a b : Term) (g : GroupName) → FreeItems {N = TypeName} (control_node o a b) g → ⊥

@@ -6,7 +6,7 @@ use Rattle.cbor_data.specs.Value.{Value}
 use Rattle.cddl_meaning.specs.Forms as F
 use Rattle.cddl_meaning.specs.Forms.{Node, Language}
 use Rattle.cddl_meaning.specs.Judges.{Answer, Says}
-use Rattle.cddl_language.specs.Controls.{Control, left_alone, left_and_right, control_of}
+use Rattle.cddl_language.specs.Controls.{Control, left_alone, left_and_right, held_item, held_sequence, control_of}
 use Rattle.cddl_language.specs.Numbers.{least_of, most_of, occurs_once, tag_number, hash_form, hash_test}
 use Rattle.cddl_language.specs.Terms.{Text, Term, literal, named, parens, map_of, array_of, unwrapped, choice_of, choice_of_name, tagged, tagged_by, simple_by, hash, range, control, or, Ref, Entries, Entry, typed, keyed, grouped, Key, of_type, bareword, of_value, Definition, choices, alternatives, entry_list, occurrence_of, name_of}
 use Rattle.cddl_language.specs.Substitution.{type_choices, group_choices}
@@ -63,10 +63,12 @@ abbrev pub map_node : Option Alternatives → Node TypeName GroupName
 map_node (Some mss) = F.MapOf (map (map map_entry) mss)
 map_node None = nothing
 
--- A control of two types (section 3.8). Of controllers that are values, and of what byte strings hold, nothing is said yet.
+-- A control of two types (section 3.8). Of controllers that are values nothing is said yet.
 abbrev pub control_node : Option Control → Term → Term → Node TypeName GroupName
 control_node (Some left_alone) a b = F.Ref (type a)
 control_node (Some left_and_right) a b = F.Both (type a) (type b)
+control_node (Some held_item) a b = F.Holding (type a) F.one_item (type b)
+control_node (Some held_sequence) a b = F.Holding (type a) F.sequence_of_items (type b)
 control_node _ a b = nothing
 
 -- What is refused is `nothing` here.

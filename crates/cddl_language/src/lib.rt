@@ -12,7 +12,9 @@ ghost use Rattle.cddl_language.specs.Substitution.{fill_group};
 ghost use Rattle.cddl_language.specs.Faults.{IsAccepted, IsRefused, Specification, definitions, root_of, rules};
 ghost use Rattle.cddl_language.specs.Free.{IsOnCycle};
 ghost use Rattle.cddl_language.specs.Kinds.{Opened, is_group_in, opened_in};
-ghost use Rattle.cbor_data.specs.Value.{Value};
+ghost use Rattle.cbor_data.specs.Embedded.{Embeds, EmbedsAll};
+ghost use Rattle.cbor_data.specs.Value as V;
+ghost use Rattle.cbor_data.specs.Value.{Value, array, bytes};
 ghost use Rattle.cddl_meaning.specs.Forms.{Choice, Language, any_number_of, at_most, exactly};
 ghost use Rattle.cddl_meaning.specs.Judges.{Answer, No, Says, Yes};
 ghost use Rattle.cddl_language.specs.Choices.{chosen, chosen_by_name};
@@ -49,12 +51,16 @@ pub fn chosen_types_say()
 {}
 
 /// A control by `.and` or `.within` says yes where the type on its left and its controller do; the left one is asked first, and a
-/// no shows where the type shows it that says it. A control by `.default` says what the type on its left says.
+/// no shows where the type shows it that says it. A control by `.cbor` says yes of a byte string to which the type on its left does
+/// and that holds one item to which the controller does, and one by `.cborseq` where it holds items of which the array is such. A
+/// control by `.default` says what the type on its left says.
 pub fn controls_of_types_say()
     ensures both { (worth : Values) (ds : List Definition) (a b : Term) (p : ℕ) (x : Value) → TermSays worth ds (control a (codes "and") b) p x Yes ↔ (TermSays worth ds a p x Yes × TermSays worth ds b p x Yes) }
     ensures left { (worth : Values) (ds : List Definition) (a b : Term) (p : ℕ) (x : Value) (far : ℕ) → TermSays worth ds a p x (No far) → TermSays worth ds (control a (codes "and") b) p x (No far) }
     ensures right { (worth : Values) (ds : List Definition) (a b : Term) (p : ℕ) (x : Value) (far : ℕ) → TermSays worth ds a p x Yes → TermSays worth ds b p x (No far) → TermSays worth ds (control a (codes "and") b) p x (No far) }
     ensures within { (worth : Values) (ds : List Definition) (a b : Term) (p : ℕ) (x : Value) (o : Answer) → TermSays worth ds (control a (codes "within") b) p x o ↔ TermSays worth ds (control a (codes "and") b) p x o }
+    ensures item { (worth : Values) (ds : List Definition) (a b : Term) (p : ℕ) (x : Value) → TermSays worth ds (control a (codes "cbor") b) p x Yes ↔ (TermSays worth ds a p x Yes × ((bs : List ℕ) × (y : Value) × (x ≡ bytes bs) × Embeds bs y × TermSays worth ds b 0 y Yes)) }
+    ensures sequence { (worth : Values) (ds : List Definition) (a b : Term) (p : ℕ) (x : Value) → TermSays worth ds (control a (codes "cborseq") b) p x Yes ↔ (TermSays worth ds a p x Yes × ((bs : List ℕ) × (ys : V.Values) × (x ≡ bytes bs) × EmbedsAll bs ys × TermSays worth ds b 0 (array ys) Yes)) }
     ensures default { (worth : Values) (ds : List Definition) (a b : Term) (p : ℕ) (x : Value) (o : Answer) → TermSays worth ds (control a (codes "default") b) p x o ↔ TermSays worth ds a p x o }
 {}
 

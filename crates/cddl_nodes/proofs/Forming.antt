@@ -3,7 +3,7 @@ use Rattle.std.proofs.Common.{◌≡◌, ℕ, Bool, true, false, if◌then◌els
 use Rattle.std.specs.Prelude.{is_some}
 use Rattle.cbor_data.specs.Value.{Value}
 use Rattle.cddl_literal.specs.Numbers.{Meaning}
-use Rattle.cddl_meaning.specs.Alike.{AlikeAll, none, both, AlikeTypes, plain, refs, choices as some_choices, tags, boths, AlikeNumbers, any_numbers, same_number, AlikeGroups, entries as some_entries, group_refs, sequences, alternates, repeats}
+use Rattle.cddl_meaning.specs.Alike.{AlikeAll, none, both, AlikeTypes, plain, refs, choices as some_choices, tags, boths, holdings, AlikeNumbers, any_numbers, same_number, AlikeGroups, entries as some_entries, group_refs, sequences, alternates, repeats}
 use Rattle.cddl_meaning.specs.Forms as F
 use Rattle.cddl_language.specs.Controls.{Control, left_alone, left_and_right, held_item, held_sequence, by_value, control_of}
 use Rattle.cddl_language.specs.Numbers as N
@@ -201,8 +201,8 @@ module _ (s : Sense) (t : Table) where
   control_by : (k : Option Control) (y z : Term) (i j : ℕ) → IsTerm t i y → IsTerm t j z → IsKnown s y → IsKnown s z → Forms (L.control_node k y z) (control_form_view k i j)
   control_by (Some left_alone) y z i j g h p q = refs (of_row g p.0 p.1)
   control_by (Some left_and_right) y z i j g h p q = boths (of_row g p.0 p.1) (of_row h q.0 q.1)
-  control_by (Some held_item) y z i j g h p q = some_choices none
-  control_by (Some held_sequence) y z i j g h p q = some_choices none
+  control_by (Some held_item) y z i j g h p q = holdings (of_row g p.0 p.1) (of_row h q.0 q.1)
+  control_by (Some held_sequence) y z i j g h p q = holdings (of_row g p.0 p.1) (of_row h q.0 q.1)
   control_by (Some by_value) y z i j g h p q = some_choices none
   control_by None y z i j g h p q = some_choices none
 

@@ -3,7 +3,7 @@ use Rattle.std.specs.Prelude.{List, map}
 use Rattle.std.specs.declared.alloc.Global.{Global}
 use Rattle.std.specs.declared.vec.Vec.{Vec}
 use Rattle.cddl_meaning.specs.Forms as F
-use Rattle.cddl_table.specs.Nodes.{most_view, test_view}
+use Rattle.cddl_table.specs.Nodes.{content_view, most_view, test_view}
 use Rattle.cddl_nodes.specs.declared.origin.TypeOrigin.{TypeOrigin}
 use Rattle.cddl_nodes.specs.declared.origin.GroupOrigin.{GroupOrigin}
 use Rattle.cddl_nodes.specs.declared.form.EntryForm.{EntryForm}
@@ -35,6 +35,7 @@ type_form_view (T.TagOf n o) = F.TagOf (tag_form_view n) o
 type_form_view (T.SimpleBy o) = F.SimpleBy o
 type_form_view (T.MapOf ess) = F.MapOf (map_form_view ess.items)
 type_form_view (T.Both o p) = F.Both o p
+type_form_view (T.Holding o c p) = F.Holding o (content_view c) p
 
 abbrev pub group_form_view : GroupForm → F.Group TypeOrigin GroupOrigin
 group_form_view (G.Entry o) = F.Entry o

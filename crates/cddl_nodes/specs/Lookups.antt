@@ -2,7 +2,7 @@
 use Rattle.std.specs.Prelude.{ℕ, ltb, Bool, true, false, [], Option, Some, None}
 use Rattle.cbor_data.specs.Value.{Value}
 use Rattle.cddl_meaning.specs.Forms as F
-use Rattle.cddl_language.specs.Controls.{Control, left_alone, left_and_right}
+use Rattle.cddl_language.specs.Controls.{Control, left_alone, left_and_right, held_item, held_sequence}
 use Rattle.cddl_terms.specs.declared.row.Row.{Row}
 use Rattle.cddl_openings.specs.declared.openings.Opening.{Opening}
 use Rattle.cddl_openings.specs.declared.openings.Opening.TheVariants as OpeningV
@@ -32,6 +32,8 @@ opened_view _ = F.Choice []
 abbrev pub control_form_view : Option Control → ℕ → ℕ → F.Node TypeOrigin GroupOrigin
 control_form_view (Some left_alone) left right = F.Ref (T.Row left)
 control_form_view (Some left_and_right) left right = F.Both (T.Row left) (T.Row right)
+control_form_view (Some held_item) left right = F.Holding (T.Row left) F.one_item (T.Row right)
+control_form_view (Some held_sequence) left right = F.Holding (T.Row left) F.sequence_of_items (T.Row right)
 control_form_view _ left right = F.Choice []
 
 abbrev pub between_view : Bool → Option Value → Option Value → F.Node TypeOrigin GroupOrigin

@@ -5,7 +5,7 @@ ghost use Rattle.cddl_meaning.specs.Forms as F;
 ghost use Rattle.cddl_nodes.specs.Forms.{type_form_view};
 
 use crate::origin::{GroupOrigin, TypeOrigin};
-use cddl_table::{Most, Test};
+use cddl_table::{Content, Most, Test};
 use std::alloc::Global;
 
 /// Which tag numbers are meant.
@@ -44,6 +44,7 @@ pub(crate) enum TypeForm {
     SimpleBy(TypeOrigin),
     MapOf(Vec<Vec<EntryForm>>),
     Both(TypeOrigin, TypeOrigin),
+    Holding(TypeOrigin, Content, TypeOrigin),
 }
 
 /// The type that says no to every item.

@@ -215,6 +215,11 @@ impl Numbers {
                 let right = self.number_type(right)?;
                 Ok(Node::Both(left, right))
             }
+            TypeForm::Holding(left, content, right) => {
+                let left = self.number_type(left)?;
+                let right = self.number_type(right)?;
+                Ok(Node::Holding(left, content, right))
+            }
         }
     }
 

@@ -9,12 +9,14 @@ ghost use Rattle.cddl_language.specs.Terms as L;
 ghost use Rattle.cddl_language.specs.Terms.{Entries, Group, Ref, Term, Text};
 ghost use Rattle.cddl_closed.specs.Closed.{AreAlternatives};
 ghost use Rattle.cddl_terms.specs.Table.{Table};
+ghost use Rattle.cddl_table.specs.Nodes.{content_view};
 ghost use Rattle.cddl_texts.specs.Controls.{control_view};
 ghost use Rattle.cddl_terms.specs.Trees.{IsGroup, IsRef, IsTerm};
 ghost use Rattle.cddl_written.specs.Written.{IsMeant};
 ghost use Rattle.cddl_nodes.specs.Basis.{IsSource, Sense};
 ghost use Rattle.cddl_nodes.specs.Forms.{type_form_view};
 ghost use Rattle.cddl_nodes.specs.Lookups.{control_form_view, is_flagged, opened_view};
+ghost use Rattle.cddl_nodes.specs.declared.origin.TypeOrigin.TheVariants as T;
 ghost use Rattle.cddl_nodes.specs.Origins.{AreKnown, IsChosenForm, IsInstanceForm, IsKnown, IsReached, IsTermForm, IsTypeForm, IsTypeOrigin};
 
 use crate::asked::{group_at, is_group, meaning_there, place_at};
@@ -32,7 +34,7 @@ use cddl_closed::choices;
 use cddl_closed::laws::meaning_at;
 use cddl_openings::Opening;
 use cddl_openings::laws::opening_stands;
-use cddl_table::Test;
+use cddl_table::{Content, Test};
 use cddl_terms::{NoRoom, Terms};
 use cddl_texts::Control;
 use std::alloc::Global;
@@ -227,7 +229,7 @@ fn or_form(alloc: Global, terms: &Terms<'_>, row: u32) -> Result<TypeForm, NoRoo
     }
 }
 
-/// What a control asks: the type on its left and the controller, or that type alone.
+/// What a control asks: the type on its left, and the controller of the same item or of what a byte string holds, if at all.
 fn control_form(alloc: Global, terms: &Terms<'_>, name: u32, left: u32, right: u32) -> TypeForm
     ensures { (s : Sense) (n : Text) (a b : Term) → slice_get terms.now.texts name ≡ Some n → IsTerm terms.now left a → IsTerm terms.now right b → IsKnown s (L.control a n b) → IsTermForm s terms.now (L.control a n b) result }
 {
@@ -242,8 +244,16 @@ fn known_form(alloc: Global, control: Option<Control>, left: u32, right: u32) ->
         Some(Control::LeftAndRight) => {
             TypeForm::Both(TypeOrigin::Row(left), TypeOrigin::Row(right))
         }
+        Some(Control::HeldItem) => holding(left, Content::OneItem, right),
+        Some(Control::HeldSequence) => holding(left, Content::Sequence, right),
         _ => nothing(alloc),
     }
+}
+
+fn holding(left: u32, content: Content, right: u32) -> TypeForm
+    ensures { type_form_view result ≡ F.Holding (T.Row left) (content_view content) (T.Row right) }
+{
+    TypeForm::Holding(TypeOrigin::Row(left), content, TypeOrigin::Row(right))
 }
 
 /// The choices of the instance at this place.

@@ -2,15 +2,13 @@
 use Rattle.std.specs.Prelude.{◌≡◌, ℕ, Bool, true, false, Option, Some}
 use Rattle.cddl_token.specs.declared.Token.{Token}
 use Rattle.cddl_syntax.specs.Syntax as S
-use Rattle.cddl_language.specs.Controls.{Control, held_item, held_sequence, by_value, control_of}
+use Rattle.cddl_language.specs.Controls.{Control, by_value, control_of}
 use Rattle.cddl_language.specs.Faults.{HasSite, Specification}
 use Rattle.cddl_language.specs.Reading.{control_name}
 use Rattle.cddl_language.specs.Sites.{Site, an_operation}
 
 -- the controls that this version does not take
 abbrev pub is_left_out : Option Control → Bool
-is_left_out (Some held_item) = true
-is_left_out (Some held_sequence) = true
 is_left_out (Some by_value) = true
 is_left_out _ = false
 

@@ -64,8 +64,5 @@ fn left_out_token(token: &Token<'_>) -> Option<usize>
 fn is_left_out(control: Option<Control>) -> bool
     ensures { result ≡ is_left_out (option_map control_view control) }
 {
-    matches!(
-        control,
-        Some(Control::HeldItem | Control::HeldSequence | Control::ByValue)
-    )
+    matches!(control, Some(Control::ByValue))
 }
