@@ -75,11 +75,7 @@ static HOLDER_ROWS: [Row; 26] = [
     (8, ONE, NO),
     (8, Form::Array(&[ONE]), NO),
     // a no of what a string holds is at the string, and one of the string's own type where that shows it
-    (
-        9,
-        Form::Array(&[ONE, Form::Bytes(&[1, 2, 3])]),
-        YES,
-    ),
+    (9, Form::Array(&[ONE, Form::Bytes(&[1, 2, 3])]), YES),
     (
         9,
         Form::Array(&[ONE, Form::Bytes(&[1, 2, 0x20])]),
@@ -160,7 +156,10 @@ fn reads_items_up_to_256_deep(rt: HostRuntime) -> Result<(), Fail> {
 fn reads_strings_in_strings(rt: HostRuntime) -> Result<(), Fail> {
     let alloc = rt.alloc();
     let table = holder_table(alloc, 7)?.expect(&rt, "ranks");
-    assert_eq!(rt; verdict_of(alloc, &table, nested_strings(alloc, 3000)?)?, YES);
+    assert_eq!(rt;
+        verdict_of(alloc, &table, nested_strings(alloc, 3000)?)?,
+        YES
+    );
     Ok(())
 }
 

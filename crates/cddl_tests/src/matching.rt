@@ -1,7 +1,8 @@
 use cbor_item::{Item, Sound};
 use cddl_match::{Verdict, verdict};
 use cddl_table::{
-    Content, Group, GroupId, MapEntry, Most, Node, Ranks, SizeRange, Table, TagNumber, Test, TypeId, Whole,
+    Content, Group, GroupId, MapEntry, Most, Node, Ranks, SizeRange, Table, TagNumber, Test,
+    TypeId, Whole,
 };
 use std::alloc::{AllocError, Global};
 use std::process::Abort;
