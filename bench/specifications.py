@@ -1,20 +1,28 @@
 #!/usr/bin/env python3
-"""Measures the built program on specifications of two sizes, one twice the other, on a stream of small arrays, and on large maps.
+"""Measures the built program on specifications of two sizes, one twice the other, on a stream of small arrays, on large
+maps, and on byte strings that hold items.
 
     specifications.py PROGRAM
 
-'PROGRAM check' reads each specification a few times, the two sizes and an empty one taking turns, and the processor times are
-added; what the empty one costs is taken off. The columns: the speed on the larger specification, in MiB/s, the growth of the
-processor time from the smaller one to the larger, which is 2 where the cost grows with the size alone, and the peak memory on
-the larger one for each of its bytes. Then 'PROGRAM validate' reads a stream of arrays of some 100 bytes against a specification
-that asks about each item in them, and against 'any', by turns; the ratio of the least processor time of the one to that of the
-other is printed. Last it reads streams of maps with 100,000 and with 200,000 pairs in the same way. The columns: that ratio
-for the larger maps, the growth of the processor time, and the peak memory for each pair of a map, with the specification and
-with 'any'.
+'PROGRAM check' reads each specification a few times, the two sizes and an empty one taking turns, and the processor
+times are added; what the empty one costs is taken off. The columns: the speed on the larger specification, in MiB/s,
+the growth of the processor time from the smaller one to the larger, which is 2 where the cost grows with the size
+alone, and the peak memory on the larger one for each of its bytes. Then 'PROGRAM validate' reads a stream of arrays
+of some 100 bytes against a specification that asks about each item in them, and against 'any', by turns; the ratio of
+the least processor time of the one to that of the other is printed. Then it reads streams of maps with 100,000 and
+with 200,000 pairs in the same way. The columns: that ratio for the larger maps, the growth of the processor time, and
+the peak memory for each pair of a map, with the specification and with 'any'.
 
-The status is 1 where a specification is not answered as expected, where its growth is outside 1.4 to 2.8, where the ratio for
-arrays is over 1.3 or one for maps over 2, where the growth for maps is outside 1.4 to 3.4 (more keys than the processor's caches
-hold take longer each), or where the specification takes over 64 bytes for a pair more than 'any'.
+A stream of messages with one signature, whose protected headers are in a byte string, is read against the
+specification in examples/cose_sign1.cddl and against 'any', as the arrays are. The last streams are one byte string
+each, of two sizes: with one large array in it, with a sequence of many items, and with a string in a string and so
+on, 1,000 levels of them. The columns: the ratio of the processor time for the larger one to that for a stream of what
+is read in it, against 'any'; the growth of the processor time; and the peak memory for each byte of the item.
+
+The status is 1 where a specification is not answered as expected, where its growth or that for a byte string is
+outside 1.4 to 2.8, where the ratio for arrays is over 1.3 or one for maps or messages over 2, where the growth for
+maps is outside 1.4 to 3.4 (more keys than the processor's caches hold take longer each), or where the specification
+takes over 64 bytes for a pair more than 'any'.
 """
 import argparse
 import os
@@ -34,6 +42,9 @@ MESSAGES = 40_000
 PAIRS = 100_000, 200_000
 MAPS_AT_A_TIME = 4
 MOST_MAP_RATIO, MOST_MAP_GROWTH, MOST_BYTES_A_PAIR = 2, 3.4, 64
+COSE = os.path.join(os.path.dirname(os.path.dirname(os.path.abspath(__file__))), "examples", "cose_sign1.cddl")
+MOST_COSE_RATIO = 2
+LEVELS = 1000
 ACCEPTED = "accepted\n"
 
 
@@ -105,14 +116,15 @@ def repeated(size):
 
 
 def spent(words, answer=None):
-    """The processor time of a run, and its most memory in bytes."""
+    """The processor time of a run, and its most memory in bytes. Without an answer the stream has to be clean."""
     with tempfile.TemporaryFile("w+") as out:
         running = subprocess.Popen(words, stdout=out, stderr=subprocess.STDOUT, stdin=subprocess.DEVNULL)
-        _, _, used = os.wait4(running.pid, 0)
+        _, status, used = os.wait4(running.pid, 0)
+        running.returncode = os.waitstatus_to_exitcode(status)
         out.seek(0)
-        told = out.read(200) if answer is not None else None
-    if answer is not None and told != answer:
-        raise SystemExit(f"{' '.join(words)}: {told!r} where {answer!r} was expected")
+        told = out.read(200)
+    if told != answer if answer is not None else running.returncode:
+        raise SystemExit(f"{' '.join(words)}: {told!r} where {answer or 'a clean stream'!r} was expected")
     return used.ru_utime + used.ru_stime, used.ru_maxrss * 1024
 
 
@@ -199,12 +211,78 @@ def maps(program, folder):
     return bad
 
 
+def signed_message(number):
+    """A COSE_Sign1 with its tag: protected headers, a key identifier, a payload of 20 bytes, and any signature."""
+    signature = bytes((number + k) % 256 for k in range(64))
+    return head(6, 18) + head(4, 4) + encoded(encoded({1: -7})) + encoded({4: b"key %d" % (number % 100)}) + encoded(
+        b"measurement %08d" % number) + encoded(signature)
+
+
+def signed_messages(program, folder):
+    path = written(folder, "signed.cborseq", b"".join(map(signed_message, range(MESSAGES))))
+    specifications = {"any": written(folder, "any.cddl", "r = any\n"), "signed": COSE}
+    times, = least_times(program, specifications, [path])
+    ratio = times["signed"] / times["any"]
+    print(f"\n{MESSAGES} signed messages of {os.path.getsize(path) // MESSAGES} bytes with headers in a byte string: "
+          f"{ratio:.2f} times 'any'")
+    return ratio > MOST_COSE_RATIO
+
+
+def small_numbers(count):
+    return (bytes(range(24)) * (count // 24 + 1))[:count]
+
+
+def held_array(size):
+    """An item of this size that is a byte string with an array of small numbers in it, and the array."""
+    count = size - 10
+    array = head(4, count) + small_numbers(count)
+    return encoded(array), array
+
+
+def held_sequence(count):
+    """A byte string with so many small numbers, and an array of them, since a sequence is asked about as one."""
+    numbers = small_numbers(count)
+    return encoded(numbers), head(4, count) + numbers
+
+
+def held_strings(size):
+    """A string in a string and so on, 1,000 levels round a number; and all of the strings, one after the other. Each is
+    a chunk behind empty ones, as many as it takes for each level to add the same number of bytes."""
+    empty = size // LEVELS - 11
+    levels = [b"\0"]
+    for _ in range(LEVELS):
+        chunk = b"\x5b" + len(levels[-1]).to_bytes(8, "big") + levels[-1]
+        levels.append(b"\x5f" + b"\x40" * empty + chunk + b"\xff")
+    return levels[-1], b"".join(levels)
+
+
+def byte_strings(program, folder):
+    any_item = written(folder, "any.cddl", "r = any\n")
+    bad = False
+    print(f"\n{'byte strings':44} {'to any':>7} {'growth':>7} {'a byte':>7}")
+    for name, make, sizes, text in (
+        ("an array of 16 MiB by .cbor", held_array, (8 << 20, 16 << 20), "r = bstr .cbor any\n"),
+        ("a million numbers by .cborseq", held_sequence, (500_000, 1_000_000), "r = bstr .cborseq [* uint]\n"),
+        (f"{LEVELS} strings in each other, of 32 KiB", held_strings, (16 * KIB, 32 * KIB), "t = int / bstr .cbor t\n"),
+    ):
+        specification = written(folder, "held.cddl", text)
+        made = [make(size) for size in sizes]
+        paths = [written(folder, f"held{k}.cborseq", item) for k, (item, _) in enumerate(made)]
+        plain = written(folder, "plain.cborseq", made[1][1])
+        small, large = (it["held"] for it in least_times(program, {"held": specification}, paths))
+        times, = least_times(program, {"any": any_item}, [plain])
+        growth, room = large / small, peak(paths[1], [program, "validate", specification]) / len(made[1][0])
+        print(f"{name:44} {large / times['any']:7.2f} {growth:7.2f} {room:7.0f}", flush=True)
+        bad = bad or not LEAST <= growth <= MOST
+    return bad
+
+
 def main():
-    words = argparse.ArgumentParser(description="Measures the checker of specifications, and the matcher of arrays and maps.")
+    words = argparse.ArgumentParser(description="Measures the checker of specifications, and the matcher.")
     words.add_argument("program")
     program = os.path.abspath(words.parse_args().program)
     with tempfile.TemporaryDirectory() as folder:
-        bad = [check_all(program, folder), arrays(program, folder), maps(program, folder)]
+        bad = [it(program, folder) for it in (check_all, arrays, maps, signed_messages, byte_strings)]
     return 1 if any(bad) else 0
 
 

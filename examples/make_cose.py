@@ -1,71 +1,13 @@
 #!/usr/bin/env python3
-"""Makes cose_sign1.cborseq, messages with one signature (RFC 9052), and cwt.cborseq, claims of CBOR Web Tokens (RFC 8392), each
-as a CBOR Sequence; their reports, which are what 'cddlseq validate cose_sign1.cddl cose_sign1.cborseq' and the like have to
-print; and of each the same with one wrong byte and its report: cose_sign1_broken.* and cwt_broken.*.
+"""Makes cose_sign1.cborseq, messages with one signature (RFC 9052), and cwt.cborseq, claims of CBOR Web Tokens
+(RFC 8392), each as a CBOR Sequence; their reports, which are what 'cddlseq validate cose_sign1.cddl cose_sign1.cborseq'
+and the like have to print; and of each the same with one wrong byte and its report: cose_sign1_broken.* and
+cwt_broken.*. In cose_sign1_protected.* the protected headers of a message have a label twice. cwt_signed.* and
+cwt_signed_broken.* are the claims in messages with a signature, for 'cddlseq validate --root token cwt.cddl'.
 
 The reports are worked out here from the messages, not by the program. What the RFCs show is compared with their bytes.
 """
-import os
-import struct
-
-
-class Tag:
-    def __init__(self, number, content):
-        self.number, self.content = number, content
-
-
-def head(major, number):
-    """The shortest head (RFC 8949, sections 3 and 4.1)."""
-    if number < 24:
-        return bytes([major << 5 | number])
-    for info, width in (24, 1), (25, 2), (26, 4), (27, 8):
-        if number < 1 << 8 * width:
-            return bytes([major << 5 | info]) + number.to_bytes(width, "big")
-    raise ValueError(number)
-
-
-def encoded(item):
-    if item is None:
-        return b"\xf6"
-    if isinstance(item, int):
-        return head(0, item) if item >= 0 else head(1, -1 - item)
-    if isinstance(item, float):
-        return b"\xfb" + struct.pack(">d", item)
-    if isinstance(item, bytes):
-        return head(2, len(item)) + item
-    if isinstance(item, str):
-        return head(3, len(item.encode())) + item.encode()
-    if isinstance(item, Tag):
-        return head(6, item.number) + encoded(item.content)
-    if isinstance(item, dict):
-        return head(5, len(item)) + b"".join(encoded(key) + encoded(value) for key, value in item.items())
-    return head(4, len(item)) + b"".join(map(encoded, item))
-
-
-def notation(item):
-    """The item in diagnostic notation (RFC 8949, section 8), floats by their bits."""
-    if item is None:
-        return "null"
-    if isinstance(item, int):
-        return str(item)
-    if isinstance(item, float):
-        return f"f64'{struct.pack('>d', item).hex()}'"
-    if isinstance(item, bytes):
-        return f"h'{item.hex()}'"
-    if isinstance(item, str):
-        return f'"{item}"'
-    if isinstance(item, Tag):
-        return f"{item.number}({notation(item.content)})"
-    if isinstance(item, dict):
-        return f"{{{', '.join(f'{notation(key)}: {notation(value)}' for key, value in item.items())}}}"
-    return f"[{', '.join(map(notation, item))}]"
-
-
-def spelled(item, digits):
-    """The item, whose bytes are these."""
-    assert encoded(item) == bytes.fromhex(digits), encoded(item).hex()
-    return item
-
+from sequences import Tag, encoded, spelled, write
 
 CLAIMS = spelled(  # RFC 8392, appendix A.1
     {
@@ -98,37 +40,31 @@ MESSAGES = [
 ]
 
 
-def written(stem, items, change=None):
-    """The stream and its report. A change is the item that fails, how far in it a byte is changed and to what, and the place
-    and notation that are told."""
-    stream, report = b"", ""
-    bad = change[0] if change else len(items)
-    for count, item in enumerate(items[:bad], 1):
-        report += f"item {count} at {len(stream)}: {notation(item)}\n"
-        stream += encoded(item)
-    if change:
-        _, at, old, new, told = change
-        report += f"failed: {bad} items, offset {len(stream)}: mismatch at {told}\n"
-        rest = bytearray(b"".join(map(encoded, items[bad:])))
-        assert rest[at] == old
-        rest[at] = new
-        stream += rest
-    else:
-        report += f"clean: {len(items)} items, {len(stream)} bytes\n"
-    folder = os.path.dirname(os.path.abspath(__file__))
-    with open(os.path.join(folder, stem + ".cborseq"), "wb") as file:
-        file.write(stream)
-    with open(os.path.join(folder, stem + ".report"), "w", newline="\n") as file:
-        file.write(report)
+PROTECTED = encoded({1: -7})
+TWICE = bytes.fromhex("a201260127")  # {1: -7, 1: -8}
+
+
+def signed(claims):
+    return [PROTECTED, {4: b"key 1"}, encoded(claims), bytes(range(64))]
+
+
+SIGNED = [MESSAGES[1], Tag(61, Tag(18, signed(TOKENS[1]))), signed(TOKENS[2])]
 
 
 def main():
-    written("cose_sign1", MESSAGES)
+    write("cose_sign1", MESSAGES)
     # the key identifier of the second message: a text in place of a byte string
-    written("cose_sign1_broken", MESSAGES, (1, 8, 0x52, 0x72, '$()[1]{4}: "AsymmetricECDSA256"'))
-    written("cwt", TOKENS)
+    write("cose_sign1_broken", MESSAGES, 1, '$()[1]{4}: "AsymmetricECDSA256"', (8, 0x52, 0x72))
+    message = Tag(18, [TWICE] + MESSAGES[0].content[1:])
+    write("cose_sign1_protected", [MESSAGES[1], message, MESSAGES[2]], 1, f"$()[0]: h'{TWICE.hex()}'")
+    write("cwt", TOKENS)
     # when the second token was issued: a byte string in place of a float
-    written("cwt_broken", TOKENS, (1, 2, 0xfb, 0x48, "${6}: h'41d584367c200000'"))
+    write("cwt_broken", TOKENS, 1, "${6}: h'41d584367c200000'", (2, 0xfb, 0x48))
+    write("cwt_signed", SIGNED)
+    # the same in a message: what is wrong in a byte string is told of the whole string
+    payload = encoded(TOKENS[1]).replace(b"\xfb", b"\x48")
+    at = encoded(SIGNED[1]).index(b"\xfb")
+    write("cwt_signed_broken", SIGNED, 1, f"$()()[2]: h'{payload.hex()}'", (at, 0xfb, 0x48))
 
 
 main()

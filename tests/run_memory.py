@@ -21,7 +21,7 @@ AT_ONCE = 3
 GATEWAY, BROKEN, COSE, COSE_BROKEN = (
     os.path.join(TOP, "examples", name)
     for name in ("gateway.cddl", "broken.cborseq", "cose_sign1.cddl", "cose_sign1_broken.cborseq"))
-# Words of a command, in which a text that is no file's name stands for a file with this text.
+# Words of a command, in which a text with a line feed stands for a file with this text.
 COMMANDS = [
     ["check", GATEWAY],
     ["validate", GATEWAY, BROKEN],
@@ -41,6 +41,8 @@ COMMANDS = [
     ["check", "m = {g}\ng = (a: int, ? h)\nh = (b: int, ? g)\n"],
     ["check", "m = {f, f, k}\nf = (k, k, k, k, k)\nk = (a: 1 // b: 1)\n"],
     ["check", "--root", "s", "r = int\ns = [* ~t]\nt = [+ r]\n"],
+    # byte strings that hold 10, 1 and 2; 10 in a byte string; and 10 and then an item that ends inside
+    ["validate", "r = bstr .cborseq [* t]\nt = uint / bstr .cbor t\n", "C\n\x01\x02BA\nB\n\x18"],
 ]
 
 
@@ -80,7 +82,7 @@ def run_memory(program):
             words = [os.path.abspath(program)]
             for word in command:
                 if "\n" in word:
-                    path = f"{folder}/{place}.cddl"
+                    path = f"{folder}/{place}.{len(words)}"
                     with open(path, "w", encoding="utf-8") as file:
                         file.write(word)
                     word = path
