@@ -32,8 +32,11 @@ pub data Control : Type 0 where
   -- a value counts the item, or makes a literal with the other side
   by_value : Control
 
+abbrev pub controls_by_values : List (List Text × Control)
+controls_by_values = (codes "eq" ∷ [], compared equal) ∷ (codes "ne" ∷ [], compared different) ∷ (codes "lt" ∷ [], compared less) ∷ (codes "le" ∷ [], compared at_most) ∷ (codes "gt" ∷ [], compared greater) ∷ (codes "ge" ∷ [], compared at_least) ∷ (codes "size" ∷ codes "plus" ∷ codes "cat" ∷ codes "det" ∷ [], by_value) ∷ []
+
 abbrev pub controls : List (List Text × Control)
-controls = (codes "default" ∷ [], left_alone) ∷ (codes "and" ∷ codes "within" ∷ [], left_and_right) ∷ (codes "cbor" ∷ [], held_item) ∷ (codes "cborseq" ∷ [], held_sequence) ∷ (codes "eq" ∷ [], compared equal) ∷ (codes "ne" ∷ [], compared different) ∷ (codes "lt" ∷ [], compared less) ∷ (codes "le" ∷ [], compared at_most) ∷ (codes "gt" ∷ [], compared greater) ∷ (codes "ge" ∷ [], compared at_least) ∷ (codes "size" ∷ codes "plus" ∷ codes "cat" ∷ codes "det" ∷ [], by_value) ∷ []
+controls = (codes "default" ∷ [], left_alone) ∷ (codes "and" ∷ codes "within" ∷ [], left_and_right) ∷ (codes "cbor" ∷ [], held_item) ∷ (codes "cborseq" ∷ [], held_sequence) ∷ controls_by_values
 
 abbrev pub control_among : List (List Text × Control) → Text → Option Control
 control_among [] n = None
