@@ -273,6 +273,12 @@ module _ (worth : Values) (at : ℕ) where
   within_bounds : (e : S.GrpEnt) (o : Token) → e ≡ starred → F.occur_token e ≡ Some o → F.IsOver (least_of (occurrence (Some o))) (most_of (occurrence (Some o))) → ⊥
   within_bounds e o h f g = subst (λ z. F.IsOver (least_of (occurrence z)) (most_of (occurrence z))) (sym f ∙ ap F.occur_token h) g
 
+  right_controllers : F.HasNotLiteral T.lists worth (codes "t") at → ⊥
+  right_controllers (F.comparand {r = r} {xs = xs} {x = x} {y = y} {o = o} p c h e) = places_reached r xs (an_operation x o y) p
+
+  good_controllers : F.HasBadController T.lists worth (codes "t") at → ⊥
+  good_controllers (F.no_number {r = r} {xs = xs} {x = x} {y = y} {o = o} p c g l h e) = places_reached r xs (an_operation x o y) p
+
   good_ranges : F.HasBadRange T.lists worth (codes "t") at → ⊥
   good_ranges (F.first_end {r = r} {xs = xs} {x = x} {y = y} {o = o} p s h e) = places_reached r xs (an_operation x o y) p
   good_ranges (F.last_end {r = r} {xs = xs} {x = x} {y = y} {o = o} p s h e) = places_reached r xs (an_operation x o y) p
@@ -301,7 +307,9 @@ module _ (worth : Values) (at : ℕ) where
   no_fault C.TooManyInstances f = few_instances f
   no_fault C.NotUnwrappable f = no_unwrapping f
   no_fault C.Recursion f = no_recursion f
+  no_fault C.NotLiteral f = right_controllers f
   no_fault C.BadRange f = good_ranges f
+  no_fault C.BadController f = good_controllers f
   no_fault C.NoKey f = has_keys f
   no_fault C.MapShape f = good_maps f
   no_fault C.TooManyAlternatives f = few_alternatives f

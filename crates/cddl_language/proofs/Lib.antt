@@ -2,6 +2,7 @@ pub mod Accepted
 pub mod After
 pub mod Basics
 pub mod Choosing
+pub mod Compared
 pub mod Controlled
 pub mod Endless
 pub mod Faulty

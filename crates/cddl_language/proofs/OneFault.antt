@@ -2,13 +2,13 @@
 use Rattle.std.specs.Prelude.{◌≡◌, ℕ, ◌≤◌, nat_eq, if◌then◌else◌}
 use Rattle.std.proofs.Common.{refl, sym, ap, ◌∙◌, subst, arith}
 use Rattle.cddl_token.specs.declared.Code.{Code}
-use Rattle.cddl_token.specs.declared.Code.TheVariants.{Duplicate, KindClash, Undefined, Arity, NoRoot, BadRoot, GroupAsType, HashForm, UnknownControl, TooManyInstances, NotUnwrappable, Recursion, BadRange, NoKey, MapShape, TooManyAlternatives}
+use Rattle.cddl_token.specs.declared.Code.TheVariants.{Duplicate, KindClash, Undefined, Arity, NoRoot, BadRoot, GroupAsType, HashForm, UnknownControl, TooManyInstances, NotUnwrappable, Recursion, NotLiteral, BadRange, BadController, NoKey, MapShape, TooManyAlternatives}
 use Rattle.cddl_language.specs.Literals.{Values}
 use Rattle.cddl_language.specs.Faults.{Specification, IsFaultAt, number_of, IsRefused, IsAccepted}
 
 -- the code of a number
 abbrev coded : ℕ → Code
-coded n = if nat_eq n 1 then Duplicate else (if nat_eq n 2 then KindClash else (if nat_eq n 3 then Undefined else (if nat_eq n 4 then Arity else (if nat_eq n 5 then NoRoot else (if nat_eq n 6 then BadRoot else (if nat_eq n 7 then GroupAsType else (if nat_eq n 8 then HashForm else (if nat_eq n 9 then UnknownControl else (if nat_eq n 10 then TooManyInstances else (if nat_eq n 11 then NotUnwrappable else (if nat_eq n 12 then Recursion else (if nat_eq n 14 then BadRange else (if nat_eq n 16 then NoKey else (if nat_eq n 17 then MapShape else TooManyAlternatives))))))))))))))
+coded n = if nat_eq n 1 then Duplicate else (if nat_eq n 2 then KindClash else (if nat_eq n 3 then Undefined else (if nat_eq n 4 then Arity else (if nat_eq n 5 then NoRoot else (if nat_eq n 6 then BadRoot else (if nat_eq n 7 then GroupAsType else (if nat_eq n 8 then HashForm else (if nat_eq n 9 then UnknownControl else (if nat_eq n 10 then TooManyInstances else (if nat_eq n 11 then NotUnwrappable else (if nat_eq n 12 then Recursion else (if nat_eq n 13 then NotLiteral else (if nat_eq n 14 then BadRange else (if nat_eq n 15 then BadController else (if nat_eq n 16 then NoKey else (if nat_eq n 17 then MapShape else TooManyAlternatives))))))))))))))))
 
 -- a code of which faults stand is that of its number
 coded_number : (s : Specification) (worth : Values) (c : Code) (at : ℕ) → IsFaultAt s worth c at → coded (number_of c) ≡ c
@@ -24,7 +24,9 @@ coded_number s worth UnknownControl at f = refl
 coded_number s worth TooManyInstances at f = refl
 coded_number s worth NotUnwrappable at f = refl
 coded_number s worth Recursion at f = refl
+coded_number s worth NotLiteral at f = refl
 coded_number s worth BadRange at f = refl
+coded_number s worth BadController at f = refl
 coded_number s worth NoKey at f = refl
 coded_number s worth MapShape at f = refl
 coded_number s worth TooManyAlternatives at f = refl

@@ -4,6 +4,21 @@ use Rattle.std.specs.Prelude.{Bool, true, false, if◌then◌else◌, List, [], 
 use Rattle.cddl_language.specs.Terms.{Text}
 use Rattle.cddl_language.specs.Environment.{is_in}
 
+-- how an item is compared with a literal (section 3.8.6)
+pub data Comparison : Type 0 where
+  equal : Comparison
+  different : Comparison
+  less : Comparison
+  at_most : Comparison
+  greater : Comparison
+  at_least : Comparison
+
+-- whether the literal has to be a whole number
+abbrev pub is_ordering : Comparison → Bool
+is_ordering equal = false
+is_ordering different = false
+is_ordering _ = true
+
 pub data Control : Type 0 where
   -- the controller is not asked (section 3.8.6)
   left_alone : Control
@@ -12,11 +27,16 @@ pub data Control : Type 0 where
   -- the controller is asked of the item that a byte string holds, or of the array of those that it holds (section 3.8.4)
   held_item : Control
   held_sequence : Control
-  -- a value is compared with the item, counts it, or makes a literal with the other side
+  -- the item is compared with the controller, a literal
+  compared : Comparison → Control
+  -- a value counts the item, or makes a literal with the other side
   by_value : Control
 
+abbrev pub controls_by_values : List (List Text × Control)
+controls_by_values = (codes "eq" ∷ [], compared equal) ∷ (codes "ne" ∷ [], compared different) ∷ (codes "lt" ∷ [], compared less) ∷ (codes "le" ∷ [], compared at_most) ∷ (codes "gt" ∷ [], compared greater) ∷ (codes "ge" ∷ [], compared at_least) ∷ (codes "size" ∷ codes "plus" ∷ codes "cat" ∷ codes "det" ∷ [], by_value) ∷ []
+
 abbrev pub controls : List (List Text × Control)
-controls = (codes "default" ∷ [], left_alone) ∷ (codes "and" ∷ codes "within" ∷ [], left_and_right) ∷ (codes "cbor" ∷ [], held_item) ∷ (codes "cborseq" ∷ [], held_sequence) ∷ (codes "size" ∷ codes "eq" ∷ codes "ne" ∷ codes "lt" ∷ codes "le" ∷ codes "gt" ∷ codes "ge" ∷ codes "plus" ∷ codes "cat" ∷ codes "det" ∷ [], by_value) ∷ []
+controls = (codes "default" ∷ [], left_alone) ∷ (codes "and" ∷ codes "within" ∷ [], left_and_right) ∷ (codes "cbor" ∷ [], held_item) ∷ (codes "cborseq" ∷ [], held_sequence) ∷ controls_by_values
 
 abbrev pub control_among : List (List Text × Control) → Text → Option Control
 control_among [] n = None
@@ -25,6 +45,11 @@ control_among (c ∷ cs) n = if is_in c.0 n then Some c.1 else control_among cs 
 -- the control of this name, where it is known
 abbrev pub control_of : Text → Option Control
 control_of n = control_among controls n
+
+-- how it compares, if it does
+abbrev pub comparison_in : Option Control → Option Comparison
+comparison_in (Some (compared c)) = Some c
+comparison_in _ = None
 
 -- The controller is asked before an item is surely taken or gone into: of the same item, or of the array of all that a byte
 -- string holds. The one item that a byte string holds is smaller than the string.

@@ -3,19 +3,20 @@
 use Rattle.std.specs.Prelude.{◌≡◌, ◌≢◌, ℕ, ◌<◌, ◌≤◌, ◌⊎◌, Bool, true, false, if◌then◌else◌, ◌&&◌, List, [], ◌∷◌, length, Contains, AllPairs, Option, Some, None, slice_get}
 use Rattle.cddl_token.specs.declared.Token.{Token}
 use Rattle.cddl_token.specs.declared.Code.{Code}
-use Rattle.cddl_token.specs.declared.Code.TheVariants.{Duplicate, KindClash, Undefined, Arity, NoRoot, BadRoot, GroupAsType, HashForm, UnknownControl, TooManyInstances, NotUnwrappable, Recursion, BadRange, NoKey, MapShape, TooManyAlternatives}
+use Rattle.cddl_token.specs.declared.Code.TheVariants.{Duplicate, KindClash, Undefined, Arity, NoRoot, BadRoot, GroupAsType, HashForm, UnknownControl, TooManyInstances, NotUnwrappable, Recursion, NotLiteral, BadRange, BadController, NoKey, MapShape, TooManyAlternatives}
 use Rattle.cddl_syntax.specs.Syntax as S
 use Rattle.cddl_meaning.specs.Forms.{Most, at_most, any_number_of}
 use Rattle.cddl_language.specs.Numbers as N
 use Rattle.cddl_language.specs.Numbers.{hash_form, least_of, most_of}
 use Rattle.cddl_language.specs.Terms.{Text, Term, Ref, Group, Definition, name_of}
 use Rattle.cddl_language.specs.Reading.{text_of, control_name, occurrence, term_of2, ref_of, group_of, rule_head, name_in, name_at, parameters_in, parameter_tokens, sign_of, definition_of, rules_of, definitions_in}
-use Rattle.cddl_language.specs.Controls.{control_of}
+use Rattle.cddl_literal.specs.Numbers.{Meaning}
+use Rattle.cddl_language.specs.Controls.{Comparison, is_ordering, control_of, comparison_in}
 use Rattle.cddl_language.specs.Environment.{is_same, is_equals, named_so, definitions_of, is_in_prelude, is_socket}
 use Rattle.cddl_language.specs.Substitution.{fill, fill_ref, fill_group}
 use Rattle.cddl_language.specs.Kinds.{Opened, opens_group, opened, is_group, is_group_definition}
 use Rattle.cddl_language.specs.Reach.{Reaches, Point, ref_at, most_instances}
-use Rattle.cddl_language.specs.Literals.{Values, whole_of}
+use Rattle.cddl_language.specs.Literals.{Values, whole, whole_of, literal_of}
 use Rattle.cddl_language.specs.Choices.{chosen, chosen_by_name}
 use Rattle.cddl_language.specs.Free.{IsOnCycle}
 use Rattle.cddl_language.specs.MapFaults.{HasNoKey, HasMapShape, HasTooManyAlternatives}
@@ -190,6 +191,23 @@ operand_at x = first_at (S.flat_type2 x)
 abbrev pub IsNotWhole : Specification → Values → S.Rule → List Term → S.Type2 → Type 0
 IsNotWhole s worth r xs x = whole_of worth (definitions s) (fill (parameters_in r) xs (term_of2 x)) ≡ None
 
+-- the value that it is, if it is a literal
+abbrev pub literal_there : Specification → Values → S.Rule → List Term → S.Type2 → Option Meaning
+literal_there s worth r xs x = literal_of worth (definitions s) (fill (parameters_in r) xs (term_of2 x))
+
+-- how an operator compares an item with its controller, if it does
+abbrev pub comparison_of : S.Operator → Option Comparison
+comparison_of (S.control t) = comparison_in (control_of (control_name t))
+comparison_of _ = None
+
+-- C13: a controller with which an item is compared and that is no literal (section 3.8.6).
+pub data HasNotLiteral (s : Specification) (worth : Values) (root : Text) (at : ℕ) : Type 0 where
+  comparand : {r : S.Rule} {xs : List Term} {x y : S.Type2} {o : S.Operator} {c : Comparison} → IsReached (rules s) root r xs (an_operation x o y) → comparison_of o ≡ Some c → literal_there s worth r xs y ≡ None → at ≡ operand_at y → HasNotLiteral s worth root at
+
+-- C15: a controller that is a literal and no whole number, where the control asks for the order of numbers (section 3.8.6).
+pub data HasBadController (s : Specification) (worth : Values) (root : Text) (at : ℕ) : Type 0 where
+  no_number : {r : S.Rule} {xs : List Term} {x y : S.Type2} {o : S.Operator} {c : Comparison} {v : Meaning} → IsReached (rules s) root r xs (an_operation x o y) → comparison_of o ≡ Some c → is_ordering c ≡ true → literal_there s worth r xs y ≡ Some v → whole (Some v) ≡ None → at ≡ operand_at y → HasBadController s worth root at
+
 abbrev pub is_range_sign : S.Operator → Bool
 is_range_sign (S.range t) = true
 is_range_sign (S.range_below t) = true
@@ -232,6 +250,8 @@ IsFaultAt s worth UnknownControl at = HasUnknownControl s at
 IsFaultAt s worth TooManyInstances at = OfRoot (root_of s) (λ n. HasTooManyInstances s n at)
 IsFaultAt s worth NotUnwrappable at = OfRoot (root_of s) (λ n. HasNotUnwrappable s n at)
 IsFaultAt s worth Recursion at = OfRoot (root_of s) (λ n. HasRecursion s n at)
+IsFaultAt s worth NotLiteral at = OfRoot (root_of s) (λ n. HasNotLiteral s worth n at)
+IsFaultAt s worth BadController at = OfRoot (root_of s) (λ n. HasBadController s worth n at)
 IsFaultAt s worth BadRange at = OfRoot (root_of s) (λ n. HasBadRange s worth n at)
 IsFaultAt s worth NoKey at = OfRoot (root_of s) (λ n. HasNoKey (rules s) n at)
 IsFaultAt s worth MapShape at = OfRoot (root_of s) (λ n. HasMapShape (rules s) n at)
@@ -252,7 +272,9 @@ number_of UnknownControl = 9
 number_of TooManyInstances = 10
 number_of NotUnwrappable = 11
 number_of Recursion = 12
+number_of NotLiteral = 13
 number_of BadRange = 14
+number_of BadController = 15
 number_of NoKey = 16
 number_of MapShape = 17
 number_of TooManyAlternatives = 18

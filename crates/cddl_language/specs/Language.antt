@@ -1,17 +1,18 @@
 -- The language of closed terms: what form of type or group each of them is (RFC 8610 sections 2 and 3). What a type then
 -- says of an item is told by `Says` of `cddl_meaning`, over this language.
-use Rattle.std.specs.Prelude.{ℕ, ltb, Bool, if◌then◌else◌, List, [], ◌∷◌, ◌++◌, map, Option, Some, None}
+use Rattle.std.specs.Prelude.{ℕ, ltb, Bool, true, false, if◌then◌else◌, List, [], ◌∷◌, ◌++◌, map, Option, Some, None, option_map}
 use Rattle.cbor_data.specs.Value as V
 use Rattle.cbor_data.specs.Value.{Value}
 use Rattle.cddl_meaning.specs.Forms as F
 use Rattle.cddl_meaning.specs.Forms.{Node, Language}
 use Rattle.cddl_meaning.specs.Judges.{Answer, Says}
-use Rattle.cddl_language.specs.Controls.{Control, left_alone, left_and_right, held_item, held_sequence, control_of}
+use Rattle.cddl_language.specs.Controls.{Comparison, equal, different, less, at_most, greater, at_least, is_ordering, Control, left_alone, left_and_right, held_item, held_sequence, compared, control_of}
 use Rattle.cddl_language.specs.Numbers.{least_of, most_of, occurs_once, tag_number, hash_form, hash_test}
 use Rattle.cddl_language.specs.Terms.{Text, Term, literal, named, parens, map_of, array_of, unwrapped, choice_of, choice_of_name, tagged, tagged_by, simple_by, hash, range, control, or, Ref, Entries, Entry, typed, keyed, grouped, Key, of_type, bareword, of_value, Definition, choices, alternatives, entry_list, occurrence_of, name_of}
 use Rattle.cddl_language.specs.Substitution.{type_choices, group_choices}
 use Rattle.cddl_language.specs.Kinds.{Opened, opens_type, opened, is_group, Part, asks_type, names_group, opens, part_of}
-use Rattle.cddl_language.specs.Literals.{Values, item_of, whole_of}
+use Rattle.cddl_literal.specs.Numbers.{Meaning}
+use Rattle.cddl_language.specs.Literals.{Values, item_of, whole, whole_of, literal_of}
 use Rattle.cddl_language.specs.Choices.{chosen, chosen_by_name}
 use Rattle.cddl_language.specs.Maps.{Alternatives, Member, cuts, map_alternatives}
 
@@ -63,13 +64,32 @@ abbrev pub map_node : Option Alternatives → Node TypeName GroupName
 map_node (Some mss) = F.MapOf (map (map map_entry) mss)
 map_node None = nothing
 
--- A control of two types (section 3.8). Of controllers that are values nothing is said yet.
-abbrev pub control_node : Option Control → Term → Term → Node TypeName GroupName
-control_node (Some left_alone) a b = F.Ref (type a)
-control_node (Some left_and_right) a b = F.Both (type a) (type b)
-control_node (Some held_item) a b = F.Holding (type a) F.one_item (type b)
-control_node (Some held_sequence) a b = F.Holding (type a) F.sequence_of_items (type b)
-control_node _ a b = nothing
+-- what is asked of an item that is compared with a value
+abbrev pub compared_test : Comparison → Value → F.Test
+compared_test equal v = F.equals v
+compared_test different v = F.differs_from v
+compared_test less v = F.less_than v
+compared_test at_most v = F.at_most_number v
+compared_test greater v = F.greater_than v
+compared_test at_least v = F.at_least_number v
+
+-- the value with which an item is compared, where the controller has one that can be compared so
+abbrev pub comparand : Bool → Option Meaning → Option Value
+comparand true m = whole m
+comparand false m = option_map item_of m
+
+abbrev pub such_as_compares : Comparison → Option Value → Term → Node TypeName GroupName
+such_as_compares c (Some v) a = F.Such (type a) (compared_test c v)
+such_as_compares c None a = nothing
+
+-- A control (section 3.8), with the literal that its controller is, if it is one. Of sizes nothing is said yet.
+abbrev pub control_node : Option Control → Term → Term → Option Meaning → Node TypeName GroupName
+control_node (Some left_alone) a b m = F.Ref (type a)
+control_node (Some left_and_right) a b m = F.Both (type a) (type b)
+control_node (Some held_item) a b m = F.Holding (type a) F.one_item (type b)
+control_node (Some held_sequence) a b m = F.Holding (type a) F.sequence_of_items (type b)
+control_node (Some (compared c)) a b m = such_as_compares c (comparand (is_ordering c) m) a
+control_node _ a b m = nothing
 
 -- What is refused is `nothing` here.
 module _ (worth : Values) (ds : List Definition) where
@@ -104,7 +124,7 @@ module _ (worth : Values) (ds : List Definition) where
   term_node (range a c b) = between c (whole_of worth ds a) (whole_of worth ds b)
   term_node (or t u) = F.Choice (map type (choices (or t u)))
   term_node (map_of g) = map_node (map_alternatives ds g)
-  term_node (control a n b) = control_node (control_of n) a b
+  term_node (control a n b) = control_node (control_of n) a b (literal_of worth ds b)
 
   abbrev pub type_node : TypeName → Node TypeName GroupName
   type_node (type t) = term_node t

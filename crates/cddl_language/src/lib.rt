@@ -2,7 +2,7 @@
 //! here do nothing: their contracts are laws, and examples.
 #![tactic(auto)]
 
-ghost use Rattle.std.specs.Prelude.{◌+◌, ◌≢◌, ◌↔◌, ◌≤◌, ◌⊎◌, map, length, slice_index, [], ◌∷◌, ◌≡◌, ℕ, suc, Contains, Bool, List, Option, true, Some, None, codes};
+ghost use Rattle.std.specs.Prelude.{◌+◌, ◌≢◌, ◌↔◌, ◌≤◌, ◌⊎◌, map, length, slice_index, [], ◌∷◌, ◌≡◌, ℕ, suc, Contains, Bool, List, Option, true, false, Some, None, codes};
 ghost use Rattle.cddl_token.specs.declared.Code.{Code};
 ghost use Rattle.cddl_token.specs.declared.Token.{Token};
 ghost use Rattle.cddl_syntax.specs.Syntax as S;
@@ -15,18 +15,19 @@ ghost use Rattle.cddl_language.specs.Kinds.{Opened, is_group_in, opened_in};
 ghost use Rattle.cbor_data.specs.Embedded.{Embeds, EmbedsAll};
 ghost use Rattle.cbor_data.specs.Value as V;
 ghost use Rattle.cbor_data.specs.Value.{Value, array, bytes};
-ghost use Rattle.cddl_meaning.specs.Forms.{Choice, Language, any_number_of, at_most, exactly};
+ghost use Rattle.cddl_meaning.specs.Forms.{Choice, Language, any_number_of, at_most, exactly, is_below, is_up_to, passes};
 ghost use Rattle.cddl_meaning.specs.Judges.{Answer, No, Says, Yes};
 ghost use Rattle.cddl_language.specs.Choices.{chosen, chosen_by_name};
+ghost use Rattle.cddl_language.specs.Controls.{Comparison, comparison_in, control_of, is_ordering};
 ghost use Rattle.cddl_language.specs.MapFaults.{ComesBack, GoesThrough, HasMapShape, HasNoKey, IsSpliced, IsSplicedInto, LacksKey, LeadsTo, OccursBadly, closed_entry, point_in};
 ghost use Rattle.cddl_language.specs.Maps.{Alternatives, alternatives_in, map_alternatives};
-ghost use Rattle.cddl_language.specs.Language.{Saying, TermSays, language, type, reference, type_node};
+ghost use Rattle.cddl_language.specs.Language.{Saying, TermSays, comparand, compared_test, language, type, reference, type_node};
 ghost use Rattle.cddl_language.specs.StandsFor.{StandsFor};
 ghost use Rattle.cddl_ranks.specs.Ranked.{Name};
-ghost use Rattle.cddl_literal.specs.Numbers.{IsUint, number_after};
+ghost use Rattle.cddl_literal.specs.Numbers.{IsUint, Meaning, number_after};
 ghost use Rattle.cddl_token.specs.Numbers.{IsHashNumber, IsStar, IsTagNumberOpen};
 ghost use Rattle.cddl_language.specs.Numbers.{hash_form, least_in, most_in, numbered, tag_number, uint_in};
-ghost use Rattle.cddl_language.specs.Literals.{AreRight, AreTokens, Holds, Values};
+ghost use Rattle.cddl_language.specs.Literals.{AreRight, AreTokens, Holds, Values, item_of, literal_of, whole};
 ghost use Rattle.cddl_language.specs.Reading.{definitions_in, group_of, name_in, parameters_in};
 ghost use Rattle.cddl_language.specs.Reach.{Point, Reaches, most_instances, points_in, ref_at};
 ghost use Rattle.cddl_language.specs.Terms.{Definition, Entries, Entry, Group, Literal, Ref, Term, Text, alternatives, call, choice_of, choice_of_name, control, name_of, no_terms};
@@ -62,6 +63,20 @@ pub fn controls_of_types_say()
     ensures item { (worth : Values) (ds : List Definition) (a b : Term) (p : ℕ) (x : Value) → TermSays worth ds (control a (codes "cbor") b) p x Yes ↔ (TermSays worth ds a p x Yes × ((bs : List ℕ) × (y : Value) × (x ≡ bytes bs) × Embeds bs y × TermSays worth ds b 0 y Yes)) }
     ensures sequence { (worth : Values) (ds : List Definition) (a b : Term) (p : ℕ) (x : Value) → TermSays worth ds (control a (codes "cborseq") b) p x Yes ↔ (TermSays worth ds a p x Yes × ((bs : List ℕ) × (ys : V.Values) × (x ≡ bytes bs) × EmbedsAll bs ys × TermSays worth ds b 0 (array ys) Yes)) }
     ensures default { (worth : Values) (ds : List Definition) (a b : Term) (p : ℕ) (x : Value) (o : Answer) → TermSays worth ds (control a (codes "default") b) p x o ↔ TermSays worth ds a p x o }
+{}
+
+/// A control by a comparison, where its controller is a literal with which items can be compared so, says yes where the type on its
+/// left does and the item is the literal's value, is another one, or is a whole number below it, up to it, above it or from it on.
+/// The type on its left is asked first and shows its no where it shows it; the comparison shows its no at the item.
+pub fn comparisons_say()
+    ensures equal { (worth : Values) (ds : List Definition) (a b : Term) (m : Meaning) (p : ℕ) (x : Value) → literal_of worth ds b ≡ Some m → TermSays worth ds (control a (codes "eq") b) p x Yes ↔ (TermSays worth ds a p x Yes × (x ≡ item_of m)) }
+    ensures different { (worth : Values) (ds : List Definition) (a b : Term) (m : Meaning) (p : ℕ) (x : Value) → literal_of worth ds b ≡ Some m → TermSays worth ds (control a (codes "ne") b) p x Yes ↔ (TermSays worth ds a p x Yes × (x ≢ item_of m)) }
+    ensures less { (worth : Values) (ds : List Definition) (a b : Term) (v : Value) (p : ℕ) (x : Value) → whole (literal_of worth ds b) ≡ Some v → TermSays worth ds (control a (codes "lt") b) p x Yes ↔ (TermSays worth ds a p x Yes × (is_below x v ≡ true)) }
+    ensures at_most { (worth : Values) (ds : List Definition) (a b : Term) (v : Value) (p : ℕ) (x : Value) → whole (literal_of worth ds b) ≡ Some v → TermSays worth ds (control a (codes "le") b) p x Yes ↔ (TermSays worth ds a p x Yes × (is_up_to x v ≡ true)) }
+    ensures greater { (worth : Values) (ds : List Definition) (a b : Term) (v : Value) (p : ℕ) (x : Value) → whole (literal_of worth ds b) ≡ Some v → TermSays worth ds (control a (codes "gt") b) p x Yes ↔ (TermSays worth ds a p x Yes × (is_below v x ≡ true)) }
+    ensures at_least { (worth : Values) (ds : List Definition) (a b : Term) (v : Value) (p : ℕ) (x : Value) → whole (literal_of worth ds b) ≡ Some v → TermSays worth ds (control a (codes "ge") b) p x Yes ↔ (TermSays worth ds a p x Yes × (is_up_to v x ≡ true)) }
+    ensures left { (worth : Values) (ds : List Definition) (a b : Term) (n : Text) (c : Comparison) (v : Value) (p : ℕ) (x : Value) (far : ℕ) → comparison_in (control_of n) ≡ Some c → comparand (is_ordering c) (literal_of worth ds b) ≡ Some v → TermSays worth ds a p x (No far) → TermSays worth ds (control a n b) p x (No far) }
+    ensures missed { (worth : Values) (ds : List Definition) (a b : Term) (n : Text) (c : Comparison) (v : Value) (p : ℕ) (x : Value) → comparison_in (control_of n) ≡ Some c → comparand (is_ordering c) (literal_of worth ds b) ≡ Some v → TermSays worth ds a p x Yes → passes (compared_test c v) x ≡ false → TermSays worth ds (control a n b) p x (No p) }
 {}
 
 /// Where the group of a map has alternatives, each entry that is spliced into it has a key or is a group, none leads back to the

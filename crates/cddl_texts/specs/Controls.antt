@@ -2,10 +2,21 @@
 use Rattle.cddl_language.specs.Controls as L
 use Rattle.cddl_texts.specs.declared.controls.Control.{Control}
 use Rattle.cddl_texts.specs.declared.controls.Control.TheVariants as C
+use Rattle.cddl_texts.specs.declared.controls.Comparison.{Comparison}
+use Rattle.cddl_texts.specs.declared.controls.Comparison.TheVariants as Comp
+
+abbrev pub comparison_view : Comparison → L.Comparison
+comparison_view Comp.Equal = L.equal
+comparison_view Comp.Different = L.different
+comparison_view Comp.Less = L.less
+comparison_view Comp.AtMost = L.at_most
+comparison_view Comp.Greater = L.greater
+comparison_view Comp.AtLeast = L.at_least
 
 abbrev pub control_view : Control → L.Control
 control_view C.LeftAlone = L.left_alone
 control_view C.LeftAndRight = L.left_and_right
 control_view C.HeldItem = L.held_item
 control_view C.HeldSequence = L.held_sequence
+control_view (C.Compared c) = L.compared (comparison_view c)
 control_view C.ByValue = L.by_value

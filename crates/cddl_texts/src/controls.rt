@@ -17,8 +17,21 @@ pub enum Control {
     HeldItem,
     /// Of the array of the items that a byte string holds: `.cborseq`.
     HeldSequence,
-    /// Its controller is a value.
+    /// The item is compared with the controller, a literal: `.eq`, `.ne`, `.lt`, `.le`, `.gt` and `.ge`.
+    Compared(Comparison),
+    /// Its controller is another value.
     ByValue,
+}
+
+/// How an item is compared with a literal (RFC 8610 section 3.8.6).
+#[derive(Clone, Copy, Debug, PartialEq, Eq)]
+pub enum Comparison {
+    Equal,
+    Different,
+    Less,
+    AtMost,
+    Greater,
+    AtLeast,
 }
 
 const LEFT_ALONE: [&str; 1] = ["default"];
@@ -29,9 +42,19 @@ const HELD_ITEM: [&str; 1] = ["cbor"];
 
 const HELD_SEQUENCE: [&str; 1] = ["cborseq"];
 
-const BY_VALUE: [&str; 10] = [
-    "size", "eq", "ne", "lt", "le", "gt", "ge", "plus", "cat", "det",
-];
+const EQUAL: [&str; 1] = ["eq"];
+
+const DIFFERENT: [&str; 1] = ["ne"];
+
+const LESS: [&str; 1] = ["lt"];
+
+const AT_MOST: [&str; 1] = ["le"];
+
+const GREATER: [&str; 1] = ["gt"];
+
+const AT_LEAST: [&str; 1] = ["ge"];
+
+const BY_VALUE: [&str; 4] = ["size", "plus", "cat", "det"];
 
 /// The control of this name, given without its `.`, if it is known (RFC 8610 section 3.8; RFC 9165).
 pub fn control_of(name: &str) -> Option<Control>
@@ -45,6 +68,27 @@ pub fn control_of(name: &str) -> Option<Control>
         Some(Control::HeldItem)
     } else if is_among(&HELD_SEQUENCE, name) {
         Some(Control::HeldSequence)
+    } else {
+        control_by_value(name)
+    }
+}
+
+/// The control of this name, if it is one whose controller is a value.
+fn control_by_value(name: &str) -> Option<Control>
+    ensures { option_map control_view result ≡ L.control_among L.controls_by_values name.now }
+{
+    if is_among(&EQUAL, name) {
+        Some(Control::Compared(Comparison::Equal))
+    } else if is_among(&DIFFERENT, name) {
+        Some(Control::Compared(Comparison::Different))
+    } else if is_among(&LESS, name) {
+        Some(Control::Compared(Comparison::Less))
+    } else if is_among(&AT_MOST, name) {
+        Some(Control::Compared(Comparison::AtMost))
+    } else if is_among(&GREATER, name) {
+        Some(Control::Compared(Comparison::Greater))
+    } else if is_among(&AT_LEAST, name) {
+        Some(Control::Compared(Comparison::AtLeast))
     } else if is_among(&BY_VALUE, name) {
         Some(Control::ByValue)
     } else {
