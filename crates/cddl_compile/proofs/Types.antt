@@ -2,14 +2,14 @@
 use Rattle.std.proofs.Common.{◌≡◌, ℕ, ◌*◌, ◌<◌, Bool, true, false, if◌then◌else◌, ◌⊎◌, inl, inr, List, [], ◌∷◌, ◌++◌, map, Option, Some, None, is_some, slice_get, refl, sym, ap, subst, ◌∙◌}
 use Rattle.cbor_data.specs.Value.{Value}
 use Rattle.cddl_meaning.specs.Forms as F
-use Rattle.cddl_language.specs.Terms.{Text, Term, literal, named, parens, map_of, array_of, unwrapped, choice_of, choice_of_name, tagged, tagged_by, simple_by, hash, range, control, or, Ref, Group, sole, orelse, Entries, no_entries, entries, Entry, typed, keyed, grouped, alternatives, choices, entry_list, name_of}
-use Rattle.cddl_language.specs.Controls.{Control, left_alone, left_and_right, held_item, held_sequence, by_value, control_of, is_asked_here}
-use Rattle.cddl_language.specs.Literals.{whole_of}
+use Rattle.cddl_language.specs.Terms.{Text, Term, literal, named, parens, map_of, array_of, unwrapped, choice_of, choice_of_name, tagged, tagged_by, simple_by, hash, range, control, or, Ref, Group, sole, orelse, Entries, no_entries, entries, Entry, typed, keyed, grouped, alternatives, choices, entry_list, Definition, name_of}
+use Rattle.cddl_language.specs.Controls.{Comparison, is_ordering, Control, left_alone, left_and_right, held_item, held_sequence, compared, by_value, control_of, is_asked_here}
+use Rattle.cddl_language.specs.Literals.{Values, literal_of, whole_of}
 use Rattle.cddl_language.specs.Substitution.{type_choices, group_choices}
 use Rattle.cddl_language.specs.Kinds.{Opened, opens_group, opens_type, opened, is_group, Part, asks_type, names_group, opens, part_of}
 use Rattle.cddl_language.specs.Choices.{can_choose, chosen, chosen_by_name}
 use Rattle.cddl_language.specs.Maps.{Alternatives, map_alternatives}
-use Rattle.cddl_language.specs.Language.{TypeName, type, reference, GroupName, nothing, choice, content, between, map_node, control_node, chosen_part_name, chosen_name, chosen_names, term_node, type_node}
+use Rattle.cddl_language.specs.Language.{TypeName, type, reference, GroupName, nothing, choice, content, between, map_node, comparand, such_as_compares, control_node, chosen_part_name, chosen_name, chosen_names, term_node, type_node}
 use Rattle.cddl_language.specs.Reach.{Reaches, at_name, at_unwrapping, at_choice, at_opened_choice, points, group_points, entries_points, entry_points}
 use Rattle.cddl_terms.specs.Table.{Table}
 use Rattle.cddl_terms.specs.Trees.{IsTerm, IsGroup, IsEntries, IsEntry}
@@ -78,23 +78,33 @@ map_items : (o : Option Alternatives) (g : GroupName) → FreeItems (map_node o)
 map_items (Some mss) g h = h
 map_items None g h = h
 
-control_free : (o : Option Control) (a b : Term) (m : TypeName) → FreeType {G = GroupName} (control_node o a b) m → (m ≡ type a) ⊎ ((m ≡ type b) × (is_asked_here o ≡ true))
-control_free None a b m h = absurd h
-control_free (Some left_alone) a b m h = inl h
-control_free (Some left_and_right) a b m (inl e) = inl e
-control_free (Some left_and_right) a b m (inr e) = inr (e, refl)
-control_free (Some held_item) a b m h = inl h
-control_free (Some held_sequence) a b m (inl e) = inl e
-control_free (Some held_sequence) a b m (inr e) = inr (e, refl)
-control_free (Some by_value) a b m h = absurd h
+compared_free : (c : Comparison) (v : Option Value) (a : Term) (m : TypeName) → FreeType {G = GroupName} (such_as_compares c v a) m → m ≡ type a
+compared_free c (Some v) a m h = h
+compared_free c None a m h = absurd h
 
-control_items : (o : Option Control) (a b : Term) (g : GroupName) → FreeItems {N = TypeName} (control_node o a b) g → ⊥
-control_items None a b g h = h
-control_items (Some left_alone) a b g h = h
-control_items (Some left_and_right) a b g h = h
-control_items (Some held_item) a b g h = h
-control_items (Some held_sequence) a b g h = h
-control_items (Some by_value) a b g h = h
+compared_items : (c : Comparison) (v : Option Value) (a : Term) (g : GroupName) → FreeItems {N = TypeName} (such_as_compares c v a) g → ⊥
+compared_items c (Some v) a g h = h
+compared_items c None a g h = h
+
+control_free : (worth : Values) (ds : List Definition) (o : Option Control) (a b : Term) (m : TypeName) → FreeType {G = GroupName} (control_node o a b (literal_of worth ds b)) m → (m ≡ type a) ⊎ ((m ≡ type b) × (is_asked_here o ≡ true))
+control_free worth ds None a b m h = absurd h
+control_free worth ds (Some left_alone) a b m h = inl h
+control_free worth ds (Some left_and_right) a b m (inl e) = inl e
+control_free worth ds (Some left_and_right) a b m (inr e) = inr (e, refl)
+control_free worth ds (Some held_item) a b m h = inl h
+control_free worth ds (Some held_sequence) a b m (inl e) = inl e
+control_free worth ds (Some held_sequence) a b m (inr e) = inr (e, refl)
+control_free worth ds (Some (compared c)) a b m h = inl (compared_free c (comparand (is_ordering c) (literal_of worth ds b)) a m h)
+control_free worth ds (Some by_value) a b m h = absurd h
+
+control_items : (worth : Values) (ds : List Definition) (o : Option Control) (a b : Term) (g : GroupName) → FreeItems {N = TypeName} (control_node o a b (literal_of worth ds b)) g → ⊥
+control_items worth ds None a b g h = h
+control_items worth ds (Some left_alone) a b g h = h
+control_items worth ds (Some left_and_right) a b g h = h
+control_items worth ds (Some held_item) a b g h = h
+control_items worth ds (Some held_sequence) a b g h = h
+control_items worth ds (Some (compared c)) a b g h = compared_items c (comparand (is_ordering c) (literal_of worth ds b)) a g h
+control_items worth ds (Some by_value) a b g h = h
 
 module _ (s : Sense) (t : Table) (r : Ranks) (given : Given s t r) where
   -- What `&` chooses from has a rank below that of the row that it chooses from.
@@ -265,7 +275,7 @@ module _ (s : Sense) (t : Table) (r : Ranks) (given : Given s t r) where
   type_in_row n (simple_by x) h c m p f u = below_row s t r x p (subst (λ (z : TypeName). IsTypeOrigin s t z p) f u) (rank r (N.Row n)) (λ j i. step s t r given.ranked (N.Row n) (N.Row j) (a_type (simple_by x)) (a_type x) (type_row h) (type_row i) c A.in_head)
   type_in_row n (hash a) h c m p f u = absurd f
   type_in_row n (range a b x) h c m p f u = absurd (between_free b (whole_of s.worth s.definitions a) (whole_of s.worth s.definitions x) m f)
-  type_in_row n (control a b x) h c m p f u = by (control_free (control_of b) a x m f)
+  type_in_row n (control a b x) h c m p f u = by (control_free s.worth s.definitions (control_of b) a x m f)
     where
       by : (m ≡ type a) ⊎ ((m ≡ type x) × (is_asked_here (control_of b) ≡ true)) → type_rank r p < 2 * rank r (N.Row n)
       by (inl e) = below_row s t r a p (subst (λ (z : TypeName). IsTypeOrigin s t z p) e u) (rank r (N.Row n)) (λ j i. step s t r given.ranked (N.Row n) (N.Row j) (a_type (control a b x)) (a_type a) (type_row h) (type_row i) c A.in_left)
@@ -286,7 +296,7 @@ module _ (s : Sense) (t : Table) (r : Ranks) (given : Given s t r) where
   items_in_row n (simple_by x) h c g p f u = absurd f
   items_in_row n (hash a) h c g p f u = absurd f
   items_in_row n (range a b x) h c g p f u = absurd (between_items b (whole_of s.worth s.definitions a) (whole_of s.worth s.definitions x) g f)
-  items_in_row n (control a b x) h c g p f u = absurd (control_items (control_of b) a x g f)
+  items_in_row n (control a b x) h c g p f u = absurd (control_items s.worth s.definitions (control_of b) a x g f)
   items_in_row n (or x z) h c g p f u = absurd f
 
   -- of what an instance means

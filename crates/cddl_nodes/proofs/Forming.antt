@@ -1,11 +1,11 @@
 -- The forms of types and groups, by what the rows of terms are.
 use Rattle.std.proofs.Common.{◌≡◌, ℕ, Bool, true, false, if◌then◌else◌, List, [], ◌∷◌, ◌++◌, map, Some, None, Option, refl, sym, ap, subst, ◌∙◌, slice_get}
-use Rattle.std.specs.Prelude.{is_some}
+use Rattle.std.specs.Prelude.{is_some, option_map}
 use Rattle.cbor_data.specs.Value.{Value}
 use Rattle.cddl_literal.specs.Numbers.{Meaning}
-use Rattle.cddl_meaning.specs.Alike.{AlikeAll, none, both, AlikeTypes, plain, refs, choices as some_choices, tags, boths, holdings, AlikeNumbers, any_numbers, same_number, AlikeGroups, entries as some_entries, group_refs, sequences, alternates, repeats}
+use Rattle.cddl_meaning.specs.Alike.{AlikeAll, none, both, AlikeTypes, plain, refs, choices as some_choices, tags, boths, suches, holdings, AlikeNumbers, any_numbers, same_number, AlikeGroups, entries as some_entries, group_refs, sequences, alternates, repeats}
 use Rattle.cddl_meaning.specs.Forms as F
-use Rattle.cddl_language.specs.Controls.{Control, left_alone, left_and_right, held_item, held_sequence, by_value, control_of}
+use Rattle.cddl_language.specs.Controls.{Comparison, equal, different, less, at_most, greater, at_least, is_ordering, Control, left_alone, left_and_right, held_item, held_sequence, compared, by_value, control_of}
 use Rattle.cddl_language.specs.Numbers as N
 use Rattle.cddl_language.specs.Terms.{no_entries, entries, Text, Term, Literal, literal, named, name_of, parens, map_of, array_of, unwrapped, choice_of, choice_of_name, tagged, tagged_by, simple_by, hash, range, control, or, Ref, Group, Entries, Entry, Key, typed, keyed, grouped, alternatives, entry_list}
 use Rattle.cddl_language.specs.Kinds as K
@@ -15,7 +15,7 @@ use Rattle.cddl_language.specs.Reach.{most_instances, points}
 use Rattle.cddl_language.specs.Substitution.{group_choices}
 use Rattle.cddl_language.specs.Language as L
 use Rattle.cddl_language.specs.Language.{TypeName, type, GroupName, first_of, each_of, entry, round}
-use Rattle.cddl_language.specs.Literals.{Means, Values, item_of, whole}
+use Rattle.cddl_language.specs.Literals.{Means, Values, item_of, literal_of}
 use Rattle.cddl_values.specs.Values.{Answers, IsValueOf}
 use Rattle.cddl_terms.specs.Table.{Table, HoldsText, no_text, some_text}
 use Rattle.cddl_terms.specs.Trees.{IsTerm, IsRef, IsGroup, IsEntries, IsEntry}
@@ -26,7 +26,7 @@ use Rattle.cddl_openings.specs.declared.openings.Opening.{Opening}
 use Rattle.cddl_openings.specs.declared.openings.Part.TheVariants as PartV
 use Rattle.cddl_literals.specs.Literals.{IsWritten, no_value, value_of}
 use Rattle.cddl_nodes.specs.Basis.{Sense}
-use Rattle.cddl_nodes.specs.Lookups.{between_view, control_form_view, is_flagged, is_over, opened_view}
+use Rattle.cddl_nodes.specs.Lookups.{between_view, control_form_view, is_flagged, is_over, opened_view, such_view, test_by}
 use Rattle.cddl_nodes.specs.Origins.{AreKnown, AreKnownEntries, IsKnown, IsKnownEntry, IsKnownGroup, IsTypeOrigin, of_row, of_instance, of_chosen, of_word, IsGroupOrigin, of_alternatives, of_sequence, of_entry, of_round, IsAsked, asks_type, asks_named, asks_opened}
 use Rattle.cddl_nodes.specs.Shapes.{IsShape, a_literal, a_name, in_parens, an_array, an_unwrapping, a_choice_of, a_choice_of_name, a_tag, a_tag_by, a_simple, a_hash, a_range, a_range_below, a_choice, a_map, a_control, IsEntryShape, a_typed, a_keyed, a_group}
 use Rattle.cddl_nodes.specs.declared.asked.Asked.TheVariants as A
@@ -114,8 +114,16 @@ placed qs r place p = subst (λ k. slice_get qs k ≡ Some r) (one p.0 p.1) p.2
 
 -- Values.
 
-pub unwritten : (worth : Values) (t : Table) (o : Option Meaning) → IsWritten worth t o None → None ≡ whole o
+pub unwritten : (worth : Values) (t : Table) (o : Option Meaning) → IsWritten worth t o None → o ≡ None
 unwritten worth t o no_value = refl
+
+pub untested : (c : Comparison) → None ≡ test_by c None
+untested equal = refl
+untested different = refl
+untested less = refl
+untested at_most = refl
+untested greater = refl
+untested at_least = refl
 
 value_there : (worth : Values) (t : Table) (o : Option Meaning) (n : ℕ) → IsWritten worth t o (Some n) → (v : Literal) × IsTerm t n (literal v) × (o ≡ Some (worth v))
 value_there worth t o n (value_of {v = v} h) = (v, h, refl)
@@ -128,11 +136,12 @@ module _ (worth : Values) (t : Table) (n : ℕ) (value : Values → Option Meani
       literals : (a b : Literal) → literal a ≡ literal b → a ≡ b
       literals a b e = cc
 
-  pub written : (w : Option Value) → ((v : Literal) → ((u : Values) → value u ≡ Some (u v)) → Means v (worth v)) → ((v : Literal) → Means v (worth v) → IsTerm t n (literal v) → w ≡ whole (Some (worth v))) → w ≡ whole (value worth)
-  written w law f =
+  -- so for what is made of that value
+  pub written : {A : Type 0} (make : Option Meaning → A) (w : A) → ((v : Literal) → ((u : Values) → value u ≡ Some (u v)) → Means v (worth v)) → ((v : Literal) → Means v (worth v) → IsTerm t n (literal v) → w ≡ make (Some (worth v))) → w ≡ make (value worth)
+  written make w law f =
       let here = value_there worth t (value worth) n (is worth) in
       let so = λ (u : Values). (let there = value_there u t (value u) n (is u) in there.2 ∙ ap (λ v. Some (u v)) (same_value there.0 here.0 there.1 here.1)) in
-      f here.0 (law here.0 so) here.1 ∙ sym (ap whole here.2)
+      f here.0 (law here.0 so) here.1 ∙ sym (ap make here.2)
 
 -- What entries ask.
 
@@ -198,16 +207,21 @@ module _ (s : Sense) (t : Table) where
   pub right_known : (y z : Term) (n : Text) → IsKnown s (control y n z) → IsKnown s z
   right_known y z n re = (reached_right s (points y) (points z) re.0, re.1.1)
 
-  control_by : (k : Option Control) (y z : Term) (i j : ℕ) → IsTerm t i y → IsTerm t j z → IsKnown s y → IsKnown s z → Forms (L.control_node k y z) (control_form_view k i j)
-  control_by (Some left_alone) y z i j g h p q = refs (of_row g p.0 p.1)
-  control_by (Some left_and_right) y z i j g h p q = boths (of_row g p.0 p.1) (of_row h q.0 q.1)
-  control_by (Some held_item) y z i j g h p q = holdings (of_row g p.0 p.1) (of_row h q.0 q.1)
-  control_by (Some held_sequence) y z i j g h p q = holdings (of_row g p.0 p.1) (of_row h q.0 q.1)
-  control_by (Some by_value) y z i j g h p q = some_choices none
-  control_by None y z i j g h p q = some_choices none
+  compared_by : (c : Comparison) (o : Option Value) (y : Term) (i : ℕ) → IsTerm t i y → IsKnown s y → Forms (L.such_as_compares c o y) (such_view i (option_map (L.compared_test c) o))
+  compared_by c (Some v) y i g p = suches (of_row g p.0 p.1)
+  compared_by c None y i g p = some_choices none
 
-  pub control_formed : (y z : Term) (n : Text) (i j : ℕ) (k : Option Control) (f : F.Node TypeOrigin GroupOrigin) → k ≡ control_of n → f ≡ control_form_view k i j → IsTerm t i y → IsTerm t j z → IsKnown s (control y n z) → Forms (L.term_node s.worth s.definitions (control y n z)) f
-  control_formed y z n i j k f e d g h re = subst (λ o. Forms (L.control_node o y z) f) e (subst (Forms (L.control_node k y z)) (sym d) (control_by k y z i j g h (left_known y z n re) (right_known y z n re)))
+  control_by : (k : Option Control) (y z : Term) (m : Option Meaning) (i j : ℕ) → IsTerm t i y → IsTerm t j z → IsKnown s y → IsKnown s z → Forms (L.control_node k y z m) (control_form_view k i j m)
+  control_by (Some left_alone) y z m i j g h p q = refs (of_row g p.0 p.1)
+  control_by (Some left_and_right) y z m i j g h p q = boths (of_row g p.0 p.1) (of_row h q.0 q.1)
+  control_by (Some held_item) y z m i j g h p q = holdings (of_row g p.0 p.1) (of_row h q.0 q.1)
+  control_by (Some held_sequence) y z m i j g h p q = holdings (of_row g p.0 p.1) (of_row h q.0 q.1)
+  control_by (Some (compared c)) y z m i j g h p q = compared_by c (L.comparand (is_ordering c) m) y i g p
+  control_by (Some by_value) y z m i j g h p q = some_choices none
+  control_by None y z m i j g h p q = some_choices none
+
+  pub control_formed : (y z : Term) (n : Text) (i j : ℕ) (k : Option Control) (f : F.Node TypeOrigin GroupOrigin) → k ≡ control_of n → (IsKnown s z → f ≡ control_form_view k i j (literal_of s.worth s.definitions z)) → IsTerm t i y → IsTerm t j z → IsKnown s (control y n z) → Forms (L.term_node s.worth s.definitions (control y n z)) f
+  control_formed y z n i j k f e d g h re = subst (λ o. Forms (L.control_node o y z (literal_of s.worth s.definitions z)) f) e (subst (Forms (L.control_node k y z (literal_of s.worth s.definitions z))) (sym (d (right_known y z n re))) (control_by k y z (literal_of s.worth s.definitions z) i j g h (left_known y z n re) (right_known y z n re)))
 
   pub chosen_so : (o : Option (List Term)) (ns : List TypeName) (f : F.Node TypeOrigin GroupOrigin) → is_some o ≡ true → Forms (F.Choice ns) f → Forms (L.choice o ns) f
   chosen_so (Some ts) ns f e h = h

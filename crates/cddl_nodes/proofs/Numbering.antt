@@ -2,7 +2,7 @@
 use Rattle.std.specs.declared.alloc.Global.{Global}
 use Rattle.std.specs.declared.vec.Vec.{Vec}
 use Rattle.std.proofs.Common.{◌≡◌, ℕ, zero, suc, List, [], ◌∷◌, ◌++◌, Some, length, refl, sym, ap, subst, ◌∙◌, ◌⊎◌, inl, inr, slice_get}
-use Rattle.cddl_meaning.specs.Alike.{AlikeAll, none, both, AlikeTypes, plain, refs, choices, arrays, tags, simples, maps, boths, holdings, AlikeNumbers, any_numbers, same_number, heads, AlikeGroups, entries, group_refs, sequences, alternates, repeats}
+use Rattle.cddl_meaning.specs.Alike.{AlikeAll, none, both, AlikeTypes, plain, refs, choices, arrays, tags, simples, maps, boths, suches, holdings, AlikeNumbers, any_numbers, same_number, heads, AlikeGroups, entries, group_refs, sequences, alternates, repeats}
 use Rattle.cddl_meaning.specs.Forms as F
 use Rattle.cddl_language.specs.Language.{TypeName, GroupName}
 use Rattle.cddl_terms.specs.Table.{Table}
@@ -137,6 +137,12 @@ made_both old mid new o p m k v w = record { grows = further_keys old mid new v.
   where
     by : (s : Sense) (t : Table) (n : F.Node TypeName GroupName) → AlikeTypes (IsTypeOrigin s t) (IsGroupOrigin s t) n (F.Both o p) → AreNamed s t old → AreNamed s t new
     by s t n (boths {n = q} {o = r} g h) so = w.named s t r h (v.named s t q g so)
+
+pub made_such_as : (old new : Keys) (x : F.Test) (o : TypeOrigin) (m : TypeId) → NumbersType old new o m → MakesType old new (F.Such o x) (F.Such m x)
+made_such_as old new x o m w = record { grows = w.grows; there = suches w.there; named = λ s t n h so. by s t n h so }
+  where
+    by : (s : Sense) (t : Table) (n : F.Node TypeName GroupName) → AlikeTypes (IsTypeOrigin s t) (IsGroupOrigin s t) n (F.Such o x) → AreNamed s t old → AreNamed s t new
+    by s t n (suches {n = k} h) so = w.named s t k h so
 
 pub made_holding : (old mid new : Keys) (c : F.Content) (o p : TypeOrigin) (m k : TypeId) → NumbersType old mid o m → NumbersType mid new p k → MakesType old new (F.Holding o c p) (F.Holding m c k)
 made_holding old mid new c o p m k v w = record { grows = further_keys old mid new v.grows w.grows; there = holdings (w.grows.types m.number o v.there) w.there; named = λ s t n h so. by s t n h so }

@@ -35,6 +35,7 @@ type_form_view (T.TagOf n o) = F.TagOf (tag_form_view n) o
 type_form_view (T.SimpleBy o) = F.SimpleBy o
 type_form_view (T.MapOf ess) = F.MapOf (map_form_view ess.items)
 type_form_view (T.Both o p) = F.Both o p
+type_form_view (T.Such o t) = F.Such o (test_view t)
 type_form_view (T.Holding o c p) = F.Holding o (content_view c) p
 
 abbrev pub group_form_view : GroupForm → F.Group TypeOrigin GroupOrigin

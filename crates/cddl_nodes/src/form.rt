@@ -44,6 +44,7 @@ pub(crate) enum TypeForm {
     SimpleBy(TypeOrigin),
     MapOf(Vec<Vec<EntryForm>>),
     Both(TypeOrigin, TypeOrigin),
+    Such(TypeOrigin, Test),
     Holding(TypeOrigin, Content, TypeOrigin),
 }
 

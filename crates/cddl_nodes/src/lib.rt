@@ -3,6 +3,7 @@
 
 mod asked;
 mod chosen;
+mod comparisons;
 mod form;
 mod groups;
 mod instances;

@@ -215,6 +215,10 @@ impl Numbers {
                 let right = self.number_type(right)?;
                 Ok(Node::Both(left, right))
             }
+            TypeForm::Such(origin, test) => {
+                let number = self.number_type(origin)?;
+                Ok(Node::Such(number, test))
+            }
             TypeForm::Holding(left, content, right) => {
                 let left = self.number_type(left)?;
                 let right = self.number_type(right)?;

@@ -4,6 +4,7 @@ ghost use Rattle.std.specs.Prelude.{◌≡◌, IfOk, List, Some, [], option_map,
 ghost use Rattle.cddl_meaning.specs.Forms as F;
 ghost use Rattle.cddl_language.specs.Choices.{can_choose};
 ghost use Rattle.cddl_language.specs.Language.{TypeName};
+ghost use Rattle.cddl_language.specs.Literals.{literal_of};
 ghost use Rattle.cddl_language.specs.Reach.{points};
 ghost use Rattle.cddl_language.specs.Terms as L;
 ghost use Rattle.cddl_language.specs.Terms.{Entries, Group, Ref, Term, Text};
@@ -21,6 +22,7 @@ ghost use Rattle.cddl_nodes.specs.Origins.{AreKnown, IsChosenForm, IsInstanceFor
 
 use crate::asked::{group_at, is_group, meaning_there, place_at};
 use crate::chosen::chosen;
+use crate::comparisons::comparison_form;
 use crate::form::{TagForm, TypeForm, nothing};
 use crate::laws::known_instances;
 use crate::lists::row_origins;
@@ -84,7 +86,7 @@ fn row_form(
         Shape::Range(least, last) => range_form(alloc, terms, source, least, last, true),
         Shape::RangeBelow(least, last) => range_form(alloc, terms, source, least, last, false),
         Shape::Or => or_form(alloc, terms, row),
-        Shape::Control(name, left, right) => Ok(control_form(alloc, terms, name, left, right)),
+        Shape::Control(name, left, right) => control_form(alloc, terms, source, name, left, right),
         Shape::Other => Ok(nothing(alloc)),
     }
 }
@@ -229,25 +231,48 @@ fn or_form(alloc: Global, terms: &Terms<'_>, row: u32) -> Result<TypeForm, NoRoo
     }
 }
 
-/// What a control asks: the type on its left, and the controller of the same item or of what a byte string holds, if at all.
-fn control_form(alloc: Global, terms: &Terms<'_>, name: u32, left: u32, right: u32) -> TypeForm
-    ensures { (s : Sense) (n : Text) (a b : Term) → slice_get terms.now.texts name ≡ Some n → IsTerm terms.now left a → IsTerm terms.now right b → IsKnown s (L.control a n b) → IsTermForm s terms.now (L.control a n b) result }
+/// What a control asks: the type on its left, and the controller of the same item or of what a byte string holds, if at all, or how
+/// the item compares with it.
+fn control_form(
+    alloc: Global,
+    terms: &Terms<'_>,
+    source: &Source<'_>,
+    name: u32,
+    left: u32,
+    right: u32,
+) -> Result<TypeForm, NoRoom>
+    ensures { IfOk result (λ f. (s : Sense) (n : Text) (a b : Term) → IsSource s terms.now source.now → slice_get terms.now.texts name ≡ Some n → IsTerm terms.now left a → IsTerm terms.now right b → IsKnown s (L.control a n b) → IsTermForm s terms.now (L.control a n b) f) }
 {
-    known_form(alloc, control_at(terms, name), left, right)
+    let control = control_at(terms, name);
+    known_form(alloc, terms, source, control, left, right)
 }
 
-fn known_form(alloc: Global, control: Option<Control>, left: u32, right: u32) -> TypeForm
-    ensures { type_form_view result ≡ control_form_view (option_map control_view control) left right }
+fn known_form(
+    alloc: Global,
+    terms: &Terms<'_>,
+    source: &Source<'_>,
+    control: Option<Control>,
+    left: u32,
+    right: u32,
+) -> Result<TypeForm, NoRoom>
+    ensures { IfOk result (λ f. (s : Sense) (b : Term) → IsSource s terms.now source.now → IsTerm terms.now right b → IsKnown s b → type_form_view f ≡ control_form_view (option_map control_view control) left right (literal_of s.worth s.definitions b)) }
 {
     match control {
-        Some(Control::LeftAlone) => TypeForm::Ref(TypeOrigin::Row(left)),
-        Some(Control::LeftAndRight) => {
-            TypeForm::Both(TypeOrigin::Row(left), TypeOrigin::Row(right))
+        Some(Control::LeftAlone) => Ok(TypeForm::Ref(TypeOrigin::Row(left))),
+        Some(Control::LeftAndRight) => Ok(both(left, right)),
+        Some(Control::HeldItem) => Ok(holding(left, Content::OneItem, right)),
+        Some(Control::HeldSequence) => Ok(holding(left, Content::Sequence, right)),
+        Some(Control::Compared(comparison)) => {
+            comparison_form(alloc, terms, source, comparison, left, right)
         }
-        Some(Control::HeldItem) => holding(left, Content::OneItem, right),
-        Some(Control::HeldSequence) => holding(left, Content::Sequence, right),
-        _ => nothing(alloc),
+        Some(Control::ByValue) | None => Ok(nothing(alloc)),
     }
+}
+
+fn both(left: u32, right: u32) -> TypeForm
+    ensures { type_form_view result ≡ F.Both (T.Row left) (T.Row right) }
+{
+    TypeForm::Both(TypeOrigin::Row(left), TypeOrigin::Row(right))
 }
 
 fn holding(left: u32, content: Content, right: u32) -> TypeForm

@@ -60,7 +60,7 @@ pub returns-in-Or : goal.returns-in-Or
 returns-in-Or c = IfOk-weaker c.or_form.result _ _ (λ f h s x src is re. or_case c.args.terms.now (λ y. IsTerm c.args.terms.now c.args.row y → IsKnown s y → IsTermForm s c.args.terms.now y f) x (c.in-Or.ensures x is) (λ y z it q. h s y z it q) is re) c.or_form.ensures
 
 pub returns-in-Control : goal.returns-in-Control
-returns-in-Control c s x src is re = control_case c.args.terms.now (λ y. IsKnown s y → IsTermForm s c.args.terms.now y c.control_form.result) x c.in-Control.name c.in-Control.left c.in-Control.right (c.in-Control.ensures x is) (λ n y z e g h q. c.control_form.ensures s n y z e g h q) re
+returns-in-Control c = IfOk-weaker c.control_form.result _ _ (λ f h s x src is re. control_case c.args.terms.now (λ y. IsKnown s y → IsTermForm s c.args.terms.now y f) x c.in-Control.name c.in-Control.left c.in-Control.right (c.in-Control.ensures x is) (λ n y z e g i q. h s n y z src e g i q) re) c.control_form.ensures
 
 pub returns-in-Other : goal.returns-in-Other
 returns-in-Other c s x src is re = other_case c.args.terms.now (λ y. IsTermForm s c.args.terms.now y c.nothing.result) x (c.in-Other.ensures x is)

@@ -3,7 +3,7 @@ use Rattle.cddl_meaning.specs.Forms as F
 use Rattle.cddl_table.specs.Nodes.{alternatives_view, content_view, tag_number_view, test_view}
 use Rattle.cddl_nodes.specs.Forms.{tag_form_view, type_form_view}
 use Rattle.cddl_nodes.specs.Numbers.{MakesType, NumbersMap, NumbersTypes, keys_of}
-use Rattle.cddl_nodes.proofs.Numbering.{made_array, made_both, made_choice, made_holding, made_map, made_plain, made_ref, made_simple, made_tag}
+use Rattle.cddl_nodes.proofs.Numbering.{made_array, made_both, made_choice, made_holding, made_map, made_plain, made_ref, made_simple, made_such_as, made_tag}
 use Rattle.cddl_nodes.proofs.numbers.Numbers.type_node.Goals as goal
 
 pub returns-in-Plain : goal.returns-in-Plain
@@ -29,6 +29,9 @@ returns-in_ok-alternatives-in-MapOf c = subst (λ f. MakesType (keys_of c.args.s
 
 pub returns-in_ok-right-in-Both : goal.returns-in_ok-right-in-Both
 returns-in_ok-right-in-Both c = subst (λ f. MakesType (keys_of c.args.self.now) (keys_of c.number_type-in-Both-2.new.self) (type_form_view f) (F.Both c.in_ok-left-in-Both.left c.in_ok-right-in-Both.right)) (sym c.in-Both.is) (made_both (keys_of c.args.self.now) (keys_of c.number_type-in-Both.new.self) (keys_of c.number_type-in-Both-2.new.self) c.in-Both.left c.in-Both.right c.in_ok-left-in-Both.left c.in_ok-right-in-Both.right c.in_ok-left-in-Both.ensures c.in_ok-right-in-Both.ensures)
+
+pub returns-in_ok-number-in-Such : goal.returns-in_ok-number-in-Such
+returns-in_ok-number-in-Such c = subst (λ f. MakesType (keys_of c.args.self.now) (keys_of c.number_type-in-Such.new.self) (type_form_view f) (F.Such c.in_ok-number-in-Such.number (test_view c.in-Such.test))) (sym c.in-Such.is) (made_such_as (keys_of c.args.self.now) (keys_of c.number_type-in-Such.new.self) (test_view c.in-Such.test) c.in-Such.origin c.in_ok-number-in-Such.number c.in_ok-number-in-Such.ensures)
 
 pub returns-in_ok-right-in-Holding : goal.returns-in_ok-right-in-Holding
 returns-in_ok-right-in-Holding c = subst (λ f. MakesType (keys_of c.args.self.now) (keys_of c.number_type-in-Holding-2.new.self) (type_form_view f) (F.Holding c.in_ok-left-in-Holding.left (content_view c.in-Holding.content) c.in_ok-right-in-Holding.right)) (sym c.in-Holding.is) (made_holding (keys_of c.args.self.now) (keys_of c.number_type-in-Holding.new.self) (keys_of c.number_type-in-Holding-2.new.self) (content_view c.in-Holding.content) c.in-Holding.left c.in-Holding.right c.in_ok-left-in-Holding.left c.in_ok-right-in-Holding.right c.in_ok-left-in-Holding.ensures c.in_ok-right-in-Holding.ensures)
