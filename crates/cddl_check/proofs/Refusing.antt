@@ -42,7 +42,7 @@ module _ (P : Code → ℕ → Type 0) where
   nowhere (c ∷ cs) d p h (later i) k = nowhere cs d p h.1 i k
 
 ascending : Ascends 0 all_codes
-ascending = (omega arith, (omega arith, (omega arith, (omega arith, (omega arith, (omega arith, (omega arith, (omega arith, (omega arith, (omega arith, (omega arith, (omega arith, (omega arith, (omega arith, (omega arith, (omega arith, tt))))))))))))))))
+ascending = (omega arith, (omega arith, (omega arith, (omega arith, (omega arith, (omega arith, (omega arith, (omega arith, (omega arith, (omega arith, (omega arith, (omega arith, (omega arith, (omega arith, (omega arith, (omega arith, (omega arith, (omega arith, tt))))))))))))))))))
 
 -- a code that stands somewhere is one of them
 among : (s : Specification) (worth : Values) (d : Code) (p : ℕ) → IsFaultAt s worth d p → IsAmong d all_codes
@@ -58,10 +58,12 @@ among s worth C.UnknownControl p h = later (later (later (later (later (later (l
 among s worth C.TooManyInstances p h = later (later (later (later (later (later (later (later (later here))))))))
 among s worth C.NotUnwrappable p h = later (later (later (later (later (later (later (later (later (later here)))))))))
 among s worth C.Recursion p h = later (later (later (later (later (later (later (later (later (later (later here))))))))))
-among s worth C.BadRange p h = later (later (later (later (later (later (later (later (later (later (later (later here)))))))))))
-among s worth C.NoKey p h = later (later (later (later (later (later (later (later (later (later (later (later (later here))))))))))))
-among s worth C.MapShape p h = later (later (later (later (later (later (later (later (later (later (later (later (later (later here)))))))))))))
-among s worth C.TooManyAlternatives p h = later (later (later (later (later (later (later (later (later (later (later (later (later (later (later here))))))))))))))
+among s worth C.NotLiteral p h = later (later (later (later (later (later (later (later (later (later (later (later here)))))))))))
+among s worth C.BadRange p h = later (later (later (later (later (later (later (later (later (later (later (later (later here))))))))))))
+among s worth C.BadController p h = later (later (later (later (later (later (later (later (later (later (later (later (later (later here)))))))))))))
+among s worth C.NoKey p h = later (later (later (later (later (later (later (later (later (later (later (later (later (later (later here))))))))))))))
+among s worth C.MapShape p h = later (later (later (later (later (later (later (later (later (later (later (later (later (later (later (later here)))))))))))))))
+among s worth C.TooManyAlternatives p h = later (later (later (later (later (later (later (later (later (later (later (later (later (later (later (later (later here))))))))))))))))
 among s worth C.NotUtf8 p h = absurd h
 among s worth C.BadCharacter p h = absurd h
 among s worth C.Unclosed p h = absurd h
@@ -73,8 +75,6 @@ among s worth C.BadBytes p h = absurd h
 among s worth C.SourceTooLong p h = absurd h
 among s worth C.Unexpected p h = absurd h
 among s worth C.TooNested p h = absurd h
-among s worth C.NotLiteral p h = absurd h
-among s worth C.BadController p h = absurd h
 
 module _ (s : Specification) (worth : Values) where
   pub accepted : IsFirst (IsFaultAt s worth) all_codes None → IsAccepted s worth

@@ -1,7 +1,7 @@
 -- The codes in their order.
 use Rattle.std.specs.Prelude.{List, [], ◌∷◌, ◌++◌}
 use Rattle.cddl_token.specs.declared.Code.{Code}
-use Rattle.cddl_token.specs.declared.Code.TheVariants.{Duplicate, KindClash, Undefined, Arity, NoRoot, BadRoot, GroupAsType, HashForm, UnknownControl, TooManyInstances, NotUnwrappable, Recursion, BadRange, NoKey, MapShape, TooManyAlternatives}
+use Rattle.cddl_token.specs.declared.Code.TheVariants.{Duplicate, KindClash, Undefined, Arity, NoRoot, BadRoot, GroupAsType, HashForm, UnknownControl, TooManyInstances, NotUnwrappable, Recursion, NotLiteral, BadRange, BadController, NoKey, MapShape, TooManyAlternatives}
 
 -- those of the whole text
 abbrev pub text_codes : List Code
@@ -9,7 +9,7 @@ text_codes = Duplicate ∷ KindClash ∷ Undefined ∷ Arity ∷ NoRoot ∷ BadR
 
 -- those of what the root reaches
 abbrev pub root_codes : List Code
-root_codes = TooManyInstances ∷ NotUnwrappable ∷ Recursion ∷ BadRange ∷ NoKey ∷ MapShape ∷ TooManyAlternatives ∷ []
+root_codes = TooManyInstances ∷ NotUnwrappable ∷ Recursion ∷ NotLiteral ∷ BadRange ∷ BadController ∷ NoKey ∷ MapShape ∷ TooManyAlternatives ∷ []
 
 abbrev pub all_codes : List Code
 all_codes = text_codes ++ root_codes

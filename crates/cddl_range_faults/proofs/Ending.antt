@@ -1,7 +1,8 @@
 -- What is told of the rows that were asked of is told of the ends of the ranges that are reached.
-use Rattle.std.proofs.Common.{◌≡◌, ℕ, List, Some, None, sym, subst, ◌∙◌, true}
+use Rattle.std.proofs.Common.{◌≡◌, ℕ, Bool, true, false, if◌then◌else◌, List, Some, None, sym, subst, ◌∙◌}
 use Rattle.std.specs.List.{Contains}
 use Rattle.cddl_syntax.specs.Syntax as S
+use Rattle.cddl_language.specs.Controls.{Comparison, is_ordering}
 use Rattle.cddl_language.specs.Faults.{IsNotWhole, Specification, definitions, is_range_sign, operand_at, rules}
 use Rattle.cddl_language.specs.Literals.{Means, Values, literal_of, whole_of}
 use Rattle.cddl_language.specs.Reach.{Point, Reaches, points, ref_at}
@@ -34,11 +35,20 @@ pub record Laws (s : Specification) (worth : Values) (root : Text) : Type 0 wher
   pub written : (t : Term) (v : Literal) → AllIn (IsMeant worth) t → ((w : Values) → literal_of w (definitions s) t ≡ Some (w v)) → Means v (worth v)
 
 module _ (s : Specification) (worth : Values) (root : Text) (t : Table) (laws : Laws s worth root) where
+  -- what is asked of a controller is not whether it is whole
+  no_end : (c : Comparison) → A.comparand_question c ≡ QuestionV.IsWhole → ⊥
+  no_end c e = by (is_ordering c) e
+    where
+      by : (b : Bool) → (if b then QuestionV.IsNumber else QuestionV.IsLiteral) ≡ QuestionV.IsWhole → ⊥
+      by true g = cc
+      by false g = cc
+
   -- the row of an end
   end_there : (a : Asked) → IsAsked (rules s) root t a → AsksWhole a → IsEnd (definitions s) root worth t a.row
   end_there a (A.choosing h is e q) asks = cc
   end_there a (A.choosing_by_name h is e q) asks = cc
   end_there a (A.of_map h is e q) asks = cc
+  end_there a (A.controller {c = c} h o is e q) asks = absurd (no_end c (sym q ∙ asks))
   end_there a (A.first_end {r = r} {xs = xs} {x = x} {y = y} {o = o} h z is e q) asks = record {
     end = fill (parameters_in r) xs (term_of2 x);
     row = is;
@@ -73,6 +83,7 @@ module _ (s : Specification) (worth : Values) (root : Text) (t : Table) (laws : 
         where
           other : QuestionV.MapGroup ≡ QuestionV.IsWhole → ⊥
           other e = cc
+      at_asked a at (A.controller {c = c} h e is at_start q) bad = absurd (no_end c (sym q ∙ bad.asked))
       at_asked a at (A.first_end {r = r} {xs = xs} {x = x} {y = y} {o = o} h z is e q) bad = at_first_end {r = r} {xs = xs} {x = x} {y = y} {o = o} h z (same_whole a.row bad.end (fill (parameters_in r) xs (term_of2 x)) bad.row is bad.not_whole) (bad.offset ∙ e)
       at_asked a at (A.last_end {r = r} {xs = xs} {x = x} {y = y} {o = o} h z is e q) bad = at_last_end {r = r} {xs = xs} {x = x} {y = y} {o = o} h z (same_whole a.row bad.end (fill (parameters_in r) xs (term_of2 y)) bad.row is bad.not_whole) (bad.offset ∙ e)
 

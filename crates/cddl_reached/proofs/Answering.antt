@@ -1,9 +1,10 @@
 -- What was asked, site by site, is what is to be asked.
-use Rattle.std.proofs.Common.{◌≡◌, Bool, true, false, if◌then◌else◌, List, [], ◌∷◌, ◌++◌, ◌⊎◌, inl, inr, Some, None, slice_get, refl, sym, ap, subst, ◌∙◌}
+use Rattle.std.proofs.Common.{◌≡◌, Bool, true, false, if◌then◌else◌, List, [], ◌∷◌, ◌++◌, ◌⊎◌, inl, inr, Option, Some, None, option_map, slice_get, true≢false, refl, sym, ap, subst, ◌∙◌}
 use Rattle.cddl_token.specs.declared.Token.{Token}
 use Rattle.cddl_syntax.specs.Syntax as S
 use Rattle.cddl_tree.specs.declared.tree.Leaf.{Leaf}
-use Rattle.cddl_language.specs.Faults.{Specification, definitions, is_range_sign, rules}
+use Rattle.cddl_language.specs.Controls.{Comparison}
+use Rattle.cddl_language.specs.Faults.{Specification, comparison_of, definitions, is_range_sign, rules}
 use Rattle.cddl_language.specs.Reading.{group_of, name_in, parameters_in, ref_of, term_of2}
 use Rattle.cddl_language.specs.Sites.{IsReached, Site, a_name, an_unwrapping, a_choice_of, a_choice_of_name, a_hash, an_operation, an_entry, a_map}
 use Rattle.cddl_language.specs.StandsFor.{AreInstances}
@@ -19,7 +20,7 @@ use Rattle.cddl_reached.specs.Calls.{refs_named}
 use Rattle.cddl_reached.specs.Reached.{AreReachedSites}
 use Rattle.cddl_reached.specs.declared.asked.Asked.{Asked}
 use Rattle.cddl_reached.specs.declared.asked.Question.TheVariants as QuestionV
-use Rattle.cddl_reached.specs.Asked.{AreAnswers, no_answers, further_answer, AreAsked, IsAnswer, IsAsked, choosing, choosing_by_name, first_end, last_end, of_map, Wanted, WasAsked, end_of, first_part, last_part, wanted_all, wanted_at, wanted_by, wanted_each, wanted_in, wanted_some, wanted_there}
+use Rattle.cddl_reached.specs.Asked.{AreAnswers, no_answers, further_answer, AreAsked, IsAnswer, IsAsked, choosing, choosing_by_name, controller, first_end, last_end, of_map, Wanted, WasAsked, comparand_question, end_of, first_part, last_part, operand_wanted, question_by, wanted_all, wanted_at, wanted_by, wanted_each, wanted_in, wanted_some, wanted_there}
 use Rattle.cddl_reached.proofs.Lists.{IsIn, contained_place, contains, in_either, in_first, in_second, is_in}
 use Rattle.cddl_reached.proofs.Reaching.{Laws, instance_of, ref_of_instance}
 
@@ -90,19 +91,27 @@ module _ (trees : Trees) (rs : List S.Rule) (root : Text) (t : Table) (r : S.Rul
       let e = in_each (parameters_in r) w (record { at = u.start; question = QuestionV.MapGroup; tree = group_tree (group_of g); call = nothing }) refs h in
       of_map {u = u} {g = g} (reach e.0 e.1.0) (subst (Holds t (Some a.row)) (ap (λ (v : Wanted). v.tree) e.1.1 ∙ trees.group (parameters_in r) (arguments_of e.0) (group_of g)) k.holds) (k.at ∙ ap (λ (v : Wanted). v.at) e.1.1) (k.question ∙ ap (λ (v : Wanted). v.question) e.1.1)
 
+  -- of the last end of a range
+  end_asked : (x y : S.Type2) (o : S.Operator) → is_range_sign o ≡ true → ((i : Ref) → IsIn i refs → IsReached rs root r (arguments_of i) (an_operation x o y)) → (a : Asked) (w : Wanted) → IsIn w (wanted_each (parameters_in r) (end_of y) refs) → IsAnswer t a w → IsAsked rs root t a
+  end_asked x y o g reach a w m k =
+      let e = in_each (parameters_in r) w (end_of y) refs m in
+      last_end {x = x} {y = y} {o = o} (reach e.0 e.1.0) g (subst (Holds t (Some a.row)) (ap (λ (v : Wanted). v.tree) e.1.1 ∙ trees.term (parameters_in r) (arguments_of e.0) (term_of2 y)) k.holds) (k.at ∙ ap (λ (v : Wanted). v.at) e.1.1) (k.question ∙ ap (λ (v : Wanted). v.question) e.1.1)
+
   asked_last : (p : Site) → ((i : Ref) → IsIn i refs → IsReached rs root r (arguments_of i) p) → (a : Asked) (w : Wanted) → IsIn w (wanted_some (parameters_in r) (last_part p) refs) → IsAnswer t a w → IsAsked rs root t a
   asked_last (a_name b f) reach a w h k = absurd h
   asked_last (an_unwrapping b u f) reach a w h k = absurd h
   asked_last (a_choice_of u g) reach a w h k = absurd h
   asked_last (a_choice_of_name u f) reach a w h k = absurd h
   asked_last (a_hash u) reach a w h k = absurd h
-  asked_last (an_operation x o y) reach a w h k = by (is_range_sign o) refl h
+  asked_last (an_operation x (S.range u) y) reach a w h k = end_asked x y (S.range u) refl reach a w h k
+  asked_last (an_operation x (S.range_below u) y) reach a w h k = end_asked x y (S.range_below u) refl reach a w h k
+  asked_last (an_operation x (S.control u) y) reach a w h k = by (comparison_of (S.control u)) refl h
     where
-      by : (b : Bool) → is_range_sign o ≡ b → IsIn w (wanted_some (parameters_in r) (if b then Some (end_of y) else None) refs) → IsAsked rs root t a
-      by true g m =
-          let e = in_each (parameters_in r) w (end_of y) refs m in
-          last_end {x = x} {y = y} {o = o} (reach e.0 e.1.0) g (subst (Holds t (Some a.row)) (ap (λ (v : Wanted). v.tree) e.1.1 ∙ trees.term (parameters_in r) (arguments_of e.0) (term_of2 y)) k.holds) (k.at ∙ ap (λ (v : Wanted). v.at) e.1.1) (k.question ∙ ap (λ (v : Wanted). v.question) e.1.1)
-      by false g m = absurd m
+      by : (o : Option Comparison) → comparison_of (S.control u) ≡ o → IsIn w (wanted_some (parameters_in r) (option_map (operand_wanted y) (question_by o)) refs) → IsAsked rs root t a
+      by None g m = absurd m
+      by (Some c) g m =
+          let e = in_each (parameters_in r) w (operand_wanted y (comparand_question c)) refs m in
+          controller {x = x} {y = y} {o = S.control u} {c = c} (reach e.0 e.1.0) g (subst (Holds t (Some a.row)) (ap (λ (v : Wanted). v.tree) e.1.1 ∙ trees.term (parameters_in r) (arguments_of e.0) (term_of2 y)) k.holds) (k.at ∙ ap (λ (v : Wanted). v.at) e.1.1) (k.question ∙ ap (λ (v : Wanted). v.question) e.1.1)
   asked_last (an_entry e) reach a w h k = absurd h
   asked_last (a_map u g) reach a w h k = absurd h
 
@@ -143,7 +152,14 @@ module _ (laws : Laws) (trees : Trees) (s : Specification) (root : Text) (clear 
   first_of_range x y o e = ap (λ b. if b then Some (end_of x) else None) e
 
   last_of_range : (x y : S.Type2) (o : S.Operator) → is_range_sign o ≡ true → last_part (an_operation x o y) ≡ Some (end_of y)
-  last_of_range x y o e = ap (λ b. if b then Some (end_of y) else None) e
+  last_of_range x y (S.range t) e = refl
+  last_of_range x y (S.range_below t) e = refl
+  last_of_range x y (S.control t) e = absurd (true≢false (sym e))
+
+  right_of_comparison : (x y : S.Type2) (o : S.Operator) (c : Comparison) → comparison_of o ≡ Some c → last_part (an_operation x o y) ≡ Some (operand_wanted y (comparand_question c))
+  right_of_comparison x y (S.range t) c e = cc
+  right_of_comparison x y (S.range_below t) c e = cc
+  right_of_comparison x y (S.control t) c e = ap (λ o. option_map (operand_wanted y) (question_by o)) e
 
   pub are_asked : AreAsked (rules s) root t answers
   are_asked = record {
@@ -152,5 +168,6 @@ module _ (laws : Laws) (trees : Trees) (s : Specification) (root : Text) (clear 
     references = λ r xs u f h. was_asked r xs (a_choice_of_name u f) (record { at = u.start; question = QuestionV.ChoosesByName; tree = ref_tree (ref_of f); call = nothing }) (ref_tree (fill_ref (parameters_in r) xs (ref_of f))) h (inl refl) (trees.reference (parameters_in r) xs (ref_of f));
     first_ends = λ r xs x y o h e. was_asked r xs (an_operation x o y) (end_of x) (term_tree (fill (parameters_in r) xs (term_of2 x))) h (inl (first_of_range x y o e)) (trees.term (parameters_in r) xs (term_of2 x));
     last_ends = λ r xs x y o h e. was_asked r xs (an_operation x o y) (end_of y) (term_tree (fill (parameters_in r) xs (term_of2 y))) h (inr (last_of_range x y o e)) (trees.term (parameters_in r) xs (term_of2 y));
+    controllers = λ r xs x y o c h e. was_asked r xs (an_operation x o y) (operand_wanted y (comparand_question c)) (term_tree (fill (parameters_in r) xs (term_of2 y))) h (inr (right_of_comparison x y o c e)) (trees.term (parameters_in r) xs (term_of2 y));
     maps = λ r xs u g h. was_asked r xs (a_map u g) (record { at = u.start; question = QuestionV.MapGroup; tree = group_tree (group_of g); call = nothing }) (group_tree (fill_group (parameters_in r) xs (group_of g))) h (inl refl) (trees.group (parameters_in r) xs (group_of g));
   }

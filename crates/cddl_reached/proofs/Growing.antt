@@ -13,7 +13,7 @@ use Rattle.cddl_terms.specs.Trees.{entry_tree, group_tree, ref_tree, term_tree}
 use Rattle.cddl_instances.specs.declared.found.Instance.{Instance}
 use Rattle.cddl_instances.specs.Bodies.{AreBodies, no_bodies, further_body}
 use Rattle.cddl_instances.specs.Found.{AreFound, none_found, further_found}
-use Rattle.cddl_reached.specs.Asked.{AreAsked, AreEntriesAsked, IsAsked, IsEntryAsked, WasAsked, choosing, choosing_by_name, first_end, last_end, of_map, of_map_entry, of_rule_entry}
+use Rattle.cddl_reached.specs.Asked.{AreAsked, AreEntriesAsked, IsAsked, IsEntryAsked, WasAsked, choosing, choosing_by_name, controller, first_end, last_end, of_map, of_map_entry, of_rule_entry}
 use Rattle.cddl_reached.specs.declared.asked.Asked.{Asked}
 use Rattle.cddl_reached.specs.declared.asked.Question.{Question}
 
@@ -32,6 +32,7 @@ module _ (old new : Table) (trees : (n : Option ℕ) (x : Tree) → Holds old n 
   one_kept a (choosing_by_name {r = r} {xs = xs} {u = u} {f = f} h is e q) = choosing_by_name {r = r} {xs = xs} {u = u} {f = f} h (trees (Some a.row) (ref_tree (fill_ref (parameters_in r) xs (ref_of f))) is) e q
   one_kept a (first_end {r = r} {xs = xs} {x = x} {y = y} {o = o} h s is e q) = first_end {r = r} {xs = xs} {x = x} {y = y} {o = o} h s (trees (Some a.row) (term_tree (fill (parameters_in r) xs (term_of2 x))) is) e q
   one_kept a (last_end {r = r} {xs = xs} {x = x} {y = y} {o = o} h s is e q) = last_end {r = r} {xs = xs} {x = x} {y = y} {o = o} h s (trees (Some a.row) (term_tree (fill (parameters_in r) xs (term_of2 y))) is) e q
+  one_kept a (controller {r = r} {xs = xs} {x = x} {y = y} {o = o} {c = c} h s is e q) = controller {r = r} {xs = xs} {x = x} {y = y} {o = o} {c = c} h s (trees (Some a.row) (term_tree (fill (parameters_in r) xs (term_of2 y))) is) e q
   one_kept a (of_map {r = r} {xs = xs} {u = u} {g = g} h is e q) = of_map {r = r} {xs = xs} {u = u} {g = g} h (trees (Some a.row) (group_tree (fill_group (parameters_in r) xs (group_of g))) is) e q
 
   answer_kept : (answers : List Asked) (at : ℕ) (q : Question) (x : Tree) → WasAsked rs root old answers at q x → WasAsked rs root new answers at q x
@@ -44,6 +45,7 @@ module _ (old new : Table) (trees : (n : Option ℕ) (x : Tree) → Holds old n 
     references = λ r xs u f h. answer_kept answers _ _ _ (are.references r xs u f h);
     first_ends = λ r xs x y o h s. answer_kept answers _ _ _ (are.first_ends r xs x y o h s);
     last_ends = λ r xs x y o h s. answer_kept answers _ _ _ (are.last_ends r xs x y o h s);
+    controllers = λ r xs x y o c h s. answer_kept answers _ _ _ (are.controllers r xs x y o c h s);
     maps = λ r xs u g h. answer_kept answers _ _ _ (are.maps r xs u g h);
   }
 

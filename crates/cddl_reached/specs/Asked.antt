@@ -1,10 +1,11 @@
 -- What is asked of at the sites that a root reaches, in each instance.
-use Rattle.std.specs.Prelude.{◌≡◌, ℕ, true, if◌then◌else◌, List, [], ◌∷◌, ◌++◌, map, Contains, Option, Some, None, slice_get}
+use Rattle.std.specs.Prelude.{◌≡◌, ℕ, true, if◌then◌else◌, List, [], ◌∷◌, ◌++◌, map, Contains, Option, Some, None, option_map, slice_get}
 use Rattle.cddl_token.specs.declared.Token.{Token}
 use Rattle.cddl_syntax.specs.Syntax as S
 use Rattle.cddl_tree.specs.declared.tree.Leaf.{Leaf}
 use Rattle.cddl_tree.specs.View.{view_group, view_ref, view_type2}
-use Rattle.cddl_language.specs.Faults.{is_range_sign, operand_at}
+use Rattle.cddl_language.specs.Controls.{Comparison, is_ordering}
+use Rattle.cddl_language.specs.Faults.{comparison_of, is_range_sign, operand_at}
 use Rattle.cddl_language.specs.MapFaults.{closed_entry, entry_at}
 use Rattle.cddl_language.specs.Reading.{entry_of, group_of, name_in, parameters_in, ref_of, term_of2}
 use Rattle.cddl_language.specs.Sites.{IsInstance, IsReached, Site, a_choice_of, a_choice_of_name, a_map, an_operation}
@@ -40,8 +41,25 @@ pub record Wanted : Type 0 where
 
 -- What is asked of at a site, with the rule's parameters in it.
 
+abbrev pub operand_wanted : S.Type2 → Question → Wanted
+operand_wanted x q = record { at = operand_at x; question = q; tree = term_tree (term_of2 x); call = nothing }
+
 abbrev pub end_of : S.Type2 → Wanted
-end_of x = record { at = operand_at x; question = QuestionV.IsWhole; tree = term_tree (term_of2 x); call = nothing }
+end_of x = operand_wanted x QuestionV.IsWhole
+
+-- of what an item is compared with
+abbrev pub comparand_question : Comparison → Question
+comparand_question c = if is_ordering c then QuestionV.IsNumber else QuestionV.IsLiteral
+
+abbrev pub question_by : Option Comparison → Option Question
+question_by None = None
+question_by (Some c) = Some (comparand_question c)
+
+-- of what stands to the right of an operator
+abbrev pub question_after : S.Operator → Option Question
+question_after (S.range t) = Some QuestionV.IsWhole
+question_after (S.range_below t) = Some QuestionV.IsWhole
+question_after (S.control t) = question_by (comparison_of (S.control t))
 
 abbrev pub first_part : Site → Option Wanted
 first_part (a_choice_of u g) = Some (record { at = u.start; question = QuestionV.ChoosesFrom; tree = group_tree (group_of g); call = nothing })
@@ -51,7 +69,7 @@ first_part (a_map u g) = Some (record { at = u.start; question = QuestionV.MapGr
 first_part _ = None
 
 abbrev pub last_part : Site → Option Wanted
-last_part (an_operation x o y) = if is_range_sign o then Some (end_of y) else None
+last_part (an_operation x o y) = option_map (operand_wanted y) (question_after o)
 last_part _ = None
 
 -- the same of the code's parts
@@ -141,6 +159,7 @@ module _ (rs : List S.Rule) (root : Text) (t : Table) where
     choosing_by_name : {r : S.Rule} {xs : List Term} {u : Token} {f : S.Ref} → IsReached rs root r xs (a_choice_of_name u f) → IsRef t a.row (fill_ref (parameters_in r) xs (ref_of f)) → a.at ≡ u.start → a.question ≡ QuestionV.ChoosesByName → IsAsked a
     first_end : {r : S.Rule} {xs : List Term} {x y : S.Type2} {o : S.Operator} → IsReached rs root r xs (an_operation x o y) → is_range_sign o ≡ true → IsTerm t a.row (fill (parameters_in r) xs (term_of2 x)) → a.at ≡ operand_at x → a.question ≡ QuestionV.IsWhole → IsAsked a
     last_end : {r : S.Rule} {xs : List Term} {x y : S.Type2} {o : S.Operator} → IsReached rs root r xs (an_operation x o y) → is_range_sign o ≡ true → IsTerm t a.row (fill (parameters_in r) xs (term_of2 y)) → a.at ≡ operand_at y → a.question ≡ QuestionV.IsWhole → IsAsked a
+    controller : {r : S.Rule} {xs : List Term} {x y : S.Type2} {o : S.Operator} {c : Comparison} → IsReached rs root r xs (an_operation x o y) → comparison_of o ≡ Some c → IsTerm t a.row (fill (parameters_in r) xs (term_of2 y)) → a.at ≡ operand_at y → a.question ≡ comparand_question c → IsAsked a
     of_map : {r : S.Rule} {xs : List Term} {u : Token} {g : S.Group} → IsReached rs root r xs (a_map u g) → IsGroup t a.row (fill_group (parameters_in r) xs (group_of g)) → a.at ≡ u.start → a.question ≡ QuestionV.MapGroup → IsAsked a
 
   -- the question was asked of the row of this tree
@@ -157,6 +176,7 @@ module _ (rs : List S.Rule) (root : Text) (t : Table) where
     pub references : (r : S.Rule) (xs : List Term) (u : Token) (f : S.Ref) → IsReached rs root r xs (a_choice_of_name u f) → WasAsked answers u.start QuestionV.ChoosesByName (ref_tree (fill_ref (parameters_in r) xs (ref_of f)))
     pub first_ends : (r : S.Rule) (xs : List Term) (x y : S.Type2) (o : S.Operator) → IsReached rs root r xs (an_operation x o y) → is_range_sign o ≡ true → WasAsked answers (operand_at x) QuestionV.IsWhole (term_tree (fill (parameters_in r) xs (term_of2 x)))
     pub last_ends : (r : S.Rule) (xs : List Term) (x y : S.Type2) (o : S.Operator) → IsReached rs root r xs (an_operation x o y) → is_range_sign o ≡ true → WasAsked answers (operand_at y) QuestionV.IsWhole (term_tree (fill (parameters_in r) xs (term_of2 y)))
+    pub controllers : (r : S.Rule) (xs : List Term) (x y : S.Type2) (o : S.Operator) (c : Comparison) → IsReached rs root r xs (an_operation x o y) → comparison_of o ≡ Some c → WasAsked answers (operand_at y) (comparand_question c) (term_tree (fill (parameters_in r) xs (term_of2 y)))
     pub maps : (r : S.Rule) (xs : List Term) (u : Token) (g : S.Group) → IsReached rs root r xs (a_map u g) → WasAsked answers u.start QuestionV.MapGroup (group_tree (fill_group (parameters_in r) xs (group_of g)))
 
 -- Of entries: each in a map that is reached, and each in a rule's own group or in the one that `~` of its name opens, in each of

@@ -42,6 +42,10 @@ pub enum Question {
     ChoosesByName,
     /// Whether the type is a whole number, as an end of a range has to be (section 2.2.2.1).
     IsWhole,
+    /// Whether the type is a literal, as what items are compared with has to be (section 3.8.6).
+    IsLiteral,
+    /// Whether the type is a literal and a whole number, as what items are compared with by their order has to be.
+    IsNumber,
     /// What the group of a map stands for (section 3.5).
     MapGroup,
     /// Whether the entry can stand in a map.
@@ -62,7 +66,7 @@ pub struct Asked {
 }
 
 /// What is asked of at the sites that the root reaches, in each instance: of the group or the reference after `&`, of both ends
-/// of a range, and of the group of a map.
+/// of a range, of what items are compared with, and of the group of a map.
 ///
 /// It costs the sites times the instances of their rule: for each site the rows of its part are visited once, and then each row
 /// that holds a parameter is hashed once for each instance. Memory is needed for each answer.

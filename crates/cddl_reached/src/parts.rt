@@ -7,18 +7,22 @@ ghost use Rattle.cddl_reached.specs.Asked as by;
 ghost use Rattle.cddl_reached.specs.Asked.{entry_wanted, node_tree, wanted};
 ghost use Rattle.cddl_entries.specs.Entries.{view_node};
 ghost use Rattle.cddl_sites.specs.View.{view_site};
-ghost use Rattle.cddl_tree.specs.View.{token_of, view_grpent, view_type2, view_types};
-ghost use Rattle.cddl_language.specs.Faults.{operand_at};
+ghost use Rattle.cddl_tree.specs.View.{token_of, view_grpent, view_operator, view_type2, view_types};
+ghost use Rattle.cddl_language.specs.Controls.{comparison_in};
+ghost use Rattle.cddl_language.specs.Faults.{comparison_of, operand_at};
 ghost use Rattle.cddl_language.specs.MapFaults.{entry_at};
 ghost use Rattle.cddl_language.specs.Reading.{entry_of};
-ghost use Rattle.cddl_syntax.specs.Syntax.{typed};
+ghost use Rattle.cddl_syntax.specs.Syntax.{control, typed};
+ghost use Rattle.cddl_texts.specs.Controls.{comparison_view, control_view};
 
 use crate::asked::Question;
 use cddl_entries::{Node as EntryNode, TextEntry};
 use cddl_reader::{read_entry, read_group, read_operand, read_reference, read_type_entry};
 use cddl_sites::{Site, is_range};
-use cddl_terms::{NoRoom, Terms};
-use cddl_tree::{Group, GrpEnt, Ref, Tree, Type2, Types};
+use cddl_terms::{NoRoom, Terms, control_name};
+use cddl_texts::{Comparison, Control, control_of};
+use cddl_token::Token;
+use cddl_tree::{Group, GrpEnt, Operator, Ref, Tree, Type2, Types};
 
 /// A node of the tree of which something is asked.
 #[derive(Clone, Copy)]
@@ -52,7 +56,7 @@ pub(crate) fn first_part<'t>(tree: &Tree<'_>, site: Site<'t>) -> Option<Part<'t>
             question: Question::ChoosesByName,
             node: Node::Reference(name),
         }),
-        Site::Operation { left, operator, .. } if is_range(operator) => Some(operand(tree, left)),
+        Site::Operation { left, operator, .. } if is_range(operator) => Some(end(tree, left)),
         Site::Map { opening, group } => Some(Part {
             at: tree.token(opening).start,
             question: Question::MapGroup,
@@ -62,7 +66,7 @@ pub(crate) fn first_part<'t>(tree: &Tree<'_>, site: Site<'t>) -> Option<Part<'t>
     }
 }
 
-/// The last end of a range.
+/// The last end of a range, or what items are compared with.
 pub(crate) fn last_part<'t>(tree: &Tree<'_>, site: Site<'t>) -> Option<Part<'t>>
     ensures { option_map (wanted (token_of tree.now)) result ≡ by.last_part (view_site (token_of tree.now) site.entry) }
 {
@@ -71,17 +75,67 @@ pub(crate) fn last_part<'t>(tree: &Tree<'_>, site: Site<'t>) -> Option<Part<'t>>
             operator,
             right,
             ..
-        } if is_range(operator) => Some(operand(tree, right)),
+        } => right_part(tree, operator, right),
         _ => None,
     }
 }
 
-fn operand<'t>(tree: &Tree<'_>, operand: &'t Type2) -> Part<'t>
-    ensures { wanted (token_of tree.now) result ≡ by.end_of (view_type2 (token_of tree.now) operand.now) }
+/// What is asked of what stands to the right of an operator.
+fn right_part<'t>(tree: &Tree<'_>, operator: Operator, right: &'t Type2) -> Option<Part<'t>>
+    ensures { option_map (wanted (token_of tree.now)) result ≡ option_map (by.operand_wanted (view_type2 (token_of tree.now) right.now)) (by.question_after (view_operator (token_of tree.now) operator)) }
+{
+    match question_after(tree, operator) {
+        Some(question) => Some(operand(tree, right, question)),
+        None => None,
+    }
+}
+
+fn question_after(tree: &Tree<'_>, operator: Operator) -> Option<Question>
+    ensures { result ≡ by.question_after (view_operator (token_of tree.now) operator) }
+{
+    match operator {
+        Operator::Range(_) | Operator::RangeBelow(_) => Some(Question::IsWhole),
+        Operator::Control(leaf) => token_question(tree.token(leaf)),
+    }
+}
+
+fn token_question(token: &Token<'_>) -> Option<Question>
+    ensures { result ≡ by.question_by (comparison_of (control token.now)) }
+{
+    control_question(control_of(control_name(token.text)))
+}
+
+fn control_question(control: Option<Control>) -> Option<Question>
+    ensures { result ≡ by.question_by (comparison_in (option_map control_view control)) }
+{
+    match control {
+        Some(Control::Compared(comparison)) => Some(comparand_question(comparison)),
+        _ => None,
+    }
+}
+
+fn comparand_question(comparison: Comparison) -> Question
+    ensures { result ≡ by.comparand_question (comparison_view comparison) }
+{
+    match comparison {
+        Comparison::Equal | Comparison::Different => Question::IsLiteral,
+        Comparison::Less | Comparison::AtMost => Question::IsNumber,
+        Comparison::Greater | Comparison::AtLeast => Question::IsNumber,
+    }
+}
+
+fn end<'t>(tree: &Tree<'_>, end: &'t Type2) -> Part<'t>
+    ensures { wanted (token_of tree.now) result ≡ by.end_of (view_type2 (token_of tree.now) end.now) }
+{
+    operand(tree, end, Question::IsWhole)
+}
+
+fn operand<'t>(tree: &Tree<'_>, operand: &'t Type2, question: Question) -> Part<'t>
+    ensures { wanted (token_of tree.now) result ≡ by.operand_wanted (view_type2 (token_of tree.now) operand.now) question }
 {
     Part {
         at: start_of(tree, operand),
-        question: Question::IsWhole,
+        question,
         node: Node::Operand(operand),
     }
 }

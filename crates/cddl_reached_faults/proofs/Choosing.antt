@@ -1,10 +1,11 @@
 -- What is answered of `&` is whether it can choose.
-use Rattle.std.proofs.Common.{◌≡◌, ℕ, zero, suc, Bool, true, false, ◌↔◌, List, [], Option, Some, None, is_some, slice_get, refl, sym, ap, ◌∙◌, true≢false}
+use Rattle.std.proofs.Common.{◌≡◌, ℕ, zero, suc, Bool, true, false, if◌then◌else◌, ◌↔◌, List, [], Option, Some, None, is_some, slice_get, refl, sym, ap, ◌∙◌, true≢false}
 use Rattle.std.specs.List.{Contains}
 use Rattle.std.proofs.lemmas.Option.{same_Some}
 use Rattle.cddl_token.specs.declared.Token.{Token}
 use Rattle.cddl_syntax.specs.Syntax as S
 use Rattle.cddl_language.specs.Choices.{chosen, chosen_by_name, chosen_in}
+use Rattle.cddl_language.specs.Controls.{Comparison, is_ordering}
 use Rattle.cddl_language.specs.Faults.{Specification, definitions, rules}
 use Rattle.cddl_language.specs.Reach.{Point, Reaches, group_points, most_instances, ref_at}
 use Rattle.cddl_language.specs.Reading.{group_of, parameters_in, ref_of}
@@ -21,7 +22,7 @@ use Rattle.cddl_choosing.specs.Choosing.{AreChoosable}
 use Rattle.cddl_reached.specs.declared.asked.Asked.{Asked}
 use Rattle.cddl_reached.specs.declared.asked.Question.{Question}
 use Rattle.cddl_reached.specs.declared.asked.Question.TheVariants as QuestionV
-use Rattle.cddl_reached.specs.Asked.{AreAsked, IsAsked, choosing, choosing_by_name, first_end, last_end, of_map}
+use Rattle.cddl_reached.specs.Asked.{AreAsked, IsAsked, choosing, choosing_by_name, comparand_question, controller, first_end, last_end, of_map}
 use Rattle.cddl_reached_faults.specs.Choices.{ChoosesFromNone, from_none, from_no_name, chooses, flag_in, from_group, from_meaning, is_choosable_by_name, meaning_in, place_in, unchosen_at, unless}
 use Rattle.cddl_reached_faults.specs.Least.{least_over}
 use Rattle.cddl_reached_faults.proofs.Least.{least_of_all}
@@ -76,6 +77,13 @@ module _ (s : Specification) (root : Text) (refs : List Ref) (t : Table) (c : Cl
   with_question : (q : Question) (a : Asked) → a.question ≡ q → chooses c flags a.question a.row ≡ chooses c flags q a.row
   with_question q a e = ap (λ x. chooses c flags x a.row) e
 
+  not_asked : (how : Comparison) (row : ℕ) → chooses c flags (comparand_question how) row ≡ true
+  not_asked how row = by (is_ordering how)
+    where
+      by : (b : Bool) → chooses c flags (if b then QuestionV.IsNumber else QuestionV.IsLiteral) row ≡ true
+      by true = refl
+      by false = refl
+
   sound : (a : Asked) (at : ℕ) → IsAsked (rules s) root t a → unchosen_at c flags a ≡ Some at → ChoosesFromNone s root at
   sound a at (choosing {r = r} {xs = xs} {u = u} {g = g} h is e q) k =
       let w = unless_at (chooses c flags a.question a.row) a.at at k in
@@ -91,6 +99,9 @@ module _ (s : Specification) (root : Text) (refs : List Ref) (t : Table) (c : Cl
   sound a at (last_end h o is e q) k =
       let w = unless_at (chooses c flags a.question a.row) a.at at k in
       absurd (true≢false (sym (with_question QuestionV.IsWhole a q) ∙ w.0))
+  sound a at (controller {c = how} h o is e q) k =
+      let w = unless_at (chooses c flags a.question a.row) a.at at k in
+      absurd (true≢false (sym (with_question (comparand_question how) a q ∙ not_asked how a.row) ∙ w.0))
   sound a at (of_map h is e q) k =
       let w = unless_at (chooses c flags a.question a.row) a.at at k in
       absurd (true≢false (sym (with_question QuestionV.MapGroup a q) ∙ w.0))

@@ -56,6 +56,8 @@ abbrev pub chooses : Closed → List Bool → Question → ℕ → Bool
 chooses c flags QuestionV.ChoosesFrom row = flag_in (slice_get flags row)
 chooses c flags QuestionV.ChoosesByName row = is_choosable_by_name c flags row
 chooses c flags QuestionV.IsWhole row = true
+chooses c flags QuestionV.IsLiteral row = true
+chooses c flags QuestionV.IsNumber row = true
 chooses c flags QuestionV.MapGroup row = true
 chooses c flags (QuestionV.Entry h) row = true
 

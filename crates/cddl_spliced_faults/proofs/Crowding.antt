@@ -1,8 +1,9 @@
 -- Maps with too many alternatives.
-use Rattle.std.proofs.Common.{◌≡◌, ℕ, List, Option, Some, None, slice_get, sym, ap, ◌∙◌}
+use Rattle.std.proofs.Common.{◌≡◌, ℕ, Bool, true, false, if◌then◌else◌, List, Option, Some, None, slice_get, refl, sym, ap, ◌∙◌}
 use Rattle.std.specs.List.{Contains}
 use Rattle.cddl_token.specs.declared.Token.{Token}
 use Rattle.cddl_syntax.specs.Syntax as S
+use Rattle.cddl_language.specs.Controls.{Comparison, is_ordering}
 use Rattle.cddl_language.specs.Faults.{Specification, definitions, rules}
 use Rattle.cddl_language.specs.MapFaults.{HasTooManyAlternatives}
 use Rattle.cddl_language.specs.Reach.{Point, Reaches, group_points, ref_at}
@@ -14,7 +15,8 @@ use Rattle.cddl_map_faults.specs.declared.MapFaults.{MapFaults}
 use Rattle.cddl_map_faults.specs.Faults.{AreFaults}
 use Rattle.cddl_reached.specs.declared.asked.Asked.{Asked}
 use Rattle.cddl_reached.specs.declared.asked.Question.{Question}
-use Rattle.cddl_reached.specs.Asked.{AreAsked, IsAsked, choosing, choosing_by_name, first_end, last_end, of_map}
+use Rattle.cddl_reached.specs.declared.asked.Question.TheVariants as QuestionV
+use Rattle.cddl_reached.specs.Asked.{AreAsked, IsAsked, choosing, choosing_by_name, comparand_question, controller, first_end, last_end, of_map}
 use Rattle.cddl_survey.specs.Least.{IsLeast}
 use Rattle.cddl_terms.specs.Table.{Table}
 use Rattle.cddl_spliced_faults.specs.Least.{least_over}
@@ -38,6 +40,13 @@ module _ (s : Specification) (root : Text) (inside : AreGroupsReached s root) (t
   with_question : (q : Question) (a : Asked) (at : ℕ) → a.question ≡ q → crowded_at faults a ≡ Some at → crowded_by q (crowded a) ≡ Some at
   with_question q a at e h = sym (ap (λ z. crowded_by z (crowded a)) e) ∙ h
 
+  uncrowded : (c : Comparison) (o : Option ℕ) → crowded_by (comparand_question c) o ≡ None
+  uncrowded c o = by (is_ordering c)
+    where
+      by : (b : Bool) → crowded_by (if b then QuestionV.IsNumber else QuestionV.IsLiteral) o ≡ None
+      by true = refl
+      by false = refl
+
   of_question : (a : Asked) (at : ℕ) → IsAsked (rules s) root t a → crowded_at faults a ≡ Some at → HasTooManyAlternatives (rules s) root at
   of_question a at (of_map {r = r} {xs = xs} {u = u} {g = g} h is start q) e =
       let told = told_parts (L.has_too_many faults a.row) a.at at (with_question _ a at q e) in
@@ -52,6 +61,7 @@ module _ (s : Specification) (root : Text) (inside : AreGroupsReached s root) (t
       }
   of_question a at (choosing h is start q) e = no_offset at (with_question _ a at q e)
   of_question a at (choosing_by_name h is start q) e = no_offset at (with_question _ a at q e)
+  of_question a at (controller {c = c} h o is start q) e = no_offset at (sym (uncrowded c (crowded a)) ∙ with_question _ a at q e)
   of_question a at (first_end h o is start q) e = no_offset at (with_question _ a at q e)
   of_question a at (last_end h o is start q) e = no_offset at (with_question _ a at q e)
 

@@ -1,4 +1,4 @@
-use Rattle.cddl_check.proofs.Staging.{alternatives_told, key_told, none_told, range_told, recursion_told, shape_told, too_many_told, unwrapping_told}
+use Rattle.cddl_check.proofs.Staging.{alternatives_told, controller_told, key_told, literal_told, none_told, range_told, recursion_told, shape_told, too_many_told, unwrapping_told}
 use Rattle.cddl_check.proofs.laws.root_faults_are_told.Goals as goal
 
 pub returns-clause-too_many : goal.returns-clause-too_many
@@ -10,8 +10,14 @@ returns-clause-unwrapping c = unwrapping_told
 pub returns-clause-recursion : goal.returns-clause-recursion
 returns-clause-recursion c = recursion_told
 
+pub returns-clause-literal : goal.returns-clause-literal
+returns-clause-literal c = literal_told
+
 pub returns-clause-range : goal.returns-clause-range
 returns-clause-range c = range_told
+
+pub returns-clause-controller : goal.returns-clause-controller
+returns-clause-controller c = controller_told
 
 pub returns-clause-key : goal.returns-clause-key
 returns-clause-key c = key_told

@@ -1,0 +1,12 @@
+use Rattle.std.proofs.Common.{List, drop}
+use Rattle.cddl_closed.specs.Closed.{IsClosed}
+use Rattle.cddl_language.specs.Literals.{Values}
+use Rattle.cddl_language.specs.Terms as L
+use Rattle.cddl_language.specs.Terms.{Ref, Text}
+use Rattle.cddl_literals.specs.Literals.{AreLiterals}
+use Rattle.cddl_range_faults.proofs.Telling.{Goes}
+use Rattle.cddl_control_faults.specs.Controllers.{AreControllers, IsWrong}
+use Rattle.cddl_control_faults.proofs.controllers.least_wrong.Given as goal
+
+abbrev pub invariant-loop-question : goal.invariant-loop-question
+invariant-loop-question l = (xs : List L.Definition) (root : Text) (refs : List Ref) (worth : Values) → IsClosed xs root refs l.terms l.closed → AreLiterals xs l.terms refs l.literals → AreControllers xs root worth l.terms l.wrong l.asked → Goes (IsWrong xs worth l.terms l.wrong) l.asked (drop l.question-index l.asked) l.least
