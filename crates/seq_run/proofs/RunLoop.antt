@@ -18,10 +18,12 @@ use Rattle.seq_run.specs.Progress.{Progress}
 use Rattle.seq_run.specs.Parts.{IsNext, IsRejected}
 use Rattle.seq_run.specs.Answers.{IsOpen, IsLent}
 use Rattle.seq_run.specs.declared.output.Mode.{Mode}
-use Rattle.seq_run.specs.Output.{item_output, items_output, end_output, stream_output}
+use Rattle.seq_run.specs.Report.{IsShown}
+use Rattle.seq_run.specs.Output.{item_output, items_output, end_output}
 use Rattle.seq_run.specs.Running.{Change, HasNotFailed, IsWholeOutput, IsBeginning, WritesAll, WritesFirst, WritesItems, WritesRun, IsSettled, IsLast, IsPieceDone}
 use Rattle.seq_run.proofs.Ending.{open_end}
-use Rattle.seq_run.proofs.Reporting.{same_next}
+use Rattle.seq_run.proofs.Reporting.{same_next, shown_lent}
+use Rattle.seq_run.proofs.Verdicts.{ShowsInside}
 use Rattle.seq_run.proofs.Runs.{same_takes, takes_extend, begins_run}
 
 -- ---- known bytes
@@ -281,6 +283,12 @@ begin_run mode judge l input output reads writes session e =
       written_is = refl;
       bound = omega arith;
     })
+
+-- the item that a session lends after its last piece can be shown with its end
+pub shown_last : ShowsInside → (mode : Mode) (old : Progress) (piece : List ℕ) (end : Option End) (new : Progress) (out : List ℕ) → IsPieceDone mode old piece end new out → (e : End) (lent : Option Value) → end ≡ Some e → IsLent new.stopped new lent → IsShown e lent
+shown_last inside mode old piece end new out d e lent is lends =
+    let line : IsLast mode (Some e) piece new d.last = subst (λ v. IsLast mode v piece new d.last) is d.line in
+    shown_lent inside piece new e lent line.3 lends
 
 -- a piece of no bytes
 pub no_bytes : (n : ℕ) (buffer piece : List ℕ) → n ≤ length buffer → piece ≡ take n buffer → piece ≡ [] → n ≡ 0

@@ -16,6 +16,8 @@ use std::mem;
 pub enum Mode {
     /// Its report: a line for each accepted item, and one for its end.
     Report,
+    /// The line of its end alone.
+    EndLine,
     /// The preferred bytes (RFC 8949 section 4.1) of each accepted item, and nothing of its end.
     Rewrite,
 }
@@ -33,6 +35,7 @@ pub(crate) fn push_item(
 {
     match mode {
         Mode::Report => push_item_line(alloc, bytes, number, offset, item),
+        Mode::EndLine => Ok(()),
         Mode::Rewrite => push_preferred(alloc, bytes, item),
     }
 }
@@ -62,7 +65,7 @@ pub(crate) fn push_end(
     ensures { OnOk result (bytes.new.items ≡ bytes.old.items ++ end_output mode end.now (option_copied rejected.entry)) }
 {
     match mode {
-        Mode::Report => {
+        Mode::Report | Mode::EndLine => {
             let line = end_line(alloc, end, rejected)?;
             bytes.extend_from_slice(line.as_slice())
         }

@@ -6,6 +6,7 @@ ghost use Rattle.cbor_item.specs.Counted.{device_of, failures_of};
 ghost use Rattle.seq_run.specs.Answers.{IsFed};
 ghost use Rattle.seq_run.specs.Ends.{IsDecisive};
 ghost use Rattle.seq_run.specs.Judge.{judge_of};
+ghost use Rattle.seq_run.specs.Report.{IsShown};
 ghost use Rattle.seq_run.specs.Running.{Adds, IsDecided, IsFault, IsPieceDone, WritesAll, change_of};
 ghost use Rattle.seq_run.specs.Written.{IsReadBack, IsWrittenStream};
 
@@ -58,6 +59,7 @@ pub fn run<R: Read, W: Write>(
     ensures read_back { IfOk result (λ r. (items : List Value) →
         IsWrittenStream table.now limits items (R.remaining (device_of input.old)) → IsDecisive r.0 →
         IsReadBack mode items (change_of W.contents output.old output.new) r.0 r.1) }
+    ensures shown { IfOk result (λ r. IsShown r.0 r.1) }
     ensures counts { OnOk result ((failures_of input.new ≡ failures_of input.old) × (failures_of output.new ≡ failures_of output.old)) }
     ensures fault { IfErr result (IsFault mode (judge_of table.now steps) limits (change_of R.remaining input.old input.new) (change_of W.contents output.old output.new)) }
 {
@@ -79,6 +81,7 @@ pub fn run<R: Read, W: Write>(
         }
         written += bytes.len() as u128;
         if let Some(end) = end {
+            shows_inside();
             written_is_read_back();
             decisive_end();
             return Ok((end, session.into_rejected()));

@@ -2,7 +2,7 @@ use Rattle.std.proofs.Common.{◌≡◌, take, None, refl, ◌∙◌, arith}
 use Rattle.cbor_item.specs.Counted.{device_of, failures_of}
 use Rattle.seq_run.specs.Judge.{judge_of}
 use Rattle.seq_run.specs.Running.{change_of}
-use Rattle.seq_run.proofs.RunLoop.{begin_run, read_failed, no_memory, write_failed, reported_all, goes_on, no_bytes}
+use Rattle.seq_run.proofs.RunLoop.{begin_run, shown_last, read_failed, no_memory, write_failed, reported_all, goes_on, no_bytes}
 use Rattle.seq_run.proofs.Rereading.{read_back}
 use Rattle.seq_run.proofs.running.run.Goals as goal
 
@@ -39,6 +39,11 @@ returns-in-Some-clause-reported g c =
     (λ e. c.in-Ok.ensures.bytes.1 (no_bytes c.in-Ok.count c.read.new.buf (take c.in-Ok.count c.read.new.buf) c.in-Ok.ensures.bound.0 refl e) (omega arith))
     c.in-Ok-take_piece.end c.take_piece.new.session c.take_piece.new.bytes.items c.in-Ok-take_piece.ensures
     c.in-Some.end c.into_rejected.result (g.W.Write.contents (device_of c.write_bytes.new.out)) (failures_of c.write_bytes.new.out) c.in-Some.is (rw c.as_slice.ensures.value at c.in_default-write_bytes.ensures.all) c.into_rejected.ensures
+
+pub returns-in-Some-clause-shown : goal.returns-in-Some-clause-shown
+returns-in-Some-clause-shown g c =
+    shown_last c.shows_inside.ensures c.args.mode c.pieces.session (take c.in-Ok.count c.read.new.buf) c.in-Ok-take_piece.end c.take_piece.new.session c.take_piece.new.bytes.items c.in-Ok-take_piece.ensures
+    c.in-Some.end c.into_rejected.result c.in-Some.is c.into_rejected.ensures
 
 pub returns-in-Some-clause-read_back : goal.returns-in-Some-clause-read_back
 returns-in-Some-clause-read_back g c =
