@@ -15,7 +15,7 @@ use Rattle.cddl_check.specs.declared.fault.Fault.{Fault}
 use Rattle.cddl_tool.specs.declared.choice.Options.{Options}
 use Rattle.cddl_tool.specs.declared.choice.Task.{Task}
 use Rattle.cddl_tool.specs.declared.choice.Task.TheVariants.{Check, Validate, Rewrite, Show}
-use Rattle.cddl_tool.specs.declared.status.TheConstants.{REFUSED, BROKEN}
+use Rattle.cddl_tool.specs.declared.status.TheConstants.{BROKEN}
 
 -- the specification of a task: to show a stream, that of any item
 abbrev pub specification_of : Task → List ℕ → List ℕ

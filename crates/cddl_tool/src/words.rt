@@ -309,7 +309,7 @@ fn file_arg<'a>(alloc: Global) -> Arg<'a>
     ensures own { result.global ≡ false }
 {
     Arg::new(alloc, "file").value_name("FILE").help(
-        "The file with the stream; without it standard input is read",
+        "The file with the stream; without it, or for -, standard input is read",
     )
 }
 

@@ -5,7 +5,8 @@
 use cbor_item::Counted;
 use cddl_table::Table;
 use cddl_tool::{
-    BROKEN, Options, Task, Use, accept, act, options, read_text, ready, say, say_of_file, stream_name,
+    BROKEN, Options, Task, Use, accept, act, options, read_text, ready, say, say_of_file,
+    stream_name,
 };
 use std::alloc::{AllocError, Global};
 use std::io::{self, ErrorKind, Read, Write};

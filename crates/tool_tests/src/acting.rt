@@ -252,7 +252,10 @@ fn tells_of_a_reader_that_fails(rt: HostRuntime) -> Result<(), Fail> {
 
 // Words, and all that goes out of the stream 17 18 18 under `a = uint`.
 static WHOLE: [(&[&str], &[u8]); 3] = [
-    (VALIDATE, b"item 1 at 0: 23\nitem 2 at 1: 24\nclean: 2 items, 3 bytes\n"),
+    (
+        VALIDATE,
+        b"item 1 at 0: 23\nitem 2 at 1: 24\nclean: 2 items, 3 bytes\n",
+    ),
     (QUIET, b"clean: 2 items, 3 bytes\n"),
     (REWRITE, b"\x17\x18\x18"),
 ];
@@ -261,8 +264,8 @@ static WHOLE: [(&[&str], &[u8]); 3] = [
 fn tells_of_a_writer_that_fails(rt: HostRuntime) -> Result<(), Fail> {
     for (words, whole) in WHOLE.iter() {
         for room in 0..whole.len() {
-            assert_cut_off(&rt, *words, &whole[..room], true)?;
-            assert_cut_off(&rt, *words, &whole[..room], false)?;
+            assert_cut_off(&rt, rt.alloc(), *words, &whole[..room], true)?;
+            assert_cut_off(&rt, rt.alloc(), *words, &whole[..room], false)?;
         }
     }
     Ok(())
@@ -270,12 +273,12 @@ fn tells_of_a_writer_that_fails(rt: HostRuntime) -> Result<(), Fail> {
 
 // The writer takes this front of what goes out, and then fails or takes none.
 fn assert_cut_off(
-    rt: &HostRuntime,
+    rt: &impl Abort,
+    alloc: Global,
     words: &[&str],
     front: &[u8],
     fails: bool,
 ) -> Result<(), Fail> {
-    let alloc = rt.alloc();
     let room = front.len();
     let source = Source::cut(b"\x17\x18\x18", 1);
     let sink = Sink::new(alloc, room, fails);

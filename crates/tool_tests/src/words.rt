@@ -192,7 +192,13 @@ static REFUSED: [&[&str]; 20] = [
     &["cddlseq", "rewrite"],
     &["cddlseq", "rewrite", "a", "--quiet"],
     &["cddlseq", "rewrite", "a", "--steps", "0"],
-    &["cddlseq", "validate", "a", "--steps", "18446744073709551616"],
+    &[
+        "cddlseq",
+        "validate",
+        "a",
+        "--steps",
+        "18446744073709551616",
+    ],
 ];
 
 #[test]

@@ -1,4 +1,4 @@
-use Rattle.std.proofs.Common.{◌∙◌, sym, refl, ap, codes}
+use Rattle.std.proofs.Common.{◌∙◌, refl, ap, codes}
 use Rattle.clap.specs.Words.{found_of}
 use Rattle.clap.proofs.WalkLemmas.{first_value-rows, one_text-rows}
 use Rattle.cddl_tool.specs.Chosen.{is_set}
