@@ -26,6 +26,7 @@ COMMANDS = [
     ["check", GATEWAY],
     ["validate", GATEWAY, BROKEN],
     ["show", BROKEN],
+    ["rewrite", GATEWAY, BROKEN],
     ["validate", COSE, COSE_BROKEN],
     ["check", "a = [b, c<int>, ~d, &(x: 1)]\nb = (int // tstr)\nc<t> = [* t]\nd = #6.1(any)\n"],
     ["check", "a = [b]\nb = (int // c)\n"],

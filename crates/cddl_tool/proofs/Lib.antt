@@ -3,3 +3,4 @@ pub mod Devices
 pub mod Meeting
 pub mod Limiting
 pub mod Refusing
+pub mod Telling

@@ -13,11 +13,11 @@ use Rattle.clap.specs.declared.parser.matches.SubCommand.{SubCommand}
 use Rattle.clap.proofs.OnLiterals.{clap_on_literals}
 use Rattle.cddl_tool.specs.declared.choice.Options.{Options}
 use Rattle.cddl_tool.specs.declared.choice.Task.{Task}
-use Rattle.cddl_tool.specs.declared.choice.Task.TheVariants.{Check, Validate, Show}
+use Rattle.cddl_tool.specs.declared.choice.Task.TheVariants.{Check, Validate, Rewrite, Show}
 use Rattle.cddl_tool.specs.declared.choice.Use.{Use}
 use Rattle.cddl_tool.specs.declared.choice.Use.TheVariants.{Words, Memory}
 use Rattle.cddl_tool.specs.Errors.{IsUseOf}
-use Rattle.cddl_tool.specs.Chosen.{program_app, task_name, named_command, given_text, given_number, AreRead, AreUnread, AreChosen, IsMisuse}
+use Rattle.cddl_tool.specs.Chosen.{program_app, task_name, named_command, given_text, given_number, is_set, AreRead, AreUnread, AreChosen, IsMisuse}
 
 is_plain : is_simple program_app ≡ true
 unfolding clap_on_literals
@@ -65,17 +65,26 @@ chosen_of words task rows o taken met read = record {
   root = read.root ∙ sym (ap (option_and_then (λ (p : Text × List Row). first_of (codes "root") p.1)) met.found);
   file = read.file ∙ sym (ap (option_and_then (λ (p : Text × List Row). first_of (codes "file") p.1)) met.found);
   limits = rw (met.found, read.task_is) read.limits;
+  steps = rw (met.found, read.task_is) read.steps;
+  quiet = read.quiet ∙ ap is_set (sym (ap (option_and_then (λ (p : Text × List Row). first_of (codes "quiet") p.1)) met.found));
 }
 
 same_name : (s t : Task) → task_name s ≡ task_name t → s ≡ t
 same_name Check Check e = refl
 same_name Check Validate e = absurd (cc)
+same_name Check Rewrite e = absurd (cc)
 same_name Check Show e = absurd (cc)
 same_name Validate Check e = absurd (cc)
 same_name Validate Validate e = refl
+same_name Validate Rewrite e = absurd (cc)
 same_name Validate Show e = absurd (cc)
+same_name Rewrite Check e = absurd (cc)
+same_name Rewrite Validate e = absurd (cc)
+same_name Rewrite Rewrite e = refl
+same_name Rewrite Show e = absurd (cc)
 same_name Show Check e = absurd (cc)
 same_name Show Validate e = absurd (cc)
+same_name Show Rewrite e = absurd (cc)
 same_name Show Show e = refl
 
 pub read_of : (words : List Text) (task : Task) (rows : List Row) (o : Options) → IsMet words (task_name task) rows → AreChosen o words → AreRead task rows o
@@ -89,6 +98,8 @@ read_of words task rows o met c =
       root = c.root ∙ ap (option_and_then (λ (p : Text × List Row). first_of (codes "root") p.1)) met.found;
       file = c.file ∙ ap (option_and_then (λ (p : Text × List Row). first_of (codes "file") p.1)) met.found;
       limits = rw (met.found, same) at c.limits;
+      steps = rw (met.found, same) at c.steps;
+      quiet = c.quiet ∙ ap is_set (ap (option_and_then (λ (p : Text × List Row). first_of (codes "quiet") p.1)) met.found);
     }
 
 pub unread : (task : Task) (rows : List Row) (u : Use) → ((o : Options) → AreRead task rows o → ⊥) → AreUnread task rows u
@@ -130,11 +141,12 @@ unfolding named_command
 named_met words m name sub is = sym (names_same (out-ArgMatches m).subcommand) ∙ (ap (option_map (λ (p : Text × List Row). p.0)) sub ∙ is)
 
 -- where no command was met the words give no options
-pub none_met : (words : List Text) (m : ArgMatches) → subcommand_rows_of m ≡ subcommand_of program_app words → (subcommand_name_of m ≡ Some (codes "check") → ⊥) → (subcommand_name_of m ≡ Some (codes "validate") → ⊥) → (subcommand_name_of m ≡ Some (codes "show") → ⊥) →
+pub none_met : (words : List Text) (m : ArgMatches) → subcommand_rows_of m ≡ subcommand_of program_app words → (subcommand_name_of m ≡ Some (codes "check") → ⊥) → (subcommand_name_of m ≡ Some (codes "validate") → ⊥) → (subcommand_name_of m ≡ Some (codes "rewrite") → ⊥) → (subcommand_name_of m ≡ Some (codes "show") → ⊥) →
     (o : Options) → AreChosen o words → ⊥
-none_met words m sub not_check not_validate not_show o c = none o.task refl
+none_met words m sub not_check not_validate not_rewrite not_show o c = none o.task refl
   where
     none : (t : Task) → o.task ≡ t → ⊥
     none Check e = not_check (named_met words m (codes "check") sub (c.task ∙ ap (λ (s : Task). Some (task_name s)) e))
     none Validate e = not_validate (named_met words m (codes "validate") sub (c.task ∙ ap (λ (s : Task). Some (task_name s)) e))
+    none Rewrite e = not_rewrite (named_met words m (codes "rewrite") sub (c.task ∙ ap (λ (s : Task). Some (task_name s)) e))
     none Show e = not_show (named_met words m (codes "show") sub (c.task ∙ ap (λ (s : Task). Some (task_name s)) e))

@@ -1,22 +1,27 @@
 -- What the program's status says.
-use Rattle.std.specs.Prelude.{◌≡◌, ℕ, ◌<◌, List, length, take, Option, codes}
+use Rattle.std.specs.Prelude.{◌≡◌, ℕ, ◌<◌, ◌-◌, ◌^◌, Bool, true, false, List, [], length, take, Option, IfSome, codes}
 use Rattle.std.specs.Io.KnownBytes as bytes
 use Rattle.cbor_data.specs.Value.{Value}
-use Rattle.cbor_data.specs.Faults.{Bounds}
 use Rattle.seq_run.specs.declared.end.End.{End}
 use Rattle.seq_run.specs.declared.end.End.TheVariants.{Clean, Failed}
 use Rattle.seq_run.specs.Judge.{Judge}
-use Rattle.seq_run.specs.Running.{Change, HasFailed, IsReported}
+use Rattle.seq_run.specs.declared.output.Mode.{Mode}
+use Rattle.seq_run.specs.declared.output.Mode.TheVariants as mode
+use Rattle.seq_run.specs.declared.running.RunFault.{RunFault}
+use Rattle.seq_run.specs.Report.{end_line}
+use Rattle.seq_run.specs.Running.{Change, HasFailed, HasNotFailed, IsFault, WritesAll}
 use Rattle.cddl_specification.specs.Text.{IsNotYetText, IsWrongText}
 use Rattle.cddl_check.specs.declared.fault.Fault.{Fault}
+use Rattle.cddl_tool.specs.declared.choice.Options.{Options}
 use Rattle.cddl_tool.specs.declared.choice.Task.{Task}
-use Rattle.cddl_tool.specs.declared.choice.Task.TheVariants.{Check, Validate, Show}
-use Rattle.cddl_tool.specs.declared.status.TheConstants.{REFUSED, BROKEN}
+use Rattle.cddl_tool.specs.declared.choice.Task.TheVariants.{Check, Validate, Rewrite, Show}
+use Rattle.cddl_tool.specs.declared.status.TheConstants.{BROKEN}
 
 -- the specification of a task: to show a stream, that of any item
 abbrev pub specification_of : Task → List ℕ → List ℕ
 specification_of Check spec = spec
 specification_of Validate spec = spec
+specification_of Rewrite spec = spec
 specification_of Show spec = codes "a = any"
 
 -- Why the text, with this name as its root, is refused: for what is wrong with it, or for what this version does not take.
@@ -44,9 +49,38 @@ abbrev pub status_for : End → ℕ
 status_for (Clean items bytes) = 0
 status_for (Failed items offset cause) = 1
 
--- The whole report of the stream went out, and the status is that of its end.
-pub record IsAnswered (judge : Judge) (l : Bounds) (stream : List ℕ) (output : Change) (status : ℕ) : Type 0 where
+abbrev pub report_mode_of : Bool → Mode
+report_mode_of true = mode.EndLine
+report_mode_of false = mode.Report
+
+-- what is written of a stream
+abbrev pub mode_of : Task → Bool → Mode
+mode_of Rewrite quiet = mode.Rewrite
+mode_of task quiet = report_mode_of quiet
+
+-- what is told of an end on standard error: its line, where items are rewritten
+abbrev pub told_of : Task → End → Option Value → List ℕ
+told_of Rewrite end rejected = end_line end rejected
+told_of task end rejected = []
+
+-- The text went out whole, unless the device failed.
+abbrev pub IsSaid : Change → List ℕ → Type 0
+IsSaid device text = HasNotFailed device → device.failures_before < 2 ^ 64 - 1 → bytes.Appends device.before device.after text
+
+-- The end was told, and the status is its own; or there was no memory for its line.
+pub data IsTold (task : Task) (end : End) (rejected : Option Value) (error : Change) : ℕ → Type 0 where
+  told : IsSaid error (told_of task end rejected) → IsTold task end rejected error (status_for end)
+  no_memory : task ≡ Rewrite → IsTold task end rejected error BROKEN
+
+-- The whole output of the stream went out, its end was told, and the status is that of its end.
+pub record IsAnswered (o : Options) (judge : Judge) (stream : List ℕ) (output error : Change) (status : ℕ) : Type 0 where
   pub end : End
   pub rejected : Option Value
-  pub reported : IsReported judge l stream output end rejected
+  pub written : WritesAll (mode_of o.task o.quiet) judge o.limits stream output end rejected
+  pub told : IsSaid error (told_of o.task end rejected)
   pub is : status ≡ status_for end
+
+-- Why there is no such status: the run stopped early, or it is whole and there was no memory for the line of its end.
+pub data IsBroken (o : Options) (judge : Judge) (input output : Change) : Type 0 where
+  stopped : (fault : RunFault) → IsFault (mode_of o.task o.quiet) judge o.limits input output fault → IsBroken o judge input output
+  untold : o.task ≡ Rewrite → IfSome input.before (λ stream. (end : End) × (rejected : Option Value) × WritesAll (mode_of o.task o.quiet) judge o.limits stream output end rejected) → IsBroken o judge input output

@@ -1,26 +1,23 @@
 //! What the program does with a specification and a stream.
 
-ghost use Rattle.std.specs.Prelude.{◌≡◌, ◌≢◌, ◌≤◌, ◌⊎◌, ℕ, List, Option, IfOk, IfErr, IfSome, OnOk, option_map, string_bytes, vec_items};
+ghost use Rattle.std.specs.Prelude.{◌≡◌, ◌≢◌, ◌≤◌, ◌⊎◌, ℕ, List, Option, IfOk, IfErr, IfSome, OnOk, option_copied, option_map, string_bytes, vec_items};
 ghost use Rattle.cbor_item.specs.Counted.{device_of};
 ghost use Rattle.cddl_specification.specs.Text.{IsTabledText, IsUnreadText};
 ghost use Rattle.seq_run.specs.Judge.{judge_of};
-ghost use Rattle.seq_run.specs.Running.{IsFault, change_of};
-ghost use Rattle.seq_run.specs.declared.running.RunFault.{RunFault as RunFaults};
-ghost use Rattle.cddl_tool.specs.Acting.{specification_of, status_for, IsAccepted, IsAnswered, IsCutOff, IsRefusedText};
+ghost use Rattle.seq_run.specs.Report.{IsShown};
+ghost use Rattle.seq_run.specs.Running.{change_of};
+ghost use Rattle.cddl_tool.specs.Acting.{mode_of, report_mode_of, specification_of, status_for, IsAccepted, IsAnswered, IsBroken, IsCutOff, IsRefusedText, IsTold};
 
 use crate::choice::{Options, Task};
 use crate::lines::{say, say_of_file};
 use crate::status::{BROKEN, FAILED, REFUSED};
-use cbor_item::{Counted, write_bytes};
+use cbor_item::{Counted, Sound, write_bytes};
 use cddl_specification::{Unread, read_specification};
 use cddl_table::Table;
 use cddl_token::Refusal;
-use seq_run::{End, RunFault, run};
+use seq_run::{End, Mode, RunFault, end_line, run};
 use std::alloc::Global;
 use std::io::{ErrorKind, Read, Write};
-
-/// How many questions a specification may ask of one item.
-pub const STEPS: u64 = 10_000_000;
 
 /// Reads the text of a specification: all that is left in its file.
 ///
@@ -119,7 +116,7 @@ fn specification_for(task: Task, spec: &[u8]) -> &[u8]
     ensures { result.now ≡ specification_of task spec.now }
 {
     match task {
-        Task::Check | Task::Validate => spec,
+        Task::Check | Task::Validate | Task::Rewrite => spec,
         Task::Show => b"a = any",
     }
 }
@@ -139,8 +136,9 @@ pub fn accept<W: Write, E: Write>(alloc: Global, out: &mut Counted<W>, err: &mut
     }
 }
 
-/// Validates the stream of `input`, writes its report to `out`, and answers the status: 0 where the stream is clean,
-/// [`FAILED`] where it failed, and else [`BROKEN`], with a line on `err`.
+/// Validates the stream of `input`, writes to `out` what the task asks for, and answers the status: 0 where the stream is
+/// clean, [`FAILED`] where it failed, and else [`BROKEN`], with a line on `err`. Where items are rewritten, the line of the end
+/// goes to `err` too.
 pub fn act<R: Read, W: Write, E: Write>(
     alloc: Global,
     options: &Options,
@@ -150,17 +148,82 @@ pub fn act<R: Read, W: Write, E: Write>(
     err: &mut Counted<E>,
 ) -> u8
     ensures answered { result ≢ BROKEN → IfSome (R.remaining (device_of input.old)) (λ stream.
-        IsAnswered (judge_of table.now STEPS) options.now.limits stream (change_of W.contents out.old out.new) result) }
-    ensures broken { result ≡ BROKEN → (fault : RunFaults) × IsFault (judge_of table.now STEPS) options.now.limits
-        (change_of R.remaining input.old input.new) (change_of W.contents out.old out.new) fault }
+        IsAnswered options.now (judge_of table.now options.now.steps) stream (change_of W.contents out.old out.new) (change_of E.contents err.old err.new) result) }
+    ensures broken { result ≡ BROKEN → IsBroken options.now (judge_of table.now options.now.steps)
+        (change_of R.remaining input.old input.new) (change_of W.contents out.old out.new) }
 {
-    match run(alloc, table, options.limits, STEPS, input, out) {
+    let mode = mode_for(options);
+    match run(
+        alloc,
+        table,
+        options.limits,
+        options.steps,
+        mode,
+        input,
+        out,
+    ) {
         Ok((end, rejected)) => {
+            let status = tell_end(alloc, options.task, &end, rejected.as_ref(), err);
             drop(rejected);
-            status_of(&end)
+            status
         }
         Err(fault) => {
             say_fault(alloc, fault, err);
+            BROKEN
+        }
+    }
+}
+
+// What is written of a stream.
+fn mode_for(options: &Options) -> Mode
+    ensures { result ≡ mode_of options.now.task options.now.quiet }
+{
+    match options.task {
+        Task::Rewrite => Mode::Rewrite,
+        Task::Check | Task::Validate | Task::Show => report_mode(options.quiet),
+    }
+}
+
+fn report_mode(quiet: bool) -> Mode
+    ensures { result ≡ report_mode_of quiet }
+{
+    if quiet { Mode::EndLine } else { Mode::Report }
+}
+
+// Says the end of a stream whose items were rewritten, and answers the status.
+fn tell_end<E: Write>(
+    alloc: Global,
+    task: Task,
+    end: &End,
+    rejected: Option<&Sound>,
+    err: &mut Counted<E>,
+) -> u8
+    requires { IsShown end.now (option_copied rejected) }
+    ensures { IsTold task end.now (option_copied rejected.entry) (change_of E.contents err.old err.new) result }
+{
+    match task {
+        Task::Rewrite => tell_line(alloc, end, rejected, err),
+        Task::Check | Task::Validate | Task::Show => status_of(end),
+    }
+}
+
+// Says the line of the end, and answers the status.
+fn tell_line<E: Write>(
+    alloc: Global,
+    end: &End,
+    rejected: Option<&Sound>,
+    err: &mut Counted<E>,
+) -> u8
+    requires { IsShown end.now (option_copied rejected) }
+    ensures { IsTold Task.Rewrite end.now (option_copied rejected.entry) (change_of E.contents err.old err.new) result }
+{
+    match end_line(alloc, end, rejected) {
+        Ok(line) => {
+            say(line.as_slice(), err);
+            status_of(end)
+        }
+        Err(_) => {
+            say(b"out of memory\n", err);
             BROKEN
         }
     }

@@ -1,6 +1,7 @@
 //! What the words of the command line say.
 
-ghost use Rattle.std.specs.Prelude.{◌≡◌};
+ghost use Rattle.std.specs.Prelude.{◌≡◌, Some, option_map, string_bytes};
+ghost use Rattle.cddl_tool.specs.Chosen.{named_stream};
 ghost use Rattle.cddl_tool.specs.Errors.{IsUseOf};
 ghost use Rattle.cddl_tool.specs.declared.choice.Use.TheVariants.{Memory as OutOfMemory};
 
@@ -9,6 +10,9 @@ use clap::Error;
 use clap::error::ErrorKind;
 use std::alloc::AllocError;
 
+/// How many questions a specification may ask of one item, where no option says it.
+pub const STEPS: u64 = 10_000_000;
+
 /// What the program is asked to do.
 #[derive(Clone, Copy, Debug, PartialEq, Eq)]
 pub enum Task {
@@ -16,6 +20,8 @@ pub enum Task {
     Check,
     /// To validate a stream against a specification.
     Validate,
+    /// To write the items of a stream that match a specification in preferred encoding.
+    Rewrite,
     /// To show the items of a stream, whatever they are.
     Show,
 }
@@ -33,6 +39,26 @@ pub struct Options {
     pub file: Option<String>,
     /// The greatest depth of an item, and the most bytes of one.
     pub limits: Limits,
+    /// How many questions the specification may ask of one item.
+    pub steps: u64,
+    /// Whether a stream is validated without a line for each item.
+    pub quiet: bool,
+}
+
+/// The name of the file with the stream. Without one, and where it is `-`, standard input is read.
+pub fn stream_name(options: &Options) -> Option<&str>
+    ensures { option_map (λ n. n.now) result ≡ named_stream (option_map (λ s. string_bytes s) options.now.file) }
+{
+    match &options.file {
+        Some(name) => unless_dash(name.as_str()),
+        None => None,
+    }
+}
+
+fn unless_dash(name: &str) -> Option<&str>
+    ensures { option_map (λ n. n.now) result ≡ named_stream (Some name.now) }
+{
+    if name == "-" { None } else { Some(name) }
 }
 
 /// Why the words say nothing.

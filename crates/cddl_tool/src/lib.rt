@@ -7,8 +7,8 @@ mod lines;
 mod status;
 mod words;
 
-pub use crate::acting::{STEPS, accept, act, read_text, ready};
-pub use crate::choice::{Options, Task, Use};
+pub use crate::acting::{accept, act, read_text, ready};
+pub use crate::choice::{Options, STEPS, Task, Use, stream_name};
 pub use crate::lines::{say, say_of_file};
 pub use crate::status::{BROKEN, FAILED, REFUSED};
 pub use crate::words::options;

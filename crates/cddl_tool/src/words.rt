@@ -4,18 +4,65 @@ ghost use Rattle.std.specs.Prelude.{◌≡◌, ℕ, codes, false, map, IfOk, IfE
 ghost use Rattle.cbor_data.specs.Faults.{Bounds};
 ghost use Rattle.clap.specs.Words.{app_of, first_value, found_of, one_text, rows_of, rule_of};
 ghost use Rattle.clap.specs.declared.builder.command.Command.TheViews.{out-Command};
-ghost use Rattle.cddl_tool.specs.Chosen.{check_app, file_rule, number_rule, program_app, root_rule, show_app, spec_app, spec_rule, stream_app, top_app, validate_app, AreChosen, AreLimits, AreRead, AreTaskLimits, AreUnread, IsMisuse, IsNumber};
+ghost use Rattle.cddl_tool.specs.Chosen.{check_app, file_rule, is_set, judging_app, most_steps, number_rule, program_app, quiet_rule, rewrite_app, root_rule, show_app, spec_app, spec_rule, steps_rule, stream_app, top_app, validate_app, AreChosen, AreLimits, AreRead, AreTaskLimits, AreTaskSteps, AreUnread, IsMisuse, IsNumber};
 
-use crate::choice::{Options, Task, Use};
+use crate::choice::{Options, STEPS, Task, Use};
 use cbor_read::{Limits, MOST_DEPTH, MOST_ITEM_BYTES};
 use clap::builder::ValueParser;
 use clap::error::ErrorKind;
-use clap::{Arg, ArgMatches, Command, Error};
+use clap::{Arg, ArgAction, ArgMatches, Command, Error};
 use std::alloc::{AllocError, Global};
 
-/// Reads the words of the command line, the program's name first: `check SPEC`, `validate SPEC [FILE]` or `show [FILE]`;
-/// where there is a SPEC with `--root NAME`; and of a stream with `--depth N`, from 1 to [`MOST_DEPTH`], and
-/// `--item-bytes N`, from 1 to [`MOST_ITEM_BYTES`]. The greatest number of each is its default, and the limit of `check`.
+// What the help of each command ends with: an example, and the exit statuses.
+const CHECK_HELP: &str = "\
+Example:
+  cddlseq check messages.cddl
+
+Exit status:
+  0  The specification is accepted
+  2  The specification is refused: standard error says why
+  3  The command line, a file, a device or memory failed
+";
+
+const VALIDATE_HELP: &str = "\
+Example:
+  cddlseq validate messages.cddl messages.cborseq
+
+Exit status:
+  0  All of the stream is items that match
+  1  The stream failed: the last line says where and why
+  2  The specification is refused: standard error says why
+  3  The command line, a file, a device or memory failed
+";
+
+const REWRITE_HELP: &str = "\
+Example:
+  cddlseq rewrite messages.cddl < messages.cborseq > preferred.cborseq
+
+The line of the end goes to standard error.
+
+Exit status:
+  0  All of the stream is items that match
+  1  The stream failed: the line of the end says where and why
+  2  The specification is refused: standard error says why
+  3  The command line, a file, a device or memory failed
+";
+
+const SHOW_HELP: &str = "\
+Example:
+  cddlseq show messages.cborseq
+
+Exit status:
+  0  All of the stream is items
+  1  The stream failed: the last line says where and why
+  3  The command line, a file, a device or memory failed
+";
+
+/// Reads the words of the command line, the program's name first: `check SPEC`, `validate SPEC [FILE]`,
+/// `rewrite SPEC [FILE]` or `show [FILE]`; where there is a SPEC with `--root NAME`; where there is a stream with
+/// `--depth N`, from 1 to [`MOST_DEPTH`], and `--item-bytes N`, from 1 to [`MOST_ITEM_BYTES`]; where there are both with
+/// `--steps N`, from 1; and `validate` with `--quiet`. The greatest number is the default of the limits, and [`STEPS`] that of
+/// the steps; so are they where a command has no such option.
 ///
 /// # Errors
 ///
@@ -30,6 +77,9 @@ pub fn options(alloc: Global, words: &[&str]) -> Result<Options, Use>
     }
     if let Some(given) = matches.subcommand_matches("validate") {
         return options_of(alloc, Task::Validate, given);
+    }
+    if let Some(given) = matches.subcommand_matches("rewrite") {
+        return options_of(alloc, Task::Rewrite, given);
     }
     if let Some(given) = matches.subcommand_matches("show") {
         return options_of(alloc, Task::Show, given);
@@ -48,12 +98,17 @@ fn options_of(alloc: Global, task: Task, given: &ArgMatches<'_>) -> Result<Optio
     let Some(limits) = task_limits(task, given) else {
         return Err(range_error(alloc));
     };
+    let Some(steps) = task_steps(task, given) else {
+        return Err(range_error(alloc));
+    };
     Ok(Options {
         task,
         spec,
         root,
         file,
         limits,
+        steps,
+        quiet: is_given(given, "quiet"),
     })
 }
 
@@ -65,8 +120,31 @@ fn task_limits(task: Task, given: &ArgMatches<'_>) -> Option<Limits>
     match task {
         Task::Check => Some(greatest_limits()),
         Task::Validate => limits_of(given),
+        Task::Rewrite => limits_of(given),
         Task::Show => limits_of(given),
     }
+}
+
+// The steps of a task: those of its option, and the default where it has none.
+fn task_steps(task: Task, given: &ArgMatches<'_>) -> Option<u64>
+    ensures some { IfSome result (AreTaskSteps task (one_text (found_of given.now) (codes "steps"))) }
+    ensures none { IfNone result ((steps : ℕ) → AreTaskSteps task (one_text (found_of given.now) (codes "steps")) steps → ⊥) }
+{
+    match task {
+        Task::Check => Some(STEPS),
+        Task::Validate => steps_of(given),
+        Task::Rewrite => steps_of(given),
+        Task::Show => Some(STEPS),
+    }
+}
+
+// The steps that their option gives, if it is a number in its range.
+fn steps_of(given: &ArgMatches<'_>) -> Option<u64>
+    ensures some { IfSome result (IsNumber most_steps (one_text (found_of given.now) (codes "steps"))) }
+    ensures none { IfNone result ((n : ℕ) → IsNumber most_steps (one_text (found_of given.now) (codes "steps")) n → ⊥) }
+{
+    let n = given.get_one::<u64>("steps")?;
+    if n >= 1 { Some(n) } else { None }
 }
 
 fn greatest_limits() -> Limits
@@ -111,6 +189,7 @@ fn command<'a>(alloc: Global) -> Result<Command<'a>, AllocError>
     top_command(alloc)
         .subcommand(check_command(alloc)?)?
         .subcommand(validate_command(alloc)?)?
+        .subcommand(rewrite_command(alloc)?)?
         .subcommand(show_command(alloc)?)
 }
 
@@ -128,7 +207,9 @@ fn check_command<'a>(alloc: Global) -> Result<Command<'a>, AllocError>
     ensures app { IfOk result (λ c. app_of c ≡ check_app) }
     ensures local { IfOk result (λ c. (out-Command c).has_globals ≡ false) }
 {
-    let command = Command::new(alloc, "check").about("Says whether the specification is accepted");
+    let command = Command::new(alloc, "check")
+        .about("Says whether the specification is accepted")
+        .after_help(CHECK_HELP);
     with_specification(alloc, command)
 }
 
@@ -136,20 +217,39 @@ fn validate_command<'a>(alloc: Global) -> Result<Command<'a>, AllocError>
     ensures app { IfOk result (λ c. app_of c ≡ validate_app) }
     ensures local { IfOk result (λ c. (out-Command c).has_globals ≡ false) }
 {
-    let command = Command::new(alloc, "validate").about(
-        "Prints a line for each item of the stream that matches, and one for its end",
-    );
-    with_stream(alloc, with_specification(alloc, command)?)
+    let command = Command::new(alloc, "validate")
+        .about("Prints a line for each item of the stream that matches, and one for its end")
+        .after_help(VALIDATE_HELP);
+    with_judgement(alloc, command)?.arg(quiet_arg(alloc))
+}
+
+fn rewrite_command<'a>(alloc: Global) -> Result<Command<'a>, AllocError>
+    ensures app { IfOk result (λ c. app_of c ≡ rewrite_app) }
+    ensures local { IfOk result (λ c. (out-Command c).has_globals ≡ false) }
+{
+    let command = Command::new(alloc, "rewrite")
+        .about("Writes each item of the stream that matches in preferred encoding")
+        .after_help(REWRITE_HELP);
+    with_judgement(alloc, command)
 }
 
 fn show_command<'a>(alloc: Global) -> Result<Command<'a>, AllocError>
     ensures app { IfOk result (λ c. app_of c ≡ show_app) }
     ensures local { IfOk result (λ c. (out-Command c).has_globals ≡ false) }
 {
-    let command = Command::new(alloc, "show").about(
-        "Prints a line for each item of the stream, and one for its end",
-    );
+    let command = Command::new(alloc, "show")
+        .about("Prints a line for each item of the stream, and one for its end")
+        .after_help(SHOW_HELP);
     with_stream(alloc, command)
+}
+
+// The command with what is taken with a specification and a stream, and the steps.
+fn with_judgement<'a>(alloc: Global, command: Command<'a>) -> Result<Command<'a>, AllocError>
+    requires { (out-Command command).has_globals ≡ false }
+    ensures app { IfOk result (λ c. app_of c ≡ judging_app (app_of command.entry)) }
+    ensures local { IfOk result (λ c. (out-Command c).has_globals ≡ false) }
+{
+    with_stream(alloc, with_specification(alloc, command)?)?.arg(steps_arg(alloc))
 }
 
 // The command with what is taken with a specification: its file and the root.
@@ -209,7 +309,7 @@ fn file_arg<'a>(alloc: Global) -> Arg<'a>
     ensures own { result.global ≡ false }
 {
     Arg::new(alloc, "file").value_name("FILE").help(
-        "The file with the stream; without it standard input is read",
+        "The file with the stream; without it, or for -, standard input is read",
     )
 }
 
@@ -232,6 +332,28 @@ fn number_arg<'a>(
         .default_value(default)
 }
 
+fn steps_arg<'a>(alloc: Global) -> Arg<'a>
+    ensures rule { rule_of result ≡ steps_rule }
+    ensures own { result.global ≡ false }
+{
+    Arg::new(alloc, "steps")
+        .long("steps")
+        .value_name("N")
+        .help("How many questions SPEC may ask of one item, from 1")
+        .value_parser(ValueParser::unsigned(1, u64::MAX))
+        .default_value("10000000")
+}
+
+fn quiet_arg<'a>(alloc: Global) -> Arg<'a>
+    ensures rule { rule_of result ≡ quiet_rule }
+    ensures own { result.global ≡ false }
+{
+    Arg::new(alloc, "quiet")
+        .long("quiet")
+        .help("Prints the line of the end alone")
+        .action(ArgAction::SetTrue)
+}
+
 fn value(alloc: Global, given: &ArgMatches<'_>, name: &str) -> Result<Option<String>, AllocError>
     ensures { IfOk result (λ o. option_map (λ s. string_bytes s) o ≡ first_value (found_of given.now) name.now) }
 {
@@ -248,6 +370,16 @@ fn number(given: &ArgMatches<'_>, name: &str, most: u32) -> Option<u32>
 {
     let n = given.get_one::<u32>(name)?;
     if n >= 1 && n <= most { Some(n) } else { None }
+}
+
+// Whether an option without a value is given.
+fn is_given(given: &ArgMatches<'_>, name: &str) -> bool
+    ensures { result ≡ is_set (first_value (found_of given.now) name.now) }
+{
+    match given.get_str(name) {
+        Some(text) => text == "true",
+        None => false,
+    }
 }
 
 fn words_error(alloc: Global, kind: ErrorKind, message: &str) -> Result<Error, AllocError> {

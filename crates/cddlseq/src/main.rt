@@ -6,6 +6,7 @@ use cbor_item::Counted;
 use cddl_table::Table;
 use cddl_tool::{
     BROKEN, Options, Task, Use, accept, act, options, read_text, ready, say, say_of_file,
+    stream_name,
 };
 use std::alloc::{AllocError, Global};
 use std::io::{self, ErrorKind, Read, Write};
@@ -58,7 +59,7 @@ fn perform<E: Write>(rt: &HostRuntime, options: &Options, err: &mut Counted<E>) 
     match ready(rt.alloc(), options, text.as_slice(), err) {
         Ok(table) => match options.task {
             Task::Check => check(rt, err),
-            Task::Validate | Task::Show => validate(rt, options, &table, err),
+            Task::Validate | Task::Rewrite | Task::Show => go_through(rt, options, &table, err),
         },
         Err(status) => status,
     }
@@ -85,23 +86,23 @@ fn text_of<E: Write>(
     }
 }
 
-// Validates the stream of the file that is named, or of standard input.
-fn validate<E: Write>(
+// Goes through the stream of the file that is named, or of standard input.
+fn go_through<E: Write>(
     rt: &HostRuntime,
     options: &Options,
     table: &Table,
     err: &mut Counted<E>,
 ) -> u8 {
-    let Some(name) = &options.file else {
-        return validate_from(rt, options, table, rt.stdin(), err);
+    let Some(name) = stream_name(options) else {
+        return go_through_device(rt, options, table, rt.stdin(), err);
     };
-    match fs::open(rt, name.as_str()) {
-        Ok(file) => validate_from(rt, options, table, file, err),
-        Err(_) => say_of_file("cannot open ", name.as_str(), err),
+    match fs::open(rt, name) {
+        Ok(file) => go_through_device(rt, options, table, file, err),
+        Err(_) => say_of_file("cannot open ", name, err),
     }
 }
 
-fn validate_from<R: Read + Drop, E: Write>(
+fn go_through_device<R: Read + Drop, E: Write>(
     rt: &HostRuntime,
     options: &Options,
     table: &Table,

@@ -1,4 +1,4 @@
--- The lines of a piece.
+-- The output of a piece.
 use Rattle.std.proofs.Common.{◌≡◌, ℕ, suc, ◌+◌, ◌-◌, ◌<◌, ◌≤◌, List, [], ◌∷◌, ◌++◌, length, take, drop, get_or, Option, Some, None, Result, Ok, refl, sym, ap, ap₂, ◌∙◌, subst, arith, append-nil, append_assoc, length-append}
 use Rattle.std.specs.declared.alloc.AllocError.{AllocError}
 use Rattle.std.proofs.lemmas.List.{take-append-drop, length-drop}
@@ -17,44 +17,46 @@ use Rattle.seq_run.specs.Ends.{Accepts, Misses, Overruns, Ends}
 use Rattle.seq_run.specs.Progress.{Progress}
 use Rattle.seq_run.specs.Parts.{IsNext, IsRejected}
 use Rattle.seq_run.specs.Answers.{IsOpen, IsEnded, IsLent, IsAdvance, IsAdvanceAnswer, intake_of}
-use Rattle.seq_run.specs.Report.{item_line, item_lines, IsShown}
+use Rattle.seq_run.specs.declared.output.Mode.{Mode}
+use Rattle.seq_run.specs.Report.{IsShown}
+use Rattle.seq_run.specs.Output.{item_output, items_output}
 use Rattle.seq_run.specs.Running.{Adds, IsSettled}
 use Rattle.seq_run.proofs.Runs.{same_front, same_takes}
 use Rattle.seq_run.proofs.Verdicts.{ShowsInside}
 
--- one line more
-pub item_lines_more : (n : ℕ) (fs : List Found) (f : Found) → item_lines n (fs ++ f ∷ []) ≡ item_lines n fs ++ item_line (n + length fs) f
-item_lines_more n [] f = append-nil (item_line n f) ∙ ap (λ (m : ℕ). item_line m f) (let e : n ≡ n + 0 = omega arith in e)
-item_lines_more n (g ∷ gs) f =
+-- one item more
+pub items_output_more : (mode : Mode) (n : ℕ) (fs : List Found) (f : Found) → items_output mode n (fs ++ f ∷ []) ≡ items_output mode n fs ++ item_output mode (n + length fs) f
+items_output_more mode n [] f = append-nil (item_output mode n f) ∙ ap (λ (m : ℕ). item_output mode m f) (let e : n ≡ n + 0 = omega arith in e)
+items_output_more mode n (g ∷ gs) f =
     let number : suc n + length gs ≡ n + suc (length gs) = omega arith in
-    ap (λ (b : List ℕ). item_line n g ++ b) (item_lines_more (suc n) gs f ∙ ap (λ (m : ℕ). item_lines (suc n) gs ++ item_line m f) number) ∙ sym (append_assoc (item_line n g) (item_lines (suc n) gs) (item_line (n + suc (length gs)) f))
+    ap (λ (b : List ℕ). item_output mode n g ++ b) (items_output_more mode (suc n) gs f ∙ ap (λ (m : ℕ). items_output mode (suc n) gs ++ item_output mode m f) number) ∙ sym (append_assoc (item_output mode n g) (items_output mode (suc n) gs) (item_output mode (n + suc (length gs)) f))
 
 -- `rest` of the piece is left, and the lines are those of the items so far
-pub record IsReporting (old : Progress) (piece lines : List ℕ) (now : Progress) (rest lines_now : List ℕ) : Type 0 where
+pub record IsReporting (mode : Mode) (old : Progress) (piece lines : List ℕ) (now : Progress) (rest lines_now : List ℕ) : Type 0 where
   pub fed : now.fed ++ rest ≡ old.fed ++ piece
   pub going : now.stopped ≡ None
   pub added : List Found
   pub taken : now.taken ≡ old.taken ++ added
-  pub written : lines_now ≡ lines ++ item_lines (suc (length old.taken)) added
+  pub written : lines_now ≡ lines ++ items_output mode (suc (length old.taken)) added
   pub judge : now.judge ≡ old.judge
   pub limits : now.limits ≡ old.limits
 
-pub begin_reporting : (old : Progress) (piece lines : List ℕ) → old.stopped ≡ None → IsReporting old piece lines old piece lines
-begin_reporting old piece lines e = record { fed = refl; going = e; added = []; taken = sym (append-nil old.taken); written = sym (append-nil lines); judge = refl; limits = refl }
+pub begin_reporting : (mode : Mode) (old : Progress) (piece lines : List ℕ) → old.stopped ≡ None → IsReporting mode old piece lines old piece lines
+begin_reporting mode old piece lines e = record { fed = refl; going = e; added = []; taken = sym (append-nil old.taken); written = sym (append-nil lines); judge = refl; limits = refl }
 
-module _ (old : Progress) (piece lines : List ℕ) (now : Progress) (rest lines_now : List ℕ) (r : IsReporting old piece lines now rest lines_now) (new : Progress) (out_new : List Value) where
+module _ (mode : Mode) (old : Progress) (piece lines : List ℕ) (now : Progress) (rest lines_now : List ℕ) (r : IsReporting mode old piece lines now rest lines_now) (new : Progress) (out_new : List Value) where
   step_of : (result : Result Advance AllocError) → IsAdvanceAnswer now.stopped (intake_of now []) rest result (intake_of new out_new) → IsAdvance (intake_of now []) rest result (intake_of new out_new)
   step_of result s = subst (λ v. IsAdvanceAnswer v (intake_of now []) rest result (intake_of new out_new)) r.going s
 
-  adds : new.fed ≡ now.fed ++ rest → new.taken ≡ now.taken → new.judge ≡ now.judge → new.limits ≡ now.limits → Adds old piece lines new lines_now
+  adds : new.fed ≡ now.fed ++ rest → new.taken ≡ now.taken → new.judge ≡ now.judge → new.limits ≡ now.limits → Adds mode old piece lines new lines_now
   adds f t u v = record { fed = f ∙ r.fed; added = r.added; taken = t ∙ r.taken; written = r.written; judge = u ∙ r.judge; limits = v ∙ r.limits }
 
-  pub reported_more : IsAdvanceAnswer now.stopped (intake_of now []) rest (Ok advance.More) (intake_of new out_new) → Adds old piece lines new lines_now × IsOpen new
+  pub reported_more : IsAdvanceAnswer now.stopped (intake_of now []) rest (Ok advance.More) (intake_of new out_new) → Adds mode old piece lines new lines_now × IsOpen new
   reported_more a =
       let s : IsAdvance (intake_of now []) rest (Ok advance.More) (intake_of new out_new) = step_of (Ok advance.More) a in
       (adds (ap (λ (p : Progress). p.fed) s.0) (ap (λ (p : Progress). p.taken) s.0) (ap (λ (p : Progress). p.judge) s.0) (ap (λ (p : Progress). p.limits) s.0), s.2)
 
-  pub reported_ended : (end : End) → IsAdvanceAnswer now.stopped (intake_of now []) rest (Ok (advance.Ended end)) (intake_of new out_new) → Adds old piece lines new lines_now × IsEnded new end
+  pub reported_ended : (end : End) → IsAdvanceAnswer now.stopped (intake_of now []) rest (Ok (advance.Ended end)) (intake_of new out_new) → Adds mode old piece lines new lines_now × IsEnded new end
   reported_ended end a =
       let s : IsAdvance (intake_of now []) rest (Ok (advance.Ended end)) (intake_of new out_new) = step_of (Ok (advance.Ended end)) a in
       (adds (ap (λ (p : Progress). p.fed) s.0) (ap (λ (p : Progress). p.taken) s.0) (ap (λ (p : Progress). p.judge) s.0) (ap (λ (p : Progress). p.limits) s.0), s.2)
@@ -65,7 +67,7 @@ module _ (old : Progress) (piece lines : List ℕ) (now : Progress) (rest lines_
       ap length s.3.2
 
   pub reported_item : (used number offset : ℕ) (y : Value) (lines_new : List ℕ) → IsAdvanceAnswer now.stopped (intake_of now []) rest (Ok (advance.Item used number offset)) (intake_of new out_new) → y ≡ get_or out_new 0 y →
-      lines_new ≡ lines_now ++ item_line number (record { offset = offset; item = y }) → IsReporting old piece lines new (drop used rest) lines_new × (0 < used) × (used ≤ length rest)
+      lines_new ≡ lines_now ++ item_output mode number (record { offset = offset; item = y }) → IsReporting mode old piece lines new (drop used rest) lines_new × (0 < used) × (used ≤ length rest)
   reported_item used number offset y lines_new a item written =
       let s : IsAdvance (intake_of now []) rest (Ok (advance.Item used number offset)) (intake_of new out_new) = step_of (Ok (advance.Item used number offset)) a in
       let x = s.3.0 in
@@ -73,15 +75,15 @@ module _ (old : Progress) (piece lines : List ℕ) (now : Progress) (rest lines_
       let same : y ≡ x = item ∙ ap (λ (xs : List Value). get_or xs 0 y) s.3.2 in
       let taken : new.taken ≡ old.taken ++ (r.added ++ more ∷ []) = ap (λ (p : Progress). p.taken) s.3.1 ∙ (ap (λ (fs : List Found). fs ++ more ∷ []) r.taken ∙ append_assoc old.taken r.added (more ∷ [])) in
       let count : number ≡ suc (length old.taken) + length r.added = omega (arith, s.2, ap length taken, length-append old.taken (r.added ++ more ∷ []), length-append r.added (more ∷ [])) in
-      let line : item_line number (record { offset = offset; item = y }) ≡ item_line (suc (length old.taken) + length r.added) more =
-      ap₂ (λ (n : ℕ) (v : Value). item_line n (record { offset = offset; item = v })) count same in (
+      let line : item_output mode number (record { offset = offset; item = y }) ≡ item_output mode (suc (length old.taken) + length r.added) more =
+      ap₂ (λ (n : ℕ) (v : Value). item_output mode n (record { offset = offset; item = v })) count same in (
         record {
           fed = ap (λ (p : Progress). p.fed ++ drop used rest) s.3.1 ∙ (append_assoc now.fed (take used rest) (drop used rest) ∙ (ap (λ (xs : List ℕ). now.fed ++ xs) (take-append-drop used rest) ∙ r.fed));
           going = ap (λ (p : Progress). p.stopped) s.3.1 ∙ r.going;
           added = r.added ++ more ∷ [];
           taken = taken;
-          written = written ∙ (ap₂ (λ (a b : List ℕ). a ++ b) r.written line ∙ (append_assoc lines (item_lines (suc (length old.taken)) r.added) (item_line (suc (length old.taken) + length r.added) more)
-              ∙ ap (λ (b : List ℕ). lines ++ b) (sym (item_lines_more (suc (length old.taken)) r.added more))));
+          written = written ∙ (ap₂ (λ (a b : List ℕ). a ++ b) r.written line ∙ (append_assoc lines (items_output mode (suc (length old.taken)) r.added) (item_output mode (suc (length old.taken) + length r.added) more)
+              ∙ ap (λ (b : List ℕ). lines ++ b) (sym (items_output_more mode (suc (length old.taken)) r.added more))));
           judge = ap (λ (p : Progress). p.judge) s.3.1 ∙ r.judge;
           limits = ap (λ (p : Progress). p.limits) s.3.1 ∙ r.limits;
         },

@@ -16,8 +16,9 @@ use Rattle.seq_run.specs.declared.end.End.{End}
 use Rattle.seq_run.specs.declared.end.End.TheVariants.{Clean, Failed}
 use Rattle.seq_run.specs.Ends.{Accepts, Ends, IsAccepted, EndsFreely, IsDecisive, end_of}
 use Rattle.seq_run.specs.Parts.{IsRejected}
-use Rattle.seq_run.specs.Report.{report}
-use Rattle.seq_run.specs.Running.{Change, IsReported}
+use Rattle.seq_run.specs.declared.output.Mode.{Mode}
+use Rattle.seq_run.specs.Output.{stream_output}
+use Rattle.seq_run.specs.Running.{Change, WritesAll}
 use Rattle.seq_run.specs.Written.{IsWritable, AreWritable, written_bytes, found_from, clean_end, IsWrittenStream, IsReadBack}
 use Rattle.seq_run.proofs.Ending.{clean_run}
 use Rattle.seq_run.proofs.OneEnd.{one_clean}
@@ -77,11 +78,11 @@ IsReadFreely = (table : Table) (l : Bounds) (items : List Value) → AreWritable
 abbrev pub DecidesFreely : Type 0
 DecidesFreely = (judge : Judge) (l : Bounds) (stream : List ℕ) (found : List Found) (end : End) → Ends judge l stream found end → IsDecisive end → EndsFreely judge.table l stream found end
 
--- the report of such a stream
-reads_back : IsReadFreely → DecidesFreely → (judge : Judge) (l : Bounds) (stream : List ℕ) (output : Change) (end : End) (rejected : Option Value) (items : List Value) →
-    IsReported judge l stream output end rejected → AreWritable (IsAccepted judge.table) l items → length (written_bytes items) ≤ last_offset → stream ≡ written_bytes items → IsDecisive end →
-    IsReadBack items output end rejected
-reads_back freely decide judge l stream output end rejected items r w h is decisive =
+-- the output of such a stream
+reads_back : IsReadFreely → DecidesFreely → (mode : Mode) (judge : Judge) (l : Bounds) (stream : List ℕ) (output : Change) (end : End) (rejected : Option Value) (items : List Value) →
+    WritesAll mode judge l stream output end rejected → AreWritable (IsAccepted judge.table) l items → length (written_bytes items) ≤ last_offset → stream ≡ written_bytes items → IsDecisive end →
+    IsReadBack mode items output end rejected
+reads_back freely decide mode judge l stream output end rejected items r w h is decisive =
     let run : IsRunOf l (IsAccepted judge.table) (written_bytes items) (found_from 0 items) [] = run_of_clean (freely judge.table l items w h) (length items) (length (written_bytes items)) refl in
     let ends : Ends judge l (written_bytes items) r.found end = subst (λ (b : List ℕ). Ends judge l b r.found end) is r.ends in
     let one = one_clean (decide judge l (written_bytes items) r.found end ends decisive) run in
@@ -90,12 +91,12 @@ reads_back freely decide judge l stream output end rejected items r w h is decis
     record {
       clean = clean;
       accepted = none;
-      reported = subst (λ (v : Option Value). bytes.Appends output.before output.after (report (found_from 0 items) (clean_end items) v)) none
-          (subst (λ (f : End). bytes.Appends output.before output.after (report (found_from 0 items) f rejected)) clean
-          (subst (λ (fs : List Found). bytes.Appends output.before output.after (report fs end rejected)) one.0 r.written));
+      reported = subst (λ (v : Option Value). bytes.Appends output.before output.after (stream_output mode (found_from 0 items) (clean_end items) v)) none
+          (subst (λ (f : End). bytes.Appends output.before output.after (stream_output mode (found_from 0 items) f rejected)) clean
+          (subst (λ (fs : List Found). bytes.Appends output.before output.after (stream_output mode fs end rejected)) one.0 r.written));
     }
 
-pub read_back : IsReadFreely → DecidesFreely → (judge : Judge) (l : Bounds) (stream : Option (List ℕ)) (output : Change) (end : End) (rejected : Option Value) →
-    IfSome stream (λ s. IsReported judge l s output end rejected) → (items : List Value) → IsWrittenStream judge.table l items stream → IsDecisive end → IsReadBack items output end rejected
-read_back freely decide judge l None output end rejected r items s decisive = absurd (let e : None ≡ Some (written_bytes items) = s.is in cc)
-read_back freely decide judge l (Some stream) output end rejected r items s decisive = reads_back freely decide judge l stream output end rejected items r s.writable s.short (let e : Some stream ≡ Some (written_bytes items) = s.is in cc) decisive
+pub read_back : IsReadFreely → DecidesFreely → (mode : Mode) (judge : Judge) (l : Bounds) (stream : Option (List ℕ)) (output : Change) (end : End) (rejected : Option Value) →
+    IfSome stream (λ s. WritesAll mode judge l s output end rejected) → (items : List Value) → IsWrittenStream judge.table l items stream → IsDecisive end → IsReadBack mode items output end rejected
+read_back freely decide mode judge l None output end rejected r items s decisive = absurd (let e : None ≡ Some (written_bytes items) = s.is in cc)
+read_back freely decide mode judge l (Some stream) output end rejected r items s decisive = reads_back freely decide mode judge l stream output end rejected items r s.writable s.short (let e : Some stream ≡ Some (written_bytes items) = s.is in cc) decisive

@@ -6,5 +6,6 @@ pub mod FoundItem
 pub mod Parts
 pub mod Answers
 pub mod Report
+pub mod Output
 pub mod Running
 pub mod Written

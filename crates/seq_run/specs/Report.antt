@@ -1,5 +1,5 @@
--- The report of a stream: a line for each accepted item, and one for its end.
-use Rattle.std.specs.Prelude.{ℕ, suc, ◌<◌, List, [], ◌∷◌, ◌++◌, Option, Some, None, slice_get, codes, decimal}
+-- The lines of a report: one for each accepted item, and one for the end of the stream.
+use Rattle.std.specs.Prelude.{ℕ, ◌<◌, List, [], ◌++◌, Option, Some, None, slice_get, codes, decimal}
 use Rattle.std.specs.Option.{option_map}
 use Rattle.cbor_data.specs.Value.{Value, places, place_count}
 use Rattle.cbor_place.specs.Paths.{path}
@@ -16,11 +16,6 @@ use Rattle.seq_run.specs.declared.end.End.TheVariants.{Clean, Failed}
 abbrev pub item_line : ℕ → Found → List ℕ
 item_line number f =
     codes "item " ++ (decimal number ++ (codes " at " ++ (decimal f.offset ++ (codes ": " ++ (notation f.item ++ codes "\n")))))
-
--- the lines of these items, the first of which has this number
-abbrev pub item_lines : ℕ → List Found → List ℕ
-item_lines number [] = []
-item_lines number (f ∷ fs) = item_line number f ++ item_lines (suc number) fs
 
 -- a fault, up to its place
 abbrev pub fault_text : FaultKind → List ℕ
@@ -55,9 +50,6 @@ abbrev pub end_line : End → Option Value → List ℕ
 end_line (Clean items bytes) rejected = codes "clean: " ++ (decimal items ++ (codes " items, " ++ (decimal bytes ++ codes " bytes\n")))
 end_line (Failed items offset cause) rejected =
     codes "failed: " ++ (decimal items ++ (codes " items, offset " ++ (decimal offset ++ (codes ": " ++ (cause_text cause rejected ++ codes "\n")))))
-
-abbrev pub report : List Found → End → Option Value → List ℕ
-report found end rejected = item_lines 1 found ++ end_line end rejected
 
 -- A mismatch comes with its item, and its place is one of that item's places.
 abbrev pub IsShown : End → Option Value → Type 0

@@ -9,8 +9,9 @@ use Rattle.cbor_data.specs.Sequence.{Found}
 use Rattle.cddl_table.specs.declared.table.Table.{Table}
 use Rattle.seq_run.specs.declared.end.End.{End}
 use Rattle.seq_run.specs.declared.end.End.TheVariants.{Clean}
+use Rattle.seq_run.specs.declared.output.Mode.{Mode}
 use Rattle.seq_run.specs.Ends.{IsAccepted}
-use Rattle.seq_run.specs.Report.{report}
+use Rattle.seq_run.specs.Output.{stream_output}
 use Rattle.seq_run.specs.Running.{Change}
 
 -- The item is sound, accepted, and within the limits as it is written.
@@ -45,8 +46,8 @@ pub record IsWrittenStream (table : Table) (l : Bounds) (items : List Value) (st
   pub short : length (written_bytes items) ≤ last_offset
   pub is : stream ≡ Some (written_bytes items)
 
--- The end says that all was read, no item failed, and the report that went out has these items.
-pub record IsReadBack (items : List Value) (output : Change) (end : End) (rejected : Option Value) : Type 0 where
+-- The end says that all was read, no item failed, and the output of these items and this end went out.
+pub record IsReadBack (mode : Mode) (items : List Value) (output : Change) (end : End) (rejected : Option Value) : Type 0 where
   pub clean : end ≡ clean_end items
   pub accepted : rejected ≡ None
-  pub reported : bytes.Appends output.before output.after (report (found_from 0 items) (clean_end items) None)
+  pub reported : bytes.Appends output.before output.after (stream_output mode (found_from 0 items) (clean_end items) None)

@@ -4,6 +4,7 @@
 mod end;
 mod laws;
 mod lines;
+mod output;
 mod pieces;
 mod running;
 mod session;
@@ -11,6 +12,7 @@ mod session;
 pub use crate::end::{Cause, End, State, Stopped};
 pub use crate::laws::{decisive_end, one_end, written_is_read_back};
 pub use crate::lines::end_line;
+pub use crate::output::Mode;
 pub use crate::pieces::validate_pieces;
 pub use crate::running::{RunFault, run};
 pub use crate::session::Session;

@@ -1,4 +1,4 @@
-//! Runs a stream that a device gives, and writes its report to another.
+//! Runs a stream that a device gives, and writes its report, or its items, to another.
 
 ghost use Rattle.std.specs.Prelude.{◌≡◌, List, [], None, IfOk, IfErr, OnOk, IfSome};
 ghost use Rattle.cbor_data.specs.Value.{Value};
@@ -6,12 +6,13 @@ ghost use Rattle.cbor_item.specs.Counted.{device_of, failures_of};
 ghost use Rattle.seq_run.specs.Answers.{IsFed};
 ghost use Rattle.seq_run.specs.Ends.{IsDecisive};
 ghost use Rattle.seq_run.specs.Judge.{judge_of};
-ghost use Rattle.seq_run.specs.Running.{Adds, IsDecided, IsFault, IsPieceDone, IsReported, change_of};
+ghost use Rattle.seq_run.specs.Report.{IsShown};
+ghost use Rattle.seq_run.specs.Running.{Adds, IsDecided, IsFault, IsPieceDone, WritesAll, change_of};
 ghost use Rattle.seq_run.specs.Written.{IsReadBack, IsWrittenStream};
 
 use crate::end::{End, State};
 use crate::laws::{decisive_end, written_is_read_back};
-use crate::lines::{end_line, push_item_line};
+use crate::output::{Mode, push_end, push_item};
 use crate::session::{Advance, Session};
 use cbor_item::{Counted, Sound, write_bytes};
 use cbor_read::Limits;
@@ -24,22 +25,22 @@ use thiserror::Error;
 // How many bytes are read at once, at most.
 const PIECE: usize = 4096;
 
-/// Why a run stopped before its report was whole.
+/// Why a run stopped before its output was whole.
 #[derive(Clone, Copy, Debug, PartialEq, Eq, Error)]
 pub enum RunFault {
-    /// A read failed. Exactly the lines of so many items went out, and they are all items of the bytes read.
+    /// A read failed. Exactly the output of so many items went out, and they are all items of the bytes read.
     #[error("read failed after {0} items")]
     ReadFailed(u64),
-    /// A write failed, or took no byte. Exactly so many bytes of the report went out.
+    /// A write failed, or took no byte. Exactly so many bytes of the output went out.
     #[error("write failed after {0} bytes")]
     WriteFailed(u128),
-    /// An allocation was refused. Exactly the lines of so many items went out.
+    /// An allocation was refused. Exactly the output of so many items went out.
     #[error("out of memory")]
     Memory(u64),
 }
 
-/// Reads a stream in pieces of at most 4,096 bytes, up to the one in which its end is known, and writes its report: a line
-/// for each accepted item and one for the end. It answers the end, and for a mismatch the item that failed.
+/// Reads a stream in pieces of at most 4,096 bytes, up to the one in which its end is known, and writes what the mode says of
+/// each accepted item and of the end. It answers the end, and for a mismatch the item that failed.
 ///
 /// # Errors
 ///
@@ -49,35 +50,38 @@ pub fn run<R: Read, W: Write>(
     table: &Table,
     limits: Limits,
     steps: u64,
+    mode: Mode,
     input: &mut Counted<R>,
     output: &mut Counted<W>,
 ) -> Result<(End, Option<Sound>), RunFault>
     ensures reported { IfOk result (λ r. IfSome (R.remaining (device_of input.old)) (λ stream.
-        IsReported (judge_of table.now steps) limits stream (change_of W.contents output.old output.new) r.0 r.1)) }
+        WritesAll mode (judge_of table.now steps) limits stream (change_of W.contents output.old output.new) r.0 r.1)) }
     ensures read_back { IfOk result (λ r. (items : List Value) →
         IsWrittenStream table.now limits items (R.remaining (device_of input.old)) → IsDecisive r.0 →
-        IsReadBack items (change_of W.contents output.old output.new) r.0 r.1) }
+        IsReadBack mode items (change_of W.contents output.old output.new) r.0 r.1) }
+    ensures shown { IfOk result (λ r. IsShown r.0 r.1) }
     ensures counts { OnOk result ((failures_of input.new ≡ failures_of input.old) × (failures_of output.new ≡ failures_of output.old)) }
-    ensures fault { IfErr result (IsFault (judge_of table.now steps) limits (change_of R.remaining input.old input.new) (change_of W.contents output.old output.new)) }
+    ensures fault { IfErr result (IsFault mode (judge_of table.now steps) limits (change_of R.remaining input.old input.new) (change_of W.contents output.old output.new)) }
 {
     let mut session = Session::new(alloc, table, limits, steps);
     let mut buffer = [0; PIECE];
-    let mut lines = Vec::new(alloc);
+    let mut bytes = Vec::new(alloc);
     let mut reported = 0;
     let mut written = 0;
     'pieces: loop {
         let Ok(count) = input.read(&mut buffer) else {
             return Err(RunFault::ReadFailed(reported));
         };
-        lines.clear();
-        let Ok(end) = report_piece(alloc, &mut session, &buffer[..count], &mut lines) else {
+        bytes.clear();
+        let Ok(end) = take_piece(alloc, mode, &mut session, &buffer[..count], &mut bytes) else {
             return Err(RunFault::Memory(reported));
         };
-        if let Err(fault) = write_bytes(lines.as_slice(), output) {
+        if let Err(fault) = write_bytes(bytes.as_slice(), output) {
             return Err(RunFault::WriteFailed(written + fault.written));
         }
-        written += lines.len() as u128;
+        written += bytes.len() as u128;
         if let Some(end) = end {
+            shows_inside();
             written_is_read_back();
             decisive_end();
             return Ok((end, session.into_rejected()));
@@ -86,56 +90,58 @@ pub fn run<R: Read, W: Write>(
     }
 }
 
-// Takes a piece of the stream, or its end where the piece is empty, and gives its lines: those of the items that the piece
+// Takes a piece of the stream, or its end where the piece is empty, and gives its output: that of the items that the piece
 // completes, and that of the end, if it is known now.
-fn report_piece(
+fn take_piece(
     alloc: Global,
+    mode: Mode,
     session: &mut Session<'_>,
     piece: &[u8],
-    lines: &mut Vec<u8>,
+    bytes: &mut Vec<u8>,
 ) -> Result<Option<End>, AllocError>
     requires open { session.old.stopped ≡ None }
-    requires empty { lines.old.items ≡ [] }
-    ensures { IfOk result (λ end. IsPieceDone session.old piece.now end session.new lines.new.items) }
+    requires empty { bytes.old.items ≡ [] }
+    ensures { IfOk result (λ end. IsPieceDone mode session.old piece.now end session.new bytes.new.items) }
 {
-    match take_piece(alloc, session, piece, lines)? {
+    match take_items(alloc, mode, session, piece, bytes)? {
         State::Open => Ok(None),
         State::Ended(end) => {
             shows_inside();
-            let line = end_line(alloc, &end, session.rejected())?;
-            lines.extend_from_slice(line.as_slice())?;
+            push_end(alloc, mode, bytes, &end, session.rejected())?;
             Ok(Some(end))
         }
     }
 }
 
-// Takes a piece of the stream, or its end where the piece is empty.
-fn take_piece(
+// Takes a piece of the stream, or its end where the piece is empty, and appends the output of the items that it completes.
+fn take_items(
     alloc: Global,
+    mode: Mode,
     session: &mut Session<'_>,
     piece: &[u8],
-    lines: &mut Vec<u8>,
+    bytes: &mut Vec<u8>,
 ) -> Result<State, AllocError>
     requires { session.old.stopped ≡ None }
-    ensures adds { OnOk result (Adds session.old piece.now lines.old.items session.new lines.new.items) }
+    ensures adds { OnOk result (Adds mode session.old piece.now bytes.old.items session.new bytes.new.items) }
     ensures decided { IfOk result (λ state. IsDecided state piece.now session.new) }
 {
     if piece.is_empty() {
         let end = session.finish()?;
         return Ok(State::Ended(end));
     }
-    report_items(alloc, session, piece, lines)
+    feed_items(alloc, mode, session, piece, bytes)
 }
 
-// Feeds a piece, and appends the lines of the items that it completes.
-fn report_items(
+// Feeds a piece, and appends the output of the items that it completes.
+fn feed_items(
     alloc: Global,
+    mode: Mode,
     session: &mut Session<'_>,
     piece: &[u8],
-    lines: &mut Vec<u8>,
+    bytes: &mut Vec<u8>,
 ) -> Result<State, AllocError>
     requires { session.old.stopped ≡ None }
-    ensures adds { OnOk result (Adds session.old piece.now lines.old.items session.new lines.new.items) }
+    ensures adds { OnOk result (Adds mode session.old piece.now bytes.old.items session.new bytes.new.items) }
     ensures answer { OnOk result (IsFed result session.new) }
 {
     let mut rest = piece;
@@ -149,7 +155,7 @@ fn report_items(
                 number,
                 offset,
             } => {
-                push_item_line(alloc, lines, number, offset, &items[0])?;
+                push_item(alloc, mode, bytes, number, offset, &items[0])?;
                 items.clear();
                 rest = &rest[used..];
             }

@@ -91,3 +91,41 @@ impl Write for Sink {
         Ok(())
     }
 }
+
+/// Gives its bytes, and notes how often it is read and how long the longest buffer is that it is given.
+#[derive(Drop)]
+pub struct Watched<'a> {
+    bytes: &'a [u8],
+    reads: usize,
+    longest: usize,
+}
+
+impl<'a> Watched<'a> {
+    pub(crate) fn new(bytes: &'a [u8]) -> Watched<'a> {
+        Watched {
+            bytes,
+            reads: 0,
+            longest: 0,
+        }
+    }
+
+    pub(crate) fn reads(&self) -> usize {
+        self.reads
+    }
+
+    pub(crate) fn longest(&self) -> usize {
+        self.longest
+    }
+}
+
+impl Read for Watched<'_> {
+    fn read(&mut self, buf: &mut [u8]) -> io::Result<usize> {
+        let count = buf.len().min(self.bytes.len());
+        let (front, rest) = self.bytes.split_at(count);
+        buf[..count].copy_from_slice(front);
+        self.bytes = rest;
+        self.reads = self.reads.saturating_add(1);
+        self.longest = self.longest.max(buf.len());
+        Ok(count)
+    }
+}

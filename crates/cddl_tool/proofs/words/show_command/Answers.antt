@@ -6,4 +6,4 @@ use Rattle.cddl_tool.proofs.words.show_command.Goals as goal
 
 pub returns-clause-app : goal.returns-clause-app
 returns-clause-app c =
-    IfOk-weaker c.with_stream.result _ _ (λ r h. h ∙ ap stream_app (ap app_of_fields c.about-command.ensures ∙ c.new.ensures.app)) c.with_stream.ensures.app
+    IfOk-weaker c.with_stream.result _ _ (λ r h. h ∙ ap stream_app (ap app_of_fields c.after_help-command.ensures ∙ (ap app_of_fields c.about.ensures ∙ c.new.ensures.app))) c.with_stream.ensures.app

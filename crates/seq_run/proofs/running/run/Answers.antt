@@ -2,57 +2,62 @@ use Rattle.std.proofs.Common.{◌≡◌, take, None, refl, ◌∙◌, arith}
 use Rattle.cbor_item.specs.Counted.{device_of, failures_of}
 use Rattle.seq_run.specs.Judge.{judge_of}
 use Rattle.seq_run.specs.Running.{change_of}
-use Rattle.seq_run.proofs.RunLoop.{begin_run, read_failed, no_memory, write_failed, reported_all, goes_on, no_bytes}
+use Rattle.seq_run.proofs.RunLoop.{begin_run, shown_last, read_failed, no_memory, write_failed, reported_all, goes_on, no_bytes}
 use Rattle.seq_run.proofs.Rereading.{read_back}
 use Rattle.seq_run.proofs.running.run.Goals as goal
 
 pub pieces-init : goal.pieces-init
-pieces-init g c = begin_run (judge_of c.args.table.now c.args.steps) c.args.limits (g.R.Read.remaining (device_of c.args.input.now)) (g.W.Write.contents (device_of c.args.output.now)) (failures_of c.args.input.now) (failures_of c.args.output.now) c.new-session.result c.new-session.ensures
+pieces-init g c = begin_run c.args.mode (judge_of c.args.table.now c.args.steps) c.args.limits (g.R.Read.remaining (device_of c.args.input.now)) (g.W.Write.contents (device_of c.args.output.now)) (failures_of c.args.input.now) (failures_of c.args.output.now) c.new-session.result c.new-session.ensures
 
 pub returns-in_default-clause-fault : goal.returns-in_default-clause-fault
 returns-in_default-clause-fault g c =
-    read_failed (judge_of c.args.table.now c.args.steps) c.args.limits (g.R.Read.remaining (device_of c.args.input.now)) (g.R.Read.remaining (device_of c.pieces.input)) (g.W.Write.contents (device_of c.args.output.now)) (g.W.Write.contents (device_of c.pieces.output))
+    read_failed c.args.mode (judge_of c.args.table.now c.args.steps) c.args.limits (g.R.Read.remaining (device_of c.args.input.now)) (g.R.Read.remaining (device_of c.pieces.input)) (g.W.Write.contents (device_of c.args.output.now)) (g.W.Write.contents (device_of c.pieces.output))
     (failures_of c.args.input.now) (failures_of c.pieces.input) (failures_of c.args.output.now) (failures_of c.pieces.output) c.pieces.session c.pieces.reported c.pieces.written c.pieces.invariant
     (g.R.Read.remaining (device_of c.read.new.self)) (failures_of c.read.new.self) c.in_default.ensures.bytes c.in_default.ensures.count
 
-pub returns-in_default-report_piece-clause-fault :
-    goal.returns-in_default-report_piece-clause-fault
-returns-in_default-report_piece-clause-fault g c =
-    no_memory (judge_of c.args.table.now c.args.steps) c.args.limits (g.R.Read.remaining (device_of c.args.input.now)) (g.R.Read.remaining (device_of c.pieces.input)) (g.W.Write.contents (device_of c.args.output.now)) (g.W.Write.contents (device_of c.pieces.output))
+pub returns-in_default-take_piece-clause-fault :
+    goal.returns-in_default-take_piece-clause-fault
+returns-in_default-take_piece-clause-fault g c =
+    no_memory c.args.mode (judge_of c.args.table.now c.args.steps) c.args.limits (g.R.Read.remaining (device_of c.args.input.now)) (g.R.Read.remaining (device_of c.pieces.input)) (g.W.Write.contents (device_of c.args.output.now)) (g.W.Write.contents (device_of c.pieces.output))
     (failures_of c.args.input.now) (failures_of c.pieces.input) (failures_of c.args.output.now) (failures_of c.pieces.output) c.pieces.session c.pieces.reported c.pieces.written c.pieces.invariant
-    (g.R.Read.remaining (device_of c.read.new.self)) (failures_of c.read.new.self) (take c.in-Ok.count c.read.new.buf) c.in-Ok.ensures.bytes.0
+    (g.R.Read.remaining (device_of c.read.new.self)) (failures_of c.read.new.self) (take c.in-Ok.count c.read.new.buf) c.in-Ok.ensures.count c.in-Ok.ensures.bytes.0
 
 pub returns-in-Err-clause-fault : goal.returns-in-Err-clause-fault
 returns-in-Err-clause-fault g c =
-    write_failed (judge_of c.args.table.now c.args.steps) c.args.limits (g.R.Read.remaining (device_of c.args.input.now)) (g.R.Read.remaining (device_of c.pieces.input)) (g.W.Write.contents (device_of c.args.output.now)) (g.W.Write.contents (device_of c.pieces.output))
+    write_failed c.args.mode (judge_of c.args.table.now c.args.steps) c.args.limits (g.R.Read.remaining (device_of c.args.input.now)) (g.R.Read.remaining (device_of c.pieces.input)) (g.W.Write.contents (device_of c.args.output.now)) (g.W.Write.contents (device_of c.pieces.output))
     (failures_of c.args.input.now) (failures_of c.pieces.input) (failures_of c.args.output.now) (failures_of c.pieces.output) c.pieces.session c.pieces.reported c.pieces.written c.pieces.invariant
     (g.R.Read.remaining (device_of c.read.new.self)) (take c.in-Ok.count c.read.new.buf) c.in-Ok.ensures.bytes.0
     (λ e. c.in-Ok.ensures.bytes.1 (no_bytes c.in-Ok.count c.read.new.buf (take c.in-Ok.count c.read.new.buf) c.in-Ok.ensures.bound.0 refl e) (omega arith))
-    c.in-Ok-report_piece.end c.report_piece.new.session c.report_piece.new.lines.items c.in-Ok-report_piece.ensures
+    c.in-Ok-take_piece.end c.take_piece.new.session c.take_piece.new.bytes.items c.in-Ok-take_piece.ensures
     (g.W.Write.contents (device_of c.write_bytes.new.out)) c.in-Err.fault.written (failures_of c.write_bytes.new.out) (rw c.as_slice.ensures.value at c.in-Err.ensures.short) (rw c.as_slice.ensures.value at c.in-Err.ensures.part) c.in-Err.ensures.failed
 
 pub returns-in-Some-clause-reported : goal.returns-in-Some-clause-reported
 returns-in-Some-clause-reported g c =
-    reported_all (judge_of c.args.table.now c.args.steps) c.args.limits (g.R.Read.remaining (device_of c.args.input.now)) (g.R.Read.remaining (device_of c.pieces.input)) (g.W.Write.contents (device_of c.args.output.now)) (g.W.Write.contents (device_of c.pieces.output))
+    reported_all c.args.mode (judge_of c.args.table.now c.args.steps) c.args.limits (g.R.Read.remaining (device_of c.args.input.now)) (g.R.Read.remaining (device_of c.pieces.input)) (g.W.Write.contents (device_of c.args.output.now)) (g.W.Write.contents (device_of c.pieces.output))
     (failures_of c.args.input.now) (failures_of c.pieces.input) (failures_of c.args.output.now) (failures_of c.pieces.output) c.pieces.session c.pieces.reported c.pieces.written c.pieces.invariant
     (g.R.Read.remaining (device_of c.read.new.self)) (take c.in-Ok.count c.read.new.buf) c.in-Ok.ensures.bytes.0
     (λ e. c.in-Ok.ensures.bytes.1 (no_bytes c.in-Ok.count c.read.new.buf (take c.in-Ok.count c.read.new.buf) c.in-Ok.ensures.bound.0 refl e) (omega arith))
-    c.in-Ok-report_piece.end c.report_piece.new.session c.report_piece.new.lines.items c.in-Ok-report_piece.ensures
+    c.in-Ok-take_piece.end c.take_piece.new.session c.take_piece.new.bytes.items c.in-Ok-take_piece.ensures
     c.in-Some.end c.into_rejected.result (g.W.Write.contents (device_of c.write_bytes.new.out)) (failures_of c.write_bytes.new.out) c.in-Some.is (rw c.as_slice.ensures.value at c.in_default-write_bytes.ensures.all) c.into_rejected.ensures
+
+pub returns-in-Some-clause-shown : goal.returns-in-Some-clause-shown
+returns-in-Some-clause-shown g c =
+    shown_last c.shows_inside.ensures c.args.mode c.pieces.session (take c.in-Ok.count c.read.new.buf) c.in-Ok-take_piece.end c.take_piece.new.session c.take_piece.new.bytes.items c.in-Ok-take_piece.ensures
+    c.in-Some.end c.into_rejected.result c.in-Some.is c.into_rejected.ensures
 
 pub returns-in-Some-clause-read_back : goal.returns-in-Some-clause-read_back
 returns-in-Some-clause-read_back g c =
-    read_back c.written_is_read_back.ensures.freely c.decisive_end.ensures (judge_of c.args.table.now c.args.steps) c.args.limits (g.R.Read.remaining (device_of c.args.input.now)) (change_of g.W.Write.contents c.args.output.now c.write_bytes.new.out)
+    read_back c.written_is_read_back.ensures.freely c.decisive_end.ensures c.args.mode (judge_of c.args.table.now c.args.steps) c.args.limits (g.R.Read.remaining (device_of c.args.input.now)) (change_of g.W.Write.contents c.args.output.now c.write_bytes.new.out)
     c.in-Some.end c.into_rejected.result (returns-in-Some-clause-reported g c)
 
 pub pieces-preserved : goal.pieces-preserved
 pieces-preserved g c =
-    let none : c.in-Ok-report_piece.end ≡ None = c.in_default-end.is in
-    let next = goes_on (judge_of c.args.table.now c.args.steps) c.args.limits (g.R.Read.remaining (device_of c.args.input.now)) (g.R.Read.remaining (device_of c.pieces.input)) (g.W.Write.contents (device_of c.args.output.now)) (g.W.Write.contents (device_of c.pieces.output))
+    let none : c.in-Ok-take_piece.end ≡ None = c.in_default-end.is in
+    let next = goes_on c.args.mode (judge_of c.args.table.now c.args.steps) c.args.limits (g.R.Read.remaining (device_of c.args.input.now)) (g.R.Read.remaining (device_of c.pieces.input)) (g.W.Write.contents (device_of c.args.output.now)) (g.W.Write.contents (device_of c.pieces.output))
     (failures_of c.args.input.now) (failures_of c.pieces.input) (failures_of c.args.output.now) (failures_of c.pieces.output) c.pieces.session c.pieces.reported c.pieces.written c.pieces.invariant
     (g.R.Read.remaining (device_of c.read.new.self)) (take c.in-Ok.count c.read.new.buf) c.in-Ok.ensures.bytes.0
     (λ e. c.in-Ok.ensures.bytes.1 (no_bytes c.in-Ok.count c.read.new.buf (take c.in-Ok.count c.read.new.buf) c.in-Ok.ensures.bound.0 refl e) (omega arith))
-    c.in-Ok-report_piece.end c.report_piece.new.session c.report_piece.new.lines.items c.in-Ok-report_piece.ensures
+    c.in-Ok-take_piece.end c.take_piece.new.session c.take_piece.new.bytes.items c.in-Ok-take_piece.ensures
     (g.W.Write.contents (device_of c.write_bytes.new.out)) (failures_of c.read.new.self) (failures_of c.write_bytes.new.out) c.in-Ok.ensures.count none (rw c.as_slice.ensures.value at c.in_default-write_bytes.ensures.all) c.in_default-write_bytes.ensures.count
-    c.len.result (c.len.ensures ∙ c.report_piece.new.lines.ok.0) c.len.type_inv c.items-reported.result c.items-reported.ensures in
+    c.len.result (c.len.ensures ∙ c.take_piece.new.bytes.ok.0) c.len.type_inv c.items-reported.result c.items-reported.ensures in
     next.1

@@ -6,7 +6,7 @@ use Rattle.seq_run.proofs.running.run.Given as goal
 
 abbrev pub invariant-pieces : goal.invariant-pieces
 invariant-pieces g l =
-    IsOn (judge_of l.table l.fn.steps) l.fn.limits (g.R.Read.remaining (device_of l.initial.input)) (g.R.Read.remaining (device_of l.input)) (g.W.Write.contents (device_of l.initial.output)) (g.W.Write.contents (device_of l.output))
+    IsOn l.fn.mode (judge_of l.table l.fn.steps) l.fn.limits (g.R.Read.remaining (device_of l.initial.input)) (g.R.Read.remaining (device_of l.input)) (g.W.Write.contents (device_of l.initial.output)) (g.W.Write.contents (device_of l.output))
     (failures_of l.initial.input) (failures_of l.input) (failures_of l.initial.output) (failures_of l.output) l.session l.reported l.written
 
 abbrev pub decreases-pieces : goal.decreases-pieces

@@ -1,10 +1,10 @@
 use Rattle.std.proofs.Common.{◌≡◌, [], length}
 use Rattle.seq_run.proofs.Reporting.{IsReporting}
-use Rattle.seq_run.proofs.running.report_items.Given as goal
+use Rattle.seq_run.proofs.running.feed_items.Given as goal
 
 abbrev pub invariant-steps : goal.invariant-steps
 invariant-steps l = record {
-  reporting : IsReporting l.initial.session l.piece l.initial.lines.items l.session l.rest l.lines.items;
+  reporting : IsReporting l.fn.mode l.initial.session l.piece l.initial.bytes.items l.session l.rest l.bytes.items;
   empty : l.items.items ≡ [];
 }
 

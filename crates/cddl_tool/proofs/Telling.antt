@@ -1,0 +1,73 @@
+-- What a status says.
+use Rattle.std.proofs.Common.{◌≡◌, ◌≢◌, ◌⊎◌, inl, inr, ℕ, List, [], Option, Some, None, IfSome, refl, sym, subst, append-nil}
+use Rattle.std.specs.Io.KnownBytes as bytes
+use Rattle.cbor_data.specs.Value.{Value}
+use Rattle.seq_run.specs.declared.end.End.{End}
+use Rattle.seq_run.specs.declared.end.End.TheVariants.{Clean, Failed}
+use Rattle.seq_run.specs.Judge.{Judge}
+use Rattle.seq_run.specs.Report.{end_line}
+use Rattle.seq_run.specs.Running.{Change, WritesAll, IsFault}
+use Rattle.seq_run.specs.declared.running.RunFault.{RunFault}
+use Rattle.cddl_tool.specs.declared.choice.Task.{Task}
+use Rattle.cddl_tool.specs.declared.choice.Task.TheVariants.{Check, Validate, Rewrite, Show}
+use Rattle.seq_run.specs.declared.output.Mode.{Mode}
+use Rattle.cddl_tool.specs.declared.choice.Options.{Options}
+use Rattle.cddl_tool.specs.declared.status.TheConstants.{BROKEN}
+use Rattle.cddl_tool.specs.Acting.{mode_of, status_for, told_of, IsAnswered, IsBroken, stopped, untold, IsSaid, IsTold, told, no_memory}
+
+never_broken : (end : End) → status_for end ≡ BROKEN → ⊥
+never_broken (Clean items bytes) e = absurd (cc)
+never_broken (Failed items offset cause) e = absurd (cc)
+
+appends_nothing : (a : Option (List ℕ)) → bytes.Appends a a []
+appends_nothing None = tt
+appends_nothing (Some x) = sym (append-nil x)
+
+-- the line of the end was told
+pub line_told : (error : Change) (end : End) (rejected : Option Value) (text : List ℕ) (status : ℕ) → IsSaid error text → text ≡ end_line end rejected → status ≡ status_for end → IsTold Rewrite end rejected error status
+line_told error end rejected text status said same is =
+    subst (λ n. IsTold Rewrite end rejected error n) (sym is) (told (λ kept few. subst (λ (b : List ℕ). bytes.Appends error.before error.after b) same (said kept few)))
+
+tells_nothing : (task : Task) (end : End) (rejected : Option Value) → (task ≡ Check) ⊎ ((task ≡ Validate) ⊎ (task ≡ Show)) → told_of task end rejected ≡ []
+tells_nothing Check end rejected h = refl
+tells_nothing Validate end rejected h = refl
+tells_nothing Rewrite end rejected (inl e) = absurd (cc)
+tells_nothing Rewrite end rejected (inr (inl e)) = absurd (cc)
+tells_nothing Rewrite end rejected (inr (inr e)) = absurd (cc)
+tells_nothing Show end rejected h = refl
+
+-- where no line is to be told none was
+pub nothing_told : (task : Task) (a : Option (List ℕ)) (failures : ℕ) (end : End) (rejected : Option Value) (status : ℕ) → (task ≡ Check) ⊎ ((task ≡ Validate) ⊎ (task ≡ Show)) → status ≡ status_for end →
+    IsTold task end rejected (record { before = a; after = a; failures_before = failures; failures_after = failures }) status
+nothing_told task a failures end rejected status other is =
+    subst (λ n. IsTold task end rejected (record { before = a; after = a; failures_before = failures; failures_after = failures }) n) (sym is)
+    (told (λ kept few. subst (λ (b : List ℕ). bytes.Appends a a b) (sym (tells_nothing task end rejected other)) (appends_nothing a)))
+
+module _ (o : Options) (judge : Judge) (input output error : Change) (m : Mode) (mode_is : m ≡ mode_of o.task o.quiet) where
+  pub fault_told : (fault : RunFault) → IsFault m judge o.limits input output fault → IsBroken o judge input output
+  fault_told fault f = stopped fault (subst (λ n. IsFault n judge o.limits input output fault) mode_is f)
+
+  module _ (end : End) (rejected lent : Option Value) (lent_is : lent ≡ rejected) (status : ℕ) (w : IfSome input.before (λ s. WritesAll m judge o.limits s output end rejected)) (t : IsTold o.task end lent error status) where
+    is_told : IsTold o.task end rejected error status
+    is_told = subst (λ x. IsTold o.task end x error status) lent_is t
+
+    answered_in : (stream : Option (List ℕ)) (n : ℕ) → IfSome stream (λ s. WritesAll m judge o.limits s output end rejected) → IsTold o.task end rejected error n → n ≢ BROKEN → IfSome stream (λ s. IsAnswered o judge s output error n)
+    answered_in None n w t h = tt
+    answered_in (Some s) n w (told said) h =
+        record { end = end; rejected = rejected; written = subst (λ k. WritesAll k judge o.limits s output end rejected) mode_is w; told = said; is = refl }
+    answered_in (Some s) n w (no_memory is) h = absurd (h refl)
+
+    pub answered : status ≢ BROKEN → IfSome input.before (λ s. IsAnswered o judge s output error status)
+    answered h = answered_in input.before status w is_told h
+
+    whole : (stream : Option (List ℕ)) → IfSome stream (λ s. WritesAll m judge o.limits s output end rejected) →
+        IfSome stream (λ s. (e : End) × (r : Option Value) × WritesAll (mode_of o.task o.quiet) judge o.limits s output e r)
+    whole None w = tt
+    whole (Some s) w = (end, rejected, subst (λ k. WritesAll k judge o.limits s output end rejected) mode_is w)
+
+    broken_by : (n : ℕ) → IsTold o.task end rejected error n → n ≡ BROKEN → IsBroken o judge input output
+    broken_by n (told said) e = absurd (never_broken end e)
+    broken_by n (no_memory is) e = untold is (whole input.before w)
+
+    pub broken : status ≡ BROKEN → IsBroken o judge input output
+    broken e = broken_by status is_told e

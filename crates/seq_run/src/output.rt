@@ -1,0 +1,74 @@
+//! What a run writes.
+
+ghost use Rattle.std.specs.Prelude.{◌≡◌, ◌++◌, OnOk, option_copied};
+ghost use Rattle.cbor_data.specs.Preferred.{preferred};
+ghost use Rattle.seq_run.specs.Output.{end_output, item_output};
+ghost use Rattle.seq_run.specs.Report.{IsShown};
+
+use crate::end::End;
+use crate::lines::{end_line, push_item_line};
+use cbor_item::{Counted, Sound, write_item};
+use std::alloc::{AllocError, Global};
+use std::mem;
+
+/// What a run writes of a stream.
+#[derive(Clone, Copy, Debug, PartialEq, Eq)]
+pub enum Mode {
+    /// Its report: a line for each accepted item, and one for its end.
+    Report,
+    /// The line of its end alone.
+    EndLine,
+    /// The preferred bytes (RFC 8949 section 4.1) of each accepted item, and nothing of its end.
+    Rewrite,
+}
+
+// Appends what is written of an accepted item.
+pub(crate) fn push_item(
+    alloc: Global,
+    mode: Mode,
+    bytes: &mut Vec<u8>,
+    number: u64,
+    offset: u64,
+    item: &Sound,
+) -> Result<(), AllocError>
+    ensures { OnOk result (bytes.new.items ≡ bytes.old.items ++ item_output mode number (record { offset = offset; item = item.now })) }
+{
+    match mode {
+        Mode::Report => push_item_line(alloc, bytes, number, offset, item),
+        Mode::EndLine => Ok(()),
+        Mode::Rewrite => push_preferred(alloc, bytes, item),
+    }
+}
+
+// Appends the item's preferred bytes.
+fn push_preferred(alloc: Global, bytes: &mut Vec<u8>, item: &Sound) -> Result<(), AllocError>
+    ensures { OnOk result (bytes.new.items ≡ bytes.old.items ++ preferred item.now) }
+{
+    let mut out = Counted::new(mem::replace(bytes, Vec::new(alloc)));
+    // A vector takes all bytes, unless there is no memory for them.
+    if write_item(item, &mut out).is_err() {
+        return Err(AllocError);
+    }
+    *bytes = out.into_inner();
+    Ok(())
+}
+
+// Appends what is written of the end.
+pub(crate) fn push_end(
+    alloc: Global,
+    mode: Mode,
+    bytes: &mut Vec<u8>,
+    end: &End,
+    rejected: Option<&Sound>,
+) -> Result<(), AllocError>
+    requires { IsShown end.now (option_copied rejected) }
+    ensures { OnOk result (bytes.new.items ≡ bytes.old.items ++ end_output mode end.now (option_copied rejected.entry)) }
+{
+    match mode {
+        Mode::Report | Mode::EndLine => {
+            let line = end_line(alloc, end, rejected)?;
+            bytes.extend_from_slice(line.as_slice())
+        }
+        Mode::Rewrite => Ok(()),
+    }
+}
