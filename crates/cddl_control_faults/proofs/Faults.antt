@@ -23,7 +23,7 @@ use Rattle.cddl_reached.specs.Asked.{AreAsked, IsAsked, comparand_question}
 use Rattle.cddl_survey.specs.Least.{IsLeast}
 use Rattle.cddl_survey.proofs.Lemmas.{alike}
 use Rattle.cddl_range_faults.specs.Telling.{IsAmong}
-use Rattle.cddl_range_faults.proofs.Whole.{OneTerm}
+use Rattle.cddl_range_faults.proofs.Lemmas.{OneTerm}
 use Rattle.cddl_control_faults.specs.Controllers.{AreControllers, IsController, IsWrong, is_asked, is_wrong}
 use Rattle.cddl_control_faults.specs.declared.controllers.Wrong.{Wrong}
 use Rattle.cddl_control_faults.specs.declared.controllers.Wrong.TheVariants as WrongV

@@ -9,7 +9,7 @@ use Rattle.cddl_literals.specs.Literals.{IsWritten, no_value, value_of}
 use Rattle.cddl_reached.specs.declared.asked.Asked.{Asked}
 use Rattle.cddl_survey.specs.Least.{IsLeast}
 use Rattle.cddl_range_faults.specs.Ends.{IsMeantIn, is_number_at}
-use Rattle.cddl_range_faults.proofs.Whole.{OneTerm, told_whole}
+use Rattle.cddl_range_faults.proofs.Lemmas.{OneTerm, told_whole}
 use Rattle.cddl_control_faults.specs.Controllers.{IsController, IsWrong, is_asked, is_wrong, is_wrong_row}
 use Rattle.cddl_control_faults.specs.declared.controllers.Wrong.{Wrong}
 use Rattle.cddl_control_faults.specs.declared.controllers.Wrong.TheVariants as WrongV

@@ -1,5 +1,5 @@
 use Rattle.cddl_reached.specs.declared.asked.Question.TheVariants as QuestionV
-use Rattle.cddl_range_faults.proofs.Telling.{finished, step_at}
+use Rattle.cddl_range_faults.proofs.Lemmas.{finished, step_at}
 use Rattle.cddl_control_faults.specs.Controllers.{IsWrong}
 use Rattle.cddl_control_faults.proofs.controllers.least_wrong.Goals as goal
 

@@ -4,7 +4,7 @@ use Rattle.cddl_language.specs.Literals.{Values}
 use Rattle.cddl_language.specs.Terms as L
 use Rattle.cddl_language.specs.Terms.{Ref, Text}
 use Rattle.cddl_literals.specs.Literals.{AreLiterals}
-use Rattle.cddl_range_faults.proofs.Telling.{Goes}
+use Rattle.cddl_range_faults.proofs.Lemmas.{Goes}
 use Rattle.cddl_control_faults.specs.Controllers.{AreControllers, IsWrong}
 use Rattle.cddl_control_faults.proofs.controllers.least_wrong.Given as goal
 
