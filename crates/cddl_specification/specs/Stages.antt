@@ -1,7 +1,7 @@
 -- What each stage has found.
 use Rattle.std.specs.Prelude.{◌≡◌, ℕ, ◌≤◌, List, length, Option, Some, None, slice_get}
 use Rattle.cddl_language.specs.Terms.{Text, Ref}
-use Rattle.cddl_language.specs.Faults.{HasTooManyInstances, IsFaultAt, Specification, definitions, root_of, rules}
+use Rattle.cddl_language.specs.Faults.{HasBadController, HasBadRange, HasNotLiteral, HasTooManyInstances, IsFaultAt, Specification, definitions, root_of, rules}
 use Rattle.cddl_language.specs.Literals.{AreRight, AreTokens, Values}
 use Rattle.cddl_language.specs.Prelude.{prelude}
 use Rattle.cddl_language.specs.Reach.{most_instances}
@@ -91,6 +91,12 @@ pub record IsMeant (s : Specification) (root : Text) (refs : List Ref) (t : Tabl
 pub record AreSplices (s : Specification) (root : Text) (t : Table) (x : Splices) : Type 0 where
   pub parts : AreParts (definitions s) root t x.parts.items
   pub summaries : AreSummaries x.parts.items x.summaries.items
+
+-- Nothing is wrong with literals and numbers.
+pub record AreValued (s : Specification) (worth : Values) (root : Text) : Type 0 where
+  pub literals : IsLeast (HasNotLiteral s worth root) None
+  pub ranges : IsLeast (HasBadRange s worth root) None
+  pub controllers : IsLeast (HasBadController s worth root) None
 
 -- The least offsets of what is wrong in maps.
 pub record AreMapFaults (s : Specification) (root : Text) (x : MapFaults) : Type 0 where

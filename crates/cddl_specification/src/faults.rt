@@ -1,7 +1,7 @@
 //! What is wrong with what the root reaches.
 
 ghost use Rattle.std.specs.Prelude.{◌≡◌, IfErr, IfOk, List, None, OnOk};
-ghost use Rattle.cddl_language.specs.Faults.{HasBadRange, HasNotUnwrappable, HasRecursion, IsAccepted, Specification, definitions};
+ghost use Rattle.cddl_language.specs.Faults.{HasBadController, HasBadRange, HasNotLiteral, HasNotUnwrappable, HasRecursion, IsAccepted, Specification, definitions};
 ghost use Rattle.cddl_language.specs.Literals.{AreRight, AreTokens, Values};
 ghost use Rattle.cddl_language.specs.Terms.{Ref, Text};
 ghost use Rattle.cddl_recursion.specs.Order.{AreRanked, IsOrder};
@@ -10,13 +10,14 @@ ghost use Rattle.cddl_survey.specs.Least.{IsLeast};
 ghost use Rattle.cddl_tree.specs.View.{view};
 ghost use Rattle.cddl_tree.specs.declared.tree.Tree.{Tree as Trees};
 ghost use Rattle.cddl_specification.specs.Outcome.{IsStopped};
-ghost use Rattle.cddl_specification.specs.Stages.{AreFlat, IsReading};
+ghost use Rattle.cddl_specification.specs.Stages.{AreFlat, AreValued, IsReading};
 ghost use Rattle.cddl_specification.specs.declared.unread.Unread.TheVariants as Why;
 
 use crate::mapping::faults_of_maps;
 use crate::reading::Reading;
 use crate::unread::{Unread, refused};
 use cddl_check::laws::root_faults_are_told;
+use cddl_control_faults::{bad_controller, not_literal};
 use cddl_empty::may_be_empty;
 use cddl_range_faults::bad_range;
 use cddl_reached_faults::{not_unwrappable, nothing_chosen};
@@ -46,18 +47,34 @@ pub(crate) fn ranks_of(
     if let Some(at) = recursion_of(terms, tree, reading, &order) {
         return Err(refused(Code::Recursion, at));
     }
-    if let Some(at) = range_of(terms, tree, reading) {
-        return Err(refused(Code::BadRange, at));
-    }
+    check_values(terms, tree, reading)?;
     splice_maps(alloc, terms, reading)?;
     let ranks = ranks_in(order)?;
     Ok(ranks)
 }
 
+/// Nothing, where nothing is wrong with literals and numbers; or the first fault there, where none of a lower code stands.
+fn check_values(terms: &Terms<'_>, tree: &Tree<'_>, reading: &Reading<'_>) -> Result<(), Unread>
+    ensures valued { OnOk result ((s : Specification) (worth : Values) (root : Text) (refs : List Ref) → s.tree ≡ view tree.now → AreTokens s.tree → AreRight s.tree worth → IsReading s worth root refs terms.now tree.now reading.now → AreValued s worth root) }
+    ensures stopped { IfErr result (λ e. (s : Specification) (worth : Values) (root : Text) (refs : List Ref) → s.tree ≡ view tree.now → AreTokens s.tree → AreRight s.tree worth → IsReading s worth root refs terms.now tree.now reading.now → IsLeast (HasNotUnwrappable s root) None → IsLeast (HasRecursion s root) None → IsStopped s worth e) }
+{
+    root_faults_are_told();
+    if let Some(at) = literal_of(terms, reading) {
+        return Err(refused(Code::NotLiteral, at));
+    }
+    if let Some(at) = range_of(terms, tree, reading) {
+        return Err(refused(Code::BadRange, at));
+    }
+    if let Some(at) = controller_of(terms, reading) {
+        return Err(refused(Code::BadController, at));
+    }
+    Ok(())
+}
+
 /// Nothing, where nothing is wrong in the groups of maps; or the first fault there, where none of a lower code stands.
 fn splice_maps(alloc: Global, terms: &Terms<'_>, reading: &Reading<'_>) -> Result<(), Unread>
     ensures flat { OnOk result ((s : Specification) (worth : Values) (tree : Trees) (root : Text) (refs : List Ref) → IsReading s worth root refs terms.now tree reading.now → AreFlat s root) }
-    ensures stopped { IfErr result (λ e. (s : Specification) (worth : Values) (tree : Trees) (root : Text) (refs : List Ref) → IsReading s worth root refs terms.now tree reading.now → IsLeast (HasNotUnwrappable s root) None → IsLeast (HasRecursion s root) None → IsLeast (HasBadRange s worth root) None → IsStopped s worth e) }
+    ensures stopped { IfErr result (λ e. (s : Specification) (worth : Values) (tree : Trees) (root : Text) (refs : List Ref) → IsReading s worth root refs terms.now tree reading.now → IsLeast (HasNotUnwrappable s root) None → IsLeast (HasRecursion s root) None → AreValued s worth root → IsStopped s worth e) }
 {
     root_faults_are_told();
     let maps = faults_of_maps(alloc, terms, reading)?;
@@ -122,6 +139,32 @@ fn recursion_of(
 {
     let names = &reading.questions.naming.names;
     recursion(terms, tree, names, &reading.meant.closed, order)
+}
+
+/// The least offset of what items are compared with and is no literal.
+fn literal_of(terms: &Terms<'_>, reading: &Reading<'_>) -> Option<usize>
+    ensures { (s : Specification) (worth : Values) (tree : Trees) (root : Text) (refs : List Ref) → AreRight s.tree worth → IsReading s worth root refs terms.now tree reading.now → IsLeast (HasNotLiteral s worth root) result }
+{
+    let meant = &reading.meant;
+    not_literal(
+        terms,
+        &meant.closed,
+        &meant.literals,
+        &reading.questions.asked,
+    )
+}
+
+/// The least offset of what items are compared with by their order and is a literal and no whole number.
+fn controller_of(terms: &Terms<'_>, reading: &Reading<'_>) -> Option<usize>
+    ensures { (s : Specification) (worth : Values) (tree : Trees) (root : Text) (refs : List Ref) → AreRight s.tree worth → IsReading s worth root refs terms.now tree reading.now → IsLeast (HasBadController s worth root) result }
+{
+    let meant = &reading.meant;
+    bad_controller(
+        terms,
+        &meant.closed,
+        &meant.literals,
+        &reading.questions.asked,
+    )
 }
 
 /// The least offset of a range or of an occurrence with bad ends.
