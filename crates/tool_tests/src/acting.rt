@@ -60,12 +60,6 @@ const CHECK_ROOT: &[&str] = &["cddlseq", "check", "spec", "--root", "b"];
 
 const SHOW: &[&str] = &["cddlseq", "show"];
 
-const REWRITE: &[&str] = &["cddlseq", "rewrite", "spec"];
-
-const QUIET: &[&str] = &["cddlseq", "validate", "--quiet", "spec"];
-
-const VALIDATE_IN_STEPS: &[&str] = &["cddlseq", "validate", "--steps", "3", "spec"];
-
 // A specification and a stream, and what comes of them.
 struct Row {
     words: &'static [&'static str],
@@ -76,7 +70,7 @@ struct Row {
     status: u8,
 }
 
-static ROWS: [Row; 16] = [
+static ROWS: [Row; 10] = [
     Row {
         words: CHECK,
         spec: b"b = bstr",
@@ -157,54 +151,6 @@ static ROWS: [Row; 16] = [
         err: b"",
         status: 0,
     },
-    Row {
-        words: REWRITE,
-        spec: b"a = uint",
-        stream: b"\x18\x01",
-        out: b"\x01",
-        err: b"clean: 1 items, 2 bytes\n",
-        status: 0,
-    },
-    Row {
-        words: REWRITE,
-        spec: b"a = uint",
-        stream: b"\x18\x01\x20",
-        out: b"\x01",
-        err: b"failed: 1 items, offset 2: mismatch at $: -1\n",
-        status: 1,
-    },
-    Row {
-        words: REWRITE,
-        spec: b"a = any",
-        stream: b"\x9f\x18\x01\x5f\x41\x02\xff\xff\xf9\x3c\x00",
-        out: b"\x82\x01\x41\x02\xf9\x3c\x00",
-        err: b"clean: 2 items, 11 bytes\n",
-        status: 0,
-    },
-    Row {
-        words: QUIET,
-        spec: b"a = uint",
-        stream: b"\x18\x01",
-        out: b"clean: 1 items, 2 bytes\n",
-        err: b"",
-        status: 0,
-    },
-    Row {
-        words: QUIET,
-        spec: b"a = uint",
-        stream: b"\x18\x01\x20",
-        out: b"failed: 1 items, offset 2: mismatch at $: -1\n",
-        err: b"",
-        status: 1,
-    },
-    Row {
-        words: VALIDATE_IN_STEPS,
-        spec: b"a = uint",
-        stream: b"\x00",
-        out: b"failed: 0 items, offset 0: step limit reached\n",
-        err: b"",
-        status: 1,
-    },
 ];
 
 // A proof that names the table itself unfolds all of it at each of its steps.
@@ -250,40 +196,24 @@ fn tells_of_a_reader_that_fails(rt: HostRuntime) -> Result<(), Fail> {
     Ok(())
 }
 
-// Words, and all that goes out of the stream 17 18 18 under `a = uint`.
-static WHOLE: [(&[&str], &[u8]); 3] = [
-    (
-        VALIDATE,
-        b"item 1 at 0: 23\nitem 2 at 1: 24\nclean: 2 items, 3 bytes\n",
-    ),
-    (QUIET, b"clean: 2 items, 3 bytes\n"),
-    (REWRITE, b"\x17\x18\x18"),
-];
-
 #[test]
 fn tells_of_a_writer_that_fails(rt: HostRuntime) -> Result<(), Fail> {
-    for (words, whole) in WHOLE.iter() {
-        for room in 0..whole.len() {
-            assert_cut_off(&rt, rt.alloc(), *words, &whole[..room], true)?;
-            assert_cut_off(&rt, rt.alloc(), *words, &whole[..room], false)?;
+    let alloc = rt.alloc();
+    let whole: &[u8] = b"item 1 at 0: 23\nitem 2 at 1: 24\nclean: 2 items, 3 bytes\n";
+    for room in 0..whole.len() {
+        for fails in [false, true] {
+            let source = Source::cut(b"\x17\x18\x18", 1);
+            let sink = Sink::new(alloc, room, fails);
+            let outcome = outcome_of(alloc, VALIDATE, b"a = uint", source, sink)?;
+            let line = format!(in alloc; "write failed after {room} bytes\n")?;
+            assert_outcome(
+                &rt,
+                &outcome,
+                BROKEN,
+                &whole[..room],
+                line.as_str().as_bytes(),
+            );
         }
     }
-    Ok(())
-}
-
-// The writer takes this front of what goes out, and then fails or takes none.
-fn assert_cut_off(
-    rt: &impl Abort,
-    alloc: Global,
-    words: &[&str],
-    front: &[u8],
-    fails: bool,
-) -> Result<(), Fail> {
-    let room = front.len();
-    let source = Source::cut(b"\x17\x18\x18", 1);
-    let sink = Sink::new(alloc, room, fails);
-    let outcome = outcome_of(alloc, words, b"a = uint", source, sink)?;
-    let line = format!(in alloc; "write failed after {room} bytes\n")?;
-    assert_outcome(rt, &outcome, BROKEN, front, line.as_str().as_bytes());
     Ok(())
 }

@@ -11,8 +11,6 @@ mod lines;
 #[cfg(test)]
 mod reading;
 #[cfg(test)]
-mod sessions;
-#[cfg(test)]
 mod steps;
 #[cfg(test)]
 mod words;

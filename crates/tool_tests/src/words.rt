@@ -9,11 +9,9 @@ struct Row {
     file: Option<&'static str>,
     depth: u32,
     item_bytes: u32,
-    steps: u64,
-    quiet: bool,
 }
 
-static ROWS: [Row; 10] = [
+static ROWS: [Row; 7] = [
     Row {
         words: &["cddlseq", "check", "a.cddl"],
         task: Task::Check,
@@ -22,8 +20,6 @@ static ROWS: [Row; 10] = [
         file: None,
         depth: 256,
         item_bytes: 16_777_216,
-        steps: 10_000_000,
-        quiet: false,
     },
     Row {
         words: &["cddlseq", "check", "--root=b", "a.cddl"],
@@ -33,8 +29,6 @@ static ROWS: [Row; 10] = [
         file: None,
         depth: 256,
         item_bytes: 16_777_216,
-        steps: 10_000_000,
-        quiet: false,
     },
     Row {
         words: &[
@@ -52,8 +46,6 @@ static ROWS: [Row; 10] = [
         file: Some("c.cbor"),
         depth: 2,
         item_bytes: 16_777_216,
-        steps: 10_000_000,
-        quiet: false,
     },
     Row {
         words: &["cddlseq", "validate", "a.cddl", "b.cbor"],
@@ -63,8 +55,6 @@ static ROWS: [Row; 10] = [
         file: Some("b.cbor"),
         depth: 256,
         item_bytes: 16_777_216,
-        steps: 10_000_000,
-        quiet: false,
     },
     Row {
         words: &["cddlseq", "validate", "--item-bytes=3", "--", "--depth"],
@@ -74,51 +64,6 @@ static ROWS: [Row; 10] = [
         file: None,
         depth: 256,
         item_bytes: 3,
-        steps: 10_000_000,
-        quiet: false,
-    },
-    Row {
-        words: &["cddlseq", "validate", "a.cddl", "-", "--quiet", "--steps=1"],
-        task: Task::Validate,
-        spec: Some("a.cddl"),
-        root: None,
-        file: Some("-"),
-        depth: 256,
-        item_bytes: 16_777_216,
-        steps: 1,
-        quiet: true,
-    },
-    Row {
-        words: &["cddlseq", "rewrite", "a.cddl"],
-        task: Task::Rewrite,
-        spec: Some("a.cddl"),
-        root: None,
-        file: None,
-        depth: 256,
-        item_bytes: 16_777_216,
-        steps: 10_000_000,
-        quiet: false,
-    },
-    Row {
-        words: &[
-            "cddlseq",
-            "rewrite",
-            "--steps",
-            "18446744073709551615",
-            "--root",
-            "b",
-            "a.cddl",
-            "c.cbor",
-            "--item-bytes=9",
-        ],
-        task: Task::Rewrite,
-        spec: Some("a.cddl"),
-        root: Some("b"),
-        file: Some("c.cbor"),
-        depth: 256,
-        item_bytes: 9,
-        steps: u64::MAX,
-        quiet: false,
     },
     Row {
         words: &["cddlseq", "show", "--depth=7", "--item-bytes", "1"],
@@ -128,8 +73,6 @@ static ROWS: [Row; 10] = [
         file: None,
         depth: 7,
         item_bytes: 1,
-        steps: 10_000_000,
-        quiet: false,
     },
     Row {
         words: &["cddlseq", "show", "b.cbor"],
@@ -139,8 +82,6 @@ static ROWS: [Row; 10] = [
         file: Some("b.cbor"),
         depth: 256,
         item_bytes: 16_777_216,
-        steps: 10_000_000,
-        quiet: false,
     },
 ];
 
@@ -152,9 +93,7 @@ fn has_names(options: &Options, row: &Row) -> bool {
 }
 
 fn has_numbers(options: &Options, row: &Row) -> bool {
-    options.limits.depth() == row.depth
-        && options.limits.item_bytes() == row.item_bytes
-        && options.steps == row.steps
+    options.limits.depth() == row.depth && options.limits.item_bytes() == row.item_bytes
 }
 
 #[test]
@@ -165,14 +104,13 @@ fn reads_the_words(rt: HostRuntime) {
                 assert_eq!(rt; options.task, row.task);
                 assert!(rt; has_names(&options, row));
                 assert!(rt; has_numbers(&options, row));
-                assert_eq!(rt; options.quiet, row.quiet);
             }
             Err(_) => assert!(rt; false, "no options"),
         }
     }
 }
 
-static REFUSED: [&[&str]; 20] = [
+static REFUSED: [&[&str]; 14] = [
     &["cddlseq"],
     &["cddlseq", "validate"],
     &["cddlseq", "check"],
@@ -187,18 +125,6 @@ static REFUSED: [&[&str]; 20] = [
     &["cddlseq", "show", "--depth", "one"],
     &["cddlseq", "show", "--item-bytes", "16777217"],
     &["cddlseq", "show", "--depth", "1", "--depth", "2"],
-    &["cddlseq", "show", "--steps", "1"],
-    &["cddlseq", "show", "--quiet"],
-    &["cddlseq", "rewrite"],
-    &["cddlseq", "rewrite", "a", "--quiet"],
-    &["cddlseq", "rewrite", "a", "--steps", "0"],
-    &[
-        "cddlseq",
-        "validate",
-        "a",
-        "--steps",
-        "18446744073709551616",
-    ],
 ];
 
 #[test]
