@@ -49,6 +49,8 @@ nodes | 11 0 true | a = {x: int}
 nodes | 9 0 true | a = {int}
 nodes | 4 0 true | a = # .and 5
 nodes | 3 0 true | a = # .default 5
+nodes | 6 0 true | a = # .ne b b = (5)
+nodes | 2 0 true | a = # .lt '5'
 opened | - | a = [* ~b] b = #6.1(c) c = #
 opened | 5 | a = [~b] b = #
 unwrapped | 5 | a = [~b, &(? 1)] b = #
