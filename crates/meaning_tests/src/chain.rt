@@ -133,7 +133,7 @@ fn in_tree<'s>(alloc: Global, tree: &Tree<'s>, what: &str) -> Option<String> {
     let survey = survey_of(alloc, &mut terms, tree).ok()?;
     let meant = meant_in(alloc, &mut terms, tree, &survey)?;
     match what {
-        "opened" | "unwrapped" | "range" | "recursion" => {
+        "opened" | "unwrapped" | "literal" | "range" | "number" | "recursion" => {
             fault_of(alloc, &terms, tree, &survey, &meant, what)
         }
         _ => told(alloc, &terms, &meant, what),

@@ -1,5 +1,6 @@
 use crate::chain::Meant;
 use crate::telling::order_in;
+use cddl_control_faults::{bad_controller, not_literal};
 use cddl_environment::names;
 use cddl_live_sites::live_sites;
 use cddl_range_faults::bad_range;
@@ -26,6 +27,8 @@ pub(crate) fn fault_of<'t>(
     let at = match what {
         "opened" => not_unwrapped(alloc, terms, tree, survey, &reached).ok()?,
         "unwrapped" => unwrapping(alloc, terms, tree, survey, meant, &reached)?,
+        "literal" => not_literal(terms, &meant.closed, &meant.literals, &meant.asked),
+        "number" => bad_controller(terms, &meant.closed, &meant.literals, &meant.asked),
         "range" => range_in(terms, tree, meant, &reached),
         _ => returning(alloc, terms, tree, survey, meant)?,
     };

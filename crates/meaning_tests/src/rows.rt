@@ -34,6 +34,7 @@ order | - round round | a = &(b) b = (y: &(c)) c = (x: &(b))
 order | round | a = # .and a
 order | down | a = # .default a
 asked | from4 whole9 whole12 | a = &(x: 1..2)
+asked | literal10 number20 | a = # .eq 1 / # .lt 2
 asked | map4 map8 | a = {x: {}}
 asked | map29 map29 map33 map33 | a = [p<int>, p<tstr>] p<t> = {x: {}}
 entries | own5 rule4 opened5 | a = {x: 1}
@@ -59,6 +60,8 @@ unwrapped | - | a = &(x: 1)
 range | - | a = 1..2
 range | 7 | a = 0..b b = #
 range | 5 | a = [3*2 #]
+literal | 26 | a = b<int> b<t> = any .eq t
+number | 12 | a = int .lt \"x\"
 recursion | - | a = [* a]
 recursion | 0 | a = b b = a
 recursion | 8 | a = [g] g = (? #, g)";

@@ -179,6 +179,8 @@ fn of_asked(alloc: Global, questions: &[Asked]) -> Option<String> {
             Question::ChoosesFrom => "from",
             Question::ChoosesByName => "name",
             Question::IsWhole => "whole",
+            Question::IsLiteral => "literal",
+            Question::IsNumber => "number",
             Question::MapGroup => "map",
             Question::Entry(Holder::Map) => "own",
             Question::Entry(Holder::Rule) => "rule",
