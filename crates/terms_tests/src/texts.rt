@@ -1,6 +1,6 @@
 use cddl_texts::{
-    Control, HashForm, TagNumber, control_of, hash_form, is_bad_hash, is_group_socket, is_socket,
-    occurrence_of, tag_number, uint,
+    Comparison, Control, HashForm, TagNumber, control_of, hash_form, is_bad_hash, is_group_socket,
+    is_socket, occurrence_of, tag_number, uint,
 };
 
 #[test]
@@ -65,6 +65,7 @@ fn tells_forms_of_hash(rt: HostRuntime) {
 #[test]
 fn tells_names(rt: HostRuntime) {
     assert!(rt; control_of("within") == Some(Control::LeftAndRight));
+    assert!(rt; control_of("lt") == Some(Control::Compared(Comparison::Less)));
     assert!(rt; control_of("det") == Some(Control::ByValue));
     assert!(rt; control_of("sizes").is_none() && control_of("").is_none());
     assert!(rt; is_socket("$a") && is_socket("$$a") && !is_socket("a$"));
