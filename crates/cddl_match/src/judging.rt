@@ -17,8 +17,9 @@ ghost use Rattle.cddl_table.specs.declared.nodes.GroupId.{GroupId};
 ghost use Rattle.cddl_table.specs.declared.nodes.TypeId.{TypeId};
 
 use crate::answers::Verdict;
+use crate::controls::held_reply;
 use crate::looking::{Ahead, look_ahead, move_ahead};
-use crate::moves::{held_reply, next_move};
+use crate::moves::next_move;
 use crate::pairs::pairs_ahead;
 use crate::questions::{Move, Pending, Question, Reading, Reply, Subject};
 use crate::reading::held_in;

@@ -3,6 +3,7 @@
 
 mod answers;
 mod behind;
+mod controls;
 mod judging;
 mod laws;
 mod looking;

@@ -3,19 +3,15 @@
 ghost use Rattle.std.specs.Prelude.{◌≡◌, false, true};
 ghost use Rattle.cbor_item.specs.View.{view};
 ghost use Rattle.cddl_meaning.specs.Judges.{is_over, one_less};
-ghost use Rattle.cddl_meaning.specs.Forms.{Both, Such, Holding, bytes_in, members_in, tag_in, simple_in, passes};
+ghost use Rattle.cddl_meaning.specs.Forms.{members_in, tag_in, simple_in};
 ghost use Rattle.cddl_meaning.specs.Moves as M;
 ghost use Rattle.cddl_meaning.specs.Moves.{
   InAlternatives,
   InChoice,
   InEntry,
   InHead,
-  InHeld,
-  InHolder,
-  InLeft,
   InSequence,
   InSimple,
-  InSuch,
   OfGroup,
   OfType,
   array_move,
@@ -28,9 +24,7 @@ ghost use Rattle.cddl_meaning.specs.Moves.{
   next_alternative,
   next_member,
   next_move,
-  read_move,
   simple_move,
-  such_reply,
   tag_move,
   test_reply,
   type_move,
@@ -44,14 +38,17 @@ ghost use Rattle.cddl_match.specs.declared.questions.Rounds.{Rounds};
 ghost use Rattle.cddl_table.specs.declared.nodes.GroupId.{GroupId};
 ghost use Rattle.cddl_table.specs.declared.nodes.TypeId.{TypeId};
 ghost use Rattle.cddl_table.specs.Language.{language_of};
-ghost use Rattle.cddl_table.specs.Nodes.{content_view, group_view, most_view, tag_number_view, test_view, type_view};
+ghost use Rattle.cddl_table.specs.Nodes.{group_view, most_view, tag_number_view, type_view};
 
+use crate::controls::{
+    both_move, held_reply, holding_move, next_in_holder, next_in_left, next_in_such, such_move,
+};
 use crate::places::{place_after, plus};
-use crate::questions::{Move, Parts, Pending, Question, Reading, Reply, Rounds, Subject};
+use crate::questions::{Move, Parts, Pending, Question, Reply, Rounds, Subject};
 use crate::sorting::{map_move, next_in_key, next_in_map, next_in_value};
-use crate::tested::passes;
+use crate::tested::passes_test;
 use cbor_item::Item;
-use cddl_table::{Content, Group, GroupId, Most, Node, Table, TagNumber, Test, TypeId};
+use cddl_table::{Group, GroupId, Most, Node, Table, TagNumber, Test, TypeId};
 
 /// A yes. It tells the place after the item, so that nobody counts the item's places a second time.
 fn yes_reply<'i>(place: usize, subject: Subject<'i>) -> Reply<'i>
@@ -65,16 +62,6 @@ fn yes_reply<'i>(place: usize, subject: Subject<'i>) -> Reply<'i>
         left: &[],
         next,
         far: 0,
-    }
-}
-
-/// Whether an item, or a number as an unsigned item, passes a test.
-pub(crate) fn passes_test(test: &Test, subject: Subject<'_>) -> bool
-    ensures { result ≡ passes (test_view test.now) (subject_view subject.entry) }
-{
-    match subject {
-        Subject::Item(item) => passes(test, item),
-        Subject::Number(number) => passes(test, &Item::Uint(number)),
     }
 }
 
@@ -323,77 +310,6 @@ fn simple_move<'t, 'i>(node: TypeId, place: usize, subject: Subject<'i>) -> Move
     }
 }
 
-/// Of two types the left one is asked first.
-fn both_move<'t, 'i>(
-    left: TypeId,
-    right: TypeId,
-    place: usize,
-    subject: Subject<'i>,
-) -> Move<'t, 'i>
-    ensures { move_view result ≡ type_move (Both left right) place (subject_view subject.entry) }
-{
-    Move::Asks(
-        Question::OfType {
-            node: left,
-            place,
-            subject,
-        },
-        Pending::Left {
-            node: right,
-            place,
-            subject,
-        },
-    )
-}
-
-/// The type is asked before its test.
-fn such_move<'t, 'i>(
-    node: TypeId,
-    test: &'t Test,
-    place: usize,
-    subject: Subject<'i>,
-) -> Move<'t, 'i>
-    ensures { move_view result ≡ type_move (Such node (test_view test.now)) place (subject_view subject.entry) }
-{
-    Move::Asks(
-        Question::OfType {
-            node,
-            place,
-            subject,
-        },
-        Pending::Such {
-            test,
-            place,
-            subject,
-        },
-    )
-}
-
-/// A byte string's own type is asked before what the string holds.
-fn holding_move<'t, 'i>(
-    of: TypeId,
-    content: Content,
-    node: TypeId,
-    place: usize,
-    subject: Subject<'i>,
-) -> Move<'t, 'i>
-    ensures { move_view result ≡ type_move (Holding of (content_view content) node) place (subject_view subject.entry) }
-{
-    Move::Asks(
-        Question::OfType {
-            node: of,
-            place,
-            subject,
-        },
-        Pending::Holder {
-            content,
-            node,
-            place,
-            subject,
-        },
-    )
-}
-
 /// What a type asks first, or its reply.
 fn type_move<'t, 'i>(node: &'t Node, place: usize, subject: Subject<'i>) -> Move<'t, 'i>
     ensures { move_view result ≡ type_move (type_view node.now) place (subject_view subject.entry) }
@@ -579,112 +495,6 @@ fn next_in_simple<'t, 'i>(place: usize, reply: Reply<'i>) -> Move<'t, 'i>
             far: 0,
         }),
         Reply::Fails { .. } => Move::Answered(Reply::Fails { far: place }),
-    }
-}
-
-/// The left one of two types has said yes, and the right one is asked of the same item; or it has said no, for both.
-fn next_in_left<'t, 'i>(
-    node: TypeId,
-    place: usize,
-    subject: Subject<'i>,
-    reply: Reply<'i>,
-) -> Move<'t, 'i>
-    ensures { move_view result ≡ next_move (InLeft node place (subject_view subject.entry)) (reply_view reply.entry) }
-{
-    match reply {
-        Reply::Takes { .. } => Move::Asks(
-            Question::OfType {
-                node,
-                place,
-                subject,
-            },
-            Pending::Ref,
-        ),
-        Reply::Fails { far } => Move::Answered(Reply::Fails { far }),
-    }
-}
-
-/// What a test replies that says this, after a type that has told the place after the item.
-fn such_reply<'i>(place: usize, next: usize, says: bool) -> Reply<'i>
-    ensures { reply_view result ≡ such_reply place next says }
-{
-    if says {
-        Reply::Takes {
-            left: &[],
-            next,
-            far: 0,
-        }
-    } else {
-        Reply::Fails { far: place }
-    }
-}
-
-/// A type has said yes, and the item has to pass the test; or it has said no.
-fn next_in_such<'t, 'i>(
-    test: &'t Test,
-    place: usize,
-    subject: Subject<'i>,
-    reply: Reply<'i>,
-) -> Move<'t, 'i>
-    ensures { move_view result ≡ next_move (InSuch (test_view test.now) place (subject_view subject.entry)) (reply_view reply.entry) }
-{
-    match reply {
-        Reply::Takes { next, .. } => {
-            Move::Answered(such_reply(place, next, passes_test(test, subject)))
-        }
-        Reply::Fails { far } => Move::Answered(Reply::Fails { far }),
-    }
-}
-
-/// A byte string is read. Another item holds nothing.
-fn read_move<'t, 'i>(
-    content: Content,
-    node: TypeId,
-    place: usize,
-    next: usize,
-    subject: Subject<'i>,
-) -> Move<'t, 'i>
-    ensures { move_view result ≡ read_move (content_view content) node place next (bytes_in (subject_view subject.entry)) }
-{
-    match subject {
-        Subject::Item(Item::Bytes(bytes)) => Move::Reads(Reading {
-            content,
-            bytes,
-            node,
-            place,
-            next,
-        }),
-        _ => Move::Answered(Reply::Fails { far: place }),
-    }
-}
-
-/// A byte string's own type has said yes, and what the string holds is asked about; or it has said no.
-fn next_in_holder<'t, 'i>(
-    content: Content,
-    node: TypeId,
-    place: usize,
-    subject: Subject<'i>,
-    reply: Reply<'i>,
-) -> Move<'t, 'i>
-    ensures { move_view result ≡ next_move (InHolder (content_view content) node place (subject_view subject.entry)) (reply_view reply.entry) }
-{
-    match reply {
-        Reply::Takes { next, .. } => return read_move(content, node, place, next, subject),
-        Reply::Fails { far } => return Move::Answered(Reply::Fails { far }),
-    }
-}
-
-/// What a byte string holds is as it has to be; or it is not, which shows at the string.
-pub(crate) fn held_reply<'i>(place: usize, next: usize, reply: Reply<'_>) -> Reply<'i>
-    ensures { M.Answered (reply_view result) ≡ next_move {N = TypeId} {G = GroupId} (InHeld place next) (reply_view reply.entry) }
-{
-    match reply {
-        Reply::Takes { .. } => Reply::Takes {
-            left: &[],
-            next,
-            far: 0,
-        },
-        Reply::Fails { .. } => Reply::Fails { far: place },
     }
 }
 

@@ -7,8 +7,8 @@ ghost use Rattle.cddl_table.specs.Language.{language_of};
 ghost use Rattle.cddl_table.specs.Nodes.{type_view};
 
 use crate::behind::type_behind;
-use crate::moves::passes_test;
 use crate::questions::Subject;
+use crate::tested::passes_test;
 use cddl_table::{Node, Table, TypeId};
 
 /// Choices in choices are looked into so deep, so that few tests are made in vain where something else is in them.

@@ -3,8 +3,10 @@
 ghost use Rattle.std.specs.Prelude.{◌≡◌, ◌^◌, nat_lt};
 ghost use Rattle.cbor_item.specs.View.{view};
 ghost use Rattle.cddl_meaning.specs.Forms.{fits_in, has_size, is_below, is_float, is_member, is_simple, is_up_to, major_of, passes};
+ghost use Rattle.cddl_match.specs.Views.{subject_view};
 ghost use Rattle.cddl_table.specs.Nodes.{sizes_view, test_view, whole_view};
 
+use crate::questions::Subject;
 use cbor_data::Width;
 use cbor_item::Item;
 use cddl_table::{SizeRange, Test, Whole};
@@ -166,5 +168,15 @@ pub(crate) fn passes(test: &Test, item: &Item) -> bool
         Test::Greater(number) => is_above(*number, item),
         Test::AtLeast(number) => is_from(*number, item),
         Test::Sized(ranges) => has_size(ranges, item),
+    }
+}
+
+/// Whether an item, or a number as an unsigned item, passes a test.
+pub(crate) fn passes_test(test: &Test, subject: Subject<'_>) -> bool
+    ensures { result ≡ passes (test_view test.now) (subject_view subject.entry) }
+{
+    match subject {
+        Subject::Item(item) => passes(test, item),
+        Subject::Number(number) => passes(test, &Item::Uint(number)),
     }
 }
