@@ -181,16 +181,9 @@ class Trial:
         return told
 
     def folder_of_proofs(self, room):
-        """The folder in which this run's checks keep proofs. It begins with what a check of the crate on this machine kept,
-        here or in another checkout, where there is such."""
+        """The folder in which this run's checks keep proofs. It begins with what the crate's own checks kept, if they did."""
         own = f"{self.crate.folder}/out/incremental"
-        if not os.path.isdir(own) and hasattr(self.kit, "work_for"):
-            own = self.kit.work_for(self.crate)
-        try:
-            return shutil.copytree(own, f"{room}/kept") if own and os.path.isdir(own) else room
-        except (OSError, shutil.Error):
-            # another check writes there just now
-            return room
+        return shutil.copytree(own, f"{room}/kept") if os.path.isdir(own) else room
 
     def try_laws(self, edits, kept):
         """What is to be told of each edit that names a law, after a check of this law alone with the edit."""
@@ -443,14 +436,15 @@ def build_below(kit, crates):
     return not any(it.build_rlib(ONE_JOB, anew=False) for it in below)
 
 
-def run_wrong(rt, names=(), anew=False, with_inner=False):
-    """Tries the edits of these crates, or of all, prints a line for each, and returns how many passed and failed."""
+def run_wrong(rt, names=(), anew=False, with_inner=False, is_built=False):
+    """Tries the edits of these crates, or of all, prints a line for each, and returns how many passed and failed. The
+    libraries below are looked after, unless they were built just now."""
     kit = load_kit(rt)
     kit.rtlib.guarded()
     every = kit.rtlib.crates_below(TOP)
     results = Results(kit, every, anew)
     crates = [it for it in every if any(edits_of(it)) and (not names or it.name in names)]
-    if not build_below(kit, crates):
+    if not is_built and not build_below(kit, crates):
         print("the crates below are not proved, so no edit is tried")
         return 0, 1
     crates.sort(key=lambda it: -it.count(rb"\n"))
