@@ -36,6 +36,7 @@ bench: build
 
 install: build
 	install -D -m 755 build/cddlseq "$(DESTDIR)$(PREFIX)/bin/cddlseq"
+	install -D -m 644 docs/cddlseq.1 "$(DESTDIR)$(PREFIX)/share/man/man1/cddlseq.1"
 
 clean:
 	rm -rf build bench/data crates/*/out

@@ -96,6 +96,12 @@ SPECIFICATIONS = [
      "refused: C17 MapShape at byte 19\n"),
     ("maps of 20 groups of two alternatives", "r = [int", ", {" + ", ".join(["(N: 1 // M: 1)"] * 20) + "}", "]\n",
      "refused: C18 TooManyAlternatives at byte 10\n"),
+    ("sums", "r = [int", ", N .plus M", "]\n", ACCEPTED),
+    ("joins", "r = [int", ', "key N" .cat "of M"', "]\n", ACCEPTED),
+    ("joins that are no texts", "r = [int", ", \"N\" .cat h'ff'", "]\n", "refused: C15 BadController at byte 19\n"),
+    ("sides that are no literals", "r = [int", ", N .plus tstr", "]\n", "refused: C13 NotLiteral at byte 18\n"),
+    ("many members of one size", "r = bstr .size (0", " / N", ")\n", ACCEPTED),
+    ("many sizes", "r = [int", ", bstr .size (N / M)", "]\n", ACCEPTED),
 ]
 
 

@@ -27,12 +27,15 @@ from run_grammar import run_grammar
 from run_memory import run_memory
 from run_rows import TOP, run_rows
 from test_imports import are_imports_clean
+from test_man import is_page_right
 from test_wrong_edits import run_tests
 from wrong_edits import run_wrong
 
 PROVED = os.path.join(TOP, "crates", "cddlseq", "out", "cddlseq")
 OUTLINE = os.path.join(TOP, "crates", "cddl_outline", "out", "cddl_outline")
 PROGRAM = os.path.join(TOP, "build", "cddlseq")
+# the tests that are run with requests for memory refused
+TESTS = [os.path.join(TOP, "crates", it, "out", f"{it}_tests") for it in ("run_tests",)]
 # Each step may take a few gigabytes.
 STEPS_AT_ONCE = 3
 COUNT = re.compile(r"(\d+) passed, (\d+) failed")
@@ -123,7 +126,8 @@ def rows():
     passed = failed = 0
     for name, run in (
         ("rows on the built program", lambda: run_rows(PROGRAM)),
-        ("commands with each request for memory refused", lambda: run_memory(PROGRAM)),
+        ("commands and tests with each request for memory refused", lambda: run_memory(PROGRAM, TESTS)),
+        ("comparisons of the man page with the program's help", lambda: (1, 0) if is_page_right(PROGRAM) else (0, 1)),
         ("rows of the grammar", lambda: run_grammar(OUTLINE)),
         ("comparisons with a plain recognizer", lambda: recognizer.compare(OUTLINE)),
     ):

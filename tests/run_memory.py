@@ -1,11 +1,13 @@
 #!/usr/bin/env python3
-"""Runs the program with each of its requests for memory refused in turn, by tests/refuse.c.
+"""Runs the program, and tests that were built, with each request for memory refused in turn, by tests/refuse.c.
 
-    run_memory.py PROGRAM
+    run_memory.py PROGRAM [TESTS ..]
 
-A run whose request was refused has to end as the run with ample memory does; or with status 3 and the one line 'out of memory'
-on standard error, where what it printed before is a beginning of what it prints with ample memory. There is a line for each
-command with its number of requests. The last line is 'N passed, M failed', and the status is 0 only where none failed.
+A run of the program whose request was refused has to end as the run with ample memory does; or with status 3 and the one line
+'out of memory' on standard error, where what it printed before is a beginning of what it prints with ample memory. Of TESTS,
+programs that 'rt test' made, the tests named '.._wants_memory' are run, and have to pass with each request refused. There is a
+line for each command and each test with its number of requests. The last line is 'N passed, M failed', and the status is 0
+only where none failed.
 """
 import argparse
 import os
@@ -42,6 +44,10 @@ COMMANDS = [
     ["check", "m = {g}\ng = (a: int, ? h)\nh = (b: int, ? g)\n"],
     ["check", "m = {f, f, k}\nf = (k, k, k, k, k)\nk = (a: 1 // b: 1)\n"],
     ["check", "--root", "s", "r = int\ns = [* ~t]\nt = [+ r]\n"],
+    # literals that are computed, and sizes: "xyz", 3, a byte string of 2 bytes, and one of 3
+    ["validate", "a = b / c / bstr .size s\nb = \"x\" .cat d\nc = 1 .plus 2\nd = \"y\" .det '  z'\ns = 2 / t\nt = 4..5\n", "cxyz\x03B\n\x01C\n\x01\x01"],
+    ["check", "a = [b, c]\nb = \"x\" .cat 1\nc = \"\" .cat h'ff'\n"],
+    ["check", "a = [b, c]\nb = \"\" .cat h'ff'\nc = # .size (1 / 'x')\n"],
     # byte strings that hold 10, 1 and 2; 10 in a byte string; and 10 and then an item that ends inside
     ["validate", "r = bstr .cborseq [* t]\nt = uint / bstr .cbor t\n", "C\n\x01\x02BA\nB\n\x18"],
 ]
@@ -59,7 +65,12 @@ def is_right(ample, told):
     return told == ample or (status == 3 and err == b"out of memory\n" and ample[1].startswith(out))
 
 
-def run_command(words, shim, folder, pool):
+def passes(ample, told):
+    """Whether a test passes, with ample memory and without."""
+    return ample[0] == 0 and told == ample
+
+
+def run_command(words, shim, folder, pool, is_right=is_right):
     """Whether each run of a command is right, and how many requests for memory it makes."""
     count = f"{folder}/count"
     ample = run(words, shim, COUNT=count)
@@ -72,8 +83,15 @@ def run_command(words, shim, folder, pool):
     return not wrong, made
 
 
-def run_memory(program):
-    """Runs all commands, and returns how many passed and failed."""
+def tests_of(program):
+    """The tests that hold with any request refused."""
+    listed = subprocess.run([program, "--list"], stdout=subprocess.PIPE, text=True, check=True).stdout
+    names = [line.split(": test")[0] for line in listed.splitlines()]
+    return [it for it in names if it.endswith("_wants_memory")]
+
+
+def run_memory(program, tests=()):
+    """Runs all commands, and these tests, and returns how many passed and failed."""
     passed = failed = 0
     with tempfile.TemporaryDirectory() as folder, ThreadPoolExecutor(AT_ONCE) as pool:
         shim = f"{folder}/refuse.so"
@@ -92,13 +110,20 @@ def run_memory(program):
             passed, failed = passed + good, failed + (not good)
             told = command[0] + (" a text" if "\n" in "".join(command) else " an example")
             print(f"{told}: {made} requests, {'passed' if good else 'FAILED'}", flush=True)
+        for path in tests:
+            for name in tests_of(path):
+                good, made = run_command([os.path.abspath(path), name], shim, folder, pool, passes)
+                passed, failed = passed + good, failed + (not good)
+                print(f"{name}: {made} requests, {'passed' if good else 'FAILED'}", flush=True)
     return passed, failed
 
 
 def main():
     words = argparse.ArgumentParser(description="Refuses each request of a program for memory in turn.")
     words.add_argument("program")
-    passed, failed = run_memory(words.parse_args().program)
+    words.add_argument("tests", nargs="*")
+    given = words.parse_args()
+    passed, failed = run_memory(given.program, given.tests)
     print(f"{passed} passed, {failed} failed")
     return 1 if failed else 0
 

@@ -5,3 +5,5 @@ mod Valued
 mod Turned
 mod Firsts
 mod Joined
+mod Wrong
+mod Somewhere

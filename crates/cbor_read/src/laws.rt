@@ -1,9 +1,11 @@
-//! What is told of the rest of a stream is one thing.
+//! What is told of the rest of a stream is one thing, and there is one.
 
-ghost use Rattle.std.specs.Prelude.{◌≡◌, ℕ, List};
-ghost use Rattle.cbor_data.specs.Faults.{Bounds, IsFaultOf};
+ghost use Rattle.std.specs.Prelude.{◌≡◌, ◌≤◌, ℕ, List};
+ghost use Rattle.cbor_data.specs.Faults.{Bounds, IsFaultOf, last_offset};
 ghost use Rattle.cbor_data.specs.Value.{AreBytes};
 ghost use Rattle.cbor_data.specs.declared.FaultKind.{FaultKind};
+ghost use Rattle.cbor_read.specs.Fronts.{IsFront};
+ghost use Rattle.cbor_read.specs.declared.front.Front.{Front};
 
 /// The bytes of a rest have one fault at most: one kind is told, at one place. It does nothing.
 pub fn one_fault()
@@ -11,3 +13,9 @@ pub fn one_fault()
 {
     cbor_machine::one_fault();
 }
+
+/// The bytes of a rest, however many they are, are none, or begin with an item within the bounds, or have a fault. It does
+/// nothing.
+pub fn some_front()
+    ensures { (l : Bounds) (o : ℕ) (b : List ℕ) → AreBytes b → o ≤ last_offset → (front : Front) × IsFront l o b front }
+{}

@@ -14,6 +14,6 @@ pub use cbor_data::FaultKind;
 pub use embedding::embedded;
 pub use fault::{Fault, Stop};
 pub use front::{Front, read_front};
-pub use laws::one_fault;
+pub use laws::{one_fault, some_front};
 pub use limits::{Limits, MOST_DEPTH, MOST_ITEM_BYTES};
 pub use reader::{Fed, ItemReader};

@@ -1,2 +1,4 @@
+pub mod Computing
 pub mod Faults
+pub mod Reasons
 pub mod Rows

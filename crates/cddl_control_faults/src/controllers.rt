@@ -1,108 +1,112 @@
-//! What is wrong with controllers, by their rows.
+//! What is wrong with what stands beside controls, by rows.
 
 ghost use Rattle.std.specs.Prelude.{◌≡◌, List, Some, true};
-ghost use Rattle.cddl_closed.specs.Closed.{IsClosed};
+ghost use Rattle.std.specs.Option.{option_map};
 ghost use Rattle.cddl_control_faults.specs.Controllers as by;
-ghost use Rattle.cddl_control_faults.specs.Controllers.{AreControllers, IsController, IsWrong, is_of_literals};
+ghost use Rattle.cddl_control_faults.specs.Controllers.{AreFlags, AreThere, IsThere, IsWrong, has_sizes, is_asked};
 ghost use Rattle.cddl_language.specs.Literals.{Values};
 ghost use Rattle.cddl_language.specs.Terms as L;
-ghost use Rattle.cddl_language.specs.Terms.{Ref, Text};
+ghost use Rattle.cddl_language.specs.Terms.{Text};
+ghost use Rattle.cddl_literal.specs.Literals.{view};
 ghost use Rattle.cddl_literals.specs.Literals.{AreLiterals};
-ghost use Rattle.cddl_range_faults.specs.Ends.{is_number_at};
 ghost use Rattle.cddl_range_faults.specs.Telling.{IsAmong};
+ghost use Rattle.cddl_sizes.specs.Sizes.{flag_at};
 ghost use Rattle.cddl_survey.specs.Least.{IsLeast};
 
-use cddl_closed::Closed;
-use cddl_literals::literal_row;
+use crate::computations::is_wrong_control;
+use crate::operands::{is_number, is_string};
+use cddl_literal::Literal;
+use cddl_literals::Literals;
 use cddl_reached::{Asked, Question};
 use cddl_survey::lesser;
+use cddl_terms::Terms;
 use cddl_terms::laws::equal_numbers;
-use cddl_terms::{Form, Terms};
 
-/// What can be wrong with a controller.
+/// What can be wrong with what stands beside a control.
 #[derive(Clone, Copy)]
-pub(crate) enum Wrong {
-    /// It is no literal.
+pub(crate) enum Wrong<'f> {
+    /// It is no literal, or none that the control takes, or both sides make one that is out of range.
     NotLiteral,
-    /// It is a literal and no whole number, where the order of numbers is asked.
-    NotNumber,
+    /// It is a literal and no whole number, where the order of numbers is asked; or it is none of the types with these flags,
+    /// where sizes are asked; or both sides make a text that is not UTF-8.
+    BadController(&'f [bool]),
 }
 
-/// The least offset of a controller with which this is wrong.
+/// The least offset at which this is wrong.
 pub(crate) fn least_wrong(
     terms: &Terms<'_>,
-    closed: &Closed,
-    literals: &[Option<u32>],
+    literals: &Literals,
     asked: &[Asked],
-    wrong: Wrong,
+    wrong: Wrong<'_>,
 ) -> Option<usize>
-    ensures { (xs : List L.Definition) (root : Text) (refs : List Ref) (worth : Values) → IsClosed xs root refs terms.now closed.now → AreLiterals xs terms.now refs literals.now → AreControllers xs root worth terms.now wrong asked.now → IsLeast (IsAmong (IsWrong xs worth terms.now wrong) asked.now) result }
+    ensures { (xs : List L.Definition) (root : Text) (worth : Values) → AreLiterals xs root worth terms.now literals.now → AreFlags xs root worth terms.now wrong.entry → AreThere xs root worth terms.now asked.now → IsLeast (IsAmong (IsWrong xs worth terms.now wrong.entry) asked.now) result }
 {
     let mut least = None;
     for question in asked {
-        least = lesser(least, wrong_at(terms, closed, literals, *question, wrong));
+        least = lesser(least, wrong_at(terms, literals, *question, wrong));
     }
     least
 }
 
-fn wrong_at(
-    terms: &Terms<'_>,
-    closed: &Closed,
-    literals: &[Option<u32>],
-    asked: Asked,
-    wrong: Wrong,
-) -> Option<usize>
-    ensures { (xs : List L.Definition) (root : Text) (refs : List Ref) (worth : Values) → IsClosed xs root refs terms.now closed.now → AreLiterals xs terms.now refs literals.now → (by.is_asked wrong asked.question ≡ true → IsController xs root worth terms.now asked.row) → IsLeast (IsWrong xs worth terms.now wrong asked) result }
+fn wrong_at(terms: &Terms<'_>, literals: &Literals, asked: Asked, wrong: Wrong<'_>) -> Option<usize>
+    ensures { (xs : List L.Definition) (root : Text) (worth : Values) → AreLiterals xs root worth terms.now literals.now → AreFlags xs root worth terms.now wrong.entry → (is_asked asked.question ≡ true → IsThere xs root worth terms.now asked) → IsLeast (IsWrong xs worth terms.now wrong.entry asked) result }
 {
     equal_numbers(terms);
-    if !is_asked(wrong, asked.question) {
-        return None;
-    }
-    if is_wrong(
-        terms,
-        wrong,
-        literal_row(terms, closed, literals, asked.row),
-    ) {
+    if is_wrong(terms, literals, asked, wrong) {
         Some(asked.at)
     } else {
         None
     }
 }
 
-/// Whether the question asks for it.
-fn is_asked(wrong: Wrong, question: Question) -> bool
-    ensures { result ≡ by.is_asked wrong question }
+/// Whether it is wrong with what is asked of.
+fn is_wrong(terms: &Terms<'_>, literals: &Literals, asked: Asked, wrong: Wrong<'_>) -> bool
+    ensures { result ≡ by.is_wrong_row terms.now literals.now wrong.entry asked.question asked.row }
+{
+    match asked.question {
+        Question::Computes => is_wrong_control(terms, literals, asked.row, wrong),
+        question => is_wrong_type(wrong, question, literals.get(asked.row), asked.row),
+    }
+}
+
+/// Whether it is wrong with the type of this row, which is this literal, or none.
+fn is_wrong_type(wrong: Wrong<'_>, question: Question, literal: Option<&Literal>, row: u32) -> bool
+    ensures { result ≡ by.is_wrong_type wrong.entry question (option_map (λ l. view l.now) literal.entry) (has_sizes wrong.entry row) }
+{
+    match wrong {
+        Wrong::NotLiteral => is_wrong_literal(question, literal),
+        Wrong::BadController(sizable) => {
+            is_bad_controller(question, literal, is_flagged(sizable, row))
+        }
+    }
+}
+
+fn is_wrong_literal(question: Question, literal: Option<&Literal>) -> bool
+    ensures { result ≡ by.is_wrong_literal question (option_map (λ l. view l.now) literal.entry) }
 {
     match question {
-        Question::IsLiteral => is_of_literals(wrong),
-        Question::IsNumber => true,
+        Question::IsLiteral | Question::IsNumber => literal.is_none(),
+        Question::IsAddend => !is_number(literal),
+        Question::IsString => !is_string(literal),
         _ => false,
     }
 }
 
-fn is_of_literals(wrong: Wrong) -> bool
-    ensures { result ≡ is_of_literals wrong }
+fn is_bad_controller(question: Question, literal: Option<&Literal>, sizable: bool) -> bool
+    ensures { result ≡ by.is_bad_controller question (option_map (λ l. view l.now) literal.entry) sizable }
 {
-    matches!(wrong, Wrong::NotLiteral)
-}
-
-/// Whether it is wrong with a type that is the literal of this row, or none.
-fn is_wrong(terms: &Terms<'_>, wrong: Wrong, literal: Option<u32>) -> bool
-    ensures { result ≡ by.is_wrong_row terms.now.rows wrong literal }
-{
-    match (wrong, literal) {
-        (Wrong::NotLiteral, None) => true,
-        (Wrong::NotLiteral, Some(_)) => false,
-        (Wrong::NotNumber, None) => false,
-        (Wrong::NotNumber, Some(row)) => !is_number(terms, row),
+    match question {
+        Question::IsNumber => literal.is_some() && !is_number(literal),
+        Question::HasSizes => !sizable,
+        _ => false,
     }
 }
 
-fn is_number(terms: &Terms<'_>, row: u32) -> bool
-    ensures { result ≡ is_number_at terms.now.rows (Some row) }
+fn is_flagged(flags: &[bool], row: u32) -> bool
+    ensures { result ≡ flag_at flags.now row }
 {
-    match terms.row(row) {
-        Some(content) => matches!(content.form, Form::Number),
+    match flags.get(row as usize) {
+        Some(flag) => *flag,
         None => false,
     }
 }

@@ -1,58 +1,58 @@
-//! What is wrong with the controllers of comparisons that a root reaches: with what items are compared with.
+//! What is wrong with the sides of controls that a root reaches: with what items are compared with, with controllers of `.size`,
+//! and with what literals are computed from.
 #![tactic(auto)]
 
+mod computations;
 mod controllers;
+mod operands;
 
-ghost use Rattle.std.specs.Prelude.{◌≡◌, List};
-ghost use Rattle.cddl_closed.specs.Closed.{IsClosed};
 ghost use Rattle.cddl_language.specs.Faults.{HasBadController, HasNotLiteral, Specification, definitions, rules};
 ghost use Rattle.cddl_language.specs.Literals.{AreRight, Values};
-ghost use Rattle.cddl_language.specs.Terms.{Ref, Text};
+ghost use Rattle.cddl_language.specs.Terms.{Text};
 ghost use Rattle.cddl_literals.specs.Literals.{AreLiterals};
 ghost use Rattle.cddl_live.specs.Live.{IsClear};
 ghost use Rattle.cddl_reached.specs.Asked.{AreAsked};
+ghost use Rattle.cddl_sizes.specs.Sizes.{AreSizable};
 ghost use Rattle.cddl_survey.specs.Least.{IsLeast};
 
 use crate::controllers::{Wrong, least_wrong};
-use cddl_closed::Closed;
+use cddl_literals::Literals;
 use cddl_live::reached_parts;
 use cddl_reached::Asked;
 use cddl_terms::Terms;
 use cddl_terms::laws::equal_numbers;
-use cddl_written::{operand_values, written_value};
+use cddl_written::operand_values;
 
-/// The least offset of a controller of `.eq`, `.ne`, `.lt`, `.le`, `.gt` or `.ge` that is no literal (RFC 8610 section 3.8.6).
+/// The least offset of what is no literal as a control asks for: a controller of `.eq`, `.ne`, `.lt`, `.le`, `.gt` or `.ge` that
+/// is no literal (RFC 8610 section 3.8.6); a side of `.plus` that is no whole number, or a side of `.cat` or `.det` that is no
+/// string; or the right side where a sum is out of range or a join is too long (RFC 9165 section 2).
 ///
-/// The rows are of this table. It takes a time in proportion to what is asked.
-pub fn not_literal(
-    terms: &Terms<'_>,
-    closed: &Closed,
-    literals: &[Option<u32>],
-    asked: &[Asked],
-) -> Option<usize>
-    ensures { (s : Specification) (root : Text) (refs : List Ref) (worth : Values) → AreRight s.tree worth → IsClear s → IsClosed (definitions s) root refs terms.now closed.now → AreLiterals (definitions s) terms.now refs literals.now → AreAsked (rules s) root terms.now asked.now → IsLeast (HasNotLiteral s worth root) result }
+/// The rows are of this table. It takes a time in proportion to what is asked and to the names of the controls.
+pub fn not_literal(terms: &Terms<'_>, literals: &Literals, asked: &[Asked]) -> Option<usize>
+    ensures { (s : Specification) (root : Text) (worth : Values) → AreRight s.tree worth → IsClear s → AreLiterals (definitions s) root worth terms.now literals.now → AreAsked (rules s) root terms.now asked.now → IsLeast (HasNotLiteral s worth root) result }
 {
     equal_numbers(terms);
     reached_parts();
     operand_values();
-    written_value();
-    least_wrong(terms, closed, literals, asked, Wrong::NotLiteral)
+    least_wrong(terms, literals, asked, Wrong::NotLiteral)
 }
 
-/// The least offset of a controller of `.lt`, `.le`, `.gt` or `.ge` that is a literal and no whole number (RFC 8610 section 3.8.6).
+/// The least offset of a controller that is not as its control asks for: one of `.lt`, `.le`, `.gt` or `.ge` that is a literal
+/// and no whole number (RFC 8610 section 3.8.6); one of `.size` that has no members as they have to be (section 3.8.1); or the
+/// right side of `.cat` or `.det` where the join is to be a text and is not UTF-8 (RFC 9165 section 2.2).
 ///
-/// The rows are of this table. It takes a time in proportion to what is asked.
+/// The rows and the flags, which are those of types that may be controllers of `.size`, are of this table. It takes a time in
+/// proportion to what is asked.
 pub fn bad_controller(
     terms: &Terms<'_>,
-    closed: &Closed,
-    literals: &[Option<u32>],
+    literals: &Literals,
+    sizable: &[bool],
     asked: &[Asked],
 ) -> Option<usize>
-    ensures { (s : Specification) (root : Text) (refs : List Ref) (worth : Values) → AreRight s.tree worth → IsClear s → IsClosed (definitions s) root refs terms.now closed.now → AreLiterals (definitions s) terms.now refs literals.now → AreAsked (rules s) root terms.now asked.now → IsLeast (HasBadController s worth root) result }
+    ensures { (s : Specification) (root : Text) (worth : Values) → AreRight s.tree worth → IsClear s → AreLiterals (definitions s) root worth terms.now literals.now → AreSizable (definitions s) root worth terms.now sizable.now → AreAsked (rules s) root terms.now asked.now → IsLeast (HasBadController s worth root) result }
 {
     equal_numbers(terms);
     reached_parts();
     operand_values();
-    written_value();
-    least_wrong(terms, closed, literals, asked, Wrong::NotNumber)
+    least_wrong(terms, literals, asked, Wrong::BadController(sizable))
 }

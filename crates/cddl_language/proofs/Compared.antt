@@ -8,7 +8,7 @@ use Rattle.cbor_data.proofs.Lemmas.{same_value-laws}
 use Rattle.cddl_literal.specs.Numbers.{Meaning, UintOf, NintOf, TextOf, BytesOf}
 use Rattle.cddl_meaning.specs.Judges.{Answer, Yes, No, none_such, such_passed, such_missed}
 use Rattle.cddl_meaning.specs.Forms.{passes}
-use Rattle.cddl_language.specs.Controls.{Comparison, is_ordering, Control, left_alone, left_and_right, held_item, held_sequence, compared, by_value, comparison_in, control_of}
+use Rattle.cddl_language.specs.Controls.{Comparison, is_ordering, Control, left_alone, left_and_right, held_item, held_sequence, compared, sized, computed, comparison_in, control_of}
 use Rattle.cddl_language.specs.Language.{Saying, TermSays, comparand, compared_test, control_node, language, such_as_compares}
 use Rattle.cddl_language.specs.Literals.{Values, item_of, literal_of}
 use Rattle.cddl_language.specs.Terms.{Definition, Term, Text, control}
@@ -96,11 +96,12 @@ compares (Some (compared d)) c e = ap Some (ap compared same)
   where
     same : d ≡ c
     same = cc
-compares (Some by_value) c e = cc
+compares (Some sized) c e = cc
+compares (Some (computed d)) c e = cc
 
 module _ (worth : Values) (ds : List Definition) (a b : Term) (n : Text) (c : Comparison) (v : Value) (p : ℕ) (x : Value) (e : comparison_in (control_of n) ≡ Some c) (g : comparand (is_ordering c) (literal_of worth ds b) ≡ Some v) where
   so_named : (far : Answer) → Saying (language worth ds) (such_as_compares c (comparand (is_ordering c) (literal_of worth ds b)) a) p x far → TermSays worth ds (control a n b) p x far
-  so_named far h = subst (λ o. Saying (language worth ds) (control_node o a b (literal_of worth ds b)) p x far) (sym (compares (control_of n) c e)) h
+  so_named far h = subst (λ o. Saying (language worth ds) (control_node worth ds o a b) p x far) (sym (compares (control_of n) c e)) h
 
   pub shows_left : (far : ℕ) → TermSays worth ds a p x (No far) → TermSays worth ds (control a n b) p x (No far)
   shows_left far k = so_named (No far) (left_says_no worth ds a p x c (comparand (is_ordering c) (literal_of worth ds b)) v far g k)

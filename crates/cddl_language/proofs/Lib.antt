@@ -2,6 +2,7 @@ pub mod Accepted
 pub mod After
 pub mod Basics
 pub mod Choosing
+pub mod Circles
 pub mod Compared
 pub mod Controlled
 pub mod Endless
@@ -12,9 +13,11 @@ pub mod MapsFaulty
 pub mod MapsFlat
 pub mod MapsNone
 pub mod MapsStand
+pub mod Members
 pub mod NoCycle
 pub mod Numbers
 pub mod OneFault
 pub mod Saying
+pub mod Sized
 pub mod Tables
 pub mod Values

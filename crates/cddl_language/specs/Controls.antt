@@ -1,6 +1,8 @@
 -- The controls by their names, given without the `.` (RFC 8610 section 3.8; RFC 9165): the type on the left of a control is
 -- asked of an item first, and the controller on its right as the name says.
 use Rattle.std.specs.Prelude.{Bool, true, false, if◌then◌else◌, List, [], ◌∷◌, Option, Some, None, codes}
+use Rattle.cddl_operators.specs.declared.Joining.{Joining}
+use Rattle.cddl_operators.specs.declared.Joining.TheVariants.{AsTheyAre, Dedented}
 use Rattle.cddl_language.specs.Terms.{Text}
 use Rattle.cddl_language.specs.Environment.{is_in}
 
@@ -19,6 +21,11 @@ is_ordering equal = false
 is_ordering different = false
 is_ordering _ = true
 
+-- how a literal is computed from two (RFC 9165 section 2)
+pub data Computation : Type 0 where
+  sum : Computation
+  join : Joining → Computation
+
 pub data Control : Type 0 where
   -- the controller is not asked (section 3.8.6)
   left_alone : Control
@@ -29,11 +36,16 @@ pub data Control : Type 0 where
   held_sequence : Control
   -- the item is compared with the controller, a literal
   compared : Comparison → Control
-  -- a value counts the item, or makes a literal with the other side
-  by_value : Control
+  -- the size of the item is a member of the controller (section 3.8.1)
+  sized : Control
+  -- the item is the literal that is computed from both sides
+  computed : Computation → Control
+
+abbrev pub controls_that_compute : List (List Text × Control)
+controls_that_compute = (codes "plus" ∷ [], computed sum) ∷ (codes "cat" ∷ [], computed (join AsTheyAre)) ∷ (codes "det" ∷ [], computed (join Dedented)) ∷ []
 
 abbrev pub controls_by_values : List (List Text × Control)
-controls_by_values = (codes "eq" ∷ [], compared equal) ∷ (codes "ne" ∷ [], compared different) ∷ (codes "lt" ∷ [], compared less) ∷ (codes "le" ∷ [], compared at_most) ∷ (codes "gt" ∷ [], compared greater) ∷ (codes "ge" ∷ [], compared at_least) ∷ (codes "size" ∷ codes "plus" ∷ codes "cat" ∷ codes "det" ∷ [], by_value) ∷ []
+controls_by_values = (codes "eq" ∷ [], compared equal) ∷ (codes "ne" ∷ [], compared different) ∷ (codes "lt" ∷ [], compared less) ∷ (codes "le" ∷ [], compared at_most) ∷ (codes "gt" ∷ [], compared greater) ∷ (codes "ge" ∷ [], compared at_least) ∷ (codes "size" ∷ [], sized) ∷ controls_that_compute
 
 abbrev pub controls : List (List Text × Control)
 controls = (codes "default" ∷ [], left_alone) ∷ (codes "and" ∷ codes "within" ∷ [], left_and_right) ∷ (codes "cbor" ∷ [], held_item) ∷ (codes "cborseq" ∷ [], held_sequence) ∷ controls_by_values
@@ -50,6 +62,16 @@ control_of n = control_among controls n
 abbrev pub comparison_in : Option Control → Option Comparison
 comparison_in (Some (compared c)) = Some c
 comparison_in _ = None
+
+-- whether it asks for the size of an item
+abbrev pub is_sized : Option Control → Bool
+is_sized (Some sized) = true
+is_sized _ = false
+
+-- how it computes a literal, if it does
+abbrev pub computation_in : Option Control → Option Computation
+computation_in (Some (computed c)) = Some c
+computation_in _ = None
 
 -- The controller is asked before an item is surely taken or gone into: of the same item, or of the array of all that a byte
 -- string holds. The one item that a byte string holds is smaller than the string.

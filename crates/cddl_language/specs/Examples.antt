@@ -1,9 +1,12 @@
 -- Small specifications, as definitions, on which the definitions here are tried.
-use Rattle.std.specs.Prelude.{ℕ, zero, suc, true, false, List, [], ◌∷◌, Option, Some, None, codes}
-use Rattle.cddl_language.specs.Terms.{Text, Term, number, literal, range, choice_of, named, parens, map_of, array_of, unwrapped, tagged, or, Ref, call, no_terms, term, Group, sole, orelse, Entries, no_entries, entries, Entry, typed, keyed, grouped, of_type, bareword, is, type_or, group_or, of_types, of_entry, Definition, lone, hash}
+use Rattle.std.specs.Prelude.{ℕ, zero, suc, true, false, List, [], ◌∷◌, ◌++◌, Option, Some, None, codes}
+use Rattle.cddl_language.specs.Terms.{Text, Term, number, text, bytes, literal, range, control, choice_of, named, parens, map_of, array_of, unwrapped, tagged, or, Ref, call, no_terms, term, Group, sole, orelse, Entries, no_entries, entries, Entry, typed, keyed, grouped, of_type, bareword, is, type_or, group_or, of_types, of_entry, Definition, lone, hash}
 use Rattle.cddl_meaning.specs.Forms as F
 use Rattle.cddl_meaning.specs.Forms.{Node, Language, at_most, any_number_of}
+use Rattle.cddl_literal.specs.Numbers.{UintOf, TextOf, BytesOf}
+use Rattle.cddl_language.specs.Literals.{Values}
 use Rattle.cddl_language.specs.Maps.{Member}
+use Rattle.cddl_language.specs.Numbers.{uint_in}
 use Rattle.cddl_language.specs.Prelude.{definition, plain}
 use Rattle.cddl_ranks.specs.Ranked.{Name, a_type}
 
@@ -195,3 +198,57 @@ any_of n = sole (lone (typed (Some (codes "*")) (plain n)))
 -- `g = (a: 1, ? g)`
 abbrev pub of_itself : List Definition
 of_itself = group_is (codes "g") (grouped None (sole (two (word (codes "a") (codes "1")) (typed (Some (codes "?")) (plain (codes "g")))))) ∷ []
+
+-- values that stand for what is written in them, as far as the examples go: unsigned numbers, and texts without escapes
+abbrev pub without_last : List ℕ → List ℕ
+without_last [] = []
+without_last (c ∷ []) = []
+without_last (c ∷ d ∷ s) = c ∷ without_last (d ∷ s)
+
+abbrev pub between_quotes : List ℕ → List ℕ
+between_quotes [] = []
+between_quotes (c ∷ s) = without_last s
+
+abbrev pub worth : Values
+worth (number t) = UintOf (uint_in t)
+worth (text t) = TextOf (between_quotes t)
+worth (bytes t) = BytesOf (between_quotes t)
+
+abbrev pub a_number : Text → Term
+a_number t = literal (number t)
+
+-- a text without escapes, in its quotes
+abbrev pub a_text : Text → Term
+a_text t = literal (text (codes "\"" ++ t ++ codes "\""))
+
+-- `(1 / 3..5)`, `3...5`, `0...0`
+abbrev pub one_or_three_to_five : Term
+one_or_three_to_five = parens (or (a_number (codes "1")) (range (a_number (codes "3")) true (a_number (codes "5"))))
+
+abbrev pub three_below_five : Term
+three_below_five = range (a_number (codes "3")) false (a_number (codes "5"))
+
+abbrev pub below_nought : Term
+below_nought = range (a_number (codes "0")) false (a_number (codes "0"))
+
+-- `s = 1`, `s /= 2 .plus 3`
+abbrev pub of_two_sizes : List Definition
+of_two_sizes = definition (codes "s") (a_number (codes "1")) ∷ also_type (codes "s") (control (a_number (codes "2")) (codes "plus") (a_number (codes "3"))) ∷ []
+
+-- `c = "b"`, `"a" .cat c`
+abbrev pub of_b : List Definition
+of_b = definition (codes "c") (a_text (codes "b")) ∷ []
+
+abbrev pub a_then_b : Term
+a_then_b = control (a_text (codes "a")) (codes "cat") (plain (codes "c"))
+
+-- a line that is indented, after `a`
+abbrev pub a_then_line : Term
+a_then_line = control (a_text (codes "a")) (codes "det") (a_text (codes "\n  b"))
+
+-- `1 .plus 2`, `1 .plus "a"`
+abbrev pub one_and_two : Term
+one_and_two = control (a_number (codes "1")) (codes "plus") (a_number (codes "2"))
+
+abbrev pub one_and_text : Term
+one_and_text = control (a_number (codes "1")) (codes "plus") (a_text (codes "a"))

@@ -6,13 +6,14 @@ use Rattle.cbor_data.specs.Value.{Value}
 use Rattle.cddl_meaning.specs.Forms as F
 use Rattle.cddl_meaning.specs.Forms.{Node, Language}
 use Rattle.cddl_meaning.specs.Judges.{Answer, Says}
-use Rattle.cddl_language.specs.Controls.{Comparison, equal, different, less, at_most, greater, at_least, is_ordering, Control, left_alone, left_and_right, held_item, held_sequence, compared, control_of}
+use Rattle.cddl_language.specs.Controls.{Comparison, equal, different, less, at_most, greater, at_least, is_ordering, Control, left_alone, left_and_right, held_item, held_sequence, compared, sized, computed, control_of}
 use Rattle.cddl_language.specs.Numbers.{least_of, most_of, occurs_once, tag_number, hash_form, hash_test}
 use Rattle.cddl_language.specs.Terms.{Text, Term, literal, named, parens, map_of, array_of, unwrapped, choice_of, choice_of_name, tagged, tagged_by, simple_by, hash, range, control, or, Ref, Entries, Entry, typed, keyed, grouped, Key, of_type, bareword, of_value, Definition, choices, alternatives, entry_list, occurrence_of, name_of}
 use Rattle.cddl_language.specs.Substitution.{type_choices, group_choices}
 use Rattle.cddl_language.specs.Kinds.{Opened, opens_type, opened, is_group, Part, asks_type, names_group, opens, part_of}
 use Rattle.cddl_literal.specs.Numbers.{Meaning}
-use Rattle.cddl_language.specs.Literals.{Values, item_of, whole, whole_of, literal_of}
+use Rattle.cddl_language.specs.Literals.{Values, item_of, whole, whole_of, computed_literal, literal_of}
+use Rattle.cddl_language.specs.Sizes.{Sizes, sizes_of}
 use Rattle.cddl_language.specs.Choices.{chosen, chosen_by_name}
 use Rattle.cddl_language.specs.Maps.{Alternatives, Member, cuts, map_alternatives}
 
@@ -82,14 +83,15 @@ abbrev pub such_as_compares : Comparison → Option Value → Term → Node Type
 such_as_compares c (Some v) a = F.Such (type a) (compared_test c v)
 such_as_compares c None a = nothing
 
--- A control (section 3.8), with the literal that its controller is, if it is one. Of sizes nothing is said yet.
-abbrev pub control_node : Option Control → Term → Term → Option Meaning → Node TypeName GroupName
-control_node (Some left_alone) a b m = F.Ref (type a)
-control_node (Some left_and_right) a b m = F.Both (type a) (type b)
-control_node (Some held_item) a b m = F.Holding (type a) F.one_item (type b)
-control_node (Some held_sequence) a b m = F.Holding (type a) F.sequence_of_items (type b)
-control_node (Some (compared c)) a b m = such_as_compares c (comparand (is_ordering c) m) a
-control_node _ a b m = nothing
+-- the items to which the type on the left says yes, and whose size is such a member
+abbrev pub such_as_sized : Option Sizes → Term → Node TypeName GroupName
+such_as_sized (Some rs) a = F.Such (type a) (F.sized rs)
+such_as_sized None a = nothing
+
+-- the literal alone
+abbrev pub equal_to : Option Meaning → Node TypeName GroupName
+equal_to (Some m) = F.Plain (F.equals (item_of m))
+equal_to None = nothing
 
 -- What is refused is `nothing` here.
 module _ (worth : Values) (ds : List Definition) where
@@ -109,6 +111,17 @@ module _ (worth : Values) (ds : List Definition) where
   chosen_names [] = []
   chosen_names (es ∷ ess) = map chosen_name (entry_list es) ++ chosen_names ess
 
+  -- a control (section 3.8, RFC 9165 section 2)
+  abbrev pub control_node : Option Control → Term → Term → Node TypeName GroupName
+  control_node (Some left_alone) a b = F.Ref (type a)
+  control_node (Some left_and_right) a b = F.Both (type a) (type b)
+  control_node (Some held_item) a b = F.Holding (type a) F.one_item (type b)
+  control_node (Some held_sequence) a b = F.Holding (type a) F.sequence_of_items (type b)
+  control_node (Some (compared c)) a b = such_as_compares c (comparand (is_ordering c) (literal_of worth ds b)) a
+  control_node (Some sized) a b = such_as_sized (sizes_of worth ds b) a
+  control_node (Some (computed c)) a b = equal_to (computed_literal c (literal_of worth ds a) (literal_of worth ds b))
+  control_node None a b = nothing
+
   abbrev pub term_node : Term → Node TypeName GroupName
   term_node (literal v) = F.Plain (F.equals (item_of (worth v)))
   term_node (named r) = if is_group ds (name_of r) then nothing else F.Ref (reference r)
@@ -124,7 +137,7 @@ module _ (worth : Values) (ds : List Definition) where
   term_node (range a c b) = between c (whole_of worth ds a) (whole_of worth ds b)
   term_node (or t u) = F.Choice (map type (choices (or t u)))
   term_node (map_of g) = map_node (map_alternatives ds g)
-  term_node (control a n b) = control_node (control_of n) a b (literal_of worth ds b)
+  term_node (control a n b) = control_node (control_of n) a b
 
   abbrev pub type_node : TypeName → Node TypeName GroupName
   type_node (type t) = term_node t

@@ -11,6 +11,7 @@ pub mod MapFaults
 pub mod Maps
 pub mod Numbers
 pub mod Sites
+pub mod Sizes
 pub mod Prelude
 pub mod Reach
 pub mod Reading

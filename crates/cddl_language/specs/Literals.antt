@@ -1,18 +1,22 @@
--- Written values, and the types that are one value (RFC 8610 section 3.1).
+-- Written values, and the types that are one value: written, or computed from others (RFC 8610 section 3.1, RFC 9165 section 2).
 --
 -- What the texts of values stand for is told by `cddl_literal`, as a relation. So what follows is said for each table of
 -- values, `worth`, and of a specification for the tables that are right for it, which agree on all that it holds.
-use Rattle.std.specs.Prelude.{◌≡◌, ℕ, zero, suc, length, if◌then◌else◌, List, [], ◌∷◌, Option, Some, None, Contains}
+use Rattle.std.specs.Prelude.{◌≡◌, ℕ, zero, suc, length, if◌then◌else◌, List, [], ◌∷◌, Option, Some, None, Result, Ok, Err, Contains}
 use Rattle.cbor_data.specs.Value as V
 use Rattle.cbor_data.specs.Value.{Value}
 use Rattle.cddl_literal.specs.Numbers.{Meaning, UintOf, NintOf, TextOf, BytesOf, IsNumber}
 use Rattle.cddl_literal.specs.Literals.{IsText, IsBytes}
+use Rattle.cddl_operators.specs.declared.Fault.{Fault}
+use Rattle.cddl_operators.specs.Sums.{plus}
+use Rattle.cddl_operators.specs.Joins.{joined}
 use Rattle.cddl_token.specs.Answers.{IsAnswered}
 use Rattle.cddl_token.specs.declared.Token.{Token}
 use Rattle.cddl_token.specs.declared.Kind.{Kind}
 use Rattle.cddl_token.specs.declared.Kind.TheVariants as K
 use Rattle.cddl_syntax.specs.Syntax as S
-use Rattle.cddl_language.specs.Terms.{Literal, number, text, bytes, Term, literal, named, Definition, stripped, name_of}
+use Rattle.cddl_language.specs.Controls.{Computation, sum, join, Control, computed, control_of}
+use Rattle.cddl_language.specs.Terms.{Literal, number, text, bytes, Term, literal, named, parens, control, Definition, name_of}
 use Rattle.cddl_language.specs.Reading.{text_of}
 use Rattle.cddl_language.specs.Substitution.{type_choices}
 use Rattle.cddl_language.specs.Kinds.{is_group}
@@ -59,25 +63,46 @@ whole (Some (UintOf n)) = Some (V.uint n)
 whole (Some (NintOf n)) = Some (V.nint n)
 whole _ = None
 
+-- The literal that is computed from two, or why there is none (RFC 9165 section 2).
+
+abbrev pub computed_from : Computation → Meaning → Meaning → Result Meaning Fault
+computed_from sum a b = plus a b
+computed_from (join j) a b = joined j a b
+
+abbrev pub answer_of : Result Meaning Fault → Option Meaning
+answer_of (Ok m) = Some m
+answer_of (Err f) = None
+
+abbrev pub computed_literal : Computation → Option Meaning → Option Meaning → Option Meaning
+computed_literal c (Some a) (Some b) = answer_of (computed_from c a b)
+computed_literal c _ _ = None
+
+-- the literal that a control is, by those that its sides are
+abbrev pub controlled_literal : Option Control → Option Meaning → Option Meaning → Option Meaning
+controlled_literal (Some (computed c)) a b = computed_literal c a b
+controlled_literal _ a b = None
+
 module _ (worth : Values) (ds : List Definition) where
-  -- The value that a type is: a written one, or that of a name with one choice, through names and parentheses.
-  -- (`next`: the value of the type that a name stands for.)
+  -- The value that a type is: a written one, that of a name with one choice, or one that is computed, through names and
+  -- parentheses. (`next`: the value of the type that a name stands for.)
 
   abbrev pub only_choice : (Term → Option Meaning) → List Term → Option Meaning
   only_choice next (t ∷ []) = next t
   only_choice next _ = None
 
-  abbrev pub stripped_literal : (Term → Option Meaning) → Term → Option Meaning
-  stripped_literal next (literal v) = Some (worth v)
-  stripped_literal next (named r) = if is_group ds (name_of r) then None else only_choice next (type_choices ds r)
-  stripped_literal next _ = None
+  abbrev pub literal_by : (Term → Option Meaning) → Term → Option Meaning
+  literal_by next (literal v) = Some (worth v)
+  literal_by next (named r) = if is_group ds (name_of r) then None else only_choice next (type_choices ds r)
+  literal_by next (parens t) = literal_by next t
+  literal_by next (control a n b) = controlled_literal (control_of n) (literal_by next a) (literal_by next b)
+  literal_by next _ = None
 
   -- through so many names at most
   abbrev pub literal_in : ℕ → Term → Option Meaning
-  literal_in zero t = stripped_literal (λ u. None) (stripped t)
-  literal_in (suc k) t = stripped_literal (λ u. literal_in k u) (stripped t)
+  literal_in zero t = literal_by (λ u. None) t
+  literal_in (suc k) t = literal_by (λ u. literal_in k u) t
 
-  -- Of a closed type. A way through more names than there may be instances comes back to one.
+  -- Of a closed type. A way through more names than there may be instances comes back to one: what needs itself is none.
   abbrev pub literal_of : Term → Option Meaning
   literal_of t = literal_in most_instances t
 

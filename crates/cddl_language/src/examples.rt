@@ -4,7 +4,7 @@ ghost use Rattle.std.specs.Prelude.{◌≡◌, ℕ, [], ◌∷◌, Some, None, c
 ghost use Rattle.cbor_data.specs.Value.{Value, array, no_pairs, no_values, pair, pairs, text, uint, value};
 ghost use Rattle.cddl_meaning.specs.Forms.{any_number_of, at_most, exactly};
 ghost use Rattle.cddl_meaning.specs.Judges.{No, Says, Yes};
-ghost use Rattle.cddl_literal.specs.Numbers.{Meaning, UintOf};
+ghost use Rattle.cddl_literal.specs.Numbers.{Meaning, TextOf, UintOf};
 ghost use Rattle.cddl_language.specs.Choices.{chosen};
 ghost use Rattle.cddl_language.specs.Environment.{definitions_of};
 ghost use Rattle.cddl_language.specs.Examples as E;
@@ -19,6 +19,7 @@ ghost use Rattle.cddl_language.specs.Prelude.{definition, plain};
 ghost use Rattle.cddl_language.specs.Reach.{Point, at_name, points_in};
 ghost use Rattle.cddl_language.specs.Free.{LeadsTo};
 ghost use Rattle.cddl_language.specs.Reading.{definitions_in, rules_of};
+ghost use Rattle.cddl_language.specs.Sizes.{sizes_of};
 ghost use Rattle.cddl_language.specs.StandsFor.{StandsFor};
 ghost use Rattle.cddl_language.specs.Substitution.{type_choices};
 ghost use Rattle.cddl_language.specs.Texts as T;
@@ -85,6 +86,26 @@ pub fn choices()
     ensures chosen_types { chosen E.nested (E.group_of_name (codes "g")) ≡ Some (E.int ∷ E.tstr ∷ plain (codes "k") ∷ []) }
     ensures not_once { chosen E.not_to_choose (E.group_of_name (codes "g")) ≡ None }
     ensures endless { chosen E.not_to_choose (E.group_of_name (codes "h")) ≡ None }
+{}
+
+/// The members of the controller of `.size`: of numbers and ranges, of none, of a name, of a text, and of names that need each
+/// other.
+pub fn sizes()
+    ensures choice { sizes_of E.worth [] E.one_or_three_to_five ≡ Some ((1, 1) ∷ (3, 5) ∷ []) }
+    ensures open { sizes_of E.worth [] E.three_below_five ≡ Some ((3, 4) ∷ []) }
+    ensures empty { sizes_of E.worth [] E.below_nought ≡ Some [] }
+    ensures name { sizes_of E.worth E.of_two_sizes (plain (codes "s")) ≡ Some ((1, 1) ∷ (5, 5) ∷ []) }
+    ensures text { sizes_of E.worth [] (E.a_text (codes "a")) ≡ None }
+    ensures circle { sizes_of E.worth E.in_circle (plain (codes "a")) ≡ None }
+{}
+
+/// Literals that are computed from others, and none: of a sum with a text, and of names that need each other.
+pub fn computed_literals()
+    ensures join { literal_of E.worth E.of_b E.a_then_b ≡ Some (TextOf (codes "ab")) }
+    ensures line { literal_of E.worth [] E.a_then_line ≡ Some (TextOf (codes "a\nb")) }
+    ensures sum { literal_of E.worth [] E.one_and_two ≡ Some (UintOf 3) }
+    ensures unlike { literal_of E.worth [] E.one_and_text ≡ None }
+    ensures circle { literal_of E.worth E.in_circle (plain (codes "a")) ≡ None }
 {}
 
 /// Alternatives of the groups of maps, and groups that have none.

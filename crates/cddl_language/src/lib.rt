@@ -2,7 +2,7 @@
 //! here do nothing: their contracts are laws, and examples.
 #![tactic(auto)]
 
-ghost use Rattle.std.specs.Prelude.{◌+◌, ◌≢◌, ◌↔◌, ◌≤◌, ◌⊎◌, map, length, slice_index, [], ◌∷◌, ◌≡◌, ℕ, suc, Contains, Bool, List, Option, true, false, Some, None, codes};
+ghost use Rattle.std.specs.Prelude.{◌+◌, ◌^◌, ◌≢◌, ◌↔◌, ◌<◌, ◌≤◌, ◌⊎◌, map, length, slice_index, [], ◌∷◌, ◌≡◌, ℕ, suc, Contains, Bool, List, Option, true, false, Some, None, codes};
 ghost use Rattle.cddl_token.specs.declared.Code.{Code};
 ghost use Rattle.cddl_token.specs.declared.Token.{Token};
 ghost use Rattle.cddl_syntax.specs.Syntax as S;
@@ -14,11 +14,11 @@ ghost use Rattle.cddl_language.specs.Free.{IsOnCycle};
 ghost use Rattle.cddl_language.specs.Kinds.{Opened, is_group_in, opened_in};
 ghost use Rattle.cbor_data.specs.Embedded.{Embeds, EmbedsAll};
 ghost use Rattle.cbor_data.specs.Value as V;
-ghost use Rattle.cbor_data.specs.Value.{Value, array, bytes};
-ghost use Rattle.cddl_meaning.specs.Forms.{Choice, Language, any_number_of, at_most, exactly, is_below, is_up_to, passes};
+ghost use Rattle.cbor_data.specs.Value.{Value, array, bytes, text, uint};
+ghost use Rattle.cddl_meaning.specs.Forms.{Choice, Language, any_number_of, at_most, exactly, has_size, is_below, is_up_to, passes};
 ghost use Rattle.cddl_meaning.specs.Judges.{Answer, No, Says, Yes};
 ghost use Rattle.cddl_language.specs.Choices.{chosen, chosen_by_name};
-ghost use Rattle.cddl_language.specs.Controls.{Comparison, comparison_in, control_of, is_ordering};
+ghost use Rattle.cddl_language.specs.Controls.{Comparison, Computation, comparison_in, computation_in, control_of, is_ordering};
 ghost use Rattle.cddl_language.specs.MapFaults.{ComesBack, GoesThrough, HasMapShape, HasNoKey, IsSpliced, IsSplicedInto, LacksKey, LeadsTo, OccursBadly, closed_entry, point_in};
 ghost use Rattle.cddl_language.specs.Maps.{Alternatives, alternatives_in, map_alternatives};
 ghost use Rattle.cddl_language.specs.Language.{Saying, TermSays, comparand, compared_test, language, type, reference, type_node};
@@ -27,7 +27,11 @@ ghost use Rattle.cddl_ranks.specs.Ranked.{Name};
 ghost use Rattle.cddl_literal.specs.Numbers.{IsUint, Meaning, number_after};
 ghost use Rattle.cddl_token.specs.Numbers.{IsHashNumber, IsStar, IsTagNumberOpen};
 ghost use Rattle.cddl_language.specs.Numbers.{hash_form, least_in, most_in, numbered, tag_number, uint_in};
-ghost use Rattle.cddl_language.specs.Literals.{AreRight, AreTokens, Holds, Values, item_of, literal_of, whole};
+ghost use Rattle.cddl_language.specs.Literals.{AreRight, AreTokens, Holds, Values, answer_of, computed_literal, item_of, literal_of, whole};
+ghost use Rattle.cddl_language.specs.Sizes.{Sizes, sizes_of};
+ghost use Rattle.cddl_operators.specs.declared.Joining.TheVariants.{AsTheyAre, Dedented};
+ghost use Rattle.cddl_operators.specs.Joins.{joined};
+ghost use Rattle.cddl_operators.specs.Sums.{plus};
 ghost use Rattle.cddl_language.specs.Reading.{definitions_in, group_of, name_in, parameters_in};
 ghost use Rattle.cddl_language.specs.Reach.{Point, Reaches, most_instances, points_in, ref_at};
 ghost use Rattle.cddl_language.specs.Terms.{Definition, Entries, Entry, Group, Literal, Ref, Term, Text, alternatives, call, choice_of, choice_of_name, control, name_of, no_terms};
@@ -77,6 +81,30 @@ pub fn comparisons_say()
     ensures at_least { (worth : Values) (ds : List Definition) (a b : Term) (v : Value) (p : ℕ) (x : Value) → whole (literal_of worth ds b) ≡ Some v → TermSays worth ds (control a (codes "ge") b) p x Yes ↔ (TermSays worth ds a p x Yes × (is_up_to v x ≡ true)) }
     ensures left { (worth : Values) (ds : List Definition) (a b : Term) (n : Text) (c : Comparison) (v : Value) (p : ℕ) (x : Value) (far : ℕ) → comparison_in (control_of n) ≡ Some c → comparand (is_ordering c) (literal_of worth ds b) ≡ Some v → TermSays worth ds a p x (No far) → TermSays worth ds (control a n b) p x (No far) }
     ensures missed { (worth : Values) (ds : List Definition) (a b : Term) (n : Text) (c : Comparison) (v : Value) (p : ℕ) (x : Value) → comparison_in (control_of n) ≡ Some c → comparand (is_ordering c) (literal_of worth ds b) ≡ Some v → TermSays worth ds a p x Yes → passes (compared_test c v) x ≡ false → TermSays worth ds (control a n b) p x (No p) }
+{}
+
+/// A control by `.size`, where its controller has members, says yes where the type on its left does and the item has a size that
+/// is one of them. The type on its left is asked first and shows its no where it shows it; that of a size shows at the item. The
+/// size of a string is the number of its bytes, and an unsigned number has each size in whose bytes it fits.
+pub fn sizes_say()
+    ensures yes { (worth : Values) (ds : List Definition) (a b : Term) (rs : Sizes) (p : ℕ) (x : Value) → sizes_of worth ds b ≡ Some rs → TermSays worth ds (control a (codes "size") b) p x Yes ↔ (TermSays worth ds a p x Yes × (has_size rs x ≡ true)) }
+    ensures left { (worth : Values) (ds : List Definition) (a b : Term) (rs : Sizes) (p : ℕ) (x : Value) (far : ℕ) → sizes_of worth ds b ≡ Some rs → TermSays worth ds a p x (No far) → TermSays worth ds (control a (codes "size") b) p x (No far) }
+    ensures missed { (worth : Values) (ds : List Definition) (a b : Term) (rs : Sizes) (p : ℕ) (x : Value) → sizes_of worth ds b ≡ Some rs → TermSays worth ds a p x Yes → has_size rs x ≡ false → TermSays worth ds (control a (codes "size") b) p x (No p) }
+    ensures bytes { (rs : Sizes) (s : List ℕ) → (has_size rs (bytes s) ≡ true) ↔ ((r : ℕ × ℕ) × Contains rs r × (r.0 ≤ length s) × (length s ≤ r.1)) }
+    ensures text { (rs : Sizes) (s : List ℕ) → (has_size rs (text s) ≡ true) ↔ ((r : ℕ × ℕ) × Contains rs r × (r.0 ≤ length s) × (length s ≤ r.1)) }
+    ensures number { (rs : Sizes) (n : ℕ) → (has_size rs (uint n) ≡ true) ↔ ((r : ℕ × ℕ) × (m : ℕ) × Contains rs r × (r.0 ≤ m) × (m ≤ r.1) × (n < 256 ^ m)) }
+{}
+
+/// A control by `.plus`, `.cat` or `.det` is the literal that is computed from those that its sides are, the left one's first: their
+/// sum, their join, or the join of both without the indentation of their lines. It says yes to that literal's value alone, and shows
+/// its no at the item.
+pub fn computed_literals_say()
+    ensures literal { (worth : Values) (ds : List Definition) (a b : Term) (n : Text) (c : Computation) → computation_in (control_of n) ≡ Some c → literal_of worth ds (control a n b) ≡ computed_literal c (literal_of worth ds a) (literal_of worth ds b) }
+    ensures sums { (worth : Values) (ds : List Definition) (a b : Term) (u v : Meaning) → literal_of worth ds a ≡ Some u → literal_of worth ds b ≡ Some v → literal_of worth ds (control a (codes "plus") b) ≡ answer_of (plus u v) }
+    ensures joins { (worth : Values) (ds : List Definition) (a b : Term) (u v : Meaning) → literal_of worth ds a ≡ Some u → literal_of worth ds b ≡ Some v → literal_of worth ds (control a (codes "cat") b) ≡ answer_of (joined AsTheyAre u v) }
+    ensures dedents { (worth : Values) (ds : List Definition) (a b : Term) (u v : Meaning) → literal_of worth ds a ≡ Some u → literal_of worth ds b ≡ Some v → literal_of worth ds (control a (codes "det") b) ≡ answer_of (joined Dedented u v) }
+    ensures yes { (worth : Values) (ds : List Definition) (a b : Term) (n : Text) (c : Computation) (m : Meaning) (p : ℕ) (x : Value) → computation_in (control_of n) ≡ Some c → literal_of worth ds (control a n b) ≡ Some m → TermSays worth ds (control a n b) p x Yes ↔ (x ≡ item_of m) }
+    ensures missed { (worth : Values) (ds : List Definition) (a b : Term) (n : Text) (c : Computation) (m : Meaning) (p : ℕ) (x : Value) → computation_in (control_of n) ≡ Some c → literal_of worth ds (control a n b) ≡ Some m → x ≢ item_of m → TermSays worth ds (control a n b) p x (No p) }
 {}
 
 /// Where the group of a map has alternatives, each entry that is spliced into it has a key or is a group, none leads back to the

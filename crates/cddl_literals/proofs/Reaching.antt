@@ -2,7 +2,7 @@
 use Rattle.std.proofs.Common.{◌≡◌, ℕ, zero, suc, ◌<◌, ◌⊎◌, inl, inr, List, [], ◌∷◌, ◌++◌, refl, sym, subst, arith}
 use Rattle.std.specs.Prelude.{Contains, flat_map}
 use Rattle.std.proofs.lemmas.List.Elements.{Contains-append_cases, Contains-append_left, Contains-append_right}
-use Rattle.cddl_language.specs.Terms.{Text, Term, literal, named, parens, map_of, array_of, unwrapped, choice_of, choice_of_name, tagged, tagged_by, simple_by, hash, range, control, or, Ref, Body, of_types, of_entry, Definition, choices, stripped}
+use Rattle.cddl_language.specs.Terms.{Text, Term, literal, named, parens, map_of, array_of, unwrapped, choice_of, choice_of_name, tagged, tagged_by, simple_by, hash, range, control, or, Ref, Body, of_types, of_entry, Definition, choices}
 use Rattle.cddl_language.specs.Substitution.{bodies, type_choices, types_in}
 use Rattle.cddl_language.specs.Reach.{Reaches, onward, Point, points, body_points}
 use Rattle.cddl_closed.specs.Closed.{AreReached}
@@ -49,21 +49,3 @@ in_types (of_entry e ∷ bs) x p c h = Contains-append_right (body_points (of_en
 
 pub choice_reached : (xs : List Definition) (root : Text) (r : Ref) (x : Term) → Reaches xs root r → Contains (type_choices xs r) x → AreReached xs root (points x)
 choice_reached xs root r x h c p g = onward h (in_types (bodies xs r) x p c g) refl
-
--- parentheses have the references of what is in them
-pub inner_points : (x : Term) → points (stripped x) ≡ points x
-inner_points (parens t) = inner_points t
-inner_points (literal v) = refl
-inner_points (named r) = refl
-inner_points (map_of g) = refl
-inner_points (array_of g) = refl
-inner_points (unwrapped r) = refl
-inner_points (choice_of g) = refl
-inner_points (choice_of_name r) = refl
-inner_points (tagged n t) = refl
-inner_points (tagged_by s t) = refl
-inner_points (simple_by t) = refl
-inner_points (hash n) = refl
-inner_points (range a b d) = refl
-inner_points (control a b d) = refl
-inner_points (or t u) = refl

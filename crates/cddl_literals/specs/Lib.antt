@@ -1,2 +1,5 @@
-pub mod Links
+pub mod Edges
+pub mod Found
 pub mod Literals
+pub mod Needs
+pub mod Written

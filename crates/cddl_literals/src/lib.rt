@@ -1,7 +1,12 @@
-//! Which types of a specification are one written value, by rows of a table.
+//! Which literals the types of a specification are, written or computed, by rows of a table.
 #![tactic(auto)]
 
-mod links;
-mod values;
+mod edges;
+mod found;
+mod known;
+mod needs;
+mod progress;
+mod rows;
 
-pub use crate::values::{literal_row, literals};
+pub use crate::known::{Literals, Outcome};
+pub use crate::rows::literals;

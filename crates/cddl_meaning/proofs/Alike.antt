@@ -37,9 +37,9 @@ module _ {N G M H : Type 0} (l : Language N G) (k : Language M H) (R : N → M �
     says_too (map e d) (maps r) = map e (maps_too d r)
     says_too (left_no {m = n} d) (boths {m = m} r s) = left_no (says_too d (i.types n m r))
     says_too (left_yes {m = n} {n = o} d e) (boths {m = m} {q = q} r s) = left_yes (says_too d (i.types n m r)) (says_too e (i.types o q s))
-    says_too (none_such {m = n} d) (suches {m = m} r) = none_such (says_too d (i.types n m r))
-    says_too (such_passed {m = n} d h) (suches {m = m} r) = such_passed (says_too d (i.types n m r)) h
-    says_too (such_missed {m = n} d h) (suches {m = m} r) = such_missed (says_too d (i.types n m r)) h
+    says_too (none_such {m = n} d) (suches {m = m} r e) = none_such (says_too d (i.types n m r))
+    says_too (such_passed {m = n} d h) (suches {m = m} r e) = such_passed (says_too d (i.types n m r)) (sym (e _) ∙ h)
+    says_too (such_missed {m = n} d h) (suches {m = m} r e) = such_missed (says_too d (i.types n m r)) (sym (e _) ∙ h)
     says_too (holder_no {m = n} d) (holdings {m = m} r s) = holder_no (says_too d (i.types n m r))
     says_too (no_string {m = n} d h) (holdings {m = m} r s) = no_string (says_too d (i.types n m r)) h
     says_too (holds_nothing {m = n} d h j) (holdings {m = m} r s) = holds_nothing (says_too d (i.types n m r)) h j
@@ -130,7 +130,7 @@ flip_types R S (tags t r) = tags (flip_numbers R t) r
 flip_types R S (simples r) = simples r
 flip_types R S (maps r) = maps (flip_maps R r)
 flip_types R S (boths r s) = boths r s
-flip_types R S (suches r) = suches r
+flip_types R S (suches r e) = suches r (λ x. sym (e x))
 flip_types R S (holdings r s) = holdings r s
 
 flip_groups : {N G M H : Type 0} (R : N → M → Type 0) (S : G → H → Type 0) {f : Group N G} {e : Group M H} → AlikeGroups R S f e → AlikeGroups (flipped R) (flipped S) e f

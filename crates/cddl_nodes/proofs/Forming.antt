@@ -5,9 +5,9 @@ use Rattle.cbor_data.specs.Value.{Value}
 use Rattle.cddl_literal.specs.Numbers.{Meaning}
 use Rattle.cddl_meaning.specs.Alike.{AlikeAll, none, both, AlikeTypes, plain, refs, choices as some_choices, tags, boths, suches, holdings, AlikeNumbers, any_numbers, same_number, AlikeGroups, entries as some_entries, group_refs, sequences, alternates, repeats}
 use Rattle.cddl_meaning.specs.Forms as F
-use Rattle.cddl_language.specs.Controls.{Comparison, equal, different, less, at_most, greater, at_least, is_ordering, Control, left_alone, left_and_right, held_item, held_sequence, compared, by_value, control_of}
+use Rattle.cddl_language.specs.Controls.{Comparison, is_ordering, Control, left_alone, left_and_right, held_item, held_sequence, compared, sized, Computation, computed, control_of}
 use Rattle.cddl_language.specs.Numbers as N
-use Rattle.cddl_language.specs.Terms.{no_entries, entries, Text, Term, Literal, literal, named, name_of, parens, map_of, array_of, unwrapped, choice_of, choice_of_name, tagged, tagged_by, simple_by, hash, range, control, or, Ref, Group, Entries, Entry, Key, typed, keyed, grouped, alternatives, entry_list}
+use Rattle.cddl_language.specs.Terms.{no_entries, entries, Text, Term, Literal, literal, named, name_of, parens, map_of, array_of, unwrapped, choice_of, choice_of_name, tagged, tagged_by, simple_by, hash, range, control, or, Definition, Ref, Group, Entries, Entry, Key, typed, keyed, grouped, alternatives, entry_list}
 use Rattle.cddl_language.specs.Kinds as K
 use Rattle.cddl_language.specs.Kinds.{Opened, opens_group, opens_type, opened, is_group}
 use Rattle.cddl_language.specs.Choices.{can_choose, chosen, chosen_in}
@@ -15,8 +15,8 @@ use Rattle.cddl_language.specs.Reach.{most_instances, points}
 use Rattle.cddl_language.specs.Substitution.{group_choices}
 use Rattle.cddl_language.specs.Language as L
 use Rattle.cddl_language.specs.Language.{TypeName, type, GroupName, first_of, each_of, entry, round}
-use Rattle.cddl_language.specs.Literals.{Means, Values, item_of, literal_of}
-use Rattle.cddl_values.specs.Values.{Answers, IsValueOf}
+use Rattle.cddl_language.specs.Literals.{Values, computed_literal, controlled_literal, literal_of, whole, whole_of}
+use Rattle.cddl_language.specs.Sizes.{Sizes, sizes_of}
 use Rattle.cddl_terms.specs.Table.{Table, HoldsText, no_text, some_text}
 use Rattle.cddl_terms.specs.Trees.{IsTerm, IsRef, IsGroup, IsEntries, IsEntry}
 use Rattle.cddl_choosing.specs.Nesting.{AreChosenEntries, IsChosenEach, IsChosenEntry, IsChosenPart}
@@ -24,9 +24,12 @@ use Rattle.cddl_closed.specs.Closed.{AreAlternatives, no_alternatives, alternati
 use Rattle.cddl_openings.specs.Openings.{IsOpened, nothing, group_opened, type_opened, IsPart, a_type, a_group as part_group, an_opened_group}
 use Rattle.cddl_openings.specs.declared.openings.Opening.{Opening}
 use Rattle.cddl_openings.specs.declared.openings.Part.TheVariants as PartV
-use Rattle.cddl_literals.specs.Literals.{IsWritten, no_value, value_of}
+use Rattle.cddl_literals.specs.Literals.{AreLiterals, literal_at}
+use Rattle.cddl_literals.specs.declared.known.Literals.{Literals}
+use Rattle.cddl_sizes.specs.Sizes.{AreSizes, SameSizes, sizes_at}
+use Rattle.cddl_sizes.specs.declared.known.Sizes as S
 use Rattle.cddl_nodes.specs.Basis.{Sense}
-use Rattle.cddl_nodes.specs.Lookups.{between_view, control_form_view, is_flagged, is_over, opened_view, such_view, test_by}
+use Rattle.cddl_nodes.specs.Lookups.{between_view, control_form_view, equal_view, is_flagged, is_over, opened_view, sized_view, such_view, test_by}
 use Rattle.cddl_nodes.specs.Origins.{AreKnown, AreKnownEntries, IsKnown, IsKnownEntry, IsKnownGroup, IsTypeOrigin, of_row, of_instance, of_chosen, of_word, IsGroupOrigin, of_alternatives, of_sequence, of_entry, of_round, IsAsked, asks_type, asks_named, asks_opened}
 use Rattle.cddl_nodes.specs.Shapes.{IsShape, a_literal, a_name, in_parens, an_array, an_unwrapping, a_choice_of, a_choice_of_name, a_tag, a_tag_by, a_simple, a_hash, a_range, a_range_below, a_choice, a_map, a_control, IsEntryShape, a_typed, a_keyed, a_group}
 use Rattle.cddl_nodes.specs.declared.asked.Asked.TheVariants as A
@@ -35,62 +38,62 @@ use Rattle.cddl_nodes.specs.declared.origin.GroupOrigin.TheVariants as GO
 use Rattle.cddl_nodes.specs.declared.origin.TypeOrigin.{TypeOrigin}
 use Rattle.cddl_nodes.specs.declared.origin.TypeOrigin.TheVariants as O
 use Rattle.cddl_nodes.specs.declared.shape.EntryShape.TheVariants as E
-use Rattle.cddl_nodes.specs.declared.shape.Shape.TheVariants as S
+use Rattle.cddl_nodes.specs.declared.shape.Shape.TheVariants as ShapeV
 use Rattle.cddl_nodes.proofs.Reaching.{reached_left, reached_right}
 use Rattle.cddl_nodes.proofs.Listing.{alike_pushed, flat, flat_map_one, IsWalk, walk_ended, walk_on}
 use Rattle.cddl_nodes.proofs.Knowing.{EachEntry, EachType, and_entry, and_type, each_entry, first_known, group_known, no_entry, no_type, rest_known}
 
 -- What holds of each term of a shape.
 module _ (t : Table) (P : Term → Type 0) where
-  pub literal_case : (x : Term) → IsShape t x S.Literal → ((v : Literal) → P (literal v)) → P x
+  pub literal_case : (x : Term) → IsShape t x ShapeV.Literal → ((v : Literal) → P (literal v)) → P x
   literal_case x (a_literal {v = v}) f = f v
 
-  pub named_case : (x : Term) → (k : ℕ) → IsShape t x (S.Named k) → ((r : Ref) → IsRef t k r → P (named r)) → P x
+  pub named_case : (x : Term) → (k : ℕ) → IsShape t x (ShapeV.Named k) → ((r : Ref) → IsRef t k r → P (named r)) → P x
   named_case x k (a_name {r = r} h) f = f r h
 
-  pub parens_case : (x : Term) → (k : ℕ) → IsShape t x (S.Parens k) → ((y : Term) → IsTerm t k y → P (parens y)) → P x
+  pub parens_case : (x : Term) → (k : ℕ) → IsShape t x (ShapeV.Parens k) → ((y : Term) → IsTerm t k y → P (parens y)) → P x
   parens_case x k (in_parens {x = y} h) f = f y h
 
-  pub array_case : (x : Term) → (k : ℕ) → IsShape t x (S.ArrayOf k) → ((g : Group) → IsGroup t k g → P (array_of g)) → P x
+  pub array_case : (x : Term) → (k : ℕ) → IsShape t x (ShapeV.ArrayOf k) → ((g : Group) → IsGroup t k g → P (array_of g)) → P x
   array_case x k (an_array {g = g} h) f = f g h
 
-  pub unwrapped_case : (x : Term) → (k : ℕ) → IsShape t x (S.Unwrapped k) → ((r : Ref) → IsRef t k r → P (unwrapped r)) → P x
+  pub unwrapped_case : (x : Term) → (k : ℕ) → IsShape t x (ShapeV.Unwrapped k) → ((r : Ref) → IsRef t k r → P (unwrapped r)) → P x
   unwrapped_case x k (an_unwrapping {r = r} h) f = f r h
 
-  pub choice_of_case : (x : Term) → (k : ℕ) → IsShape t x (S.ChoiceOf k) → ((g : Group) → IsGroup t k g → P (choice_of g)) → P x
+  pub choice_of_case : (x : Term) → (k : ℕ) → IsShape t x (ShapeV.ChoiceOf k) → ((g : Group) → IsGroup t k g → P (choice_of g)) → P x
   choice_of_case x k (a_choice_of {g = g} h) f = f g h
 
-  pub choice_of_name_case : (x : Term) → (k : ℕ) → IsShape t x (S.ChoiceOfName k) → ((r : Ref) → IsRef t k r → P (choice_of_name r)) → P x
+  pub choice_of_name_case : (x : Term) → (k : ℕ) → IsShape t x (ShapeV.ChoiceOfName k) → ((r : Ref) → IsRef t k r → P (choice_of_name r)) → P x
   choice_of_name_case x k (a_choice_of_name {r = r} h) f = f r h
 
-  pub tagged_case : (x : Term) → (m k : ℕ) → IsShape t x (S.Tagged m k) → ((n : Text) (y : Term) → slice_get t.texts m ≡ Some n → IsTerm t k y → P (tagged n y)) → P x
+  pub tagged_case : (x : Term) → (m k : ℕ) → IsShape t x (ShapeV.Tagged m k) → ((n : Text) (y : Term) → slice_get t.texts m ≡ Some n → IsTerm t k y → P (tagged n y)) → P x
   tagged_case x m k (a_tag {n = n} {x = y} e h) f = f n y e h
 
-  pub tagged_by_case : (x : Term) → (m k : ℕ) → IsShape t x (S.TaggedBy m k) → ((y z : Term) → IsTerm t m y → IsTerm t k z → P (tagged_by y z)) → P x
+  pub tagged_by_case : (x : Term) → (m k : ℕ) → IsShape t x (ShapeV.TaggedBy m k) → ((y z : Term) → IsTerm t m y → IsTerm t k z → P (tagged_by y z)) → P x
   tagged_by_case x m k (a_tag_by {h = y} {x = z} g h) f = f y z g h
 
-  pub simple_case : (x : Term) → (k : ℕ) → IsShape t x (S.SimpleBy k) → ((y : Term) → IsTerm t k y → P (simple_by y)) → P x
+  pub simple_case : (x : Term) → (k : ℕ) → IsShape t x (ShapeV.SimpleBy k) → ((y : Term) → IsTerm t k y → P (simple_by y)) → P x
   simple_case x k (a_simple {h = y} h) f = f y h
 
-  pub hash_case : (x : Term) → (m : ℕ) → IsShape t x (S.Hash m) → ((n : Text) → slice_get t.texts m ≡ Some n → P (hash n)) → P x
+  pub hash_case : (x : Term) → (m : ℕ) → IsShape t x (ShapeV.Hash m) → ((n : Text) → slice_get t.texts m ≡ Some n → P (hash n)) → P x
   hash_case x m (a_hash {n = n} e) f = f n e
 
-  pub range_case : (x : Term) → (m k : ℕ) → IsShape t x (S.Range m k) → ((y z : Term) → IsTerm t m y → IsTerm t k z → P (range y true z)) → P x
+  pub range_case : (x : Term) → (m k : ℕ) → IsShape t x (ShapeV.Range m k) → ((y z : Term) → IsTerm t m y → IsTerm t k z → P (range y true z)) → P x
   range_case x m k (a_range {a = y} {b = z} g h) f = f y z g h
 
-  pub range_below_case : (x : Term) → (m k : ℕ) → IsShape t x (S.RangeBelow m k) → ((y z : Term) → IsTerm t m y → IsTerm t k z → P (range y false z)) → P x
+  pub range_below_case : (x : Term) → (m k : ℕ) → IsShape t x (ShapeV.RangeBelow m k) → ((y z : Term) → IsTerm t m y → IsTerm t k z → P (range y false z)) → P x
   range_below_case x m k (a_range_below {a = y} {b = z} g h) f = f y z g h
 
-  pub or_case : (x : Term) → IsShape t x S.Or → ((y z : Term) → P (or y z)) → P x
+  pub or_case : (x : Term) → IsShape t x ShapeV.Or → ((y z : Term) → P (or y z)) → P x
   or_case x (a_choice {a = y} {b = z}) f = f y z
 
-  pub map_case : (x : Term) → (k : ℕ) → IsShape t x (S.MapOf k) → ((g : Group) → IsGroup t k g → P (map_of g)) → P x
+  pub map_case : (x : Term) → (k : ℕ) → IsShape t x (ShapeV.MapOf k) → ((g : Group) → IsGroup t k g → P (map_of g)) → P x
   map_case x k (a_map {g = g} h) f = f g h
 
-  pub control_case : (x : Term) → (m i k : ℕ) → IsShape t x (S.Control m i k) → ((n : Text) (y z : Term) → slice_get t.texts m ≡ Some n → IsTerm t i y → IsTerm t k z → P (control y n z)) → P x
+  pub control_case : (x : Term) → (m i k : ℕ) → IsShape t x (ShapeV.Control m i k) → ((n : Text) (y z : Term) → slice_get t.texts m ≡ Some n → IsTerm t i y → IsTerm t k z → P (control y n z)) → P x
   control_case x m i k (a_control {a = y} {b = z} {n = n} e g h) f = f n y z e g h
 
-  pub other_case : (x : Term) → IsShape t x S.Other → P x
+  pub other_case : (x : Term) → IsShape t x ShapeV.Other → P x
   other_case x h = elim h [ ]
 
 module _ (t : Table) (P : Entry → Type 0) where
@@ -112,36 +115,13 @@ placed qs r place p = subst (λ k. slice_get qs k ≡ Some r) (one p.0 p.1) p.2
     one : (k : ℕ) → Some place ≡ Some k → k ≡ place
     one k e = cc
 
--- Values.
+-- Literals.
 
-pub unwritten : (worth : Values) (t : Table) (o : Option Meaning) → IsWritten worth t o None → o ≡ None
-unwritten worth t o no_value = refl
+literal_written : (worth : Values) (ds : List Definition) (v : Literal) → literal_of worth ds (literal v) ≡ Some (worth v)
+literal_written worth ds v = refl
 
-pub untested : (c : Comparison) → None ≡ test_by c None
-untested equal = refl
-untested different = refl
-untested less = refl
-untested at_most = refl
-untested greater = refl
-untested at_least = refl
-
-value_there : (worth : Values) (t : Table) (o : Option Meaning) (n : ℕ) → IsWritten worth t o (Some n) → (v : Literal) × IsTerm t n (literal v) × (o ≡ Some (worth v))
-value_there worth t o n (value_of {v = v} h) = (v, h, refl)
-
--- A type that is the written value of one row, whatever values stand for, is that value.
-module _ (worth : Values) (t : Table) (n : ℕ) (value : Values → Option Meaning) (one : (a b : Term) → IsTerm t n a → IsTerm t n b → a ≡ b) (is : (w : Values) → IsWritten w t (value w) (Some n)) where
-  same_value : (a b : Literal) → IsTerm t n (literal a) → IsTerm t n (literal b) → a ≡ b
-  same_value a b h g = literals a b (one (literal a) (literal b) h g)
-    where
-      literals : (a b : Literal) → literal a ≡ literal b → a ≡ b
-      literals a b e = cc
-
-  -- so for what is made of that value
-  pub written : {A : Type 0} (make : Option Meaning → A) (w : A) → ((v : Literal) → ((u : Values) → value u ≡ Some (u v)) → Means v (worth v)) → ((v : Literal) → Means v (worth v) → IsTerm t n (literal v) → w ≡ make (Some (worth v))) → w ≡ make (value worth)
-  written make w law f =
-      let here = value_there worth t (value worth) n (is worth) in
-      let so = λ (u : Values). (let there = value_there u t (value u) n (is u) in there.2 ∙ ap (λ v. Some (u v)) (same_value there.0 here.0 there.1 here.1)) in
-      f here.0 (law here.0 so) here.1 ∙ sym (ap make here.2)
+literal_controlled : (worth : Values) (ds : List Definition) (y z : Term) (n : Text) → literal_of worth ds (control y n z) ≡ controlled_literal (control_of n) (literal_of worth ds y) (literal_of worth ds z)
+literal_controlled worth ds y z n = refl
 
 -- What entries ask.
 
@@ -183,7 +163,7 @@ module _ (s : Sense) (t : Table) where
   pub type_name_formed : (r : Ref) (place : ℕ) → is_group s.definitions (name_of r) ≡ false → slice_get s.refs place ≡ Some r → Forms (L.term_node s.worth s.definitions (named r)) (F.Ref (O.Instance place))
   type_name_formed r place h e = subst (λ b. Forms (if b then L.nothing else F.Ref (L.reference r)) (F.Ref (O.Instance place))) (sym h) (refs (of_instance e h))
 
-  pub range_formed : (closed : Bool) (o p o' p' : Option Value) (f : F.Node TypeOrigin GroupOrigin) → f ≡ between_view closed o p → o ≡ o' → p ≡ p' → Forms (L.between closed o' p') f
+  range_formed : (closed : Bool) (o p o' p' : Option Value) (f : F.Node TypeOrigin GroupOrigin) → f ≡ between_view closed o p → o ≡ o' → p ≡ p' → Forms (L.between closed o' p') f
   range_formed closed o p o' p' f e g h = subst (λ m. Forms m f) (ap (λ q. L.between closed q p) g ∙ ap (λ q. L.between closed o' q) h) (subst (Forms (L.between closed o p)) (sym e) (by o p))
     where
       by : (o p : Option Value) → Forms (L.between closed o p) (between_view closed o p)
@@ -191,6 +171,9 @@ module _ (s : Sense) (t : Table) where
       by (Some a) None = some_choices none
       by None (Some b) = some_choices none
       by None None = some_choices none
+
+  pub range_between : (ls : Literals) → AreLiterals s.definitions s.root s.worth t ls → (closed : Bool) (y z : Term) (i j : ℕ) (f : F.Node TypeOrigin GroupOrigin) → f ≡ between_view closed (whole (literal_at ls i)) (whole (literal_at ls j)) → IsTerm t i y → IsTerm t j z → IsKnown s (range y closed z) → Forms (L.term_node s.worth s.definitions (range y closed z)) f
+  range_between ls are closed y z i j f e g h re = range_formed closed (whole (literal_at ls i)) (whole (literal_at ls j)) (whole_of s.worth s.definitions y) (whole_of s.worth s.definitions z) f e (ap whole (are.values i y g (reached_left s (points y) (points z) re.0, re.1.0))) (ap whole (are.values j z h (reached_right s (points y) (points z) re.0, re.1.1)))
 
   pub opened_formed : (o : Option Opened) (p : Opening) (f : F.Node TypeOrigin GroupOrigin) → f ≡ opened_view p → IsOpened t o p → ((x : Term) → o ≡ Some (opens_type x) → IsKnown s x) → Forms (L.content o) f
   opened_formed o p f e h g = subst (Forms (L.content o)) (sym e) (by o p h g)
@@ -207,21 +190,46 @@ module _ (s : Sense) (t : Table) where
   pub right_known : (y z : Term) (n : Text) → IsKnown s (control y n z) → IsKnown s z
   right_known y z n re = (reached_right s (points y) (points z) re.0, re.1.1)
 
+  equal_by : (o p : Option Meaning) → p ≡ o → Forms (L.equal_to o) (equal_view p)
+  equal_by o p e = subst (λ m. Forms (L.equal_to o) (equal_view m)) (sym e) (by o)
+    where
+      by : (o : Option Meaning) → Forms (L.equal_to o) (equal_view o)
+      by (Some m) = plain
+      by None = some_choices none
+
+  pub literal_formed : (v : Literal) (o : Option Meaning) (f : F.Node TypeOrigin GroupOrigin) → f ≡ equal_view o → o ≡ literal_of s.worth s.definitions (literal v) → Forms (L.term_node s.worth s.definitions (literal v)) f
+  literal_formed v o f e h = subst (Forms (L.equal_to (Some (s.worth v)))) (sym e) (equal_by (Some (s.worth v)) o (h ∙ literal_written s.worth s.definitions v))
+
   compared_by : (c : Comparison) (o : Option Value) (y : Term) (i : ℕ) → IsTerm t i y → IsKnown s y → Forms (L.such_as_compares c o y) (such_view i (option_map (L.compared_test c) o))
-  compared_by c (Some v) y i g p = suches (of_row g p.0 p.1)
+  compared_by c (Some v) y i g p = suches (of_row g p.0 p.1) (λ x. refl)
   compared_by c None y i g p = some_choices none
 
-  control_by : (k : Option Control) (y z : Term) (m : Option Meaning) (i j : ℕ) → IsTerm t i y → IsTerm t j z → IsKnown s y → IsKnown s z → Forms (L.control_node k y z m) (control_form_view k i j m)
-  control_by (Some left_alone) y z m i j g h p q = refs (of_row g p.0 p.1)
-  control_by (Some left_and_right) y z m i j g h p q = boths (of_row g p.0 p.1) (of_row h q.0 q.1)
-  control_by (Some held_item) y z m i j g h p q = holdings (of_row g p.0 p.1) (of_row h q.0 q.1)
-  control_by (Some held_sequence) y z m i j g h p q = holdings (of_row g p.0 p.1) (of_row h q.0 q.1)
-  control_by (Some (compared c)) y z m i j g h p q = compared_by c (L.comparand (is_ordering c) m) y i g p
-  control_by (Some by_value) y z m i j g h p q = some_choices none
-  control_by None y z m i j g h p q = some_choices none
+  sized_by : (o p : Option Sizes) (y : Term) (i : ℕ) → SameSizes o p → IsTerm t i y → IsKnown s y → Forms (L.such_as_sized o y) (sized_view i p)
+  sized_by (Some rs) (Some ss) y i h g p = suches (of_row g p.0 p.1) h
+  sized_by (Some rs) None y i h g p = absurd h
+  sized_by None (Some ss) y i h g p = absurd h
+  sized_by None None y i h g p = some_choices none
 
-  pub control_formed : (y z : Term) (n : Text) (i j : ℕ) (k : Option Control) (f : F.Node TypeOrigin GroupOrigin) → k ≡ control_of n → (IsKnown s z → f ≡ control_form_view k i j (literal_of s.worth s.definitions z)) → IsTerm t i y → IsTerm t j z → IsKnown s (control y n z) → Forms (L.term_node s.worth s.definitions (control y n z)) f
-  control_formed y z n i j k f e d g h re = subst (λ o. Forms (L.control_node o y z (literal_of s.worth s.definitions z)) f) e (subst (Forms (L.control_node k y z (literal_of s.worth s.definitions z))) (sym (d (right_known y z n re))) (control_by k y z (literal_of s.worth s.definitions z) i j g h (left_known y z n re) (right_known y z n re)))
+  -- What a control is, where the controller and the control are these literals, and the controller has these members.
+  module _ (y z : Term) (n : Text) (i j : ℕ) (g : IsTerm t i y) (h : IsTerm t j z) (p : IsKnown s y) (q : IsKnown s z) (m own : Option Meaning) (rs : Option Sizes) (literals : m ≡ literal_of s.worth s.definitions z) (its : own ≡ literal_of s.worth s.definitions (control y n z)) (members : Some sized ≡ control_of n → SameSizes (sizes_of s.worth s.definitions z) rs) where
+    computes : (c : Computation) → Some (computed c) ≡ control_of n → own ≡ computed_literal c (literal_of s.worth s.definitions y) (literal_of s.worth s.definitions z)
+    computes c e = its ∙ literal_controlled s.worth s.definitions y z n ∙ ap (λ o. controlled_literal o (literal_of s.worth s.definitions y) (literal_of s.worth s.definitions z)) (sym e)
+
+    control_by : (k : Option Control) → k ≡ control_of n → Forms (L.control_node s.worth s.definitions k y z) (control_form_view k i j m own rs)
+    control_by (Some left_alone) e = refs (of_row g p.0 p.1)
+    control_by (Some left_and_right) e = boths (of_row g p.0 p.1) (of_row h q.0 q.1)
+    control_by (Some held_item) e = holdings (of_row g p.0 p.1) (of_row h q.0 q.1)
+    control_by (Some held_sequence) e = holdings (of_row g p.0 p.1) (of_row h q.0 q.1)
+    control_by (Some (compared c)) e = subst (λ o. Forms (L.control_node s.worth s.definitions (Some (compared c)) y z) (such_view i (test_by c o))) (sym literals) (compared_by c (L.comparand (is_ordering c) (literal_of s.worth s.definitions z)) y i g p)
+    control_by (Some sized) e = sized_by (sizes_of s.worth s.definitions z) rs y i (members e) g p
+    control_by (Some (computed c)) e = equal_by (computed_literal c (literal_of s.worth s.definitions y) (literal_of s.worth s.definitions z)) own (computes c e)
+    control_by None e = some_choices none
+
+  pub control_formed : (ls : Literals) (members : S.Sizes) → AreLiterals s.definitions s.root s.worth t ls → AreSizes s.definitions s.root s.worth t members → (y z : Term) (n : Text) (row i j : ℕ) (k : Option Control) (f : F.Node TypeOrigin GroupOrigin) → k ≡ control_of n → f ≡ control_form_view k i j (literal_at ls j) (literal_at ls row) (sizes_at members j) → IsTerm t row (control y n z) → IsTerm t i y → IsTerm t j z → IsKnown s (control y n z) → Forms (L.term_node s.worth s.definitions (control y n z)) f
+  control_formed ls members are have y z n row i j k f e d w g h re =
+      let right = right_known y z n re in
+      let by = control_by y z n i j g h (left_known y z n re) right (literal_at ls j) (literal_at ls row) (sizes_at members j) (are.values j z h right) (are.values row (control y n z) w re) (λ asks. have j z (record { row = row; left = y; name = n; right = z; there = w; asks = sym asks; controller = h }) h right) k e in
+      subst (λ o. Forms (L.control_node s.worth s.definitions o y z) f) e (subst (Forms (L.control_node s.worth s.definitions k y z)) (sym d) by)
 
   pub chosen_so : (o : Option (List Term)) (ns : List TypeName) (f : F.Node TypeOrigin GroupOrigin) → is_some o ≡ true → Forms (F.Choice ns) f → Forms (L.choice o ns) f
   chosen_so (Some ts) ns f e h = h
@@ -437,6 +445,3 @@ module _ (s : Sense) (t : Table) where
 
   pub entries_walk_ended : (ns : List TypeName) (left : List ℕ) (out : List TypeOrigin) → left ≡ [] → EntriesWalk ns left out → AlikeAll (IsTypeOrigin s t) ns out
   entries_walk_ended ns left out e w = walk_ended EntriesAt (IsTypeOrigin s t) names_of_entries ns left out e w
-
-pub item_of_value : ((w : Literal) (m : Meaning) (x : Value) → Means w m → IsValueOf w x → x ≡ item_of m) → (w v : Literal) (m : Meaning) (o : Option Value) (x : Value) → Answers (IsValueOf w) o → o ≡ Some x → w ≡ v → Means v m → x ≡ item_of m
-item_of_value law w v m o x a e f h = law v m x h (subst (λ y. IsValueOf y x) f (subst (Answers (IsValueOf w)) e a))

@@ -1,5 +1,5 @@
 -- What the nodes of a specification are made from.
-use Rattle.std.specs.Prelude.{◌≡◌, ℕ, Bool, List, Option}
+use Rattle.std.specs.Prelude.{◌≡◌, Bool, List, Option}
 use Rattle.cddl_syntax.specs.Syntax.{Cddl}
 use Rattle.cddl_language.specs.Terms.{Text, Ref, Definition}
 use Rattle.cddl_language.specs.Reading.{definitions_in, rules_of}
@@ -12,6 +12,9 @@ use Rattle.cddl_closed.specs.Closed.{IsClosed}
 use Rattle.cddl_openings.specs.declared.openings.Opening.{Opening}
 use Rattle.cddl_openings.specs.Openings.{AreOpenings}
 use Rattle.cddl_literals.specs.Literals.{AreLiterals}
+use Rattle.cddl_literals.specs.declared.known.Literals.{Literals}
+use Rattle.cddl_sizes.specs.Sizes.{AreSizes}
+use Rattle.cddl_sizes.specs.declared.known.Sizes.{Sizes}
 use Rattle.cddl_choosing.specs.Choosing.{AreChoosable}
 use Rattle.cddl_splices.specs.Parts.{AreParts}
 use Rattle.splices.specs.declared.Part.{Part}
@@ -27,11 +30,12 @@ pub record Sense : Type 0 where
   pub root : Text
   pub refs : List Ref
 
-pub record IsBasis (s : Sense) (t : Table) (c : Closed) (kinds : Kinds) (openings : List Opening) (literals : List (Option ℕ)) (flags : List Bool) (parts : List Part) (summaries : List (Option Summary)) : Type 0 where
+pub record IsBasis (s : Sense) (t : Table) (c : Closed) (kinds : Kinds) (openings : List Opening) (literals : Literals) (sizes : Sizes) (flags : List Bool) (parts : List Part) (summaries : List (Option Summary)) : Type 0 where
   pub closed : IsClosed s.definitions s.root s.refs t c
   pub kinds_are : AreKinds t.texts s.definitions kinds
   pub openings_are : AreOpenings s.definitions t s.refs openings
-  pub literals_are : AreLiterals s.definitions t s.refs literals
+  pub literals_are : AreLiterals s.definitions s.root s.worth t literals
+  pub sizes_are : AreSizes s.definitions s.root s.worth t sizes
   pub choosable : AreChoosable s.definitions s.root t flags
   pub parts_are : AreParts s.definitions s.root t parts
   pub summaries_are : AreSummaries parts summaries
@@ -39,4 +43,4 @@ pub record IsBasis (s : Sense) (t : Table) (c : Closed) (kinds : Kinds) (opening
   pub right : AreRight s.tree s.worth
 
 abbrev pub IsSource : Sense → Table → Source → Type 0
-IsSource s t src = IsBasis s t src.closed.now src.kinds.now src.openings.now src.literals.now src.choosable.now src.parts.now src.summaries.now
+IsSource s t src = IsBasis s t src.closed.now src.kinds.now src.openings.now src.literals.now src.sizes.now src.choosable.now src.parts.now src.summaries.now

@@ -16,6 +16,7 @@ mod numbers;
 mod origin;
 mod search;
 mod shape;
+mod sizes;
 mod source;
 mod store;
 mod texts;

@@ -1,98 +1,73 @@
-//! The values of literals.
+//! The literals that rows are, written or computed.
 
-ghost use Rattle.std.specs.Prelude.{◌≡◌, IfOk, IfSome};
+ghost use Rattle.std.specs.Prelude.{◌≡◌, IfOk};
 ghost use Rattle.std.specs.Option.{option_map};
 ghost use Rattle.cbor_item.specs.View.{view};
-ghost use Rattle.cddl_literal.specs.Numbers.{Meaning};
-ghost use Rattle.cddl_language.specs.Terms as L;
-ghost use Rattle.cddl_language.specs.Terms.{Term};
 ghost use Rattle.cddl_language.specs.Literals as V;
-ghost use Rattle.cddl_language.specs.Literals.{item_of};
-ghost use Rattle.cddl_terms.specs.Trees.{IsTerm};
+ghost use Rattle.cddl_literal.specs.Literals.{view as meaning_of};
+ghost use Rattle.cddl_literals.specs.Literals.{literal_at};
 ghost use Rattle.cddl_table.specs.Nodes.{whole_view};
-ghost use Rattle.cddl_values.specs.Values.{literal_of};
-ghost use Rattle.cddl_nodes.specs.Basis.{IsSource, Sense};
 ghost use Rattle.cddl_nodes.specs.Forms.{type_form_view};
-ghost use Rattle.cddl_nodes.specs.Lookups.{between_view};
-ghost use Rattle.cddl_nodes.specs.Origins.{IsKnown, IsTermForm};
+ghost use Rattle.cddl_nodes.specs.Lookups.{between_view, equal_view};
 
-use crate::form::TypeForm;
+use crate::form::{TypeForm, nothing};
 use crate::source::Source;
 use cbor_item::Item;
-use cddl_literals::literal_row;
+use cddl_literal::Literal;
 use cddl_table::{Test, Whole};
-use cddl_terms::laws::equal_numbers;
-use cddl_terms::{Form, NoRoom, Terms};
-use cddl_values::{Written, one_value, value_of, whole_of};
-use cddl_written::written_value;
+use cddl_terms::NoRoom;
+use cddl_values::{item_of, whole_of};
 use std::alloc::Global;
 
-/// The literal of the row.
-fn written_at<'s>(terms: &Terms<'s>, number: u32) -> Option<Written<'s>>
-    ensures { IfSome result (λ w. (v : L.Literal) → IsTerm terms.now number (L.literal v) → literal_of w ≡ v) }
+/// The item that a literal stands for.
+pub(crate) fn item_from(alloc: Global, literal: &Literal) -> Result<Item, NoRoom>
+    ensures { IfOk result (λ i. view i ≡ V.item_of (meaning_of literal.now)) }
 {
-    let row = terms.row(number)?;
-    let text = terms.text(row.text?)?;
-    match row.form {
-        Form::Number => Some(Written::Number(text)),
-        Form::Text => Some(Written::Text(text)),
-        Form::Bytes => Some(Written::Bytes(text)),
-        _ => None,
+    match item_of(alloc, literal) {
+        Ok(item) => Ok(item),
+        Err(_) => Err(NoRoom),
     }
 }
 
-/// The value of the row's literal.
-pub(crate) fn item_at(alloc: Global, terms: &Terms<'_>, number: u32) -> Result<Item, NoRoom>
-    ensures { IfOk result (λ i. (v : L.Literal) (m : Meaning) → V.Means v m → IsTerm terms.now number (L.literal v) → view i ≡ item_of m) }
+/// The literal that the row is and nothing else, where it is one.
+pub(crate) fn equal_form(alloc: Global, source: &Source<'_>, row: u32) -> Result<TypeForm, NoRoom>
+    ensures { IfOk result (λ f. type_form_view f ≡ equal_view (literal_at source.now.literals.now row)) }
 {
-    one_value();
-    let Some(written) = written_at(terms, number) else {
-        return Err(NoRoom);
-    };
-    let Ok(value) = value_of(alloc, written) else {
-        return Err(NoRoom);
-    };
-    match value {
-        Some(item) => Ok(item),
-        None => Err(NoRoom),
-    }
-}
-
-/// The whole number that a type is, if it is one.
-fn whole_at(
-    alloc: Global,
-    terms: &Terms<'_>,
-    source: &Source<'_>,
-    row: u32,
-) -> Result<Option<Whole>, NoRoom>
-    ensures { IfOk result (λ o. (s : Sense) (x : Term) → IsSource s terms.now source.now → IsTerm terms.now row x → IsKnown s x → option_map whole_view o ≡ V.whole_of s.worth s.definitions x) }
-{
-    equal_numbers(terms);
-    written_value();
-    match literal_row(terms, source.closed, source.literals, row) {
-        Some(written) => {
-            let item = item_at(alloc, terms, written)?;
-            let whole = whole_of(&item);
-            Ok(whole)
+    match source.literals.get(row) {
+        Some(literal) => {
+            let item = item_from(alloc, literal)?;
+            Ok(TypeForm::Plain(Test::Equals(item)))
         }
-        None => Ok(None),
+        None => Ok(nothing(alloc)),
     }
 }
 
-/// From one whole number to another, where both types are whole numbers.
+/// The whole number that a row is, if it is one.
+fn whole_at(source: &Source<'_>, row: u32) -> Option<Whole>
+    ensures { option_map whole_view result ≡ V.whole (literal_at source.now.literals.now row) }
+{
+    match source.literals.get(row) {
+        Some(literal) => whole_of(literal),
+        None => None,
+    }
+}
+
+/// From one whole number to another, where both rows are whole numbers.
 pub(crate) fn range_form(
     alloc: Global,
-    terms: &Terms<'_>,
     source: &Source<'_>,
     least: u32,
     last: u32,
     closed: bool,
-) -> Result<TypeForm, NoRoom>
-    ensures { IfOk result (λ f. (s : Sense) (a b : Term) → IsSource s terms.now source.now → IsTerm terms.now least a → IsTerm terms.now last b → IsKnown s (L.range a closed b) → IsTermForm s terms.now (L.range a closed b) f) }
+) -> TypeForm
+    ensures { type_form_view result ≡ between_view closed (V.whole (literal_at source.now.literals.now least)) (V.whole (literal_at source.now.literals.now last)) }
 {
-    let least = whole_at(alloc, terms, source, least)?;
-    let last = whole_at(alloc, terms, source, last)?;
-    Ok(between_form(alloc, least, last, closed))
+    between_form(
+        alloc,
+        whole_at(source, least),
+        whole_at(source, last),
+        closed,
+    )
 }
 
 fn between_form(alloc: Global, least: Option<Whole>, last: Option<Whole>, closed: bool) -> TypeForm
@@ -104,6 +79,6 @@ fn between_form(alloc: Global, least: Option<Whole>, last: Option<Whole>, closed
             last,
             closed,
         }),
-        _ => TypeForm::Choice(Vec::new(alloc)),
+        _ => nothing(alloc),
     }
 }

@@ -1,6 +1,8 @@
 use cddl_closed::Closed;
 use cddl_kinds::Kinds;
+use cddl_literals::Literals;
 use cddl_openings::Opening;
+use cddl_sizes::Sizes;
 use splices::{Part, Summary};
 
 /// What is known of the instances of a specification and of the rows of its terms.
@@ -12,8 +14,10 @@ pub struct Source<'a> {
     pub kinds: &'a Kinds,
     /// What `~` of each instance opens, by its place.
     pub openings: &'a [Opening],
-    /// The row of the literal that each instance is, if it is one, by its place.
-    pub literals: &'a [Option<u32>],
+    /// The literals that the rows are, written or computed.
+    pub literals: &'a Literals,
+    /// The members of the controllers of `.size`, by their rows.
+    pub sizes: &'a Sizes,
     /// For each row whether `&` can choose from the group that it is.
     pub choosable: &'a [bool],
     /// What each row says in the group of a map.

@@ -4,16 +4,16 @@ ghost use Rattle.std.specs.Prelude.{◌≡◌, IfOk, List, Some, [], option_map,
 ghost use Rattle.cddl_meaning.specs.Forms as F;
 ghost use Rattle.cddl_language.specs.Choices.{can_choose};
 ghost use Rattle.cddl_language.specs.Language.{TypeName};
-ghost use Rattle.cddl_language.specs.Literals.{literal_of};
 ghost use Rattle.cddl_language.specs.Reach.{points};
 ghost use Rattle.cddl_language.specs.Terms as L;
 ghost use Rattle.cddl_language.specs.Terms.{Entries, Group, Ref, Term, Text};
 ghost use Rattle.cddl_closed.specs.Closed.{AreAlternatives};
+ghost use Rattle.cddl_literals.specs.Literals.{literal_at};
+ghost use Rattle.cddl_sizes.specs.Sizes.{sizes_at};
 ghost use Rattle.cddl_terms.specs.Table.{Table};
 ghost use Rattle.cddl_table.specs.Nodes.{content_view};
 ghost use Rattle.cddl_texts.specs.Controls.{control_view};
 ghost use Rattle.cddl_terms.specs.Trees.{IsGroup, IsRef, IsTerm};
-ghost use Rattle.cddl_written.specs.Written.{IsMeant};
 ghost use Rattle.cddl_nodes.specs.Basis.{IsSource, Sense};
 ghost use Rattle.cddl_nodes.specs.Forms.{type_form_view};
 ghost use Rattle.cddl_nodes.specs.Lookups.{control_form_view, is_flagged, opened_view};
@@ -26,17 +26,18 @@ use crate::comparisons::comparison_form;
 use crate::form::{TagForm, TypeForm, nothing};
 use crate::laws::known_instances;
 use crate::lists::row_origins;
-use crate::literals::{item_at, range_form};
+use crate::literals::{equal_form, range_form};
 use crate::maps::{map_form, word_form};
 use crate::origin::{GroupOrigin, TypeOrigin};
 use crate::shape::{Shape, shape_at};
+use crate::sizes::size_form;
 use crate::source::Source;
 use crate::texts::{control_at, hash_at, tag_at};
 use cddl_closed::choices;
 use cddl_closed::laws::meaning_at;
 use cddl_openings::Opening;
 use cddl_openings::laws::opening_stands;
-use cddl_table::{Content, Test};
+use cddl_table::Content;
 use cddl_terms::{NoRoom, Terms};
 use cddl_texts::Control;
 use std::alloc::Global;
@@ -68,7 +69,7 @@ fn row_form(
     ensures { IfOk result (λ f. (s : Sense) (x : Term) → IsSource s terms.now source.now → IsTerm terms.now row x → IsKnown s x → IsTermForm s terms.now x f) }
 {
     match shape_at(terms, row) {
-        Shape::Literal => literal_form(alloc, terms, row),
+        Shape::Literal => equal_form(alloc, source, row),
         Shape::Named(call) => named_form(alloc, terms, source, call),
         Shape::Parens(part) => Ok(TypeForm::Ref(TypeOrigin::Row(part))),
         Shape::MapOf(group) => map_form(alloc, terms, source, group),
@@ -83,19 +84,14 @@ fn row_form(
         )),
         Shape::SimpleBy(head) => Ok(TypeForm::SimpleBy(TypeOrigin::Row(head))),
         Shape::Hash(text) => hash_form(terms, text),
-        Shape::Range(least, last) => range_form(alloc, terms, source, least, last, true),
-        Shape::RangeBelow(least, last) => range_form(alloc, terms, source, least, last, false),
+        Shape::Range(least, last) => Ok(range_form(alloc, source, least, last, true)),
+        Shape::RangeBelow(least, last) => Ok(range_form(alloc, source, least, last, false)),
         Shape::Or => or_form(alloc, terms, row),
-        Shape::Control(name, left, right) => control_form(alloc, terms, source, name, left, right),
+        Shape::Control(name, left, right) => {
+            control_form(alloc, terms, source, row, name, left, right)
+        }
         Shape::Other => Ok(nothing(alloc)),
     }
-}
-
-fn literal_form(alloc: Global, terms: &Terms<'_>, row: u32) -> Result<TypeForm, NoRoom>
-    ensures { IfOk result (λ f. (s : Sense) (v : L.Literal) → IsMeant s.worth v → IsTerm terms.now row (L.literal v) → IsTermForm s terms.now (L.literal v) f) }
-{
-    let item = item_at(alloc, terms, row)?;
-    Ok(TypeForm::Plain(Test::Equals(item)))
 }
 
 /// What the name of a type means. The name of a group is no type.
@@ -232,30 +228,31 @@ fn or_form(alloc: Global, terms: &Terms<'_>, row: u32) -> Result<TypeForm, NoRoo
 }
 
 /// What a control asks: the type on its left, and the controller of the same item or of what a byte string holds, if at all, or how
-/// the item compares with it.
+/// the item compares with it, or what size it has, or that it is the literal that is computed from both sides.
 fn control_form(
     alloc: Global,
     terms: &Terms<'_>,
     source: &Source<'_>,
+    row: u32,
     name: u32,
     left: u32,
     right: u32,
 ) -> Result<TypeForm, NoRoom>
-    ensures { IfOk result (λ f. (s : Sense) (n : Text) (a b : Term) → IsSource s terms.now source.now → slice_get terms.now.texts name ≡ Some n → IsTerm terms.now left a → IsTerm terms.now right b → IsKnown s (L.control a n b) → IsTermForm s terms.now (L.control a n b) f) }
+    ensures { IfOk result (λ f. (s : Sense) (n : Text) (a b : Term) → IsSource s terms.now source.now → IsTerm terms.now row (L.control a n b) → slice_get terms.now.texts name ≡ Some n → IsTerm terms.now left a → IsTerm terms.now right b → IsKnown s (L.control a n b) → IsTermForm s terms.now (L.control a n b) f) }
 {
     let control = control_at(terms, name);
-    known_form(alloc, terms, source, control, left, right)
+    known_form(alloc, source, control, row, left, right)
 }
 
 fn known_form(
     alloc: Global,
-    terms: &Terms<'_>,
     source: &Source<'_>,
     control: Option<Control>,
+    row: u32,
     left: u32,
     right: u32,
 ) -> Result<TypeForm, NoRoom>
-    ensures { IfOk result (λ f. (s : Sense) (b : Term) → IsSource s terms.now source.now → IsTerm terms.now right b → IsKnown s b → type_form_view f ≡ control_form_view (option_map control_view control) left right (literal_of s.worth s.definitions b)) }
+    ensures { IfOk result (λ f. type_form_view f ≡ control_form_view (option_map control_view control) left right (literal_at source.now.literals.now right) (literal_at source.now.literals.now row) (sizes_at source.now.sizes.now right)) }
 {
     match control {
         Some(Control::LeftAlone) => Ok(TypeForm::Ref(TypeOrigin::Row(left))),
@@ -263,9 +260,11 @@ fn known_form(
         Some(Control::HeldItem) => Ok(holding(left, Content::OneItem, right)),
         Some(Control::HeldSequence) => Ok(holding(left, Content::Sequence, right)),
         Some(Control::Compared(comparison)) => {
-            comparison_form(alloc, terms, source, comparison, left, right)
+            comparison_form(alloc, source, comparison, left, right)
         }
-        Some(Control::ByValue) | None => Ok(nothing(alloc)),
+        Some(Control::Sized) => size_form(alloc, source, left, right),
+        Some(Control::Computed(_)) => equal_form(alloc, source, row),
+        None => Ok(nothing(alloc)),
     }
 }
 

@@ -1,19 +1,20 @@
 -- What is told of the rows that were asked of is told of the ends of the ranges that are reached.
-use Rattle.std.proofs.Common.{◌≡◌, ℕ, Bool, true, false, if◌then◌else◌, List, Some, None, sym, subst, ◌∙◌}
+use Rattle.std.proofs.Common.{◌≡◌, ℕ, Bool, true, false, if◌then◌else◌, List, None, refl, sym, ap, subst, ◌∙◌, true≢false}
 use Rattle.std.specs.List.{Contains}
 use Rattle.cddl_syntax.specs.Syntax as S
-use Rattle.cddl_language.specs.Controls.{Comparison, is_ordering}
+use Rattle.cddl_language.specs.Controls.{Comparison, Computation, is_ordering, join, sum}
 use Rattle.cddl_language.specs.Faults.{IsNotWhole, Specification, definitions, is_range_sign, operand_at, rules}
-use Rattle.cddl_language.specs.Literals.{Means, Values, literal_of, whole_of}
+use Rattle.cddl_language.specs.Literals.{Values, whole_of}
 use Rattle.cddl_language.specs.Reach.{Point, Reaches, points, ref_at}
 use Rattle.cddl_language.specs.Reading.{parameters_in, term_of2}
 use Rattle.cddl_language.specs.Sites.{IsReached, an_operation}
 use Rattle.cddl_language.specs.Substitution.{fill}
-use Rattle.cddl_language.specs.Terms.{Literal, Term, Text}
+use Rattle.cddl_language.specs.Terms.{Term, Text}
 use Rattle.cddl_written.specs.Written.{AllIn, IsMeant}
 use Rattle.cddl_terms.specs.Table.{Table}
 use Rattle.cddl_terms.specs.Trees.{IsTerm}
 use Rattle.cddl_reached.specs.declared.asked.Asked.{Asked}
+use Rattle.cddl_reached.specs.declared.asked.Question.{Question}
 use Rattle.cddl_reached.specs.declared.asked.Question.TheVariants as QuestionV
 use Rattle.cddl_reached.specs.Asked as A
 use Rattle.cddl_reached.specs.Asked.{AreAsked, IsAsked}
@@ -32,34 +33,46 @@ pub record Laws (s : Specification) (worth : Values) (root : Text) : Type 0 wher
   pub last : (r : S.Rule) (xs : List Term) (x y : S.Type2) (o : S.Operator) (p : Point) → IsReached (rules s) root r xs (an_operation x o y) → Contains (points (fill (parameters_in r) xs (term_of2 y))) p → Reaches (definitions s) root (ref_at p)
   pub first_values : (r : S.Rule) (xs : List Term) (x y : S.Type2) (o : S.Operator) → IsReached (rules s) root r xs (an_operation x o y) → AllIn (IsMeant worth) (fill (parameters_in r) xs (term_of2 x))
   pub last_values : (r : S.Rule) (xs : List Term) (x y : S.Type2) (o : S.Operator) → IsReached (rules s) root r xs (an_operation x o y) → AllIn (IsMeant worth) (fill (parameters_in r) xs (term_of2 y))
-  pub written : (t : Term) (v : Literal) → AllIn (IsMeant worth) t → ((w : Values) → literal_of w (definitions s) t ≡ Some (w v)) → Means v (worth v)
+
+-- No other question is whether a type is a whole number: not that of a controller, nor that of an operand.
+
+abbrev asks_whole : Question → Bool
+asks_whole QuestionV.IsWhole = true
+asks_whole _ = false
+
+other : (q : Question) → asks_whole q ≡ false → q ≡ QuestionV.IsWhole → ⊥
+other q e g = true≢false (sym (ap asks_whole g) ∙ e)
+
+no_end : (c : Comparison) → A.comparand_question c ≡ QuestionV.IsWhole → ⊥
+no_end c e = by (is_ordering c) e
+  where
+    by : (b : Bool) → (if b then QuestionV.IsNumber else QuestionV.IsLiteral) ≡ QuestionV.IsWhole → ⊥
+    by true g = other QuestionV.IsNumber refl g
+    by false g = other QuestionV.IsLiteral refl g
+
+no_operand : (c : Computation) → A.operand_question c ≡ QuestionV.IsWhole → ⊥
+no_operand sum e = other QuestionV.IsAddend refl e
+no_operand (join j) e = other QuestionV.IsString refl e
 
 module _ (s : Specification) (worth : Values) (root : Text) (t : Table) (laws : Laws s worth root) where
-  -- what is asked of a controller is not whether it is whole
-  no_end : (c : Comparison) → A.comparand_question c ≡ QuestionV.IsWhole → ⊥
-  no_end c e = by (is_ordering c) e
-    where
-      by : (b : Bool) → (if b then QuestionV.IsNumber else QuestionV.IsLiteral) ≡ QuestionV.IsWhole → ⊥
-      by true g = cc
-      by false g = cc
-
   -- the row of an end
   end_there : (a : Asked) → IsAsked (rules s) root t a → AsksWhole a → IsEnd (definitions s) root worth t a.row
-  end_there a (A.choosing h is e q) asks = cc
-  end_there a (A.choosing_by_name h is e q) asks = cc
-  end_there a (A.of_map h is e q) asks = cc
+  end_there a (A.choosing h is e q) asks = absurd (other QuestionV.ChoosesFrom refl (sym q ∙ asks))
+  end_there a (A.choosing_by_name h is e q) asks = absurd (other QuestionV.ChoosesByName refl (sym q ∙ asks))
+  end_there a (A.of_map h is e q) asks = absurd (other QuestionV.MapGroup refl (sym q ∙ asks))
   end_there a (A.controller {c = c} h o is e q) asks = absurd (no_end c (sym q ∙ asks))
+  end_there a (A.size_controller h o is e q) asks = absurd (other QuestionV.HasSizes refl (sym q ∙ asks))
+  end_there a (A.left_operand {c = c} h o is e q) asks = absurd (no_operand c (sym q ∙ asks))
+  end_there a (A.computation h o is e q) asks = absurd (other QuestionV.Computes refl (sym q ∙ asks))
   end_there a (A.first_end {r = r} {xs = xs} {x = x} {y = y} {o = o} h z is e q) asks = record {
     end = fill (parameters_in r) xs (term_of2 x);
     row = is;
-    reached = λ p c. laws.first r xs x y o p h c;
-    meant = λ v k. laws.written (fill (parameters_in r) xs (term_of2 x)) v (laws.first_values r xs x y o h) k;
+    known = (λ p c. laws.first r xs x y o p h c, laws.first_values r xs x y o h);
   }
   end_there a (A.last_end {r = r} {xs = xs} {x = x} {y = y} {o = o} h z is e q) asks = record {
     end = fill (parameters_in r) xs (term_of2 y);
     row = is;
-    reached = λ p c. laws.last r xs x y o p h c;
-    meant = λ v k. laws.written (fill (parameters_in r) xs (term_of2 y)) v (laws.last_values r xs x y o h) k;
+    known = (λ p c. laws.last r xs x y o p h c, laws.last_values r xs x y o h);
   }
 
   module _ (asked : List Asked) (are : AreAsked (rules s) root t asked) where
@@ -71,19 +84,13 @@ module _ (s : Specification) (worth : Values) (root : Text) (t : Table) (laws : 
       same_whole n x y h k e = subst (λ z. whole_of worth (definitions s) z ≡ None) (one n x y h k) e
 
       at_asked : (a : Asked) (at : ℕ) → IsAsked (rules s) root t a → IsBadEnd (definitions s) worth t a at → IsAtEnd s worth root at
-      at_asked a at (A.choosing h is e q) bad = absurd (other (sym q ∙ bad.asked))
-        where
-          other : QuestionV.ChoosesFrom ≡ QuestionV.IsWhole → ⊥
-          other e = cc
-      at_asked a at (A.choosing_by_name h is e q) bad = absurd (other (sym q ∙ bad.asked))
-        where
-          other : QuestionV.ChoosesByName ≡ QuestionV.IsWhole → ⊥
-          other e = cc
-      at_asked a at (A.of_map h is e q) bad = absurd (other (sym q ∙ bad.asked))
-        where
-          other : QuestionV.MapGroup ≡ QuestionV.IsWhole → ⊥
-          other e = cc
+      at_asked a at (A.choosing h is e q) bad = absurd (other QuestionV.ChoosesFrom refl (sym q ∙ bad.asked))
+      at_asked a at (A.choosing_by_name h is e q) bad = absurd (other QuestionV.ChoosesByName refl (sym q ∙ bad.asked))
+      at_asked a at (A.of_map h is e q) bad = absurd (other QuestionV.MapGroup refl (sym q ∙ bad.asked))
       at_asked a at (A.controller {c = c} h e is at_start q) bad = absurd (no_end c (sym q ∙ bad.asked))
+      at_asked a at (A.size_controller h s is e q) bad = absurd (other QuestionV.HasSizes refl (sym q ∙ bad.asked))
+      at_asked a at (A.left_operand {c = c} h s is e q) bad = absurd (no_operand c (sym q ∙ bad.asked))
+      at_asked a at (A.computation h s is e q) bad = absurd (other QuestionV.Computes refl (sym q ∙ bad.asked))
       at_asked a at (A.first_end {r = r} {xs = xs} {x = x} {y = y} {o = o} h z is e q) bad = at_first_end {r = r} {xs = xs} {x = x} {y = y} {o = o} h z (same_whole a.row bad.end (fill (parameters_in r) xs (term_of2 x)) bad.row is bad.not_whole) (bad.offset ∙ e)
       at_asked a at (A.last_end {r = r} {xs = xs} {x = x} {y = y} {o = o} h z is e q) bad = at_last_end {r = r} {xs = xs} {x = x} {y = y} {o = o} h z (same_whole a.row bad.end (fill (parameters_in r) xs (term_of2 y)) bad.row is bad.not_whole) (bad.offset ∙ e)
 

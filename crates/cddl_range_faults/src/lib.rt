@@ -4,11 +4,10 @@
 mod bounds;
 mod ends;
 
-ghost use Rattle.std.specs.Prelude.{◌≡◌, List};
-ghost use Rattle.cddl_closed.specs.Closed.{IsClosed};
+ghost use Rattle.std.specs.Prelude.{◌≡◌};
 ghost use Rattle.cddl_language.specs.Faults.{HasBadRange, Specification, definitions, rules};
 ghost use Rattle.cddl_language.specs.Literals.{AreRight, AreTokens, Values};
-ghost use Rattle.cddl_language.specs.Terms.{Ref, Text};
+ghost use Rattle.cddl_language.specs.Terms.{Text};
 ghost use Rattle.cddl_literals.specs.Literals.{AreLiterals};
 ghost use Rattle.cddl_live.specs.Live.{IsClear};
 ghost use Rattle.cddl_reached.specs.Asked.{AreAsked};
@@ -18,9 +17,9 @@ ghost use Rattle.cddl_tree.specs.View.{token_of, view};
 
 use crate::bounds::bad_bounds;
 use crate::ends::bad_end;
-use cddl_closed::Closed;
 use cddl_language::numbers_are_spelled;
 use cddl_literal::ends_in_ascii;
+use cddl_literals::Literals;
 use cddl_live::reached_parts;
 use cddl_reached::Asked;
 use cddl_sites::Found;
@@ -28,7 +27,7 @@ use cddl_survey::lesser;
 use cddl_terms::Terms;
 use cddl_terms::laws::equal_numbers;
 use cddl_tree::Tree;
-use cddl_written::{operand_values, site_tokens, written_value};
+use cddl_written::{operand_values, site_tokens};
 
 /// The least offset of an end of a range that is no whole number (RFC 8610 section 2.2.2.1), or of an occurrence with a minimum
 /// over its maximum (section 3.2).
@@ -38,20 +37,18 @@ use cddl_written::{operand_values, site_tokens, written_value};
 pub fn bad_range(
     terms: &Terms<'_>,
     tree: &Tree<'_>,
-    closed: &Closed,
-    literals: &[Option<u32>],
+    literals: &Literals,
     asked: &[Asked],
     reached: &[Found<'_>],
 ) -> Option<usize>
-    ensures { (s : Specification) (root : Text) (refs : List Ref) (worth : Values) → s.tree ≡ view tree.now → AreTokens s.tree → AreRight s.tree worth → IsClear s → AreReachedSites (rules s) root (token_of tree.now) reached.now → IsClosed (definitions s) root refs terms.now closed.now → AreLiterals (definitions s) terms.now refs literals.now → AreAsked (rules s) root terms.now asked.now → IsLeast (HasBadRange s worth root) result }
+    ensures { (s : Specification) (root : Text) (worth : Values) → s.tree ≡ view tree.now → AreTokens s.tree → AreRight s.tree worth → IsClear s → AreReachedSites (rules s) root (token_of tree.now) reached.now → AreLiterals (definitions s) root worth terms.now literals.now → AreAsked (rules s) root terms.now asked.now → IsLeast (HasBadRange s worth root) result }
 {
     equal_numbers(terms);
     reached_parts();
     operand_values();
-    written_value();
     site_tokens();
     numbers_are_spelled();
     ends_in_ascii();
-    let end = bad_end(terms, closed, literals, asked);
+    let end = bad_end(terms, literals, asked);
     lesser(end, bad_bounds(tree, reached))
 }

@@ -1,11 +1,12 @@
 -- What was asked, site by site, is what is to be asked.
-use Rattle.std.proofs.Common.{◌≡◌, Bool, true, false, if◌then◌else◌, List, [], ◌∷◌, ◌++◌, ◌⊎◌, inl, inr, Option, Some, None, option_map, slice_get, true≢false, refl, sym, ap, subst, ◌∙◌}
+use Rattle.std.proofs.Common.{◌≡◌, true, List, [], ◌∷◌, ◌++◌, ◌⊎◌, inl, inr, Option, Some, None, option_map, slice_get, true≢false, refl, sym, ap, subst, ◌∙◌}
+use Rattle.std.proofs.lemmas.Option.{same_Some}
 use Rattle.cddl_token.specs.declared.Token.{Token}
 use Rattle.cddl_syntax.specs.Syntax as S
 use Rattle.cddl_tree.specs.declared.tree.Leaf.{Leaf}
-use Rattle.cddl_language.specs.Controls.{Comparison}
-use Rattle.cddl_language.specs.Faults.{Specification, comparison_of, definitions, is_range_sign, rules}
-use Rattle.cddl_language.specs.Reading.{group_of, name_in, parameters_in, ref_of, term_of2}
+use Rattle.cddl_language.specs.Controls.{Comparison, Computation, Control, compared, comparison_in, computation_in, computed, control_of, held_item, held_sequence, is_sized, left_alone, left_and_right, sized}
+use Rattle.cddl_language.specs.Faults.{Specification, asks_size, comparison_of, computation_of, definitions, is_range_sign, rules}
+use Rattle.cddl_language.specs.Reading.{control_name, group_of, name_in, operation, parameters_in, ref_of, term_of2}
 use Rattle.cddl_language.specs.Sites.{IsReached, Site, a_name, an_unwrapping, a_choice_of, a_choice_of_name, a_hash, an_operation, an_entry, a_map}
 use Rattle.cddl_language.specs.StandsFor.{AreInstances}
 use Rattle.cddl_language.specs.Substitution.{fill, fill_entry, fill_group, fill_ref}
@@ -20,7 +21,7 @@ use Rattle.cddl_reached.specs.Calls.{refs_named}
 use Rattle.cddl_reached.specs.Reached.{AreReachedSites}
 use Rattle.cddl_reached.specs.declared.asked.Asked.{Asked}
 use Rattle.cddl_reached.specs.declared.asked.Question.TheVariants as QuestionV
-use Rattle.cddl_reached.specs.Asked.{AreAnswers, no_answers, further_answer, AreAsked, IsAnswer, IsAsked, choosing, choosing_by_name, controller, first_end, last_end, of_map, Wanted, WasAsked, comparand_question, end_of, first_part, last_part, operand_wanted, question_by, wanted_all, wanted_at, wanted_by, wanted_each, wanted_in, wanted_some, wanted_there}
+use Rattle.cddl_reached.specs.Asked.{AreAnswers, no_answers, further_answer, AreAsked, IsAnswer, IsAsked, choosing, choosing_by_name, computation, controller, first_end, last_end, left_operand, of_map, size_controller, Wanted, WasAsked, comparand_question, computation_wanted, controller_wanted, end_of, first_part, last_part, operand_question, operand_wanted, question_of_operand, wanted_all, wanted_at, wanted_by, wanted_each, wanted_in, wanted_some, wanted_there}
 use Rattle.cddl_reached.proofs.Lists.{IsIn, contained_place, contains, in_either, in_first, in_second, is_in}
 use Rattle.cddl_reached.proofs.Reaching.{Laws, instance_of, ref_of_instance}
 
@@ -69,6 +70,19 @@ pub record Trees : Type 0 where
 
 -- What is asked at a site of the rule, of these references.
 module _ (trees : Trees) (rs : List S.Rule) (root : Text) (t : Table) (r : S.Rule) (refs : List Ref) where
+  -- of the first end of a range
+  first_asked : (x y : S.Type2) (o : S.Operator) → is_range_sign o ≡ true → ((i : Ref) → IsIn i refs → IsReached rs root r (arguments_of i) (an_operation x o y)) → (a : Asked) (w : Wanted) → IsIn w (wanted_each (parameters_in r) (end_of x) refs) → IsAnswer t a w → IsAsked rs root t a
+  first_asked x y o g reach a w m k =
+      let e = in_each (parameters_in r) w (end_of x) refs m in
+      first_end {x = x} {y = y} {o = o} (reach e.0 e.1.0) g (subst (Holds t (Some a.row)) (ap (λ (v : Wanted). v.tree) e.1.1 ∙ trees.term (parameters_in r) (arguments_of e.0) (term_of2 x)) k.holds) (k.at ∙ ap (λ (v : Wanted). v.at) e.1.1) (k.question ∙ ap (λ (v : Wanted). v.question) e.1.1)
+
+  -- of the left side of a control, by how it computes
+  left_asked : (x y : S.Type2) (u : Token) (o : Option Computation) → computation_of (S.control u) ≡ o → ((i : Ref) → IsIn i refs → IsReached rs root r (arguments_of i) (an_operation x (S.control u) y)) → (a : Asked) (w : Wanted) → IsIn w (wanted_some (parameters_in r) (option_map (operand_wanted x) (question_of_operand o)) refs) → IsAnswer t a w → IsAsked rs root t a
+  left_asked x y u None g reach a w m k = absurd m
+  left_asked x y u (Some c) g reach a w m k =
+      let e = in_each (parameters_in r) w (operand_wanted x (operand_question c)) refs m in
+      left_operand {x = x} {y = y} {o = S.control u} {c = c} (reach e.0 e.1.0) g (subst (Holds t (Some a.row)) (ap (λ (v : Wanted). v.tree) e.1.1 ∙ trees.term (parameters_in r) (arguments_of e.0) (term_of2 x)) k.holds) (k.at ∙ ap (λ (v : Wanted). v.at) e.1.1) (k.question ∙ ap (λ (v : Wanted). v.question) e.1.1)
+
   asked_first : (p : Site) → ((i : Ref) → IsIn i refs → IsReached rs root r (arguments_of i) p) → (a : Asked) (w : Wanted) → IsIn w (wanted_some (parameters_in r) (first_part p) refs) → IsAnswer t a w → IsAsked rs root t a
   asked_first (a_name b f) reach a w h k = absurd h
   asked_first (an_unwrapping b u f) reach a w h k = absurd h
@@ -79,13 +93,9 @@ module _ (trees : Trees) (rs : List S.Rule) (root : Text) (t : Table) (r : S.Rul
       let e = in_each (parameters_in r) w (record { at = u.start; question = QuestionV.ChoosesByName; tree = ref_tree (ref_of f); call = nothing }) refs h in
       choosing_by_name {u = u} {f = f} (reach e.0 e.1.0) (subst (Holds t (Some a.row)) (ap (λ (v : Wanted). v.tree) e.1.1 ∙ trees.reference (parameters_in r) (arguments_of e.0) (ref_of f)) k.holds) (k.at ∙ ap (λ (v : Wanted). v.at) e.1.1) (k.question ∙ ap (λ (v : Wanted). v.question) e.1.1)
   asked_first (a_hash u) reach a w h k = absurd h
-  asked_first (an_operation x o y) reach a w h k = by (is_range_sign o) refl h
-    where
-      by : (b : Bool) → is_range_sign o ≡ b → IsIn w (wanted_some (parameters_in r) (if b then Some (end_of x) else None) refs) → IsAsked rs root t a
-      by true g m =
-          let e = in_each (parameters_in r) w (end_of x) refs m in
-          first_end {x = x} {y = y} {o = o} (reach e.0 e.1.0) g (subst (Holds t (Some a.row)) (ap (λ (v : Wanted). v.tree) e.1.1 ∙ trees.term (parameters_in r) (arguments_of e.0) (term_of2 x)) k.holds) (k.at ∙ ap (λ (v : Wanted). v.at) e.1.1) (k.question ∙ ap (λ (v : Wanted). v.question) e.1.1)
-      by false g m = absurd m
+  asked_first (an_operation x (S.range u) y) reach a w h k = first_asked x y (S.range u) refl reach a w h k
+  asked_first (an_operation x (S.range_below u) y) reach a w h k = first_asked x y (S.range_below u) refl reach a w h k
+  asked_first (an_operation x (S.control u) y) reach a w h k = left_asked x y u (computation_of (S.control u)) refl reach a w h k
   asked_first (an_entry e) reach a w h k = absurd h
   asked_first (a_map u g) reach a w h k =
       let e = in_each (parameters_in r) w (record { at = u.start; question = QuestionV.MapGroup; tree = group_tree (group_of g); call = nothing }) refs h in
@@ -97,6 +107,23 @@ module _ (trees : Trees) (rs : List S.Rule) (root : Text) (t : Table) (r : S.Rul
       let e = in_each (parameters_in r) w (end_of y) refs m in
       last_end {x = x} {y = y} {o = o} (reach e.0 e.1.0) g (subst (Holds t (Some a.row)) (ap (λ (v : Wanted). v.tree) e.1.1 ∙ trees.term (parameters_in r) (arguments_of e.0) (term_of2 y)) k.holds) (k.at ∙ ap (λ (v : Wanted). v.at) e.1.1) (k.question ∙ ap (λ (v : Wanted). v.question) e.1.1)
 
+  -- of the right side of a control, by what it is
+  right_asked : (x y : S.Type2) (u : Token) (o : Option Control) → control_of (control_name u) ≡ o → ((i : Ref) → IsIn i refs → IsReached rs root r (arguments_of i) (an_operation x (S.control u) y)) → (a : Asked) (w : Wanted) → IsIn w (wanted_some (parameters_in r) (controller_wanted x (S.control u) y o) refs) → IsAnswer t a w → IsAsked rs root t a
+  right_asked x y u None g reach a w m k = absurd m
+  right_asked x y u (Some left_alone) g reach a w m k = absurd m
+  right_asked x y u (Some left_and_right) g reach a w m k = absurd m
+  right_asked x y u (Some held_item) g reach a w m k = absurd m
+  right_asked x y u (Some held_sequence) g reach a w m k = absurd m
+  right_asked x y u (Some (compared c)) g reach a w m k =
+      let e = in_each (parameters_in r) w (operand_wanted y (comparand_question c)) refs m in
+      controller {x = x} {y = y} {o = S.control u} {c = c} (reach e.0 e.1.0) (ap comparison_in g) (subst (Holds t (Some a.row)) (ap (λ (v : Wanted). v.tree) e.1.1 ∙ trees.term (parameters_in r) (arguments_of e.0) (term_of2 y)) k.holds) (k.at ∙ ap (λ (v : Wanted). v.at) e.1.1) (k.question ∙ ap (λ (v : Wanted). v.question) e.1.1)
+  right_asked x y u (Some sized) g reach a w m k =
+      let e = in_each (parameters_in r) w (operand_wanted y QuestionV.HasSizes) refs m in
+      size_controller {x = x} {y = y} {o = S.control u} (reach e.0 e.1.0) (ap is_sized g) (subst (Holds t (Some a.row)) (ap (λ (v : Wanted). v.tree) e.1.1 ∙ trees.term (parameters_in r) (arguments_of e.0) (term_of2 y)) k.holds) (k.at ∙ ap (λ (v : Wanted). v.at) e.1.1) (k.question ∙ ap (λ (v : Wanted). v.question) e.1.1)
+  right_asked x y u (Some (computed c)) g reach a w m k =
+      let e = in_each (parameters_in r) w (computation_wanted x (S.control u) y) refs m in
+      computation {x = x} {y = y} {o = S.control u} {c = c} (reach e.0 e.1.0) (ap computation_in g) (subst (Holds t (Some a.row)) (ap (λ (v : Wanted). v.tree) e.1.1 ∙ trees.term (parameters_in r) (arguments_of e.0) (operation (term_of2 x) (S.control u) (term_of2 y))) k.holds) (k.at ∙ ap (λ (v : Wanted). v.at) e.1.1) (k.question ∙ ap (λ (v : Wanted). v.question) e.1.1)
+
   asked_last : (p : Site) → ((i : Ref) → IsIn i refs → IsReached rs root r (arguments_of i) p) → (a : Asked) (w : Wanted) → IsIn w (wanted_some (parameters_in r) (last_part p) refs) → IsAnswer t a w → IsAsked rs root t a
   asked_last (a_name b f) reach a w h k = absurd h
   asked_last (an_unwrapping b u f) reach a w h k = absurd h
@@ -105,13 +132,7 @@ module _ (trees : Trees) (rs : List S.Rule) (root : Text) (t : Table) (r : S.Rul
   asked_last (a_hash u) reach a w h k = absurd h
   asked_last (an_operation x (S.range u) y) reach a w h k = end_asked x y (S.range u) refl reach a w h k
   asked_last (an_operation x (S.range_below u) y) reach a w h k = end_asked x y (S.range_below u) refl reach a w h k
-  asked_last (an_operation x (S.control u) y) reach a w h k = by (comparison_of (S.control u)) refl h
-    where
-      by : (o : Option Comparison) → comparison_of (S.control u) ≡ o → IsIn w (wanted_some (parameters_in r) (option_map (operand_wanted y) (question_by o)) refs) → IsAsked rs root t a
-      by None g m = absurd m
-      by (Some c) g m =
-          let e = in_each (parameters_in r) w (operand_wanted y (comparand_question c)) refs m in
-          controller {x = x} {y = y} {o = S.control u} {c = c} (reach e.0 e.1.0) g (subst (Holds t (Some a.row)) (ap (λ (v : Wanted). v.tree) e.1.1 ∙ trees.term (parameters_in r) (arguments_of e.0) (term_of2 y)) k.holds) (k.at ∙ ap (λ (v : Wanted). v.at) e.1.1) (k.question ∙ ap (λ (v : Wanted). v.question) e.1.1)
+  asked_last (an_operation x (S.control u) y) reach a w h k = right_asked x y u (control_of (control_name u)) refl reach a w h k
   asked_last (an_entry e) reach a w h k = absurd h
   asked_last (a_map u g) reach a w h k = absurd h
 
@@ -119,6 +140,68 @@ module _ (trees : Trees) (rs : List S.Rule) (root : Text) (t : Table) (r : S.Rul
 in_part : (ps : List Text) (p : Site) (w : Wanted) (refs : List Ref) (v : Wanted) → (first_part p ≡ Some w) ⊎ (last_part p ≡ Some w) → IsIn v (wanted_each ps w refs) → IsIn v (wanted_some ps (first_part p) refs ++ wanted_some ps (last_part p) refs)
 in_part ps p w refs v (inl e) h = in_first (wanted_some ps (first_part p) refs) (wanted_some ps (last_part p) refs) v (subst (λ o. IsIn v (wanted_some ps o refs)) (sym e) h)
 in_part ps p w refs v (inr e) h = in_second (wanted_some ps (first_part p) refs) (wanted_some ps (last_part p) refs) v (subst (λ o. IsIn v (wanted_some ps o refs)) (sym e) h)
+
+-- What is wanted of both sides of an operation.
+
+first_of_range : (x y : S.Type2) (o : S.Operator) → is_range_sign o ≡ true → first_part (an_operation x o y) ≡ Some (end_of x)
+first_of_range x y (S.range t) e = refl
+first_of_range x y (S.range_below t) e = refl
+first_of_range x y (S.control t) e = absurd (true≢false (sym e))
+
+last_of_range : (x y : S.Type2) (o : S.Operator) → is_range_sign o ≡ true → last_part (an_operation x o y) ≡ Some (end_of y)
+last_of_range x y (S.range t) e = refl
+last_of_range x y (S.range_below t) e = refl
+last_of_range x y (S.control t) e = absurd (true≢false (sym e))
+
+left_of_computation : (x y : S.Type2) (o : S.Operator) (c : Computation) → computation_of o ≡ Some c → first_part (an_operation x o y) ≡ Some (operand_wanted x (operand_question c))
+left_of_computation x y (S.range t) c e = cc
+left_of_computation x y (S.range_below t) c e = cc
+left_of_computation x y (S.control t) c e = ap (λ o. option_map (operand_wanted x) (question_of_operand o)) e
+
+right_of_comparison : (x y : S.Type2) (o : S.Operator) (c : Comparison) → comparison_of o ≡ Some c → last_part (an_operation x o y) ≡ Some (operand_wanted y (comparand_question c))
+right_of_comparison x y (S.range t) c e = cc
+right_of_comparison x y (S.range_below t) c e = cc
+right_of_comparison x y (S.control t) c e = by (control_of (control_name t)) e
+  where
+    by : (o : Option Control) → comparison_in o ≡ Some c → controller_wanted x (S.control t) y o ≡ Some (operand_wanted y (comparand_question c))
+    by None g = cc
+    by (Some left_alone) g = cc
+    by (Some left_and_right) g = cc
+    by (Some held_item) g = cc
+    by (Some held_sequence) g = cc
+    by (Some (compared d)) g = ap (λ k. Some (operand_wanted y (comparand_question k))) (same_Some d c g)
+    by (Some sized) g = cc
+    by (Some (computed d)) g = cc
+
+right_of_size : (x y : S.Type2) (o : S.Operator) → asks_size o ≡ true → last_part (an_operation x o y) ≡ Some (operand_wanted y QuestionV.HasSizes)
+right_of_size x y (S.range t) e = absurd (true≢false (sym e))
+right_of_size x y (S.range_below t) e = absurd (true≢false (sym e))
+right_of_size x y (S.control t) e = by (control_of (control_name t)) e
+  where
+    by : (o : Option Control) → is_sized o ≡ true → controller_wanted x (S.control t) y o ≡ Some (operand_wanted y QuestionV.HasSizes)
+    by None g = absurd (true≢false (sym g))
+    by (Some left_alone) g = absurd (true≢false (sym g))
+    by (Some left_and_right) g = absurd (true≢false (sym g))
+    by (Some held_item) g = absurd (true≢false (sym g))
+    by (Some held_sequence) g = absurd (true≢false (sym g))
+    by (Some (compared d)) g = absurd (true≢false (sym g))
+    by (Some sized) g = refl
+    by (Some (computed d)) g = absurd (true≢false (sym g))
+
+whole_computation : (x y : S.Type2) (o : S.Operator) (c : Computation) → computation_of o ≡ Some c → last_part (an_operation x o y) ≡ Some (computation_wanted x o y)
+whole_computation x y (S.range t) c e = cc
+whole_computation x y (S.range_below t) c e = cc
+whole_computation x y (S.control t) c e = by (control_of (control_name t)) e
+  where
+    by : (o : Option Control) → computation_in o ≡ Some c → controller_wanted x (S.control t) y o ≡ Some (computation_wanted x (S.control t) y)
+    by None g = cc
+    by (Some left_alone) g = cc
+    by (Some left_and_right) g = cc
+    by (Some held_item) g = cc
+    by (Some held_sequence) g = cc
+    by (Some (compared d)) g = cc
+    by (Some sized) g = cc
+    by (Some (computed d)) g = refl
 
 module _ (laws : Laws) (trees : Trees) (s : Specification) (root : Text) (clear : IsClear s) (refs : List Ref) (are : AreInstances (definitions s) root refs) (read : Leaf → Token) (fs : List Found) (reached : AreReachedSites (rules s) root read fs) (t : Table) (answers : List Asked) (all : AreAnswers t answers (wanted_all read (rules s) refs fs)) where
   sound : (a : Asked) → IsIn a answers → IsAsked (rules s) root t a
@@ -148,19 +231,6 @@ module _ (laws : Laws) (trees : Trees) (s : Specification) (root : Text) (clear 
       let a = wanted_answer t answers (wanted_all read (rules s) refs fs) v all (all_in (wanted_at read (rules s) refs) fs v f.found (is_in fs f.found f.contained) at) in
       record { asked = a.0; contained = contains answers a.0 a.1.0; same_at = a.1.1.at; same_question = a.1.1.question; holds = subst (Holds t (Some a.0.row)) (ap (λ ys. filled (parameters_in r) (term_trees ys) w.tree) (sym i.1.1) ∙ same) a.1.1.holds }
 
-  first_of_range : (x y : S.Type2) (o : S.Operator) → is_range_sign o ≡ true → first_part (an_operation x o y) ≡ Some (end_of x)
-  first_of_range x y o e = ap (λ b. if b then Some (end_of x) else None) e
-
-  last_of_range : (x y : S.Type2) (o : S.Operator) → is_range_sign o ≡ true → last_part (an_operation x o y) ≡ Some (end_of y)
-  last_of_range x y (S.range t) e = refl
-  last_of_range x y (S.range_below t) e = refl
-  last_of_range x y (S.control t) e = absurd (true≢false (sym e))
-
-  right_of_comparison : (x y : S.Type2) (o : S.Operator) (c : Comparison) → comparison_of o ≡ Some c → last_part (an_operation x o y) ≡ Some (operand_wanted y (comparand_question c))
-  right_of_comparison x y (S.range t) c e = cc
-  right_of_comparison x y (S.range_below t) c e = cc
-  right_of_comparison x y (S.control t) c e = ap (λ o. option_map (operand_wanted y) (question_by o)) e
-
   pub are_asked : AreAsked (rules s) root t answers
   are_asked = record {
     sound = λ a h. sound a (is_in answers a h);
@@ -169,5 +239,8 @@ module _ (laws : Laws) (trees : Trees) (s : Specification) (root : Text) (clear 
     first_ends = λ r xs x y o h e. was_asked r xs (an_operation x o y) (end_of x) (term_tree (fill (parameters_in r) xs (term_of2 x))) h (inl (first_of_range x y o e)) (trees.term (parameters_in r) xs (term_of2 x));
     last_ends = λ r xs x y o h e. was_asked r xs (an_operation x o y) (end_of y) (term_tree (fill (parameters_in r) xs (term_of2 y))) h (inr (last_of_range x y o e)) (trees.term (parameters_in r) xs (term_of2 y));
     controllers = λ r xs x y o c h e. was_asked r xs (an_operation x o y) (operand_wanted y (comparand_question c)) (term_tree (fill (parameters_in r) xs (term_of2 y))) h (inr (right_of_comparison x y o c e)) (trees.term (parameters_in r) xs (term_of2 y));
+    size_controllers = λ r xs x y o h e. was_asked r xs (an_operation x o y) (operand_wanted y QuestionV.HasSizes) (term_tree (fill (parameters_in r) xs (term_of2 y))) h (inr (right_of_size x y o e)) (trees.term (parameters_in r) xs (term_of2 y));
+    left_operands = λ r xs x y o c h e. was_asked r xs (an_operation x o y) (operand_wanted x (operand_question c)) (term_tree (fill (parameters_in r) xs (term_of2 x))) h (inl (left_of_computation x y o c e)) (trees.term (parameters_in r) xs (term_of2 x));
+    computations = λ r xs x y o c h e. was_asked r xs (an_operation x o y) (computation_wanted x o y) (term_tree (fill (parameters_in r) xs (operation (term_of2 x) o (term_of2 y)))) h (inr (whole_computation x y o c e)) (trees.term (parameters_in r) xs (operation (term_of2 x) o (term_of2 y)));
     maps = λ r xs u g h. was_asked r xs (a_map u g) (record { at = u.start; question = QuestionV.MapGroup; tree = group_tree (group_of g); call = nothing }) (group_tree (fill_group (parameters_in r) xs (group_of g))) h (inl refl) (trees.group (parameters_in r) xs (group_of g));
   }

@@ -1,7 +1,7 @@
 -- What was found, and what was asked, stays when the table grows.
 use Rattle.std.proofs.Common.{ℕ, List, Option, Some}
 use Rattle.cddl_syntax.specs.Syntax as S
-use Rattle.cddl_language.specs.Reading.{group_of, parameters_in, ref_of, term_of2}
+use Rattle.cddl_language.specs.Reading.{group_of, operation, parameters_in, ref_of, term_of2}
 use Rattle.cddl_language.specs.Substitution.{bodies, fill, fill_group, fill_ref}
 use Rattle.cddl_language.specs.Terms as L
 use Rattle.cddl_language.specs.Terms.{Ref, Term, Text, arguments_of}
@@ -13,7 +13,7 @@ use Rattle.cddl_terms.specs.Trees.{entry_tree, group_tree, ref_tree, term_tree}
 use Rattle.cddl_instances.specs.declared.found.Instance.{Instance}
 use Rattle.cddl_instances.specs.Bodies.{AreBodies, no_bodies, further_body}
 use Rattle.cddl_instances.specs.Found.{AreFound, none_found, further_found}
-use Rattle.cddl_reached.specs.Asked.{AreAsked, AreEntriesAsked, IsAsked, IsEntryAsked, WasAsked, choosing, choosing_by_name, controller, first_end, last_end, of_map, of_map_entry, of_rule_entry}
+use Rattle.cddl_reached.specs.Asked.{AreAsked, AreEntriesAsked, IsAsked, IsEntryAsked, WasAsked, choosing, choosing_by_name, computation, controller, first_end, last_end, left_operand, of_map, size_controller, of_map_entry, of_rule_entry}
 use Rattle.cddl_reached.specs.declared.asked.Asked.{Asked}
 use Rattle.cddl_reached.specs.declared.asked.Question.{Question}
 
@@ -33,6 +33,9 @@ module _ (old new : Table) (trees : (n : Option ℕ) (x : Tree) → Holds old n 
   one_kept a (first_end {r = r} {xs = xs} {x = x} {y = y} {o = o} h s is e q) = first_end {r = r} {xs = xs} {x = x} {y = y} {o = o} h s (trees (Some a.row) (term_tree (fill (parameters_in r) xs (term_of2 x))) is) e q
   one_kept a (last_end {r = r} {xs = xs} {x = x} {y = y} {o = o} h s is e q) = last_end {r = r} {xs = xs} {x = x} {y = y} {o = o} h s (trees (Some a.row) (term_tree (fill (parameters_in r) xs (term_of2 y))) is) e q
   one_kept a (controller {r = r} {xs = xs} {x = x} {y = y} {o = o} {c = c} h s is e q) = controller {r = r} {xs = xs} {x = x} {y = y} {o = o} {c = c} h s (trees (Some a.row) (term_tree (fill (parameters_in r) xs (term_of2 y))) is) e q
+  one_kept a (size_controller {r = r} {xs = xs} {x = x} {y = y} {o = o} h s is e q) = size_controller {r = r} {xs = xs} {x = x} {y = y} {o = o} h s (trees (Some a.row) (term_tree (fill (parameters_in r) xs (term_of2 y))) is) e q
+  one_kept a (left_operand {r = r} {xs = xs} {x = x} {y = y} {o = o} {c = c} h s is e q) = left_operand {r = r} {xs = xs} {x = x} {y = y} {o = o} {c = c} h s (trees (Some a.row) (term_tree (fill (parameters_in r) xs (term_of2 x))) is) e q
+  one_kept a (computation {r = r} {xs = xs} {x = x} {y = y} {o = o} {c = c} h s is e q) = computation {r = r} {xs = xs} {x = x} {y = y} {o = o} {c = c} h s (trees (Some a.row) (term_tree (fill (parameters_in r) xs (operation (term_of2 x) o (term_of2 y)))) is) e q
   one_kept a (of_map {r = r} {xs = xs} {u = u} {g = g} h is e q) = of_map {r = r} {xs = xs} {u = u} {g = g} h (trees (Some a.row) (group_tree (fill_group (parameters_in r) xs (group_of g))) is) e q
 
   answer_kept : (answers : List Asked) (at : ℕ) (q : Question) (x : Tree) → WasAsked rs root old answers at q x → WasAsked rs root new answers at q x
@@ -46,6 +49,9 @@ module _ (old new : Table) (trees : (n : Option ℕ) (x : Tree) → Holds old n 
     first_ends = λ r xs x y o h s. answer_kept answers _ _ _ (are.first_ends r xs x y o h s);
     last_ends = λ r xs x y o h s. answer_kept answers _ _ _ (are.last_ends r xs x y o h s);
     controllers = λ r xs x y o c h s. answer_kept answers _ _ _ (are.controllers r xs x y o c h s);
+    size_controllers = λ r xs x y o h s. answer_kept answers _ _ _ (are.size_controllers r xs x y o h s);
+    left_operands = λ r xs x y o c h s. answer_kept answers _ _ _ (are.left_operands r xs x y o c h s);
+    computations = λ r xs x y o c h s. answer_kept answers _ _ _ (are.computations r xs x y o c h s);
     maps = λ r xs u g h. answer_kept answers _ _ _ (are.maps r xs u g h);
   }
 

@@ -3,11 +3,11 @@ use Rattle.std.specs.Prelude.{◌≡◌, ℕ, true, if◌then◌else◌, List, [
 use Rattle.cddl_token.specs.declared.Token.{Token}
 use Rattle.cddl_syntax.specs.Syntax as S
 use Rattle.cddl_tree.specs.declared.tree.Leaf.{Leaf}
-use Rattle.cddl_tree.specs.View.{view_group, view_ref, view_type2}
-use Rattle.cddl_language.specs.Controls.{Comparison, is_ordering}
-use Rattle.cddl_language.specs.Faults.{comparison_of, is_range_sign, operand_at}
+use Rattle.cddl_tree.specs.View.{view_group, view_operator, view_ref, view_type2}
+use Rattle.cddl_language.specs.Controls.{Comparison, Computation, Control, compared, computation_in, computed, control_of, is_ordering, join, sized, sum}
+use Rattle.cddl_language.specs.Faults.{asks_size, comparison_of, computation_of, is_range_sign, operand_at}
 use Rattle.cddl_language.specs.MapFaults.{closed_entry, entry_at}
-use Rattle.cddl_language.specs.Reading.{entry_of, group_of, name_in, parameters_in, ref_of, term_of2}
+use Rattle.cddl_language.specs.Reading.{control_name, entry_of, group_of, name_in, operation, parameters_in, ref_of, term_of2}
 use Rattle.cddl_language.specs.Sites.{IsInstance, IsReached, Site, a_choice_of, a_choice_of_name, a_map, an_operation}
 use Rattle.cddl_language.specs.Substitution.{fill, fill_group, fill_ref}
 use Rattle.cddl_language.specs.Terms.{Ref, Term, Text, arguments_of}
@@ -51,25 +51,47 @@ end_of x = operand_wanted x QuestionV.IsWhole
 abbrev pub comparand_question : Comparison → Question
 comparand_question c = if is_ordering c then QuestionV.IsNumber else QuestionV.IsLiteral
 
-abbrev pub question_by : Option Comparison → Option Question
-question_by None = None
-question_by (Some c) = Some (comparand_question c)
+-- of an operand of a computation
+abbrev pub operand_question : Computation → Question
+operand_question sum = QuestionV.IsAddend
+operand_question (join j) = QuestionV.IsString
 
--- of what stands to the right of an operator
-abbrev pub question_after : S.Operator → Option Question
-question_after (S.range t) = Some QuestionV.IsWhole
-question_after (S.range_below t) = Some QuestionV.IsWhole
-question_after (S.control t) = question_by (comparison_of (S.control t))
+abbrev pub question_of_operand : Option Computation → Option Question
+question_of_operand None = None
+question_of_operand (Some c) = Some (operand_question c)
+
+-- of what stands to the left of an operator
+abbrev pub question_before : S.Operator → Option Question
+question_before (S.range t) = Some QuestionV.IsWhole
+question_before (S.range_below t) = Some QuestionV.IsWhole
+question_before (S.control t) = question_of_operand (computation_in (control_of (control_name t)))
+
+-- of a computation with its right side, told at that side
+abbrev pub computation_wanted : S.Type2 → S.Operator → S.Type2 → Wanted
+computation_wanted x o y = record { at = operand_at y; question = QuestionV.Computes; tree = term_tree (operation (term_of2 x) o (term_of2 y)); call = nothing }
+
+-- of what stands to the right of an operator, by the control that it is
+
+abbrev pub controller_wanted : S.Type2 → S.Operator → S.Type2 → Option Control → Option Wanted
+controller_wanted x o y (Some (compared c)) = Some (operand_wanted y (comparand_question c))
+controller_wanted x o y (Some sized) = Some (operand_wanted y QuestionV.HasSizes)
+controller_wanted x o y (Some (computed c)) = Some (computation_wanted x o y)
+controller_wanted x o y _ = None
+
+abbrev pub wanted_after : S.Type2 → S.Operator → S.Type2 → Option Wanted
+wanted_after x (S.range t) y = Some (end_of y)
+wanted_after x (S.range_below t) y = Some (end_of y)
+wanted_after x (S.control t) y = controller_wanted x (S.control t) y (control_of (control_name t))
 
 abbrev pub first_part : Site → Option Wanted
 first_part (a_choice_of u g) = Some (record { at = u.start; question = QuestionV.ChoosesFrom; tree = group_tree (group_of g); call = nothing })
 first_part (a_choice_of_name u f) = Some (record { at = u.start; question = QuestionV.ChoosesByName; tree = ref_tree (ref_of f); call = nothing })
-first_part (an_operation x o y) = if is_range_sign o then Some (end_of x) else None
+first_part (an_operation x o y) = option_map (operand_wanted x) (question_before o)
 first_part (a_map u g) = Some (record { at = u.start; question = QuestionV.MapGroup; tree = group_tree (group_of g); call = nothing })
 first_part _ = None
 
 abbrev pub last_part : Site → Option Wanted
-last_part (an_operation x o y) = option_map (operand_wanted y) (question_after o)
+last_part (an_operation x o y) = wanted_after x o y
 last_part _ = None
 
 -- the same of the code's parts
@@ -78,6 +100,7 @@ abbrev pub node_tree : (Leaf → Token) → Node → Tree
 node_tree read (NodeV.Group g) = group_tree (group_of (view_group read g.now))
 node_tree read (NodeV.Reference f) = ref_tree (ref_of (view_ref read f.now))
 node_tree read (NodeV.Operand x) = term_tree (term_of2 (view_type2 read x.now))
+node_tree read (NodeV.Operation x o y) = term_tree (operation (term_of2 (view_type2 read x.now)) (view_operator read o) (term_of2 (view_type2 read y.now)))
 node_tree read (NodeV.Entry e) = entry_tree (entry_of (view_node read e))
 
 abbrev pub wanted : (Leaf → Token) → Part → Wanted
@@ -160,6 +183,9 @@ module _ (rs : List S.Rule) (root : Text) (t : Table) where
     first_end : {r : S.Rule} {xs : List Term} {x y : S.Type2} {o : S.Operator} → IsReached rs root r xs (an_operation x o y) → is_range_sign o ≡ true → IsTerm t a.row (fill (parameters_in r) xs (term_of2 x)) → a.at ≡ operand_at x → a.question ≡ QuestionV.IsWhole → IsAsked a
     last_end : {r : S.Rule} {xs : List Term} {x y : S.Type2} {o : S.Operator} → IsReached rs root r xs (an_operation x o y) → is_range_sign o ≡ true → IsTerm t a.row (fill (parameters_in r) xs (term_of2 y)) → a.at ≡ operand_at y → a.question ≡ QuestionV.IsWhole → IsAsked a
     controller : {r : S.Rule} {xs : List Term} {x y : S.Type2} {o : S.Operator} {c : Comparison} → IsReached rs root r xs (an_operation x o y) → comparison_of o ≡ Some c → IsTerm t a.row (fill (parameters_in r) xs (term_of2 y)) → a.at ≡ operand_at y → a.question ≡ comparand_question c → IsAsked a
+    size_controller : {r : S.Rule} {xs : List Term} {x y : S.Type2} {o : S.Operator} → IsReached rs root r xs (an_operation x o y) → asks_size o ≡ true → IsTerm t a.row (fill (parameters_in r) xs (term_of2 y)) → a.at ≡ operand_at y → a.question ≡ QuestionV.HasSizes → IsAsked a
+    left_operand : {r : S.Rule} {xs : List Term} {x y : S.Type2} {o : S.Operator} {c : Computation} → IsReached rs root r xs (an_operation x o y) → computation_of o ≡ Some c → IsTerm t a.row (fill (parameters_in r) xs (term_of2 x)) → a.at ≡ operand_at x → a.question ≡ operand_question c → IsAsked a
+    computation : {r : S.Rule} {xs : List Term} {x y : S.Type2} {o : S.Operator} {c : Computation} → IsReached rs root r xs (an_operation x o y) → computation_of o ≡ Some c → IsTerm t a.row (fill (parameters_in r) xs (operation (term_of2 x) o (term_of2 y))) → a.at ≡ operand_at y → a.question ≡ QuestionV.Computes → IsAsked a
     of_map : {r : S.Rule} {xs : List Term} {u : Token} {g : S.Group} → IsReached rs root r xs (a_map u g) → IsGroup t a.row (fill_group (parameters_in r) xs (group_of g)) → a.at ≡ u.start → a.question ≡ QuestionV.MapGroup → IsAsked a
 
   -- the question was asked of the row of this tree
@@ -177,6 +203,9 @@ module _ (rs : List S.Rule) (root : Text) (t : Table) where
     pub first_ends : (r : S.Rule) (xs : List Term) (x y : S.Type2) (o : S.Operator) → IsReached rs root r xs (an_operation x o y) → is_range_sign o ≡ true → WasAsked answers (operand_at x) QuestionV.IsWhole (term_tree (fill (parameters_in r) xs (term_of2 x)))
     pub last_ends : (r : S.Rule) (xs : List Term) (x y : S.Type2) (o : S.Operator) → IsReached rs root r xs (an_operation x o y) → is_range_sign o ≡ true → WasAsked answers (operand_at y) QuestionV.IsWhole (term_tree (fill (parameters_in r) xs (term_of2 y)))
     pub controllers : (r : S.Rule) (xs : List Term) (x y : S.Type2) (o : S.Operator) (c : Comparison) → IsReached rs root r xs (an_operation x o y) → comparison_of o ≡ Some c → WasAsked answers (operand_at y) (comparand_question c) (term_tree (fill (parameters_in r) xs (term_of2 y)))
+    pub size_controllers : (r : S.Rule) (xs : List Term) (x y : S.Type2) (o : S.Operator) → IsReached rs root r xs (an_operation x o y) → asks_size o ≡ true → WasAsked answers (operand_at y) QuestionV.HasSizes (term_tree (fill (parameters_in r) xs (term_of2 y)))
+    pub left_operands : (r : S.Rule) (xs : List Term) (x y : S.Type2) (o : S.Operator) (c : Computation) → IsReached rs root r xs (an_operation x o y) → computation_of o ≡ Some c → WasAsked answers (operand_at x) (operand_question c) (term_tree (fill (parameters_in r) xs (term_of2 x)))
+    pub computations : (r : S.Rule) (xs : List Term) (x y : S.Type2) (o : S.Operator) (c : Computation) → IsReached rs root r xs (an_operation x o y) → computation_of o ≡ Some c → WasAsked answers (operand_at y) QuestionV.Computes (term_tree (fill (parameters_in r) xs (operation (term_of2 x) o (term_of2 y))))
     pub maps : (r : S.Rule) (xs : List Term) (u : Token) (g : S.Group) → IsReached rs root r xs (a_map u g) → WasAsked answers u.start QuestionV.MapGroup (group_tree (fill_group (parameters_in r) xs (group_of g)))
 
 -- Of entries: each in a map that is reached, and each in a rule's own group or in the one that `~` of its name opens, in each of

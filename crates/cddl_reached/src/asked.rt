@@ -46,6 +46,15 @@ pub enum Question {
     IsLiteral,
     /// Whether the type is a literal and a whole number, as what items are compared with by their order has to be.
     IsNumber,
+    /// Whether the type can be a controller of `.size` (section 3.8.1).
+    HasSizes,
+    /// Whether the type is a whole number as a literal, as the left side of `.plus` has to be (RFC 9165 section 2.1).
+    IsAddend,
+    /// Whether the type is a string as a literal, as the left side of `.cat` and `.det` has to be (RFC 9165 section 2.2).
+    IsString,
+    /// Whether the right side of the control is as its left side has to be, and both make a literal. The row is that of the
+    /// whole control.
+    Computes,
     /// What the group of a map stands for (section 3.5).
     MapGroup,
     /// Whether the entry can stand in a map.
@@ -66,7 +75,8 @@ pub struct Asked {
 }
 
 /// What is asked of at the sites that the root reaches, in each instance: of the group or the reference after `&`, of both ends
-/// of a range, of what items are compared with, and of the group of a map.
+/// of a range, of what items are compared with, of the controller of `.size`, of the left side of a control that computes a
+/// literal and of the whole control, and of the group of a map.
 ///
 /// It costs the sites times the instances of their rule: for each site the rows of its part are visited once, and then each row
 /// that holds a parameter is hashed once for each instance. Memory is needed for each answer.

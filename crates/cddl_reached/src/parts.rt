@@ -8,21 +8,22 @@ ghost use Rattle.cddl_reached.specs.Asked.{entry_wanted, node_tree, wanted};
 ghost use Rattle.cddl_entries.specs.Entries.{view_node};
 ghost use Rattle.cddl_sites.specs.View.{view_site};
 ghost use Rattle.cddl_tree.specs.View.{token_of, view_grpent, view_operator, view_type2, view_types};
-ghost use Rattle.cddl_language.specs.Controls.{comparison_in};
-ghost use Rattle.cddl_language.specs.Faults.{comparison_of, operand_at};
+ghost use Rattle.cddl_language.specs.Controls.{computation_in, control_of as known_control};
+ghost use Rattle.cddl_language.specs.Faults.{operand_at};
 ghost use Rattle.cddl_language.specs.MapFaults.{entry_at};
-ghost use Rattle.cddl_language.specs.Reading.{entry_of};
-ghost use Rattle.cddl_syntax.specs.Syntax.{control, typed};
-ghost use Rattle.cddl_texts.specs.Controls.{comparison_view, control_view};
+ghost use Rattle.cddl_language.specs.Reading.{control_name as name_of_control, entry_of};
+ghost use Rattle.cddl_syntax.specs.Syntax.{typed};
+ghost use Rattle.cddl_texts.specs.Controls.{comparison_view, computation_view, control_view};
 
 use crate::asked::Question;
 use cddl_entries::{Node as EntryNode, TextEntry};
-use cddl_reader::{read_entry, read_group, read_operand, read_reference, read_type_entry};
-use cddl_sites::{Site, is_range};
+use cddl_reader::{
+    read_entry, read_group, read_operand, read_operation, read_reference, read_type_entry,
+};
+use cddl_sites::Site;
 use cddl_terms::{NoRoom, Terms, control_name};
-use cddl_texts::{Comparison, Control, control_of};
-use cddl_token::Token;
-use cddl_tree::{Group, GrpEnt, Operator, Ref, Tree, Type2, Types};
+use cddl_texts::{Comparison, Computation, Control, control_of};
+use cddl_tree::{Group, GrpEnt, Leaf, Operator, Ref, Tree, Type2, Types};
 
 /// A node of the tree of which something is asked.
 #[derive(Clone, Copy)]
@@ -30,6 +31,11 @@ pub(crate) enum Node<'t> {
     Group(&'t Group),
     Reference(&'t Ref),
     Operand(&'t Type2),
+    Operation {
+        left: &'t Type2,
+        operator: Operator,
+        right: &'t Type2,
+    },
     Entry(EntryNode<'t>),
 }
 
@@ -41,7 +47,8 @@ pub(crate) struct Part<'t> {
     pub(crate) node: Node<'t>,
 }
 
-/// What is asked of at the site: a group or a reference after `&`, the first end of a range, or the group of a map.
+/// What is asked of at the site: a group or a reference after `&`, the first end of a range, the left side of a control that
+/// computes a literal, or the group of a map.
 pub(crate) fn first_part<'t>(tree: &Tree<'_>, site: Site<'t>) -> Option<Part<'t>>
     ensures { option_map (wanted (token_of tree.now)) result ≡ by.first_part (view_site (token_of tree.now) site.entry) }
 {
@@ -56,7 +63,7 @@ pub(crate) fn first_part<'t>(tree: &Tree<'_>, site: Site<'t>) -> Option<Part<'t>
             question: Question::ChoosesByName,
             node: Node::Reference(name),
         }),
-        Site::Operation { left, operator, .. } if is_range(operator) => Some(end(tree, left)),
+        Site::Operation { left, operator, .. } => left_part(tree, left, operator),
         Site::Map { opening, group } => Some(Part {
             at: tree.token(opening).start,
             question: Question::MapGroup,
@@ -66,51 +73,120 @@ pub(crate) fn first_part<'t>(tree: &Tree<'_>, site: Site<'t>) -> Option<Part<'t>
     }
 }
 
-/// The last end of a range, or what items are compared with.
+/// The last end of a range, what items are compared with, the controller of `.size`, or a control that computes a literal.
 pub(crate) fn last_part<'t>(tree: &Tree<'_>, site: Site<'t>) -> Option<Part<'t>>
     ensures { option_map (wanted (token_of tree.now)) result ≡ by.last_part (view_site (token_of tree.now) site.entry) }
 {
     match site {
         Site::Operation {
+            left,
             operator,
             right,
-            ..
-        } => right_part(tree, operator, right),
+        } => right_part(tree, left, operator, right),
         _ => None,
     }
 }
 
-/// What is asked of what stands to the right of an operator.
-fn right_part<'t>(tree: &Tree<'_>, operator: Operator, right: &'t Type2) -> Option<Part<'t>>
-    ensures { option_map (wanted (token_of tree.now)) result ≡ option_map (by.operand_wanted (view_type2 (token_of tree.now) right.now)) (by.question_after (view_operator (token_of tree.now) operator)) }
+/// What is asked of what stands to the left of an operator.
+fn left_part<'t>(tree: &Tree<'_>, left: &'t Type2, operator: Operator) -> Option<Part<'t>>
+    ensures { option_map (wanted (token_of tree.now)) result ≡ option_map (by.operand_wanted (view_type2 (token_of tree.now) left.now)) (by.question_before (view_operator (token_of tree.now) operator)) }
 {
-    match question_after(tree, operator) {
-        Some(question) => Some(operand(tree, right, question)),
+    match question_before(tree, operator) {
+        Some(question) => Some(operand(tree, left, question)),
         None => None,
     }
 }
 
-fn question_after(tree: &Tree<'_>, operator: Operator) -> Option<Question>
-    ensures { result ≡ by.question_after (view_operator (token_of tree.now) operator) }
+fn question_before(tree: &Tree<'_>, operator: Operator) -> Option<Question>
+    ensures { result ≡ by.question_before (view_operator (token_of tree.now) operator) }
 {
     match operator {
         Operator::Range(_) | Operator::RangeBelow(_) => Some(Question::IsWhole),
-        Operator::Control(leaf) => token_question(tree.token(leaf)),
+        Operator::Control(leaf) => operand_question(control_at(tree, leaf)),
     }
 }
 
-fn token_question(token: &Token<'_>) -> Option<Question>
-    ensures { result ≡ by.question_by (comparison_of (control token.now)) }
-{
-    control_question(control_of(control_name(token.text)))
-}
-
-fn control_question(control: Option<Control>) -> Option<Question>
-    ensures { result ≡ by.question_by (comparison_in (option_map control_view control)) }
+/// What is asked of the left side of a control.
+fn operand_question(control: Option<Control>) -> Option<Question>
+    ensures { result ≡ by.question_of_operand (computation_in (option_map control_view control)) }
 {
     match control {
-        Some(Control::Compared(comparison)) => Some(comparand_question(comparison)),
+        Some(Control::Computed(computation)) => Some(computation_question(computation)),
         _ => None,
+    }
+}
+
+fn computation_question(computation: Computation) -> Question
+    ensures { result ≡ by.operand_question (computation_view computation) }
+{
+    match computation {
+        Computation::Sum => Question::IsAddend,
+        Computation::Join(_) => Question::IsString,
+    }
+}
+
+/// The control that the token is, if it is known.
+fn control_at(tree: &Tree<'_>, leaf: Leaf) -> Option<Control>
+    ensures { option_map control_view result ≡ known_control (name_of_control (token_of tree.now leaf)) }
+{
+    control_of(control_name(tree.token(leaf).text))
+}
+
+/// What is asked of what stands to the right of an operator.
+fn right_part<'t>(
+    tree: &Tree<'_>,
+    left: &'t Type2,
+    operator: Operator,
+    right: &'t Type2,
+) -> Option<Part<'t>>
+    ensures { option_map (wanted (token_of tree.now)) result ≡ by.wanted_after (view_type2 (token_of tree.now) left.now) (view_operator (token_of tree.now) operator) (view_type2 (token_of tree.now) right.now) }
+{
+    match operator {
+        Operator::Range(_) | Operator::RangeBelow(_) => Some(end(tree, right)),
+        Operator::Control(leaf) => {
+            let control = control_at(tree, leaf);
+            controller_part(tree, left, operator, right, control)
+        }
+    }
+}
+
+/// What is asked of the right side of this control.
+fn controller_part<'t>(
+    tree: &Tree<'_>,
+    left: &'t Type2,
+    operator: Operator,
+    right: &'t Type2,
+    control: Option<Control>,
+) -> Option<Part<'t>>
+    ensures { option_map (wanted (token_of tree.now)) result ≡ by.controller_wanted (view_type2 (token_of tree.now) left.now) (view_operator (token_of tree.now) operator) (view_type2 (token_of tree.now) right.now) (option_map control_view control) }
+{
+    match control {
+        Some(Control::Compared(comparison)) => {
+            Some(operand(tree, right, comparand_question(comparison)))
+        }
+        Some(Control::Sized) => Some(operand(tree, right, Question::HasSizes)),
+        Some(Control::Computed(_)) => Some(computation(tree, left, operator, right)),
+        _ => None,
+    }
+}
+
+/// A control that computes a literal, told at its right side.
+fn computation<'t>(
+    tree: &Tree<'_>,
+    left: &'t Type2,
+    operator: Operator,
+    right: &'t Type2,
+) -> Part<'t>
+    ensures { wanted (token_of tree.now) result ≡ by.computation_wanted (view_type2 (token_of tree.now) left.now) (view_operator (token_of tree.now) operator) (view_type2 (token_of tree.now) right.now) }
+{
+    Part {
+        at: start_of(tree, right),
+        question: Question::Computes,
+        node: Node::Operation {
+            left,
+            operator,
+            right,
+        },
     }
 }
 
@@ -193,6 +269,11 @@ pub(crate) fn read_node<'s>(
         Node::Group(group) => read_group(terms, tree, group),
         Node::Reference(name) => read_reference(terms, tree, name),
         Node::Operand(operand) => read_operand(terms, tree, operand),
+        Node::Operation {
+            left,
+            operator,
+            right,
+        } => read_operation(terms, tree, left, &operator, right),
         Node::Entry(entry) => read_text_entry(terms, tree, entry),
     }
 }

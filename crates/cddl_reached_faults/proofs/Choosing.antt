@@ -5,7 +5,7 @@ use Rattle.std.proofs.lemmas.Option.{same_Some}
 use Rattle.cddl_token.specs.declared.Token.{Token}
 use Rattle.cddl_syntax.specs.Syntax as S
 use Rattle.cddl_language.specs.Choices.{chosen, chosen_by_name, chosen_in}
-use Rattle.cddl_language.specs.Controls.{Comparison, is_ordering}
+use Rattle.cddl_language.specs.Controls.{Comparison, is_ordering, Computation, sum, join}
 use Rattle.cddl_language.specs.Faults.{Specification, definitions, rules}
 use Rattle.cddl_language.specs.Reach.{Point, Reaches, group_points, most_instances, ref_at}
 use Rattle.cddl_language.specs.Reading.{group_of, parameters_in, ref_of}
@@ -22,7 +22,7 @@ use Rattle.cddl_choosing.specs.Choosing.{AreChoosable}
 use Rattle.cddl_reached.specs.declared.asked.Asked.{Asked}
 use Rattle.cddl_reached.specs.declared.asked.Question.{Question}
 use Rattle.cddl_reached.specs.declared.asked.Question.TheVariants as QuestionV
-use Rattle.cddl_reached.specs.Asked.{AreAsked, IsAsked, choosing, choosing_by_name, comparand_question, controller, first_end, last_end, of_map}
+use Rattle.cddl_reached.specs.Asked.{AreAsked, IsAsked, choosing, choosing_by_name, comparand_question, computation, controller, first_end, last_end, left_operand, of_map, operand_question, size_controller}
 use Rattle.cddl_reached_faults.specs.Choices.{ChoosesFromNone, from_none, from_no_name, chooses, flag_in, from_group, from_meaning, is_choosable_by_name, meaning_in, place_in, unchosen_at, unless}
 use Rattle.cddl_reached_faults.specs.Least.{least_over}
 use Rattle.cddl_reached_faults.proofs.Least.{least_of_all}
@@ -84,6 +84,10 @@ module _ (s : Specification) (root : Text) (refs : List Ref) (t : Table) (c : Cl
       by true = refl
       by false = refl
 
+  no_operand : (how : Computation) (row : ℕ) → chooses c flags (operand_question how) row ≡ true
+  no_operand sum row = refl
+  no_operand (join j) row = refl
+
   sound : (a : Asked) (at : ℕ) → IsAsked (rules s) root t a → unchosen_at c flags a ≡ Some at → ChoosesFromNone s root at
   sound a at (choosing {r = r} {xs = xs} {u = u} {g = g} h is e q) k =
       let w = unless_at (chooses c flags a.question a.row) a.at at k in
@@ -102,6 +106,15 @@ module _ (s : Specification) (root : Text) (refs : List Ref) (t : Table) (c : Cl
   sound a at (controller {c = how} h o is e q) k =
       let w = unless_at (chooses c flags a.question a.row) a.at at k in
       absurd (true≢false (sym (with_question (comparand_question how) a q ∙ not_asked how a.row) ∙ w.0))
+  sound a at (size_controller h o is e q) k =
+      let w = unless_at (chooses c flags a.question a.row) a.at at k in
+      absurd (true≢false (sym (with_question QuestionV.HasSizes a q) ∙ w.0))
+  sound a at (left_operand {c = how} h o is e q) k =
+      let w = unless_at (chooses c flags a.question a.row) a.at at k in
+      absurd (true≢false (sym (with_question (operand_question how) a q ∙ no_operand how a.row) ∙ w.0))
+  sound a at (computation h o is e q) k =
+      let w = unless_at (chooses c flags a.question a.row) a.at at k in
+      absurd (true≢false (sym (with_question QuestionV.Computes a q) ∙ w.0))
   sound a at (of_map h is e q) k =
       let w = unless_at (chooses c flags a.question a.row) a.at at k in
       absurd (true≢false (sym (with_question QuestionV.MapGroup a q) ∙ w.0))

@@ -55,11 +55,7 @@ is_choosable_by_name c flags row = from_meaning flags (meaning_there c row)
 abbrev pub chooses : Closed → List Bool → Question → ℕ → Bool
 chooses c flags QuestionV.ChoosesFrom row = flag_in (slice_get flags row)
 chooses c flags QuestionV.ChoosesByName row = is_choosable_by_name c flags row
-chooses c flags QuestionV.IsWhole row = true
-chooses c flags QuestionV.IsLiteral row = true
-chooses c flags QuestionV.IsNumber row = true
-chooses c flags QuestionV.MapGroup row = true
-chooses c flags (QuestionV.Entry h) row = true
+chooses c flags _ row = true
 
 abbrev pub unless : Bool → ℕ → Option ℕ
 unless true at = None

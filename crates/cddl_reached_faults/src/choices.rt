@@ -63,8 +63,7 @@ fn chooses(closed: &Closed, choosable: &[bool], question: Question, row: u32) ->
     match question {
         Question::ChoosesFrom => is_choosable(choosable, row),
         Question::ChoosesByName => is_choosable_by_name(closed, choosable, row),
-        Question::IsWhole | Question::IsLiteral | Question::IsNumber => true,
-        Question::MapGroup | Question::Entry(_) => true,
+        _ => true,
     }
 }
 

@@ -6,4 +6,6 @@ mod leaves;
 mod nodes;
 
 pub use crate::definitions::read;
-pub use crate::nodes::{read_entry, read_group, read_operand, read_reference, read_type_entry};
+pub use crate::nodes::{
+    read_entry, read_group, read_operand, read_operation, read_reference, read_type_entry,
+};

@@ -1,18 +1,19 @@
 //! The numbers of what the nodes of a tree stand for. Each function goes down one level of the program's stack for each node
 //! round another, and so a few levels for each bracket that is open, of which the parser has 128 at most.
 ghost use Rattle.std.specs.Prelude.{IfOk, None, Some, map, option_map};
-ghost use Rattle.cddl_language.specs.Reading.{entries_of, entry_of, group_of, key_of, ref_of, term_of, term_of1, term_of2, terms_of};
+ghost use Rattle.cddl_language.specs.Reading.{entries_of, entry_of, group_of, key_of, operation, ref_of, term_of, term_of1, term_of2, terms_of};
 ghost use Rattle.cddl_syntax.specs.Syntax as S;
 ghost use Rattle.cddl_terms.specs.Table.{Grows, Holds, IsPart, Tree as TermTree, node, nothing};
 ghost use Rattle.cddl_terms.specs.Trees.{IsEntries, IsEntry, IsGroup, IsKey, IsRef, IsTerm, IsTerms, group_tree, ref_tree, term_tree};
-ghost use Rattle.cddl_tree.specs.View.{token_of, view_arg, view_entry, view_group, view_grpent, view_key, view_ref, view_type1, view_type2, view_types, with_entries};
+ghost use Rattle.cddl_tree.specs.View.{token_of, view_arg, view_entry, view_group, view_grpent, view_key, view_operator, view_ref, view_type1, view_type2, view_types, with_entries};
 
 use crate::leaves::{
     add_leaf, add_operation, entries_form, key_form, occurrence, read_literal, text_at,
 };
 use cddl_terms::{Form, NoRoom, Terms, opened_name};
 use cddl_tree::{
-    Entry, GenericArg, Group, GrpChoice, GrpEnt, MemberKey, Ref, Tree, Type1, Type2, Types,
+    Entry, GenericArg, Group, GrpChoice, GrpEnt, MemberKey, Operator, Ref, Tree, Type1, Type2,
+    Types,
 };
 
 /// The number of a type.
@@ -301,4 +302,24 @@ pub fn read_type_entry<'s>(
     ensures entry { IfOk result (λ n. IsEntry terms.new n (entry_of (S.typed None (view_types (token_of tree.now) types.now)))) }
 {
     read_inside(terms, tree, Form::Typed, None, types)
+}
+
+/// The number of a range or of a control, with both of its operands (RFC 8610, appendix B: type1).
+///
+/// # Errors
+///
+/// `NoRoom` where memory is refused, or each number of 32 bits is taken. The table may have grown.
+pub fn read_operation<'s>(
+    terms: &mut Terms<'s>,
+    tree: &Tree<'s>,
+    left: &Type2,
+    operator: &Operator,
+    right: &Type2,
+) -> Result<u32, NoRoom>
+    ensures grows { Grows terms.old terms.new }
+    ensures term { IfOk result (λ n. IsTerm terms.new n (operation (term_of2 (view_type2 (token_of tree.now) left.now)) (view_operator (token_of tree.now) operator.now) (term_of2 (view_type2 (token_of tree.now) right.now)))) }
+{
+    let first = read_operand(terms, tree, left)?;
+    let second = read_operand(terms, tree, right)?;
+    add_operation(terms, tree, operator, first, second)
 }

@@ -3,5 +3,4 @@ pub mod Names
 pub mod Openings
 pub mod Reads
 pub mod Sites
-pub mod Stage
 pub mod Told

@@ -8,7 +8,6 @@ mod kinds;
 mod marks;
 mod names;
 mod openings;
-mod stage;
 mod undefined_names;
 
 pub use crate::arity::wrong_arity;
@@ -16,5 +15,4 @@ pub use crate::controls::unknown_control;
 pub use crate::hashes::bad_hash;
 pub use crate::kinds::group_as_type;
 pub use crate::openings::wrong_opening;
-pub use crate::stage::not_yet;
 pub use crate::undefined_names::undefined;

@@ -15,8 +15,7 @@ use Rattle.cddl_specification.specs.declared.unread.Unread.TheVariants as Unread
 
 pub told : (x : Cddl) (n : Option Text) (text : List ℕ) (e : Unread) → IsTreeOfText x text → (worth : Values) × AreRight x worth → ((worth : Values) → AreRight x worth → IsStopped (specification x n) worth e) → IsUnreadText text n e
 told x n text UnreadV.Memory of some h = tt
-told x n text (UnreadV.NotYet at) of some h = record { tree = x; is_tree = of; least = h some.0 some.1 }
-told x n text (UnreadV.Refused f) of some h = has_fault of ((h some.0 some.1).0) (λ worth right. (h worth right).1)
+told x n text (UnreadV.Refused f) of some h = has_fault of h
 
 pub told_of_tokens : (ts : List Token) (n : Option Text) (text : List ℕ) (r : Refusal) → AreTokensOf ts text → Refuses ts r → IsUnreadText text n (unread_of r)
 told_of_tokens ts n text RefusalV.Memory are h = tt

@@ -15,7 +15,6 @@ use Rattle.cddl_kinds.specs.Kinds.{AreKinds}
 use Rattle.cddl_survey.specs.declared.survey.Survey.{Survey}
 use Rattle.cddl_survey.specs.Least.{IsLeast}
 use Rattle.cddl_survey.specs.Survey.{IsSurvey}
-use Rattle.cddl_site_faults.specs.Stage.{HasNotYet}
 use Rattle.cddl_live.specs.Live.{IsClear}
 use Rattle.cddl_check.specs.Codes.{text_codes}
 use Rattle.cddl_check.specs.First.{IsFirst}
@@ -25,6 +24,7 @@ use Rattle.cddl_reached.specs.Reached.{AreReachedSites}
 use Rattle.cddl_closed.specs.Closed.{IsClosed}
 use Rattle.cddl_openings.specs.Openings.{AreOpenings}
 use Rattle.cddl_literals.specs.Literals.{AreLiterals}
+use Rattle.cddl_sizes.specs.Sizes.{AreSizable, AreSizes}
 use Rattle.cddl_choosing.specs.Choosing.{AreChoosable}
 use Rattle.cddl_language.specs.MapFaults.{HasMapShape, HasNoKey, HasTooManyAlternatives}
 use Rattle.splices.specs.Summaries.{AreSummaries}
@@ -47,7 +47,6 @@ pub record IsGiven (s : Specification) (worth : Values) (x : Tree) (name : Optio
 
 -- Nothing is wrong in the whole text.
 pub record IsRight (s : Specification) (worth : Values) : Type 0 where
-  pub not_yet : IsLeast (HasNotYet s) None
   pub no_fault : IsFirst (IsFaultAt s worth) text_codes None
   pub clear : IsClear s
 
@@ -80,11 +79,13 @@ pub record IsAsking (s : Specification) (root : Text) (t : Table) (v : Survey) (
   pub entries : AreEntriesAsked (rules s) root t x.entries.items
   pub opens : IsLeast (OpensWrongly s root) x.opens
 
--- What the instances mean, open, write, and may be chosen from.
-pub record IsMeant (s : Specification) (root : Text) (refs : List Ref) (t : Table) (x : Meant) : Type 0 where
+-- What the instances mean and open, which literals and sizes types are, and what may be chosen from.
+pub record IsMeant (s : Specification) (worth : Values) (root : Text) (refs : List Ref) (t : Table) (x : Meant) : Type 0 where
   pub closed : IsClosed (definitions s) root refs t x.closed
   pub openings : AreOpenings (definitions s) t refs x.openings.items
-  pub literals : AreLiterals (definitions s) t refs x.literals.items
+  pub literals : AreLiterals (definitions s) root worth t x.literals
+  pub sizable : AreSizable (definitions s) root worth t x.sizable.items
+  pub sizes : AreSizes (definitions s) root worth t x.sizes
   pub choosable : AreChoosable (definitions s) root t x.choosable.items
 
 -- What the groups in maps stand for.
@@ -116,5 +117,5 @@ pub record IsReading (s : Specification) (worth : Values) (root : Text) (refs : 
   pub rooted : IsRooted s root refs tree x.instanced
   pub number : slice_get t.texts x.instanced.root ≡ Some root
   pub asking : IsAsking s root t x.survey x.questions
-  pub meant : IsMeant s root refs t x.meant
+  pub meant : IsMeant s worth root refs t x.meant
   pub splices : AreSplices s root t x.splices

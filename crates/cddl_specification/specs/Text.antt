@@ -1,5 +1,5 @@
 -- What is told of a text.
-use Rattle.std.specs.Prelude.{ℕ, List, map, All, Option, Some, None}
+use Rattle.std.specs.Prelude.{ℕ, List, map, All, Option}
 use Rattle.cddl_token.specs.declared.Token.{Token}
 use Rattle.cddl_token.specs.Answers.{IsReadFrom, IsTokenized, IsRefused as IsRefusedText, span}
 use Rattle.cddl_syntax.specs.Syntax.{Cddl}
@@ -8,8 +8,6 @@ use Rattle.cddl_language.specs.Terms.{Text}
 use Rattle.cddl_language.specs.Faults.{IsRefused, Specification}
 use Rattle.cddl_language.specs.Literals.{AreRight, Values}
 use Rattle.cddl_check.specs.declared.fault.Fault.{Fault}
-use Rattle.cddl_site_faults.specs.Stage.{HasNotYet}
-use Rattle.cddl_survey.specs.Least.{IsLeast}
 use Rattle.cddl_table.specs.declared.table.Table.{Table}
 use Rattle.cddl_specification.specs.Outcome.{IsTabled}
 use Rattle.cddl_specification.specs.declared.unread.Unread.{Unread}
@@ -39,16 +37,9 @@ pub record IsTabledText (text : List ℕ) (n : Option Text) (table : Table) : Ty
 pub data IsWrongText (text : List ℕ) (n : Option Text) (f : Fault) : Type 0 where
   no_tokens : IsRefusedText text f.code f.at → IsWrongText text n f
   no_tree : {ts : List Token} → AreTokensOf ts text → IsRefusedTokens ts f.code f.at → IsWrongText text n f
-  has_fault : {x : Cddl} → IsTreeOfText x text → IsLeast (HasNotYet (specification x n)) None → ((worth : Values) → AreRight x worth → IsRefused (specification x n) worth f.code f.at) → IsWrongText text n f
-
--- The least offset of what this version does not take.
-pub record IsNotYetText (text : List ℕ) (n : Option Text) (at : ℕ) : Type 0 where
-  pub tree : Cddl
-  pub is_tree : IsTreeOfText tree text
-  pub least : IsLeast (HasNotYet (specification tree n)) (Some at)
+  has_fault : {x : Cddl} → IsTreeOfText x text → ((worth : Values) → AreRight x worth → IsRefused (specification x n) worth f.code f.at) → IsWrongText text n f
 
 -- where memory is refused nothing is told
 abbrev pub IsUnreadText : List ℕ → Option Text → Unread → Type 0
 IsUnreadText text n (UnreadV.Refused f) = IsWrongText text n f
-IsUnreadText text n (UnreadV.NotYet at) = IsNotYetText text n at
 IsUnreadText text n UnreadV.Memory = Unit {0}

@@ -1,6 +1,7 @@
 -- How a fault is told.
 use Rattle.std.specs.Prelude.{◌≡◌, ℕ, Some}
 use Rattle.cddl_token.specs.declared.Code.{Code}
+use Rattle.cddl_token.specs.declared.Code.TheVariants.{Recursion}
 use Rattle.cddl_token.specs.declared.Refusal.{Refusal}
 use Rattle.cddl_token.specs.declared.Refusal.TheVariants as RefusalV
 use Rattle.cddl_survey.specs.Least.{IsLeast}
@@ -24,4 +25,4 @@ unread_of RefusalV.Memory = UnreadV.Memory
 -- what is told where no table is made
 abbrev pub unmade : Unmade → Unread
 unmade UnmadeV.NoRoom = UnreadV.Memory
-unmade UnmadeV.NotRanked = UnreadV.NotYet 0
+unmade UnmadeV.NotRanked = refused Recursion 0

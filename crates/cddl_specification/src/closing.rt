@@ -6,6 +6,7 @@ ghost use Rattle.cddl_instances.specs.Found.{AreFound};
 ghost use Rattle.cddl_kinds.specs.Kinds.{AreKinds};
 ghost use Rattle.cddl_language.specs.Environment.{most_names};
 ghost use Rattle.cddl_language.specs.Faults.{Specification, definitions};
+ghost use Rattle.cddl_language.specs.Literals.{AreRight, Values};
 ghost use Rattle.cddl_language.specs.Reach.{most_instances};
 ghost use Rattle.cddl_language.specs.StandsFor.{AreInstances};
 ghost use Rattle.cddl_language.specs.Terms.{Ref, Text};
@@ -19,8 +20,9 @@ use cddl_choosing::laws::texts_have_entries;
 use cddl_closed::{Closed, close};
 use cddl_instances::Instance;
 use cddl_kinds::Kinds;
-use cddl_literals::literals;
+use cddl_literals::{Literals, literals};
 use cddl_openings::{Opening, openings_of};
+use cddl_sizes::{Sizes, sizable, sizes};
 use cddl_terms::Terms;
 use std::alloc::Global;
 
@@ -30,13 +32,17 @@ pub(crate) struct Meant {
     pub closed: Closed,
     /// What `~` of each instance opens.
     pub openings: Vec<Opening>,
-    /// The written value that each instance is.
-    pub literals: Vec<Option<u32>>,
+    /// The literals that types are.
+    pub literals: Literals,
+    /// For each row whether it may be a controller of `.size`.
+    pub sizable: Vec<bool>,
+    /// The members of each such controller.
+    pub sizes: Sizes,
     /// For each row whether `&` can choose from it.
     pub choosable: Vec<bool>,
 }
 
-/// What the instances mean, open and write, and from which groups `&` can choose. The table grows by rows. There are so many
+/// What the instances mean and open, which literals and sizes types are, and from which groups `&` can choose. The table grows by rows. There are so many
 /// definitions in the prelude and the text together.
 pub(crate) fn close_instances(
     alloc: Global,
@@ -47,18 +53,22 @@ pub(crate) fn close_instances(
 ) -> Result<Meant, Unread>
     ensures grows { Grows terms.old terms.new }
     ensures texts { terms.new.texts ≡ terms.old.texts }
-    ensures meant { IfOk result (λ m. (s : Specification) (root : Text) (refs : List Ref) → AreInstances (definitions s) root refs → length refs ≤ most_instances → AreFound (definitions s) terms.old found.now refs → AreKinds terms.old.texts (definitions s) kinds.now → most ≡ most_names (definitions s) → IsMeant s root refs terms.new m) }
+    ensures meant { IfOk result (λ m. (s : Specification) (worth : Values) (root : Text) (refs : List Ref) → AreRight s.tree worth → AreInstances (definitions s) root refs → length refs ≤ most_instances → AreFound (definitions s) terms.old found.now refs → AreKinds terms.old.texts (definitions s) kinds.now → most ≡ most_names (definitions s) → IsMeant s worth root refs terms.new m) }
     ensures memory { IfErr result (λ e. e ≡ Why.Memory) }
 {
     texts_have_entries();
     let closed = close(alloc, terms, found)?;
     let openings = openings_of(alloc, terms, &closed, kinds, most)?;
     let literals = literals(alloc, terms, &closed, kinds)?;
+    let sizable = sizable(alloc, terms, &closed, kinds, &literals)?;
+    let sizes = sizes(alloc, terms, &closed, kinds, &literals, &sizable)?;
     let choosable = choosable(alloc, terms, &closed, kinds, &openings)?;
     Ok(Meant {
         closed,
         openings,
         literals,
+        sizable,
+        sizes,
         choosable,
     })
 }

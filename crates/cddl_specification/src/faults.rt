@@ -141,30 +141,21 @@ fn recursion_of(
     recursion(terms, tree, names, &reading.meant.closed, order)
 }
 
-/// The least offset of what items are compared with and is no literal.
+/// The least offset of what has to be a literal and is none.
 fn literal_of(terms: &Terms<'_>, reading: &Reading<'_>) -> Option<usize>
     ensures { (s : Specification) (worth : Values) (tree : Trees) (root : Text) (refs : List Ref) → AreRight s.tree worth → IsReading s worth root refs terms.now tree reading.now → IsLeast (HasNotLiteral s worth root) result }
 {
     let meant = &reading.meant;
-    not_literal(
-        terms,
-        &meant.closed,
-        &meant.literals,
-        &reading.questions.asked,
-    )
+    not_literal(terms, &meant.literals, &reading.questions.asked)
 }
 
-/// The least offset of what items are compared with by their order and is a literal and no whole number.
+/// The least offset of a controller that is not of the kind that its control asks for.
 fn controller_of(terms: &Terms<'_>, reading: &Reading<'_>) -> Option<usize>
     ensures { (s : Specification) (worth : Values) (tree : Trees) (root : Text) (refs : List Ref) → AreRight s.tree worth → IsReading s worth root refs terms.now tree reading.now → IsLeast (HasBadController s worth root) result }
 {
     let meant = &reading.meant;
-    bad_controller(
-        terms,
-        &meant.closed,
-        &meant.literals,
-        &reading.questions.asked,
-    )
+    let asked = &reading.questions.asked;
+    bad_controller(terms, &meant.literals, &meant.sizable, asked)
 }
 
 /// The least offset of a range or of an occurrence with bad ends.
@@ -174,5 +165,5 @@ fn range_of(terms: &Terms<'_>, tree: &Tree<'_>, reading: &Reading<'_>) -> Option
     let meant = &reading.meant;
     let asked = &reading.questions.asked;
     let reached = &reading.instanced.reached;
-    bad_range(terms, tree, &meant.closed, &meant.literals, asked, reached)
+    bad_range(terms, tree, &meant.literals, asked, reached)
 }

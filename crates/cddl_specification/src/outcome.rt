@@ -20,13 +20,10 @@ pub enum Outcome {
     Accepted(Table),
     /// Its first fault.
     Refused(Fault),
-    /// The offset in bytes of a control, which this version reads and does not take.
-    NotYet(usize),
 }
 
 /// What is told of the specification of this tree (RFC 8610): its table; or of the lowest code that stands anywhere the least
-/// offset; or, before that, the least offset of a control that this version does not take. Its root is the given name, or
-/// the first rule's. The tree is one of tokens, as `cddl_parse` makes it.
+/// offset. Its root is the given name, or the first rule's. The tree is one of tokens, as `cddl_parse` makes it.
 ///
 /// The time and the memory are those of the stages together: n log n for a text of n bytes until the instances are known, of
 /// which there may be 1,024; then in proportion to the rows of these and to the forms of the table. Nothing recurses.
@@ -49,7 +46,6 @@ fn outcome_of(why: Unread) -> Result<Outcome, AllocError>
 {
     match why {
         Unread::Refused(fault) => Ok(Outcome::Refused(fault)),
-        Unread::NotYet(at) => Ok(Outcome::NotYet(at)),
         Unread::Memory => Err(AllocError),
     }
 }

@@ -23,8 +23,7 @@ use std::alloc::Global;
 ///
 /// [`Unread::Refused`] with what is wrong, and the byte where it shows: of the text's first token that cannot be read, or else
 /// of the first that fits no specification, or else of the lowest code that stands anywhere in the tree the least offset.
-/// [`Unread::NotYet`] with the least offset of a control that this version does not take, where the text is a tree, whatever else
-/// is wrong with it. [`Unread::Memory`] where memory was refused, or each number of 32 bits was taken.
+/// [`Unread::Memory`] where memory was refused, or each number of 32 bits was taken.
 pub fn read_specification(alloc: Global, text: &[u8], root: Option<&str>) -> Result<Table, Unread>
     ensures tabled { IfOk result (λ table. IsTabledText text.now (option_map (λ t. t.now) root.entry) table) }
     ensures unread { IfErr result (λ e. IsUnreadText text.now (option_map (λ t. t.now) root.entry) e) }

@@ -3,6 +3,7 @@
 ghost use Rattle.std.specs.Prelude.{◌≡◌, IfErr, IfOk, List};
 ghost use Rattle.cddl_kinds.specs.Kinds.{AreKinds};
 ghost use Rattle.cddl_language.specs.Faults.{Specification, definitions};
+ghost use Rattle.cddl_language.specs.Literals.{Values};
 ghost use Rattle.cddl_language.specs.Terms.{Ref, Text};
 ghost use Rattle.cddl_specification.specs.Stages.{AreSplices, IsMeant};
 ghost use Rattle.cddl_specification.specs.declared.unread.Unread.TheVariants as Why;
@@ -30,7 +31,7 @@ pub(crate) fn splices_of(
     kinds: &Kinds,
     meant: &Meant,
 ) -> Result<Splices, Unread>
-    ensures found { IfOk result (λ x. (s : Specification) (root : Text) (refs : List Ref) → AreKinds terms.now.texts (definitions s) kinds.now → IsMeant s root refs terms.now meant.now → AreSplices s root terms.now x) }
+    ensures found { IfOk result (λ x. (s : Specification) (worth : Values) (root : Text) (refs : List Ref) → AreKinds terms.now.texts (definitions s) kinds.now → IsMeant s worth root refs terms.now meant.now → AreSplices s root terms.now x) }
     ensures memory { IfErr result (λ e. e ≡ Why.Memory) }
 {
     let parts = parts_of(alloc, terms, &meant.closed, kinds, &meant.openings)?;

@@ -14,13 +14,14 @@ ghost use Rattle.cddl_specification.specs.Told.{unmade};
 
 use crate::faults::ranks_of;
 use crate::reading::{Reading, read_tree};
-use crate::unread::Unread;
+use crate::unread::{Unread, refused};
 use cddl_check::laws::root_is_type;
 use cddl_compile::{Unmade, table_of};
 use cddl_nodes::Source;
 use cddl_recursion::Ranks;
 use cddl_table::Table;
 use cddl_terms::Terms;
+use cddl_token::Code;
 use cddl_tree::Tree;
 use std::alloc::Global;
 
@@ -57,6 +58,7 @@ fn table_from(
         kinds: &reading.questions.naming.kinds,
         openings: &meant.openings,
         literals: &meant.literals,
+        sizes: &meant.sizes,
         choosable: &meant.choosable,
         parts: &reading.splices.parts,
         summaries: &reading.splices.summaries,
@@ -67,13 +69,13 @@ fn table_from(
     }
 }
 
-/// Why there is no table. Ranks that do not go down never come of tokens: what is told of them then is excluded by the contract
-/// of the caller, where nothing stands at an offset that this version does not take.
+/// Why there is no table. Ranks that do not go down never come of tokens: what is told of them is excluded by the contract of the
+/// caller, whose specification has no recursion.
 fn unmade(why: Unmade) -> Unread
     ensures { result ≡ unmade why }
 {
     match why {
         Unmade::NoRoom => Unread::Memory,
-        Unmade::NotRanked => Unread::NotYet(0),
+        Unmade::NotRanked => refused(Code::Recursion, 0),
     }
 }

@@ -10,14 +10,12 @@ ghost use Rattle.cddl_specification.specs.Stages.{IsGiven, IsRight};
 use crate::unread::Unread;
 use cddl_check::laws::{text_fault_is_told, text_is_clear};
 use cddl_check::text_fault;
-use cddl_site_faults::not_yet;
 use cddl_survey::{Survey, survey_of};
 use cddl_terms::Terms;
 use cddl_tree::Tree;
 use std::alloc::Global;
 
-/// The survey of a text in which nothing is wrong, whatever its root reaches; or the least offset of what this version does not
-/// take, or else the first fault.
+/// The survey of a text in which nothing is wrong, whatever its root reaches; or the first fault.
 pub(crate) fn clear_text<'s, 't>(
     alloc: Global,
     terms: &mut Terms<'s>,
@@ -31,9 +29,6 @@ pub(crate) fn clear_text<'s, 't>(
     text_fault_is_told();
     let survey = survey_of(alloc, terms, tree)?;
     text_is_clear(terms);
-    if let Some(at) = not_yet(tree, &survey) {
-        return Err(Unread::NotYet(at));
-    }
     match text_fault(alloc, terms, tree, &survey, given)? {
         Some(fault) => Err(Unread::Refused(fault)),
         None => Ok(survey),

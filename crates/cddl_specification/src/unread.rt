@@ -16,8 +16,6 @@ pub enum Unread {
     Memory,
     /// What is wrong, and where.
     Refused(Fault),
-    /// The offset in bytes of a control, which this version reads and does not take.
-    NotYet(usize),
 }
 
 impl From<AllocError> for Unread {

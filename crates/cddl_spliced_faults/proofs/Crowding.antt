@@ -3,7 +3,7 @@ use Rattle.std.proofs.Common.{◌≡◌, ℕ, Bool, true, false, if◌then◌els
 use Rattle.std.specs.List.{Contains}
 use Rattle.cddl_token.specs.declared.Token.{Token}
 use Rattle.cddl_syntax.specs.Syntax as S
-use Rattle.cddl_language.specs.Controls.{Comparison, is_ordering}
+use Rattle.cddl_language.specs.Controls.{Comparison, is_ordering, Computation, sum, join}
 use Rattle.cddl_language.specs.Faults.{Specification, definitions, rules}
 use Rattle.cddl_language.specs.MapFaults.{HasTooManyAlternatives}
 use Rattle.cddl_language.specs.Reach.{Point, Reaches, group_points, ref_at}
@@ -16,7 +16,7 @@ use Rattle.cddl_map_faults.specs.Faults.{AreFaults}
 use Rattle.cddl_reached.specs.declared.asked.Asked.{Asked}
 use Rattle.cddl_reached.specs.declared.asked.Question.{Question}
 use Rattle.cddl_reached.specs.declared.asked.Question.TheVariants as QuestionV
-use Rattle.cddl_reached.specs.Asked.{AreAsked, IsAsked, choosing, choosing_by_name, comparand_question, controller, first_end, last_end, of_map}
+use Rattle.cddl_reached.specs.Asked.{AreAsked, IsAsked, choosing, choosing_by_name, comparand_question, computation, controller, first_end, last_end, left_operand, of_map, operand_question, size_controller}
 use Rattle.cddl_survey.specs.Least.{IsLeast}
 use Rattle.cddl_terms.specs.Table.{Table}
 use Rattle.cddl_spliced_faults.specs.Least.{least_over}
@@ -47,6 +47,10 @@ module _ (s : Specification) (root : Text) (inside : AreGroupsReached s root) (t
       by true = refl
       by false = refl
 
+  no_operand : (c : Computation) (o : Option ℕ) → crowded_by (operand_question c) o ≡ None
+  no_operand sum o = refl
+  no_operand (join j) o = refl
+
   of_question : (a : Asked) (at : ℕ) → IsAsked (rules s) root t a → crowded_at faults a ≡ Some at → HasTooManyAlternatives (rules s) root at
   of_question a at (of_map {r = r} {xs = xs} {u = u} {g = g} h is start q) e =
       let told = told_parts (L.has_too_many faults a.row) a.at at (with_question _ a at q e) in
@@ -62,6 +66,9 @@ module _ (s : Specification) (root : Text) (inside : AreGroupsReached s root) (t
   of_question a at (choosing h is start q) e = no_offset at (with_question _ a at q e)
   of_question a at (choosing_by_name h is start q) e = no_offset at (with_question _ a at q e)
   of_question a at (controller {c = c} h o is start q) e = no_offset at (sym (uncrowded c (crowded a)) ∙ with_question _ a at q e)
+  of_question a at (size_controller h o is start q) e = no_offset at (with_question _ a at q e)
+  of_question a at (left_operand {c = c} h o is start q) e = no_offset at (sym (no_operand c (crowded a)) ∙ with_question _ a at q e)
+  of_question a at (computation h o is start q) e = no_offset at (with_question _ a at q e)
   of_question a at (first_end h o is start q) e = no_offset at (with_question _ a at q e)
   of_question a at (last_end h o is start q) e = no_offset at (with_question _ a at q e)
 

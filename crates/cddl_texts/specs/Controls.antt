@@ -4,6 +4,8 @@ use Rattle.cddl_texts.specs.declared.controls.Control.{Control}
 use Rattle.cddl_texts.specs.declared.controls.Control.TheVariants as C
 use Rattle.cddl_texts.specs.declared.controls.Comparison.{Comparison}
 use Rattle.cddl_texts.specs.declared.controls.Comparison.TheVariants as Comp
+use Rattle.cddl_texts.specs.declared.controls.Computation.{Computation}
+use Rattle.cddl_texts.specs.declared.controls.Computation.TheVariants as Comput
 
 abbrev pub comparison_view : Comparison → L.Comparison
 comparison_view Comp.Equal = L.equal
@@ -13,10 +15,15 @@ comparison_view Comp.AtMost = L.at_most
 comparison_view Comp.Greater = L.greater
 comparison_view Comp.AtLeast = L.at_least
 
+abbrev pub computation_view : Computation → L.Computation
+computation_view Comput.Sum = L.sum
+computation_view (Comput.Join j) = L.join j
+
 abbrev pub control_view : Control → L.Control
 control_view C.LeftAlone = L.left_alone
 control_view C.LeftAndRight = L.left_and_right
 control_view C.HeldItem = L.held_item
 control_view C.HeldSequence = L.held_sequence
 control_view (C.Compared c) = L.compared (comparison_view c)
-control_view C.ByValue = L.by_value
+control_view C.Sized = L.sized
+control_view (C.Computed c) = L.computed (computation_view c)

@@ -6,6 +6,8 @@ ghost use Rattle.std.specs.List.{list_any};
 ghost use Rattle.cddl_language.specs.Controls as L;
 ghost use Rattle.cddl_texts.specs.Controls.{control_view};
 
+use cddl_operators::Joining;
+
 /// How a control asks its controller, the type on its right, of an item that the type on its left says yes to.
 #[derive(Clone, Copy, Debug, PartialEq, Eq)]
 pub enum Control {
@@ -19,8 +21,10 @@ pub enum Control {
     HeldSequence,
     /// The item is compared with the controller, a literal: `.eq`, `.ne`, `.lt`, `.le`, `.gt` and `.ge`.
     Compared(Comparison),
-    /// Its controller is another value.
-    ByValue,
+    /// The size of the item is a member of the controller: `.size`.
+    Sized,
+    /// The item is the literal that is computed from both sides: `.plus`, `.cat` and `.det`.
+    Computed(Computation),
 }
 
 /// How an item is compared with a literal (RFC 8610 section 3.8.6).
@@ -32,6 +36,15 @@ pub enum Comparison {
     AtMost,
     Greater,
     AtLeast,
+}
+
+/// How a literal is computed from two (RFC 9165 section 2).
+#[derive(Clone, Copy, Debug, PartialEq, Eq)]
+pub enum Computation {
+    /// The sum of two whole numbers: `.plus`.
+    Sum,
+    /// Two strings in one: `.cat` and `.det`.
+    Join(Joining),
 }
 
 const LEFT_ALONE: [&str; 1] = ["default"];
@@ -54,7 +67,13 @@ const GREATER: [&str; 1] = ["gt"];
 
 const AT_LEAST: [&str; 1] = ["ge"];
 
-const BY_VALUE: [&str; 4] = ["size", "plus", "cat", "det"];
+const SIZED: [&str; 1] = ["size"];
+
+const SUM: [&str; 1] = ["plus"];
+
+const JOIN: [&str; 1] = ["cat"];
+
+const DEDENTED_JOIN: [&str; 1] = ["det"];
 
 /// The control of this name, given without its `.`, if it is known (RFC 8610 section 3.8; RFC 9165).
 pub fn control_of(name: &str) -> Option<Control>
@@ -89,8 +108,23 @@ fn control_by_value(name: &str) -> Option<Control>
         Some(Control::Compared(Comparison::Greater))
     } else if is_among(&AT_LEAST, name) {
         Some(Control::Compared(Comparison::AtLeast))
-    } else if is_among(&BY_VALUE, name) {
-        Some(Control::ByValue)
+    } else if is_among(&SIZED, name) {
+        Some(Control::Sized)
+    } else {
+        control_that_computes(name)
+    }
+}
+
+/// The control of this name, if it is one that computes a literal.
+fn control_that_computes(name: &str) -> Option<Control>
+    ensures { option_map control_view result ≡ L.control_among L.controls_that_compute name.now }
+{
+    if is_among(&SUM, name) {
+        Some(Control::Computed(Computation::Sum))
+    } else if is_among(&JOIN, name) {
+        Some(Control::Computed(Computation::Join(Joining::AsTheyAre)))
+    } else if is_among(&DEDENTED_JOIN, name) {
+        Some(Control::Computed(Computation::Join(Joining::Dedented)))
     } else {
         None
     }

@@ -1,6 +1,3 @@
-pub mod Commands
-pub mod Devices
-pub mod Meeting
-pub mod Limiting
 pub mod Refusing
 pub mod Telling
+mod Fronts

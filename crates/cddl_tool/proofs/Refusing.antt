@@ -5,8 +5,8 @@ use Rattle.cddl_specification.specs.Text.{IsUnreadText}
 use Rattle.cddl_specification.specs.declared.unread.Unread.{Unread}
 use Rattle.cddl_specification.specs.declared.unread.Unread.TheVariants as UnreadV
 use Rattle.cddl_check.specs.declared.fault.Fault.{Fault}
-use Rattle.cddl_tool.specs.declared.status.TheConstants.{REFUSED, BROKEN}
-use Rattle.cddl_tool.specs.Acting.{IsRefusedText, is_wrong, not_yet}
+use Rattle.tool_words.specs.declared.status.TheConstants.{REFUSED, BROKEN}
+use Rattle.cddl_tool.specs.Acting.{IsRefusedText}
 
 -- the status says that the text is refused, or that something broke
 abbrev pub Tells : List ℕ → Option (List ℕ) → ℕ → Type 0
@@ -25,7 +25,4 @@ abbrev pub Refuses : Unread → Type 0
 Refuses why = (text : List ℕ) (root : Option (List ℕ)) → IsUnreadText text root why → IsRefusedText text root
 
 pub for_what_is_wrong : (f : Fault) → Refuses (UnreadV.Refused f)
-for_what_is_wrong f text root h = is_wrong h
-
-pub for_what_is_not_taken : (at : ℕ) → Refuses (UnreadV.NotYet at)
-for_what_is_not_taken at text root h = not_yet h
+for_what_is_wrong f text root h = (f, h)

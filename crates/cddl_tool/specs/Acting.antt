@@ -10,12 +10,12 @@ use Rattle.seq_run.specs.declared.output.Mode.TheVariants as mode
 use Rattle.seq_run.specs.declared.running.RunFault.{RunFault}
 use Rattle.seq_run.specs.Report.{end_line}
 use Rattle.seq_run.specs.Running.{Change, HasFailed, HasNotFailed, IsFault, WritesAll}
-use Rattle.cddl_specification.specs.Text.{IsNotYetText, IsWrongText}
+use Rattle.cddl_specification.specs.Text.{IsWrongText}
 use Rattle.cddl_check.specs.declared.fault.Fault.{Fault}
-use Rattle.cddl_tool.specs.declared.choice.Options.{Options}
-use Rattle.cddl_tool.specs.declared.choice.Task.{Task}
-use Rattle.cddl_tool.specs.declared.choice.Task.TheVariants.{Check, Validate, Rewrite, Show}
-use Rattle.cddl_tool.specs.declared.status.TheConstants.{BROKEN}
+use Rattle.tool_words.specs.declared.choice.Options.{Options}
+use Rattle.tool_words.specs.declared.choice.Task.{Task}
+use Rattle.tool_words.specs.declared.choice.Task.TheVariants.{Check, Validate, Rewrite, Show}
+use Rattle.tool_words.specs.declared.status.TheConstants.{BROKEN}
 
 -- the specification of a task: to show a stream, that of any item
 abbrev pub specification_of : Task → List ℕ → List ℕ
@@ -24,10 +24,9 @@ specification_of Validate spec = spec
 specification_of Rewrite spec = spec
 specification_of Show spec = codes "a = any"
 
--- Why the text, with this name as its root, is refused: for what is wrong with it, or for what this version does not take.
-pub data IsRefusedText (text : List ℕ) (root : Option (List ℕ)) : Type 0 where
-  is_wrong : {f : Fault} → IsWrongText text root f → IsRefusedText text root
-  not_yet : {at : ℕ} → IsNotYetText text root at → IsRefusedText text root
+-- Something is wrong with the text, with this name as its root.
+abbrev pub IsRefusedText : List ℕ → Option (List ℕ) → Type 0
+IsRefusedText text root = (f : Fault) × IsWrongText text root f
 
 -- the line that says that a specification is accepted
 abbrev pub accepted_line : List ℕ

@@ -1,3 +1,1 @@
 pub mod Acting
-pub mod Chosen
-pub mod Errors

@@ -1,6 +1,6 @@
 //! What the program does with a specification and a stream.
 
-ghost use Rattle.std.specs.Prelude.{◌≡◌, ◌≢◌, ◌≤◌, ◌⊎◌, ℕ, List, Option, IfOk, IfErr, IfSome, OnOk, option_copied, option_map, string_bytes, vec_items};
+ghost use Rattle.std.specs.Prelude.{◌≡◌, ◌≢◌, ◌⊎◌, ℕ, List, Option, IfOk, IfErr, IfSome, option_copied, option_map, string_bytes};
 ghost use Rattle.cbor_item.specs.Counted.{device_of};
 ghost use Rattle.cddl_specification.specs.Text.{IsTabledText, IsUnreadText};
 ghost use Rattle.seq_run.specs.Judge.{judge_of};
@@ -8,43 +8,14 @@ ghost use Rattle.seq_run.specs.Report.{IsShown};
 ghost use Rattle.seq_run.specs.Running.{change_of};
 ghost use Rattle.cddl_tool.specs.Acting.{mode_of, report_mode_of, specification_of, status_for, IsAccepted, IsAnswered, IsBroken, IsCutOff, IsRefusedText, IsTold};
 
-use crate::choice::{Options, Task};
-use crate::lines::{say, say_of_file};
-use crate::status::{BROKEN, FAILED, REFUSED};
 use cbor_item::{Counted, Sound, write_bytes};
 use cddl_specification::{Unread, read_specification};
 use cddl_table::Table;
 use cddl_token::Refusal;
 use seq_run::{End, Mode, RunFault, end_line, run};
 use std::alloc::Global;
-use std::io::{ErrorKind, Read, Write};
-
-/// Reads the text of a specification: all that is left in its file.
-///
-/// # Errors
-///
-/// [`BROKEN`], with a line on `err`, where the file cannot be read, which is told by its name, or an allocation was
-/// refused.
-pub fn read_text<R: Read, E: Write>(
-    alloc: Global,
-    file: &mut R,
-    name: &str,
-    err: &mut Counted<E>,
-) -> Result<Vec<u8>, u8>
-    ensures whole { IfOk result (λ text. IfSome (R.remaining file.old) (λ bytes. vec_items text ≡ bytes)) }
-    ensures quiet { OnOk result (err.new ≡ err.old) }
-    ensures broken { IfErr result (λ status. status ≡ BROKEN) }
-{
-    let mut text = Vec::new(alloc);
-    match file.read_to_end(&mut text) {
-        Ok(_) => Ok(text),
-        Err(error) if error.kind() == ErrorKind::OutOfMemory => {
-            say(b"out of memory\n", err);
-            Err(BROKEN)
-        }
-        Err(_) => Err(say_of_file("cannot read ", name, err)),
-    }
-}
+use std::io::{Read, Write};
+use tool_words::{BROKEN, FAILED, Options, REFUSED, Task, say};
 
 /// Reads the specification: `spec`, or to show a stream `a = any`. The root is the name that the options give, or the first
 /// rule.
@@ -106,7 +77,6 @@ fn line_of(alloc: Global, why: Unread) -> Option<String>
             let refusal = Refusal::At(fault.code, fault.at);
             format!(in alloc; "{refusal}\n").ok()
         }
-        Unread::NotYet(at) => format!(in alloc; "refused: C0 NotYet at byte {at}\n").ok(),
         Unread::Memory => None,
     }
 }

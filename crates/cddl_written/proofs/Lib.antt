@@ -4,5 +4,4 @@ pub mod Found
 pub mod Meant
 pub mod Operands
 pub mod Reached
-pub mod Settled
 pub mod Standing

@@ -2,16 +2,15 @@
 use Rattle.std.proofs.Common.{◌≡◌, Some, subst}
 use Rattle.std.specs.Prelude.{Contains}
 use Rattle.cddl_syntax.specs.Syntax.{Cddl}
-use Rattle.cddl_language.specs.Terms.{Text, Literal, Term, Ref, Group, Entries}
+use Rattle.cddl_language.specs.Terms.{Text, Term, Ref, Group, Entries}
 use Rattle.cddl_language.specs.Kinds.{opened, opens_group, opens_type}
-use Rattle.cddl_language.specs.Literals.{AreRight, Means, Values, literal_of}
+use Rattle.cddl_language.specs.Literals.{AreRight, Values}
 use Rattle.cddl_language.specs.Reach.{Reaches}
 use Rattle.cddl_language.specs.Reading.{definitions_in, rules_of}
 use Rattle.cddl_language.specs.Substitution.{group_choices, type_choices}
 use Rattle.cddl_written.specs.Written.{AllIn, AllInRef, AllInGroup, AllInEntries, IsMeant}
 use Rattle.cddl_written.proofs.Found.{AllDefinitions, in_tree}
 use Rattle.cddl_written.proofs.Reached.{AllInOpened, in_group_choices, in_opened, in_reached, in_type_choices, one_alternative, one_term}
-use Rattle.cddl_written.proofs.Settled.{settled, the_written}
 
 module _ (x : Cddl) (worth : Values) (right : AreRight x worth) where
   definitions_meant : AllDefinitions (IsMeant worth) (definitions_in (rules_of x))
@@ -32,6 +31,3 @@ module _ (x : Cddl) (worth : Values) (right : AreRight x worth) where
 
     pub content_meant : (t : Term) → opened (definitions_in (rules_of x)) r ≡ Some (opens_type t) → AllIn (IsMeant worth) t
     content_meant t e = subst (AllInOpened (IsMeant worth)) e (in_opened (IsMeant worth) (definitions_in (rules_of x)) r definitions_meant reference_meant)
-
-  pub literal_meant : (t : Term) (v : Literal) → AllIn (IsMeant worth) t → ((w : Values) → literal_of w (definitions_in (rules_of x)) t ≡ Some (w v)) → Means v (worth v)
-  literal_meant t v h f = the_written (IsMeant worth) (λ w. literal_of w (definitions_in (rules_of x)) t) v (settled (IsMeant worth) (definitions_in (rules_of x)) definitions_meant t h) f

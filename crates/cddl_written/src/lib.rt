@@ -4,12 +4,12 @@
 
 ghost use Rattle.std.specs.Prelude.{◌≡◌, Contains, List, Some};
 ghost use Rattle.cddl_language.specs.Kinds.{opened, opens_group, opens_type};
-ghost use Rattle.cddl_language.specs.Literals.{AreRight, Means, Values, literal_of};
+ghost use Rattle.cddl_language.specs.Literals.{AreRight, Values};
 ghost use Rattle.cddl_language.specs.Reach.{Reaches};
 ghost use Rattle.cddl_language.specs.Reading.{definitions_in, parameters_in, rules_of, term_of2};
 ghost use Rattle.cddl_language.specs.Sites.{IsReached, Site, an_operation};
 ghost use Rattle.cddl_language.specs.Substitution.{fill, group_choices, type_choices};
-ghost use Rattle.cddl_language.specs.Terms.{Entries, Group, Literal, Ref, Term, Text};
+ghost use Rattle.cddl_language.specs.Terms.{Entries, Group, Ref, Term, Text};
 ghost use Rattle.cddl_syntax.specs.Syntax.{Cddl, Lexeme, Operator, Rule, Type2, flat};
 ghost use Rattle.cddl_written.specs.Sites.{site_lexemes};
 ghost use Rattle.cddl_written.specs.Written.{AllIn, AllInEntries, AllInGroup, AllInRef, IsMeant};
@@ -22,12 +22,6 @@ pub fn reached_values()
     ensures alternatives { (x : Cddl) (worth : Values) → AreRight x worth → (root : Text) (r : Ref) → Reaches (definitions_in (rules_of x)) root r → (es : Entries) → Contains (group_choices (definitions_in (rules_of x)) r) es → AllInEntries (IsMeant worth) es }
     ensures opened_group { (x : Cddl) (worth : Values) → AreRight x worth → (root : Text) (r : Ref) → Reaches (definitions_in (rules_of x)) root r → (g : Group) → opened (definitions_in (rules_of x)) r ≡ Some (opens_group g) → AllInGroup (IsMeant worth) g }
     ensures content { (x : Cddl) (worth : Values) → AreRight x worth → (root : Text) (r : Ref) → Reaches (definitions_in (rules_of x)) root r → (t : Term) → opened (definitions_in (rules_of x)) r ≡ Some (opens_type t) → AllIn (IsMeant worth) t }
-{}
-
-/// Where a type is one written value, whatever values stand for, that one is taken for what it stands for, as those in the type
-/// are.
-pub fn written_value()
-    ensures { (x : Cddl) (worth : Values) → AreRight x worth → (t : Term) (v : Literal) → AllIn (IsMeant worth) t → ((w : Values) → literal_of w (definitions_in (rules_of x)) t ≡ Some (w v)) → Means v (worth v) }
 {}
 
 /// The tokens of a site that is reached stand in the text.

@@ -6,22 +6,20 @@ use cbor_item::Counted;
 use cddl_table::Table;
 use cddl_tool::{
     BROKEN, Options, Task, Use, accept, act, options, read_text, ready, say, say_of_file,
-    stream_name,
+    say_words, stream_name,
 };
 use std::alloc::{AllocError, Global};
+use std::env::Env;
 use std::io::{self, ErrorKind, Read, Write};
 use std::process::ExitCode;
-use std::{env, fs};
+use std::{env, fs, str};
 
 fn main(rt: HostRuntime) -> ExitCode {
     let mut err = Counted::new(rt.stderr());
     let status = match arguments(&rt) {
         Ok(words) => program(&rt, words.as_slice(), &mut err),
         Err(error) if error.kind() == ErrorKind::OutOfMemory => out_of_memory(&mut err),
-        Err(_) => {
-            say(b"an argument is not text\n", &mut err);
-            BROKEN
-        }
+        Err(_) => say_no_text(&rt, &mut err),
     };
     ExitCode::from(status)
 }
@@ -30,13 +28,47 @@ fn arguments(rt: &HostRuntime) -> io::Result<Vec<String>> {
     Ok(env::args(rt)?.collect(rt.alloc())?)
 }
 
+// How many bytes an argument may have: as many as the system lets one have.
+const MOST_ARGUMENT: usize = 131_072;
+
+// Says which argument is not UTF-8. The program's own name has the number 0.
+fn say_no_text<E: Write>(rt: &HostRuntime, err: &mut Counted<E>) -> u8 {
+    let Ok(number) = number_of_no_text(rt) else {
+        return out_of_memory(err);
+    };
+    let Ok(line) = format!(in rt.alloc(); "argument {number} is not UTF-8\n") else {
+        return out_of_memory(err);
+    };
+    say(line.as_str().as_bytes(), err);
+    BROKEN
+}
+
+fn number_of_no_text(rt: &HostRuntime) -> Result<usize, AllocError> {
+    let mut buffer: Vec<u8> = Vec::new(rt.alloc());
+    buffer.resize(MOST_ARGUMENT, 0)?;
+    for number in 0..usize::MAX {
+        match rt.arg(number, &mut buffer) {
+            Ok(len) if is_text(&buffer, len) => {}
+            _ => return Ok(number),
+        }
+    }
+    Ok(0)
+}
+
+fn is_text(buffer: &[u8], len: usize) -> bool {
+    match buffer.get(..len) {
+        Some(argument) => str::from_utf8(argument).is_ok(),
+        None => false,
+    }
+}
+
 // Does what the words say, and answers the exit status.
 fn program<E: Write>(rt: &HostRuntime, words: &[String], err: &mut Counted<E>) -> u8 {
     match options_of(rt.alloc(), words) {
         Ok(options) => perform(rt, &options, err),
         Err(Use::Words(error)) => {
-            let _ = error.print(rt);
-            if error.use_stderr() { BROKEN } else { 0 }
+            let mut output = Counted::new(rt.stdout());
+            say_words(rt.alloc(), &error, &mut output, err)
         }
         Err(Use::Memory) => out_of_memory(err),
     }

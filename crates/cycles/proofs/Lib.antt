@@ -8,3 +8,5 @@ pub mod Moves
 pub mod Ends
 pub mod Flags
 pub mod Loops
+pub mod Taking
+pub mod Following

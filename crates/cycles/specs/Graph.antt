@@ -1,5 +1,5 @@
 -- Graphs of nodes by number: their edges, where these lead, ranks that go down along them, and the nodes on cycles.
-use Rattle.std.specs.Prelude.{◌≡◌, ◌↔◌, ℕ, ◌<◌, List, length, Bool, true, Some, slice_get}
+use Rattle.std.specs.Prelude.{◌≡◌, ◌↔◌, ℕ, ◌<◌, List, length, Bool, true, Some, slice_get, Contains}
 use Rattle.cycles.specs.declared.Edge.{Edge}
 use Rattle.cycles.specs.declared.Order.{Order}
 use Rattle.cycles.specs.declared.Order.TheVariants as OrderV
@@ -31,3 +31,11 @@ pub record AreOnCycles (nodes : ℕ) (edges : List Edge) (flags : List Bool) : T
 abbrev pub IsOrder : ℕ → List Edge → Order → Type 0
 IsOrder nodes edges (OrderV.Ranks v) = AreRanks nodes edges v.items
 IsOrder nodes edges (OrderV.Cycles v) = AreOnCycles nodes edges v.items
+
+-- Nodes in an order in which each comes after those to which its edges lead, and comes once. It has all that can be
+-- ordered so: each other node leads to one that is not in it.
+pub record IsBottomUp (nodes : ℕ) (edges : List Edge) (order : List ℕ) : Type 0 where
+  pub within : (i a : ℕ) → slice_get order i ≡ Some a → a < nodes
+  pub once : (i j a : ℕ) → slice_get order i ≡ Some a → slice_get order j ≡ Some a → i ≡ j
+  pub after : (i a b : ℕ) → slice_get order i ≡ Some a → IsEdge nodes edges a b → (j : ℕ) × (j < i) × (slice_get order j ≡ Some b)
+  pub others : (a : ℕ) → a < nodes → (Contains order a → ⊥) → (b : ℕ) × IsEdge nodes edges a b × (Contains order b → ⊥)

@@ -1,3 +1,4 @@
 pub mod Graph
 pub mod Links
 pub mod Search
+pub mod Turns

@@ -1,9 +1,11 @@
-//! Ranks that go down along the edges of a graph, or where there are none, the nodes on its cycles.
+//! Ranks that go down along the edges of a graph, or where there are none, the nodes on its cycles; and nodes in an order in
+//! which each comes after those to which its edges lead.
 #![tactic(auto)]
 
 mod graph;
 pub mod laws;
 mod search;
+mod turns;
 
 ghost use Rattle.std.specs.Prelude.{◌≡◌, IfOk};
 ghost use Rattle.cycles.specs.Graph.{IsOrder};
@@ -11,6 +13,7 @@ ghost use Rattle.cycles.specs.Links.{AreNumbers, inside, flags_of};
 
 use crate::graph::graph_of;
 use crate::search::numbers_of;
+pub use crate::turns::bottom_up;
 use std::alloc::{AllocError, Global};
 
 /// An edge from one node to another.

@@ -1,4 +1,4 @@
-use crate::{Edge, Order, order_of};
+use crate::{Edge, Order, bottom_up, order_of};
 use std::alloc::{AllocError, Global};
 
 fn edges_of(alloc: Global, pairs: &[(usize, usize)]) -> Result<Vec<Edge>, AllocError> {
@@ -36,6 +36,28 @@ fn has_cycles(
         Order::Ranks(_) => Ok(false),
         Order::Cycles(found) => Ok(found.as_slice() == flags),
     }
+}
+
+fn has_bottom_up(
+    alloc: Global,
+    nodes: usize,
+    pairs: &[(usize, usize)],
+    wanted: &[usize],
+) -> Result<bool, AllocError> {
+    let edges = edges_of(alloc, pairs)?;
+    let order = bottom_up(alloc, nodes, &edges)?;
+    Ok(order.as_slice() == wanted)
+}
+
+#[test]
+fn orders_nodes_bottom_up(rt: HostRuntime) -> Result<(), AllocError> {
+    let alloc = rt.alloc();
+    assert!(rt; has_bottom_up(alloc, 0, &[(0, 0)], &[])?);
+    assert!(rt; has_bottom_up(alloc, 1, &[(0, 0)], &[])?);
+    assert!(rt; has_bottom_up(alloc, 2, &[(0, 2), (2, 0), (1, 9), (0, 1), (0, 1)], &[1, 0])?);
+    let held: &[(usize, usize)] = &[(0, 1), (1, 2), (2, 1), (2, 3), (4, 3), (5, 4), (5, 0)];
+    assert!(rt; has_bottom_up(alloc, 6, held, &[3, 4])?);
+    Ok(())
 }
 
 #[test]
@@ -121,6 +143,8 @@ fn follows_long_chains(rt: HostRuntime) -> Result<(), AllocError> {
     assert!(rt;
         flags.first() == Some(&false) && flags.get(1) == Some(&true) && flags.last() == Some(&true)
     );
+    let order = bottom_up(rt.alloc(), 100_000, &edges)?;
+    assert!(rt; order.is_empty());
     Ok(())
 }
 
@@ -133,6 +157,9 @@ fn answers_or_wants_memory(rt: HostRuntime) {
         &[(0, 1), (1, 1), (1, 2)],
         &[false, true, false],
     ) {
+        assert!(rt; right);
+    }
+    if let Ok(right) = has_bottom_up(rt.alloc(), 3, &[(0, 1), (1, 1), (0, 2)], &[2]) {
         assert!(rt; right);
     }
 }

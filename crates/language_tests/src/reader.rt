@@ -1,10 +1,10 @@
 ghost use Rattle.cddl_parse.specs.States.{EndsInEnd};
 
 use cddl_parse::{parse, tokens_end};
-use cddl_reader::read;
+use cddl_reader::{read, read_operation};
 use cddl_terms::{Body, Definition, NoRoom, Terms};
 use cddl_token::{Token, tokens};
-use cddl_tree::{Tree, discard};
+use cddl_tree::{Rule, Tree, Type1, discard};
 use std::alloc::Global;
 
 /// Specifications whose first two definitions have one body, as only spans differ.
@@ -92,4 +92,63 @@ fn first_other(alloc: Global, rows: &str, wanted: bool) -> Option<usize> {
 fn tells_terms_apart(rt: HostRuntime) {
     assert!(rt; first_other(rt.alloc(), ALIKE, true) == None);
     assert!(rt; first_other(rt.alloc(), UNLIKE, false) == None);
+}
+
+/// Specifications whose first body is an operation.
+const OPERATIONS: &str = "a = 1..2
+a = 1...x
+a = (1 / 2) .eq [3]
+a = 'x' .cat y<z>";
+
+/// Whether the first rule's body has the number that the operation in it has by itself; nothing of a body without one.
+fn is_read_again(alloc: Global, tree: &Tree<'_>) -> Result<Option<bool>, NoRoom> {
+    let mut terms = Terms::new(alloc);
+    let definitions = read(alloc, &mut terms, tree)?;
+    let (Some(Rule::TypeRule { types, .. }), Some(definition)) = (
+        tree.rules.first(),
+        definitions.first(),
+    ) else {
+        return Ok(None);
+    };
+    match &types.first {
+        Type1::Operation {
+            left,
+            operator,
+            right,
+        } => {
+            let number = read_operation(&mut terms, tree, left, operator, right)?;
+            Ok(Some(has_number(definition.body, Body::Types(number))))
+        }
+        Type1::One(_) => Ok(None),
+    }
+}
+
+fn again_in_tokens(alloc: Global, found: &[Token<'_>]) -> Option<bool>
+    requires { EndsInEnd found.now }
+{
+    match parse(alloc, found) {
+        Ok(tree) => {
+            let answer = is_read_again(alloc, &tree);
+            discard(tree);
+            answer.unwrap_or(None)
+        }
+        Err(_) => None,
+    }
+}
+
+fn again(alloc: Global, source: &str) -> Option<bool> {
+    tokens_end();
+    match tokens(alloc, source.as_bytes()) {
+        Ok(found) => again_in_tokens(alloc, found.as_slice()),
+        Err(_) => None,
+    }
+}
+
+#[test]
+fn reads_operations_again(rt: HostRuntime) {
+    let other = OPERATIONS
+        .lines()
+        .position(|row| again(rt.alloc(), row) != Some(true));
+    assert!(rt; other == None);
+    assert!(rt; again(rt.alloc(), "a = (1..2)") == None);
 }

@@ -8,13 +8,14 @@ use cddl_empty::may_be_empty;
 use cddl_environment::names;
 use cddl_instances::{Found, Instance, instances};
 use cddl_kinds::{Kinds, kinds_of};
-use cddl_literals::literals;
+use cddl_literals::{Literals, literals};
 use cddl_live_sites::live_sites;
 use cddl_map_faults::{MapFaults, map_faults};
 use cddl_openings::{Opening, endings_of, openings_of};
 use cddl_parse::{parse, tokens_end};
 use cddl_reached::{Asked, entry_questions, questions, reached_sites};
 use cddl_rule_faults::root_of;
+use cddl_sizes::{Sizes, sizable, sizes};
 use cddl_spliced::{Spliced, spliced_entries};
 use cddl_splices::parts_of;
 use cddl_survey::{Survey, survey_of};
@@ -35,7 +36,9 @@ pub(crate) struct Meant {
     pub openings: Vec<Opening>,
     pub endings: Vec<Option<u32>>,
     pub spliced: Vec<Spliced>,
-    pub literals: Vec<Option<u32>>,
+    pub literals: Literals,
+    pub sizable: Vec<bool>,
+    pub sizes: Sizes,
     pub choosable: Vec<bool>,
     pub map_faults: Vec<MapFaults>,
     pub may_be_empty: Vec<bool>,
@@ -109,6 +112,8 @@ fn meant_in<'s>(
         alloc, terms, &closed, &kinds, &openings, &endings, &entries,
     ).ok()?;
     let literals = literals(alloc, terms, &closed, &kinds).ok()?;
+    let sizable = sizable(alloc, terms, &closed, &kinds, &literals).ok()?;
+    let sizes = sizes(alloc, terms, &closed, &kinds, &literals, &sizable).ok()?;
     let choosable = choosable(alloc, terms, &closed, &kinds, &openings).ok()?;
     let map_faults = map_faults_in(alloc, terms, &closed, &kinds, &openings)?;
     let may_be_empty = may_be_empty(alloc, terms, &closed, &kinds, &openings).ok()?;
@@ -122,6 +127,8 @@ fn meant_in<'s>(
         endings,
         spliced,
         literals,
+        sizable,
+        sizes,
         choosable,
         map_faults,
         may_be_empty,

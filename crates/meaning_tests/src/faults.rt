@@ -27,8 +27,8 @@ pub(crate) fn fault_of<'t>(
     let at = match what {
         "opened" => not_unwrapped(alloc, terms, tree, survey, &reached).ok()?,
         "unwrapped" => unwrapping(alloc, terms, tree, survey, meant, &reached)?,
-        "literal" => not_literal(terms, &meant.closed, &meant.literals, &meant.asked),
-        "number" => bad_controller(terms, &meant.closed, &meant.literals, &meant.asked),
+        "literal" => not_literal(terms, &meant.literals, &meant.asked),
+        "number" => bad_controller(terms, &meant.literals, &meant.sizable, &meant.asked),
         "range" => range_in(terms, tree, meant, &reached),
         _ => returning(alloc, terms, tree, survey, meant)?,
     };
@@ -57,14 +57,7 @@ fn range_in(
     meant: &Meant,
     reached: &[Found<'_>],
 ) -> Option<usize> {
-    bad_range(
-        terms,
-        tree,
-        &meant.closed,
-        &meant.literals,
-        &meant.asked,
-        reached,
-    )
+    bad_range(terms, tree, &meant.literals, &meant.asked, reached)
 }
 
 fn returning(

@@ -14,8 +14,26 @@ types | 1/1 | a = (1 / 2)
 groups | 1/1 2/2 | a = [g] g = (1, 2 // 3)
 opens | group type - | a = [* ~b] b = #6.1(c) c = #
 parts | type | a = [1]
-literals | 5/true | a = (5)
-literals | -/true | a = 5 / 6
+literals | 5 | a = (5)
+literals | - 5 | a = b b = 5 / 6
+literals | 8 8 5 | a = b b = c .plus 3 c = 5
+literals | -1-1 | a = 1 .plus -3
+literals | ab | a = \"a\" .cat 'b'
+literals | 2bytes | a = 'a' .cat \"b\"
+literals | xb | a = \"x\" .det \"  b\"
+literals | range | a = 1 .plus 18446744073709551615
+literals | utf8 | a = \"\" .cat h'ff'
+literals | left | a = 1 .cat 2
+literals | right | a = 1 .plus 'x'
+literals | - | a = \"x\" .cat a
+literals | 5 5 | a = b<5> b<t> = t
+sizes | 1of32 | a = # .size 16
+sizes | 2of10 | a = # .size (2 / 1..5)
+sizes | 1of1 | a = # .size (0...0)
+sizes | 1of3 | a = # .size (1...3)
+sizes | - | a = # .size -1
+sizes | - | a = # .size (1 / \"x\")
+sizes | 0of0 - | a = # .size $s
 chooses | yes yes | a = &(g) g = (x: 1, y: 2)
 chooses | yes no | a = [&g] g = (? 1)
 maps | k k. | a = {g} g = (1, y: 2)
@@ -35,6 +53,10 @@ order | round | a = # .and a
 order | down | a = # .default a
 asked | from4 whole9 whole12 | a = &(x: 1..2)
 asked | literal10 number20 | a = # .eq 1 / # .lt 2
+asked | addend4 computes12 | a = 1 .plus 2
+asked | string4 computes13 | a = \"x\" .cat \"y\"
+asked | string4 computes13 | a = \"x\" .det \"y\"
+asked | sizes12 | a = # .size 16
 asked | map4 map8 | a = {x: {}}
 asked | map29 map29 map33 map33 | a = [p<int>, p<tstr>] p<t> = {x: {}}
 entries | own5 rule4 opened5 | a = {x: 1}
@@ -52,6 +74,9 @@ nodes | 4 0 true | a = # .and 5
 nodes | 3 0 true | a = # .default 5
 nodes | 6 0 true | a = # .ne b b = (5)
 nodes | 2 0 true | a = # .lt '5'
+nodes | 3 0 true | a = # .size 16
+nodes | 2 0 true | a = # .size 'x'
+nodes | 2 0 true | a = 1 .plus 2
 opened | - | a = [* ~b] b = #6.1(c) c = #
 opened | 5 | a = [~b] b = #
 unwrapped | 5 | a = [~b, &(? 1)] b = #
@@ -61,7 +86,17 @@ range | - | a = 1..2
 range | 7 | a = 0..b b = #
 range | 5 | a = [3*2 #]
 literal | 26 | a = b<int> b<t> = any .eq t
+literal | 4 | a = \"x\" .plus 1
+literal | 12 | a = 1 .plus \"x\"
+literal | 13 | a = \"x\" .cat 1
+literal | 4 | a = 1 .det 2
+literal | 12 | a = 1 .plus 18446744073709551615
+literal | - | a = \"\" .cat h'ff'
 number | 12 | a = int .lt \"x\"
+number | 12 | a = \"\" .cat h'ff'
+number | 12 | a = # .size tstr
+number | - | a = # .size (1 / 2..3)
+number | - | a = 1 .plus 18446744073709551615
 recursion | - | a = [* a]
 recursion | 0 | a = b b = a
 recursion | 8 | a = [g] g = (? #, g)";

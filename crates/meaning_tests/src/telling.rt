@@ -3,13 +3,15 @@ use crate::coming::of_coming_back;
 use crate::maps::of_map_faults;
 use cddl_closed::{Meaning, alternatives, choices, entries};
 use cddl_entries::Holder;
-use cddl_literals::literal_row;
+use cddl_literal::Literal;
 use cddl_nodes::{Source, nodes_of};
 use cddl_openings::{Opening, Part, part_of};
+use cddl_operators::Fault;
 use cddl_reached::{Asked, Question};
 use cddl_recursion::{Node, Order, Ranks, find_order};
 use cddl_spliced::Owner;
 use cddl_splices::parts_of;
+use cddl_table::SizeRange;
 use cddl_terms::Terms;
 use splices::summaries;
 use std::alloc::Global;
@@ -43,7 +45,8 @@ fn word_of(
         "types" => types_of(alloc, terms, meaning),
         "groups" => group_of(alloc, terms, meaning),
         "parts" => part_in(alloc, terms, meant, meaning),
-        "literals" => literal_in(alloc, terms, meant, meaning),
+        "literals" => literal_in(alloc, meant, meaning),
+        "sizes" => sizes_in(alloc, terms, meant, meaning),
         "maps" => wrong_in(alloc, terms, meant, meaning),
         "chooses" => flag_in(alloc, &meant.choosable, meaning.group),
         _ => flag_in(alloc, &meant.may_be_empty, meaning.group),
@@ -153,23 +156,53 @@ fn part_in(alloc: Global, terms: &Terms<'_>, meant: &Meant, meaning: &Meaning) -
     }
 }
 
-/// The value that the instance is, and whether its first choice is one.
-fn literal_in(
-    alloc: Global,
+/// The literal that the first choice of the instance is, or why it computes none.
+fn literal_in(alloc: Global, meant: &Meant, meaning: &Meaning) -> Option<String> {
+    let Some(row) = meaning.types.first() else {
+        return text_in(alloc, "-");
+    };
+    match meant.literals.get(*row) {
+        Some(Literal::Uint(number)) => format!(in alloc; "{number}").ok(),
+        Some(Literal::Nint(number)) => format!(in alloc; "-1-{number}").ok(),
+        Some(Literal::Text(text)) => text_in(alloc, text.as_str()),
+        Some(Literal::Bytes(bytes)) => {
+            let count = bytes.len();
+            format!(in alloc; "{count}bytes").ok()
+        }
+        None => fault_word(alloc, meant.literals.fault(*row)),
+    }
+}
+
+fn fault_word(alloc: Global, fault: Option<Fault>) -> Option<String> {
+    match fault {
+        Some(Fault::LeftKind) => text_in(alloc, "left"),
+        Some(Fault::RightKind) => text_in(alloc, "right"),
+        Some(Fault::OutOfRange) => text_in(alloc, "range"),
+        Some(Fault::NotUtf8) => text_in(alloc, "utf8"),
+        None => text_in(alloc, "-"),
+    }
+}
+
+fn sizes_at<'m>(
     terms: &Terms<'_>,
-    meant: &Meant,
+    meant: &'m Meant,
     meaning: &Meaning,
-) -> Option<String> {
-    let place = (*meant.closed.places.get(meaning.call as usize)?)?;
-    let whole = match *meant.literals.get(place as usize)? {
-        Some(row) => terms.text(terms.row(row)?.text?)?,
-        None => "-",
+) -> Option<&'m [SizeRange]> {
+    let controller = terms.row(*meaning.types.first()?)?.second?;
+    meant.sizes.get(controller)
+}
+
+/// The members of the controller of the first choice of the instance, and how many ranges they are.
+fn sizes_in(alloc: Global, terms: &Terms<'_>, meant: &Meant, meaning: &Meaning) -> Option<String> {
+    let Some(sizes) = sizes_at(terms, meant, meaning) else {
+        return text_in(alloc, "-");
     };
-    let first = match meaning.types.first() {
-        Some(row) => literal_row(terms, &meant.closed, &meant.literals, *row).is_some(),
-        None => false,
-    };
-    format!(in alloc; "{whole}/{first}").ok()
+    let mut sum: u64 = 0;
+    for range in sizes {
+        sum = sum.checked_add(range.last)?.checked_add(range.least)?;
+    }
+    let count = sizes.len();
+    format!(in alloc; "{count}of{sum}").ok()
 }
 
 fn of_asked(alloc: Global, questions: &[Asked]) -> Option<String> {
@@ -181,6 +214,10 @@ fn of_asked(alloc: Global, questions: &[Asked]) -> Option<String> {
             Question::IsWhole => "whole",
             Question::IsLiteral => "literal",
             Question::IsNumber => "number",
+            Question::IsAddend => "addend",
+            Question::IsString => "string",
+            Question::Computes => "computes",
+            Question::HasSizes => "sizes",
             Question::MapGroup => "map",
             Question::Entry(Holder::Map) => "own",
             Question::Entry(Holder::Rule) => "rule",
@@ -275,6 +312,7 @@ fn nodes_in(alloc: Global, terms: &Terms<'_>, meant: &Meant) -> Option<String> {
         kinds: &meant.kinds,
         openings: &meant.openings,
         literals: &meant.literals,
+        sizes: &meant.sizes,
         choosable: &meant.choosable,
         parts: &parts,
         summaries: &summaries,

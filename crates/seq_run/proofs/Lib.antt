@@ -12,3 +12,4 @@ pub mod RunLoop
 pub mod Appending
 pub mod Rereading
 pub mod OneEnd
+pub mod SomeEnd

@@ -41,7 +41,7 @@ one_clean {accepts = accepts} {l = l} {b = b} {found = found} {others = others} 
 one_clean {accepts = accepts} {l = l} {b = b} {found = found} {others = others} (at_spent {o = o} rest x front back run placed parts item over) r =
     absurd (item_left l o x front rest back item parts (same_runs l accepts b found others rest [] run r).1)
 
-bytes_after : (front back : List ℕ) → AreBytes (front ++ back) → AreBytes back
+pub bytes_after : (front back : List ℕ) → AreBytes (front ++ back) → AreBytes back
 bytes_after [] back are = are
 bytes_after (x ∷ front) back are = bytes_after front back are.1
 
@@ -129,12 +129,12 @@ module _ (one_fault : OneFault) (l : Bounds) (accepts : Value → List ℕ → T
 
 -- an end of the code is one of the definition
 
-abbrev cause_as : sequence.Cause FaultKind → Cause
+abbrev pub cause_as : sequence.Cause FaultKind → Cause
 cause_as (fault kind at) = Fault (record { at = at; kind = kind })
 cause_as (mismatch place) = Mismatch place
 cause_as spent = Spent
 
-abbrev end_as : sequence.End FaultKind → End
+abbrev pub end_as : sequence.End FaultKind → End
 end_as (sequence.clean items bytes) = Clean items bytes
 end_as (failed items offset cause) = Failed items offset (cause_as cause)
 

@@ -20,7 +20,7 @@ use Rattle.seq_run.specs.Answers.{IsOpen, IsLent}
 use Rattle.seq_run.specs.declared.output.Mode.{Mode}
 use Rattle.seq_run.specs.Report.{IsShown}
 use Rattle.seq_run.specs.Output.{item_output, items_output, end_output}
-use Rattle.seq_run.specs.Running.{Change, HasNotFailed, IsWholeOutput, IsBeginning, WritesAll, WritesFirst, WritesItems, WritesRun, IsSettled, IsLast, IsPieceDone}
+use Rattle.seq_run.specs.Running.{Change, HasNotFailed, ReadsByPieces, IsWholeOutput, IsBeginning, WritesAll, WritesFirst, WritesItems, WritesRun, IsSettled, IsLast, IsPieceDone}
 use Rattle.seq_run.proofs.Ending.{open_end}
 use Rattle.seq_run.proofs.Reporting.{same_next, shown_lent}
 use Rattle.seq_run.proofs.Verdicts.{ShowsInside}
@@ -159,6 +159,32 @@ module _ (mode : Mode) (judge : Judge) (l : Bounds) (in_old in_now out_old out_n
         subst (λ n. HasRisen reads n) (sym (count ∙ ap one_more on.reads_is)) (risen reads),
         record { read = session.fed; found = session.taken; rest = run.0; consumed = consumes_kept in_old in_now in_new session.fed on.consumed keeps; run = run.1; count = on.reported_is; written = on.appended },
       )
+
+  -- one piece more was read
+  pub read_by_pieces : (in_new : Option (List ℕ)) (reads_new : ℕ) (piece : List ℕ) → bytes.Consumes in_now in_new piece → length piece ≤ 4096 → ReadsByPieces judge l (change in_old in_new reads reads_new)
+  read_by_pieces in_new reads_new piece c few = record {
+    front = session.fed;
+    piece = piece;
+    consumed = consumes_more in_old in_now in_new session.fed piece on.consumed c;
+    few = few;
+    found = session.taken;
+    end = on.open_now.end;
+    ends = ends_here;
+    undecided = on.open_now.undecided;
+  }
+
+  -- the read failed
+  pub read_no_more : (in_new : Option (List ℕ)) (reads_new : ℕ) → bytes.Keeps in_now in_new → ReadsByPieces judge l (change in_old in_new reads reads_new)
+  read_no_more in_new reads_new keeps = record {
+    front = session.fed;
+    piece = [];
+    consumed = subst (λ (b : List ℕ). bytes.Consumes in_old in_new b) (sym (append-nil session.fed)) (consumes_kept in_old in_now in_new session.fed on.consumed keeps);
+    few = omega arith;
+    found = session.taken;
+    end = on.open_now.end;
+    ends = ends_here;
+    undecided = on.open_now.undecided;
+  }
 
   pub no_memory : (in_new : Option (List ℕ)) (reads_new : ℕ) (piece : List ℕ) → reads_new ≡ reads_now → bytes.Consumes in_now in_new piece →
       HasNotFailed (change in_old in_new reads reads_new) × HasNotFailed (change out_old out_now writes writes_now) × WritesItems mode judge l (change in_old in_new reads reads_new) (change out_old out_now writes writes_now) reported

@@ -18,7 +18,7 @@ abbrev pub ShowsInside : Type 0
 ShowsInside = (table : Table) (x : Value) (place w : ℕ) → RootSays table x (No place) w → place < place_count x
 
 -- its size is below 2^64
-item_room : (l : Bounds) (o : ℕ) (x : Value) (b : List ℕ) → IsItem l o x b → size x < 2 ^ 64
+pub item_room : (l : Bounds) (o : ℕ) (x : Value) (b : List ℕ) → IsItem l o x b → size x < 2 ^ 64
 item_room l o x b item = omega (arith, size_spelled x b item.spells, item.placed)
 
 module _ (one : OneAnswer) where

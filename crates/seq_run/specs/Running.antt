@@ -1,5 +1,5 @@
 -- What a run leaves.
-use Rattle.std.specs.Prelude.{◌≡◌, ◌≢◌, ℕ, suc, ◌<◌, ◌⊎◌, List, [], ◌++◌, length, take, Option, Some, None, IfSome}
+use Rattle.std.specs.Prelude.{◌≡◌, ◌≢◌, ℕ, suc, ◌<◌, ◌≤◌, ◌⊎◌, List, [], ◌++◌, length, take, Option, Some, None, IfSome}
 use Rattle.std.specs.Io.KnownBytes as bytes
 use Rattle.cbor_data.specs.Value.{Value}
 use Rattle.cbor_data.specs.Faults.{Bounds}
@@ -17,7 +17,7 @@ use Rattle.seq_run.specs.declared.running.RunFault.TheVariants.{ReadFailed, Writ
 use Rattle.seq_run.specs.Ends.{BeginsWith, IsRun, Ends}
 use Rattle.seq_run.specs.Parts.{IsRejected}
 use Rattle.seq_run.specs.Progress.{Progress}
-use Rattle.seq_run.specs.Answers.{IsOpen}
+use Rattle.seq_run.specs.Answers.{IsOpen, IsUndecided}
 use Rattle.seq_run.specs.Output.{items_output, end_output, stream_output}
 
 -- A counted device before and after a call: the bytes that are known of it, which a reader still has to give or a writer
@@ -88,6 +88,18 @@ pub record WritesRun (mode : Mode) (judge : Judge) (l : Bounds) (input output : 
   pub run : IsRun judge l read found rest
   pub count : n ≡ length found
   pub written : bytes.Appends output.before output.after (items_output mode 1 found)
+
+-- Nothing was read behind the piece that shows the end: the bytes before the last piece leave the end open, and that piece
+-- has at most 4,096 bytes.
+pub record ReadsByPieces (judge : Judge) (l : Bounds) (input : Change) : Type 0 where
+  pub front : List ℕ
+  pub piece : List ℕ
+  pub consumed : bytes.Consumes input.before input.after (front ++ piece)
+  pub few : length piece ≤ 4096
+  pub found : List Found
+  pub end : End
+  pub ends : Ends judge l front found end
+  pub undecided : IsUndecided (length front) end
 
 -- why a run stopped early, and what went out: a device failed only where its count has risen
 abbrev pub IsFault : Mode → Judge → Bounds → Change → Change → RunFault → Type 0

@@ -1,4 +1,4 @@
-//! What is written out is read back, a stream ends in one way, and steps only decide how far a session comes.
+//! What is written out is read back, a stream ends, and in one way, and steps only decide how far a session comes.
 
 ghost use Rattle.std.specs.Prelude.{◌≡◌, ◌≤◌, ℕ, List, length};
 ghost use Rattle.cbor_data.specs.Faults.{last_offset, Bounds};
@@ -11,8 +11,8 @@ ghost use Rattle.seq_run.specs.Judge.{Judge};
 ghost use Rattle.seq_run.specs.Written.{AreWritable, clean_end, found_from, written_bytes};
 
 use cbor_data::preferred_spells;
-use cbor_read::one_fault;
-use cddl_match::one_answer;
+use cbor_read::{one_fault, some_front};
+use cddl_match::{decided, one_answer};
 
 /// Any list of sound items that are accepted and are within the limits as they are written, all their bytes together no
 /// more than a stream may have: the run of their preferred bytes is that list, and its end is clean. It does nothing.
@@ -34,6 +34,15 @@ pub fn one_end()
 {
     one_fault();
     one_answer();
+}
+
+/// A stream has an end, and a run: whatever its bytes are, and whatever the limits. It does nothing.
+pub fn some_end()
+    ensures within { (judge : Judge) (l : Bounds) (stream : List ℕ) → AreBytes stream → (found : List Found) × (end : End) × Ends judge l stream found end }
+    ensures freely { (table : Table) (l : Bounds) (stream : List ℕ) → AreBytes stream → (found : List Found) × (end : End) × EndsFreely table l stream found end }
+{
+    some_front();
+    decided();
 }
 
 /// An end that is no want of steps is the stream's end by the specification alone, and its run has no other items. It does

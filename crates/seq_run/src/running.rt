@@ -7,7 +7,7 @@ ghost use Rattle.seq_run.specs.Answers.{IsFed};
 ghost use Rattle.seq_run.specs.Ends.{IsDecisive};
 ghost use Rattle.seq_run.specs.Judge.{judge_of};
 ghost use Rattle.seq_run.specs.Report.{IsShown};
-ghost use Rattle.seq_run.specs.Running.{Adds, IsDecided, IsFault, IsPieceDone, WritesAll, change_of};
+ghost use Rattle.seq_run.specs.Running.{Adds, IsDecided, IsFault, IsPieceDone, ReadsByPieces, WritesAll, change_of};
 ghost use Rattle.seq_run.specs.Written.{IsReadBack, IsWrittenStream};
 
 use crate::end::{End, State};
@@ -42,6 +42,9 @@ pub enum RunFault {
 /// Reads a stream in pieces of at most 4,096 bytes, up to the one in which its end is known, and writes what the mode says of
 /// each accepted item and of the end. It answers the end, and for a mismatch the item that failed.
 ///
+/// What a piece adds to the output is put together and written before the next one is read. Beside the item that is being read
+/// it takes memory for the output of one piece: that of one item, and of items in 4,096 bytes more.
+///
 /// # Errors
 ///
 /// A [`RunFault`], only where a read, a write or an allocation of this call failed.
@@ -61,6 +64,7 @@ pub fn run<R: Read, W: Write>(
         IsReadBack mode items (change_of W.contents output.old output.new) r.0 r.1) }
     ensures shown { IfOk result (λ r. IsShown r.0 r.1) }
     ensures counts { OnOk result ((failures_of input.new ≡ failures_of input.old) × (failures_of output.new ≡ failures_of output.old)) }
+    ensures reads { ReadsByPieces (judge_of table.now steps) limits (change_of R.remaining input.old input.new) }
     ensures fault { IfErr result (IsFault mode (judge_of table.now steps) limits (change_of R.remaining input.old input.new) (change_of W.contents output.old output.new)) }
 {
     let mut session = Session::new(alloc, table, limits, steps);

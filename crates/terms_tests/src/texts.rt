@@ -1,6 +1,7 @@
+use cddl_operators::Joining;
 use cddl_texts::{
-    Comparison, Control, HashForm, TagNumber, control_of, hash_form, is_bad_hash, is_group_socket,
-    is_socket, occurrence_of, tag_number, uint,
+    Comparison, Computation, Control, HashForm, TagNumber, control_of, hash_form, is_bad_hash,
+    is_group_socket, is_socket, occurrence_of, tag_number, uint,
 };
 
 #[test]
@@ -66,7 +67,12 @@ fn tells_forms_of_hash(rt: HostRuntime) {
 fn tells_names(rt: HostRuntime) {
     assert!(rt; control_of("within") == Some(Control::LeftAndRight));
     assert!(rt; control_of("lt") == Some(Control::Compared(Comparison::Less)));
-    assert!(rt; control_of("det") == Some(Control::ByValue));
+    assert!(rt; control_of("size") == Some(Control::Sized));
+    assert!(rt; control_of("plus") == Some(Control::Computed(Computation::Sum)));
+    assert!(rt;
+        control_of("cat") == Some(Control::Computed(Computation::Join(Joining::AsTheyAre)))
+    );
+    assert!(rt; control_of("det") == Some(Control::Computed(Computation::Join(Joining::Dedented))));
     assert!(rt; control_of("sizes").is_none() && control_of("").is_none());
     assert!(rt; is_socket("$a") && is_socket("$$a") && !is_socket("a$"));
     assert!(rt; is_group_socket("$$a") && !is_group_socket("$a"));

@@ -129,10 +129,10 @@ static ROWS: [Row; 10] = [
     },
     Row {
         words: VALIDATE,
-        spec: b"a = uint .size 1",
+        spec: b"a = uint .size tstr",
         stream: b"\x17",
         out: b"",
-        err: b"refused: C0 NotYet at byte 9\n",
+        err: b"refused: C15 BadController at byte 15\n",
         status: 2,
     },
     Row {

@@ -10,13 +10,12 @@ use Rattle.cddl_range_faults.proofs.Whole.{OneTerm}
 use Rattle.cddl_range_faults.proofs.bad_range.Goals as goal
 
 pub returns : goal.returns
-returns c s root refs worth tree tokens right clear reached closed literals asked =
+returns c s root worth tree tokens right clear reached literals asked =
     let ends : Ending.Laws s worth root = record {
       first = c.reached_parts.ensures.first s root clear;
       last = c.reached_parts.ensures.last s root clear;
       first_values = λ r xs x y o h. c.operand_values.ensures.first s.tree worth right root r xs x y o h;
       last_values = λ r xs x y o h. c.operand_values.ensures.last s.tree worth right root r xs x y o h;
-      written = c.written_value.ensures s.tree worth right;
     } in
     let numbers : Numbers = record {
       inside = λ a b n m h. let e = c.ends_in_ascii.ensures.uint a b n m h in (e.nonempty, e.within);
@@ -32,4 +31,4 @@ returns c s root refs worth tree tokens right clear reached closed literals aske
     let read = token_of c.args.tree.now in
     let t = c.args.terms.now in
     let one : OneTerm t = λ n a b h k. (c.equal_numbers.ensures.term n n a b h k).0 refl in
-    subst (IsLeast (HasBadRange s worth root)) (sym c.lesser.ensures) (least_range s worth root t ends bounds read c.args.asked.now c.args.reached.now asked reached one _ _ (c.bad_end-end.ensures (definitions s) root refs worth closed literals (Ending.ends_there s worth root t ends c.args.asked.now asked)) (c.bad_bounds.ensures (Bounding.are_small s root bounds read c.args.reached.now reached)))
+    subst (IsLeast (HasBadRange s worth root)) (sym c.lesser.ensures) (least_range s worth root t ends bounds read c.args.asked.now c.args.reached.now asked reached one _ _ (c.bad_end-end.ensures (definitions s) root worth literals (Ending.ends_there s worth root t ends c.args.asked.now asked)) (c.bad_bounds.ensures (Bounding.are_small s root bounds read c.args.reached.now reached)))

@@ -4,7 +4,7 @@ use Rattle.cddl_control_faults.specs.Controllers.{IsWrong}
 use Rattle.cddl_control_faults.proofs.controllers.least_wrong.Goals as goal
 
 pub loop-question-preserved : goal.loop-question-preserved
-loop-question-preserved c xs root refs worth closed literals are = step_at (IsWrong xs worth c.args.terms.now c.args.wrong) c.args.asked.now c.loop-question.question-index (record { at = 0; row = 0; call = 0; question = QuestionV.ChoosesFrom }) c.loop-question.least _ _ c.loop-question-test.true (λ there. c.wrong_at.ensures xs root refs worth closed literals (are _ there)) c.lesser-least.ensures (c.loop-question.invariant xs root refs worth closed literals are)
+loop-question-preserved c xs root worth literals flags are = step_at (IsWrong xs worth c.args.terms.now c.args.wrong) c.args.asked.now c.loop-question.question-index (record { at = 0; row = 0; call = 0; question = QuestionV.ChoosesFrom }) c.loop-question.least _ _ c.loop-question-test.true (λ there. c.wrong_at.ensures xs root worth literals flags (are _ there)) c.lesser-least.ensures (c.loop-question.invariant xs root worth literals flags are)
 
 pub returns : goal.returns
-returns c xs root refs worth closed literals are = finished (IsWrong xs worth c.args.terms.now c.args.wrong) c.args.asked.now c.loop-question.question-index c.loop-question.least c.loop-question-test.false (c.loop-question.invariant xs root refs worth closed literals are)
+returns c xs root worth literals flags are = finished (IsWrong xs worth c.args.terms.now c.args.wrong) c.args.asked.now c.loop-question.question-index c.loop-question.least c.loop-question-test.false (c.loop-question.invariant xs root worth literals flags are)

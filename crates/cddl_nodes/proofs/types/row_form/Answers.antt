@@ -1,21 +1,22 @@
 use Rattle.std.proofs.lemmas.Result.{IfOk-weaker}
-use Rattle.std.proofs.Common.{Some}
+use Rattle.std.proofs.Common.{Some, false, true}
 use Rattle.cddl_meaning.specs.Alike.{arrays, heads, refs, simples, tags}
 use Rattle.cddl_closed.specs.Closed.{alternatives_of}
 use Rattle.cddl_language.specs.Reach.{points}
+use Rattle.cddl_language.specs.Terms.{literal}
 use Rattle.cddl_terms.specs.Trees.{IsTerm}
 use Rattle.cddl_nodes.specs.Origins.{IsKnown, IsTermForm, of_alternatives, of_row}
 use Rattle.cddl_nodes.specs.declared.form.TagForm.TheVariants as K
 use Rattle.cddl_nodes.specs.declared.form.TypeForm.TheVariants as T
 use Rattle.cddl_nodes.specs.declared.origin.GroupOrigin.TheVariants as GO
 use Rattle.cddl_nodes.specs.declared.origin.TypeOrigin.TheVariants as O
-use Rattle.cddl_nodes.proofs.Forming.{array_case, choice_of_case, choice_of_name_case, control_case, hash_case, literal_case, map_case, named_case, or_case, other_case, parens_case, range_below_case, range_case, simple_case, tagged_by_case, tagged_case, unwrapped_case}
+use Rattle.cddl_nodes.proofs.Forming.{array_case, choice_of_case, choice_of_name_case, control_case, hash_case, literal_case, literal_formed, map_case, named_case, or_case, other_case, parens_case, range_below_case, range_between, range_case, simple_case, tagged_by_case, tagged_case, unwrapped_case}
 use Rattle.cddl_nodes.proofs.Knowing.{group_known}
 use Rattle.cddl_nodes.proofs.Reaching.{reached_left, reached_right}
 use Rattle.cddl_nodes.proofs.types.row_form.Goals as goal
 
 pub returns-in-Literal : goal.returns-in-Literal
-returns-in-Literal c = IfOk-weaker c.literal_form.result _ _ (λ f h s x src is re. literal_case c.args.terms.now (λ y. IsTerm c.args.terms.now c.args.row y → IsKnown s y → IsTermForm s c.args.terms.now y f) x (c.in-Literal.ensures x is) (λ v it q. h s v q.1 it) is re) c.literal_form.ensures
+returns-in-Literal c = IfOk-weaker c.equal_form.result _ _ (λ f h s x src is re. literal_case c.args.terms.now (λ y. IsTerm c.args.terms.now c.args.row y → IsKnown s y → IsTermForm s c.args.terms.now y f) x (c.in-Literal.ensures x is) (λ v it q. literal_formed s c.args.terms.now v _ _ h (src.literals_are.values c.args.row (literal v) it q)) is re) c.equal_form.ensures
 
 pub returns-in-Named : goal.returns-in-Named
 returns-in-Named c = IfOk-weaker c.named_form.result _ _ (λ f h s x src is re. named_case c.args.terms.now (λ y. IsKnown s y → IsTermForm s c.args.terms.now y f) x c.in-Named.call (c.in-Named.ensures x is) (λ r it q. h s r src it q.0) re) c.named_form.ensures
@@ -51,16 +52,16 @@ pub returns-in-Hash : goal.returns-in-Hash
 returns-in-Hash c = IfOk-weaker c.hash_form.result _ _ (λ f h s x src is re. hash_case c.args.terms.now (λ y. IsTermForm s c.args.terms.now y f) x c.in-Hash.text (c.in-Hash.ensures x is) (λ n e. h s n e)) c.hash_form.ensures
 
 pub returns-in-Range : goal.returns-in-Range
-returns-in-Range c = IfOk-weaker c.range_form.result _ _ (λ f h s x src is re. range_case c.args.terms.now (λ y. IsKnown s y → IsTermForm s c.args.terms.now y f) x c.in-Range.least c.in-Range.last (c.in-Range.ensures x is) (λ y z g it q. h s y z src g it q) re) c.range_form.ensures
+returns-in-Range c s x src is re = range_case c.args.terms.now (λ y. IsKnown s y → IsTermForm s c.args.terms.now y c.range_form.result) x c.in-Range.least c.in-Range.last (c.in-Range.ensures x is) (λ y z g it q. range_between s c.args.terms.now c.args.source.now.literals.now src.literals_are true y z c.in-Range.least c.in-Range.last _ c.range_form.ensures g it q) re
 
 pub returns-in-RangeBelow : goal.returns-in-RangeBelow
-returns-in-RangeBelow c = IfOk-weaker c.range_form-in-RangeBelow.result _ _ (λ f h s x src is re. range_below_case c.args.terms.now (λ y. IsKnown s y → IsTermForm s c.args.terms.now y f) x c.in-RangeBelow.least c.in-RangeBelow.last (c.in-RangeBelow.ensures x is) (λ y z g it q. h s y z src g it q) re) c.range_form-in-RangeBelow.ensures
+returns-in-RangeBelow c s x src is re = range_below_case c.args.terms.now (λ y. IsKnown s y → IsTermForm s c.args.terms.now y c.range_form-in-RangeBelow.result) x c.in-RangeBelow.least c.in-RangeBelow.last (c.in-RangeBelow.ensures x is) (λ y z g it q. range_between s c.args.terms.now c.args.source.now.literals.now src.literals_are false y z c.in-RangeBelow.least c.in-RangeBelow.last _ c.range_form-in-RangeBelow.ensures g it q) re
 
 pub returns-in-Or : goal.returns-in-Or
 returns-in-Or c = IfOk-weaker c.or_form.result _ _ (λ f h s x src is re. or_case c.args.terms.now (λ y. IsTerm c.args.terms.now c.args.row y → IsKnown s y → IsTermForm s c.args.terms.now y f) x (c.in-Or.ensures x is) (λ y z it q. h s y z it q) is re) c.or_form.ensures
 
 pub returns-in-Control : goal.returns-in-Control
-returns-in-Control c = IfOk-weaker c.control_form.result _ _ (λ f h s x src is re. control_case c.args.terms.now (λ y. IsKnown s y → IsTermForm s c.args.terms.now y f) x c.in-Control.name c.in-Control.left c.in-Control.right (c.in-Control.ensures x is) (λ n y z e g i q. h s n y z src e g i q) re) c.control_form.ensures
+returns-in-Control c = IfOk-weaker c.control_form.result _ _ (λ f h s x src is re. control_case c.args.terms.now (λ y. IsTerm c.args.terms.now c.args.row y → IsKnown s y → IsTermForm s c.args.terms.now y f) x c.in-Control.name c.in-Control.left c.in-Control.right (c.in-Control.ensures x is) (λ n y z e g i it q. h s n y z src it e g i q) is re) c.control_form.ensures
 
 pub returns-in-Other : goal.returns-in-Other
 returns-in-Other c s x src is re = other_case c.args.terms.now (λ y. IsTermForm s c.args.terms.now y c.nothing.result) x (c.in-Other.ensures x is)

@@ -1,6 +1,5 @@
 use Rattle.std.proofs.Common.{sym, subst}
 use Rattle.cddl_language.specs.Faults.{definitions, rules}
-use Rattle.cddl_literals.specs.Literals.{AreLiterals}
 use Rattle.cddl_reached.specs.Asked.{AreAsked}
 use Rattle.cddl_reached.specs.Reached.{AreReachedSites}
 use Rattle.cddl_tree.specs.View.{token_of}
@@ -8,7 +7,6 @@ use Rattle.cddl_specification.proofs.faults.range_of.Goals as goal
 
 pub returns : goal.returns
 returns c s worth root refs tree tokens right reading =
-    let literals = subst (AreLiterals (definitions s) c.args.terms.now refs) (sym c.deref.ensures.value) reading.meant.literals in
-    let asked = subst (AreAsked (rules s) root c.args.terms.now) (sym c.deref-2.ensures.value) reading.asking.asked in
-    let reached = subst (AreReachedSites (rules s) root (token_of c.args.tree.now)) (sym c.deref-3.ensures.value) reading.rooted.reached in
-    c.bad_range.ensures s root refs worth tree tokens right reading.right.clear reached reading.meant.closed literals asked
+    let asked = subst (AreAsked (rules s) root c.args.terms.now) (sym c.deref.ensures.value) reading.asking.asked in
+    let reached = subst (AreReachedSites (rules s) root (token_of c.args.tree.now)) (sym c.deref-2.ensures.value) reading.rooted.reached in
+    c.bad_range.ensures s root worth tree tokens right reading.right.clear reached reading.meant.literals asked

@@ -10,7 +10,7 @@ pub returns-in-Some-clause-stopped : goal.returns-in-Some-clause-stopped
 returns-in-Some-clause-stopped c s worth root refs tree tokens right reading =
     let least = subst (IsLeast (HasNotUnwrappable s root)) c.in-Some.is (c.unwrapping.ensures s worth c.args.tree.now root refs reading) in
     let told = c.root_faults_are_told.ensures.unwrapping s worth root reading.rooted.rooted reading.right.no_fault reading.rooted.no_more c.in-Some.at least in
-    subst (IsStopped s worth) (sym c.refused.ensures) (reading.right.not_yet, told)
+    subst (IsStopped s worth) (sym c.refused.ensures) told
 
 pub returns-in-Some-recursion_of-clause-stopped : goal.returns-in-Some-recursion_of-clause-stopped
 returns-in-Some-recursion_of-clause-stopped c s worth root refs tree tokens right reading =
@@ -18,7 +18,7 @@ returns-in-Some-recursion_of-clause-stopped c s worth root refs tree tokens righ
     let order = c.in_ok-order.ensures.order s worth c.args.tree.now root refs reading in
     let least = subst (IsLeast (HasRecursion s root)) c.in-Some-recursion_of.is (c.recursion_of.ensures s worth root refs tree reading order) in
     let told = c.root_faults_are_told.ensures.recursion s worth root reading.rooted.rooted reading.right.no_fault reading.rooted.no_more opened c.in-Some-recursion_of.at least in
-    subst (IsStopped s worth) (sym c.refused-in-Some-recursion_of.ensures) (reading.right.not_yet, told)
+    subst (IsStopped s worth) (sym c.refused-in-Some-recursion_of.ensures) told
 
 pub returns-in_err-check_values-clause-stopped : goal.returns-in_err-check_values-clause-stopped
 returns-in_err-check_values-clause-stopped c = handed _ _ c.in_err-check_values.field-0.0 c.from_residual-in_err-check_values.ensures.1 (λ s worth root refs tree tokens right reading.

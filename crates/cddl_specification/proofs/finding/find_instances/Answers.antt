@@ -57,4 +57,4 @@ returns-in_err-instances-clause-stopped c = handed _ _ c.in_err-instances.field-
     let names_there : AreNames (length c.args.terms.now.texts) c.deref-2.result.now c.deref-3.result.now c.deref.result.now = rw (c.deref.ensures.value, c.deref-2.ensures.value, c.deref-3.ensures.value) survey.names_found in
     let fnd = c.in_ok-found.ensures.found (definitions s) r.0 (length c.args.terms.now.texts) known_there own_there names_there r.2 in
     let told = c.in_err-instances.ensures.many s r.0 c.instances.new.terms fnd in
-    subst (IsStopped s worth) (sym told.2) (right.not_yet, c.root_faults_are_told.ensures.too_many s worth r.0 r.1 right.no_fault told.0 told.1))
+    subst (IsStopped s worth) (sym told.2) (c.root_faults_are_told.ensures.too_many s worth r.0 r.1 right.no_fault told.0 told.1))

@@ -21,7 +21,7 @@ returns-clause-read c s worth given =
     let known = definitions_length _ _ _ asking.named.known in
     let own = definitions_length _ _ _ asking.named.defined in
     let kinds = subst (λ ts. AreKinds ts (definitions s) c.in_ok-questions.questions.naming.kinds) (sym texts) asking.named.kinds in
-    let meant = c.in_ok-meant.ensures.meant s f.0 f.1 f.2.rooted.instances f.2.rooted.few found asking.named.kinds (omega (arith, known, own)) in (
+    let meant = c.in_ok-meant.ensures.meant s worth f.0 f.1 given.right f.2.rooted.instances f.2.rooted.few found asking.named.kinds (omega (arith, known, own)) in (
       f.0,
       f.1,
       record {
@@ -40,7 +40,7 @@ returns-clause-read c s worth given =
           opens = asking.opens;
         };
         meant = meant;
-        splices = c.in_ok-splices.ensures.found s f.0 f.1 kinds meant;
+        splices = c.in_ok-splices.ensures.found s worth f.0 f.1 kinds meant;
       },
     )
 

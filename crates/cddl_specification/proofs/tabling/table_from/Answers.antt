@@ -2,7 +2,6 @@ use Rattle.std.proofs.Common.{◌≡◌, List, refl, sym, subst}
 use Rattle.cddl_language.specs.Faults.{Specification, definitions}
 use Rattle.cddl_language.specs.Literals.{AreRight, Values}
 use Rattle.cddl_language.specs.Terms.{Ref, Text}
-use Rattle.cddl_literals.specs.Literals.{AreLiterals}
 use Rattle.cddl_openings.specs.Openings.{AreOpenings}
 use Rattle.cddl_choosing.specs.Choosing.{AreChoosable}
 use Rattle.cddl_splices.specs.Parts.{AreParts}
@@ -22,10 +21,11 @@ returns-in-Ok-clause-stands c s worth tree root refs right reading ranked = c.in
   closed = reading.meant.closed;
   kinds_are = reading.asking.named.kinds;
   openings_are = subst (AreOpenings (definitions s) c.args.terms.now refs) (sym c.deref.ensures.value) reading.meant.openings;
-  literals_are = subst (AreLiterals (definitions s) c.args.terms.now refs) (sym c.deref-2.ensures.value) reading.meant.literals;
-  choosable = subst (AreChoosable (definitions s) root c.args.terms.now) (sym c.deref-3.ensures.value) reading.meant.choosable;
-  parts_are = subst (AreParts (definitions s) root c.args.terms.now) (sym c.deref-4.ensures.value) reading.splices.parts;
-  summaries_are = subst (λ ps. AreSummaries ps c.deref-5.result.now) (sym c.deref-4.ensures.value) (subst (AreSummaries c.args.reading.now.splices.parts.items) (sym c.deref-5.ensures.value) reading.splices.summaries);
+  literals_are = reading.meant.literals;
+  sizes_are = reading.meant.sizes;
+  choosable = subst (AreChoosable (definitions s) root c.args.terms.now) (sym c.deref-2.ensures.value) reading.meant.choosable;
+  parts_are = subst (AreParts (definitions s) root c.args.terms.now) (sym c.deref-3.ensures.value) reading.splices.parts;
+  summaries_are = subst (λ ps. AreSummaries ps c.deref-4.result.now) (sym c.deref-3.ensures.value) (subst (AreSummaries c.args.reading.now.splices.parts.items) (sym c.deref-4.ensures.value) reading.splices.summaries);
   defined = refl;
   right = right;
 }) reading.number (c.root_is_type.ensures.is_type s worth root reading.rooted.rooted reading.right.no_fault) ranked
@@ -39,10 +39,11 @@ returns-in-Err-clause-stopped c s worth tree root refs right reading ranked = su
   closed = reading.meant.closed;
   kinds_are = reading.asking.named.kinds;
   openings_are = subst (AreOpenings (definitions s) c.args.terms.now refs) (sym c.deref.ensures.value) reading.meant.openings;
-  literals_are = subst (AreLiterals (definitions s) c.args.terms.now refs) (sym c.deref-2.ensures.value) reading.meant.literals;
-  choosable = subst (AreChoosable (definitions s) root c.args.terms.now) (sym c.deref-3.ensures.value) reading.meant.choosable;
-  parts_are = subst (AreParts (definitions s) root c.args.terms.now) (sym c.deref-4.ensures.value) reading.splices.parts;
-  summaries_are = subst (λ ps. AreSummaries ps c.deref-5.result.now) (sym c.deref-4.ensures.value) (subst (AreSummaries c.args.reading.now.splices.parts.items) (sym c.deref-5.ensures.value) reading.splices.summaries);
+  literals_are = reading.meant.literals;
+  sizes_are = reading.meant.sizes;
+  choosable = subst (AreChoosable (definitions s) root c.args.terms.now) (sym c.deref-2.ensures.value) reading.meant.choosable;
+  parts_are = subst (AreParts (definitions s) root c.args.terms.now) (sym c.deref-3.ensures.value) reading.splices.parts;
+  summaries_are = subst (λ ps. AreSummaries ps c.deref-4.result.now) (sym c.deref-3.ensures.value) (subst (AreSummaries c.args.reading.now.splices.parts.items) (sym c.deref-4.ensures.value) reading.splices.summaries);
   defined = refl;
   right = right;
 }) reading.number (c.root_is_type.ensures.is_type s worth root reading.rooted.rooted reading.right.no_fault) ranked))

@@ -2,21 +2,14 @@ use Rattle.std.proofs.Common.{None, subst}
 use Rattle.cddl_language.specs.Faults.{IsFaultAt}
 use Rattle.cddl_check.specs.Codes.{text_codes}
 use Rattle.cddl_check.specs.First.{IsFirst}
-use Rattle.cddl_site_faults.specs.Stage.{HasNotYet}
-use Rattle.cddl_survey.specs.Least.{IsLeast}
 use Rattle.cddl_specification.proofs.text.clear_text.Goals as goal
 
 pub returns-in-Some-clause-stopped : goal.returns-in-Some-clause-stopped
-returns-in-Some-clause-stopped c s worth given = subst (IsLeast (HasNotYet s)) c.in-Some.is (c.not_yet.ensures c.survey_of.new.terms s given.tree c.in_ok-survey.ensures.survey)
-
-pub returns-in-Some-2-clause-stopped : goal.returns-in-Some-2-clause-stopped
-returns-in-Some-2-clause-stopped c s worth given =
-    let least : IsLeast (HasNotYet s) None = subst (IsLeast (HasNotYet s)) c.in_default.is (c.not_yet.ensures c.survey_of.new.terms s given.tree c.in_ok-survey.ensures.survey) in
-    let first = subst (IsFirst (IsFaultAt s worth) text_codes) c.in-Some-2.is (c.in_ok-fault.ensures s worth given.tree given.given c.in_ok-survey.ensures.survey) in
-    (least, c.text_fault_is_told.ensures s worth c.in-Some-2.fault first)
+returns-in-Some-clause-stopped c s worth given =
+    let first = subst (IsFirst (IsFaultAt s worth) text_codes) c.in-Some.is (c.in_ok-fault.ensures s worth given.tree given.given c.in_ok-survey.ensures.survey) in
+    c.text_fault_is_told.ensures s worth c.in-Some.fault first
 
 pub returns-clause-right : goal.returns-clause-right
 returns-clause-right c s worth given =
-    let least : IsLeast (HasNotYet s) None = subst (IsLeast (HasNotYet s)) c.in_default.is (c.not_yet.ensures c.survey_of.new.terms s given.tree c.in_ok-survey.ensures.survey) in
     let first : IsFirst (IsFaultAt s worth) text_codes None = subst (IsFirst (IsFaultAt s worth) text_codes) c.in-None.is (c.in_ok-fault.ensures s worth given.tree given.given c.in_ok-survey.ensures.survey) in
-    record { not_yet = least; no_fault = first; clear = c.text_is_clear.ensures s c.args.tree.now c.in_ok-survey.survey worth given.tree c.in_ok-survey.ensures.survey first }
+    record { no_fault = first; clear = c.text_is_clear.ensures s c.args.tree.now c.in_ok-survey.survey worth given.tree c.in_ok-survey.ensures.survey first }

@@ -1,9 +1,6 @@
 use Rattle.std.proofs.Common.{subst, sym}
-use Rattle.cddl_tool.proofs.Refusing.{Refuses, anyway, for_what_is_not_taken, for_what_is_wrong}
+use Rattle.cddl_tool.proofs.Refusing.{Refuses, anyway, for_what_is_wrong}
 use Rattle.cddl_tool.proofs.acting.line_of.Goals as goal
 
 pub returns-in-Refused : goal.returns-in-Refused
 returns-in-Refused c = anyway _ _ (subst Refuses (sym c.in-Refused.is) (for_what_is_wrong c.in-Refused.fault))
-
-pub returns-in-NotYet : goal.returns-in-NotYet
-returns-in-NotYet c = anyway _ _ (subst Refuses (sym c.in-NotYet.is) (for_what_is_not_taken c.in-NotYet.at))

@@ -1,8 +1,8 @@
-use Rattle.std.proofs.Common.{◌≡◌, take, None, refl, ◌∙◌, arith}
+use Rattle.std.proofs.Common.{◌≡◌, take, None, refl, ◌∙◌, arith, length-take}
 use Rattle.cbor_item.specs.Counted.{device_of, failures_of}
 use Rattle.seq_run.specs.Judge.{judge_of}
 use Rattle.seq_run.specs.Running.{change_of}
-use Rattle.seq_run.proofs.RunLoop.{begin_run, shown_last, read_failed, no_memory, write_failed, reported_all, goes_on, no_bytes}
+use Rattle.seq_run.proofs.RunLoop.{begin_run, shown_last, read_by_pieces, read_failed, read_no_more, no_memory, write_failed, reported_all, goes_on, no_bytes}
 use Rattle.seq_run.proofs.Rereading.{read_back}
 use Rattle.seq_run.proofs.running.run.Goals as goal
 
@@ -61,3 +61,30 @@ pieces-preserved g c =
     (g.W.Write.contents (device_of c.write_bytes.new.out)) (failures_of c.read.new.self) (failures_of c.write_bytes.new.out) c.in-Ok.ensures.count none (rw c.as_slice.ensures.value at c.in_default-write_bytes.ensures.all) c.in_default-write_bytes.ensures.count
     c.len.result (c.len.ensures ∙ c.take_piece.new.bytes.ok.0) c.len.type_inv c.items-reported.result c.items-reported.ensures in
     next.1
+
+pub returns-in_default-clause-reads : goal.returns-in_default-clause-reads
+returns-in_default-clause-reads g c =
+    read_no_more c.args.mode (judge_of c.args.table.now c.args.steps) c.args.limits (g.R.Read.remaining (device_of c.args.input.now)) (g.R.Read.remaining (device_of c.pieces.input)) (g.W.Write.contents (device_of c.args.output.now)) (g.W.Write.contents (device_of c.pieces.output))
+    (failures_of c.args.input.now) (failures_of c.pieces.input) (failures_of c.args.output.now) (failures_of c.pieces.output) c.pieces.session c.pieces.reported c.pieces.written c.pieces.invariant
+    (g.R.Read.remaining (device_of c.read.new.self)) (failures_of c.read.new.self) c.in_default.ensures.bytes
+
+pub returns-in_default-take_piece-clause-reads :
+    goal.returns-in_default-take_piece-clause-reads
+returns-in_default-take_piece-clause-reads g c =
+    read_by_pieces c.args.mode (judge_of c.args.table.now c.args.steps) c.args.limits (g.R.Read.remaining (device_of c.args.input.now)) (g.R.Read.remaining (device_of c.pieces.input)) (g.W.Write.contents (device_of c.args.output.now)) (g.W.Write.contents (device_of c.pieces.output))
+    (failures_of c.args.input.now) (failures_of c.pieces.input) (failures_of c.args.output.now) (failures_of c.pieces.output) c.pieces.session c.pieces.reported c.pieces.written c.pieces.invariant
+    (g.R.Read.remaining (device_of c.read.new.self)) (failures_of c.read.new.self) (take c.in-Ok.count c.read.new.buf) c.in-Ok.ensures.bytes.0 (omega (arith, length-take c.in-Ok.count c.read.new.buf, c.read.auto.buf))
+
+pub returns-in-Err-clause-reads :
+    goal.returns-in-Err-clause-reads
+returns-in-Err-clause-reads g c =
+    read_by_pieces c.args.mode (judge_of c.args.table.now c.args.steps) c.args.limits (g.R.Read.remaining (device_of c.args.input.now)) (g.R.Read.remaining (device_of c.pieces.input)) (g.W.Write.contents (device_of c.args.output.now)) (g.W.Write.contents (device_of c.pieces.output))
+    (failures_of c.args.input.now) (failures_of c.pieces.input) (failures_of c.args.output.now) (failures_of c.pieces.output) c.pieces.session c.pieces.reported c.pieces.written c.pieces.invariant
+    (g.R.Read.remaining (device_of c.read.new.self)) (failures_of c.read.new.self) (take c.in-Ok.count c.read.new.buf) c.in-Ok.ensures.bytes.0 (omega (arith, length-take c.in-Ok.count c.read.new.buf, c.read.auto.buf))
+
+pub returns-in-Some-clause-reads :
+    goal.returns-in-Some-clause-reads
+returns-in-Some-clause-reads g c =
+    read_by_pieces c.args.mode (judge_of c.args.table.now c.args.steps) c.args.limits (g.R.Read.remaining (device_of c.args.input.now)) (g.R.Read.remaining (device_of c.pieces.input)) (g.W.Write.contents (device_of c.args.output.now)) (g.W.Write.contents (device_of c.pieces.output))
+    (failures_of c.args.input.now) (failures_of c.pieces.input) (failures_of c.args.output.now) (failures_of c.pieces.output) c.pieces.session c.pieces.reported c.pieces.written c.pieces.invariant
+    (g.R.Read.remaining (device_of c.read.new.self)) (failures_of c.read.new.self) (take c.in-Ok.count c.read.new.buf) c.in-Ok.ensures.bytes.0 (omega (arith, length-take c.in-Ok.count c.read.new.buf, c.read.auto.buf))

@@ -1,0 +1,37 @@
+//! What items of such a size are asked (RFC 8610 section 3.8.1).
+
+ghost use Rattle.std.specs.Prelude.{◌≡◌, IfOk};
+ghost use Rattle.cddl_sizes.specs.Sizes.{sizes_at};
+ghost use Rattle.cddl_nodes.specs.Forms.{type_form_view};
+ghost use Rattle.cddl_nodes.specs.Lookups.{sized_view};
+
+use crate::form::{TypeForm, nothing};
+use crate::origin::TypeOrigin;
+use crate::source::Source;
+use cddl_table::{SizeRange, Test};
+use cddl_terms::NoRoom;
+use std::alloc::{AllocError, Global};
+
+/// The items to which the type on the left says yes, and whose size is a member of the controller, where it has members.
+pub(crate) fn size_form(
+    alloc: Global,
+    source: &Source<'_>,
+    left: u32,
+    right: u32,
+) -> Result<TypeForm, NoRoom>
+    ensures { IfOk result (λ f. type_form_view f ≡ sized_view left (sizes_at source.now.sizes.now right)) }
+{
+    let Some(ranges) = source.sizes.get(right) else {
+        return Ok(nothing(alloc));
+    };
+    match copy_of(alloc, ranges) {
+        Ok(ranges) => Ok(TypeForm::Such(TypeOrigin::Row(left), Test::Sized(ranges))),
+        Err(_) => Err(NoRoom),
+    }
+}
+
+fn copy_of(alloc: Global, ranges: &[SizeRange]) -> Result<Vec<SizeRange>, AllocError>
+    ensures { IfOk result (λ v. v.items ≡ ranges.now) }
+{
+    ranges.iter().copied().collect(alloc)
+}

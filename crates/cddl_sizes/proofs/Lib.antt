@@ -1,0 +1,10 @@
+pub mod Below
+pub mod Going
+pub mod Induction
+pub mod Listing
+pub mod Lists
+pub mod Numbers
+pub mod Ordering
+pub mod Reaching
+pub mod Rows
+pub mod Same

@@ -1,0 +1,26 @@
+use Rattle.std.proofs.Common.{◌∙◌, Option, ℕ, List, slice_get, sym, ap}
+use Rattle.cddl_sizes.specs.Controllers.{IsList, is_wanted}
+use Rattle.cddl_sizes.specs.Reach.{ranges_of}
+use Rattle.cddl_sizes.specs.Sizes.{flag_at}
+use Rattle.cddl_sizes.proofs.Listing.{IsWanted, added, kept, more_listed, wanted}
+use Rattle.cddl_sizes.proofs.Lists.{ok_with}
+use Rattle.cddl_sizes.proofs.members.add_list.Goals as goal
+
+is_it_wanted : (c : goal.After-put_list) → IsWanted (flag_at c.args.sizable.now c.args.row) (slice_get c.args.sizes.now.rows.items c.args.row)
+is_it_wanted c = wanted (flag_at c.args.sizable.now c.args.row) (slice_get c.args.sizes.now.rows.items c.args.row) (sym (ap (λ (rows : List (Option ℕ)). is_wanted (flag_at c.args.sizable.now c.args.row) (slice_get rows c.args.row)) c.deref.ensures.value) ∙ (sym c.is_wanted.ensures ∙ c.if-not-is_wanted.false))
+
+is_list : (c : goal.After-put_list) → IsList c.args.sources.now c.args.row c.in_ok-list.list
+is_list c = record {
+  reached = c.reach.new.self.reached.items;
+  are_reached = c.in_ok-reach.ensures.reached;
+  ranges = c.in_ok-list.ensures ∙ ap (ranges_of c.args.sources.now) c.deref-2.ensures.value;
+}
+
+pub returns-clause-listed : goal.returns-clause-listed
+returns-clause-listed c = ok_with c.put_list.result _ _ _ (λ v rows lists. more_listed c.args.sources.now c.args.sizable.now c.args.sizes.now c.put_list.new.sizes c.args.row c.in_ok-list.list (is_it_wanted c) rows lists c.requires.listed (is_list c)) c.put_list.ensures.rows c.put_list.ensures.lists
+
+pub returns-clause-added : goal.returns-clause-added
+returns-clause-added c = ok_with c.put_list.result _ _ _ (λ v rows lists. added c.args.sources.now c.args.sizable.now c.args.sizes.now c.put_list.new.sizes c.args.row c.in_ok-list.list (is_it_wanted c) rows lists) c.put_list.ensures.rows c.put_list.ensures.lists
+
+pub returns-clause-kept : goal.returns-clause-kept
+returns-clause-kept c = ok_with c.put_list.result _ _ _ (λ v rows lists. kept c.args.sources.now c.args.sizable.now c.args.sizes.now c.put_list.new.sizes c.args.row c.in_ok-list.list (is_it_wanted c) rows lists) c.put_list.ensures.rows c.put_list.ensures.lists

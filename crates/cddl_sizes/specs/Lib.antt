@@ -1,0 +1,5 @@
+pub mod Controllers
+pub mod Depths
+pub mod Reach
+pub mod Sizes
+pub mod Sources

@@ -1,0 +1,32 @@
+//! What is known of the members of controllers.
+
+ghost use Rattle.std.specs.Prelude.{◌≡◌};
+ghost use Rattle.std.specs.Option.{option_map};
+ghost use Rattle.cddl_table.specs.Nodes.{sizes_view};
+ghost use Rattle.cddl_sizes.specs.Sizes.{sizes_at};
+
+use cddl_table::SizeRange;
+
+/// The members of the types that are controllers of `.size`, by the rows of these types.
+#[derive(Drop)]
+pub struct Sizes {
+    /// The members of one type after the other, as ranges in no order.
+    pub lists: Vec<Vec<SizeRange>>,
+    /// For each row the place of its members among these, if it is such a controller and has some.
+    pub rows: Vec<Option<usize>>,
+}
+
+impl Sizes {
+    /// The members of the row's type, which is a controller of `.size`, if it is one as it has to be.
+    ///
+    /// It looks up two numbers.
+    pub fn get(&self, row: u32) -> Option<&[SizeRange]>
+        ensures { option_map (λ v. sizes_view v.now) result ≡ sizes_at self.now row }
+    {
+        let place = (*self.rows.get(row as usize)?)?;
+        match self.lists.get(place) {
+            Some(list) => Some(list.as_slice()),
+            None => None,
+        }
+    }
+}

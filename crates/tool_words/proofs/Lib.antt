@@ -1,0 +1,5 @@
+pub mod Commands
+pub mod Devices
+pub mod Meeting
+pub mod Limiting
+pub mod Taking
