@@ -91,3 +91,37 @@ impl Write for Sink {
         Ok(())
     }
 }
+
+/// Has room for 128 bytes, and takes no memory.
+#[derive(Drop)]
+pub struct Sheet {
+    bytes: [u8; 128],
+    len: usize,
+}
+
+impl Sheet {
+    pub(crate) fn new() -> Sheet {
+        Sheet {
+            bytes: [0; 128],
+            len: 0,
+        }
+    }
+
+    pub(crate) fn taken(&self) -> &[u8] {
+        &self.bytes[..self.len.min(128)]
+    }
+}
+
+impl Write for Sheet {
+    fn write(&mut self, buf: &[u8]) -> io::Result<usize> {
+        let rest = &mut self.bytes[self.len.min(128)..];
+        let count = buf.len().min(rest.len());
+        rest[..count].copy_from_slice(&buf[..count]);
+        self.len = self.len.saturating_add(count);
+        Ok(count)
+    }
+
+    fn flush(&mut self) -> io::Result<()> {
+        Ok(())
+    }
+}

@@ -9,6 +9,8 @@ mod devices;
 #[cfg(test)]
 mod lines;
 #[cfg(test)]
+mod memory;
+#[cfg(test)]
 mod reading;
 #[cfg(test)]
 mod steps;

@@ -3,6 +3,7 @@ use crate::devices::{Sink, Source};
 use cbor_item::Counted;
 use cddl_tool::{BROKEN, read_text, say, say_of_file};
 use std::io::ErrorKind;
+use std::test::Fail;
 
 // For how many bytes the device has room, and what comes.
 static SAID: [(usize, &[u8]); 4] = [
@@ -23,6 +24,21 @@ fn says_what_a_device_takes(rt: HostRuntime) {
 }
 
 const TEXT: &[u8] = b"a = any";
+
+// A specification of one byte more than is read is read so far, and no further.
+#[test]
+fn reads_no_more_than_shows_that_a_text_is_too_long(rt: HostRuntime) -> Result<(), Fail> {
+    let mut long: Vec<u8> = Vec::new(rt.alloc());
+    long.resize(1_048_580, 32)?;
+    let mut file: &[u8] = long.as_slice();
+    let mut err = Counted::new(Sink::new(rt.alloc(), 0, true));
+    match read_text(rt.alloc(), &mut file, "a.cddl", &mut err) {
+        Ok(text) => assert_eq!(rt; text.len(), 1_048_577),
+        Err(_) => assert!(rt; false, "no text"),
+    }
+    assert_eq!(rt; file.len(), 3);
+    Ok(())
+}
 
 // How many reads of the file succeed, how the next one fails, and the line that comes: none where the text is read.
 static READ: [(usize, ErrorKind, &[u8]); 4] = [
