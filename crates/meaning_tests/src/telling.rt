@@ -183,11 +183,7 @@ fn fault_word(alloc: Global, fault: Option<Fault>) -> Option<String> {
     }
 }
 
-fn sizes_at<'m>(
-    terms: &Terms<'_>,
-    meant: &'m Meant,
-    meaning: &Meaning,
-) -> Option<&'m [SizeRange]> {
+fn sizes_at<'m>(terms: &Terms<'_>, meant: &'m Meant, meaning: &Meaning) -> Option<&'m [SizeRange]> {
     let controller = terms.row(*meaning.types.first()?)?.second?;
     meant.sizes.get(controller)
 }
