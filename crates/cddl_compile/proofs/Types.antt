@@ -12,7 +12,7 @@ use Rattle.cddl_language.specs.Kinds.{Opened, opens_group, opens_type, opened, i
 use Rattle.cddl_language.specs.Choices.{can_choose, chosen, chosen_by_name}
 use Rattle.cddl_language.specs.Maps.{Alternatives, map_alternatives}
 use Rattle.cddl_language.specs.Language.{TypeName, type, reference, GroupName, nothing, choice, content, between, map_node, comparand, such_as_compares, such_as_sized, equal_to, control_node, chosen_part_name, chosen_name, chosen_names, term_node, type_node}
-use Rattle.cddl_language.specs.Reach.{Reaches, at_name, at_unwrapping, at_choice, at_opened_choice, points, group_points, entries_points, entry_points}
+use Rattle.cddl_language.specs.Reach.{Reaches, at_name, at_unwrapping, at_choice, at_chosen_name, at_opened_choice, points, group_points, entries_points, entry_points}
 use Rattle.cddl_terms.specs.Table.{Table}
 use Rattle.cddl_terms.specs.Trees.{IsTerm, IsGroup, IsEntries, IsEntry}
 use Rattle.cddl_closed.specs.Closed.{AreAlternatives, no_alternatives, alternatives_of, AreReached}
@@ -20,7 +20,7 @@ use Rattle.cddl_recursion.specs.declared.graph.Ranks.{Ranks}
 use Rattle.cddl_recursion.specs.declared.node.Node.TheVariants as N
 use Rattle.cddl_recursion.specs.Asking as A
 use Rattle.cddl_recursion.specs.Asking.{a_type, a_group, chosen_group, chosen_entries, chosen_entry, a_point}
-use Rattle.cddl_recursion.specs.Standing.{type_row, group_row, chosen_group_row, chosen_entries_row, chosen_entry_row, name_place, unwrapping_place, choice_place, opened_choice_place}
+use Rattle.cddl_recursion.specs.Standing.{type_row, group_row, chosen_group_row, chosen_entries_row, chosen_entry_row, name_place, unwrapping_place, choice_place, chosen_name_place, opened_choice_place}
 use Rattle.cddl_recursion.specs.Order.{rank}
 use Rattle.cddl_nodes.specs.Basis.{Sense}
 use Rattle.cddl_nodes.specs.Origins.{all_points, IsTypeOrigin, of_row, of_instance, of_chosen, of_word, IsGroupOrigin}
@@ -134,8 +134,8 @@ module _ (s : Sense) (t : Table) (r : Ranks) (given : Given s t r) where
   part_down n o x h c (names_group q) e m p f u =
       let reaches = given.part_named x q c e in
       let k = given.placed q reaches in
-      let first = step s t r given.ranked (N.Chosen n) (N.Choice k.0) (chosen_entry (typed o x)) (a_point (at_choice q)) (chosen_entry_row h) (choice_place k.1) c (A.chosen_name e) in
-      below_chosen s t r (group_choices s.definitions q) p (subst (λ (z : TypeName). IsTypeOrigin s t z p) f u) (rank r (N.Chosen n)) (above_none (rank r (N.Choice k.0)) (rank r (N.Chosen n)) first) (λ j g i a can. through (rank r (N.Chosen j)) (rank r (N.Choice k.0)) (rank r (N.Chosen n)) (step s t r given.ranked (N.Choice k.0) (N.Chosen j) (a_point (at_choice q)) (chosen_group g) (choice_place k.1) (chosen_group_row i) (one_reached s (at_choice q) reaches) (A.chooses a (subst (λ (us : List Entries). can_choose s.definitions us ≡ true) (sym a) can))) first)
+      let first = step s t r given.ranked (N.Chosen n) (N.ChosenName k.0) (chosen_entry (typed o x)) (a_point (at_chosen_name q)) (chosen_entry_row h) (chosen_name_place k.1) c (A.chosen_name e) in
+      below_chosen s t r (group_choices s.definitions q) p (subst (λ (z : TypeName). IsTypeOrigin s t z p) f u) (rank r (N.Chosen n)) (above_none (rank r (N.ChosenName k.0)) (rank r (N.Chosen n)) first) (λ j g i a can. through (rank r (N.Chosen j)) (rank r (N.ChosenName k.0)) (rank r (N.Chosen n)) (step s t r given.ranked (N.ChosenName k.0) (N.Chosen j) (a_point (at_chosen_name q)) (chosen_group g) (chosen_name_place k.1) (chosen_group_row i) (one_reached s (at_chosen_name q) reaches) (A.chooses a (subst (λ (us : List Entries). can_choose s.definitions us ≡ true) (sym a) can))) first)
   part_down n o x h c (opens q g) e m p f u =
       let reaches = given.part_opened x q g c e in
       let k = given.placed q reaches in
@@ -287,9 +287,12 @@ module _ (s : Sense) (t : Table) (r : Ranks) (given : Given s t r) where
       first : rank r (N.Choice k.0) < rank r (N.Row n)
       first = step s t r given.ranked (N.Row n) (N.Choice k.0) (a_type (choice_of_name q)) (a_point (at_choice q)) (type_row h) (choice_place k.1) c A.by_choice
 
+      second : rank r (N.ChosenName k.0) < rank r (N.Row n)
+      second = through (rank r (N.ChosenName k.0)) (rank r (N.Choice k.0)) (rank r (N.Row n)) (step s t r given.ranked (N.Choice k.0) (N.ChosenName k.0) (a_point (at_choice q)) (a_point (at_chosen_name q)) (choice_place k.1) (chosen_name_place k.1) (one_reached s (at_choice q) reaches) A.chooses_by_name) first
+
       by : (ess : List Entries) → ess ≡ group_choices s.definitions q → (o : Option ℕ) → AreAlternatives t ess o → IsIn m (chosen_names s.worth s.definitions ess) → type_rank r p < 2 * rank r (N.Row n)
       by ess e o no_alternatives i = absurd i
-      by ess e o (alternatives_of {n = j} g a) i = lifted (type_rank r p) (rank r (N.Chosen j)) (rank r (N.Row n)) (through (rank r (N.Chosen j)) (rank r (N.Choice k.0)) (rank r (N.Row n)) (step s t r given.ranked (N.Choice k.0) (N.Chosen j) (a_point (at_choice q)) (chosen_group g) (choice_place k.1) (chosen_group_row a) c (A.chooses e (subst (λ (us : List Entries). can_choose s.definitions us ≡ true) (sym e) free.1))) first) (chosen_group_down j g a (given.group_reached q g reaches e) m p i u)
+      by ess e o (alternatives_of {n = j} g a) i = lifted (type_rank r p) (rank r (N.Chosen j)) (rank r (N.Row n)) (through (rank r (N.Chosen j)) (rank r (N.ChosenName k.0)) (rank r (N.Row n)) (step s t r given.ranked (N.ChosenName k.0) (N.Chosen j) (a_point (at_chosen_name q)) (chosen_group g) (chosen_name_place k.1) (chosen_group_row a) (one_reached s (at_chosen_name q) reaches) (A.chooses e (subst (λ (us : List Entries). can_choose s.definitions us ≡ true) (sym e) free.1))) second) (chosen_group_down j g a (given.group_reached q g reaches e) m p i u)
   type_in_row n (tagged a x) h c m p f u = absurd f
   type_in_row n (tagged_by a x) h c m p f u = absurd f
   type_in_row n (simple_by x) h c m p f u = below_row s t r x p (subst (λ (z : TypeName). IsTypeOrigin s t z p) f u) (rank r (N.Row n)) (λ j i. step s t r given.ranked (N.Row n) (N.Row j) (a_type (simple_by x)) (a_type x) (type_row h) (type_row i) c A.in_head)

@@ -1,5 +1,5 @@
 -- `t = [* t]` is accepted.
-use Rattle.std.specs.Prelude.{◌≡◌, ◌≢◌, ◌⊎◌, ℕ, zero, suc, ◌<◌, length, List, [], ◌∷◌, slice_get, slice_index_or, Contains, Option, Some, None, Bool, true, false, codes}
+use Rattle.std.specs.Prelude.{◌≡◌, ◌≢◌, ◌⊎◌, ℕ, zero, suc, ◌<◌, length, List, [], ◌∷◌, slice_get, slice_index_or, Contains, Option, Some, None, true, false, codes}
 use Rattle.std.proofs.Common.{refl, sym, ap, ◌∙◌, subst, arith, inl, inr}
 use Rattle.std.proofs.lemmas.List.Elements.{Contains-get_or}
 use Rattle.cddl_token.specs.declared.Token.{Token}
@@ -7,7 +7,9 @@ use Rattle.cddl_token.specs.declared.Code.{Code}
 use Rattle.cddl_token.specs.declared.Code.TheVariants as C
 use Rattle.cddl_syntax.specs.Syntax as S
 use Rattle.std.proofs.lemmas.Bool.{false≢true}
-use Rattle.cddl_language.proofs.After.{asks, free_first, in_one}
+use Rattle.cddl_language.proofs.After.{free_first, in_one}
+use Rattle.cddl_language.proofs.Alone as A
+use Rattle.cddl_language.proofs.Alone.{in_type}
 use Rattle.cddl_language.proofs.Basics.{some_is_none, none_is_some, same_some, cons_is_nil, beyond_two, only}
 use Rattle.cddl_language.specs.Numbers.{least_of, most_of}
 use Rattle.cddl_language.specs.Terms as M
@@ -16,8 +18,8 @@ use Rattle.cddl_language.specs.Prelude.{prelude}
 use Rattle.cddl_language.specs.Reading.{definition_of, occurrence, name_in, parameter_tokens, parameters_in, rule_head}
 use Rattle.cddl_language.specs.Environment.{definitions_of}
 use Rattle.cddl_language.specs.Substitution.{type_choices, group_choices}
-use Rattle.cddl_language.specs.Kinds.{asks_type, names_group, opens, opens_group, opens_type, opened, part_of, is_group, is_group_definition}
-use Rattle.cddl_language.specs.Reach.{Reaches, at_root, onward, Point, ref_at, at_name, points_in}
+use Rattle.cddl_language.specs.Kinds.{asks_type, opens_group, opened, part_of, is_group, is_group_definition}
+use Rattle.cddl_language.specs.Reach.{Reaches, at_root, onward, Point, ref_at, at_name, at_choice, at_opened_choice, points_in}
 use Rattle.cddl_language.specs.Literals.{Values}
 use Rattle.cddl_language.specs.Free as R
 use Rattle.cddl_language.specs.Free.{IsFree, IsFreeInSome, IsFreeInChoice, LeadsTo, LeadsOn}
@@ -154,58 +156,31 @@ nothing_spliced s xs q e (of_opened {r = r} {xs = ys} {q = p} {d = d} h n c m) =
 inside_free : (p : Point) → IsFreeInSome ds p (alternatives inside) → ⊥
 inside_free p h = free_first ds p (Some (codes "*")) (named t) false is_type (in_one ds p _ h)
 
-lists_free : (p : Point) → IsFree ds p lists → ⊥
-lists_free p (R.in_array h) = inside_free p h
-
 is_array : part_of ds lists ≡ asks_type
 is_array = refl
 
--- what is free in the choice from one entry of a type
-in_type : (p : Point) (o : Option Text) (u : Term) → part_of ds u ≡ asks_type → IsFreeInChoice ds p (entries no_entries (typed o u) false ∷ []) → IsFree ds p u
-in_type p o u e (R.of_this (R.of_last (R.of_type h f))) = f
-in_type p o u e (R.of_this (R.of_last (R.of_name {r = r} h f))) = absurd (asks (names_group r) e h)
-in_type p o u e (R.of_this (R.of_last (R.of_opened {r = r} {g = g} h f))) = absurd (asks (opens r g) e h)
-in_type p o u e (R.of_this (R.of_earlier h)) = elim h [ ]
-in_type p o u e (R.of_later h) = elim h [ ]
-
-lists_chosen : (p : Point) → IsFreeInChoice ds p (lone (typed None lists) ∷ []) → ⊥
-lists_chosen p h = lists_free p (in_type p None lists is_array h)
-
 inside_chosen : (p : Point) → IsFreeInChoice ds p (alternatives inside) → p ≡ at_name t
-inside_chosen p h = by (in_type p (Some (codes "*")) (named t) is_type h)
+inside_chosen p h = by (in_type ds p (Some (codes "*")) (named t) is_type h)
   where
     by : IsFree ds p (named t) → p ≡ at_name t
     by (R.name e) = e
 
-same_group : (g : Group) → Some (opens_group inside) ≡ Some (opens_group g) → g ≡ inside
-same_group g e = cc
+abbrev OnlyTo : Point → Point → Type 0
+OnlyTo q p = A.OnlyTo ds t inside no_group means_lists opens_lists chooses_lists is_array inside_free q p
 
-other_opened : (u : Term) → Some (opens_group inside) ≡ Some (opens_type u) → ⊥
-other_opened u e = cc
+leads_only : (p q : Point) → ref_at q ≡ t → LeadsTo ds p q → OnlyTo q p
+leads_only p q e h = A.leads_only ds t inside no_group means_lists opens_lists chooses_lists is_array inside_free p q e h
 
-abbrev is_by_name : Point → Bool
-is_by_name (at_name r) = true
-is_by_name _ = false
-
-not_by_name : (q : Point) → is_by_name q ≡ false → q ≡ at_name t → ⊥
-not_by_name q h e = false≢true (sym h ∙ ap is_by_name e)
-
--- The choice from what `~t` opens has its name free; nothing else has.
-leads_to_name : (p q : Point) → ref_at q ≡ t → LeadsTo ds p q → (is_by_name q ≡ false) × (p ≡ at_name t)
-leads_to_name p q e (R.by_type {r = r} {t = u} h c f) = absurd (lists_free p (subst (λ z. IsFree ds p z) (only (subst (λ ts. Contains ts u) means_lists (subst (λ z. Contains (type_choices ds z) u) e c))) f))
-leads_to_name p q e (R.by_group {r = r} h f) = absurd (false≢true (sym no_group ∙ subst (λ z. is_group ds (name_of z) ≡ true) e h))
-leads_to_name p q e (R.by_opened_group {r = r} {g = g} h f) = absurd (inside_free p (subst (λ z. IsFreeInSome ds p (alternatives z)) (same_group g (sym opens_lists ∙ subst (λ z. opened ds z ≡ Some (opens_group g)) e h)) f))
-leads_to_name p q e (R.by_content {r = r} {t = u} h f) = absurd (other_opened u (sym opens_lists ∙ subst (λ z. opened ds z ≡ Some (opens_type u)) e h))
-leads_to_name p q e (R.by_choice {r = r} w f) = absurd (lists_chosen p (subst (λ ess. IsFreeInChoice ds p ess) chooses_lists (subst (λ z. IsFreeInChoice ds p (group_choices ds z)) e f)))
-leads_to_name p q e (R.by_opened_choice {r = r} {g = g} h w f) = (refl, inside_chosen p (subst (λ z. IsFreeInChoice ds p (alternatives z)) (same_group g (sym opens_lists ∙ subst (λ z. opened ds z ≡ Some (opens_group g)) e h)) f))
-
-no_way_from_name : (p q : Point) → p ≡ at_name t → LeadsOn ds p q → ⊥
-no_way_from_name p q e (R.at_once {q = s} h) = not_by_name p ((leads_to_name s p (ap ref_at e) h).0) e
-no_way_from_name p q e (R.onwards {q = s} h k) = not_by_name p ((leads_to_name s p (ap ref_at e) h).0) e
+-- Where the first step leads, no other begins: that is the name, by itself or after `&`.
+one_step : (p s u : Point) → OnlyTo p s → LeadsTo ds u s → ⊥
+one_step (at_choice r) s u e h = A.name_ends ds t inside no_group means_lists opens_lists chooses_lists is_array inside_free u s e h
+one_step (at_opened_choice r) s u e h = let f = inside_chosen s e in subst (λ z. OnlyTo z u) f (leads_only u s (ap ref_at f) h)
+one_step _ s u e h = absurd e
 
 no_way_back : (p q : Point) → ref_at p ≡ t → LeadsOn ds p q → p ≡ q → ⊥
-no_way_back p q e (R.at_once h) f = let l = leads_to_name q p e h in not_by_name p (l.0) (f ∙ l.1)
-no_way_back p q e (R.onwards {q = s} h k) f = no_way_from_name s q ((leads_to_name s p e h).1) k
+no_way_back p q e (R.at_once h) f = one_step p q q (leads_only q p e h) (subst (λ z. LeadsTo ds q z) f h)
+no_way_back p q e (R.onwards {q = s} h (R.at_once k)) f = one_step p s q (leads_only s p e h) k
+no_way_back p q e (R.onwards {q = s} h (R.onwards {q = u} k l)) f = one_step p s u (leads_only s p e h) k
 
 -- No fault stands.
 
@@ -268,7 +243,7 @@ module _ (worth : Values) (at : ℕ) where
   no_unwrapping (F.chooses_from_no_name {r = r} {xs = xs} {t = u} {f = f} p h e) = places_reached r xs (a_choice_of_name u f) p
 
   no_recursion : F.HasRecursion T.lists (codes "t") at → ⊥
-  no_recursion f = no_way_back f.point f.point (reached (ref_at f.point) f.cycle.instance) f.cycle.cycle refl
+  no_recursion f = no_way_back f.point f.point (reached (ref_at f.point) f.cycle.back.instance) f.cycle.back.way refl
 
   within_bounds : (e : S.GrpEnt) (o : Token) → e ≡ starred → F.occur_token e ≡ Some o → F.IsOver (least_of (occurrence (Some o))) (most_of (occurrence (Some o))) → ⊥
   within_bounds e o h f g = subst (λ z. F.IsOver (least_of (occurrence z)) (most_of (occurrence z))) (sym f ∙ ap F.occur_token h) g

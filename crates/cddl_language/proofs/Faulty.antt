@@ -7,9 +7,9 @@ use Rattle.cddl_token.specs.declared.Code.TheVariants as C
 use Rattle.cddl_literal.specs.Numbers.{digit_value}
 use Rattle.cddl_language.specs.Terms.{call, no_terms, named, Definition, Body, of_types}
 use Rattle.cddl_language.specs.Prelude.{prelude}
-use Rattle.cddl_language.specs.Reach.{at_root, onward, at_name, at_opened_choice}
+use Rattle.cddl_language.specs.Reach.{at_root, onward, at_name, at_choice}
 use Rattle.cddl_language.specs.Literals.{Values}
-use Rattle.cddl_language.specs.Free.{name, by_type, by_group, by_opened_choice, in_choice, of_this, of_last, of_keyed, of_opened, at_once, no_time, all_may, none_left, in_this, in_last, group_name}
+use Rattle.cddl_language.specs.Free.{name, choice_by_name, by_type, by_group, by_choice, by_chosen_name, of_this, of_last, of_keyed, at_once, onwards, no_time, all_may, none_left, in_this, in_last, group_name}
 use Rattle.cddl_language.specs.Sites.{in_body, in_argument, used, a_name}
 use Rattle.cddl_language.specs.Faults as F
 use Rattle.cddl_language.specs.Faults.{IsFaultAt}
@@ -79,15 +79,15 @@ choice_of_maybe worth = F.chooses_from_none (in_body (record { reached = at_root
 
 pub first_itself : (worth : Values) → IsFaultAt T.first_itself worth C.Recursion 0
 unfolding prelude
-first_itself worth = record { point = at_name (call (codes "t") no_terms); cycle = record { instance = at_root; cycle = at_once (by_type refl (0, omega arith, refl) (name refl)) }; rule = _; first = refl; offset = refl }
+first_itself worth = record { point = at_name (call (codes "t") no_terms); cycle = record { back = record { instance = at_root; way = at_once (by_type refl (0, omega arith, refl) (name refl)) }; counts = inl refl }; rule = _; first = refl; offset = refl }
 
-pub chosen_itself : (worth : Values) → IsFaultAt T.chosen_itself worth C.Recursion 0
+pub chosen_by_name : (worth : Values) → IsFaultAt T.chosen_by_name worth C.Recursion 7
 unfolding prelude
-chosen_itself worth = record { point = at_opened_choice (call (codes "t") no_terms); cycle = record { instance = at_root; cycle = at_once (by_opened_choice refl refl (of_this (of_last (of_keyed (in_choice (of_this (of_last (of_opened refl refl)))))))) }; rule = _; first = refl; offset = refl }
+chosen_by_name worth = record { point = at_choice (call (codes "b") no_terms); cycle = record { back = record { instance = onward at_root (0, omega arith, refl) refl; way = onwards (by_choice refl) (onwards (by_chosen_name refl (of_this (of_last (of_keyed (name refl))))) (at_once (by_type refl (0, omega arith, refl) (choice_by_name refl)))) }; counts = inl refl }; rule = _; first = refl; offset = refl }
 
 pub group_first_itself : (worth : Values) → IsFaultAt (T.two_rules T.r_of_g T.maybe_int_then_g) worth C.Recursion 8
 unfolding prelude
-group_first_itself worth = record { point = at_name (call (codes "g") no_terms); cycle = record { instance = onward at_root (0, omega arith, refl) refl; cycle = at_once (by_group refl (in_this (in_last (all_may none_left (no_time refl)) (group_name refl refl)))) }; rule = _; first = refl; offset = refl }
+group_first_itself worth = record { point = at_name (call (codes "g") no_terms); cycle = record { back = record { instance = onward at_root (0, omega arith, refl) refl; way = at_once (by_group refl (in_this (in_last (all_may none_left (no_time refl)) (group_name refl refl)))) }; counts = inl refl }; rule = _; first = refl; offset = refl }
 
 pub to_text : (worth : Values) → IsFaultAt T.to_text worth C.BadRange 7
 unfolding prelude

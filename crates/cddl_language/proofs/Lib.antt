@@ -1,5 +1,6 @@
 pub mod Accepted
 pub mod After
+pub mod Alone
 pub mod Basics
 pub mod Choosing
 pub mod Circles
@@ -15,9 +16,11 @@ pub mod MapsNone
 pub mod MapsStand
 pub mod Members
 pub mod NoCycle
+pub mod NoReference
 pub mod Numbers
 pub mod OneFault
 pub mod Saying
 pub mod Sized
 pub mod Tables
+pub mod ThroughGroup
 pub mod Values

@@ -9,7 +9,7 @@ use Rattle.cddl_language.specs.Numbers.{least_of, most_of}
 use Rattle.cddl_language.specs.Terms.{Text, Term, named, unwrapped, Group, sole, orelse, Entries, no_entries, entries, Entry, typed, keyed, grouped, Definition, alternatives, entry_list, stripped, name_of, occurrence_of}
 use Rattle.cddl_language.specs.Substitution.{group_choices}
 use Rattle.cddl_language.specs.Kinds.{Opened, opens_group, opens_type, opened, is_group, Part, asks_type, names_group, opens, opened_part, stripped_part, part_of}
-use Rattle.cddl_language.specs.Reach.{Point, at_name, at_unwrapping, at_choice, at_opened_choice, most_instances}
+use Rattle.cddl_language.specs.Reach.{Point, at_name, at_unwrapping, at_choice, at_chosen_name, at_opened_choice, most_instances}
 use Rattle.cddl_language.specs.Maps.{Alternatives, joined, combined, occurring, occurs, occurring_so, in_part, in_group, in_entries, in_entry, in_each, alternatives_in, map_alternatives}
 use Rattle.cddl_language.specs.MapFaults.{entries_of, group_of_part, group_in, point_of_part, point_in, IsSplicedInto, its_own, further, LeadsTo, by_itself, by_group, LacksKey, asks, OccursBadly, never, with_these, ComesBack}
 
@@ -201,6 +201,7 @@ module _ (ds : List Definition) where
   group_at (at_name r) = Some (group_choices ds r)
   group_at (at_unwrapping r) = opened_group (opened ds r)
   group_at (at_choice r) = None
+  group_at (at_chosen_name r) = None
   group_at (at_opened_choice r) = None
 
   of_stripped : (t : Term) (p : Point) → point_of_part ds (stripped_part ds t) ≡ Some p → group_of_part ds (stripped_part ds t) ≡ group_at p

@@ -1,13 +1,13 @@
 -- Free references: those that are asked before an item is surely taken or gone into. A cycle of them asks the same
 -- question again for ever, so it is refused (RFC 8610 does not say what it would mean).
-use Rattle.std.specs.Prelude.{◌≡◌, Bool, true, false, List, ◌∷◌, Contains, Option, Some}
+use Rattle.std.specs.Prelude.{◌≡◌, ◌⊎◌, Bool, true, false, List, ◌∷◌, Contains, Option, Some}
 use Rattle.cddl_language.specs.Controls.{control_of, is_asked_here}
 use Rattle.cddl_language.specs.Numbers.{least_of}
 use Rattle.cddl_language.specs.Terms.{Text, Term, named, parens, array_of, unwrapped, choice_of, choice_of_name, simple_by, control, or, Ref, Group, Entries, no_entries, entries, Entry, typed, keyed, grouped, Key, Definition, alternatives, occurrence_of, name_of}
 use Rattle.cddl_language.specs.Substitution.{type_choices, group_choices}
 use Rattle.cddl_language.specs.Choices.{can_choose}
 use Rattle.cddl_language.specs.Kinds.{opened, opens_group, opens_type, is_group, asks_type, names_group, opens, part_of}
-use Rattle.cddl_language.specs.Reach.{Point, at_name, at_unwrapping, at_choice, at_opened_choice, ref_at, Reaches}
+use Rattle.cddl_language.specs.Reach.{Point, at_name, at_unwrapping, at_choice, at_chosen_name, at_opened_choice, ref_at, is_reference, Reaches}
 
 -- Groups that may be empty: the least set. An entry may be empty where it may stand no time, or where its group may be
 -- empty; a list of entries where each may; alternatives where one may.
@@ -57,7 +57,8 @@ module _ (ds : List Definition) where
       group_opened : {o : Option Text} {t : Term} {r : Ref} {g : Group} → part_of ds t ≡ opens r g → p ≡ at_unwrapping r → IsFreeInEntry p (typed o t)
       in_group : {o : Option Text} {g : Group} → IsFreeInSome p (alternatives g) → IsFreeInEntry p (grouped o g)
 
-    -- In what `&` chooses from: in the types of all entries; and the choice from a group that has a name is a reference, too.
+    -- In what `&` chooses from: in the types of all entries. Through the name of a group, and through what `~` opens, it goes to
+    -- the types of the entries there.
     pub data IsFreeInChoice (p : Point) : List Entries → Type 0 where
       of_this : {es : Entries} {ess : List Entries} → IsFreeInChosen p es → IsFreeInChoice p (es ∷ ess)
       of_later : {es : Entries} {ess : List Entries} → IsFreeInChoice p ess → IsFreeInChoice p (es ∷ ess)
@@ -68,7 +69,7 @@ module _ (ds : List Definition) where
 
     pub data IsFreeInChosenEntry (p : Point) : Entry → Type 0 where
       of_type : {o : Option Text} {t : Term} → part_of ds t ≡ asks_type → IsFree p t → IsFreeInChosenEntry p (typed o t)
-      of_name : {o : Option Text} {t : Term} {r : Ref} → part_of ds t ≡ names_group r → p ≡ at_choice r → IsFreeInChosenEntry p (typed o t)
+      of_name : {o : Option Text} {t : Term} {r : Ref} → part_of ds t ≡ names_group r → p ≡ at_chosen_name r → IsFreeInChosenEntry p (typed o t)
       of_opened : {o : Option Text} {t : Term} {r : Ref} {g : Group} → part_of ds t ≡ opens r g → p ≡ at_opened_choice r → IsFreeInChosenEntry p (typed o t)
       of_keyed : {o : Option Text} {k : Key} {t : Term} → IsFree p t → IsFreeInChosenEntry p (keyed o k t)
       of_group : {o : Option Text} {g : Group} → IsFreeInChoice p (alternatives g) → IsFreeInChosenEntry p (grouped o g)
@@ -80,15 +81,22 @@ module _ (ds : List Definition) where
     by_group : {r : Ref} → is_group ds (name_of r) ≡ true → IsFreeInSome p (group_choices ds r) → LeadsTo p (at_name r)
     by_opened_group : {r : Ref} {g : Group} → opened ds r ≡ Some (opens_group g) → IsFreeInSome p (alternatives g) → LeadsTo p (at_unwrapping r)
     by_content : {r : Ref} {t : Term} → opened ds r ≡ Some (opens_type t) → IsFree p t → LeadsTo p (at_unwrapping r)
-    by_choice : {r : Ref} → can_choose ds (group_choices ds r) ≡ true → IsFreeInChoice p (group_choices ds r) → LeadsTo p (at_choice r)
+    by_choice : {r : Ref} → p ≡ at_chosen_name r → LeadsTo p (at_choice r)
+    by_chosen_name : {r : Ref} → can_choose ds (group_choices ds r) ≡ true → IsFreeInChoice p (group_choices ds r) → LeadsTo p (at_chosen_name r)
     by_opened_choice : {r : Ref} {g : Group} → opened ds r ≡ Some (opens_group g) → can_choose ds (alternatives g) ≡ true → IsFreeInChoice p (alternatives g) → LeadsTo p (at_opened_choice r)
 
-  -- from p, by one free reference or more, to q
+  -- from p over one step or more to q
   pub data LeadsOn : Point → Point → Type 0 where
     at_once : {p q : Point} → LeadsTo q p → LeadsOn p q
     onwards : {p q s : Point} → LeadsTo q p → LeadsOn q s → LeadsOn p s
 
-  -- a reference among the instances that comes back to itself
-  pub record IsOnCycle (root : Text) (p : Point) : Type 0 where
+  -- from a point of an instance back to itself
+  pub record LeadsBack (root : Text) (p : Point) : Type 0 where
     pub instance : Reaches ds root (ref_at p)
-    pub cycle : LeadsOn p p
+    pub way : LeadsOn p p
+
+  -- A reference that leads back to itself. A choice can also lead back through names of groups alone, as `b = (x: &(b))` does;
+  -- where no reference does, these names count.
+  pub record IsOnCycle (root : Text) (p : Point) : Type 0 where
+    pub back : LeadsBack root p
+    pub counts : (is_reference p ≡ true) ⊎ ((q : Point) → is_reference q ≡ true → LeadsBack root q → ⊥)

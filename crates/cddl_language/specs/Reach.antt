@@ -1,20 +1,30 @@
 -- What a root leads to: the instances of a specification (RFC 8610 section 3.10).
-use Rattle.std.specs.Prelude.{◌≡◌, ℕ, List, [], ◌∷◌, ◌++◌, flat_map, Contains}
+use Rattle.std.specs.Prelude.{◌≡◌, ℕ, Bool, true, false, List, [], ◌∷◌, ◌++◌, flat_map, Contains}
 use Rattle.cddl_language.specs.Terms.{Text, Term, literal, named, parens, map_of, array_of, unwrapped, choice_of, choice_of_name, tagged, tagged_by, simple_by, hash, range, control, or, Ref, call, no_terms, Group, sole, orelse, Entries, no_entries, entries, Entry, typed, keyed, grouped, Key, of_type, bareword, of_value, Body, of_types, of_entry, Definition}
 use Rattle.cddl_language.specs.Substitution.{bodies}
 
--- A name by itself, after `~` and after `&` are three references. A fourth stands for the choice from what `~name` opens.
+-- A name by itself, after `~` and after `&` are three references. Two more points are none: the choice from a group by its name,
+-- and from what `~name` opens, where these are entries from which `&` chooses.
 pub data Point : Type 0 where
   at_name : Ref → Point
   at_unwrapping : Ref → Point
   at_choice : Ref → Point
+  at_chosen_name : Ref → Point
   at_opened_choice : Ref → Point
 
 abbrev pub ref_at : Point → Ref
 ref_at (at_name r) = r
 ref_at (at_unwrapping r) = r
 ref_at (at_choice r) = r
+ref_at (at_chosen_name r) = r
 ref_at (at_opened_choice r) = r
+
+abbrev pub is_reference : Point → Bool
+is_reference (at_name r) = true
+is_reference (at_unwrapping r) = true
+is_reference (at_choice r) = true
+is_reference (at_chosen_name r) = false
+is_reference (at_opened_choice r) = false
 
 -- The references that stand in a closed term, those in operands, controllers and keys too. What stands inside an argument
 -- counts only where a body has it in the place of a parameter.

@@ -145,6 +145,18 @@ first_itself = one_rule (type_is 0 (codes "t") (S.or (is_type (name 4 (codes "t"
 abbrev pub chosen_itself : Specification
 chosen_itself = one_rule (type_is 0 (codes "t") (is_type (array 4 (one_entry (S.keyed None (S.bareword (token Name 5 (codes "b")) (token Colon 6 (codes ":"))) (is_type (S.choice_of (token Ampersand 8 (codes "&")) (token ParenOpen 9 (codes "(")) (one_entry (once (unwrapped 10 (codes "t")))) (token ParenClose 12 (codes ")")))))))))
 
+-- `b = (x: t)`, the name at the offset
+abbrev x_is_t : ℕ → S.Rule
+x_is_t at = group_is at (codes "b") (a_group (at + 4) (one_entry (S.keyed None (S.bareword (token Name (at + 5) (codes "x")) (token Colon (at + 6) (codes ":"))) (is_type (name (at + 8) (codes "t"))))))
+
+-- `t = &b` and `b = (x: t)`
+abbrev pub chosen_by_name : Specification
+chosen_by_name = two_rules (type_is 0 (codes "t") (is_type (S.choice_of_name (token Ampersand 4 (codes "&")) (a_ref 5 (codes "b"))))) (x_is_t 7)
+
+-- `t = &(b)` and `b = (x: t)`
+abbrev pub chosen_through : Specification
+chosen_through = two_rules (type_is 0 (codes "t") (is_type (S.choice_of (token Ampersand 4 (codes "&")) (token ParenOpen 5 (codes "(")) (one_entry (once (name 6 (codes "b")))) (token ParenClose 7 (codes ")"))))) (x_is_t 9)
+
 -- `r = [g]`, and what follows
 abbrev pub r_of_g : S.Rule
 r_of_g = type_is 0 (codes "r") (is_type (array 4 (one_entry (once (name 5 (codes "g"))))))

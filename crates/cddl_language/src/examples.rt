@@ -150,6 +150,12 @@ pub fn items()
     ensures stray { (worth : Values) → Says (language worth []) (type_node worth [] (type (map_of E.x_int))) 0 (pairs (pair (text (codes "y")) (uint 1) no_pairs)) (No 1) 5 }
 {}
 
+/// In `t = &(b)`, `b = (x: t)` the choice goes through `b`, which is no reference there: recursion is told of `t` alone.
+pub fn through_a_group()
+    ensures told { (worth : Values) → IsFaultAt T.chosen_through worth Recursion 0 }
+    ensures not_told { (worth : Values) → IsFaultAt T.chosen_through worth Recursion 9 → ⊥ }
+{}
+
 /// A fault of each code at its byte, but for `TooManyInstances`, which has an example of its own.
 pub fn faults()
     ensures defined_twice { (worth : Values) → IsFaultAt T.twice worth Duplicate 8 }
@@ -167,6 +173,7 @@ pub fn faults()
     ensures choice_of_maybe { (worth : Values) → IsFaultAt T.choice_of_maybe worth NotUnwrappable 4 }
     ensures first_itself { (worth : Values) → IsFaultAt T.first_itself worth Recursion 0 }
     ensures chosen_itself { (worth : Values) → IsFaultAt T.chosen_itself worth Recursion 0 }
+    ensures chosen_by_name { (worth : Values) → IsFaultAt T.chosen_by_name worth Recursion 7 }
     ensures group_first_itself { (worth : Values) → IsFaultAt (T.two_rules T.r_of_g T.maybe_int_then_g) worth Recursion 8 }
     ensures to_text { (worth : Values) → IsFaultAt T.to_text worth BadRange 7 }
     ensures to_parameter { (worth : Values) → IsFaultAt T.to_parameter worth BadRange 22 }

@@ -10,7 +10,7 @@ ghost use Rattle.cddl_syntax.specs.Syntax.{Cddl, Rule};
 ghost use Rattle.cddl_language.specs.Sites.{IsReached, a_map};
 ghost use Rattle.cddl_language.specs.Substitution.{fill_group};
 ghost use Rattle.cddl_language.specs.Faults.{IsAccepted, IsRefused, Specification, definitions, root_of, rules};
-ghost use Rattle.cddl_language.specs.Free.{IsOnCycle};
+ghost use Rattle.cddl_language.specs.Free.{IsOnCycle, LeadsBack};
 ghost use Rattle.cddl_language.specs.Kinds.{Opened, is_group_in, opened_in};
 ghost use Rattle.cbor_data.specs.Embedded.{Embeds, EmbedsAll};
 ghost use Rattle.cbor_data.specs.Value as V;
@@ -148,6 +148,12 @@ pub fn one_fault()
 /// An accepted specification has no cycle of free references through a name of its text.
 pub fn accepted_has_no_cycle()
     ensures { (s : Specification) (worth : Values) (root : Text) (p : Point) (r : Rule) → IsAccepted s worth → root_of s ≡ Some root → Contains (rules s) r → name_in r ≡ name_of (ref_at p) → IsOnCycle (definitions s) root p → ⊥ }
+{}
+
+/// Where anything that an instance asks leads back to itself, the fault is told of something: where no reference leads back, of a
+/// name through which a choice does.
+pub fn each_way_back_is_told()
+    ensures { (ds : List Definition) (root : Text) (p : Point) → LeadsBack ds root p → ((q : Point) → IsOnCycle ds root q → ⊥) → ⊥ }
 {}
 
 /// A table that stands for a specification says of each item what the root says, at the same place and in as many judgements.

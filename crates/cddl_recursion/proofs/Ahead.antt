@@ -2,7 +2,7 @@
 use Rattle.std.proofs.Common.{◌≡◌, ℕ, zero, suc, ◌<◌, ◌⊎◌, inl, inr, Bool, true, false, List, [], ◌∷◌, length, Option, Some, None, refl, sym, ap, subst, ◌∙◌, slice_get, slice_index_or, arith}
 use Rattle.cddl_language.specs.Kinds as K
 use Rattle.cddl_language.specs.Kinds.{Opened, opens_group, opens_type, opened, is_group, asks_type, names_group, opens, part_of}
-use Rattle.cddl_language.specs.Reach.{Point, at_name, at_unwrapping, at_choice, at_opened_choice, Reaches, entries_points, entry_points}
+use Rattle.cddl_language.specs.Reach.{Point, at_name, at_unwrapping, at_choice, at_chosen_name, at_opened_choice, Reaches, entries_points, entry_points}
 use Rattle.cddl_language.specs.Substitution.{type_choices, group_choices}
 use Rattle.cddl_language.specs.Terms.{Text, Term, named, parens, array_of, unwrapped, choice_of, choice_of_name, simple_by, control, or, Ref, Group, sole, orelse, Entries, entries, Entry, typed, keyed, grouped, Definition}
 use Rattle.cddl_terms.specs.declared.row.Form.TheVariants as F
@@ -19,8 +19,8 @@ use Rattle.cddl_recursion.specs.declared.node.Node.TheVariants as N
 use Rattle.cddl_recursion.specs.Asking as A
 use Rattle.cddl_recursion.specs.Asking.{Asked, a_type, a_group, some_entries, an_entry, chosen_group, chosen_entries, chosen_entry, a_point, Asks, IsReached}
 use Rattle.cddl_recursion.specs.Edges as E
-use Rattle.cddl_recursion.specs.Edges.{Known, Has, Leads, by_row, by_chosen, by_group, by_type, by_opening, by_choice, by_opened_choice, row_node, chosen_node, name_node, unwrapping_node, choice_node, place_of, place_in, flagged, if_set, when, asks_here, text_asks, part_node, part_at, part_in, steps_by, chosen_by, row_steps, chosen_steps, is_group_call, text_of, opened_row, opened_group}
-use Rattle.cddl_recursion.specs.Standing.{Stands, type_row, group_row, entries_row, entry_row, chosen_group_row, chosen_entries_row, chosen_entry_row, name_place, unwrapping_place, choice_place, opened_choice_place}
+use Rattle.cddl_recursion.specs.Edges.{Known, Has, Leads, by_row, by_chosen, by_group, by_type, by_opening, by_choice, by_chosen_name, by_opened_choice, row_node, chosen_node, name_node, unwrapping_node, choice_node, place_of, place_in, flagged, if_set, when, asks_here, text_asks, part_node, part_at, part_in, steps_by, chosen_by, row_steps, chosen_steps, is_group_call, text_of, opened_row, opened_group}
+use Rattle.cddl_recursion.specs.Standing.{Stands, type_row, group_row, entries_row, entry_row, chosen_group_row, chosen_entries_row, chosen_entry_row, name_place, unwrapping_place, choice_place, chosen_name_place, opened_choice_place}
 use Rattle.cddl_recursion.proofs.Freely.{in_list, contained}
 use Rattle.cddl_recursion.proofs.Presence.{first, front}
 use Rattle.cddl_recursion.specs.Standing.{IsStep}
@@ -93,6 +93,9 @@ module _ (xs : List Definition) (root : Text) (refs : List Ref) (b : Known) (is 
   of_choice : (n : Node) (r : Ref) → Stands t refs n (a_point (at_choice r)) → (k : ℕ) × (n ≡ N.Choice k) × (slice_get refs k ≡ Some r)
   of_choice n r (choice_place {k = k} h) = (k, refl, h)
 
+  of_chosen_name : (n : Node) (r : Ref) → Stands t refs n (a_point (at_chosen_name r)) → (k : ℕ) × (n ≡ N.ChosenName k) × (slice_get refs k ≡ Some r)
+  of_chosen_name n r (chosen_name_place {k = k} h) = (k, refl, h)
+
   of_opened_choice : (n : Node) (r : Ref) → Stands t refs n (a_point (at_opened_choice r)) → (k : ℕ) × (n ≡ N.OpenedChoice k) × (slice_get refs k ≡ Some r)
   of_opened_choice n r (opened_choice_place {k = k} h) = (k, refl, h)
 
@@ -106,6 +109,7 @@ module _ (xs : List Definition) (root : Text) (refs : List Ref) (b : Known) (is 
   same_point n m (at_name r) s u = let i = of_name n r s in let j = of_name m r u in i.1 ∙ ap N.Name (once i.0 j.0 r i.2 j.2) ∙ sym j.1
   same_point n m (at_unwrapping r) s u = let i = of_unwrapping n r s in let j = of_unwrapping m r u in i.1 ∙ ap N.Unwrapping (once i.0 j.0 r i.2 j.2) ∙ sym j.1
   same_point n m (at_choice r) s u = let i = of_choice n r s in let j = of_choice m r u in i.1 ∙ ap N.Choice (once i.0 j.0 r i.2 j.2) ∙ sym j.1
+  same_point n m (at_chosen_name r) s u = let i = of_chosen_name n r s in let j = of_chosen_name m r u in i.1 ∙ ap N.ChosenName (once i.0 j.0 r i.2 j.2) ∙ sym j.1
   same_point n m (at_opened_choice r) s u = let i = of_opened_choice n r s in let j = of_opened_choice m r u in i.1 ∙ ap N.OpenedChoice (once i.0 j.0 r i.2 j.2) ∙ sym j.1
 
   pub same_node : (n m : Node) (a : Asked) → Stands t refs n a → Stands t refs m a → n ≡ m
@@ -329,7 +333,7 @@ module _ (xs : List Definition) (root : Text) (refs : List Ref) (b : Known) (is 
       let i = of_chosen_entry n (typed o x) s in
       let w = W.row_at b i.0 F.Typed o (term_tree x) nothing i.2 in
       let p = is_name_part (part_of xs x) (part_at b.parts w.first) r (W.part_there xs root refs b is x w.first w.has_first h) e in
-      found n (N.Chosen i.0) (N.Choice p.0) (a_point (at_choice r)) i.1 (choice_place p.2) (by_chosen w.there (inl (ap (E.chosen_part w.first) p.1)))
+      found n (N.Chosen i.0) (N.ChosenName p.0) (a_point (at_chosen_name r)) i.1 (chosen_name_place p.2) (by_chosen w.there (inl (ap (E.chosen_part w.first) p.1)))
   ahead n a next (A.chosen_opened {o = o} {t = x} {r = r} {g = g} e) s h =
       let i = of_chosen_entry n (typed o x) s in
       let w = W.row_at b i.0 F.Typed o (term_tree x) nothing i.2 in
@@ -367,11 +371,15 @@ module _ (xs : List Definition) (root : Text) (refs : List Ref) (b : Known) (is 
       let v = W.opening_at xs root refs b is i.0 r i.2 in
       let p = is_type_opening (opened xs r) v.0 x v.2 e in
       found n (N.Unwrapping i.0) (N.Row p.0) (a_type x) i.1 (type_row p.2) (by_opening w.1 (ap (λ o. row_node (opened_row o)) v.1 ∙ ap (λ z. row_node (opened_row (Some z))) p.1))
-  ahead n a next (A.chooses {r = r} {g = g} f c) s h =
+  ahead n a next (A.chooses_by_name {r = r}) s h =
       let i = of_choice n r s in
       let v = W.meaning_at xs root refs b is i.0 r i.2 in
+      found n (N.Choice i.0) (N.ChosenName i.0) (a_point (at_chosen_name r)) i.1 (chosen_name_place i.2) (by_choice v.1)
+  ahead n a next (A.chooses {r = r} {g = g} f c) s h =
+      let i = of_chosen_name n r s in
+      let v = W.meaning_at xs root refs b is i.0 r i.2 in
       let p = W.row_of_group xs root refs b is (group_choices xs r) v.0.group v.2.group g f in
-      found n (N.Choice i.0) (N.Chosen p.0) (chosen_group g) i.1 (chosen_group_row p.2) (by_choice v.1 (ap chosen_node (W.flag_set b.choosable v.0.group p.0 p.1 ((is.choosable.groups p.0 g p.2 (is.on.group r g (first xs root (at_choice r) h) f)).1 c))))
+      found n (N.ChosenName i.0) (N.Chosen p.0) (chosen_group g) i.1 (chosen_group_row p.2) (by_chosen_name v.1 (ap chosen_node (W.flag_set b.choosable v.0.group p.0 p.1 ((is.choosable.groups p.0 g p.2 (is.on.group r g (first xs root (at_chosen_name r) h) f)).1 c))))
   ahead n a next (A.chooses_opened {r = r} {g = g} e c) s h =
       let i = of_opened_choice n r s in
       let w = W.meaning_at xs root refs b is i.0 r i.2 in

@@ -4,7 +4,7 @@ use Rattle.std.specs.Prelude.{Contains}
 use Rattle.cddl_language.specs.Terms.{Term, Group, sole, orelse, Entries, Entry, Definition, alternatives}
 use Rattle.cddl_language.specs.Substitution.{group_choices}
 use Rattle.cddl_language.specs.Choices.{can_choose}
-use Rattle.cddl_language.specs.Reach.{Point, at_name, at_unwrapping, at_choice, at_opened_choice}
+use Rattle.cddl_language.specs.Reach.{Point, at_name, at_unwrapping, at_choice, at_chosen_name, at_opened_choice}
 use Rattle.cddl_language.specs.Free as F
 use Rattle.cddl_language.specs.Free.{IsFree, IsFreeInSome, IsFreeInEach, IsFreeInEntry, IsFreeInChoice, IsFreeInChosen, IsFreeInChosenEntry, LeadsTo, LeadsOn}
 use Rattle.cddl_recursion.specs.Asking as A
@@ -139,7 +139,7 @@ module _ (ds : List Definition) where
 
     chosen_entry_asks : (p : Point) (x : Entry) → IsFreeInChosenEntry ds p x → AsksOn ds (chosen_entry x) (a_point p)
     chosen_entry_asks p x (F.of_type {t = u} e h) = A.onwards (A.chosen_type e) (free_asks p u h)
-    chosen_entry_asks p x (F.of_name {r = r} e h) = point_is p (at_choice r) (chosen_entry x) h (A.chosen_name e)
+    chosen_entry_asks p x (F.of_name {r = r} e h) = point_is p (at_chosen_name r) (chosen_entry x) h (A.chosen_name e)
     chosen_entry_asks p x (F.of_opened {r = r} e h) = point_is p (at_opened_choice r) (chosen_entry x) h (A.chosen_opened e)
     chosen_entry_asks p x (F.of_keyed {t = u} h) = A.onwards A.chosen_keyed (free_asks p u h)
     chosen_entry_asks p x (F.of_group {g = g} h) = A.onwards A.chosen_inner (choice_asks g p (any_asks p (alternatives g) h))
@@ -157,7 +157,8 @@ module _ (ds : List Definition) where
       A.onwards (A.means_group e g.1) (group_asks g.0 q (subst (λ us. SomeAsks us q) (sym g.1) s))
   point_asks p q (F.by_opened_group {g = g} e h) = A.onwards (A.opens_a_group e) (group_asks g q (some_asks q (alternatives g) h))
   point_asks p q (F.by_content {t = t} e h) = A.onwards (A.opens_content e) (free_asks q t h)
-  point_asks p q (F.by_choice {r = r} c h) =
+  point_asks p q (F.by_choice {r = r} h) = point_is q (at_chosen_name r) (a_point p) h A.chooses_by_name
+  point_asks p q (F.by_chosen_name {r = r} c h) =
       let s = any_asks q (group_choices ds r) h in
       let g = group_of (group_choices ds r) (group_choices ds r) s.0 refl s.1 in
       A.onwards (A.chooses g.1 (subst (λ us. can_choose ds us ≡ true) (sym g.1) c)) (choice_asks g.0 q (subst (λ us. ChoiceAsks us q) (sym g.1) s))
@@ -239,7 +240,8 @@ module _ (ds : List Definition) where
   before a b q (A.means_group e h) f = F.by_group e (subst (IsFreeInSome ds q) h f)
   before a b q (A.opens_a_group e) f = F.by_opened_group e f
   before a b q (A.opens_content e) f = F.by_content e f
-  before a b q (A.chooses h c) f = F.by_choice (subst (λ us. can_choose ds us ≡ true) h c) (subst (IsFreeInChoice ds q) h f)
+  before a b q A.chooses_by_name f = F.by_choice f
+  before a b q (A.chooses h c) f = F.by_chosen_name (subst (λ us. can_choose ds us ≡ true) h c) (subst (IsFreeInChoice ds q) h f)
   before a b q (A.chooses_opened e c) f = F.by_opened_choice e c f
 
   record Onward (a : Asked) (q : Point) : Type 0 where

@@ -8,7 +8,7 @@ use Rattle.cddl_closed.specs.declared.closed.Meaning.{Meaning}
 use Rattle.cddl_recursion.specs.declared.node.Node.{Node}
 use Rattle.cddl_recursion.specs.declared.node.Node.TheVariants as N
 use Rattle.cddl_recursion.specs.declared.steps.Steps.{Steps}
-use Rattle.cddl_recursion.specs.Edges.{flagged, Known, Has, Leads, by_row, by_chosen, by_group, by_type, by_opening, by_choice, by_opened_choice, row_node, chosen_node, row_steps, chosen_steps, is_group_call, opened_group, opened_row, within, number, edge_by, listed, edge_to, steps_edges, types_edges, name_edges, row_edges, rows_edges, place_edges, places_edges, all_edges}
+use Rattle.cddl_recursion.specs.Edges.{flagged, Known, Has, Leads, by_row, by_chosen, by_group, by_type, by_opening, by_choice, by_chosen_name, by_opened_choice, row_node, chosen_node, row_steps, chosen_steps, is_group_call, opened_group, opened_row, within, number, edge_by, listed, edge_to, steps_edges, types_edges, name_edges, row_edges, rows_edges, place_edges, places_edges, all_edges}
 use Rattle.cddl_recursion.proofs.Pushing.{last_or_below}
 use Rattle.cddl_recursion.proofs.Freely.{In, in_list, contained, in_front, in_back, in_either}
 
@@ -32,38 +32,43 @@ module _ (rows places : ℕ) where
   Within (N.Name k) = k < places
   Within (N.Unwrapping k) = k < places
   Within (N.Choice k) = k < places
+  Within (N.ChosenName k) = k < places
   Within (N.OpenedChoice k) = k < places
 
   abbrev pub value : Node → ℕ
   value (N.Row n) = 2 * n
   value (N.Chosen n) = 2 * n + 1
-  value (N.Name k) = 2 * rows + 4 * k
-  value (N.Unwrapping k) = 2 * rows + 4 * k + 1
-  value (N.Choice k) = 2 * rows + 4 * k + 2
-  value (N.OpenedChoice k) = 2 * rows + 4 * k + 3
+  value (N.Name k) = 2 * rows + 5 * k
+  value (N.Unwrapping k) = 2 * rows + 5 * k + 1
+  value (N.Choice k) = 2 * rows + 5 * k + 2
+  value (N.ChosenName k) = 2 * rows + 5 * k + 3
+  value (N.OpenedChoice k) = 2 * rows + 5 * k + 4
 
   pub number_is : (n : Node) (i : ℕ) → number rows places n ≡ Some i → (Within n) × (value n ≡ i)
   number_is (N.Row n) i e = within_is n rows (2 * n) i e
   number_is (N.Chosen n) i e = within_is n rows (2 * n + 1) i e
-  number_is (N.Name k) i e = within_is k places (2 * rows + 4 * k) i e
-  number_is (N.Unwrapping k) i e = within_is k places (2 * rows + 4 * k + 1) i e
-  number_is (N.Choice k) i e = within_is k places (2 * rows + 4 * k + 2) i e
-  number_is (N.OpenedChoice k) i e = within_is k places (2 * rows + 4 * k + 3) i e
+  number_is (N.Name k) i e = within_is k places (2 * rows + 5 * k) i e
+  number_is (N.Unwrapping k) i e = within_is k places (2 * rows + 5 * k + 1) i e
+  number_is (N.Choice k) i e = within_is k places (2 * rows + 5 * k + 2) i e
+  number_is (N.ChosenName k) i e = within_is k places (2 * rows + 5 * k + 3) i e
+  number_is (N.OpenedChoice k) i e = within_is k places (2 * rows + 5 * k + 4) i e
 
   pub is_number : (n : Node) → Within n → number rows places n ≡ Some (value n)
   is_number (N.Row n) h = is_within n rows (2 * n) h
   is_number (N.Chosen n) h = is_within n rows (2 * n + 1) h
-  is_number (N.Name k) h = is_within k places (2 * rows + 4 * k) h
-  is_number (N.Unwrapping k) h = is_within k places (2 * rows + 4 * k + 1) h
-  is_number (N.Choice k) h = is_within k places (2 * rows + 4 * k + 2) h
-  is_number (N.OpenedChoice k) h = is_within k places (2 * rows + 4 * k + 3) h
+  is_number (N.Name k) h = is_within k places (2 * rows + 5 * k) h
+  is_number (N.Unwrapping k) h = is_within k places (2 * rows + 5 * k + 1) h
+  is_number (N.Choice k) h = is_within k places (2 * rows + 5 * k + 2) h
+  is_number (N.ChosenName k) h = is_within k places (2 * rows + 5 * k + 3) h
+  is_number (N.OpenedChoice k) h = is_within k places (2 * rows + 5 * k + 4) h
 
-  pub below : (n : Node) → Within n → value n < 2 * rows + 4 * places
+  pub below : (n : Node) → Within n → value n < 2 * rows + 5 * places
   below (N.Row n) h = omega (arith, h)
   below (N.Chosen n) h = omega (arith, h)
   below (N.Name k) h = omega (arith, h)
   below (N.Unwrapping k) h = omega (arith, h)
   below (N.Choice k) h = omega (arith, h)
+  below (N.ChosenName k) h = omega (arith, h)
   below (N.OpenedChoice k) h = omega (arith, h)
 
   same_value : (a b : Node) → Within a → Within b → value a ≡ value b → a ≡ b
@@ -72,36 +77,49 @@ module _ (rows places : ℕ) where
   same_value (N.Row n) (N.Name m) h g e = absurd (omega (arith, e, h))
   same_value (N.Row n) (N.Unwrapping m) h g e = absurd (omega (arith, e, h))
   same_value (N.Row n) (N.Choice m) h g e = absurd (omega (arith, e, h))
+  same_value (N.Row n) (N.ChosenName m) h g e = absurd (omega (arith, e, h))
   same_value (N.Row n) (N.OpenedChoice m) h g e = absurd (omega (arith, e, h))
   same_value (N.Chosen n) (N.Row m) h g e = absurd (omega (arith, e))
   same_value (N.Chosen n) (N.Chosen m) h g e = ap N.Chosen (omega (arith, e))
   same_value (N.Chosen n) (N.Name m) h g e = absurd (omega (arith, e, h))
   same_value (N.Chosen n) (N.Unwrapping m) h g e = absurd (omega (arith, e, h))
   same_value (N.Chosen n) (N.Choice m) h g e = absurd (omega (arith, e, h))
+  same_value (N.Chosen n) (N.ChosenName m) h g e = absurd (omega (arith, e, h))
   same_value (N.Chosen n) (N.OpenedChoice m) h g e = absurd (omega (arith, e, h))
   same_value (N.Name n) (N.Row m) h g e = absurd (omega (arith, e, g))
   same_value (N.Name n) (N.Chosen m) h g e = absurd (omega (arith, e, g))
   same_value (N.Name n) (N.Name m) h g e = ap N.Name (omega (arith, e))
   same_value (N.Name n) (N.Unwrapping m) h g e = absurd (omega (arith, e))
   same_value (N.Name n) (N.Choice m) h g e = absurd (omega (arith, e))
+  same_value (N.Name n) (N.ChosenName m) h g e = absurd (omega (arith, e))
   same_value (N.Name n) (N.OpenedChoice m) h g e = absurd (omega (arith, e))
   same_value (N.Unwrapping n) (N.Row m) h g e = absurd (omega (arith, e, g))
   same_value (N.Unwrapping n) (N.Chosen m) h g e = absurd (omega (arith, e, g))
   same_value (N.Unwrapping n) (N.Name m) h g e = absurd (omega (arith, e))
   same_value (N.Unwrapping n) (N.Unwrapping m) h g e = ap N.Unwrapping (omega (arith, e))
   same_value (N.Unwrapping n) (N.Choice m) h g e = absurd (omega (arith, e))
+  same_value (N.Unwrapping n) (N.ChosenName m) h g e = absurd (omega (arith, e))
   same_value (N.Unwrapping n) (N.OpenedChoice m) h g e = absurd (omega (arith, e))
   same_value (N.Choice n) (N.Row m) h g e = absurd (omega (arith, e, g))
   same_value (N.Choice n) (N.Chosen m) h g e = absurd (omega (arith, e, g))
   same_value (N.Choice n) (N.Name m) h g e = absurd (omega (arith, e))
   same_value (N.Choice n) (N.Unwrapping m) h g e = absurd (omega (arith, e))
   same_value (N.Choice n) (N.Choice m) h g e = ap N.Choice (omega (arith, e))
+  same_value (N.Choice n) (N.ChosenName m) h g e = absurd (omega (arith, e))
   same_value (N.Choice n) (N.OpenedChoice m) h g e = absurd (omega (arith, e))
+  same_value (N.ChosenName n) (N.Row m) h g e = absurd (omega (arith, e, g))
+  same_value (N.ChosenName n) (N.Chosen m) h g e = absurd (omega (arith, e, g))
+  same_value (N.ChosenName n) (N.Name m) h g e = absurd (omega (arith, e))
+  same_value (N.ChosenName n) (N.Unwrapping m) h g e = absurd (omega (arith, e))
+  same_value (N.ChosenName n) (N.Choice m) h g e = absurd (omega (arith, e))
+  same_value (N.ChosenName n) (N.ChosenName m) h g e = ap N.ChosenName (omega (arith, e))
+  same_value (N.ChosenName n) (N.OpenedChoice m) h g e = absurd (omega (arith, e))
   same_value (N.OpenedChoice n) (N.Row m) h g e = absurd (omega (arith, e, g))
   same_value (N.OpenedChoice n) (N.Chosen m) h g e = absurd (omega (arith, e, g))
   same_value (N.OpenedChoice n) (N.Name m) h g e = absurd (omega (arith, e))
   same_value (N.OpenedChoice n) (N.Unwrapping m) h g e = absurd (omega (arith, e))
   same_value (N.OpenedChoice n) (N.Choice m) h g e = absurd (omega (arith, e))
+  same_value (N.OpenedChoice n) (N.ChosenName m) h g e = absurd (omega (arith, e))
   same_value (N.OpenedChoice n) (N.OpenedChoice m) h g e = ap N.OpenedChoice (omega (arith, e))
 
   pub same_number : (a b : Node) (i : ℕ) → number rows places a ≡ Some i → number rows places b ≡ Some i → a ≡ b
@@ -199,27 +217,38 @@ module _ (rows places : ℕ) where
     abbrev opening_edges : ℕ → List Edge
     opening_edges k = edge_to rows places (N.Unwrapping k) (row_node (opened_row (slice_get b.openings k)))
 
-    abbrev choice_edges : ℕ → Meaning → List Edge
-    choice_edges k w = edge_to rows places (N.Choice k) (chosen_node (flagged b.choosable w.group))
+    abbrev choice_edges : ℕ → List Edge
+    choice_edges k = edge_to rows places (N.Choice k) (Some (N.ChosenName k))
+
+    abbrev chosen_name_edges : ℕ → Meaning → List Edge
+    chosen_name_edges k w = edge_to rows places (N.ChosenName k) (chosen_node (flagged b.choosable w.group))
 
     abbrev opened_choice_edges : ℕ → List Edge
     opened_choice_edges k = edge_to rows places (N.OpenedChoice k) (chosen_node (flagged b.choosable (opened_group (slice_get b.openings k))))
 
+    -- of these, those of choices
+    abbrev last_edges : ℕ → Meaning → List Edge
+    last_edges k w = choice_edges k ++ (chosen_name_edges k w ++ opened_choice_edges k)
+
     in_place : (k : ℕ) (o : Option Meaning) (e : Edge) → slice_get b.meanings k ≡ o → In (place_edges rows places b k o) e → IsMade e
     in_place k None e f h = absurd h
-    in_place k (Some w) e f h = by (in_either (name_edges rows places k w (is_group_call b w.call)) (opening_edges k ++ (choice_edges k w ++ opened_choice_edges k)) e h)
+    in_place k (Some w) e f h = by (in_either (name_edges rows places k w (is_group_call b w.call)) (opening_edges k ++ last_edges k w) e h)
       where
-        last : In (choice_edges k w) e ⊎ In (opened_choice_edges k) e → IsMade e
-        last (inl g) = let r = in_edge (N.Choice k) (chosen_node (flagged b.choosable w.group)) e g in record { from = N.Choice k; to = r.to; leads = by_choice f r.is_to; from_is = r.from_is; to_is = r.to_is }
+        last : In (chosen_name_edges k w) e ⊎ In (opened_choice_edges k) e → IsMade e
+        last (inl g) = let r = in_edge (N.ChosenName k) (chosen_node (flagged b.choosable w.group)) e g in record { from = N.ChosenName k; to = r.to; leads = by_chosen_name f r.is_to; from_is = r.from_is; to_is = r.to_is }
         last (inr g) = let r = in_edge (N.OpenedChoice k) (chosen_node (flagged b.choosable (opened_group (slice_get b.openings k)))) e g in record { from = N.OpenedChoice k; to = r.to; leads = by_opened_choice f r.is_to; from_is = r.from_is; to_is = r.to_is }
 
-        second : In (opening_edges k) e ⊎ In (choice_edges k w ++ opened_choice_edges k) e → IsMade e
-        second (inl g) = let r = in_edge (N.Unwrapping k) (row_node (opened_row (slice_get b.openings k))) e g in record { from = N.Unwrapping k; to = r.to; leads = by_opening f r.is_to; from_is = r.from_is; to_is = r.to_is }
-        second (inr g) = last (in_either (choice_edges k w) (opened_choice_edges k) e g)
+        third : In (choice_edges k) e ⊎ In (chosen_name_edges k w ++ opened_choice_edges k) e → IsMade e
+        third (inl g) = as_made (N.Choice k) (N.ChosenName k) e (by_choice f) (in_edge (N.Choice k) (Some (N.ChosenName k)) e g)
+        third (inr g) = last (in_either (chosen_name_edges k w) (opened_choice_edges k) e g)
 
-        by : In (name_edges rows places k w (is_group_call b w.call)) e ⊎ In (opening_edges k ++ (choice_edges k w ++ opened_choice_edges k)) e → IsMade e
+        second : In (opening_edges k) e ⊎ In (last_edges k w) e → IsMade e
+        second (inl g) = let r = in_edge (N.Unwrapping k) (row_node (opened_row (slice_get b.openings k))) e g in record { from = N.Unwrapping k; to = r.to; leads = by_opening f r.is_to; from_is = r.from_is; to_is = r.to_is }
+        second (inr g) = third (in_either (choice_edges k) (chosen_name_edges k w ++ opened_choice_edges k) e g)
+
+        by : In (name_edges rows places k w (is_group_call b w.call)) e ⊎ In (opening_edges k ++ last_edges k w) e → IsMade e
         by (inl g) = in_name k w e (is_group_call b w.call) f refl g
-        by (inr g) = second (in_either (opening_edges k) (choice_edges k w ++ opened_choice_edges k) e g)
+        by (inr g) = second (in_either (opening_edges k) (last_edges k w) e g)
 
     in_places : (k : ℕ) (e : Edge) → In (places_edges rows places b k) e → IsMade e
     in_places zero e h = absurd h
@@ -261,19 +290,19 @@ module _ (rows places : ℕ) where
     of_place k w e h f i = in_back (rows_edges rows places b rows) (places_edges rows places b places) e (places_in places k e h (subst (λ o. In (place_edges rows places b k o) e) (sym f) i))
 
     name_in : (k : ℕ) (w : Meaning) (e : Edge) → In (name_edges rows places k w (is_group_call b w.call)) e → In (place_edges rows places b k (Some w)) e
-    name_in k w e h = in_front (name_edges rows places k w (is_group_call b w.call)) (opening_edges k ++ (choice_edges k w ++ opened_choice_edges k)) e h
+    name_in k w e h = in_front (name_edges rows places k w (is_group_call b w.call)) (opening_edges k ++ last_edges k w) e h
 
-    other_in : (k : ℕ) (w : Meaning) (e : Edge) → In (opening_edges k ++ (choice_edges k w ++ opened_choice_edges k)) e → In (place_edges rows places b k (Some w)) e
-    other_in k w e h = in_back (name_edges rows places k w (is_group_call b w.call)) (opening_edges k ++ (choice_edges k w ++ opened_choice_edges k)) e h
+    other_in : (k : ℕ) (w : Meaning) (e : Edge) → In (opening_edges k ++ last_edges k w) e → In (place_edges rows places b k (Some w)) e
+    other_in k w e h = in_back (name_edges rows places k w (is_group_call b w.call)) (opening_edges k ++ last_edges k w) e h
 
     opening_in : (k : ℕ) (w : Meaning) (e : Edge) → In (opening_edges k) e → In (place_edges rows places b k (Some w)) e
-    opening_in k w e h = other_in k w e (in_front (opening_edges k) (choice_edges k w ++ opened_choice_edges k) e h)
+    opening_in k w e h = other_in k w e (in_front (opening_edges k) (last_edges k w) e h)
 
-    choice_in : (k : ℕ) (w : Meaning) (e : Edge) → In (choice_edges k w) e → In (place_edges rows places b k (Some w)) e
-    choice_in k w e h = other_in k w e (in_back (opening_edges k) (choice_edges k w ++ opened_choice_edges k) e (in_front (choice_edges k w) (opened_choice_edges k) e h))
+    choice_in : (k : ℕ) (w : Meaning) (e : Edge) → In (last_edges k w) e → In (place_edges rows places b k (Some w)) e
+    choice_in k w e h = other_in k w e (in_back (opening_edges k) (last_edges k w) e h)
 
-    opened_choice_in : (k : ℕ) (w : Meaning) (e : Edge) → In (opened_choice_edges k) e → In (place_edges rows places b k (Some w)) e
-    opened_choice_in k w e h = other_in k w e (in_back (opening_edges k) (choice_edges k w ++ opened_choice_edges k) e (in_back (choice_edges k w) (opened_choice_edges k) e h))
+    chosen_in : (k : ℕ) (w : Meaning) (e : Edge) → In (chosen_name_edges k w ++ opened_choice_edges k) e → In (place_edges rows places b k (Some w)) e
+    chosen_in k w e h = choice_in k w e (in_back (choice_edges k) (chosen_name_edges k w ++ opened_choice_edges k) e h)
 
     pub is_made : (n m : Node) (i j : ℕ) → Leads b n m → number rows places n ≡ Some i → number rows places m ≡ Some j → In (all_edges rows places b) (edge_of i j)
     is_made n m i j (by_row {n = k} {r = r} e h) f g = of_row k (edge_of i j) (number_is (N.Row k) i f).0 (subst (λ o. In (row_edges rows places b k o) (edge_of i j)) (sym e) (in_front (steps_edges rows places (N.Row k) (row_steps b r)) (steps_edges rows places (N.Chosen k) (chosen_steps b r)) (edge_of i j) (steps_in (N.Row k) (row_steps b r) m i j h f g)))
@@ -281,5 +310,6 @@ module _ (rows places : ℕ) where
     is_made n m i j (by_group {k = k} {w = w} e c h) f g = of_place k w (edge_of i j) (number_is (N.Name k) i f).0 e (name_in k w (edge_of i j) (subst (λ x. In (name_edges rows places k w x) (edge_of i j)) (sym c) (edge_in (N.Name k) (row_node w.group) m i j h f g)))
     is_made n m i j (by_type {k = k} {w = w} {n = x} e c h) f g = of_place k w (edge_of i j) (number_is (N.Name k) i f).0 e (name_in k w (edge_of i j) (subst (λ x. In (name_edges rows places k w x) (edge_of i j)) (sym c) (types_in k w.types.items x i j (in_list w.types.items x h) f g)))
     is_made n m i j (by_opening {k = k} {w = w} e h) f g = of_place k w (edge_of i j) (number_is (N.Unwrapping k) i f).0 e (opening_in k w (edge_of i j) (edge_in (N.Unwrapping k) (row_node (opened_row (slice_get b.openings k))) m i j h f g))
-    is_made n m i j (by_choice {k = k} {w = w} e h) f g = of_place k w (edge_of i j) (number_is (N.Choice k) i f).0 e (choice_in k w (edge_of i j) (edge_in (N.Choice k) (chosen_node (flagged b.choosable w.group)) m i j h f g))
-    is_made n m i j (by_opened_choice {k = k} {w = w} e h) f g = of_place k w (edge_of i j) (number_is (N.OpenedChoice k) i f).0 e (opened_choice_in k w (edge_of i j) (edge_in (N.OpenedChoice k) (chosen_node (flagged b.choosable (opened_group (slice_get b.openings k)))) m i j h f g))
+    is_made n m i j (by_choice {k = k} {w = w} e) f g = of_place k w (edge_of i j) (number_is (N.Choice k) i f).0 e (choice_in k w (edge_of i j) (in_front (choice_edges k) (chosen_name_edges k w ++ opened_choice_edges k) (edge_of i j) (edge_in (N.Choice k) (Some (N.ChosenName k)) (N.ChosenName k) i j refl f g)))
+    is_made n m i j (by_chosen_name {k = k} {w = w} e h) f g = of_place k w (edge_of i j) (number_is (N.ChosenName k) i f).0 e (chosen_in k w (edge_of i j) (in_front (chosen_name_edges k w) (opened_choice_edges k) (edge_of i j) (edge_in (N.ChosenName k) (chosen_node (flagged b.choosable w.group)) m i j h f g)))
+    is_made n m i j (by_opened_choice {k = k} {w = w} e h) f g = of_place k w (edge_of i j) (number_is (N.OpenedChoice k) i f).0 e (chosen_in k w (edge_of i j) (in_back (chosen_name_edges k w) (opened_choice_edges k) (edge_of i j) (edge_in (N.OpenedChoice k) (chosen_node (flagged b.choosable (opened_group (slice_get b.openings k)))) m i j h f g)))

@@ -20,7 +20,7 @@ use Rattle.cddl_recursion.specs.declared.graph.Ranks.{Ranks}
 use Rattle.cddl_recursion.specs.declared.node.Layout.{Layout}
 use Rattle.cddl_recursion.specs.declared.node.Node.{Node}
 use Rattle.cddl_recursion.specs.Edges.{Known, all_edges, number}
-use Rattle.cddl_recursion.specs.Order.{AreCycles, AreRanked, AreRanksOf, AreParts, IsOrder, IsOrdered, nodes_of, rank, rank_at, rank_in}
+use Rattle.cddl_recursion.specs.Order.{AreRanked, AreRanksOf, AreParts, IsOrder, IsOrdered, nodes_of, rank, rank_at, rank_in}
 use Rattle.cddl_recursion.specs.Standing.{IsStep}
 use Rattle.cddl_recursion.proofs.Presence.{AreInstancesOn}
 use Rattle.cddl_recursion.proofs.Rows.{IsKnown, holds_within, table_of}
@@ -65,7 +65,7 @@ module _ (xs : List Definition) (root : Text) (refs : List Ref) (b : Known) (is 
 
   pub order_is : (o : Order) → IsOrdered l edges o → IsOrder xs root refs (table_of b) o
   order_is (OrderV.Ranks r) h = are_ranked r h
-  order_is (OrderV.Cycles v) h = subst (AreCycles xs root refs) (sym h.are_flags) (flags_cycles xs root refs b is l.rows l.places rows_all places_all h.marks h.are_marks)
+  order_is (OrderV.Cycles v) h = flags_cycles xs root refs b is l.rows l.places rows_all places_all h.marks h.are_marks v.items h.are_flags
 
 abbrev pub known_of : Table → Closed → Kinds → List Opening → List Part → List Bool → List Bool → Known
 known_of t closed kinds openings parts choosable empty = record { texts = t.texts; rows = t.rows; kinds = kinds; places = closed.places.items; meanings = closed.meanings.items; openings = openings; parts = parts; choosable = choosable; may_be_empty = empty }

@@ -4,7 +4,7 @@ use Rattle.std.specs.Prelude.{Contains}
 use Rattle.cddl_language.specs.Terms.{Text, Term, Ref, Group, Definition, alternatives}
 use Rattle.cddl_language.specs.Substitution.{group_choices, type_choices}
 use Rattle.cddl_language.specs.Kinds.{opens_group, opens_type, opened, names_group, opens, part_of}
-use Rattle.cddl_language.specs.Reach.{Point, Reaches, at_choice, at_name, at_opened_choice, at_unwrapping, entries_points, entry_points, group_points, key_points, points, ref_at}
+use Rattle.cddl_language.specs.Reach.{Point, Reaches, at_choice, at_chosen_name, at_name, at_opened_choice, at_unwrapping, entries_points, entry_points, group_points, key_points, points, ref_at}
 use Rattle.cddl_closed.specs.Closed.{AreReached}
 use Rattle.cddl_recursion.specs.Asking as A
 use Rattle.cddl_recursion.specs.Asking.{Asked, Asks, IsReached}
@@ -62,7 +62,7 @@ module _ (ds : List Definition) (root : Text) where
   reached on a b (A.chosen_earlier {es = es} {e = x}) h = front (entries_points es) (entry_points x) h
   reached on a b (A.chosen_last {es = es} {e = x}) h = back (entries_points es) (entry_points x) h
   reached on a b (A.chosen_type e) h = h
-  reached on a b (A.chosen_name {t = t} {r = r} e) h = lone (at_choice r) (on.named t r h e)
+  reached on a b (A.chosen_name {t = t} {r = r} e) h = lone (at_chosen_name r) (on.named t r h e)
   reached on a b (A.chosen_opened {t = t} {r = r} {g = g} e) h = lone (at_opened_choice r) (on.opening t r g h e)
   reached on a b (A.chosen_keyed {k = k} {t = t}) h = back (key_points k) (points t) h
   reached on a b A.chosen_inner h = h
@@ -70,5 +70,6 @@ module _ (ds : List Definition) (root : Text) where
   reached on a b (A.means_group {r = r} {g = g} e f) h = on.group r g (first (at_name r) h) f
   reached on a b (A.opens_a_group {r = r} {g = g} e) h = on.opened_group r g (first (at_unwrapping r) h) e
   reached on a b (A.opens_content {r = r} {t = t} e) h = on.content r t (first (at_unwrapping r) h) e
-  reached on a b (A.chooses {r = r} {g = g} f c) h = on.group r g (first (at_choice r) h) f
+  reached on a b (A.chooses_by_name {r = r}) h = lone (at_chosen_name r) (first (at_choice r) h)
+  reached on a b (A.chooses {r = r} {g = g} f c) h = on.group r g (first (at_chosen_name r) h) f
   reached on a b (A.chooses_opened {r = r} {g = g} e c) h = on.opened_group r g (first (at_opened_choice r) h) e

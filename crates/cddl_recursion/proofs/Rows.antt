@@ -1,12 +1,12 @@
 -- The steps by rows and places are those of what they stand for.
-use Rattle.std.proofs.Common.{◌≡◌, ℕ, zero, suc, ◌<◌, inl, inr, Bool, true, false, ◌||◌, List, [], ◌∷◌, ◌++◌, length, Option, Some, None, refl, sym, ap, subst, ◌∙◌, slice_get, codes}
+use Rattle.std.proofs.Common.{◌≡◌, ℕ, zero, suc, ◌<◌, inl, inr, Bool, true, false, List, [], ◌∷◌, ◌++◌, length, Option, Some, None, refl, sym, ap, subst, ◌∙◌, slice_get}
 use Rattle.std.proofs.lemmas.Option.{slice_get_within}
 use Rattle.cddl_meaning.specs.Alike.{AlikeAll, both}
 use Rattle.cddl_language.specs.Controls.{control_of, is_asked_here}
 use Rattle.cddl_language.specs.Free.{MayBeEmpty}
 use Rattle.cddl_language.specs.Kinds as K
 use Rattle.cddl_language.specs.Kinds.{Opened, opens_group, opens_type, opened, is_group, asks_type, names_group, opens, part_of}
-use Rattle.cddl_language.specs.Reach.{at_name, at_unwrapping, at_choice, at_opened_choice, points, entries_points, entry_points}
+use Rattle.cddl_language.specs.Reach.{at_name, at_unwrapping, at_choice, at_chosen_name, at_opened_choice, points, entries_points, entry_points}
 use Rattle.cddl_language.specs.StandsFor.{AreInstances}
 use Rattle.cddl_language.specs.Substitution.{type_choices, group_choices}
 use Rattle.cddl_language.specs.Terms.{Text, literal, number, text, bytes, Term, named, parens, map_of, array_of, unwrapped, choice_of, choice_of_name, tagged, tagged_by, simple_by, hash, range, control, or, Ref, call, Group, sole, orelse, Entries, no_entries, entries, Entry, typed, keyed, grouped, Definition, alternatives, name_of}
@@ -28,8 +28,8 @@ use Rattle.cddl_recursion.specs.declared.node.Node.TheVariants as N
 use Rattle.cddl_recursion.specs.Asking as A
 use Rattle.cddl_recursion.specs.Asking.{Asked, a_type, a_group, some_entries, an_entry, chosen_group, chosen_entries, chosen_entry, a_point, Asks, IsReached}
 use Rattle.cddl_recursion.specs.Edges as E
-use Rattle.cddl_recursion.specs.Edges.{Known, Has, Leads, by_row, by_chosen, by_group, by_type, by_opening, by_choice, by_opened_choice, row_node, chosen_node, name_node, unwrapping_node, choice_node, place_of, place_in, flagged, if_set, when, asks_here, text_asks, part_node, part_at, part_in, steps_by, chosen_by, row_steps, chosen_steps, is_group_call, text_of, opened_row, opened_group}
-use Rattle.cddl_recursion.specs.Standing.{Stands, type_row, group_row, entries_row, entry_row, chosen_group_row, chosen_entries_row, chosen_entry_row, name_place, unwrapping_place, choice_place, opened_choice_place}
+use Rattle.cddl_recursion.specs.Edges.{Known, Has, Leads, by_row, by_chosen, by_group, by_type, by_opening, by_choice, by_chosen_name, by_opened_choice, row_node, chosen_node, name_node, unwrapping_node, choice_node, place_of, place_in, flagged, if_set, when, asks_here, text_asks, part_node, part_at, part_in, steps_by, chosen_by, row_steps, chosen_steps, is_group_call, text_of, opened_row, opened_group}
+use Rattle.cddl_recursion.specs.Standing.{Stands, type_row, group_row, entries_row, entry_row, chosen_group_row, chosen_entries_row, chosen_entry_row, name_place, unwrapping_place, choice_place, chosen_name_place, opened_choice_place}
 use Rattle.cddl_recursion.proofs.Freely.{In, in_list, contained}
 use Rattle.cddl_recursion.proofs.Presence.{AreInstancesOn, first, front}
 
@@ -456,9 +456,9 @@ module _ (xs : List Definition) (root : Text) (refs : List Ref) (b : Known) (is 
 
   chosen_part_step : (m : Node) (y : Option Text) (x : Term) (o : Option ℕ) → Holds t o (term_tree x) → (p : K.Part) (q : Part) → IsPart t refs p q → part_of xs x ≡ p → E.chosen_part o q ≡ Some m → Next (chosen_entry (typed y x)) m
   chosen_part_step m y x o i p q part_type e f = to_row (chosen_entry (typed y x)) (a_type x) (term_tree x) (λ k j. type_row j) (A.chosen_type e) o m i f
-  chosen_part_step m y x o i p q (part_group {k = k} {r = r} j) e f = record { next = a_point (at_choice r); asks = A.chosen_name e; stands = subst (λ z. Stands t refs z (a_point (at_choice r))) (same f) (choice_place j) }
+  chosen_part_step m y x o i p q (part_group {k = k} {r = r} j) e f = record { next = a_point (at_chosen_name r); asks = A.chosen_name e; stands = subst (λ z. Stands t refs z (a_point (at_chosen_name r))) (same f) (chosen_name_place j) }
     where
-      same : Some (N.Choice k) ≡ Some m → N.Choice k ≡ m
+      same : Some (N.ChosenName k) ≡ Some m → N.ChosenName k ≡ m
       same f = cc
   chosen_part_step m y x o i p q (an_opened_group {k = k} {n = n} {r = r} {g = g} j h) e f = record { next = a_point (at_opened_choice r); asks = A.chosen_opened e; stands = subst (λ z. Stands t refs z (a_point (at_opened_choice r))) (same f) (opened_choice_place j) }
     where
@@ -512,13 +512,16 @@ module _ (xs : List Definition) (root : Text) (refs : List Ref) (b : Known) (is 
   unwrapping_step : (k : ℕ) (m : Node) (r : Ref) → slice_get refs k ≡ Some r → Leads b (N.Unwrapping k) m → Next (a_point (at_unwrapping r)) m
   unwrapping_step k m r e (by_opening f i) = let w = opening_at k r e in opens_by m r (opened xs r) (slice_get b.openings k) w.0 w.2 refl w.1 i
 
-  choice_step : (k : ℕ) (m : Node) (r : Ref) → slice_get refs k ≡ Some r → AreReached xs root (at_choice r ∷ []) → Leads b (N.Choice k) m → Next (a_point (at_choice r)) m
-  choice_step k m r e c (by_choice {w = w} f i) =
+  choice_step : (k : ℕ) (m : Node) (r : Ref) → slice_get refs k ≡ Some r → Leads b (N.Choice k) m → Next (a_point (at_choice r)) m
+  choice_step k m r e (by_choice f) = record { next = a_point (at_chosen_name r); asks = A.chooses_by_name; stands = chosen_name_place e }
+
+  chosen_name_step : (k : ℕ) (m : Node) (r : Ref) → slice_get refs k ≡ Some r → AreReached xs root (at_chosen_name r ∷ []) → Leads b (N.ChosenName k) m → Next (a_point (at_chosen_name r)) m
+  chosen_name_step k m r e c (by_chosen_name {w = w} f i) =
       let is_meant = meant k r w e f in
       let n = is_chosen (flagged b.choosable w.group) m i in
       let u = is_flagged b.choosable w.group n.0 n.1 in
       let g = group_of (group_choices xs r) w.group n.0 is_meant.group u.0 in
-      record { next = chosen_group g.0; asks = A.chooses g.1 ((is.choosable.groups n.0 g.0 g.2 (is.on.group r g.0 (first xs root (at_choice r) c) g.1)).0 u.1); stands = subst (λ z. Stands t refs z (chosen_group g.0)) (sym n.2) (chosen_group_row g.2) }
+      record { next = chosen_group g.0; asks = A.chooses g.1 ((is.choosable.groups n.0 g.0 g.2 (is.on.group r g.0 (first xs root (at_chosen_name r) c) g.1)).0 u.1); stands = subst (λ z. Stands t refs z (chosen_group g.0)) (sym n.2) (chosen_group_row g.2) }
 
   -- from an opening, where its row is flagged
   chooses_by : (m : Node) (r : Ref) (y : Option Opened) (o : Option Opening) (q : Opening) (n : ℕ) → IsOpened t y q → opened xs r ≡ y → o ≡ Some q → AreReached xs root (at_opened_choice r ∷ []) → opened_group o ≡ Some n → slice_get b.choosable n ≡ Some true → m ≡ N.Chosen n → Next (a_point (at_opened_choice r)) m
@@ -548,5 +551,6 @@ module _ (xs : List Definition) (root : Text) (refs : List Ref) (b : Known) (is 
   sound n m a (chosen_entry_row {n = k} {e = x} h) r l = chosen_entry_step k m x h r l
   sound n m a (name_place {k = k} {r = s} h) r l = name_step k m s h l
   sound n m a (unwrapping_place {k = k} {r = s} h) r l = unwrapping_step k m s h l
-  sound n m a (choice_place {k = k} {r = s} h) r l = choice_step k m s h r l
+  sound n m a (choice_place {k = k} {r = s} h) r l = choice_step k m s h l
+  sound n m a (chosen_name_place {k = k} {r = s} h) r l = chosen_name_step k m s h r l
   sound n m a (opened_choice_place {k = k} {r = s} h) r l = opened_choice_step k m s h r l

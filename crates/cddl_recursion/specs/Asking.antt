@@ -4,7 +4,7 @@ use Rattle.cddl_language.specs.Terms.{Text, Term, named, parens, array_of, unwra
 use Rattle.cddl_language.specs.Substitution.{type_choices, group_choices}
 use Rattle.cddl_language.specs.Choices.{can_choose}
 use Rattle.cddl_language.specs.Kinds.{opened, opens_group, opens_type, is_group, asks_type, names_group, opens, part_of}
-use Rattle.cddl_language.specs.Reach.{Point, at_name, at_unwrapping, at_choice, at_opened_choice, points, group_points, entries_points, entry_points}
+use Rattle.cddl_language.specs.Reach.{Point, at_name, at_unwrapping, at_choice, at_chosen_name, at_opened_choice, points, group_points, entries_points, entry_points}
 use Rattle.cddl_language.specs.Controls.{control_of, is_asked_here}
 use Rattle.cddl_language.specs.Free.{MayBeEmpty}
 use Rattle.cddl_closed.specs.Closed.{AreReached}
@@ -63,7 +63,7 @@ module _ (ds : List Definition) where
     chosen_earlier : {es : Entries} {e : Entry} {c : Bool} → Asks (chosen_entries (entries es e c)) (chosen_entries es)
     chosen_last : {es : Entries} {e : Entry} {c : Bool} → Asks (chosen_entries (entries es e c)) (chosen_entry e)
     chosen_type : {o : Option Text} {t : Term} → part_of ds t ≡ asks_type → Asks (chosen_entry (typed o t)) (a_type t)
-    chosen_name : {o : Option Text} {t : Term} {r : Ref} → part_of ds t ≡ names_group r → Asks (chosen_entry (typed o t)) (a_point (at_choice r))
+    chosen_name : {o : Option Text} {t : Term} {r : Ref} → part_of ds t ≡ names_group r → Asks (chosen_entry (typed o t)) (a_point (at_chosen_name r))
     chosen_opened : {o : Option Text} {t : Term} {r : Ref} {g : Group} → part_of ds t ≡ opens r g → Asks (chosen_entry (typed o t)) (a_point (at_opened_choice r))
     chosen_keyed : {o : Option Text} {k : Key} {t : Term} → Asks (chosen_entry (keyed o k t)) (a_type t)
     chosen_inner : {o : Option Text} {g : Group} → Asks (chosen_entry (grouped o g)) (chosen_group g)
@@ -71,7 +71,8 @@ module _ (ds : List Definition) where
     means_group : {r : Ref} {g : Group} → is_group ds (name_of r) ≡ true → alternatives g ≡ group_choices ds r → Asks (a_point (at_name r)) (a_group g)
     opens_a_group : {r : Ref} {g : Group} → opened ds r ≡ Some (opens_group g) → Asks (a_point (at_unwrapping r)) (a_group g)
     opens_content : {r : Ref} {t : Term} → opened ds r ≡ Some (opens_type t) → Asks (a_point (at_unwrapping r)) (a_type t)
-    chooses : {r : Ref} {g : Group} → alternatives g ≡ group_choices ds r → can_choose ds (alternatives g) ≡ true → Asks (a_point (at_choice r)) (chosen_group g)
+    chooses_by_name : {r : Ref} → Asks (a_point (at_choice r)) (a_point (at_chosen_name r))
+    chooses : {r : Ref} {g : Group} → alternatives g ≡ group_choices ds r → can_choose ds (alternatives g) ≡ true → Asks (a_point (at_chosen_name r)) (chosen_group g)
     chooses_opened : {r : Ref} {g : Group} → opened ds r ≡ Some (opens_group g) → can_choose ds (alternatives g) ≡ true → Asks (a_point (at_opened_choice r)) (chosen_group g)
 
   -- over one step or more

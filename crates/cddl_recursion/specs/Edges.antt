@@ -1,5 +1,5 @@
 -- The steps that the code takes, by rows and places, and the edges that it makes of them.
-use Rattle.std.specs.Prelude.{◌≡◌, ◌⊎◌, ℕ, zero, suc, ◌+◌, ◌*◌, ltb, cond, Bool, ◌||◌, true, false, List, [], ◌∷◌, ◌++◌, Contains, Option, Some, None, slice_get}
+use Rattle.std.specs.Prelude.{◌≡◌, ◌⊎◌, ℕ, zero, suc, ◌+◌, ◌*◌, ◌<◌, ltb, cond, Bool, ◌||◌, true, false, List, [], ◌∷◌, ◌++◌, Contains, Option, Some, None, slice_get}
 use Rattle.cycles.specs.declared.Edge.{Edge}
 use Rattle.cddl_language.specs.Controls.{control_of, is_asked_here}
 use Rattle.cddl_language.specs.Terms.{Text}
@@ -124,7 +124,7 @@ part_node (PartV.Opens k n) = Some (N.Unwrapping k)
 
 abbrev pub chosen_part : Option ℕ → Part → Option Node
 chosen_part o PartV.AsksType = row_node o
-chosen_part o (PartV.NamesGroup k) = Some (N.Choice k)
+chosen_part o (PartV.NamesGroup k) = Some (N.ChosenName k)
 chosen_part o (PartV.Opens k n) = Some (N.OpenedChoice k)
 
 -- from a row of this form, with this text and these parts
@@ -185,10 +185,11 @@ pub data Leads (b : Known) : Node → Node → Type 0 where
   by_group : {k : ℕ} {w : Meaning} {m : Node} → slice_get b.meanings k ≡ Some w → is_group_call b w.call ≡ true → row_node w.group ≡ Some m → Leads b (N.Name k) m
   by_type : {k : ℕ} {w : Meaning} {n : ℕ} → slice_get b.meanings k ≡ Some w → is_group_call b w.call ≡ false → Contains w.types.items n → Leads b (N.Name k) (N.Row n)
   by_opening : {k : ℕ} {w : Meaning} {m : Node} → slice_get b.meanings k ≡ Some w → row_node (opened_row (slice_get b.openings k)) ≡ Some m → Leads b (N.Unwrapping k) m
-  by_choice : {k : ℕ} {w : Meaning} {m : Node} → slice_get b.meanings k ≡ Some w → chosen_node (flagged b.choosable w.group) ≡ Some m → Leads b (N.Choice k) m
+  by_choice : {k : ℕ} {w : Meaning} → slice_get b.meanings k ≡ Some w → Leads b (N.Choice k) (N.ChosenName k)
+  by_chosen_name : {k : ℕ} {w : Meaning} {m : Node} → slice_get b.meanings k ≡ Some w → chosen_node (flagged b.choosable w.group) ≡ Some m → Leads b (N.ChosenName k) m
   by_opened_choice : {k : ℕ} {w : Meaning} {m : Node} → slice_get b.meanings k ≡ Some w → chosen_node (flagged b.choosable (opened_group (slice_get b.openings k))) ≡ Some m → Leads b (N.OpenedChoice k) m
 
--- Nodes by number: two for each row, and four for each place after these.
+-- Nodes by number: two for each row, and five for each place after these.
 
 abbrev pub within : ℕ → ℕ → ℕ → Option ℕ
 within n most x = cond (ltb n most) (Some x) None
@@ -196,10 +197,11 @@ within n most x = cond (ltb n most) (Some x) None
 abbrev pub number : ℕ → ℕ → Node → Option ℕ
 number rows places (N.Row n) = within n rows (2 * n)
 number rows places (N.Chosen n) = within n rows (2 * n + 1)
-number rows places (N.Name k) = within k places (2 * rows + 4 * k)
-number rows places (N.Unwrapping k) = within k places (2 * rows + 4 * k + 1)
-number rows places (N.Choice k) = within k places (2 * rows + 4 * k + 2)
-number rows places (N.OpenedChoice k) = within k places (2 * rows + 4 * k + 3)
+number rows places (N.Name k) = within k places (2 * rows + 5 * k)
+number rows places (N.Unwrapping k) = within k places (2 * rows + 5 * k + 1)
+number rows places (N.Choice k) = within k places (2 * rows + 5 * k + 2)
+number rows places (N.ChosenName k) = within k places (2 * rows + 5 * k + 3)
+number rows places (N.OpenedChoice k) = within k places (2 * rows + 5 * k + 4)
 
 abbrev pub edge_by : Option ℕ → Option ℕ → Option Edge
 edge_by None o = None
@@ -244,7 +246,7 @@ module _ (rows places : ℕ) where
 
     abbrev pub place_edges : ℕ → Option Meaning → List Edge
     place_edges k None = []
-    place_edges k (Some w) = name_edges k w (is_group_call b w.call) ++ (edge_to (N.Unwrapping k) (row_node (opened_row (slice_get b.openings k))) ++ (edge_to (N.Choice k) (chosen_node (flagged b.choosable w.group)) ++ edge_to (N.OpenedChoice k) (chosen_node (flagged b.choosable (opened_group (slice_get b.openings k))))))
+    place_edges k (Some w) = name_edges k w (is_group_call b w.call) ++ (edge_to (N.Unwrapping k) (row_node (opened_row (slice_get b.openings k))) ++ (edge_to (N.Choice k) (Some (N.ChosenName k)) ++ (edge_to (N.ChosenName k) (chosen_node (flagged b.choosable w.group)) ++ edge_to (N.OpenedChoice k) (chosen_node (flagged b.choosable (opened_group (slice_get b.openings k)))))))
 
     -- of the places below the number
     abbrev pub places_edges : ℕ → List Edge
@@ -254,7 +256,8 @@ module _ (rows places : ℕ) where
     abbrev pub all_edges : List Edge
     all_edges = rows_edges rows ++ places_edges places
 
--- Of each place whether one of its nodes is marked.
+-- Of each place whether it is told of: by the marks of its references, where there are any, and else by those of the choices through
+-- its name.
 
 abbrev pub mark_in : Option Bool → Bool
 mark_in None = false
@@ -264,9 +267,22 @@ abbrev pub mark_at : List Bool → Option ℕ → Bool
 mark_at marks None = false
 mark_at marks (Some i) = mark_in (slice_get marks i)
 
-abbrev pub is_marked : ℕ → ℕ → List Bool → ℕ → Bool
-is_marked rows places marks k = mark_at marks (number rows places (N.Name k)) || (mark_at marks (number rows places (N.Unwrapping k)) || (mark_at marks (number rows places (N.Choice k)) || mark_at marks (number rows places (N.OpenedChoice k))))
+module _ (rows places : ℕ) (marks : List Bool) where
+  abbrev pub has_reference : ℕ → Bool
+  has_reference k = mark_at marks (number rows places (N.Name k)) || (mark_at marks (number rows places (N.Unwrapping k)) || mark_at marks (number rows places (N.Choice k)))
 
-abbrev pub flags_below : ℕ → ℕ → List Bool → ℕ → List Bool
-flags_below rows places marks zero = []
-flags_below rows places marks (suc k) = flags_below rows places marks k ++ is_marked rows places marks k ∷ []
+  abbrev pub has_choice : ℕ → Bool
+  has_choice k = mark_at marks (number rows places (N.ChosenName k)) || mark_at marks (number rows places (N.OpenedChoice k))
+
+  -- by references or not
+  abbrev pub is_told : Bool → ℕ → Bool
+  is_told true k = has_reference k
+  is_told false k = has_choice k
+
+  abbrev pub flags_below : Bool → ℕ → List Bool
+  flags_below by zero = []
+  flags_below by (suc k) = flags_below by k ++ is_told by k ∷ []
+
+  pub data AreFlags (flags : List Bool) : Type 0 where
+    of_references : {k : ℕ} → k < places → has_reference k ≡ true → flags ≡ flags_below true places → AreFlags flags
+    of_choices : ((k : ℕ) → k < places → has_reference k ≡ false) → flags ≡ flags_below false places → AreFlags flags

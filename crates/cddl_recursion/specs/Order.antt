@@ -5,7 +5,7 @@ use Rattle.cycles.specs.Graph.{AreRanks, AreOnCycles}
 use Rattle.cddl_language.specs.Terms.{Text, Term, Ref, Definition}
 use Rattle.cddl_language.specs.Kinds.{part_of}
 use Rattle.cddl_language.specs.Reach.{Point, points, ref_at}
-use Rattle.cddl_language.specs.Free.{IsOnCycle}
+use Rattle.cddl_language.specs.Free.{IsOnCycle, LeadsBack}
 use Rattle.cddl_terms.specs.Table.{Table}
 use Rattle.cddl_terms.specs.Trees.{IsTerm}
 use Rattle.cddl_closed.specs.Closed.{AreReached}
@@ -16,7 +16,7 @@ use Rattle.cddl_recursion.specs.declared.node.Node.{Node}
 use Rattle.cddl_recursion.specs.declared.graph.Ranks.{Ranks}
 use Rattle.cddl_recursion.specs.declared.graph.Order.{Order}
 use Rattle.cddl_recursion.specs.declared.graph.Order.TheVariants as OrderV
-use Rattle.cddl_recursion.specs.Edges.{flags_below, number}
+use Rattle.cddl_recursion.specs.Edges.{AreFlags, number}
 use Rattle.cddl_recursion.specs.Standing.{IsStep}
 
 -- the row of a closed type below the number is told to be the entry that it is
@@ -38,9 +38,9 @@ abbrev pub bound : Ranks → ℕ
 bound r = length r.ranks.items
 
 module _ (xs : List Definition) (root : Text) (refs : List Ref) where
-  -- no reference comes back to itself
+  -- nothing leads back to itself
   abbrev pub HasNoCycle : Type 0
-  HasNoCycle = (p : Point) → IsOnCycle xs root p → ⊥
+  HasNoCycle = (p : Point) → LeadsBack xs root p → ⊥
 
   -- the ranks go down along each step
   pub record AreRanked (t : Table) (r : Ranks) : Type 0 where
@@ -48,8 +48,8 @@ module _ (xs : List Definition) (root : Text) (refs : List Ref) where
     pub down : (n m : Node) → IsStep xs root refs t n m → rank r m < rank r n
     pub most : (n : Node) → rank r n ≤ bound r
 
-  -- Of each instance it is told whether a reference to it comes back to itself: by itself, after `~`, after `&`, or the choice
-  -- from what `~` of it opens. One does.
+  -- Of each instance it is told whether a reference to it leads back to itself, by itself, after `~` or after `&`; where none does,
+  -- whether a choice through its name does. One does.
   pub record AreCycles (flags : List Bool) : Type 0 where
     pub all : length flags ≡ length refs
     pub each : (k : ℕ) (r : Ref) → slice_get refs k ≡ Some r → (slice_get flags k ≡ Some true) ↔ ((p : Point) × (ref_at p ≡ r) × IsOnCycle xs root p)
@@ -60,7 +60,7 @@ module _ (xs : List Definition) (root : Text) (refs : List Ref) where
   IsOrder t (OrderV.Cycles v) = AreCycles v.items
 
 abbrev pub nodes_of : Layout → ℕ
-nodes_of l = 2 * l.rows + 4 * l.places
+nodes_of l = 2 * l.rows + 5 * l.places
 
 -- the same of a graph with these edges
 pub record AreRanksOf (l : Layout) (edges : List Edge) (r : Ranks) : Type 0 where
@@ -70,7 +70,7 @@ pub record AreRanksOf (l : Layout) (edges : List Edge) (r : Ranks) : Type 0 wher
 pub record AreFlagsOf (l : Layout) (edges : List Edge) (flags : List Bool) : Type 0 where
   pub marks : List Bool
   pub are_marks : AreOnCycles (nodes_of l) edges marks
-  pub are_flags : flags ≡ flags_below l.rows l.places marks l.places
+  pub are_flags : AreFlags l.rows l.places marks flags
 
 abbrev pub IsOrdered : Layout → List Edge → Order → Type 0
 IsOrdered l edges (OrderV.Ranks r) = AreRanksOf l edges r

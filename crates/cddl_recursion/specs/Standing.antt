@@ -1,11 +1,11 @@
 -- What the nodes stand for, and the steps from node to node.
 use Rattle.std.specs.Prelude.{◌≡◌, ℕ, List, Some, slice_get}
 use Rattle.cddl_language.specs.Terms.{Text, Term, Ref, Group, Entries, Entry, Definition}
-use Rattle.cddl_language.specs.Reach.{at_name, at_unwrapping, at_choice, at_opened_choice}
+use Rattle.cddl_language.specs.Reach.{at_name, at_unwrapping, at_choice, at_chosen_name, at_opened_choice}
 use Rattle.cddl_terms.specs.Table.{Table}
 use Rattle.cddl_terms.specs.Trees.{IsTerm, IsGroup, IsEntries, IsEntry}
 use Rattle.cddl_recursion.specs.declared.node.Node.{Node}
-use Rattle.cddl_recursion.specs.declared.node.Node.TheVariants.{Row, Chosen, Name, Unwrapping, Choice, OpenedChoice}
+use Rattle.cddl_recursion.specs.declared.node.Node.TheVariants.{Row, Chosen, Name, Unwrapping, Choice, ChosenName, OpenedChoice}
 use Rattle.cddl_recursion.specs.Asking.{Asked, a_type, a_group, some_entries, an_entry, chosen_group, chosen_entries, chosen_entry, a_point, IsReached, Asks}
 
 -- rows are those of the table, places those of the instances
@@ -20,6 +20,7 @@ pub data Stands (t : Table) (refs : List Ref) : Node → Asked → Type 0 where
   name_place : {k : ℕ} {r : Ref} → slice_get refs k ≡ Some r → Stands t refs (Name k) (a_point (at_name r))
   unwrapping_place : {k : ℕ} {r : Ref} → slice_get refs k ≡ Some r → Stands t refs (Unwrapping k) (a_point (at_unwrapping r))
   choice_place : {k : ℕ} {r : Ref} → slice_get refs k ≡ Some r → Stands t refs (Choice k) (a_point (at_choice r))
+  chosen_name_place : {k : ℕ} {r : Ref} → slice_get refs k ≡ Some r → Stands t refs (ChosenName k) (a_point (at_chosen_name r))
   opened_choice_place : {k : ℕ} {r : Ref} → slice_get refs k ≡ Some r → Stands t refs (OpenedChoice k) (a_point (at_opened_choice r))
 
 -- What the one node stands for asks what the other one stands for. All references in it are instances.

@@ -111,8 +111,14 @@ fn push_meaning(
     let opening = opening_at(view.openings, place);
     let opened = row_node(opened_row(opening));
     push(edges, layout, Node::Unwrapping(place), opened)?;
+    push(
+        edges,
+        layout,
+        Node::Choice(place),
+        Some(Node::ChosenName(place)),
+    )?;
     let chosen = chosen_node(flagged(view.choosable, meaning.group));
-    push(edges, layout, Node::Choice(place), chosen)?;
+    push(edges, layout, Node::ChosenName(place), chosen)?;
     let chosen = chosen_node(flagged(view.choosable, opened_group(opening)));
     push(edges, layout, Node::OpenedChoice(place), chosen)
 }

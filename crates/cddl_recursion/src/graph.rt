@@ -66,8 +66,8 @@ fn rank_at(ranks: &[usize], number: Option<usize>) -> usize
 pub enum Order {
     /// Nothing comes back to itself: ranks that go down.
     Ranks(Ranks),
-    /// For each instance whether a reference with its name and arguments comes back to itself, as one does: by itself, after
-    /// `~`, after `&`, or the choice from what `~` of it opens.
+    /// For each instance whether a reference with its name and arguments comes back to itself: by itself, after `~` or after `&`.
+    /// Where none does, a choice comes back through names of groups alone, and it is told of these.
     Cycles(Vec<bool>),
 }
 

@@ -14,11 +14,13 @@ pub enum Node {
     Unwrapping(u32),
     /// What `&` of an instance chooses from.
     Choice(u32),
-    /// What `&` chooses from, of what `~` of an instance opens.
+    /// What `&` chooses from, where the name of an instance is an entry of its group.
+    ChosenName(u32),
+    /// What `&` chooses from, where `~` before the name of an instance is an entry of its group.
     OpenedChoice(u32),
 }
 
-/// How many rows and places there are. Nodes have numbers: two for each row, and four for each place after these.
+/// How many rows and places there are. Nodes have numbers: two for each row, and five for each place after these.
 #[derive(Clone, Copy)]
 pub(crate) struct Layout {
     pub rows: u32,
@@ -34,18 +36,19 @@ impl Layout {
         match node {
             Node::Row(row) => within(row, self.rows, 2 * row as usize),
             Node::Chosen(row) => within(row, self.rows, 2 * row as usize + 1),
-            Node::Name(place) => within(place, self.places, first + 4 * place as usize),
-            Node::Unwrapping(place) => within(place, self.places, first + 4 * place as usize + 1),
-            Node::Choice(place) => within(place, self.places, first + 4 * place as usize + 2),
-            Node::OpenedChoice(place) => within(place, self.places, first + 4 * place as usize + 3),
+            Node::Name(place) => within(place, self.places, first + 5 * place as usize),
+            Node::Unwrapping(place) => within(place, self.places, first + 5 * place as usize + 1),
+            Node::Choice(place) => within(place, self.places, first + 5 * place as usize + 2),
+            Node::ChosenName(place) => within(place, self.places, first + 5 * place as usize + 3),
+            Node::OpenedChoice(place) => within(place, self.places, first + 5 * place as usize + 4),
         }
     }
 
     /// How many nodes there are.
     pub fn nodes(self) -> usize
-        ensures { result ≡ 2 * self.rows + 4 * self.places }
+        ensures { result ≡ 2 * self.rows + 5 * self.places }
     {
-        2 * self.rows as usize + 4 * self.places as usize
+        2 * self.rows as usize + 5 * self.places as usize
     }
 }
 

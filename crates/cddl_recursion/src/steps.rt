@@ -97,7 +97,7 @@ fn chosen_part(row: Option<u32>, part: Part) -> Option<Node>
 {
     match part {
         Part::AsksType => row_node(row),
-        Part::NamesGroup(place) => Some(Node::Choice(place)),
+        Part::NamesGroup(place) => Some(Node::ChosenName(place)),
         Part::Opens(place, _) => Some(Node::OpenedChoice(place)),
     }
 }

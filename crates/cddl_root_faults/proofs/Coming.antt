@@ -116,7 +116,7 @@ module _ (t : Table) (tree : Tree) (names : List Name) (closed : Closed) (s : Sp
     complete : (at : ℕ) → HasRecursion s root at → (k : ℕ) × (b : Bool) × (slice_get flags k ≡ Some b) × (start_if t tree names closed k b ≡ Some at)
     complete at h =
         let r = ref_at h.point in
-        let c = whole r h.cycle.instance in
+        let c = whole r h.cycle.back.instance in
         let there = slice_get_read refs (length refs) c.0 r refl c.1 (sym c.2) in
         (c.0, true, (cycles.each c.0 r there).1 (h.point, refl, h.cycle), start_there c.0 r there ∙ ap begins h.first ∙ ap Some (sym h.offset))
 

@@ -1,5 +1,6 @@
 use Rattle.cddl_language.proofs.Faulty as F
 use Rattle.cddl_language.proofs.MapsFaulty as M
+use Rattle.cddl_language.proofs.NoReference as N
 use Rattle.cddl_language.proofs.examples.faults.Goals as goal
 
 pub returns-clause-defined_twice : goal.returns-clause-defined_twice
@@ -45,7 +46,10 @@ pub returns-clause-first_itself : goal.returns-clause-first_itself
 returns-clause-first_itself c = F.first_itself
 
 pub returns-clause-chosen_itself : goal.returns-clause-chosen_itself
-returns-clause-chosen_itself c = F.chosen_itself
+returns-clause-chosen_itself c = N.chosen_itself
+
+pub returns-clause-chosen_by_name : goal.returns-clause-chosen_by_name
+returns-clause-chosen_by_name c = F.chosen_by_name
 
 pub returns-clause-group_first_itself : goal.returns-clause-group_first_itself
 returns-clause-group_first_itself c = F.group_first_itself

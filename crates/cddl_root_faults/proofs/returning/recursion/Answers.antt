@@ -8,7 +8,7 @@ use Rattle.cddl_root_faults.proofs.returning.recursion.Goals as goal
 pub returns-in-Ranks : goal.returns-in-Ranks
 returns-in-Ranks c s root refs known own of pre text are closed order =
     let ranked = subst (IsOrder (definitions s) root refs c.args.terms.now) c.in-Ranks.is order in
-    λ p h. ranked.no_cycle h.point h.cycle
+    λ p h. ranked.no_cycle h.point h.cycle.back
 
 pub returns-in-Cycles : goal.returns-in-Cycles
 returns-in-Cycles c s root refs known own of pre text are closed order =
