@@ -4,6 +4,7 @@ mod Following
 mod Valued
 mod Turned
 mod Firsts
+mod Fronts
 mod Joined
 mod Wrong
 mod Somewhere

@@ -1,9 +1,11 @@
 -- What the bytes of a whole item come to.
-use Rattle.std.specs.Prelude.{◌≡◌, ℕ, ◌≤◌, List, ◌++◌}
+use Rattle.std.specs.Prelude.{◌≡◌, ℕ, ◌<◌, ◌≤◌, List, ◌++◌, length, take}
 use Rattle.cbor_data.specs.Value.{Value, depth_of}
 use Rattle.cbor_data.specs.Validity.{IsFirstRepeatedKey}
 use Rattle.cbor_data.specs.Sound.{IsSound, HasShortSpelling}
 use Rattle.cbor_data.specs.Faults.{Bounds, IsItem, IsFaultOf}
+use Rattle.cbor_machine.specs.Machine.{done}
+use Rattle.cbor_machine.specs.Reads.{LeadsWithin, Reads}
 use Rattle.cbor_read.specs.declared.fault.Fault as declared
 use Rattle.cbor_data.specs.declared.FaultKind.{FaultKind}
 use Rattle.cbor_data.specs.declared.FaultKind.TheVariants.{BadText, DuplicateKey}
@@ -24,6 +26,13 @@ pub record IsWrong (l : Bounds) (o : ℕ) (b : List ℕ) (fault : declared.Fault
 abbrev pub IsOutcome : Bounds → ℕ → List ℕ → Outcome → Type 0
 IsOutcome l o b (Item x) = IsItem l o x b
 IsOutcome l o b (Fault fault) = IsWrong l o b fault
+
+-- the first n bytes of b, one at least, are a whole item no deeper than this, and this is what it comes to
+pub record IsFrontOutcome (depth : ℕ) (b : List ℕ) (n : ℕ) (out : Outcome) : Type 0 where
+  pub some : 0 < n
+  pub within : n ≤ length b
+  pub leads : LeadsWithin depth (take n b) done
+  pub comes : (l : Bounds) (o : ℕ) → Reads l o (take n b) done → IsOutcome l o (take n b) out
 
 -- the item is sound unless it repeats a key
 pub record IsSoundButKeys (x : Value) : Type 0 where

@@ -17,11 +17,10 @@ pub record IsKept (l : Bounds) (o : ℕ) (fed bytes : List ℕ) (state : State) 
   pub live : state ≢ done
 
 -- the item x ended with byte `used` of the piece, and the next one is awaited
-pub record IsItemTurn (old : Reading) (piece : List ℕ) (used : ℕ) (x : Value) (bytes : List ℕ) (state : State) : Type 0 where
+pub record IsItemTurn (old : Reading) (piece : List ℕ) (used : ℕ) (x : Value) (state : State) : Type 0 where
   pub some : 0 < used
   pub within : used ≤ length piece
   pub read : IsItem old.limits old.offset x (old.fed ++ take used piece)
-  pub same : bytes ≡ old.fed ++ take used piece
   pub next : state ≡ item []
 
 -- whatever follows, this fault is told
@@ -30,8 +29,8 @@ pub record IsFaultTurn (old : Reading) (piece : List ℕ) (used : ℕ) (fault : 
   pub told : (more : List ℕ) → IsFaultOf old.limits old.offset ((old.fed ++ piece) ++ more) fault.kind fault.at
   pub place : IsUsedUpTo old piece used fault.kind fault.at
 
--- what a piece leads a reader to that has not stopped: its answer, the item's bytes and the state of their form
+-- what a piece leads a reader to that has not stopped: its answer, the bytes of an item that goes on, and the state of their form
 abbrev pub IsTurn : Reading → List ℕ → Fed → List ℕ → State → Type 0
 IsTurn old piece More bytes state = IsKept old.limits old.offset (old.fed ++ piece) bytes state
-IsTurn old piece (Item used x) bytes state = IsItemTurn old piece used x bytes state
+IsTurn old piece (Item used x) bytes state = IsItemTurn old piece used x state
 IsTurn old piece (Fault used fault) bytes state = IsFaultTurn old piece used fault

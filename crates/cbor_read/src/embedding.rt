@@ -5,7 +5,7 @@ ghost use Rattle.cbor_data.specs.Embedded.{EmbedsAll};
 ghost use Rattle.cbor_read.specs.Firsts.{IsFirst};
 
 use crate::limits::MOST_DEPTH;
-use crate::value::{Outcome, value_of};
+use crate::value::{Outcome, front_value, value_of};
 use cbor_form::{FormReader, Progress};
 use cbor_item::Sound;
 use std::alloc::{AllocError, Global};
@@ -38,6 +38,19 @@ pub fn embedded(alloc: Global, bytes: &[u8]) -> Result<Option<Vec<Sound>>, Alloc
 
 // The item at the front of the bytes, and how many bytes it has.
 fn first_item(alloc: Global, bytes: &[u8]) -> Result<Option<(usize, Sound)>, AllocError>
+    ensures { IfOk result (λ first. IsFirst bytes.now first) }
+{
+    let Some((length, outcome)) = front_value(alloc, MOST_DEPTH, bytes)? else {
+        return followed_item(alloc, bytes);
+    };
+    match outcome {
+        Outcome::Item(item) => Ok(Some((length, item))),
+        Outcome::Fault(_) => Ok(None),
+    }
+}
+
+// The same, by its form.
+fn followed_item(alloc: Global, bytes: &[u8]) -> Result<Option<(usize, Sound)>, AllocError>
     ensures { IfOk result (λ first. IsFirst bytes.now first) }
 {
     let mut form = FormReader::new(alloc);

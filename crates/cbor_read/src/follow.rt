@@ -70,8 +70,8 @@ pub fn fault_at_end(limits: Limits, offset: u64, bytes: &[u8]) -> Fault
     }
 }
 
-// How many bytes may follow: as many as the item may still have, and none at the last offset.
-fn room_of(limits: Limits, offset: u64, count: u64) -> usize
+/// How many bytes may follow: as many as the item may still have, and none at the last offset.
+pub fn room_of(limits: Limits, offset: u64, count: u64) -> usize
     requires short { count ≤ limits.item_bytes }
     requires placed { offset + count < 2 ^ 64 }
     ensures { result ≡ min (limits.item_bytes - count) (2 ^ 64 - 1 - (offset + count)) }
@@ -80,8 +80,8 @@ fn room_of(limits: Limits, offset: u64, count: u64) -> usize
     item.min(u64::MAX - (offset + count)) as usize
 }
 
-// The bytes of the piece that have room.
-fn front_of(piece: &[u8], room: usize) -> &[u8]
+/// The bytes of the piece that have room.
+pub fn front_of(piece: &[u8], room: usize) -> &[u8]
     ensures { result.now ≡ take room piece.now }
 {
     &piece[..room.min(piece.len())]

@@ -1,15 +1,18 @@
 // Reads items from pieces.
-ghost use Rattle.std.specs.Prelude.{◌≡◌, ◌≢◌, [], None, IfOk};
-ghost use Rattle.cbor_machine.specs.Machine.{done};
+ghost use Rattle.std.specs.Prelude.{◌≡◌, ◌≢◌, ◌+◌, ◌<◌, ◌^◌, [], ◌++◌, length, None, IfOk, IfSome};
+ghost use Rattle.cbor_data.specs.Faults.{Bounds};
+ghost use Rattle.cbor_machine.specs.Machine.{item as item_awaited, done};
 ghost use Rattle.cbor_machine.specs.Reads.{Reads};
 ghost use Rattle.cbor_read.specs.Answers.{IsAgain, IsAnswer, IsEnd};
+ghost use Rattle.cbor_read.specs.Outcomes.{IsOutcome};
 ghost use Rattle.cbor_read.specs.Reading.{open_reading};
 ghost use Rattle.cbor_read.specs.Turns.{IsTurn};
+ghost use Rattle.cbor_value.specs.Unread.{IsWhole};
 
 use crate::fault::{Fault, Stop};
-use crate::follow::{Advance, fault_at_end, follow};
+use crate::follow::{Advance, fault_at_end, follow, front_of, room_of};
 use crate::limits::Limits;
-use crate::value::{Outcome, value_of};
+use crate::value::{Outcome, front_value, value_of};
 use cbor_form::FormReader;
 use cbor_item::Sound;
 use history::History;
@@ -31,7 +34,8 @@ pub enum Fed {
 /// Reads the items of a stream, one after the other, from pieces of any size.
 ///
 /// Contracts see its limits, the offset of the item's first byte, the bytes used since, and why it has stopped, if it
-/// has. It keeps one copy of the item's bytes and takes no memory for a length that is only declared.
+/// has. It keeps one copy of the item's bytes at most, and takes room for 32 members at most of a list whose length is only
+/// declared.
 #[derive(Drop)]
 pub struct ItemReader {
     alloc: Global,
@@ -84,6 +88,7 @@ impl ItemReader {
             return answer_again(stop);
         }
         self.stopped = Some(Stop::Memory);
+        let before = self.bytes.len();
         match take_turn(
             self.alloc,
             self.limits,
@@ -98,7 +103,7 @@ impl ItemReader {
                 Ok(Fed::More)
             }
             Fed::Item { used, item } => {
-                self.offset += self.bytes.len() as u64;
+                self.offset += (before + used) as u64;
                 self.bytes.clear();
                 self.fed.clear();
                 self.stopped = None;
@@ -141,8 +146,48 @@ fn answer_again(stop: Stop) -> Result<Fed, AllocError>
     }
 }
 
-// Reads on. Where no fault is told, what is used of the piece is added to the item's bytes.
+// Reads on. Where the item goes on, the piece is added to its bytes.
 fn take_turn(
+    alloc: Global,
+    limits: Limits,
+    offset: u64,
+    form: &mut FormReader,
+    bytes: &mut Vec<u8>,
+    piece: &[u8],
+) -> Result<Fed, AllocError>
+    requires live { form.old ≢ done }
+    requires reads { Reads limits offset bytes.old.items form.old }
+    ensures { IfOk result (λ fed. IsTurn (open_reading limits offset bytes.old.items) piece.now fed bytes.new.items form.new) }
+{
+    if bytes.is_empty() {
+        if let Some(fed) = take_whole(alloc, limits, offset, piece)? {
+            return Ok(fed);
+        }
+    }
+    take_on(alloc, limits, offset, form, bytes, piece)
+}
+
+// The turn by the item at the front of the piece, where that is read in one pass.
+fn take_whole(
+    alloc: Global,
+    limits: Limits,
+    offset: u64,
+    piece: &[u8],
+) -> Result<Option<Fed>, AllocError>
+    ensures { IfOk result (λ found. IfSome found (λ fed. IsTurn (open_reading limits offset []) piece.now fed [] (item_awaited []))) }
+{
+    let front = front_of(piece, room_of(limits, offset, 0));
+    let Some((used, outcome)) = front_value(alloc, limits.depth(), front)? else {
+        return Ok(None);
+    };
+    match outcome {
+        Outcome::Item(item) => Ok(Some(Fed::Item { used, item })),
+        Outcome::Fault(fault) => Ok(Some(Fed::Fault { used, fault })),
+    }
+}
+
+// The turn that follows the item's form.
+fn take_on(
     alloc: Global,
     limits: Limits,
     offset: u64,
@@ -159,13 +204,29 @@ fn take_turn(
             bytes.extend_from_slice(piece)?;
             Ok(Fed::More)
         }
-        Advance::Whole { used } => {
-            bytes.extend_from_slice(&piece[..used])?;
-            match value_of(alloc, offset, bytes)? {
-                Outcome::Item(item) => Ok(Fed::Item { used, item }),
-                Outcome::Fault(fault) => Ok(Fed::Fault { used, fault }),
-            }
-        }
+        Advance::Whole { used } => match joined_value(alloc, offset, bytes, &piece[..used])? {
+            Outcome::Item(item) => Ok(Fed::Item { used, item }),
+            Outcome::Fault(fault) => Ok(Fed::Fault { used, fault }),
+        },
         Advance::Fault { used, fault } => Ok(Fed::Fault { used, fault }),
     }
+}
+
+// Reads the value of the item that ends with these bytes, after the others that it has. They are not copied where they
+// are all of it.
+fn joined_value(
+    alloc: Global,
+    offset: u64,
+    bytes: &mut Vec<u8>,
+    end: &[u8],
+) -> Result<Outcome, AllocError>
+    requires whole { IsWhole 256 (bytes.old.items ++ end.now) }
+    requires placed { offset + length (bytes.old.items ++ end.now) < 2 ^ 64 }
+    ensures { IfOk result (λ outcome. (limits : Bounds) → Reads limits offset (bytes.old.items ++ end.now) done → IsOutcome limits offset (bytes.old.items ++ end.now) outcome) }
+{
+    if bytes.is_empty() {
+        return value_of(alloc, offset, end);
+    }
+    bytes.extend_from_slice(end)?;
+    value_of(alloc, offset, bytes)
 }

@@ -1,16 +1,17 @@
 // The value of a whole item.
-ghost use Rattle.std.specs.Prelude.{◌+◌, ◌^◌, ◌<◌, length, IfOk};
+ghost use Rattle.std.specs.Prelude.{◌+◌, ◌^◌, ◌<◌, ◌≤◌, length, IfOk, IfSome};
 ghost use Rattle.cbor_data.specs.Faults.{Bounds};
 ghost use Rattle.cbor_machine.specs.Machine.{done};
 ghost use Rattle.cbor_machine.specs.Reads.{Reads};
 ghost use Rattle.cbor_item.specs.View.{view};
 ghost use Rattle.cbor_value.specs.Unread.{IsWhole};
-ghost use Rattle.cbor_read.specs.Outcomes.{IsOutcome, IsSettled, IsSoundButKeys};
+ghost use Rattle.cbor_read.specs.Outcomes.{IsFrontOutcome, IsOutcome, IsSettled, IsSoundButKeys};
 
 use crate::fault::Fault;
 use cbor_data::FaultKind;
 use cbor_item::{Item, Sound, Unsound};
 use cbor_value::{Unread, read_value};
+use cbor_whole::whole_item;
 use std::alloc::{AllocError, Global};
 
 /// What the bytes of a whole item come to.
@@ -34,6 +35,23 @@ pub fn value_of(alloc: Global, offset: u64, bytes: &[u8]) -> Result<Outcome, All
         })),
         Err(Unread::Memory) => Err(AllocError),
     }
+}
+
+/// What the item at the front of `bytes` comes to, and how many bytes it has, in one pass. `None` says nothing: then the
+/// item's form has to be followed.
+pub fn front_value(
+    alloc: Global,
+    depth: u32,
+    bytes: &[u8],
+) -> Result<Option<(usize, Outcome)>, AllocError>
+    requires { depth ≤ 256 }
+    ensures { IfOk result (λ found. IfSome found (λ front. IsFrontOutcome depth bytes.now front.0 front.1)) }
+{
+    let Some((item, length)) = whole_item(alloc, bytes, depth)? else {
+        return Ok(None);
+    };
+    let outcome = sound_of(alloc, item)?;
+    Ok(Some((length, outcome)))
 }
 
 // The item as a sound one, if it repeats no key.

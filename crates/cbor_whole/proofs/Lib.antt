@@ -1,0 +1,4 @@
+mod Arguments
+mod Items
+mod Joined
+mod Members

@@ -1,0 +1,11 @@
+use Rattle.cbor_item.specs.View.{view}
+use Rattle.cbor_whole.specs.Parts.{IsItemAt}
+use Rattle.cbor_whole.specs.Whole.{IsWholeItem}
+use Rattle.cbor_whole.proofs.Items.{found_so, whole_front}
+use Rattle.cbor_whole.proofs.item.whole_item.Goals as goal
+
+pub returns : goal.returns
+returns c =
+    let b = c.args.bytes.now in
+    let d = c.args.depth in
+    found_so (λ r. IsItemAt d b 0 (view r.0) r.1) (λ r. IsWholeItem d b (view r.0) r.1) c.item_at.result (λ r s. whole_front d b (view r.0) r.1 s) c.item_at.ensures

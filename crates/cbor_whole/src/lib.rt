@@ -1,0 +1,8 @@
+//! Reads an item of CBOR (RFC 8949 section 3) that is whole in its bytes, in one pass over them.
+#![tactic(auto)]
+
+mod argument;
+mod item;
+mod leaf;
+
+pub use crate::item::whole_item;
