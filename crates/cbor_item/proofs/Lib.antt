@@ -12,4 +12,5 @@ mod Walking
 mod Cursors
 mod Keeping
 mod Sizes
+mod Differing
 pub mod Lemmas

@@ -5,3 +5,4 @@ pub mod Length
 pub mod Gone
 pub mod Walk
 pub mod Comma
+pub mod Apart

@@ -54,7 +54,7 @@ impl Eq for Item {
 
 // Whether two items stand for the same value.
 #[cycle(same)]
-fn is_same(a: &Item, b: &Item) -> bool
+pub fn is_same(a: &Item, b: &Item) -> bool
     ensures { result ≡ same_value (view a.now) (view b.now) }
 {
     match a {

@@ -1,6 +1,7 @@
 //! Items of CBOR (RFC 8949) in memory: which of them are sound, their preferred bytes and their diagnostic notation.
 #![tactic(auto)]
 
+mod apart;
 mod bits;
 mod counted;
 mod depth;
@@ -17,7 +18,7 @@ mod write;
 
 pub use crate::counted::Counted;
 pub use crate::item::Item;
-pub use crate::notation::diag;
+pub use crate::notation::{diag, push_notation};
 pub use crate::sound::{Sound, Unsound};
 pub use crate::write::{WriteFault, write_bytes, write_item};
 pub use cbor_data::Width;

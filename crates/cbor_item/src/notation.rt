@@ -24,28 +24,30 @@ pub fn diag(alloc: Global, item: &Item) -> Result<Vec<u8>, AllocError>
     ensures { IfOk result (λ text. text.items ≡ notation (view item.now)) }
 {
     let mut text = Vec::new(alloc);
-    push_item(&mut text, item)?;
+    push_notation(&mut text, item)?;
     Ok(text)
 }
 
+/// Appends the notation of the item that [`diag`] gives.
+///
+/// # Errors
+///
+/// `AllocError` where memory runs out. A front of the notation may be appended then.
 #[cycle(show)]
-fn push_item(out: &mut Vec<u8>, item: &Item) -> Result<(), AllocError>
+pub fn push_notation(out: &mut Vec<u8>, item: &Item) -> Result<(), AllocError>
     ensures { OnOk result (out.new.items ≡ out.old.items ++ notation (view item.now)) }
 {
     match item {
-        Item::Uint(n) => push_number(out, u128::from(*n)),
-        Item::Nint(n) => {
-            out.push(b'-')?;
-            push_number(out, u128::from(*n) + 1)
-        }
+        Item::Uint(n) => push_number(out, *n),
+        Item::Nint(n) => push_negative(out, *n),
         Item::Bytes(bytes) => push_bytes(out, bytes.as_slice()),
         Item::Text(text) => push_text(out, text.as_str().as_bytes()),
         Item::Array(items) => push_members(out, items),
         Item::Map(pairs) => push_pairs(out, pairs),
         Item::Tag(number, content) => {
-            push_number(out, u128::from(*number))?;
+            push_number(out, *number)?;
             out.push(b'(')?;
-            push_item(out, content)?;
+            push_notation(out, content)?;
             Ok(out.push(b')')?)
         }
         Item::Simple(n) => push_simple(out, *n),
@@ -60,7 +62,7 @@ fn push_members(out: &mut Vec<u8>, items: &Vec<Item>) -> Result<(), AllocError>
     out.push(b'[')?;
     for (i, item) in items.iter().enumerate() {
         push_comma(out, i)?;
-        push_item(out, item)?;
+        push_notation(out, item)?;
     }
     Ok(out.push(b']')?)
 }
@@ -72,9 +74,9 @@ fn push_pairs(out: &mut Vec<u8>, pairs: &Vec<(Item, Item)>) -> Result<(), AllocE
     out.push(b'{')?;
     for (i, pair) in pairs.iter().enumerate() {
         push_comma(out, i)?;
-        push_item(out, &pair.0)?;
+        push_notation(out, &pair.0)?;
         out.extend_from_slice(b": ")?;
-        push_item(out, &pair.1)?;
+        push_notation(out, &pair.1)?;
     }
     Ok(out.push(b'}')?)
 }
@@ -99,7 +101,7 @@ fn push_simple(out: &mut Vec<u8>, n: u8) -> Result<(), AllocError>
         23 => out.extend_from_slice(b"undefined"),
         _ => {
             out.extend_from_slice(b"simple(")?;
-            push_number(out, u128::from(n))?;
+            push_number(out, u64::from(n))?;
             out.extend_from_slice(b")")
         }
     }
@@ -127,11 +129,23 @@ fn push_float(out: &mut Vec<u8>, width: Width, bits: u64) -> Result<(), AllocErr
     out.extend_from_slice(b"'")
 }
 
-fn push_number(out: &mut Vec<u8>, n: u128) -> Result<(), AllocError>
+fn push_number(out: &mut Vec<u8>, n: u64) -> Result<(), AllocError>
     ensures { OnOk result (out.new.items ≡ out.old.items ++ decimal n) }
 {
     let mut buffer = Buffer::new();
     out.extend_from_slice(buffer.format(n).as_bytes())
+}
+
+// The number -1 - n.
+fn push_negative(out: &mut Vec<u8>, n: u64) -> Result<(), AllocError>
+    ensures { OnOk result (out.new.items ≡ out.old.items ++ (codes "-" ++ decimal (n + 1))) }
+{
+    out.push(b'-')?;
+    if n < u64::MAX {
+        return push_number(out, n + 1);
+    }
+    let mut buffer = Buffer::new();
+    out.extend_from_slice(buffer.format(u128::from(n) + 1).as_bytes())
 }
 
 fn push_bytes(out: &mut Vec<u8>, bytes: &[u8]) -> Result<(), AllocError>

@@ -8,6 +8,8 @@ mod form;
 #[cfg(test)]
 mod item;
 #[cfg(test)]
+mod keys;
+#[cfg(test)]
 mod place;
 #[cfg(test)]
 mod read;
@@ -15,3 +17,5 @@ mod read;
 mod rows;
 #[cfg(test)]
 mod value;
+#[cfg(test)]
+mod whole;

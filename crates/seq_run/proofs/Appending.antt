@@ -6,7 +6,9 @@ use Rattle.cbor_data.specs.Value.{Value}
 use Rattle.cbor_data.specs.Notation.{notation}
 use Rattle.cbor_item.specs.View.{view}
 use Rattle.cbor_item.specs.declared.item.Item.{Item}
-use Rattle.std.proofs.Common.{◌≡◌, ℕ, List, [], ◌++◌, ap, ◌∙◌, append_assoc}
+use Rattle.std.proofs.Common.{◌≡◌, ℕ, ◌+◌, ◌≤◌, List, [], ◌++◌, length, take, drop, ap, ◌∙◌, append_assoc}
+use Rattle.std.proofs.lemmas.List.{drop_at, drop-drop, length-take-le}
+use borrow.Rule.Slice.PartMut.{post_of, put_mid}
 
 pub two_parts : (o p q a b : List ℕ) → p ≡ o ++ a → q ≡ p ++ b → q ≡ o ++ (a ++ b)
 two_parts o p q a b e f = rw (f, e) (append_assoc o a b)
@@ -20,6 +22,13 @@ five_parts o p q r s t a b c d e h i j k l = rw (l, k, j, i, h) (simp append_ass
 pub seven_parts : (o p q r s t u v a b c d e f g : List ℕ) → p ≡ o ++ a → q ≡ p ++ b → r ≡ q ++ c → s ≡ r ++ d → t ≡ s ++ e → u ≡ t ++ f → v ≡ u ++ g →
     v ≡ o ++ (a ++ (b ++ (c ++ (d ++ (e ++ (f ++ g))))))
 seven_parts o p q r s t u v a b c d e f g h i j k l m n = rw (n, m, l, k, j, i, h) (simp append_assoc)
+
+pub head_first : (o p q r a b c d e f g : List ℕ) → p ≡ o ++ (a ++ (b ++ (c ++ (d ++ e)))) → q ≡ p ++ f → r ≡ q ++ g → r ≡ o ++ (a ++ (b ++ (c ++ (d ++ (e ++ (f ++ g))))))
+head_first o p q r a b c d e f g h i j = rw (j, i, h) (simp append_assoc)
+
+-- a part of a list that ends at `e` is written anew
+pub drop_written : (a k e : ℕ) (xs ys : List ℕ) → a + k ≡ e → a ≤ length xs → drop a (put_mid a k xs ys) ≡ ys ++ drop e xs
+drop_written a k e xs ys is le = drop_at (take a xs) (ys ++ post_of a k xs) a (length-take-le a xs le) ∙ ap (λ r. ys ++ r) (drop-drop k a xs ∙ ap (λ n. drop n xs) is)
 
 pub from_nothing : (o text all : List ℕ) → o ≡ [] → text ≡ o ++ all → text ≡ all
 from_nothing o text all e f = f ∙ ap (λ (b : List ℕ). b ++ all) e

@@ -8,7 +8,8 @@ ghost use Rattle.cbor_place.specs.Paths.{path};
 ghost use Rattle.seq_run.specs.Report.{cause_text, end_line as end_line_of, fault_text, item_line, mismatch_text, or_nothing, IsShown};
 
 use crate::end::{Cause, End};
-use cbor_item::{Item, Sound, diag};
+use crate::head::push_head;
+use cbor_item::{Item, Sound, push_notation};
 use cbor_place::{item_at, path_text};
 use cbor_read::FaultKind;
 use itoa::Buffer;
@@ -53,7 +54,6 @@ pub fn end_line(alloc: Global, end: &End, rejected: Option<&Sound>) -> Result<Ve
 
 // Appends the line of an item: `item N at OFFSET: DIAG` and a line feed.
 pub(crate) fn push_item_line(
-    alloc: Global,
     lines: &mut Vec<u8>,
     number: u64,
     offset: u64,
@@ -61,13 +61,8 @@ pub(crate) fn push_item_line(
 ) -> Result<(), AllocError>
     ensures { OnOk result (lines.new.items ≡ lines.old.items ++ item_line number (record { offset = offset; item = item.now })) }
 {
-    lines.extend_from_slice(b"item ")?;
-    push_number(lines, number)?;
-    lines.extend_from_slice(b" at ")?;
-    push_number(lines, offset)?;
-    lines.extend_from_slice(b": ")?;
-    let text = diag(alloc, item.item())?;
-    lines.extend_from_slice(text.as_slice())?;
+    push_head(lines, number, offset)?;
+    push_notation(lines, item.item())?;
     lines.extend_from_slice(b"\n")?;
     Ok(())
 }
@@ -104,7 +99,7 @@ fn push_mismatch(
     line.extend_from_slice(b"mismatch at ")?;
     push_path(alloc, line, place, item)?;
     line.extend_from_slice(b": ")?;
-    push_found(alloc, line, item_at(item, place))?;
+    push_found(line, item_at(item, place))?;
     Ok(())
 }
 
@@ -117,14 +112,11 @@ fn push_path(alloc: Global, line: &mut Vec<u8>, place: usize, item: &Item) -> Re
     }
 }
 
-fn push_found(alloc: Global, line: &mut Vec<u8>, found: Option<&Item>) -> Result<(), AllocError>
+fn push_found(line: &mut Vec<u8>, found: Option<&Item>) -> Result<(), AllocError>
     ensures { OnOk result (line.new.items ≡ line.old.items ++ or_nothing (option_map (λ item. notation (view item.now)) found.entry)) }
 {
     match found {
-        Some(item) => {
-            let text = diag(alloc, item)?;
-            line.extend_from_slice(text.as_slice())
-        }
+        Some(item) => push_notation(line, item),
         None => Ok(()),
     }
 }

@@ -34,7 +34,7 @@ pub(crate) fn push_item(
     ensures { OnOk result (bytes.new.items ≡ bytes.old.items ++ item_output mode number (record { offset = offset; item = item.now })) }
 {
     match mode {
-        Mode::Report => push_item_line(alloc, bytes, number, offset, item),
+        Mode::Report => push_item_line(bytes, number, offset, item),
         Mode::EndLine => Ok(()),
         Mode::Rewrite => push_preferred(alloc, bytes, item),
     }

@@ -15,6 +15,6 @@ push_pairs-loop-i-preserved t c =
     let out = c.loop-i.out.items in
     let all = c.args.out.now.items ++ notation (pairs (pairs_view zs)) in
     let seen = subst (λ qs. pairs_view (drop i qs) ≡ pair (view p.0) (view p.1) (pairs_view (drop (i + 1) qs))) c.deref-pair-items.ensures.value (pairs_view-drop ys i p (omega arith) c.pair-item.is) in
-    pair_shown i (view p.0) (view p.1) (pairs_view (drop (i + 1) zs)) (125 ∷ []) all out c.push_comma.new.out.items c.push_item.new.out.items c.extend_from_slice.new.self.items c.push_item-in-loop-i.new.out.items
+    pair_shown i (view p.0) (view p.1) (pairs_view (drop (i + 1) zs)) (125 ∷ []) all out c.push_comma.new.out.items c.push_notation.new.out.items c.extend_from_slice.new.self.items c.push_notation-in-loop-i.new.out.items
     (subst (λ ps. out ++ (pairs_from i ps ++ 125 ∷ []) ≡ all) seen c.loop-i.invariant)
-    c.in_ok-push_comma.ensures c.in_ok-push_item.ensures c.in_ok-extend_from_slice.ensures.items c.in_ok-push_item-2.ensures
+    c.in_ok-push_comma.ensures c.in_ok-push_notation.ensures c.in_ok-extend_from_slice.ensures.items c.in_ok-push_notation-2.ensures

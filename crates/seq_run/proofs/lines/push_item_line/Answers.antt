@@ -1,10 +1,11 @@
-use Rattle.std.proofs.Common.{ap, ◌∙◌, ◌++◌}
+use Rattle.std.proofs.Common.{ap, ◌∙◌, ◌++◌, decimal}
+use Rattle.std.specs.Prelude.{codes}
 use Rattle.cbor_data.specs.Notation.{notation}
-use Rattle.seq_run.proofs.Appending.{seven_parts}
+use Rattle.seq_run.proofs.Appending.{head_first}
 use Rattle.seq_run.proofs.lines.push_item_line.Goals as goal
 
 pub returns : goal.returns
 returns c =
-    seven_parts _ _ _ _ _ _ _ _ _ _ _ _ _ _ _ c.in_ok-extend_from_slice.ensures.items c.in_ok-push_number.ensures c.in_ok-extend_from_slice-2.ensures.items c.in_ok-push_number-2.ensures c.in_ok-extend_from_slice-3.ensures.items
-    (c.in_ok-extend_from_slice-4.ensures.items ∙ ap (λ b. c.extend_from_slice-3.new.self.items ++ b) (c.as_slice.ensures.value ∙ (c.in_ok-text.ensures ∙ ap notation c.item.ensures.same)))
-    c.in_ok-extend_from_slice-5.ensures.items
+    head_first c.args.lines.now.items c.push_head.new.lines.items c.push_notation.new.out.items c.extend_from_slice.new.self.items (codes "item ") (decimal c.args.number) (codes " at ") (decimal c.args.offset)
+    (codes ": ") (notation c.args.item.now) (codes "\n") c.in_ok-push_head.ensures (c.in_ok-push_notation.ensures ∙ ap (λ x. c.push_head.new.lines.items ++ notation x) c.item.ensures.same)
+    c.in_ok-extend_from_slice.ensures.items
