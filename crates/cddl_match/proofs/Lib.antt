@@ -6,4 +6,6 @@ mod Verdicts
 mod Room
 mod Shapes
 mod Ways
+mod Outcomes
+mod Sayings
 mod Rounds

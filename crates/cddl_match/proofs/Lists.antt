@@ -1,6 +1,7 @@
 -- The members of an array, as a list and back.
-use Rattle.std.proofs.Common.{◌≡◌, ℕ, zero, suc, ◌+◌, ◌<◌, ◌≤◌, length, replicate, slice_index_or, slice_set, List, [], ◌∷◌, Option, Some, None, true, false, nat_eq, refl, ap, ◌∙◌, arith}
+use Rattle.std.proofs.Common.{◌≡◌, ℕ, zero, suc, ◌+◌, ◌-◌, ◌<◌, ◌≤◌, ◌++◌, length, take, replicate, slice_index_or, slice_set, List, [], ◌∷◌, Option, Some, None, true, false, nat_eq, refl, ap, ◌∙◌, arith}
 use Rattle.std.proofs.lemmas.Bool.Decides.{nat_tests}
+use Rattle.std.proofs.Math.Seq.{take-nil}
 use Rattle.cbor_data.specs.Value.{Value, array, values_of}
 use Rattle.cbor_item.specs.View.{pairs_view, view}
 use Rattle.cbor_item.specs.declared.item.Item.{Item}
@@ -54,6 +55,12 @@ counted_written (n ∷ ns) (suc k) m v h e = rw (other m (length ns) (omega (ari
 pub none_counted : (es : List MapEntry) → replicate (length es) 0 ≡ no_counts (entries_view es)
 none_counted [] = refl
 none_counted (e ∷ es) = ap (λ ns. 0 ∷ ns) (none_counted es)
+
+pub counts_begun : (es : List MapEntry) (old new : List ℕ) (m : ℕ) → old ≡ [] → m ≡ 0 → new ≡ take (length es) old ++ replicate (length es - m) 0 → new ≡ no_counts (entries_view es)
+counts_begun es old new m e i j = j ∙ by old m e i
+  where
+    by : (old : List ℕ) (m : ℕ) → old ≡ [] → m ≡ 0 → take (length es) old ++ replicate (length es - m) 0 ≡ no_counts (entries_view es)
+    by old m e i = let n : length es - m ≡ length es = omega (arith, i) in rw (e, n, take-nil) (none_counted es)
 
 pub as_many_entries : (es : List MapEntry) → length (entries_view es) ≡ length es
 as_many_entries [] = refl

@@ -116,7 +116,7 @@ module _ {N G : Type 0} (l : Language N G) where
   only_alternative None e h = h
   only_alternative (Some g) e h = by_alternatives (e ∙ ap Alternatives h)
 
-  then_comes : {q : Question N G} {m n : Move N G} {j k i : ℕ} → Opens l q m j → ComesTo l m n k → i ≡ j + k → Opens l q n i
+  pub then_comes : {q : Question N G} {m n : Move N G} {j k i : ℕ} → Opens l q m j → ComesTo l m n k → i ≡ j + k → Opens l q n i
   then_comes {q = q} {j = j} {k = k} a b e = record {
     leads = λ r w d. subst (λ n. Replies l q r n) (omega (arith, e)) (a.leads r (k + w) (b.leads r w d));
     comes = λ r w d. let x = a.comes r w d in let y = b.comes r x.0 x.1 in (y.0, y.1, omega (arith, x.2, y.2, e));
@@ -167,7 +167,7 @@ module _ {N G : Type 0} (l : Language N G) where
   a_part g gs base q xs far {n = n} {s = s} a e =
       subst (λ m. ComesTo l (next_part (g ∷ gs) base q xs far) m n) (sym e) (answers (InSequence gs base far) a)
 
-  tries_on : (s : M.Sorting N) → ComesTo l (M.Tries s) (M.next_entry s.entries s) (suc (length s.entries))
+  pub tries_on : (s : M.Sorting N) → ComesTo l (M.Tries s) (M.next_entry s.entries s) (suc (length s.entries))
   tries_on s = record { leads = λ r w d. M.tries d; comes = λ r w d. by d }
     where
       by : {r : Reply} {w : ℕ} → LeadsTo l (M.Tries s) r w → (v : ℕ) × LeadsTo l (M.next_entry s.entries s) r v × (w ≡ suc (length s.entries) + v)

@@ -1,3 +1,4 @@
 pub mod Views
 pub mod Unwinding
 pub mod Ahead
+pub mod Within

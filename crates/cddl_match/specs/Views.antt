@@ -21,6 +21,8 @@ use Rattle.cddl_match.specs.declared.questions.Fate.TheVariants as T
 use Rattle.cddl_match.specs.declared.questions.Sorting.{Sorting}
 use Rattle.cddl_match.specs.declared.questions.Pending.{Pending}
 use Rattle.cddl_match.specs.declared.questions.Pending.TheVariants as P
+use Rattle.cddl_match.specs.declared.questions.Round.{Round}
+use Rattle.cddl_match.specs.declared.questions.Round.TheVariants.{Another, Over}
 use Rattle.cddl_match.specs.declared.questions.Rounds.{Rounds}
 use Rattle.cddl_match.specs.declared.questions.Parts.{Parts}
 use Rattle.cddl_match.specs.declared.questions.Reading.{Reading}
@@ -95,6 +97,11 @@ pending_view (P.Held p next) = M.InHeld p next
 
 abbrev pub rounds_move : Rounds → M.Move TypeId GroupId
 rounds_move r = M.repetition r.least (most_view r.most) r.group r.base r.place (values r.items.now) r.far
+
+-- what becomes of a repetition
+abbrev pub round_move : Round → M.Move TypeId GroupId
+round_move (Another r) = rounds_move r
+round_move (Over r) = M.Answered (reply_view r)
 
 abbrev pub parts_move : Parts → M.Move TypeId GroupId
 parts_move p = M.next_part p.parts.now p.base p.place (values p.items.now) p.far

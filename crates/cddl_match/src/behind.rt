@@ -11,6 +11,7 @@ use cddl_table::{Group, GroupId, Node, Table, TypeId};
 const FARTHEST: u8 = 8;
 
 /// The only one of the parts.
+#[inline]
 fn only<Id: Copy>(parts: &[Id]) -> Option<Id>
     ensures { IfSome result (λ part. parts.now ≡ part ∷ []) }
 {
@@ -21,6 +22,7 @@ fn only<Id: Copy>(parts: &[Id]) -> Option<Id>
 }
 
 /// The type that a name or a choice of one leads to.
+#[inline]
 fn next_type(table: &Table, node: TypeId) -> Option<TypeId>
     ensures { IfSome result (λ next. IsTypeOf (language_of table.now) node next 1) }
 {
@@ -44,6 +46,7 @@ fn next_group(table: &Table, group: GroupId) -> Option<GroupId>
 }
 
 /// The type behind names and choices of one, and how many of them there are.
+#[inline]
 pub(crate) fn type_behind(table: &Table, node: TypeId) -> (TypeId, u8)
     ensures { IsTypeOf (language_of table.now) node result.0 result.1 }
 {

@@ -1,6 +1,7 @@
 //! What is asked next, one small step for each form of type and group.
 
 ghost use Rattle.std.specs.Prelude.{◌≡◌, false, true};
+ghost use Rattle.cbor_data.specs.Value.{place_count};
 ghost use Rattle.cbor_item.specs.View.{view};
 ghost use Rattle.cddl_meaning.specs.Judges.{is_over, one_less};
 ghost use Rattle.cddl_meaning.specs.Forms.{members_in, tag_in, simple_in};
@@ -30,7 +31,7 @@ ghost use Rattle.cddl_meaning.specs.Moves.{
   type_move,
   yes_reply,
 };
-ghost use Rattle.cddl_match.specs.Views.{goes_on, parts_move, pending_view, move_view, reply_view, rounds_move, subject_view, values};
+ghost use Rattle.cddl_match.specs.Views.{goes_on, parts_move, pending_view, move_view, reply_view, round_move, rounds_move, subject_view, values};
 ghost use Rattle.cddl_match.specs.declared.questions.Pending.TheVariants as P;
 ghost use Rattle.cddl_match.specs.declared.questions.Parts.{Parts};
 ghost use Rattle.cddl_match.specs.declared.questions.Reading.{Reading};
@@ -44,23 +45,30 @@ use crate::controls::{
     both_move, held_reply, holding_move, next_in_holder, next_in_left, next_in_such, such_move,
 };
 use crate::places::{place_after, plus};
-use crate::questions::{Move, Parts, Pending, Question, Reply, Rounds, Subject};
+use crate::questions::{Move, Parts, Pending, Question, Reply, Round, Rounds, Subject};
 use crate::sorting::{map_move, next_in_key, next_in_map, next_in_value};
 use crate::tested::passes_test;
 use cbor_item::Item;
 use cddl_table::{Group, GroupId, Most, Node, Table, TagNumber, Test, TypeId};
 
+/// The place after an item, or after one whose number is asked about.
+#[inline]
+pub(crate) fn place_behind(place: usize, subject: Subject<'_>) -> usize
+    ensures { result ≡ M.plus place (place_count (subject_view subject.entry)) }
+{
+    match subject {
+        Subject::Item(item) => place_after(item, place),
+        Subject::Number(_) => plus(place, 1),
+    }
+}
+
 /// A yes. It tells the place after the item, so that nobody counts the item's places a second time.
 fn yes_reply<'i>(place: usize, subject: Subject<'i>) -> Reply<'i>
     ensures { reply_view result ≡ yes_reply place (subject_view subject.entry) }
 {
-    let next = match subject {
-        Subject::Item(item) => place_after(item, place),
-        Subject::Number(_) => plus(place, 1),
-    };
     Reply::Takes {
         left: &[],
-        next,
+        next: place_behind(place, subject),
         far: 0,
     }
 }
@@ -584,29 +592,27 @@ fn end_of_rounds<'i>(least: u64, items: &'i [Item], place: usize, far: usize) ->
 }
 
 /// A round has taken items, or failed.
-pub(crate) fn next_in_repeat<'t, 'i>(rounds: Rounds<'i>, reply: Reply<'i>) -> Move<'t, 'i>
-    ensures next { move_view result ≡ next_move (pending_view (P.Repeat rounds.entry)) (reply_view reply.entry) }
-    ensures group { (others : Rounds) → result ≡ Move.Repeats others → others.group ≡ rounds.entry.group }
-    ensures kind { (parts : Parts) → result ≡ Move.GoesOn parts → ⊥ }
-    ensures reads { (reading : Reading) → result ≡ Move.Reads reading → ⊥ }
+pub(crate) fn after_round<'i>(rounds: Rounds<'i>, reply: Reply<'i>) -> Round<'i>
+    ensures next { round_move result ≡ next_move (pending_view (P.Repeat rounds.entry)) (reply_view reply.entry) }
+    ensures group { (others : Rounds) → result ≡ Round.Another others → others.group ≡ rounds.entry.group }
 {
     let Rounds { place, items, .. } = rounds;
     let (left, next, far) = match reply {
         Reply::Fails { far } => {
             let far = rounds.far.max(far);
-            return Move::Answered(end_of_rounds(rounds.least, items, place, far));
+            return Round::Over(end_of_rounds(rounds.least, items, place, far));
         }
         Reply::Takes { left, next, far } => (left, next, rounds.far.max(far)),
     };
     // All rounds from here on would take no item either, so the minimum is met, and the repetition ends.
     if left.len() == items.len() {
-        return Move::Answered(Reply::Takes {
+        return Round::Over(Reply::Takes {
             left: items,
             next: place,
             far,
         });
     }
-    Move::Repeats(Rounds {
+    Round::Another(Rounds {
         least: rounds.least.saturating_sub(1),
         most: one_less(rounds.most),
         place: next,
@@ -614,6 +620,19 @@ pub(crate) fn next_in_repeat<'t, 'i>(rounds: Rounds<'i>, reply: Reply<'i>) -> Mo
         far,
         ..rounds
     })
+}
+
+/// What a repetition asks next after a round, or its reply.
+pub(crate) fn next_in_repeat<'t, 'i>(rounds: Rounds<'i>, reply: Reply<'i>) -> Move<'t, 'i>
+    ensures next { move_view result ≡ next_move (pending_view (P.Repeat rounds.entry)) (reply_view reply.entry) }
+    ensures group { (others : Rounds) → result ≡ Move.Repeats others → others.group ≡ rounds.entry.group }
+    ensures kind { (parts : Parts) → result ≡ Move.GoesOn parts → ⊥ }
+    ensures reads { (reading : Reading) → result ≡ Move.Reads reading → ⊥ }
+{
+    match after_round(rounds, reply) {
+        Round::Another(others) => Move::Repeats(others),
+        Round::Over(reply) => Move::Answered(reply),
+    }
 }
 
 /// What a pending question asks next, or its reply, once it is told the reply to what it asked.

@@ -52,6 +52,31 @@ pub(crate) enum Reply<'i> {
     },
 }
 
+/// What is said of an item, or why nothing is.
+#[derive(Clone, Copy)]
+pub(crate) enum Said {
+    /// Yes.
+    Yes {
+        /// The place after the item, so that nobody counts the item's places a second time.
+        next: usize,
+    },
+    /// No.
+    No {
+        /// The greatest place of the trials that failed.
+        far: usize,
+    },
+    Stopped(Stop),
+}
+
+/// Why a question has no reply.
+#[derive(Clone, Copy)]
+pub(crate) enum Stop {
+    /// The reply takes more steps.
+    Spent,
+    /// There is no memory for it.
+    NoMemory,
+}
+
 /// What an alternative's pairs have come to so far.
 #[derive(Drop)]
 pub(crate) struct Tally {
@@ -214,6 +239,15 @@ pub(crate) struct Rounds<'i> {
     pub(crate) items: &'i [Item],
     /// The greatest place that failed so far.
     pub(crate) far: usize,
+}
+
+/// What becomes of a repetition after a round.
+#[derive(Clone, Copy)]
+pub(crate) enum Round<'i> {
+    /// There may be another one.
+    Another(Rounds<'i>),
+    /// The repetition has ended with this reply.
+    Over(Reply<'i>),
 }
 
 /// The groups of a sequence that are left, and the items that are left for them.

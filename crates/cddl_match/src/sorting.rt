@@ -1,9 +1,10 @@
 //! How the pairs of a map are sorted to the entries of an alternative.
 
-ghost use Rattle.std.specs.Prelude.{◌≡◌, ◌≤◌, ◌+◌, suc, Some, IfNone, IfOk, IfSome};
+ghost use Rattle.std.specs.Prelude.{◌≡◌, ◌≤◌, ◌+◌, suc, Some, IfNone, IfOk, IfSome, MatchOption};
 ghost use Rattle.cbor_data.specs.Value.{place_count};
 ghost use Rattle.cbor_item.specs.View.{pairs_view, view};
 ghost use Rattle.cddl_meaning.specs.Forms.{pairs_in};
+ghost use Rattle.cddl_meaning.specs.Judges as J;
 ghost use Rattle.cddl_meaning.specs.Judges.{is_up_to_most};
 ghost use Rattle.cddl_meaning.specs.Moves as M;
 ghost use Rattle.cddl_meaning.specs.Moves.{
@@ -57,7 +58,7 @@ fn count_pair(counts: &mut Vec<u64>, after: usize)
 }
 
 /// Takes in what has become of a pair.
-fn tally_pair(tally: &mut Tally, fate: Fate)
+pub(crate) fn tally_pair(tally: &mut Tally, fate: Fate)
     ensures { tally_view tally.new ≡ tallied (tally_view tally.old) (fate_view fate) }
 {
     match fate {
@@ -70,15 +71,33 @@ fn tally_pair(tally: &mut Tally, fate: Fate)
     }
 }
 
+/// A tally that is not begun yet. It takes no memory.
+pub(crate) fn no_tally(alloc: Global) -> Tally {
+    Tally {
+        counts: Vec::new(alloc),
+        stray: None,
+        failing: None,
+    }
+}
+
+/// Begins a tally anew, for an alternative with these entries and before any pair.
+pub(crate) fn begin_tally(tally: &mut Tally, entries: &[MapEntry]) -> Result<(), AllocError>
+    ensures { IfOk result (λ _. tally_view tally.new ≡ fresh (entries_view entries.now)) }
+{
+    tally.counts.clear();
+    tally.counts.resize(entries.len(), 0)?;
+    tally.stray = None;
+    tally.failing = None;
+    Ok(())
+}
+
 /// Before any pair of an alternative with these entries.
 fn empty_tally(alloc: Global, entries: &[MapEntry]) -> Result<Tally, AllocError>
     ensures { IfOk result (λ tally. tally_view tally ≡ fresh (entries_view entries.now)) }
 {
-    Ok(Tally {
-        counts: vec![in alloc; 0; entries.len()]?,
-        stray: None,
-        failing: None,
-    })
+    let mut tally = no_tally(alloc);
+    begin_tally(&mut tally, entries)?;
+    Ok(tally)
 }
 
 /// Whether so many pairs may belong to an entry.
@@ -109,23 +128,33 @@ fn are_enough(entries: &[MapEntry], counts: &[u64]) -> bool
     true
 }
 
+/// Where an alternative's no shows once all pairs of the map at `base` are tallied, if it says no.
+pub(crate) fn shown_by_tally(entries: &[MapEntry], base: usize, tally: &Tally) -> Option<usize>
+    ensures { MatchOption result (tally_says (entries_view entries.now) base (tally_view tally.now) ≡ J.Yes) (λ far. tally_says (entries_view entries.now) base (tally_view tally.now) ≡ J.No far) }
+{
+    if let Some(far) = tally.stray {
+        return Some(far);
+    }
+    if let Some(far) = tally.failing {
+        return Some(far);
+    }
+    if !are_enough(entries, &tally.counts) {
+        return Some(base);
+    }
+    None
+}
+
 /// What an alternative replies once all pairs of the map at `base`, which ends before `next`, are tallied.
 fn alternative_reply<'i>(entries: &[MapEntry], base: usize, next: usize, tally: &Tally) -> Reply<'i>
     ensures { reply_view result ≡ answer_reply next (tally_says (entries_view entries.now) base (tally_view tally.now)) }
 {
-    if let Some(far) = tally.stray {
-        return Reply::Fails { far };
-    }
-    if let Some(far) = tally.failing {
-        return Reply::Fails { far };
-    }
-    if !are_enough(entries, &tally.counts) {
-        return Reply::Fails { far: base };
-    }
-    Reply::Takes {
-        left: &[],
-        next,
-        far: 0,
+    match shown_by_tally(entries, base, tally) {
+        Some(far) => Reply::Fails { far },
+        None => Reply::Takes {
+            left: &[],
+            next,
+            far: 0,
+        },
     }
 }
 

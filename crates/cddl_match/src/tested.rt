@@ -1,15 +1,16 @@
 //! Tests of an item by itself.
 
-ghost use Rattle.std.specs.Prelude.{◌≡◌, ◌^◌, nat_lt};
+ghost use Rattle.std.specs.Prelude.{◌≡◌};
 ghost use Rattle.cbor_item.specs.View.{view};
-ghost use Rattle.cddl_meaning.specs.Forms.{fits_in, has_size, is_below, is_float, is_member, is_simple, is_up_to, major_of, passes};
+ghost use Rattle.cddl_meaning.specs.Forms.{has_size, is_below, is_float, is_simple, is_up_to, major_of, passes};
 ghost use Rattle.cddl_match.specs.Views.{subject_view};
-ghost use Rattle.cddl_table.specs.Nodes.{sizes_view, test_view, whole_view};
+ghost use Rattle.cddl_table.specs.Nodes.{test_view, whole_view};
+ghost use Rattle.cddl_table.specs.SizeSets.{set_view};
 
 use crate::questions::Subject;
 use cbor_data::Width;
 use cbor_item::Item;
-use cddl_table::{SizeRange, Test, Whole};
+use cddl_table::{SizeSet, Test, Whole};
 
 /// The major type of an item (RFC 8949 section 3.1).
 fn major_of(item: &Item) -> u8
@@ -95,54 +96,20 @@ fn is_above(least: Whole, item: &Item) -> bool
     }
 }
 
-/// Whether a number of bytes lies in one of the ranges.
-fn is_member(size: u64, ranges: &[SizeRange]) -> bool
-    ensures { result ≡ is_member size (sizes_view ranges.now) }
-{
-    for range in ranges {
-        if range.least <= size && size <= range.last {
-            return true;
-        }
-    }
-    false
-}
-
-/// Whether so many bytes can hold an unsigned number.
-fn can_hold(bytes: u64, number: u64) -> bool
-    ensures { result ≡ nat_lt number (256 ^ bytes) }
-{
-    // All such numbers are below 256^8.
-    match 256u64.checked_pow(bytes.min(8) as u32) {
-        Some(limit) => number < limit,
-        None => true,
-    }
-}
-
-/// Whether a number of bytes that lies in one of the ranges can hold an unsigned number.
-fn fits_in(number: u64, ranges: &[SizeRange]) -> bool
-    ensures { result ≡ fits_in number (sizes_view ranges.now) }
-{
-    for range in ranges {
-        if range.least <= range.last && can_hold(range.last, number) {
-            return true;
-        }
-    }
-    false
-}
-
 /// Whether an item has such a size. That of a text is the number of its bytes.
-fn has_size(ranges: &[SizeRange], item: &Item) -> bool
-    ensures { result ≡ has_size (sizes_view ranges.now) (view item.now) }
+fn has_size(sizes: &SizeSet, item: &Item) -> bool
+    ensures { result ≡ has_size (set_view sizes.now) (view item.now) }
 {
     match item {
-        Item::Uint(number) => fits_in(*number, ranges),
-        Item::Bytes(bytes) => is_member(bytes.len() as u64, ranges),
-        Item::Text(text) => is_member(text.len() as u64, ranges),
+        Item::Uint(number) => sizes.can_hold(*number),
+        Item::Bytes(bytes) => sizes.has(bytes.len() as u64),
+        Item::Text(text) => sizes.has(text.len() as u64),
         _ => false,
     }
 }
 
 /// Whether an item passes a test.
+#[inline]
 pub(crate) fn passes(test: &Test, item: &Item) -> bool
     ensures { result ≡ passes (test_view test.now) (view item.now) }
 {
@@ -167,11 +134,12 @@ pub(crate) fn passes(test: &Test, item: &Item) -> bool
         Test::AtMost(number) => is_up_to(item, *number),
         Test::Greater(number) => is_above(*number, item),
         Test::AtLeast(number) => is_from(*number, item),
-        Test::Sized(ranges) => has_size(ranges, item),
+        Test::Sized(sizes) => has_size(sizes, item),
     }
 }
 
 /// Whether an item, or a number as an unsigned item, passes a test.
+#[inline]
 pub(crate) fn passes_test(test: &Test, subject: Subject<'_>) -> bool
     ensures { result ≡ passes (test_view test.now) (subject_view subject.entry) }
 {

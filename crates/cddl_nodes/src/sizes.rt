@@ -8,11 +8,12 @@ ghost use Rattle.cddl_nodes.specs.Lookups.{sized_view};
 use crate::form::{TypeForm, nothing};
 use crate::origin::TypeOrigin;
 use crate::source::Source;
-use cddl_table::{SizeRange, Test};
+use cddl_table::Test;
 use cddl_terms::NoRoom;
-use std::alloc::{AllocError, Global};
+use std::alloc::Global;
 
-/// The items to which the type on the left says yes, and whose size is a member of the controller, where it has members.
+/// The items to which the type on the left says yes, and whose size is a member of the controller, where it has members. All
+/// controls on one controller share the list of its members.
 pub(crate) fn size_form(
     alloc: Global,
     source: &Source<'_>,
@@ -21,17 +22,11 @@ pub(crate) fn size_form(
 ) -> Result<TypeForm, NoRoom>
     ensures { IfOk result (λ f. type_form_view f ≡ sized_view left (sizes_at source.now.sizes.now right)) }
 {
-    let Some(ranges) = source.sizes.get(right) else {
+    let Some(sizes) = source.sizes.get(right) else {
         return Ok(nothing(alloc));
     };
-    match copy_of(alloc, ranges) {
-        Ok(ranges) => Ok(TypeForm::Such(TypeOrigin::Row(left), Test::Sized(ranges))),
+    match sizes.share() {
+        Ok(sizes) => Ok(TypeForm::Such(TypeOrigin::Row(left), Test::Sized(sizes))),
         Err(_) => Err(NoRoom),
     }
-}
-
-fn copy_of(alloc: Global, ranges: &[SizeRange]) -> Result<Vec<SizeRange>, AllocError>
-    ensures { IfOk result (λ v. v.items ≡ ranges.now) }
-{
-    ranges.iter().copied().collect(alloc)
 }

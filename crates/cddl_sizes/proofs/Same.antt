@@ -1,8 +1,6 @@
 -- Each controller's list has the members of its type.
 use Rattle.std.proofs.Common.{◌≡◌, inl, inr, ℕ, ◌<◌, List, length, Bool, true, false, if◌then◌else◌, Option, Some, None, option_map, slice_get, refl, sym, ap, subst, ◌∙◌, arith}
 use Rattle.std.specs.Prelude.{is_some}
-use Rattle.std.specs.declared.alloc.Global.{Global}
-use Rattle.std.specs.declared.vec.Vec.{Vec}
 use Rattle.cddl_meaning.specs.Alike.{SameTest}
 use Rattle.cddl_meaning.specs.Forms as F
 use Rattle.cddl_language.specs.Controls.{Control, control_of, is_sized, sized}
@@ -16,8 +14,8 @@ use Rattle.cddl_kinds.specs.declared.kinds.Kinds.{Kinds}
 use Rattle.cddl_closed.specs.declared.closed.Closed.{Closed}
 use Rattle.cddl_literals.specs.declared.known.Literals.{Literals}
 use Rattle.cddl_literals.specs.Literals.{IsKnown}
-use Rattle.cddl_table.specs.Nodes.{sizes_view}
-use Rattle.cddl_table.specs.declared.nodes.SizeRange.{SizeRange}
+use Rattle.cddl_table.specs.SizeSets.{set_view}
+use Rattle.cddl_table.specs.declared.sizes.SizeSet.{SizeSet}
 use Rattle.cddl_sizes.specs.declared.known.Sizes.{Sizes}
 use Rattle.cddl_sizes.specs.declared.sources.Source.{Source}
 use Rattle.cddl_sizes.specs.Sizes.{AreSizable, AreSizes, SameSizes, flag_at, list_at, sizes_at}
@@ -52,11 +50,11 @@ module _ (xs : List Definition) (root : Text) (worth : Values) (refs : List Ref)
   no_list n (Some None) e f = refl
   no_list n (Some (Some i)) e f = absurd (not_both (flag_at flags n) (listed.flagged n i e) f)
 
-  list_there : (n i : ℕ) → slice_get z.rows.items n ≡ Some (Some i) → (v : Vec SizeRange Global) → slice_get z.lists.items i ≡ Some v → sizes_at z n ≡ Some (sizes_view v.items)
-  list_there n i e v g = ap (list_at z.lists.items) e ∙ ap (option_map (λ (u : Vec SizeRange Global). sizes_view u.items)) g
+  list_there : (n i : ℕ) → slice_get z.rows.items n ≡ Some (Some i) → (v : SizeSet) → slice_get z.lists.items i ≡ Some v → sizes_at z n ≡ Some (set_view v)
+  list_there n i e v g = ap (list_at z.lists.items) e ∙ ap (option_map set_view) g
 
   same_list : (n i : ℕ) (x : Term) → IsTerm t n x → IsKnown xs root worth x → is_some (sizes_of worth xs x) ≡ true → slice_get z.rows.items n ≡ Some (Some i) → IsListed ss n i z.lists.items → SameSizes (sizes_of worth xs x) (sizes_at z n)
-  same_list n i x h k some e l = some_same (sizes_of worth xs x) (sizes_at z n) (ranges_of ss l.is_list.reached) some (list_there n i e l.list l.there ∙ ap (λ (rs : L.Sizes). Some rs) l.is_list.ranges) (λ rs q. same_sizes ss n rs (ranges_of ss l.is_list.reached) (sizes_below xs root worth refs t c ks ls ss given n x h k rs q) (reached_below ss n l.is_list.reached l.is_list.are_reached))
+  same_list n i x h k some e l = some_same (sizes_of worth xs x) (sizes_at z n) (set_view l.list) some (list_there n i e l.list l.there) (λ rs q v. same_sizes ss n rs (ranges_of ss l.is_list.reached) (sizes_below xs root worth refs t c ks ls ss given n x h k rs q) (reached_below ss n l.is_list.reached l.is_list.are_reached) v ∙ l.is_list.same v)
 
   pub are_sizes : AreSizes xs root worth t z
   are_sizes n x is h k = elim (is_either (flag_at flags n)) [

@@ -1,15 +1,15 @@
 -- Which rows are controllers of `.size`, and the lists of their numbers.
 use Rattle.std.specs.Prelude.{◌≡◌, ℕ, ◌+◌, ◌<◌, Bool, true, false, if◌then◌else◌, List, length, Option, Some, None, slice_get}
-use Rattle.std.specs.declared.alloc.Global.{Global}
-use Rattle.std.specs.declared.vec.Vec.{Vec}
+use Rattle.cddl_meaning.specs.Alike.{SameTest}
+use Rattle.cddl_meaning.specs.Forms as T
 use Rattle.cddl_language.specs.Controls.{control_of, is_sized}
 use Rattle.cddl_language.specs.Terms.{Text}
 use Rattle.cddl_terms.specs.declared.row.Form.{Form}
 use Rattle.cddl_terms.specs.declared.row.Form.TheVariants as F
 use Rattle.cddl_terms.specs.declared.row.Row.{Row}
 use Rattle.cddl_terms.specs.Table.{Table}
-use Rattle.cddl_table.specs.Nodes.{sizes_view}
-use Rattle.cddl_table.specs.declared.nodes.SizeRange.{SizeRange}
+use Rattle.cddl_table.specs.SizeSets.{set_view}
+use Rattle.cddl_table.specs.declared.sizes.SizeSet.{SizeSet}
 use Rattle.cddl_sizes.specs.declared.known.Sizes.{Sizes}
 use Rattle.cddl_sizes.specs.declared.reach.Search.{Search}
 use Rattle.cddl_sizes.specs.declared.sources.Source.{Source}
@@ -47,13 +47,13 @@ is_wanted true o = is_free o
 is_wanted false o = false
 
 -- the numbers of all rows to which this one leads
-pub record IsList (ss : List Source) (n : ℕ) (v : Vec SizeRange Global) : Type 0 where
+pub record IsList (ss : List Source) (n : ℕ) (z : SizeSet) : Type 0 where
   pub reached : List ℕ
   pub are_reached : IsReached ss n reached
-  pub ranges : sizes_view v.items ≡ ranges_of ss reached
+  pub same : SameTest (T.sized (ranges_of ss reached)) (T.sized (set_view z))
 
-pub record IsListed (ss : List Source) (n i : ℕ) (lists : List (Vec SizeRange Global)) : Type 0 where
-  pub list : Vec SizeRange Global
+pub record IsListed (ss : List Source) (n i : ℕ) (lists : List SizeSet) : Type 0 where
+  pub list : SizeSet
   pub there : slice_get lists i ≡ Some list
   pub is_list : IsList ss n list
 

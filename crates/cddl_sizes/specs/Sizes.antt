@@ -1,7 +1,5 @@
 -- The members of controllers of `.size`, by rows.
 use Rattle.std.specs.Prelude.{◌≡◌, ℕ, Bool, true, false, List, Option, Some, None, option_map, is_some, slice_get}
-use Rattle.std.specs.declared.alloc.Global.{Global}
-use Rattle.std.specs.declared.vec.Vec.{Vec}
 use Rattle.cddl_meaning.specs.Alike.{SameTest}
 use Rattle.cddl_meaning.specs.Forms as F
 use Rattle.cddl_language.specs.Controls.{control_of, sized}
@@ -11,16 +9,16 @@ use Rattle.cddl_language.specs.Sizes.{sizes_of}
 use Rattle.cddl_language.specs.Terms.{Definition, Term, Text, control}
 use Rattle.cddl_terms.specs.Table.{Table}
 use Rattle.cddl_terms.specs.Trees.{IsTerm}
-use Rattle.cddl_table.specs.Nodes.{sizes_view}
-use Rattle.cddl_table.specs.declared.nodes.SizeRange.{SizeRange}
+use Rattle.cddl_table.specs.SizeSets.{set_view}
+use Rattle.cddl_table.specs.declared.sizes.SizeSet.{SizeSet}
 use Rattle.cddl_literals.specs.Literals.{IsKnown}
 use Rattle.cddl_sizes.specs.declared.known.Sizes.{Sizes}
 
 -- the members of the row of this number
 
-abbrev pub list_at : List (Vec SizeRange Global) → Option (Option ℕ) → Option L.Sizes
-list_at vs (Some (Some i)) = option_map (λ (v : Vec SizeRange Global). sizes_view v.items) (slice_get vs i)
-list_at vs _ = None
+abbrev pub list_at : List SizeSet → Option (Option ℕ) → Option L.Sizes
+list_at zs (Some (Some i)) = option_map set_view (slice_get zs i)
+list_at zs _ = None
 
 abbrev pub sizes_at : Sizes → ℕ → Option L.Sizes
 sizes_at z n = list_at z.lists.items (slice_get z.rows.items n)

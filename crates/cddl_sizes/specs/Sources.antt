@@ -11,7 +11,7 @@ use Rattle.cddl_closed.specs.declared.closed.Closed.{Closed}
 use Rattle.cddl_closed.specs.declared.closed.Meaning as M
 use Rattle.cddl_literals.specs.declared.known.Literals.{Literals}
 use Rattle.cddl_literals.specs.Literals.{literal_at}
-use Rattle.cddl_table.specs.Nodes.{size_view}
+use Rattle.cddl_table.specs.Sizes.{size_view}
 use Rattle.cddl_sizes.specs.declared.sources.Source.{Source}
 use Rattle.cddl_sizes.specs.declared.sources.Source.TheVariants as SourceV
 

@@ -2,16 +2,16 @@
 
 ghost use Rattle.std.specs.Prelude.{◌≡◌};
 ghost use Rattle.std.specs.Option.{option_map};
-ghost use Rattle.cddl_table.specs.Nodes.{sizes_view};
+ghost use Rattle.cddl_table.specs.SizeSets.{set_view};
 ghost use Rattle.cddl_sizes.specs.Sizes.{sizes_at};
 
-use cddl_table::SizeRange;
+use cddl_table::SizeSet;
 
 /// The members of the types that are controllers of `.size`, by the rows of these types.
 #[derive(Drop)]
 pub struct Sizes {
-    /// The members of one type after the other, as ranges in no order.
-    pub lists: Vec<Vec<SizeRange>>,
+    /// The members of one type after the other.
+    pub lists: Vec<SizeSet>,
     /// For each row the place of its members among these, if it is such a controller and has some.
     pub rows: Vec<Option<usize>>,
 }
@@ -20,13 +20,10 @@ impl Sizes {
     /// The members of the row's type, which is a controller of `.size`, if it is one as it has to be.
     ///
     /// It looks up two numbers.
-    pub fn get(&self, row: u32) -> Option<&[SizeRange]>
-        ensures { option_map (λ v. sizes_view v.now) result ≡ sizes_at self.now row }
+    pub fn get(&self, row: u32) -> Option<&SizeSet>
+        ensures { option_map (λ z. set_view z.now) result ≡ sizes_at self.now row }
     {
         let place = (*self.rows.get(row as usize)?)?;
-        match self.lists.get(place) {
-            Some(list) => Some(list.as_slice()),
-            None => None,
-        }
+        self.lists.get(place)
     }
 }

@@ -14,13 +14,13 @@ ghost use Rattle.cddl_sizes.specs.Sizes.{AreSizable, AreSizes, flag_at};
 ghost use Rattle.cddl_syntax.specs.Syntax.{Cddl};
 
 use crate::known::Sizes;
-use crate::reach::{Search, no_search, ranges_of};
+use crate::reach::{Search, no_search, set_of};
 use crate::sources::{Source, row_count, sources};
 use cddl_closed::Closed;
 use cddl_closed::laws::{meaning_at, meanings_are_reached, place_of};
 use cddl_kinds::Kinds;
 use cddl_literals::Literals;
-use cddl_table::SizeRange;
+use cddl_table::SizeSet;
 use cddl_terms::laws::equal_numbers;
 use cddl_terms::{Form, Row, Terms};
 use cddl_texts::{Control, control_of};
@@ -30,9 +30,9 @@ use std::alloc::{AllocError, Global};
 /// The members of the types that are controllers of `.size` (RFC 8610 section 3.8.1), where `sizable` tells which rows may be
 /// such. Each row to which a controller leads is looked at once for it, however many ways lead there.
 ///
-/// For each controller it takes a time in proportion to the rows to which it leads, and 16 bytes for each number and each range
-/// among them: a range that belongs to many controllers is kept for each. An error comes only where memory is refused, or where
-/// the table numbers no further row.
+/// For each controller it takes a time of n log n for the rows to which it leads, and 16 bytes for each of their ranges that is
+/// left when those that overlap or touch are one: a range that belongs to many controllers is kept for each. An error comes only
+/// where memory is refused, or where the table numbers no further row.
 pub fn sizes(
     alloc: Global,
     terms: &Terms<'_>,
@@ -165,11 +165,11 @@ fn add_list(
         return Ok(());
     }
     search.reach(sources, row, sizes.lists.len() + 1)?;
-    let list = ranges_of(alloc, sources, &search.reached)?;
+    let list = set_of(alloc, sources, &search.reached)?;
     put_list(sizes, row, list)
 }
 
-fn put_list(sizes: &mut Sizes, row: u32, list: Vec<SizeRange>) -> Result<(), AllocError>
+fn put_list(sizes: &mut Sizes, row: u32, list: SizeSet) -> Result<(), AllocError>
     ensures rows { IfOk result (λ _. sizes.new.rows.items ≡ set sizes.old.rows.items row (Some (length sizes.old.lists.items))) }
     ensures lists { IfOk result (λ _. sizes.new.lists.items ≡ sizes.old.lists.items ++ list ∷ []) }
 {

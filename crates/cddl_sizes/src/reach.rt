@@ -2,12 +2,15 @@
 
 ghost use Rattle.std.specs.Prelude.{◌≡◌, ◌+◌, IfOk, length, slice_get};
 ghost use Rattle.std.specs.Option.{option_map};
-ghost use Rattle.cddl_table.specs.Nodes.{size_view, sizes_view};
+ghost use Rattle.cddl_meaning.specs.Alike.{SameTest};
+ghost use Rattle.cddl_meaning.specs.Forms.{sized};
+ghost use Rattle.cddl_table.specs.SizeSets.{set_view};
+ghost use Rattle.cddl_table.specs.Sizes.{size_view, sizes_view};
 ghost use Rattle.cddl_sizes.specs.Reach.{AreBelow, IsReached, IsSearch, gap, is_new, looked, range_in, ranges_of, state, visited};
 ghost use Rattle.cddl_sizes.specs.Sources.{parts_in, view_at};
 
 use crate::sources::{Source, parts};
-use cddl_table::SizeRange;
+use cddl_table::{SizeRange, SizeSet};
 use std::alloc::{AllocError, Global};
 
 /// The rows that searches have reached.
@@ -96,12 +99,16 @@ fn parts_at(sources: &[Source], row: u32) -> &[u32]
     }
 }
 
+/// The numbers of all these rows, as a set.
+pub(crate) fn set_of(alloc: Global, sources: &[Source], rows: &[u32]) -> Result<SizeSet, AllocError>
+    ensures { IfOk result (λ z. SameTest (sized (ranges_of sources.now rows.now)) (sized (set_view z))) }
+{
+    let ranges = ranges_of(alloc, sources, rows)?;
+    SizeSet::new(alloc, ranges)
+}
+
 /// The numbers of all these rows.
-pub(crate) fn ranges_of(
-    alloc: Global,
-    sources: &[Source],
-    rows: &[u32],
-) -> Result<Vec<SizeRange>, AllocError>
+fn ranges_of(alloc: Global, sources: &[Source], rows: &[u32]) -> Result<Vec<SizeRange>, AllocError>
     ensures { IfOk result (λ v. sizes_view v.items ≡ ranges_of sources.now rows.now) }
 {
     let mut ranges = Vec::new(alloc);

@@ -1,7 +1,7 @@
 //! Of what the members of the rows' types are, one step down.
 
 ghost use Rattle.std.specs.Prelude.{◌≡◌, IfOk, length, slice_get};
-ghost use Rattle.cddl_table.specs.Nodes.{size_view};
+ghost use Rattle.cddl_table.specs.Sizes.{size_view};
 ghost use Rattle.cddl_sizes.specs.Sources.{AreSources, both_view, choices_at, choices_in, has_group_name, named_view, numbers, numbers_between, one_number, parts_in, range_to, row_view, source_of, source_view, uint_at, uint_in};
 ghost use Rattle.cddl_literals.specs.Literals.{literal_at};
 

@@ -1,2 +1,5 @@
 mod Rows
 mod Greatest
+mod Joining
+mod Finding
+mod Members

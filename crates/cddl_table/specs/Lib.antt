@@ -1,3 +1,5 @@
+pub mod Sizes
+pub mod SizeSets
 pub mod Nodes
 pub mod Ranks
 pub mod Language

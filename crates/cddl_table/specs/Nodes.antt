@@ -1,5 +1,5 @@
 -- Types and groups of lists as a language: what each number stands for.
-use Rattle.std.specs.Prelude.{ℕ, List, [], map, Option, Some, None, slice_get}
+use Rattle.std.specs.Prelude.{List, [], map, Option, Some, None, slice_get}
 use Rattle.cbor_data.specs.Value.{Value, uint, nint}
 use Rattle.cbor_item.specs.View.{view}
 use Rattle.cddl_meaning.specs.Forms as F
@@ -10,7 +10,7 @@ use Rattle.cddl_table.specs.declared.nodes.TypeId.{TypeId}
 use Rattle.cddl_table.specs.declared.nodes.GroupId.{GroupId}
 use Rattle.cddl_table.specs.declared.nodes.Whole.{Whole}
 use Rattle.cddl_table.specs.declared.nodes.Whole.TheVariants as W
-use Rattle.cddl_table.specs.declared.nodes.SizeRange.{SizeRange}
+use Rattle.cddl_table.specs.SizeSets.{set_view}
 use Rattle.cddl_table.specs.declared.nodes.Test.{Test}
 use Rattle.cddl_table.specs.declared.nodes.Test.TheVariants as T
 use Rattle.cddl_table.specs.declared.nodes.TagNumber.{TagNumber}
@@ -30,13 +30,6 @@ abbrev pub whole_view : Whole → Value
 whole_view (W.Uint n) = uint n
 whole_view (W.Nint n) = nint n
 
--- ranges of numbers of bytes, each by its first and its last
-abbrev pub size_view : SizeRange → ℕ × ℕ
-size_view r = (r.least, r.last)
-
-abbrev pub sizes_view : List SizeRange → List (ℕ × ℕ)
-sizes_view rs = map size_view rs
-
 -- a test; of a literal only its value counts
 abbrev pub test_view : Test → F.Test
 test_view T.Anything = F.anything
@@ -50,7 +43,7 @@ test_view (T.Less n) = F.less_than (whole_view n)
 test_view (T.AtMost n) = F.at_most_number (whole_view n)
 test_view (T.Greater n) = F.greater_than (whole_view n)
 test_view (T.AtLeast n) = F.at_least_number (whole_view n)
-test_view (T.Sized rs) = F.sized (sizes_view rs.items)
+test_view (T.Sized z) = F.sized (set_view z)
 
 -- which tag numbers are meant
 abbrev pub tag_number_view : TagNumber → F.TagNumber TypeId

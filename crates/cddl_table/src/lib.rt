@@ -3,10 +3,12 @@
 
 mod nodes;
 mod ranks;
+mod sizes;
 mod table;
 
 pub use crate::nodes::{
-    Content, Group, GroupId, MapEntry, Most, Node, SizeRange, TagNumber, Test, TypeId, Whole,
+    Content, Group, GroupId, MapEntry, Most, Node, TagNumber, Test, TypeId, Whole,
 };
 pub use crate::ranks::{NotRanked, Ranks};
+pub use crate::sizes::{SizeRange, SizeSet};
 pub use crate::table::Table;

@@ -1,5 +1,6 @@
 //! Types and groups, each known by its number.
 
+use crate::sizes::SizeSet;
 use cbor_data::Width;
 use cbor_item::Item;
 
@@ -22,15 +23,6 @@ pub enum Whole {
     Uint(u64),
     /// -1 minus the number.
     Nint(u64),
-}
-
-/// Numbers of bytes, from the first to the last. There is none in it where the last is below the first.
-#[derive(Clone, Copy, Debug, PartialEq, Eq)]
-pub struct SizeRange {
-    /// The first number.
-    pub least: u64,
-    /// The last number.
-    pub last: u64,
 }
 
 /// What is asked of an item by itself.
@@ -63,7 +55,7 @@ pub enum Test {
     /// Whole numbers from this one on.
     AtLeast(Whole),
     /// Strings of such a number of bytes, and unsigned numbers that so many bytes can hold (RFC 8610 section 3.8.1).
-    Sized(Vec<SizeRange>),
+    Sized(SizeSet),
 }
 
 /// Which tag numbers are meant.

@@ -18,10 +18,10 @@ static CONTROLS: [Kind; 18] = [
     Kind::Such(0, Asked::AtLeast(Whole::Nint(1))),
     // 7: any .lt 5
     Kind::Such(0, Asked::Less(Whole::Uint(5))),
-    // 8 to 12: any .size 2, 0, (1..3 / 9), 7, and none
+    // 8 to 12: any .size 2, 0, (9 / 2..3 / 1), 7, and none
     Kind::Such(0, Asked::Sized(&[(2, 2)])),
     Kind::Such(0, Asked::Sized(&[(0, 0)])),
-    Kind::Such(0, Asked::Sized(&[(1, 3), (9, 9)])),
+    Kind::Such(0, Asked::Sized(&[(9, 9), (2, 3), (1, 1)])),
     Kind::Such(0, Asked::Sized(&[(7, 7)])),
     Kind::Such(0, Asked::Sized(&[(3, 2)])),
     // 13: uint .and (any .lt 5)

@@ -1,8 +1,8 @@
 use cbor_item::{Item, Sound};
 use cddl_match::{Verdict, verdict};
 use cddl_table::{
-    Content, Group, GroupId, MapEntry, Most, Node, Ranks, SizeRange, Table, TagNumber, Test,
-    TypeId, Whole,
+    Content, Group, GroupId, MapEntry, Most, Node, Ranks, SizeRange, SizeSet, Table, TagNumber,
+    Test, TypeId, Whole,
 };
 use std::alloc::{AllocError, Global};
 use std::process::Abort;
@@ -137,7 +137,7 @@ fn between(least: u64, last: u64, closed: bool) -> Test {
     }
 }
 
-fn sizes_of(alloc: Global, ranges: &[(u64, u64)]) -> Result<Vec<SizeRange>, AllocError> {
+fn sizes_of(alloc: Global, ranges: &[(u64, u64)]) -> Result<SizeSet, AllocError> {
     let mut out = Vec::new(alloc);
     for (least, last) in ranges {
         out.push(SizeRange {
@@ -145,7 +145,7 @@ fn sizes_of(alloc: Global, ranges: &[(u64, u64)]) -> Result<Vec<SizeRange>, Allo
             last: *last,
         })?;
     }
-    Ok(out)
+    SizeSet::new(alloc, out)
 }
 
 fn test_of(alloc: Global, asked: Asked) -> Result<Test, AllocError> {

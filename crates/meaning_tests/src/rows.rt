@@ -28,8 +28,10 @@ literals | right | a = 1 .plus 'x'
 literals | - | a = \"x\" .cat a
 literals | 5 5 | a = b<5> b<t> = t
 sizes | 1of32 | a = # .size 16
-sizes | 2of10 | a = # .size (2 / 1..5)
-sizes | 1of1 | a = # .size (0...0)
+sizes | 1of6 | a = # .size (2 / 1..5)
+sizes | 1of6 | a = # .size (4..5 / 1 / 2..3)
+sizes | 2of17 | a = # .size (7 / 1..2)
+sizes | 0of0 | a = # .size (0...0)
 sizes | 1of3 | a = # .size (1...3)
 sizes | - | a = # .size -1
 sizes | - | a = # .size (1 / \"x\")
@@ -49,6 +51,10 @@ order | round - | a = a / b b = #
 order | round | a = [x: &(~a)]
 order | down down | a = [g] g = (#, ? g)
 order | - round round | a = &(b) b = (y: &(c)) c = (x: &(b))
+order | round - | a = &(b) b = (x: a)
+order | round round | a = &b b = (x: a)
+order | - round - | a = [b] b = (c) c = (x: &b)
+order | - round | a = [b] b = &(~a)
 order | round | a = # .and a
 order | down | a = # .default a
 asked | from4 whole9 whole12 | a = &(x: 1..2)
@@ -99,7 +105,8 @@ number | - | a = # .size (1 / 2..3)
 number | - | a = 1 .plus 18446744073709551615
 recursion | - | a = [* a]
 recursion | 0 | a = b b = a
-recursion | 8 | a = [g] g = (? #, g)";
+recursion | 8 | a = [g] g = (? #, g)
+recursion | 20 | a = [b] c = (x: &b) b = (c)";
 
 /// The parts of a row.
 fn parts_of(row: &str) -> Option<(&str, &str, &str)> {

@@ -11,7 +11,7 @@ use cddl_reached::{Asked, Question};
 use cddl_recursion::{Node, Order, Ranks, find_order};
 use cddl_spliced::Owner;
 use cddl_splices::parts_of;
-use cddl_table::SizeRange;
+use cddl_table::SizeSet;
 use cddl_terms::Terms;
 use splices::summaries;
 use std::alloc::Global;
@@ -183,7 +183,7 @@ fn fault_word(alloc: Global, fault: Option<Fault>) -> Option<String> {
     }
 }
 
-fn sizes_at<'m>(terms: &Terms<'_>, meant: &'m Meant, meaning: &Meaning) -> Option<&'m [SizeRange]> {
+fn sizes_at<'m>(terms: &Terms<'_>, meant: &'m Meant, meaning: &Meaning) -> Option<&'m SizeSet> {
     let controller = terms.row(*meaning.types.first()?)?.second?;
     meant.sizes.get(controller)
 }
@@ -194,10 +194,11 @@ fn sizes_in(alloc: Global, terms: &Terms<'_>, meant: &Meant, meaning: &Meaning) 
         return text_in(alloc, "-");
     };
     let mut sum: u64 = 0;
-    for range in sizes {
+    let ranges = sizes.ranges();
+    for range in ranges {
         sum = sum.checked_add(range.last)?.checked_add(range.least)?;
     }
-    let count = sizes.len();
+    let count = ranges.len();
     format!(in alloc; "{count}of{sum}").ok()
 }
 
@@ -247,6 +248,7 @@ fn are_bounded(ranks: &Ranks, place: u32) -> bool {
     ranks.rank(Node::Name(place)) <= most
         && ranks.rank(Node::Unwrapping(place)) <= most
         && ranks.rank(Node::Choice(place)) <= most
+        && ranks.rank(Node::ChosenName(place)) <= most
         && ranks.rank(Node::OpenedChoice(place)) <= most
 }
 

@@ -1,4 +1,7 @@
-use Rattle.std.proofs.Common.{◌∙◌, Option, ℕ, List, slice_get, sym, ap}
+use Rattle.std.proofs.Common.{◌∙◌, Option, ℕ, List, slice_get, sym, ap, subst}
+use Rattle.cddl_meaning.specs.Alike.{SameTest}
+use Rattle.cddl_meaning.specs.Forms.{sized}
+use Rattle.cddl_table.specs.SizeSets.{set_view}
 use Rattle.cddl_sizes.specs.Controllers.{IsList, is_wanted}
 use Rattle.cddl_sizes.specs.Reach.{ranges_of}
 use Rattle.cddl_sizes.specs.Sizes.{flag_at}
@@ -13,7 +16,7 @@ is_list : (c : goal.After-put_list) → IsList c.args.sources.now c.args.row c.i
 is_list c = record {
   reached = c.reach.new.self.reached.items;
   are_reached = c.in_ok-reach.ensures.reached;
-  ranges = c.in_ok-list.ensures ∙ ap (ranges_of c.args.sources.now) c.deref-2.ensures.value;
+  same = subst (λ (rows : List ℕ). SameTest (sized (ranges_of c.args.sources.now rows)) (sized (set_view c.in_ok-list.list))) c.deref-2.ensures.value c.in_ok-list.ensures;
 }
 
 pub returns-clause-listed : goal.returns-clause-listed

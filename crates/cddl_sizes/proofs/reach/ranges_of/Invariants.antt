@@ -1,5 +1,5 @@
 use Rattle.std.proofs.Common.{◌≡◌, ◌++◌, drop}
-use Rattle.cddl_table.specs.Nodes.{sizes_view}
+use Rattle.cddl_table.specs.Sizes.{sizes_view}
 use Rattle.cddl_sizes.specs.Reach.{ranges_of}
 use Rattle.cddl_sizes.proofs.reach.ranges_of.Given as goal
 

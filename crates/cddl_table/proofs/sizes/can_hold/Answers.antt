@@ -1,7 +1,7 @@
 use Rattle.std.proofs.Common.{◌≡◌, ◌^◌, nat_lt, ℕ, ◌<◌, ◌≤◌, true, arith}
 use Rattle.std.proofs.lemmas.Bool.Decides.{nat_tests}
 use Rattle.std.proofs.Math.Nat.{pow-le-pow_right}
-use Rattle.cddl_match.proofs.tested.can_hold.Goals as goal
+use Rattle.cddl_table.proofs.sizes.can_hold.Goals as goal
 
 -- as many bytes as make a power that is no u64 hold every u64
 holds : (number bytes power : ℕ) → number < 2 ^ 64 → 2 ^ 64 ≤ power → power ≤ 256 ^ bytes → true ≡ nat_lt number (256 ^ bytes)

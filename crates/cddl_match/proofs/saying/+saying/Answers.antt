@@ -1,0 +1,254 @@
+use Rattle.std.proofs.Common.{◌≡◌, ◌+◌, ◌-◌, length, max, refl, sym, ap, subst, ◌∙◌, arith}
+use Rattle.cbor_data.specs.Value.{Pairs, place_count}
+use Rattle.cbor_item.specs.View.{pairs_view, view}
+use Rattle.cddl_meaning.specs.Forms as F
+use Rattle.cddl_meaning.specs.Judges as J
+use Rattle.cddl_meaning.specs.Moves as M
+use Rattle.cddl_table.specs.Language.{language_of}
+use Rattle.cddl_table.specs.Nodes.{alternatives_view, content_view, entries_view, entry_view, most_view, test_view}
+use Rattle.cddl_table.specs.declared.nodes.TypeId.{TypeId}
+use Rattle.cddl_table.specs.declared.nodes.GroupId.{GroupId}
+use Rattle.cddl_match.specs.Views.{reply_view, subject_view, tally_view, values}
+use Rattle.cddl_match.specs.Within.{Replied, Stopped, Says, done_view, said_view, sorting_of}
+use Rattle.cddl_match.proofs.Lists.{as_many_entries}
+use Rattle.cddl_match.proofs.Outcomes.{answered, begins, passes_on, took, asks}
+use Rattle.cddl_match.proofs.Sayings.{has_said, type_on, type_few, group_on, group_few, no_passes, yes_passes, array_ends, simple_ends, such_ends, meant_ends, held_ends, nothing_held, entry_ends, goes_on, ends_so, first_pair, pair_stops, pair_sorted, pair_taken, pair_kept, pair_handed_on, value_stops}
+use Rattle.cddl_match.proofs.Ways.{and_on, a_round}
+use Rattle.cddl_match.proofs.saying.+saying.Goals as goal
+
+pub type_says-returns-in_default-checked_sub : goal.type_says-returns-in_default-checked_sub
+type_says-returns-in_default-checked_sub t c = type_few (language_of c.args.table.now) c.args.place (subject_view c.args.subject) c.args.means.now.left c.args.means.now.left c.type_behind-passed.ensures (omega (arith, c.ranges.place.fits)) (omega (arith, c.in_default-checked_sub.ensures, c.from.ensures))
+
+pub type_says-returns-in-Some-node : goal.type_says-returns-in-Some-node
+type_says-returns-in-Some-node t c = type_on (language_of c.args.table.now) c.args.place (subject_view c.args.subject) c.args.means.now.left c.in-Some.left c.form_says.new.means.left (said_view c.form_says.result) c.type_behind-passed.ensures (omega (arith, c.ranges.place.fits)) c.in-Some-node.ensures.found (omega (arith, c.in-Some.ensures, c.from.ensures)) c.form_says.ensures
+
+pub type_says-returns-in-None : goal.type_says-returns-in-None
+type_says-returns-in-None t c = type_on (language_of c.args.table.now) c.args.place (subject_view c.args.subject) c.args.means.now.left c.in-Some.left c.in-Some.left (Replied (J.Fails c.args.place)) c.type_behind-passed.ensures (omega (arith, c.ranges.place.fits)) c.in-None.ensures.none (omega (arith, c.in-Some.ensures, c.from.ensures)) (answered (language_of c.args.table.now) c.in-Some.left (J.Fails c.args.place))
+
+pub type_says-returns-in-Some-Plain : goal.type_says-returns-in-Some-Plain
+type_says-returns-in-Some-Plain t c = c.test_says.ensures (language_of c.args.table.now) c.args.node (rw c.in-Some-Plain.field-0-is at c.in-Some-Plain.ensures.found)
+
+pub group_does-returns-in_default : goal.group_does-returns-in_default
+group_does-returns-in_default t c = group_few (language_of c.args.table.now) c.args.base c.args.place (values c.args.items.now) c.args.means.now.left c.args.means.now.left c.group_behind-passed.ensures (omega (arith, c.in_default.ensures, c.from.ensures))
+
+pub group_does-returns-in-Some-group : goal.group_does-returns-in-Some-group
+group_does-returns-in-Some-group t c = group_on (language_of c.args.table.now) c.args.base c.args.place (values c.args.items.now) c.args.means.now.left c.in-Some.left c.group_form_does.new.means.left _ c.group_behind-passed.ensures c.in-Some-group.ensures.found (omega (arith, c.in-Some.ensures, c.from.ensures)) c.group_form_does.ensures
+
+pub group_does-returns-in-None : goal.group_does-returns-in-None
+group_does-returns-in-None t c = group_on (language_of c.args.table.now) c.args.base c.args.place (values c.args.items.now) c.args.means.now.left c.in-Some.left c.in-Some.left (Replied (J.Fails c.args.base)) c.group_behind-passed.ensures c.in-None.ensures.none (omega (arith, c.in-Some.ensures, c.from.ensures)) (answered (language_of c.args.table.now) c.in-Some.left (J.Fails c.args.base))
+
+pub form_says-returns-in-Ref : goal.form_says-returns-in-Ref
+form_says-returns-in-Ref t c = rw c.in-Ref.is (passes_on (language_of c.args.table.now) (M.OfType c.in-Ref.to c.args.place (subject_view c.args.subject)) c.args.means.now.left c.type_says.new.means.left (said_view c.type_says.result) c.type_says.ensures)
+
+pub form_says-returns-in-Some : goal.form_says-returns-in-Some
+form_says-returns-in-Some t c = rw (c.in-ArrayOf.is, c.in-Some.ensures, c.array_said.ensures) (array_ends (language_of c.args.table.now) c.in-ArrayOf.group c.args.place (values c.in-Some.items.now) c.args.means.now.left c.group_does.new.means.left _ (rw c.plus.ensures at c.group_does.ensures))
+
+pub form_says-returns-in-Some-simple_of : goal.form_says-returns-in-Some-simple_of
+form_says-returns-in-Some-simple_of t c = rw (c.in-SimpleBy.is, c.in-Some-simple_of.ensures, c.simple_said.ensures) (simple_ends (language_of c.args.table.now) c.in-SimpleBy.head c.args.place c.in-Some-simple_of.number c.args.means.now.left c.type_says-in-Some-simple_of.new.means.left _ c.type_says-in-Some-simple_of.ensures)
+
+pub form_says-returns-in-Yes : goal.form_says-returns-in-Yes
+form_says-returns-in-Yes t c =
+    let l = language_of c.args.table.now in
+    let right = passes_on l (M.OfType c.in-Both.right c.args.place (subject_view c.args.subject)) c.type_says-in-Both.new.means.left c.type_says-in-Yes.new.means.left (said_view c.type_says-in-Yes.result) c.type_says-in-Yes.ensures in
+    rw c.in-Both.is (asks l c.args.means.now.left c.type_says-in-Both.new.means.left c.type_says-in-Yes.new.means.left (M.InLeft c.in-Both.right c.args.place (subject_view c.args.subject)) (said_view c.type_says-in-Yes.result) c.in-Yes.ensures right)
+
+pub form_says-returns-in_default-type_says : goal.form_says-returns-in_default-type_says
+form_says-returns-in_default-type_says t c = rw c.in-Both.is (no_passes (language_of c.args.table.now) (M.OfType c.in-Both.left c.args.place (subject_view c.args.subject)) c.args.means.now.left c.type_says-in-Both.new.means.left (M.InLeft c.in-Both.right c.args.place (subject_view c.args.subject)) c.type_says-in-Both.result (λ far. refl) c.in_default-type_says.not-Yes c.type_says-in-Both.ensures)
+
+pub form_says-returns-in-Such : goal.form_says-returns-in-Such
+form_says-returns-in-Such t c = rw (c.in-Such.is, c.such_said.ensures, c.passes_test.ensures) (such_ends (language_of c.args.table.now) c.in-Such.of (test_view c.in-Such.test) c.args.place (subject_view c.args.subject) c.args.means.now.left c.type_says-said.new.means.left _ c.type_says-said.ensures)
+
+pub form_says-returns-in-Yes-type_says : goal.form_says-returns-in-Yes-type_says
+form_says-returns-in-Yes-type_says t c = rw c.in-Holding.is (asks (language_of c.args.table.now) c.args.means.now.left c.type_says-in-Holding.new.means.left c.held_says.new.means.left (M.InHolder (content_view c.in-Holding.content) c.in-Holding.node c.args.place (subject_view c.args.subject)) (said_view c.held_says.result) c.in-Yes-type_says.ensures c.held_says.ensures)
+
+pub form_says-returns-in_default-type_says-2 : goal.form_says-returns-in_default-type_says-2
+form_says-returns-in_default-type_says-2 t c = rw c.in-Holding.is (no_passes (language_of c.args.table.now) (M.OfType c.in-Holding.of c.args.place (subject_view c.args.subject)) c.args.means.now.left c.type_says-in-Holding.new.means.left (M.InHolder (content_view c.in-Holding.content) c.in-Holding.node c.args.place (subject_view c.args.subject)) c.type_says-in-Holding.result (λ far. refl) c.in_default-type_says-2.not-Yes c.type_says-in-Holding.ensures)
+
+pub choice_says-returns-in_default-type_says : goal.choice_says-returns-in_default-type_says
+choice_says-returns-in_default-type_says t c =
+    let l = language_of c.args.table.now in
+    let here = rw c.in-Some.ensures.cases.0 at c.loop-member.invariant.comes in
+    ends_so l c.args.means.now.left c.loop-member.means.left c.type_says.new.means.left (said_view c.type_says.result) here c.loop-member.invariant.within (yes_passes l (M.OfType c.in-Some.member.now c.args.place (subject_view c.args.subject)) c.loop-member.means.left c.type_says.new.means.left (M.InChoice c.in-Some.others.now c.args.place (subject_view c.args.subject) c.loop-member.far) c.type_says.result (λ next. refl) c.in_default-type_says.not-No c.type_says.ensures)
+
+pub choice_says-loop-member-preserved : goal.choice_says-loop-member-preserved
+choice_says-loop-member-preserved t c =
+    let l = language_of c.args.table.now in
+    let here = rw c.in-Some.ensures.cases.0 at c.loop-member.invariant.comes in
+    let e : c.max-far.result ≡ max c.loop-member.far c.in-No.later = omega (arith, c.max-far.ensures) in
+    record {
+      within = omega (arith, c.loop-member.invariant.within, c.in-No.ensures.1);
+      comes = rw e (goes_on l (M.InChoice c.in-Some.others.now c.args.place (subject_view c.args.subject) c.loop-member.far) c.args.means.now.left c.loop-member.means.left c.type_says.new.means.left here c.loop-member.invariant.within c.in-No.ensures);
+    }
+
+pub tag_says-returns-in-Any : goal.tag_says-returns-in-Any
+tag_says-returns-in-Any t c = rw c.in-Any.is (passes_on (language_of c.args.table.now) (M.OfType c.args.node (M.plus c.args.place 1) (view c.args.content.now)) c.args.means.now.left c.type_says.new.means.left (said_view c.type_says.result) (rw c.plus-after.ensures at c.type_says.ensures))
+
+pub tag_says-returns-in-Exactly : goal.tag_says-returns-in-Exactly
+tag_says-returns-in-Exactly t c =
+    let l = language_of c.args.table.now in
+    let content = passes_on l (M.OfType c.args.node (M.plus c.args.place 1) (view c.args.content.now)) c.args.means.now.left c.type_says-in-Exactly.new.means.left (said_view c.type_says-in-Exactly.result) (rw c.plus-after.ensures at c.type_says-in-Exactly.ensures) in
+    rw c.in-Exactly.is (meant_ends l c.in-Exactly.wanted c.args.found c.args.node c.args.place (view c.args.content.now) c.args.means.now.left c.type_says-in-Exactly.new.means.left (said_view c.type_says-in-Exactly.result) c.if-wanted-found.true content)
+
+pub tag_says-returns-in-Yes : goal.tag_says-returns-in-Yes
+tag_says-returns-in-Yes t c =
+    let l = language_of c.args.table.now in
+    let content = passes_on l (M.OfType c.args.node (M.plus c.args.place 1) (view c.args.content.now)) c.type_says-in-SuchAs.new.means.left c.type_says-in-Yes.new.means.left (said_view c.type_says-in-Yes.result) (rw c.plus-after.ensures at c.type_says-in-Yes.ensures) in
+    rw c.in-SuchAs.is (asks l c.args.means.now.left c.type_says-in-SuchAs.new.means.left c.type_says-in-Yes.new.means.left (M.InHead c.args.node c.args.place (view c.args.content.now)) (said_view c.type_says-in-Yes.result) c.in-Yes.ensures content)
+
+pub tag_says-returns-in-No : goal.tag_says-returns-in-No
+tag_says-returns-in-No t c = rw c.in-SuchAs.is (asks (language_of c.args.table.now) c.args.means.now.left c.type_says-in-SuchAs.new.means.left c.type_says-in-SuchAs.new.means.left (M.InHead c.args.node c.args.place (view c.args.content.now)) (Replied (J.Fails c.args.place)) c.in-No.ensures (answered (language_of c.args.table.now) c.type_says-in-SuchAs.new.means.left (J.Fails c.args.place)))
+
+pub held_says-returns-in-Ok-None : goal.held_says-returns-in-Ok-None
+held_says-returns-in-Ok-None t c = rw c.in-Some.ensures (nothing_held (language_of c.args.table.now) (content_view c.args.content) c.in-Some.bytes.now c.args.node c.args.place c.args.next c.args.means.now.left (rw c.in-Ok-None.field-0-is at c.in-Ok-None.ensures))
+
+pub held_says-returns : goal.held_says-returns
+held_says-returns t c = rw (c.in-Some.ensures, c.held_said.ensures) (held_ends (language_of c.args.table.now) (content_view c.args.content) c.in-Some.bytes.now c.args.node c.args.place c.args.next (view c.in-Ok-Some.item) c.args.means.now.left c.type_says-said.new.means.left _ (rw c.in-Ok-Some.field-0-is at c.in-Ok-Some.ensures) c.type_says-said.ensures)
+
+pub map_says-loop-entries-init : goal.map_says-loop-entries-init
+map_says-loop-entries-init t c = record {
+  within = omega arith;
+  comes = (J.Fails c.args.base, refl, begins (language_of c.args.table.now) (M.next_way {G = GroupId} (alternatives_view c.args.alternatives.now) c.args.base (pairs_view c.args.pairs.now) (J.Fails c.args.base)) c.args.means.now.left);
+}
+
+pub map_says-loop-entries-preserved : goal.map_says-loop-entries-preserved
+map_says-loop-entries-preserved t c =
+    let l = language_of c.args.table.now in
+    let i = c.loop-entries.invariant.comes in
+    let here = rw c.in-Some.ensures.cases.0 at i.2 in
+    let x = has_said c.alternative_says.result c.in_default-alternative_says.not-Stopped in
+    let q = M.OfAlternative (entries_view c.in-Some.entries.now.items) c.args.base (pairs_view c.args.pairs.now) in
+    let told : Says l q c.loop-entries.means.left c.alternative_says.new.means.left (Replied x.0) = subst (λ o. Says l q c.loop-entries.means.left c.alternative_says.new.means.left o) x.1 (rw c.deref.ensures.value at c.alternative_says.ensures) in
+    record {
+      within = omega (arith, c.loop-entries.invariant.within, told.1);
+      comes = (M.either_reply i.0 x.0, c.either_said-sofar.ensures i.0 x.0 i.1 x.1, goes_on l (M.InMap (alternatives_view c.in-Some.others.now) c.args.base (pairs_view c.args.pairs.now) i.0) c.args.means.now.left c.loop-entries.means.left c.alternative_says.new.means.left here c.loop-entries.invariant.within told);
+    }
+
+pub alternative_says-loop-pair-init : goal.alternative_says-loop-pair-init
+alternative_says-loop-pair-init t c = record {
+  within = omega arith;
+  comes = first_pair (language_of c.args.table.now) (entries_view c.args.entries.now) c.args.base c.plus-place.result (pairs_view c.args.pairs.now) (tally_view c.begin_tally.new.tally) c.args.means.now.left c.plus-place.ensures c.in-Ok.ensures (omega (arith, c.if-means-eq0.false));
+}
+
+pub alternative_says-returns-in-Err : goal.alternative_says-returns-in-Err
+alternative_says-returns-in-Err t c =
+    let l = language_of c.args.table.now in
+    let es = entries_view c.args.entries.now in
+    let here = rw c.in-Some.ensures.cases.0 at c.loop-pair.invariant.comes in
+    pair_stops l (sorting_of es c.args.base c.loop-pair.place c.in-Some.pair.now (pairs_view c.in-Some.others.now) (tally_view c.loop-pair.tally)) c.in-Err.stop c.args.means.now.left c.loop-pair.means.left (c.loop-pair.means.left - (length c.args.entries.now + 1)) c.pair_fate.new.means.left here c.loop-pair.invariant.within (omega (arith, as_many_entries c.args.entries.now, c.if-means-tried.false)) (c.in-Err.ensures es c.args.base (pairs_view c.in-Some.others.now) (tally_view c.loop-pair.tally))
+
+pub alternative_says-loop-pair-preserved : goal.alternative_says-loop-pair-preserved
+alternative_says-loop-pair-preserved t c =
+    let l = language_of c.args.table.now in
+    let es = entries_view c.args.entries.now in
+    let here = rw c.in-Some.ensures.cases.0 at c.loop-pair.invariant.comes in
+    let fate = c.in-Ok-pair_fate.ensures es c.args.base (pairs_view c.in-Some.others.now) (tally_view c.loop-pair.tally) in
+    let place = c.place_after-place.ensures ∙ ap (λ k. M.plus k (place_count (view c.in-Some.pair.now.1))) c.place_after.ensures in
+    record {
+      within = omega (arith, c.loop-pair.invariant.within, fate.1);
+      comes = pair_sorted l (sorting_of es c.args.base c.loop-pair.place c.in-Some.pair.now (pairs_view c.in-Some.others.now) (tally_view c.loop-pair.tally)) c.in-Ok-pair_fate.fate c.place_after-place.result (tally_view c.tally_pair.new.tally) c.args.means.now.left c.loop-pair.means.left (c.loop-pair.means.left - (length c.args.entries.now + 1)) c.pair_fate.new.means.left place c.tally_pair.ensures here c.loop-pair.invariant.within (omega (arith, as_many_entries c.args.entries.now, c.if-means-tried.false)) fate;
+    }
+
+pub pair_fate-loop-entry-preserved-in-No : goal.pair_fate-loop-entry-preserved-in-No
+pair_fate-loop-entry-preserved-in-No t c = record {
+  within = omega (arith, c.loop-entry.invariant.within, c.in-No.ensures.1);
+  comes = λ all base rest tally.
+      let l = language_of c.args.table.now in
+      let s = sorting_of all base c.args.place c.args.pair.now rest tally in
+      let here = rw c.in-Some.ensures.cases.0 at (c.loop-entry.invariant.comes all base rest tally) in
+      goes_on l (M.InKey (entry_view c.in-Some.entry.now) (entries_view c.in-Some.others.now) s) c.args.means.now.left c.loop-entry.means.left c.type_says.new.means.left here c.loop-entry.invariant.within c.in-No.ensures;
+}
+
+pub pair_fate-returns-in-Yes-type_says : goal.pair_fate-returns-in-Yes-type_says
+pair_fate-returns-in-Yes-type_says t c = λ all base rest tally.
+    let l = language_of c.args.table.now in
+    let s = sorting_of all base c.args.place c.args.pair.now rest tally in
+    let here = rw c.in-Some.ensures.cases.0 at (c.loop-entry.invariant.comes all base rest tally) in
+    pair_taken l (entry_view c.in-Some.entry.now) (entries_view c.in-Some.others.now) s (length c.in-Some.others.now) c.args.means.now.left c.loop-entry.means.left c.type_says.new.means.left c.type_says-in-Some.new.means.left (sym (as_many_entries c.in-Some.others.now)) here c.loop-entry.invariant.within c.in-Yes.ensures (rw c.place_after-value_place.ensures at c.in-Yes-type_says.ensures)
+
+pub pair_fate-returns-then-entry : goal.pair_fate-returns-then-entry
+pair_fate-returns-then-entry t c = λ all base rest tally.
+    let l = language_of c.args.table.now in
+    let s = sorting_of all base c.args.place c.args.pair.now rest tally in
+    let here = rw c.in-Some.ensures.cases.0 at (c.loop-entry.invariant.comes all base rest tally) in
+    pair_kept l (entry_view c.in-Some.entry.now) (entries_view c.in-Some.others.now) s (length c.in-Some.others.now) c.in-No-type_says.far c.args.means.now.left c.loop-entry.means.left c.type_says.new.means.left c.type_says-in-Some.new.means.left (sym (as_many_entries c.in-Some.others.now)) c.if-entry.true here c.loop-entry.invariant.within c.in-Yes.ensures (rw c.place_after-value_place.ensures at c.in-No-type_says.ensures)
+
+pub pair_fate-loop-entry-preserved : goal.pair_fate-loop-entry-preserved
+pair_fate-loop-entry-preserved t c = record {
+  within = omega (arith, c.loop-entry.invariant.within, c.in-Yes.ensures.1, c.in-No-type_says.ensures.1);
+  comes = λ all base rest tally.
+      let l = language_of c.args.table.now in
+      let s = sorting_of all base c.args.place c.args.pair.now rest tally in
+      let here = rw c.in-Some.ensures.cases.0 at (c.loop-entry.invariant.comes all base rest tally) in
+      pair_handed_on l (entry_view c.in-Some.entry.now) (entries_view c.in-Some.others.now) s c.args.means.now.left c.loop-entry.means.left c.type_says.new.means.left c.type_says-in-Some.new.means.left c.if-entry.false here c.loop-entry.invariant.within c.in-Yes.ensures (rw c.place_after-value_place.ensures at c.in-No-type_says.ensures);
+}
+
+pub pair_fate-returns-in-Stopped-type_says : goal.pair_fate-returns-in-Stopped-type_says
+pair_fate-returns-in-Stopped-type_says t c = λ all base rest tally.
+    let l = language_of c.args.table.now in
+    let s = sorting_of all base c.args.place c.args.pair.now rest tally in
+    let here = rw c.in-Some.ensures.cases.0 at (c.loop-entry.invariant.comes all base rest tally) in
+    value_stops l (entries_view c.args.entries.now) (entry_view c.in-Some.entry.now) (entries_view c.in-Some.others.now) s c.in-Stopped-type_says.stop c.args.means.now.left c.loop-entry.means.left c.type_says.new.means.left c.type_says-in-Some.new.means.left here c.loop-entry.invariant.within c.in-Yes.ensures (subst (λ p. Says l (M.OfType c.in-Some.entry.now.value_type p (view c.args.pair.now.1)) c.type_says.new.means.left c.type_says-in-Some.new.means.left (Stopped c.in-Stopped-type_says.stop)) c.place_after-value_place.ensures c.in-Stopped-type_says.ensures)
+
+pub group_form_does-returns-in-Some : goal.group_form_does-returns-in-Some
+group_form_does-returns-in-Some t c = rw (c.in-Entry.is, c.in-Some.ensures.cases.0, c.entry_done.ensures) (entry_ends (language_of c.args.table.now) c.in-Entry.node c.args.base c.args.place (view c.in-Some.item.now) (values c.in-Some.rest.now) c.args.means.now.left c.type_says-said.new.means.left _ c.type_says-said.ensures)
+
+pub group_form_does-returns-in-Ref : goal.group_form_does-returns-in-Ref
+group_form_does-returns-in-Ref t c = rw c.in-Ref.is (passes_on (language_of c.args.table.now) (M.OfGroup c.in-Ref.to c.args.base c.args.place (values c.args.items.now)) c.args.means.now.left c.group_does.new.means.left (done_view c.group_does.result) c.group_does.ensures)
+
+pub parts_do-loop-part-preserved : goal.parts_do-loop-part-preserved
+parts_do-loop-part-preserved t c =
+    let l = language_of c.args.table.now in
+    let here = rw c.in-Some.ensures.cases.0 at c.loop-part.invariant.comes in
+    let told = rw c.in-Takes.is at c.in_ok-items.ensures in
+    let e : c.max.result ≡ max c.loop-part.left.far c.in-Takes.far = omega (arith, c.max.ensures) in
+    record {
+      within = omega (arith, c.loop-part.invariant.within, told.1);
+      comes = rw e (goes_on l (M.InSequence c.in-Some.others.now c.loop-part.left.base c.loop-part.left.far) c.args.means.now.left c.loop-part.means.left c.group_does.new.means.left here c.loop-part.invariant.within told);
+    }
+
+pub parts_do-returns-in-Fails : goal.parts_do-returns-in-Fails
+parts_do-returns-in-Fails t c =
+    let l = language_of c.args.table.now in
+    let here = rw c.in-Some.ensures.cases.0 at c.loop-part.invariant.comes in
+    let told = rw c.in-Fails.is at c.in_ok-items.ensures in
+    let e : c.max-in-Fails.result ≡ max c.loop-part.left.far c.in-Fails.far = omega (arith, c.max-in-Fails.ensures) in
+    rw e (goes_on l (M.InSequence c.in-Some.others.now c.loop-part.left.base c.loop-part.left.far) c.args.means.now.left c.loop-part.means.left c.group_does.new.means.left here c.loop-part.invariant.within told, omega (arith, c.loop-part.invariant.within, told.1))
+
+pub alternatives_do-returns-in-Takes : goal.alternatives_do-returns-in-Takes
+alternatives_do-returns-in-Takes t c =
+    let l = language_of c.args.table.now in
+    let here = rw c.in-Some.ensures.cases.0 at c.loop-part.invariant.comes in
+    let told = rw c.in-Takes.is at c.in_ok-left.ensures in
+    let e : c.max.result ≡ max c.loop-part.far c.in-Takes.later = omega (arith, c.max.ensures) in
+    rw e (goes_on l (M.InAlternatives c.in-Some.others.now c.args.base c.args.place (values c.args.items.now) c.loop-part.far) c.args.means.now.left c.loop-part.means.left c.group_does.new.means.left here c.loop-part.invariant.within told, omega (arith, c.loop-part.invariant.within, told.1))
+
+pub alternatives_do-loop-part-preserved : goal.alternatives_do-loop-part-preserved
+alternatives_do-loop-part-preserved t c =
+    let l = language_of c.args.table.now in
+    let here = rw c.in-Some.ensures.cases.0 at c.loop-part.invariant.comes in
+    let told = rw c.in-Fails.is at c.in_ok-left.ensures in
+    let e : c.max-far.result ≡ max c.loop-part.far c.in-Fails.later = omega (arith, c.max-far.ensures) in
+    record {
+      within = omega (arith, c.loop-part.invariant.within, told.1);
+      comes = rw e (goes_on l (M.InAlternatives c.in-Some.others.now c.args.base c.args.place (values c.args.items.now) c.loop-part.far) c.args.means.now.left c.loop-part.means.left c.group_does.new.means.left here c.loop-part.invariant.within told);
+    }
+
+pub rounds_do-loop-group-smaller : goal.rounds_do-loop-group-smaller
+rounds_do-loop-group-smaller t c = took (language_of c.args.table.now) c.loop-group.means.left c.group_does.new.means.left c.in_ok-reply.ensures
+
+pub rounds_do-loop-group-preserved : goal.rounds_do-loop-group-preserved
+rounds_do-loop-group-preserved t c =
+    let l = language_of c.args.table.now in
+    let r = c.loop-group.rounds in
+    let round = a_round l r.least (most_view r.most) r.group r.base r.place (values r.items.now) r.far c.in_ok-reply.ensures.0 (sym c.is_over.ensures ∙ c.loop-group-test.true) c.in-Another.ensures.next in
+    record {
+      within = omega (arith, c.loop-group.invariant.within, c.in_ok-reply.ensures.1);
+      comes = and_on l c.loop-group.invariant.comes round (omega (arith, c.loop-group.invariant.within, c.in_ok-reply.ensures.1));
+    }
+
+pub rounds_do-returns-in-Over : goal.rounds_do-returns-in-Over
+rounds_do-returns-in-Over t c =
+    let l = language_of c.args.table.now in
+    let r = c.loop-group.rounds in
+    let round = a_round l r.least (most_view r.most) r.group r.base r.place (values r.items.now) r.far c.in_ok-reply.ensures.0 (sym c.is_over.ensures ∙ c.loop-group-test.true) c.in-Over.ensures.next in
+    (and_on l c.loop-group.invariant.comes round (omega (arith, c.loop-group.invariant.within, c.in_ok-reply.ensures.1)), omega (arith, c.loop-group.invariant.within, c.in_ok-reply.ensures.1))

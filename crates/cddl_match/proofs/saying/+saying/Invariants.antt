@@ -1,0 +1,120 @@
+use Rattle.std.proofs.Common.{◌≡◌, ℕ, ◌+◌, ◌-◌, ◌*◌, ◌≤◌, List, length}
+use Rattle.cbor_data.specs.Value.{Pairs}
+use Rattle.cbor_item.specs.View.{pairs_view}
+use Rattle.cddl_meaning.specs.Forms as F
+use Rattle.cddl_meaning.specs.Judges.{Reply, Fails}
+use Rattle.cddl_meaning.specs.Moves as M
+use Rattle.cddl_table.specs.Language.{language_of}
+use Rattle.cddl_table.specs.Nodes.{alternatives_view, entries_view}
+use Rattle.cddl_table.specs.declared.nodes.TypeId.{TypeId}
+use Rattle.cddl_match.specs.Ahead.{ComesTo, Opens}
+use Rattle.cddl_match.specs.Views.{parts_move, rounds_move, subject_view, tally_view, values}
+use Rattle.cddl_match.specs.Within.{Replied, said_view, sorting_of}
+use Rattle.cddl_match.proofs.saying.+saying.Given as goal
+
+-- Each loop: what was asked so far comes to what is left, in the steps that were taken.
+
+abbrev pub invariant-choice_says-loop-member : goal.invariant-choice_says-loop-member
+invariant-choice_says-loop-member l = record {
+  within : l.means.left ≤ l.fn.means.left;
+  comes : ComesTo (language_of l.fn.table) (M.next_member l.fn.members l.fn.place (subject_view l.fn.subject) l.fn.place) (M.next_member l.left l.fn.place (subject_view l.fn.subject) l.far) (l.fn.means.left - l.means.left);
+}
+
+abbrev pub invariant-map_says-loop-entries : goal.invariant-map_says-loop-entries
+invariant-map_says-loop-entries l = record {
+  within : l.means.left ≤ l.fn.means.left;
+  comes : (r : Reply) × (said_view l.sofar ≡ Replied r) × ComesTo (language_of l.fn.table) (M.next_way (alternatives_view l.fn.alternatives) l.fn.base (pairs_view l.fn.pairs) (Fails l.fn.base)) (M.next_way (alternatives_view l.left) l.fn.base (pairs_view l.fn.pairs) r) (l.fn.means.left - l.means.left);
+}
+
+abbrev pub invariant-alternative_says-loop-pair : goal.invariant-alternative_says-loop-pair
+invariant-alternative_says-loop-pair l = record {
+  within : l.means.left ≤ l.fn.means.left;
+  comes : Opens (language_of l.fn.table) (M.OfAlternative (entries_view l.fn.entries) l.fn.base (pairs_view l.fn.pairs)) (M.next_pair (entries_view l.fn.entries) l.fn.base l.place (pairs_view l.left) (tally_view l.tally)) (l.fn.means.left - l.means.left);
+}
+
+abbrev pub invariant-pair_fate-loop-entry : goal.invariant-pair_fate-loop-entry
+invariant-pair_fate-loop-entry l = record {
+  within : l.means.left ≤ l.fn.means.left;
+  comes : (all : List (F.MapEntry TypeId)) (base : ℕ) (rest : Pairs) (tally : M.Tally) → ComesTo (language_of l.fn.table) (M.next_entry (entries_view l.fn.entries) (sorting_of all base l.fn.place l.fn.pair rest tally)) (M.next_entry (entries_view l.left) (sorting_of all base l.fn.place l.fn.pair rest tally)) (l.fn.means.left - l.means.left);
+}
+
+abbrev pub invariant-parts_do-loop-part : goal.invariant-parts_do-loop-part
+invariant-parts_do-loop-part l = record {
+  within : l.means.left ≤ l.fn.means.left;
+  comes : ComesTo (language_of l.fn.table) (parts_move l.fn.parts) (parts_move l.left) (l.fn.means.left - l.means.left);
+}
+
+abbrev pub invariant-alternatives_do-loop-part : goal.invariant-alternatives_do-loop-part
+invariant-alternatives_do-loop-part l = record {
+  within : l.means.left ≤ l.fn.means.left;
+  comes : ComesTo (language_of l.fn.table) (M.next_alternative l.fn.parts l.fn.base l.fn.place (values l.fn.items) l.fn.base) (M.next_alternative l.parts l.fn.base l.fn.place (values l.fn.items) l.far) (l.fn.means.left - l.means.left);
+}
+
+abbrev pub invariant-rounds_do-loop-group : goal.invariant-rounds_do-loop-group
+invariant-rounds_do-loop-group l = record {
+  within : l.means.left ≤ l.fn.means.left;
+  comes : ComesTo (language_of l.fn.table) (rounds_move l.fn.rounds) (rounds_move l.rounds) (l.fn.means.left - l.means.left);
+}
+
+abbrev pub decreases-choice_says-loop-member : goal.decreases-choice_says-loop-member
+decreases-choice_says-loop-member l = length l.left
+
+abbrev pub decreases-map_says-loop-entries : goal.decreases-map_says-loop-entries
+decreases-map_says-loop-entries l = length l.left
+
+abbrev pub decreases-alternative_says-loop-pair : goal.decreases-alternative_says-loop-pair
+decreases-alternative_says-loop-pair l = length l.left
+
+abbrev pub decreases-pair_fate-loop-entry : goal.decreases-pair_fate-loop-entry
+decreases-pair_fate-loop-entry l = length l.left
+
+abbrev pub decreases-parts_do-loop-part : goal.decreases-parts_do-loop-part
+decreases-parts_do-loop-part l = length l.left.parts.now
+
+abbrev pub decreases-alternatives_do-loop-part : goal.decreases-alternatives_do-loop-part
+decreases-alternatives_do-loop-part l = length l.parts
+
+-- A round takes a step at least.
+abbrev pub decreases-rounds_do-loop-group : goal.decreases-rounds_do-loop-group
+decreases-rounds_do-loop-group l = l.means.left
+
+-- Each type and group that is asked takes from the depth.
+
+abbrev pub decreases-type_says : goal.decreases-type_says
+decreases-type_says l = 8 * l.depth
+
+abbrev pub decreases-group_does : goal.decreases-group_does
+decreases-group_does l = 8 * l.depth
+
+abbrev pub decreases-form_says : goal.decreases-form_says
+decreases-form_says l = 8 * l.depth + 7
+
+abbrev pub decreases-group_form_does : goal.decreases-group_form_does
+decreases-group_form_does l = 8 * l.depth + 7
+
+abbrev pub decreases-choice_says : goal.decreases-choice_says
+decreases-choice_says l = 8 * l.depth + 1
+
+abbrev pub decreases-tag_says : goal.decreases-tag_says
+decreases-tag_says l = 8 * l.depth + 1
+
+abbrev pub decreases-held_says : goal.decreases-held_says
+decreases-held_says l = 8 * l.depth + 1
+
+abbrev pub decreases-map_says : goal.decreases-map_says
+decreases-map_says l = 8 * l.depth + 3
+
+abbrev pub decreases-alternative_says : goal.decreases-alternative_says
+decreases-alternative_says l = 8 * l.depth + 2
+
+abbrev pub decreases-pair_fate : goal.decreases-pair_fate
+decreases-pair_fate l = 8 * l.depth + 1
+
+abbrev pub decreases-parts_do : goal.decreases-parts_do
+decreases-parts_do l = 8 * l.depth + 1
+
+abbrev pub decreases-alternatives_do : goal.decreases-alternatives_do
+decreases-alternatives_do l = 8 * l.depth + 1
+
+abbrev pub decreases-rounds_do : goal.decreases-rounds_do
+decreases-rounds_do l = 8 * l.depth + 1

@@ -1,0 +1,514 @@
+//! What types say of items and groups do with them, each question by a call of its own.
+
+ghost use Rattle.std.specs.Prelude.{ℕ, List, Some};
+ghost use Rattle.cbor_data.specs.Value.{Pairs};
+ghost use Rattle.cbor_item.specs.View.{pairs_view, view};
+ghost use Rattle.cddl_meaning.specs.Forms as F;
+ghost use Rattle.cddl_meaning.specs.Forms.{bytes_in};
+ghost use Rattle.cddl_meaning.specs.Judges as J;
+ghost use Rattle.cddl_meaning.specs.Moves as M;
+ghost use Rattle.cddl_match.specs.Views.{parts_move, rounds_move, subject_view, values};
+ghost use Rattle.cddl_match.specs.Within.{Ends, Says, Sorts, done_view, said_view, sorting_of};
+ghost use Rattle.cddl_table.specs.Language.{language_of};
+ghost use Rattle.cddl_table.specs.Nodes.{alternatives_view, content_view, entries_view, group_view, tag_number_view, type_view};
+ghost use Rattle.cddl_table.specs.declared.nodes.TypeId.{TypeId};
+
+use crate::behind::{group_behind, type_behind};
+use crate::frames::{group_by_frames, type_by_frames};
+use crate::means::Means;
+use crate::moves::{after_round, is_over};
+use crate::places::{place_after, plus};
+use crate::questions::{Fate, Parts, Reply, Round, Rounds, Said, Stop, Subject, Tally};
+use crate::reading::held_in;
+use crate::replies::{
+    array_said, bytes_of, either_said, entry_done, held_said, items_of, pairs_of, simple_of,
+    simple_said, such_said, test_says, tested,
+};
+use crate::shelf::{Cells, Shelf};
+use crate::sorting::{begin_tally, no_tally, shown_by_tally, tally_pair};
+use crate::tested::passes_test;
+use cbor_item::Item;
+use cddl_table::{Content, Group, GroupId, MapEntry, Node, Table, TagNumber, TypeId};
+
+/// What a type says of an item. Calls are as deep as this, and what is deeper is left to frames.
+#[cycle(saying)]
+pub(crate) fn type_says<'i>(
+    table: &Table,
+    means: &mut Means<'i>,
+    node: TypeId,
+    place: usize,
+    subject: Subject<'i>,
+    depth: u8,
+) -> Said
+    ensures { Says (language_of table.now) (M.OfType node place (subject_view subject.entry)) means.old.left means.new.left (said_view result) }
+{
+    if let Some(Node::Plain(test)) = table.node(node) {
+        return test_says(means, test, place, subject);
+    }
+    if depth == 0 {
+        return type_by_frames(table, means, node, place, subject);
+    }
+    let (behind, passed) = type_behind(table, node);
+    let Some(left) = means.left.checked_sub(u64::from(passed) + 1) else {
+        return Said::Stopped(Stop::Spent);
+    };
+    means.left = left;
+    match table.node(behind) {
+        Some(form) => form_says(table, means, form, place, subject, depth - 1),
+        None => Said::No { far: place },
+    }
+}
+
+/// What a type of this form says of an item.
+#[cycle(saying)]
+fn form_says<'i>(
+    table: &Table,
+    means: &mut Means<'i>,
+    form: &Node,
+    place: usize,
+    subject: Subject<'i>,
+    depth: u8,
+) -> Said
+    ensures { Ends (language_of table.now) (M.type_move (type_view form.now) place (subject_view subject.entry)) means.old.left means.new.left (said_view result) }
+{
+    match form {
+        Node::Plain(test) => tested(test, place, subject),
+        Node::Ref(to) => type_says(table, means, *to, place, subject, depth),
+        Node::Choice(members) => choice_says(table, means, members, place, subject, depth),
+        Node::ArrayOf(group) => match items_of(subject) {
+            Some(items) => array_said(group_does(
+                table,
+                means,
+                *group,
+                place,
+                plus(place, 1),
+                items,
+                depth,
+            )),
+            None => Said::No { far: place },
+        },
+        Node::TagOf(number, node) => match subject {
+            Subject::Item(Item::Tag(found, content)) => {
+                tag_says(table, means, *number, *node, place, *found, content, depth)
+            }
+            _ => Said::No { far: place },
+        },
+        Node::SimpleBy(head) => match simple_of(subject) {
+            Some(number) => {
+                let number = Subject::Number(number);
+                simple_said(place, type_says(table, means, *head, place, number, depth))
+            }
+            None => Said::No { far: place },
+        },
+        Node::MapOf(alternatives) => match pairs_of(subject) {
+            Some(pairs) => map_says(table, means, alternatives, place, pairs, depth),
+            None => Said::No { far: place },
+        },
+        Node::Both(left, right) => match type_says(table, means, *left, place, subject, depth) {
+            Said::Yes { .. } => type_says(table, means, *right, place, subject, depth),
+            said => said,
+        },
+        Node::Such(of, test) => {
+            let said = type_says(table, means, *of, place, subject, depth);
+            such_said(place, said, passes_test(test, subject))
+        }
+        Node::Holding(of, content, node) => {
+            match type_says(table, means, *of, place, subject, depth) {
+                Said::Yes { next } => {
+                    held_says(table, means, *content, *node, place, next, subject, depth)
+                }
+                said => said,
+            }
+        }
+    }
+}
+
+/// The first yes of these types, asked in order.
+#[cycle(saying)]
+fn choice_says<'i>(
+    table: &Table,
+    means: &mut Means<'i>,
+    members: &[TypeId],
+    place: usize,
+    subject: Subject<'i>,
+    depth: u8,
+) -> Said
+    ensures { Ends (language_of table.now) (M.next_member members.now place (subject_view subject.entry) place) means.old.left means.new.left (said_view result) }
+{
+    let mut far = place;
+    let mut left = members;
+    while let Some((member, others)) = left.split_first() {
+        match type_says(table, means, *member, place, subject, depth) {
+            Said::No { far: later } => far = far.max(later),
+            said => return said,
+        }
+        left = others;
+    }
+    Said::No { far }
+}
+
+/// A tag, whose number was found, is asked about that first, then about its content.
+#[cycle(saying)]
+fn tag_says<'i>(
+    table: &Table,
+    means: &mut Means<'i>,
+    number: TagNumber,
+    node: TypeId,
+    place: usize,
+    found: u64,
+    content: &'i Item,
+    depth: u8,
+) -> Said
+    ensures { Ends (language_of table.now) (M.tag_move (tag_number_view number) node place (Some (found, view content.now))) means.old.left means.new.left (said_view result) }
+{
+    let after = plus(place, 1);
+    let content = Subject::Item(content);
+    match number {
+        TagNumber::Any => type_says(table, means, node, after, content, depth),
+        TagNumber::Exactly(wanted) if wanted == found => {
+            type_says(table, means, node, after, content, depth)
+        }
+        TagNumber::Exactly(_) => Said::No { far: place },
+        TagNumber::SuchAs(head) => {
+            match type_says(table, means, head, place, Subject::Number(found), depth) {
+                Said::Yes { .. } => type_says(table, means, node, after, content, depth),
+                Said::No { .. } => Said::No { far: place },
+                said => said,
+            }
+        }
+    }
+}
+
+/// What a byte string whose own type has said yes says by what it holds. That is let go of then.
+#[cycle(saying)]
+fn held_says<'i>(
+    table: &Table,
+    means: &mut Means<'i>,
+    content: Content,
+    node: TypeId,
+    place: usize,
+    next: usize,
+    subject: Subject<'i>,
+    depth: u8,
+) -> Said
+    ensures { Ends (language_of table.now) (M.read_move (content_view content) node place next (bytes_in (subject_view subject.entry))) means.old.left means.new.left (said_view result) }
+{
+    let Some(bytes) = bytes_of(subject) else {
+        return Said::No { far: place };
+    };
+    let alloc = means.shelf.alloc;
+    let item = match held_in(alloc, content, bytes) {
+        Ok(Some(item)) => item,
+        Ok(None) => return Said::No { far: place },
+        Err(_) => return Said::Stopped(Stop::NoMemory),
+    };
+    let cells = Cells::new(alloc);
+    let mut inner = Means {
+        left: means.left,
+        shelf: Shelf::new(alloc, &cells),
+    };
+    let said = type_says(table, &mut inner, node, 0, Subject::Item(&item), depth);
+    means.left = inner.left;
+    held_said(place, next, said)
+}
+
+/// What a map at `base` says by what its alternatives say, all of them.
+#[cycle(saying)]
+fn map_says<'i>(
+    table: &Table,
+    means: &mut Means<'i>,
+    alternatives: &[Vec<MapEntry>],
+    base: usize,
+    pairs: &'i [(Item, Item)],
+    depth: u8,
+) -> Said
+    ensures { Ends (language_of table.now) (M.next_way (alternatives_view alternatives.now) base (pairs_view pairs.now) (J.Fails base)) means.old.left means.new.left (said_view result) }
+{
+    let mut tally = no_tally(means.shelf.alloc);
+    let mut sofar = Said::No { far: base };
+    let mut left = alternatives;
+    while let Some((entries, others)) = left.split_first() {
+        match alternative_says(table, means, &mut tally, entries, base, pairs, depth) {
+            Said::Stopped(stop) => return Said::Stopped(stop),
+            said => sofar = either_said(sofar, said),
+        }
+        left = others;
+    }
+    sofar
+}
+
+/// What an alternative of these entries says of the map at `base`. The tally is begun anew.
+#[cycle(saying)]
+fn alternative_says<'i>(
+    table: &Table,
+    means: &mut Means<'i>,
+    tally: &mut Tally,
+    entries: &[MapEntry],
+    base: usize,
+    pairs: &'i [(Item, Item)],
+    depth: u8,
+) -> Said
+    ensures { Says (language_of table.now) (M.OfAlternative (entries_view entries.now) base (pairs_view pairs.now)) means.old.left means.new.left (said_view result) }
+{
+    if means.left == 0 {
+        return Said::Stopped(Stop::Spent);
+    }
+    means.left -= 1;
+    let Ok(()) = begin_tally(tally, entries) else {
+        return Said::Stopped(Stop::NoMemory);
+    };
+    // Each pair takes a step, and one more for each entry.
+    let tried = entries.len() as u64;
+    let mut place = plus(base, 1);
+    let mut left = pairs;
+    while let Some((pair, others)) = left.split_first() {
+        if means.left <= tried {
+            return Said::Stopped(Stop::Spent);
+        }
+        means.left -= tried + 1;
+        let fate = match pair_fate(table, means, entries, pair, place, depth) {
+            Ok(fate) => fate,
+            Err(stop) => return Said::Stopped(stop),
+        };
+        tally_pair(tally, fate);
+        place = place_after(&pair.1, place_after(&pair.0, place));
+        left = others;
+    }
+    match shown_by_tally(entries, base, tally) {
+        Some(far) => Said::No { far },
+        None => Said::Yes { next: place },
+    }
+}
+
+/// What becomes of a pair, its key at `place`, that is tried with these entries.
+#[cycle(saying)]
+fn pair_fate<'i>(
+    table: &Table,
+    means: &mut Means<'i>,
+    entries: &[MapEntry],
+    pair: &'i (Item, Item),
+    place: usize,
+    depth: u8,
+) -> Result<Fate, Stop>
+    ensures { (all : List (F.MapEntry TypeId)) (base : ℕ) (rest : Pairs) (tally : M.Tally) → Sorts (language_of table.now) (sorting_of all base place pair.now rest tally) (entries_view entries.now) means.old.left means.new.left result }
+{
+    let mut left = entries;
+    while let Some((entry, others)) = left.split_first() {
+        left = others;
+        match type_says(
+            table,
+            means,
+            entry.key_type,
+            place,
+            Subject::Item(&pair.0),
+            depth,
+        ) {
+            Said::Yes { .. } => {}
+            Said::No { .. } => continue,
+            Said::Stopped(stop) => return Err(stop),
+        }
+        let after = others.len();
+        let value_place = place_after(&pair.0, place);
+        let value = Subject::Item(&pair.1);
+        match type_says(table, means, entry.value_type, value_place, value, depth) {
+            Said::Yes { .. } => return Ok(Fate::Matches { after }),
+            Said::No { far } => {
+                if entry.cuts {
+                    return Ok(Fate::Fails { after, far });
+                }
+            }
+            Said::Stopped(stop) => return Err(stop),
+        }
+    }
+    Ok(Fate::Stray { place })
+}
+
+/// What a group does with items. Calls are as deep as this, and what is deeper is left to frames.
+#[cycle(saying)]
+fn group_does<'i>(
+    table: &Table,
+    means: &mut Means<'i>,
+    group: GroupId,
+    base: usize,
+    place: usize,
+    items: &'i [Item],
+    depth: u8,
+) -> Result<Reply<'i>, Stop>
+    ensures { Says (language_of table.now) (M.OfGroup group base place (values items.now)) means.old.left means.new.left (done_view result) }
+{
+    if depth == 0 {
+        return group_by_frames(table, means, group, base, place, items);
+    }
+    let (behind, passed) = group_behind(table, group);
+    let Some(left) = means.left.checked_sub(u64::from(passed) + 1) else {
+        return Err(Stop::Spent);
+    };
+    means.left = left;
+    match table.group(behind) {
+        Some(form) => group_form_does(table, means, form, base, place, items, depth - 1),
+        None => Ok(Reply::Fails { far: base }),
+    }
+}
+
+/// What a group of this form does with items.
+#[cycle(saying)]
+fn group_form_does<'i>(
+    table: &Table,
+    means: &mut Means<'i>,
+    form: &Group,
+    base: usize,
+    place: usize,
+    items: &'i [Item],
+    depth: u8,
+) -> Result<Reply<'i>, Stop>
+    ensures { Ends (language_of table.now) (M.group_move (group_view form.now) base place (values items.now)) means.old.left means.new.left (done_view result) }
+{
+    match form {
+        Group::Entry(node) => match items.split_first() {
+            Some((item, rest)) => {
+                let said = type_says(table, means, *node, place, Subject::Item(item), depth);
+                entry_done(base, rest, said)
+            }
+            None => Ok(Reply::Fails { far: base }),
+        },
+        Group::Ref(to) => group_does(table, means, *to, base, place, items, depth),
+        Group::Sequence(parts) => parts_do(
+            table,
+            means,
+            Parts {
+                parts,
+                base,
+                place,
+                items,
+                far: base,
+            },
+            depth,
+        ),
+        Group::Alternatives(parts) => {
+            alternatives_do(table, means, parts, base, place, items, depth)
+        }
+        Group::Repeat { least, most, group } => rounds_do(
+            table,
+            means,
+            Rounds {
+                least: *least,
+                most: *most,
+                group: *group,
+                base,
+                place,
+                items,
+                far: base,
+            },
+            depth,
+        ),
+    }
+}
+
+/// What a sequence does: each group with what the one before left.
+#[cycle(saying)]
+fn parts_do<'t, 'i>(
+    table: &Table,
+    means: &mut Means<'i>,
+    parts: Parts<'t, 'i>,
+    depth: u8,
+) -> Result<Reply<'i>, Stop>
+    ensures { Ends (language_of table.now) (parts_move parts.entry) means.old.left means.new.left (done_view result) }
+{
+    let mut left = parts;
+    while let Some((part, others)) = left.parts.split_first() {
+        match group_does(
+            table, means, *part, left.base, left.place, left.items, depth,
+        )? {
+            Reply::Takes {
+                left: items,
+                next,
+                far,
+            } => {
+                left = Parts {
+                    parts: others,
+                    place: next,
+                    items,
+                    far: left.far.max(far),
+                    ..left
+                };
+            }
+            Reply::Fails { far } => {
+                return Ok(Reply::Fails {
+                    far: left.far.max(far),
+                });
+            }
+        }
+    }
+    Ok(Reply::Takes {
+        left: left.items,
+        next: left.place,
+        far: left.far,
+    })
+}
+
+/// What a choice of groups does: the first of them that does not fail.
+#[cycle(saying)]
+fn alternatives_do<'i>(
+    table: &Table,
+    means: &mut Means<'i>,
+    parts: &[GroupId],
+    base: usize,
+    place: usize,
+    items: &'i [Item],
+    depth: u8,
+) -> Result<Reply<'i>, Stop>
+    ensures { Ends (language_of table.now) (M.next_alternative parts.now base place (values items.now) base) means.old.left means.new.left (done_view result) }
+{
+    let mut far = base;
+    let mut parts = parts;
+    while let Some((part, others)) = parts.split_first() {
+        match group_does(table, means, *part, base, place, items, depth)? {
+            Reply::Takes {
+                left,
+                next,
+                far: later,
+            } => {
+                return Ok(Reply::Takes {
+                    left,
+                    next,
+                    far: far.max(later),
+                });
+            }
+            Reply::Fails { far: later } => far = far.max(later),
+        }
+        parts = others;
+    }
+    Ok(Reply::Fails { far })
+}
+
+/// What a repetition does: rounds until one fails, or as many as may be.
+#[cycle(saying)]
+fn rounds_do<'i>(
+    table: &Table,
+    means: &mut Means<'i>,
+    rounds: Rounds<'i>,
+    depth: u8,
+) -> Result<Reply<'i>, Stop>
+    ensures { Ends (language_of table.now) (rounds_move rounds.entry) means.old.left means.new.left (done_view result) }
+{
+    let mut rounds = rounds;
+    while !is_over(rounds.most) {
+        let Rounds {
+            group,
+            base,
+            place,
+            items,
+            ..
+        } = rounds;
+        let reply = group_does(table, means, group, base, place, items, depth)?;
+        match after_round(rounds, reply) {
+            Round::Another(others) => rounds = others,
+            Round::Over(reply) => return Ok(reply),
+        }
+    }
+    Ok(Reply::Takes {
+        left: rounds.items,
+        next: rounds.place,
+        far: rounds.far,
+    })
+}
