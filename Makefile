@@ -30,13 +30,16 @@ edits:
 
 bench: build
 	@$(PYTHON) bench/run.py build/cddlseq
+	@$(PYTHON) bench/decoders.py build/cddlseq
 	cd crates/cddl_count && $(RT) run < /dev/null > /dev/null
 	@$(PYTHON) bench/tokens.py crates/cddl_count/out/cddl_count
 	@$(PYTHON) bench/specifications.py build/cddlseq
 
 install: build
 	install -D -m 755 build/cddlseq "$(DESTDIR)$(PREFIX)/bin/cddlseq"
-	install -D -m 644 docs/cddlseq.1 "$(DESTDIR)$(PREFIX)/share/man/man1/cddlseq.1"
+	install -D -m 644 man/cddlseq.1 "$(DESTDIR)$(PREFIX)/share/man/man1/cddlseq.1"
+	install -D -m 644 completions/cddlseq.bash "$(DESTDIR)$(PREFIX)/share/bash-completion/completions/cddlseq"
+	install -D -m 644 completions/_cddlseq "$(DESTDIR)$(PREFIX)/share/zsh/site-functions/_cddlseq"
 
 clean:
 	rm -rf build bench/data crates/*/out

@@ -26,6 +26,7 @@ import recognizer
 from run_grammar import run_grammar
 from run_memory import run_memory
 from run_rows import TOP, run_rows
+from test_completions import are_completions_right
 from test_imports import are_imports_clean
 from test_man import is_page_right
 from test_wrong_edits import run_tests
@@ -128,6 +129,7 @@ def rows():
         ("rows on the built program", lambda: run_rows(PROGRAM)),
         ("commands and tests with each request for memory refused", lambda: run_memory(PROGRAM, TESTS)),
         ("comparisons of the man page with the program's help", lambda: (1, 0) if is_page_right(PROGRAM) else (0, 1)),
+        ("comparisons of the completions with the program's help", lambda: (1, 0) if are_completions_right(PROGRAM) else (0, 1)),
         ("rows of the grammar", lambda: run_grammar(OUTLINE)),
         ("comparisons with a plain recognizer", lambda: recognizer.compare(OUTLINE)),
     ):

@@ -29,6 +29,8 @@ COMMANDS = [
     ["validate", GATEWAY, BROKEN],
     ["show", BROKEN],
     ["rewrite", GATEWAY, BROKEN],
+    ["show", "no such\tfile"],
+    ["show", "--depth", "\x1b0"],
     ["validate", COSE, COSE_BROKEN],
     ["check", "a = [b, c<int>, ~d, &(x: 1)]\nb = (int // tstr)\nc<t> = [* t]\nd = #6.1(any)\n"],
     ["check", "a = [b]\nb = (int // c)\n"],

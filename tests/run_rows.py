@@ -13,13 +13,15 @@ from what the program printed.
                         with the row's specification
   spec, spec_hex        the specification: a text, or bytes in hex. Without either there is no such file
   spec_parts            the same, as a list of [text, count]
+  spec_numbered         the same, as [text, count, rest]: the text for each number n from 0 to count - 1, with n in the place
+                        of {n} and n + 1 in that of {next}, and then the rest
   spec_file             the same, as a file of this repository
   stdin, stdin_parts    the stream: bytes in hex, or a list of [hex, count], each taken count times. Without either the
                         program is run once, with empty standard input
   stdin_file            the same, as a file of this repository
   stdout, stderr        what has to come: a text, a list of lines, or null for some text that isn't fixed, but not none.
                         Left out, it is nothing at all
-  stdout_hex            the same, as bytes in hex
+  stdout_hex            the same, as bytes in hex, or a list of [hex, count]
   stdout_parts          the same, as a list of [text, count]
   stdout_file           the same, as a file of this repository
   items, end            the same, for long reports: a list of [notation, bytes, count] for the accepted items, and the end
@@ -84,6 +86,9 @@ def spec_of(row):
         return bytes.fromhex(row["spec_hex"])
     if "spec_parts" in row:
         return spelled(row["spec_parts"])
+    if "spec_numbered" in row:
+        text, count, rest = row["spec_numbered"]
+        return ("".join(text.format(n=it, next=it + 1) for it in range(count)) + rest).encode()
     return row["spec"].encode() if "spec" in row else None
 
 
@@ -111,7 +116,7 @@ def output_of(row):
     if "stdout_file" in row:
         return file_of(row["stdout_file"])
     if "stdout_hex" in row:
-        return bytes.fromhex(row["stdout_hex"])
+        return joined(row["stdout_hex"] if isinstance(row["stdout_hex"], list) else [[row["stdout_hex"], 1]])
     if "items" in row or "end" in row:
         return report_of(row.get("items", []), row.get("end"))
     text = row.get("stdout_parts", row.get("stdout", ""))

@@ -12,7 +12,7 @@ import subprocess
 import sys
 
 TOP = os.path.dirname(os.path.dirname(os.path.abspath(__file__)))
-PAGE = os.path.join(TOP, "docs", "cddlseq.1")
+PAGE = os.path.join(TOP, "man", "cddlseq.1")
 OPTION = re.compile(r"(?<![\w-])--?[A-Za-z][\w-]*")
 
 

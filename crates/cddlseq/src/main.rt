@@ -5,21 +5,19 @@
 use cbor_item::Counted;
 use cddl_table::Table;
 use cddl_tool::{
-    BROKEN, Options, Task, Use, accept, act, options, read_text, ready, say, say_of_file,
-    say_words, stream_name,
+    Options, Task, Use, accept, act, options_of_arguments, read_text, ready, say_no_memory,
+    say_no_text, say_of_file, say_words, stream_name,
 };
-use std::alloc::{AllocError, Global};
-use std::env::Env;
 use std::io::{self, ErrorKind, Read, Write};
 use std::process::ExitCode;
-use std::{env, fs, str};
+use std::{env, fs};
 
 fn main(rt: HostRuntime) -> ExitCode {
     let mut err = Counted::new(rt.stderr());
     let status = match arguments(&rt) {
         Ok(words) => program(&rt, words.as_slice(), &mut err),
-        Err(error) if error.kind() == ErrorKind::OutOfMemory => out_of_memory(&mut err),
-        Err(_) => say_no_text(&rt, &mut err),
+        Err(error) if error.kind() == ErrorKind::OutOfMemory => say_no_memory(&mut err),
+        Err(_) => say_no_text(rt.alloc(), &rt, &mut err),
     };
     ExitCode::from(status)
 }
@@ -28,58 +26,16 @@ fn arguments(rt: &HostRuntime) -> io::Result<Vec<String>> {
     Ok(env::args(rt)?.collect(rt.alloc())?)
 }
 
-// How many bytes an argument may have: as many as the system lets one have.
-const MOST_ARGUMENT: usize = 131_072;
-
-// Says which argument is not UTF-8. The program's own name has the number 0.
-fn say_no_text<E: Write>(rt: &HostRuntime, err: &mut Counted<E>) -> u8 {
-    let Ok(number) = number_of_no_text(rt) else {
-        return out_of_memory(err);
-    };
-    let Ok(line) = format!(in rt.alloc(); "argument {number} is not UTF-8\n") else {
-        return out_of_memory(err);
-    };
-    say(line.as_str().as_bytes(), err);
-    BROKEN
-}
-
-fn number_of_no_text(rt: &HostRuntime) -> Result<usize, AllocError> {
-    let mut buffer: Vec<u8> = Vec::new(rt.alloc());
-    buffer.resize(MOST_ARGUMENT, 0)?;
-    for number in 0..usize::MAX {
-        match rt.arg(number, &mut buffer) {
-            Ok(len) if is_text(&buffer, len) => {}
-            _ => return Ok(number),
-        }
-    }
-    Ok(0)
-}
-
-fn is_text(buffer: &[u8], len: usize) -> bool {
-    match buffer.get(..len) {
-        Some(argument) => str::from_utf8(argument).is_ok(),
-        None => false,
-    }
-}
-
 // Does what the words say, and answers the exit status.
 fn program<E: Write>(rt: &HostRuntime, words: &[String], err: &mut Counted<E>) -> u8 {
-    match options_of(rt.alloc(), words) {
+    match options_of_arguments(rt.alloc(), words) {
         Ok(options) => perform(rt, &options, err),
         Err(Use::Words(error)) => {
             let mut output = Counted::new(rt.stdout());
             say_words(rt.alloc(), &error, &mut output, err)
         }
-        Err(Use::Memory) => out_of_memory(err),
+        Err(Use::Memory) => say_no_memory(err),
     }
-}
-
-fn options_of(alloc: Global, words: &[String]) -> Result<Options, Use> {
-    let mut texts = Vec::new(alloc);
-    for word in words {
-        texts.push(word.as_str()).map_err(AllocError::from)?;
-    }
-    options(alloc, texts.as_slice())
 }
 
 // Reads the specification, if there is one to read, and then the stream, if there is one.
@@ -114,7 +70,7 @@ fn text_of<E: Write>(
     };
     match fs::open(rt, name.as_str()) {
         Ok(mut file) => read_text(rt.alloc(), &mut file, name.as_str(), err),
-        Err(_) => Err(say_of_file("cannot open ", name.as_str(), err)),
+        Err(_) => Err(say_of_file(rt.alloc(), "cannot open ", name.as_str(), err)),
     }
 }
 
@@ -130,7 +86,7 @@ fn go_through<E: Write>(
     };
     match fs::open(rt, name) {
         Ok(file) => go_through_device(rt, options, table, file, err),
-        Err(_) => say_of_file("cannot open ", name, err),
+        Err(_) => say_of_file(rt.alloc(), "cannot open ", name, err),
     }
 }
 
@@ -144,9 +100,4 @@ fn go_through_device<R: Read + Drop, E: Write>(
     let mut input = Counted::new(device);
     let mut output = Counted::new(rt.stdout());
     act(rt.alloc(), options, table, &mut input, &mut output, err)
-}
-
-fn out_of_memory<E: Write>(err: &mut Counted<E>) -> u8 {
-    say(b"out of memory\n", err);
-    BROKEN
 }

@@ -92,11 +92,12 @@ impl Write for Sink {
     }
 }
 
-/// Has room for 128 bytes, and takes no memory.
+/// Has room for 128 bytes, and takes no memory. It takes a piece at once, as far as there is room.
 #[derive(Drop)]
 pub struct Sheet {
     bytes: [u8; 128],
     len: usize,
+    writes: usize,
 }
 
 impl Sheet {
@@ -104,7 +105,13 @@ impl Sheet {
         Sheet {
             bytes: [0; 128],
             len: 0,
+            writes: 0,
         }
+    }
+
+    /// How often it was asked to take something.
+    pub(crate) fn writes(&self) -> usize {
+        self.writes
     }
 
     pub(crate) fn taken(&self) -> &[u8] {
@@ -118,6 +125,7 @@ impl Write for Sheet {
         let count = buf.len().min(rest.len());
         rest[..count].copy_from_slice(&buf[..count]);
         self.len = self.len.saturating_add(count);
+        self.writes = self.writes.saturating_add(1);
         Ok(count)
     }
 

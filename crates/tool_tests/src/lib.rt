@@ -5,6 +5,8 @@
 #[cfg(test)]
 mod acting;
 #[cfg(test)]
+mod arguments;
+#[cfg(test)]
 mod devices;
 #[cfg(test)]
 mod lines;

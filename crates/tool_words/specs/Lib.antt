@@ -1,3 +1,4 @@
 pub mod Chosen
 pub mod Errors
 pub mod Reading
+pub mod Shown

@@ -1,14 +1,17 @@
 //! The words of the command line, the text of a specification's file, and the lines on standard error of the program `cddlseq`.
 #![tactic(auto)]
 
+mod arguments;
 mod choice;
 mod lines;
+mod shown;
 mod status;
 mod text;
 mod words;
 
+pub use crate::arguments::{options_of_arguments, say_no_text};
 pub use crate::choice::{Options, STEPS, Task, Use, stream_name};
-pub use crate::lines::{say, say_of_file, say_words};
+pub use crate::lines::{say, say_no_memory, say_of_file, say_words};
 pub use crate::status::{BROKEN, FAILED, REFUSED};
 pub use crate::text::read_text;
 pub use crate::words::{VERSION, options};

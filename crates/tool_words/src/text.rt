@@ -2,9 +2,9 @@
 
 ghost use Rattle.std.specs.Prelude.{◌≡◌, ◌≤◌, drop, length, take, IfErr, IfOk, IfSome, OnOk, Some, vec_items};
 ghost use Rattle.tool_words.specs.Reading.{most_read, IsReadWithin};
+ghost use Rattle.tool_words.specs.declared.status.TheConstants.{BROKEN};
 
-use crate::lines::{say, say_of_file};
-use crate::status::BROKEN;
+use crate::lines::{say_no_memory, say_of_file};
 use cbor_item::Counted;
 use cddl_token::SOURCE_LIMIT;
 use std::alloc::Global;
@@ -36,11 +36,8 @@ pub fn read_text<R: Read, E: Write>(
 {
     match read_front(alloc, file) {
         Ok(text) => Ok(text),
-        Err(error) if error.kind() == ErrorKind::OutOfMemory => {
-            say(b"out of memory\n", err);
-            Err(BROKEN)
-        }
-        Err(_) => Err(say_of_file("cannot read ", name, err)),
+        Err(error) if error.kind() == ErrorKind::OutOfMemory => Err(say_no_memory(err)),
+        Err(_) => Err(say_of_file(alloc, "cannot read ", name, err)),
     }
 }
 

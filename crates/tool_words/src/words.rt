@@ -4,9 +4,10 @@ ghost use Rattle.std.specs.Prelude.{◌≡◌, ℕ, codes, false, map, IfOk, IfE
 ghost use Rattle.cbor_data.specs.Faults.{Bounds};
 ghost use Rattle.clap.specs.Words.{app_of, first_value, found_of, one_text, rows_of, rule_of};
 ghost use Rattle.clap.specs.declared.builder.command.Command.TheViews.{out-Command};
-ghost use Rattle.tool_words.specs.Chosen.{check_app, file_rule, is_set, judging_app, most_steps, number_rule, program_app, quiet_rule, rewrite_app, root_rule, show_app, spec_app, spec_rule, steps_rule, stream_app, top_app, validate_app, AreChosen, AreLimits, AreRead, AreTaskLimits, AreTaskSteps, AreUnread, IsMisuse, IsNumber};
+ghost use Rattle.tool_words.specs.Chosen.{check_app, file_rule, is_set, judging_app, most_steps, number_rule, program_app, quiet_rule, rewrite_app, root_rule, show_app, spec_app, spec_rule, steps_rule, stream_app, top_app, validate_app, AreChosen, AreLimits, AreRead, AreTaskLimits, AreTaskSteps, AreUnread, IsMisuse, IsNumber, IsToldOf};
 
 use crate::choice::{Options, STEPS, Task, Use};
+use crate::shown::push_shown;
 use cbor_read::{Limits, MOST_DEPTH, MOST_ITEM_BYTES};
 use clap::builder::ValueParser;
 use clap::error::ErrorKind;
@@ -70,8 +71,57 @@ Exit status:
 /// # Errors
 ///
 /// [`Use::Words`] where the words are no such command, or ask for help or by `--version` for the version; [`Use::Memory`]
-/// where an allocation was refused.
+/// where an allocation was refused. What clap says of wrong words has no control characters of theirs: each is shown as `\u`
+/// and four hex digits.
 pub fn options(alloc: Global, words: &[&str]) -> Result<Options, Use>
+    ensures chosen { IfOk result (λ o. AreChosen o (map (λ w. w.now) words.entry.now)) }
+    ensures misuse { IfErr result (IsMisuse (map (λ w. w.now) words.entry.now)) }
+{
+    match chosen(alloc, words) {
+        Ok(options) => Ok(options),
+        Err(why) => Err(told(alloc, words, why)),
+    }
+}
+
+// Why the words give no options, in words that can be printed: clap tells it of the words as they are shown.
+fn told(alloc: Global, words: &[&str], why: Use) -> Use
+    ensures { IsToldOf why result }
+{
+    match why {
+        Use::Words(error) => {
+            if !error.use_stderr() {
+                return Use::Words(error);
+            }
+            match shown_misuse(alloc, words) {
+                Ok(why) => why,
+                Err(_) => Use::Memory,
+            }
+        }
+        Use::Memory => Use::Memory,
+    }
+}
+
+// What clap says of the words as they are shown. It takes no such words where it refuses them as they are.
+fn shown_misuse(alloc: Global, words: &[&str]) -> Result<Use, AllocError> {
+    let shown = shown_words(alloc, words)?;
+    match command(alloc)?.try_get_matches_from(shown.as_slice()) {
+        Ok(_) => Ok(misuse(alloc, ErrorKind::InvalidValue, "the words give no options")),
+        Err(error) => Ok(Use::from(error)),
+    }
+}
+
+fn shown_words(alloc: Global, words: &[&str]) -> Result<Vec<String>, AllocError> {
+    let mut shown = Vec::new(alloc);
+    for word in words {
+        let mut text = String::new(alloc);
+        push_shown(&mut text, *word)?;
+        shown.push(text)?;
+    }
+    Ok(shown)
+}
+
+// The options that the words give.
+fn chosen(alloc: Global, words: &[&str]) -> Result<Options, Use>
     ensures chosen { IfOk result (λ o. AreChosen o (map (λ w. w.now) words.entry.now)) }
     ensures misuse { IfErr result (IsMisuse (map (λ w. w.now) words.entry.now)) }
 {

@@ -2,7 +2,7 @@ use Rattle.std.proofs.Common.{◌≡◌, codes, Some, refl}
 use Rattle.clap.specs.Words.{subcommand_name_of}
 use Rattle.tool_words.specs.declared.choice.Task.TheVariants.{Check, Validate, Rewrite, Show}
 use Rattle.tool_words.proofs.Meeting.{met, no_fault, is_met, chosen_if_read, misused_if_unread, refused_result, none_met, misused}
-use Rattle.tool_words.proofs.words.options.Goals as goal
+use Rattle.tool_words.proofs.words.chosen.Goals as goal
 
 pub returns-in_err-matches-clause-misuse : goal.returns-in_err-matches-clause-misuse
 returns-in_err-matches-clause-misuse c =
