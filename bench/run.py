@@ -27,10 +27,11 @@ each item, so small numbers make some 25 bytes of output from each byte of input
 
 --mib is the first size of the streams of strings and of single numbers, 16 if left out; the second is twice that. The
 other streams' sizes change with it; since an item may have 16 MiB, N is at most 128. --only takes the streams whose
-name has TEXT. The streams are made in bench/data. The status is 1 where a growth is below 1.5 or above 2.6; for the
-maps of many keys above 3.4, since more keys than the processor's caches hold take longer each (pair by pair the growth
-would be 4). It is 1, too, where an array that is the innermost of many keys takes more than 3 times the processor time of
-the array alone: if each key's bytes were written for each map that it is a key of, that would be a hundred times.
+name has TEXT. The streams are made in bench/data. The status is 1 where a growth is below 1.5 or above 2.6. It is 1, too,
+where a stream takes more than 3 times the processor time of the one beside it: a map of many keys more than an array of
+its keys and values, which is where its keys are written for a set of them; and an array that is the innermost of many
+keys more than the array alone, which would be a hundred times if each key's bytes were written for each map that it is a
+key of.
 """
 import argparse
 import os

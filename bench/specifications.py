@@ -9,9 +9,10 @@ times are added; what the empty one costs is taken off. The columns: the speed o
 the growth of the processor time from the smaller one to the larger, which is 2 where the cost grows with the size
 alone, and the peak memory on the larger one for each of its bytes. Then 'PROGRAM validate' reads a stream of arrays
 of some 100 bytes against a specification that asks about each item in them, and against 'any', by turns; the ratio of
-the least processor time of the one to that of the other is printed. Then it reads streams of maps with 100,000 and
-with 200,000 pairs in the same way. The columns: that ratio for the larger maps, the growth of the processor time, and
-the peak memory for each pair of a map, with the specification and with 'any'.
+the least processor time of the one to that of the other is printed. So is that for byte strings against 20,000 sizes
+that none of them has to that against two. Then it reads streams of maps with 100,000 and with 200,000 pairs in the same
+way as the arrays. The columns: that ratio for the larger maps, the growth of the processor time, and the peak memory for
+each pair of a map, with the specification and with 'any'.
 
 A stream of messages with one signature, whose protected headers are in a byte string, is read against the
 specification in examples/cose_sign1.cddl and against 'any', as the arrays are. The last streams are one byte string
@@ -20,7 +21,7 @@ on, 1,000 levels of them. The columns: the ratio of the processor time for the l
 is read in it, against 'any'; the growth of the processor time; and the peak memory for each byte of the item.
 
 The status is 1 where a specification is not answered as expected, where its growth or that for a byte string is
-outside 1.4 to 2.8, where the ratio for arrays is over 1.3 or one for maps or messages over 2, where the growth for
+outside 1.4 to 2.8, where the ratio for arrays is over 1.3 or one for sizes, maps or messages over 2, where the growth for
 maps is outside 1.4 to 3.4 (more keys than the processor's caches hold take longer each), or where the specification
 takes over 64 bytes for a pair more than 'any'.
 """
@@ -45,6 +46,7 @@ MOST_MAP_RATIO, MOST_MAP_GROWTH, MOST_BYTES_A_PAIR = 2, 3.4, 64
 COSE = os.path.join(os.path.dirname(os.path.dirname(os.path.abspath(__file__))), "examples", "cose_sign1.cddl")
 MOST_COSE_RATIO = 2
 LEVELS = 1000
+STRINGS, MEMBERS, MOST_SIZES_RATIO = 2_000_000, 20_000, 2
 ACCEPTED = "accepted\n"
 
 
@@ -102,6 +104,7 @@ SPECIFICATIONS = [
     ("sides that are no literals", "r = [int", ", N .plus tstr", "]\n", "refused: C13 NotLiteral at byte 18\n"),
     ("many members of one size", "r = bstr .size (0", " / N", ")\n", ACCEPTED),
     ("many sizes", "r = [int", ", bstr .size (N / M)", "]\n", ACCEPTED),
+    ("many controls by one long controller", "r = int\ns = 0\n", "r /= (bstr / N) .size s\ns /= M0\n", "", ACCEPTED),
 ]
 
 
@@ -155,6 +158,19 @@ def check_all(program, folder):
         bad = bad or not LEAST <= growth <= MOST
         print(f"{name:36} {RUNS * length / (1 << 20) / large:8.2f} {growth:7.2f} {peak / length:9.0f}", flush=True)
     return bad
+
+
+def sizes(program, folder):
+    """Strings of one byte against a list of even numbers, none of which is 1, and then against strings of any size."""
+    path = written(folder, "strings.cborseq", b"\x41\0" * STRINGS)
+    specifications = {}
+    for count in (2, MEMBERS):
+        members = " / ".join(str(2 * number) for number in range(1, count + 1))
+        specifications[count] = written(folder, f"sizes{count}.cddl", f"r = bstr .size ({members}) / bstr\n")
+    times, = least_times(program, specifications, [path])
+    ratio = times[MEMBERS] / times[2]
+    print(f"\n{STRINGS} strings against {MEMBERS} sizes: {ratio:.2f} times as long as against 2 sizes")
+    return ratio > MOST_SIZES_RATIO
 
 
 def message(number):
@@ -288,7 +304,7 @@ def main():
     words.add_argument("program")
     program = os.path.abspath(words.parse_args().program)
     with tempfile.TemporaryDirectory() as folder:
-        bad = [it(program, folder) for it in (check_all, arrays, maps, signed_messages, byte_strings)]
+        bad = [it(program, folder) for it in (check_all, arrays, sizes, maps, signed_messages, byte_strings)]
     return 1 if any(bad) else 0
 
 

@@ -119,14 +119,33 @@ def shuffled(count):
     return random.Random(count).sample(range(1 << 20, (1 << 20) + count), count)
 
 
+def numbered(count):
+    return {key: i % 24 for i, key in enumerate(shuffled(count))}
+
+
+def named(count):
+    return {f"sensor {key}": i % 24 for i, key in enumerate(shuffled(count))}
+
+
 def map_of_numbers(count):
-    pairs = {key: i % 24 for i, key in enumerate(shuffled(count))}
-    return Made(encoded(pairs), json=json_line(pairs))
+    return Made(encoded(numbered(count)), json=json_line(numbered(count)))
 
 
 def map_of_texts(count):
-    pairs = {f"sensor {key}": i % 24 for i, key in enumerate(shuffled(count))}
-    return Made(encoded(pairs), json=json_line(pairs))
+    return Made(encoded(named(count)), json=json_line(named(count)))
+
+
+def array_of_parts(pairs):
+    """An array of a map's keys and values, one after the other."""
+    return Made(head(4, 2 * len(pairs)) + b"".join(encoded(key) + encoded(it) for key, it in pairs.items()))
+
+
+def array_of_keys_and_numbers(count):
+    return array_of_parts(numbered(count))
+
+
+def array_of_texts_and_numbers(count):
+    return array_of_parts(named(count))
 
 
 def deep_arrays(count):
@@ -184,8 +203,10 @@ STREAMS = [
     Stream("numbers, in pieces of one byte", "uint", small_numbers, MIB, writer=("dd", "bs=1", "status=none")),
     Stream("maps of ten pairs in 100 bytes", "any", messages, 80 * MESSAGES, BOTH),
     Stream("an array of numbers", "any", array_of_numbers, 1_000_000, BOTH),
-    Stream("a map with numbers as keys", "any", map_of_numbers, 100_000, BOTH, most=3.4),
-    Stream("a map with texts as keys", "any", map_of_texts, 100_000, BOTH, most=3.4),
+    Stream("a map with numbers as keys", "any", map_of_numbers, 100_000, BOTH, beside="its keys and values in an array"),
+    Stream("its keys and values in an array", "any", array_of_keys_and_numbers, 100_000, CBOR),
+    Stream("a map with texts as keys", "any", map_of_texts, 100_000, BOTH, beside="its texts and values in an array"),
+    Stream("its texts and values in an array", "any", array_of_texts_and_numbers, 100_000, CBOR),
     Stream("arrays, 256 deep", "any", deep_arrays, 4096, BOTH),
     Stream("mixed containers, 256 deep", "any", deep_mixed, 2048, CBOR),
     Stream("one item of arrays, 256 deep", "any", deep_in_one, 4096, BOTH),
