@@ -25,7 +25,7 @@ pub record Lies (b : List ℕ) (at end : ℕ) (xs : List ℕ) : Type 0 where
   pub placed : end ≡ at + length xs
   pub is : drop at b ≡ xs ++ drop end b
 
-then : (b : List ℕ) (at start end : ℕ) (xs ys : List ℕ) → Lies b at start xs → Lies b start end ys → Lies b at end (xs ++ ys)
+pub then : (b : List ℕ) (at start end : ℕ) (xs ys : List ℕ) → Lies b at start xs → Lies b start end ys → Lies b at end (xs ++ ys)
 then b at start end xs ys h k = record {
   placed = omega (arith, h.placed, k.placed, length-append xs ys);
   is = h.is ∙ (ap (λ r. xs ++ r) k.is ∙ sym (append_assoc xs ys (drop end b)));
@@ -34,7 +34,7 @@ then b at start end xs ys h k = record {
 head_lies : (b : List ℕ) (at n start m : ℕ) (h : IsArgumentAt b at n start) → get_or b at 0 / 32 ≡ m → Lies b at start (head_in h.size m n)
 head_lies b at n start m h e = subst (λ k. Lies b at start (head_in h.size k n)) e (record { placed = h.placed; is = h.is })
 
-item_of : (d : ℕ) (b : List ℕ) (at end : ℕ) (x : Value) (f : Form) → IsOk f → HasText f → x ≡ meaning f → depth_of (meaning f) ≤ d → Lies b at end (flat f) → IsItemAt d b at x end
+pub item_of : (d : ℕ) (b : List ℕ) (at end : ℕ) (x : Value) (f : Form) → IsOk f → HasText f → x ≡ meaning f → depth_of (meaning f) ≤ d → Lies b at end (flat f) → IsItemAt d b at x end
 item_of d b at end x f ok utf8 is shallow l = record { written = f; ok = ok; text = utf8; meant = is; shallow = subst (λ y. depth_of y ≤ d) (sym is) shallow; placed = l.placed; is = l.is }
 
 -- numbers
@@ -47,7 +47,7 @@ nint_item d b at n end x h m is = item_of d b at end x (nint_form h.size n) h.fi
 
 -- strings
 
-content_len : (b : List ℕ) (start len : ℕ) → start + len ≤ length b → length (take len (drop start b)) ≡ len
+pub content_len : (b : List ℕ) (start len : ℕ) → start + len ≤ length b → length (take len (drop start b)) ≡ len
 content_len b start len within = omega (arith, length-take len (drop start b), length-drop start b)
 
 content_lies : (b : List ℕ) (start len end : ℕ) → start + len ≤ length b → end ≡ start + len → Lies b start end (take len (drop start b))
@@ -58,7 +58,7 @@ content_lies b start len end within e =
       is = sym (take-append-drop len (drop start b)) ∙ ap (λ r. take len (drop start b) ++ r) same;
     }
 
-string_lies : (b : List ℕ) (at n start end m : ℕ) (h : IsArgumentAt b at n start) → get_or b at 0 / 32 ≡ m → start + n ≤ length b → end ≡ start + n → Lies b at end (head_in h.size m (length (take n (drop start b))) ++ take n (drop start b))
+pub string_lies : (b : List ℕ) (at n start end m : ℕ) (h : IsArgumentAt b at n start) → get_or b at 0 / 32 ≡ m → start + n ≤ length b → end ≡ start + n → Lies b at end (head_in h.size m (length (take n (drop start b))) ++ take n (drop start b))
 string_lies b at n start end m h e within placed =
     subst (λ k. Lies b at end (head_in h.size m k ++ take n (drop start b))) (sym (content_len b start n within))
     (then b at start end (head_in h.size m n) (take n (drop start b)) (head_lies b at n start m h e) (content_lies b start n end within placed))
@@ -73,23 +73,25 @@ text_item d b at n start end x all h m s =
 
 -- containers
 
-pub array_item : (d : ℕ) (b : List ℕ) (at n start end : ℕ) (x : Value) → IsArgumentAt b at n start → get_or b at 0 / 32 ≡ 4 → IsArrayAt d n b start x end → IsItemAt d b at x end
+pub array_item : (d : ℕ) (b : List ℕ) (at n start end : ℕ) (x : Value) → IsArgumentAt b at n start → get_or b at 0 / 32 ≡ 4 → IsArrayAt d (Some n) b start x end → IsItemAt d b at x end
 array_item d b at n start end x h m s =
     let fs = s.written in
-    let count : n ≡ forms_len fs = sym s.count in
+    let count : n ≡ forms_len fs = sym s.ends in
+    let stop : s.stop ≡ end = omega (arith, s.placed) in
     let shallow : values_depth (meanings fs) ≤ d - 1 = s.there.shallow in
     let some : 0 < d = s.some in
     item_of d b at end x (array_form h.size fs) (subst (FitsSize h.size) count h.fits, s.there.ok) s.there.text s.meant (omega arith)
-    (then b at start end (head_in h.size 4 (forms_len fs)) (forms_flat fs) (subst (λ k. Lies b at start (head_in h.size 4 k)) count (head_lies b at n start 4 h m)) (record { placed = s.there.placed; is = s.there.is }))
+    (then b at start end (head_in h.size 4 (forms_len fs)) (forms_flat fs) (subst (λ k. Lies b at start (head_in h.size 4 k)) count (head_lies b at n start 4 h m)) (subst (λ e. Lies b start e (forms_flat fs)) stop (record { placed = s.there.placed; is = s.there.is })))
 
-pub map_item : (d : ℕ) (b : List ℕ) (at n start end : ℕ) (x : Value) → IsArgumentAt b at n start → get_or b at 0 / 32 ≡ 5 → IsMapAt d n b start x end → IsItemAt d b at x end
+pub map_item : (d : ℕ) (b : List ℕ) (at n start end : ℕ) (x : Value) → IsArgumentAt b at n start → get_or b at 0 / 32 ≡ 5 → IsMapAt d (Some n) b start x end → IsItemAt d b at x end
 map_item d b at n start end x h m s =
     let ps = s.written in
-    let count : n ≡ pair_forms_len ps = sym s.count in
+    let count : n ≡ pair_forms_len ps = sym s.ends in
+    let stop : s.stop ≡ end = omega (arith, s.placed) in
     let shallow : pairs_depth (pair_meanings ps) ≤ d - 1 = s.there.shallow in
     let some : 0 < d = s.some in
     item_of d b at end x (pairs_form h.size ps) (subst (FitsSize h.size) count h.fits, s.there.ok) s.there.text s.meant (omega arith)
-    (then b at start end (head_in h.size 5 (pair_forms_len ps)) (pair_forms_flat ps) (subst (λ k. Lies b at start (head_in h.size 5 k)) count (head_lies b at n start 5 h m)) (record { placed = s.there.placed; is = s.there.is }))
+    (then b at start end (head_in h.size 5 (pair_forms_len ps)) (pair_forms_flat ps) (subst (λ k. Lies b at start (head_in h.size 5 k)) count (head_lies b at n start 5 h m)) (subst (λ e. Lies b start e (pair_forms_flat ps)) stop (record { placed = s.there.placed; is = s.there.is })))
 
 pub tag_item : (d : ℕ) (b : List ℕ) (at n start end : ℕ) (x : Value) → IsArgumentAt b at n start → get_or b at 0 / 32 ≡ 6 → IsTagAt d n b start x end → IsItemAt d b at x end
 tag_item d b at n start end x h m s =
@@ -146,6 +148,13 @@ last_of d b at n end x eight fits l s = item_of d b at end x (float_form W64 n) 
 pub last_item : (d : ℕ) (b : List ℕ) (at n end : ℕ) (x : Value) → IsArgumentAt b at n end → get_or b at 0 / 32 ≡ 7 → IsSimpleOrFloat (get_or b at 0 % 32) n x → IsItemAt d b at x end
 last_item d b at n end x h m s =
     last_of d b at n end x h.size h.fits (head_lies b at n end 7 h m) (subst (λ i. IsSimpleOrFloat i n x) (first_info b at (get_or b at 0 / 32) n h.size (drop end b) h.fits h.is) s)
+
+-- what has bytes takes some of those that are left
+pub moves : (b : List ℕ) (at end : ℕ) (xs : List ℕ) → Lies b at end xs → 0 < length xs → length b - end < length b - at
+moves b at end xs h some = omega (arith, ap length h.is, length-append xs (drop end b), length-drop at b, length-drop end b)
+
+pub item_moves : (d : ℕ) (b : List ℕ) (at end : ℕ) (x : Value) → IsItemAt d b at x end → length b - end < length b - at
+item_moves d b at end x h = moves b at end (flat h.written) (record { placed = h.placed; is = h.is }) (form_some h.written)
 
 -- the front of bytes
 

@@ -1,9 +1,28 @@
 -- Forms with one more at their end.
-use Rattle.std.proofs.Common.{◌≡◌, ℕ, suc, ◌≤◌, List, [], ◌∷◌, ◌++◌, refl, sym, ap, ◌∙◌, arith, append_assoc, append-nil}
-use Rattle.cbor_data.specs.Value.{Value, Values, no_values, value, Pairs, no_pairs, pair, depth_of, values_depth, pairs_depth}
-use Rattle.cbor_data.specs.Forms.{Form, Forms, no_forms, form, PairForms, no_pair_forms, pair_form, forms_len, pair_forms_len, flat, forms_flat, pair_forms_flat, IsOk, AreFormsOk, ArePairFormsOk, meaning, meanings, pair_meanings, HasText, HaveText, HavePairsText}
+use Rattle.std.proofs.Common.{◌≡◌, ℕ, suc, ◌≤◌, List, [], ◌∷◌, ◌++◌, length, refl, sym, ap, ◌∙◌, arith, append_assoc, append-nil}
+use Rattle.std.specs.Str.{IsUtf8}
+use Rattle.cbor_data.specs.Value.{Value, Values, no_values, value, Pairs, no_pairs, pair, AreBytes, depth_of, values_depth, pairs_depth}
+use Rattle.cbor_data.specs.Forms.{Chunk, chunk_bytes, chunks_bytes, joined, AreChunksOk, AllText, FitsSize, Form, Forms, no_forms, form, PairForms, no_pair_forms, pair_form, forms_len, pair_forms_len, flat, forms_flat, pair_forms_flat, IsOk, AreFormsOk, ArePairFormsOk, meaning, meanings, pair_meanings, HasText, HaveText, HavePairsText}
 use Rattle.cbor_item.specs.View.{view, values_view, pairs_view}
 use Rattle.cbor_item.specs.declared.item.Item.{Item}
+
+-- chunks
+
+pub chunks_bytes-with : (m : ℕ) (cs : List Chunk) (c : Chunk) → chunks_bytes m (cs ++ c ∷ []) ≡ chunks_bytes m cs ++ chunk_bytes m c
+chunks_bytes-with m [] c = append-nil (chunk_bytes m c)
+chunks_bytes-with m (a ∷ cs) c = ap (λ b. chunk_bytes m a ++ b) (chunks_bytes-with m cs c) ∙ sym (append_assoc (chunk_bytes m a) (chunks_bytes m cs) (chunk_bytes m c))
+
+pub joined-with : (cs : List Chunk) (c : Chunk) → joined (cs ++ c ∷ []) ≡ joined cs ++ c.content
+joined-with [] c = append-nil c.content
+joined-with (a ∷ cs) c = ap (λ b. a.content ++ b) (joined-with cs c) ∙ sym (append_assoc a.content (joined cs) c.content)
+
+pub chunks_ok-with : (cs : List Chunk) (c : Chunk) → AreChunksOk cs → FitsSize c.size (length c.content) → AreBytes c.content → AreChunksOk (cs ++ c ∷ [])
+chunks_ok-with [] c h fits bytes = ((fits, bytes), tt)
+chunks_ok-with (a ∷ cs) c h fits bytes = (h.0, chunks_ok-with cs c h.1 fits bytes)
+
+pub chunks_text-with : (cs : List Chunk) (c : Chunk) → AllText cs → IsUtf8 c.content → AllText (cs ++ c ∷ [])
+chunks_text-with [] c h k = (k, tt)
+chunks_text-with (a ∷ cs) c h k = (h.0, chunks_text-with cs c h.1 k)
 
 -- members
 

@@ -2,3 +2,4 @@ mod Arguments
 mod Items
 mod Joined
 mod Members
+mod ToBreak

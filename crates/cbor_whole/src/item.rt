@@ -1,20 +1,22 @@
-// Items of every kind with definite lengths.
-ghost use Rattle.std.specs.Prelude.{◌≤◌, length, IfOk, IfSome};
+// Items of every kind.
+ghost use Rattle.std.specs.Prelude.{◌<◌, ◌≤◌, length, IfOk, IfSome};
 ghost use Rattle.cbor_item.specs.View.{view};
 ghost use Rattle.cbor_whole.specs.Parts.{IsItemAt, IsArrayAt, IsMapAt, IsTagAt};
 ghost use Rattle.cbor_whole.specs.Whole.{IsWholeItem};
 
 use crate::argument::argument_at;
-use crate::leaf::{are_there, byte_string, simple_or_float, text_string};
+use crate::chunks::{byte_chunks, text_chunks};
+use crate::leaf::{byte_string, simple_or_float, text_string};
+use crate::list::{end_len, give_back, is_end, make_room, may_be_there};
 use cbor_item::Item;
 use std::alloc::{AllocError, Global};
 
 /// The item at the front of `bytes`, and how many bytes it has (RFC 8949 section 3). It has at most `depth` containers
 /// round or at some place; whether it repeats a key is not asked.
 ///
-/// `None` says nothing: no item may be there, or none that is all there, or one with a text that is not UTF-8, too deep,
-/// or with a part up to a break. Bytes are looked at once, calls are `depth` deep at most, and a declared length takes
-/// memory for 32 members at most before they are read.
+/// `None` says nothing: no item may be there, or none that is all there, or one with a text that is not UTF-8, or too
+/// deep. Bytes are looked at once, calls are `depth` deep at most, and a declared length takes memory for 32 members at
+/// most before they are read. In the end a list has room for twice its members at most.
 ///
 /// # Errors
 ///
@@ -44,15 +46,15 @@ fn item_at(
     }
     let (argument, start) = argument_at(bytes, at);
     if start == 0 {
-        return Ok(None);
+        return item_to_break(alloc, bytes, at, depth);
     }
     match bytes[at] / 32 {
         0 => Ok(Some((Item::Uint(argument), start))),
         1 => Ok(Some((Item::Nint(argument), start))),
         2 => byte_string(alloc, bytes, start, argument),
         3 => text_string(alloc, bytes, start, argument),
-        4 => array(alloc, bytes, start, depth, argument),
-        5 => map(alloc, bytes, start, depth, argument),
+        4 => array(alloc, bytes, start, depth, Some(argument)),
+        5 => map(alloc, bytes, start, depth, Some(argument)),
         6 => tag(alloc, bytes, start, depth, argument),
         _ => match simple_or_float(bytes[at] % 32, argument) {
             Some(item) => Ok(Some((item, start))),
@@ -61,64 +63,87 @@ fn item_at(
     }
 }
 
-// For how many members a list has room before they are read, at most.
-const MOST_ROOM: u64 = 32;
-
-// The array of so many members from `start` on, and where it ends.
+// The item at `at` whose parts go up to a break, and where it ends.
 #[cycle(whole)]
+fn item_to_break(
+    alloc: Global,
+    bytes: &[u8],
+    at: usize,
+    depth: u32,
+) -> Result<Option<(Item, usize)>, AllocError>
+    requires { at < length bytes.now }
+    ensures { IfOk result (λ found. IfSome found (λ r. IsItemAt depth bytes.now at (view r.0) r.1)) }
+{
+    match bytes[at] {
+        0x5f => byte_chunks(alloc, bytes, at + 1),
+        0x7f => text_chunks(alloc, bytes, at + 1),
+        0x9f => array(alloc, bytes, at + 1, depth, None),
+        0xbf => map(alloc, bytes, at + 1, depth, None),
+        _ => Ok(None),
+    }
+}
+
+// The array of so many members from `start` on, or of those up to a break, and where it ends.
+#[cycle(whole)]
+#[inline(always)]
 fn array(
     alloc: Global,
     bytes: &[u8],
     start: usize,
     depth: u32,
-    len: u64,
+    count: Option<u64>,
 ) -> Result<Option<(Item, usize)>, AllocError>
     requires { start ≤ length bytes.now }
-    ensures { IfOk result (λ found. IfSome found (λ r. IsArrayAt depth len bytes.now start (view r.0) r.1)) }
+    ensures { IfOk result (λ found. IfSome found (λ r. IsArrayAt depth count bytes.now start (view r.0) r.1)) }
 {
-    if depth == 0 || !are_there(bytes, start, len) {
+    if depth == 0 || !may_be_there(bytes, start, count) {
         return Ok(None);
     }
-    let mut items = Vec::with_capacity(alloc, len.min(MOST_ROOM) as usize)?;
+    let mut items = Vec::new(alloc);
     let mut at = start;
-    for _ in 0..len {
+    while !is_end(bytes, at, count, items.len()) {
         let Some((item, end)) = item_at(alloc, bytes, at, depth - 1)? else {
             return Ok(None);
         };
+        make_room(&mut items, count)?;
         items.push(item)?;
         at = end;
     }
-    Ok(Some((Item::Array(items), at)))
+    give_back(&mut items);
+    Ok(Some((Item::Array(items), at + end_len(count))))
 }
 
-// The map of so many pairs from `start` on, and where it ends.
+// The map of so many pairs from `start` on, or of those up to a break, and where it ends.
 #[cycle(whole)]
+#[inline(always)]
 fn map(
     alloc: Global,
     bytes: &[u8],
     start: usize,
     depth: u32,
-    len: u64,
+    count: Option<u64>,
 ) -> Result<Option<(Item, usize)>, AllocError>
     requires { start ≤ length bytes.now }
-    ensures { IfOk result (λ found. IfSome found (λ r. IsMapAt depth len bytes.now start (view r.0) r.1)) }
+    ensures { IfOk result (λ found. IfSome found (λ r. IsMapAt depth count bytes.now start (view r.0) r.1)) }
 {
-    if depth == 0 || !are_there(bytes, start, len) {
+    if depth == 0 || !may_be_there(bytes, start, count) {
         return Ok(None);
     }
-    let mut pairs = Vec::with_capacity(alloc, len.min(MOST_ROOM) as usize)?;
+    let mut pairs = Vec::new(alloc);
     let mut at = start;
-    for _ in 0..len {
+    while !is_end(bytes, at, count, pairs.len()) {
         let Some((key, after_key)) = item_at(alloc, bytes, at, depth - 1)? else {
             return Ok(None);
         };
         let Some((value, end)) = item_at(alloc, bytes, after_key, depth - 1)? else {
             return Ok(None);
         };
+        make_room(&mut pairs, count)?;
         pairs.push((key, value))?;
         at = end;
     }
-    Ok(Some((Item::Map(pairs), at)))
+    give_back(&mut pairs);
+    Ok(Some((Item::Map(pairs), at + end_len(count))))
 }
 
 // The tag of this number whose content is at `start`, and where it ends.

@@ -2,7 +2,9 @@
 #![tactic(auto)]
 
 mod argument;
+mod chunks;
 mod item;
 mod leaf;
+mod list;
 
 pub use crate::item::whole_item;

@@ -1,21 +1,30 @@
-use Rattle.std.proofs.Common.{◌+◌, ◌-◌, ◌*◌}
+use Rattle.std.proofs.Common.{◌+◌, ◌-◌, ◌*◌, length}
 use Rattle.cbor_whole.proofs.Members.{AreRead, ArePairsRead}
 use Rattle.cbor_whole.proofs.item.+whole.Given as goal
 
 abbrev pub decreases-item_at : goal.decreases-item_at
-decreases-item_at l = 2 * l.depth + 1
+decreases-item_at l = 3 * l.depth + 2
+
+abbrev pub decreases-item_to_break : goal.decreases-item_to_break
+decreases-item_to_break l = 3 * l.depth + 1
 
 abbrev pub decreases-array : goal.decreases-array
-decreases-array l = 2 * l.depth
+decreases-array l = 3 * l.depth
 
 abbrev pub decreases-map : goal.decreases-map
-decreases-map l = 2 * l.depth
+decreases-map l = 3 * l.depth
 
 abbrev pub decreases-tag : goal.decreases-tag
-decreases-tag l = 2 * l.depth
+decreases-tag l = 3 * l.depth
 
-abbrev pub invariant-array-loop : goal.invariant-array-loop
-invariant-array-loop l = AreRead (l.depth - 1) l.bytes l.start l.at l.items.items l.counter
+abbrev pub invariant-array-loop-alloc : goal.invariant-array-loop-alloc
+invariant-array-loop-alloc l = AreRead (l.depth - 1) l.bytes l.start l.at l.items.items
 
-abbrev pub invariant-map-loop : goal.invariant-map-loop
-invariant-map-loop l = ArePairsRead (l.depth - 1) l.bytes l.start l.at l.pairs.items l.counter
+abbrev pub decreases-array-loop-alloc : goal.decreases-array-loop-alloc
+decreases-array-loop-alloc l = length l.bytes - l.at
+
+abbrev pub invariant-map-loop-alloc : goal.invariant-map-loop-alloc
+invariant-map-loop-alloc l = ArePairsRead (l.depth - 1) l.bytes l.start l.at l.pairs.items
+
+abbrev pub decreases-map-loop-alloc : goal.decreases-map-loop-alloc
+decreases-map-loop-alloc l = length l.bytes - l.at

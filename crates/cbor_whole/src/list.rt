@@ -1,0 +1,81 @@
+// Lists of members or pairs: so many, or those up to a break.
+ghost use Rattle.std.specs.Prelude.{◌≡◌, ◌≤◌, length, IsTrue};
+ghost use Rattle.cbor_whole.specs.Parts.{IsBreak, IsEnd, end_length};
+
+use crate::leaf::are_there;
+use std::alloc::AllocError;
+
+/// The byte that ends what has no declared length.
+pub const BREAK: u8 = 0xff;
+
+// For how many parts a list has room before they are read, at most.
+const MOST_ROOM: usize = 32;
+
+/// Whether as many bytes are there from `start` on as there are parts, of which each has one at least.
+#[inline]
+pub fn may_be_there(bytes: &[u8], start: usize, count: Option<u64>) -> bool
+    requires { start ≤ length bytes.now }
+{
+    match count {
+        Some(count) => are_there(bytes, start, count),
+        None => true,
+    }
+}
+
+/// Whether a list ends at `at`, where so many parts of it are before.
+#[inline]
+pub fn is_end(bytes: &[u8], at: usize, count: Option<u64>, read: usize) -> bool
+    ensures { IsTrue result → IsEnd count read bytes.now at }
+{
+    match count {
+        Some(count) => read as u64 == count,
+        None => is_break(bytes, at),
+    }
+}
+
+/// Whether there is a break at `at`.
+#[inline]
+pub fn is_break(bytes: &[u8], at: usize) -> bool
+    ensures { IsTrue result → IsBreak bytes.now at }
+{
+    at < bytes.len() && bytes[at] == BREAK
+}
+
+/// How many bytes the end of a list has.
+#[inline]
+pub fn end_len(count: Option<u64>) -> usize
+    ensures { result ≡ end_length count }
+{
+    match count {
+        Some(_) => 0,
+        None => 1,
+    }
+}
+
+/// Makes room for a further part, where there is none: twice as much, but no more than for all parts where these are
+/// counted. At first it is for two, or for as many as are counted, up to [`MOST_ROOM`].
+#[inline]
+pub fn make_room<T>(list: &mut Vec<T>, count: Option<u64>) -> Result<(), AllocError>
+    ensures { list.new.items ≡ list.old.items }
+{
+    let read = list.len();
+    if read < list.capacity() {
+        return Ok(());
+    }
+    let more = match count {
+        Some(count) => (count.saturating_sub(read as u64) as usize).min(read.max(MOST_ROOM)),
+        None => read.max(2),
+    };
+    list.reserve_exact(more)
+}
+
+/// Gives back the room that a long list does not need. A short list up to a break may keep it: with as much again it takes
+/// less than 64 bytes for each byte that its parts are read from.
+#[inline]
+pub fn give_back<T>(list: &mut Vec<T>)
+    ensures { list.new.items ≡ list.old.items }
+{
+    if list.len() > MOST_ROOM {
+        list.shrink_to_fit();
+    }
+}
