@@ -1,6 +1,6 @@
 -- What an item that is whole at the front of bytes comes to.
-use Rattle.std.proofs.Common.{◌≡◌, ℕ, ◌+◌, ◌-◌, ◌<◌, ◌≤◌, ◌^◌, min, List, [], ◌++◌, length, take, Some, nat_le, true, refl, sym, ap, ◌∙◌, subst, arith, append-nil, length-take}
-use Rattle.std.proofs.lemmas.List.{take-take}
+use Rattle.std.proofs.Common.{◌≡◌, ℕ, ◌+◌, ◌-◌, ◌<◌, ◌≤◌, ◌^◌, min, List, [], ◌++◌, length, take, drop, Some, nat_le, true, refl, sym, ap, ◌∙◌, subst, arith, append-nil, length-take}
+use Rattle.std.proofs.lemmas.List.{take-append-drop, take-take}
 use Rattle.std.proofs.lemmas.Bool.Decides.{nat_tests}
 use Rattle.cbor_data.specs.Value.{Value, depth_of, AreBytes}
 use Rattle.cbor_data.specs.Forms.{Form, flat, HasText, meaning, Spells}
@@ -38,19 +38,23 @@ spelled_leads d x b s h =
     let t : nat_le (depth_of (meaning f) + 0) d ≡ true = fits (depth_of (meaning f) + 0) d (omega arith) in
     ap (steps_in d (item [])) (s.is ∙ sym (append-nil (flat f))) ∙ (item_in d f [] [] s.ok (omega arith) ∙ rw t refl)
 
-spelled_means : (x : Value) (b : List ℕ) → Spells x b → IsValueOf b x
-spelled_means x b s = record {
+-- what has a spelling at the front of bytes is their value, where they are one item
+front_means : (x : Value) (b front back : List ℕ) → Spells x front → front ++ back ≡ b → IsValueOf b x
+front_means x b front back s parts = record {
   means = λ g ok is.
-      let same : s.written ≡ g = (one_form s.written g [] [] s.ok ok (ap (λ c. c ++ []) (sym s.is ∙ is))).0 in
+      let same : s.written ≡ g = (one_form s.written g back [] s.ok ok (ap (λ c. c ++ back) (sym s.is) ∙ (parts ∙ (is ∙ sym (append-nil (flat g)))))).0 in
       (subst HasText same s.text, s.meant ∙ ap meaning same);
 }
+
+pub whole_means : (d : ℕ) (b : List ℕ) (x : Value) (n : ℕ) → IsWholeItem d b x n → IsValueOf b x
+whole_means d b x n h = front_means x b (take n b) (drop n b) h.spells (take-append-drop n b)
 
 pub front_outcome : (d : ℕ) (b : List ℕ) (n : ℕ) (x : Value) (out : Outcome) → AreBytes b → IsWholeItem d b x n → IsSettled x out → IsFrontOutcome d b n out
 front_outcome d b n x out all h s = record {
   some = h.some;
   within = h.within;
   leads = record { are = bytes-take n b all; is = spelled_leads d x (take n b) h.spells h.shallow };
-  comes = λ l o r. settled l o (take n b) x out r (spelled_means x (take n b) h.spells) s;
+  comes = λ l o r. settled l o (take n b) x out r (front_means x (take n b) (take n b) [] h.spells (append-nil (take n b))) s;
 }
 
 -- the same, of a piece as far as it has room

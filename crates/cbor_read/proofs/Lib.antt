@@ -8,3 +8,4 @@ mod Fronts
 mod Joined
 mod Wrong
 mod Somewhere
+mod Small

@@ -1,7 +1,7 @@
 -- What the answers of the reader's calls say.
-use Rattle.std.specs.Prelude.{◌≡◌, ◌≢◌, ℕ, ◌+◌, ◌<◌, ◌≤◌, List, [], ◌++◌, length, take, Option, Some, None, Result, Ok, Err, alloc_error}
+use Rattle.std.specs.Prelude.{◌≡◌, ◌≢◌, ℕ, ◌+◌, ◌<◌, ◌≤◌, List, [], ◌∷◌, ◌++◌, length, take, Option, Some, None, Result, Ok, Err, alloc_error}
 use Rattle.std.specs.declared.alloc.AllocError.{AllocError}
-use Rattle.cbor_data.specs.Value.{Value}
+use Rattle.cbor_data.specs.Value.{Value, uint}
 use Rattle.cbor_data.specs.Forms.{IsWellFormed, IsUnfinished}
 use Rattle.cbor_data.specs.Faults.{BeginsWithin, IsClearBefore, IsItem, IsFaultOf}
 use Rattle.cbor_read.specs.Reading.{Reading}
@@ -26,6 +26,13 @@ pub record IsTaken (old : Reading) (piece : List ℕ) (used : ℕ) (x : Value) (
   pub within : used ≤ length piece
   pub item : IsItem old.limits old.offset x (old.fed ++ take used piece)
   pub next : new ≡ record { limits = old.limits; offset = old.offset + length (old.fed ++ take used piece); fed = []; stopped = None }
+
+-- The unsigned integer n, which is below 24 and the first byte of the piece, was taken, and the next item begins after it.
+pub record IsSmallTaken (old : Reading) (piece : List ℕ) (n : ℕ) (new : Reading) : Type 0 where
+  pub small : n < 24
+  pub going : old.stopped ≡ None
+  pub first : take 1 piece ≡ n ∷ []
+  pub taken : IsTaken old piece 1 (uint n) new
 
 -- How far a piece is used before a fault of this kind at this place is told: up to the fault's byte, or, where the item
 -- is whole, up to its end.

@@ -5,7 +5,7 @@ ghost use Rattle.cbor_data.specs.Embedded.{EmbedsAll};
 ghost use Rattle.cbor_read.specs.Firsts.{IsFirst};
 
 use crate::limits::MOST_DEPTH;
-use crate::value::{Outcome, front_value, value_of};
+use crate::value::{Outcome, front_value, plain_value_of};
 use cbor_form::{FormReader, Progress};
 use cbor_item::Sound;
 use std::alloc::{AllocError, Global};
@@ -57,7 +57,7 @@ fn followed_item(alloc: Global, bytes: &[u8]) -> Result<Option<(usize, Sound)>, 
     let Progress::Whole { used } = form.read(MOST_DEPTH, bytes)? else {
         return Ok(None);
     };
-    match value_of(alloc, 0, &bytes[..used])? {
+    match plain_value_of(alloc, 0, &bytes[..used])? {
         Outcome::Item(item) => Ok(Some((used, item))),
         Outcome::Fault(_) => Ok(None),
     }

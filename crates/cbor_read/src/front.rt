@@ -5,7 +5,7 @@ ghost use Rattle.cbor_read.specs.Fronts.{IsFront};
 use crate::fault::Fault;
 use crate::follow::{Advance, fault_at_end, follow};
 use crate::limits::Limits;
-use crate::value::{Outcome, value_of};
+use crate::value::{Outcome, plain_value_of};
 use cbor_form::FormReader;
 use cbor_item::Sound;
 use std::alloc::{AllocError, Global};
@@ -41,7 +41,7 @@ pub fn read_front(
     let mut form = FormReader::new(alloc);
     match follow(limits, offset, &[], &mut form, bytes)? {
         Advance::Open => Ok(Front::Fault(fault_at_end(limits, offset, bytes))),
-        Advance::Whole { used } => match value_of(alloc, offset, &bytes[..used])? {
+        Advance::Whole { used } => match plain_value_of(alloc, offset, &bytes[..used])? {
             Outcome::Item(item) => Ok(Front::Item { length: used, item }),
             Outcome::Fault(fault) => Ok(Front::Fault(fault)),
         },

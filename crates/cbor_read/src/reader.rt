@@ -1,9 +1,9 @@
 // Reads items from pieces.
-ghost use Rattle.std.specs.Prelude.{◌≡◌, ◌≢◌, ◌+◌, ◌<◌, ◌^◌, [], ◌++◌, length, None, IfOk, IfSome};
+ghost use Rattle.std.specs.Prelude.{◌≡◌, ◌≢◌, ◌+◌, ◌<◌, ◌^◌, [], ◌++◌, length, None, IfNone, IfOk, IfSome};
 ghost use Rattle.cbor_data.specs.Faults.{Bounds};
 ghost use Rattle.cbor_machine.specs.Machine.{item as item_awaited, done};
 ghost use Rattle.cbor_machine.specs.Reads.{Reads};
-ghost use Rattle.cbor_read.specs.Answers.{IsAgain, IsAnswer, IsEnd};
+ghost use Rattle.cbor_read.specs.Answers.{IsAgain, IsAnswer, IsEnd, IsSmallTaken};
 ghost use Rattle.cbor_read.specs.Outcomes.{IsOutcome};
 ghost use Rattle.cbor_read.specs.Reading.{open_reading};
 ghost use Rattle.cbor_read.specs.Turns.{IsTurn};
@@ -12,7 +12,7 @@ ghost use Rattle.cbor_value.specs.Unread.{IsWhole};
 use crate::fault::{Fault, Stop};
 use crate::follow::{Advance, fault_at_end, follow, front_of, room_of};
 use crate::limits::Limits;
-use crate::value::{Outcome, front_value, value_of};
+use crate::value::{Outcome, front_value, plain_value_of, value_of};
 use cbor_form::FormReader;
 use cbor_item::Sound;
 use history::History;
@@ -117,6 +117,24 @@ impl ItemReader {
         }
     }
 
+    /// Takes the unsigned integer below 24 at the front of the piece, where the next item begins with the piece, and answers
+    /// it. Such an item is one byte. `None` says that nothing was taken, and nothing is changed: `feed` tells what the piece
+    /// leads to. Takes no memory.
+    #[inline]
+    pub fn take_small(&mut self, piece: &[u8]) -> Option<u8>
+        ensures taken { IfSome result (λ n. IsSmallTaken self.old piece.now n self.new) }
+        ensures kept { IfNone result (self.new ≡ self.old) }
+    {
+        if self.stopped.is_some() || !self.bytes.is_empty() || self.offset == u64::MAX {
+            return None;
+        }
+        if piece.is_empty() || piece[0] >= 24 {
+            return None;
+        }
+        self.offset += 1;
+        Some(piece[0])
+    }
+
     /// Whether the stream may end here: between two items of a reader that has not stopped. Takes no memory.
     ///
     /// # Errors
@@ -146,7 +164,8 @@ fn answer_again(stop: Stop) -> Result<Fed, AllocError>
     }
 }
 
-// Reads on. Where the item goes on, the piece is added to its bytes.
+// Reads on: an item that begins here in one pass, if it is whole in the piece, and else by its form. Where it goes on, the
+// piece is added to its bytes.
 fn take_turn(
     alloc: Global,
     limits: Limits,
@@ -164,7 +183,17 @@ fn take_turn(
             return Ok(fed);
         }
     }
-    take_on(alloc, limits, offset, form, bytes, piece)
+    match follow(limits, offset, bytes, form, piece)? {
+        Advance::Open => {
+            bytes.extend_from_slice(piece)?;
+            Ok(Fed::More)
+        }
+        Advance::Whole { used } => match joined_value(alloc, offset, bytes, &piece[..used])? {
+            Outcome::Item(item) => Ok(Fed::Item { used, item }),
+            Outcome::Fault(fault) => Ok(Fed::Fault { used, fault }),
+        },
+        Advance::Fault { used, fault } => Ok(Fed::Fault { used, fault }),
+    }
 }
 
 // The turn by the item at the front of the piece, where that is read in one pass.
@@ -186,34 +215,8 @@ fn take_whole(
     }
 }
 
-// The turn that follows the item's form.
-fn take_on(
-    alloc: Global,
-    limits: Limits,
-    offset: u64,
-    form: &mut FormReader,
-    bytes: &mut Vec<u8>,
-    piece: &[u8],
-) -> Result<Fed, AllocError>
-    requires live { form.old ≢ done }
-    requires reads { Reads limits offset bytes.old.items form.old }
-    ensures { IfOk result (λ fed. IsTurn (open_reading limits offset bytes.old.items) piece.now fed bytes.new.items form.new) }
-{
-    match follow(limits, offset, bytes, form, piece)? {
-        Advance::Open => {
-            bytes.extend_from_slice(piece)?;
-            Ok(Fed::More)
-        }
-        Advance::Whole { used } => match joined_value(alloc, offset, bytes, &piece[..used])? {
-            Outcome::Item(item) => Ok(Fed::Item { used, item }),
-            Outcome::Fault(fault) => Ok(Fed::Fault { used, fault }),
-        },
-        Advance::Fault { used, fault } => Ok(Fed::Fault { used, fault }),
-    }
-}
-
-// Reads the value of the item that ends with these bytes, after the others that it has. They are not copied where they
-// are all of it.
+// Reads the value of the item that ends with these bytes, after the others that it has. Where they are all of it they were
+// tried in one pass, and are not copied.
 fn joined_value(
     alloc: Global,
     offset: u64,
@@ -225,7 +228,7 @@ fn joined_value(
     ensures { IfOk result (λ outcome. (limits : Bounds) → Reads limits offset (bytes.old.items ++ end.now) done → IsOutcome limits offset (bytes.old.items ++ end.now) outcome) }
 {
     if bytes.is_empty() {
-        return value_of(alloc, offset, end);
+        return plain_value_of(alloc, offset, end);
     }
     bytes.extend_from_slice(end)?;
     value_of(alloc, offset, bytes)

@@ -8,6 +8,7 @@ ghost use Rattle.cbor_value.specs.Unread.{IsWhole};
 ghost use Rattle.cbor_read.specs.Outcomes.{IsFrontOutcome, IsOutcome, IsSettled, IsSoundButKeys};
 
 use crate::fault::Fault;
+use crate::limits::MOST_DEPTH;
 use cbor_data::FaultKind;
 use cbor_item::{Item, Sound, Unsound};
 use cbor_value::{Unread, read_value};
@@ -21,8 +22,21 @@ pub enum Outcome {
     Fault(Fault),
 }
 
-/// Reads the value of the whole item that is at this offset, which is at most 256 containers deep.
+/// Reads the value of the whole item that is at this offset, which is at most 256 containers deep: in one pass, or by its
+/// form where that says nothing.
 pub fn value_of(alloc: Global, offset: u64, bytes: &[u8]) -> Result<Outcome, AllocError>
+    requires whole { IsWhole 256 bytes.now }
+    requires placed { offset + length bytes.now < 2 ^ 64 }
+    ensures { IfOk result (λ outcome. (limits : Bounds) → Reads limits offset bytes.now done → IsOutcome limits offset bytes.now outcome) }
+{
+    match whole_item(alloc, bytes, MOST_DEPTH)? {
+        Some((item, _)) => sound_of(alloc, item),
+        None => plain_value_of(alloc, offset, bytes),
+    }
+}
+
+/// The same by its form alone, which tells where a text is that is not UTF-8.
+pub fn plain_value_of(alloc: Global, offset: u64, bytes: &[u8]) -> Result<Outcome, AllocError>
     requires whole { IsWhole 256 bytes.now }
     requires placed { offset + length bytes.now < 2 ^ 64 }
     ensures { IfOk result (λ outcome. (limits : Bounds) → Reads limits offset bytes.now done → IsOutcome limits offset bytes.now outcome) }

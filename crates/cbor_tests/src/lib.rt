@@ -2,8 +2,6 @@
 #![tactic(auto)]
 
 #[cfg(test)]
-mod embedded;
-#[cfg(test)]
 mod form;
 #[cfg(test)]
 mod item;

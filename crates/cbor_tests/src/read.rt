@@ -31,10 +31,15 @@ static STREAMS: &str = "|clean at 0
 7f6161606162ff|0: \"ab\"; clean at 7
 7f62c3bcff|0: \"\u{fc}\"; clean at 5
 7f616161c361bcff|BadText at 3
+7f61ffff|BadText at 1
 7f7f|BadChunk at 1
 7f4161|BadChunk at 1
 8083010203|0: []; 1: [1, 2, 3]; clean at 5
 9fff9f018202039f0405ffff|0: []; 2: [1, [2, 3], [4, 5]]; clean at 12
+9f9f0102ff80bf0203ffff9f7f6161ff5f4101ff010203ff|0: [[1, 2], [], {2: 3}]; 11: [\"a\", h'01', 1, 2, 3]; clean at 24
+9f61ffff|BadText at 1
+9f9f7f616161ffffffff|BadText at 5
+9f01ff9f02|0: [1]; Truncated at 5
 9b000000010000000000|Truncated at 10
 8201|Truncated at 2
 82ff|BadBreak at 1
@@ -46,6 +51,8 @@ static STREAMS: &str = "|clean at 0
 a0a201020304|0: {}; 1: {1: 2, 3: 4}; clean at 6
 bf616101ff|0: {\"a\": 1}; clean at 5
 9f01bf6161ff|BadBreak at 5
+bf0102bfff04ff|0: {1: 2, {}: 4}; clean at 7
+bf61ff00ff|BadText at 1
 a1ff|BadBreak at 1
 a101|Truncated at 2
 a20100180100|DuplicateKey at 3
@@ -54,6 +61,7 @@ a1a20100010203|DuplicateKey at 4
 a2a18202030405a18202040406|0: {{[2, 3]: 4}: 5, {[2, 4]: 4}: 6}; clean at 13
 00a201000100|0: 0; DuplicateKey at 3
 81a201000100|DuplicateKey at 4
+9fbf01000100ffff|DuplicateKey at 4
 a30100010061ff00|BadText at 5
 c11a514b67b0d8206161|0: 1(1363896240); 6: 32(\"a\"); clean at 10
 c0ff|BadBreak at 1
@@ -102,7 +110,8 @@ static LIMITED: [(u32, u32, &str); 6] = [
 819c|ReservedInfo at 1
 81ff|BadBreak at 1
 c1c100|TooDeep at 1
-bf00bf|TooDeep at 2",
+bf00bf|TooDeep at 2
+9f00ff9f9f|0: [0]; TooDeep at 4",
     ),
     (2, 64, "8181f69f8000ff|0: [[null]]; 3: [[], 0]; clean at 7"),
 ];
@@ -511,10 +520,15 @@ fn count_items(
 #[test]
 fn stops_for_good_without_memory(rt: HostRuntime) {
     let mut reader = ItemReader::new(rt.alloc(), limits_of(&rt, 64, 100));
-    let pieces: [&[u8]; 3] = [b"\x82\x41\x01", b"\xf4\x5f\x42", b"\x01\x02\xff"];
+    let pieces: [&[u8]; 4] = [
+        b"\x82\x41\x01",
+        b"\xf4\x5f\x42",
+        b"\x01\x02\xff\x9f\x01\xbf\x02",
+        b"\x03\xff\x04\xff",
+    ];
     match count_items(&rt, rt.alloc(), &mut reader, &pieces) {
         Ok(items) => {
-            assert!(rt; items == 2);
+            assert!(rt; items == 3);
             assert!(rt; reader.at_end() == Ok(()));
         }
         Err(_) => {
@@ -523,4 +537,27 @@ fn stops_for_good_without_memory(rt: HostRuntime) {
             assert!(rt; reader.at_end() == Err(Stop::Memory));
         }
     }
+}
+
+// Each as the next item is: taken at once, inside another item, of more bytes, and behind a fault.
+#[test]
+fn takes_small_integers_between_items(rt: HostRuntime) -> Result<(), Fail> {
+    let mut reader = ItemReader::new(rt.alloc(), limits_of(&rt, 64, 100));
+    assert!(rt; reader.take_small(b"\x17\x00") == Some(23));
+    assert!(rt; reader.take_small(b"\x00") == Some(0));
+    assert!(rt; reader.at_end() == Ok(()));
+    assert!(rt; reader.take_small(b"") == None);
+    assert!(rt; reader.take_small(b"\x18\x18") == None);
+    assert!(rt; reader.take_small(b"\x20") == None);
+    assert!(rt; step_of(rt.alloc(), &mut reader, b"\x81")? == FeedAnswer::More);
+    assert!(rt; reader.take_small(b"\x01") == None);
+    assert!(rt; step_of(rt.alloc(), &mut reader, b"\x01\x02")? == FeedAnswer::Item(1));
+    assert!(rt; reader.take_small(b"\x02") == Some(2));
+    let fault = Fault {
+        at: 5,
+        kind: FaultKind::ReservedInfo,
+    };
+    assert!(rt; step_of(rt.alloc(), &mut reader, b"\x1c")? == FeedAnswer::Fault(0, fault));
+    assert!(rt; reader.take_small(b"\x02") == None);
+    Ok(())
 }

@@ -17,8 +17,8 @@ returns-in_default c =
     let answer : IsProgress 256 (item []) b c.in_ok-used.field-0 t = subst (λ s. IsProgress 256 s b c.in_ok-used.field-0 t) c.new-form.ensures c.in_ok-used.ensures.answer in
     none_first b c.in_ok-used.field-0 t answer c.in_ok-used.ensures.next c.in_default.not-Whole
 
-pub value_of-requires-clause-whole : goal.value_of-requires-clause-whole
-value_of-requires-clause-whole c =
+pub plain_value_of-requires-clause-whole : goal.plain_value_of-requires-clause-whole
+plain_value_of-requires-clause-whole c =
     let b = c.args.bytes.now in
     let used = c.in-Whole.used in
     let all : AreBytes b = are_bytes b (λ i. omega (arith, c.type_inv.bytes i)) in

@@ -2,7 +2,7 @@ use Rattle.std.proofs.Common.{◌++◌, take, subst}
 use Rattle.cbor_read.specs.Outcomes.{IsOutcome}
 use Rattle.cbor_read.specs.Steps.{IsFollowed, IsEnded}
 use Rattle.cbor_read.proofs.Turned.{value_fault}
-use Rattle.cbor_read.proofs.reader.take_on.Goals as goal
+use Rattle.cbor_read.proofs.reader.take_turn.Goals as goal
 
 pub returns-in-Fault-2 : goal.returns-in-Fault-2
 returns-in-Fault-2 c =
