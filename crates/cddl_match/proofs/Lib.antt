@@ -8,4 +8,3 @@ mod Shapes
 mod Ways
 mod Outcomes
 mod Sayings
-mod Rounds

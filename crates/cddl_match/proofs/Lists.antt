@@ -1,11 +1,11 @@
--- The members of an array, as a list and back.
-use Rattle.std.proofs.Common.{◌≡◌, ℕ, zero, suc, ◌+◌, ◌-◌, ◌<◌, ◌≤◌, ◌++◌, length, take, replicate, slice_index_or, slice_set, List, [], ◌∷◌, Option, Some, None, true, false, nat_eq, refl, ap, ◌∙◌, arith}
+-- Numbers, the members of an array as a list and back, and counts.
+use Rattle.std.proofs.Common.{◌≡◌, ℕ, zero, suc, ◌+◌, ◌-◌, ◌<◌, ◌≤◌, ◌++◌, length, take, replicate, slice_index_or, slice_set, List, [], ◌∷◌, Option, Some, None, true, false, nat_eq, refl, ap, ◌∙◌, arith, rules}
 use Rattle.std.proofs.lemmas.Bool.Decides.{nat_tests}
 use Rattle.std.proofs.Math.Seq.{take-nil}
-use Rattle.cbor_data.specs.Value.{Value, array, values_of}
+use Rattle.cbor_data.specs.Value.{Value, array, uint, values_of}
 use Rattle.cbor_item.specs.View.{pairs_view, view}
-use Rattle.cbor_item.specs.declared.item.Item.{Item}
-use Rattle.cbor_item.specs.declared.item.Item.TheVariants.{Array, Map}
+use Rattle.cbor_item.specs.declared.item.Item.{Item, the_lemmas}
+use Rattle.cbor_item.specs.declared.item.Item.TheVariants.{Array, Map, Uint}
 use Rattle.cbor_item.proofs.Lemmas.{view-Array, view-Map}
 use Rattle.std.specs.declared.vec.Vec.{Vec}
 use Rattle.std.specs.declared.alloc.Global.{Global}
@@ -18,6 +18,9 @@ use Rattle.cddl_meaning.specs.Moves.{plus, counted, enough_of, no_counts}
 use Rattle.cddl_table.specs.declared.nodes.TypeId.{TypeId}
 use Rattle.cddl_table.specs.Nodes.{entries_view}
 use Rattle.cddl_table.specs.declared.nodes.MapEntry.{MapEntry}
+
+pub view-Uint : (n : ℕ) → view (Uint n) ≡ uint n
+view-Uint n = search (rules, the_lemmas)
 
 pub list_of_values : (xs : List Value) → list_of (values_of xs) ≡ xs
 list_of_values [] = refl

@@ -6,7 +6,7 @@ use Rattle.cbor_data.specs.Value.{Value, uint, Pairs}
 use Rattle.cddl_meaning.specs.Forms as F
 use Rattle.cddl_meaning.specs.Forms.{Language, Test, passes, Node, Such, Content, Group}
 use Rattle.cddl_meaning.specs.Held.{Holds}
-use Rattle.cddl_meaning.specs.Judges.{Reply, Takes, Fails, Yes, No, BelongsTo}
+use Rattle.cddl_meaning.specs.Judges.{Reply, Takes, Fails, Yes, No, BelongsTo, is_over}
 use Rattle.cddl_meaning.specs.Moves as M
 use Rattle.cddl_meaning.specs.Moves.{Question, OfType, OfGroup, OfAlternative, Move, Answered, Asks, at_once, next_move, type_move, group_move}
 use Rattle.cddl_match.specs.Ahead.{ComesTo, Opens, IsTypeOf, IsGroupOf}
@@ -19,14 +19,15 @@ use Rattle.cddl_match.specs.declared.questions.Stop.{Stop}
 use Rattle.cddl_match.specs.declared.questions.Stop.TheVariants.{Spent, NoMemory}
 use Rattle.cddl_match.proofs.Held.{reads_on, reads_none}
 use Rattle.cddl_match.proofs.Outcomes.{says_on, ends_on, answered, few, asks, asks_stopped}
-use Rattle.cddl_match.proofs.Shapes.{IsTypeReply, says_yes, says_no, type_shape}
-use Rattle.cddl_match.proofs.Ways.{and_on, and_opens, then_comes, opens, answers, a_pair, more_than, tries_on}
+use Rattle.cddl_match.proofs.Shapes.{IsTypeReply, says_yes, type_shape}
+use Rattle.cddl_match.proofs.Ways.{and_on, and_opens, then_comes, opens, answers, tries_on}
 
 -- what is said, unless that has stopped
-pub has_said : (said : Said) → ((s : Stop) → said ≡ S.Stopped s → ⊥) → (r : Reply) × (said_view said ≡ Replied r)
-has_said (S.Yes next) h = (Takes [] next 0, refl)
-has_said (S.No far) h = (Fails far, refl)
-has_said (S.Stopped s) h = absurd (h s refl)
+pub has_said : (said : Said) → (said ≡ S.Spent → ⊥) → (said ≡ S.NoMemory → ⊥) → (r : Reply) × (said_view said ≡ Replied r)
+has_said (S.Yes next) h i = (Takes [] next 0, refl)
+has_said (S.No far) h i = (Fails far, refl)
+has_said S.Spent h i = absurd (h refl)
+has_said S.NoMemory h i = absurd (i refl)
 
 is_meant : (k n : ℕ) → k ≡ n → true ≡ nat_eq k n
 is_meant k n h = grind (arith, nat_tests)
@@ -60,13 +61,26 @@ module _ {N G : Type 0} (l : Language N G) where
   pub no_passes : (q : Question N G) (steps left : ℕ) (p : M.Pending N G) (said : Said) → ((far : ℕ) → next_move p (Fails far) ≡ Answered (Fails far)) → ((next : ℕ) → said ≡ S.Yes next → ⊥) → Says l q steps left (said_view said) → Ends l (Asks q p) steps left (said_view said)
   no_passes q steps left p (S.Yes next) e n h = absurd (n next refl)
   no_passes q steps left p (S.No far) e n h = asks l steps left left p (Replied (Fails far)) h (subst (λ m. Ends l m left left (Replied (Fails far))) (sym (e far)) (answered l left (Fails far)))
-  no_passes q steps left p (S.Stopped s) e n h = asks_stopped l q steps left p s h
+  no_passes q steps left p S.Spent e n h = asks_stopped l q steps left p Spent h
+  no_passes q steps left p S.NoMemory e n h = asks_stopped l q steps left p NoMemory h
 
   -- a member of a choice has said yes, or stopped
   pub yes_passes : (q : Question N G) (steps left : ℕ) (p : M.Pending N G) (said : Said) → ((next : ℕ) → next_move p (Takes [] next 0) ≡ Answered (Takes [] next 0)) → ((far : ℕ) → said ≡ S.No far → ⊥) → Says l q steps left (said_view said) → Ends l (Asks q p) steps left (said_view said)
   yes_passes q steps left p (S.Yes next) e n h = asks l steps left left p (Replied (Takes [] next 0)) h (subst (λ m. Ends l m left left (Replied (Takes [] next 0))) (sym (e next)) (answered l left (Takes [] next 0)))
   yes_passes q steps left p (S.No far) e n h = absurd (n far refl)
-  yes_passes q steps left p (S.Stopped s) e n h = asks_stopped l q steps left p s h
+  yes_passes q steps left p S.Spent e n h = asks_stopped l q steps left p Spent h
+  yes_passes q steps left p S.NoMemory e n h = asks_stopped l q steps left p NoMemory h
+
+  -- What was asked has stopped, since it has said neither.
+  pub stops : (q : Question N G) (steps left : ℕ) (p : M.Pending N G) (said : Said) → ((next : ℕ) → said ≡ S.Yes next → ⊥) → ((far : ℕ) → said ≡ S.No far → ⊥) → Says l q steps left (said_view said) → Ends l (Asks q p) steps left (said_view said)
+  stops q steps left p (S.Yes next) n m h = absurd (n next refl)
+  stops q steps left p (S.No far) n m h = absurd (m far refl)
+  stops q steps left p S.Spent n m h = asks_stopped l q steps left p Spent h
+  stops q steps left p S.NoMemory n m h = asks_stopped l q steps left p NoMemory h
+
+  -- A round has stopped.
+  pub round_stops : (least : ℕ) (most : F.Most) (g : G) (base q : ℕ) (xs : List Value) (far : ℕ) (s : Stop) (steps left : ℕ) → is_over most ≡ false → Says l (OfGroup g base q xs) steps left (Stopped s) → Ends l (M.repetition least most g base q xs far) steps left (Stopped s)
+  round_stops least most g base q xs far s steps left over h = subst (λ b. Ends l (M.next_round b least most g base q xs far) steps left (Stopped s)) (sym over) (asks_stopped l (OfGroup g base q xs) steps left (M.InRepeat least most g base q xs far) s h)
 
   pub array_ends : (g : G) (p : ℕ) (xs : List Value) (steps left : ℕ) (o : Outcome) → Says l (OfGroup g p (M.plus p 1) xs) steps left o → Ends l (M.array_move g p (Some xs)) steps left (array_outcome o)
   array_ends g p xs steps left (Replied r) h = asks l steps left left M.InArray (Replied (M.array_reply r)) h (answered l left (M.array_reply r))

@@ -26,7 +26,8 @@ pub data Outcome : Type 0 where
 abbrev pub said_view : Said → Outcome
 said_view (S.Yes next) = Replied (J.Takes [] next 0)
 said_view (S.No far) = Replied (J.Fails far)
-said_view (S.Stopped s) = Stopped s
+said_view S.Spent = Stopped Spent
+said_view S.NoMemory = Stopped NoMemory
 
 abbrev pub done_view : Result Reply Stop → Outcome
 done_view (Ok r) = Replied (reply_view r)

@@ -46,7 +46,7 @@ fn next_group(table: &Table, group: GroupId) -> Option<GroupId>
 }
 
 /// The type behind names and choices of one, and how many of them there are.
-#[inline]
+#[inline(always)]
 pub(crate) fn type_behind(table: &Table, node: TypeId) -> (TypeId, u8)
     ensures { IsTypeOf (language_of table.now) node result.0 result.1 }
 {
@@ -63,6 +63,7 @@ pub(crate) fn type_behind(table: &Table, node: TypeId) -> (TypeId, u8)
 }
 
 /// The group behind names and groups of one group, and how many of them there are.
+#[inline]
 pub(crate) fn group_behind(table: &Table, group: GroupId) -> (GroupId, u8)
     ensures { IsGroupOf (language_of table.now) group result.0 result.1 }
 {

@@ -2,12 +2,13 @@
 //! nest as they like.
 
 ghost use Rattle.std.specs.Prelude.{◌≡◌, ◌<◌, ◌≤◌, ◌+◌, ◌*◌, ◌-◌, ◌∷◌, ℕ, IfNone, IfOk, IfSome, vec_len};
+ghost use Rattle.cbor_item.specs.View.{view};
 ghost use Rattle.cddl_meaning.specs.Forms.{Language};
 ghost use Rattle.cddl_meaning.specs.Judges as J;
 ghost use Rattle.cddl_meaning.specs.Moves as M;
 ghost use Rattle.cddl_match.specs.Ahead.{Opens};
 ghost use Rattle.cddl_match.specs.Unwinding.{IsOnTheWay, stack_of};
-ghost use Rattle.cddl_match.specs.Views.{goes_on, move_view, pending_view, question_view, reply_view, subject_view, turns_of, values};
+ghost use Rattle.cddl_match.specs.Views.{goes_on, move_view, pending_view, question_view, reply_view, turns_of, values};
 ghost use Rattle.cddl_match.specs.Within.{Says, done_view, said_view};
 ghost use Rattle.cddl_table.specs.Language.{language_of};
 ghost use Rattle.cddl_table.specs.declared.nodes.GroupId.{GroupId};
@@ -93,23 +94,25 @@ fn after_first<'t, 'i>(
 }
 
 /// What a type says of an item.
+#[cold]
+#[inline(never)]
 pub(crate) fn type_by_frames<'i>(
     table: &Table,
     means: &mut Means<'i>,
     node: TypeId,
     place: usize,
-    subject: Subject<'i>,
+    item: &'i Item,
 ) -> Said
-    ensures { Says (language_of table.now) (M.OfType node place (subject_view subject.entry)) means.old.left means.new.left (said_view result) }
+    ensures { Says (language_of table.now) (M.OfType node place (view item.now)) means.old.left means.new.left (said_view result) }
 {
     let question = Question::OfType {
         node,
         place,
-        subject,
+        subject: Subject::Item(item),
     };
     match question_reply(table, &mut means.shelf, question, means.left) {
-        Err(_) => Said::Stopped(Stop::NoMemory),
-        Ok(None) => Said::Stopped(Stop::Spent),
+        Err(_) => Said::NoMemory,
+        Ok(None) => Said::Spent,
         Ok(Some((reply, left))) => {
             means.left = left;
             // A type's yes leaves nothing, and tells no trials that failed.
@@ -122,6 +125,8 @@ pub(crate) fn type_by_frames<'i>(
 }
 
 /// What a group does with items.
+#[cold]
+#[inline(never)]
 pub(crate) fn group_by_frames<'i>(
     table: &Table,
     means: &mut Means<'i>,

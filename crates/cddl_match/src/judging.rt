@@ -7,7 +7,7 @@ ghost use Rattle.cddl_table.specs.Language.{RootSays, language_of, root_form};
 
 use crate::answers::Verdict;
 use crate::means::Means;
-use crate::questions::{Said, Stop, Subject};
+use crate::questions::Said;
 use crate::saying::type_says;
 use crate::shelf::{Cells, Shelf};
 use cbor_item::Sound;
@@ -45,11 +45,10 @@ pub fn verdict(
         left: steps,
         shelf: Shelf::new(alloc, &cells),
     };
-    let subject = Subject::Item(item.item());
-    match type_says(table, &mut means, table.root(), 0, subject, MOST_CALLS) {
+    match type_says(table, &mut means, table.root(), 0, item.item(), MOST_CALLS) {
         Said::Yes { .. } => Ok(Verdict::Yes),
         Said::No { far } => Ok(Verdict::No { place: far }),
-        Said::Stopped(Stop::Spent) => Ok(Verdict::Spent),
-        Said::Stopped(Stop::NoMemory) => Err(AllocError),
+        Said::Spent => Ok(Verdict::Spent),
+        Said::NoMemory => Err(AllocError),
     }
 }

@@ -3,7 +3,7 @@
 ghost use Rattle.std.specs.Prelude.{◌≡◌, ◌≤◌, false, IfOk, IfSome};
 ghost use Rattle.cddl_meaning.specs.Moves as M;
 ghost use Rattle.cddl_match.specs.Ahead.{ComesTo, IsEntered, Opens};
-ghost use Rattle.cddl_match.specs.Views.{goes_on, move_view, parts_move, question_view, reply_view, rounds_move, subject_view, values};
+ghost use Rattle.cddl_match.specs.Views.{goes_on, move_view, parts_move, question_view, reply_view, round_move, rounds_move, subject_view, values};
 ghost use Rattle.cddl_table.specs.Language.{language_of};
 ghost use Rattle.cddl_table.specs.Nodes.{type_view};
 ghost use Rattle.cddl_table.specs.declared.nodes.GroupId.{GroupId};
@@ -12,10 +12,10 @@ ghost use Rattle.cddl_match.specs.declared.questions.Rounds.{Rounds};
 
 use crate::behind::{group_behind, type_behind};
 use crate::moves::{
-    another_part, another_round, entry_reply, first_of_group, first_of_type, is_over,
-    next_in_repeat, next_in_sequence, said_reply,
+    after_round, another_part, another_round, entry_reply, first_of_group, first_of_type, is_over,
+    next_in_sequence, said_reply,
 };
-use crate::questions::{Move, Parts, Question, Reply, Rounds, Subject};
+use crate::questions::{Move, Parts, Question, Reply, Round, Rounds, Subject};
 use crate::reading::reading_ahead;
 use crate::shelf::Shelf;
 use crate::sorting::alternative_move;
@@ -128,6 +128,7 @@ fn entry_at<'t>(table: &'t Table, group: GroupId) -> Option<Entered<'t>>
 }
 
 /// What the entry does with the items where tests alone tell it, and how many questions that takes, if not over `steps`.
+#[inline]
 fn told<'i>(
     table: &Table,
     entered: Entered<'_>,
@@ -170,16 +171,16 @@ fn group_told<'i>(
     told(table, entered, base, place, items, steps)
 }
 
-/// Rounds of an entry, one after the other, as far as tests alone tell them and the steps go.
-fn rounds_of<'t, 'i>(
+/// Rounds of an entry, one after the other, as far as tests alone tell them and the steps go: the rounds that are left, or the
+/// reply; and how many questions that takes.
+fn rounds_of<'i>(
     table: &Table,
     entered: Entered<'_>,
     rounds: Rounds<'i>,
     steps: u64,
-) -> Ahead<'t, 'i>
-    ensures comes { IsEntered (language_of table.now) rounds.entry.group (type_view entered.entry.form.now) entered.entry.groups entered.entry.types → ComesTo (language_of table.now) (rounds_move rounds.entry) (move_view result.next) result.asked }
-    ensures within { result.asked ≤ steps }
-    ensures turns { goes_on result.next ≡ false }
+) -> (Round<'i>, u64)
+    ensures comes { IsEntered (language_of table.now) rounds.entry.group (type_view entered.entry.form.now) entered.entry.groups entered.entry.types → ComesTo (language_of table.now) (rounds_move rounds.entry) (round_move result.0) result.1 }
+    ensures within { result.1 ≤ steps }
 {
     let mut rounds = rounds;
     let mut asked = 0;
@@ -195,29 +196,41 @@ fn rounds_of<'t, 'i>(
             None => break,
         };
         asked += more;
-        match next_in_repeat(rounds, reply) {
-            Move::Repeats(others) => rounds = others,
-            next => return Ahead { next, asked },
+        match after_round(rounds, reply) {
+            Round::Another(others) => rounds = others,
+            over => return (over, asked),
         }
     }
-    Ahead {
-        next: another_round(rounds),
-        asked,
+    (Round::Another(rounds), asked)
+}
+
+/// Rounds, one after the other, as far as tests alone tell them and the steps go, and how many questions that takes.
+pub(crate) fn rounds_told<'i>(table: &Table, rounds: Rounds<'i>, steps: u64) -> (Round<'i>, u64)
+    ensures comes { ComesTo (language_of table.now) (rounds_move rounds.entry) (round_move result.0) result.1 }
+    ensures within { result.1 ≤ steps }
+{
+    match entry_at(table, rounds.group) {
+        Some(entered) => rounds_of(table, entered, rounds, steps),
+        None => (Round::Another(rounds), 0),
     }
 }
 
 /// What rounds come to: some of them that are told at once, and the question for the next one.
-fn rounds_ahead<'t, 'i>(table: &'t Table, rounds: Rounds<'i>, steps: u64) -> Ahead<'t, 'i>
+fn rounds_ahead<'t, 'i>(table: &Table, rounds: Rounds<'i>, steps: u64) -> Ahead<'t, 'i>
     ensures comes { ComesTo (language_of table.now) (rounds_move rounds.entry) (move_view result.next) result.asked }
     ensures within { result.asked ≤ steps }
     ensures turns { goes_on result.next ≡ false }
 {
-    if let Some(entered) = entry_at(table, rounds.group) {
-        return rounds_of(table, entered, rounds, steps);
-    }
-    Ahead {
-        next: another_round(rounds),
-        asked: 0,
+    let (round, asked) = rounds_told(table, rounds, steps);
+    match round {
+        Round::Another(rounds) => Ahead {
+            next: another_round(rounds),
+            asked,
+        },
+        Round::Over(reply) => Ahead {
+            next: Move::Answered(reply),
+            asked,
+        },
     }
 }
 

@@ -33,7 +33,6 @@ ghost use Rattle.cddl_meaning.specs.Moves.{
 };
 ghost use Rattle.cddl_match.specs.Views.{goes_on, parts_move, pending_view, move_view, reply_view, round_move, rounds_move, subject_view, values};
 ghost use Rattle.cddl_match.specs.declared.questions.Pending.TheVariants as P;
-ghost use Rattle.cddl_match.specs.declared.questions.Parts.{Parts};
 ghost use Rattle.cddl_match.specs.declared.questions.Reading.{Reading};
 ghost use Rattle.cddl_match.specs.declared.questions.Rounds.{Rounds};
 ghost use Rattle.cddl_table.specs.declared.nodes.GroupId.{GroupId};
@@ -74,6 +73,7 @@ fn yes_reply<'i>(place: usize, subject: Subject<'i>) -> Reply<'i>
 }
 
 /// What a test replies that says this: it fails at the item.
+#[inline]
 pub(crate) fn said_reply<'i>(place: usize, subject: Subject<'i>, says: bool) -> Reply<'i>
     ensures { reply_view result ≡ test_reply place (subject_view subject.entry) says }
 {
@@ -507,6 +507,7 @@ fn next_in_simple<'t, 'i>(place: usize, reply: Reply<'i>) -> Move<'t, 'i>
 }
 
 /// What an entry does whose item has matched, or not.
+#[inline]
 pub(crate) fn entry_reply<'i>(base: usize, rest: &'i [Item], reply: Reply<'i>) -> Reply<'i>
     ensures { M.Answered (reply_view result) ≡ next_move {N = TypeId} {G = GroupId} (InEntry base (values rest.now)) (reply_view reply.entry) }
 {
@@ -592,6 +593,7 @@ fn end_of_rounds<'i>(least: u64, items: &'i [Item], place: usize, far: usize) ->
 }
 
 /// A round has taken items, or failed.
+#[inline]
 pub(crate) fn after_round<'i>(rounds: Rounds<'i>, reply: Reply<'i>) -> Round<'i>
     ensures next { round_move result ≡ next_move (pending_view (P.Repeat rounds.entry)) (reply_view reply.entry) }
     ensures group { (others : Rounds) → result ≡ Round.Another others → others.group ≡ rounds.entry.group }
@@ -623,11 +625,8 @@ pub(crate) fn after_round<'i>(rounds: Rounds<'i>, reply: Reply<'i>) -> Round<'i>
 }
 
 /// What a repetition asks next after a round, or its reply.
-pub(crate) fn next_in_repeat<'t, 'i>(rounds: Rounds<'i>, reply: Reply<'i>) -> Move<'t, 'i>
-    ensures next { move_view result ≡ next_move (pending_view (P.Repeat rounds.entry)) (reply_view reply.entry) }
-    ensures group { (others : Rounds) → result ≡ Move.Repeats others → others.group ≡ rounds.entry.group }
-    ensures kind { (parts : Parts) → result ≡ Move.GoesOn parts → ⊥ }
-    ensures reads { (reading : Reading) → result ≡ Move.Reads reading → ⊥ }
+fn next_in_repeat<'t, 'i>(rounds: Rounds<'i>, reply: Reply<'i>) -> Move<'t, 'i>
+    ensures { move_view result ≡ next_move (pending_view (P.Repeat rounds.entry)) (reply_view reply.entry) }
 {
     match after_round(rounds, reply) {
         Round::Another(others) => Move::Repeats(others),

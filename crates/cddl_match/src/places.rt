@@ -8,6 +8,7 @@ ghost use Rattle.cddl_meaning.specs.Moves.{plus};
 use cbor_item::Item;
 
 /// A sum that stays at the greatest number, which no place of a sound item reaches.
+#[inline]
 pub(crate) fn plus(a: usize, b: usize) -> usize
     ensures { result ≡ plus a b }
 {
@@ -15,15 +16,26 @@ pub(crate) fn plus(a: usize, b: usize) -> usize
 }
 
 /// The place after an item that is at this place, as far as 2^64 - 1.
-#[cycle(after)]
+#[inline]
 pub(crate) fn place_after(item: &Item, place: usize) -> usize
+    ensures { result ≡ plus place (place_count (view item.now)) }
+{
+    match item {
+        Item::Array(_) | Item::Map(_) | Item::Tag(_, _) => place_after_all(item, place),
+        _ => plus(place, 1),
+    }
+}
+
+/// The place after an item and all that is in it.
+#[cycle(after)]
+fn place_after_all(item: &Item, place: usize) -> usize
     ensures { result ≡ plus place (place_count (view item.now)) }
 {
     let next = plus(place, 1);
     match item {
         Item::Array(items) => place_after_items(items, next),
         Item::Map(pairs) => place_after_pairs(pairs, next),
-        Item::Tag(_, content) => place_after(content, next),
+        Item::Tag(_, content) => place_after_all(content, next),
         _ => next,
     }
 }
@@ -35,7 +47,7 @@ fn place_after_items(items: &Vec<Item>, place: usize) -> usize
 {
     let mut next = place;
     for item in items {
-        next = place_after(item, next);
+        next = place_after_all(item, next);
     }
     next
 }
@@ -47,8 +59,8 @@ fn place_after_pairs(pairs: &Vec<(Item, Item)>, place: usize) -> usize
 {
     let mut next = place;
     for (key, value) in pairs {
-        next = place_after(key, next);
-        next = place_after(value, next);
+        next = place_after_all(key, next);
+        next = place_after_all(value, next);
     }
     next
 }

@@ -52,7 +52,7 @@ pub(crate) enum Reply<'i> {
     },
 }
 
-/// What is said of an item, or why nothing is.
+/// What is said of an item, or why nothing is. It is small enough to be returned in registers.
 #[derive(Clone, Copy)]
 pub(crate) enum Said {
     /// Yes.
@@ -65,10 +65,13 @@ pub(crate) enum Said {
         /// The greatest place of the trials that failed.
         far: usize,
     },
-    Stopped(Stop),
+    /// That takes more steps.
+    Spent,
+    /// There is no memory for it.
+    NoMemory,
 }
 
-/// Why a question has no reply.
+/// Why a group's question has no reply.
 #[derive(Clone, Copy)]
 pub(crate) enum Stop {
     /// The reply takes more steps.

@@ -1,75 +1,74 @@
 //! What follows at once from what was asked, and what is in an item.
 
 ghost use Rattle.std.specs.Prelude.{◌≡◌, Some, None, MatchOption};
-ghost use Rattle.cbor_item.specs.View.{pairs_view};
+ghost use Rattle.cbor_item.specs.View.{pairs_view, view};
 ghost use Rattle.cddl_meaning.specs.Forms as F;
 ghost use Rattle.cddl_meaning.specs.Forms.{Language, bytes_in, members_in, pairs_in, passes, simple_in};
 ghost use Rattle.cddl_meaning.specs.Judges as J;
 ghost use Rattle.cddl_meaning.specs.Moves as M;
-ghost use Rattle.cddl_match.specs.Views.{subject_view, values};
+ghost use Rattle.cddl_match.specs.Views.{values};
 ghost use Rattle.cddl_match.specs.Within.{Replied, Says, array_outcome, done_view, entry_outcome, held_outcome, said_view, simple_outcome, such_outcome};
 ghost use Rattle.cddl_table.specs.Nodes.{test_view};
 ghost use Rattle.cddl_table.specs.declared.nodes.GroupId.{GroupId};
 ghost use Rattle.cddl_table.specs.declared.nodes.TypeId.{TypeId};
 
 use crate::means::Means;
-use crate::moves::place_behind;
-use crate::places::plus;
-use crate::questions::{Reply, Said, Stop, Subject};
-use crate::tested::passes_test;
+use crate::places::{place_after, plus};
+use crate::questions::{Reply, Said, Stop};
+use crate::tested::passes;
 use cbor_item::Item;
 use cddl_table::Test;
 
 /// The members of an array.
 #[tactic(auto, using(crate::proofs::Lists::members_of_values, crate::proofs::Lists::members_of_array))]
-pub(crate) fn items_of<'i>(subject: Subject<'i>) -> Option<&'i [Item]>
-    ensures { MatchOption result (members_in (subject_view subject.entry) ≡ None) (λ items. members_in (subject_view subject.entry) ≡ Some (values items.now)) }
+pub(crate) fn items_of(item: &Item) -> Option<&[Item]>
+    ensures { MatchOption result (members_in (view item.now) ≡ None) (λ items. members_in (view item.now) ≡ Some (values items.now)) }
 {
-    match subject {
-        Subject::Item(Item::Array(items)) => Some(items.as_slice()),
+    match item {
+        Item::Array(items) => Some(items.as_slice()),
         _ => None,
     }
 }
 
 /// The pairs of a map.
 #[tactic(auto, using(crate::proofs::Lists::pairs_of_map))]
-pub(crate) fn pairs_of<'i>(subject: Subject<'i>) -> Option<&'i [(Item, Item)]>
-    ensures { MatchOption result (pairs_in (subject_view subject.entry) ≡ None) (λ pairs. pairs_in (subject_view subject.entry) ≡ Some (pairs_view pairs.now)) }
+pub(crate) fn pairs_of(item: &Item) -> Option<&[(Item, Item)]>
+    ensures { MatchOption result (pairs_in (view item.now) ≡ None) (λ pairs. pairs_in (view item.now) ≡ Some (pairs_view pairs.now)) }
 {
-    match subject {
-        Subject::Item(Item::Map(pairs)) => Some(pairs.as_slice()),
+    match item {
+        Item::Map(pairs) => Some(pairs.as_slice()),
         _ => None,
     }
 }
 
 /// The bytes of a byte string.
-pub(crate) fn bytes_of<'i>(subject: Subject<'i>) -> Option<&'i [u8]>
-    ensures { MatchOption result (bytes_in (subject_view subject.entry) ≡ None) (λ bytes. bytes_in (subject_view subject.entry) ≡ Some bytes.now) }
+pub(crate) fn bytes_of(item: &Item) -> Option<&[u8]>
+    ensures { MatchOption result (bytes_in (view item.now) ≡ None) (λ bytes. bytes_in (view item.now) ≡ Some bytes.now) }
 {
-    match subject {
-        Subject::Item(Item::Bytes(bytes)) => Some(bytes.as_slice()),
+    match item {
+        Item::Bytes(bytes) => Some(bytes.as_slice()),
         _ => None,
     }
 }
 
 /// The number of a simple value.
-pub(crate) fn simple_of(subject: Subject<'_>) -> Option<u64>
-    ensures { MatchOption result (simple_in (subject_view subject.entry) ≡ None) (λ number. simple_in (subject_view subject.entry) ≡ Some number) }
+pub(crate) fn simple_of(item: &Item) -> Option<u64>
+    ensures { MatchOption result (simple_in (view item.now) ≡ None) (λ number. simple_in (view item.now) ≡ Some number) }
 {
-    match subject {
-        Subject::Item(Item::Simple(number)) => Some(u64::from(*number)),
+    match item {
+        Item::Simple(number) => Some(u64::from(*number)),
         _ => None,
     }
 }
 
 /// What a test says.
-#[inline]
-pub(crate) fn tested(test: &Test, place: usize, subject: Subject<'_>) -> Said
-    ensures { said_view result ≡ Replied (M.test_reply place (subject_view subject.entry) (passes (test_view test.now) (subject_view subject.entry))) }
+#[inline(always)]
+pub(crate) fn tested(test: &Test, place: usize, item: &Item) -> Said
+    ensures { said_view result ≡ Replied (M.test_reply place (view item.now) (passes (test_view test.now) (view item.now))) }
 {
-    if passes_test(test, subject) {
+    if passes(test, item) {
         Said::Yes {
-            next: place_behind(place, subject),
+            next: place_after(item, place),
         }
     } else {
         Said::No { far: place }
@@ -77,20 +76,15 @@ pub(crate) fn tested(test: &Test, place: usize, subject: Subject<'_>) -> Said
 }
 
 /// What a type says that is a test.
-#[inline]
-pub(crate) fn test_says(
-    means: &mut Means<'_>,
-    test: &Test,
-    place: usize,
-    subject: Subject<'_>,
-) -> Said
-    ensures { (l : Language TypeId GroupId) (n : TypeId) → l.type_at n ≡ F.Plain (test_view test.now) → Says l (M.OfType n place (subject_view subject.entry)) means.old.left means.new.left (said_view result) }
+#[inline(always)]
+pub(crate) fn test_says(means: &mut Means<'_>, test: &Test, place: usize, item: &Item) -> Said
+    ensures { (l : Language TypeId GroupId) (n : TypeId) → l.type_at n ≡ F.Plain (test_view test.now) → Says l (M.OfType n place (view item.now)) means.old.left means.new.left (said_view result) }
 {
     let Some(left) = means.left.checked_sub(1) else {
-        return Said::Stopped(Stop::Spent);
+        return Said::Spent;
     };
     means.left = left;
-    tested(test, place, subject)
+    tested(test, place, item)
 }
 
 /// What an array says by what its group did: the first item that is left shows a no.
@@ -101,7 +95,8 @@ pub(crate) fn array_said(done: Result<Reply<'_>, Stop>) -> Said
         Ok(Reply::Takes { left: [], next, .. }) => Said::Yes { next },
         Ok(Reply::Takes { next, far, .. }) => Said::No { far: far.max(next) },
         Ok(Reply::Fails { far }) => Said::No { far },
-        Err(stop) => Said::Stopped(stop),
+        Err(Stop::Spent) => Said::Spent,
+        Err(Stop::NoMemory) => Said::NoMemory,
     }
 }
 
@@ -116,7 +111,8 @@ pub(crate) fn entry_done<'i>(base: usize, rest: &'i [Item], said: Said) -> Resul
             far: base,
         }),
         Said::No { far } => Ok(Reply::Fails { far: base.max(far) }),
-        Said::Stopped(stop) => Err(stop),
+        Said::Spent => Err(Stop::Spent),
+        Said::NoMemory => Err(Stop::NoMemory),
     }
 }
 
@@ -129,7 +125,8 @@ pub(crate) fn simple_said(place: usize, said: Said) -> Said
             next: plus(place, 1),
         },
         Said::No { .. } => Said::No { far: place },
-        Said::Stopped(stop) => Said::Stopped(stop),
+        Said::Spent => Said::Spent,
+        Said::NoMemory => Said::NoMemory,
     }
 }
 
@@ -150,7 +147,8 @@ pub(crate) fn held_said(place: usize, next: usize, said: Said) -> Said
     match said {
         Said::Yes { .. } => Said::Yes { next },
         Said::No { .. } => Said::No { far: place },
-        Said::Stopped(stop) => Said::Stopped(stop),
+        Said::Spent => Said::Spent,
+        Said::NoMemory => Said::NoMemory,
     }
 }
 

@@ -7,7 +7,7 @@ ghost use Rattle.cddl_meaning.specs.Forms as F;
 ghost use Rattle.cddl_meaning.specs.Forms.{bytes_in};
 ghost use Rattle.cddl_meaning.specs.Judges as J;
 ghost use Rattle.cddl_meaning.specs.Moves as M;
-ghost use Rattle.cddl_match.specs.Views.{parts_move, rounds_move, subject_view, values};
+ghost use Rattle.cddl_match.specs.Views.{parts_move, rounds_move, values};
 ghost use Rattle.cddl_match.specs.Within.{Ends, Says, Sorts, done_view, said_view, sorting_of};
 ghost use Rattle.cddl_table.specs.Language.{language_of};
 ghost use Rattle.cddl_table.specs.Nodes.{alternatives_view, content_view, entries_view, group_view, tag_number_view, type_view};
@@ -15,10 +15,11 @@ ghost use Rattle.cddl_table.specs.declared.nodes.TypeId.{TypeId};
 
 use crate::behind::{group_behind, type_behind};
 use crate::frames::{group_by_frames, type_by_frames};
+use crate::looking::rounds_told;
 use crate::means::Means;
 use crate::moves::{after_round, is_over};
 use crate::places::{place_after, plus};
-use crate::questions::{Fate, Parts, Reply, Round, Rounds, Said, Stop, Subject, Tally};
+use crate::questions::{Fate, Parts, Reply, Round, Rounds, Said, Stop, Tally};
 use crate::reading::held_in;
 use crate::replies::{
     array_said, bytes_of, either_said, entry_done, held_said, items_of, pairs_of, simple_of,
@@ -26,56 +27,77 @@ use crate::replies::{
 };
 use crate::shelf::{Cells, Shelf};
 use crate::sorting::{begin_tally, no_tally, shown_by_tally, tally_pair};
-use crate::tested::passes_test;
+use crate::tested::passes;
 use cbor_item::Item;
 use cddl_table::{Content, Group, GroupId, MapEntry, Node, Table, TagNumber, TypeId};
 
-/// What a type says of an item. Calls are as deep as this, and what is deeper is left to frames.
+/// What a type says of an item. Tests are asked where this is called, since most types that are asked in a loop are tests, or
+/// names of them. Calls are as deep as this, and what is deeper is left to frames.
+#[inline(always)]
+#[cycle(saying)]
+fn type_says_here<'i>(
+    table: &Table,
+    means: &mut Means<'i>,
+    node: TypeId,
+    place: usize,
+    item: &'i Item,
+    depth: u8,
+) -> Said
+    ensures { Says (language_of table.now) (M.OfType node place (view item.now)) means.old.left means.new.left (said_view result) }
+{
+    if let Some(Node::Plain(test)) = table.node(node) {
+        return test_says(means, test, place, item);
+    }
+    if depth == 0 {
+        return type_by_frames(table, means, node, place, item);
+    }
+    let (behind, passed) = type_behind(table, node);
+    let Some(left) = means.left.checked_sub(u64::from(passed) + 1) else {
+        return Said::Spent;
+    };
+    means.left = left;
+    match table.node(behind) {
+        Some(Node::Plain(test)) => tested(test, place, item),
+        Some(Node::Choice(members)) => choice_says(table, means, members, place, item, depth - 1),
+        Some(form) => form_says(table, means, form, place, item, depth - 1),
+        None => Said::No { far: place },
+    }
+}
+
+/// What a type says of an item, by a call.
+#[inline(never)]
 #[cycle(saying)]
 pub(crate) fn type_says<'i>(
     table: &Table,
     means: &mut Means<'i>,
     node: TypeId,
     place: usize,
-    subject: Subject<'i>,
+    item: &'i Item,
     depth: u8,
 ) -> Said
-    ensures { Says (language_of table.now) (M.OfType node place (subject_view subject.entry)) means.old.left means.new.left (said_view result) }
+    ensures { Says (language_of table.now) (M.OfType node place (view item.now)) means.old.left means.new.left (said_view result) }
 {
-    if let Some(Node::Plain(test)) = table.node(node) {
-        return test_says(means, test, place, subject);
-    }
-    if depth == 0 {
-        return type_by_frames(table, means, node, place, subject);
-    }
-    let (behind, passed) = type_behind(table, node);
-    let Some(left) = means.left.checked_sub(u64::from(passed) + 1) else {
-        return Said::Stopped(Stop::Spent);
-    };
-    means.left = left;
-    match table.node(behind) {
-        Some(form) => form_says(table, means, form, place, subject, depth - 1),
-        None => Said::No { far: place },
-    }
+    type_says_here(table, means, node, place, item, depth)
 }
 
 /// What a type of this form says of an item.
+#[inline(never)]
 #[cycle(saying)]
 fn form_says<'i>(
     table: &Table,
     means: &mut Means<'i>,
     form: &Node,
     place: usize,
-    subject: Subject<'i>,
+    item: &'i Item,
     depth: u8,
 ) -> Said
-    ensures { Ends (language_of table.now) (M.type_move (type_view form.now) place (subject_view subject.entry)) means.old.left means.new.left (said_view result) }
+    ensures { Ends (language_of table.now) (M.type_move (type_view form.now) place (view item.now)) means.old.left means.new.left (said_view result) }
 {
     match form {
-        Node::Plain(test) => tested(test, place, subject),
-        Node::Ref(to) => type_says(table, means, *to, place, subject, depth),
-        Node::Choice(members) => choice_says(table, means, members, place, subject, depth),
-        Node::ArrayOf(group) => match items_of(subject) {
+        Node::Plain(test) => tested(test, place, item),
+        Node::Ref(to) => type_says(table, means, *to, place, item, depth),
+        Node::Choice(members) => choice_says(table, means, members, place, item, depth),
+        Node::ArrayOf(group) => match items_of(item) {
             Some(items) => array_said(group_does(
                 table,
                 means,
@@ -87,35 +109,35 @@ fn form_says<'i>(
             )),
             None => Said::No { far: place },
         },
-        Node::TagOf(number, node) => match subject {
-            Subject::Item(Item::Tag(found, content)) => {
+        Node::TagOf(number, node) => match item {
+            Item::Tag(found, content) => {
                 tag_says(table, means, *number, *node, place, *found, content, depth)
             }
             _ => Said::No { far: place },
         },
-        Node::SimpleBy(head) => match simple_of(subject) {
+        Node::SimpleBy(head) => match simple_of(item) {
             Some(number) => {
-                let number = Subject::Number(number);
-                simple_said(place, type_says(table, means, *head, place, number, depth))
+                let number = Item::Uint(number);
+                simple_said(place, apart_says(table, means, *head, place, number, depth))
             }
             None => Said::No { far: place },
         },
-        Node::MapOf(alternatives) => match pairs_of(subject) {
+        Node::MapOf(alternatives) => match pairs_of(item) {
             Some(pairs) => map_says(table, means, alternatives, place, pairs, depth),
             None => Said::No { far: place },
         },
-        Node::Both(left, right) => match type_says(table, means, *left, place, subject, depth) {
-            Said::Yes { .. } => type_says(table, means, *right, place, subject, depth),
+        Node::Both(left, right) => match type_says(table, means, *left, place, item, depth) {
+            Said::Yes { .. } => type_says(table, means, *right, place, item, depth),
             said => said,
         },
         Node::Such(of, test) => {
-            let said = type_says(table, means, *of, place, subject, depth);
-            such_said(place, said, passes_test(test, subject))
+            let said = type_says(table, means, *of, place, item, depth);
+            such_said(place, said, passes(test, item))
         }
         Node::Holding(of, content, node) => {
-            match type_says(table, means, *of, place, subject, depth) {
+            match type_says(table, means, *of, place, item, depth) {
                 Said::Yes { next } => {
-                    held_says(table, means, *content, *node, place, next, subject, depth)
+                    held_says(table, means, *content, *node, place, next, item, depth)
                 }
                 said => said,
             }
@@ -124,21 +146,22 @@ fn form_says<'i>(
 }
 
 /// The first yes of these types, asked in order.
+#[inline(never)]
 #[cycle(saying)]
 fn choice_says<'i>(
     table: &Table,
     means: &mut Means<'i>,
     members: &[TypeId],
     place: usize,
-    subject: Subject<'i>,
+    item: &'i Item,
     depth: u8,
 ) -> Said
-    ensures { Ends (language_of table.now) (M.next_member members.now place (subject_view subject.entry) place) means.old.left means.new.left (said_view result) }
+    ensures { Ends (language_of table.now) (M.next_member members.now place (view item.now) place) means.old.left means.new.left (said_view result) }
 {
     let mut far = place;
     let mut left = members;
     while let Some((member, others)) = left.split_first() {
-        match type_says(table, means, *member, place, subject, depth) {
+        match type_says_here(table, means, *member, place, item, depth) {
             Said::No { far: later } => far = far.max(later),
             said => return said,
         }
@@ -162,7 +185,6 @@ fn tag_says<'i>(
     ensures { Ends (language_of table.now) (M.tag_move (tag_number_view number) node place (Some (found, view content.now))) means.old.left means.new.left (said_view result) }
 {
     let after = plus(place, 1);
-    let content = Subject::Item(content);
     match number {
         TagNumber::Any => type_says(table, means, node, after, content, depth),
         TagNumber::Exactly(wanted) if wanted == found => {
@@ -170,7 +192,8 @@ fn tag_says<'i>(
         }
         TagNumber::Exactly(_) => Said::No { far: place },
         TagNumber::SuchAs(head) => {
-            match type_says(table, means, head, place, Subject::Number(found), depth) {
+            let number = Item::Uint(found);
+            match apart_says(table, means, head, place, number, depth) {
                 Said::Yes { .. } => type_says(table, means, node, after, content, depth),
                 Said::No { .. } => Said::No { far: place },
                 said => said,
@@ -179,37 +202,51 @@ fn tag_says<'i>(
     }
 }
 
-/// What a byte string whose own type has said yes says by what it holds. That is let go of then.
+/// What a byte string whose own type has said yes says by what it holds.
 #[cycle(saying)]
-fn held_says<'i>(
+fn held_says(
     table: &Table,
-    means: &mut Means<'i>,
+    means: &mut Means<'_>,
     content: Content,
     node: TypeId,
     place: usize,
     next: usize,
-    subject: Subject<'i>,
+    item: &Item,
     depth: u8,
 ) -> Said
-    ensures { Ends (language_of table.now) (M.read_move (content_view content) node place next (bytes_in (subject_view subject.entry))) means.old.left means.new.left (said_view result) }
+    ensures { Ends (language_of table.now) (M.read_move (content_view content) node place next (bytes_in (view item.now))) means.old.left means.new.left (said_view result) }
 {
-    let Some(bytes) = bytes_of(subject) else {
+    let Some(bytes) = bytes_of(item) else {
         return Said::No { far: place };
     };
+    match held_in(means.shelf.alloc, content, bytes) {
+        Ok(Some(held)) => { held_said(place, next, apart_says(table, means, node, 0, held, depth)) }
+        Ok(None) => Said::No { far: place },
+        Err(_) => Said::NoMemory,
+    }
+}
+
+/// What a type says of an item that is no part of the stream's, and is let go of then.
+#[cycle(saying)]
+fn apart_says(
+    table: &Table,
+    means: &mut Means<'_>,
+    node: TypeId,
+    place: usize,
+    item: Item,
+    depth: u8,
+) -> Said
+    ensures { Says (language_of table.now) (M.OfType node place (view item)) means.old.left means.new.left (said_view result) }
+{
     let alloc = means.shelf.alloc;
-    let item = match held_in(alloc, content, bytes) {
-        Ok(Some(item)) => item,
-        Ok(None) => return Said::No { far: place },
-        Err(_) => return Said::Stopped(Stop::NoMemory),
-    };
     let cells = Cells::new(alloc);
     let mut inner = Means {
         left: means.left,
         shelf: Shelf::new(alloc, &cells),
     };
-    let said = type_says(table, &mut inner, node, 0, Subject::Item(&item), depth);
+    let said = type_says(table, &mut inner, node, place, &item, depth);
     means.left = inner.left;
-    held_said(place, next, said)
+    said
 }
 
 /// What a map at `base` says by what its alternatives say, all of them.
@@ -229,7 +266,8 @@ fn map_says<'i>(
     let mut left = alternatives;
     while let Some((entries, others)) = left.split_first() {
         match alternative_says(table, means, &mut tally, entries, base, pairs, depth) {
-            Said::Stopped(stop) => return Said::Stopped(stop),
+            Said::Spent => return Said::Spent,
+            Said::NoMemory => return Said::NoMemory,
             said => sofar = either_said(sofar, said),
         }
         left = others;
@@ -251,11 +289,11 @@ fn alternative_says<'i>(
     ensures { Says (language_of table.now) (M.OfAlternative (entries_view entries.now) base (pairs_view pairs.now)) means.old.left means.new.left (said_view result) }
 {
     if means.left == 0 {
-        return Said::Stopped(Stop::Spent);
+        return Said::Spent;
     }
     means.left -= 1;
     let Ok(()) = begin_tally(tally, entries) else {
-        return Said::Stopped(Stop::NoMemory);
+        return Said::NoMemory;
     };
     // Each pair takes a step, and one more for each entry.
     let tried = entries.len() as u64;
@@ -263,12 +301,13 @@ fn alternative_says<'i>(
     let mut left = pairs;
     while let Some((pair, others)) = left.split_first() {
         if means.left <= tried {
-            return Said::Stopped(Stop::Spent);
+            return Said::Spent;
         }
         means.left -= tried + 1;
         let fate = match pair_fate(table, means, entries, pair, place, depth) {
             Ok(fate) => fate,
-            Err(stop) => return Said::Stopped(stop),
+            Err(Stop::Spent) => return Said::Spent,
+            Err(Stop::NoMemory) => return Said::NoMemory,
         };
         tally_pair(tally, fate);
         place = place_after(&pair.1, place_after(&pair.0, place));
@@ -281,6 +320,7 @@ fn alternative_says<'i>(
 }
 
 /// What becomes of a pair, its key at `place`, that is tried with these entries.
+#[inline(always)]
 #[cycle(saying)]
 fn pair_fate<'i>(
     table: &Table,
@@ -295,29 +335,23 @@ fn pair_fate<'i>(
     let mut left = entries;
     while let Some((entry, others)) = left.split_first() {
         left = others;
-        match type_says(
-            table,
-            means,
-            entry.key_type,
-            place,
-            Subject::Item(&pair.0),
-            depth,
-        ) {
+        match type_says_here(table, means, entry.key_type, place, &pair.0, depth) {
             Said::Yes { .. } => {}
             Said::No { .. } => continue,
-            Said::Stopped(stop) => return Err(stop),
+            Said::Spent => return Err(Stop::Spent),
+            Said::NoMemory => return Err(Stop::NoMemory),
         }
         let after = others.len();
         let value_place = place_after(&pair.0, place);
-        let value = Subject::Item(&pair.1);
-        match type_says(table, means, entry.value_type, value_place, value, depth) {
+        match type_says_here(table, means, entry.value_type, value_place, &pair.1, depth) {
             Said::Yes { .. } => return Ok(Fate::Matches { after }),
             Said::No { far } => {
                 if entry.cuts {
                     return Ok(Fate::Fails { after, far });
                 }
             }
-            Said::Stopped(stop) => return Err(stop),
+            Said::Spent => return Err(Stop::Spent),
+            Said::NoMemory => return Err(Stop::NoMemory),
         }
     }
     Ok(Fate::Stray { place })
@@ -366,7 +400,7 @@ fn group_form_does<'i>(
     match form {
         Group::Entry(node) => match items.split_first() {
             Some((item, rest)) => {
-                let said = type_says(table, means, *node, place, Subject::Item(item), depth);
+                let said = type_says_here(table, means, *node, place, item, depth);
                 entry_done(base, rest, said)
             }
             None => Ok(Reply::Fails { far: base }),
@@ -481,7 +515,7 @@ fn alternatives_do<'i>(
     Ok(Reply::Fails { far })
 }
 
-/// What a repetition does: rounds until one fails, or as many as may be.
+/// What a repetition does: rounds until one fails, or as many as may be. Those that tests alone tell are not asked by calls.
 #[cycle(saying)]
 fn rounds_do<'i>(
     table: &Table,
@@ -491,7 +525,12 @@ fn rounds_do<'i>(
 ) -> Result<Reply<'i>, Stop>
     ensures { Ends (language_of table.now) (rounds_move rounds.entry) means.old.left means.new.left (done_view result) }
 {
-    let mut rounds = rounds;
+    let (round, asked) = rounds_told(table, rounds, means.left);
+    means.left -= asked;
+    let mut rounds = match round {
+        Round::Another(rounds) => rounds,
+        Round::Over(reply) => return Ok(reply),
+    };
     while !is_over(rounds.most) {
         let Rounds {
             group,

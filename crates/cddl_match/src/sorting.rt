@@ -58,6 +58,7 @@ fn count_pair(counts: &mut Vec<u64>, after: usize)
 }
 
 /// Takes in what has become of a pair.
+#[inline(never)]
 pub(crate) fn tally_pair(tally: &mut Tally, fate: Fate)
     ensures { tally_view tally.new ≡ tallied (tally_view tally.old) (fate_view fate) }
 {
@@ -81,6 +82,7 @@ pub(crate) fn no_tally(alloc: Global) -> Tally {
 }
 
 /// Begins a tally anew, for an alternative with these entries and before any pair.
+#[inline(never)]
 pub(crate) fn begin_tally(tally: &mut Tally, entries: &[MapEntry]) -> Result<(), AllocError>
     ensures { IfOk result (λ _. tally_view tally.new ≡ fresh (entries_view entries.now)) }
 {
@@ -129,6 +131,7 @@ fn are_enough(entries: &[MapEntry], counts: &[u64]) -> bool
 }
 
 /// Where an alternative's no shows once all pairs of the map at `base` are tallied, if it says no.
+#[inline(never)]
 pub(crate) fn shown_by_tally(entries: &[MapEntry], base: usize, tally: &Tally) -> Option<usize>
     ensures { MatchOption result (tally_says (entries_view entries.now) base (tally_view tally.now) ≡ J.Yes) (λ far. tally_says (entries_view entries.now) base (tally_view tally.now) ≡ J.No far) }
 {

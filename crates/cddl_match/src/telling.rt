@@ -16,6 +16,7 @@ pub(crate) const DEEPEST: u8 = 3;
 
 /// Whether a type of this form says yes, and how many questions that takes after the first, if not over `most`. Choices are
 /// looked into as deep as this.
+#[inline(always)]
 #[cycle(telling)]
 pub(crate) fn form_tells(
     table: &Table,

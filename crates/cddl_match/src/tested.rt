@@ -1,6 +1,7 @@
 //! Tests of an item by itself.
 
 ghost use Rattle.std.specs.Prelude.{◌≡◌};
+ghost use Rattle.cbor_data.specs.Same.{same_value};
 ghost use Rattle.cbor_item.specs.View.{view};
 ghost use Rattle.cddl_meaning.specs.Forms.{has_size, is_below, is_float, is_simple, is_up_to, major_of, passes};
 ghost use Rattle.cddl_match.specs.Views.{subject_view};
@@ -39,6 +40,7 @@ fn is_simple(number: u8, item: &Item) -> bool
 }
 
 /// Whether an item is a float of this width.
+#[inline(never)]
 fn is_float(width: Width, item: &Item) -> bool
     ensures { result ≡ is_float width (view item.now) }
 {
@@ -49,6 +51,7 @@ fn is_float(width: Width, item: &Item) -> bool
 }
 
 /// Whether an item is a whole number from this one on.
+#[inline(never)]
 fn is_from(least: Whole, item: &Item) -> bool
     ensures { result ≡ is_up_to (whole_view least) (view item.now) }
 {
@@ -61,6 +64,7 @@ fn is_from(least: Whole, item: &Item) -> bool
 }
 
 /// Whether an item is a whole number up to this one.
+#[inline(never)]
 fn is_up_to(item: &Item, last: Whole) -> bool
     ensures { result ≡ is_up_to (view item.now) (whole_view last) }
 {
@@ -73,6 +77,7 @@ fn is_up_to(item: &Item, last: Whole) -> bool
 }
 
 /// Whether an item is a whole number below this one.
+#[inline(never)]
 fn is_below(item: &Item, last: Whole) -> bool
     ensures { result ≡ is_below (view item.now) (whole_view last) }
 {
@@ -85,6 +90,7 @@ fn is_below(item: &Item, last: Whole) -> bool
 }
 
 /// Whether an item is a whole number above this one.
+#[inline(never)]
 fn is_above(least: Whole, item: &Item) -> bool
     ensures { result ≡ is_below (whole_view least) (view item.now) }
 {
@@ -97,6 +103,7 @@ fn is_above(least: Whole, item: &Item) -> bool
 }
 
 /// Whether an item has such a size. That of a text is the number of its bytes.
+#[inline(never)]
 fn has_size(sizes: &SizeSet, item: &Item) -> bool
     ensures { result ≡ has_size (set_view sizes.now) (view item.now) }
 {
@@ -108,8 +115,19 @@ fn has_size(sizes: &SizeSet, item: &Item) -> bool
     }
 }
 
-/// Whether an item passes a test.
-#[inline]
+/// Whether an item is equal to this one. Most literals, and most items that are compared with one, are small numbers.
+#[inline(always)]
+fn is_equal(item: &Item, literal: &Item) -> bool
+    ensures { result ≡ same_value (view item.now) (view literal.now) }
+{
+    match (item, literal) {
+        (Item::Uint(m), Item::Uint(n)) => m == n,
+        _ => item == literal,
+    }
+}
+
+/// Whether an item passes a test. The common ones are asked where this is called.
+#[inline(always)]
 pub(crate) fn passes(test: &Test, item: &Item) -> bool
     ensures { result ≡ passes (test_view test.now) (view item.now) }
 {
@@ -118,7 +136,7 @@ pub(crate) fn passes(test: &Test, item: &Item) -> bool
         Test::Major(major) => major_of(item) == *major,
         Test::Simple(number) => is_simple(*number, item),
         Test::Float(width) => is_float(*width, item),
-        Test::Equals(literal) => item == literal,
+        Test::Equals(literal) => is_equal(item, literal),
         Test::Between {
             least,
             last,

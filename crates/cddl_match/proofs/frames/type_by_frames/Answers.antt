@@ -1,10 +1,11 @@
 use Rattle.std.proofs.Common.{arith}
+use Rattle.cbor_item.specs.View.{view}
 use Rattle.cddl_table.specs.Language.{language_of}
-use Rattle.cddl_match.specs.Views.{subject_view, values}
+use Rattle.cddl_match.specs.Views.{values}
 use Rattle.cddl_match.proofs.Sayings.{type_yes}
 use Rattle.cddl_match.proofs.frames.type_by_frames.Goals as goal
 
 pub returns-in-Takes : goal.returns-in-Takes
 returns-in-Takes c =
     let told = rw (c.in-Ok-Some.field-0-is, c.in-Ok-Some.reply-is, c.in-Takes.is) at c.in-Ok-Some.ensures.told in
-    type_yes (language_of c.args.table.now) c.args.place (subject_view c.args.subject) c.args.means.now.left c.in-Ok-Some.left c.in-Takes.next c.in-Takes.far (values c.in-Takes.left.now) (omega (arith, c.ranges.place.fits)) told
+    type_yes (language_of c.args.table.now) c.args.place (view c.args.item.now) c.args.means.now.left c.in-Ok-Some.left c.in-Takes.next c.in-Takes.far (values c.in-Takes.left.now) (omega (arith, c.ranges.place.fits)) told

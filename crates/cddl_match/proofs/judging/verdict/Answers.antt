@@ -13,15 +13,15 @@ returns-in-Yes-clause-decided c = decides c.args.table.now c.args.item.now (room
 pub returns-in-No-clause-decided : goal.returns-in-No-clause-decided
 returns-in-No-clause-decided c = decides c.args.table.now c.args.item.now (room c.args.item.now c.item.ensures.sound)
 
-pub returns-in-Stopped-Spent-clause-decided : goal.returns-in-Stopped-Spent-clause-decided
-returns-in-Stopped-Spent-clause-decided c = decides c.args.table.now c.args.item.now (room c.args.item.now c.item.ensures.sound)
+pub returns-in-Spent-clause-decided : goal.returns-in-Spent-clause-decided
+returns-in-Spent-clause-decided c = decides c.args.table.now c.args.item.now (room c.args.item.now c.item.ensures.sound)
 
 pub returns-clause-decided : goal.returns-clause-decided
 returns-clause-decided c = decides c.args.table.now c.args.item.now (room c.args.item.now c.item.ensures.sound)
 
-pub returns-in-Stopped-Spent-clause-spent : goal.returns-in-Stopped-Spent-clause-spent
-returns-in-Stopped-Spent-clause-spent c = λ e a w d.
-    let spent = rw (c.in-Stopped-Spent.field-0-is, c.root.ensures, c.item.ensures.same) at c.in-Stopped-Spent.ensures in
+pub returns-in-Spent-clause-spent : goal.returns-in-Spent-clause-spent
+returns-in-Spent-clause-spent c = λ e a w d.
+    let spent = rw (c.root.ensures, c.item.ensures.same) at c.in-Spent.ensures in
     spent _ w (said (language_of c.args.table.now) (room c.args.item.now c.item.ensures.sound) d)
 
 pub returns-in-Yes-clause-yes : goal.returns-in-Yes-clause-yes

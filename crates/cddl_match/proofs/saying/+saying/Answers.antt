@@ -1,32 +1,43 @@
 use Rattle.std.proofs.Common.{◌≡◌, ◌+◌, ◌-◌, length, max, refl, sym, ap, subst, ◌∙◌, arith}
-use Rattle.cbor_data.specs.Value.{Pairs, place_count}
+use Rattle.std.specs.Prelude.{Err}
+use Rattle.std.proofs.lemmas.Result.{err_from_is_err_and}
+use Rattle.cbor_data.specs.Value.{place_count, uint}
 use Rattle.cbor_item.specs.View.{pairs_view, view}
-use Rattle.cddl_meaning.specs.Forms as F
+use Rattle.cddl_meaning.specs.Forms.{passes}
 use Rattle.cddl_meaning.specs.Judges as J
 use Rattle.cddl_meaning.specs.Moves as M
 use Rattle.cddl_table.specs.Language.{language_of}
 use Rattle.cddl_table.specs.Nodes.{alternatives_view, content_view, entries_view, entry_view, most_view, test_view}
-use Rattle.cddl_table.specs.declared.nodes.TypeId.{TypeId}
 use Rattle.cddl_table.specs.declared.nodes.GroupId.{GroupId}
-use Rattle.cddl_match.specs.Views.{reply_view, subject_view, tally_view, values}
+use Rattle.cddl_match.specs.Ahead.{ComesTo}
+use Rattle.cddl_match.specs.Views.{reply_view, rounds_move, tally_view, values}
+use Rattle.cddl_match.specs.declared.questions.Stop.TheVariants.{Spent}
 use Rattle.cddl_match.specs.Within.{Replied, Stopped, Says, done_view, said_view, sorting_of}
-use Rattle.cddl_match.proofs.Lists.{as_many_entries}
-use Rattle.cddl_match.proofs.Outcomes.{answered, begins, passes_on, took, asks}
-use Rattle.cddl_match.proofs.Sayings.{has_said, type_on, type_few, group_on, group_few, no_passes, yes_passes, array_ends, simple_ends, such_ends, meant_ends, held_ends, nothing_held, entry_ends, goes_on, ends_so, first_pair, pair_stops, pair_sorted, pair_taken, pair_kept, pair_handed_on, value_stops}
+use Rattle.cddl_match.proofs.Lists.{as_many_entries, view-Uint}
+use Rattle.cddl_match.proofs.Outcomes.{answered, begins, ends_on, passes_on, took, asks}
+use Rattle.cddl_match.proofs.Sayings.{has_said, type_on, type_few, group_on, group_few, no_passes, yes_passes, array_ends, simple_ends, such_ends, meant_ends, held_ends, nothing_held, entry_ends, goes_on, ends_so, stops, round_stops, first_pair, pair_stops, pair_sorted, pair_taken, pair_kept, pair_handed_on, value_stops}
 use Rattle.cddl_match.proofs.Ways.{and_on, a_round}
 use Rattle.cddl_match.proofs.saying.+saying.Goals as goal
 
-pub type_says-returns-in_default-checked_sub : goal.type_says-returns-in_default-checked_sub
-type_says-returns-in_default-checked_sub t c = type_few (language_of c.args.table.now) c.args.place (subject_view c.args.subject) c.args.means.now.left c.args.means.now.left c.type_behind-passed.ensures (omega (arith, c.ranges.place.fits)) (omega (arith, c.in_default-checked_sub.ensures, c.from.ensures))
+pub type_says_here-returns-in_default-checked_sub : goal.type_says_here-returns-in_default-checked_sub
+type_says_here-returns-in_default-checked_sub t c = type_few (language_of c.args.table.now) c.args.place (view c.args.item.now) c.args.means.now.left c.args.means.now.left c.type_behind-passed.ensures (omega (arith, c.ranges.place.fits)) (omega (arith, c.in_default-checked_sub.ensures, c.from.ensures))
 
-pub type_says-returns-in-Some-node : goal.type_says-returns-in-Some-node
-type_says-returns-in-Some-node t c = type_on (language_of c.args.table.now) c.args.place (subject_view c.args.subject) c.args.means.now.left c.in-Some.left c.form_says.new.means.left (said_view c.form_says.result) c.type_behind-passed.ensures (omega (arith, c.ranges.place.fits)) c.in-Some-node.ensures.found (omega (arith, c.in-Some.ensures, c.from.ensures)) c.form_says.ensures
+pub type_says_here-returns-in-Some-node : goal.type_says_here-returns-in-Some-node
+type_says_here-returns-in-Some-node t c = type_on (language_of c.args.table.now) c.args.place (view c.args.item.now) c.args.means.now.left c.in-Some.left c.form_says.new.means.left (said_view c.form_says.result) c.type_behind-passed.ensures (omega (arith, c.ranges.place.fits)) c.in-Some-node.ensures.found (omega (arith, c.in-Some.ensures, c.from.ensures)) c.form_says.ensures
 
-pub type_says-returns-in-None : goal.type_says-returns-in-None
-type_says-returns-in-None t c = type_on (language_of c.args.table.now) c.args.place (subject_view c.args.subject) c.args.means.now.left c.in-Some.left c.in-Some.left (Replied (J.Fails c.args.place)) c.type_behind-passed.ensures (omega (arith, c.ranges.place.fits)) c.in-None.ensures.none (omega (arith, c.in-Some.ensures, c.from.ensures)) (answered (language_of c.args.table.now) c.in-Some.left (J.Fails c.args.place))
+pub type_says_here-returns-in-None : goal.type_says_here-returns-in-None
+type_says_here-returns-in-None t c = type_on (language_of c.args.table.now) c.args.place (view c.args.item.now) c.args.means.now.left c.in-Some.left c.in-Some.left (Replied (J.Fails c.args.place)) c.type_behind-passed.ensures (omega (arith, c.ranges.place.fits)) c.in-None.ensures.none (omega (arith, c.in-Some.ensures, c.from.ensures)) (answered (language_of c.args.table.now) c.in-Some.left (J.Fails c.args.place))
 
-pub type_says-returns-in-Some-Plain : goal.type_says-returns-in-Some-Plain
-type_says-returns-in-Some-Plain t c = c.test_says.ensures (language_of c.args.table.now) c.args.node (rw c.in-Some-Plain.field-0-is at c.in-Some-Plain.ensures.found)
+pub type_says_here-returns-in-Some-Plain : goal.type_says_here-returns-in-Some-Plain
+type_says_here-returns-in-Some-Plain t c = c.test_says.ensures (language_of c.args.table.now) c.args.node (rw c.in-Some-Plain.field-0-is at c.in-Some-Plain.ensures.found)
+
+pub type_says_here-returns-in-Some-Plain-node : goal.type_says_here-returns-in-Some-Plain-node
+type_says_here-returns-in-Some-Plain-node t c =
+    let reply = M.test_reply c.args.place (view c.args.item.now) (passes (test_view c.in-Some-Plain-node.test) (view c.args.item.now)) in
+    rw c.tested.ensures (type_on (language_of c.args.table.now) c.args.place (view c.args.item.now) c.args.means.now.left c.in-Some.left c.in-Some.left (Replied reply) c.type_behind-passed.ensures (omega (arith, c.ranges.place.fits)) (rw c.in-Some-Plain-node.field-0-is at c.in-Some-Plain-node.ensures.found) (omega (arith, c.in-Some.ensures, c.from.ensures)) (answered (language_of c.args.table.now) c.in-Some.left reply))
+
+pub type_says_here-returns-in-Some-Choice : goal.type_says_here-returns-in-Some-Choice
+type_says_here-returns-in-Some-Choice t c = type_on (language_of c.args.table.now) c.args.place (view c.args.item.now) c.args.means.now.left c.in-Some.left c.choice_says.new.means.left (said_view c.choice_says.result) c.type_behind-passed.ensures (omega (arith, c.ranges.place.fits)) (rw c.in-Some-Choice.field-0-is at c.in-Some-Choice.ensures.found) (omega (arith, c.in-Some.ensures, c.from.ensures)) (rw c.deref.ensures.value at c.choice_says.ensures)
 
 pub group_does-returns-in_default : goal.group_does-returns-in_default
 group_does-returns-in_default t c = group_few (language_of c.args.table.now) c.args.base c.args.place (values c.args.items.now) c.args.means.now.left c.args.means.now.left c.group_behind-passed.ensures (omega (arith, c.in_default.ensures, c.from.ensures))
@@ -38,37 +49,37 @@ pub group_does-returns-in-None : goal.group_does-returns-in-None
 group_does-returns-in-None t c = group_on (language_of c.args.table.now) c.args.base c.args.place (values c.args.items.now) c.args.means.now.left c.in-Some.left c.in-Some.left (Replied (J.Fails c.args.base)) c.group_behind-passed.ensures c.in-None.ensures.none (omega (arith, c.in-Some.ensures, c.from.ensures)) (answered (language_of c.args.table.now) c.in-Some.left (J.Fails c.args.base))
 
 pub form_says-returns-in-Ref : goal.form_says-returns-in-Ref
-form_says-returns-in-Ref t c = rw c.in-Ref.is (passes_on (language_of c.args.table.now) (M.OfType c.in-Ref.to c.args.place (subject_view c.args.subject)) c.args.means.now.left c.type_says.new.means.left (said_view c.type_says.result) c.type_says.ensures)
+form_says-returns-in-Ref t c = rw c.in-Ref.is (passes_on (language_of c.args.table.now) (M.OfType c.in-Ref.to c.args.place (view c.args.item.now)) c.args.means.now.left c.type_says.new.means.left (said_view c.type_says.result) c.type_says.ensures)
 
 pub form_says-returns-in-Some : goal.form_says-returns-in-Some
 form_says-returns-in-Some t c = rw (c.in-ArrayOf.is, c.in-Some.ensures, c.array_said.ensures) (array_ends (language_of c.args.table.now) c.in-ArrayOf.group c.args.place (values c.in-Some.items.now) c.args.means.now.left c.group_does.new.means.left _ (rw c.plus.ensures at c.group_does.ensures))
 
 pub form_says-returns-in-Some-simple_of : goal.form_says-returns-in-Some-simple_of
-form_says-returns-in-Some-simple_of t c = rw (c.in-SimpleBy.is, c.in-Some-simple_of.ensures, c.simple_said.ensures) (simple_ends (language_of c.args.table.now) c.in-SimpleBy.head c.args.place c.in-Some-simple_of.number c.args.means.now.left c.type_says-in-Some-simple_of.new.means.left _ c.type_says-in-Some-simple_of.ensures)
+form_says-returns-in-Some-simple_of t c = rw (c.in-SimpleBy.is, c.in-Some-simple_of.ensures, c.simple_said.ensures) (simple_ends (language_of c.args.table.now) c.in-SimpleBy.head c.args.place c.in-Some-simple_of.number c.args.means.now.left c.apart_says.new.means.left _ (rw (view-Uint c.in-Some-simple_of.number) at c.apart_says.ensures))
 
 pub form_says-returns-in-Yes : goal.form_says-returns-in-Yes
 form_says-returns-in-Yes t c =
     let l = language_of c.args.table.now in
-    let right = passes_on l (M.OfType c.in-Both.right c.args.place (subject_view c.args.subject)) c.type_says-in-Both.new.means.left c.type_says-in-Yes.new.means.left (said_view c.type_says-in-Yes.result) c.type_says-in-Yes.ensures in
-    rw c.in-Both.is (asks l c.args.means.now.left c.type_says-in-Both.new.means.left c.type_says-in-Yes.new.means.left (M.InLeft c.in-Both.right c.args.place (subject_view c.args.subject)) (said_view c.type_says-in-Yes.result) c.in-Yes.ensures right)
+    let right = passes_on l (M.OfType c.in-Both.right c.args.place (view c.args.item.now)) c.type_says-in-Both.new.means.left c.type_says-in-Yes.new.means.left (said_view c.type_says-in-Yes.result) c.type_says-in-Yes.ensures in
+    rw c.in-Both.is (asks l c.args.means.now.left c.type_says-in-Both.new.means.left c.type_says-in-Yes.new.means.left (M.InLeft c.in-Both.right c.args.place (view c.args.item.now)) (said_view c.type_says-in-Yes.result) c.in-Yes.ensures right)
 
 pub form_says-returns-in_default-type_says : goal.form_says-returns-in_default-type_says
-form_says-returns-in_default-type_says t c = rw c.in-Both.is (no_passes (language_of c.args.table.now) (M.OfType c.in-Both.left c.args.place (subject_view c.args.subject)) c.args.means.now.left c.type_says-in-Both.new.means.left (M.InLeft c.in-Both.right c.args.place (subject_view c.args.subject)) c.type_says-in-Both.result (λ far. refl) c.in_default-type_says.not-Yes c.type_says-in-Both.ensures)
+form_says-returns-in_default-type_says t c = rw c.in-Both.is (no_passes (language_of c.args.table.now) (M.OfType c.in-Both.left c.args.place (view c.args.item.now)) c.args.means.now.left c.type_says-in-Both.new.means.left (M.InLeft c.in-Both.right c.args.place (view c.args.item.now)) c.type_says-in-Both.result (λ far. refl) c.in_default-type_says.not-Yes c.type_says-in-Both.ensures)
 
 pub form_says-returns-in-Such : goal.form_says-returns-in-Such
-form_says-returns-in-Such t c = rw (c.in-Such.is, c.such_said.ensures, c.passes_test.ensures) (such_ends (language_of c.args.table.now) c.in-Such.of (test_view c.in-Such.test) c.args.place (subject_view c.args.subject) c.args.means.now.left c.type_says-said.new.means.left _ c.type_says-said.ensures)
+form_says-returns-in-Such t c = rw (c.in-Such.is, c.such_said.ensures, c.passes.ensures) (such_ends (language_of c.args.table.now) c.in-Such.of (test_view c.in-Such.test) c.args.place (view c.args.item.now) c.args.means.now.left c.type_says-said.new.means.left _ c.type_says-said.ensures)
 
 pub form_says-returns-in-Yes-type_says : goal.form_says-returns-in-Yes-type_says
-form_says-returns-in-Yes-type_says t c = rw c.in-Holding.is (asks (language_of c.args.table.now) c.args.means.now.left c.type_says-in-Holding.new.means.left c.held_says.new.means.left (M.InHolder (content_view c.in-Holding.content) c.in-Holding.node c.args.place (subject_view c.args.subject)) (said_view c.held_says.result) c.in-Yes-type_says.ensures c.held_says.ensures)
+form_says-returns-in-Yes-type_says t c = rw c.in-Holding.is (asks (language_of c.args.table.now) c.args.means.now.left c.type_says-in-Holding.new.means.left c.held_says.new.means.left (M.InHolder (content_view c.in-Holding.content) c.in-Holding.node c.args.place (view c.args.item.now)) (said_view c.held_says.result) c.in-Yes-type_says.ensures c.held_says.ensures)
 
 pub form_says-returns-in_default-type_says-2 : goal.form_says-returns-in_default-type_says-2
-form_says-returns-in_default-type_says-2 t c = rw c.in-Holding.is (no_passes (language_of c.args.table.now) (M.OfType c.in-Holding.of c.args.place (subject_view c.args.subject)) c.args.means.now.left c.type_says-in-Holding.new.means.left (M.InHolder (content_view c.in-Holding.content) c.in-Holding.node c.args.place (subject_view c.args.subject)) c.type_says-in-Holding.result (λ far. refl) c.in_default-type_says-2.not-Yes c.type_says-in-Holding.ensures)
+form_says-returns-in_default-type_says-2 t c = rw c.in-Holding.is (no_passes (language_of c.args.table.now) (M.OfType c.in-Holding.of c.args.place (view c.args.item.now)) c.args.means.now.left c.type_says-in-Holding.new.means.left (M.InHolder (content_view c.in-Holding.content) c.in-Holding.node c.args.place (view c.args.item.now)) c.type_says-in-Holding.result (λ far. refl) c.in_default-type_says-2.not-Yes c.type_says-in-Holding.ensures)
 
-pub choice_says-returns-in_default-type_says : goal.choice_says-returns-in_default-type_says
-choice_says-returns-in_default-type_says t c =
+pub choice_says-returns-in_default-type_says_here : goal.choice_says-returns-in_default-type_says_here
+choice_says-returns-in_default-type_says_here t c =
     let l = language_of c.args.table.now in
     let here = rw c.in-Some.ensures.cases.0 at c.loop-member.invariant.comes in
-    ends_so l c.args.means.now.left c.loop-member.means.left c.type_says.new.means.left (said_view c.type_says.result) here c.loop-member.invariant.within (yes_passes l (M.OfType c.in-Some.member.now c.args.place (subject_view c.args.subject)) c.loop-member.means.left c.type_says.new.means.left (M.InChoice c.in-Some.others.now c.args.place (subject_view c.args.subject) c.loop-member.far) c.type_says.result (λ next. refl) c.in_default-type_says.not-No c.type_says.ensures)
+    ends_so l c.args.means.now.left c.loop-member.means.left c.type_says_here.new.means.left (said_view c.type_says_here.result) here c.loop-member.invariant.within (yes_passes l (M.OfType c.in-Some.member.now c.args.place (view c.args.item.now)) c.loop-member.means.left c.type_says_here.new.means.left (M.InChoice c.in-Some.others.now c.args.place (view c.args.item.now) c.loop-member.far) c.type_says_here.result (λ next. refl) c.in_default-type_says_here.not-No c.type_says_here.ensures)
 
 pub choice_says-loop-member-preserved : goal.choice_says-loop-member-preserved
 choice_says-loop-member-preserved t c =
@@ -77,7 +88,7 @@ choice_says-loop-member-preserved t c =
     let e : c.max-far.result ≡ max c.loop-member.far c.in-No.later = omega (arith, c.max-far.ensures) in
     record {
       within = omega (arith, c.loop-member.invariant.within, c.in-No.ensures.1);
-      comes = rw e (goes_on l (M.InChoice c.in-Some.others.now c.args.place (subject_view c.args.subject) c.loop-member.far) c.args.means.now.left c.loop-member.means.left c.type_says.new.means.left here c.loop-member.invariant.within c.in-No.ensures);
+      comes = rw e (goes_on l (M.InChoice c.in-Some.others.now c.args.place (view c.args.item.now) c.loop-member.far) c.args.means.now.left c.loop-member.means.left c.type_says_here.new.means.left here c.loop-member.invariant.within c.in-No.ensures);
     }
 
 pub tag_says-returns-in-Any : goal.tag_says-returns-in-Any
@@ -92,17 +103,20 @@ tag_says-returns-in-Exactly t c =
 pub tag_says-returns-in-Yes : goal.tag_says-returns-in-Yes
 tag_says-returns-in-Yes t c =
     let l = language_of c.args.table.now in
-    let content = passes_on l (M.OfType c.args.node (M.plus c.args.place 1) (view c.args.content.now)) c.type_says-in-SuchAs.new.means.left c.type_says-in-Yes.new.means.left (said_view c.type_says-in-Yes.result) (rw c.plus-after.ensures at c.type_says-in-Yes.ensures) in
-    rw c.in-SuchAs.is (asks l c.args.means.now.left c.type_says-in-SuchAs.new.means.left c.type_says-in-Yes.new.means.left (M.InHead c.args.node c.args.place (view c.args.content.now)) (said_view c.type_says-in-Yes.result) c.in-Yes.ensures content)
+    let content = passes_on l (M.OfType c.args.node (M.plus c.args.place 1) (view c.args.content.now)) c.apart_says.new.means.left c.type_says-in-Yes.new.means.left (said_view c.type_says-in-Yes.result) (rw c.plus-after.ensures at c.type_says-in-Yes.ensures) in
+    rw c.in-SuchAs.is (asks l c.args.means.now.left c.apart_says.new.means.left c.type_says-in-Yes.new.means.left (M.InHead c.args.node c.args.place (view c.args.content.now)) (said_view c.type_says-in-Yes.result) (rw (view-Uint c.args.found) at c.in-Yes.ensures) content)
 
 pub tag_says-returns-in-No : goal.tag_says-returns-in-No
-tag_says-returns-in-No t c = rw c.in-SuchAs.is (asks (language_of c.args.table.now) c.args.means.now.left c.type_says-in-SuchAs.new.means.left c.type_says-in-SuchAs.new.means.left (M.InHead c.args.node c.args.place (view c.args.content.now)) (Replied (J.Fails c.args.place)) c.in-No.ensures (answered (language_of c.args.table.now) c.type_says-in-SuchAs.new.means.left (J.Fails c.args.place)))
+tag_says-returns-in-No t c = rw c.in-SuchAs.is (asks (language_of c.args.table.now) c.args.means.now.left c.apart_says.new.means.left c.apart_says.new.means.left (M.InHead c.args.node c.args.place (view c.args.content.now)) (Replied (J.Fails c.args.place)) (rw (view-Uint c.args.found) at c.in-No.ensures) (answered (language_of c.args.table.now) c.apart_says.new.means.left (J.Fails c.args.place)))
+
+pub tag_says-returns-in_default : goal.tag_says-returns-in_default
+tag_says-returns-in_default t c = rw c.in-SuchAs.is (stops (language_of c.args.table.now) (M.OfType c.in-SuchAs.head c.args.place (uint c.args.found)) c.args.means.now.left c.apart_says.new.means.left (M.InHead c.args.node c.args.place (view c.args.content.now)) c.apart_says.result c.in_default.not-Yes c.in_default.not-No (rw (view-Uint c.args.found) at c.apart_says.ensures))
 
 pub held_says-returns-in-Ok-None : goal.held_says-returns-in-Ok-None
 held_says-returns-in-Ok-None t c = rw c.in-Some.ensures (nothing_held (language_of c.args.table.now) (content_view c.args.content) c.in-Some.bytes.now c.args.node c.args.place c.args.next c.args.means.now.left (rw c.in-Ok-None.field-0-is at c.in-Ok-None.ensures))
 
-pub held_says-returns : goal.held_says-returns
-held_says-returns t c = rw (c.in-Some.ensures, c.held_said.ensures) (held_ends (language_of c.args.table.now) (content_view c.args.content) c.in-Some.bytes.now c.args.node c.args.place c.args.next (view c.in-Ok-Some.item) c.args.means.now.left c.type_says-said.new.means.left _ (rw c.in-Ok-Some.field-0-is at c.in-Ok-Some.ensures) c.type_says-said.ensures)
+pub held_says-returns-in-Ok-Some : goal.held_says-returns-in-Ok-Some
+held_says-returns-in-Ok-Some t c = rw (c.in-Some.ensures, c.held_said.ensures) (held_ends (language_of c.args.table.now) (content_view c.args.content) c.in-Some.bytes.now c.args.node c.args.place c.args.next (view c.in-Ok-Some.held) c.args.means.now.left c.apart_says.new.means.left _ (rw c.in-Ok-Some.field-0-is at c.in-Ok-Some.ensures) c.apart_says.ensures)
 
 pub map_says-loop-entries-init : goal.map_says-loop-entries-init
 map_says-loop-entries-init t c = record {
@@ -115,7 +129,7 @@ map_says-loop-entries-preserved t c =
     let l = language_of c.args.table.now in
     let i = c.loop-entries.invariant.comes in
     let here = rw c.in-Some.ensures.cases.0 at i.2 in
-    let x = has_said c.alternative_says.result c.in_default-alternative_says.not-Stopped in
+    let x = has_said c.alternative_says.result c.in_default-alternative_says.not-Spent c.in_default-alternative_says.not-NoMemory in
     let q = M.OfAlternative (entries_view c.in-Some.entries.now.items) c.args.base (pairs_view c.args.pairs.now) in
     let told : Says l q c.loop-entries.means.left c.alternative_says.new.means.left (Replied x.0) = subst (λ o. Says l q c.loop-entries.means.left c.alternative_says.new.means.left o) x.1 (rw c.deref.ensures.value at c.alternative_says.ensures) in
     record {
@@ -129,12 +143,12 @@ alternative_says-loop-pair-init t c = record {
   comes = first_pair (language_of c.args.table.now) (entries_view c.args.entries.now) c.args.base c.plus-place.result (pairs_view c.args.pairs.now) (tally_view c.begin_tally.new.tally) c.args.means.now.left c.plus-place.ensures c.in-Ok.ensures (omega (arith, c.if-means-eq0.false));
 }
 
-pub alternative_says-returns-in-Err : goal.alternative_says-returns-in-Err
-alternative_says-returns-in-Err t c =
+pub alternative_says-returns-in-Err-Spent : goal.alternative_says-returns-in-Err-Spent
+alternative_says-returns-in-Err-Spent t c =
     let l = language_of c.args.table.now in
     let es = entries_view c.args.entries.now in
     let here = rw c.in-Some.ensures.cases.0 at c.loop-pair.invariant.comes in
-    pair_stops l (sorting_of es c.args.base c.loop-pair.place c.in-Some.pair.now (pairs_view c.in-Some.others.now) (tally_view c.loop-pair.tally)) c.in-Err.stop c.args.means.now.left c.loop-pair.means.left (c.loop-pair.means.left - (length c.args.entries.now + 1)) c.pair_fate.new.means.left here c.loop-pair.invariant.within (omega (arith, as_many_entries c.args.entries.now, c.if-means-tried.false)) (c.in-Err.ensures es c.args.base (pairs_view c.in-Some.others.now) (tally_view c.loop-pair.tally))
+    pair_stops l (sorting_of es c.args.base c.loop-pair.place c.in-Some.pair.now (pairs_view c.in-Some.others.now) (tally_view c.loop-pair.tally)) Spent c.args.means.now.left c.loop-pair.means.left (c.loop-pair.means.left - (length c.args.entries.now + 1)) c.pair_fate.new.means.left here c.loop-pair.invariant.within (omega (arith, as_many_entries c.args.entries.now, c.if-means-tried.false)) (rw c.in-Err-Spent.field-0-is at (c.in-Err-Spent.ensures es c.args.base (pairs_view c.in-Some.others.now) (tally_view c.loop-pair.tally)))
 
 pub alternative_says-loop-pair-preserved : goal.alternative_says-loop-pair-preserved
 alternative_says-loop-pair-preserved t c =
@@ -155,42 +169,42 @@ pair_fate-loop-entry-preserved-in-No t c = record {
       let l = language_of c.args.table.now in
       let s = sorting_of all base c.args.place c.args.pair.now rest tally in
       let here = rw c.in-Some.ensures.cases.0 at (c.loop-entry.invariant.comes all base rest tally) in
-      goes_on l (M.InKey (entry_view c.in-Some.entry.now) (entries_view c.in-Some.others.now) s) c.args.means.now.left c.loop-entry.means.left c.type_says.new.means.left here c.loop-entry.invariant.within c.in-No.ensures;
+      goes_on l (M.InKey (entry_view c.in-Some.entry.now) (entries_view c.in-Some.others.now) s) c.args.means.now.left c.loop-entry.means.left c.type_says_here.new.means.left here c.loop-entry.invariant.within c.in-No.ensures;
 }
 
-pub pair_fate-returns-in-Yes-type_says : goal.pair_fate-returns-in-Yes-type_says
-pair_fate-returns-in-Yes-type_says t c = λ all base rest tally.
+pub pair_fate-returns-in-Yes-type_says_here : goal.pair_fate-returns-in-Yes-type_says_here
+pair_fate-returns-in-Yes-type_says_here t c = λ all base rest tally.
     let l = language_of c.args.table.now in
     let s = sorting_of all base c.args.place c.args.pair.now rest tally in
     let here = rw c.in-Some.ensures.cases.0 at (c.loop-entry.invariant.comes all base rest tally) in
-    pair_taken l (entry_view c.in-Some.entry.now) (entries_view c.in-Some.others.now) s (length c.in-Some.others.now) c.args.means.now.left c.loop-entry.means.left c.type_says.new.means.left c.type_says-in-Some.new.means.left (sym (as_many_entries c.in-Some.others.now)) here c.loop-entry.invariant.within c.in-Yes.ensures (rw c.place_after-value_place.ensures at c.in-Yes-type_says.ensures)
+    pair_taken l (entry_view c.in-Some.entry.now) (entries_view c.in-Some.others.now) s (length c.in-Some.others.now) c.args.means.now.left c.loop-entry.means.left c.type_says_here.new.means.left c.type_says_here-in-Some.new.means.left (sym (as_many_entries c.in-Some.others.now)) here c.loop-entry.invariant.within c.in-Yes.ensures (rw c.place_after-value_place.ensures at c.in-Yes-type_says_here.ensures)
 
 pub pair_fate-returns-then-entry : goal.pair_fate-returns-then-entry
 pair_fate-returns-then-entry t c = λ all base rest tally.
     let l = language_of c.args.table.now in
     let s = sorting_of all base c.args.place c.args.pair.now rest tally in
     let here = rw c.in-Some.ensures.cases.0 at (c.loop-entry.invariant.comes all base rest tally) in
-    pair_kept l (entry_view c.in-Some.entry.now) (entries_view c.in-Some.others.now) s (length c.in-Some.others.now) c.in-No-type_says.far c.args.means.now.left c.loop-entry.means.left c.type_says.new.means.left c.type_says-in-Some.new.means.left (sym (as_many_entries c.in-Some.others.now)) c.if-entry.true here c.loop-entry.invariant.within c.in-Yes.ensures (rw c.place_after-value_place.ensures at c.in-No-type_says.ensures)
+    pair_kept l (entry_view c.in-Some.entry.now) (entries_view c.in-Some.others.now) s (length c.in-Some.others.now) c.in-No-type_says_here.far c.args.means.now.left c.loop-entry.means.left c.type_says_here.new.means.left c.type_says_here-in-Some.new.means.left (sym (as_many_entries c.in-Some.others.now)) c.if-entry.true here c.loop-entry.invariant.within c.in-Yes.ensures (rw c.place_after-value_place.ensures at c.in-No-type_says_here.ensures)
 
 pub pair_fate-loop-entry-preserved : goal.pair_fate-loop-entry-preserved
 pair_fate-loop-entry-preserved t c = record {
-  within = omega (arith, c.loop-entry.invariant.within, c.in-Yes.ensures.1, c.in-No-type_says.ensures.1);
+  within = omega (arith, c.loop-entry.invariant.within, c.in-Yes.ensures.1, c.in-No-type_says_here.ensures.1);
   comes = λ all base rest tally.
       let l = language_of c.args.table.now in
       let s = sorting_of all base c.args.place c.args.pair.now rest tally in
       let here = rw c.in-Some.ensures.cases.0 at (c.loop-entry.invariant.comes all base rest tally) in
-      pair_handed_on l (entry_view c.in-Some.entry.now) (entries_view c.in-Some.others.now) s c.args.means.now.left c.loop-entry.means.left c.type_says.new.means.left c.type_says-in-Some.new.means.left c.if-entry.false here c.loop-entry.invariant.within c.in-Yes.ensures (rw c.place_after-value_place.ensures at c.in-No-type_says.ensures);
+      pair_handed_on l (entry_view c.in-Some.entry.now) (entries_view c.in-Some.others.now) s c.args.means.now.left c.loop-entry.means.left c.type_says_here.new.means.left c.type_says_here-in-Some.new.means.left c.if-entry.false here c.loop-entry.invariant.within c.in-Yes.ensures (rw c.place_after-value_place.ensures at c.in-No-type_says_here.ensures);
 }
 
-pub pair_fate-returns-in-Stopped-type_says : goal.pair_fate-returns-in-Stopped-type_says
-pair_fate-returns-in-Stopped-type_says t c = λ all base rest tally.
+pub pair_fate-returns-in-Spent-type_says_here : goal.pair_fate-returns-in-Spent-type_says_here
+pair_fate-returns-in-Spent-type_says_here t c = λ all base rest tally.
     let l = language_of c.args.table.now in
     let s = sorting_of all base c.args.place c.args.pair.now rest tally in
     let here = rw c.in-Some.ensures.cases.0 at (c.loop-entry.invariant.comes all base rest tally) in
-    value_stops l (entries_view c.args.entries.now) (entry_view c.in-Some.entry.now) (entries_view c.in-Some.others.now) s c.in-Stopped-type_says.stop c.args.means.now.left c.loop-entry.means.left c.type_says.new.means.left c.type_says-in-Some.new.means.left here c.loop-entry.invariant.within c.in-Yes.ensures (subst (λ p. Says l (M.OfType c.in-Some.entry.now.value_type p (view c.args.pair.now.1)) c.type_says.new.means.left c.type_says-in-Some.new.means.left (Stopped c.in-Stopped-type_says.stop)) c.place_after-value_place.ensures c.in-Stopped-type_says.ensures)
+    value_stops l (entries_view c.args.entries.now) (entry_view c.in-Some.entry.now) (entries_view c.in-Some.others.now) s Spent c.args.means.now.left c.loop-entry.means.left c.type_says_here.new.means.left c.type_says_here-in-Some.new.means.left here c.loop-entry.invariant.within c.in-Yes.ensures (subst (λ p. Says l (M.OfType c.in-Some.entry.now.value_type p (view c.args.pair.now.1)) c.type_says_here.new.means.left c.type_says_here-in-Some.new.means.left (Stopped Spent)) c.place_after-value_place.ensures c.in-Spent-type_says_here.ensures)
 
 pub group_form_does-returns-in-Some : goal.group_form_does-returns-in-Some
-group_form_does-returns-in-Some t c = rw (c.in-Entry.is, c.in-Some.ensures.cases.0, c.entry_done.ensures) (entry_ends (language_of c.args.table.now) c.in-Entry.node c.args.base c.args.place (view c.in-Some.item.now) (values c.in-Some.rest.now) c.args.means.now.left c.type_says-said.new.means.left _ c.type_says-said.ensures)
+group_form_does-returns-in-Some t c = rw (c.in-Entry.is, c.in-Some.ensures.cases.0, c.entry_done.ensures) (entry_ends (language_of c.args.table.now) c.in-Entry.node c.args.base c.args.place (view c.in-Some.item.now) (values c.in-Some.rest.now) c.args.means.now.left c.type_says_here-said.new.means.left _ c.type_says_here-said.ensures)
 
 pub group_form_does-returns-in-Ref : goal.group_form_does-returns-in-Ref
 group_form_does-returns-in-Ref t c = rw c.in-Ref.is (passes_on (language_of c.args.table.now) (M.OfGroup c.in-Ref.to c.args.base c.args.place (values c.args.items.now)) c.args.means.now.left c.group_does.new.means.left (done_view c.group_does.result) c.group_does.ensures)
@@ -240,15 +254,31 @@ pub rounds_do-loop-group-preserved : goal.rounds_do-loop-group-preserved
 rounds_do-loop-group-preserved t c =
     let l = language_of c.args.table.now in
     let r = c.loop-group.rounds in
-    let round = a_round l r.least (most_view r.most) r.group r.base r.place (values r.items.now) r.far c.in_ok-reply.ensures.0 (sym c.is_over.ensures ∙ c.loop-group-test.true) c.in-Another.ensures.next in
+    let round = a_round l r.least (most_view r.most) r.group r.base r.place (values r.items.now) r.far c.in_ok-reply.ensures.0 (sym c.is_over.ensures ∙ c.loop-group-test.true) c.in-Another-after_round.ensures.next in
     record {
       within = omega (arith, c.loop-group.invariant.within, c.in_ok-reply.ensures.1);
       comes = and_on l c.loop-group.invariant.comes round (omega (arith, c.loop-group.invariant.within, c.in_ok-reply.ensures.1));
     }
 
 pub rounds_do-returns-in-Over : goal.rounds_do-returns-in-Over
-rounds_do-returns-in-Over t c =
+rounds_do-returns-in-Over t c = ends_on (language_of c.args.table.now) c.args.means.now.left (c.args.means.now.left - c.rounds_told-asked.result.1) (c.args.means.now.left - c.rounds_told-asked.result.1) (Replied (reply_view c.in-Over.reply)) (rw c.in-Over.is at c.rounds_told-asked.ensures.comes) (omega (arith, c.rounds_told-asked.ensures.within)) (answered (language_of c.args.table.now) (c.args.means.now.left - c.rounds_told-asked.result.1) (reply_view c.in-Over.reply))
+
+pub rounds_do-loop-group-init : goal.rounds_do-loop-group-init
+rounds_do-loop-group-init t c = record {
+  within = omega arith;
+  comes = subst (λ k. ComesTo (language_of c.args.table.now) (rounds_move c.args.rounds) (rounds_move c.in-Another.rounds) k) (omega (arith, c.rounds_told-asked.ensures.within)) (rw c.in-Another.is at c.rounds_told-asked.ensures.comes);
+}
+
+pub rounds_do-returns-in_err-reply : goal.rounds_do-returns-in_err-reply
+rounds_do-returns-in_err-reply t c =
     let l = language_of c.args.table.now in
     let r = c.loop-group.rounds in
-    let round = a_round l r.least (most_view r.most) r.group r.base r.place (values r.items.now) r.far c.in_ok-reply.ensures.0 (sym c.is_over.ensures ∙ c.loop-group-test.true) c.in-Over.ensures.next in
+    let e = err_from_is_err_and c.from_residual.result c.from_residual.ensures.1 in
+    rw (e.1 ∙ ap Err e.2) (ends_so l c.args.means.now.left c.loop-group.means.left c.group_does.new.means.left (Stopped _) c.loop-group.invariant.comes c.loop-group.invariant.within (round_stops l r.least (most_view r.most) r.group r.base r.place (values r.items.now) r.far _ c.loop-group.means.left c.group_does.new.means.left (sym c.is_over.ensures ∙ c.loop-group-test.true) c.in_err-reply.ensures))
+
+pub rounds_do-returns-in-Over-after_round : goal.rounds_do-returns-in-Over-after_round
+rounds_do-returns-in-Over-after_round t c =
+    let l = language_of c.args.table.now in
+    let r = c.loop-group.rounds in
+    let round = a_round l r.least (most_view r.most) r.group r.base r.place (values r.items.now) r.far c.in_ok-reply.ensures.0 (sym c.is_over.ensures ∙ c.loop-group-test.true) c.in-Over-after_round.ensures.next in
     (and_on l c.loop-group.invariant.comes round (omega (arith, c.loop-group.invariant.within, c.in_ok-reply.ensures.1)), omega (arith, c.loop-group.invariant.within, c.in_ok-reply.ensures.1))

@@ -1,6 +1,6 @@
 use Rattle.std.proofs.Common.{◌≡◌, ℕ, ◌+◌, ◌-◌, ◌*◌, ◌≤◌, List, length}
 use Rattle.cbor_data.specs.Value.{Pairs}
-use Rattle.cbor_item.specs.View.{pairs_view}
+use Rattle.cbor_item.specs.View.{pairs_view, view}
 use Rattle.cddl_meaning.specs.Forms as F
 use Rattle.cddl_meaning.specs.Judges.{Reply, Fails}
 use Rattle.cddl_meaning.specs.Moves as M
@@ -8,7 +8,7 @@ use Rattle.cddl_table.specs.Language.{language_of}
 use Rattle.cddl_table.specs.Nodes.{alternatives_view, entries_view}
 use Rattle.cddl_table.specs.declared.nodes.TypeId.{TypeId}
 use Rattle.cddl_match.specs.Ahead.{ComesTo, Opens}
-use Rattle.cddl_match.specs.Views.{parts_move, rounds_move, subject_view, tally_view, values}
+use Rattle.cddl_match.specs.Views.{parts_move, rounds_move, tally_view, values}
 use Rattle.cddl_match.specs.Within.{Replied, said_view, sorting_of}
 use Rattle.cddl_match.proofs.saying.+saying.Given as goal
 
@@ -17,7 +17,7 @@ use Rattle.cddl_match.proofs.saying.+saying.Given as goal
 abbrev pub invariant-choice_says-loop-member : goal.invariant-choice_says-loop-member
 invariant-choice_says-loop-member l = record {
   within : l.means.left ≤ l.fn.means.left;
-  comes : ComesTo (language_of l.fn.table) (M.next_member l.fn.members l.fn.place (subject_view l.fn.subject) l.fn.place) (M.next_member l.left l.fn.place (subject_view l.fn.subject) l.far) (l.fn.means.left - l.means.left);
+  comes : ComesTo (language_of l.fn.table) (M.next_member l.fn.members l.fn.place (view l.fn.item) l.fn.place) (M.next_member l.left l.fn.place (view l.fn.item) l.far) (l.fn.means.left - l.means.left);
 }
 
 abbrev pub invariant-map_says-loop-entries : goal.invariant-map_says-loop-entries
@@ -81,7 +81,10 @@ decreases-rounds_do-loop-group l = l.means.left
 -- Each type and group that is asked takes from the depth.
 
 abbrev pub decreases-type_says : goal.decreases-type_says
-decreases-type_says l = 8 * l.depth
+decreases-type_says l = 8 * l.depth + 1
+
+abbrev pub decreases-type_says_here : goal.decreases-type_says_here
+decreases-type_says_here l = 8 * l.depth
 
 abbrev pub decreases-group_does : goal.decreases-group_does
 decreases-group_does l = 8 * l.depth
@@ -93,22 +96,25 @@ abbrev pub decreases-group_form_does : goal.decreases-group_form_does
 decreases-group_form_does l = 8 * l.depth + 7
 
 abbrev pub decreases-choice_says : goal.decreases-choice_says
-decreases-choice_says l = 8 * l.depth + 1
+decreases-choice_says l = 8 * l.depth + 2
 
 abbrev pub decreases-tag_says : goal.decreases-tag_says
-decreases-tag_says l = 8 * l.depth + 1
+decreases-tag_says l = 8 * l.depth + 3
 
 abbrev pub decreases-held_says : goal.decreases-held_says
-decreases-held_says l = 8 * l.depth + 1
+decreases-held_says l = 8 * l.depth + 3
+
+abbrev pub decreases-apart_says : goal.decreases-apart_says
+decreases-apart_says l = 8 * l.depth + 2
 
 abbrev pub decreases-map_says : goal.decreases-map_says
-decreases-map_says l = 8 * l.depth + 3
+decreases-map_says l = 8 * l.depth + 4
 
 abbrev pub decreases-alternative_says : goal.decreases-alternative_says
-decreases-alternative_says l = 8 * l.depth + 2
+decreases-alternative_says l = 8 * l.depth + 3
 
 abbrev pub decreases-pair_fate : goal.decreases-pair_fate
-decreases-pair_fate l = 8 * l.depth + 1
+decreases-pair_fate l = 8 * l.depth + 2
 
 abbrev pub decreases-parts_do : goal.decreases-parts_do
 decreases-parts_do l = 8 * l.depth + 1
