@@ -6,6 +6,8 @@ mod devices;
 #[cfg(test)]
 mod memory;
 #[cfg(test)]
+mod one_by_one;
+#[cfg(test)]
 mod rows;
 #[cfg(test)]
 mod running;

@@ -7,7 +7,7 @@ use crate::tables::table;
 use cbor_item::{Counted, Sound};
 use cbor_read::Limits;
 use cddl_table::Table;
-use seq_run::{Cause, End, Mode, RunFault, Session, State, end_line, run};
+use seq_run::{Advance, Cause, End, Mode, RunFault, Session, State, end_line, run};
 use std::alloc::Global;
 use std::process::Abort;
 
@@ -27,7 +27,12 @@ fn limits(rt: &impl Abort) -> Limits {
 fn is_want_kept(session: &mut Session<'_>, items: &mut Vec<Sound>) -> bool {
     let count = items.len();
     let fed = session.feed(STREAM, items);
-    fed.is_err() && session.finish().is_err() && items.len() == count && count <= 4
+    let fed_one = session.feed_one(STREAM, items);
+    fed.is_err()
+        && fed_one.is_err()
+        && session.finish().is_err()
+        && items.len() == count
+        && count <= 4
 }
 
 fn is_session_right(rt: &impl Abort, alloc: Global, table: &Table) -> bool {
@@ -48,6 +53,30 @@ fn a_session_ends_or_wants_memory(rt: HostRuntime) {
     let alloc = rt.alloc();
     if let Ok(Some(table)) = table(alloc) {
         assert!(rt; is_session_right(&rt, alloc, &table));
+    }
+}
+
+// The same where the items are taken one by one.
+fn is_taking_right(rt: &impl Abort, alloc: Global, table: &Table) -> bool {
+    let mut session = Session::new(alloc, table, limits(rt), 1000);
+    let mut items = Vec::new(alloc);
+    let mut rest = STREAM;
+    for _ in 0..STREAM.len() {
+        match session.feed_one(rest, &mut items) {
+            Ok(Advance::More) => return false,
+            Ok(Advance::Ended(end)) => return end == END && items.len() == 4,
+            Ok(Advance::Item { used, .. }) => rest = &rest[used.min(rest.len())..],
+            Err(_) => return is_want_kept(&mut session, &mut items),
+        }
+    }
+    false
+}
+
+#[test]
+fn taking_one_by_one_ends_or_wants_memory(rt: HostRuntime) {
+    let alloc = rt.alloc();
+    if let Ok(Some(table)) = table(alloc) {
+        assert!(rt; is_taking_right(&rt, alloc, &table));
     }
 }
 

@@ -6,7 +6,10 @@ use Rattle.cbor_data.specs.Value.{Value}
 use Rattle.cbor_data.specs.Notation.{notation}
 use Rattle.cbor_item.specs.View.{view}
 use Rattle.cbor_item.specs.declared.item.Item.{Item}
-use Rattle.std.proofs.Common.{◌≡◌, ℕ, ◌+◌, ◌≤◌, List, [], ◌++◌, length, take, drop, ap, ◌∙◌, append_assoc}
+use Rattle.std.proofs.Common.{◌≡◌, ℕ, ◌+◌, ◌<◌, ◌≤◌, ◌^◌, List, [], ◌++◌, length, take, drop, decimal, ap, ◌∙◌, append_assoc, arith}
+use Rattle.std.proofs.lemmas.Fmt.{length-decimal-le}
+use Rattle.std.specs.Prelude.{codes}
+use Rattle.seq_run.specs.Report.{head_text}
 use Rattle.std.proofs.lemmas.List.{drop_at, drop-drop, length-take-le}
 use borrow.Rule.Slice.PartMut.{post_of, put_mid}
 
@@ -29,6 +32,14 @@ head_first o p q r a b c d e f g h i j = rw (j, i, h) (simp append_assoc)
 -- a part of a list that ends at `e` is written anew
 pub drop_written : (a k e : ℕ) (xs ys : List ℕ) → a + k ≡ e → a ≤ length xs → drop a (put_mid a k xs ys) ≡ ys ++ drop e xs
 drop_written a k e xs ys is le = drop_at (take a xs) (ys ++ post_of a k xs) a (length-take-le a xs le) ∙ ap (λ r. ys ++ r) (drop-drop k a xs ∙ ap (λ n. drop n xs) is)
+
+-- a number of 64 bits has 20 digits at most
+pub few_digits : (n : ℕ) → n < 2 ^ 64 → length (decimal n) ≤ 20
+few_digits n h = length-decimal-le 20 n (omega arith) (omega arith) h
+
+-- a head is what was written, one part before the other
+pub head_parts : (number offset : ℕ) (rest : List ℕ) → codes "item " ++ (decimal number ++ (codes " at " ++ (decimal offset ++ (codes ": " ++ rest)))) ≡ head_text number offset ++ rest
+head_parts number offset rest = simp append_assoc
 
 pub from_nothing : (o text all : List ℕ) → o ≡ [] → text ≡ o ++ all → text ≡ all
 from_nothing o text all e f = f ∙ ap (λ (b : List ℕ). b ++ all) e

@@ -10,6 +10,7 @@ pub mod Cutting
 pub mod Reporting
 pub mod RunLoop
 pub mod Appending
+pub mod Small
 pub mod Rereading
 pub mod OneEnd
 pub mod SomeEnd

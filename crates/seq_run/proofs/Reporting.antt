@@ -1,9 +1,9 @@
 -- The output of a piece.
 use Rattle.std.proofs.Common.{◌≡◌, ℕ, suc, ◌+◌, ◌-◌, ◌<◌, ◌≤◌, List, [], ◌∷◌, ◌++◌, length, take, drop, get_or, Option, Some, None, Result, Ok, refl, sym, ap, ap₂, ◌∙◌, subst, arith, append-nil, append_assoc, length-append}
 use Rattle.std.specs.declared.alloc.AllocError.{AllocError}
-use Rattle.std.proofs.lemmas.List.{take-append-drop, length-drop}
+use Rattle.std.proofs.lemmas.List.{take-append-drop, length-drop, append_cancel_left}
 use Rattle.std.proofs.Math.Seq.{take-length}
-use Rattle.cbor_data.specs.Value.{Value, place_count}
+use Rattle.cbor_data.specs.Value.{Value, uint, place_count}
 use Rattle.cbor_data.specs.Sequence as sequence
 use Rattle.cbor_data.specs.Sequence.{Found, EndsBy, cleanly, at_fault, at_mismatch, at_spent}
 use Rattle.cbor_data.specs.Faults.{Bounds}
@@ -16,7 +16,7 @@ use Rattle.seq_run.specs.declared.session.Advance.TheVariants as advance
 use Rattle.seq_run.specs.Ends.{Accepts, Misses, Overruns, Ends}
 use Rattle.seq_run.specs.Progress.{Progress}
 use Rattle.seq_run.specs.Parts.{IsNext, IsRejected}
-use Rattle.seq_run.specs.Answers.{IsOpen, IsEnded, IsLent, IsAdvance, IsAdvanceAnswer, intake_of}
+use Rattle.seq_run.specs.Answers.{items_of, Appends, IsOpen, IsEnded, IsFedOne, IsItemFed, IsSmallFed, IsAdvance, IsLent}
 use Rattle.seq_run.specs.declared.output.Mode.{Mode}
 use Rattle.seq_run.specs.Report.{IsShown}
 use Rattle.seq_run.specs.Output.{item_output, items_output}
@@ -44,52 +44,66 @@ pub record IsReporting (mode : Mode) (old : Progress) (piece lines : List ℕ) (
 pub begin_reporting : (mode : Mode) (old : Progress) (piece lines : List ℕ) → old.stopped ≡ None → IsReporting mode old piece lines old piece lines
 begin_reporting mode old piece lines e = record { fed = refl; going = e; added = []; taken = sym (append-nil old.taken); written = sym (append-nil lines); judge = refl; limits = refl }
 
-module _ (mode : Mode) (old : Progress) (piece lines : List ℕ) (now : Progress) (rest lines_now : List ℕ) (r : IsReporting mode old piece lines now rest lines_now) (new : Progress) (out_new : List Value) where
-  step_of : (result : Result Advance AllocError) → IsAdvanceAnswer now.stopped (intake_of now []) rest result (intake_of new out_new) → IsAdvance (intake_of now []) rest result (intake_of new out_new)
-  step_of result s = subst (λ v. IsAdvanceAnswer v (intake_of now []) rest result (intake_of new out_new)) r.going s
+module _ (mode : Mode) (old : Progress) (piece lines : List ℕ) (now : Progress) (rest lines_now : List ℕ) (r : IsReporting mode old piece lines now rest lines_now) (new : Progress) where
+  step_of : (result : Result Advance AllocError) → IsAdvance now.stopped now rest result new → IsFedOne now rest result new
+  step_of result s = subst (λ v. IsAdvance v now rest result new) r.going s
 
   adds : new.fed ≡ now.fed ++ rest → new.taken ≡ now.taken → new.judge ≡ now.judge → new.limits ≡ now.limits → Adds mode old piece lines new lines_now
   adds f t u v = record { fed = f ∙ r.fed; added = r.added; taken = t ∙ r.taken; written = r.written; judge = u ∙ r.judge; limits = v ∙ r.limits }
 
-  pub reported_more : IsAdvanceAnswer now.stopped (intake_of now []) rest (Ok advance.More) (intake_of new out_new) → Adds mode old piece lines new lines_now × IsOpen new
+  pub reported_more : IsAdvance now.stopped now rest (Ok advance.More) new → Adds mode old piece lines new lines_now × IsOpen new
   reported_more a =
-      let s : IsAdvance (intake_of now []) rest (Ok advance.More) (intake_of new out_new) = step_of (Ok advance.More) a in
-      (adds (ap (λ (p : Progress). p.fed) s.0) (ap (λ (p : Progress). p.taken) s.0) (ap (λ (p : Progress). p.judge) s.0) (ap (λ (p : Progress). p.limits) s.0), s.2)
+      let s : IsFedOne now rest (Ok advance.More) new = step_of (Ok advance.More) a in
+      (adds (ap (λ (p : Progress). p.fed) s.0) (ap (λ (p : Progress). p.taken) s.0) (ap (λ (p : Progress). p.judge) s.0) (ap (λ (p : Progress). p.limits) s.0), s.1)
 
-  pub reported_ended : (end : End) → IsAdvanceAnswer now.stopped (intake_of now []) rest (Ok (advance.Ended end)) (intake_of new out_new) → Adds mode old piece lines new lines_now × IsEnded new end
+  pub reported_ended : (end : End) → IsAdvance now.stopped now rest (Ok (advance.Ended end)) new → Adds mode old piece lines new lines_now × IsEnded new end
   reported_ended end a =
-      let s : IsAdvance (intake_of now []) rest (Ok (advance.Ended end)) (intake_of new out_new) = step_of (Ok (advance.Ended end)) a in
-      (adds (ap (λ (p : Progress). p.fed) s.0) (ap (λ (p : Progress). p.taken) s.0) (ap (λ (p : Progress). p.judge) s.0) (ap (λ (p : Progress). p.limits) s.0), s.2)
+      let s : IsFedOne now rest (Ok (advance.Ended end)) new = step_of (Ok (advance.Ended end)) a in
+      (adds (ap (λ (p : Progress). p.fed) s.0) (ap (λ (p : Progress). p.taken) s.0) (ap (λ (p : Progress). p.judge) s.0) (ap (λ (p : Progress). p.limits) s.0), s.1)
 
-  pub item_there : (used number offset : ℕ) → IsAdvanceAnswer now.stopped (intake_of now []) rest (Ok (advance.Item used number offset)) (intake_of new out_new) → length out_new ≡ 1
-  item_there used number offset a =
-      let s : IsAdvance (intake_of now []) rest (Ok (advance.Item used number offset)) (intake_of new out_new) = step_of (Ok (advance.Item used number offset)) a in
-      ap length s.3.2
+  -- the list has just the item that was accepted
+  just_item : (used number offset : ℕ) (out_new : List Value) (s : IsItemFed now rest used number offset new) → Appends now new [] out_new → out_new ≡ s.item ∷ []
+  just_item used number offset out_new s a =
+      let more : Found = record { offset = offset; item = s.item } in
+      let added : a.added ≡ more ∷ [] = append_cancel_left now.taken a.added (more ∷ []) (sym a.taken ∙ ap (λ (p : Progress). p.taken) s.next) in
+      a.out ∙ ap items_of added
 
-  pub reported_item : (used number offset : ℕ) (y : Value) (lines_new : List ℕ) → IsAdvanceAnswer now.stopped (intake_of now []) rest (Ok (advance.Item used number offset)) (intake_of new out_new) → y ≡ get_or out_new 0 y →
+  pub item_there : (used number offset : ℕ) (out_new : List Value) → Appends now new [] out_new → IsAdvance now.stopped now rest (Ok (advance.Item used number offset)) new → length out_new ≡ 1
+  item_there used number offset out_new appends a = ap length (just_item used number offset out_new (step_of (Ok (advance.Item used number offset)) a) appends)
+
+  -- the output of an item was appended
+  pub reported_fed : (used number offset : ℕ) (y : Value) (lines_new : List ℕ) (s : IsItemFed now rest used number offset new) → y ≡ s.item →
       lines_new ≡ lines_now ++ item_output mode number (record { offset = offset; item = y }) → IsReporting mode old piece lines new (drop used rest) lines_new × (0 < used) × (used ≤ length rest)
-  reported_item used number offset y lines_new a item written =
-      let s : IsAdvance (intake_of now []) rest (Ok (advance.Item used number offset)) (intake_of new out_new) = step_of (Ok (advance.Item used number offset)) a in
-      let x = s.3.0 in
-      let more : Found = record { offset = offset; item = x } in
-      let same : y ≡ x = item ∙ ap (λ (xs : List Value). get_or xs 0 y) s.3.2 in
-      let taken : new.taken ≡ old.taken ++ (r.added ++ more ∷ []) = ap (λ (p : Progress). p.taken) s.3.1 ∙ (ap (λ (fs : List Found). fs ++ more ∷ []) r.taken ∙ append_assoc old.taken r.added (more ∷ [])) in
-      let count : number ≡ suc (length old.taken) + length r.added = omega (arith, s.2, ap length taken, length-append old.taken (r.added ++ more ∷ []), length-append r.added (more ∷ [])) in
+  reported_fed used number offset y lines_new s same written =
+      let more : Found = record { offset = offset; item = s.item } in
+      let taken : new.taken ≡ old.taken ++ (r.added ++ more ∷ []) = ap (λ (p : Progress). p.taken) s.next ∙ (ap (λ (fs : List Found). fs ++ more ∷ []) r.taken ∙ append_assoc old.taken r.added (more ∷ [])) in
+      let count : number ≡ suc (length old.taken) + length r.added = omega (arith, s.number_is, ap length taken, length-append old.taken (r.added ++ more ∷ []), length-append r.added (more ∷ [])) in
       let line : item_output mode number (record { offset = offset; item = y }) ≡ item_output mode (suc (length old.taken) + length r.added) more =
       ap₂ (λ (n : ℕ) (v : Value). item_output mode n (record { offset = offset; item = v })) count same in (
         record {
-          fed = ap (λ (p : Progress). p.fed ++ drop used rest) s.3.1 ∙ (append_assoc now.fed (take used rest) (drop used rest) ∙ (ap (λ (xs : List ℕ). now.fed ++ xs) (take-append-drop used rest) ∙ r.fed));
-          going = ap (λ (p : Progress). p.stopped) s.3.1 ∙ r.going;
+          fed = ap (λ (p : Progress). p.fed ++ drop used rest) s.next ∙ (append_assoc now.fed (take used rest) (drop used rest) ∙ (ap (λ (xs : List ℕ). now.fed ++ xs) (take-append-drop used rest) ∙ r.fed));
+          going = ap (λ (p : Progress). p.stopped) s.next ∙ r.going;
           added = r.added ++ more ∷ [];
           taken = taken;
           written = written ∙ (ap₂ (λ (a b : List ℕ). a ++ b) r.written line ∙ (append_assoc lines (items_output mode (suc (length old.taken)) r.added) (item_output mode (suc (length old.taken) + length r.added) more)
               ∙ ap (λ (b : List ℕ). lines ++ b) (sym (items_output_more mode (suc (length old.taken)) r.added more))));
-          judge = ap (λ (p : Progress). p.judge) s.3.1 ∙ r.judge;
-          limits = ap (λ (p : Progress). p.limits) s.3.1 ∙ r.limits;
+          judge = ap (λ (p : Progress). p.judge) s.next ∙ r.judge;
+          limits = ap (λ (p : Progress). p.limits) s.next ∙ r.limits;
         },
-        s.0,
-        s.1,
+        s.some,
+        s.within,
       )
+
+  pub reported_item : (used number offset : ℕ) (out_new : List Value) (y : Value) (lines_new : List ℕ) → Appends now new [] out_new → IsAdvance now.stopped now rest (Ok (advance.Item used number offset)) new → y ≡ get_or out_new 0 y →
+      lines_new ≡ lines_now ++ item_output mode number (record { offset = offset; item = y }) → IsReporting mode old piece lines new (drop used rest) lines_new × (0 < used) × (used ≤ length rest)
+  reported_item used number offset out_new y lines_new appends a item written =
+      let s : IsItemFed now rest used number offset new = step_of (Ok (advance.Item used number offset)) a in
+      reported_fed used number offset y lines_new s (item ∙ ap (λ (xs : List Value). get_or xs 0 y) (just_item used number offset out_new s appends)) written
+
+  pub reported_small : (n number offset : ℕ) (lines_new : List ℕ) → IsSmallFed now rest n offset new → number ≡ length new.taken → lines_new ≡ lines_now ++ item_output mode number (record { offset = offset; item = uint n }) →
+      IsReporting mode old piece lines new (drop 1 rest) lines_new × (0 < 1) × (1 ≤ length rest)
+  reported_small n number offset lines_new s count written =
+      reported_fed 1 (length new.taken) offset (uint n) lines_new s.fed (sym s.is) (written ∙ ap (λ (m : ℕ). lines_now ++ item_output mode m (record { offset = offset; item = uint n })) count)
 
 -- the item after the run is one
 pub same_next : (judge : Judge) (l : Bounds) (stream : List ℕ) (found : List Found) (x y : Value) → IsNext judge l stream found x → IsNext judge l stream found y → x ≡ y

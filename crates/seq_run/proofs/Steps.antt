@@ -1,12 +1,12 @@
 -- The steps of a session, from the answers of its reader.
-use Rattle.std.proofs.Common.{◌≡◌, ◌≢◌, ℕ, ◌+◌, ◌^◌, ◌<◌, List, [], ◌∷◌, ◌++◌, length, take, map, Option, Some, None, Result, Ok, Err, is_ok, is_err, true, if◌then◌else◌, refl, sym, ap, ◌∙◌, subst, arith, append-nil}
+use Rattle.std.proofs.Common.{◌≡◌, ◌≢◌, ℕ, ◌+◌, ◌^◌, ◌<◌, List, [], ◌∷◌, ◌++◌, length, take, map, Option, Some, None, Result, Ok, Err, is_ok, is_err, true, false, if◌then◌else◌, refl, sym, ap, ◌∙◌, subst, arith, append-nil}
 use Rattle.std.specs.declared.alloc.AllocError.{AllocError}
-use Rattle.cbor_data.specs.Value.{Value}
+use Rattle.cbor_data.specs.Value.{Value, uint}
 use Rattle.cbor_data.specs.Faults.{Bounds, IsFaultOf}
 use Rattle.cbor_data.specs.Sequence.{Found}
 use Rattle.cbor_read.specs.Reading.{Reading}
 use Rattle.cbor_read.specs.Answers as reader
-use Rattle.cbor_read.specs.Answers.{IsGoingOn, IsTaken}
+use Rattle.cbor_read.specs.Answers.{IsGoingOn, IsTaken, IsSmallTaken}
 use Rattle.cbor_read.specs.declared.fault.Fault as declared
 use Rattle.cbor_read.specs.declared.fault.Stop.{Stop}
 use Rattle.cbor_read.specs.declared.fault.Stop.TheVariants as stop
@@ -25,7 +25,7 @@ use Rattle.seq_run.specs.Judged.{IsFailing}
 use Rattle.seq_run.specs.FoundItem.{found_of}
 use Rattle.seq_run.specs.Progress.{Progress}
 use Rattle.seq_run.specs.Parts.{IsRejected, IsRunning, AreParts, parts_of}
-use Rattle.seq_run.specs.Answers.{IsOpen, IsEnded, IsCutShort, IsAdvance, IsAdvanceAnswer, IsFinish, intake_of}
+use Rattle.seq_run.specs.Answers.{Appends, IsOpen, IsEnded, IsCutShort, IsFedOne, IsItemFed, IsSmallFed, IsAdvance, IsStep, IsFinish}
 use Rattle.seq_run.proofs.Ending.{clean_end, fault_end}
 use Rattle.seq_run.proofs.Verdicts.{OneAnswer}
 use Rattle.seq_run.proofs.Transitions.{grows, going_on, opened, took, missed, overrun, faulted, cut_short, counts_below}
@@ -40,9 +40,17 @@ pub kept_items : {T E : Type 0} (result : Result T E) (new longer old : List Val
 kept_items (Ok x) new longer old e f = absurd (cc)
 kept_items (Err x) new longer old e f = e
 
-pub answered : (now : Progress) (piece : List ℕ) (out : List Value) (result : Result Advance AllocError) (new : Progress) (out_new : List Value) → now.stopped ≡ None → IsAdvance (intake_of now out) piece result (intake_of new out_new) →
-    IsAdvanceAnswer now.stopped (intake_of now out) piece result (intake_of new out_new)
-answered now piece out result new out_new e s = subst (λ v. IsAdvanceAnswer v (intake_of now out) piece result (intake_of new out_new)) (sym e) s
+-- a push that did not fail
+pub pushed_items : {T E : Type 0} (result : Result T E) (new longer old : List Value) → new ≡ (if is_ok result then longer else old) → is_err result ≡ false → new ≡ longer
+pushed_items (Ok x) new longer old e f = e
+pushed_items (Err x) new longer old e f = absurd (cc)
+
+pub answered : (now : Progress) (piece : List ℕ) (result : Result Advance AllocError) (new : Progress) → now.stopped ≡ None → IsFedOne now piece result new → IsAdvance now.stopped now piece result new
+answered now piece result new e s = subst (λ v. IsAdvance v now piece result new) (sym e) s
+
+-- no item came
+none_added : (now after : Progress) (out out_new : List Value) → after.taken ≡ now.taken → after.judge ≡ now.judge → after.limits ≡ now.limits → out_new ≡ out → Appends now after out out_new
+none_added now after out out_new t u v o = record { added = []; taken = t ∙ sym (append-nil now.taken); out = o ∙ sym (append-nil out); judge = u; limits = v }
 
 module _ (judge : Judge) (fed : List ℕ) (taken : List Found) (r : Reading) (items offset bytes : ℕ) (stopped : Option Stopped) (rejected : Option Value)
     (is : stopped ≡ None) (parts : AreParts stopped judge r.limits fed taken (parts_of r items offset bytes rejected)) where
@@ -68,24 +76,26 @@ module _ (judge : Judge) (fed : List ℕ) (taken : List Found) (r : Reading) (it
   more_kept piece new fed' e g = subst (λ v. AreParts v judge new.limits fed' taken (parts_of new items offset (bytes + length piece) rejected)) (sym is) (more_running piece new fed' e g)
 
   pub more_step : (now : Progress) → old ≡ now → (piece : List ℕ) (out : List Value) (new : Reading) (fed' : List ℕ) → fed' ≡ fed ++ piece → IsGoingOn r piece new →
-      IsAdvance (intake_of now out) piece (Ok advance.More) (intake_of (record { judge = judge; limits = new.limits; fed = fed'; taken = taken; stopped = stopped }) out)
+      IsStep now piece out (Ok advance.More) (record { judge = judge; limits = new.limits; fed = fed'; taken = taken; stopped = stopped }) out
   more_step now same piece out new fed' e g =
       let limits : new.limits ≡ r.limits = ap (λ (v : Reading). v.limits) g.next in
       let next = more_running piece new fed' e g in
       let after : Progress = record { judge = judge; limits = new.limits; fed = fed'; taken = taken; stopped = stopped } in
       let open_now : IsOpen after = opened judge new.limits fed' taken new items offset (bytes + length piece) rejected next stopped is in
       let moved : after ≡ record old { fed = fed ++ piece } = rw (limits, e) refl in
-      (subst (λ (p : Progress). after ≡ record p { fed = p.fed ++ piece }) same moved, refl, open_now)
+      let moved_now : after ≡ record now { fed = now.fed ++ piece } = subst (λ (p : Progress). after ≡ record p { fed = p.fed ++ piece }) same moved in
+      (none_added now after out out (ap (λ (p : Progress). p.taken) moved_now) (ap (λ (p : Progress). p.judge) moved_now) (ap (λ (p : Progress). p.limits) moved_now) refl, (moved_now, open_now))
 
   -- whatever follows the piece, the stream has this end
   ended_step : (now : Progress) → old ≡ now → (piece : List ℕ) (out : List Value) (end : End) (limits : Bounds) (fed' : List ℕ) → limits ≡ r.limits → fed' ≡ fed ++ piece →
       ((more : List ℕ) → Ends judge r.limits ((fed ++ piece) ++ more) taken end) →
-      IsAdvance (intake_of now out) piece (Ok (advance.Ended end)) (intake_of (record { judge = judge; limits = limits; fed = fed'; taken = taken; stopped = Some (Ended end) }) out)
+      IsStep now piece out (Ok (advance.Ended end)) (record { judge = judge; limits = limits; fed = fed'; taken = taken; stopped = Some (Ended end) }) out
   ended_step now same piece out end limits fed' bounds e ends =
       let after : Progress = record { judge = judge; limits = limits; fed = fed'; taken = taken; stopped = Some (Ended end) } in
       let ended : IsEnded after end = record { ends = λ more. rw (bounds, e) (ends more); stopped = refl } in
       let moved : after ≡ record old { fed = fed ++ piece; stopped = Some (Ended end) } = rw (bounds, e) refl in
-      (subst (λ (p : Progress). after ≡ record p { fed = p.fed ++ piece; stopped = Some (Ended end) }) same moved, refl, ended)
+      let moved_now : after ≡ record now { fed = now.fed ++ piece; stopped = Some (Ended end) } = subst (λ (p : Progress). after ≡ record p { fed = p.fed ++ piece; stopped = Some (Ended end) }) same moved in
+      (none_added now after out out (ap (λ (p : Progress). p.taken) moved_now) (ap (λ (p : Progress). p.judge) moved_now) (ap (λ (p : Progress). p.limits) moved_now) refl, (moved_now, ended))
 
   -- an item was accepted
   pub item_fits : (piece : List ℕ) (used : ℕ) (x : Value) (new : Reading) → IsTaken r piece used x new → Accepts judge x [] → (items + 1 < 2 ^ 64) × (bytes + used < 2 ^ 64)
@@ -103,6 +113,58 @@ module _ (judge : Judge) (fed : List ℕ) (taken : List Found) (r : Reading) (it
       let there : IsRunning judge new.limits (fed ++ take used piece) (taken ++ record { offset = offset; item = x } ∷ []) (parts_of new (items + 1) (bytes + used) (bytes + used) None) =
       subst (λ l. IsRunning judge l (fed ++ take used piece) (taken ++ record { offset = offset; item = x } ∷ []) (parts_of new (items + 1) (bytes + used) (bytes + used) None)) (sym limits) next in
       rw (is, e, f, running.none) there
+
+  -- the session after an item that was accepted
+  abbrev After : Reading → List ℕ → List Found → Progress
+  After new fed' taken' = record { judge = judge; limits = new.limits; fed = fed'; taken = taken'; stopped = stopped }
+
+  pub item_fed : (now : Progress) → old ≡ now → (piece : List ℕ) (used : ℕ) (x : Value) (new : Reading) (fed' : List ℕ) (taken' : List Found) → fed' ≡ fed ++ take used piece →
+      taken' ≡ taken ++ record { offset = offset; item = x } ∷ [] → IsTaken r piece used x new → Accepts judge x [] → (s : IsItemFed now piece used (items + 1) offset (After new fed' taken')) × (s.item ≡ x)
+  item_fed now same piece used x new fed' taken' e f t accepts =
+      let limits : new.limits ≡ r.limits = ap (λ (v : Reading). v.limits) t.next in
+      let more : Found = record { offset = offset; item = x } in
+      let running_now : IsRunning judge new.limits fed' taken' (parts_of new (items + 1) (bytes + used) (bytes + used) rejected) =
+      subst (λ v. AreParts v judge new.limits fed' taken' (parts_of new (items + 1) (bytes + used) (bytes + used) rejected)) is (item_kept piece used x new fed' taken' e f t accepts) in
+      let nothing : new.fed ≡ [] = ap (λ (v : Reading). v.fed) t.next in
+      let begins : BeginsWith judge new.limits fed' taken' [] = subst (λ (b : List ℕ). BeginsWith judge new.limits fed' taken' b) nothing running_now.takes in
+      let ends : Ends judge new.limits fed' taken' (Clean (items + 1) (length fed')) = rw running_now.items_is (clean_end judge new.limits fed' taken' begins) in
+      let moved : After new fed' taken' ≡ record old { fed = fed ++ take used piece; taken = taken ++ more ∷ [] } = rw (limits, e, f) refl in
+      let moved_now : After new fed' taken' ≡ record now { fed = now.fed ++ take used piece; taken = now.taken ++ more ∷ [] } = subst (λ (p : Progress). After new fed' taken' ≡ record p { fed = p.fed ++ take used piece; taken = p.taken ++ more ∷ [] }) same moved in
+      (record { some = t.some; within = t.within; item = x; next = moved_now; number_is = running_now.items_is; ends = ends; short = omega (arith, running_now.bytes_is, running_now.short) }, refl)
+
+  pub item_step : (now : Progress) → old ≡ now → (piece : List ℕ) (out out_new : List Value) (used : ℕ) (x : Value) (new : Reading) (fed' : List ℕ) (taken' : List Found) → fed' ≡ fed ++ take used piece →
+      taken' ≡ taken ++ record { offset = offset; item = x } ∷ [] → out_new ≡ out ++ x ∷ [] → IsTaken r piece used x new → Accepts judge x [] →
+      IsStep now piece out (Ok (advance.Item used (items + 1) offset)) (After new fed' taken') out_new
+  item_step now same piece out out_new used x new fed' taken' e f o t accepts =
+      let both = item_fed now same piece used x new fed' taken' e f t accepts in
+      let s = both.0 in (
+        record { added = record { offset = offset; item = s.item } ∷ []; taken = ap (λ (p : Progress). p.taken) s.next; out = o ∙ ap (λ (v : Value). out ++ v ∷ []) (sym both.1); judge = ap (λ (p : Progress). p.judge) s.next; limits = ap (λ (p : Progress). p.limits) s.next },
+        s,
+      )
+
+  -- an unsigned integer of one byte was accepted
+  module _ (piece : List ℕ) (n : ℕ) (y : Value) (new : Reading) (t : IsSmallTaken r piece n new) (is_n : y ≡ uint n) (accepts : Accepts judge y []) where
+    accepts_n : Accepts judge (uint n) []
+    accepts_n = subst (λ v. Accepts judge v []) is_n accepts
+
+    noted_n : (taken' : List Found) → taken' ≡ taken ++ record { offset = offset; item = y } ∷ [] → taken' ≡ taken ++ record { offset = offset; item = uint n } ∷ []
+    noted_n taken' f = f ∙ ap (λ (v : Value). taken ++ record { offset = offset; item = v } ∷ []) is_n
+
+    pub small_fits : items + 1 < 2 ^ 64
+    small_fits = (item_fits piece 1 (uint n) new t.taken accepts_n).0
+
+    pub small_kept : (fed' : List ℕ) (taken' : List Found) → fed' ≡ fed ++ take 1 piece → taken' ≡ taken ++ record { offset = offset; item = y } ∷ [] → AreParts stopped judge new.limits fed' taken' (parts_of new (items + 1) (bytes + 1) (bytes + 1) rejected)
+    small_kept fed' taken' e f = item_kept piece 1 (uint n) new fed' taken' e (noted_n taken' f) t.taken accepts_n
+
+    pub small_fed : (now : Progress) → old ≡ now → (fed' : List ℕ) (taken' : List Found) → fed' ≡ fed ++ take 1 piece → taken' ≡ taken ++ record { offset = offset; item = y } ∷ [] → IsSmallFed now piece n offset (After new fed' taken')
+    small_fed now same fed' taken' e f =
+        let both = item_fed now same piece 1 (uint n) new fed' taken' e (noted_n taken' f) t.taken accepts_n in
+        let s = both.0 in
+        record {
+          small = t.small;
+          fed = record { some = s.some; within = s.within; item = s.item; next = s.next; number_is = refl; ends = subst (λ m. Ends judge new.limits fed' taken' (Clean m (length fed'))) s.number_is s.ends; short = s.short };
+          is = both.1;
+        }
 
   -- what comes fails, whatever follows
   failing : OneAnswer → (piece : List ℕ) (cause : Cause) (left : Option Value) (new : Reading) (more : List ℕ) → IsFailing judge r piece cause left new →
@@ -127,18 +189,19 @@ module _ (judge : Judge) (fed : List ℕ) (taken : List Found) (r : Reading) (it
       (subst (λ (b : List ℕ). Ends judge r.limits b taken end × IsRejected judge r.limits b taken end left) (sym whole) (failing one piece cause left new [] f))
 
   pub stopped_step : OneAnswer → (now : Progress) → old ≡ now → (piece : List ℕ) (out : List Value) (cause : Cause) (left : Option Value) (new : Reading) (fed' : List ℕ) → fed' ≡ fed ++ piece → IsFailing judge r piece cause left new →
-      IsAdvance (intake_of now out) piece (Ok (advance.Ended (Failed items offset cause))) (intake_of (record { judge = judge; limits = new.limits; fed = fed'; taken = taken; stopped = Some (Ended (Failed items offset cause)) }) out)
+      IsStep now piece out (Ok (advance.Ended (Failed items offset cause))) (record { judge = judge; limits = new.limits; fed = fed'; taken = taken; stopped = Some (Ended (Failed items offset cause)) }) out
   stopped_step one now same piece out cause left new fed' e f =
       ended_step now same piece out (Failed items offset cause) new.limits fed' (failing_limits piece cause left new f) e (λ more. (failing one piece cause left new more f).0)
 
   -- there was no memory
   pub cut_step : (now : Progress) → old ≡ now → (piece : List ℕ) (out out_new : List Value) (error : AllocError) (limits : Bounds) (fed' : List ℕ) → limits ≡ r.limits → fed' ≡ fed ++ piece → out_new ≡ out →
-      IsAdvance (intake_of now out) piece (Err error) (intake_of (record { judge = judge; limits = limits; fed = fed'; taken = taken; stopped = Some Memory }) out_new)
+      IsStep now piece out (Err error) (record { judge = judge; limits = limits; fed = fed'; taken = taken; stopped = Some Memory }) out_new
   cut_step now same piece out out_new error limits fed' bounds e kept =
       let after : Progress = record { judge = judge; limits = limits; fed = fed'; taken = taken; stopped = Some Memory } in
       let short : IsCutShort after = rw (bounds, e) (cut_short judge r.limits fed taken r items offset bytes rejected running piece) in
       let moved : after ≡ record old { fed = fed ++ piece; stopped = Some Memory } = rw (bounds, e) refl in
-      (subst (λ (p : Progress). after ≡ record p { fed = p.fed ++ piece; stopped = Some Memory }) same moved, kept, short)
+      let moved_now : after ≡ record now { fed = now.fed ++ piece; stopped = Some Memory } = subst (λ (p : Progress). after ≡ record p { fed = p.fed ++ piece; stopped = Some Memory }) same moved in
+      (none_added now after out out_new (ap (λ (p : Progress). p.taken) moved_now) (ap (λ (p : Progress). p.judge) moved_now) (ap (λ (p : Progress). p.limits) moved_now) kept, (moved_now, short))
 
   -- the end of the bytes fed
   abbrev pub Kept : End → Type 0

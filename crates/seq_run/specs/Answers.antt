@@ -1,7 +1,7 @@
 -- What the answers of a session's calls say.
 use Rattle.std.specs.Prelude.{◌≡◌, ℕ, ◌<◌, ◌≤◌, List, [], ◌∷◌, ◌++◌, length, take, map, Option, Some, None, Result, Ok, Err, alloc_error}
 use Rattle.std.specs.declared.alloc.AllocError.{AllocError}
-use Rattle.cbor_data.specs.Value.{Value}
+use Rattle.cbor_data.specs.Value.{Value, uint}
 use Rattle.cbor_data.specs.Faults.{last_offset}
 use Rattle.cbor_data.specs.Sequence.{Found}
 use Rattle.cbor_data.specs.declared.FaultKind.{FaultKind}
@@ -88,28 +88,36 @@ abbrev pub IsLent : Option Stopped → Progress → Option Value → Type 0
 IsLent (Some (Ended end)) p rejected = IsRejected p.judge p.limits p.fed p.taken end rejected
 IsLent _ p rejected = rejected ≡ None
 
--- a session, and the list to which its items are appended
-pub record Intake : Type 0 where
-  pub session : Progress
-  pub items : List Value
+-- The item was accepted that ends with byte `used` of the piece: it has this number, and its first byte this offset. The bytes
+-- fed are just the items taken.
+pub record IsItemFed (old : Progress) (piece : List ℕ) (used number offset : ℕ) (new : Progress) : Type 0 where
+  pub some : 0 < used
+  pub within : used ≤ length piece
+  pub item : Value
+  pub next : new ≡ record old { fed = old.fed ++ take used piece; taken = old.taken ++ record { offset = offset; item = item } ∷ [] }
+  pub number_is : number ≡ length new.taken
+  pub ends : Ends new.judge new.limits new.fed new.taken (Clean number (length new.fed))
+  pub short : length new.fed ≤ last_offset
 
-abbrev pub intake_of : Progress → List Value → Intake
-intake_of session items = record { session = session; items = items }
+-- The unsigned integer n, below 24 and of one byte, was accepted.
+pub record IsSmallFed (old : Progress) (piece : List ℕ) (n offset : ℕ) (new : Progress) : Type 0 where
+  pub small : n < 24
+  pub fed : IsItemFed old piece 1 (length new.taken) offset new
+  pub is : fed.item ≡ uint n
 
--- one call of a session that has not stopped
-abbrev pub IsAdvance : Intake → List ℕ → Result Advance AllocError → Intake → Type 0
-IsAdvance old piece (Ok advance.More) new =
-    (new.session ≡ record old.session { fed = old.session.fed ++ piece }) × (new.items ≡ old.items) × IsOpen new.session
-IsAdvance old piece (Ok (advance.Item used number offset)) new =
-    (0 < used) × (used ≤ length piece) × (number ≡ length new.session.taken) × ((x : Value)
-    × (new.session ≡ record old.session { fed = old.session.fed ++ take used piece; taken = old.session.taken ++ record { offset = offset; item = x } ∷ [] })
-    × (new.items ≡ old.items ++ x ∷ []))
-IsAdvance old piece (Ok (advance.Ended end)) new =
-    (new.session ≡ record old.session { fed = old.session.fed ++ piece; stopped = Some (Ended end) }) × (new.items ≡ old.items) × IsEnded new.session end
-IsAdvance old piece (Err e) new =
-    (new.session ≡ record old.session { fed = old.session.fed ++ piece; stopped = Some Memory }) × (new.items ≡ old.items) × IsCutShort new.session
+-- what `feed_one` answers of a session that has not stopped
+abbrev pub IsFedOne : Progress → List ℕ → Result Advance AllocError → Progress → Type 0
+IsFedOne old piece (Ok advance.More) new = (new ≡ record old { fed = old.fed ++ piece }) × IsOpen new
+IsFedOne old piece (Ok (advance.Item used number offset)) new = IsItemFed old piece used number offset new
+IsFedOne old piece (Ok (advance.Ended end)) new = (new ≡ record old { fed = old.fed ++ piece; stopped = Some (Ended end) }) × IsEnded new end
+IsFedOne old piece (Err e) new = (new ≡ record old { fed = old.fed ++ piece; stopped = Some Memory }) × IsCutShort new
 
-abbrev pub IsAdvanceAnswer : Option Stopped → Intake → List ℕ → Result Advance AllocError → Intake → Type 0
-IsAdvanceAnswer None old piece result new = IsAdvance old piece result new
-IsAdvanceAnswer (Some (Ended end)) old piece result new = (result ≡ Ok (advance.Ended end)) × (new.session ≡ old.session) × (new.items ≡ old.items)
-IsAdvanceAnswer (Some Memory) old piece result new = (result ≡ Err alloc_error) × (new.session ≡ old.session) × (new.items ≡ old.items)
+-- the same, with the list to which the item is appended
+abbrev pub IsStep : Progress → List ℕ → List Value → Result Advance AllocError → Progress → List Value → Type 0
+IsStep old piece out_old result new out_new = Appends old new out_old out_new × IsFedOne old piece result new
+
+-- what `feed_one` answers
+abbrev pub IsAdvance : Option Stopped → Progress → List ℕ → Result Advance AllocError → Progress → Type 0
+IsAdvance None old piece result new = IsFedOne old piece result new
+IsAdvance (Some (Ended end)) old piece result new = (result ≡ Ok (advance.Ended end)) × (new ≡ old)
+IsAdvance (Some Memory) old piece result new = (result ≡ Err alloc_error) × (new ≡ old)

@@ -12,6 +12,10 @@ use Rattle.seq_run.specs.declared.end.Cause.TheVariants.{Fault, Mismatch, Spent}
 use Rattle.seq_run.specs.declared.end.End.{End}
 use Rattle.seq_run.specs.declared.end.End.TheVariants.{Clean, Failed}
 
+-- `item N at OFFSET: `
+abbrev pub head_text : ℕ → ℕ → List ℕ
+head_text number offset = codes "item " ++ (decimal number ++ (codes " at " ++ (decimal offset ++ codes ": ")))
+
 -- `item N at OFFSET: DIAG`, with the item in diagnostic notation
 abbrev pub item_line : ℕ → Found → List ℕ
 item_line number f =

@@ -1,11 +1,13 @@
 //! What a run writes.
 
-ghost use Rattle.std.specs.Prelude.{◌≡◌, ◌++◌, OnOk, option_copied};
+ghost use Rattle.std.specs.Prelude.{◌≡◌, ◌<◌, ◌++◌, OnOk, option_copied};
 ghost use Rattle.cbor_data.specs.Preferred.{preferred};
+ghost use Rattle.cbor_data.specs.Value.{uint};
 ghost use Rattle.seq_run.specs.Output.{end_output, item_output};
 ghost use Rattle.seq_run.specs.Report.{IsShown};
 
 use crate::end::End;
+use crate::head::push_number_line;
 use crate::lines::{end_line, push_item_line};
 use cbor_item::{Counted, Sound, write_item};
 use std::alloc::{AllocError, Global};
@@ -37,6 +39,25 @@ pub(crate) fn push_item(
         Mode::Report => push_item_line(bytes, number, offset, item),
         Mode::EndLine => Ok(()),
         Mode::Rewrite => push_preferred(alloc, bytes, item),
+    }
+}
+
+// The same of the unsigned integer n, which is below 24.
+#[inline]
+pub(crate) fn push_small(
+    mode: Mode,
+    bytes: &mut Vec<u8>,
+    number: u64,
+    offset: u64,
+    n: u8,
+) -> Result<(), AllocError>
+    requires { n < 24 }
+    ensures { OnOk result (bytes.new.items ≡ bytes.old.items ++ item_output mode number (record { offset = offset; item = uint n })) }
+{
+    match mode {
+        Mode::Report => push_number_line(bytes, number, offset, u64::from(n)),
+        Mode::EndLine => Ok(()),
+        Mode::Rewrite => Ok(bytes.push(n)?),
     }
 }
 

@@ -12,7 +12,7 @@ ghost use Rattle.seq_run.specs.Written.{IsReadBack, IsWrittenStream};
 
 use crate::end::{End, State};
 use crate::laws::{decisive_end, written_is_read_back};
-use crate::output::{Mode, push_end, push_item};
+use crate::output::{Mode, push_end, push_item, push_small};
 use crate::session::{Advance, Session};
 use cbor_item::{Counted, Sound, write_bytes};
 use cbor_read::Limits;
@@ -151,6 +151,11 @@ fn feed_items(
     let mut rest = piece;
     let mut items = Vec::new(alloc);
     'steps: loop {
+        if let Some((n, offset)) = session.take_small(rest) {
+            push_small(mode, bytes, session.items(), offset, n)?;
+            rest = &rest[1..];
+            continue;
+        }
         match session.feed_one(rest, &mut items)? {
             Advance::More => return Ok(State::Open),
             Advance::Ended(end) => return Ok(State::Ended(end)),

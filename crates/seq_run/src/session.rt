@@ -1,12 +1,14 @@
 //! A session: the run of a stream that comes in pieces.
 
-ghost use Rattle.std.specs.Prelude.{◌≡◌, ◌+◌, ◌<◌, ◌^◌, [], length, None, option_copied};
-ghost use Rattle.seq_run.specs.Answers.{Appends, IsAdvance, IsAdvanceAnswer, IsAnswer, IsFinish, IsLent, intake_of};
+ghost use Rattle.std.specs.Prelude.{◌≡◌, ◌+◌, ◌<◌, ◌^◌, [], length, None, option_copied, IfNone, IfSome, IsTrue};
+ghost use Rattle.cbor_data.specs.Value.{uint};
+ghost use Rattle.seq_run.specs.Answers.{Appends, IsAdvance, IsAnswer, IsFinish, IsLent, IsSmallFed, IsStep};
+ghost use Rattle.seq_run.specs.Ends.{Accepts};
 ghost use Rattle.seq_run.specs.Judge.{judge_of};
 ghost use Rattle.seq_run.specs.Judged.{IsJudged};
 
 use crate::end::{Cause, End, State, Stopped};
-use cbor_item::Sound;
+use cbor_item::{Item, Sound};
 use cbor_read::{Fed, ItemReader, Limits, Stop};
 use cddl_match::{Verdict, one_answer, verdict};
 use cddl_table::Table;
@@ -70,17 +72,19 @@ impl Count {
     }
 }
 
-// How far one call takes a session.
-#[derive(Clone, Copy, Debug)]
-pub(crate) enum Advance {
-    // The whole piece was used.
+/// How far one call of [`Session::feed_one`] takes a session.
+#[derive(Clone, Copy, Debug, PartialEq, Eq)]
+pub enum Advance {
+    /// The whole piece was used, and the item, if one has begun, goes on.
     More,
-    // An item was accepted with byte `used` of the piece: its number, from 1, and the offset of its first byte.
+    /// An item was accepted, which ends with byte `used` of the piece: its number, from 1, and the offset of its first byte
+    /// in the stream. What comes after it in the piece is for the next call.
     Item {
         used: usize,
         number: u64,
         offset: u64,
     },
+    /// The stream has this end, whatever bytes follow.
     Ended(End),
 }
 
@@ -179,6 +183,24 @@ impl<'t> Session<'t> {
         }
     }
 
+    /// Takes the next piece of the stream up to the end of an item that it completes, and appends that one. What comes after
+    /// it in the piece was not looked at, and is to be given again. Where it completes none, the whole piece is used, and
+    /// the answer is that of [`feed`](Session::feed).
+    ///
+    /// # Errors
+    ///
+    /// [`AllocError`] where an allocation was refused. From then on each call answers so.
+    pub fn feed_one(&mut self, piece: &[u8], out: &mut Vec<Sound>) -> Result<Advance, AllocError>
+        ensures appends { Appends self.old self.new out.old.items out.new.items }
+        ensures answer { IsAdvance self.old.stopped self.old piece.now result self.new }
+    {
+        match self.stopped {
+            Some(Stopped::Ended(end)) => Ok(Advance::Ended(end)),
+            Some(Stopped::Memory) => Err(AllocError),
+            None => self.take_next(piece, out),
+        }
+    }
+
     /// Ends the stream, and says how it ends. From then on each call answers that end. Takes no memory.
     ///
     /// # Errors
@@ -222,25 +244,34 @@ impl<'t> Session<'t> {
         self.rejected
     }
 
-    // Takes the piece as far as the end of an item, which it appends.
-    pub(crate) fn feed_one(
-        &mut self,
-        piece: &[u8],
-        out: &mut Vec<Sound>,
-    ) -> Result<Advance, AllocError>
-        ensures { IsAdvanceAnswer self.old.stopped (intake_of self.old out.old.items) piece.now result (intake_of self.new out.new.items) }
+    // Takes the unsigned integer below 24 at the front of the piece, where it is the next item and is accepted, and answers
+    // it with its offset. `None` says that nothing was taken, and nothing is changed.
+    #[inline]
+    pub(crate) fn take_small(&mut self, piece: &[u8]) -> Option<(u8, u64)>
+        requires { self.old.stopped ≡ None }
+        ensures taken { IfSome result (λ r. IsSmallFed self.old piece.now r.0 r.1 self.new) }
+        ensures kept { IfNone result (self.new ≡ self.old) }
     {
-        match self.stopped {
-            Some(Stopped::Ended(end)) => Ok(Advance::Ended(end)),
-            Some(Stopped::Memory) => Err(AllocError),
-            None => self.take_next(piece, out),
+        if piece.is_empty() || piece[0] >= 24 {
+            return None;
         }
+        let item = small_item(self.alloc, piece[0])?;
+        if !is_accepted(self.alloc, self.table, self.steps, &item) {
+            return None;
+        }
+        let n = self.reader.take_small(piece)?;
+        let offset = self.count.offset;
+        let found = FoundItem { offset, item };
+        self.taken.push(&found);
+        self.fed.extend(&piece[..1]);
+        self.count.add_item(1);
+        Some((n, offset))
     }
 
-    // The same for a session that has not stopped.
+    // `feed_one` for a session that has not stopped.
     fn take_next(&mut self, piece: &[u8], out: &mut Vec<Sound>) -> Result<Advance, AllocError>
         requires { self.old.stopped ≡ None }
-        ensures { IsAdvance (intake_of self.old out.old.items) piece.now result (intake_of self.new out.new.items) }
+        ensures { IsStep self.old piece.now out.old.items result self.new out.new.items }
     {
         one_answer();
         match judge_next(self.alloc, self.table, self.steps, &mut self.reader, piece) {
@@ -278,6 +309,23 @@ impl<'t> Session<'t> {
             }
         }
     }
+}
+
+// The item that a byte below 24 is.
+#[inline]
+fn small_item(alloc: Global, byte: u8) -> Option<Sound>
+    requires { byte < 24 }
+    ensures { IfSome result (λ item. item ≡ uint byte) }
+{
+    Sound::try_spelled(alloc, Item::Uint(u64::from(byte))).ok()
+}
+
+// Whether the specification accepts the item. False also where there was no memory to say so.
+#[inline]
+fn is_accepted(alloc: Global, table: &Table, steps: u64, item: &Sound) -> bool
+    ensures { IsTrue result → Accepts (judge_of table.now steps) item.now [] }
+{
+    matches!(verdict(alloc, table, item, steps), Ok(Verdict::Yes))
 }
 
 // Reads on, and asks the specification about an item that is whole.

@@ -3,7 +3,7 @@ use Rattle.cbor_read.specs.Reading.{Reading}
 use Rattle.seq_run.specs.Judge.{judge_of}
 use Rattle.seq_run.specs.FoundItem.{found_of}
 use Rattle.seq_run.specs.Progress.{Progress}
-use Rattle.seq_run.proofs.Steps.{going_reader, more_fits, more_kept, more_step, item_fits, item_kept, stopped_kept, stopped_step, cut_step, noted, kept_items}
+use Rattle.seq_run.proofs.Steps.{going_reader, more_fits, more_kept, more_step, item_fits, item_kept, item_step, stopped_kept, stopped_step, cut_step, noted, kept_items, pushed_items}
 use Rattle.seq_run.proofs.session.Session.take_next.Goals as goal
 
 pub judge_next-requires : goal.judge_next-requires
@@ -52,6 +52,14 @@ invariant_of-self-in-Ok-Accepted c =
     let accepted = rw c.in-Ok-Accepted.field-0-is at c.in-Ok-Accepted.ensures in
     rw c.add_item.ensures.count (item_kept (judge_of s.table.now s.steps) s.fed (map found_of s.taken) s.reader s.count.items s.count.offset s.count.bytes s.stopped s.rejected (ap (λ (p : Progress). p.stopped) c.self.view_is ∙ c.requires) c.self.invariant c.args.piece.now c.in-Ok-Accepted.used c.in-Ok-Accepted.item c.judge_next.new.reader
     c.extend-in-Ok-Accepted.new.self (map found_of c.with-taken.result) (grind (arith, c.extend-in-Ok-Accepted.ensures)) (noted s.taken (record { offset = s.count.offset; item = c.in-Ok-Accepted.item }) c.with-taken.result c.with-taken.ensures) accepted.0 accepted.1)
+
+pub returns-else-is_err : goal.returns-else-is_err
+returns-else-is_err c =
+    let s = c.self.inside in
+    let accepted = rw c.in-Ok-Accepted.field-0-is at c.in-Ok-Accepted.ensures in
+    rw c.add_item.ensures.advance (item_step (judge_of s.table.now s.steps) s.fed (map found_of s.taken) s.reader s.count.items s.count.offset s.count.bytes s.stopped s.rejected (ap (λ (p : Progress). p.stopped) c.self.view_is ∙ c.requires) c.self.invariant c.args.self.now c.self.view_is c.args.piece.now c.args.out.now.items c.push.new.self.items
+    c.in-Ok-Accepted.used c.in-Ok-Accepted.item c.judge_next.new.reader c.extend-in-Ok-Accepted.new.self (map found_of c.with-taken.result) (grind (arith, c.extend-in-Ok-Accepted.ensures)) (noted s.taken (record { offset = s.count.offset; item = c.in-Ok-Accepted.item }) c.with-taken.result c.with-taken.ensures)
+    (pushed_items c.push.result c.push.new.self.items (c.args.out.now.items ++ c.in-Ok-Accepted.item ∷ []) c.args.out.now.items c.push.ensures.items (sym c.is_err.ensures.value ∙ c.if-is_err.false)) accepted.0 accepted.1)
 
 pub invariant_of-self-in-Ok-Failed : goal.invariant_of-self-in-Ok-Failed
 invariant_of-self-in-Ok-Failed c =

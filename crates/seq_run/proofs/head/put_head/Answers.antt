@@ -1,9 +1,6 @@
-use Rattle.std.proofs.Common.{◌≤◌, ◌<◌, ◌^◌, ℕ, length, decimal, arith}
-use Rattle.std.proofs.lemmas.Fmt.{length-decimal-le}
-use Rattle.seq_run.proofs.head.push_head.Goals as goal
-
-few_digits : (n : ℕ) → n < 2 ^ 64 → length (decimal n) ≤ 20
-few_digits n h = length-decimal-le 20 n (omega arith) (omega arith) h
+use Rattle.std.proofs.Common.{◌≤◌, length, decimal, arith}
+use Rattle.seq_run.proofs.Appending.{few_digits}
+use Rattle.seq_run.proofs.head.put_head.Goals as goal
 
 pub write_digits-place-requires : goal.write_digits-place-requires
 write_digits-place-requires c = let few = few_digits c.args.offset (omega arith) in (omega arith, omega arith)
@@ -14,5 +11,5 @@ put_before-at-requires-clause-room c = let few = few_digits c.args.offset (omega
 pub write_digits-count-requires : goal.write_digits-count-requires
 write_digits-count-requires c = let few = few_digits c.args.offset (omega arith) in let also = few_digits c.args.number (omega arith) in (omega arith, omega arith)
 
-pub put_before-start-requires-clause-room : goal.put_before-start-requires-clause-room
-put_before-start-requires-clause-room c = let few = few_digits c.args.offset (omega arith) in let also = few_digits c.args.number (omega arith) in omega arith
+pub put_before-requires-clause-room : goal.put_before-requires-clause-room
+put_before-requires-clause-room c = let few = few_digits c.args.offset (omega arith) in let also = few_digits c.args.number (omega arith) in omega arith
