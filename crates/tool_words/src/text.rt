@@ -1,6 +1,9 @@
 //! The text of a specification's file.
 
-ghost use Rattle.std.specs.Prelude.{◌≡◌, ◌≤◌, drop, length, take, IfErr, IfOk, IfSome, OnOk, Some, vec_items};
+ghost use Rattle.std.specs.Prelude.{◌≡◌, ◌≤◌, ◌<◌, ◌-◌, ◌^◌, ◌⊎◌, codes, drop, length, take, IfErr, IfOk, IfSome, OnOk, Some, vec_items};
+ghost use Rattle.std.specs.Io.KnownBytes.{Appends};
+ghost use Rattle.cbor_item.specs.Counted.{device_of, failures_of};
+ghost use Rattle.tool_words.specs.Shown.{file_line, memory_line};
 ghost use Rattle.tool_words.specs.Reading.{most_read, IsReadWithin};
 ghost use Rattle.tool_words.specs.declared.status.TheConstants.{BROKEN};
 
@@ -33,6 +36,9 @@ pub fn read_text<R: Read, E: Write>(
     ensures within { IsReadWithin most_read (R.remaining file.old) (R.remaining file.new) }
     ensures quiet { OnOk result (err.new ≡ err.old) }
     ensures broken { IfErr result (λ status. status ≡ BROKEN) }
+    ensures told { IfErr result (λ status. failures_of err.new ≡ failures_of err.old → failures_of err.old < 2 ^ 64 - 1 →
+        Appends (E.contents (device_of err.old)) (E.contents (device_of err.new)) (file_line (codes "cannot read ") name.now)
+        ⊎ Appends (E.contents (device_of err.old)) (E.contents (device_of err.new)) memory_line) }
 {
     match read_front(alloc, file) {
         Ok(text) => Ok(text),
