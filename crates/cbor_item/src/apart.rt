@@ -39,7 +39,7 @@ fn are_members_valid(alloc: Global, items: &Vec<Item>) -> bool
     ensures { IsTrue result → AreValuesValid (values_view items.now.items) }
 {
     for item in items {
-        if !is_surely_valid(alloc, item) {
+        if is_container(item) && !is_surely_valid(alloc, item) {
             return false;
         }
     }
@@ -54,7 +54,10 @@ fn are_pairs_valid(alloc: Global, pairs: &Vec<(Item, Item)>) -> bool
         return false;
     }
     for (key, value) in pairs {
-        if !is_surely_valid(alloc, key) || !is_surely_valid(alloc, value) {
+        if is_container(key) && !is_surely_valid(alloc, key) {
+            return false;
+        }
+        if is_container(value) && !is_surely_valid(alloc, value) {
             return false;
         }
     }
@@ -101,7 +104,11 @@ fn may_be_same(key: &Item, other: &Item) -> bool
     (is_container(key) && is_container(other)) || is_same(key, other)
 }
 
-fn is_container(item: &Item) -> bool {
+// Whether the item has parts. One that has none repeats no key.
+#[inline]
+pub fn is_container(item: &Item) -> bool
+    ensures { result ≡ false → IsValid (view item.now) }
+{
     matches!(item, Item::Array(_) | Item::Map(_) | Item::Tag(..))
 }
 

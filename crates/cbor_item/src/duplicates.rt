@@ -10,7 +10,7 @@ ghost use Rattle.cbor_item.specs.View.{view, values_view};
 ghost use Rattle.cbor_item.specs.Walk.{IsPlain, ArePlain, Walks, WalksAmong};
 ghost use Rattle.cbor_item.specs.declared.sound.Unsound.TheVariants.{Memory};
 
-use crate::apart::is_surely_valid;
+use crate::apart::{is_container, is_surely_valid};
 use crate::counted::Counted;
 use crate::item::Item;
 use crate::maps::{Cursor, walk_written};
@@ -18,13 +18,14 @@ use crate::sound::Unsound;
 use crate::write::write_value;
 use std::alloc::Global;
 
-// Whether no map in the item has two equal keys.
+// Whether no map in the item has two equal keys. An item with no parts is settled without a call.
+#[inline]
 pub fn check_keys(alloc: Global, item: &Item) -> Result<(), Unsound>
     requires { HasShortSpelling (view item.now) }
     ensures ok { OnOk result (IsValid (view item.now)) }
     ensures err { IfErr result (IsRepeat (view item.now)) }
 {
-    if is_surely_valid(alloc, item) {
+    if !is_container(item) || is_surely_valid(alloc, item) {
         Ok(())
     } else {
         find_repeat(alloc, item)

@@ -1,7 +1,7 @@
 //! Diagnostic notation of items.
 
 ghost use Rattle.std.specs.Prelude.{◌≡◌, ◌≢◌, ◌<◌, ◌≤◌, ◌+◌, ◌*◌, ◌↔◌, ◌++◌, ◌∷◌, [], length, slice_index, take, codes, decimal, flat_map, IfOk, OnOk, IsTrue};
-ghost use Rattle.hex.specs.Hex.{encode_lower};
+ghost use Rattle.hex.specs.Hex.{encode_lower, lower_digits};
 ghost use Rattle.cbor_data.specs.Notation.{bytes_notation, float_notation, notation, shown_byte, simple_notation, text_notation};
 ghost use Rattle.cbor_data.specs.Value.{array, pairs as pairs_value};
 ghost use Rattle.cbor_item.specs.Comma.{comma};
@@ -176,9 +176,20 @@ fn push_hex_run(out: &mut Vec<u8>, run: &[u8]) -> Result<(), AllocError>
     ensures { OnOk result (out.new.items ≡ out.old.items ++ encode_lower run.now) }
 {
     let mut buffer = [0u8; 2 * RUN];
-    let digits = &mut buffer[..2 * run.len()];
-    hex::encode_to_slice(run, digits).unwrap();
-    out.extend_from_slice(digits)
+    for i in 0..run.len() {
+        buffer[2 * i] = digit(run[i] / 16);
+        buffer[2 * i + 1] = digit(run[i] % 16);
+    }
+    out.extend_from_slice(&buffer[..2 * run.len()])
+}
+
+// By arithmetic: so the digits of many bytes are worked out at once, and none is looked up.
+#[inline]
+fn digit(n: u8) -> u8
+    requires { n < 16 }
+    ensures { result ≡ slice_index lower_digits n }
+{
+    if n < 10 { b'0' + n } else { b'a' + (n - 10) }
 }
 
 fn push_text(out: &mut Vec<u8>, bytes: &[u8]) -> Result<(), AllocError>

@@ -98,6 +98,7 @@ impl Sound {
     /// # Errors
     ///
     /// `Duplicate` with the least place of a repeated key; `Memory` where the test needs memory and there is none.
+    #[inline(always)]
     pub fn try_spelled(alloc: Global, item: Item) -> Result<Sound, Unsound>
         requires spelled { HasShortSpelling (view item) }
         requires shallow { depth_of (view item) ≤ 256 }
