@@ -1,26 +1,23 @@
 -- What an item that is whole at the front of bytes comes to.
-use Rattle.std.proofs.Common.{◌≡◌, ℕ, ◌+◌, ◌-◌, ◌<◌, ◌≤◌, ◌^◌, min, List, [], ◌++◌, length, take, drop, Some, nat_le, true, refl, sym, ap, ◌∙◌, subst, arith, append-nil, length-take}
+use Rattle.std.proofs.Common.{◌≡◌, ℕ, ◌+◌, ◌-◌, ◌<◌, ◌≤◌, ◌^◌, min, List, [], ◌++◌, length, take, drop, Option, Some, None, Result, Ok, Err, IfOk, IfSome, nat_le, true, refl, sym, ap, ◌∙◌, subst, arith, append-nil, length-take}
+use Rattle.std.specs.declared.alloc.AllocError.{AllocError}
 use Rattle.std.proofs.lemmas.List.{take-append-drop, take-take}
 use Rattle.std.proofs.lemmas.Bool.Decides.{nat_tests}
 use Rattle.cbor_data.specs.Value.{Value, depth_of, AreBytes}
 use Rattle.cbor_data.specs.Forms.{Form, flat, HasText, meaning, Spells}
-use Rattle.cbor_data.specs.Faults.{Bounds}
+use Rattle.cbor_data.specs.Faults.{Bounds, IsItem}
+use Rattle.cbor_data.specs.Sound.{IsSound}
 use Rattle.cbor_data.proofs.Lemmas.{one_form}
 use Rattle.cbor_machine.specs.Machine.{item, done, steps_in}
 use Rattle.cbor_machine.specs.Reads.{LeadsWithin, Reads}
-use Rattle.cbor_machine.proofs.Lemmas.{item_in, whole}
+use Rattle.cbor_machine.proofs.Lemmas.{item_in}
 use Rattle.cbor_whole.specs.Whole.{IsWholeItem}
-use Rattle.cbor_read.specs.Firsts.{BeginsNone, IsFirstItem}
-use Rattle.cbor_read.specs.Outcomes.{IsFrontOutcome, IsOutcome, IsSettled, IsSoundButKeys}
-use Rattle.cbor_read.specs.Reading.{open_reading}
-use Rattle.cbor_read.specs.Turns.{IsItemTurn, IsFaultTurn}
-use Rattle.cbor_read.specs.declared.fault.Fault as declared
-use Rattle.cbor_read.specs.declared.value.Outcome.{Outcome}
-use Rattle.cbor_read.specs.declared.value.Outcome.TheVariants as outcome
-use Rattle.cbor_read.proofs.Firsts.{enough, wrong_first}
+use Rattle.cbor_read.specs.Firsts.{IsFirstItem}
+use Rattle.cbor_read.specs.Outcomes.{IsFrontItem, IsSoundButKeys}
+use Rattle.cbor_read.specs.Turns.{IsWholeTurn}
+use Rattle.cbor_read.proofs.Firsts.{enough}
 use Rattle.cbor_read.proofs.Pieces.{bytes-take}
-use Rattle.cbor_read.proofs.Turned.{value_fault}
-use Rattle.cbor_read.proofs.Valued.{IsValueOf, settled}
+use Rattle.cbor_read.proofs.Valued.{IsValueOf, item_read}
 
 pub front_sound : (d : ℕ) (b : List ℕ) (n : ℕ) (x : Value) → d ≤ 256 → length b < 2 ^ 64 → IsWholeItem d b x n → IsSoundButKeys x
 front_sound d b n x few short h =
@@ -49,23 +46,17 @@ front_means x b front back s parts = record {
 pub whole_means : (d : ℕ) (b : List ℕ) (x : Value) (n : ℕ) → IsWholeItem d b x n → IsValueOf b x
 whole_means d b x n h = front_means x b (take n b) (drop n b) h.spells (take-append-drop n b)
 
-pub front_outcome : (d : ℕ) (b : List ℕ) (n : ℕ) (x : Value) (out : Outcome) → AreBytes b → IsWholeItem d b x n → IsSettled x out → IsFrontOutcome d b n out
-front_outcome d b n x out all h s = record {
+pub front_item : (d : ℕ) (b : List ℕ) (n : ℕ) (x y : Value) → AreBytes b → IsWholeItem d b x n → y ≡ x → IsSound x → IsFrontItem d b n y
+front_item d b n x y all h same s = subst (IsFrontItem d b n) (sym same) (record {
   some = h.some;
   within = h.within;
   leads = record { are = bytes-take n b all; is = spelled_leads d x (take n b) h.spells h.shallow };
-  comes = λ l o r. settled l o (take n b) x out r (front_means x (take n b) (take n b) [] h.spells (append-nil (take n b))) s;
-}
+  comes = λ l o r. item_read l o (take n b) x r (front_means x (take n b) (take n b) [] h.spells (append-nil (take n b))) s;
+})
 
 -- the same, of a piece as far as it has room
-pub record HasFront (l : Bounds) (o : ℕ) (piece : List ℕ) (used : ℕ) (out : Outcome) : Type 0 where
-  pub some : 0 < used
-  pub within : used ≤ length piece
-  pub reads : Reads l o (take used piece) done
-  pub is : IsOutcome l o (take used piece) out
-
-pub has_front : (l : Bounds) (o : ℕ) (piece : List ℕ) (room used : ℕ) (out : Outcome) → o < 2 ^ 64 → room ≡ min (l.item_bytes - 0) (2 ^ 64 - 1 - (o + 0)) → IsFrontOutcome l.depth (take room piece) used out → HasFront l o piece used out
-has_front l o piece room used out placed r h =
+whole_turn : (l : Bounds) (o : ℕ) (bytes piece : List ℕ) (room used : ℕ) (x : Value) → bytes ≡ [] → o < 2 ^ 64 → room ≡ min (l.item_bytes - 0) (2 ^ 64 - 1 - (o + 0)) → IsFrontItem l.depth (take room piece) used x → IsWholeTurn l o bytes piece used x
+whole_turn l o bytes piece room used x first placed r h =
     let len : length (take room piece) ≡ min room (length piece) = length-take room piece in
     let within : used ≤ length (take room piece) = h.within in
     let inside : used ≤ room = omega arith in
@@ -75,30 +66,21 @@ has_front l o piece room used out placed r h =
     record {
       some = h.some;
       within = omega arith;
-      reads = reads;
-      is = subst (λ b. IsOutcome l o b out) cut (h.comes l o (subst (λ b. Reads l o b done) (sym cut) reads));
+      first = first;
+      read = subst (IsItem l o x) cut (h.comes l o (subst (λ b. Reads l o b done) (sym cut) reads));
     }
 
-pub item_turn : (l : Bounds) (o : ℕ) (piece : List ℕ) (used : ℕ) (x : Value) → HasFront l o piece used (outcome.Item x) → IsItemTurn (open_reading l o []) piece used x (item [])
-item_turn l o piece used x h = record { some = h.some; within = h.within; read = h.is; next = refl }
+pub whole_turns : (l : Bounds) (o : ℕ) (bytes piece : List ℕ) (room d : ℕ) (front : List ℕ) (found : Result (Option (ℕ × Value)) AllocError) → bytes ≡ [] → o < 2 ^ 64 → room ≡ min (l.item_bytes - 0) (2 ^ 64 - 1 - (o + 0)) → d ≡ l.depth → front ≡ take room piece →
+    IfOk found (λ f. IfSome f (λ x. IsFrontItem d front x.0 x.1)) → IfOk found (λ f. IfSome f (λ x. IsWholeTurn l o bytes piece x.0 x.1))
+whole_turns l o bytes piece room d front (Ok (Some x)) first placed r deep is h =
+    whole_turn l o bytes piece room x.0 x.1 first placed r (subst (λ k. IsFrontItem k (take room piece) x.0 x.1) deep (subst (λ b. IsFrontItem d b x.0 x.1) is h))
+whole_turns l o bytes piece room d front (Ok None) first placed r deep is h = tt
+whole_turns l o bytes piece room d front (Err e) first placed r deep is h = tt
 
-pub fault_turn : (l : Bounds) (o : ℕ) (piece : List ℕ) (used : ℕ) (fault : declared.Fault) → HasFront l o piece used (outcome.Fault fault) → IsFaultTurn (open_reading l o []) piece used fault
-fault_turn l o piece used fault h = value_fault l o [] piece used fault h.within h.reads h.is
-
--- the first of the items that bytes hold
-
-reads_front : (b : List ℕ) (n : ℕ) (out : Outcome) → length b < 2 ^ 64 → IsFrontOutcome 256 b n out → Reads (enough n) 0 (take n b) done
-reads_front b n out few h =
+-- and of the first of the items that bytes hold
+pub front_first : (b : List ℕ) (n : ℕ) (x : Value) → length b < 2 ^ 64 → IsFrontItem 256 b n x → IsFirstItem b n x
+front_first b n x few h =
     let size : length (take n b) ≡ min n (length b) = length-take n b in
     let within : n ≤ length b = h.within in
-    record { leads = h.leads; short = omega arith; placed = omega arith }
-
-pub front_first : (b : List ℕ) (n : ℕ) (x : Value) → length b < 2 ^ 64 → IsFrontOutcome 256 b n (outcome.Item x) → IsFirstItem b n x
-front_first b n x few h =
-    let is = h.comes (enough n) 0 (reads_front b n (outcome.Item x) few h) in
+    let is = h.comes (enough n) 0 (record { leads = h.leads; short = omega arith; placed = omega arith }) in
     record { some = h.some; within = h.within; item = record { spells = is.spells; valid = is.valid; shallow = is.shallow } }
-
-pub front_none : (b : List ℕ) (n : ℕ) (fault : declared.Fault) → length b < 2 ^ 64 → IsFrontOutcome 256 b n (outcome.Fault fault) → BeginsNone b
-front_none b n fault few h =
-    let reads = reads_front b n (outcome.Fault fault) few h in
-    wrong_first b n fault (whole (enough n) 0 (take n b) reads) (h.comes (enough n) 0 reads)

@@ -4,7 +4,7 @@ use Rattle.std.proofs.lemmas.List.{take-append-drop, take_all}
 use Rattle.std.proofs.Math.Seq.{take-add}
 use Rattle.cbor_data.specs.Value.{Value, Values, no_values, value, values_of}
 use Rattle.cbor_data.specs.Embedded.{Embeds, EmbedsAll, none, one_more}
-use Rattle.cbor_data.proofs.Lemmas.{embedded_after}
+use Rattle.cbor_data.proofs.Lemmas.{embedded_after, one_embedded}
 use Rattle.cbor_read.specs.Firsts.{BeginsNone, IsFirstItem}
 
 -- one item more
@@ -37,3 +37,26 @@ none_held b start us within held not = λ xs h.
     let rest = embedded_after (take start b) (drop start b) us xs held (subst (λ c. EmbedsAll c xs) (sym (take-append-drop start b)) h) in
     let some : drop start b ≢ [] = λ e. omega (arith, ap length e, length-drop start b, within) in
     begun_with_none (drop start b) rest.0 some not rest.1
+
+alone : {b : List ℕ} {x : Value} → Embeds b x → EmbedsAll b (value x no_values)
+alone {b = b} {x = x} h = subst (λ c. EmbedsAll c (value x no_values)) (append-nil b) (one_more h none)
+
+-- no items have no bytes
+no_bytes : {r : List ℕ} {ys : Values} → EmbedsAll r ys → ys ≡ no_values → r ≡ []
+no_bytes none e = refl
+no_bytes (one_more h t) e = absurd (cc)
+
+-- The first of the items that bytes hold is all of them where they are of one item.
+pub whole_first : (b : List ℕ) (n : ℕ) (x y : Value) → IsFirstItem b n x → Embeds b y → n ≡ length b
+whole_first b n x y first h =
+    let both = subst (λ c. EmbedsAll c (value y no_values)) (sym (take-append-drop n b)) (alone h) in
+    let rest = embedded_after (take n b) (drop n b) (value x no_values) (value y no_values) (alone first.item) both in
+    let same : value x rest.0 ≡ value y no_values = one_embedded (take n b ++ drop n b) (value x rest.0) (value y no_values) (one_more first.item rest.1) both in
+    let none_left : drop n b ≡ [] = no_bytes rest.1 (cc same) in
+    omega (arith, ap length none_left, length-drop n b, first.within)
+
+pub first_alone : (b : List ℕ) (n : ℕ) (x : Value) → n ≡ length b → IsFirstItem b n x → Embeds b x
+first_alone b n x e first = subst (λ c. Embeds c x) (take_all n b (omega (arith, e))) first.item
+
+pub none_first : (b : List ℕ) → BeginsNone b → (y : Value) → Embeds b y → ⊥
+none_first b not y h = not y b [] (sym (append-nil b)) h

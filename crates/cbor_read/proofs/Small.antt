@@ -48,6 +48,9 @@ zero_is n r e f = let g : (n == 0) ≡ true = sym e ∙ f in grind (arith, nat_t
 pub empty_is : {A : Type 0} (v : Vec A) (r : Bool) → r ≡ (v.len == 0) → r ≡ true → v.items ≡ []
 empty_is v r e f = nothing_in v.items (sym v.ok.0 ∙ zero_is v.len r e f)
 
+pub nothing_is : (xs : List ℕ) (r : Bool) → r ≡ (length xs == 0) → r ≡ true → xs ≡ []
+nothing_is xs r e f = nothing_in xs (zero_is (length xs) r e f)
+
 pub some_is : (xs : List ℕ) (r : Bool) → r ≡ (length xs == 0) → r ≡ false → 0 < length xs
 some_is [] r e f = absurd (cc)
 some_is (x ∷ xs) r e f = omega arith

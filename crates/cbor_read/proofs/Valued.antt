@@ -29,7 +29,7 @@ sound_but_keys b x w short v =
     }
 
 -- a sound value is the item
-item_read : (l : Bounds) (o : ℕ) (b : List ℕ) (x : Value) → Reads l o b done → IsValueOf b x → IsSound x → IsItem l o x b
+pub item_read : (l : Bounds) (o : ℕ) (b : List ℕ) (x : Value) → Reads l o b done → IsValueOf b x → IsSound x → IsItem l o x b
 item_read l o b x r v s =
     let w : IsWellFormed b = whole l o b r in
     let m = v.means w.written w.ok w.is in

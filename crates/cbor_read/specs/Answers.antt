@@ -1,9 +1,9 @@
 -- What the answers of the reader's calls say.
-use Rattle.std.specs.Prelude.{◌≡◌, ◌≢◌, ℕ, ◌+◌, ◌<◌, ◌≤◌, List, [], ◌∷◌, ◌++◌, length, take, Option, Some, None, Result, Ok, Err, alloc_error}
+use Rattle.std.specs.Prelude.{◌≡◌, ◌≢◌, ℕ, ◌+◌, ◌<◌, ◌≤◌, List, [], ◌∷◌, ◌++◌, length, take, slice_index, Option, Some, None, Result, Ok, Err, alloc_error}
 use Rattle.std.specs.declared.alloc.AllocError.{AllocError}
 use Rattle.cbor_data.specs.Value.{Value, uint}
 use Rattle.cbor_data.specs.Forms.{IsWellFormed, IsUnfinished}
-use Rattle.cbor_data.specs.Faults.{BeginsWithin, IsClearBefore, IsItem, IsFaultOf}
+use Rattle.cbor_data.specs.Faults.{BeginsWithin, IsClearBefore, IsItem, IsFaultOf, last_offset}
 use Rattle.cbor_read.specs.Reading.{Reading}
 use Rattle.cbor_read.specs.declared.fault.Fault as declared
 use Rattle.cbor_data.specs.declared.FaultKind.{FaultKind}
@@ -33,6 +33,15 @@ pub record IsSmallTaken (old : Reading) (piece : List ℕ) (n : ℕ) (new : Read
   pub going : old.stopped ≡ None
   pub first : take 1 piece ≡ n ∷ []
   pub taken : IsTaken old piece 1 (uint n) new
+
+-- The next item begins with the piece, at an offset that has room for a byte, and the piece begins with an unsigned integer
+-- below 24.
+pub record IsSmallNext (r : Reading) (piece : List ℕ) : Type 0 where
+  pub going : r.stopped ≡ None
+  pub between : r.fed ≡ []
+  pub placed : r.offset < last_offset
+  pub some : 0 < length piece
+  pub small : slice_index piece 0 < 24
 
 -- How far a piece is used before a fault of this kind at this place is told: up to the fault's byte, or, where the item
 -- is whole, up to its end.

@@ -27,12 +27,12 @@ abbrev pub IsOutcome : Bounds → ℕ → List ℕ → Outcome → Type 0
 IsOutcome l o b (Item x) = IsItem l o x b
 IsOutcome l o b (Fault fault) = IsWrong l o b fault
 
--- the first n bytes of b, one at least, are a whole item no deeper than this, and this is what it comes to
-pub record IsFrontOutcome (depth : ℕ) (b : List ℕ) (n : ℕ) (out : Outcome) : Type 0 where
+-- the first n bytes of b, one at least, are a whole item no deeper than this, and this is the item
+pub record IsFrontItem (depth : ℕ) (b : List ℕ) (n : ℕ) (x : Value) : Type 0 where
   pub some : 0 < n
   pub within : n ≤ length b
   pub leads : LeadsWithin depth (take n b) done
-  pub comes : (l : Bounds) (o : ℕ) → Reads l o (take n b) done → IsOutcome l o (take n b) out
+  pub comes : (l : Bounds) (o : ℕ) → Reads l o (take n b) done → IsItem l o x (take n b)
 
 -- the item is sound unless it repeats a key
 pub record IsSoundButKeys (x : Value) : Type 0 where

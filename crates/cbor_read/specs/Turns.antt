@@ -23,6 +23,13 @@ pub record IsItemTurn (old : Reading) (piece : List ℕ) (used : ℕ) (x : Value
   pub read : IsItem old.limits old.offset x (old.fed ++ take used piece)
   pub next : state ≡ item []
 
+-- no item had begun, and the item x is the front of the piece, as far as byte `used`
+pub record IsWholeTurn (l : Bounds) (o : ℕ) (bytes piece : List ℕ) (used : ℕ) (x : Value) : Type 0 where
+  pub some : 0 < used
+  pub within : used ≤ length piece
+  pub first : bytes ≡ []
+  pub read : IsItem l o x (take used piece)
+
 -- whatever follows, this fault is told
 pub record IsFaultTurn (old : Reading) (piece : List ℕ) (used : ℕ) (fault : declared.Fault) : Type 0 where
   pub within : used ≤ length piece

@@ -1,11 +1,11 @@
 // What bytes hold that are to be items again.
-ghost use Rattle.std.specs.Prelude.{IfOk, IfSome, IfNone};
-ghost use Rattle.cbor_data.specs.Value.{Values, values_of};
-ghost use Rattle.cbor_data.specs.Embedded.{EmbedsAll};
+ghost use Rattle.std.specs.Prelude.{IfOk, IfSome, IfNone, MatchOption};
+ghost use Rattle.cbor_data.specs.Value.{Value, Values, values_of};
+ghost use Rattle.cbor_data.specs.Embedded.{Embeds, EmbedsAll};
 ghost use Rattle.cbor_read.specs.Firsts.{IsFirst};
 
 use crate::limits::MOST_DEPTH;
-use crate::value::{Outcome, front_value, plain_value_of};
+use crate::value::{Outcome, front_item, plain_value_of};
 use cbor_form::{FormReader, Progress};
 use cbor_item::Sound;
 use std::alloc::{AllocError, Global};
@@ -36,16 +36,33 @@ pub fn embedded(alloc: Global, bytes: &[u8]) -> Result<Option<Vec<Sound>>, Alloc
     Ok(Some(items))
 }
 
+/// The one item of which `bytes` are a spelling, as the control `.cbor` sees it in a byte string. What [`embedded`] says of
+/// its items holds for it.
+///
+/// `None` where the bytes are of no such item: they may be of none, of several, or of one that is not valid or too deep.
+///
+/// # Errors
+///
+/// [`AllocError`] where an allocation was refused.
+pub fn embedded_item(alloc: Global, bytes: &[u8]) -> Result<Option<Sound>, AllocError>
+    ensures { IfOk result (λ held. MatchOption held ((x : Value) → Embeds bytes.now x → ⊥) (λ item. Embeds bytes.now item)) }
+{
+    let Some((length, item)) = first_item(alloc, bytes)? else {
+        return Ok(None);
+    };
+    if length < bytes.len() {
+        return Ok(None);
+    }
+    Ok(Some(item))
+}
+
 // The item at the front of the bytes, and how many bytes it has.
 fn first_item(alloc: Global, bytes: &[u8]) -> Result<Option<(usize, Sound)>, AllocError>
     ensures { IfOk result (λ first. IsFirst bytes.now first) }
 {
-    let Some((length, outcome)) = front_value(alloc, MOST_DEPTH, bytes)? else {
-        return followed_item(alloc, bytes);
-    };
-    match outcome {
-        Outcome::Item(item) => Ok(Some((length, item))),
-        Outcome::Fault(_) => Ok(None),
+    match front_item(alloc, MOST_DEPTH, bytes)? {
+        Some(first) => Ok(Some(first)),
+        None => followed_item(alloc, bytes),
     }
 }
 

@@ -11,7 +11,7 @@ mod reader;
 mod value;
 
 pub use cbor_data::FaultKind;
-pub use embedding::embedded;
+pub use embedding::{embedded, embedded_item};
 pub use fault::{Fault, Stop};
 pub use front::{Front, read_front};
 pub use laws::{one_fault, some_front};

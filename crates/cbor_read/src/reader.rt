@@ -1,18 +1,18 @@
 // Reads items from pieces.
-ghost use Rattle.std.specs.Prelude.{◌≡◌, ◌≢◌, ◌+◌, ◌<◌, ◌^◌, [], ◌++◌, length, None, IfNone, IfOk, IfSome};
+ghost use Rattle.std.specs.Prelude.{◌≡◌, ◌≢◌, ◌+◌, ◌<◌, ◌^◌, ◌↔◌, [], ◌++◌, length, None, IfNone, IfOk, IfSome, IsSome};
 ghost use Rattle.cbor_data.specs.Faults.{Bounds};
-ghost use Rattle.cbor_machine.specs.Machine.{item as item_awaited, done};
+ghost use Rattle.cbor_machine.specs.Machine.{done};
 ghost use Rattle.cbor_machine.specs.Reads.{Reads};
-ghost use Rattle.cbor_read.specs.Answers.{IsAgain, IsAnswer, IsEnd, IsSmallTaken};
+ghost use Rattle.cbor_read.specs.Answers.{IsAgain, IsAnswer, IsEnd, IsSmallNext, IsSmallTaken};
 ghost use Rattle.cbor_read.specs.Outcomes.{IsOutcome};
 ghost use Rattle.cbor_read.specs.Reading.{open_reading};
-ghost use Rattle.cbor_read.specs.Turns.{IsTurn};
+ghost use Rattle.cbor_read.specs.Turns.{IsTurn, IsWholeTurn};
 ghost use Rattle.cbor_value.specs.Unread.{IsWhole};
 
 use crate::fault::{Fault, Stop};
 use crate::follow::{Advance, fault_at_end, follow, front_of, room_of};
 use crate::limits::Limits;
-use crate::value::{Outcome, front_value, plain_value_of, value_of};
+use crate::value::{Outcome, front_item, plain_value_of, value_of};
 use cbor_form::FormReader;
 use cbor_item::Sound;
 use history::History;
@@ -87,6 +87,24 @@ impl ItemReader {
         if let Some(stop) = self.stopped {
             return answer_again(stop);
         }
+        match take_whole(self.alloc, self.limits, self.offset, &self.bytes, piece) {
+            Ok(Some((used, item))) => {
+                self.offset += used as u64;
+                Ok(Fed::Item { used, item })
+            }
+            Ok(None) => self.feed_on(piece),
+            Err(refused) => {
+                self.stopped = Some(Stop::Memory);
+                Err(refused)
+            }
+        }
+    }
+
+    // The same of a reader that has not stopped, by the item's form.
+    fn feed_on(&mut self, piece: &[u8]) -> Result<Fed, AllocError>
+        requires { self.old.stopped ≡ None }
+        ensures { IsAnswer self.old.stopped self.old piece.now result self.new }
+    {
         self.stopped = Some(Stop::Memory);
         let before = self.bytes.len();
         match take_turn(
@@ -118,10 +136,11 @@ impl ItemReader {
     }
 
     /// Takes the unsigned integer below 24 at the front of the piece, where the next item begins with the piece, and answers
-    /// it. Such an item is one byte. `None` says that nothing was taken, and nothing is changed: `feed` tells what the piece
-    /// leads to. Takes no memory.
+    /// it. Such an item is one byte. `None` says that there is none, or no offset for it, and nothing is changed: `feed` tells
+    /// what the piece leads to. Takes no memory.
     #[inline]
     pub fn take_small(&mut self, piece: &[u8]) -> Option<u8>
+        ensures exactly { IsSome result ↔ IsSmallNext self.old piece.now }
         ensures taken { IfSome result (λ n. IsSmallTaken self.old piece.now n self.new) }
         ensures kept { IfNone result (self.new ≡ self.old) }
     {
@@ -164,8 +183,7 @@ fn answer_again(stop: Stop) -> Result<Fed, AllocError>
     }
 }
 
-// Reads on: an item that begins here in one pass, if it is whole in the piece, and else by its form. Where it goes on, the
-// piece is added to its bytes.
+// Reads on by the item's form. Where the item goes on, the piece is added to its bytes.
 fn take_turn(
     alloc: Global,
     limits: Limits,
@@ -178,11 +196,6 @@ fn take_turn(
     requires reads { Reads limits offset bytes.old.items form.old }
     ensures { IfOk result (λ fed. IsTurn (open_reading limits offset bytes.old.items) piece.now fed bytes.new.items form.new) }
 {
-    if bytes.is_empty() {
-        if let Some(fed) = take_whole(alloc, limits, offset, piece)? {
-            return Ok(fed);
-        }
-    }
     match follow(limits, offset, bytes, form, piece)? {
         Advance::Open => {
             bytes.extend_from_slice(piece)?;
@@ -196,23 +209,22 @@ fn take_turn(
     }
 }
 
-// The turn by the item at the front of the piece, where that is read in one pass.
+// The item at the front of the piece, after how many bytes it has, where it is whole there and read in one pass, and no
+// other has begun. It is no `Fed` yet: that would be copied once more at each return.
 fn take_whole(
     alloc: Global,
     limits: Limits,
     offset: u64,
+    bytes: &[u8],
     piece: &[u8],
-) -> Result<Option<Fed>, AllocError>
-    ensures { IfOk result (λ found. IfSome found (λ fed. IsTurn (open_reading limits offset []) piece.now fed [] (item_awaited []))) }
+) -> Result<Option<(usize, Sound)>, AllocError>
+    ensures { IfOk result (λ found. IfSome found (λ taken. IsWholeTurn limits offset bytes.now piece.now taken.0 taken.1)) }
 {
-    let front = front_of(piece, room_of(limits, offset, 0));
-    let Some((used, outcome)) = front_value(alloc, limits.depth(), front)? else {
+    if !bytes.is_empty() {
         return Ok(None);
-    };
-    match outcome {
-        Outcome::Item(item) => Ok(Some(Fed::Item { used, item })),
-        Outcome::Fault(fault) => Ok(Some(Fed::Fault { used, fault })),
     }
+    let front = front_of(piece, room_of(limits, offset, 0));
+    front_item(alloc, limits.depth(), front)
 }
 
 // Reads the value of the item that ends with these bytes, after the others that it has. Where they are all of it they were

@@ -5,7 +5,7 @@ ghost use Rattle.cbor_machine.specs.Machine.{done};
 ghost use Rattle.cbor_machine.specs.Reads.{Reads};
 ghost use Rattle.cbor_item.specs.View.{view};
 ghost use Rattle.cbor_value.specs.Unread.{IsWhole};
-ghost use Rattle.cbor_read.specs.Outcomes.{IsFrontOutcome, IsOutcome, IsSettled, IsSoundButKeys};
+ghost use Rattle.cbor_read.specs.Outcomes.{IsFrontItem, IsOutcome, IsSettled, IsSoundButKeys};
 
 use crate::fault::Fault;
 use crate::limits::MOST_DEPTH;
@@ -51,21 +51,25 @@ pub fn plain_value_of(alloc: Global, offset: u64, bytes: &[u8]) -> Result<Outcom
     }
 }
 
-/// What the item at the front of `bytes` comes to, and how many bytes it has, in one pass. `None` says nothing: then the
-/// item's form has to be followed.
-pub fn front_value(
+/// The item at the front of `bytes`, after how many bytes it has, in one pass. `None` says nothing, and is also the answer
+/// where a key is repeated: then the item's form has to be followed.
+#[inline]
+pub fn front_item(
     alloc: Global,
     depth: u32,
     bytes: &[u8],
-) -> Result<Option<(usize, Outcome)>, AllocError>
+) -> Result<Option<(usize, Sound)>, AllocError>
     requires { depth ≤ 256 }
-    ensures { IfOk result (λ found. IfSome found (λ front. IsFrontOutcome depth bytes.now front.0 front.1)) }
+    ensures { IfOk result (λ found. IfSome found (λ front. IsFrontItem depth bytes.now front.0 front.1)) }
 {
     let Some((item, length)) = whole_item(alloc, bytes, depth)? else {
         return Ok(None);
     };
-    let outcome = sound_of(alloc, item)?;
-    Ok(Some((length, outcome)))
+    match Sound::try_spelled(alloc, item) {
+        Ok(sound) => Ok(Some((length, sound))),
+        Err(Unsound::Memory) => Err(AllocError),
+        Err(_) => Ok(None),
+    }
 }
 
 // The item as a sound one, if it repeats no key.

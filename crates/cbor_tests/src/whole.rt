@@ -3,7 +3,7 @@
 use crate::rows::{bytes_of, expect_text, told_of};
 use crate::value::nested_arrays;
 use cbor_item::{Sound, diag};
-use cbor_read::{Front, Limits, embedded, read_front};
+use cbor_read::{Front, Limits, embedded, embedded_item, read_front};
 use cbor_whole::whole_item;
 use std::alloc::{AllocError, Global};
 use std::process::Abort;
@@ -148,11 +148,25 @@ fn held_text(alloc: Global, bytes: &[u8]) -> Result<Vec<u8>, AllocError> {
     }
 }
 
+// The one item that is held.
+fn one_text(alloc: Global, bytes: &[u8]) -> Result<Vec<u8>, AllocError> {
+    match embedded_item(alloc, bytes)? {
+        Some(item) => items_text(alloc, &[item]),
+        None => Ok(Vec::from_array(alloc, *b"none")?),
+    }
+}
+
 fn check_row(rt: &impl Abort, alloc: Global, line: &str) -> Result<(), Fail> {
     let bytes = bytes_of(rt, alloc, line)?;
     let (front, held) = told_of(rt, line).split_once('|').expect(rt, "a row");
     expect_text(rt, &front_text(alloc, &bytes)?, front.as_bytes());
     expect_text(rt, &held_text(alloc, &bytes)?, held.as_bytes());
+    // It is told alone only where no other one is held with it.
+    let one = match held.split_once(';') {
+        Some((_, "")) => held,
+        _ => "none",
+    };
+    expect_text(rt, &one_text(alloc, &bytes)?, one.as_bytes());
     Ok(())
 }
 

@@ -7,7 +7,7 @@ ghost use Rattle.cbor_whole.specs.Whole.{IsWholeItem};
 use crate::argument::argument_at;
 use crate::chunks::{byte_chunks, text_chunks};
 use crate::leaf::{byte_string, simple_or_float, text_string};
-use crate::list::{end_len, give_back, is_end, make_room, may_be_there};
+use crate::list::{end_len, is_end, make_room, may_be_there, trimmed};
 use cbor_item::Item;
 use std::alloc::{AllocError, Global};
 
@@ -109,7 +109,7 @@ fn array(
         items.push(item)?;
         at = end;
     }
-    give_back(&mut items);
+    let items = trimmed(items);
     Ok(Some((Item::Array(items), at + end_len(count))))
 }
 
@@ -142,7 +142,7 @@ fn map(
         pairs.push((key, value))?;
         at = end;
     }
-    give_back(&mut pairs);
+    let pairs = trimmed(pairs);
     Ok(Some((Item::Map(pairs), at + end_len(count))))
 }
 

@@ -69,13 +69,23 @@ pub fn make_room<T>(list: &mut Vec<T>, count: Option<u64>) -> Result<(), AllocEr
     list.reserve_exact(more)
 }
 
-/// Gives back the room that a long list does not need. A short list up to a break may keep it: with as much again it takes
-/// less than 64 bytes for each byte that its parts are read from.
+/// The list without the room that it does not need, if it is long. A short list up to a break may keep it: with as much again
+/// it takes less than 64 bytes for each byte that its parts are read from.
 #[inline]
-pub fn give_back<T>(list: &mut Vec<T>)
-    ensures { list.new.items ≡ list.old.items }
+pub fn trimmed<T>(list: Vec<T>) -> Vec<T>
+    ensures { result.items ≡ list.items }
 {
     if list.len() > MOST_ROOM {
-        list.shrink_to_fit();
+        shrunk(list)
+    } else {
+        list
     }
+}
+
+// By value: no address of a list is then taken while it is read, so it can stay in registers.
+fn shrunk<T>(mut list: Vec<T>) -> Vec<T>
+    ensures { result.items ≡ list.items }
+{
+    list.shrink_to_fit();
+    list
 }

@@ -128,8 +128,8 @@ array-overflow_add-result t c =
 
 pub array-returns : goal.array-returns
 array-returns t c =
-    array_read c.args.depth c.args.count c.args.bytes.now c.args.start c.loop-alloc.at c.len.result c.end_len.result c.loop-alloc.items.items c.give_back.new.list.items _ (omega arith) c.loop-alloc.invariant (c.is_end.ensures c.loop-alloc-test.false) (c.len.ensures ∙ c.loop-alloc.items.ok.0)
-    c.end_len.ensures c.give_back.ensures (search (rules, the_lemmas))
+    array_read c.args.depth c.args.count c.args.bytes.now c.args.start c.loop-alloc.at c.len.result c.end_len.result c.loop-alloc.items.items c.trimmed-items.result.items _ (omega arith) c.loop-alloc.invariant (c.is_end.ensures c.loop-alloc-test.false) (c.len.ensures ∙ c.loop-alloc.items.ok.0)
+    c.end_len.ensures c.trimmed-items.ensures (search (rules, the_lemmas))
 
 -- maps
 
@@ -162,5 +162,5 @@ map-overflow_add-result t c =
 
 pub map-returns : goal.map-returns
 map-returns t c =
-    map_read c.args.depth c.args.count c.args.bytes.now c.args.start c.loop-alloc.at c.len.result c.end_len.result c.loop-alloc.pairs.items c.give_back.new.list.items _ (omega arith) c.loop-alloc.invariant (c.is_end.ensures c.loop-alloc-test.false) (c.len.ensures ∙ c.loop-alloc.pairs.ok.0)
-    c.end_len.ensures c.give_back.ensures (search (rules, the_lemmas))
+    map_read c.args.depth c.args.count c.args.bytes.now c.args.start c.loop-alloc.at c.len.result c.end_len.result c.loop-alloc.pairs.items c.trimmed-pairs.result.items _ (omega arith) c.loop-alloc.invariant (c.is_end.ensures c.loop-alloc-test.false) (c.len.ensures ∙ c.loop-alloc.pairs.ok.0)
+    c.end_len.ensures c.trimmed-pairs.ensures (search (rules, the_lemmas))

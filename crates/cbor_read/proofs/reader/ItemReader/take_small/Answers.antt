@@ -1,4 +1,4 @@
-use Rattle.std.proofs.Common.{arith, sym}
+use Rattle.std.proofs.Common.{arith}
 use Rattle.cbor_read.proofs.Small.{small_taken, none_is, empty_is, some_is}
 use Rattle.cbor_read.proofs.reader.ItemReader.take_small.Goals as goal
 
