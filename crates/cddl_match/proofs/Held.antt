@@ -1,12 +1,10 @@
 -- What a byte string holds, and what a reading of it comes to.
-use Rattle.std.proofs.Common.{◌≡◌, ℕ, ◌+◌, ◌<◌, List, [], ◌∷◌, ◌++◌, length, map, sym, ap, subst, ◌∙◌, append_assoc, arith}
+use Rattle.std.proofs.Common.{◌≡◌, ℕ, ◌+◌, ◌<◌, List, [], ◌∷◌, ◌++◌, length, map, sym, subst, ◌∙◌, append_assoc, arith}
 use Rattle.std.proofs.lemmas.List.{append-nil, map-append}
-use Rattle.std.specs.Prelude.{Option, Some, None, MatchOption}
 use Rattle.cbor_item.specs.View.{view}
 use Rattle.cbor_item.specs.declared.item.Item.{Item}
 use Rattle.cbor_data.specs.Value.{Value, array, Values, no_values, value, values_of}
 use Rattle.cbor_data.specs.Embedded.{Embeds, EmbedsAll, none, one_more}
-use Rattle.cbor_data.proofs.Lemmas.{one_embedded}
 use Rattle.cddl_meaning.specs.Forms.{Content, one_item, sequence_of_items, Language}
 use Rattle.cddl_meaning.specs.Held.{Holds, item, items}
 use Rattle.cddl_meaning.specs.Judges.{Reply, Fails}
@@ -15,30 +13,15 @@ use Rattle.cddl_meaning.proofs.Lemmas.{held_once}
 use Rattle.cddl_match.specs.Ahead.{ComesTo, Opens}
 use Rattle.cddl_match.proofs.Ways.{and_on, answers}
 
-of_one : {b : List ℕ} {x : Value} → EmbedsAll b (value x no_values) → Embeds b x
-of_one {x = x} (one_more {b = b} h none) = subst (λ c. Embeds c x) (sym (append-nil b)) h
-
 as_list : {b : List ℕ} {x : Value} → Embeds b x → EmbedsAll b (value x no_values)
 as_list {b = b} {x = x} h = subst (λ c. EmbedsAll c (value x no_values)) (append-nil b) (one_more h none)
-
-the_one : (xs : List Value) (y : Value) → values_of xs ≡ value y no_values → xs ≡ y ∷ []
-the_one [] y e = cc e
-the_one (x ∷ []) y e = let h : x ≡ y = cc e in ap (λ z. z ∷ []) h
-the_one (x ∷ z ∷ xs) y e = cc e
-
-holds_one : (b : List ℕ) (xs : List Value) (x : Value) → EmbedsAll b (values_of xs) → xs ≡ x ∷ [] → Holds one_item b x
-holds_one b xs x e i = item (of_one (subst (λ ys. EmbedsAll b (values_of ys)) i e))
-
-not_one : (b : List ℕ) (xs : List Value) → EmbedsAll b (values_of xs) → ((x : Value) → xs ≡ x ∷ [] → ⊥) → (y : Value) → Holds one_item b y → ⊥
-not_one b xs e n y (item h) = n y (the_one xs y (one_embedded b (values_of xs) (value y no_values) e (as_list h)))
-
-pub one_held : (b : List ℕ) (xs : List Value) (o : Option Item) → EmbedsAll b (values_of xs) → MatchOption o ((x : Value) → xs ≡ x ∷ [] → ⊥) (λ i. xs ≡ view i ∷ []) → MatchOption o ((y : Value) → Holds one_item b y → ⊥) (λ i. Holds one_item b (view i))
-one_held b xs None e h = not_one b xs e h
-one_held b xs (Some i) e h = holds_one b xs (view i) e h
 
 pub holds_none : (c : Content) (b : List ℕ) → ((xs : Values) → EmbedsAll b xs → ⊥) → (y : Value) → Holds c b y → ⊥
 holds_none c b n y (item h) = n (value y no_values) (as_list h)
 holds_none c b n y (items {xs = xs} h) = n xs h
+
+pub not_held : (b : List ℕ) → ((x : Value) → Embeds b x → ⊥) → (y : Value) → Holds one_item b y → ⊥
+not_held b n y (item h) = n y h
 
 pub holds_list : (b : List ℕ) (xs ys : List Value) → ys ≡ xs → EmbedsAll b (values_of xs) → Holds sequence_of_items b (array (values_of ys))
 holds_list b xs ys i e = items (subst (λ zs. EmbedsAll b (values_of zs)) (sym i) e)

@@ -8,3 +8,5 @@ mod Shapes
 mod Ways
 mod Outcomes
 mod Sayings
+mod Handing
+mod Tellings

@@ -1,6 +1,8 @@
 -- Numbers, the members of an array as a list and back, and counts.
-use Rattle.std.proofs.Common.{◌≡◌, ℕ, zero, suc, ◌+◌, ◌-◌, ◌<◌, ◌≤◌, ◌++◌, length, take, replicate, slice_index_or, slice_set, List, [], ◌∷◌, Option, Some, None, true, false, nat_eq, refl, ap, ◌∙◌, arith, rules}
+use Rattle.std.proofs.Common.{◌≡◌, ℕ, zero, suc, ◌+◌, ◌-◌, ◌<◌, ◌≤◌, ◌++◌, length, take, drop, replicate, slice_index_or, slice_set, List, [], ◌∷◌, Option, Some, None, true, false, nat_eq, refl, sym, ap, ◌∙◌, arith, rules}
+use Rattle.std.specs.Prelude.{IfNone, IfSome, MatchOption}
 use Rattle.std.proofs.lemmas.Bool.Decides.{nat_tests}
+use Rattle.std.proofs.lemmas.List.{drop-map, length-drop, length-take-le, take_all}
 use Rattle.std.proofs.Math.Seq.{take-nil}
 use Rattle.cbor_data.specs.Value.{Value, array, uint, values_of}
 use Rattle.cbor_item.specs.View.{pairs_view, view}
@@ -16,7 +18,7 @@ use Rattle.cddl_meaning.specs.Forms as F
 use Rattle.cddl_meaning.specs.Moves as M
 use Rattle.cddl_meaning.specs.Moves.{plus, counted, enough_of, no_counts}
 use Rattle.cddl_table.specs.declared.nodes.TypeId.{TypeId}
-use Rattle.cddl_table.specs.Nodes.{entries_view}
+use Rattle.cddl_table.specs.Nodes.{entries_view, entry_view}
 use Rattle.cddl_table.specs.declared.nodes.MapEntry.{MapEntry}
 
 pub view-Uint : (n : ℕ) → view (Uint n) ≡ uint n
@@ -65,6 +67,13 @@ counts_begun es old new m e i j = j ∙ by old m e i
     by : (old : List ℕ) (m : ℕ) → old ≡ [] → m ≡ 0 → take (length es) old ++ replicate (length es - m) 0 ≡ no_counts (entries_view es)
     by old m e i = let n : length es - m ≡ length es = omega (arith, i) in rw (e, n, take-nil) (none_counted es)
 
+-- the counts for the first entries stay, and there are none for the others
+pub counts_kept : (es : List MapEntry) (old cut new : List ℕ) (told m : ℕ) → told ≤ length old → told ≤ length es → cut ≡ take told old → m ≡ told → new ≡ take (length es) cut ++ replicate (length es - m) 0 → new ≡ take told old ++ no_counts (drop told (entries_view es))
+counts_kept es old cut new told m h i e j k = k ∙ rw (e, j) (ap (λ ns. ns ++ replicate (length es - told) 0) (take_all (length es) (take told old) (omega (arith, length-take-le told old h, i))) ∙ ap (λ ns. take told old ++ ns) none)
+  where
+    none : replicate (length es - told) 0 ≡ no_counts (drop told (entries_view es))
+    none = ap (λ n. replicate n 0) (sym (length-drop told es)) ∙ none_counted (drop told es) ∙ ap no_counts (sym (drop-map entry_view told es))
+
 pub as_many_entries : (es : List MapEntry) → length (entries_view es) ≡ length es
 as_many_entries [] = refl
 as_many_entries (e ∷ es) = ap suc (as_many_entries es)
@@ -76,3 +85,8 @@ enough_of_none (x ∷ es) ns e = rw e refl
 pub handed_on : (s : M.Sorting TypeId) (es : List (F.MapEntry TypeId)) (o : Option Fate) → ((f : Fate) → o ≡ Some f → ⊥) → fated s es o ≡ M.next_entry es s
 handed_on s es None h = refl
 handed_on s es (Some f) h = absurd (h f refl)
+
+-- what is known where something is not there, and where it is
+pub there_or_not : {A : Type 0} (P : Type 0) (Q : A → Type 0) (o : Option A) → IfNone o P → IfSome o Q → MatchOption o P Q
+there_or_not P Q None p q = p
+there_or_not P Q (Some x) p q = q

@@ -1,8 +1,7 @@
 -- What types, maps and groups come to within a number of steps, by what they ask.
-use Rattle.std.proofs.Common.{◌≡◌, ℕ, suc, ◌+◌, ◌-◌, ◌≤◌, ◌<◌, ◌^◌, length, max, List, [], ◌∷◌, Some, true, false, nat_eq, refl, sym, subst, arith}
+use Rattle.std.proofs.Common.{◌≡◌, ℕ, ◌+◌, ◌-◌, ◌≤◌, ◌<◌, ◌^◌, length, max, List, [], ◌∷◌, Some, true, false, nat_eq, refl, sym, subst, arith}
 use Rattle.std.proofs.lemmas.Bool.Decides.{nat_tests}
-use Rattle.std.specs.Prelude.{Ok, Err}
-use Rattle.cbor_data.specs.Value.{Value, uint, Pairs}
+use Rattle.cbor_data.specs.Value.{Value, uint}
 use Rattle.cddl_meaning.specs.Forms as F
 use Rattle.cddl_meaning.specs.Forms.{Language, Test, passes, Node, Such, Content, Group}
 use Rattle.cddl_meaning.specs.Held.{Holds}
@@ -10,9 +9,7 @@ use Rattle.cddl_meaning.specs.Judges.{Reply, Takes, Fails, Yes, No, BelongsTo, i
 use Rattle.cddl_meaning.specs.Moves as M
 use Rattle.cddl_meaning.specs.Moves.{Question, OfType, OfGroup, OfAlternative, Move, Answered, Asks, at_once, next_move, type_move, group_move}
 use Rattle.cddl_match.specs.Ahead.{ComesTo, Opens, IsTypeOf, IsGroupOf}
-use Rattle.cddl_match.specs.Views.{fate_view}
-use Rattle.cddl_match.specs.Within.{Outcome, Replied, Stopped, Says, Ends, Sorts, said_view, array_outcome, entry_outcome, simple_outcome, such_outcome, held_outcome}
-use Rattle.cddl_match.specs.declared.questions.Fate.{Fate}
+use Rattle.cddl_match.specs.Within.{Outcome, Replied, Stopped, Says, Ends, said_view, array_outcome, entry_outcome, simple_outcome, such_outcome, held_outcome}
 use Rattle.cddl_match.specs.declared.questions.Said.{Said}
 use Rattle.cddl_match.specs.declared.questions.Said.TheVariants as S
 use Rattle.cddl_match.specs.declared.questions.Stop.{Stop}
@@ -20,7 +17,7 @@ use Rattle.cddl_match.specs.declared.questions.Stop.TheVariants.{Spent, NoMemory
 use Rattle.cddl_match.proofs.Held.{reads_on, reads_none}
 use Rattle.cddl_match.proofs.Outcomes.{says_on, ends_on, answered, few, asks, asks_stopped}
 use Rattle.cddl_match.proofs.Shapes.{IsTypeReply, says_yes, type_shape}
-use Rattle.cddl_match.proofs.Ways.{and_on, and_opens, then_comes, opens, answers, tries_on}
+use Rattle.cddl_match.proofs.Ways.{and_on, and_opens, opens, answers}
 
 -- what is said, unless that has stopped
 pub has_said : (said : Said) → (said ≡ S.Spent → ⊥) → (said ≡ S.NoMemory → ⊥) → (r : Reply) × (said_view said ≡ Replied r)
@@ -122,18 +119,6 @@ module _ {N G : Type 0} (l : Language N G) where
   pub ends_so : {first m : Move N G} (steps mid left : ℕ) (o : Outcome) → ComesTo l first m (steps - mid) → mid ≤ steps → Ends l m mid left o → Ends l first steps left o
   ends_so steps mid left o a b h = ends_on l steps mid left o a (omega (arith, b)) h
 
-  -- The first pair of an alternative is next.
-  pub first_pair : (es : List (F.MapEntry N)) (base place : ℕ) (ps : Pairs) (t : M.Tally) (steps : ℕ) → place ≡ M.plus base 1 → t ≡ M.fresh es → 1 ≤ steps → Opens l (OfAlternative es base ps) (M.next_pair es base place ps t) (steps - (steps - 1))
-  first_pair es base place ps t steps e i h = rw (e, i) (subst (λ k. Opens l (OfAlternative es base ps) (M.next_pair es base (M.plus base 1) ps (M.fresh es)) k) (omega (arith, h)) (opens l (OfAlternative es base ps)))
-
-  -- A pair is tried: that has stopped, or it is known what becomes of it.
-  pub pair_stops : {q : Question N G} (s : M.Sorting N) (stop : Stop) (steps mid some left : ℕ) → Opens l q (M.Tries s) (steps - mid) → mid ≤ steps → some + suc (length s.entries) ≡ mid → Sorts l s s.entries some left (Err stop) → Says l q steps left (Stopped stop)
-  pair_stops s Spent steps mid some left a b e h = says_on l steps mid left (Stopped Spent) a (omega (arith, b)) (ends_on l mid some left (Stopped Spent) (tries_on l s) (omega (arith, e)) h)
-  pair_stops s NoMemory steps mid some left a b e h = tt
-
-  pub pair_sorted : {q : Question N G} (s : M.Sorting N) (f : Fate) (next : ℕ) (t : M.Tally) (steps mid some left : ℕ) → next ≡ s.next_place → t ≡ M.tallied s.tally (fate_view f) → Opens l q (M.Tries s) (steps - mid) → mid ≤ steps → some + suc (length s.entries) ≡ mid → Sorts l s s.entries some left (Ok f) → Opens l q (M.next_pair s.entries s.base next s.rest t) (steps - left)
-  pair_sorted s f next t steps mid some left i j a b e h = rw (i, j) (then_comes l a (and_on l (tries_on l s) h.0 refl) (omega (arith, b, e, h.1)))
-
   -- An entry has taken a pair, or kept it, or handed it on; or that has stopped.
   pub key_yes : {first : Move N G} {next : ℕ} (e : F.MapEntry N) (es : List (F.MapEntry N)) (s : M.Sorting N) (steps mid some : ℕ) → ComesTo l first (M.next_entry (e ∷ es) s) (steps - mid) → mid ≤ steps → Says l (OfType e.key_type s.key_place s.key) mid some (Replied (Takes [] next 0)) → ComesTo l first (Asks (OfType e.value_type s.value_place s.held) (M.InValue e es s)) (steps - some) × some ≤ steps
   key_yes e es s steps mid some a b k = (goes_on (M.InKey e es s) steps mid some a b k, omega (arith, b, k.1))
@@ -150,9 +135,3 @@ module _ {N G : Type 0} (l : Language N G) where
   pair_handed_on {first = first} {far = far} e es s steps mid some left c a b k v =
       let x = key_yes e es s steps mid some a b k in
       subst (λ cuts. ComesTo l first (M.after_value cuts es s far) (steps - left)) c (goes_on (M.InValue e es s) steps some left x.0 x.1 v)
-
-  pub value_stops : {next : ℕ} (all : List (F.MapEntry N)) (e : F.MapEntry N) (es : List (F.MapEntry N)) (s : M.Sorting N) (stop : Stop) (steps mid some left : ℕ) → ComesTo l (M.next_entry all s) (M.next_entry (e ∷ es) s) (steps - mid) → mid ≤ steps → Says l (OfType e.key_type s.key_place s.key) mid some (Replied (Takes [] next 0)) → Says l (OfType e.value_type s.value_place s.held) some left (Stopped stop) → Sorts l s all steps left (Err stop)
-  value_stops all e es s Spent steps mid some left a b k v =
-      let x = key_yes e es s steps mid some a b k in
-      ends_so steps some left (Stopped Spent) x.0 x.1 (asks_stopped l (OfType e.value_type s.value_place s.held) some left (M.InValue e es s) Spent v)
-  value_stops all e es s NoMemory steps mid some left a b k v = tt

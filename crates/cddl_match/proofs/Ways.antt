@@ -104,10 +104,6 @@ module _ {N G : Type 0} (l : Language N G) where
       alone (Fails far) i = ap (λ k. Answered (Fails k)) (omega (arith, i))
 
   -- what the only part of a list leads to, if there is just one
-  pub only_type : {n : N} {ms : List N} (o : Option N) → l.type_at n ≡ Choice ms → IfSome o (λ m. ms ≡ m ∷ []) → IfSome o (λ m. IsTypeOf l n m 1)
-  only_type None e h = h
-  only_type (Some m) e h = by_choice (e ∙ ap Choice h)
-
   pub only_part : {g : G} {gs : List G} (o : Option G) → l.group_at g ≡ Sequence gs → IfSome o (λ h. gs ≡ h ∷ []) → IfSome o (λ h. IsGroupOf l g h 1)
   only_part None e h = h
   only_part (Some g) e h = by_sequence (e ∙ ap Sequence h)
@@ -197,3 +193,8 @@ module _ {N G : Type 0} (l : Language N G) where
 
   pub it_hands_on : (e : F.MapEntry N) (es : List (F.MapEntry N)) (s : M.Sorting N) {j k : ℕ} → e.cuts ≡ false → Opens l (OfType e.key_type s.key_place s.key) (Answered (M.test_reply s.key_place s.key true)) j → Opens l (OfType e.value_type s.value_place s.held) (Answered (M.test_reply s.value_place s.held false)) k → ComesTo l (M.next_entry (e ∷ es) s) (M.next_entry es s) (j + k)
   it_hands_on e es s {j = j} {k = k} c a b = subst (λ b. ComesTo l (M.next_entry (e ∷ es) s) (M.after_value b es s s.value_place) (j + k)) c (its_key e es s false a b)
+
+-- A choice of one, which leads to its only member.
+pub only_type : {N G : Type 0} (f : Node N G) (ms : List N) (o : Option N) → f ≡ Choice ms → IfSome o (λ m. ms ≡ m ∷ []) → IfSome o (λ next. (l : Language N G) (n : N) → l.type_at n ≡ f → IsTypeOf l n next 1)
+only_type f ms None e h = tt
+only_type f ms (Some m) e h = λ l n i. by_choice l (i ∙ e ∙ ap Choice h)

@@ -2,3 +2,4 @@ pub mod Views
 pub mod Unwinding
 pub mod Ahead
 pub mod Within
+pub mod Tellings

@@ -1,16 +1,12 @@
 -- What questions and moves come to within a number of steps.
 use Rattle.std.specs.Prelude.{ℕ, ◌-◌, ◌<◌, ◌≤◌, max, Bool, List, [], Result, Ok, Err}
-use Rattle.cbor_data.specs.Value.{Value, Pairs, place_count}
-use Rattle.cbor_item.specs.View.{view}
-use Rattle.cbor_item.specs.declared.item.Item.{Item}
-use Rattle.cddl_meaning.specs.Forms as F
+use Rattle.cbor_data.specs.Value.{Value}
 use Rattle.cddl_meaning.specs.Forms.{Language}
 use Rattle.cddl_meaning.specs.Judges as J
 use Rattle.cddl_meaning.specs.Moves as M
 use Rattle.cddl_meaning.specs.Moves.{Question, Move, Answered, Replies, LeadsTo}
 use Rattle.cddl_match.specs.Ahead.{ComesTo, Opens}
-use Rattle.cddl_match.specs.Views.{fate_view, reply_view}
-use Rattle.cddl_match.specs.declared.questions.Fate.{Fate}
+use Rattle.cddl_match.specs.Views.{reply_view}
 use Rattle.cddl_match.specs.declared.questions.Reply.{Reply}
 use Rattle.cddl_match.specs.declared.questions.Said.{Said}
 use Rattle.cddl_match.specs.declared.questions.Said.TheVariants as S
@@ -58,20 +54,6 @@ held_outcome p next (Replied (J.Takes left after far)) = Replied (J.Takes [] nex
 held_outcome p next (Replied (J.Fails far)) = Replied (J.Fails p)
 held_outcome p next (Stopped s) = Stopped s
 
--- A pair of a map, its key at a place, that is sorted to the entries of an alternative.
-abbrev pub sorting_of : {N : Type 0} → List (F.MapEntry N) → (base place : ℕ) → Item × Item → Pairs → M.Tally → M.Sorting N
-sorting_of es base place pair rest tally = record {
-  entries = es;
-  base = base;
-  key_place = place;
-  key = view pair.0;
-  value_place = M.plus place (place_count (view pair.0));
-  held = view pair.1;
-  next_place = M.plus (M.plus place (place_count (view pair.0))) (place_count (view pair.1));
-  rest = rest;
-  tally = tally;
-}
-
 module _ {N G : Type 0} (l : Language N G) where
   -- The question has this outcome, and so many of the steps are left then. Spent steps do not tell the reply.
   abbrev pub Says : Question N G → (steps left : ℕ) → Outcome → Type 0
@@ -84,9 +66,3 @@ module _ {N G : Type 0} (l : Language N G) where
   Ends m steps left (Replied r) = ComesTo l m (Answered r) (steps - left) × (left ≤ steps)
   Ends m steps left (Stopped Spent) = (r : J.Reply) (w : ℕ) → LeadsTo l m r w → steps < w
   Ends m steps left (Stopped NoMemory) = Unit {0}
-
-  -- This becomes of a pair that is tried with the entries that are left.
-  abbrev pub Sorts : M.Sorting N → List (F.MapEntry N) → (steps left : ℕ) → Result Fate Stop → Type 0
-  Sorts s es steps left (Ok f) = ComesTo l (M.next_entry es s) (M.sorted s (fate_view f)) (steps - left) × (left ≤ steps)
-  Sorts s es steps left (Err Spent) = (r : J.Reply) (w : ℕ) → LeadsTo l (M.next_entry es s) r w → steps < w
-  Sorts s es steps left (Err NoMemory) = Unit {0}

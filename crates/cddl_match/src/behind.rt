@@ -1,8 +1,12 @@
 //! What names, choices of one type and groups of one group lead to.
 
-ghost use Rattle.std.specs.Prelude.{◌≡◌, [], ◌∷◌, IfSome};
+ghost use Rattle.std.specs.Prelude.{◌≡◌, [], ◌∷◌, IfSome, MatchOption};
+ghost use Rattle.cddl_meaning.specs.Forms.{Choice, Language};
 ghost use Rattle.cddl_match.specs.Ahead.{IsGroupOf, IsTypeOf};
 ghost use Rattle.cddl_table.specs.Language.{language_of};
+ghost use Rattle.cddl_table.specs.Nodes.{type_view};
+ghost use Rattle.cddl_table.specs.declared.nodes.GroupId.{GroupId};
+ghost use Rattle.cddl_table.specs.declared.nodes.TypeId.{TypeId};
 
 use cddl_table::{Group, GroupId, Node, Table, TypeId};
 
@@ -21,12 +25,12 @@ fn only<Id: Copy>(parts: &[Id]) -> Option<Id>
     }
 }
 
-/// The type that a name or a choice of one leads to.
-#[inline]
-fn next_type(table: &Table, node: TypeId) -> Option<TypeId>
-    ensures { IfSome result (λ next. IsTypeOf (language_of table.now) node next 1) }
+/// The type that a type of this form leads to, if that is a name or a choice of one.
+#[inline(always)]
+fn next_type(form: &Node) -> Option<TypeId>
+    ensures { IfSome result (λ next. (l : Language TypeId GroupId) (n : TypeId) → l.type_at n ≡ type_view form.now → IsTypeOf l n next 1) }
 {
-    match table.node(node)? {
+    match form {
         Node::Ref(to) => Some(*to),
         Node::Choice(members) => only(members),
         _ => None,
@@ -45,21 +49,41 @@ fn next_group(table: &Table, group: GroupId) -> Option<GroupId>
     }
 }
 
-/// The type behind names and choices of one, and how many of them there are.
+/// What is behind names and choices of one.
+#[derive(Clone, Copy)]
+pub(crate) struct Behind<'t> {
+    pub(crate) node: TypeId,
+    /// Its form, if the table has the type.
+    pub(crate) form: Option<&'t Node>,
+    /// How many names and choices of one there are.
+    pub(crate) passed: u8,
+}
+
+/// The type behind names and choices of one.
 #[inline(always)]
-pub(crate) fn type_behind(table: &Table, node: TypeId) -> (TypeId, u8)
-    ensures { IsTypeOf (language_of table.now) node result.0 result.1 }
+pub(crate) fn type_behind<'t>(table: &'t Table, node: TypeId) -> Behind<'t>
+    ensures passed { IsTypeOf (language_of table.now) node result.node result.passed }
+    ensures form { MatchOption result.form ((language_of table.now).type_at result.node ≡ Choice []) (λ it. (language_of table.now).type_at result.node ≡ type_view it.now) }
 {
-    let mut behind = node;
-    let mut asked = 0;
-    while asked < FARTHEST {
-        match next_type(table, behind) {
-            Some(next) => behind = next,
-            None => break,
-        }
-        asked += 1;
+    let mut behind = Behind {
+        node,
+        form: table.node(node),
+        passed: 0,
+    };
+    while behind.passed < FARTHEST {
+        let Some(form) = behind.form else {
+            break;
+        };
+        let Some(next) = next_type(form) else {
+            break;
+        };
+        behind = Behind {
+            node: next,
+            form: table.node(next),
+            passed: behind.passed + 1,
+        };
     }
-    (behind, asked)
+    behind
 }
 
 /// The group behind names and groups of one group, and how many of them there are.

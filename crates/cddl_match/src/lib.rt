@@ -18,6 +18,7 @@ mod replies;
 mod saying;
 mod shelf;
 mod sorting;
+mod tallied;
 mod telling;
 mod tested;
 

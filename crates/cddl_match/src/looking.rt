@@ -40,10 +40,10 @@ fn type_ahead<'t, 'i>(
 ) -> Ahead<'t, 'i>
     ensures { Opens (language_of table.now) (M.OfType node place (subject_view subject.entry)) (move_view result.next) result.asked × (1 ≤ result.asked) }
 {
-    let (node, passed) = type_behind(table, node);
+    let behind = type_behind(table, node);
     Ahead {
-        next: first_of_type(table, node, place, subject),
-        asked: u64::from(passed) + 1,
+        next: first_of_type(table, behind.node, place, subject),
+        asked: u64::from(behind.passed) + 1,
     }
 }
 
@@ -114,16 +114,16 @@ struct Entered<'t> {
 fn entry_at<'t>(table: &'t Table, group: GroupId) -> Option<Entered<'t>>
     ensures { IfSome result (λ it. IsEntered (language_of table.now) group (type_view it.form.now) it.groups it.types) }
 {
-    let (behind, groups) = group_behind(table, group);
-    let node = match table.group(behind)? {
+    let (group, groups) = group_behind(table, group);
+    let node = match table.group(group)? {
         Group::Entry(node) => *node,
         _ => return None,
     };
-    let (node, types) = type_behind(table, node);
+    let behind = type_behind(table, node);
     Some(Entered {
-        form: table.node(node)?,
+        form: behind.form?,
         groups,
-        types,
+        types: behind.passed,
     })
 }
 

@@ -14,21 +14,9 @@ ghost use Rattle.cddl_table.specs.declared.nodes.TypeId.{TypeId};
 use crate::questions::{Move, Pending, Question, Reading, Reply, Subject};
 use crate::shelf::Shelf;
 use cbor_item::{Item, Sound};
-use cbor_read::embedded;
+use cbor_read::{embedded, embedded_item};
 use cddl_table::Content;
 use std::alloc::{AllocError, Global};
-
-/// The one item of these, if there is just one.
-fn only_item(items: Vec<Sound>) -> Option<Item>
-    ensures { MatchOption result ((x : Value) → items.items ≡ x ∷ [] → ⊥) (λ item. items.items ≡ view item ∷ []) }
-{
-    let mut items = items;
-    let item = items.pop()?;
-    if items.is_empty() {
-        return Some(item.into_item());
-    }
-    None
-}
 
 /// The same items.
 fn plain_items(alloc: Global, items: Vec<Sound>) -> Result<Vec<Item>, AllocError>
@@ -49,12 +37,19 @@ pub(crate) fn held_in(
 ) -> Result<Option<Item>, AllocError>
     ensures { IfOk result (λ held. MatchOption held ((y : Value) → Holds (content_view content) bytes.now y → ⊥) (λ item. Holds (content_view content) bytes.now (view item))) }
 {
-    let Some(items) = embedded(alloc, bytes)? else {
-        return Ok(None);
-    };
     match content {
-        Content::OneItem => Ok(only_item(items)),
-        Content::Sequence => Ok(Some(Item::Array(plain_items(alloc, items)?))),
+        Content::OneItem => {
+            let Some(item) = embedded_item(alloc, bytes)? else {
+                return Ok(None);
+            };
+            Ok(Some(item.into_item()))
+        }
+        Content::Sequence => {
+            let Some(items) = embedded(alloc, bytes)? else {
+                return Ok(None);
+            };
+            Ok(Some(Item::Array(plain_items(alloc, items)?)))
+        }
     }
 }
 

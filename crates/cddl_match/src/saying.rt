@@ -8,7 +8,8 @@ ghost use Rattle.cddl_meaning.specs.Forms.{bytes_in};
 ghost use Rattle.cddl_meaning.specs.Judges as J;
 ghost use Rattle.cddl_meaning.specs.Moves as M;
 ghost use Rattle.cddl_match.specs.Views.{parts_move, rounds_move, values};
-ghost use Rattle.cddl_match.specs.Within.{Ends, Says, Sorts, done_view, said_view, sorting_of};
+ghost use Rattle.cddl_match.specs.Tellings.{IsTallied, Sorts, Tallies};
+ghost use Rattle.cddl_match.specs.Within.{Ends, Says, done_view, said_view};
 ghost use Rattle.cddl_table.specs.Language.{language_of};
 ghost use Rattle.cddl_table.specs.Nodes.{alternatives_view, content_view, entries_view, group_view, tag_number_view, type_view};
 ghost use Rattle.cddl_table.specs.declared.nodes.TypeId.{TypeId};
@@ -19,14 +20,15 @@ use crate::looking::rounds_told;
 use crate::means::Means;
 use crate::moves::{after_round, is_over};
 use crate::places::{place_after, plus};
-use crate::questions::{Fate, Parts, Reply, Round, Rounds, Said, Stop, Tally};
+use crate::questions::{Fate, Parts, Reply, Round, Rounds, Said, Stop};
 use crate::reading::held_in;
 use crate::replies::{
     array_said, bytes_of, either_said, entry_done, held_said, items_of, pairs_of, simple_of,
     simple_said, such_said, test_says, tested,
 };
 use crate::shelf::{Cells, Shelf};
-use crate::sorting::{begin_tally, no_tally, shown_by_tally, tally_pair};
+use crate::sorting::{begin_tally, tally_pair};
+use crate::tallied::{Tallied, nothing_tallied, told_with};
 use crate::tested::passes;
 use cbor_item::Item;
 use cddl_table::{Content, Group, GroupId, MapEntry, Node, Table, TagNumber, TypeId};
@@ -51,16 +53,18 @@ fn type_says_here<'i>(
     if depth == 0 {
         return type_by_frames(table, means, node, place, item);
     }
-    let (behind, passed) = type_behind(table, node);
-    let Some(left) = means.left.checked_sub(u64::from(passed) + 1) else {
+    let behind = type_behind(table, node);
+    let Some(left) = means.left.checked_sub(u64::from(behind.passed) + 1) else {
         return Said::Spent;
     };
     means.left = left;
-    match table.node(behind) {
-        Some(Node::Plain(test)) => tested(test, place, item),
-        Some(Node::Choice(members)) => choice_says(table, means, members, place, item, depth - 1),
-        Some(form) => form_says(table, means, form, place, item, depth - 1),
-        None => Said::No { far: place },
+    let Some(form) = behind.form else {
+        return Said::No { far: place };
+    };
+    match form {
+        Node::Plain(test) => tested(test, place, item),
+        Node::Choice(members) => choice_says(table, means, members, place, item, depth - 1),
+        _ => form_says(table, means, form, place, item, depth - 1),
     }
 }
 
@@ -261,11 +265,11 @@ fn map_says<'i>(
 ) -> Said
     ensures { Ends (language_of table.now) (M.next_way (alternatives_view alternatives.now) base (pairs_view pairs.now) (J.Fails base)) means.old.left means.new.left (said_view result) }
 {
-    let mut tally = no_tally(means.shelf.alloc);
+    let mut tallied = nothing_tallied(means.shelf.alloc);
     let mut sofar = Said::No { far: base };
     let mut left = alternatives;
     while let Some((entries, others)) = left.split_first() {
-        match alternative_says(table, means, &mut tally, entries, base, pairs, depth) {
+        match alternative_says(table, means, &mut tallied, entries, base, pairs, depth) {
             Said::Spent => return Said::Spent,
             Said::NoMemory => return Said::NoMemory,
             said => sofar = either_said(sofar, said),
@@ -275,48 +279,80 @@ fn map_says<'i>(
     sofar
 }
 
-/// What an alternative of these entries says of the map at `base`. The tally is begun anew.
+/// What an alternative of these entries says of the map at `base`. Alternatives often begin with the same entries: where
+/// these told what became of each pair in the one before, the pairs are not asked again.
 #[cycle(saying)]
-fn alternative_says<'i>(
+fn alternative_says<'t, 'i>(
     table: &Table,
     means: &mut Means<'i>,
-    tally: &mut Tally,
-    entries: &[MapEntry],
+    tallied: &mut Tallied<'t>,
+    entries: &'t [MapEntry],
     base: usize,
     pairs: &'i [(Item, Item)],
     depth: u8,
 ) -> Said
-    ensures { Says (language_of table.now) (M.OfAlternative (entries_view entries.now) base (pairs_view pairs.now)) means.old.left means.new.left (said_view result) }
+    requires { IsTallied (language_of table.now) base (pairs_view pairs.now) tallied.old }
+    ensures says { Says (language_of table.now) (M.OfAlternative (entries_view entries.now) base (pairs_view pairs.now)) means.old.left means.new.left (said_view result) }
+    ensures known { IsTallied (language_of table.now) base (pairs_view pairs.now) tallied.new }
 {
-    if means.left == 0 {
-        return Said::Spent;
+    if let Some(told) = tallied.told_in(entries) {
+        return tallied.says_again(table, means, told, entries, base, pairs);
     }
-    means.left -= 1;
-    let Ok(()) = begin_tally(tally, entries) else {
-        return Said::NoMemory;
+    let Some(left) = means.left.checked_sub(1) else {
+        return Said::Spent;
+    };
+    means.left = left;
+    match tally_pairs(table, means, tallied, entries, base, pairs, depth) {
+        Ok(()) => tallied.says(base),
+        Err(Stop::Spent) => Said::Spent,
+        Err(Stop::NoMemory) => Said::NoMemory,
+    }
+}
+
+/// What the pairs of the map at `base` come to with these entries, one after the other.
+#[cycle(saying)]
+fn tally_pairs<'t, 'i>(
+    table: &Table,
+    means: &mut Means<'i>,
+    tallied: &mut Tallied<'t>,
+    entries: &'t [MapEntry],
+    base: usize,
+    pairs: &'i [(Item, Item)],
+    depth: u8,
+) -> Result<(), Stop>
+    ensures comes { Tallies (language_of table.now) (entries_view entries.now) base (pairs_view pairs.now) means.old.left means.new.left tallied.new result }
+    ensures known { IsTallied (language_of table.now) base (pairs_view pairs.now) tallied.new }
+{
+    tallied.told = None;
+    let Ok(()) = begin_tally(&mut tallied.tally, entries) else {
+        return Err(Stop::NoMemory);
     };
     // Each pair takes a step, and one more for each entry.
     let tried = entries.len() as u64;
+    let mut told = Some(0);
+    // So many steps would be left if only what is asked about the pairs took any.
+    let steps = means.left;
+    let mut unasked = steps;
     let mut place = plus(base, 1);
     let mut left = pairs;
     while let Some((pair, others)) = left.split_first() {
         if means.left <= tried {
-            return Said::Spent;
+            return Err(Stop::Spent);
         }
         means.left -= tried + 1;
-        let fate = match pair_fate(table, means, entries, pair, place, depth) {
-            Ok(fate) => fate,
-            Err(Stop::Spent) => return Said::Spent,
-            Err(Stop::NoMemory) => return Said::NoMemory,
-        };
-        tally_pair(tally, fate);
+        let before = means.left;
+        let fate = pair_fate(table, means, entries, pair, place, depth)?;
+        unasked -= before - means.left;
+        told = told_with(told, fate, entries.len());
+        tally_pair(&mut tallied.tally, fate);
         place = place_after(&pair.1, place_after(&pair.0, place));
         left = others;
     }
-    match shown_by_tally(entries, base, tally) {
-        Some(far) => Said::No { far },
-        None => Said::Yes { next: place },
-    }
+    tallied.entries = entries;
+    tallied.told = told;
+    tallied.asked = steps - unasked;
+    tallied.next = place;
+    Ok(())
 }
 
 /// What becomes of a pair, its key at `place`, that is tried with these entries.
@@ -330,7 +366,7 @@ fn pair_fate<'i>(
     place: usize,
     depth: u8,
 ) -> Result<Fate, Stop>
-    ensures { (all : List (F.MapEntry TypeId)) (base : ℕ) (rest : Pairs) (tally : M.Tally) → Sorts (language_of table.now) (sorting_of all base place pair.now rest tally) (entries_view entries.now) means.old.left means.new.left result }
+    ensures { Sorts (language_of table.now) place pair.now (entries_view entries.now) means.old.left means.new.left result }
 {
     let mut left = entries;
     while let Some((entry, others)) = left.split_first() {
@@ -355,6 +391,55 @@ fn pair_fate<'i>(
         }
     }
     Ok(Fate::Stray { place })
+}
+
+/// What a group does with items. Entries are asked where this is called, since most groups of a sequence are entries.
+#[inline(always)]
+#[cycle(saying)]
+fn group_does_here<'i>(
+    table: &Table,
+    means: &mut Means<'i>,
+    group: GroupId,
+    base: usize,
+    place: usize,
+    items: &'i [Item],
+    depth: u8,
+) -> Result<Reply<'i>, Stop>
+    ensures { Says (language_of table.now) (M.OfGroup group base place (values items.now)) means.old.left means.new.left (done_view result) }
+{
+    match table.group(group) {
+        Some(Group::Entry(node)) => {
+            let Some(left) = means.left.checked_sub(1) else {
+                return Err(Stop::Spent);
+            };
+            means.left = left;
+            entry_does(table, means, *node, base, place, items, depth)
+        }
+        _ => group_does(table, means, group, base, place, items, depth),
+    }
+}
+
+/// What an entry does with items: it takes the first one, if that is of its type.
+#[inline(always)]
+#[cycle(saying)]
+fn entry_does<'i>(
+    table: &Table,
+    means: &mut Means<'i>,
+    node: TypeId,
+    base: usize,
+    place: usize,
+    items: &'i [Item],
+    depth: u8,
+) -> Result<Reply<'i>, Stop>
+    ensures { Ends (language_of table.now) (M.entry_move node base place (values items.now)) means.old.left means.new.left (done_view result) }
+{
+    match items.split_first() {
+        Some((item, rest)) => {
+            let said = type_says_here(table, means, node, place, item, depth);
+            entry_done(base, rest, said)
+        }
+        None => Ok(Reply::Fails { far: base }),
+    }
 }
 
 /// What a group does with items. Calls are as deep as this, and what is deeper is left to frames.
@@ -398,13 +483,7 @@ fn group_form_does<'i>(
     ensures { Ends (language_of table.now) (M.group_move (group_view form.now) base place (values items.now)) means.old.left means.new.left (done_view result) }
 {
     match form {
-        Group::Entry(node) => match items.split_first() {
-            Some((item, rest)) => {
-                let said = type_says_here(table, means, *node, place, item, depth);
-                entry_done(base, rest, said)
-            }
-            None => Ok(Reply::Fails { far: base }),
-        },
+        Group::Entry(node) => entry_does(table, means, *node, base, place, items, depth),
         Group::Ref(to) => group_does(table, means, *to, base, place, items, depth),
         Group::Sequence(parts) => parts_do(
             table,
@@ -450,7 +529,7 @@ fn parts_do<'t, 'i>(
 {
     let mut left = parts;
     while let Some((part, others)) = left.parts.split_first() {
-        match group_does(
+        match group_does_here(
             table, means, *part, left.base, left.place, left.items, depth,
         )? {
             Reply::Takes {

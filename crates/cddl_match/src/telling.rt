@@ -67,9 +67,9 @@ pub(crate) fn type_tells(
 ) -> Option<(bool, u64)>
     ensures { IfSome result (λ said. IsTypeTold (language_of table.now) node (subject_view subject.entry) said.0 said.1 × (said.1 ≤ most)) }
 {
-    let (node, passed) = type_behind(table, node);
-    let first = u64::from(passed) + 1;
+    let behind = type_behind(table, node);
+    let first = u64::from(behind.passed) + 1;
     let left = most.checked_sub(first)?;
-    let (says, more) = form_tells(table, table.node(node)?, subject, depth, left)?;
+    let (says, more) = form_tells(table, behind.form?, subject, depth, left)?;
     Some((says, more + first))
 }

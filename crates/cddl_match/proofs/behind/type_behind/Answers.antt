@@ -1,10 +1,20 @@
 use Rattle.std.proofs.Common.{refl}
 use Rattle.cddl_table.specs.Language.{language_of}
-use Rattle.cddl_match.proofs.Ways.{itself, further}
+use Rattle.cddl_match.proofs.Lists.{there_or_not}
+use Rattle.cddl_match.proofs.Ways.{further, itself}
 use Rattle.cddl_match.proofs.behind.type_behind.Goals as goal
 
-pub loop-asked-init : goal.loop-asked-init
-loop-asked-init c = λ p x h. itself (language_of c.args.table.now) _
+pub loop-behind-init : goal.loop-behind-init
+loop-behind-init c = record {
+  passed = λ p x h. itself (language_of c.args.table.now) _;
+  form = there_or_not _ _ c.node.result c.node.ensures.none c.node.ensures.found;
+}
 
-pub loop-asked-preserved : goal.loop-asked-preserved
-loop-asked-preserved c = λ p x h. further (language_of c.args.table.now) (c.loop-asked.invariant p x h) (c.in-Some.ensures p x h) refl
+pub loop-behind-preserved : goal.loop-behind-preserved
+loop-behind-preserved c =
+    let l = language_of c.args.table.now in
+    let found = rw c.in-Some.is at c.loop-behind.invariant.form in
+    record {
+      passed = λ p x h. further l (c.loop-behind.invariant.passed p x h) (c.in-Some-next_type.ensures l c.loop-behind.behind.node found p x h) refl;
+      form = there_or_not _ _ c.node-in-loop-behind.result c.node-in-loop-behind.ensures.none c.node-in-loop-behind.ensures.found;
+    }

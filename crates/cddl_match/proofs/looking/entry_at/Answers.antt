@@ -5,4 +5,4 @@ use Rattle.cddl_match.proofs.Ways.{by_entry, leads_to_entry}
 use Rattle.cddl_match.proofs.looking.entry_at.Goals as goal
 
 pub returns : goal.returns
-returns c = leads_to_entry (language_of c.args.table.now) c.group_behind-groups.ensures (by_entry (language_of c.args.table.now) (c.in_ok-node.ensures.found ∙ ap group_view c.in-Entry.is) c.type_behind-types.ensures c.in_ok-node-2.ensures.found)
+returns c = leads_to_entry (language_of c.args.table.now) c.group_behind-groups.ensures (by_entry (language_of c.args.table.now) (c.in_ok-node.ensures.found ∙ ap group_view c.in-Entry.is) c.type_behind-behind.ensures.passed (rw c.in_ok-behind.was at c.type_behind-behind.ensures.form))

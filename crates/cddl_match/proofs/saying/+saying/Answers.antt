@@ -1,43 +1,46 @@
 use Rattle.std.proofs.Common.{◌≡◌, ◌+◌, ◌-◌, length, max, refl, sym, ap, subst, ◌∙◌, arith}
 use Rattle.std.specs.Prelude.{Err}
 use Rattle.std.proofs.lemmas.Result.{err_from_is_err_and}
-use Rattle.cbor_data.specs.Value.{place_count, uint}
+use Rattle.cbor_data.specs.Value.{pairs_len, place_count, uint}
 use Rattle.cbor_item.specs.View.{pairs_view, view}
 use Rattle.cddl_meaning.specs.Forms.{passes}
 use Rattle.cddl_meaning.specs.Judges as J
 use Rattle.cddl_meaning.specs.Moves as M
 use Rattle.cddl_table.specs.Language.{language_of}
-use Rattle.cddl_table.specs.Nodes.{alternatives_view, content_view, entries_view, entry_view, most_view, test_view}
+use Rattle.cddl_table.specs.Nodes.{alternatives_view, content_view, entries_view, entry_view, most_view, test_view, type_view}
 use Rattle.cddl_table.specs.declared.nodes.GroupId.{GroupId}
 use Rattle.cddl_match.specs.Ahead.{ComesTo}
 use Rattle.cddl_match.specs.Views.{reply_view, rounds_move, tally_view, values}
 use Rattle.cddl_match.specs.declared.questions.Stop.TheVariants.{Spent}
-use Rattle.cddl_match.specs.Within.{Replied, Stopped, Says, done_view, said_view, sorting_of}
+use Rattle.cddl_match.specs.Within.{Replied, Stopped, Says, done_view, said_view}
 use Rattle.cddl_match.proofs.Lists.{as_many_entries, view-Uint}
-use Rattle.cddl_match.proofs.Outcomes.{answered, begins, ends_on, passes_on, took, asks}
-use Rattle.cddl_match.proofs.Sayings.{has_said, type_on, type_few, group_on, group_few, no_passes, yes_passes, array_ends, simple_ends, such_ends, meant_ends, held_ends, nothing_held, entry_ends, goes_on, ends_so, stops, round_stops, first_pair, pair_stops, pair_sorted, pair_taken, pair_kept, pair_handed_on, value_stops}
-use Rattle.cddl_match.proofs.Ways.{and_on, a_round}
+use Rattle.cddl_match.proofs.Outcomes.{answered, begins, ends_on, passes_on, says_on, took, asks}
+use Rattle.cddl_match.proofs.Sayings.{has_said, type_on, type_few, group_on, group_few, no_passes, yes_passes, array_ends, simple_ends, such_ends, meant_ends, held_ends, nothing_held, entry_ends, goes_on, ends_so, stops, round_stops}
+use Rattle.cddl_match.proofs.Handing.{none_tried, other_key_next, other_value_next, its_value, kept, key_stops, value_stops}
+use Rattle.cddl_match.proofs.Tellings.{all_told, no_pair_told, pair_sorted, pair_stops, pair_told}
+use Rattle.cddl_match.proofs.Turns.{none_left}
+use Rattle.cddl_match.proofs.Ways.{and_on, a_round, itself, opens}
 use Rattle.cddl_match.proofs.saying.+saying.Goals as goal
 
 pub type_says_here-returns-in_default-checked_sub : goal.type_says_here-returns-in_default-checked_sub
-type_says_here-returns-in_default-checked_sub t c = type_few (language_of c.args.table.now) c.args.place (view c.args.item.now) c.args.means.now.left c.args.means.now.left c.type_behind-passed.ensures (omega (arith, c.ranges.place.fits)) (omega (arith, c.in_default-checked_sub.ensures, c.from.ensures))
-
-pub type_says_here-returns-in-Some-node : goal.type_says_here-returns-in-Some-node
-type_says_here-returns-in-Some-node t c = type_on (language_of c.args.table.now) c.args.place (view c.args.item.now) c.args.means.now.left c.in-Some.left c.form_says.new.means.left (said_view c.form_says.result) c.type_behind-passed.ensures (omega (arith, c.ranges.place.fits)) c.in-Some-node.ensures.found (omega (arith, c.in-Some.ensures, c.from.ensures)) c.form_says.ensures
-
-pub type_says_here-returns-in-None : goal.type_says_here-returns-in-None
-type_says_here-returns-in-None t c = type_on (language_of c.args.table.now) c.args.place (view c.args.item.now) c.args.means.now.left c.in-Some.left c.in-Some.left (Replied (J.Fails c.args.place)) c.type_behind-passed.ensures (omega (arith, c.ranges.place.fits)) c.in-None.ensures.none (omega (arith, c.in-Some.ensures, c.from.ensures)) (answered (language_of c.args.table.now) c.in-Some.left (J.Fails c.args.place))
+type_says_here-returns-in_default-checked_sub t c = type_few (language_of c.args.table.now) c.args.place (view c.args.item.now) c.args.means.now.left c.args.means.now.left c.type_behind-behind.ensures.passed (omega (arith, c.ranges.place.fits)) (omega (arith, c.in_default-checked_sub.ensures, c.from.ensures))
 
 pub type_says_here-returns-in-Some-Plain : goal.type_says_here-returns-in-Some-Plain
 type_says_here-returns-in-Some-Plain t c = c.test_says.ensures (language_of c.args.table.now) c.args.node (rw c.in-Some-Plain.field-0-is at c.in-Some-Plain.ensures.found)
 
-pub type_says_here-returns-in-Some-Plain-node : goal.type_says_here-returns-in-Some-Plain-node
-type_says_here-returns-in-Some-Plain-node t c =
-    let reply = M.test_reply c.args.place (view c.args.item.now) (passes (test_view c.in-Some-Plain-node.test) (view c.args.item.now)) in
-    rw c.tested.ensures (type_on (language_of c.args.table.now) c.args.place (view c.args.item.now) c.args.means.now.left c.in-Some.left c.in-Some.left (Replied reply) c.type_behind-passed.ensures (omega (arith, c.ranges.place.fits)) (rw c.in-Some-Plain-node.field-0-is at c.in-Some-Plain-node.ensures.found) (omega (arith, c.in-Some.ensures, c.from.ensures)) (answered (language_of c.args.table.now) c.in-Some.left reply))
+pub type_says_here-returns-in_default-form : goal.type_says_here-returns-in_default-form
+type_says_here-returns-in_default-form t c = type_on (language_of c.args.table.now) c.args.place (view c.args.item.now) c.args.means.now.left c.in-Some.left c.in-Some.left (Replied (J.Fails c.args.place)) c.type_behind-behind.ensures.passed (omega (arith, c.ranges.place.fits)) (rw c.in_default-form.is at c.type_behind-behind.ensures.form) (omega (arith, c.in-Some.ensures, c.from.ensures)) (answered (language_of c.args.table.now) c.in-Some.left (J.Fails c.args.place))
 
-pub type_says_here-returns-in-Some-Choice : goal.type_says_here-returns-in-Some-Choice
-type_says_here-returns-in-Some-Choice t c = type_on (language_of c.args.table.now) c.args.place (view c.args.item.now) c.args.means.now.left c.in-Some.left c.choice_says.new.means.left (said_view c.choice_says.result) c.type_behind-passed.ensures (omega (arith, c.ranges.place.fits)) (rw c.in-Some-Choice.field-0-is at c.in-Some-Choice.ensures.found) (omega (arith, c.in-Some.ensures, c.from.ensures)) (rw c.deref.ensures.value at c.choice_says.ensures)
+pub type_says_here-returns-in-Plain : goal.type_says_here-returns-in-Plain
+type_says_here-returns-in-Plain t c =
+    let reply = M.test_reply c.args.place (view c.args.item.now) (passes (test_view c.in-Plain.test) (view c.args.item.now)) in
+    rw c.tested.ensures (type_on (language_of c.args.table.now) c.args.place (view c.args.item.now) c.args.means.now.left c.in-Some.left c.in-Some.left (Replied reply) c.type_behind-behind.ensures.passed (omega (arith, c.ranges.place.fits)) (rw c.in-Some-form.is at c.type_behind-behind.ensures.form ∙ ap type_view c.in-Plain.is) (omega (arith, c.in-Some.ensures, c.from.ensures)) (answered (language_of c.args.table.now) c.in-Some.left reply))
+
+pub type_says_here-returns-in-Choice : goal.type_says_here-returns-in-Choice
+type_says_here-returns-in-Choice t c = type_on (language_of c.args.table.now) c.args.place (view c.args.item.now) c.args.means.now.left c.in-Some.left c.choice_says.new.means.left (said_view c.choice_says.result) c.type_behind-behind.ensures.passed (omega (arith, c.ranges.place.fits)) (rw c.in-Some-form.is at c.type_behind-behind.ensures.form ∙ ap type_view c.in-Choice.is) (omega (arith, c.in-Some.ensures, c.from.ensures)) (rw c.deref.ensures.value at c.choice_says.ensures)
+
+pub type_says_here-returns-in_default-form-2 : goal.type_says_here-returns-in_default-form-2
+type_says_here-returns-in_default-form-2 t c = type_on (language_of c.args.table.now) c.args.place (view c.args.item.now) c.args.means.now.left c.in-Some.left c.form_says.new.means.left (said_view c.form_says.result) c.type_behind-behind.ensures.passed (omega (arith, c.ranges.place.fits)) (rw c.in-Some-form.is at c.type_behind-behind.ensures.form) (omega (arith, c.in-Some.ensures, c.from.ensures)) c.form_says.ensures
 
 pub group_does-returns-in_default : goal.group_does-returns-in_default
 group_does-returns-in_default t c = group_few (language_of c.args.table.now) c.args.base c.args.place (values c.args.items.now) c.args.means.now.left c.args.means.now.left c.group_behind-passed.ensures (omega (arith, c.in_default.ensures, c.from.ensures))
@@ -120,6 +123,7 @@ held_says-returns-in-Ok-Some t c = rw (c.in-Some.ensures, c.held_said.ensures) (
 
 pub map_says-loop-entries-init : goal.map_says-loop-entries-init
 map_says-loop-entries-init t c = record {
+  known = rw c.nothing_tallied-tallied.ensures tt;
   within = omega arith;
   comes = (J.Fails c.args.base, refl, begins (language_of c.args.table.now) (M.next_way {G = GroupId} (alternatives_view c.args.alternatives.now) c.args.base (pairs_view c.args.pairs.now) (J.Fails c.args.base)) c.args.means.now.left);
 }
@@ -131,80 +135,105 @@ map_says-loop-entries-preserved t c =
     let here = rw c.in-Some.ensures.cases.0 at i.2 in
     let x = has_said c.alternative_says.result c.in_default-alternative_says.not-Spent c.in_default-alternative_says.not-NoMemory in
     let q = M.OfAlternative (entries_view c.in-Some.entries.now.items) c.args.base (pairs_view c.args.pairs.now) in
-    let told : Says l q c.loop-entries.means.left c.alternative_says.new.means.left (Replied x.0) = subst (λ o. Says l q c.loop-entries.means.left c.alternative_says.new.means.left o) x.1 (rw c.deref.ensures.value at c.alternative_says.ensures) in
+    let told : Says l q c.loop-entries.means.left c.alternative_says.new.means.left (Replied x.0) = subst (λ o. Says l q c.loop-entries.means.left c.alternative_says.new.means.left o) x.1 (rw c.deref.ensures.value at c.alternative_says.ensures.says) in
     record {
+      known = c.alternative_says.ensures.known;
       within = omega (arith, c.loop-entries.invariant.within, told.1);
       comes = (M.either_reply i.0 x.0, c.either_said-sofar.ensures i.0 x.0 i.1 x.1, goes_on l (M.InMap (alternatives_view c.in-Some.others.now) c.args.base (pairs_view c.args.pairs.now) i.0) c.args.means.now.left c.loop-entries.means.left c.alternative_says.new.means.left here c.loop-entries.invariant.within told);
     }
 
-pub alternative_says-loop-pair-init : goal.alternative_says-loop-pair-init
-alternative_says-loop-pair-init t c = record {
-  within = omega arith;
-  comes = first_pair (language_of c.args.table.now) (entries_view c.args.entries.now) c.args.base c.plus-place.result (pairs_view c.args.pairs.now) (tally_view c.begin_tally.new.tally) c.args.means.now.left c.plus-place.ensures c.in-Ok.ensures (omega (arith, c.if-means-eq0.false));
-}
-
-pub alternative_says-returns-in-Err-Spent : goal.alternative_says-returns-in-Err-Spent
-alternative_says-returns-in-Err-Spent t c =
+pub alternative_says-returns-in-Ok-clause-says : goal.alternative_says-returns-in-Ok-clause-says
+alternative_says-returns-in-Ok-clause-says t c =
     let l = language_of c.args.table.now in
     let es = entries_view c.args.entries.now in
-    let here = rw c.in-Some.ensures.cases.0 at c.loop-pair.invariant.comes in
-    pair_stops l (sorting_of es c.args.base c.loop-pair.place c.in-Some.pair.now (pairs_view c.in-Some.others.now) (tally_view c.loop-pair.tally)) Spent c.args.means.now.left c.loop-pair.means.left (c.loop-pair.means.left - (length c.args.entries.now + 1)) c.pair_fate.new.means.left here c.loop-pair.invariant.within (omega (arith, as_many_entries c.args.entries.now, c.if-means-tried.false)) (rw c.in-Err-Spent.field-0-is at (c.in-Err-Spent.ensures es c.args.base (pairs_view c.in-Some.others.now) (tally_view c.loop-pair.tally)))
+    let come = c.in-Ok.ensures.comes in
+    let tally = tally_view c.tally_pairs.new.tallied.tally in
+    let next = c.tally_pairs.new.tallied.next in
+    let e = c.says.ensures ∙ ap (λ (xs : _). Replied (M.answer_reply next (M.tally_says xs c.args.base tally))) come.0 in
+    rw e (says_on l c.args.means.now.left c.in-Some-checked_sub.left c.tally_pairs.new.means.left (Replied (M.answer_reply next (M.tally_says es c.args.base tally))) (opens l (M.OfAlternative es c.args.base (pairs_view c.args.pairs.now))) (omega (arith, c.in-Some-checked_sub.ensures)) (come.1, come.2))
 
-pub alternative_says-loop-pair-preserved : goal.alternative_says-loop-pair-preserved
-alternative_says-loop-pair-preserved t c =
+pub tally_pairs-loop-pair-init : goal.tally_pairs-loop-pair-init
+tally_pairs-loop-pair-init t c =
     let l = language_of c.args.table.now in
     let es = entries_view c.args.entries.now in
-    let here = rw c.in-Some.ensures.cases.0 at c.loop-pair.invariant.comes in
-    let fate = c.in-Ok-pair_fate.ensures es c.args.base (pairs_view c.in-Some.others.now) (tally_view c.loop-pair.tally) in
-    let place = c.place_after-place.ensures ∙ ap (λ k. M.plus k (place_count (view c.in-Some.pair.now.1))) c.place_after.ensures in
+    let ps = pairs_view c.args.pairs.now in
     record {
-      within = omega (arith, c.loop-pair.invariant.within, fate.1);
-      comes = pair_sorted l (sorting_of es c.args.base c.loop-pair.place c.in-Some.pair.now (pairs_view c.in-Some.others.now) (tally_view c.loop-pair.tally)) c.in-Ok-pair_fate.fate c.place_after-place.result (tally_view c.tally_pair.new.tally) c.args.means.now.left c.loop-pair.means.left (c.loop-pair.means.left - (length c.args.entries.now + 1)) c.pair_fate.new.means.left place c.tally_pair.ensures here c.loop-pair.invariant.within (omega (arith, as_many_entries c.args.entries.now, c.if-means-tried.false)) fate;
+      within = (omega arith, omega arith);
+      none = refl;
+      comes = rw (c.plus-place.ensures, c.in-Ok.ensures) (begins l (M.next_pair es c.args.base (M.plus c.args.base 1) ps (M.fresh es)) c.args.means.now.left);
+      known = (0, omega arith, rw (c.plus-place.ensures, c.in-Ok.ensures) (no_pair_told l es c.args.base ps c.args.means.now.left));
     }
+
+pub tally_pairs-returns-in_err-fate-clause-comes : goal.tally_pairs-returns-in_err-fate-clause-comes
+tally_pairs-returns-in_err-fate-clause-comes t c =
+    let l = language_of c.args.table.now in
+    let es = entries_view c.args.entries.now in
+    let here = rw c.in-Some.ensures.cases.0 at c.loop-pair.invariant.comes in
+    let e = err_from_is_err_and c.from_residual.result c.from_residual.ensures.1 in
+    rw (e.1 ∙ ap Err e.2) (pair_stops l es c.args.base c.loop-pair.place c.in-Some.pair.now (pairs_view c.in-Some.others.now) (pairs_view c.args.pairs.now) (tally_view c.loop-pair.tallied.tally) c.loop-pair.tallied _ c.args.means.now.left c.loop-pair.means.left (c.loop-pair.means.left - (length c.args.entries.now + 1)) c.pair_fate.new.means.left here (omega (arith, c.loop-pair.invariant.within)) (omega (arith, as_many_entries c.args.entries.now, c.if-means-tried.false)) c.in_err-fate.ensures)
+
+pub tally_pairs-loop-pair-preserved : goal.tally_pairs-loop-pair-preserved
+tally_pairs-loop-pair-preserved t c =
+    let l = language_of c.args.table.now in
+    let es = entries_view c.args.entries.now in
+    let both = c.in-Some.pair.now in
+    let rest = pairs_view c.in-Some.others.now in
+    let tally = tally_view c.loop-pair.tallied.tally in
+    let tried = c.loop-pair.means.left - (length c.args.entries.now + 1) in
+    let here = rw c.in-Some.ensures.cases.0 at c.loop-pair.invariant.comes in
+    let known = rw c.in-Some.ensures.cases.0 at c.loop-pair.invariant.known in
+    let place = c.place_after-place.ensures ∙ ap (λ k. M.plus k (place_count (view both.1))) c.place_after.ensures in
+    let asked : (c.args.means.now.left - c.loop-pair.unasked) + (tried - c.pair_fate.new.means.left) ≡ c.args.means.now.left - (c.loop-pair.unasked - (tried - c.pair_fate.new.means.left)) = omega (arith, c.loop-pair.invariant.within, c.in_ok-fate.ensures.1, c.if-means-tried.false) in
+    record {
+      within = (omega (arith, c.loop-pair.invariant.within, c.in_ok-fate.ensures.1, c.if-means-tried.false), omega (arith, c.loop-pair.invariant.within));
+      none = c.loop-pair.invariant.none;
+      comes = rw (place, c.tally_pair.ensures) (pair_sorted l es c.args.base c.loop-pair.place both rest (pairs_view c.args.pairs.now) tally c.in_ok-fate.fate c.args.means.now.left c.loop-pair.means.left tried c.pair_fate.new.means.left here (omega (arith, c.loop-pair.invariant.within)) (omega (arith, as_many_entries c.args.entries.now, c.if-means-tried.false)) c.in_ok-fate.ensures);
+      known = rw (c.told_with-told.ensures, place, c.tally_pair.ensures, sym asked) (pair_told l es c.args.base c.loop-pair.place both rest (pairs_view c.args.pairs.now) tally (c.args.means.now.left - c.loop-pair.unasked) (tried - c.pair_fate.new.means.left) (pairs_len (pairs_view c.args.pairs.now)) c.loop-pair.told c.in_ok-fate.fate (length c.args.entries.now) (as_many_entries c.args.entries.now) known c.in_ok-fate.ensures.0);
+    }
+
+pub tally_pairs-returns-clause-known : goal.tally_pairs-returns-clause-known
+tally_pairs-returns-clause-known t c = all_told (language_of c.args.table.now) (entries_view c.args.entries.now) c.args.base (c.args.means.now.left - c.loop-pair.unasked) (pairs_len (pairs_view c.args.pairs.now)) c.loop-pair.place (pairs_view c.args.pairs.now) (tally_view c.loop-pair.tallied.tally) c.loop-pair.told (rw (none_left _ c.in_default-split_first.ensures.cases) at c.loop-pair.invariant.known)
+
+pub pair_fate-loop-entry-init : goal.pair_fate-loop-entry-init
+pair_fate-loop-entry-init t c = record {
+  within = omega arith;
+  comes = none_tried (language_of c.args.table.now) c.args.place c.args.pair.now (entries_view c.args.entries.now) c.args.means.now.left;
+}
 
 pub pair_fate-loop-entry-preserved-in-No : goal.pair_fate-loop-entry-preserved-in-No
 pair_fate-loop-entry-preserved-in-No t c = record {
   within = omega (arith, c.loop-entry.invariant.within, c.in-No.ensures.1);
-  comes = λ all base rest tally.
-      let l = language_of c.args.table.now in
-      let s = sorting_of all base c.args.place c.args.pair.now rest tally in
-      let here = rw c.in-Some.ensures.cases.0 at (c.loop-entry.invariant.comes all base rest tally) in
-      goes_on l (M.InKey (entry_view c.in-Some.entry.now) (entries_view c.in-Some.others.now) s) c.args.means.now.left c.loop-entry.means.left c.type_says_here.new.means.left here c.loop-entry.invariant.within c.in-No.ensures;
+  comes = other_key_next (language_of c.args.table.now) c.args.place c.args.pair.now (entries_view c.args.entries.now) (entry_view c.in-Some.entry.now) (entries_view c.in-Some.others.now) c.args.means.now.left c.loop-entry.means.left (rw c.in-Some.ensures.cases.0 at c.loop-entry.invariant.comes) c.loop-entry.invariant.within c.in-No.ensures;
 }
-
-pub pair_fate-returns-in-Yes-type_says_here : goal.pair_fate-returns-in-Yes-type_says_here
-pair_fate-returns-in-Yes-type_says_here t c = λ all base rest tally.
-    let l = language_of c.args.table.now in
-    let s = sorting_of all base c.args.place c.args.pair.now rest tally in
-    let here = rw c.in-Some.ensures.cases.0 at (c.loop-entry.invariant.comes all base rest tally) in
-    pair_taken l (entry_view c.in-Some.entry.now) (entries_view c.in-Some.others.now) s (length c.in-Some.others.now) c.args.means.now.left c.loop-entry.means.left c.type_says_here.new.means.left c.type_says_here-in-Some.new.means.left (sym (as_many_entries c.in-Some.others.now)) here c.loop-entry.invariant.within c.in-Yes.ensures (rw c.place_after-value_place.ensures at c.in-Yes-type_says_here.ensures)
-
-pub pair_fate-returns-then-entry : goal.pair_fate-returns-then-entry
-pair_fate-returns-then-entry t c = λ all base rest tally.
-    let l = language_of c.args.table.now in
-    let s = sorting_of all base c.args.place c.args.pair.now rest tally in
-    let here = rw c.in-Some.ensures.cases.0 at (c.loop-entry.invariant.comes all base rest tally) in
-    pair_kept l (entry_view c.in-Some.entry.now) (entries_view c.in-Some.others.now) s (length c.in-Some.others.now) c.in-No-type_says_here.far c.args.means.now.left c.loop-entry.means.left c.type_says_here.new.means.left c.type_says_here-in-Some.new.means.left (sym (as_many_entries c.in-Some.others.now)) c.if-entry.true here c.loop-entry.invariant.within c.in-Yes.ensures (rw c.place_after-value_place.ensures at c.in-No-type_says_here.ensures)
 
 pub pair_fate-loop-entry-preserved : goal.pair_fate-loop-entry-preserved
 pair_fate-loop-entry-preserved t c = record {
   within = omega (arith, c.loop-entry.invariant.within, c.in-Yes.ensures.1, c.in-No-type_says_here.ensures.1);
-  comes = λ all base rest tally.
-      let l = language_of c.args.table.now in
-      let s = sorting_of all base c.args.place c.args.pair.now rest tally in
-      let here = rw c.in-Some.ensures.cases.0 at (c.loop-entry.invariant.comes all base rest tally) in
-      pair_handed_on l (entry_view c.in-Some.entry.now) (entries_view c.in-Some.others.now) s c.args.means.now.left c.loop-entry.means.left c.type_says_here.new.means.left c.type_says_here-in-Some.new.means.left c.if-entry.false here c.loop-entry.invariant.within c.in-Yes.ensures (rw c.place_after-value_place.ensures at c.in-No-type_says_here.ensures);
+  comes = other_value_next (language_of c.args.table.now) c.args.place c.args.pair.now (entries_view c.args.entries.now) (entry_view c.in-Some.entry.now) (entries_view c.in-Some.others.now) c.args.means.now.left c.loop-entry.means.left (rw c.in-Some.ensures.cases.0 at c.loop-entry.invariant.comes) c.loop-entry.invariant.within c.if-entry.false c.in-Yes.ensures (rw c.place_after-value_place.ensures at c.in-No-type_says_here.ensures);
 }
 
-pub pair_fate-returns-in-Spent-type_says_here : goal.pair_fate-returns-in-Spent-type_says_here
-pair_fate-returns-in-Spent-type_says_here t c = λ all base rest tally.
-    let l = language_of c.args.table.now in
-    let s = sorting_of all base c.args.place c.args.pair.now rest tally in
-    let here = rw c.in-Some.ensures.cases.0 at (c.loop-entry.invariant.comes all base rest tally) in
-    value_stops l (entries_view c.args.entries.now) (entry_view c.in-Some.entry.now) (entries_view c.in-Some.others.now) s Spent c.args.means.now.left c.loop-entry.means.left c.type_says_here.new.means.left c.type_says_here-in-Some.new.means.left here c.loop-entry.invariant.within c.in-Yes.ensures (subst (λ p. Says l (M.OfType c.in-Some.entry.now.value_type p (view c.args.pair.now.1)) c.type_says_here.new.means.left c.type_says_here-in-Some.new.means.left (Stopped Spent)) c.place_after-value_place.ensures c.in-Spent-type_says_here.ensures)
+pub pair_fate-returns-in-Yes-type_says_here : goal.pair_fate-returns-in-Yes-type_says_here
+pair_fate-returns-in-Yes-type_says_here t c = (its_value (language_of c.args.table.now) c.args.place c.args.pair.now (entries_view c.args.entries.now) (entry_view c.in-Some.entry.now) (entries_view c.in-Some.others.now) c.args.means.now.left c.loop-entry.means.left (rw c.in-Some.ensures.cases.0 at c.loop-entry.invariant.comes) c.loop-entry.invariant.within (sym (as_many_entries c.in-Some.others.now)) c.in-Yes.ensures (rw c.place_after-value_place.ensures at c.in-Yes-type_says_here.ensures), omega (arith, c.loop-entry.invariant.within, c.in-Yes.ensures.1, c.in-Yes-type_says_here.ensures.1))
 
-pub group_form_does-returns-in-Some : goal.group_form_does-returns-in-Some
-group_form_does-returns-in-Some t c = rw (c.in-Entry.is, c.in-Some.ensures.cases.0, c.entry_done.ensures) (entry_ends (language_of c.args.table.now) c.in-Entry.node c.args.base c.args.place (view c.in-Some.item.now) (values c.in-Some.rest.now) c.args.means.now.left c.type_says_here-said.new.means.left _ c.type_says_here-said.ensures)
+pub pair_fate-returns-then-entry : goal.pair_fate-returns-then-entry
+pair_fate-returns-then-entry t c = (kept (language_of c.args.table.now) c.args.place c.args.pair.now (entries_view c.args.entries.now) (entry_view c.in-Some.entry.now) (entries_view c.in-Some.others.now) c.args.means.now.left c.loop-entry.means.left (rw c.in-Some.ensures.cases.0 at c.loop-entry.invariant.comes) c.loop-entry.invariant.within (sym (as_many_entries c.in-Some.others.now)) c.if-entry.true c.in-Yes.ensures (rw c.place_after-value_place.ensures at c.in-No-type_says_here.ensures), omega (arith, c.loop-entry.invariant.within, c.in-Yes.ensures.1, c.in-No-type_says_here.ensures.1))
+
+pub pair_fate-returns-in-Spent : goal.pair_fate-returns-in-Spent
+pair_fate-returns-in-Spent t c = key_stops (language_of c.args.table.now) c.args.place c.args.pair.now (entries_view c.args.entries.now) (entry_view c.in-Some.entry.now) (entries_view c.in-Some.others.now) c.args.means.now.left c.loop-entry.means.left (rw c.in-Some.ensures.cases.0 at c.loop-entry.invariant.comes) c.loop-entry.invariant.within c.type_says_here.new.means.left Spent c.in-Spent.ensures
+
+pub pair_fate-returns-in-Spent-type_says_here : goal.pair_fate-returns-in-Spent-type_says_here
+pair_fate-returns-in-Spent-type_says_here t c = value_stops (language_of c.args.table.now) c.args.place c.args.pair.now (entries_view c.args.entries.now) (entry_view c.in-Some.entry.now) (entries_view c.in-Some.others.now) c.args.means.now.left c.loop-entry.means.left (rw c.in-Some.ensures.cases.0 at c.loop-entry.invariant.comes) c.loop-entry.invariant.within c.type_says_here-in-Some.new.means.left Spent c.in-Yes.ensures (rw c.place_after-value_place.ensures at c.in-Spent-type_says_here.ensures)
+
+pub entry_does-returns-in-Some : goal.entry_does-returns-in-Some
+entry_does-returns-in-Some t c = rw (c.in-Some.ensures.cases.0, c.entry_done.ensures) (entry_ends (language_of c.args.table.now) c.args.node c.args.base c.args.place (view c.in-Some.item.now) (values c.in-Some.rest.now) c.args.means.now.left c.type_says_here-said.new.means.left _ c.type_says_here-said.ensures)
+
+pub group_does_here-returns-in-Some : goal.group_does_here-returns-in-Some
+group_does_here-returns-in-Some t c =
+    let l = language_of c.args.table.now in
+    group_on l c.args.base c.args.place (values c.args.items.now) c.args.means.now.left c.in-Some.left c.entry_does.new.means.left _ (λ base q xs. itself l (M.OfGroup c.args.group base q xs)) (rw c.in-Some-Entry.field-0-is at c.in-Some-Entry.ensures.found) (omega (arith, c.in-Some.ensures)) c.entry_does.ensures
+
+pub group_form_does-returns-in-Entry : goal.group_form_does-returns-in-Entry
+group_form_does-returns-in-Entry t c = rw c.in-Entry.is c.entry_does.ensures
 
 pub group_form_does-returns-in-Ref : goal.group_form_does-returns-in-Ref
 group_form_does-returns-in-Ref t c = rw c.in-Ref.is (passes_on (language_of c.args.table.now) (M.OfGroup c.in-Ref.to c.args.base c.args.place (values c.args.items.now)) c.args.means.now.left c.group_does.new.means.left (done_view c.group_does.result) c.group_does.ensures)
@@ -217,7 +246,7 @@ parts_do-loop-part-preserved t c =
     let e : c.max.result ≡ max c.loop-part.left.far c.in-Takes.far = omega (arith, c.max.ensures) in
     record {
       within = omega (arith, c.loop-part.invariant.within, told.1);
-      comes = rw e (goes_on l (M.InSequence c.in-Some.others.now c.loop-part.left.base c.loop-part.left.far) c.args.means.now.left c.loop-part.means.left c.group_does.new.means.left here c.loop-part.invariant.within told);
+      comes = rw e (goes_on l (M.InSequence c.in-Some.others.now c.loop-part.left.base c.loop-part.left.far) c.args.means.now.left c.loop-part.means.left c.group_does_here.new.means.left here c.loop-part.invariant.within told);
     }
 
 pub parts_do-returns-in-Fails : goal.parts_do-returns-in-Fails
@@ -226,7 +255,7 @@ parts_do-returns-in-Fails t c =
     let here = rw c.in-Some.ensures.cases.0 at c.loop-part.invariant.comes in
     let told = rw c.in-Fails.is at c.in_ok-items.ensures in
     let e : c.max-in-Fails.result ≡ max c.loop-part.left.far c.in-Fails.far = omega (arith, c.max-in-Fails.ensures) in
-    rw e (goes_on l (M.InSequence c.in-Some.others.now c.loop-part.left.base c.loop-part.left.far) c.args.means.now.left c.loop-part.means.left c.group_does.new.means.left here c.loop-part.invariant.within told, omega (arith, c.loop-part.invariant.within, told.1))
+    rw e (goes_on l (M.InSequence c.in-Some.others.now c.loop-part.left.base c.loop-part.left.far) c.args.means.now.left c.loop-part.means.left c.group_does_here.new.means.left here c.loop-part.invariant.within told, omega (arith, c.loop-part.invariant.within, told.1))
 
 pub alternatives_do-returns-in-Takes : goal.alternatives_do-returns-in-Takes
 alternatives_do-returns-in-Takes t c =

@@ -1,15 +1,15 @@
-use Rattle.std.proofs.Common.{◌≡◌, ℕ, ◌+◌, ◌-◌, ◌*◌, ◌≤◌, List, length}
-use Rattle.cbor_data.specs.Value.{Pairs}
+use Rattle.std.proofs.Common.{◌≡◌, ℕ, ◌+◌, ◌-◌, ◌*◌, ◌≤◌, None, length}
+use Rattle.std.specs.Prelude.{IfSome}
+use Rattle.cbor_data.specs.Value.{pairs_len}
 use Rattle.cbor_item.specs.View.{pairs_view, view}
-use Rattle.cddl_meaning.specs.Forms as F
 use Rattle.cddl_meaning.specs.Judges.{Reply, Fails}
 use Rattle.cddl_meaning.specs.Moves as M
 use Rattle.cddl_table.specs.Language.{language_of}
 use Rattle.cddl_table.specs.Nodes.{alternatives_view, entries_view}
-use Rattle.cddl_table.specs.declared.nodes.TypeId.{TypeId}
-use Rattle.cddl_match.specs.Ahead.{ComesTo, Opens}
+use Rattle.cddl_match.specs.Ahead.{ComesTo}
+use Rattle.cddl_match.specs.Tellings.{AreTold, HandsOn, IsTallied}
 use Rattle.cddl_match.specs.Views.{parts_move, rounds_move, tally_view, values}
-use Rattle.cddl_match.specs.Within.{Replied, said_view, sorting_of}
+use Rattle.cddl_match.specs.Within.{Replied, said_view}
 use Rattle.cddl_match.proofs.saying.+saying.Given as goal
 
 -- Each loop: what was asked so far comes to what is left, in the steps that were taken.
@@ -22,20 +22,23 @@ invariant-choice_says-loop-member l = record {
 
 abbrev pub invariant-map_says-loop-entries : goal.invariant-map_says-loop-entries
 invariant-map_says-loop-entries l = record {
+  known : IsTallied (language_of l.fn.table) l.fn.base (pairs_view l.fn.pairs) l.tallied;
   within : l.means.left ≤ l.fn.means.left;
   comes : (r : Reply) × (said_view l.sofar ≡ Replied r) × ComesTo (language_of l.fn.table) (M.next_way (alternatives_view l.fn.alternatives) l.fn.base (pairs_view l.fn.pairs) (Fails l.fn.base)) (M.next_way (alternatives_view l.left) l.fn.base (pairs_view l.fn.pairs) r) (l.fn.means.left - l.means.left);
 }
 
-abbrev pub invariant-alternative_says-loop-pair : goal.invariant-alternative_says-loop-pair
-invariant-alternative_says-loop-pair l = record {
-  within : l.means.left ≤ l.fn.means.left;
-  comes : Opens (language_of l.fn.table) (M.OfAlternative (entries_view l.fn.entries) l.fn.base (pairs_view l.fn.pairs)) (M.next_pair (entries_view l.fn.entries) l.fn.base l.place (pairs_view l.left) (tally_view l.tally)) (l.fn.means.left - l.means.left);
+abbrev pub invariant-tally_pairs-loop-pair : goal.invariant-tally_pairs-loop-pair
+invariant-tally_pairs-loop-pair l = record {
+  within : (l.means.left ≤ l.unasked) × (l.unasked ≤ l.fn.means.left);
+  none : l.tallied.told ≡ None;
+  comes : ComesTo (language_of l.fn.table) (M.next_pair (entries_view l.fn.entries) l.fn.base (M.plus l.fn.base 1) (pairs_view l.fn.pairs) (M.fresh (entries_view l.fn.entries))) (M.next_pair (entries_view l.fn.entries) l.fn.base l.place (pairs_view l.left) (tally_view l.tallied.tally)) (l.fn.means.left - l.means.left);
+  known : IfSome l.told (λ told. (tried : ℕ) × (tried + pairs_len (pairs_view l.left) ≡ pairs_len (pairs_view l.fn.pairs)) × AreTold (language_of l.fn.table) (entries_view l.fn.entries) l.fn.base (pairs_view l.fn.pairs) l.place (pairs_view l.left) (tally_view l.tallied.tally) told (l.fn.means.left - l.unasked) tried);
 }
 
 abbrev pub invariant-pair_fate-loop-entry : goal.invariant-pair_fate-loop-entry
 invariant-pair_fate-loop-entry l = record {
   within : l.means.left ≤ l.fn.means.left;
-  comes : (all : List (F.MapEntry TypeId)) (base : ℕ) (rest : Pairs) (tally : M.Tally) → ComesTo (language_of l.fn.table) (M.next_entry (entries_view l.fn.entries) (sorting_of all base l.fn.place l.fn.pair rest tally)) (M.next_entry (entries_view l.left) (sorting_of all base l.fn.place l.fn.pair rest tally)) (l.fn.means.left - l.means.left);
+  comes : HandsOn (language_of l.fn.table) l.fn.place l.fn.pair (entries_view l.fn.entries) (entries_view l.left) (l.fn.means.left - l.means.left);
 }
 
 abbrev pub invariant-parts_do-loop-part : goal.invariant-parts_do-loop-part
@@ -62,8 +65,8 @@ decreases-choice_says-loop-member l = length l.left
 abbrev pub decreases-map_says-loop-entries : goal.decreases-map_says-loop-entries
 decreases-map_says-loop-entries l = length l.left
 
-abbrev pub decreases-alternative_says-loop-pair : goal.decreases-alternative_says-loop-pair
-decreases-alternative_says-loop-pair l = length l.left
+abbrev pub decreases-tally_pairs-loop-pair : goal.decreases-tally_pairs-loop-pair
+decreases-tally_pairs-loop-pair l = length l.left
 
 abbrev pub decreases-pair_fate-loop-entry : goal.decreases-pair_fate-loop-entry
 decreases-pair_fate-loop-entry l = length l.left
@@ -85,6 +88,12 @@ decreases-type_says l = 8 * l.depth + 1
 
 abbrev pub decreases-type_says_here : goal.decreases-type_says_here
 decreases-type_says_here l = 8 * l.depth
+
+abbrev pub decreases-group_does_here : goal.decreases-group_does_here
+decreases-group_does_here l = 8 * l.depth + 2
+
+abbrev pub decreases-entry_does : goal.decreases-entry_does
+decreases-entry_does l = 8 * l.depth + 1
 
 abbrev pub decreases-group_does : goal.decreases-group_does
 decreases-group_does l = 8 * l.depth
@@ -108,16 +117,19 @@ abbrev pub decreases-apart_says : goal.decreases-apart_says
 decreases-apart_says l = 8 * l.depth + 2
 
 abbrev pub decreases-map_says : goal.decreases-map_says
-decreases-map_says l = 8 * l.depth + 4
+decreases-map_says l = 8 * l.depth + 5
 
 abbrev pub decreases-alternative_says : goal.decreases-alternative_says
-decreases-alternative_says l = 8 * l.depth + 3
+decreases-alternative_says l = 8 * l.depth + 4
+
+abbrev pub decreases-tally_pairs : goal.decreases-tally_pairs
+decreases-tally_pairs l = 8 * l.depth + 3
 
 abbrev pub decreases-pair_fate : goal.decreases-pair_fate
 decreases-pair_fate l = 8 * l.depth + 2
 
 abbrev pub decreases-parts_do : goal.decreases-parts_do
-decreases-parts_do l = 8 * l.depth + 1
+decreases-parts_do l = 8 * l.depth + 3
 
 abbrev pub decreases-alternatives_do : goal.decreases-alternatives_do
 decreases-alternatives_do l = 8 * l.depth + 1

@@ -32,4 +32,4 @@ one_tells-returns n c =
 pub type_tells-returns : goal.type_tells-returns
 type_tells-returns n c =
     let l = language_of c.args.table.now in
-    (told_behind l (subject_view c.args.subject) c.in_ok-says.says c.type_behind-passed.ensures c.in_ok-node.ensures.found c.in_ok-says.ensures.0 (omega (arith, c.from-first.ensures)), omega (arith, c.in_ok-says.ensures.1, c.from-first.ensures))
+    (told_behind l (subject_view c.args.subject) c.in_ok-says.says c.type_behind-behind.ensures.passed (rw c.in_ok-behind.was at c.type_behind-behind.ensures.form) c.in_ok-says.ensures.0 (omega (arith, c.from-first.ensures)), omega (arith, c.in_ok-says.ensures.1, c.from-first.ensures))

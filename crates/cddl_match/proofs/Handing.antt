@@ -1,0 +1,105 @@
+-- What the entries of an alternative do with a pair, one after the other.
+use Rattle.std.proofs.Common.{◌≡◌, ℕ, ◌-◌, ◌≤◌, ◌++◌, length, List, [], ◌∷◌, true, false, refl, sym, subst, ◌∙◌, append_assoc, arith}
+use Rattle.std.proofs.lemmas.List.{append-nil, length-append}
+use Rattle.std.specs.Prelude.{Err}
+use Rattle.cbor_data.specs.Value.{Pairs, place_count}
+use Rattle.cbor_item.specs.View.{view}
+use Rattle.cbor_item.specs.declared.item.Item.{Item}
+use Rattle.cddl_meaning.specs.Forms as F
+use Rattle.cddl_meaning.specs.Forms.{Language}
+use Rattle.cddl_meaning.specs.Judges as J
+use Rattle.cddl_meaning.specs.Judges.{Takes, Fails}
+use Rattle.cddl_meaning.specs.Moves as M
+use Rattle.cddl_meaning.specs.Moves.{OfType}
+use Rattle.cddl_match.specs.Ahead.{ComesTo}
+use Rattle.cddl_match.specs.Tellings.{Becomes, BelongsBy, HandsOn, Sorts, sorting_of}
+use Rattle.cddl_match.specs.Views.{fate_view}
+use Rattle.cddl_match.specs.Within.{Replied, Stopped, Says}
+use Rattle.cddl_match.specs.declared.questions.Fate.{Fate}
+use Rattle.cddl_match.specs.declared.questions.Fate.TheVariants as T
+use Rattle.cddl_match.specs.declared.questions.Stop.{Stop}
+use Rattle.cddl_match.specs.declared.questions.Stop.TheVariants.{Spent, NoMemory}
+use Rattle.cddl_match.proofs.Outcomes.{asks_stopped, begins}
+use Rattle.cddl_match.proofs.Sayings.{ends_so, goes_on, key_yes, pair_taken, pair_kept, pair_handed_on}
+
+module _ {N G : Type 0} (l : Language N G) where
+  -- no entry was tried yet
+  pub none_tried : (place : ℕ) (both : Item × Item) (es : List (F.MapEntry N)) (steps : ℕ) → HandsOn l place both es es (steps - steps)
+  none_tried place both es steps = record {
+    first = [];
+    parts = refl;
+    comes = λ xs all base rest tally. begins l (M.next_entry xs (sorting_of all base place both rest tally)) steps;
+  }
+
+  module _ (place : ℕ) (both : Item × Item) (es : List (F.MapEntry N)) (e : F.MapEntry N) (others : List (F.MapEntry N)) (steps mid : ℕ) (h : HandsOn l place both es (e ∷ others) (steps - mid)) (b : mid ≤ steps) where
+    abbrev front : List (F.MapEntry N)
+    front = h.first ++ e ∷ []
+
+    in_front : (xs : List (F.MapEntry N)) → front ++ xs ≡ h.first ++ (e ∷ xs)
+    in_front xs = append_assoc h.first (e ∷ []) xs
+
+    -- its key is none of the entry's
+    pub other_key_next : {far left : ℕ} → Says l (OfType e.key_type place (view both.0)) mid left (Replied (Fails far)) → HandsOn l place both es others (steps - left)
+    other_key_next {left = left} k = record {
+      first = front;
+      parts = h.parts ∙ sym (in_front others);
+      comes = λ xs all base rest tally.
+          let s = sorting_of all base place both rest tally in
+          rw (in_front xs) (goes_on l (M.InKey e xs s) steps mid left (h.comes (e ∷ xs) all base rest tally) b k);
+    }
+
+    -- its key is the entry's, and it has another value, which the entry lets pass
+    pub other_value_next : {next far some left : ℕ} → e.cuts ≡ false → Says l (OfType e.key_type place (view both.0)) mid some (Replied (Takes [] next 0)) → Says l (OfType e.value_type (M.plus place (place_count (view both.0))) (view both.1)) some left (Replied (Fails far)) → HandsOn l place both es others (steps - left)
+    other_value_next {some = some} {left = left} c k v = record {
+      first = front;
+      parts = h.parts ∙ sym (in_front others);
+      comes = λ xs all base rest tally.
+          let s = sorting_of all base place both rest tally in
+          rw (in_front xs) (pair_handed_on l e xs s steps mid some left c (h.comes (e ∷ xs) all base rest tally) b k v);
+    }
+
+    belongs : {after : ℕ} (left : ℕ) {answer : J.Answer} → after ≡ length others → ((xs all : List (F.MapEntry N)) (base : ℕ) (rest : Pairs) (tally : M.Tally) → ComesTo l (M.next_entry (h.first ++ (e ∷ xs)) (sorting_of all base place both rest tally)) (M.sorted (sorting_of all base place both rest tally) (J.BelongsTo (length xs) answer)) (steps - left)) → BelongsBy l place both es after answer (steps - left)
+    belongs left i f = record {
+      first = front;
+      others = others;
+      parts = h.parts ∙ sym (in_front others);
+      some = omega (arith, length-append h.first (e ∷ []));
+      many = sym i;
+      comes = λ xs all base rest tally. rw (in_front xs) (f xs all base rest tally);
+    }
+
+    pub its_value : {next later after some left : ℕ} → after ≡ length others → Says l (OfType e.key_type place (view both.0)) mid some (Replied (Takes [] next 0)) → Says l (OfType e.value_type (M.plus place (place_count (view both.0))) (view both.1)) some left (Replied (Takes [] later 0)) → BelongsBy l place both es after J.Yes (steps - left)
+    its_value {some = some} {left = left} i k v = belongs left i (λ xs all base rest tally. (pair_taken l e xs (sorting_of all base place both rest tally) (length xs) steps mid some left refl (h.comes (e ∷ xs) all base rest tally) b k v).0)
+
+    pub kept : {next far after some left : ℕ} → after ≡ length others → e.cuts ≡ true → Says l (OfType e.key_type place (view both.0)) mid some (Replied (Takes [] next 0)) → Says l (OfType e.value_type (M.plus place (place_count (view both.0))) (view both.1)) some left (Replied (Fails far)) → BelongsBy l place both es after (J.No far) (steps - left)
+    kept {far = far} {some = some} {left = left} i c k v = belongs left i (λ xs all base rest tally. (pair_kept l e xs (sorting_of all base place both rest tally) (length xs) far steps mid some left refl c (h.comes (e ∷ xs) all base rest tally) b k v).0)
+
+    here : (all : List (F.MapEntry N)) (base : ℕ) (rest : Pairs) (tally : M.Tally) → ComesTo l (M.next_entry es (sorting_of all base place both rest tally)) (M.next_entry (e ∷ others) (sorting_of all base place both rest tally)) (steps - mid)
+    here all base rest tally = subst (λ xs. ComesTo l (M.next_entry xs (sorting_of all base place both rest tally)) (M.next_entry (e ∷ others) (sorting_of all base place both rest tally)) (steps - mid)) (sym h.parts) (h.comes (e ∷ others) all base rest tally)
+
+    pub key_stops : (left : ℕ) (stop : Stop) → Says l (OfType e.key_type place (view both.0)) mid left (Stopped stop) → Sorts l place both es steps left (Err stop)
+    key_stops left Spent k = λ all base rest tally. ends_so l steps mid left (Stopped Spent) (here all base rest tally) b (asks_stopped l (OfType e.key_type place (view both.0)) mid left (M.InKey e others (sorting_of all base place both rest tally)) Spent k)
+    key_stops left NoMemory k = tt
+
+    pub value_stops : {next some : ℕ} (left : ℕ) (stop : Stop) → Says l (OfType e.key_type place (view both.0)) mid some (Replied (Takes [] next 0)) → Says l (OfType e.value_type (M.plus place (place_count (view both.0))) (view both.1)) some left (Stopped stop) → Sorts l place both es steps left (Err stop)
+    value_stops {some = some} left Spent k v = λ all base rest tally.
+        let s = sorting_of all base place both rest tally in
+        let x = key_yes l e others s steps mid some (here all base rest tally) b k in
+        ends_so l steps some left (Stopped Spent) x.0 x.1 (asks_stopped l (OfType e.value_type s.value_place s.held) some left (M.InValue e others s) Spent v)
+    value_stops left NoMemory k v = tt
+
+  -- It belongs to no entry.
+  pub is_stray : (place : ℕ) (both : Item × Item) (es : List (F.MapEntry N)) (k : ℕ) → HandsOn l place both es [] k → Becomes l place both es (T.Stray place) k
+  is_stray place both es k h = λ all base rest tally. subst (λ xs. ComesTo l (M.next_entry xs (sorting_of all base place both rest tally)) (M.sorted (sorting_of all base place both rest tally) (J.Stray place)) k) (append-nil h.first ∙ sym (h.parts ∙ append-nil h.first)) (h.comes [] all base rest tally)
+
+  -- What becomes of a pair becomes of it whatever else there is.
+  pub becomes_so : (place : ℕ) (both : Item × Item) (es : List (F.MapEntry N)) (fate : Fate) (k : ℕ) → Becomes l place both es fate k → (all : List (F.MapEntry N)) (base : ℕ) (rest : Pairs) (tally : M.Tally) → ComesTo l (M.next_entry es (sorting_of all base place both rest tally)) (M.sorted (sorting_of all base place both rest tally) (fate_view fate)) k
+  becomes_so place both es (T.Stray q) k h all base rest tally = h all base rest tally
+  becomes_so place both es (T.Matches after) k h all base rest tally = by_parts h all base rest tally
+    where
+      by_parts : BelongsBy l place both es after J.Yes k → (all : List (F.MapEntry N)) (base : ℕ) (rest : Pairs) (tally : M.Tally) → ComesTo l (M.next_entry es (sorting_of all base place both rest tally)) (M.sorted (sorting_of all base place both rest tally) (J.BelongsTo after J.Yes)) k
+      by_parts b all base rest tally = rw (b.parts, sym b.many) (b.comes b.others all base rest tally)
+  becomes_so place both es (T.Fails after far) k h all base rest tally = by_parts h all base rest tally
+    where
+      by_parts : BelongsBy l place both es after (J.No far) k → (all : List (F.MapEntry N)) (base : ℕ) (rest : Pairs) (tally : M.Tally) → ComesTo l (M.next_entry es (sorting_of all base place both rest tally)) (M.sorted (sorting_of all base place both rest tally) (J.BelongsTo after (J.No far))) k
+      by_parts b all base rest tally = rw (b.parts, sym b.many) (b.comes b.others all base rest tally)

@@ -1,0 +1,103 @@
+-- What pairs come to by the first entries of an alternative: so they do in each alternative that begins with these.
+use Rattle.std.specs.Prelude.{◌≡◌, ℕ, suc, ◌+◌, ◌-◌, ◌*◌, ◌<◌, ◌≤◌, ◌++◌, max, length, take, drop, List, Option, Some, None, IfSome, Result, Ok, Err}
+use Rattle.cbor_data.specs.Value.{Pairs, no_pairs, pairs_len, place_count}
+use Rattle.cbor_item.specs.View.{view}
+use Rattle.cbor_item.specs.declared.item.Item.{Item}
+use Rattle.cddl_meaning.specs.Forms as F
+use Rattle.cddl_meaning.specs.Forms.{Language}
+use Rattle.cddl_meaning.specs.Judges as J
+use Rattle.cddl_meaning.specs.Moves as M
+use Rattle.cddl_meaning.specs.Moves.{LeadsTo}
+use Rattle.cddl_table.specs.Nodes.{entries_view}
+use Rattle.cddl_table.specs.declared.nodes.GroupId.{GroupId}
+use Rattle.cddl_table.specs.declared.nodes.MapEntry.{MapEntry}
+use Rattle.cddl_table.specs.declared.nodes.TypeId.{TypeId}
+use Rattle.cddl_match.specs.Ahead.{ComesTo}
+use Rattle.cddl_match.specs.Views.{tally_view}
+use Rattle.cddl_match.specs.declared.questions.Fate.{Fate}
+use Rattle.cddl_match.specs.declared.questions.Fate.TheVariants as T
+use Rattle.cddl_match.specs.declared.questions.Stop.{Stop}
+use Rattle.cddl_match.specs.declared.questions.Stop.TheVariants.{Spent, NoMemory}
+use Rattle.cddl_match.specs.declared.tallied.Tallied.{Tallied}
+
+-- A pair of a map, its key at a place, that is sorted to the entries of an alternative.
+abbrev pub sorting_of : {N : Type 0} → List (F.MapEntry N) → (base place : ℕ) → Item × Item → Pairs → M.Tally → M.Sorting N
+sorting_of es base place pair rest tally = record {
+  entries = es;
+  base = base;
+  key_place = place;
+  key = view pair.0;
+  value_place = M.plus place (place_count (view pair.0));
+  held = view pair.1;
+  next_place = M.plus (M.plus place (place_count (view pair.0))) (place_count (view pair.1));
+  rest = rest;
+  tally = tally;
+}
+
+-- the same entries at first, so many
+abbrev pub BeginAlike : ℕ → (some others : List MapEntry) → Type 0
+BeginAlike n some others = (n ≤ length others) × (take n some ≡ take n others)
+
+-- how many of the first entries tell what becomes of each pair, with one pair more
+abbrev pub told_with : Option ℕ → Fate → ℕ → Option ℕ
+told_with (Some told) (T.Matches after) entries = Some (max told (entries - after))
+told_with (Some told) (T.Fails after far) entries = Some (max told (entries - after))
+told_with (Some told) (T.Stray place) entries = None
+told_with None fate entries = None
+
+-- the tally of pairs that belong to some of the first entries, for others behind these
+abbrev pub widened : {N : Type 0} → List ℕ → List (F.MapEntry N) → M.Tally → M.Tally
+widened counts others t = record { counts = counts ++ M.no_counts others; stray = t.stray; failing = t.failing }
+
+abbrev pub counted_again : {N : Type 0} → ℕ → List (F.MapEntry N) → M.Tally → M.Tally
+counted_again told es t = widened (take told t.counts) (drop told es) t
+
+module _ {N G : Type 0} (l : Language N G) where
+  -- The first entries have handed a pair on to those that are left, and so they do to any others, in so many questions.
+  pub record HandsOn (place : ℕ) (pair : Item × Item) (es left : List (F.MapEntry N)) (k : ℕ) : Type 0 where
+    pub first : List (F.MapEntry N)
+    pub parts : es ≡ first ++ left
+    pub comes : (xs all : List (F.MapEntry N)) (base : ℕ) (rest : Pairs) (tally : M.Tally) → ComesTo l (M.next_entry (first ++ xs) (sorting_of all base place pair rest tally)) (M.next_entry xs (sorting_of all base place pair rest tally)) k
+
+  -- A pair belongs to the last of the first entries, with so many behind it, whatever entries these are.
+  pub record BelongsBy (place : ℕ) (pair : Item × Item) (es : List (F.MapEntry N)) (after : ℕ) (answer : J.Answer) (k : ℕ) : Type 0 where
+    pub first : List (F.MapEntry N)
+    pub others : List (F.MapEntry N)
+    pub parts : es ≡ first ++ others
+    pub some : 0 < length first
+    pub many : length others ≡ after
+    pub comes : (xs all : List (F.MapEntry N)) (base : ℕ) (rest : Pairs) (tally : M.Tally) → ComesTo l (M.next_entry (first ++ xs) (sorting_of all base place pair rest tally)) (M.sorted (sorting_of all base place pair rest tally) (J.BelongsTo (length xs) answer)) k
+
+  -- This becomes of a pair that is tried with these entries, in so many questions.
+  abbrev pub Becomes : (place : ℕ) → Item × Item → List (F.MapEntry N) → Fate → ℕ → Type 0
+  Becomes place pair es (T.Matches after) k = BelongsBy place pair es after J.Yes k
+  Becomes place pair es (T.Fails after far) k = BelongsBy place pair es after (J.No far) k
+  Becomes place pair es (T.Stray q) k = (all : List (F.MapEntry N)) (base : ℕ) (rest : Pairs) (tally : M.Tally) → ComesTo l (M.next_entry es (sorting_of all base place pair rest tally)) (M.sorted (sorting_of all base place pair rest tally) (J.Stray q)) k
+
+  -- So it does within so many steps, of which so many are left then. Spent steps do not tell.
+  abbrev pub Sorts : (place : ℕ) → Item × Item → List (F.MapEntry N) → (steps left : ℕ) → Result Fate Stop → Type 0
+  Sorts place pair es steps left (Ok fate) = Becomes place pair es fate (steps - left) × (left ≤ steps)
+  Sorts place pair es steps left (Err Spent) = (all : List (F.MapEntry N)) (base : ℕ) (rest : Pairs) (tally : M.Tally) (r : J.Reply) (w : ℕ) → LeadsTo l (M.next_entry es (sorting_of all base place pair rest tally)) r w → steps < w
+  Sorts place pair es steps left (Err NoMemory) = Unit {0}
+
+  -- So many pairs of the map at a base belong to the first entries, so many, of an alternative, in so many questions; and what
+  -- they come to is the same in each alternative that begins with these.
+  pub record AreTold (es : List (F.MapEntry N)) (base : ℕ) (ps : Pairs) (next : ℕ) (left : Pairs) (tally : M.Tally) (told asked tried : ℕ) : Type 0 where
+    pub first : List (F.MapEntry N)
+    pub others : List (F.MapEntry N)
+    pub counts : List ℕ
+    pub parts : es ≡ first ++ others
+    pub many : length first ≡ told
+    pub each : length counts ≡ told
+    pub counted : tally.counts ≡ counts ++ M.no_counts others
+    pub comes : (xs : List (F.MapEntry N)) → ComesTo l (M.next_pair (first ++ xs) base (M.plus base 1) ps (M.fresh (first ++ xs))) (M.next_pair (first ++ xs) base next left (widened counts xs tally)) (asked + tried * suc (told + length xs))
+
+-- What is kept of the alternative that was asked last is so.
+abbrev pub IsTallied : Language TypeId GroupId → (base : ℕ) → Pairs → Tallied → Type 0
+IsTallied l base ps t = IfSome t.told (λ told. AreTold l (entries_view t.entries.now) base ps t.next no_pairs (tally_view t.tally) told t.asked (pairs_len ps))
+
+-- The pairs of the map at a base come to this with these entries, within so many steps, of which so many are left then.
+abbrev pub Tallies : Language TypeId GroupId → List (F.MapEntry TypeId) → (base : ℕ) → Pairs → (steps left : ℕ) → Tallied → Result Unit Stop → Type 0
+Tallies l es base ps steps left t (Ok _) = (entries_view t.entries.now ≡ es) × ComesTo l (M.next_pair es base (M.plus base 1) ps (M.fresh es)) (M.next_pair es base t.next no_pairs (tally_view t.tally)) (steps - left) × (left ≤ steps)
+Tallies l es base ps steps left t (Err Spent) = (r : J.Reply) (w : ℕ) → LeadsTo l (M.next_pair es base (M.plus base 1) ps (M.fresh es)) r w → steps < w
+Tallies l es base ps steps left t (Err NoMemory) = Unit {0}

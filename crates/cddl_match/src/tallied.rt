@@ -1,0 +1,144 @@
+//! What the pairs of a map came to in an alternative, and what follows for one that begins with the same entries.
+
+ghost use Rattle.std.specs.Prelude.{◌≡◌, ◌<◌, ◌≤◌, ◌+◌, ◌*◌, suc, length, take, None, Some, IfOk, IfSome, IsTrue, MatchOption};
+ghost use Rattle.cbor_item.specs.View.{pairs_view};
+ghost use Rattle.cddl_meaning.specs.Moves as M;
+ghost use Rattle.cddl_meaning.specs.Moves.{answer_reply, tally_says};
+ghost use Rattle.cddl_match.specs.Tellings.{BeginAlike, IsTallied, counted_again, told_with};
+ghost use Rattle.cddl_match.specs.Views.{tally_view};
+ghost use Rattle.cddl_match.specs.Within.{Replied, Says, said_view};
+ghost use Rattle.cddl_table.specs.Language.{language_of};
+ghost use Rattle.cddl_table.specs.Nodes.{entries_view};
+
+use crate::means::Means;
+use crate::questions::{Fate, Said, Tally};
+use crate::sorting::{no_tally, shown_by_tally};
+use cbor_item::Item;
+use cddl_table::{MapEntry, Table};
+use std::alloc::{AllocError, Global};
+
+/// What the pairs of a map came to with the entries of the alternative that was asked last.
+#[derive(Drop)]
+pub(crate) struct Tallied<'t> {
+    pub(crate) tally: Tally,
+    pub(crate) entries: &'t [MapEntry],
+    /// So many of the first entries tell what becomes of each pair. None where a pair belongs to no entry, or where nothing
+    /// was asked yet.
+    pub(crate) told: Option<usize>,
+    /// So many questions were asked about the pairs.
+    pub(crate) asked: u64,
+    /// The place after the pairs.
+    pub(crate) next: usize,
+}
+
+/// Nothing was asked yet. It takes no memory.
+pub(crate) fn nothing_tallied<'t>(alloc: Global) -> Tallied<'t>
+    ensures { result.told ≡ None }
+{
+    Tallied {
+        tally: no_tally(alloc),
+        entries: &[],
+        told: None,
+        asked: 0,
+        next: 0,
+    }
+}
+
+/// How many of the first of so many entries tell what becomes of each pair, with a further pair that has this fate.
+pub(crate) fn told_with(told: Option<usize>, fate: Fate, entries: usize) -> Option<usize>
+    ensures { result ≡ told_with told fate entries }
+{
+    match fate {
+        Fate::Matches { after } | Fate::Fails { after, .. } => {
+            Some(told?.max(entries.saturating_sub(after)))
+        }
+        Fate::Stray { .. } => None,
+    }
+}
+
+/// Whether the first entries, so many, are the same.
+fn begin_alike(some: &[MapEntry], others: &[MapEntry], count: usize) -> bool
+    ensures { IsTrue result → BeginAlike count some.now others.now }
+{
+    let mut same = 0;
+    while same < count {
+        match (some.get(same), others.get(same)) {
+            (Some(entry), Some(other)) if entry == other => same += 1,
+            _ => return false,
+        }
+    }
+    true
+}
+
+/// How many of the steps an alternative leaves whose first entries tell what becomes of each of so many pairs, if there are
+/// so many: it takes one itself, and one for each pair and one more for each entry of the pair's, beside the questions that
+/// are asked about the pairs.
+fn left_after(steps: u64, asked: u64, entries: usize, pairs: usize) -> Option<u64>
+    ensures { MatchOption result (steps < 1 + (asked + pairs * suc entries)) (λ left. 1 + (asked + pairs * suc entries) + left ≡ steps) }
+{
+    let pairs = pairs as u64;
+    let tried = pairs.checked_mul(entries as u64)?.checked_add(pairs)?;
+    steps.checked_sub(1)?.checked_sub(asked)?.checked_sub(tried)
+}
+
+/// Counts the pairs for these entries, of which so many of the first were counted for before.
+fn count_again(tally: &mut Tally, told: usize, entries: &[MapEntry]) -> Result<(), AllocError>
+    requires counted { told ≤ length tally.old.counts.items }
+    requires there { told ≤ length entries.now }
+    ensures { IfOk result (λ _. tally_view tally.new ≡ counted_again told (entries_view entries.now) (tally_view tally.old)) }
+{
+    tally.counts.truncate(told);
+    tally.counts.resize(entries.len(), 0)?;
+    Ok(())
+}
+
+impl<'t> Tallied<'t> {
+    /// How many of these entries tell what becomes of each pair, if they are the same as those that were asked.
+    pub(crate) fn told_in(&self, entries: &[MapEntry]) -> Option<usize>
+        ensures { IfSome result (λ told. (self.now.told ≡ Some told) × BeginAlike told self.now.entries.now entries.now) }
+    {
+        let told = self.told?;
+        if begin_alike(self.entries, entries, told) {
+            return Some(told);
+        }
+        None
+    }
+
+    /// What the alternative says of the map at `base`.
+    pub(crate) fn says(&self, base: usize) -> Said
+        ensures { said_view result ≡ Replied (answer_reply self.now.next (tally_says (entries_view self.now.entries.now) base (tally_view self.now.tally))) }
+    {
+        match shown_by_tally(self.entries, base, &self.tally) {
+            Some(far) => Said::No { far },
+            None => Said::Yes { next: self.next },
+        }
+    }
+
+    /// What an alternative of these entries says of the map at `base`, if so many of the first tell what becomes of each pair.
+    pub(crate) fn says_again(
+        &mut self,
+        table: &Table,
+        means: &mut Means<'_>,
+        told: usize,
+        entries: &'t [MapEntry],
+        base: usize,
+        pairs: &[(Item, Item)],
+    ) -> Said
+        requires told { self.old.told ≡ Some told }
+        requires alike { BeginAlike told self.old.entries.now entries.now }
+        requires known { IsTallied (language_of table.now) base (pairs_view pairs.now) self.old }
+        ensures says { Says (language_of table.now) (M.OfAlternative (entries_view entries.now) base (pairs_view pairs.now)) means.old.left means.new.left (said_view result) }
+        ensures known { IsTallied (language_of table.now) base (pairs_view pairs.now) self.new }
+    {
+        let Some(left) = left_after(means.left, self.asked, entries.len(), pairs.len()) else {
+            return Said::Spent;
+        };
+        means.left = left;
+        let Ok(()) = count_again(&mut self.tally, told, entries) else {
+            self.told = None;
+            return Said::NoMemory;
+        };
+        self.entries = entries;
+        self.says(base)
+    }
+}

@@ -1,0 +1,147 @@
+//! Maps with several alternatives that begin with the same entries: the pairs are asked once, and each alternative answers, and
+//! takes steps, as if they were asked again.
+
+use crate::matching::{
+    Form, Kind, ONE, Order, Row, TEXT, TWO, YES, check_rows, check_steps, table_of,
+};
+use cddl_match::Verdict;
+use cddl_table::Most;
+use std::process::Abort;
+use std::test::Fail;
+
+const ONCE: Most = Most::AtMost(1);
+
+const FIVE: Form = Form::Uint(5);
+
+static KINDS: [Kind; 12] = [
+    Kind::Between(1, 1, true),
+    Kind::Between(2, 2, true),
+    Kind::Between(5, 5, true),
+    Kind::Between(6, 6, true),
+    Kind::Major(0),
+    // 5: { ? 1 => uint, ? 2 => uint, (5 => uint // 6 => uint // ) }
+    Kind::Map(&[
+        &[
+            (0, false, 4, 0, ONCE),
+            (1, false, 4, 0, ONCE),
+            (2, false, 4, 1, ONCE),
+        ],
+        &[
+            (0, false, 4, 0, ONCE),
+            (1, false, 4, 0, ONCE),
+            (3, false, 4, 1, ONCE),
+        ],
+        &[(0, false, 4, 0, ONCE), (1, false, 4, 0, ONCE)],
+    ]),
+    // 6: { ? 1: uint, (5 => uint // 6 => uint) }
+    Kind::Map(&[
+        &[(0, true, 4, 0, ONCE), (2, false, 4, 1, ONCE)],
+        &[(0, true, 4, 0, ONCE), (3, false, 4, 1, ONCE)],
+    ]),
+    // 7: the longer one comes after the shorter
+    Kind::Map(&[
+        &[(0, false, 4, 1, ONCE)],
+        &[
+            (0, false, 4, 1, ONCE),
+            (1, false, 4, 0, ONCE),
+            (2, false, 4, 0, ONCE),
+        ],
+    ]),
+    // 8: the same key, in another number
+    Kind::Map(&[&[(0, false, 4, 2, Most::Any)], &[(0, false, 4, 0, ONCE)]]),
+    // 9: the same key, with another value
+    Kind::Map(&[&[(0, true, 0, 0, ONCE)], &[(0, true, 4, 0, ONCE)]]),
+    // 10: the same key, which cuts only in the first
+    Kind::Map(&[
+        &[(0, true, 1, 0, ONCE), (4, false, 4, 0, Most::Any)],
+        &[(0, false, 1, 0, ONCE), (4, false, 4, 0, Most::Any)],
+    ]),
+    // 11: the second behind an entry more
+    Kind::Map(&[
+        &[(0, false, 4, 1, ONCE), (1, false, 4, 0, ONCE)],
+        &[(1, false, 4, 0, ONCE), (0, false, 4, 1, ONCE)],
+    ]),
+];
+
+static ORDER: Order = Order {
+    types: &[0, 0, 0, 0, 0, 0, 0, 0, 0, 0, 0, 0],
+    groups: &[],
+    may_be_empty: &[],
+};
+
+const NONE: Form = Form::Map(&[]);
+
+const JUST_ONE: Form = Form::Map(&[(ONE, ONE)]);
+
+const ONE_AND_TWO: Form = Form::Map(&[(ONE, ONE), (TWO, TWO)]);
+
+const FIVE_AND_ONE: Form = Form::Map(&[(FIVE, ONE), (ONE, ONE)]);
+
+const TEXT_AT_ONE: Form = Form::Map(&[(ONE, TEXT)]);
+
+const TEXT_AT_TWO: Form = Form::Map(&[(TWO, TEXT)]);
+
+static ROWS: [Row; 17] = [
+    (5, NONE, YES),
+    (5, JUST_ONE, YES),
+    (5, ONE_AND_TWO, YES),
+    (5, FIVE_AND_ONE, YES),
+    (5, Form::Map(&[(Form::Uint(6), ONE)]), YES),
+    // A pair that belongs to no entry shows in each of them.
+    (5, TEXT_AT_TWO, Verdict::No { place: 1 }),
+    (
+        5,
+        Form::Map(&[(ONE, ONE), (FIVE, ONE), (Form::Uint(6), ONE)]),
+        Verdict::No { place: 5 },
+    ),
+    // A value that fails shows in both.
+    (6, TEXT_AT_ONE, Verdict::No { place: 2 }),
+    (6, JUST_ONE, Verdict::No { place: 0 }),
+    (7, JUST_ONE, YES),
+    (7, ONE_AND_TWO, YES),
+    (8, JUST_ONE, YES),
+    (9, Form::Map(&[(ONE, TWO)]), YES),
+    (9, TEXT_AT_ONE, Verdict::No { place: 2 }),
+    (10, JUST_ONE, YES),
+    (11, ONE_AND_TWO, YES),
+    (11, NONE, Verdict::No { place: 0 }),
+];
+
+#[test]
+fn judges_alternatives_that_begin_alike(rt: HostRuntime) -> Result<(), Fail> {
+    check_rows(&rt, rt.alloc(), &KINDS, &[], &ORDER, &ROWS)
+}
+
+/// A type, an item, and the steps that it takes to tell: one for the map, and for each alternative one, one for each pair and
+/// one more for each entry, and those that the pair is asked about.
+static STEPS: [(usize, Form, u64); 9] = [
+    (5, NONE, 1 + 3),
+    // its key, and its value
+    (5, JUST_ONE, 1 + (1 + 4 + 2) + (1 + 4 + 2) + (1 + 3 + 2)),
+    // The second pair's key is asked about twice.
+    (
+        5,
+        ONE_AND_TWO,
+        1 + (1 + 8 + 2 + 3) + (1 + 8 + 2 + 3) + (1 + 6 + 2 + 3),
+    ),
+    // The first pair belongs to the last entry of the first, and to none of the others.
+    (
+        5,
+        FIVE_AND_ONE,
+        1 + (1 + 8 + 4 + 2) + (1 + 8 + 3 + 2) + (1 + 6 + 2 + 2),
+    ),
+    (5, TEXT_AT_TWO, 1 + (1 + 4 + 4) + (1 + 4 + 4) + (1 + 3 + 3)),
+    (6, TEXT_AT_ONE, 1 + (1 + 3 + 2) + (1 + 3 + 2)),
+    (7, JUST_ONE, 1 + (1 + 2 + 2) + (1 + 4 + 2)),
+    (10, JUST_ONE, 1 + (1 + 3 + 2) + (1 + 3 + 4)),
+    (11, JUST_ONE, 1 + (1 + 3 + 2) + (1 + 3 + 3)),
+];
+
+#[test]
+fn counts_steps_of_alternatives(rt: HostRuntime) -> Result<(), Fail> {
+    for (number, form, steps) in STEPS.iter() {
+        let table = table_of(rt.alloc(), &KINDS, &[], &ORDER, *number)?.expect(&rt, "ranks");
+        check_steps(&rt, rt.alloc(), &table, *number, form, *steps)?;
+    }
+    Ok(())
+}
