@@ -8,6 +8,8 @@ mod memory;
 #[cfg(test)]
 mod one_by_one;
 #[cfg(test)]
+mod reports;
+#[cfg(test)]
 mod rows;
 #[cfg(test)]
 mod running;

@@ -10,7 +10,9 @@ pub mod Cutting
 pub mod Reporting
 pub mod RunLoop
 pub mod Appending
+pub mod Heads
 pub mod Small
+pub mod Accepting
 pub mod Rereading
 pub mod OneEnd
 pub mod SomeEnd

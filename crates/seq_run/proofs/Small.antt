@@ -1,7 +1,7 @@
 -- Unsigned integers below 24, which are one byte.
-use Rattle.std.proofs.Common.{◌≡◌, ℕ, ◌+◌, ◌*◌, ◌<◌, ◌^◌, List, [], ◌∷◌, length, take, slice_index_or, nat_lt, true, refl, sym, ap, subst, rules, arith}
+use Rattle.std.proofs.Common.{◌≡◌, ℕ, ◌+◌, ◌*◌, ◌<◌, List, [], ◌∷◌, take, slice_index_or, nat_lt, true, refl, sym, ap, subst, rules, arith}
 use Rattle.std.proofs.lemmas.Bool.Decides.{nat_tests}
-use Rattle.cbor_data.specs.Forms.{inside, uint_form, Spells}
+use Rattle.cbor_data.specs.Forms.{inside, uint_form}
 use Rattle.cbor_data.specs.Preferred.{preferred}
 use Rattle.cbor_data.specs.Sound.{HasShortSpelling}
 use Rattle.cbor_data.specs.Value.{uint}

@@ -143,22 +143,19 @@ module _ (judge : Judge) (fed : List ℕ) (taken : List Found) (r : Reading) (it
       )
 
   -- an unsigned integer of one byte was accepted
-  module _ (piece : List ℕ) (n : ℕ) (y : Value) (new : Reading) (t : IsSmallTaken r piece n new) (is_n : y ≡ uint n) (accepts : Accepts judge y []) where
+  module _ (piece : List ℕ) (m n : ℕ) (new : Reading) (t : IsSmallTaken r piece n new) (is_n : m ≡ n) (accepts : Accepts judge (uint m) []) where
     accepts_n : Accepts judge (uint n) []
-    accepts_n = subst (λ v. Accepts judge v []) is_n accepts
-
-    noted_n : (taken' : List Found) → taken' ≡ taken ++ record { offset = offset; item = y } ∷ [] → taken' ≡ taken ++ record { offset = offset; item = uint n } ∷ []
-    noted_n taken' f = f ∙ ap (λ (v : Value). taken ++ record { offset = offset; item = v } ∷ []) is_n
+    accepts_n = subst (λ k. Accepts judge (uint k) []) is_n accepts
 
     pub small_fits : items + 1 < 2 ^ 64
     small_fits = (item_fits piece 1 (uint n) new t.taken accepts_n).0
 
-    pub small_kept : (fed' : List ℕ) (taken' : List Found) → fed' ≡ fed ++ take 1 piece → taken' ≡ taken ++ record { offset = offset; item = y } ∷ [] → AreParts stopped judge new.limits fed' taken' (parts_of new (items + 1) (bytes + 1) (bytes + 1) rejected)
-    small_kept fed' taken' e f = item_kept piece 1 (uint n) new fed' taken' e (noted_n taken' f) t.taken accepts_n
+    pub small_kept : (fed' : List ℕ) (taken' : List Found) → fed' ≡ fed ++ take 1 piece → taken' ≡ taken ++ record { offset = offset; item = uint n } ∷ [] → AreParts stopped judge new.limits fed' taken' (parts_of new (items + 1) (bytes + 1) (bytes + 1) rejected)
+    small_kept fed' taken' e f = item_kept piece 1 (uint n) new fed' taken' e f t.taken accepts_n
 
-    pub small_fed : (now : Progress) → old ≡ now → (fed' : List ℕ) (taken' : List Found) → fed' ≡ fed ++ take 1 piece → taken' ≡ taken ++ record { offset = offset; item = y } ∷ [] → IsSmallFed now piece n offset (After new fed' taken')
+    pub small_fed : (now : Progress) → old ≡ now → (fed' : List ℕ) (taken' : List Found) → fed' ≡ fed ++ take 1 piece → taken' ≡ taken ++ record { offset = offset; item = uint n } ∷ [] → IsSmallFed now piece n offset (After new fed' taken')
     small_fed now same fed' taken' e f =
-        let both = item_fed now same piece 1 (uint n) new fed' taken' e (noted_n taken' f) t.taken accepts_n in
+        let both = item_fed now same piece 1 (uint n) new fed' taken' e f t.taken accepts_n in
         let s = both.0 in
         record {
           small = t.small;

@@ -1,6 +1,9 @@
 -- The items that a session notes.
 use Rattle.cbor_data.specs.Sequence.{Found}
+use Rattle.cbor_data.specs.Value.{uint}
 use Rattle.seq_run.specs.declared.session.FoundItem.{FoundItem}
+use Rattle.seq_run.specs.declared.session.FoundItem.TheVariants.{Small, Other}
 
 abbrev pub found_of : FoundItem → Found
-found_of p = record { offset = p.offset; item = p.item }
+found_of (Small offset n) = record { offset = offset; item = uint n }
+found_of (Other offset item) = record { offset = offset; item = item }

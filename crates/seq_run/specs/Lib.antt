@@ -1,11 +1,13 @@
 pub mod Judge
 pub mod Ends
+pub mod Accepted
 pub mod Judged
 pub mod Progress
 pub mod FoundItem
 pub mod Parts
 pub mod Answers
 pub mod Report
+pub mod Heads
 pub mod Output
 pub mod Running
 pub mod Written

@@ -5,9 +5,7 @@ use Rattle.cbor_data.specs.Value.{Value}
 use Rattle.cbor_data.specs.Codes.{coded_value}
 use Rattle.cbor_data.specs.Faults.{Bounds}
 use Rattle.cbor_data.specs.Sequence.{Found}
-use Rattle.cddl_table.specs.declared.table.Table.{Table}
-use Rattle.cddl_table.specs.contracts.table.Table.{the_row as table_row}
-use Rattle.seq_run.specs.Judge.{Judge}
+use Rattle.seq_run.specs.Judge.{Judge, coded_judge}
 use Rattle.seq_run.specs.declared.end.Stopped.{Stopped}
 use Rattle.seq_run.specs.contracts.end.Stopped.{the_row as stopped_row}
 
@@ -25,9 +23,6 @@ coded_bounds = code_by (ℕ × ℕ) (coded× coded_ℕ coded_ℕ) (λ l. (l.dept
 
 abbrev coded_found : Coded Found
 coded_found = code_by (ℕ × Value) (coded× coded_ℕ coded_value) (λ f. (f.offset, f.item)) (λ p. record { offset = p.0; item = p.1 }) (λ _. refl)
-
-abbrev coded_judge : Coded Judge
-coded_judge = code_by (Table × ℕ) (coded× table_row.coded coded_ℕ) (λ j. (j.table, j.steps)) (λ p. record { table = p.0; steps = p.1 }) (λ _. refl)
 
 abbrev coded_stopped : Coded Stopped
 coded_stopped = stopped_row.coded

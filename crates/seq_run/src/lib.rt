@@ -2,6 +2,7 @@
 #![tactic(auto)]
 
 mod end;
+mod examiner;
 mod head;
 mod laws;
 mod lines;

@@ -8,7 +8,7 @@ ghost use Rattle.cbor_place.specs.Paths.{path};
 ghost use Rattle.seq_run.specs.Report.{cause_text, end_line as end_line_of, fault_text, item_line, mismatch_text, or_nothing, IsShown};
 
 use crate::end::{Cause, End};
-use crate::head::push_head;
+use crate::head::Head;
 use cbor_item::{Item, Sound, push_notation};
 use cbor_place::{item_at, path_text};
 use cbor_read::FaultKind;
@@ -54,6 +54,7 @@ pub fn end_line(alloc: Global, end: &End, rejected: Option<&Sound>) -> Result<Ve
 
 // Appends the line of an item: `item N at OFFSET: DIAG` and a line feed.
 pub(crate) fn push_item_line(
+    head: &mut Head,
     lines: &mut Vec<u8>,
     number: u64,
     offset: u64,
@@ -61,7 +62,8 @@ pub(crate) fn push_item_line(
 ) -> Result<(), AllocError>
     ensures { OnOk result (lines.new.items ≡ lines.old.items ++ item_line number (record { offset = offset; item = item.now })) }
 {
-    push_head(lines, number, offset)?;
+    head.set(number, offset);
+    head.push(lines)?;
     push_notation(lines, item.item())?;
     lines.extend_from_slice(b"\n")?;
     Ok(())

@@ -7,7 +7,7 @@ ghost use Rattle.seq_run.specs.Output.{end_output, item_output};
 ghost use Rattle.seq_run.specs.Report.{IsShown};
 
 use crate::end::End;
-use crate::head::push_number_line;
+use crate::head::Head;
 use crate::lines::{end_line, push_item_line};
 use cbor_item::{Counted, Sound, write_item};
 use std::alloc::{AllocError, Global};
@@ -24,10 +24,11 @@ pub enum Mode {
     Rewrite,
 }
 
-// Appends what is written of an accepted item.
+// Appends what is written of an accepted item. The head is that of any line, and is made into that of this item's.
 pub(crate) fn push_item(
     alloc: Global,
     mode: Mode,
+    head: &mut Head,
     bytes: &mut Vec<u8>,
     number: u64,
     offset: u64,
@@ -36,7 +37,7 @@ pub(crate) fn push_item(
     ensures { OnOk result (bytes.new.items ≡ bytes.old.items ++ item_output mode number (record { offset = offset; item = item.now })) }
 {
     match mode {
-        Mode::Report => push_item_line(bytes, number, offset, item),
+        Mode::Report => push_item_line(head, bytes, number, offset, item),
         Mode::EndLine => Ok(()),
         Mode::Rewrite => push_preferred(alloc, bytes, item),
     }
@@ -46,6 +47,7 @@ pub(crate) fn push_item(
 #[inline]
 pub(crate) fn push_small(
     mode: Mode,
+    head: &mut Head,
     bytes: &mut Vec<u8>,
     number: u64,
     offset: u64,
@@ -55,7 +57,10 @@ pub(crate) fn push_small(
     ensures { OnOk result (bytes.new.items ≡ bytes.old.items ++ item_output mode number (record { offset = offset; item = uint n })) }
 {
     match mode {
-        Mode::Report => push_number_line(bytes, number, offset, u64::from(n)),
+        Mode::Report => {
+            head.set(number, offset);
+            head.push_number(bytes, n)
+        }
         Mode::EndLine => Ok(()),
         Mode::Rewrite => Ok(bytes.push(n)?),
     }

@@ -11,6 +11,7 @@ ghost use Rattle.seq_run.specs.Running.{Adds, IsDecided, IsFault, IsPieceDone, R
 ghost use Rattle.seq_run.specs.Written.{IsReadBack, IsWrittenStream};
 
 use crate::end::{End, State};
+use crate::head::Head;
 use crate::laws::{decisive_end, written_is_read_back};
 use crate::output::{Mode, push_end, push_item, push_small};
 use crate::session::{Advance, Session};
@@ -150,9 +151,10 @@ fn feed_items(
 {
     let mut rest = piece;
     let mut items = Vec::new(alloc);
+    let mut head = Head::new();
     'steps: loop {
         if let Some((n, offset)) = session.take_small(rest) {
-            push_small(mode, bytes, session.items(), offset, n)?;
+            push_small(mode, &mut head, bytes, session.items(), offset, n)?;
             rest = &rest[1..];
             continue;
         }
@@ -164,7 +166,7 @@ fn feed_items(
                 number,
                 offset,
             } => {
-                push_item(alloc, mode, bytes, number, offset, &items[0])?;
+                push_item(alloc, mode, &mut head, bytes, number, offset, &items[0])?;
                 items.clear();
                 rest = &rest[used..];
             }

@@ -8,19 +8,21 @@ ghost use Rattle.seq_run.specs.Judge.{judge_of};
 ghost use Rattle.seq_run.specs.Judged.{IsJudged};
 
 use crate::end::{Cause, End, State, Stopped};
-use cbor_item::{Item, Sound};
+use crate::examiner::Examiner;
+use cbor_item::Sound;
 use cbor_read::{Fed, ItemReader, Limits, Stop};
-use cddl_match::{Verdict, one_answer, verdict};
+use cddl_match::{Verdict, one_answer};
 use cddl_table::Table;
 use history::History;
 use std::alloc::{AllocError, Global};
 use std::marker::Model;
 
-// An item, and the offset of its first byte.
+// An item that was taken, and the offset of its first byte, for contracts alone.
 #[derive(Drop)]
-struct FoundItem {
-    offset: u64,
-    item: Sound,
+enum FoundItem {
+    // An unsigned integer below 24.
+    Small { offset: u64, n: u8 },
+    Other { offset: u64, item: Sound },
 }
 
 // How far a session has come: how many items it has accepted, the offset of the next one, and how many bytes it has taken.
@@ -112,8 +114,7 @@ enum Judged {
 #[derive(Drop)]
 pub struct Session<'t> {
     alloc: Global,
-    table: &'t Table,
-    steps: u64,
+    examiner: Examiner<'t>,
     reader: ItemReader,
     count: Count,
     stopped: Option<Stopped>,
@@ -127,15 +128,14 @@ impl<'t> Model for Session<'t> {
     ghost use Rattle.seq_run.specs.Progress.{Progress, coded_progress};
     ghost use Rattle.seq_run.specs.FoundItem.{found_of};
     ghost use Rattle.seq_run.specs.Parts.{AreParts, parts_of};
-    ghost use Rattle.seq_run.specs.Judge.{judge_of};
 
     ghost Value = { Progress };
 
     ghost coded = { coded_progress };
 
-    ghost view = { λ s. record { judge = judge_of s.table.now s.steps; limits = s.reader.limits; fed = s.fed; taken = map found_of s.taken; stopped = s.stopped } };
+    ghost view = { λ s. record { judge = s.examiner; limits = s.reader.limits; fed = s.fed; taken = map found_of s.taken; stopped = s.stopped } };
 
-    ghost invariant = { λ s. AreParts s.stopped (judge_of s.table.now s.steps) s.reader.limits s.fed (map found_of s.taken) (parts_of s.reader s.count.items s.count.offset s.count.bytes s.rejected) };
+    ghost invariant = { λ s. AreParts s.stopped s.examiner s.reader.limits s.fed (map found_of s.taken) (parts_of s.reader s.count.items s.count.offset s.count.bytes s.rejected) };
 }
 
 impl<'t> Session<'t> {
@@ -146,8 +146,7 @@ impl<'t> Session<'t> {
     {
         Session {
             alloc,
-            table,
-            steps,
+            examiner: Examiner::new(table, steps),
             reader: ItemReader::new(alloc, limits),
             count: Count {
                 items: 0,
@@ -255,14 +254,12 @@ impl<'t> Session<'t> {
         if piece.is_empty() || piece[0] >= 24 {
             return None;
         }
-        let item = small_item(self.alloc, piece[0])?;
-        if !is_accepted(self.alloc, self.table, self.steps, &item) {
+        if !self.examiner.accepts(self.alloc, piece[0]) {
             return None;
         }
         let n = self.reader.take_small(piece)?;
         let offset = self.count.offset;
-        let found = FoundItem { offset, item };
-        self.taken.push(&found);
+        self.taken.push(&FoundItem::Small { offset, n });
         self.fed.extend(&piece[..1]);
         self.count.add_item(1);
         Some((n, offset))
@@ -274,19 +271,22 @@ impl<'t> Session<'t> {
         ensures { IsStep self.old piece.now out.old.items result self.new out.new.items }
     {
         one_answer();
-        match judge_next(self.alloc, self.table, self.steps, &mut self.reader, piece) {
+        match judge_next(self.alloc, &self.examiner, &mut self.reader, piece) {
             Ok(Judged::More) => {
                 self.fed.extend(piece);
                 self.count.bytes += piece.len() as u64;
                 Ok(Advance::More)
             }
             Ok(Judged::Accepted { used, item }) => {
-                let found = FoundItem {
+                let found = FoundItem::Other {
                     offset: self.count.offset,
                     item,
                 };
                 let taken = self.taken.with(&found);
-                if out.push(found.item).is_err() {
+                let FoundItem::Other { item, .. } = found else {
+                    unreachable!()
+                };
+                if out.push(item).is_err() {
                     self.fed.extend(piece);
                     self.stopped = Some(Stopped::Memory);
                     return Err(AllocError);
@@ -311,37 +311,19 @@ impl<'t> Session<'t> {
     }
 }
 
-// The item that a byte below 24 is.
-#[inline]
-fn small_item(alloc: Global, byte: u8) -> Option<Sound>
-    requires { byte < 24 }
-    ensures { IfSome result (λ item. item ≡ uint byte) }
-{
-    Sound::try_spelled(alloc, Item::Uint(u64::from(byte))).ok()
-}
-
-// Whether the specification accepts the item. False also where there was no memory to say so.
-#[inline]
-fn is_accepted(alloc: Global, table: &Table, steps: u64, item: &Sound) -> bool
-    ensures { IsTrue result → Accepts (judge_of table.now steps) item.now [] }
-{
-    matches!(verdict(alloc, table, item, steps), Ok(Verdict::Yes))
-}
-
 // Reads on, and asks the specification about an item that is whole.
 fn judge_next(
     alloc: Global,
-    table: &Table,
-    steps: u64,
+    examiner: &Examiner<'_>,
     reader: &mut ItemReader,
     piece: &[u8],
 ) -> Result<Judged, AllocError>
     requires { reader.old.stopped ≡ None }
-    ensures { IsJudged (judge_of table.now steps) reader.old piece.now result reader.new }
+    ensures { IsJudged examiner.now reader.old piece.now result reader.new }
 {
     match reader.feed(piece)? {
         Fed::More => Ok(Judged::More),
-        Fed::Item { used, item } => match verdict(alloc, table, &item, steps)? {
+        Fed::Item { used, item } => match examiner.verdict(alloc, &item)? {
             Verdict::Yes => Ok(Judged::Accepted { used, item }),
             Verdict::No { place } => Ok(Judged::Failed {
                 cause: Cause::Mismatch(place),

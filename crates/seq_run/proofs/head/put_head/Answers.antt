@@ -1,4 +1,4 @@
-use Rattle.std.proofs.Common.{◌≤◌, length, decimal, arith}
+use Rattle.std.proofs.Common.{arith}
 use Rattle.seq_run.proofs.Appending.{few_digits}
 use Rattle.seq_run.proofs.head.put_head.Goals as goal
 

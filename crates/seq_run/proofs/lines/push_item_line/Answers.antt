@@ -6,6 +6,6 @@ use Rattle.seq_run.proofs.lines.push_item_line.Goals as goal
 
 pub returns : goal.returns
 returns c =
-    head_first c.args.lines.now.items c.push_head.new.lines.items c.push_notation.new.out.items c.extend_from_slice.new.self.items (codes "item ") (decimal c.args.number) (codes " at ") (decimal c.args.offset)
-    (codes ": ") (notation c.args.item.now) (codes "\n") c.in_ok-push_head.ensures (c.in_ok-push_notation.ensures ∙ ap (λ x. c.push_head.new.lines.items ++ notation x) c.item.ensures.same)
+    head_first c.args.lines.now.items c.push.new.lines.items c.push_notation.new.out.items c.extend_from_slice.new.self.items (codes "item ") (decimal c.args.number) (codes " at ") (decimal c.args.offset)
+    (codes ": ") (notation c.args.item.now) (codes "\n") (c.in_ok-push.ensures ∙ ap (λ b. c.args.lines.now.items ++ b) c.set.ensures) (c.in_ok-push_notation.ensures ∙ ap (λ x. c.push.new.lines.items ++ notation x) c.item.ensures.same)
     c.in_ok-extend_from_slice.ensures.items

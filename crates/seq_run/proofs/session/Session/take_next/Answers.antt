@@ -1,7 +1,7 @@
-use Rattle.std.proofs.Common.{[], ◌∷◌, ◌++◌, map, ap, arith, refl, sym, ◌∙◌}
+use Rattle.std.proofs.Common.{◌≡◌, [], ◌∷◌, ◌++◌, map, ap, arith, refl, sym, ◌∙◌}
 use Rattle.cbor_read.specs.Reading.{Reading}
-use Rattle.seq_run.specs.Judge.{judge_of}
 use Rattle.seq_run.specs.FoundItem.{found_of}
+use Rattle.seq_run.specs.declared.session.FoundItem.TheVariants.{Other}
 use Rattle.seq_run.specs.Progress.{Progress}
 use Rattle.seq_run.proofs.Steps.{going_reader, more_fits, more_kept, more_step, item_fits, item_kept, item_step, stopped_kept, stopped_step, cut_step, noted, kept_items, pushed_items}
 use Rattle.seq_run.proofs.session.Session.take_next.Goals as goal
@@ -9,70 +9,71 @@ use Rattle.seq_run.proofs.session.Session.take_next.Goals as goal
 pub judge_next-requires : goal.judge_next-requires
 judge_next-requires c =
     let s = c.self.inside in
-    going_reader (judge_of s.table.now s.steps) s.fed (map found_of s.taken) s.reader s.count.items s.count.offset s.count.bytes s.stopped s.rejected (ap (λ (p : Progress). p.stopped) c.self.view_is ∙ c.requires) c.self.invariant
+    going_reader s.examiner s.fed (map found_of s.taken) s.reader s.count.items s.count.offset s.count.bytes s.stopped s.rejected (ap (λ (p : Progress). p.stopped) c.self.view_is ∙ c.requires) c.self.invariant
 
 pub overflow_add-self : goal.overflow_add-self
 overflow_add-self c =
     let s = c.self.inside in
-    omega (arith, more_fits (judge_of s.table.now s.steps) s.fed (map found_of s.taken) s.reader s.count.items s.count.offset s.count.bytes s.stopped s.rejected (ap (λ (p : Progress). p.stopped) c.self.view_is ∙ c.requires) c.self.invariant c.args.piece.now c.judge_next.new.reader (rw c.in-Ok-More.field-0-is at c.in-Ok-More.ensures))
+    omega (arith, more_fits s.examiner s.fed (map found_of s.taken) s.reader s.count.items s.count.offset s.count.bytes s.stopped s.rejected (ap (λ (p : Progress). p.stopped) c.self.view_is ∙ c.requires) c.self.invariant c.args.piece.now c.judge_next.new.reader (rw c.in-Ok-More.field-0-is at c.in-Ok-More.ensures))
 
 pub invariant_of-self : goal.invariant_of-self
 invariant_of-self c =
     let s = c.self.inside in
-    more_kept (judge_of s.table.now s.steps) s.fed (map found_of s.taken) s.reader s.count.items s.count.offset s.count.bytes s.stopped s.rejected (ap (λ (p : Progress). p.stopped) c.self.view_is ∙ c.requires) c.self.invariant c.args.piece.now c.judge_next.new.reader c.extend.new.self c.extend.ensures (rw c.in-Ok-More.field-0-is at c.in-Ok-More.ensures)
+    more_kept s.examiner s.fed (map found_of s.taken) s.reader s.count.items s.count.offset s.count.bytes s.stopped s.rejected (ap (λ (p : Progress). p.stopped) c.self.view_is ∙ c.requires) c.self.invariant c.args.piece.now c.judge_next.new.reader c.extend.new.self c.extend.ensures (rw c.in-Ok-More.field-0-is at c.in-Ok-More.ensures)
 
 pub returns-in-Ok-More : goal.returns-in-Ok-More
 returns-in-Ok-More c =
     let s = c.self.inside in
-    more_step (judge_of s.table.now s.steps) s.fed (map found_of s.taken) s.reader s.count.items s.count.offset s.count.bytes s.stopped s.rejected (ap (λ (p : Progress). p.stopped) c.self.view_is ∙ c.requires) c.self.invariant c.args.self.now c.self.view_is c.args.piece.now c.args.out.now.items c.judge_next.new.reader c.extend.new.self c.extend.ensures (rw c.in-Ok-More.field-0-is at c.in-Ok-More.ensures)
+    more_step s.examiner s.fed (map found_of s.taken) s.reader s.count.items s.count.offset s.count.bytes s.stopped s.rejected (ap (λ (p : Progress). p.stopped) c.self.view_is ∙ c.requires) c.self.invariant c.args.self.now c.self.view_is c.args.piece.now c.args.out.now.items c.judge_next.new.reader c.extend.new.self c.extend.ensures (rw c.in-Ok-More.field-0-is at c.in-Ok-More.ensures)
 
 pub returns-then-is_err : goal.returns-then-is_err
 returns-then-is_err c =
     let s = c.self.inside in
     let accepted = rw c.in-Ok-Accepted.field-0-is at c.in-Ok-Accepted.ensures in
-    cut_step (judge_of s.table.now s.steps) s.fed (map found_of s.taken) s.reader s.count.items s.count.offset s.count.bytes s.stopped s.rejected (ap (λ (p : Progress). p.stopped) c.self.view_is ∙ c.requires) c.self.invariant c.args.self.now c.self.view_is c.args.piece.now c.args.out.now.items c.push.new.self.items
+    cut_step s.examiner s.fed (map found_of s.taken) s.reader s.count.items s.count.offset s.count.bytes s.stopped s.rejected (ap (λ (p : Progress). p.stopped) c.self.view_is ∙ c.requires) c.self.invariant c.args.self.now c.self.view_is c.args.piece.now c.args.out.now.items c.push.new.self.items
     (record {}) c.judge_next.new.reader.limits c.extend-then-is_err.new.self (ap (λ (v : Reading). v.limits) accepted.0.next)
-    c.extend-then-is_err.ensures (kept_items c.push.result c.push.new.self.items (c.args.out.now.items ++ c.in-Ok-Accepted.item ∷ []) c.args.out.now.items c.push.ensures.items (sym c.is_err.ensures.value ∙ c.if-is_err.true))
+    c.extend-then-is_err.ensures (kept_items c.push.result c.push.new.self.items (c.args.out.now.items ++ c.in-Other.item ∷ []) c.args.out.now.items c.push.ensures.items (sym c.is_err.ensures.value ∙ c.if-is_err.true))
 
 pub add_item-requires-clause-items : goal.add_item-requires-clause-items
 add_item-requires-clause-items c =
     let s = c.self.inside in
     let accepted = rw c.in-Ok-Accepted.field-0-is at c.in-Ok-Accepted.ensures in
-    omega (arith, (item_fits (judge_of s.table.now s.steps) s.fed (map found_of s.taken) s.reader s.count.items s.count.offset s.count.bytes s.stopped s.rejected (ap (λ (p : Progress). p.stopped) c.self.view_is ∙ c.requires) c.self.invariant c.args.piece.now c.in-Ok-Accepted.used c.in-Ok-Accepted.item c.judge_next.new.reader accepted.0 accepted.1).0)
+    omega (arith, (item_fits s.examiner s.fed (map found_of s.taken) s.reader s.count.items s.count.offset s.count.bytes s.stopped s.rejected (ap (λ (p : Progress). p.stopped) c.self.view_is ∙ c.requires) c.self.invariant c.args.piece.now c.in-Ok-Accepted.used c.in-Ok-Accepted.item c.judge_next.new.reader accepted.0 accepted.1).0)
 
 pub add_item-requires-clause-bytes : goal.add_item-requires-clause-bytes
 add_item-requires-clause-bytes c =
     let s = c.self.inside in
     let accepted = rw c.in-Ok-Accepted.field-0-is at c.in-Ok-Accepted.ensures in
-    omega (arith, (item_fits (judge_of s.table.now s.steps) s.fed (map found_of s.taken) s.reader s.count.items s.count.offset s.count.bytes s.stopped s.rejected (ap (λ (p : Progress). p.stopped) c.self.view_is ∙ c.requires) c.self.invariant c.args.piece.now c.in-Ok-Accepted.used c.in-Ok-Accepted.item c.judge_next.new.reader accepted.0 accepted.1).1)
+    omega (arith, (item_fits s.examiner s.fed (map found_of s.taken) s.reader s.count.items s.count.offset s.count.bytes s.stopped s.rejected (ap (λ (p : Progress). p.stopped) c.self.view_is ∙ c.requires) c.self.invariant c.args.piece.now c.in-Ok-Accepted.used c.in-Ok-Accepted.item c.judge_next.new.reader accepted.0 accepted.1).1)
 
 pub invariant_of-self-in-Ok-Accepted : goal.invariant_of-self-in-Ok-Accepted
 invariant_of-self-in-Ok-Accepted c =
     let s = c.self.inside in
     let accepted = rw c.in-Ok-Accepted.field-0-is at c.in-Ok-Accepted.ensures in
-    rw c.add_item.ensures.count (item_kept (judge_of s.table.now s.steps) s.fed (map found_of s.taken) s.reader s.count.items s.count.offset s.count.bytes s.stopped s.rejected (ap (λ (p : Progress). p.stopped) c.self.view_is ∙ c.requires) c.self.invariant c.args.piece.now c.in-Ok-Accepted.used c.in-Ok-Accepted.item c.judge_next.new.reader
-    c.extend-in-Ok-Accepted.new.self (map found_of c.with-taken.result) (grind (arith, c.extend-in-Ok-Accepted.ensures)) (noted s.taken (record { offset = s.count.offset; item = c.in-Ok-Accepted.item }) c.with-taken.result c.with-taken.ensures) accepted.0 accepted.1)
+    rw c.add_item.ensures.count (item_kept s.examiner s.fed (map found_of s.taken) s.reader s.count.items s.count.offset s.count.bytes s.stopped s.rejected (ap (λ (p : Progress). p.stopped) c.self.view_is ∙ c.requires) c.self.invariant c.args.piece.now c.in-Ok-Accepted.used c.in-Ok-Accepted.item c.judge_next.new.reader
+    c.extend-in-Ok-Accepted.new.self (map found_of c.with-taken.result) (grind (arith, c.extend-in-Ok-Accepted.ensures)) (noted s.taken (Other s.count.offset c.in-Ok-Accepted.item) c.with-taken.result c.with-taken.ensures) accepted.0 accepted.1)
 
 pub returns-else-is_err : goal.returns-else-is_err
 returns-else-is_err c =
     let s = c.self.inside in
     let accepted = rw c.in-Ok-Accepted.field-0-is at c.in-Ok-Accepted.ensures in
-    rw c.add_item.ensures.advance (item_step (judge_of s.table.now s.steps) s.fed (map found_of s.taken) s.reader s.count.items s.count.offset s.count.bytes s.stopped s.rejected (ap (λ (p : Progress). p.stopped) c.self.view_is ∙ c.requires) c.self.invariant c.args.self.now c.self.view_is c.args.piece.now c.args.out.now.items c.push.new.self.items
-    c.in-Ok-Accepted.used c.in-Ok-Accepted.item c.judge_next.new.reader c.extend-in-Ok-Accepted.new.self (map found_of c.with-taken.result) (grind (arith, c.extend-in-Ok-Accepted.ensures)) (noted s.taken (record { offset = s.count.offset; item = c.in-Ok-Accepted.item }) c.with-taken.result c.with-taken.ensures)
-    (pushed_items c.push.result c.push.new.self.items (c.args.out.now.items ++ c.in-Ok-Accepted.item ∷ []) c.args.out.now.items c.push.ensures.items (sym c.is_err.ensures.value ∙ c.if-is_err.false)) accepted.0 accepted.1)
+    let same : c.in-Other.item ≡ c.in-Ok-Accepted.item = cc in
+    rw c.add_item.ensures.advance (item_step s.examiner s.fed (map found_of s.taken) s.reader s.count.items s.count.offset s.count.bytes s.stopped s.rejected (ap (λ (p : Progress). p.stopped) c.self.view_is ∙ c.requires) c.self.invariant c.args.self.now c.self.view_is c.args.piece.now c.args.out.now.items c.push.new.self.items
+    c.in-Ok-Accepted.used c.in-Ok-Accepted.item c.judge_next.new.reader c.extend-in-Ok-Accepted.new.self (map found_of c.with-taken.result) (grind (arith, c.extend-in-Ok-Accepted.ensures)) (noted s.taken (Other s.count.offset c.in-Ok-Accepted.item) c.with-taken.result c.with-taken.ensures)
+    (pushed_items c.push.result c.push.new.self.items (c.args.out.now.items ++ c.in-Other.item ∷ []) c.args.out.now.items c.push.ensures.items (sym c.is_err.ensures.value ∙ c.if-is_err.false) ∙ ap (λ x. c.args.out.now.items ++ x ∷ []) same) accepted.0 accepted.1)
 
 pub invariant_of-self-in-Ok-Failed : goal.invariant_of-self-in-Ok-Failed
 invariant_of-self-in-Ok-Failed c =
     let s = c.self.inside in
-    rw c.failed_end-end.ensures (stopped_kept (judge_of s.table.now s.steps) s.fed (map found_of s.taken) s.reader s.count.items s.count.offset s.count.bytes s.stopped s.rejected (ap (λ (p : Progress). p.stopped) c.self.view_is ∙ c.requires) c.self.invariant c.one_answer.ensures.table c.args.piece.now c.in-Ok-Failed.cause c.in-Ok-Failed.rejected c.judge_next.new.reader c.extend-in-Ok-Failed.new.self c.extend-in-Ok-Failed.ensures (rw c.in-Ok-Failed.field-0-is at c.in-Ok-Failed.ensures))
+    rw c.failed_end-end.ensures (stopped_kept s.examiner s.fed (map found_of s.taken) s.reader s.count.items s.count.offset s.count.bytes s.stopped s.rejected (ap (λ (p : Progress). p.stopped) c.self.view_is ∙ c.requires) c.self.invariant c.one_answer.ensures.table c.args.piece.now c.in-Ok-Failed.cause c.in-Ok-Failed.rejected c.judge_next.new.reader c.extend-in-Ok-Failed.new.self c.extend-in-Ok-Failed.ensures (rw c.in-Ok-Failed.field-0-is at c.in-Ok-Failed.ensures))
 
 pub returns-in-Ok-Failed : goal.returns-in-Ok-Failed
 returns-in-Ok-Failed c =
     let s = c.self.inside in
-    rw c.failed_end-end.ensures (stopped_step (judge_of s.table.now s.steps) s.fed (map found_of s.taken) s.reader s.count.items s.count.offset s.count.bytes s.stopped s.rejected (ap (λ (p : Progress). p.stopped) c.self.view_is ∙ c.requires) c.self.invariant c.one_answer.ensures.table c.args.self.now c.self.view_is c.args.piece.now c.args.out.now.items c.in-Ok-Failed.cause c.in-Ok-Failed.rejected c.judge_next.new.reader c.extend-in-Ok-Failed.new.self c.extend-in-Ok-Failed.ensures (rw c.in-Ok-Failed.field-0-is at c.in-Ok-Failed.ensures))
+    rw c.failed_end-end.ensures (stopped_step s.examiner s.fed (map found_of s.taken) s.reader s.count.items s.count.offset s.count.bytes s.stopped s.rejected (ap (λ (p : Progress). p.stopped) c.self.view_is ∙ c.requires) c.self.invariant c.one_answer.ensures.table c.args.self.now c.self.view_is c.args.piece.now c.args.out.now.items c.in-Ok-Failed.cause c.in-Ok-Failed.rejected c.judge_next.new.reader c.extend-in-Ok-Failed.new.self c.extend-in-Ok-Failed.ensures (rw c.in-Ok-Failed.field-0-is at c.in-Ok-Failed.ensures))
 
 pub returns-in-Err : goal.returns-in-Err
 returns-in-Err c =
     let s = c.self.inside in
-    cut_step (judge_of s.table.now s.steps) s.fed (map found_of s.taken) s.reader s.count.items s.count.offset s.count.bytes s.stopped s.rejected (ap (λ (p : Progress). p.stopped) c.self.view_is ∙ c.requires) c.self.invariant c.args.self.now c.self.view_is c.args.piece.now c.args.out.now.items c.args.out.now.items
+    cut_step s.examiner s.fed (map found_of s.taken) s.reader s.count.items s.count.offset s.count.bytes s.stopped s.rejected (ap (λ (p : Progress). p.stopped) c.self.view_is ∙ c.requires) c.self.invariant c.args.self.now c.self.view_is c.args.piece.now c.args.out.now.items c.args.out.now.items
     c.in-Err.error c.judge_next.new.reader.limits c.extend-in-Err.new.self c.in-Err.ensures c.extend-in-Err.ensures refl
