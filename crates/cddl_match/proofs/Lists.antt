@@ -1,8 +1,8 @@
 -- Numbers, the members of an array as a list and back, and counts.
-use Rattle.std.proofs.Common.{◌≡◌, ℕ, zero, suc, ◌+◌, ◌-◌, ◌<◌, ◌≤◌, ◌++◌, length, take, drop, replicate, slice_index_or, slice_set, List, [], ◌∷◌, Option, Some, None, true, false, nat_eq, refl, sym, ap, ◌∙◌, arith, rules}
+use Rattle.std.proofs.Common.{◌≡◌, ℕ, zero, suc, ◌+◌, ◌-◌, ◌<◌, ◌≤◌, ◌++◌, length, take, drop, replicate, slice_index_or, slice_set, List, [], ◌∷◌, Option, Some, None, Bool, true, false, ◌&&◌, nat_eq, nat_le, refl, sym, ap, ◌∙◌, arith, rules}
 use Rattle.std.specs.Prelude.{IfNone, IfSome, MatchOption}
 use Rattle.std.proofs.lemmas.Bool.Decides.{nat_tests}
-use Rattle.std.proofs.lemmas.List.{drop-map, length-drop, length-take-le, take_all}
+use Rattle.std.proofs.lemmas.List.{drop-map, take-map}
 use Rattle.std.proofs.Math.Seq.{take-nil}
 use Rattle.cbor_data.specs.Value.{Value, array, uint, values_of}
 use Rattle.cbor_item.specs.View.{pairs_view, view}
@@ -16,6 +16,7 @@ use Rattle.cddl_match.specs.declared.questions.Fate.{Fate}
 use Rattle.cddl_meaning.specs.Forms.{list_of, members_in, pairs_in}
 use Rattle.cddl_meaning.specs.Forms as F
 use Rattle.cddl_meaning.specs.Moves as M
+use Rattle.cddl_meaning.specs.Judges.{is_up_to_most}
 use Rattle.cddl_meaning.specs.Moves.{plus, counted, enough_of, no_counts}
 use Rattle.cddl_table.specs.declared.nodes.TypeId.{TypeId}
 use Rattle.cddl_table.specs.Nodes.{entries_view, entry_view}
@@ -67,16 +68,23 @@ counts_begun es old new m e i j = j ∙ by old m e i
     by : (old : List ℕ) (m : ℕ) → old ≡ [] → m ≡ 0 → take (length es) old ++ replicate (length es - m) 0 ≡ no_counts (entries_view es)
     by old m e i = let n : length es - m ≡ length es = omega (arith, i) in rw (e, n, take-nil) (none_counted es)
 
--- the counts for the first entries stay, and there are none for the others
-pub counts_kept : (es : List MapEntry) (old cut new : List ℕ) (told m : ℕ) → told ≤ length old → told ≤ length es → cut ≡ take told old → m ≡ told → new ≡ take (length es) cut ++ replicate (length es - m) 0 → new ≡ take told old ++ no_counts (drop told (entries_view es))
-counts_kept es old cut new told m h i e j k = k ∙ rw (e, j) (ap (λ ns. ns ++ replicate (length es - told) 0) (take_all (length es) (take told old) (omega (arith, length-take-le told old h, i))) ∙ ap (λ ns. take told old ++ ns) none)
-  where
-    none : replicate (length es - told) 0 ≡ no_counts (drop told (entries_view es))
-    none = ap (λ n. replicate n 0) (sym (length-drop told es)) ∙ none_counted (drop told es) ∙ ap no_counts (sym (drop-map entry_view told es))
-
 pub as_many_entries : (es : List MapEntry) → length (entries_view es) ≡ length es
 as_many_entries [] = refl
 as_many_entries (e ∷ es) = ap suc (as_many_entries es)
+
+-- Entries, of which those behind so many of the first have no pair.
+pub enough_in_front : (es : List (F.MapEntry TypeId)) (cs : List ℕ) (told : ℕ) → told ≤ length es → told ≤ length cs → enough_of es (take told cs ++ no_counts (drop told es)) ≡ (enough_of (take told es) (take told cs) && enough_of (drop told es) (no_counts (drop told es)))
+enough_in_front es cs zero h i = refl
+enough_in_front [] cs (suc told) h i = absurd (omega (arith, h))
+enough_in_front (e ∷ es) [] (suc told) h i = absurd (omega (arith, i))
+enough_in_front (e ∷ es) (c ∷ cs) (suc told) h i = rw (enough_in_front es cs told (omega (arith, h)) (omega (arith, i))) (both (nat_le e.least c && is_up_to_most c e.most) (enough_of (take told es) (take told cs)) (enough_of (drop told es) (no_counts (drop told es))))
+  where
+    both : (a b c : Bool) → (a && (b && c)) ≡ ((a && b) && c)
+    both true b c = refl
+    both false b c = refl
+
+pub front_is_enough : (es first others : List MapEntry) (cs : List ℕ) (told : ℕ) → told ≤ length es → told ≤ length cs → first ≡ take told es → others ≡ drop told es → (enough_of (entries_view first) (take told cs) && enough_of (entries_view others) (no_counts (entries_view others))) ≡ enough_of (entries_view es) (take told cs ++ no_counts (drop told (entries_view es)))
+front_is_enough es first others cs told h i e f = rw (e, f, sym (take-map entry_view told es), sym (drop-map entry_view told es)) (sym (enough_in_front (entries_view es) cs told (omega (arith, h, as_many_entries es)) i))
 
 pub enough_of_none : (es : List (F.MapEntry TypeId)) (ns : List ℕ) → ns ≡ [] → true ≡ enough_of es ns
 enough_of_none [] ns e = refl

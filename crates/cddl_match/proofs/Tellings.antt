@@ -14,7 +14,7 @@ use Rattle.cddl_meaning.specs.Moves.{counted, no_counts}
 use Rattle.cddl_match.specs.Ahead.{ComesTo, Opens}
 use Rattle.cddl_match.specs.Tellings.{AreTold, Becomes, BeginAlike, BelongsBy, Sorts, Tallies, counted_again, sorting_of, told_with, widened}
 use Rattle.cddl_match.specs.Views.{fate_view}
-use Rattle.cddl_match.specs.Within.{Stopped}
+use Rattle.cddl_match.specs.Within.{Replied, Says, Stopped}
 use Rattle.cddl_match.specs.declared.questions.Fate.{Fate}
 use Rattle.cddl_match.specs.declared.questions.Fate.TheVariants as T
 use Rattle.cddl_match.specs.declared.questions.Stop.{Stop}
@@ -26,7 +26,7 @@ use Rattle.cddl_table.specs.declared.nodes.MapEntry.{MapEntry}
 use Rattle.cddl_table.specs.declared.nodes.TypeId.{TypeId}
 use Rattle.cddl_match.proofs.Handing.{becomes_so}
 use Rattle.cddl_match.proofs.Lists.{as_many_entries}
-use Rattle.cddl_match.proofs.Outcomes.{ends_on}
+use Rattle.cddl_match.proofs.Outcomes.{answered, ends_on, says_on}
 use Rattle.cddl_match.proofs.Sayings.{ends_so}
 use Rattle.cddl_match.proofs.Ways.{and_on, opens, stays, then_comes, tries_on}
 
@@ -222,8 +222,8 @@ same_front es fs {told = told} h = take-map entry_view told es ∙ ap entries_vi
 pub again : (l : Language TypeId GroupId) (es fs : List MapEntry) (base next told asked : ℕ) (ps : List (Item × Item)) (t : M.Tally) → BeginAlike told es fs → AreTold l (entries_view es) base (pairs_view ps) next no_pairs t told asked (pairs_len (pairs_view ps)) → Opens l (M.OfAlternative (entries_view fs) base (pairs_view ps)) (M.Answered (M.answer_reply next (M.tally_says (entries_view fs) base (counted_again told (entries_view fs) t)))) (1 + (asked + length ps * suc (length fs)))
 again l es fs base next told asked ps t h a = subst (λ n. Opens l (M.OfAlternative (entries_view fs) base (pairs_view ps)) (M.Answered (M.answer_reply next (M.tally_says (entries_view fs) base (counted_again told (entries_view fs) t)))) (1 + (asked + length ps * suc n))) (as_many_entries fs) (subst (λ n. Opens l (M.OfAlternative (entries_view fs) base (pairs_view ps)) (M.Answered (M.answer_reply next (M.tally_says (entries_view fs) base (counted_again told (entries_view fs) t)))) (1 + (asked + n * suc (length (entries_view fs))))) (as_many_pairs ps) (opens_told l (told_again l (entries_view fs) (same_front es fs h) a)))
 
-pub again_told : (l : Language TypeId GroupId) (es fs : List MapEntry) (base next told asked tried : ℕ) (ps : Pairs) (t : M.Tally) → BeginAlike told es fs → AreTold l (entries_view es) base ps next no_pairs t told asked tried → AreTold l (entries_view fs) base ps next no_pairs (counted_again told (entries_view fs) t) told asked tried
-again_told l es fs base next told asked tried ps t h a = told_again l (entries_view fs) (same_front es fs h) a
+pub says_so : (l : Language TypeId GroupId) (q : M.Question TypeId GroupId) (steps left k next : ℕ) (a b : J.Answer) → Opens l q (M.Answered (M.answer_reply next a)) k → a ≡ b → k + left ≡ steps → Says l q steps left (Replied (M.answer_reply next b))
+says_so l q steps left k next a b o e h = says_on l steps left left (Replied (M.answer_reply next b)) (subst (λ x. Opens l q (M.Answered (M.answer_reply next x)) k) e o) h (answered l left (M.answer_reply next b))
 
 module _ (l : Language TypeId GroupId) (es : List (F.MapEntry TypeId)) (base : ℕ) where
   pub no_pair_told : (ps : Pairs) (steps : ℕ) → AreTold l es base ps (M.plus base 1) ps (M.fresh es) 0 (steps - steps) 0

@@ -254,6 +254,7 @@ fn apart_says(
 }
 
 /// What a map at `base` says by what its alternatives say, all of them.
+#[inline(never)]
 #[cycle(saying)]
 fn map_says<'i>(
     table: &Table,

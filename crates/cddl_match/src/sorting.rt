@@ -1,6 +1,6 @@
 //! How the pairs of a map are sorted to the entries of an alternative.
 
-ghost use Rattle.std.specs.Prelude.{◌≡◌, ◌≤◌, ◌+◌, suc, Some, IfNone, IfOk, IfSome, MatchOption};
+ghost use Rattle.std.specs.Prelude.{◌≡◌, ◌≤◌, ◌+◌, ◌++◌, suc, length, take, drop, Some, IfNone, IfOk, IfSome, MatchOption};
 ghost use Rattle.cbor_data.specs.Value.{place_count};
 ghost use Rattle.cbor_item.specs.View.{pairs_view, view};
 ghost use Rattle.cddl_meaning.specs.Forms.{pairs_in};
@@ -28,6 +28,7 @@ ghost use Rattle.cddl_meaning.specs.Moves.{
   tallied,
   tally_says,
 };
+ghost use Rattle.cddl_match.specs.Tellings.{counted_again};
 ghost use Rattle.cddl_match.specs.Views.{fate_view, move_view, reply_view, sorting_view, subject_view, tally_view};
 ghost use Rattle.cddl_table.specs.Language.{language_of};
 ghost use Rattle.cddl_table.specs.Nodes.{alternatives_view, entries_view, entry_view, most_view};
@@ -142,6 +143,50 @@ pub(crate) fn shown_by_tally(entries: &[MapEntry], base: usize, tally: &Tally) -
         return Some(far);
     }
     if !are_enough(entries, &tally.counts) {
+        return Some(base);
+    }
+    None
+}
+
+/// Whether each entry lets no pair belong to it.
+fn need_none(entries: &[MapEntry]) -> bool
+    ensures { result ≡ enough_of (entries_view entries.now) (no_counts (entries_view entries.now)) }
+{
+    for entry in entries {
+        if entry.least > 0 {
+            return false;
+        }
+    }
+    true
+}
+
+/// Whether as many pairs belong to each entry as it asks for, where they are those of so many of the first entries.
+fn are_enough_in_front(told: usize, entries: &[MapEntry], counts: &[u64]) -> bool
+    requires counted { told ≤ length counts.now }
+    requires there { told ≤ length entries.now }
+    ensures { result ≡ enough_of (entries_view entries.now) (take told counts.now ++ no_counts (drop told (entries_view entries.now))) }
+{
+    let (first, others) = entries.split_at(told);
+    are_enough(first, &counts[..told]) && need_none(others)
+}
+
+/// Where an alternative's no shows once all pairs of the map at `base` are tallied, which belong to so many of the first
+/// entries, if it says no.
+#[inline(never)]
+pub(crate) fn shown_by_first(
+    told: usize,
+    entries: &[MapEntry],
+    base: usize,
+    tally: &Tally,
+) -> Option<usize>
+    requires counted { told ≤ length tally.now.counts.items }
+    requires there { told ≤ length entries.now }
+    ensures { MatchOption result (tally_says (entries_view entries.now) base (counted_again told (entries_view entries.now) (tally_view tally.now)) ≡ J.Yes) (λ far. tally_says (entries_view entries.now) base (counted_again told (entries_view entries.now) (tally_view tally.now)) ≡ J.No far) }
+{
+    if let Some(far) = tally.stray.or(tally.failing) {
+        return Some(far);
+    }
+    if !are_enough_in_front(told, entries, &tally.counts) {
         return Some(base);
     }
     None

@@ -1,10 +1,10 @@
 //! What the pairs of a map came to in an alternative, and what follows for one that begins with the same entries.
 
-ghost use Rattle.std.specs.Prelude.{◌≡◌, ◌<◌, ◌≤◌, ◌+◌, ◌*◌, suc, length, take, None, Some, IfOk, IfSome, IsTrue, MatchOption};
+ghost use Rattle.std.specs.Prelude.{◌≡◌, ◌<◌, ◌≤◌, ◌+◌, ◌*◌, suc, length, take, None, Some, IfSome, IsTrue, MatchOption};
 ghost use Rattle.cbor_item.specs.View.{pairs_view};
 ghost use Rattle.cddl_meaning.specs.Moves as M;
 ghost use Rattle.cddl_meaning.specs.Moves.{answer_reply, tally_says};
-ghost use Rattle.cddl_match.specs.Tellings.{BeginAlike, IsTallied, counted_again, told_with};
+ghost use Rattle.cddl_match.specs.Tellings.{BeginAlike, IsTallied, told_with};
 ghost use Rattle.cddl_match.specs.Views.{tally_view};
 ghost use Rattle.cddl_match.specs.Within.{Replied, Says, said_view};
 ghost use Rattle.cddl_table.specs.Language.{language_of};
@@ -12,10 +12,10 @@ ghost use Rattle.cddl_table.specs.Nodes.{entries_view};
 
 use crate::means::Means;
 use crate::questions::{Fate, Said, Tally};
-use crate::sorting::{no_tally, shown_by_tally};
+use crate::sorting::{no_tally, shown_by_first, shown_by_tally};
 use cbor_item::Item;
 use cddl_table::{MapEntry, Table};
-use std::alloc::{AllocError, Global};
+use std::alloc::Global;
 
 /// What the pairs of a map came to with the entries of the alternative that was asked last.
 #[derive(Drop)]
@@ -81,17 +81,6 @@ fn left_after(steps: u64, asked: u64, entries: usize, pairs: usize) -> Option<u6
     steps.checked_sub(1)?.checked_sub(asked)?.checked_sub(tried)
 }
 
-/// Counts the pairs for these entries, of which so many of the first were counted for before.
-fn count_again(tally: &mut Tally, told: usize, entries: &[MapEntry]) -> Result<(), AllocError>
-    requires counted { told ≤ length tally.old.counts.items }
-    requires there { told ≤ length entries.now }
-    ensures { IfOk result (λ _. tally_view tally.new ≡ counted_again told (entries_view entries.now) (tally_view tally.old)) }
-{
-    tally.counts.truncate(told);
-    tally.counts.resize(entries.len(), 0)?;
-    Ok(())
-}
-
 impl<'t> Tallied<'t> {
     /// How many of these entries tell what becomes of each pair, if they are the same as those that were asked.
     pub(crate) fn told_in(&self, entries: &[MapEntry]) -> Option<usize>
@@ -116,29 +105,26 @@ impl<'t> Tallied<'t> {
 
     /// What an alternative of these entries says of the map at `base`, if so many of the first tell what becomes of each pair.
     pub(crate) fn says_again(
-        &mut self,
+        &self,
         table: &Table,
         means: &mut Means<'_>,
         told: usize,
-        entries: &'t [MapEntry],
+        entries: &[MapEntry],
         base: usize,
         pairs: &[(Item, Item)],
     ) -> Said
-        requires told { self.old.told ≡ Some told }
-        requires alike { BeginAlike told self.old.entries.now entries.now }
-        requires known { IsTallied (language_of table.now) base (pairs_view pairs.now) self.old }
-        ensures says { Says (language_of table.now) (M.OfAlternative (entries_view entries.now) base (pairs_view pairs.now)) means.old.left means.new.left (said_view result) }
-        ensures known { IsTallied (language_of table.now) base (pairs_view pairs.now) self.new }
+        requires told { self.now.told ≡ Some told }
+        requires alike { BeginAlike told self.now.entries.now entries.now }
+        requires known { IsTallied (language_of table.now) base (pairs_view pairs.now) self.now }
+        ensures { Says (language_of table.now) (M.OfAlternative (entries_view entries.now) base (pairs_view pairs.now)) means.old.left means.new.left (said_view result) }
     {
         let Some(left) = left_after(means.left, self.asked, entries.len(), pairs.len()) else {
             return Said::Spent;
         };
         means.left = left;
-        let Ok(()) = count_again(&mut self.tally, told, entries) else {
-            self.told = None;
-            return Said::NoMemory;
-        };
-        self.entries = entries;
-        self.says(base)
+        match shown_by_first(told, entries, base, &self.tally) {
+            Some(far) => Said::No { far },
+            None => Said::Yes { next: self.next },
+        }
     }
 }
