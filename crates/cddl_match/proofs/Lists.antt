@@ -47,13 +47,13 @@ counted_none m (n ∷ ns) h = rw (other m (length ns) (omega (arith, h))) (ap (�
     other : (m k : ℕ) → k < m → nat_eq m k ≡ false
     other m k h = grind (arith, nat_tests)
 
-pub counted_written : (ns : List ℕ) (k m v : ℕ) → k + suc m ≡ length ns → v ≡ slice_index_or ns k v → slice_set ns k (plus v 1) ≡ counted m ns
-counted_written [] k m v h e = absurd (omega (arith, h))
-counted_written (n ∷ ns) zero m v h e = rw (same m (length ns) (omega (arith, h)), e) refl
+pub counted_written : (ns : List ℕ) (k m : ℕ) → k + suc m ≡ length ns → slice_set ns k (plus (slice_index_or ns k 0) 1) ≡ counted m ns
+counted_written [] k m h = absurd (omega (arith, h))
+counted_written (n ∷ ns) zero m h = rw (same m (length ns) (omega (arith, h))) refl
   where
     same : (m k : ℕ) → m ≡ k → nat_eq m k ≡ true
     same m k h = grind (arith, nat_tests)
-counted_written (n ∷ ns) (suc k) m v h e = rw (other m (length ns) (omega (arith, h))) (ap (λ ms. n ∷ ms) (counted_written ns k m v (omega (arith, h)) e))
+counted_written (n ∷ ns) (suc k) m h = rw (other m (length ns) (omega (arith, h))) (ap (λ ms. n ∷ ms) (counted_written ns k m (omega (arith, h))))
   where
     other : (m k : ℕ) → m < k → nat_eq m k ≡ false
     other m k h = grind (arith, nat_tests)
@@ -62,11 +62,11 @@ pub none_counted : (es : List MapEntry) → replicate (length es) 0 ≡ no_count
 none_counted [] = refl
 none_counted (e ∷ es) = ap (λ ns. 0 ∷ ns) (none_counted es)
 
-pub counts_begun : (es : List MapEntry) (old new : List ℕ) (m : ℕ) → old ≡ [] → m ≡ 0 → new ≡ take (length es) old ++ replicate (length es - m) 0 → new ≡ no_counts (entries_view es)
-counts_begun es old new m e i j = j ∙ by old m e i
+pub none_begun : (n : ℕ) (old new : List ℕ) (m : ℕ) → old ≡ [] → m ≡ 0 → new ≡ take n old ++ replicate (n - m) 0 → new ≡ replicate n 0
+none_begun n old new m e i j = j ∙ by old m e i
   where
-    by : (old : List ℕ) (m : ℕ) → old ≡ [] → m ≡ 0 → take (length es) old ++ replicate (length es - m) 0 ≡ no_counts (entries_view es)
-    by old m e i = let n : length es - m ≡ length es = omega (arith, i) in rw (e, n, take-nil) (none_counted es)
+    by : (old : List ℕ) (m : ℕ) → old ≡ [] → m ≡ 0 → take n old ++ replicate (n - m) 0 ≡ replicate n 0
+    by old m e i = let k : n - m ≡ n = omega (arith, i) in rw (e, k, take-nil) refl
 
 pub as_many_entries : (es : List MapEntry) → length (entries_view es) ≡ length es
 as_many_entries [] = refl

@@ -1,5 +1,5 @@
 -- What the code's questions, replies and frames stand for.
-use Rattle.std.specs.Prelude.{ℕ, List, map, Option, Some, None, Bool, true, false}
+use Rattle.std.specs.Prelude.{ℕ, List, map, Option, Some, None, Bool, true, false, take, nat_le, if◌then◌else◌}
 use Rattle.cbor_data.specs.Value.{Value, uint, place_count}
 use Rattle.cbor_item.specs.View.{pairs_view, view}
 use Rattle.cbor_item.specs.declared.item.Item.{Item}
@@ -9,6 +9,7 @@ use Rattle.cddl_meaning.specs.Moves as M
 use Rattle.cddl_table.specs.declared.nodes.TypeId.{TypeId}
 use Rattle.cddl_table.specs.declared.nodes.GroupId.{GroupId}
 use Rattle.cddl_table.specs.Nodes.{alternatives_view, content_view, entries_view, entry_view, most_view, test_view}
+use Rattle.cddl_match.specs.declared.counts.Counts.{Counts}
 use Rattle.cddl_match.specs.declared.questions.Subject.{Subject}
 use Rattle.cddl_match.specs.declared.questions.Subject.TheVariants as S
 use Rattle.cddl_match.specs.declared.questions.Question.{Question}
@@ -40,9 +41,13 @@ abbrev pub subject_view : Subject → Value
 subject_view (S.Item i) = view i.now
 subject_view (S.Number n) = uint n
 
+-- counts, those of few entries and those of more
+abbrev pub counts_view : Counts → List ℕ
+counts_view c = if nat_le c.entries 8 then take c.entries c.few else c.many.items
+
 -- a tally, what becomes of a pair, and a pair that is sorted
 abbrev pub tally_view : Tally → M.Tally
-tally_view t = record { counts = t.counts.items; stray = t.stray; failing = t.failing }
+tally_view t = record { counts = counts_view t.counts; stray = t.stray; failing = t.failing }
 
 abbrev pub fate_view : Fate → J.Fate
 fate_view (T.Matches n) = J.BelongsTo n J.Yes

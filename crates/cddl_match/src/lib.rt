@@ -4,6 +4,7 @@
 mod answers;
 mod behind;
 mod controls;
+mod counts;
 mod frames;
 mod judging;
 mod laws;

@@ -1,5 +1,6 @@
 //! Questions, the replies to them, and what waits for a reply.
 
+use crate::counts::Counts;
 use cbor_item::Item;
 use cddl_table::{Content, GroupId, MapEntry, Most, Test, TypeId};
 
@@ -84,7 +85,7 @@ pub(crate) enum Stop {
 #[derive(Drop)]
 pub(crate) struct Tally {
     /// How many pairs belong to each entry.
-    pub(crate) counts: Vec<u64>,
+    pub(crate) counts: Counts,
     /// The place of the first key that belongs to no entry.
     pub(crate) stray: Option<usize>,
     /// Where the first value shows that is not as its entry says.

@@ -29,34 +29,16 @@ ghost use Rattle.cddl_meaning.specs.Moves.{
   tally_says,
 };
 ghost use Rattle.cddl_match.specs.Tellings.{counted_again};
-ghost use Rattle.cddl_match.specs.Views.{fate_view, move_view, reply_view, sorting_view, subject_view, tally_view};
+ghost use Rattle.cddl_match.specs.Views.{counts_view, fate_view, move_view, reply_view, sorting_view, subject_view, tally_view};
 ghost use Rattle.cddl_table.specs.Language.{language_of};
 ghost use Rattle.cddl_table.specs.Nodes.{alternatives_view, entries_view, entry_view, most_view};
 
+use crate::counts::Counts;
 use crate::places::{place_after, plus};
 use crate::questions::{Fate, Move, Pending, Question, Reply, Sorting, Subject, Tally};
 use cbor_item::Item;
 use cddl_table::{MapEntry, Most};
 use std::alloc::{AllocError, Global};
-
-/// The number of the entry with so many entries after it.
-fn number_of(entries: usize, after: usize) -> Option<usize>
-    ensures some { IfSome result (λ number. number + suc after ≡ entries) }
-    ensures none { IfNone result (entries ≤ after) }
-{
-    entries.checked_sub(after)?.checked_sub(1)
-}
-
-/// Counts a pair for the entry with so many entries after it.
-fn count_pair(counts: &mut Vec<u64>, after: usize)
-    ensures { counts.new.items ≡ counted after counts.old.items }
-{
-    if let Some(number) = number_of(counts.len(), after) {
-        if let Some(count) = counts.get_mut(number) {
-            *count = count.saturating_add(1);
-        }
-    }
-}
 
 /// Takes in what has become of a pair.
 #[inline(never)]
@@ -64,9 +46,9 @@ pub(crate) fn tally_pair(tally: &mut Tally, fate: Fate)
     ensures { tally_view tally.new ≡ tallied (tally_view tally.old) (fate_view fate) }
 {
     match fate {
-        Fate::Matches { after } => count_pair(&mut tally.counts, after),
+        Fate::Matches { after } => tally.counts.count(after),
         Fate::Fails { after, far } => {
-            count_pair(&mut tally.counts, after);
+            tally.counts.count(after);
             tally.failing = tally.failing.or(Some(far));
         }
         Fate::Stray { place } => tally.stray = tally.stray.or(Some(place)),
@@ -76,7 +58,7 @@ pub(crate) fn tally_pair(tally: &mut Tally, fate: Fate)
 /// A tally that is not begun yet. It takes no memory.
 pub(crate) fn no_tally(alloc: Global) -> Tally {
     Tally {
-        counts: Vec::new(alloc),
+        counts: Counts::new(alloc),
         stray: None,
         failing: None,
     }
@@ -87,8 +69,7 @@ pub(crate) fn no_tally(alloc: Global) -> Tally {
 pub(crate) fn begin_tally(tally: &mut Tally, entries: &[MapEntry]) -> Result<(), AllocError>
     ensures { IfOk result (λ _. tally_view tally.new ≡ fresh (entries_view entries.now)) }
 {
-    tally.counts.clear();
-    tally.counts.resize(entries.len(), 0)?;
+    tally.counts.begin(entries.len())?;
     tally.stray = None;
     tally.failing = None;
     Ok(())
@@ -142,7 +123,7 @@ pub(crate) fn shown_by_tally(entries: &[MapEntry], base: usize, tally: &Tally) -
     if let Some(far) = tally.failing {
         return Some(far);
     }
-    if !are_enough(entries, &tally.counts) {
+    if !are_enough(entries, tally.counts.as_slice()) {
         return Some(base);
     }
     None
@@ -179,14 +160,14 @@ pub(crate) fn shown_by_first(
     base: usize,
     tally: &Tally,
 ) -> Option<usize>
-    requires counted { told ≤ length tally.now.counts.items }
+    requires counted { told ≤ length (counts_view tally.now.counts) }
     requires there { told ≤ length entries.now }
     ensures { MatchOption result (tally_says (entries_view entries.now) base (counted_again told (entries_view entries.now) (tally_view tally.now)) ≡ J.Yes) (λ far. tally_says (entries_view entries.now) base (counted_again told (entries_view entries.now) (tally_view tally.now)) ≡ J.No far) }
 {
     if let Some(far) = tally.stray.or(tally.failing) {
         return Some(far);
     }
-    if !are_enough_in_front(told, entries, &tally.counts) {
+    if !are_enough_in_front(told, entries, tally.counts.as_slice()) {
         return Some(base);
     }
     None

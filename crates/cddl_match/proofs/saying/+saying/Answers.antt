@@ -10,6 +10,7 @@ use Rattle.cddl_table.specs.Language.{language_of}
 use Rattle.cddl_table.specs.Nodes.{alternatives_view, content_view, entries_view, entry_view, most_view, test_view, type_view}
 use Rattle.cddl_table.specs.declared.nodes.GroupId.{GroupId}
 use Rattle.cddl_match.specs.Ahead.{ComesTo}
+use Rattle.cddl_match.specs.Tellings.{sorting_of}
 use Rattle.cddl_match.specs.Views.{reply_view, rounds_move, tally_view, values}
 use Rattle.cddl_match.specs.declared.questions.Stop.TheVariants.{Spent}
 use Rattle.cddl_match.specs.Within.{Replied, Stopped, Says, done_view, said_view}
@@ -19,7 +20,7 @@ use Rattle.cddl_match.proofs.Sayings.{has_said, type_on, type_few, group_on, gro
 use Rattle.cddl_match.proofs.Handing.{none_tried, other_key_next, other_value_next, its_value, kept, key_stops, value_stops}
 use Rattle.cddl_match.proofs.Tellings.{all_told, no_pair_told, pair_sorted, pair_stops, pair_told}
 use Rattle.cddl_match.proofs.Turns.{none_left}
-use Rattle.cddl_match.proofs.Ways.{and_on, a_round, itself, opens}
+use Rattle.cddl_match.proofs.Ways.{and_on, a_round, itself, more_than, opens}
 use Rattle.cddl_match.proofs.saying.+saying.Goals as goal
 
 pub type_says_here-returns-in_default-checked_sub : goal.type_says_here-returns-in_default-checked_sub
@@ -163,6 +164,13 @@ tally_pairs-loop-pair-init t c =
       comes = rw (c.plus-place.ensures, c.in-Ok.ensures) (begins l (M.next_pair es c.args.base (M.plus c.args.base 1) ps (M.fresh es)) c.args.means.now.left);
       known = (0, omega arith, rw (c.plus-place.ensures, c.in-Ok.ensures) (no_pair_told l es c.args.base ps c.args.means.now.left));
     }
+
+pub tally_pairs-returns-then-means-tried-clause-comes : goal.tally_pairs-returns-then-means-tried-clause-comes
+tally_pairs-returns-then-means-tried-clause-comes t c =
+    let l = language_of c.args.table.now in
+    let here = rw c.in-Some.ensures.cases.0 at c.loop-pair.invariant.comes in
+    let s = sorting_of (entries_view c.args.entries.now) c.args.base c.loop-pair.place c.in-Some.pair.now (pairs_view c.in-Some.others.now) (tally_view c.loop-pair.tallied.tally) in
+    ends_so l c.args.means.now.left c.loop-pair.means.left c.loop-pair.means.left (Stopped Spent) here (omega (arith, c.loop-pair.invariant.within)) (more_than l s c.loop-pair.means.left (omega (arith, as_many_entries c.args.entries.now, c.if-means-tried.true)))
 
 pub tally_pairs-returns-in_err-fate-clause-comes : goal.tally_pairs-returns-in_err-fate-clause-comes
 tally_pairs-returns-in_err-fate-clause-comes t c =
