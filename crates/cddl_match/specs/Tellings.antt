@@ -7,7 +7,7 @@ use Rattle.cddl_meaning.specs.Forms as F
 use Rattle.cddl_meaning.specs.Forms.{Language}
 use Rattle.cddl_meaning.specs.Judges as J
 use Rattle.cddl_meaning.specs.Moves as M
-use Rattle.cddl_meaning.specs.Moves.{LeadsTo}
+use Rattle.cddl_meaning.specs.Moves.{LeadsTo, enough_of}
 use Rattle.cddl_table.specs.Nodes.{entries_view}
 use Rattle.cddl_table.specs.declared.nodes.GroupId.{GroupId}
 use Rattle.cddl_table.specs.declared.nodes.MapEntry.{MapEntry}
@@ -94,7 +94,7 @@ module _ {N G : Type 0} (l : Language N G) where
 
 -- What is kept of the alternative that was asked last is so.
 abbrev pub IsTallied : Language TypeId GroupId → (base : ℕ) → Pairs → Tallied → Type 0
-IsTallied l base ps t = IfSome t.told (λ told. AreTold l (entries_view t.entries.now) base ps t.next no_pairs (tally_view t.tally) told t.asked (pairs_len ps))
+IsTallied l base ps t = IfSome t.told (λ told. AreTold l (entries_view t.entries.now) base ps t.next no_pairs (tally_view t.tally) told t.asked (pairs_len ps) × (t.enough ≡ enough_of (entries_view (take told t.entries.now)) (take told (tally_view t.tally).counts)))
 
 -- The pairs of the map at a base come to this with these entries, within so many steps, of which so many are left then.
 abbrev pub Tallies : Language TypeId GroupId → List (F.MapEntry TypeId) → (base : ℕ) → Pairs → (steps left : ℕ) → Tallied → Result Unit Stop → Type 0

@@ -27,7 +27,7 @@ use crate::replies::{
     simple_said, such_said, test_says, tested,
 };
 use crate::shelf::{Cells, Shelf};
-use crate::sorting::{begin_tally, tally_pair};
+use crate::sorting::{begin_tally, first_are_enough, tally_pair};
 use crate::tallied::{Tallied, nothing_tallied, told_with};
 use crate::tested::passes;
 use cbor_item::Item;
@@ -304,7 +304,7 @@ fn alternative_says<'t, 'i>(
     };
     means.left = left;
     match tally_pairs(table, means, tallied, entries, base, pairs, depth) {
-        Ok(()) => tallied.says(base),
+        Ok(()) => tallied.says(table, base, pairs),
         Err(Stop::Spent) => Said::Spent,
         Err(Stop::NoMemory) => Said::NoMemory,
     }
@@ -351,6 +351,7 @@ fn tally_pairs<'t, 'i>(
     }
     tallied.entries = entries;
     tallied.told = told;
+    tallied.enough = first_are_enough(told, entries, &tallied.tally);
     tallied.asked = steps - unasked;
     tallied.next = place;
     Ok(())

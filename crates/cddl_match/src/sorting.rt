@@ -41,7 +41,7 @@ use cddl_table::{MapEntry, Most};
 use std::alloc::{AllocError, Global};
 
 /// Takes in what has become of a pair.
-#[inline(never)]
+#[inline]
 pub(crate) fn tally_pair(tally: &mut Tally, fate: Fate)
     ensures { tally_view tally.new ≡ tallied (tally_view tally.old) (fate_view fate) }
 {
@@ -65,7 +65,7 @@ pub(crate) fn no_tally(alloc: Global) -> Tally {
 }
 
 /// Begins a tally anew, for an alternative with these entries and before any pair.
-#[inline(never)]
+#[inline]
 pub(crate) fn begin_tally(tally: &mut Tally, entries: &[MapEntry]) -> Result<(), AllocError>
     ensures { IfOk result (λ _. tally_view tally.new ≡ fresh (entries_view entries.now)) }
 {
@@ -141,33 +141,50 @@ fn need_none(entries: &[MapEntry]) -> bool
     true
 }
 
-/// Whether as many pairs belong to each entry as it asks for, where they are those of so many of the first entries.
-fn are_enough_in_front(told: usize, entries: &[MapEntry], counts: &[u64]) -> bool
-    requires counted { told ≤ length counts.now }
-    requires there { told ≤ length entries.now }
-    ensures { result ≡ enough_of (entries_view entries.now) (take told counts.now ++ no_counts (drop told (entries_view entries.now))) }
+/// Whether as many pairs belong to each of the first entries, so many, as it asks for.
+#[inline(never)]
+pub(crate) fn first_are_enough(told: Option<usize>, entries: &[MapEntry], tally: &Tally) -> bool
+    requires { IfSome told (λ told. (told ≤ length entries.now) × (told ≤ length (counts_view tally.now.counts))) }
+    ensures { IfSome told (λ told. result ≡ enough_of (entries_view (take told entries.now)) (take told (counts_view tally.now.counts))) }
 {
-    let (first, others) = entries.split_at(told);
-    are_enough(first, &counts[..told]) && need_none(others)
+    match told {
+        Some(told) => are_enough(&entries[..told], &tally.counts.as_slice()[..told]),
+        None => false,
+    }
+}
+
+/// Whether as many pairs belong to each entry as it asks for, where they are those of so many of the first entries, which
+/// have enough or not.
+#[inline]
+fn are_enough_in_front(told: usize, enough: bool, entries: &[MapEntry], tally: &Tally) -> bool
+    requires counted { told ≤ length (counts_view tally.now.counts) }
+    requires there { told ≤ length entries.now }
+    requires enough { enough ≡ enough_of (entries_view (take told entries.now)) (take told (counts_view tally.now.counts)) }
+    ensures { result ≡ enough_of (entries_view entries.now) (take told (counts_view tally.now.counts) ++ no_counts (drop told (entries_view entries.now))) }
+{
+    let (_, others) = entries.split_at(told);
+    enough && need_none(others)
 }
 
 /// Where an alternative's no shows once all pairs of the map at `base` are tallied, which belong to so many of the first
 /// entries, if it says no.
-#[inline(never)]
+#[inline]
 pub(crate) fn shown_by_first(
     told: usize,
+    enough: bool,
     entries: &[MapEntry],
     base: usize,
     tally: &Tally,
 ) -> Option<usize>
     requires counted { told ≤ length (counts_view tally.now.counts) }
     requires there { told ≤ length entries.now }
+    requires enough { enough ≡ enough_of (entries_view (take told entries.now)) (take told (counts_view tally.now.counts)) }
     ensures { MatchOption result (tally_says (entries_view entries.now) base (counted_again told (entries_view entries.now) (tally_view tally.now)) ≡ J.Yes) (λ far. tally_says (entries_view entries.now) base (counted_again told (entries_view entries.now) (tally_view tally.now)) ≡ J.No far) }
 {
     if let Some(far) = tally.stray.or(tally.failing) {
         return Some(far);
     }
-    if !are_enough_in_front(told, entries, tally.counts.as_slice()) {
+    if !are_enough_in_front(told, enough, entries, tally) {
         return Some(base);
     }
     None

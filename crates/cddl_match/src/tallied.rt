@@ -2,6 +2,7 @@
 
 ghost use Rattle.std.specs.Prelude.{◌≡◌, ◌<◌, ◌≤◌, ◌+◌, ◌*◌, suc, length, take, None, Some, IfSome, IsTrue, MatchOption};
 ghost use Rattle.cbor_item.specs.View.{pairs_view};
+ghost use Rattle.cddl_meaning.specs.Judges as J;
 ghost use Rattle.cddl_meaning.specs.Moves as M;
 ghost use Rattle.cddl_meaning.specs.Moves.{answer_reply, tally_says};
 ghost use Rattle.cddl_match.specs.Tellings.{BeginAlike, IsTallied, told_with};
@@ -25,6 +26,8 @@ pub(crate) struct Tallied<'t> {
     /// So many of the first entries tell what becomes of each pair. None where a pair belongs to no entry, or where nothing
     /// was asked yet.
     pub(crate) told: Option<usize>,
+    /// Whether as many pairs belong to each of these entries as it asks for.
+    pub(crate) enough: bool,
     /// So many questions were asked about the pairs.
     pub(crate) asked: u64,
     /// The place after the pairs.
@@ -39,6 +42,7 @@ pub(crate) fn nothing_tallied<'t>(alloc: Global) -> Tallied<'t>
         tally: no_tally(alloc),
         entries: &[],
         told: None,
+        enough: false,
         asked: 0,
         next: 0,
     }
@@ -81,6 +85,17 @@ fn left_after(steps: u64, asked: u64, entries: usize, pairs: usize) -> Option<u6
     steps.checked_sub(1)?.checked_sub(asked)?.checked_sub(tried)
 }
 
+/// What is said by where a no shows, if it does.
+#[inline]
+fn said_where(shown: Option<usize>, next: usize) -> Said
+    ensures { (a : J.Answer) → MatchOption shown (a ≡ J.Yes) (λ far. a ≡ J.No far) → said_view result ≡ Replied (answer_reply next a) }
+{
+    match shown {
+        Some(far) => Said::No { far },
+        None => Said::Yes { next },
+    }
+}
+
 impl<'t> Tallied<'t> {
     /// How many of these entries tell what becomes of each pair, if they are the same as those that were asked.
     pub(crate) fn told_in(&self, entries: &[MapEntry]) -> Option<usize>
@@ -94,12 +109,16 @@ impl<'t> Tallied<'t> {
     }
 
     /// What the alternative says of the map at `base`.
-    pub(crate) fn says(&self, base: usize) -> Said
+    pub(crate) fn says(&self, table: &Table, base: usize, pairs: &[(Item, Item)]) -> Said
+        requires known { IsTallied (language_of table.now) base (pairs_view pairs.now) self.now }
         ensures { said_view result ≡ Replied (answer_reply self.now.next (tally_says (entries_view self.now.entries.now) base (tally_view self.now.tally))) }
     {
-        match shown_by_tally(self.entries, base, &self.tally) {
-            Some(far) => Said::No { far },
-            None => Said::Yes { next: self.next },
+        match self.told {
+            Some(told) => {
+                let shown = shown_by_first(told, self.enough, self.entries, base, &self.tally);
+                said_where(shown, self.next)
+            }
+            None => said_where(shown_by_tally(self.entries, base, &self.tally), self.next),
         }
     }
 
@@ -122,9 +141,7 @@ impl<'t> Tallied<'t> {
             return Said::Spent;
         };
         means.left = left;
-        match shown_by_first(told, entries, base, &self.tally) {
-            Some(far) => Said::No { far },
-            None => Said::Yes { next: self.next },
-        }
+        let shown = shown_by_first(told, self.enough, entries, base, &self.tally);
+        said_where(shown, self.next)
     }
 }

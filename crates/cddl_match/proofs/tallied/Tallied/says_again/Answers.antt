@@ -1,6 +1,5 @@
-use Rattle.std.proofs.Common.{◌+◌, ◌*◌, suc, length, arith}
+use Rattle.std.proofs.Common.{◌+◌, ◌*◌, suc, length, refl, arith}
 use Rattle.cbor_item.specs.View.{pairs_view}
-use Rattle.cddl_meaning.specs.Judges as J
 use Rattle.cddl_meaning.specs.Moves as M
 use Rattle.cddl_match.specs.Tellings.{counted_again}
 use Rattle.cddl_match.specs.Views.{tally_view}
@@ -13,14 +12,10 @@ use Rattle.cddl_match.proofs.tallied.Tallied.says_again.Goals as goal
 pub returns-in_default : goal.returns-in_default
 returns-in_default c =
     let l = language_of c.args.table.now in
-    few l c.args.means.now.left c.args.means.now.left (again l c.args.self.now.entries.now c.args.entries.now c.args.base c.args.self.now.next c.args.told c.args.self.now.asked c.args.pairs.now (tally_view c.args.self.now.tally) c.requires.alike (rw c.requires.told at c.requires.known)) (omega (arith, c.in_default.ensures))
+    few l c.args.means.now.left c.args.means.now.left (again l c.args.self.now.entries.now c.args.entries.now c.args.base c.args.self.now.next c.args.told c.args.self.now.asked c.args.pairs.now (tally_view c.args.self.now.tally) c.requires.alike (rw c.requires.told at c.requires.known).0) (omega (arith, c.in_default.ensures))
 
-pub returns-in-Some-shown_by_first : goal.returns-in-Some-shown_by_first
-returns-in-Some-shown_by_first c =
+pub returns : goal.returns
+returns c =
     let l = language_of c.args.table.now in
-    says_so l (M.OfAlternative (entries_view c.args.entries.now) c.args.base (pairs_view c.args.pairs.now)) c.args.means.now.left c.in-Some.left (1 + (c.args.self.now.asked + length c.args.pairs.now * suc (length c.args.entries.now))) c.args.self.now.next (M.tally_says (entries_view c.args.entries.now) c.args.base (counted_again c.args.told (entries_view c.args.entries.now) (tally_view c.args.self.now.tally))) (J.No c.in-Some-shown_by_first.far) (again l c.args.self.now.entries.now c.args.entries.now c.args.base c.args.self.now.next c.args.told c.args.self.now.asked c.args.pairs.now (tally_view c.args.self.now.tally) c.requires.alike (rw c.requires.told at c.requires.known)) c.in-Some-shown_by_first.ensures c.in-Some.ensures
-
-pub returns-in-None : goal.returns-in-None
-returns-in-None c =
-    let l = language_of c.args.table.now in
-    says_so l (M.OfAlternative (entries_view c.args.entries.now) c.args.base (pairs_view c.args.pairs.now)) c.args.means.now.left c.in-Some.left (1 + (c.args.self.now.asked + length c.args.pairs.now * suc (length c.args.entries.now))) c.args.self.now.next (M.tally_says (entries_view c.args.entries.now) c.args.base (counted_again c.args.told (entries_view c.args.entries.now) (tally_view c.args.self.now.tally))) J.Yes (again l c.args.self.now.entries.now c.args.entries.now c.args.base c.args.self.now.next c.args.told c.args.self.now.asked c.args.pairs.now (tally_view c.args.self.now.tally) c.requires.alike (rw c.requires.told at c.requires.known)) c.in-None.ensures c.in-Some.ensures
+    let says = M.tally_says (entries_view c.args.entries.now) c.args.base (counted_again c.args.told (entries_view c.args.entries.now) (tally_view c.args.self.now.tally)) in
+    rw (c.said_where.ensures says c.shown_by_first-shown.ensures) (says_so l (M.OfAlternative (entries_view c.args.entries.now) c.args.base (pairs_view c.args.pairs.now)) c.args.means.now.left c.in-Some.left (1 + (c.args.self.now.asked + length c.args.pairs.now * suc (length c.args.entries.now))) c.args.self.now.next says says (again l c.args.self.now.entries.now c.args.entries.now c.args.base c.args.self.now.next c.args.told c.args.self.now.asked c.args.pairs.now (tally_view c.args.self.now.tally) c.requires.alike (rw c.requires.told at c.requires.known).0) refl c.in-Some.ensures)
