@@ -2,7 +2,7 @@
 use Rattle.std.proofs.Common.{◌≡◌, ◌≢◌, ℕ, suc, ◌+◌, ◌-◌, ◌*◌, ◌<◌, ◌≤◌, ◌++◌, max, length, take, drop, List, [], ◌∷◌, Bool, true, false, nat_eq, refl, sym, ap, subst, ◌∙◌, append_assoc, arith}
 use Rattle.std.specs.Prelude.{Option, Some, None, IfSome, Ok, Err}
 use Rattle.std.proofs.lemmas.Bool.Decides.{nat_tests}
-use Rattle.std.proofs.lemmas.List.{drop_at, length-append, length-take-le, take-append-drop, take-map, take_at}
+use Rattle.std.proofs.lemmas.List.{length-append, length-take-le, take-append-drop, take-map, take_at}
 use Rattle.cbor_data.specs.Value.{Pairs, no_pairs, pair, pairs_len}
 use Rattle.cbor_item.specs.View.{pairs_view, view}
 use Rattle.cbor_item.specs.declared.item.Item.{Item}
@@ -208,16 +208,6 @@ module _ {N G : Type 0} (l : Language N G) where
       let d = subst (λ k. ComesTo l (M.next_pair es base (M.plus base 1) ps (M.fresh es)) (M.next_pair es base next no_pairs t) (asked + tried * suc k)) n (subst (λ u. ComesTo l (M.next_pair es base (M.plus base 1) ps (M.fresh es)) (M.next_pair es base next no_pairs u) (asked + tried * suc (told + length a.others))) c (subst (λ xs. ComesTo l (M.next_pair xs base (M.plus base 1) ps (M.fresh xs)) (M.next_pair xs base next no_pairs (widened a.counts a.others t)) (asked + tried * suc (told + length a.others))) (sym a.parts) (a.comes a.others))) in
       then_comes l (opens l (M.OfAlternative es base ps)) d refl
 
-  -- With the same entries they are told by the same tally.
-  pub same_tally : {es : List (F.MapEntry N)} {base next told asked tried : ℕ} {ps left : Pairs} {t : M.Tally} → AreTold l es base ps next left t told asked tried → counted_again told es t ≡ t
-  same_tally {es = es} {told = told} {t = t} a =
-      let c = ap (λ ns. ns ++ no_counts (drop told es)) (ap (take told) a.counted ∙ take_at a.counts (no_counts a.others) told a.each) in
-      let o = ap (λ xs. a.counts ++ no_counts xs) (ap (drop told) a.parts ∙ drop_at a.first a.others told a.many) in
-      ap (λ ns. record { counts = ns; stray = t.stray; failing = t.failing }) (c ∙ o ∙ sym a.counted)
-
-  pub as_many_first : {es : List (F.MapEntry N)} {base next told asked tried : ℕ} {ps left : Pairs} {t : M.Tally} → AreTold l es base ps next left t told asked tried → told ≤ length es
-  as_many_first a = omega (arith, ap length a.parts ∙ length-append a.first a.others, a.many)
-
   pub as_many_counts : {es : List (F.MapEntry N)} {base next told asked tried : ℕ} {ps left : Pairs} {t : M.Tally} → AreTold l es base ps next left t told asked tried → told ≤ length t.counts
   as_many_counts a = omega (arith, ap length a.counted ∙ length-append a.counts (no_counts a.others), a.each)
 
@@ -259,10 +249,6 @@ module _ (l : Language TypeId GroupId) (es : List (F.MapEntry TypeId)) (base : �
   pub all_told : (asked n next : ℕ) (ps : Pairs) (t : M.Tally) (told : Option ℕ) → IfSome told (λ m. (tried : ℕ) × (tried + 0 ≡ n) × AreTold l es base ps next no_pairs t m asked tried) → IfSome told (λ m. AreTold l es base ps next no_pairs t m asked n)
   all_told asked n next ps t None h = tt
   all_told asked n next ps t (Some m) h = subst (λ k. AreTold l es base ps next no_pairs t m asked k) (omega (arith, h.1)) h.2
-
-  pub first_within : (many asked n next : ℕ) (ps left : Pairs) (t : M.Tally) (told : Option ℕ) → length es ≡ many → IfSome told (λ m. (tried : ℕ) × (tried + pairs_len left ≡ n) × AreTold l es base ps next left t m asked tried) → IfSome told (λ m. (m ≤ many) × (m ≤ length t.counts))
-  first_within many asked n next ps left t None e h = tt
-  first_within many asked n next ps left t (Some m) e h = (omega (arith, as_many_first l h.2, e), as_many_counts l h.2)
 
 pub told_and : (told : Option ℕ) (P Q : ℕ → Type 0) → IfSome told P → IfSome told Q → IfSome told (λ m. P m × Q m)
 told_and None P Q p q = tt

@@ -18,7 +18,7 @@ use Rattle.cddl_match.proofs.Lists.{as_many_entries, view-Uint}
 use Rattle.cddl_match.proofs.Outcomes.{answered, begins, ends_on, passes_on, says_on, took, asks}
 use Rattle.cddl_match.proofs.Sayings.{has_said, type_on, type_few, group_on, group_few, no_passes, yes_passes, array_ends, simple_ends, such_ends, meant_ends, held_ends, nothing_held, entry_ends, goes_on, ends_so, stops, round_stops}
 use Rattle.cddl_match.proofs.Handing.{none_tried, other_key_next, other_value_next, its_value, kept, key_stops, value_stops}
-use Rattle.cddl_match.proofs.Tellings.{all_told, first_within, no_pair_told, pair_sorted, pair_stops, pair_told, told_and}
+use Rattle.cddl_match.proofs.Tellings.{all_told, no_pair_told, pair_sorted, pair_stops, pair_told, told_and}
 use Rattle.cddl_match.proofs.Turns.{none_left}
 use Rattle.cddl_match.proofs.Ways.{and_on, a_round, itself, more_than, opens}
 use Rattle.cddl_match.proofs.saying.+saying.Goals as goal
