@@ -53,6 +53,10 @@ class Function:
         at = len(self.path) - self.depth()
         return ".".join([*self.path[:at], f"+{self.cycle}"] if self.cycle else self.path)
 
+    def proof_of_calls(self):
+        """The path of the function's proof where it calls itself, and names no cycle."""
+        return ".".join([*self.path[:-1], f"+{self.name}"])
+
     def group(self):
         """What has one proof: the functions of a cycle of calls, or the function alone."""
         return ("cycle", self.cycle) if self.cycle else (self.file, str(self.opens))

@@ -84,6 +84,29 @@ pub fn two() -> u32
 {
     one() + 1
 }
+
+/// The number 0, by as many calls.
+pub fn down(count: u32) -> u32
+    ensures { result ≡ 0 }
+{
+    if count == 0 {
+        return 0;
+    }
+    down(count - 1)
+}
+
+/// The number 3.
+pub fn three() -> u32
+    ensures { result ≡ 3 }
+{
+    two() + one() + down(2)
+}
+""",
+    "proofs/+down/Invariants.antt": """\
+use Rattle.sample.proofs.+down.Given as goal
+
+abbrev pub decreases-down : goal.decreases-down
+decreases-down l = l.count
 """,
     "specs/Lib.antt": "pub mod Bounds\n",
     "specs/Bounds.antt": """\
@@ -131,6 +154,10 @@ EDITS = {
     "one_is_nought": ("src/lib.rt", "    1", "    0", "refused, as it must be"),
     # it calls what is refused beside it
     "two_stays": ("src/lib.rt", "one() + 1", "1 + one()", "NOT REFUSED"),
+    # two edits of a function that calls itself, and one of a function that calls it
+    "down_is_one": ("src/lib.rt", "return 0", "return 1", "refused, as it must be"),
+    "down_stays": ("src/lib.rt", "return 0", "return 0 + 0", "NOT REFUSED"),
+    "three_is_two": ("src/lib.rt", "two() + one()", "two()", "refused, as it must be"),
     # two edits of one function, whose name another module has too
     "left_is_two": ("src/left.rt", "    1", "    2", "refused, as it must be"),
     "left_stays": ("src/left.rt", "    1", "    0 + 1", "NOT REFUSED"),

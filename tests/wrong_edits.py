@@ -35,11 +35,21 @@ NAMING = "its name is of letters, digits, _, - and . and ends in .edit"
 # The folder in wrong/ with edits that the gate does not try.
 INNER = "inner"
 LINE = re.compile(r"fn (\S+): (.*)")
+# A body and a proof that say nothing, for a function that is only called: its contract is all that counts then.
+BARE_BODY = "loop {}"
+BARE_PROOF = """\
+use Rattle.{crate}.proofs.{path}.Statement.{{statement}}
+
+pub {name}_spec : {{M : Type 1}} → statement M
+{name}_spec = ?
+"""
+WITH_HOLES = ["--allow-holes"]
 PLACE = re.compile(r"(?:\./)?(src/\S+\.rt):(\d+):\d+: error")
 LAW = re.compile(r"^law: (.*)$", re.MULTILINE)
 NOTE = re.compile(r"note: \S+:\d+:\d+: ")
 # What a check says of a function that it refuses for itself, and what of one that rests on a refused one.
 IS_REFUSED = re.compile(r"no proof: expected |not proved(?!.*\bit (?:calls|passes) )")
+STANDS_ON = re.compile(r"not proved; it stands on `([^`]*)`")
 RESTS = re.compile(r"(?:no proof: |not proved; )(?:in .*: )?it (?:calls|passes) ")
 
 
@@ -202,9 +212,56 @@ class Trial:
         return f"refused, as it must be: {why[0][:160]}" if why else "NOT REFUSED: its law is proved even so"
 
     def try_many(self, edits, kept):
-        """What checks of many edits say of each that they refuse. Where a callee is refused, not all goals of its callers are
-        tried. So in the first check an edit is made in its function where no other edited one leads there, and else in a copy
-        of the function beside it. What is left is tried in turns."""
+        """What checks of many edits say of each that they refuse: over bare functions, and then of what is left with all
+        bodies. Where a callee is refused, not all goals of its callers are tried. So an edit is made in its function where no
+        other edited one calls it, and else in a copy of the function beside it."""
+        refused, left = {}, edits
+        while left:
+            placed, beside = self.turn_of(left)
+            refused.update(self.try_over_bare(placed, beside, kept))
+            left = [it for it in left if it not in placed and it not in beside and it not in self.broken]
+        return {**refused, **self.try_over_whole([it for it in edits if it not in refused and it not in self.broken], kept)}
+
+    def turn_of(self, left):
+        """Those of the edits that one check over bare functions can tell apart: made in place, and made beside."""
+        copied = [it for it in left if self.can_stand_beside(it.function)]
+        firsts = apart([*[it for it in left if it not in copied], *copied], lambda it, other: False)
+        tried = list(dict.fromkeys([*firsts, *copied]))
+        placed = [it for it in firsts if not any(self.calls(other, it) for other in tried)]
+        beside = [it for it in copied if it not in placed]
+        return (placed, beside) if placed or beside else (left[:1], [])
+
+    def calls(self, edit, other):
+        """Whether the one edit's function calls the other's, which has another proof, as far as their names tell."""
+        return edit.function.group() != other.function.group() and other.function.name in edit.words
+
+    def try_over_bare(self, placed, beside, kept):
+        """What one check says of each edit that it refuses, where the functions that have none have neither a body nor a proof."""
+        copies, edited = self.copies(beside), {it.function for it in placed}
+        texts = self.with_copies(copies, placed, [it for it in self.functions if it not in edited and self.can_be_bare(it)])
+        tried = {**{it.function: it for it in placed}, **{copy: edit for edit, _, copy in copies}}
+        is_whole, found = self.check(texts, tried, kept, WITH_HOLES)
+        if not is_whole:
+            left = [[it for it in each if it not in self.broken] for each in (placed, beside)]
+            return self.try_over_bare(*left, kept) if any(left) and left != [placed, beside] else {}
+        found = [(of, "not proved" if of and self.is_refused_itself(of, words) else "proved", why) for of, words, why in found]
+        whys = {of.group(): why for of, words, why in found if words != "proved"}
+        in_place = {it: whys[it.function.group()] for it in placed if it.function.group() in whys}
+        return {**in_place, **refused_beside(copies, found)}
+
+    def can_be_bare(self, function):
+        """Whether the function can do without its body and its proof where it is only called."""
+        is_alone = bool(function.path) and function.path not in self.doubles
+        return is_alone and not (function.is_const or function.is_of_trait or function.cycle)
+
+    def is_refused_itself(self, function, words):
+        """Whether a check over bare functions refuses the function for itself, and not for what it rests on."""
+        stands_on = STANDS_ON.match(words)
+        own = tuple(f"Rattle.{self.crate.name}.proofs.{it}." for it in (function.proof(), function.proof_of_calls()))
+        return bool(IS_REFUSED.match(words)) or bool(stands_on) and stands_on[1].startswith(own)
+
+    def try_over_whole(self, edits, kept):
+        """What checks of many edits say of each that they refuse, with the bodies of the functions that have none."""
         placed = [it for it in apart(edits, lambda it, other: False) if not any(self.leads(other, it) for other in edits)]
         beside = [it for it in edits if it not in placed and self.can_stand_beside(it.function)]
         refused = self.try_at_once(placed, beside, kept)
@@ -271,9 +328,14 @@ class Trial:
             found += [(edit, of, of.called(f"{of.name}_tried_{at}")) for at, edit in enumerate(own)]
         return found
 
-    def with_copies(self, copies, placed=()):
-        """The texts of the files with these copies and with these edits in place, and of the copies' proofs."""
+    def with_copies(self, copies, placed=(), bare=()):
+        """The texts of the files with these copies, with these edits in place and with these functions bare, and of the proofs
+        of the copies and of what is bare, or None for a file that has to go."""
         parts, texts = collections.defaultdict(list), {}
+        for it in bare:
+            lines = self.sources[it.file].split("\n")
+            parts[it.file].append((it.opens, it.last + 1, without_body(lines, it)))
+            texts.update(self.bare_proof(it))
         for edit in placed:
             for file, found in edit.hunks.items():
                 parts[file] += found
@@ -289,6 +351,14 @@ class Trial:
                 to = f"proofs/{copy.proof().replace('.', '/')}/{os.path.basename(file)}"
                 texts[to] = self.proofs[file].replace(f"proofs.{of.proof()}.", f"proofs.{copy.proof()}.")
         return {**texts, **{file: "\n".join(with_hunks(self.sources[file].split("\n"), it)) for file, it in parts.items()}}
+
+    def bare_proof(self, function):
+        """The files of a proof of the function that says nothing, and None for each that it has."""
+        names = {"crate": self.crate.name, "path": function.proof(), "name": function.name}
+        file = f"proofs/{function.proof().replace('.', '/')}/Proof.antt"
+        of_calls = f"proofs/{function.proof_of_calls().replace('.', '/')}/"
+        gone = [*self.proofs_of(function), *[it for it in self.proofs if it.startswith(of_calls)]]
+        return {**dict.fromkeys(gone), file: BARE_PROOF.format(**names)}
 
     def label(self, path):
         return f"wrong {self.crate.name}/{os.path.basename(path)}"
@@ -315,10 +385,10 @@ class Trial:
         half = len(edits) // 2
         return {**way(edits[:half], kept), **way(edits[half:], kept)} if half else {}
 
-    def check(self, texts, functions, kept):
+    def check(self, texts, functions, kept, more=()):
         """Checks these functions, each with its edit, and what they call. Returns whether the check went through, and of
         each line on a function the function, what is said, and why: the note above, or an error in its proof."""
-        flags = [*ONE_JOB, *(word for it in functions for word in ("--only", "::".join([self.crate.name, *it.path])))]
+        flags = [*ONE_JOB, *more, *(word for it in functions for word in ("--only", "::".join([self.crate.name, *it.path])))]
         ran = checked(self.kit, self.crate, texts, flags, kept)
         lines = ran.stdout.rstrip("\n").split("\n")
         is_whole = ran.returncode in (0, 1) and lines[-1].startswith("only=") and not any(self.kit.unread(it, ()) for it in lines)
@@ -355,13 +425,17 @@ class Trial:
 
 
 def checked(kit, crate, texts, flags, kept):
-    """Checks a copy of the crate with these texts, as the kit does, over what kept holds. A text's folder may be new."""
+    """Checks a copy of the crate with these texts, as the kit does, over what kept holds. A text's folder may be new, and a
+    file with None for a text goes."""
     with tempfile.TemporaryDirectory(prefix="wrong-crate-") as room:
         for part in kit.rtlib.PARTS:
             if os.path.isdir(f"{crate.folder}/{part}"):
                 shutil.copytree(f"{crate.folder}/{part}", f"{room}/{part}")
         for path, text in texts.items():
             os.makedirs(os.path.dirname(f"{room}/{path}"), exist_ok=True)
+            if text is None:
+                os.remove(f"{room}/{path}")
+                continue
             with open(f"{room}/{path}", "w", encoding="utf-8") as it:
                 it.write(text)
         words = [kit.rtlib.RATTLE, "check", *crate.words(flags, keeps=False), "--incremental", kept]
@@ -377,6 +451,14 @@ def texts_below(folder, part, ending):
             with open(f"{at}/{name}", encoding="utf-8") as it:
                 found[os.path.relpath(f"{at}/{name}", folder)] = it.read()
     return found
+
+
+def without_body(lines, function):
+    """The lines of the function's body, its braces among them, with nothing between these."""
+    indent, opens = re.match(" *", lines[function.head])[0], lines[function.opens].rstrip()
+    if function.opens == function.last:
+        opens = opens[: opens.index("{}") + 1] if opens.endswith("{}") else opens
+    return [opens, f"{indent}    {BARE_BODY}", f"{indent}}}"] if opens.endswith("{") else lines[function.opens : function.last + 1]
 
 
 def refused_beside(copies, found):
