@@ -8,6 +8,10 @@ mod live;
 #[cfg(test)]
 mod reader;
 #[cfg(test)]
+mod rows;
+#[cfg(test)]
 mod sites;
 #[cfg(test)]
 mod survey;
+#[cfg(test)]
+mod telling;

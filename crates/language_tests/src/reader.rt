@@ -1,43 +1,47 @@
-ghost use Rattle.cddl_parse.specs.States.{EndsInEnd};
-
-use cddl_parse::{parse, tokens_end};
+use crate::rows::{first_other, is_right};
+use crate::telling::text_in;
 use cddl_reader::{read, read_operation};
-use cddl_terms::{Body, Definition, NoRoom, Terms};
-use cddl_token::{Token, tokens};
-use cddl_tree::{Rule, Tree, Type1, discard};
+use cddl_terms::{Body, Definition, Terms};
+use cddl_tree::{Rule, Tree, Type1};
 use std::alloc::Global;
 
 /// Specifications whose first two definitions have one body, as only spans differ.
-const ALIKE: &str = "a = int / tstr b = int/tstr
-a = {? x: 1..5, * k ^ => v} b = { ?x:1..5 ,*k^=>v }
-a = t<p, [q // r], #6.3(s)> b = t<p,[q//r],#6.3( s )>
-a = &(x: 1, 'y': 2) b = & ( x:1,'y':2 )
-a = tstr .size (1..3) b = tstr  .size ( 1..3 )
-a = (? int, b) b = (?int,b)
-a<p, q> = p b<q> = p
-a = x a /= x";
+const ALIKE: &str = "alike | yes | a = int / tstr b = int/tstr
+alike | yes | a = {? x: 1..5, * k ^ => v} b = { ?x:1..5 ,*k^=>v }
+alike | yes | a = t<p, [q // r], #6.3(s)> b = t<p,[q//r],#6.3( s )>
+alike | yes | a = &(x: 1, 'y': 2) b = & ( x:1,'y':2 )
+alike | yes | a = tstr .size (1..3) b = tstr  .size ( 1..3 )
+alike | yes | a = (? int, b) b = (?int,b)
+alike | yes | a<p, q> = p b<q> = p
+alike | yes | a = x a /= x";
 
 /// Specifications whose first two definitions differ in their bodies.
-const UNLIKE: &str = "a = 1..2 b = 2..1
-a = 1..2 b = 1...2
-a = [x, y] b = [x y]
-a = {x => y} b = {x ^ => y}
-a = {x => y} b = {x: y}
-a = {? x: y} b = {x: y}
-a = t<p, q> b = t<q, p>
-a = t<p, q, r> b = t<p, q>
-a = t<p> b = t
-a = x / y b = y / x
-a = [x // y] b = [y // x]
-a = [x // y] b = [y]
-a = int .size 3 b = int .bits 3
-a = [x] b = {x}
-a = #6.<x>(y) b = #6.<y>(x)
-a = #6.3(x) b = #6.4(x)
-a = ~x b = x
-a = &(x) b = [x]
-a = 1 b = '1'
-a = (x) b = (x, y)";
+const UNLIKE: &str = "alike | no | a = 1..2 b = 2..1
+alike | no | a = 1..2 b = 1...2
+alike | no | a = [x, y] b = [x y]
+alike | no | a = {x => y} b = {x ^ => y}
+alike | no | a = {x => y} b = {x: y}
+alike | no | a = {? x: y} b = {x: y}
+alike | no | a = t<p, q> b = t<q, p>
+alike | no | a = t<p, q, r> b = t<p, q>
+alike | no | a = t<p> b = t
+alike | no | a = x / y b = y / x
+alike | no | a = [x // y] b = [y // x]
+alike | no | a = [x // y] b = [y]
+alike | no | a = int .size 3 b = int .bits 3
+alike | no | a = [x] b = {x}
+alike | no | a = #6.<x>(y) b = #6.<y>(x)
+alike | no | a = #6.3(x) b = #6.4(x)
+alike | no | a = ~x b = x
+alike | no | a = &(x) b = [x]
+alike | no | a = 1 b = '1'
+alike | no | a = (x) b = (x, y)";
+
+/// Specifications whose first body is an operation.
+const OPERATIONS: &str = "again | yes | a = 1..2
+again | yes | a = 1...x
+again | yes | a = (1 / 2) .eq [3]
+again | yes | a = 'x' .cat y<z>";
 
 fn has_number(body: Body, other: Body) -> bool {
     match (body, other) {
@@ -54,101 +58,83 @@ fn are_first_two_alike(definitions: &[Definition]) -> Option<bool> {
     }
 }
 
-fn in_tree(alloc: Global, tree: &Tree<'_>) -> Result<Option<bool>, NoRoom> {
-    let mut terms = Terms::new(alloc);
-    let definitions = read(alloc, &mut terms, tree)?;
-    Ok(are_first_two_alike(definitions.as_slice()))
+fn word(holds: Option<bool>) -> &'static str {
+    match holds {
+        Some(true) => "yes",
+        Some(false) => "no",
+        None => "-",
+    }
 }
 
-fn in_tokens(alloc: Global, found: &[Token<'_>]) -> Option<bool>
-    requires { EndsInEnd found.now }
-{
-    match parse(alloc, found) {
-        Ok(tree) => {
-            let answer = in_tree(alloc, &tree);
-            discard(tree);
-            answer.unwrap_or(None)
-        }
+/// Whether the first two definitions have one body; `-` of a text without two.
+pub(crate) fn are_alike<'s>(
+    alloc: Global,
+    terms: &mut Terms<'s>,
+    tree: &Tree<'s>,
+) -> Option<String> {
+    match &read(alloc, terms, tree) {
+        Ok(definitions) => text_in(alloc, word(are_first_two_alike(definitions))),
         Err(_) => None,
     }
 }
 
-/// Whether the first two definitions have one body; nothing of a text without two.
-fn alike(alloc: Global, source: &str) -> Option<bool> {
-    tokens_end();
-    match tokens(alloc, source.as_bytes()) {
-        Ok(found) => in_tokens(alloc, found.as_slice()),
-        Err(_) => None,
-    }
-}
-
-/// The rows that have another answer, by their number.
-fn first_other(alloc: Global, rows: &str, wanted: bool) -> Option<usize> {
-    rows.lines()
-        .position(|row| alike(alloc, row) != Some(wanted))
-}
-
-#[test]
-fn tells_terms_apart(rt: HostRuntime) {
-    assert!(rt; first_other(rt.alloc(), ALIKE, true) == None);
-    assert!(rt; first_other(rt.alloc(), UNLIKE, false) == None);
-}
-
-/// Specifications whose first body is an operation.
-const OPERATIONS: &str = "a = 1..2
-a = 1...x
-a = (1 / 2) .eq [3]
-a = 'x' .cat y<z>";
-
-/// Whether the first rule's body has the number that the operation in it has by itself; nothing of a body without one.
-fn is_read_again(alloc: Global, tree: &Tree<'_>) -> Result<Option<bool>, NoRoom> {
-    let mut terms = Terms::new(alloc);
-    let definitions = read(alloc, &mut terms, tree)?;
-    let (Some(Rule::TypeRule { types, .. }), Some(definition)) = (
-        tree.rules.first(),
-        definitions.first(),
-    ) else {
-        return Ok(None);
-    };
-    match &types.first {
+/// Whether a body has the number that the operation in it has by itself; nothing of a body without one.
+fn has_number_again<'s>(
+    terms: &mut Terms<'s>,
+    tree: &Tree<'s>,
+    type1: &Type1,
+    body: Body,
+) -> Option<bool> {
+    match type1 {
         Type1::Operation {
             left,
             operator,
             right,
-        } => {
-            let number = read_operation(&mut terms, tree, left, operator, right)?;
-            Ok(Some(has_number(definition.body, Body::Types(number))))
-        }
-        Type1::One(_) => Ok(None),
+        } => match read_operation(terms, tree, left, operator, right) {
+            Ok(number) => Some(has_number(body, Body::Types(number))),
+            Err(_) => None,
+        },
+        Type1::One(_) => None,
     }
 }
 
-fn again_in_tokens(alloc: Global, found: &[Token<'_>]) -> Option<bool>
-    requires { EndsInEnd found.now }
-{
-    match parse(alloc, found) {
-        Ok(tree) => {
-            let answer = is_read_again(alloc, &tree);
-            discard(tree);
-            answer.unwrap_or(None)
+fn is_first_read_again<'s>(
+    terms: &mut Terms<'s>,
+    tree: &Tree<'s>,
+    rules: &[Rule],
+    definitions: &[Definition],
+) -> Option<bool> {
+    match (rules, definitions) {
+        ([Rule::TypeRule { types, .. }, ..], [definition, ..]) => {
+            has_number_again(terms, tree, &types.first, definition.body)
         }
-        Err(_) => None,
+        _ => None,
     }
 }
 
-fn again(alloc: Global, source: &str) -> Option<bool> {
-    tokens_end();
-    match tokens(alloc, source.as_bytes()) {
-        Ok(found) => again_in_tokens(alloc, found.as_slice()),
+/// The same of the first rule's body; `-` of one without an operation.
+pub(crate) fn is_read_again<'s>(
+    alloc: Global,
+    terms: &mut Terms<'s>,
+    tree: &Tree<'s>,
+) -> Option<String> {
+    match &read(alloc, terms, tree) {
+        Ok(definitions) => {
+            let holds = is_first_read_again(terms, tree, &tree.rules, definitions);
+            text_in(alloc, word(holds))
+        }
         Err(_) => None,
     }
 }
 
 #[test]
+fn tells_terms_apart(rt: HostRuntime) {
+    assert!(rt; first_other(rt.alloc(), ALIKE) == None);
+    assert!(rt; first_other(rt.alloc(), UNLIKE) == None);
+}
+
+#[test]
 fn reads_operations_again(rt: HostRuntime) {
-    let other = OPERATIONS
-        .lines()
-        .position(|row| again(rt.alloc(), row) != Some(true));
-    assert!(rt; other == None);
-    assert!(rt; again(rt.alloc(), "a = (1..2)") == None);
+    assert!(rt; first_other(rt.alloc(), OPERATIONS) == None);
+    assert!(rt; is_right(rt.alloc(), "again | - | a = (1..2)"));
 }

@@ -1,35 +1,34 @@
-ghost use Rattle.cddl_parse.specs.States.{EndsInEnd};
-
+use crate::rows::first_other;
+use crate::telling::text_in;
 use cddl_kinds::Shape;
-use cddl_parse::{parse, tokens_end};
-use cddl_survey::{Survey, lesser, survey_of};
-use cddl_terms::{NoRoom, Terms};
-use cddl_token::{Token, tokens};
-use cddl_tree::{Tree, discard};
+use cddl_survey::{Survey, lesser};
+use cddl_terms::Terms;
 use std::alloc::Global;
 
-/// Specifications, each of which says what `a` is.
-const ROWS: &str = "type - a = int
-type - a = b b = c c = a
-group - a = (b: int)
-group - a = b b = ((c)) c = (d: int)
-type - a<b> = b b = (c: int)
-type G a = [int]
-type G a = ((b)) b = {c: int}
-type C a = #6.1(int)
-type - a = b b = a / int
-type - a = [int] a /= int
-group - a = ~b b = [int]
-type - a = ~b b = #6.1(int)
-type - a = int a //= (b: int)
-group - a //= (b: int) a = int
-type - int = (b: int) a = int
-type C a = uri
-type - uri /= int a = uri
-type G uri = [int] a = uri";
+/// Specifications, each of which says what `a` is, and what `~` of it opens.
+const ROWS: &str = "kind of a | type - | a = int
+kind of a | type - | a = b b = c c = a
+kind of a | group - | a = (b: int)
+kind of a | group - | a = b b = ((c)) c = (d: int)
+kind of a | type - | a<b> = b b = (c: int)
+kind of a | type G | a = [int]
+kind of a | type G | a = ((b)) b = {c: int}
+kind of a | type C | a = #6.1(int)
+kind of a | type - | a = b b = a / int
+kind of a | type - | a = [int] a /= int
+kind of a | group - | a = ~b b = [int]
+kind of a | type - | a = ~b b = #6.1(int)
+kind of a | type - | a = int a //= (b: int)
+kind of a | group - | a //= (b: int) a = int
+kind of a | type - | int = (b: int) a = int
+kind of a | type C | a = uri
+kind of a | type - | uri /= int a = uri
+kind of a | type G | uri = [int] a = uri";
 
 /// Two sockets that nothing defines but by a further choice, and a name that stands nowhere.
-const SOCKETS: &str = "b = [$$c, $d] $$c //= (e: int) $d /= int";
+const SOCKETS: &str = "kind of $$c | group - | b = [$$c, $d] $$c //= (e: int) $d /= int
+kind of $d | type - | b = [$$c, $d] $$c //= (e: int) $d /= int
+kind of f | - | b = [$$c, $d] $$c //= (e: int) $d /= int";
 
 fn letter(shape: Option<Shape>) -> &'static str {
     match shape {
@@ -39,64 +38,31 @@ fn letter(shape: Option<Shape>) -> &'static str {
     }
 }
 
-/// Whether the name is of this kind, and `~` of it opens this.
-fn is_said(terms: &Terms<'_>, survey: &Survey<'_>, name: &str, kind: &str, opened: &str) -> bool {
+/// The kind of the name, and what `~` of it opens; `-` of a name that stands nowhere.
+pub(crate) fn kind_of(
+    alloc: Global,
+    terms: &Terms<'_>,
+    survey: &Survey<'_>,
+    name: &str,
+) -> Option<String> {
     match terms.find_text(name) {
         Some(number) => {
-            survey.kinds.is_group(number) == (kind == "group")
-                && letter(survey.kinds.opened(number)) == opened
+            let kind = if survey.kinds.is_group(number) {
+                "group"
+            } else {
+                "type"
+            };
+            let opened = letter(survey.kinds.opened(number));
+            format!(in alloc; "{kind} {opened} ").ok()
         }
-        None => false,
+        None => text_in(alloc, "-"),
     }
-}
-
-fn in_tree(alloc: Global, tree: &Tree<'_>, said: (&str, &str, &str)) -> Result<bool, NoRoom> {
-    let mut terms = Terms::new(alloc);
-    let survey = survey_of(alloc, &mut terms, tree)?;
-    let (name, kind, opened) = said;
-    Ok(is_said(&terms, &survey, name, kind, opened))
-}
-
-fn in_tokens(alloc: Global, found: &[Token<'_>], said: (&str, &str, &str)) -> bool
-    requires { EndsInEnd found.now }
-{
-    match parse(alloc, found) {
-        Ok(tree) => {
-            let answer = in_tree(alloc, &tree, said);
-            discard(tree);
-            answer.unwrap_or(false)
-        }
-        Err(_) => false,
-    }
-}
-
-/// Whether the text says this of a name.
-fn says(alloc: Global, source: &str, said: (&str, &str, &str)) -> bool {
-    tokens_end();
-    match tokens(alloc, source.as_bytes()) {
-        Ok(found) => in_tokens(alloc, found.as_slice(), said),
-        Err(_) => false,
-    }
-}
-
-/// Whether a row says of `a` what it begins with.
-fn is_right(alloc: Global, row: &str) -> bool {
-    let Some((kind, rest)) = row.split_once(' ') else {
-        return false;
-    };
-    let Some((opened, source)) = rest.split_once(' ') else {
-        return false;
-    };
-    says(alloc, source, ("a", kind, opened))
 }
 
 #[test]
 fn tells_kinds(rt: HostRuntime) {
-    let alloc = rt.alloc();
-    assert!(rt; ROWS.lines().position(|row| !is_right(alloc, row)) == None);
-    assert!(rt; says(alloc, SOCKETS, ("$$c", "group", "-")));
-    assert!(rt; says(alloc, SOCKETS, ("$d", "type", "-")));
-    assert!(rt; !says(alloc, SOCKETS, ("f", "type", "-")));
+    assert!(rt; first_other(rt.alloc(), ROWS) == None);
+    assert!(rt; first_other(rt.alloc(), SOCKETS) == None);
 }
 
 #[test]
