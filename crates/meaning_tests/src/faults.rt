@@ -1,10 +1,8 @@
-use crate::chain::Meant;
-use crate::telling::order_in;
+use crate::chain::{Meant, sites_in};
+use crate::telling::{order_in, text_in};
 use cddl_control_faults::{bad_controller, not_literal};
 use cddl_environment::names;
-use cddl_live_sites::live_sites;
 use cddl_range_faults::bad_range;
-use cddl_reached::reached_sites;
 use cddl_reached_faults::{not_unwrappable, not_unwrapped, nothing_chosen};
 use cddl_root_faults::recursion;
 use cddl_sites::Found;
@@ -19,22 +17,43 @@ pub(crate) fn fault_of<'t>(
     terms: &Terms<'_>,
     tree: &'t Tree<'_>,
     survey: &Survey<'t>,
-    meant: &Meant,
+    meant: &Meant<'_>,
     what: &str,
 ) -> Option<String> {
-    let live = live_sites(alloc, terms, tree, survey).ok()?;
-    let reached = reached_sites(alloc, terms, survey, &live, &meant.found).ok()?;
+    match &sites_in(alloc, terms, tree, survey, &meant.reached.instances) {
+        Some(reached) => fault_at(alloc, terms, tree, survey, meant, reached, what),
+        None => None,
+    }
+}
+
+fn fault_at(
+    alloc: Global,
+    terms: &Terms<'_>,
+    tree: &Tree<'_>,
+    survey: &Survey<'_>,
+    meant: &Meant<'_>,
+    reached: &[Found<'_>],
+    what: &str,
+) -> Option<String> {
     let at = match what {
-        "opened" => not_unwrapped(alloc, terms, tree, survey, &reached).ok()?,
-        "unwrapped" => unwrapping(alloc, terms, tree, survey, meant, &reached)?,
-        "literal" => not_literal(terms, &meant.literals, &meant.asked),
-        "number" => bad_controller(terms, &meant.literals, &meant.sizable, &meant.asked),
-        "range" => range_in(terms, tree, meant, &reached),
+        "opened" => not_unwrapped(alloc, terms, tree, survey, reached).ok()?,
+        "unwrapped" => unwrapping(alloc, terms, tree, survey, meant, reached)?,
+        "literal" | "number" => of_controller(terms, meant, what),
+        "range" => range_in(terms, tree, meant, reached),
         _ => returning(alloc, terms, tree, survey, meant)?,
     };
     match at {
         Some(at) => format!(in alloc; "{at} ").ok(),
-        None => format!(in alloc; "- ").ok(),
+        None => text_in(alloc, "- "),
+    }
+}
+
+fn of_controller(terms: &Terms<'_>, meant: &Meant<'_>, what: &str) -> Option<usize> {
+    let asked = &meant.reached.questions.asked;
+    let literals = &meant.valued.literals;
+    match what {
+        "literal" => not_literal(terms, literals, asked),
+        _ => bad_controller(terms, literals, &meant.valued.sizable, asked),
     }
 }
 
@@ -43,21 +62,28 @@ fn unwrapping(
     terms: &Terms<'_>,
     tree: &Tree<'_>,
     survey: &Survey<'_>,
-    meant: &Meant,
+    meant: &Meant<'_>,
     reached: &[Found<'_>],
 ) -> Option<Option<usize>> {
     let opens = not_unwrapped(alloc, terms, tree, survey, reached).ok()?;
-    let chooses = nothing_chosen(terms, &meant.closed, &meant.choosable, &meant.asked);
+    let asked = &meant.reached.questions.asked;
+    let chooses = nothing_chosen(terms, &meant.opened.closed, &meant.groups.choosable, asked);
     Some(not_unwrappable(opens, chooses))
 }
 
 fn range_in(
     terms: &Terms<'_>,
     tree: &Tree<'_>,
-    meant: &Meant,
+    meant: &Meant<'_>,
     reached: &[Found<'_>],
 ) -> Option<usize> {
-    bad_range(terms, tree, &meant.literals, &meant.asked, reached)
+    bad_range(
+        terms,
+        tree,
+        &meant.valued.literals,
+        &meant.reached.questions.asked,
+        reached,
+    )
 }
 
 fn returning(
@@ -65,10 +91,10 @@ fn returning(
     terms: &Terms<'_>,
     tree: &Tree<'_>,
     survey: &Survey<'_>,
-    meant: &Meant,
+    meant: &Meant<'_>,
 ) -> Option<Option<usize>> {
     let count = terms.text_count();
     let names = names(alloc, count, &survey.known, &survey.definitions).ok()?;
     let order = order_in(alloc, terms, meant)?;
-    Some(recursion(terms, tree, &names, &meant.closed, &order))
+    Some(recursion(terms, tree, &names, &meant.opened.closed, &order))
 }

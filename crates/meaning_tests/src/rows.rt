@@ -108,16 +108,10 @@ recursion | 0 | a = b b = a
 recursion | 8 | a = [g] g = (? #, g)
 recursion | 20 | a = [b] c = (x: &b) b = (c)";
 
-/// The parts of a row.
-fn parts_of(row: &str) -> Option<(&str, &str, &str)> {
-    let (what, rest) = row.split_once(" | ")?;
-    let (wanted, source) = rest.split_once(" | ")?;
-    Some((what, wanted, source))
-}
-
-fn is_right(alloc: Global, row: &str) -> bool {
-    match parts_of(row) {
-        Some((what, wanted, source)) => match told_of(alloc, source, what) {
+/// Whether this is told of a text.
+fn is_told(alloc: Global, what: &str, rest: &str) -> bool {
+    match rest.split_once(" | ") {
+        Some((wanted, source)) => match told_of(alloc, source, what) {
             Some(told) => told.as_str().trim_end() == wanted,
             None => false,
         },
@@ -125,10 +119,22 @@ fn is_right(alloc: Global, row: &str) -> bool {
     }
 }
 
+/// Whether a row is right: the name of what is asked, what is told, and the text of a specification, with ` | ` between them.
+fn is_right(alloc: Global, row: &str) -> bool {
+    match row.split_once(" | ") {
+        Some((what, rest)) => is_told(alloc, what, rest),
+        None => false,
+    }
+}
+
+/// The number of the first row of which something else is told.
+pub(crate) fn first_other(alloc: Global, rows: &str) -> Option<usize> {
+    rows.lines().position(|row| !is_right(alloc, row))
+}
+
 #[test]
 fn tells_of_texts(rt: HostRuntime) {
-    let alloc = rt.alloc();
-    assert!(rt; ROWS.lines().position(|row| !is_right(alloc, row)) == None);
+    assert!(rt; first_other(rt.alloc(), ROWS) == None);
 }
 
 #[test]

@@ -1,29 +1,37 @@
-use crate::chain::Meant;
+use crate::chain::{Meant, Opened};
 use crate::coming::of_coming_back;
 use crate::maps::of_map_faults;
 use cddl_closed::{Meaning, alternatives, choices, entries};
 use cddl_entries::Holder;
 use cddl_literal::Literal;
-use cddl_nodes::{Source, nodes_of};
+use cddl_literals::Literals;
+use cddl_map_faults::MapFaults;
+use cddl_nodes::{Nodes, Source, nodes_of};
 use cddl_openings::{Opening, Part, part_of};
 use cddl_operators::Fault;
 use cddl_reached::{Asked, Question};
 use cddl_recursion::{Node, Order, Ranks, find_order};
-use cddl_spliced::Owner;
+use cddl_sizes::Sizes;
+use cddl_spliced::{Owner, Spliced};
 use cddl_splices::parts_of;
 use cddl_table::SizeSet;
 use cddl_terms::Terms;
-use splices::summaries;
+use splices::{Part as SplicePart, Summary, summaries};
 use std::alloc::Global;
 
 /// What is told of the instances of a text, by the name of the call that tells it. They stand in the order in which they are
 /// found, with the root first.
-pub(crate) fn told(alloc: Global, terms: &Terms<'_>, meant: &Meant, what: &str) -> Option<String> {
+pub(crate) fn told(
+    alloc: Global,
+    terms: &Terms<'_>,
+    meant: &Meant<'_>,
+    what: &str,
+) -> Option<String> {
     match what {
-        "opens" => of_openings(alloc, meant),
-        "asked" => of_asked(alloc, &meant.asked),
-        "entries" => of_asked(alloc, &meant.entries),
-        "spliced" => of_spliced(alloc, meant),
+        "opens" => of_openings(alloc, &meant.opened.openings),
+        "asked" => of_asked(alloc, &meant.reached.questions.asked),
+        "entries" => of_asked(alloc, &meant.reached.questions.entries),
+        "spliced" => of_spliced(alloc, &meant.groups.spliced),
         "back" => of_coming_back(alloc, terms, meant),
         "wrong maps" => of_map_faults(alloc, terms, meant),
         "order" => order_of(alloc, terms, meant),
@@ -36,7 +44,7 @@ pub(crate) fn told(alloc: Global, terms: &Terms<'_>, meant: &Meant, what: &str) 
 fn word_of(
     alloc: Global,
     terms: &Terms<'_>,
-    meant: &Meant,
+    meant: &Meant<'_>,
     what: &str,
     meaning: &Meaning,
 ) -> Option<String> {
@@ -44,19 +52,19 @@ fn word_of(
         "names" => name_of(alloc, terms, meaning),
         "types" => types_of(alloc, terms, meaning),
         "groups" => group_of(alloc, terms, meaning),
-        "parts" => part_in(alloc, terms, meant, meaning),
-        "literals" => literal_in(alloc, meant, meaning),
-        "sizes" => sizes_in(alloc, terms, meant, meaning),
-        "maps" => wrong_in(alloc, terms, meant, meaning),
-        "chooses" => flag_in(alloc, &meant.choosable, meaning.group),
-        _ => flag_in(alloc, &meant.may_be_empty, meaning.group),
+        "parts" => part_in(alloc, terms, meant.opened, meaning),
+        "literals" => literal_in(alloc, &meant.valued.literals, meaning),
+        "sizes" => sizes_in(alloc, terms, &meant.valued.sizes, meaning),
+        "maps" => wrong_in(alloc, terms, &meant.groups.map_faults, meaning),
+        "chooses" => flag_in(alloc, &meant.groups.choosable, meaning.group),
+        _ => flag_in(alloc, &meant.groups.may_be_empty, meaning.group),
     }
 }
 
 /// A word for each instance, and a space after each.
-fn of_each(alloc: Global, terms: &Terms<'_>, meant: &Meant, what: &str) -> Option<String> {
+fn of_each(alloc: Global, terms: &Terms<'_>, meant: &Meant<'_>, what: &str) -> Option<String> {
     let mut words = String::new(alloc);
-    for meaning in &meant.closed.meanings {
+    for meaning in &meant.opened.closed.meanings {
         let word = word_of(alloc, terms, meant, what, meaning)?;
         words.push_str(word.as_str()).ok()?;
         words.push_str(" ").ok()?;
@@ -64,7 +72,7 @@ fn of_each(alloc: Global, terms: &Terms<'_>, meant: &Meant, what: &str) -> Optio
     Some(words)
 }
 
-fn text_in(alloc: Global, text: &str) -> Option<String> {
+pub(crate) fn text_in(alloc: Global, text: &str) -> Option<String> {
     format!(in alloc; "{text}").ok()
 }
 
@@ -106,34 +114,51 @@ fn group_of(alloc: Global, terms: &Terms<'_>, meaning: &Meaning) -> Option<Strin
     format!(in alloc; "{count}/{inner}").ok()
 }
 
+/// What is wrong in a map with each entry of an alternative.
+fn push_wrong(
+    alloc: Global,
+    terms: &Terms<'_>,
+    map_faults: &[MapFaults],
+    alternative: u32,
+    word: &mut String,
+) -> Option<()> {
+    for entry in &entries(alloc, terms, alternative).ok()? {
+        word.push_str(wrong_with(map_faults, *entry)).ok()?;
+    }
+    Some(())
+}
+
 /// What is wrong in a map with each entry of the instance's alternatives, and whether its group has too many.
-fn wrong_in(alloc: Global, terms: &Terms<'_>, meant: &Meant, meaning: &Meaning) -> Option<String> {
+fn wrong_in(
+    alloc: Global,
+    terms: &Terms<'_>,
+    map_faults: &[MapFaults],
+    meaning: &Meaning,
+) -> Option<String> {
     let Some(group) = meaning.group else {
         return text_in(alloc, "-");
     };
     let mut word = String::new(alloc);
     for row in &alternatives(alloc, terms, group).ok()? {
-        for entry in &entries(alloc, terms, *row).ok()? {
-            word.push_str(wrong_with(meant, *entry)).ok()?;
-        }
+        push_wrong(alloc, terms, map_faults, *row, &mut word)?;
     }
-    if meant.map_faults.get(group as usize)?.has_too_many {
+    if map_faults.get(group as usize)?.has_too_many {
         word.push_str("!").ok()?;
     }
     Some(word)
 }
 
-fn wrong_with(meant: &Meant, entry: u32) -> &'static str {
-    match meant.map_faults.get(entry as usize) {
+fn wrong_with(map_faults: &[MapFaults], entry: u32) -> &'static str {
+    match map_faults.get(entry as usize) {
         Some(faults) if faults.lacks_key => "k",
         Some(faults) if faults.occurs_badly => "o",
         _ => ".",
     }
 }
 
-fn of_openings(alloc: Global, meant: &Meant) -> Option<String> {
+fn of_openings(alloc: Global, openings: &[Opening]) -> Option<String> {
     let mut words = String::new(alloc);
-    for opening in &meant.openings {
+    for opening in openings {
         let word = match opening {
             Opening::Nothing => "- ",
             Opening::Group(_) => "group ",
@@ -145,11 +170,11 @@ fn of_openings(alloc: Global, meant: &Meant) -> Option<String> {
 }
 
 /// What the first choice of the instance is as an entry.
-fn part_in(alloc: Global, terms: &Terms<'_>, meant: &Meant, meaning: &Meaning) -> Option<String> {
+fn part_in(alloc: Global, terms: &Terms<'_>, opened: &Opened, meaning: &Meaning) -> Option<String> {
     let Some(row) = meaning.types.first() else {
         return text_in(alloc, "-");
     };
-    match part_of(terms, &meant.closed, &meant.kinds, &meant.openings, *row) {
+    match part_of(terms, &opened.closed, &opened.kinds, &opened.openings, *row) {
         Part::AsksType => text_in(alloc, "type"),
         Part::NamesGroup(place) => format!(in alloc; "group{place}").ok(),
         Part::Opens(place, _) => format!(in alloc; "opened{place}").ok(),
@@ -157,11 +182,11 @@ fn part_in(alloc: Global, terms: &Terms<'_>, meant: &Meant, meaning: &Meaning) -
 }
 
 /// The literal that the first choice of the instance is, or why it computes none.
-fn literal_in(alloc: Global, meant: &Meant, meaning: &Meaning) -> Option<String> {
+fn literal_in(alloc: Global, literals: &Literals, meaning: &Meaning) -> Option<String> {
     let Some(row) = meaning.types.first() else {
         return text_in(alloc, "-");
     };
-    match meant.literals.get(*row) {
+    match literals.get(*row) {
         Some(Literal::Uint(number)) => format!(in alloc; "{number}").ok(),
         Some(Literal::Nint(number)) => format!(in alloc; "-1-{number}").ok(),
         Some(Literal::Text(text)) => text_in(alloc, text.as_str()),
@@ -169,7 +194,7 @@ fn literal_in(alloc: Global, meant: &Meant, meaning: &Meaning) -> Option<String>
             let count = bytes.len();
             format!(in alloc; "{count}bytes").ok()
         }
-        None => fault_word(alloc, meant.literals.fault(*row)),
+        None => fault_word(alloc, literals.fault(*row)),
     }
 }
 
@@ -183,14 +208,14 @@ fn fault_word(alloc: Global, fault: Option<Fault>) -> Option<String> {
     }
 }
 
-fn sizes_at<'m>(terms: &Terms<'_>, meant: &'m Meant, meaning: &Meaning) -> Option<&'m SizeSet> {
+fn sizes_at<'m>(terms: &Terms<'_>, sizes: &'m Sizes, meaning: &Meaning) -> Option<&'m SizeSet> {
     let controller = terms.row(*meaning.types.first()?)?.second?;
-    meant.sizes.get(controller)
+    sizes.get(controller)
 }
 
 /// The members of the controller of the first choice of the instance, and how many ranges they are.
-fn sizes_in(alloc: Global, terms: &Terms<'_>, meant: &Meant, meaning: &Meaning) -> Option<String> {
-    let Some(sizes) = sizes_at(terms, meant, meaning) else {
+fn sizes_in(alloc: Global, terms: &Terms<'_>, sizes: &Sizes, meaning: &Meaning) -> Option<String> {
+    let Some(sizes) = sizes_at(terms, sizes, meaning) else {
         return text_in(alloc, "-");
     };
     let mut sum: u64 = 0;
@@ -202,41 +227,51 @@ fn sizes_in(alloc: Global, terms: &Terms<'_>, meant: &Meant, meaning: &Meaning) 
     format!(in alloc; "{count}of{sum}").ok()
 }
 
+fn sort_of(question: &Question) -> &'static str {
+    match question {
+        Question::ChoosesFrom => "from",
+        Question::ChoosesByName => "name",
+        Question::IsWhole => "whole",
+        Question::IsLiteral => "literal",
+        Question::IsNumber => "number",
+        Question::IsAddend => "addend",
+        Question::IsString => "string",
+        Question::Computes => "computes",
+        Question::HasSizes => "sizes",
+        Question::MapGroup => "map",
+        Question::Entry(Holder::Map) => "own",
+        Question::Entry(Holder::Rule) => "rule",
+        Question::Entry(Holder::Opened) => "opened",
+    }
+}
+
 fn of_asked(alloc: Global, questions: &[Asked]) -> Option<String> {
     let mut words = String::new(alloc);
     for asked in questions {
-        let sort = match asked.question {
-            Question::ChoosesFrom => "from",
-            Question::ChoosesByName => "name",
-            Question::IsWhole => "whole",
-            Question::IsLiteral => "literal",
-            Question::IsNumber => "number",
-            Question::IsAddend => "addend",
-            Question::IsString => "string",
-            Question::Computes => "computes",
-            Question::HasSizes => "sizes",
-            Question::MapGroup => "map",
-            Question::Entry(Holder::Map) => "own",
-            Question::Entry(Holder::Rule) => "rule",
-            Question::Entry(Holder::Opened) => "opened",
-        };
-        let at = asked.at;
-        let word = format!(in alloc; "{sort}{at} ").ok()?;
+        let word = word_at(alloc, sort_of(&asked.question), asked.at)?;
         words.push_str(word.as_str()).ok()?;
     }
     Some(words)
 }
 
-fn of_spliced(alloc: Global, meant: &Meant) -> Option<String> {
+fn word_at(alloc: Global, word: &str, at: usize) -> Option<String> {
+    format!(in alloc; "{word}{at} ").ok()
+}
+
+/// The owner and the offset of an entry.
+pub(crate) fn word_of_entry(alloc: Global, entry: &Spliced) -> Option<String> {
+    let owner = match entry.owner {
+        Owner::Map => "map",
+        Owner::Named(_) => "named",
+        Owner::Opened(_) => "opened",
+    };
+    word_at(alloc, owner, entry.at)
+}
+
+fn of_spliced(alloc: Global, spliced: &[Spliced]) -> Option<String> {
     let mut words = String::new(alloc);
-    for entry in &meant.spliced {
-        let owner = match entry.owner {
-            Owner::Map => "map",
-            Owner::Named(_) => "named",
-            Owner::Opened(_) => "opened",
-        };
-        let at = entry.at;
-        let word = format!(in alloc; "{owner}{at} ").ok()?;
+    for entry in spliced {
+        let word = word_of_entry(alloc, entry)?;
         words.push_str(word.as_str()).ok()?;
     }
     Some(words)
@@ -261,31 +296,32 @@ fn is_above(ranks: &Ranks, place: u32, meaning: &Meaning) -> bool {
 }
 
 /// The order of what is asked of an item.
-pub(crate) fn order_in(alloc: Global, terms: &Terms<'_>, meant: &Meant) -> Option<Order> {
+pub(crate) fn order_in(alloc: Global, terms: &Terms<'_>, meant: &Meant<'_>) -> Option<Order> {
     find_order(
         alloc,
         terms,
-        &meant.closed,
-        &meant.kinds,
-        &meant.openings,
-        &meant.choosable,
-        &meant.may_be_empty,
+        &meant.opened.closed,
+        &meant.opened.kinds,
+        &meant.opened.openings,
+        &meant.groups.choosable,
+        &meant.groups.may_be_empty,
     )
     .ok()
 }
 
 /// Of each instance whether it is above what it means; or of each whether it comes back to itself.
-fn order_of(alloc: Global, terms: &Terms<'_>, meant: &Meant) -> Option<String> {
-    match order_in(alloc, terms, meant)? {
-        Order::Ranks(ranks) => of_ranks(alloc, meant, &ranks),
-        Order::Cycles(flags) => of_flags(alloc, &flags),
+fn order_of(alloc: Global, terms: &Terms<'_>, meant: &Meant<'_>) -> Option<String> {
+    match &order_in(alloc, terms, meant) {
+        Some(Order::Ranks(ranks)) => of_ranks(alloc, &meant.opened.closed.meanings, ranks),
+        Some(Order::Cycles(flags)) => of_flags(alloc, flags),
+        None => None,
     }
 }
 
-fn of_ranks(alloc: Global, meant: &Meant, ranks: &Ranks) -> Option<String> {
+fn of_ranks(alloc: Global, meanings: &[Meaning], ranks: &Ranks) -> Option<String> {
     let mut words = String::new(alloc);
     let mut place: u32 = 0;
-    for meaning in &meant.closed.meanings {
+    for meaning in meanings {
         let right = are_bounded(ranks, place) && is_above(ranks, place, meaning);
         words.push_str(if right { "down " } else { "up " }).ok()?;
         place = place.checked_add(1)?;
@@ -301,23 +337,49 @@ fn of_flags(alloc: Global, flags: &[bool]) -> Option<String> {
     Some(words)
 }
 
-/// How many types and groups are made, and what each type is of.
-fn nodes_in(alloc: Global, terms: &Terms<'_>, meant: &Meant) -> Option<String> {
-    let parts = parts_of(alloc, terms, &meant.closed, &meant.kinds, &meant.openings).ok()?;
-    let summaries = summaries(alloc, &parts).ok()?;
-    let source = Source {
-        closed: &meant.closed,
-        kinds: &meant.kinds,
-        openings: &meant.openings,
-        literals: &meant.literals,
-        sizes: &meant.sizes,
-        choosable: &meant.choosable,
-        parts: &parts,
-        summaries: &summaries,
-    };
-    let nodes = nodes_of(alloc, terms, &source, 0).ok()?;
+/// How many types and groups are made, and whether there is an origin for each.
+fn counts_of(alloc: Global, nodes: &Nodes) -> Option<String> {
     let types = nodes.types.len();
     let groups = nodes.groups.len();
     let same = types == nodes.type_origins.len() && groups == nodes.group_origins.len();
     format!(in alloc; "{types} {groups} {same}").ok()
+}
+
+fn nodes_of_parts(
+    alloc: Global,
+    terms: &Terms<'_>,
+    meant: &Meant<'_>,
+    parts: &[SplicePart],
+    summaries: &[Option<Summary>],
+) -> Option<String> {
+    let source = Source {
+        closed: &meant.opened.closed,
+        kinds: &meant.opened.kinds,
+        openings: &meant.opened.openings,
+        literals: &meant.valued.literals,
+        sizes: &meant.valued.sizes,
+        choosable: &meant.groups.choosable,
+        parts,
+        summaries,
+    };
+    match &nodes_of(alloc, terms, &source, 0) {
+        Ok(nodes) => counts_of(alloc, nodes),
+        Err(_) => None,
+    }
+}
+
+fn nodes_in(alloc: Global, terms: &Terms<'_>, meant: &Meant<'_>) -> Option<String> {
+    let Opened {
+        closed,
+        kinds,
+        openings,
+        ..
+    } = meant.opened;
+    let Ok(parts) = parts_of(alloc, terms, closed, kinds, openings) else {
+        return None;
+    };
+    match &summaries(alloc, &parts) {
+        Ok(summaries) => nodes_of_parts(alloc, terms, meant, &parts, summaries),
+        Err(_) => None,
+    }
 }
