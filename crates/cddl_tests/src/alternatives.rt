@@ -2,16 +2,15 @@
 //! takes steps, as if they were asked again.
 
 use crate::matching::{
-    Form, Kind, ONE, Order, Row, TEXT, TWO, YES, check_rows, check_steps, table_of,
+    Kind, ONE, Order, Plan, Row, Steps, TEXT, TWO, YES, check_rows, check_steps,
 };
 use cddl_match::Verdict;
 use cddl_table::Most;
-use std::process::Abort;
-use std::test::Fail;
+use std::alloc::AllocError;
 
 const ONCE: Most = Most::AtMost(1);
 
-const FIVE: Form = Form::Uint(5);
+const FIVE: &[u8] = b"\x05";
 
 static KINDS: [Kind; 12] = [
     Kind::Between(1, 1, true),
@@ -69,52 +68,60 @@ static ORDER: Order = Order {
     may_be_empty: &[],
 };
 
-const NONE: Form = Form::Map(&[]);
+const NONE: &[u8] = b"\xa0";
 
-const JUST_ONE: Form = Form::Map(&[(ONE, ONE)]);
+const JUST_ONE: &[u8] = b"\xa1\x01\x01";
 
-const ONE_AND_TWO: Form = Form::Map(&[(ONE, ONE), (TWO, TWO)]);
+const ONE_AND_TWO: &[u8] = b"\xa2\x01\x01\x02\x02";
 
-const FIVE_AND_ONE: Form = Form::Map(&[(FIVE, ONE), (ONE, ONE)]);
+const FIVE_AND_ONE: &[u8] = b"\xa2\x05\x01\x01\x01";
 
-const TEXT_AT_ONE: Form = Form::Map(&[(ONE, TEXT)]);
+const TEXT_AT_ONE: &[u8] = b"\xa1\x01\x60";
 
-const TEXT_AT_TWO: Form = Form::Map(&[(TWO, TEXT)]);
+const TEXT_AT_TWO: &[u8] = b"\xa1\x02\x60";
 
 static ROWS: [Row; 17] = [
     (5, NONE, YES),
     (5, JUST_ONE, YES),
     (5, ONE_AND_TWO, YES),
     (5, FIVE_AND_ONE, YES),
-    (5, Form::Map(&[(Form::Uint(6), ONE)]), YES),
+    (5, b"\xa1\x06\x01", YES),
     // A pair that belongs to no entry shows in each of them.
     (5, TEXT_AT_TWO, Verdict::No { place: 1 }),
-    (
-        5,
-        Form::Map(&[(ONE, ONE), (FIVE, ONE), (Form::Uint(6), ONE)]),
-        Verdict::No { place: 5 },
-    ),
+    (5, b"\xa3\x01\x01\x05\x01\x06\x01", Verdict::No { place: 5 }),
     // A value that fails shows in both.
     (6, TEXT_AT_ONE, Verdict::No { place: 2 }),
     (6, JUST_ONE, Verdict::No { place: 0 }),
     (7, JUST_ONE, YES),
     (7, ONE_AND_TWO, YES),
     (8, JUST_ONE, YES),
-    (9, Form::Map(&[(ONE, TWO)]), YES),
+    (9, b"\xa1\x01\x02", YES),
     (9, TEXT_AT_ONE, Verdict::No { place: 2 }),
     (10, JUST_ONE, YES),
     (11, ONE_AND_TWO, YES),
     (11, NONE, Verdict::No { place: 0 }),
 ];
 
-#[test]
-fn judges_alternatives_that_begin_alike(rt: HostRuntime) -> Result<(), Fail> {
-    check_rows(&rt, rt.alloc(), &KINDS, &[], &ORDER, &ROWS)
+fn alternatives() -> Plan {
+    Plan {
+        kinds: &KINDS,
+        parts: &[],
+        order: &ORDER,
+    }
 }
 
-/// A type, an item, and the steps that it takes to tell: one for the map, and for each alternative one, one for each pair and
+fn rows() -> &'static [Row] {
+    &ROWS
+}
+
+#[test]
+fn judges_alternatives_that_begin_alike(rt: HostRuntime) -> Result<(), AllocError> {
+    check_rows(&rt, rt.alloc(), &alternatives(), rows())
+}
+
+/// The steps are one for the map, and for each alternative one, one for each pair and
 /// one more for each entry, and those that the pair is asked about.
-static STEPS: [(usize, Form, u64); 9] = [
+static STEPS: [Steps; 9] = [
     (5, NONE, 1 + 3),
     // its key, and its value
     (5, JUST_ONE, 1 + (1 + 4 + 2) + (1 + 4 + 2) + (1 + 3 + 2)),
@@ -137,11 +144,11 @@ static STEPS: [(usize, Form, u64); 9] = [
     (11, JUST_ONE, 1 + (1 + 3 + 2) + (1 + 3 + 3)),
 ];
 
+fn step_rows() -> &'static [Steps] {
+    &STEPS
+}
+
 #[test]
-fn counts_steps_of_alternatives(rt: HostRuntime) -> Result<(), Fail> {
-    for (number, form, steps) in STEPS.iter() {
-        let table = table_of(rt.alloc(), &KINDS, &[], &ORDER, *number)?.expect(&rt, "ranks");
-        check_steps(&rt, rt.alloc(), &table, *number, form, *steps)?;
-    }
-    Ok(())
+fn counts_steps_of_alternatives(rt: HostRuntime) -> Result<(), AllocError> {
+    check_steps(&rt, rt.alloc(), &alternatives(), step_rows())
 }

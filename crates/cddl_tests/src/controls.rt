@@ -1,9 +1,9 @@
 use crate::matching::{
-    Asked, Form, Kind, ONE, Order, Part, Row, TEXT, TWO, YES, check_rows, check_steps, table_of,
+    Asked, Kind, ONE, Order, Part, Plan, Row, Steps, TEXT, TWO, YES, check_rows, check_steps,
 };
 use cddl_match::Verdict;
 use cddl_table::Whole;
-use std::test::Fail;
+use std::alloc::AllocError;
 
 // Controls that restrict: -2 is written as `nint` 1.
 static CONTROLS: [Kind; 18] = [
@@ -49,107 +49,101 @@ static TEST_ROWS: [Row; 38] = [
     // `.ne` says yes to what is of another kind
     (2, ONE, NO),
     (2, TWO, YES),
-    (2, Form::Nint(1), YES),
+    (2, b"\x21", YES),
     (2, TEXT, YES),
     // whole numbers in their order, across 0; other items are in no order
-    (3, Form::Nint(2), YES),
-    (3, Form::Nint(1), NO),
-    (3, Form::Uint(0), NO),
-    (4, Form::Nint(1), YES),
-    (4, Form::Nint(0), NO),
-    (5, Form::Nint(1), NO),
-    (5, Form::Nint(0), YES),
-    (5, Form::Uint(0), YES),
-    (6, Form::Nint(1), YES),
-    (6, Form::Nint(2), NO),
+    (3, b"\x22", YES),
+    (3, b"\x21", NO),
+    (3, b"\x00", NO),
+    (4, b"\x21", YES),
+    (4, b"\x20", NO),
+    (5, b"\x21", NO),
+    (5, b"\x20", YES),
+    (5, b"\x00", YES),
+    (6, b"\x21", YES),
+    (6, b"\x22", NO),
     (6, TEXT, NO),
-    (7, Form::Uint(4), YES),
-    (7, Form::Uint(5), NO),
-    (7, Form::Nint(u64::MAX), YES),
+    (7, b"\x04", YES),
+    (7, b"\x05", NO),
+    (7, b"\x3b\xff\xff\xff\xff\xff\xff\xff\xff", YES),
     (7, TEXT, NO),
     // the bytes of a text, and not its characters
-    (8, Form::Text("\u{e9}"), YES),
-    (8, Form::Text("\u{e9}a"), NO),
-    (8, Form::Bytes(&[0, 255]), YES),
-    (8, Form::Bytes(&[0]), NO),
+    (8, b"\x62\xc3\xa9", YES),
+    (8, b"\x63\xc3\xa9\x61", NO),
+    (8, b"\x42\x00\xff", YES),
+    (8, b"\x41\x00", NO),
     // what so many bytes can hold
-    (8, Form::Uint(65535), YES),
-    (8, Form::Uint(65536), NO),
-    (8, Form::Nint(0), NO),
-    (9, Form::Uint(0), YES),
+    (8, b"\x19\xff\xff", YES),
+    (8, b"\x1a\x00\x01\x00\x00", NO),
+    (8, b"\x20", NO),
+    (9, b"\x00", YES),
     (9, ONE, NO),
     (9, TEXT, YES),
-    (10, Form::Text("abc"), YES),
-    (10, Form::Text("abcd"), NO),
-    (10, Form::Text("abcdefghi"), YES),
+    (10, b"\x63\x61\x62\x63", YES),
+    (10, b"\x64\x61\x62\x63\x64", NO),
+    (10, b"\x69\x61\x62\x63\x64\x65\x66\x67\x68\x69", YES),
     // 9 is the greatest member, so all numbers are less than 256^9
-    (10, Form::Uint(u64::MAX), YES),
-    (11, Form::Uint(0xff_ffff_ffff_ffff), YES),
-    (11, Form::Uint(0x100_0000_0000_0000), NO),
+    (10, b"\x1b\xff\xff\xff\xff\xff\xff\xff\xff", YES),
+    (11, b"\x1b\x00\xff\xff\xff\xff\xff\xff\xff", YES),
+    (11, b"\x1b\x01\x00\x00\x00\x00\x00\x00\x00", NO),
     // no member
-    (12, Form::Uint(0), NO),
+    (12, b"\x00", NO),
     (12, TEXT, NO),
-    (8, Form::Array(&[ONE, ONE]), NO),
+    (8, b"\x82\x01\x01", NO),
 ];
 
-const TOO_MUCH: Form = Form::Array(&[Form::Uint(5)]);
+const TOO_MUCH: &[u8] = b"\x81\x05";
 
-const NO_NUMBER: Form = Form::Array(&[TEXT]);
+const NO_NUMBER: &[u8] = b"\x81\x60";
 
 static SIDE_ROWS: [Row; 8] = [
     (13, ONE, YES),
-    (13, Form::Nint(0), NO),
-    (13, Form::Uint(5), NO),
-    (16, Form::Array(&[ONE]), YES),
+    (13, b"\x20", NO),
+    (13, b"\x05", NO),
+    (16, b"\x81\x01", YES),
     // the right type's place, and the left one's
     (16, TOO_MUCH, Verdict::No { place: 1 }),
     (16, NO_NUMBER, Verdict::No { place: 1 }),
     // a test's no is at the item, and the no of the type before it where that shows it
-    (17, Form::Array(&[ONE]), NO),
+    (17, b"\x81\x01", NO),
     (17, NO_NUMBER, Verdict::No { place: 1 }),
 ];
 
+fn controls() -> Plan {
+    Plan {
+        kinds: &CONTROLS,
+        parts: &CONTROL_PARTS,
+        order: &CONTROL_ORDER,
+    }
+}
+
+fn test_rows() -> &'static [Row] {
+    &TEST_ROWS
+}
+
+fn side_rows() -> &'static [Row] {
+    &SIDE_ROWS
+}
+
 #[test]
-fn judges_controls(rt: HostRuntime) -> Result<(), Fail> {
-    let alloc = rt.alloc();
-    check_rows(
-        &rt,
-        alloc,
-        &CONTROLS,
-        &CONTROL_PARTS,
-        &CONTROL_ORDER,
-        &TEST_ROWS,
-    )?;
-    check_rows(
-        &rt,
-        alloc,
-        &CONTROLS,
-        &CONTROL_PARTS,
-        &CONTROL_ORDER,
-        &SIDE_ROWS,
-    )
+fn judges_controls(rt: HostRuntime) -> Result<(), AllocError> {
+    check_rows(&rt, rt.alloc(), &controls(), test_rows())?;
+    check_rows(&rt, rt.alloc(), &controls(), side_rows())
 }
 
 /// Controls, and the steps that they take. A test behind a type takes none of its own.
-static CONTROL_STEPS: [(usize, Form, u64); 3] = [
+static CONTROL_STEPS: [Steps; 3] = [
     (2, ONE, 2),
     // the left type has said no, and no other is asked
-    (13, Form::Nint(0), 2),
+    (13, b"\x20", 2),
     (13, ONE, 4),
 ];
 
+fn step_rows() -> &'static [Steps] {
+    &CONTROL_STEPS
+}
+
 #[test]
-fn counts_steps_in_controls(rt: HostRuntime) -> Result<(), Fail> {
-    for (number, form, steps) in CONTROL_STEPS.iter() {
-        let table = table_of(
-            rt.alloc(),
-            &CONTROLS,
-            &CONTROL_PARTS,
-            &CONTROL_ORDER,
-            *number,
-        )?;
-        let table = table.expect(&rt, "ranks");
-        check_steps(&rt, rt.alloc(), &table, *number, form, *steps)?;
-    }
-    Ok(())
+fn counts_steps_in_controls(rt: HostRuntime) -> Result<(), AllocError> {
+    check_steps(&rt, rt.alloc(), &controls(), step_rows())
 }

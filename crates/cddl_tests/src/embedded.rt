@@ -1,11 +1,12 @@
 use crate::matching::{
-    Form, Kind, ONE, Order, Part, Row, TEXT, YES, check_rows, check_steps, table_of,
+    Kind, ONE, Order, Part, Plan, Row, Steps, TEXT, YES, check_rows, check_steps, expect_verdict,
+    table_of,
 };
 use cbor_item::{Item, Sound};
 use cddl_match::{Verdict, verdict};
-use cddl_table::{Content, Most, Table};
+use cddl_table::{Content, Most};
 use std::alloc::{AllocError, Global};
-use std::test::Fail;
+use std::process::Abort;
 
 // Byte strings that hold items.
 static HOLDERS: [Kind; 13] = [
@@ -50,58 +51,55 @@ const NO: Verdict = Verdict::No { place: 0 };
 
 static HOLDER_ROWS: [Row; 26] = [
     // one item, in any spelling
-    (3, Form::Bytes(&[1]), YES),
-    (3, Form::Bytes(&[0x18, 1]), YES),
-    (3, Form::Bytes(&[0x20]), NO),
+    (3, b"\x41\x01", YES),
+    (3, b"\x42\x18\x01", YES),
+    (3, b"\x41\x20", NO),
     // no item, two, one that ends too early, and what is no item
-    (3, Form::Bytes(&[]), NO),
-    (3, Form::Bytes(&[1, 2]), NO),
-    (3, Form::Bytes(&[0x18]), NO),
-    (3, Form::Bytes(&[0xff]), NO),
+    (3, b"\x40", NO),
+    (3, b"\x42\x01\x02", NO),
+    (3, b"\x41\x18", NO),
+    (3, b"\x41\xff", NO),
     (3, ONE, NO),
     (3, TEXT, NO),
     // a sequence
-    (5, Form::Bytes(&[]), YES),
-    (5, Form::Bytes(&[1]), YES),
-    (5, Form::Bytes(&[1, 0x18, 2]), YES),
-    (5, Form::Bytes(&[1, 0x20]), NO),
-    (5, Form::Bytes(&[1, 0x18]), NO),
-    (5, Form::Bytes(&[0x81, 1]), NO),
+    (5, b"\x40", YES),
+    (5, b"\x41\x01", YES),
+    (5, b"\x43\x01\x18\x02", YES),
+    (5, b"\x42\x01\x20", NO),
+    (5, b"\x42\x01\x18", NO),
+    (5, b"\x42\x81\x01", NO),
     // a byte string in a byte string
-    (7, Form::Bytes(&[0x41, 1]), YES),
-    (7, Form::Bytes(&[0x42, 0x41, 1]), YES),
-    (7, Form::Bytes(&[0x42, 0x41, 0x20]), NO),
+    (7, b"\x42\x41\x01", YES),
+    (7, b"\x43\x42\x41\x01", YES),
+    (7, b"\x43\x42\x41\x20", NO),
     // other items hold nothing
     (8, ONE, NO),
-    (8, Form::Array(&[ONE]), NO),
+    (8, b"\x81\x01", NO),
     // a no of what a string holds is at the string, and one of the string's own type where that shows it
-    (9, Form::Array(&[ONE, Form::Bytes(&[1, 2, 3])]), YES),
-    (
-        9,
-        Form::Array(&[ONE, Form::Bytes(&[1, 2, 0x20])]),
-        Verdict::No { place: 2 },
-    ),
-    (10, Form::Array(&[TEXT]), Verdict::No { place: 1 }),
-    (10, Form::Array(&[ONE]), NO),
+    (9, b"\x82\x01\x43\x01\x02\x03", YES),
+    (9, b"\x82\x01\x43\x01\x02\x20", Verdict::No { place: 2 }),
+    (10, b"\x81\x60", Verdict::No { place: 1 }),
+    (10, b"\x81\x01", NO),
     // a map with two equal keys is no item
-    (11, Form::Bytes(&[0xa2, 1, 0, 2, 0]), YES),
-    (11, Form::Bytes(&[0xa2, 1, 0, 0x18, 1, 0]), NO),
+    (11, b"\x45\xa2\x01\x00\x02\x00", YES),
+    (11, b"\x46\xa2\x01\x00\x18\x01\x00", NO),
 ];
 
-fn holder_table(alloc: Global, number: usize) -> Result<Option<Table>, AllocError> {
-    table_of(alloc, &HOLDERS, &HOLDER_PARTS, &HOLDER_ORDER, number)
+fn holders() -> Plan {
+    Plan {
+        kinds: &HOLDERS,
+        parts: &HOLDER_PARTS,
+        order: &HOLDER_ORDER,
+    }
+}
+
+fn holder_rows() -> &'static [Row] {
+    &HOLDER_ROWS
 }
 
 #[test]
-fn judges_what_byte_strings_hold(rt: HostRuntime) -> Result<(), Fail> {
-    check_rows(
-        &rt,
-        rt.alloc(),
-        &HOLDERS,
-        &HOLDER_PARTS,
-        &HOLDER_ORDER,
-        &HOLDER_ROWS,
-    )
+fn judges_what_byte_strings_hold(rt: HostRuntime) -> Result<(), AllocError> {
+    check_rows(&rt, rt.alloc(), &holders(), holder_rows())
 }
 
 // The number 1 in so many arrays, each in the one before it.
@@ -134,50 +132,69 @@ fn nested_strings(alloc: Global, count: usize) -> Result<Vec<u8>, AllocError> {
     Ok(bytes)
 }
 
-fn verdict_of(alloc: Global, table: &Table, bytes: Vec<u8>) -> Result<Verdict, Fail> {
-    let item = Sound::try_new(alloc, Item::Bytes(bytes))?;
-    Ok(verdict(alloc, table, &item, 100_000)?)
+// A byte string of these bytes, in a box for the sake of the functions that it passes through.
+fn string_of(rt: &impl Abort, alloc: Global, bytes: Vec<u8>) -> Result<Box<Sound>, AllocError> {
+    let item = Sound::try_new(alloc, Item::Bytes(bytes)).ok();
+    Ok(Box::new(alloc, item.expect(rt, "a sound item"))?)
 }
 
-#[test]
-fn reads_items_up_to_256_deep(rt: HostRuntime) -> Result<(), Fail> {
-    let alloc = rt.alloc();
-    let one = holder_table(alloc, 11)?.expect(&rt, "ranks");
-    let many = holder_table(alloc, 12)?.expect(&rt, "ranks");
-    assert_eq!(rt; verdict_of(alloc, &one, nested_arrays(alloc, 256)?)?, YES);
-    assert_eq!(rt; verdict_of(alloc, &one, nested_arrays(alloc, 257)?)?, NO);
-    // The array of the items is one deeper than they are.
-    assert_eq!(rt; verdict_of(alloc, &many, nested_arrays(alloc, 256)?)?, YES);
-    assert_eq!(rt; verdict_of(alloc, &many, nested_arrays(alloc, 257)?)?, NO);
+// What the type of this number says of a byte string of these bytes.
+fn verdict_of(
+    rt: &impl Abort,
+    alloc: Global,
+    number: usize,
+    bytes: Vec<u8>,
+) -> Result<Verdict, AllocError> {
+    let item = string_of(rt, alloc, bytes)?;
+    let table = table_of(alloc, &holders(), number)?.expect(rt, "ranks");
+    verdict(alloc, &table, &item, 100_000)
+}
+
+// The type of this number says this of a byte string that holds so many arrays, each in the one before it.
+fn expect_at_depth(
+    rt: &impl Abort,
+    alloc: Global,
+    number: usize,
+    depth: usize,
+    wanted: Verdict,
+) -> Result<(), AllocError> {
+    let found = verdict_of(rt, alloc, number, nested_arrays(alloc, depth)?)?;
+    expect_verdict(rt, found, wanted, number);
     Ok(())
 }
 
 #[test]
-fn reads_strings_in_strings(rt: HostRuntime) -> Result<(), Fail> {
-    let alloc = rt.alloc();
-    let table = holder_table(alloc, 7)?.expect(&rt, "ranks");
-    assert_eq!(rt;
-        verdict_of(alloc, &table, nested_strings(alloc, 3000)?)?,
-        YES
-    );
+fn reads_items_up_to_256_deep(rt: HostRuntime) -> Result<(), AllocError> {
+    expect_at_depth(&rt, rt.alloc(), 11, 256, YES)?;
+    expect_at_depth(&rt, rt.alloc(), 11, 257, NO)?;
+    // The array of the items is one deeper than they are.
+    expect_at_depth(&rt, rt.alloc(), 12, 256, YES)?;
+    expect_at_depth(&rt, rt.alloc(), 12, 257, NO)
+}
+
+#[test]
+fn reads_strings_in_strings(rt: HostRuntime) -> Result<(), AllocError> {
+    let strings = nested_strings(rt.alloc(), 3000)?;
+    let found = verdict_of(&rt, rt.alloc(), 7, strings)?;
+    expect_verdict(&rt, found, YES, 7);
     Ok(())
 }
 
 /// Byte strings, and the steps that they take. Reading takes none.
-static HOLDER_STEPS: [(usize, Form, u64); 4] = [
-    (3, Form::Bytes(&[1]), 3),
-    (3, Form::Bytes(&[1, 2]), 2),
+static HOLDER_STEPS: [Steps; 4] = [
+    (3, b"\x41\x01", 3),
+    (3, b"\x42\x01\x02", 2),
     // the string's own type has said no, and nothing is read
     (3, ONE, 2),
     // the array, its group, and the rounds with their entries
-    (5, Form::Bytes(&[1, 2]), 9),
+    (5, b"\x42\x01\x02", 9),
 ];
 
+fn step_rows() -> &'static [Steps] {
+    &HOLDER_STEPS
+}
+
 #[test]
-fn counts_steps_in_byte_strings(rt: HostRuntime) -> Result<(), Fail> {
-    for (number, form, steps) in HOLDER_STEPS.iter() {
-        let table = holder_table(rt.alloc(), *number)?.expect(&rt, "ranks");
-        check_steps(&rt, rt.alloc(), &table, *number, form, *steps)?;
-    }
-    Ok(())
+fn counts_steps_in_byte_strings(rt: HostRuntime) -> Result<(), AllocError> {
+    check_steps(&rt, rt.alloc(), &holders(), step_rows())
 }

@@ -261,9 +261,14 @@ static STRINGS: [(&[u8], Quote, usize); 15] = [
     (b"a\r", Quote::Single, 1),
 ];
 
+/// Only here a source of bytes is shown, since each type that a message shows costs a check seconds.
+fn expect_end(rt: &impl Abort, found: usize, end: usize, source: &[u8]) {
+    assert_eq!(rt; found, end, "{source:?}");
+}
+
 fn expect_stops(rt: &impl Abort, rows: &[(&[u8], Quote, usize)]) {
     for (source, quote, end) in rows {
-        assert_eq!(rt; characters_end(*source, 0, *quote), *end, "{source:?}");
+        expect_end(rt, characters_end(*source, 0, *quote), *end, *source);
     }
 }
 
@@ -291,7 +296,7 @@ static PREFIXED: [(&[u8], usize); 13] = [
 
 fn expect_coded_ends(rt: &impl Abort, rows: &[(&[u8], usize)]) {
     for (source, end) in rows {
-        assert_eq!(rt; coded_end(*source, 0), *end, "{source:?}");
+        expect_end(rt, coded_end(*source, 0), *end, *source);
     }
 }
 
@@ -563,13 +568,27 @@ static IN_BASE64: [(&str, &[u8]); 3] = [
     ("B64'SGk ; comment'", b"Hi"),
 ];
 
+fn expect_in_hex(rt: &impl Abort, alloc: Global, rows: &[(&str, &[u8])]) -> Result<(), AllocError> {
+    for (source, want) in rows {
+        expect_bytes(rt, in_hex(alloc, *source)?, *want, *source);
+    }
+    Ok(())
+}
+
+fn expect_in_base64(
+    rt: &impl Abort,
+    alloc: Global,
+    rows: &[(&str, &[u8])],
+) -> Result<(), AllocError> {
+    for (source, want) in rows {
+        expect_bytes(rt, in_base64(alloc, *source)?, *want, *source);
+    }
+    Ok(())
+}
+
 #[test]
 fn prefixed_bytes(rt: HostRuntime) -> Result<(), Fail> {
-    for (source, want) in IN_HEX.iter() {
-        expect_bytes(&rt, in_hex(rt.alloc(), *source)?, *want, *source);
-    }
-    for (source, want) in IN_BASE64.iter() {
-        expect_bytes(&rt, in_base64(rt.alloc(), *source)?, *want, *source);
-    }
+    expect_in_hex(&rt, rt.alloc(), &IN_HEX)?;
+    expect_in_base64(&rt, rt.alloc(), &IN_BASE64)?;
     Ok(())
 }

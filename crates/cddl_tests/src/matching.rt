@@ -1,4 +1,5 @@
 use cbor_item::{Item, Sound};
+use cbor_read::embedded_item;
 use cddl_match::{Verdict, verdict};
 use cddl_table::{
     Content, Group, GroupId, MapEntry, Most, Node, Ranks, SizeRange, SizeSet, Table, TagNumber,
@@ -6,66 +7,18 @@ use cddl_table::{
 };
 use std::alloc::{AllocError, Global};
 use std::process::Abort;
-use std::test::Fail;
 
-/// An item of a row.
-pub(crate) enum Form {
-    Uint(u64),
-    Nint(u64),
-    Empty,
-    Text(&'static str),
-    Bytes(&'static [u8]),
-    Array(&'static [Form]),
-    Map(&'static [(Form, Form)]),
-    Tag(u64, &'static Form),
-    Simple(u8),
+/// The item that these bytes spell, in a box: each step of a proof has the types of a function's locals, up to a box.
+fn item_of(rt: &impl Abort, alloc: Global, bytes: &[u8]) -> Result<Box<Sound>, AllocError> {
+    let item = embedded_item(alloc, bytes)?.expect(rt, "an item");
+    Ok(Box::new(alloc, item)?)
 }
 
-#[cycle(items)]
-fn array_of(alloc: Global, members: &[Form]) -> Result<Item, AllocError> {
-    let mut items = Vec::new(alloc);
-    for member in members {
-        items.push(item_of(alloc, member)?)?;
-    }
-    Ok(Item::Array(items))
-}
+/// The number of a type, the bytes of an item, and what the type says of it.
+pub(crate) type Row = (usize, &'static [u8], Verdict);
 
-#[cycle(items)]
-fn map_of(alloc: Global, forms: &[(Form, Form)]) -> Result<Item, AllocError> {
-    let mut pairs = Vec::new(alloc);
-    for (key, value) in forms {
-        pairs.push((item_of(alloc, key)?, item_of(alloc, value)?))?;
-    }
-    Ok(Item::Map(pairs))
-}
-
-fn bytes_of(alloc: Global, bytes: &[u8]) -> Result<Item, AllocError> {
-    let mut out = Vec::new(alloc);
-    out.extend_from_slice(bytes)?;
-    Ok(Item::Bytes(out))
-}
-
-fn tag_of(alloc: Global, number: u64, content: Item) -> Result<Item, AllocError> {
-    Ok(Item::Tag(number, Box::new(alloc, content)?))
-}
-
-#[cycle(items)]
-fn item_of(alloc: Global, form: &Form) -> Result<Item, AllocError> {
-    match form {
-        Form::Uint(n) => Ok(Item::Uint(*n)),
-        Form::Nint(n) => Ok(Item::Nint(*n)),
-        Form::Empty => Ok(Item::Text(String::new(alloc))),
-        Form::Text(text) => Ok(Item::Text(String::from_str(alloc, *text)?)),
-        Form::Bytes(bytes) => bytes_of(alloc, *bytes),
-        Form::Array(members) => array_of(alloc, *members),
-        Form::Map(pairs) => map_of(alloc, *pairs),
-        Form::Tag(number, content) => tag_of(alloc, *number, item_of(alloc, *content)?),
-        Form::Simple(n) => Ok(Item::Simple(*n)),
-    }
-}
-
-/// The number of a type, an item, and what the type says of it.
-pub(crate) type Row = (usize, Form, Verdict);
+/// The number of a type, the bytes of an item, and the steps that it takes to tell.
+pub(crate) type Steps = (usize, &'static [u8], u64);
 
 pub(crate) const YES: Verdict = Verdict::Yes;
 
@@ -73,7 +26,6 @@ pub(crate) const YES: Verdict = Verdict::Yes;
 pub(crate) type Member = (usize, bool, usize, u64, Most);
 
 /// A test behind a type.
-#[derive(Clone, Copy)]
 pub(crate) enum Asked {
     Differs(u64),
     Less(Whole),
@@ -85,7 +37,6 @@ pub(crate) enum Asked {
 }
 
 /// A type of a table. Its parts are numbers of the same table.
-#[derive(Clone, Copy)]
 pub(crate) enum Kind {
     Anything,
     Major(u8),
@@ -105,9 +56,9 @@ pub(crate) enum Kind {
 }
 
 /// A group of a table.
-#[derive(Clone, Copy)]
 pub(crate) enum Part {
     Entry(usize),
+    Ref(usize),
     Sequence(&'static [usize]),
     Alternatives(&'static [usize]),
     Repeat(u64, Most, usize),
@@ -148,14 +99,14 @@ fn sizes_of(alloc: Global, ranges: &[(u64, u64)]) -> Result<SizeSet, AllocError>
     SizeSet::new(alloc, out)
 }
 
-fn test_of(alloc: Global, asked: Asked) -> Result<Test, AllocError> {
+fn test_of(alloc: Global, asked: &Asked) -> Result<Test, AllocError> {
     Ok(match asked {
-        Asked::Differs(number) => Test::Differs(Item::Uint(number)),
-        Asked::Less(number) => Test::Less(number),
-        Asked::AtMost(number) => Test::AtMost(number),
-        Asked::Greater(number) => Test::Greater(number),
-        Asked::AtLeast(number) => Test::AtLeast(number),
-        Asked::Sized(ranges) => Test::Sized(sizes_of(alloc, ranges)?),
+        Asked::Differs(number) => Test::Differs(Item::Uint(*number)),
+        Asked::Less(number) => Test::Less(*number),
+        Asked::AtMost(number) => Test::AtMost(*number),
+        Asked::Greater(number) => Test::Greater(*number),
+        Asked::AtLeast(number) => Test::AtLeast(*number),
+        Asked::Sized(ranges) => Test::Sized(sizes_of(alloc, *ranges)?),
     })
 }
 
@@ -184,38 +135,56 @@ fn alternatives_of(
     Ok(out)
 }
 
-fn node_of(alloc: Global, kind: Kind) -> Result<Node, AllocError> {
+fn type_id(number: &usize) -> TypeId {
+    TypeId { number: *number }
+}
+
+fn node_of(alloc: Global, kind: &Kind) -> Result<Node, AllocError> {
     Ok(match kind {
         Kind::Anything => Node::Plain(Test::Anything),
-        Kind::Major(major) => Node::Plain(Test::Major(major)),
-        Kind::Between(least, last, closed) => Node::Plain(between(least, last, closed)),
-        Kind::Choice(numbers) => Node::Choice(type_ids(alloc, numbers)?),
-        Kind::Array(number) => Node::ArrayOf(GroupId { number }),
-        Kind::Tag(head, number) => Node::TagOf(
-            TagNumber::SuchAs(TypeId { number: head }),
-            TypeId { number },
-        ),
-        Kind::Simple(number) => Node::SimpleBy(TypeId { number }),
-        Kind::Map(alternatives) => Node::MapOf(alternatives_of(alloc, alternatives)?),
-        Kind::Both(left, right) => Node::Both(TypeId { number: left }, TypeId { number: right }),
-        Kind::Such(number, asked) => Node::Such(TypeId { number }, test_of(alloc, asked)?),
+        Kind::Major(major) => Node::Plain(Test::Major(*major)),
+        Kind::Between(least, last, closed) => Node::Plain(between(*least, *last, *closed)),
+        Kind::Choice(numbers) => Node::Choice(type_ids(alloc, *numbers)?),
+        Kind::Array(number) => Node::ArrayOf(GroupId { number: *number }),
+        Kind::Tag(head, number) => Node::TagOf(TagNumber::SuchAs(type_id(head)), type_id(number)),
+        Kind::Simple(number) => Node::SimpleBy(type_id(number)),
+        Kind::Map(alternatives) => Node::MapOf(alternatives_of(alloc, *alternatives)?),
+        Kind::Both(left, right) => Node::Both(type_id(left), type_id(right)),
+        Kind::Such(number, asked) => Node::Such(type_id(number), test_of(alloc, asked)?),
         Kind::Holding(of, content, number) => {
-            Node::Holding(TypeId { number: of }, content, TypeId { number })
+            Node::Holding(type_id(of), *content, type_id(number))
         }
     })
 }
 
-fn group_of(alloc: Global, part: Part) -> Result<Group, AllocError> {
+fn types_of(alloc: Global, kinds: &[Kind]) -> Result<Vec<Node>, AllocError> {
+    let mut types = Vec::new(alloc);
+    for kind in kinds {
+        types.push(node_of(alloc, kind)?)?;
+    }
+    Ok(types)
+}
+
+fn group_of(alloc: Global, part: &Part) -> Result<Group, AllocError> {
     Ok(match part {
-        Part::Entry(number) => Group::Entry(TypeId { number }),
-        Part::Sequence(numbers) => Group::Sequence(group_ids(alloc, numbers)?),
-        Part::Alternatives(numbers) => Group::Alternatives(group_ids(alloc, numbers)?),
+        Part::Entry(number) => Group::Entry(type_id(number)),
+        Part::Ref(number) => Group::Ref(GroupId { number: *number }),
+        Part::Sequence(numbers) => Group::Sequence(group_ids(alloc, *numbers)?),
+        Part::Alternatives(numbers) => Group::Alternatives(group_ids(alloc, *numbers)?),
         Part::Repeat(least, most, number) => Group::Repeat {
-            least,
-            most,
-            group: GroupId { number },
+            least: *least,
+            most: *most,
+            group: GroupId { number: *number },
         },
     })
+}
+
+pub(crate) fn groups_of(alloc: Global, parts: &[Part]) -> Result<Vec<Group>, AllocError> {
+    let mut groups = Vec::new(alloc);
+    for part in parts {
+        groups.push(group_of(alloc, part)?)?;
+    }
+    Ok(groups)
 }
 
 /// The ranks of types and groups, and a flag for each group that may take no item.
@@ -239,47 +208,92 @@ fn ranks_of(alloc: Global, order: &Order) -> Result<Ranks, AllocError> {
     })
 }
 
+/// The types and groups of a table with their order. A function makes it, so that only there a proof has the statics in it.
+#[derive(Clone, Copy)]
+pub(crate) struct Plan {
+    pub(crate) kinds: &'static [Kind],
+    pub(crate) parts: &'static [Part],
+    pub(crate) order: &'static Order,
+}
+
 /// The table of these types and groups, whose root is the type of this number, if their ranks go down.
 pub(crate) fn table_of(
     alloc: Global,
-    kinds: &[Kind],
-    parts: &[Part],
-    order: &Order,
+    plan: &Plan,
     number: usize,
-) -> Result<Option<Table>, AllocError> {
-    let mut types = Vec::new(alloc);
-    for kind in kinds {
-        types.push(node_of(alloc, *kind)?)?;
+) -> Result<Option<Box<Table>>, AllocError> {
+    let ranks = ranks_of(alloc, plan.order)?;
+    let groups = groups_of(alloc, plan.parts)?;
+    let types = types_of(alloc, plan.kinds)?;
+    match Table::new(types, groups, TypeId { number }, ranks) {
+        Ok(table) => Ok(Some(Box::new(alloc, table)?)),
+        Err(_) => Ok(None),
     }
-    let mut groups = Vec::new(alloc);
-    for part in parts {
-        groups.push(group_of(alloc, *part)?)?;
-    }
-    let ranks = ranks_of(alloc, order)?;
-    Ok(Table::new(types, groups, TypeId { number }, ranks).ok())
 }
 
 /// What the root of a table says of an item, within so many steps.
-fn verdict_in(alloc: Global, table: &Table, form: &Form, steps: u64) -> Result<Verdict, Fail> {
-    let item = Sound::try_new(alloc, item_of(alloc, form)?)?;
-    Ok(verdict(alloc, table, &item, steps)?)
+fn verdict_in(
+    rt: &impl Abort,
+    alloc: Global,
+    table: &Table,
+    bytes: &[u8],
+    steps: u64,
+) -> Result<Verdict, AllocError> {
+    let item = item_of(rt, alloc, bytes)?;
+    verdict(alloc, table, &item, steps)
+}
+
+/// What the type of this number says of an item, within so many steps.
+fn verdict_of(
+    rt: &impl Abort,
+    alloc: Global,
+    plan: &Plan,
+    number: usize,
+    bytes: &[u8],
+    steps: u64,
+) -> Result<Verdict, AllocError> {
+    let table = table_of(alloc, plan, number)?.expect(rt, "ranks");
+    verdict_in(rt, alloc, &table, bytes, steps)
+}
+
+/// Only here verdicts are compared and shown, since each type that a message shows costs a check seconds.
+pub(crate) fn expect_verdict(rt: &impl Abort, found: Verdict, wanted: Verdict, number: usize) {
+    assert_eq!(rt; found, wanted, "of type {number}");
 }
 
 pub(crate) fn check_rows(
     rt: &impl Abort,
     alloc: Global,
-    kinds: &[Kind],
-    parts: &[Part],
-    order: &Order,
+    plan: &Plan,
     rows: &[Row],
-) -> Result<(), Fail> {
-    for (number, form, wanted) in rows {
-        let table = table_of(alloc, kinds, parts, order, *number)?.expect(rt, "ranks");
-        assert_eq!(rt;
-            verdict_in(alloc, &table, form, 1000)?,
-            *wanted,
-            "of type {number}"
-        );
+) -> Result<(), AllocError> {
+    for (number, bytes, wanted) in rows {
+        let found = verdict_of(rt, alloc, plan, *number, *bytes, 1000)?;
+        expect_verdict(rt, found, *wanted, *number);
+    }
+    Ok(())
+}
+
+/// So many steps tell, and one fewer does not.
+fn check_limit(rt: &impl Abort, alloc: Global, plan: &Plan, row: &Steps) -> Result<(), AllocError> {
+    let (number, bytes, steps) = *row;
+    let enough = verdict_of(rt, alloc, plan, number, bytes, steps)?;
+    let fewer = verdict_of(rt, alloc, plan, number, bytes, steps.saturating_sub(1))?;
+    assert!(rt;
+        enough != Verdict::Spent && fewer == Verdict::Spent,
+        "of type {number} in {steps}"
+    );
+    Ok(())
+}
+
+pub(crate) fn check_steps(
+    rt: &impl Abort,
+    alloc: Global,
+    plan: &Plan,
+    rows: &[Steps],
+) -> Result<(), AllocError> {
+    for row in rows {
+        check_limit(rt, alloc, plan, row)?;
     }
     Ok(())
 }
@@ -341,72 +355,52 @@ static ORDER: Order = Order {
     ],
 };
 
-pub(crate) const ONE: Form = Form::Uint(1);
+pub(crate) const ONE: &[u8] = b"\x01";
 
-const TWO_ONES: Form = Form::Array(&[ONE, ONE]);
+const TWO_ONES: &[u8] = b"\x82\x01\x01";
 
 static ARRAY_ROWS: [Row; 18] = [
     // a group takes all that it can, and gives nothing back
-    (3, Form::Array(&[ONE]), Verdict::No { place: 0 }),
-    (
-        3,
-        Form::Array(&[ONE, Form::Empty]),
-        Verdict::No { place: 2 },
-    ),
+    (3, b"\x81\x01", Verdict::No { place: 0 }),
+    (3, b"\x82\x01\x60", Verdict::No { place: 2 }),
     // the first alternative is taken, and what it leaves is left over
-    (
-        4,
-        Form::Array(&[ONE, Form::Uint(2)]),
-        Verdict::No { place: 2 },
-    ),
-    (4, Form::Array(&[ONE]), YES),
+    (4, b"\x82\x01\x02", Verdict::No { place: 2 }),
+    (4, b"\x81\x01", YES),
     // a round that takes no item meets the rest of the minimum
-    (5, Form::Array(&[]), YES),
-    (5, Form::Array(&[ONE, ONE, ONE, ONE]), YES),
-    (6, Form::Array(&[ONE]), Verdict::No { place: 0 }),
-    (6, Form::Array(&[ONE, ONE, ONE]), YES),
-    (
-        6,
-        Form::Array(&[ONE, Form::Empty]),
-        Verdict::No { place: 2 },
-    ),
-    (0, Form::Nint(0), YES),
-    (0, Form::Empty, Verdict::No { place: 0 }),
+    (5, b"\x80", YES),
+    (5, b"\x84\x01\x01\x01\x01", YES),
+    (6, b"\x81\x01", Verdict::No { place: 0 }),
+    (6, b"\x83\x01\x01\x01", YES),
+    (6, b"\x82\x01\x60", Verdict::No { place: 2 }),
+    (0, b"\x20", YES),
+    (0, b"\x60", Verdict::No { place: 0 }),
     // Of a choice's trials the greatest place counts.
-    (
-        9,
-        Form::Array(&[ONE, Form::Empty]),
-        Verdict::No { place: 2 },
-    ),
-    (9, Form::Array(&[Form::Nint(0)]), YES),
+    (9, b"\x82\x01\x60", Verdict::No { place: 2 }),
+    (9, b"\x81\x20", YES),
     // The place after an item is after all that is in it.
-    (
-        10,
-        Form::Array(&[Form::Array(&[ONE]), Form::Empty]),
-        Verdict::No { place: 3 },
-    ),
-    (
-        10,
-        Form::Array(&[Form::Map(&[(ONE, Form::Array(&[ONE]))]), Form::Empty]),
-        Verdict::No { place: 5 },
-    ),
-    (
-        12,
-        Form::Array(&[Form::Array(&[ONE])]),
-        Verdict::No { place: 1 },
-    ),
-    (
-        12,
-        Form::Array(&[Form::Array(&[ONE, Form::Empty])]),
-        Verdict::No { place: 3 },
-    ),
+    (10, b"\x82\x81\x01\x60", Verdict::No { place: 3 }),
+    (10, b"\x82\xa1\x01\x81\x01\x60", Verdict::No { place: 5 }),
+    (12, b"\x81\x81\x01", Verdict::No { place: 1 }),
+    (12, b"\x81\x82\x01\x60", Verdict::No { place: 3 }),
     // a number that is not there
     (13, ONE, Verdict::No { place: 0 }),
 ];
 
+fn arrays() -> Plan {
+    Plan {
+        kinds: &KINDS,
+        parts: &PARTS,
+        order: &ORDER,
+    }
+}
+
+fn array_rows() -> &'static [Row] {
+    &ARRAY_ROWS
+}
+
 #[test]
-fn judges_arrays(rt: HostRuntime) -> Result<(), Fail> {
-    check_rows(&rt, rt.alloc(), &KINDS, &PARTS, &ORDER, &ARRAY_ROWS)
+fn judges_arrays(rt: HostRuntime) -> Result<(), AllocError> {
+    check_rows(&rt, rt.alloc(), &arrays(), array_rows())
 }
 
 // Ranges, and what asks them of the numbers of tags and simple values.
@@ -428,79 +422,78 @@ static HEAD_ORDER: Order = Order {
 };
 
 static HEAD_ROWS: [Row; 9] = [
-    (0, Form::Uint(5), YES),
-    (1, Form::Uint(5), Verdict::No { place: 0 }),
-    (4, Form::Tag(1, &ONE), YES),
-    (4, Form::Tag(3, &ONE), Verdict::No { place: 0 }),
-    (4, Form::Tag(1, &Form::Empty), Verdict::No { place: 1 }),
+    (0, b"\x05", YES),
+    (1, b"\x05", Verdict::No { place: 0 }),
+    (4, b"\xc1\x01", YES),
+    (4, b"\xc3\x01", Verdict::No { place: 0 }),
+    (4, b"\xc1\x60", Verdict::No { place: 1 }),
     (4, ONE, Verdict::No { place: 0 }),
-    (5, Form::Simple(32), YES),
+    (5, b"\xf8\x20", YES),
     // true
-    (5, Form::Simple(21), Verdict::No { place: 0 }),
-    (5, Form::Uint(32), Verdict::No { place: 0 }),
+    (5, b"\xf5", Verdict::No { place: 0 }),
+    (5, b"\x18\x20", Verdict::No { place: 0 }),
 ];
 
-#[test]
-fn judges_heads(rt: HostRuntime) -> Result<(), Fail> {
-    check_rows(&rt, rt.alloc(), &HEADS, &[], &HEAD_ORDER, &HEAD_ROWS)
+fn heads() -> Plan {
+    Plan {
+        kinds: &HEADS,
+        parts: &[],
+        order: &HEAD_ORDER,
+    }
 }
 
-/// A type, an item, and the steps that it takes to tell.
-static STEPS: [(usize, Form, u64); 4] = [
+fn head_rows() -> &'static [Row] {
+    &HEAD_ROWS
+}
+
+#[test]
+fn judges_heads(rt: HostRuntime) -> Result<(), AllocError> {
+    check_rows(&rt, rt.alloc(), &heads(), head_rows())
+}
+
+static STEPS: [Steps; 4] = [
     // int, uint, nint
-    (0, Form::Nint(0), 3),
+    (0, b"\x20", 3),
     // The array, both groups, the repetition, an entry in a round and one after it.
-    (3, Form::Array(&[]), 5),
+    (3, b"\x80", 5),
     // and an entry, int and uint for each item
-    (3, Form::Array(&[ONE]), 8),
+    (3, b"\x81\x01", 8),
     (13, ONE, 1),
 ];
 
-#[test]
-fn counts_steps(rt: HostRuntime) -> Result<(), Fail> {
-    for (number, form, steps) in STEPS.iter() {
-        let table = table_of(rt.alloc(), &KINDS, &PARTS, &ORDER, *number)?.expect(&rt, "ranks");
-        check_steps(&rt, rt.alloc(), &table, *number, form, *steps)?;
-    }
-    Ok(())
+fn step_rows() -> &'static [Steps] {
+    &STEPS
 }
 
-/// So many steps tell, and one fewer does not.
-pub(crate) fn check_steps(
+#[test]
+fn counts_steps(rt: HostRuntime) -> Result<(), AllocError> {
+    check_steps(&rt, rt.alloc(), &arrays(), step_rows())
+}
+
+/// Whether a type says yes to an item, or there is no memory.
+fn is_yes_or_wants_memory(
     rt: &impl Abort,
     alloc: Global,
-    table: &Table,
+    plan: &Plan,
     number: usize,
-    form: &Form,
-    steps: u64,
-) -> Result<(), Fail> {
-    let enough = verdict_in(alloc, table, form, steps)?;
-    let fewer = verdict_in(alloc, table, form, steps.saturating_sub(1))?;
-    assert!(rt;
-        enough != Verdict::Spent && fewer == Verdict::Spent,
-        "of type {number} in {steps}"
-    );
-    Ok(())
-}
-
-/// What a type says of an item, and None where there is no memory.
-fn verdict_or_none(
-    alloc: Global,
-    table: Result<Option<Table>, AllocError>,
-    form: &Form,
-) -> Option<Verdict> {
-    let table = table.ok()??;
-    let item = Sound::try_new(alloc, item_of(alloc, form).ok()?).ok()?;
-    verdict(alloc, &table, &item, 1000).ok()
+    bytes: &[u8],
+) -> bool {
+    match table_of(alloc, plan, number) {
+        Ok(table) => {
+            let verdict = verdict_in(rt, alloc, &table.expect(rt, "ranks"), bytes, 1000);
+            matches!(verdict, Err(AllocError) | Ok(Verdict::Yes))
+        }
+        Err(AllocError) => true,
+    }
 }
 
 // Run with each allocation refused in turn (`rt try --test --fail-alloc N`), this finds no third answer.
 #[test]
 fn judges_or_wants_memory(rt: HostRuntime) {
-    let table = table_of(rt.alloc(), &KINDS, &PARTS, &ORDER, 7);
-    let verdict = verdict_or_none(rt.alloc(), table, &TWO_ONES);
-    assert!(rt; matches!(verdict, None | Some(Verdict::Yes)));
+    assert!(rt; is_yes_or_wants_memory(&rt, rt.alloc(), &arrays(), 7, TWO_ONES));
 }
+
+static ARRAY_OF_FIRST: [Kind; 1] = [Kind::Array(1)];
 
 // `a = [g]` and `g = (a, ? g)`: it leads back to itself, but not before an item is taken.
 static LOOP: [Part; 3] = [
@@ -515,13 +508,20 @@ static LOOP_ORDER: Order = Order {
     may_be_empty: &[false, false, true],
 };
 
-const NESTED: Form = Form::Array(&[Form::Array(&[])]);
+const NESTED: &[u8] = b"\x81\x80";
+
+fn looped() -> Plan {
+    Plan {
+        kinds: &ARRAY_OF_FIRST,
+        parts: &LOOP,
+        order: &LOOP_ORDER,
+    }
+}
 
 #[test]
-fn judges_what_leads_back(rt: HostRuntime) -> Result<(), Fail> {
-    let table = table_of(rt.alloc(), &[Kind::Array(1)], &LOOP, &LOOP_ORDER, 0)?;
-    let table = table.expect(&rt, "ranks");
-    let verdict = verdict_in(rt.alloc(), &table, &NESTED, 1000)?;
+fn judges_what_leads_back(rt: HostRuntime) -> Result<(), AllocError> {
+    let table = table_of(rt.alloc(), &looped(), 0)?.expect(&rt, "ranks");
+    let verdict = verdict_in(&rt, rt.alloc(), &table, NESTED, 1000)?;
     assert!(rt; table.ranks() == 2 && verdict == Verdict::No { place: 1 });
     Ok(())
 }
@@ -539,9 +539,17 @@ static ROUND_ORDER: Order = Order {
     may_be_empty: &[false, false, true],
 };
 
+fn round() -> Plan {
+    Plan {
+        kinds: &ARRAY_OF_FIRST,
+        parts: &ROUND,
+        order: &ROUND_ORDER,
+    }
+}
+
 #[test]
-fn refuses_what_leads_back_at_once(rt: HostRuntime) -> Result<(), Fail> {
-    let table = table_of(rt.alloc(), &[Kind::Array(1)], &ROUND, &ROUND_ORDER, 0)?;
+fn refuses_what_leads_back_at_once(rt: HostRuntime) -> Result<(), AllocError> {
+    let table = table_of(rt.alloc(), &round(), 0)?;
     assert!(rt; table.is_none());
     Ok(())
 }
@@ -601,131 +609,100 @@ static MAP_ORDER: Order = Order {
     may_be_empty: &[false, true],
 };
 
-pub(crate) const TWO: Form = Form::Uint(2);
+pub(crate) const TWO: &[u8] = b"\x02";
 
-pub(crate) const TEXT: Form = Form::Empty;
+pub(crate) const TEXT: &[u8] = b"\x60";
 
-const NONE: Form = Form::Map(&[]);
+const NONE: &[u8] = b"\xa0";
 
 static MAP_ROWS: [Row; 30] = [
-    (7, Form::Map(&[(ONE, ONE)]), YES),
-    (7, Form::Map(&[(TWO, TEXT), (ONE, ONE)]), YES),
+    (7, b"\xa1\x01\x01", YES),
+    (7, b"\xa2\x02\x60\x01\x01", YES),
     // A pair is missing, which shows at the map.
     (7, NONE, Verdict::No { place: 0 }),
     (7, ONE, Verdict::No { place: 0 }),
     // a value, at its own place
-    (
-        7,
-        Form::Map(&[(ONE, ONE), (TWO, TWO)]),
-        Verdict::No { place: 4 },
-    ),
+    (7, b"\xa2\x01\x01\x02\x02", Verdict::No { place: 4 }),
     // A key that belongs nowhere shows before a value that fails, wherever it stands.
-    (
-        7,
-        Form::Map(&[(ONE, TEXT), (TEXT, ONE)]),
-        Verdict::No { place: 3 },
-    ),
-    (
-        7,
-        Form::Map(&[(ONE, TEXT), (TWO, TWO)]),
-        Verdict::No { place: 2 },
-    ),
+    (7, b"\xa2\x01\x60\x60\x01", Verdict::No { place: 3 }),
+    (7, b"\xa2\x01\x60\x02\x02", Verdict::No { place: 2 }),
     // either alternative
-    (8, Form::Map(&[(TWO, TWO), (TEXT, ONE)]), YES),
-    (8, Form::Map(&[(TEXT, ONE), (ONE, ONE)]), YES),
+    (8, b"\xa2\x02\x02\x60\x01", YES),
+    (8, b"\xa2\x60\x01\x01\x01", YES),
     // the greatest place of both
-    (
-        8,
-        Form::Map(&[(ONE, ONE), (TWO, TWO)]),
-        Verdict::No { place: 3 },
-    ),
+    (8, b"\xa2\x01\x01\x02\x02", Verdict::No { place: 3 }),
     (9, NONE, YES),
-    (9, Form::Map(&[(ONE, ONE), (TWO, TWO)]), YES),
-    (9, Form::Map(&[(ONE, ONE)]), Verdict::No { place: 1 }),
+    (9, b"\xa2\x01\x01\x02\x02", YES),
+    (9, b"\xa1\x01\x01", Verdict::No { place: 1 }),
     // Where nothing cuts, a value that fails hands its pair on.
-    (10, Form::Map(&[(ONE, ONE), (TWO, TEXT)]), YES),
-    (10, Form::Map(&[(TWO, TEXT), (ONE, ONE)]), YES),
+    (10, b"\xa2\x01\x01\x02\x60", YES),
+    (10, b"\xa2\x02\x60\x01\x01", YES),
     // An entry keeps its pairs, also those over its maximum.
-    (
-        10,
-        Form::Map(&[(ONE, TEXT), (TWO, TEXT)]),
-        Verdict::No { place: 0 },
-    ),
-    (11, Form::Map(&[(ONE, ONE)]), YES),
-    (
-        11,
-        Form::Map(&[(ONE, ONE), (TWO, TWO)]),
-        Verdict::No { place: 0 },
-    ),
+    (10, b"\xa2\x01\x60\x02\x60", Verdict::No { place: 0 }),
+    (11, b"\xa1\x01\x01", YES),
+    (11, b"\xa2\x01\x01\x02\x02", Verdict::No { place: 0 }),
     // A cut keeps the pair from the entries after it.
-    (12, Form::Map(&[(TWO, TEXT), (ONE, ONE)]), YES),
-    (
-        12,
-        Form::Map(&[(TWO, TEXT), (ONE, TEXT)]),
-        Verdict::No { place: 4 },
-    ),
+    (12, b"\xa2\x02\x60\x01\x01", YES),
+    (12, b"\xa2\x02\x60\x01\x60", Verdict::No { place: 4 }),
     // A cut does not keep it from the other alternatives.
-    (13, Form::Map(&[(ONE, TWO)]), YES),
-    (
-        13,
-        Form::Map(&[(ONE, Form::Uint(3))]),
-        Verdict::No { place: 2 },
-    ),
+    (13, b"\xa1\x01\x02", YES),
+    (13, b"\xa1\x01\x03", Verdict::No { place: 2 }),
     (14, NONE, Verdict::No { place: 0 }),
-    (14, Form::Map(&[(TWO, ONE)]), YES),
-    (14, Form::Map(&[(TWO, ONE), (ONE, ONE)]), YES),
+    (14, b"\xa1\x02\x01", YES),
+    (14, b"\xa2\x02\x01\x01\x01", YES),
     // values that tests alone do not tell
-    (
-        15,
-        Form::Map(&[(ONE, Form::Array(&[ONE])), (TWO, Form::Array(&[]))]),
-        YES,
-    ),
-    (
-        15,
-        Form::Map(&[(ONE, Form::Array(&[])), (TWO, ONE)]),
-        Verdict::No { place: 3 },
-    ),
+    (15, b"\xa2\x01\x81\x01\x02\x80", YES),
+    (15, b"\xa2\x01\x80\x02\x01", Verdict::No { place: 3 }),
     (15, NONE, YES),
     // no alternative
     (17, NONE, Verdict::No { place: 0 }),
     (17, ONE, Verdict::No { place: 0 }),
 ];
 
-#[test]
-fn judges_maps(rt: HostRuntime) -> Result<(), Fail> {
-    check_rows(&rt, rt.alloc(), &MAPS, &MAP_PARTS, &MAP_ORDER, &MAP_ROWS)
+fn maps() -> Plan {
+    Plan {
+        kinds: &MAPS,
+        parts: &MAP_PARTS,
+        order: &MAP_ORDER,
+    }
 }
 
-const MAP_OF_ARRAY: Form = Form::Map(&[(ONE, TWO_ONES)]);
+fn map_rows() -> &'static [Row] {
+    &MAP_ROWS
+}
+
+#[test]
+fn judges_maps(rt: HostRuntime) -> Result<(), AllocError> {
+    check_rows(&rt, rt.alloc(), &maps(), map_rows())
+}
+
+const MAP_OF_ARRAY: &[u8] = b"\xa1\x01\x82\x01\x01";
 
 // As above.
 #[test]
 fn sorts_or_wants_memory(rt: HostRuntime) {
-    let table = table_of(rt.alloc(), &MAPS, &MAP_PARTS, &MAP_ORDER, 15);
-    let verdict = verdict_or_none(rt.alloc(), table, &MAP_OF_ARRAY);
-    assert!(rt; matches!(verdict, None | Some(Verdict::Yes)));
+    assert!(rt; is_yes_or_wants_memory(&rt, rt.alloc(), &maps(), 15, MAP_OF_ARRAY));
 }
 
 /// Maps, and the steps that they take.
-static MAP_STEPS: [(usize, Form, u64); 5] = [
+static MAP_STEPS: [Steps; 5] = [
     // the map, and its alternative
     (7, NONE, 2),
     // and the pair, with each of two entries; the key, the value and uint
-    (7, Form::Map(&[(ONE, ONE)]), 8),
+    (7, b"\xa1\x01\x01", 8),
     // the key asked of both entries, and the value
-    (7, Form::Map(&[(TWO, TEXT)]), 8),
+    (7, b"\xa1\x02\x60", 8),
     // two alternatives
     (9, NONE, 3),
     // the pair and its entry; the key and uint; the array, the repetition and its round
-    (15, Form::Map(&[(ONE, Form::Array(&[]))]), 9),
+    (15, b"\xa1\x01\x80", 9),
 ];
 
+fn map_steps() -> &'static [Steps] {
+    &MAP_STEPS
+}
+
 #[test]
-fn counts_steps_in_maps(rt: HostRuntime) -> Result<(), Fail> {
-    for (number, form, steps) in MAP_STEPS.iter() {
-        let table = table_of(rt.alloc(), &MAPS, &MAP_PARTS, &MAP_ORDER, *number)?;
-        let table = table.expect(&rt, "ranks");
-        check_steps(&rt, rt.alloc(), &table, *number, form, *steps)?;
-    }
-    Ok(())
+fn counts_steps_in_maps(rt: HostRuntime) -> Result<(), AllocError> {
+    check_steps(&rt, rt.alloc(), &maps(), map_steps())
 }

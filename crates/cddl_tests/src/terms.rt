@@ -2,7 +2,7 @@ ghost use Rattle.std.specs.Prelude.{◌≡◌, None};
 
 use cddl_terms::{Form, NoRoom, Row, Terms, control_name, opened_name};
 use std::alloc::Global;
-use std::test::Fail;
+use std::process::Abort;
 
 /// A row without parts and without a text.
 fn bare(form: Form) -> Row
@@ -123,13 +123,15 @@ fn numbers_nodes_and_texts(rt: HostRuntime) {
     assert!(rt; are_new_nodes_numbered(rt.alloc()));
 }
 
-/// Whether there was room for two texts and two rows; then they have their numbers.
+/// Whether there was room for two texts; then they have their numbers.
+fn are_texts_numbered_or_refused(terms: &mut Terms<'_>) -> bool {
+    let numbers = three_texts(terms, "int", "tstr");
+    matches!(numbers, Ok((0, 1, 0)) | Err(NoRoom))
+}
+
 fn are_numbered_or_refused(alloc: Global) -> bool {
     let mut terms = Terms::new(alloc);
-    match three_texts(&mut terms, "int", "tstr") {
-        Ok(numbers) => numbers == (0, 1, 0),
-        Err(NoRoom) => true,
-    }
+    are_texts_numbered_or_refused(&mut terms)
 }
 
 // Run with each allocation refused in turn (`rt try --test --fail-alloc N`), this finds no other number.
@@ -138,14 +140,20 @@ fn numbers_or_wants_room(rt: HostRuntime) {
     assert!(rt; are_numbered_or_refused(rt.alloc()));
 }
 
+fn expect_opened(rt: &impl Abort, opening: &str, name: &str) {
+    assert!(rt; opened_name(opening) == name);
+}
+
+fn expect_control(rt: &impl Abort, control: &str, name: &str) {
+    assert!(rt; control_name(control) == name);
+}
+
 #[test]
 fn finds_names_in_openings(rt: HostRuntime) {
-    assert!(rt;
-        opened_name("map<") == "map" && opened_name("map") == "map" && opened_name("").is_empty()
-    );
-    assert!(rt;
-        control_name(".size") == "size"
-            && control_name(".a.b") == "a.b"
-            && control_name("size").is_empty()
-    );
+    expect_opened(&rt, "map<", "map");
+    expect_opened(&rt, "map", "map");
+    expect_opened(&rt, "", "");
+    expect_control(&rt, ".size", "size");
+    expect_control(&rt, ".a.b", "a.b");
+    expect_control(&rt, "size", "");
 }

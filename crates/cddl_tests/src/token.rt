@@ -4,15 +4,14 @@ ghost use Rattle.cddl_token.specs.Answers.{IsAnswered};
 use cddl_token::{Code, Kind, Literal, Refusal, Token, tokens, value};
 use std::alloc::{AllocError, Global};
 use std::process::Abort;
-use std::test::Fail;
 
 mod codes;
 mod rows;
 mod texts;
 
-use codes::CODES;
-use rows::{ROWS_1, ROWS_2, ROWS_3, ROWS_4, ROWS_5, ROWS_6, ROWS_7, ROWS_8, VALUES};
-use texts::{COSE, EXAMPLES};
+use codes::codes;
+use rows::{Row, rows_1, rows_2, rows_3, rows_4, rows_5, rows_6, rows_7, rows_8, value_rows};
+use texts::{Specification, cose, examples};
 
 /// The kinds of the tokens, or the line of the refusal.
 fn kinds_or_refusal(alloc: Global, source: &[u8]) -> Result<String, AllocError> {
@@ -53,78 +52,87 @@ fn values(alloc: Global, found: &Vec<Token<'_>>) -> Result<String, AllocError>
 }
 
 /// What the literals of a source stand for, or the line of the refusal.
-fn values_or_refusal(alloc: Global, source: &str) -> Result<String, AllocError> {
-    match tokens(alloc, source.as_bytes()) {
+fn values_or_refusal(alloc: Global, source: &[u8]) -> Result<String, AllocError> {
+    match tokens(alloc, source) {
         Ok(found) => values(alloc, &found),
         Err(refusal) => refusal.to_string(alloc),
     }
 }
 
-fn check_rows(rt: &impl Abort, alloc: Global, rows: &[(&[u8], &str)]) -> Result<(), Fail> {
+/// Only here texts are compared and shown, since each type that a message shows costs a check seconds.
+fn expect_told(rt: &impl Abort, told: &str, want: &str, source: &[u8]) {
+    assert_eq!(rt; told, want, "at {source:?}");
+}
+
+fn check_row(rt: &impl Abort, alloc: Global, source: &[u8], want: &str) -> Result<(), AllocError> {
+    let told = kinds_or_refusal(alloc, source)?;
+    expect_told(rt, told.as_str(), want, source);
+    Ok(())
+}
+
+fn check_rows(rt: &impl Abort, alloc: Global, rows: &[Row]) -> Result<(), AllocError> {
     for (source, want) in rows {
-        assert_eq!(rt;
-            kinds_or_refusal(alloc, *source)?.as_str(),
-            *want,
-            "at {source:?}"
-        );
+        check_row(rt, alloc, *source, *want)?;
     }
     Ok(())
 }
 
 #[test]
-fn tells_rows_1(rt: HostRuntime) -> Result<(), Fail> {
-    check_rows(&rt, rt.alloc(), &ROWS_1)
+fn tells_rows_1(rt: HostRuntime) -> Result<(), AllocError> {
+    check_rows(&rt, rt.alloc(), rows_1())
 }
 
 #[test]
-fn tells_rows_2(rt: HostRuntime) -> Result<(), Fail> {
-    check_rows(&rt, rt.alloc(), &ROWS_2)
+fn tells_rows_2(rt: HostRuntime) -> Result<(), AllocError> {
+    check_rows(&rt, rt.alloc(), rows_2())
 }
 
 #[test]
-fn tells_rows_3(rt: HostRuntime) -> Result<(), Fail> {
-    check_rows(&rt, rt.alloc(), &ROWS_3)
+fn tells_rows_3(rt: HostRuntime) -> Result<(), AllocError> {
+    check_rows(&rt, rt.alloc(), rows_3())
 }
 
 #[test]
-fn tells_rows_4(rt: HostRuntime) -> Result<(), Fail> {
-    check_rows(&rt, rt.alloc(), &ROWS_4)
+fn tells_rows_4(rt: HostRuntime) -> Result<(), AllocError> {
+    check_rows(&rt, rt.alloc(), rows_4())
 }
 
 #[test]
-fn tells_rows_5(rt: HostRuntime) -> Result<(), Fail> {
-    check_rows(&rt, rt.alloc(), &ROWS_5)
+fn tells_rows_5(rt: HostRuntime) -> Result<(), AllocError> {
+    check_rows(&rt, rt.alloc(), rows_5())
 }
 
 #[test]
-fn tells_rows_6(rt: HostRuntime) -> Result<(), Fail> {
-    check_rows(&rt, rt.alloc(), &ROWS_6)
+fn tells_rows_6(rt: HostRuntime) -> Result<(), AllocError> {
+    check_rows(&rt, rt.alloc(), rows_6())
 }
 
 #[test]
-fn tells_rows_7(rt: HostRuntime) -> Result<(), Fail> {
-    check_rows(&rt, rt.alloc(), &ROWS_7)
+fn tells_rows_7(rt: HostRuntime) -> Result<(), AllocError> {
+    check_rows(&rt, rt.alloc(), rows_7())
 }
 
 #[test]
-fn tells_rows_8(rt: HostRuntime) -> Result<(), Fail> {
-    check_rows(&rt, rt.alloc(), &ROWS_8)
+fn tells_rows_8(rt: HostRuntime) -> Result<(), AllocError> {
+    check_rows(&rt, rt.alloc(), rows_8())
 }
 
-fn check_values(rt: &impl Abort, alloc: Global, rows: &[(&str, &str)]) -> Result<(), Fail> {
+fn check_value(rt: &impl Abort, alloc: Global, source: &str, want: &str) -> Result<(), AllocError> {
+    let told = values_or_refusal(alloc, source.as_bytes())?;
+    expect_told(rt, told.as_str(), want, source.as_bytes());
+    Ok(())
+}
+
+fn check_values(rt: &impl Abort, alloc: Global, rows: &[(&str, &str)]) -> Result<(), AllocError> {
     for (source, want) in rows {
-        assert_eq!(rt;
-            values_or_refusal(alloc, *source)?.as_str(),
-            *want,
-            "at {source}"
-        );
+        check_value(rt, alloc, *source, *want)?;
     }
     Ok(())
 }
 
 #[test]
-fn gives_values(rt: HostRuntime) -> Result<(), Fail> {
-    check_values(&rt, rt.alloc(), &VALUES)
+fn gives_values(rt: HostRuntime) -> Result<(), AllocError> {
+    check_values(&rt, rt.alloc(), value_rows())
 }
 
 /// How many `=` are in a source, and None where it has no tokens.
@@ -138,16 +146,20 @@ fn rules(alloc: Global, source: &str) -> Option<usize> {
     )
 }
 
-fn expect_rules(rt: &impl Abort, alloc: Global, specifications: &[(&str, usize)]) {
+fn expect_count(rt: &impl Abort, alloc: Global, source: &str, count: usize) {
+    assert!(rt; rules(alloc, source) == Some(count), "at {source}");
+}
+
+fn expect_rules(rt: &impl Abort, alloc: Global, specifications: &[Specification]) {
     for (source, count) in specifications {
-        assert_eq!(rt; rules(alloc, *source), Some(*count), "at {source}");
+        expect_count(rt, alloc, *source, *count);
     }
 }
 
 #[test]
 fn reads_specifications_of_rfcs(rt: HostRuntime) {
-    expect_rules(&rt, rt.alloc(), &EXAMPLES);
-    expect_rules(&rt, rt.alloc(), &COSE);
+    expect_rules(&rt, rt.alloc(), examples());
+    expect_rules(&rt, rt.alloc(), cose());
 }
 
 /// Bytes, how often each is in a source, and what is told of it.
@@ -158,11 +170,28 @@ static LENGTHS: [(u8, usize, &str); 4] = [
     (255, 1_048_576, "refused: S1 NotUtf8 at byte 0"),
 ];
 
+fn lengths() -> &'static [(u8, usize, &'static str)] {
+    &LENGTHS
+}
+
+/// A source of so many times the byte is told so.
+fn check_length(
+    rt: &impl Abort,
+    alloc: Global,
+    byte: u8,
+    count: usize,
+    want: &str,
+) -> Result<(), AllocError> {
+    let source = vec![in alloc; byte; count]?;
+    let told = kinds_or_refusal(alloc, &source)?;
+    expect_told(rt, told.as_str(), want, &[byte]);
+    Ok(())
+}
+
 #[test]
-fn limits_the_length(rt: HostRuntime) -> Result<(), Fail> {
-    for (byte, count, want) in LENGTHS.iter() {
-        let source = vec![in rt.alloc(); *byte; *count]?;
-        assert_eq!(rt; kinds_or_refusal(rt.alloc(), &source)?.as_str(), *want);
+fn limits_the_length(rt: HostRuntime) -> Result<(), AllocError> {
+    for (byte, count, want) in lengths() {
+        check_length(&rt, rt.alloc(), *byte, *count, *want)?;
     }
     Ok(())
 }
@@ -181,18 +210,24 @@ fn has_value(alloc: Global, found: &Vec<Token<'_>>) -> bool
 #[test]
 fn answers_or_wants_memory(rt: HostRuntime) {
     match tokens(rt.alloc(), b"h'00 01'") {
-        Err(refusal) => assert_eq!(rt; refusal, Refusal::Memory),
+        Err(refusal) => assert!(rt; matches!(refusal, Refusal::Memory)),
         Ok(found) => {
-            assert_eq!(rt; found.len(), 2);
+            assert!(rt; found.len() == 2);
             assert!(rt; has_value(rt.alloc(), &found));
         }
     }
 }
 
+fn check_code(rt: &impl Abort, alloc: Global, code: Code, want: &str) -> Result<(), AllocError> {
+    let told = code.to_string(alloc)?;
+    expect_told(rt, told.as_str(), want, b"");
+    Ok(())
+}
+
 #[test]
-fn tells_every_code(rt: HostRuntime) -> Result<(), Fail> {
-    for (code, want) in CODES.iter() {
-        assert_eq!(rt; code.to_string(rt.alloc())?.as_str(), *want);
+fn tells_every_code(rt: HostRuntime) -> Result<(), AllocError> {
+    for (code, want) in codes() {
+        check_code(&rt, rt.alloc(), *code, *want)?;
     }
     Ok(())
 }
@@ -205,10 +240,25 @@ static REFUSALS: [(Refusal, &str); 2] = [
     (Refusal::Memory, "out of memory"),
 ];
 
+fn refusals() -> &'static [(Refusal, &'static str)] {
+    &REFUSALS
+}
+
+fn check_refusal(
+    rt: &impl Abort,
+    alloc: Global,
+    refusal: Refusal,
+    want: &str,
+) -> Result<(), AllocError> {
+    let told = refusal.to_string(alloc)?;
+    expect_told(rt, told.as_str(), want, b"");
+    Ok(())
+}
+
 #[test]
-fn tells_refusals(rt: HostRuntime) -> Result<(), Fail> {
-    for (refusal, want) in REFUSALS.iter() {
-        assert_eq!(rt; refusal.to_string(rt.alloc())?.as_str(), *want);
+fn tells_refusals(rt: HostRuntime) -> Result<(), AllocError> {
+    for (refusal, want) in refusals() {
+        check_refusal(&rt, rt.alloc(), *refusal, *want)?;
     }
     Ok(())
 }

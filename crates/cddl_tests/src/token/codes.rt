@@ -1,7 +1,7 @@
 //! Each code, and how it is told.
 use cddl_token::Code;
 
-pub(crate) static CODES: [(Code, &str); 29] = [
+static CODES: [(Code, &str); 29] = [
     (Code::NotUtf8, "S1 NotUtf8"),
     (Code::BadCharacter, "S2 BadCharacter"),
     (Code::Unclosed, "S3 Unclosed"),
@@ -32,3 +32,7 @@ pub(crate) static CODES: [(Code, &str); 29] = [
     (Code::MapShape, "C17 MapShape"),
     (Code::TooManyAlternatives, "C18 TooManyAlternatives"),
 ];
+
+pub(crate) fn codes() -> &'static [(Code, &'static str)] {
+    &CODES
+}

@@ -1,7 +1,10 @@
-//! Sources with what is told of them.
+//! Sources with what is told of them. Functions hand the rows on: what names a static has it in each step of its proof.
+
+/// A source, and what is told of it.
+pub(crate) type Row = (&'static [u8], &'static str);
 
 /// Sources, and the kinds of their tokens or the line of their refusal: part 1.
-pub(crate) static ROWS_1: [(&[u8], &str); 26] = [
+static ROWS_1: [Row; 26] = [
     (b"a", "Name End "),
     (b"a..b", "Name End "),
     (b"bstr.size", "Name End "),
@@ -31,7 +34,7 @@ pub(crate) static ROWS_1: [(&[u8], &str); 26] = [
 ];
 
 /// Sources, and the kinds of their tokens or the line of their refusal: part 2.
-pub(crate) static ROWS_2: [(&[u8], &str); 26] = [
+static ROWS_2: [Row; 26] = [
     (b"-0", "Number End "),
     (b"0x1F", "Number End "),
     (b"0Xf", "Number End "),
@@ -76,7 +79,7 @@ pub(crate) static ROWS_2: [(&[u8], &str); 26] = [
 ];
 
 /// Sources, and the kinds of their tokens or the line of their refusal: part 3.
-pub(crate) static ROWS_3: [(&[u8], &str); 26] = [
+static ROWS_3: [Row; 26] = [
     (b"a = 0x", "refused: S5 BadNumber at byte 4"),
     (b"a = 0X", "refused: S5 BadNumber at byte 4"),
     (b"a = 0b", "refused: S5 BadNumber at byte 4"),
@@ -106,7 +109,7 @@ pub(crate) static ROWS_3: [(&[u8], &str); 26] = [
 ];
 
 /// Sources, and the kinds of their tokens or the line of their refusal: part 4.
-pub(crate) static ROWS_4: [(&[u8], &str); 26] = [
+static ROWS_4: [Row; 26] = [
     (b"*2", "Occur End "),
     (b"1 * 2", "Number Occur Number End "),
     (b"1* 2", "Occur Number End "),
@@ -145,7 +148,7 @@ pub(crate) static ROWS_4: [(&[u8], &str); 26] = [
 ];
 
 /// Sources, and the kinds of their tokens or the line of their refusal: part 5.
-pub(crate) static ROWS_5: [(&[u8], &str); 26] = [
+static ROWS_5: [Row; 26] = [
     (b"#5.<", "refused: S2 BadCharacter at byte 2"),
     (b"#6.", "refused: S2 BadCharacter at byte 2"),
     (b"#6.a", "Hash Control End "),
@@ -184,7 +187,7 @@ pub(crate) static ROWS_5: [(&[u8], &str); 26] = [
 ];
 
 /// Sources, and the kinds of their tokens or the line of their refusal: part 6.
-pub(crate) static ROWS_6: [(&[u8], &str); 26] = [
+static ROWS_6: [Row; 26] = [
     (b"`", "refused: S2 BadCharacter at byte 0"),
     (b"|", "refused: S2 BadCharacter at byte 0"),
     (b"a = \x01", "refused: S2 BadCharacter at byte 4"),
@@ -214,7 +217,7 @@ pub(crate) static ROWS_6: [(&[u8], &str); 26] = [
 ];
 
 /// Sources, and the kinds of their tokens or the line of their refusal: part 7.
-pub(crate) static ROWS_7: [(&[u8], &str); 26] = [
+static ROWS_7: [Row; 26] = [
     (b"hb64''", "Name Bytes End "),
     (b"h'00", "refused: S3 Unclosed at byte 0"),
     (b"1h''", "Number Bytes End "),
@@ -244,7 +247,7 @@ pub(crate) static ROWS_7: [(&[u8], &str); 26] = [
 ];
 
 /// Sources, and the kinds of their tokens or the line of their refusal: part 8.
-pub(crate) static ROWS_8: [(&[u8], &str); 20] = [
+static ROWS_8: [Row; 20] = [
     (b"\"\x7f\"", "refused: S2 BadCharacter at byte 1"),
     (b"'a\rb'", "refused: S2 BadCharacter at byte 2"),
     (b"'\t'", "refused: S2 BadCharacter at byte 1"),
@@ -268,7 +271,7 @@ pub(crate) static ROWS_8: [(&[u8], &str); 20] = [
 ];
 
 /// A source, and its literals as they are shown.
-pub(crate) static VALUES: [(&str, &str); 32] = [
+static VALUES: [(&str, &str); 32] = [
     (
         "a = \"\\u{1F600}\\uD83D\\uDE00\"",
         "Text(\"\u{1f600}\u{1f600}\")",
@@ -311,3 +314,39 @@ pub(crate) static VALUES: [(&str, &str); 32] = [
         "Bytes([0, 16, 131, 16, 81, 135, 32, 146, 139, 48, 211, 143, 65, 20, 147, 81, 85, 151, 97, 150, 155, 113, 215, 159, 130, 24, 163, 146, 89, 167, 162, 154, 171, 178, 219, 175, 195, 28, 179, 211, 93, 183, 227, 158, 187, 243, 223, 191])",
     ),
 ];
+
+pub(crate) fn rows_1() -> &'static [Row] {
+    &ROWS_1
+}
+
+pub(crate) fn rows_2() -> &'static [Row] {
+    &ROWS_2
+}
+
+pub(crate) fn rows_3() -> &'static [Row] {
+    &ROWS_3
+}
+
+pub(crate) fn rows_4() -> &'static [Row] {
+    &ROWS_4
+}
+
+pub(crate) fn rows_5() -> &'static [Row] {
+    &ROWS_5
+}
+
+pub(crate) fn rows_6() -> &'static [Row] {
+    &ROWS_6
+}
+
+pub(crate) fn rows_7() -> &'static [Row] {
+    &ROWS_7
+}
+
+pub(crate) fn rows_8() -> &'static [Row] {
+    &ROWS_8
+}
+
+pub(crate) fn value_rows() -> &'static [(&'static str, &'static str)] {
+    &VALUES
+}

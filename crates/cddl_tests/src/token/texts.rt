@@ -1,7 +1,10 @@
 //! Specifications from RFCs, in a layout of our own, and how many rules each has.
 
+/// A specification, and how many rules it has.
+pub(crate) type Specification = (&'static str, usize);
+
 /// Examples of RFC 8610, sections 2 and 3 and appendices E and F.
-pub(crate) static EXAMPLES: [(&str, usize); 8] = [
+static EXAMPLES: [Specification; 8] = [
     (
         "pii = (
   age: int,
@@ -139,7 +142,7 @@ ext-value = ( text => any )
 ];
 
 /// The specification of COSE, RFC 9052.
-pub(crate) static COSE: [(&str, usize); 1] = [(
+static COSE: [Specification; 1] = [(
     "start = COSE_Messages / COSE_Key / COSE_KeySet / Internal_Types
 Internal_Types = Enc_structure / Sig_structure / MAC_structure
 label = int / tstr
@@ -203,3 +206,11 @@ COSE_KeySet = [+COSE_Key]
 ",
     30,
 )];
+
+pub(crate) fn examples() -> &'static [Specification] {
+    &EXAMPLES
+}
+
+pub(crate) fn cose() -> &'static [Specification] {
+    &COSE
+}
