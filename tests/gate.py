@@ -40,6 +40,8 @@ PROGRAM = os.path.join(TOP, "build", "cddlseq")
 TESTS = [os.path.join(TOP, "crates", it, "out", f"{it}_tests") for it in ("run_tests", "tool_tests")]
 # Each step may take a few gigabytes.
 STEPS_AT_ONCE = 3
+# What a check may take, in KiB.
+MEMORY_OF_A_CHECK = 4 << 20
 COUNT = re.compile(r"(\d+) passed, (\d+) failed")
 
 
@@ -53,14 +55,22 @@ def told(part, run):
     return answer
 
 
+def checks_at_once():
+    """How many checks are to run side by side: one a processor, where there is memory for them."""
+    with open("/proc/meminfo", encoding="utf-8") as file:
+        free = re.search(r"MemAvailable: *(\d+) kB", file.read())
+    return max(1, min(len(os.sched_getaffinity(0)), int(free[1]) // MEMORY_OF_A_CHECK))
+
+
 def proofs(rt):
-    """Runs 'rt ci', passes its lines on, and returns how many passed and failed; a run without a count is a failure."""
-    last = ""
+    """Runs 'rt ci', passes its lines on, and returns how many passed and failed; a run without a count is a failure. Each
+    check is one process: 'rt ci' by itself splits a check where a processor is free, which takes a fifth more of its time."""
+    last, env = "", {"RT_JOBS": str(checks_at_once()), **os.environ}
     for kept in glob.glob(f"{TOP}/crates/*/out/rlib"):
         # what an earlier check built would be put back in place of what this run proves
         shutil.rmtree(kept)
     try:
-        run = subprocess.Popen([*shlex.split(rt), "ci"], cwd=TOP, stdout=subprocess.PIPE, text=True, errors="replace")
+        run = subprocess.Popen([*shlex.split(rt), "ci"], cwd=TOP, env=env, stdout=subprocess.PIPE, text=True, errors="replace")
     except OSError as error:
         print(f"cannot run {rt}: {error}")
         return 0, 1
