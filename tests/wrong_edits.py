@@ -44,6 +44,13 @@ pub {name}_spec : {{M : Type 1}} → statement M
 {name}_spec = ?
 """
 WITH_HOLES = ["--allow-holes"]
+# What is added to the answers of a function that is asked for. Where goals have no answer the prover runs once more, to offer
+# what could be written there, but not where a file of answers has an error. So this is one, of a name that is no goal's.
+NO_OFFERS = """
+pub no_offers : NothingOfThisName
+no_offers = no_offers
+"""
+IS_NO_OFFERS = ": error: `no_offers`: "
 PLACE = re.compile(r"(?:\./)?(src/\S+\.rt):(\d+):\d+: error")
 LAW = re.compile(r"^law: (.*)$", re.MULTILINE)
 NOTE = re.compile(r"note: \S+:\d+:\d+: ")
@@ -142,8 +149,9 @@ class Edit:
 class Trial:
     """The edits of one crate, tried over what the checks before kept in a folder of this run."""
 
-    def __init__(self, kit, crate, results, with_inner=False):
+    def __init__(self, kit, crate, results, with_inner=False, is_proved=False):
         self.kit, self.crate, self.results, self.with_inner = kit, crate, results, with_inner
+        self.is_proved = is_proved or is_fresh(kit, crate)
         self.sources = texts_below(crate.folder, "src", ".rt")
         self.proofs = texts_below(crate.folder, "proofs", ".antt")
         self.functions = functions_of(self.sources)
@@ -196,14 +204,17 @@ class Trial:
         return shutil.copytree(own, f"{room}/kept") if os.path.isdir(own) else room
 
     def try_laws(self, edits, kept):
-        """What is to be told of each edit that names a law, after a check of this law alone with the edit."""
+        """What is to be told of each edit that names a law, after a check of this law alone with the edit. Where it is not known
+        that the crate is proved, its laws are checked without an edit first."""
         laws = {"::".join(it.path): it for it in self.functions if any(it.is_named(edit.law) for edit in edits)}
-        proved = {of for of, said, _ in self.check({}, dict.fromkeys(laws.values()), kept)[1] if said == "proved"} if laws else set()
-        return {edit: self.said_of(edit, laws.get(edit.law), proved, kept) for edit in edits}
+        if laws and not self.is_proved:
+            found = self.check({}, dict.fromkeys(laws.values()), kept)[1]
+            laws = {path: it for path, it in laws.items() if (it, "proved") in [(of, said) for of, said, _ in found]}
+        return {edit: self.said_of(edit, laws.get(edit.law), kept) for edit in edits}
 
-    def said_of(self, edit, law, proved, kept):
+    def said_of(self, edit, law, kept):
         """What is to be told of one such edit: a law tells nothing where it is not proved without the edit."""
-        if edit.why or law not in proved:
+        if edit.why or not law:
             return f"BAD EDIT: {edit.why or 'no law of this path is proved without it'}"
         is_whole, found = self.check(edit.texts, {law: edit}, kept)
         why = [why for of, said, why in found if of == law and IS_REFUSED.match(said)]
@@ -298,9 +309,12 @@ class Trial:
 
     def can_stand_beside(self, function):
         """Whether a copy under another name has the same goals: a method of a trait, or one that calls itself, does not."""
+        return not (function.cycle or function.is_of_trait or self.calls_itself(function) or self.crate.is_program)
+
+    def calls_itself(self, function):
+        """Whether the function, of this name or the copy that it is, calls itself, as far as its text tells."""
         body = "\n".join(self.sources[function.file].split("\n")[function.opens + 1 : function.last])
-        calls_itself = re.search(rf"(?:(?<![\w.:])|\b[Ss]elf(?:\.|::)){function.name}\(", body)
-        return not (function.cycle or function.is_of_trait or calls_itself or self.crate.is_program)
+        return bool(re.search(rf"(?:(?<![\w.:])|\b[Ss]elf(?:\.|::)){function.name}\(", body))
 
     def proofs_of(self, function):
         """The files of the function's proof, which name its path."""
@@ -389,7 +403,9 @@ class Trial:
         """Checks these functions, each with its edit, and what they call. Returns whether the check went through, and of
         each line on a function the function, what is said, and why: the note above, or an error in its proof."""
         flags = [*ONE_JOB, *more, *(word for it in functions for word in ("--only", "::".join([self.crate.name, *it.path])))]
-        ran = checked(self.kit, self.crate, texts, flags, kept)
+        silent = {it: self.without_offers(it, texts) for it in functions if self.can_be_silent(it, texts)}
+        added = {file: text for each in silent.values() for file, text in each.items()}
+        ran = checked(self.kit, self.crate, {**texts, **added}, flags, kept)
         lines = ran.stdout.rstrip("\n").split("\n")
         is_whole = ran.returncode in (0, 1) and lines[-1].startswith("only=") and not any(self.kit.unread(it, ()) for it in lines)
         if not is_whole:
@@ -401,10 +417,25 @@ class Trial:
                 name = line_of[1].removeprefix(f"{self.crate.name}::")
                 one = next((it for it in [*functions, *self.functions] if it.is_named(name)), None)
                 inside = f"proofs/{one.proof().replace('.', '/')}/" if one else None
-                error = next((it for it in lines if inside and it.removeprefix("./").startswith(inside) and ": error: " in it), "")
-                found.append((one, line_of[2], note or error or line_of[2]))
+                errors = [it for it in lines if inside and it.removeprefix("./").startswith(inside) and ": error: " in it]
+                why = note or next((it for it in errors if IS_NO_OFFERS not in it), "")
+                said = line_of[2]
+                if one in silent and said.startswith("not proved") and not STANDS_ON.match(said):
+                    # it says so for the answer that was added: what else is wrong has a note, or an error in a file
+                    said = "not proved" if why else "proved"
+                found.append((one, said, why or said))
             note = "" if line_of else note or (line if NOTE.match(line) else "")
         return is_whole, found
+
+    def can_be_silent(self, function, texts):
+        """Whether the function's proof, if it has files, is of answers, so that one that is no goal's can be added."""
+        is_one = not (function.cycle or self.calls_itself(function))
+        return is_one and f"proofs/{function.proof().replace('.', '/')}/Proof.antt" not in {**self.proofs, **texts}
+
+    def without_offers(self, function, texts):
+        """The function's file of answers with one more, of a name that is no goal's."""
+        file = f"proofs/{function.proof().replace('.', '/')}/Answers.antt"
+        return {file: (texts.get(file) or self.proofs.get(file, "")) + NO_OFFERS}
 
     def try_alone(self, edits, kept):
         """What the kit says of each edit, tried as its own are: over the turns' work where the crate itself is proved so."""
@@ -533,7 +564,7 @@ def run_wrong(rt, names=(), anew=False, with_inner=False, is_built=False):
     lanes = min(MOST_AT_ONCE, kit.processors(), *(int(0.85 * kit.free() / kit.need(it)) for it in crates[:1]))
     passed = failed = 0
     with ThreadPoolExecutor(max(lanes, 1)) as pool:
-        for it in as_completed([pool.submit(Trial(kit, crate, results, with_inner).run) for crate in crates]):
+        for it in as_completed([pool.submit(Trial(kit, crate, results, with_inner, is_built).run) for crate in crates]):
             for is_refused, text in it.result():
                 print(text, flush=True)
                 passed, failed = passed + is_refused, failed + (not is_refused)
