@@ -172,11 +172,7 @@ fn insert_text<'s>(
     Ok(number)
 }
 
-fn insert_row(
-    rows: &mut Vec<Row>,
-    numbers: &mut HashMap<Row, u32>,
-    row: Row,
-) -> Result<u32, NoRoom>
+fn insert_row(rows: &mut Vec<Row>, numbers: &mut HashMap<Row, u32>, row: Row) -> Result<u32, NoRoom>
     requires numbered { AreRowNumbers numbers.old rows.old.items }
     ensures there { IfOk result (λ n. slice_get rows.new.items n ≡ Some row) }
     ensures adds { Adds rows.old.items row rows.new.items }
