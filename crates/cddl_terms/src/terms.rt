@@ -18,8 +18,10 @@ pub struct NoRoom;
 #[derive(Drop)]
 pub struct Terms<'s> {
     texts: Vec<&'s str>,
+    /// The place of each text in `texts`.
     text_numbers: HashMap<&'s str, u32>,
     rows: Vec<Row>,
+    /// The place of each row in `rows`.
     row_numbers: HashMap<Row, u32>,
 }
 
