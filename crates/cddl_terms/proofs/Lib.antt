@@ -5,4 +5,5 @@ pub mod Filling
 pub mod Growing
 pub mod Holding
 pub mod Inverse
+pub mod Numbering
 pub mod Texts

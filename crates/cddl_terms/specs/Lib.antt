@@ -1,4 +1,5 @@
 pub mod Definitions
 pub mod Filled
+pub mod Numbers
 pub mod Table
 pub mod Trees

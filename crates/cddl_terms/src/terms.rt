@@ -1,10 +1,11 @@
 ghost use Rattle.std.specs.Prelude.{◌≡◌, ◌≢◌, ◌<◌, ℕ, IfNone, IfOk, IfSome, Some, [], slice_get, length, option_map, Option};
 ghost use Rattle.cddl_language.specs.Terms.{Text};
-ghost use Rattle.cddl_terms.specs.Table.{Adds, AddsRow, AddsText, AreDistinct, Grows, HasParts, Holds, HoldsText, IsPart, IsTable, Tree, node, texts_in};
+ghost use Rattle.cddl_terms.specs.Numbers.{AreRowNumbers, AreTextNumbers};
+ghost use Rattle.cddl_terms.specs.Table.{Adds, AddsRow, AddsText, Grows, HasParts, Holds, HoldsText, IsPart, IsTable, Tree, node, texts_in};
 
 use crate::row::{Form, Row};
-use indexmap::IndexSet;
 use std::alloc::Global;
+use std::collections::HashMap;
 use std::marker::Model;
 use thiserror::Error;
 
@@ -16,18 +17,23 @@ pub struct NoRoom;
 /// A table of rows and texts, each with a number. No two are equal, and the parts of a row stand before it.
 #[derive(Drop)]
 pub struct Terms<'s> {
-    texts: IndexSet<&'s str>,
-    rows: IndexSet<Row>,
+    texts: Vec<&'s str>,
+    /// The place of each text in `texts`.
+    text_numbers: HashMap<&'s str, u32>,
+    rows: Vec<Row>,
+    /// The place of each row in `rows`.
+    row_numbers: HashMap<Row, u32>,
 }
 
 impl<'s> Model for Terms<'s> {
     ghost use Rattle.cddl_terms.specs.Table.{Table, IsTable, texts_in};
+    ghost use Rattle.cddl_terms.specs.Numbers.{AreRowNumbers, AreTextNumbers};
 
     ghost Value = { Table };
 
-    ghost view = { λ t. record { texts = texts_in t.texts.keys; rows = t.rows.keys } };
+    ghost view = { λ t. record { texts = texts_in t.texts.items; rows = t.rows.items } };
 
-    ghost invariant = { λ t. IsTable (record { texts = texts_in t.texts.keys; rows = t.rows.keys }) };
+    ghost invariant = { λ t. IsTable (record { texts = texts_in t.texts.items; rows = t.rows.items }) × AreTextNumbers t.text_numbers t.texts.items × AreRowNumbers t.row_numbers t.rows.items };
 }
 
 impl<'s> Terms<'s> {
@@ -36,8 +42,10 @@ impl<'s> Terms<'s> {
         ensures { result ≡ record { texts = []; rows = [] } }
     {
         Terms {
-            texts: IndexSet::new(alloc),
-            rows: IndexSet::new(alloc),
+            texts: Vec::new(alloc),
+            text_numbers: HashMap::new(alloc),
+            rows: Vec::new(alloc),
+            row_numbers: HashMap::new(alloc),
         }
     }
 
@@ -47,7 +55,7 @@ impl<'s> Terms<'s> {
         ensures adds { AddsText self.old text.now self.new }
         ensures grows { Grows self.old self.new }
     {
-        insert_text(&mut self.texts, text)
+        insert_text(&mut self.texts, &mut self.text_numbers, text)
     }
 
     /// The number of the row, which is added if it isn't there. It costs a hash of the row, whatever its parts stand for.
@@ -58,7 +66,7 @@ impl<'s> Terms<'s> {
         ensures grows { Grows self.old self.new }
         ensures stands { IfOk result (λ n. (x : Option Text) (a b : Tree) → HoldsText self.old.texts row.text x → Holds self.old row.first a → Holds self.old row.second b → Holds self.new (Some n) (node row.form x a b)) }
     {
-        insert_row(&mut self.rows, row)
+        insert_row(&mut self.rows, &mut self.row_numbers, row)
     }
 
     /// The number of the row of this form with this text, if any, and with these parts, each added if it isn't there. It
@@ -101,8 +109,7 @@ impl<'s> Terms<'s> {
         ensures found { IfSome result (λ n. slice_get self.now.texts n ≡ Some text.now) }
         ensures missing { IfNone result ((n : ℕ) → n < 4294967296 → slice_get self.now.texts n ≢ Some text.now) }
     {
-        let index = text_index(&self.texts, text)?;
-        u32::try_from(index).ok()
+        self.text_numbers.get(text).copied()
     }
 
     /// The number of rows.
@@ -117,14 +124,14 @@ impl<'s> Terms<'s> {
     pub fn row(&self, number: u32) -> Option<Row>
         ensures { result ≡ slice_get self.now.rows number }
     {
-        self.rows.get_index(number as usize).copied()
+        self.rows.get(number as usize).copied()
     }
 
     /// The text of the number.
     pub fn text(&self, number: u32) -> Option<&'s str>
         ensures { option_map (λ t. t.now) result ≡ slice_get self.now.texts number }
     {
-        self.texts.get_index(number as usize).copied()
+        self.texts.get(number as usize).copied()
     }
 
     /// The number of texts.
@@ -138,43 +145,62 @@ impl<'s> Terms<'s> {
     pub fn text_at(&self, index: usize) -> Option<&'s str>
         ensures { option_map (λ t. t.now) result ≡ slice_get self.now.texts index }
     {
-        self.texts.get_index(index).copied()
+        self.texts.get(index).copied()
     }
 }
 
-fn text_index(texts: &IndexSet<&str>, text: &str) -> Option<usize>
-    ensures found { IfSome result (λ i. slice_get (texts_in texts.now.keys) i ≡ Some text.now) }
-    ensures missing { IfNone result ((i : ℕ) → slice_get (texts_in texts.now.keys) i ≢ Some text.now) }
+fn insert_text<'s>(
+    texts: &mut Vec<&'s str>,
+    numbers: &mut HashMap<&'s str, u32>,
+    text: &'s str,
+) -> Result<u32, NoRoom>
+    requires numbered { AreTextNumbers numbers.old texts.old.items }
+    ensures there { IfOk result (λ n. slice_get (texts_in texts.new.items) n ≡ Some text.now) }
+    ensures adds { Adds (texts_in texts.old.items) text.now (texts_in texts.new.items) }
+    ensures numbered { AreTextNumbers numbers.new texts.new.items }
 {
-    texts.get_index_of(text)
-}
-
-fn insert_text<'s>(texts: &mut IndexSet<&'s str>, text: &'s str) -> Result<u32, NoRoom>
-    ensures there { IfOk result (λ n. slice_get (texts_in texts.new.keys) n ≡ Some text.now) }
-    ensures adds { Adds (texts_in texts.old.keys) text.now (texts_in texts.new.keys) }
-    ensures distinct { AreDistinct (texts_in texts.old.keys) → AreDistinct (texts_in texts.new.keys) }
-{
-    let index = match texts.insert_full(text) {
-        Ok((index, _)) => index,
-        Err(_) => return Err(NoRoom),
-    };
-    if index > u32::MAX as usize {
+    if let Some(number) = numbers.get(text).copied() {
+        return Ok(number);
+    }
+    let number = next_number(texts.len())?;
+    if texts.push(text).is_err() {
         return Err(NoRoom);
     }
-    Ok(index as u32)
-}
-
-fn insert_row(rows: &mut IndexSet<Row>, row: Row) -> Result<u32, NoRoom>
-    ensures there { IfOk result (λ n. slice_get rows.new.keys n ≡ Some row) }
-    ensures adds { Adds rows.old.keys row rows.new.keys }
-    ensures distinct { AreDistinct rows.old.keys → AreDistinct rows.new.keys }
-{
-    let index = match rows.insert_full(row) {
-        Ok((index, _)) => index,
-        Err(_) => return Err(NoRoom),
-    };
-    if index > u32::MAX as usize {
+    if numbers.insert(text, number).is_err() {
+        // No text is to be without its number.
+        texts.pop();
         return Err(NoRoom);
     }
-    Ok(index as u32)
+    Ok(number)
+}
+
+fn insert_row(rows: &mut Vec<Row>, numbers: &mut HashMap<Row, u32>, row: Row) -> Result<u32, NoRoom>
+    requires numbered { AreRowNumbers numbers.old rows.old.items }
+    ensures there { IfOk result (λ n. slice_get rows.new.items n ≡ Some row) }
+    ensures adds { Adds rows.old.items row rows.new.items }
+    ensures numbered { AreRowNumbers numbers.new rows.new.items }
+{
+    if let Some(number) = numbers.get(&row).copied() {
+        return Ok(number);
+    }
+    let number = next_number(rows.len())?;
+    if rows.push(row).is_err() {
+        return Err(NoRoom);
+    }
+    if numbers.insert(row, number).is_err() {
+        // No row is to be without its number.
+        rows.pop();
+        return Err(NoRoom);
+    }
+    Ok(number)
+}
+
+/// The number after so many.
+fn next_number(count: usize) -> Result<u32, NoRoom>
+    ensures { IfOk result (λ n. n ≡ count) }
+{
+    match u32::try_from(count) {
+        Ok(number) => Ok(number),
+        Err(_) => Err(NoRoom),
+    }
 }

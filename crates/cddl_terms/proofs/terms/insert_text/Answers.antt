@@ -1,17 +1,30 @@
-use Rattle.std.proofs.Common.{List, ℕ, Bor, sym, subst}
+use Rattle.std.proofs.Common.{List, ◌∷◌, [], ◌++◌, ℕ, Bor, sym, ap, subst, ◌∙◌, slice_get}
+use Rattle.std.specs.HashMap.{get}
+use Rattle.std.proofs.lemmas.List.{length-map, map-append}
 use Rattle.std.specs.contracts.prelude.RefStrPartialEq.TheImpl as text_eq
-use Rattle.cddl_terms.specs.Table.{AreDistinct, texts_in}
-use Rattle.cddl_terms.proofs.Adding.{distinct-inserted, found}
+use Rattle.cddl_terms.specs.Numbers.{AreNumbered}
+use Rattle.cddl_terms.specs.Table.{texts_in}
+use Rattle.cddl_terms.proofs.Adding.{get-added}
 use Rattle.cddl_terms.proofs.Equal.{alike_texts, same_text}
+use Rattle.cddl_terms.proofs.Numbering.{numbered_more, pushed, when_ok}
 use Rattle.cddl_terms.proofs.terms.insert_text.Goals as goal
 
-pub returns-then-index-clause-distinct : goal.returns-then-index-clause-distinct
-returns-then-index-clause-distinct c = λ d. subst (λ ks. AreDistinct (texts_in ks)) (sym c.in-Ok.ensures.keys) (distinct-inserted (text_eq.ghosts).eq (λ (t : Bor (List ℕ)). t.now) alike_texts c.args.texts.now.keys c.args.text d)
+pub returns-in-Some-clause-there : goal.returns-in-Some-clause-there
+returns-in-Some-clause-there c = (c.requires.numbered c.args.text c.in-Some.number).0 (sym c.get.ensures.value ∙ sym c.copied.ensures ∙ c.in-Some.is)
 
 pub returns-clause-there : goal.returns-clause-there
 returns-clause-there c =
-    let s = c.in-Ok.ensures.stored in
-    found (text_eq.ghosts).eq (λ (t : Bor (List ℕ)). t.now) alike_texts c.insert_full.new.self.keys c.args.text s.0 c.in-Ok.index same_text s.1 s.2
+    let old = c.args.texts.now.items in
+    let longer = ap texts_in (pushed c.push.result c.push.new.self.items old c.args.text (sym c.is_err.ensures.value ∙ c.if-is_err.false) c.push.ensures.items) ∙ map-append (λ (t : Bor (List ℕ)). t.now) old (c.args.text ∷ []) in
+    let next = c.in_ok-number.ensures ∙ c.len.ensures ∙ c.args.texts.now.ok.0 ∙ sym (length-map old (λ (t : Bor (List ℕ)). t.now)) in
+    ap (λ ts. slice_get ts c.in_ok-number.number) longer ∙ ap (slice_get (texts_in old ++ c.args.text.now ∷ [])) next ∙ get-added (texts_in old) c.args.text.now
 
-pub returns-clause-distinct : goal.returns-clause-distinct
-returns-clause-distinct c = λ d. subst (λ ks. AreDistinct (texts_in ks)) (sym c.in-Ok.ensures.keys) (distinct-inserted (text_eq.ghosts).eq (λ (t : Bor (List ℕ)). t.now) alike_texts c.args.texts.now.keys c.args.text d)
+pub returns-clause-numbered : goal.returns-clause-numbered
+returns-clause-numbered c =
+    let eq = (text_eq.ghosts).eq in
+    let old = c.args.texts.now.items in
+    let longer = ap texts_in (pushed c.push.result c.push.new.self.items old c.args.text (sym c.is_err.ensures.value ∙ c.if-is_err.false) c.push.ensures.items) ∙ map-append (λ (t : Bor (List ℕ)). t.now) old (c.args.text ∷ []) in
+    let updates = when_ok c.insert.result _ (sym c.is_err-2.ensures.value ∙ c.if-is_err-2.false) c.insert.ensures.updates in
+    let none = sym c.get.ensures.value ∙ sym c.copied.ensures ∙ c.in_default.is in
+    let next = c.in_ok-number.ensures ∙ c.len.ensures ∙ c.args.texts.now.ok.0 ∙ sym (length-map old (λ (t : Bor (List ℕ)). t.now)) in
+    subst (λ ts. AreNumbered (λ (t : Bor (List ℕ)). t.now) (get eq c.insert.new.self) ts) (sym longer) (numbered_more eq (λ (t : Bor (List ℕ)). t.now) alike_texts same_text (get eq c.args.numbers.now) (get eq c.insert.new.self) (texts_in old) c.args.text c.in_ok-number.number c.requires.numbered none next updates.0)
