@@ -49,7 +49,7 @@ impl<'s> Terms<'s> {
         }
     }
 
-    /// The number of the text, which is added if it isn't there. It costs a hash of the text.
+    /// The number of the text, which is added if it isn't there. It costs a hash of the text, and one more where it is added.
     pub fn add_text(&mut self, text: &'s str) -> Result<u32, NoRoom>
         ensures there { IfOk result (λ n. slice_get self.new.texts n ≡ Some text.now) }
         ensures adds { AddsText self.old text.now self.new }
@@ -58,7 +58,8 @@ impl<'s> Terms<'s> {
         insert_text(&mut self.texts, &mut self.text_numbers, text)
     }
 
-    /// The number of the row, which is added if it isn't there. It costs a hash of the row, whatever its parts stand for.
+    /// The number of the row, which is added if it isn't there. It costs a hash of the row, and one more where it is added,
+    /// whatever its parts stand for.
     pub fn add(&mut self, row: Row) -> Result<u32, NoRoom>
         requires parts { HasParts self.old row }
         ensures there { IfOk result (λ n. slice_get self.new.rows n ≡ Some row) }
@@ -70,7 +71,7 @@ impl<'s> Terms<'s> {
     }
 
     /// The number of the row of this form with this text, if any, and with these parts, each added if it isn't there. It
-    /// costs a hash of the text and of the row.
+    /// costs what [`Terms::add_text`] and [`Terms::add`] cost.
     pub fn add_node(
         &mut self,
         form: Form,
