@@ -12,6 +12,7 @@ those below it, and of the edit. A later run takes it from there, and with --ane
 """
 import argparse
 import collections
+import dataclasses
 import difflib
 import hashlib
 import importlib.machinery
@@ -25,7 +26,7 @@ import sys
 import tempfile
 from concurrent.futures import ThreadPoolExecutor, as_completed
 
-from functions import HEAD, functions_of
+from functions import CYCLE, HEAD, functions_of
 
 TOP = os.path.dirname(os.path.dirname(os.path.abspath(__file__)))
 ONE_JOB = ["--jobs", "1"]
@@ -51,6 +52,8 @@ pub no_offers : NothingOfThisName
 no_offers = no_offers
 """
 IS_NO_OFFERS = ": error: `no_offers`: "
+# An error of a proof that only names what the edit, or the name of a copy, took away: it says nothing of the contract.
+IS_OF_NAMES = re.compile(r".*(has no field|is not in scope|has no `|was not admitted)")
 PLACE = re.compile(r"(?:\./)?(src/\S+\.rt):(\d+):\d+: error")
 LAW = re.compile(r"^law: (.*)$", re.MULTILINE)
 NOTE = re.compile(r"note: \S+:\d+:\d+: ")
@@ -208,7 +211,7 @@ class Trial:
         that the crate is proved, its laws are checked without an edit first."""
         laws = {"::".join(it.path): it for it in self.functions if any(it.is_named(edit.law) for edit in edits)}
         if laws and not self.is_proved:
-            found = self.check({}, dict.fromkeys(laws.values()), kept)[1]
+            found = self.check({}, dict.fromkeys(laws.values()), kept, is_silent=False)[1]
             laws = {path: it for path, it in laws.items() if (it, "proved") in [(of, said) for of, said, _ in found]}
         return {edit: self.said_of(edit, laws.get(edit.law), kept) for edit in edits}
 
@@ -216,7 +219,7 @@ class Trial:
         """What is to be told of one such edit: a law tells nothing where it is not proved without the edit."""
         if edit.why or not law:
             return f"BAD EDIT: {edit.why or 'no law of this path is proved without it'}"
-        is_whole, found = self.check(edit.texts, {law: edit}, kept)
+        is_whole, found = self.check(edit.texts, {law: edit}, kept, is_silent=False)
         why = [why for of, said, why in found if of == law and IS_REFUSED.match(said)]
         if not is_whole:
             return "BAD EDIT: it does not compile or read"
@@ -248,8 +251,9 @@ class Trial:
 
     def try_over_bare(self, placed, beside, kept):
         """What one check says of each edit that it refuses, where the functions that have none have neither a body nor a proof."""
-        copies, edited = self.copies(beside), {it.function for it in placed}
-        texts = self.with_copies(copies, placed, [it for it in self.functions if it not in edited and self.can_be_bare(it)])
+        copies, edited = self.copies(beside), {it.function.group() for it in placed}
+        bare = [it for it in self.functions if it.group() not in edited and self.can_be_bare(it)]
+        texts = self.with_copies(copies, placed, bare)
         tried = {**{it.function: it for it in placed}, **{copy: edit for edit, _, copy in copies}}
         is_whole, found = self.check(texts, tried, kept, WITH_HOLES)
         if not is_whole:
@@ -262,14 +266,21 @@ class Trial:
 
     def can_be_bare(self, function):
         """Whether the function can do without its body and its proof where it is only called."""
-        is_alone = bool(function.path) and function.path not in self.doubles
-        return is_alone and not (function.is_const or function.is_of_trait or function.cycle)
+        return all(
+            bool(it.path) and it.path not in self.doubles and not (it.is_const or it.is_of_trait)
+            for it in self.functions
+            if it.group() == function.group()
+        )
 
     def is_refused_itself(self, function, words):
         """Whether a check over bare functions refuses the function for itself, and not for what it rests on."""
+        return bool(IS_REFUSED.match(words)) or self.stands_on_itself(function, words)
+
+    def stands_on_itself(self, function, words):
+        """Whether the function is said to stand on an answer of its own proof."""
         stands_on = STANDS_ON.match(words)
         own = tuple(f"Rattle.{self.crate.name}.proofs.{it}." for it in (function.proof(), function.proof_of_calls()))
-        return bool(IS_REFUSED.match(words)) or bool(stands_on) and stands_on[1].startswith(own)
+        return bool(stands_on) and stands_on[1].startswith(own)
 
     def try_over_whole(self, edits, kept):
         """What checks of many edits say of each that they refuse, with the bodies of the functions that have none."""
@@ -335,10 +346,11 @@ class Trial:
 
     def copies(self, edits):
         """The copies of the edited functions, one with each edit and where it is needed one without: the edit, the function
-        and the copy."""
+        and the copy. It is needed where the proof names the function's contract, which is another one than the copy's."""
         found = []
         for of in dict.fromkeys(it.function for it in edits):
-            own = [None][: bool(self.proofs_of(of))] + [it for it in edits if it.function == of]
+            is_named = any(f"contracts.{of.proof()}" in self.proofs[it] for it in self.proofs_of(of))
+            own = [None][:is_named] + [it for it in edits if it.function == of]
             found += [(edit, of, of.called(f"{of.name}_tried_{at}")) for at, edit in enumerate(own)]
         return found
 
@@ -349,6 +361,7 @@ class Trial:
         for it in bare:
             lines = self.sources[it.file].split("\n")
             parts[it.file].append((it.opens, it.last + 1, without_body(lines, it)))
+            parts[it.file] += [(at, at + 1, []) for at in range(it.first, it.head) if CYCLE.match(lines[at])]
             texts.update(self.bare_proof(it))
         for edit in placed:
             for file, found in edit.hunks.items():
@@ -368,10 +381,11 @@ class Trial:
 
     def bare_proof(self, function):
         """The files of a proof of the function that says nothing, and None for each that it has."""
-        names = {"crate": self.crate.name, "path": function.proof(), "name": function.name}
-        file = f"proofs/{function.proof().replace('.', '/')}/Proof.antt"
+        alone = dataclasses.replace(function, cycle="")
+        names = {"crate": self.crate.name, "path": alone.proof(), "name": function.name}
+        file = f"proofs/{alone.proof().replace('.', '/')}/Proof.antt"
         of_calls = f"proofs/{function.proof_of_calls().replace('.', '/')}/"
-        gone = [*self.proofs_of(function), *[it for it in self.proofs if it.startswith(of_calls)]]
+        gone = [*self.proofs_of(function), *self.proofs_of(alone), *[it for it in self.proofs if it.startswith(of_calls)]]
         return {**dict.fromkeys(gone), file: BARE_PROOF.format(**names)}
 
     def label(self, path):
@@ -399,11 +413,11 @@ class Trial:
         half = len(edits) // 2
         return {**way(edits[:half], kept), **way(edits[half:], kept)} if half else {}
 
-    def check(self, texts, functions, kept, more=()):
+    def check(self, texts, functions, kept, more=(), is_silent=True):
         """Checks these functions, each with its edit, and what they call. Returns whether the check went through, and of
         each line on a function the function, what is said, and why: the note above, or an error in its proof."""
         flags = [*ONE_JOB, *more, *(word for it in functions for word in ("--only", "::".join([self.crate.name, *it.path])))]
-        silent = {it: self.without_offers(it, texts) for it in functions if self.can_be_silent(it, texts)}
+        silent = {it: self.without_offers(it, texts) for it in functions if is_silent and self.can_be_silent(it, texts)}
         added = {file: text for each in silent.values() for file, text in each.items()}
         ran = checked(self.kit, self.crate, {**texts, **added}, flags, kept)
         lines = ran.stdout.rstrip("\n").split("\n")
@@ -418,14 +432,16 @@ class Trial:
                 one = next((it for it in [*functions, *self.functions] if it.is_named(name)), None)
                 inside = f"proofs/{one.proof().replace('.', '/')}/" if one else None
                 errors = [it for it in lines if inside and it.removeprefix("./").startswith(inside) and ": error: " in it]
-                why = note or next((it for it in errors if IS_NO_OFFERS not in it), "")
-                said = line_of[2]
-                if one in silent and said.startswith("not proved") and not STANDS_ON.match(said):
-                    # it says so for the answer that was added: what else is wrong has a note, or an error in a file
-                    said = "not proved" if why else "proved"
-                found.append((one, said, why or said))
+                why = note or next((it for it in errors if IS_NO_OFFERS not in it and not IS_OF_NAMES.match(it)), "")
+                found.append((one, self.said_itself(one, line_of[2], why) if one in silent else line_of[2], why or line_of[2]))
             note = "" if line_of else note or (line if NOTE.match(line) else "")
         return is_whole, found
+
+    def said_itself(self, function, words, why):
+        """What a check says of a function without the answer that was added to its own: what else is wrong has a note, or an
+        error in one of its files."""
+        is_by_it = words.startswith("not proved") and (not STANDS_ON.match(words) or self.stands_on_itself(function, words))
+        return ("not proved" if why else "proved") if is_by_it else words
 
     def can_be_silent(self, function, texts):
         """Whether the function's proof, if it has files, is of answers, so that one that is no goal's can be added."""
