@@ -31,8 +31,8 @@ edits:
 bench: build
 	@$(PYTHON) bench/run.py build/cddlseq
 	@$(PYTHON) bench/decoders.py build/cddlseq
-	cd crates/cddl_count && $(RT) run < /dev/null > /dev/null
-	@$(PYTHON) bench/tokens.py crates/cddl_count/out/cddl_count
+	cd crates/cddl_outline && $(RT) run < /dev/null > /dev/null
+	@$(PYTHON) bench/tokens.py crates/cddl_outline/out/cddl_outline
 	@$(PYTHON) bench/specifications.py build/cddlseq
 
 install: build

@@ -1,7 +1,7 @@
 #!/usr/bin/env python3
 """Measures the scanner and the parser of CDDL on sources of two sizes, one twice the other, and prints a table.
 
-    tokens.py PROGRAM     PROGRAM counts the tokens and the rules of its standard input
+    tokens.py PROGRAM     PROGRAM counts the tokens and the rules of what is behind the first byte of its standard input
 
 A run takes a few milliseconds, so the times of many runs are added, the two sizes and an empty source taking turns; what
 the empty source costs is taken off. The columns: the speed on the larger source, in MiB/s of processor time, and the
@@ -17,6 +17,8 @@ import sys
 import tempfile
 
 KIB = 1 << 10
+# What is before a text that the program only counts.
+COUNTED = b"\xff"
 # What only the scanner takes time for, and what the parser does too: the sizes, and how many runs.
 SCANNED = (512 * KIB, 1024 * KIB), 80
 PARSED = (256 * KIB, 512 * KIB), 4
@@ -68,7 +70,7 @@ def seconds(program, sources, runs):
     with contextlib.ExitStack() as stack:
         files = [stack.enter_context(tempfile.TemporaryFile()) for _ in sources]
         for file, source in zip(files, sources):
-            file.write(source)
+            file.write(COUNTED + source)
         for _ in range(runs):
             for i, file in enumerate(files):
                 file.seek(0)

@@ -17,7 +17,7 @@ import os
 import re
 import sys
 
-from run_grammar import TREE, lines_of, printed, read_answers, selected, shown, text_of, write_texts
+from run_grammar import TREE, is_alone, lines_of, printed, read_answers, selected, shown, text_of, write_texts
 
 BYTES_PER_RUN = 30000
 UNEXPECTED = "S10 Unexpected"
@@ -214,7 +214,7 @@ def along(texts):
 
 def texts_of_rows():
     """The texts of the rows that the grammar decides."""
-    rows = [row for row in selected("") if "input" not in row]
+    rows = [row for row in selected("") if not is_alone(row)]
     return [text_of(row).decode() for row in rows if row.get("code", UNEXPECTED) == UNEXPECTED]
 
 

@@ -22,6 +22,7 @@ the program printed.
   code, at      in place of a tree: why it has none, and the offset where that shows
   input         in place of one text: the whole standard input of a run for this row alone
   answers       for that: a list of what comes, each the sketch of a tree or the line of a refusal
+  counts        in place of a tree: the line that comes where the text is only counted, in a run for this row alone
 
 A sketch is the tokens of a tree, with words that tell apart what is spelled alike: 'type' and 'group' before a rule
 and before parentheses, by what they hold; 'op(..)' round two operands; 'key', 'bareword' and 'value' before a key. '|'
@@ -40,6 +41,8 @@ SECONDS = 60
 TEXTS_PER_RUN = 50
 
 TREE = "tree: "
+# What is before a text that is only counted.
+COUNTED = b"\xff"
 # The kind of token that each node of one token holds.
 LEAVES = {
     "Plain": "Name", "Name": "Name", "Hash": "Hash", "Number": "Number", "Text": "Text", "Bytes": "Bytes",
@@ -85,6 +88,11 @@ def has_its_kinds(line):
     return all(LEAVES.get(node) == kind for node, kind, *_ in TOKEN.findall(line) if node)
 
 
+def is_alone(row):
+    """Whether a row has a run of its own."""
+    return "input" in row or "counts" in row
+
+
 def joined(parts):
     return "".join(text * count for text, count in parts)
 
@@ -96,13 +104,16 @@ def text_of(row):
     if "text_parts" in row:
         return joined(row["text_parts"]).encode()
     text = row.get("input", row.get("text"))
-    return (text if isinstance(text, str) else "".join(f"{it}\n" for it in text)).encode()
+    text = (text if isinstance(text, str) else "".join(f"{it}\n" for it in text)).encode()
+    return COUNTED + text if "counts" in row else text
 
 
 def answer_of(row):
     """The answer to a row's text: a sketch, the line of a refusal, or a number of rules."""
     if "code" in row:
         return f"refused: {row['code']} at byte {row['at']}"
+    if "counts" in row:
+        return row["counts"]
     if "rules" in row:
         return row["rules"]
     return joined(row["tree_parts"]) if "tree_parts" in row else row["tree"]
@@ -129,7 +140,7 @@ def fault_of(text, answer, line):
     if line is None:
         return "no line came"
     if not line.startswith(TREE):
-        is_wanted = line == answer and line.startswith("refused: ")
+        is_wanted = line == answer and line.startswith(("refused: ", "tokens: "))
         return None if is_wanted else f"{shown(line)!r}, wanted {shown(str(answer))!r}"
     got = rules_in(line) if isinstance(answer, int) else sketch_of(line)
     if got != answer:
@@ -141,12 +152,12 @@ def fault_of(text, answer, line):
 
 def runs_of(rows):
     """The runs of the program: for each its input, and the rows that it is for."""
-    together = [row for row in rows if "input" not in row]
+    together = [row for row in rows if not is_alone(row)]
     runs = []
     for at in range(0, len(together), TEXTS_PER_RUN):
         part = together[at:at + TEXTS_PER_RUN]
         runs.append((b"\0".join(text_of(row) for row in part) + b"\0", part))
-    return runs + [(text_of(row), [row]) for row in rows if "input" in row]
+    return runs + [(text_of(row), [row]) for row in rows if is_alone(row)]
 
 
 def printed(program, given):

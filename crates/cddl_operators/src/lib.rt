@@ -29,6 +29,3 @@ pub enum Joining {
     /// Each of them dedented by itself, by `.det`.
     Dedented,
 }
-
-#[cfg(test)]
-mod tests;

@@ -3,6 +3,9 @@
 //! A zero byte is after each text; the last needs none. Each text has one line: `tree: ` and the sketch of its
 //! tree, which `tests/run_grammar.py` explains, or why it has none. A token is in a sketch as
 //! `{Node Kind start end "text"}`, without the node where it is not all of one.
+//!
+//! Where the input begins with the byte 0xFF, which is in no text, all the rest is one text, and its line says how many tokens
+//! and rules it has, or why it has no tree: what `make bench` measures.
 #![tactic(auto)]
 
 ghost use Rattle.cddl_parse.specs.States.{EndsInEnd};
@@ -12,8 +15,9 @@ mod sketch;
 
 use crate::sketch::{Piece, Sketch};
 use cddl_parse::{parse, tokens_end};
-use cddl_token::{Token, tokens};
+use cddl_token::{Refusal, Token, tokens};
 use cddl_tree::{Tree, discard};
+use std::alloc::Global;
 use std::io;
 use std::io::Read;
 
@@ -30,10 +34,7 @@ fn print_line(rt: &HostRuntime, text: &[u8]) -> io::Result<()> {
     tokens_end();
     match tokens(rt.alloc(), text) {
         Ok(found) => print_answer(rt, found.as_slice()),
-        Err(refusal) => {
-            println!(rt; "{refusal}")?;
-            Ok(())
-        }
+        Err(refusal) => print_refusal(rt, refusal),
     }
 }
 
@@ -46,11 +47,12 @@ fn print_answer<'s>(rt: &HostRuntime, found: &'s [Token<'s>]) -> io::Result<()>
             discard(tree);
             printed
         }
-        Err(refusal) => {
-            println!(rt; "{refusal}")?;
-            Ok(())
-        }
+        Err(refusal) => print_refusal(rt, refusal),
     }
+}
+
+fn print_refusal(rt: &HostRuntime, refusal: Refusal) -> io::Result<()> {
+    println!(rt; "{refusal}")
 }
 
 fn print_tree(rt: &HostRuntime, tree: &Tree<'_>) -> io::Result<()> {
@@ -96,11 +98,40 @@ fn print_token(rt: &HostRuntime, node: &str, token: &Token<'_>) -> io::Result<()
     Ok(())
 }
 
+/// How many tokens and rules a text has.
+fn counts(alloc: Global, text: &[u8]) -> Result<(usize, usize), Refusal> {
+    tokens_end();
+    let found = tokens(alloc, text)?;
+    let tree = parse(alloc, found.as_slice())?;
+    let rules = tree.rules.len();
+    discard(tree);
+    Ok((found.len(), rules))
+}
+
+fn print_counts(rt: &HostRuntime, text: &[u8]) -> io::Result<()> {
+    match counts(rt.alloc(), text) {
+        Ok((tokens, rules)) => println!(rt; "tokens: {tokens}, rules: {rules}"),
+        Err(refusal) => print_refusal(rt, refusal),
+    }
+}
+
+fn print_lines(rt: &HostRuntime, texts: &[u8]) -> io::Result<()> {
+    for text in texts.split_inclusive(|byte| *byte == 0) {
+        print_line(rt, without_end(text))?;
+    }
+    Ok(())
+}
+
+fn print_all(rt: &HostRuntime, input: &[u8]) -> io::Result<()> {
+    match input.split_first() {
+        Some((0xff, text)) => print_counts(rt, text),
+        _ => print_lines(rt, input),
+    }
+}
+
 fn main(rt: HostRuntime) -> anyhow::Result<()> {
     let mut source = Vec::new(rt.alloc());
     rt.stdin().read_to_end(&mut source)?;
-    for text in source.as_slice().split_inclusive(|byte| *byte == 0) {
-        print_line(&rt, without_end(text))?;
-    }
+    print_all(&rt, source.as_slice())?;
     Ok(())
 }

@@ -109,6 +109,3 @@ fn bytes_value(alloc: Global, text: &str) -> Result<Option<Literal>, AllocError>
         None => Ok(None),
     }
 }
-
-#[cfg(test)]
-mod tests;

@@ -79,6 +79,3 @@ fn is_inside(numbers: &[usize], edge: Edge) -> bool
     }
     numbers[edge.from] == numbers[edge.to]
 }
-
-#[cfg(test)]
-mod tests;

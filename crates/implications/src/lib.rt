@@ -39,6 +39,3 @@ pub fn following(
     search.run(&rules)?;
     Ok(search.flags)
 }
-
-#[cfg(test)]
-mod tests;
