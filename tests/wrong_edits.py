@@ -417,7 +417,7 @@ class Trial:
         """Checks these functions, each with its edit, and what they call. Returns whether the check went through, and of
         each line on a function the function, what is said, and why: the note above, or an error in its proof."""
         flags = [*ONE_JOB, *more, *(word for it in functions for word in ("--only", "::".join([self.crate.name, *it.path])))]
-        silent = {it: self.without_offers(it, texts) for it in functions if is_silent and self.can_be_silent(it, texts)}
+        silent = {it.proof(): self.without_offers(it, texts) for it in functions if is_silent and self.can_be_silent(it, texts)}
         added = {file: text for each in silent.values() for file, text in each.items()}
         ran = checked(self.kit, self.crate, {**texts, **added}, flags, kept)
         lines = ran.stdout.rstrip("\n").split("\n")
@@ -433,7 +433,8 @@ class Trial:
                 inside = f"proofs/{one.proof().replace('.', '/')}/" if one else None
                 errors = [it for it in lines if inside and it.removeprefix("./").startswith(inside) and ": error: " in it]
                 why = note or next((it for it in errors if IS_NO_OFFERS not in it and not IS_OF_NAMES.match(it)), "")
-                found.append((one, self.said_itself(one, line_of[2], why) if one in silent else line_of[2], why or line_of[2]))
+                is_asked = one and one.proof() in silent
+                found.append((one, self.said_itself(one, line_of[2], why) if is_asked else line_of[2], why or line_of[2]))
             note = "" if line_of else note or (line if NOTE.match(line) else "")
         return is_whole, found
 
@@ -445,8 +446,8 @@ class Trial:
 
     def can_be_silent(self, function, texts):
         """Whether the function's proof, if it has files, is of answers, so that one that is no goal's can be added."""
-        is_one = not (function.cycle or self.calls_itself(function))
-        return is_one and f"proofs/{function.proof().replace('.', '/')}/Proof.antt" not in {**self.proofs, **texts}
+        has_another_place = not function.cycle and self.calls_itself(function)
+        return not has_another_place and f"proofs/{function.proof().replace('.', '/')}/Proof.antt" not in {**self.proofs, **texts}
 
     def without_offers(self, function, texts):
         """The function's file of answers with one more, of a name that is no goal's."""
