@@ -1,25 +1,44 @@
+use crate::rows::{are_right, digit, digit_at, is_y, number_of};
 use splices::{Bounds, Member, Part, Summary, alternatives, is_too_large, occurs_badly, summaries};
 use std::alloc::{AllocError, Global};
 
-const ONCE: Bounds = Bounds {
-    least: 1,
-    most: Some(1),
-};
+fn bounds(least: u64, most: Option<u64>) -> Bounds {
+    Bounds { least, most }
+}
 
-const OPTIONAL: Bounds = Bounds {
-    least: 0,
-    most: Some(1),
-};
+/// The bounds of an occurrence: `?`, `*`, `+`, or once.
+fn bounds_of(sign: u8) -> Bounds {
+    match sign {
+        b'?' => bounds(0, Some(1)),
+        b'*' => bounds(0, None),
+        b'+' => bounds(1, None),
+        _ => bounds(1, Some(1)),
+    }
+}
 
-const REPEATED: Bounds = Bounds {
-    least: 0,
-    most: None,
-};
+/// The part of a sign and the numbers of up to two others: an entry, what is refused, nothing more, the same, both, either, or
+/// an occurrence.
+fn part_of(text: &[u8]) -> Part {
+    let sign = text.first().copied().unwrap_or(b' ');
+    match sign {
+        b'e' => Part::Entry(bounds(1, Some(1))),
+        b'x' => Part::Refused,
+        b'-' => Part::Empty,
+        b'=' => Part::Same(digit_at(text, 1)),
+        b'&' => Part::Both(digit_at(text, 1), digit_at(text, 2)),
+        b'/' => Part::Either(digit_at(text, 1), digit_at(text, 2)),
+        _ => Part::Occurs(bounds_of(sign), digit_at(text, 1)),
+    }
+}
 
-const NEEDED: Bounds = Bounds {
-    least: 1,
-    most: None,
-};
+/// The parts, of three characters each, with a space between them.
+fn parts_of(alloc: Global, text: &[u8]) -> Result<Vec<Part>, AllocError> {
+    let mut parts = Vec::new(alloc);
+    for one in text.chunks(4) {
+        parts.push(part_of(one))?;
+    }
+    Ok(parts)
+}
 
 /// The summary of the last part.
 fn last_summary(alloc: Global, parts: &[Part]) -> Result<Option<Summary>, AllocError> {
@@ -31,90 +50,149 @@ fn last_summary(alloc: Global, parts: &[Part]) -> Result<Option<Summary>, AllocE
 fn counts(
     alloc: Global,
     parts: &[Part],
-    alternatives: u64,
-    members: u64,
+    alternatives: usize,
+    members: usize,
 ) -> Result<bool, AllocError> {
     match last_summary(alloc, parts)? {
-        Some(found) => Ok(found.alternatives == alternatives && found.members == members),
+        Some(found) => {
+            Ok(found.alternatives == alternatives as u64 && found.members == members as u64)
+        }
         None => Ok(false),
     }
 }
 
-#[test]
-fn counts_alternatives(rt: HostRuntime) -> Result<(), AllocError> {
-    let alloc = rt.alloc();
-    let entry = Part::Entry(ONCE);
-    assert!(rt;
-        counts(
-            alloc,
-            &[
-                entry,
-                Part::Both(0, 0),
-                Part::Either(0, 1),
-                Part::Both(2, 2)
-            ],
-            4,
-            12
-        )?
-    );
-    assert!(rt;
-        counts(
-            alloc,
-            &[Part::Both(1, 2), Part::Empty, Part::Same(3), entry],
-            1,
-            1
-        )?
-    );
-    assert!(rt;
-        counts(
-            alloc,
-            &[entry, Part::Either(0, 0), Part::Occurs(OPTIONAL, 1)],
-            3,
-            2
-        )?
-    );
-    assert!(rt;
-        counts(
-            alloc,
-            &[entry, Part::Either(0, 0), Part::Occurs(REPEATED, 1)],
-            1,
-            2
-        )?
-    );
-    assert!(rt;
-        counts(
-            alloc,
-            &[entry, Part::Either(0, 0), Part::Occurs(NEEDED, 1)],
-            2,
-            4
-        )?
-    );
-    Ok(())
+/// Whether the last part stands for nothing.
+fn is_refused(alloc: Global, parts: &[Part]) -> Result<bool, AllocError> {
+    Ok(last_summary(alloc, parts)?.is_none())
 }
 
-#[test]
-fn refuses(rt: HostRuntime) -> Result<(), AllocError> {
-    let alloc = rt.alloc();
-    let entry = Part::Entry(ONCE);
-    assert!(rt; last_summary(alloc, &[Part::Refused])?.is_none());
-    assert!(rt; last_summary(alloc, &[entry, Part::Both(0, 2), Part::Either(0, 1)])?.is_none());
-    assert!(rt; last_summary(alloc, &[entry, Part::Either(0, 7)])?.is_none());
-    let row = [entry, Part::Both(0, 0), Part::Occurs(REPEATED, 1)];
-    let found = summaries(alloc, &row)?;
-    assert!(rt; found[2].is_none() && occurs_badly(&row, &found, 2));
-    let cycle = [Part::Occurs(REPEATED, 0), Part::Occurs(ONCE, 0)];
-    let found = summaries(alloc, &cycle)?;
-    assert!(rt; !occurs_badly(&cycle, &found, 0) && !occurs_badly(&cycle, &found, 1));
-    Ok(())
+fn are_bad(parts: &[Part], found: &[Option<Summary>], letters: &[u8]) -> bool {
+    for number in 0..parts.len() {
+        if occurs_badly(parts, found, number) != is_y(letters, number) {
+            return false;
+        }
+    }
+    true
 }
 
-/// A group of two alternatives, doubled so often.
-fn doubled(alloc: Global, times: usize) -> Result<Vec<Part>, AllocError> {
+/// Whether just the parts of a `y` occur as they may not.
+fn occur_badly(alloc: Global, parts: &[Part], letters: &[u8]) -> Result<bool, AllocError> {
+    let found = summaries(alloc, parts)?;
+    Ok(are_bad(parts, &found, letters))
+}
+
+/// The alternatives of the last part.
+fn last_alternatives(
+    alloc: Global,
+    parts: &[Part],
+) -> Result<Option<Vec<Vec<Member>>>, AllocError> {
+    let found = summaries(alloc, parts)?;
+    alternatives(alloc, parts, &found, parts.len().saturating_sub(1))
+}
+
+/// Whether a member is the entry of the first digit, as often at least as the second says.
+fn is_member(member: Member, digits: &[u8]) -> bool {
+    member.entry == digit_at(digits, 1) && member.bounds.least == digit_at(digits, 2) as u64
+}
+
+fn are_members(found: &[Member], wanted: &[u8]) -> bool {
+    let mut right = wanted.len() / 3 == found.len();
+    for (member, digits) in found.iter().zip(wanted.chunks(3)) {
+        right = right && is_member(*member, digits);
+    }
+    right
+}
+
+/// Whether the alternative of the first digit has these members, with a space before each.
+fn has_members(found: &[Vec<Member>], wanted: &[u8]) -> bool {
+    match wanted.split_first() {
+        Some((number, members)) => match found.get(digit(*number)) {
+            Some(found) => are_members(found, members),
+            None => false,
+        },
+        None => false,
+    }
+}
+
+/// Whether the last part has so many alternatives, of which one has these members.
+fn has(alloc: Global, parts: &[Part], count: usize, wanted: &[u8]) -> Result<bool, AllocError> {
+    match last_alternatives(alloc, parts)? {
+        Some(found) => Ok(found.len() == count && has_members(&found, wanted)),
+        None => Ok(false),
+    }
+}
+
+/// How many alternatives the last part has, where they are made.
+fn made(alloc: Global, parts: &[Part]) -> Result<Option<usize>, AllocError> {
+    match last_alternatives(alloc, parts)? {
+        Some(found) => Ok(Some(found.len())),
+        None => Ok(None),
+    }
+}
+
+fn is_told_of(
+    alloc: Global,
+    what: &str,
+    wanted: &[u8],
+    count: usize,
+    parts: &[Part],
+) -> Result<bool, AllocError> {
+    match what {
+        "members" => counts(alloc, parts, count, number_of(wanted)),
+        "refused" => is_refused(alloc, parts),
+        "badly" => occur_badly(alloc, parts, wanted),
+        "unmade" => Ok(made(alloc, parts)? == None),
+        _ => has(alloc, parts, count, wanted),
+    }
+}
+
+/// Whether this is told of parts: how many alternatives and members the last has, that it stands for nothing, which occur as
+/// they may not, that no alternatives are made, or an alternative.
+pub(crate) fn is_told(
+    alloc: Global,
+    what: &str,
+    wanted: &[u8],
+    count: usize,
+    parts: &[u8],
+) -> Result<bool, AllocError> {
+    let parts = parts_of(alloc, parts)?;
+    is_told_of(alloc, what, wanted, count, &parts)
+}
+
+const COUNTS: &str = "members | 12 | 4 e.. &00 /01 &22
+members | 1 | 1 &12 -.. =3. e..
+members | 2 | 3 e.. /00 ?1.
+members | 2 | 1 e.. /00 *1.
+members | 4 | 2 e.. /00 +1.";
+
+#[test]
+fn counts_alternatives(rt: HostRuntime) {
+    assert!(rt; are_right(rt.alloc(), COUNTS));
+}
+
+const REFUSED: &str = "refused |  | 0 x..
+refused |  | 0 e.. &02 /01
+refused |  | 0 e.. /07
+refused |  | 0 e.. &00 *1.
+badly | nny | 0 e.. &00 *1.
+badly | nn | 0 *0. 10.";
+
+#[test]
+fn refuses(rt: HostRuntime) {
+    assert!(rt; are_right(rt.alloc(), REFUSED));
+}
+
+/// A group of two alternatives, doubled so often, and where it is to be, the same together with nothing.
+fn doubled(alloc: Global, times: usize, with_nothing: bool) -> Result<Vec<Part>, AllocError> {
     let mut parts = Vec::new(alloc);
-    parts.push(Part::Entry(ONCE))?;
+    parts.push(Part::Entry(bounds(1, Some(1))))?;
     parts.push(Part::Either(0, 0))?;
     for number in 0..times {
         parts.push(Part::Both(number + 1, 1))?;
+    }
+    if with_nothing {
+        parts.push(Part::Nothing)?;
+        parts.push(Part::Both(times.saturating_add(1), times.saturating_add(2)))?;
     }
     Ok(parts)
 }
@@ -127,88 +205,53 @@ fn is_large_at(found: &[Option<Summary>], number: usize) -> bool {
     }
 }
 
+fn are_large_from_ten(found: &[Option<Summary>]) -> bool {
+    !is_large_at(found, 9) && is_large_at(found, 10) && is_large_at(found, 100_001)
+}
+
+fn tells_large(alloc: Global) -> Result<bool, AllocError> {
+    let parts = doubled(alloc, 100_000, false)?;
+    let found = summaries(alloc, &parts)?;
+    Ok(are_large_from_ten(&found))
+}
+
 #[test]
 fn tells_what_is_too_large(rt: HostRuntime) -> Result<(), AllocError> {
-    let found = summaries(rt.alloc(), &doubled(rt.alloc(), 100_000)?)?;
-    assert!(rt; !is_large_at(&found, 9) && is_large_at(&found, 10));
-    assert!(rt; is_large_at(&found, 100_001));
+    assert!(rt; tells_large(rt.alloc())?);
     Ok(())
 }
 
-/// The alternatives of the last part.
-fn last_alternatives(
-    alloc: Global,
-    parts: &[Part],
-) -> Result<Option<Vec<Vec<Member>>>, AllocError> {
-    let found = summaries(alloc, parts)?;
-    alternatives(alloc, parts, &found, parts.len().saturating_sub(1))
-}
-
-/// Whether the last part has so many alternatives, of which this one has these entries, each so often at least.
-fn has(
-    alloc: Global,
-    parts: &[Part],
-    count: usize,
-    number: usize,
-    members: &[(usize, u64)],
-) -> Result<bool, AllocError> {
-    let Some(found) = last_alternatives(alloc, parts)? else {
-        return Ok(false);
-    };
-    if found.len() != count || number >= count || found[number].len() != members.len() {
-        return Ok(false);
-    }
-    let mut right = true;
-    for (member, wanted) in found[number].iter().zip(members) {
-        right = right && member.entry == wanted.0 && member.bounds.least == wanted.1;
-    }
-    Ok(right)
-}
+const ALTERNATIVES: &str = "has | 1 01 11 | 4 e.. e.. /01 &22
+has | 2 11 01 | 4 e.. e.. /01 &22
+has | 0 01 | 2 e.. ?0.
+has | 1 | 2 e.. ?0.
+has | 0 00 10 | 1 e.. e.. /01 *2.
+has | 1 00 11 | 2 e.. e.. /01 +2.
+unmade |  | 0 e.. &01";
 
 #[test]
-fn makes_alternatives(rt: HostRuntime) -> Result<(), AllocError> {
-    let alloc = rt.alloc();
-    let entry = Part::Entry(ONCE);
-    let choice = [entry, entry, Part::Either(0, 1), Part::Both(2, 2)];
-    assert!(rt; has(alloc, &choice, 4, 1, &[(0, 1), (1, 1)])?);
-    assert!(rt; has(alloc, &choice, 4, 2, &[(1, 1), (0, 1)])?);
-    let optional = [entry, Part::Occurs(OPTIONAL, 0)];
-    assert!(rt; has(alloc, &optional, 2, 0, &[(0, 1)])? && has(alloc, &optional, 2, 1, &[])?);
-    let repeated = [entry, entry, Part::Either(0, 1), Part::Occurs(REPEATED, 2)];
-    assert!(rt; has(alloc, &repeated, 1, 0, &[(0, 0), (1, 0)])?);
-    let needed = [entry, entry, Part::Either(0, 1), Part::Occurs(NEEDED, 2)];
-    assert!(rt; has(alloc, &needed, 2, 1, &[(0, 0), (1, 1)])?);
-    assert!(rt; last_alternatives(alloc, &[entry, Part::Both(0, 1)])?.is_none());
-    Ok(())
+fn makes_alternatives(rt: HostRuntime) {
+    assert!(rt; are_right(rt.alloc(), ALTERNATIVES));
+}
+
+/// How many alternatives a large group has where they are made, or the group together with nothing.
+fn made_of_large(alloc: Global, with_nothing: bool) -> Result<Option<usize>, AllocError> {
+    let parts = doubled(alloc, 20, with_nothing)?;
+    made(alloc, &parts)
 }
 
 #[test]
 fn makes_nothing_large(rt: HostRuntime) -> Result<(), AllocError> {
-    let alloc = rt.alloc();
-    let mut parts = doubled(alloc, 20)?;
-    assert!(rt; last_alternatives(alloc, &parts)?.is_none());
-    parts.push(Part::Nothing)?;
-    parts.push(Part::Both(21, 22))?;
-    let Some(none) = last_alternatives(alloc, &parts)? else {
-        return Ok(());
-    };
-    assert!(rt; none.is_empty());
+    assert!(rt; made_of_large(rt.alloc(), false)? == None);
+    assert!(rt; made_of_large(rt.alloc(), true)? == Some(0));
     Ok(())
 }
 
 // Run with each allocation refused in turn (`rt try --test --fail-alloc N`), this finds no other answer.
 #[test]
 fn answers_or_wants_memory(rt: HostRuntime) {
-    if let Ok(right) = counts(rt.alloc(), &[Part::Same(1), Part::Empty], 1, 0) {
-        assert!(rt; right);
-    }
-    if let Ok(right) = has(
-        rt.alloc(),
-        &[Part::Entry(ONCE), Part::Both(0, 0)],
-        1,
-        0,
-        &[(0, 1), (0, 1)],
-    ) {
-        assert!(rt; right);
-    }
+    let counted = is_told(rt.alloc(), "members", b"0", 1, b"=1. -..");
+    assert!(rt; !matches!(counted, Ok(false)));
+    let made = is_told(rt.alloc(), "has", b"0 01 01", 1, b"e.. &00");
+    assert!(rt; !matches!(made, Ok(false)));
 }

@@ -1,7 +1,7 @@
-//! Rows of graphs and of implications: what is asked, the answer, how many nodes or facts there are, and the edges or the
-//! implications.
+//! Rows of graphs, of implications and of parts: what is asked, the answer, how many nodes, facts or alternatives there are,
+//! and the edges, the implications or the parts.
 
-use crate::{facts, graphs};
+use crate::{facts, graphs, groups};
 use std::alloc::{AllocError, Global};
 
 /// The number that a digit says.
@@ -17,6 +17,15 @@ pub(crate) fn digit_at(digits: &[u8], place: usize) -> usize {
     }
 }
 
+/// The number that digits say.
+pub(crate) fn number_of(digits: &[u8]) -> usize {
+    let mut number = 0usize;
+    for byte in digits {
+        number = number.wrapping_mul(10).wrapping_add(digit(*byte));
+    }
+    number
+}
+
 /// Whether these are the numbers that so many digits say.
 pub(crate) fn are_digits(numbers: &[usize], digits: &[u8]) -> bool {
     if numbers.len() != digits.len() {
@@ -30,7 +39,8 @@ pub(crate) fn are_digits(numbers: &[usize], digits: &[u8]) -> bool {
     true
 }
 
-fn is_y(letters: &[u8], place: usize) -> bool {
+/// Whether the letter at this place is `y`.
+pub(crate) fn is_y(letters: &[u8], place: usize) -> bool {
     matches!(letters.get(place), Some(b'y'))
 }
 
@@ -55,10 +65,11 @@ fn is_told(
     count: usize,
     text: &[u8],
 ) -> Result<bool, AllocError> {
-    if what == "facts" {
-        return facts::follow(alloc, count, text, wanted);
+    match what {
+        "facts" => facts::follow(alloc, count, text, wanted),
+        "order" | "ranks" | "cycles" => graphs::is_told(alloc, what, wanted, count, text),
+        _ => groups::is_told(alloc, what, wanted, count, text),
     }
-    graphs::is_told(alloc, what, wanted, count, text)
 }
 
 /// The same, where the count is before the text.
@@ -69,7 +80,7 @@ fn is_told_with_count(
     rest: &str,
 ) -> Result<bool, AllocError> {
     let (count, text) = rest.split_once(" ").unwrap_or((rest, ""));
-    let count = digit_at(count.as_bytes(), 0);
+    let count = number_of(count.as_bytes());
     is_told(alloc, what, wanted.as_bytes(), count, text.as_bytes())
 }
 
