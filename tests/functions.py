@@ -10,6 +10,8 @@ HEAD = re.compile(r"( *)(?:pub(?:\([^)]*\))? )?((?:const |unsafe |extern \"C\" )
 BLOCK = re.compile(r"( *)(?:pub(?:\([^)]*\))? )?(?:unsafe )?(impl|trait|mod)\b")
 TYPE = re.compile(r" *(?:pub(?:\([^)]*\))? )?(?:struct|enum) (\w+)")
 CYCLE = re.compile(r" *#\[cycle\((\w+)\)\]")
+# A type or a trait, as its name stands in that of an impl.
+NAMED = re.compile(r"\b(?:[A-Z]\w*|[iu](?:8|16|32|64|128|size)\b|bool\b|char\b|str\b)")
 
 
 @dataclass(frozen=True)
@@ -135,10 +137,10 @@ def impl_of(head):
     text = head.split("impl", 1)[1].strip().removesuffix("{").split(" where ")[0].strip()
     generics = re.match(r"<(?:[^<>]|<[^<>]*>)*>", text)
     text = text[generics.end() :].strip() if generics else text
-    own = set(re.findall(r"\b[A-Z]\w*", re.sub(r":[^,>]*", "", generics[0]))) if generics else set()
+    own = set(NAMED.findall(re.sub(r":[^,>]*", "", generics[0]))) if generics else set()
     trait, _, kind = text.rpartition(" for ")
     kind = re.sub(r"<.*>", "", kind).strip()
-    return kind, kind + "".join(it for it in re.findall(r"\b[A-Z]\w*", trait) if it not in own)
+    return kind, kind + "".join(it[0].upper() + it[1:] for it in NAMED.findall(trait) if it not in own)
 
 
 def above(lines, at):

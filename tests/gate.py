@@ -42,6 +42,8 @@ TESTS = [os.path.join(TOP, "crates", it, "out", f"{it}_tests") for it in ("run_t
 STEPS_AT_ONCE = 3
 # What a check may take, in KiB.
 MEMORY_OF_A_CHECK = 4 << 20
+# Of four side by side on four cores each takes a sixth more.
+CHECKS_AT_ONCE = 3
 COUNT = re.compile(r"(\d+) passed, (\d+) failed")
 
 
@@ -56,10 +58,10 @@ def told(part, run):
 
 
 def checks_at_once():
-    """How many checks are to run side by side: one a processor, where there is memory for them."""
+    """How many checks are to run side by side: at most one a processor, where there is memory for them."""
     with open("/proc/meminfo", encoding="utf-8") as file:
         free = re.search(r"MemAvailable: *(\d+) kB", file.read())
-    return max(1, min(len(os.sched_getaffinity(0)), int(free[1]) // MEMORY_OF_A_CHECK))
+    return max(1, min(CHECKS_AT_ONCE, len(os.sched_getaffinity(0)), int(free[1]) // MEMORY_OF_A_CHECK))
 
 
 def proofs(rt):

@@ -27,6 +27,7 @@ pub mod right;
 
 ghost use Rattle.std.specs.Prelude.{◌≡◌, ◌<◌};
 ghost use Rattle.sample.specs.Bounds.{least, greatest};
+ghost use Rattle.sample.specs.More.{more};
 
 /// A way of some steps.
 #[derive(Drop)]
@@ -71,6 +72,13 @@ pub fn least_is_below()
     ensures { least < greatest }
 {}
 
+/// A number above the least is below the greatest.
+pub fn more_is_below()
+    ensures { more < greatest }
+{
+    least_is_below();
+}
+
 /// The number 1.
 pub fn one() -> u32
     ensures { result ≡ 1 }
@@ -108,7 +116,7 @@ use Rattle.sample.proofs.+down.Given as goal
 abbrev pub decreases-down : goal.decreases-down
 decreases-down l = l.count
 """,
-    "specs/Lib.antt": "pub mod Bounds\n",
+    "specs/Lib.antt": "pub mod Bounds\npub mod More\n",
     "specs/Bounds.antt": """\
 -- Two numbers.
 use Rattle.std.specs.Prelude.{ℕ}
@@ -118,6 +126,14 @@ least = 1
 
 abbrev pub greatest : ℕ
 greatest = 9
+""",
+    "specs/More.antt": """\
+-- A number above the least.
+use Rattle.std.specs.Prelude.{ℕ, ◌+◌}
+use Rattle.sample.specs.Bounds.{least}
+
+abbrev pub more : ℕ
+more = least + 4
 """,
     "src/left.rt": """\
 //! One side.
@@ -156,15 +172,20 @@ EDITS = {
     "two_stays": ("src/lib.rt", "one() + 1", "1 + one()", "NOT REFUSED"),
     # two edits of a function that calls itself, and one of a function that calls it
     "down_is_one": ("src/lib.rt", "return 0", "return 1", "refused, as it must be"),
-    "down_stays": ("src/lib.rt", "return 0", "return 0 + 0", "NOT REFUSED"),
+    "down_is_two": ("src/lib.rt", "return 0", "return 2", "refused, as it must be"),
     "three_is_two": ("src/lib.rt", "two() + one()", "two()", "refused, as it must be"),
     # two edits of one function, whose name another module has too
     "left_is_two": ("src/left.rt", "    1", "    2", "refused, as it must be"),
-    "left_stays": ("src/left.rt", "    1", "    0 + 1", "NOT REFUSED"),
-    "near_has_no_paces": ("src/lib.rt", "self.steps", "self.paces", "BAD EDIT"),
-    "right_is_not_three": ("src/right.rt", "    3", "    2", "BAD EDIT"),
+    "left_is_nought": ("src/left.rt", "    1", "    0", "refused, as it must be"),
+    # of definitions, in copies of their laws
     "least_is_nine": ("specs/Bounds.antt", "least = 1", "least = 9", "refused, as it must be", "least_is_below"),
     "least_stays_below": ("specs/Bounds.antt", "least = 1", "least = 8", "NOT REFUSED", "least_is_below"),
+    "least_is_five": ("specs/Bounds.antt", "least = 1", "least = 5", "refused, as it must be", "more_is_below"),
+}
+# Those of which a check says nothing, since they do not apply, compile or read, or name no law.
+BAD_EDITS = {
+    "near_has_no_paces": ("src/lib.rt", "self.steps", "self.paces", "BAD EDIT"),
+    "right_is_not_three": ("src/right.rt", "    3", "    2", "BAD EDIT"),
     "least_is_no_name": ("specs/Bounds.antt", "least = 1", "least = one", "BAD EDIT", "least_is_below"),
     "least_of_no_law": ("specs/Bounds.antt", "least = 1", "least = 9", "BAD EDIT", "least_is_above"),
 }
@@ -246,13 +267,13 @@ def write(folder, edits):
             it.write(text)
     os.makedirs(f"{folder}/crates/sample/wrong")
     for name in edits:
-        file, old, new, _, *law = EDITS[name]
+        file, old, new, _, *law = {**EDITS, **BAD_EDITS}[name]
         with open(f"{folder}/crates/sample/wrong/{name}.edit", "w", encoding="utf-8") as it:
             it.write("".join([f"file: {file}\nold: {old}\nnew: {new}\n", *(f"law: {it}\n" for it in law)]))
     with open(f"{folder}/crates.txt", "w", encoding="utf-8") as it:
         it.write("sample:\n")
     os.makedirs(f"{folder}/tests", exist_ok=True)
-    for name in ("wrong_edits.py", "functions.py"):
+    for name in ("wrong_edits.py", "functions.py", "law_copies.py"):
         shutil.copy(f"{HERE}/{name}", f"{folder}/tests/{name}")
 
 
@@ -262,9 +283,10 @@ def run(rt, folder, edits, anew=True):
     write(folder, edits)
     words = [sys.executable, "-B", f"{folder}/tests/wrong_edits.py", "--rt", rt, *["--anew"][:anew]]
     ran = subprocess.run(words, stdin=subprocess.DEVNULL, stdout=subprocess.PIPE, stderr=subprocess.STDOUT, text=True)
-    good = sum(EDITS[it][3].startswith("refused") for it in edits)
+    wanted = {**EDITS, **BAD_EDITS}
+    good = sum(wanted[it][3].startswith("refused") for it in edits)
     lines = {it.split(":")[0]: it for it in ran.stdout.split("\n") if it.startswith("wrong ")}
-    is_right = {it: lines.get(f"wrong sample/{it}.edit", "").startswith(f"wrong sample/{it}.edit: {EDITS[it][3]}") for it in edits}
+    is_right = {it: lines.get(f"wrong sample/{it}.edit", "").startswith(f"wrong sample/{it}.edit: {wanted[it][3]}") for it in edits}
     is_right["count"] = ran.stdout.split("\n")[-2:] == [f"{good} passed, {len(edits) - good} failed", ""]
     known = sum(it.endswith("(by an earlier run)") for it in lines.values())
     is_right["known"] = known == (0 if anew or not hasattr(load_kit(rt), "Kept") else good)
@@ -279,7 +301,8 @@ def run_tests(rt):
     """Runs all tests, and returns how many passed and failed."""
     with tempfile.TemporaryDirectory(prefix="wrong-test-") as folder:
         os.makedirs(f"{folder}/.git")
-        done = [run_on_functions(), run_on_answers(), run(rt, folder, list(EDITS)), run(rt, folder, [])]
+        done = [run_on_functions(), run_on_answers(), run(rt, folder, list(EDITS)), run(rt, folder, list(BAD_EDITS))]
+        done.append(run(rt, folder, []))
         done.append(run(rt, folder, ["near_is_halved", "least_is_nine"], anew=False))
     return sum(done), len(done) - sum(done)
 

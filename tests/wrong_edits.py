@@ -27,6 +27,7 @@ import tempfile
 from concurrent.futures import ThreadPoolExecutor, as_completed
 
 from functions import CYCLE, HEAD, functions_of
+from law_copies import Laws
 
 TOP = os.path.dirname(os.path.dirname(os.path.abspath(__file__)))
 ONE_JOB = ["--jobs", "1"]
@@ -84,7 +85,7 @@ class Results:
         keeps = all(hasattr(kit, it) for it in ("Kept", "stamp_of", "REFUSED"))
         self.kit, self.stamps = kit, {}
         self.kept = kit.Kept(crates, anew) if keeps else None
-        self.script = [hashlib.sha256(open(f"{TOP}/tests/{it}", "rb").read()).hexdigest() for it in ("functions.py", "wrong_edits.py")]
+        self.script = [hashlib.sha256(open(f"{TOP}/tests/{it}", "rb").read()).hexdigest() for it in ("functions.py", "law_copies.py", "wrong_edits.py")]
 
     def name(self, crate, path):
         sum = hashlib.sha256(repr((self.script, self.kit.stamp_of(crate, self.stamps))).encode()).hexdigest()
@@ -157,6 +158,7 @@ class Trial:
         self.is_proved = is_proved or is_fresh(kit, crate)
         self.sources = texts_below(crate.folder, "src", ".rt")
         self.proofs = texts_below(crate.folder, "proofs", ".antt")
+        self.of_laws = Laws(crate.name, self.sources, texts_below(crate.folder, "specs", ".antt"), self.proofs)
         self.functions = functions_of(self.sources)
         paths = [it.path for it in self.functions]
         self.doubles = {it for it in paths if paths.count(it) > 1}
@@ -191,8 +193,8 @@ class Trial:
         told = []
         with tempfile.TemporaryDirectory(prefix="wrong-") as room:
             kept = self.folder_of_proofs(room)
-            refused = self.try_many([it for it in edits if it.function], kept)
-            by_law = self.try_laws([it for it in edits if it.law], kept)
+            refused = self.try_many([it for it in edits if it.function], [it for it in edits if it.law], kept)
+            by_law = self.try_laws([it for it in edits if it.law and not refused.get(it)], kept)
             alone = self.try_alone([it for it in edits if not it.law and not refused.get(it)], kept)
         for edit in edits:
             said = by_law.get(edit) or f"refused, as it must be: {refused.get(edit, '')[:160]}"
@@ -225,15 +227,18 @@ class Trial:
             return "BAD EDIT: it does not compile or read"
         return f"refused, as it must be: {why[0][:160]}" if why else "NOT REFUSED: its law is proved even so"
 
-    def try_many(self, edits, kept):
+    def try_many(self, edits, by_law, kept):
         """What checks of many edits say of each that they refuse: over bare functions, and then of what is left with all
         bodies. Where a callee is refused, not all goals of its callers are tried. So an edit is made in its function where no
-        other edited one calls it, and else in a copy of the function beside it."""
+        other edited one calls it, and else in a copy of the function beside it. Those by a law are made in copies of the laws, in
+        the first of these checks."""
         refused, left = {}, edits
-        while left:
+        copied = self.of_laws.copies({it: law for it in by_law for law in self.functions if law.is_named(it.law)})
+        while left or copied:
             placed, beside = self.turn_of(left)
-            refused.update(self.try_over_bare(placed, beside, kept))
+            refused.update(self.try_over_bare(placed, beside, copied, kept))
             left = [it for it in left if it not in placed and it not in beside and it not in self.broken]
+            copied = []
         return {**refused, **self.try_over_whole([it for it in edits if it not in refused and it not in self.broken], kept)}
 
     def turn_of(self, left):
@@ -249,16 +254,19 @@ class Trial:
         """Whether the one edit's function calls the other's, which has another proof, as far as their names tell."""
         return edit.function.group() != other.function.group() and other.function.name in edit.words
 
-    def try_over_bare(self, placed, beside, kept):
-        """What one check says of each edit that it refuses, where the functions that have none have neither a body nor a proof."""
+    def try_over_bare(self, placed, beside, by_law, kept):
+        """What one check says of each edit that it refuses, where the functions that have none have neither a body nor a proof,
+        with these copies of laws beside them."""
         copies, edited = self.copies(beside), {it.function.group() for it in placed}
         bare = [it for it in self.functions if it.group() not in edited and self.can_be_bare(it)]
-        texts = self.with_copies(copies, placed, bare)
+        texts = self.of_laws.with_copies(by_law, self.with_copies(copies, placed, bare))
+        copies += [(it.edit, it.law, it.function()) for it in by_law]
         tried = {**{it.function: it for it in placed}, **{copy: edit for edit, _, copy in copies}}
         is_whole, found = self.check(texts, tried, kept, WITH_HOLES)
         if not is_whole:
             left = [[it for it in each if it not in self.broken] for each in (placed, beside)]
-            return self.try_over_bare(*left, kept) if any(left) and left != [placed, beside] else {}
+            is_again = bool(by_law) or left != [placed, beside]
+            return self.try_over_bare(*left, [], kept) if any(left) and is_again else {}
         found = [(of, "not proved" if of and self.is_refused_itself(of, words) else "proved", why) for of, words, why in found]
         whys = {of.group(): why for of, words, why in found if words != "proved"}
         in_place = {it: whys[it.function.group()] for it in placed if it.function.group() in whys}
@@ -432,7 +440,8 @@ class Trial:
                 one = next((it for it in [*functions, *self.functions] if it.is_named(name)), None)
                 inside = f"proofs/{one.proof().replace('.', '/')}/" if one else None
                 errors = [it for it in lines if inside and it.removeprefix("./").startswith(inside) and ": error: " in it]
-                why = note or next((it for it in errors if IS_NO_OFFERS not in it and not IS_OF_NAMES.match(it)), "")
+                is_law = one and self.is_copy_of_law(one)
+                why = note or next((it for it in errors if IS_NO_OFFERS not in it and (is_law or not IS_OF_NAMES.match(it))), "")
                 is_asked = one and one.proof() in silent
                 found.append((one, self.said_itself(one, line_of[2], why) if is_asked else line_of[2], why or line_of[2]))
             note = "" if line_of else note or (line if NOTE.match(line) else "")
@@ -446,8 +455,11 @@ class Trial:
 
     def can_be_silent(self, function, texts):
         """Whether the function's proof, if it has files, is of answers, so that one that is no goal's can be added."""
-        has_another_place = not function.cycle and self.calls_itself(function)
+        has_another_place = not (self.is_copy_of_law(function) or function.cycle) and self.calls_itself(function)
         return not has_another_place and f"proofs/{function.proof().replace('.', '/')}/Proof.antt" not in {**self.proofs, **texts}
+
+    def is_copy_of_law(self, function):
+        return function.file not in self.sources
 
     def without_offers(self, function, texts):
         """The function's file of answers with one more, of a name that is no goal's."""

@@ -3,7 +3,8 @@
 
 ghost use Rattle.std.specs.Prelude.{◌≡◌, ◌≤◌, ◌*◌, ℕ, List, ◌++◌, length};
 ghost use Rattle.cbor_data.specs.Value.{Value, Values};
-ghost use Rattle.cbor_data.specs.Forms.{Spells, IsWellFormed};
+ghost use Rattle.cbor_data.specs.Forms.{Form, Spells, IsWellFormed};
+ghost use Rattle.cbor_data.specs.Faults.{IsBadTextAt};
 ghost use Rattle.cbor_data.specs.Preferred.{preferred};
 ghost use Rattle.cbor_data.specs.Sound.{IsSound};
 ghost use Rattle.cbor_data.specs.Embedded.{EmbedsAll};
@@ -53,6 +54,11 @@ pub fn one_item()
 /// No well-formed bytes begin others: what a sequence begins with is one item at most (RFC 8742).
 pub fn one_front()
     ensures { (a r b s : List ℕ) → IsWellFormed a → IsWellFormed b → a ++ r ≡ b ++ s → (a ≡ b) × (r ≡ s) }
+{}
+
+/// The first text of an item that is not UTF-8 begins at one byte (RFC 8949 section 3.1).
+pub fn one_bad_text()
+    ensures { (f : Form) (i j : ℕ) → IsBadTextAt f i → IsBadTextAt f j → i ≡ j }
 {}
 
 /// The preferred bytes of a sound item are a spelling of it (RFC 8949 section 4.1).
