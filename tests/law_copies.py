@@ -55,9 +55,12 @@ class Laws:
         return found
 
     def can_be_copied(self, edit, law):
-        """Whether the law can stand in another file, and the edit is of modules or of the law's file alone."""
+        """Whether the law can stand in another file, and the edit is of modules or of the law's file alone. What a parameter is
+        may be stated by a module that has to be copied, so a law has none."""
+        is_alone = re.search(rf"\bfn {law.name}(<[^()]*>)?\(\)", text_of(law, self.sources[law.file])) and law.depth() == 1
         is_seen = all(public or module_of(law.file) == () for public, _ in self.beside(law))
-        return law.depth() == 1 and is_seen and not edit.why and all(it == law.file or it in self.files.values() for it in edit.texts)
+        is_of_modules = all(it == law.file or it in self.files.values() for it in edit.texts)
+        return bool(is_alone) and is_seen and is_of_modules and not edit.why
 
     def beside(self, law):
         """The items of the law's file that it names: whether each is public, and its name."""
@@ -131,6 +134,6 @@ def needed(line, item):
     """An import as far as the item needs it, or an empty text."""
     names, alias = NAMES.fullmatch(line), ALIAS.fullmatch(line)
     if names:
-        kept = [it for it in names[2].split(", ") if "◌" in it or re.search(rf"(?<!\w){re.escape(it)}(?!\w)", item)]
+        kept = [it for it in names[2].split(", ") if "◌" in it or re.search(rf"(?<!\w){re.escape(it.split()[-1])}(?!\w)", item)]
         return f"{names[1]}{{{', '.join(kept)}}};" if kept else ""
     return "" if alias and not re.search(rf"\b{alias[1]}\.", item) else line
