@@ -1,8 +1,8 @@
 """Copies of laws, each over definitions of its own, so that many edits of definitions can be tried in one check.
 
-A law is a function that does nothing. It rests on modules of its crate: files of definitions in specs/, and of lemmas right in
-proofs/. A copy of it stands in a source file of its own. Of those modules that its edit reaches it has copies with the edit,
-under other names; what the edit can't reach is the same for all.
+A law is a function that is there for its contract. It rests on modules of its crate: files of definitions in specs/, and of
+lemmas right in proofs/. A copy of it stands in a source file of its own. Of those modules that an edit reaches it has copies,
+with the edit, under other names. What no edit reaches is the same for all.
 """
 import os
 import re
@@ -19,32 +19,36 @@ ITEM = re.compile(r"^(pub(?:\([^)]*\))? )?(?:const |unsafe )*(?:fn|struct|enum|c
 
 @dataclass(frozen=True)
 class Copy:
-    """A copy of a law, under this name, with an edit or with none, over modules with this mark that stand for those moved."""
+    """A copy of a law with an edit, or with none. It is in a source file of this name, and the modules that are copied for it
+    have this mark behind their names."""
 
     law: object
     edit: object
     name: str
     mark: str
-    moved: frozenset
+    copied: frozenset
 
     def function(self):
         return replace(self.law, file=f"src/{self.name}.rt", path=(self.name, self.law.name))
+
+    def edited(self, file, text):
+        """The file's text with the edit."""
+        return self.edit.texts.get(file, text) if self.edit else text
 
 
 class Laws:
     """The laws of a crate, and the modules that they rest on."""
 
     def __init__(self, crate, sources, specs, proofs):
-        self.sources, self.proofs, self.texts = sources, proofs, {**specs, **proofs}
-        self.path = re.compile(rf"\bRattle\.{crate}\.((?:specs|proofs)/\w+)".replace("/", r"\."))
-        self.own = f"Rattle.{crate}."
+        self.own, self.proofs, self.texts = f"Rattle.{crate}", proofs, {**specs, **proofs, **sources}
+        self.names = re.compile(rf"\bRattle\.{crate}\.((?:specs|proofs)\.\w+)")
         files = [it for it in self.texts if MODULE.fullmatch(it) and not it.endswith("/Lib.antt")]
         self.files = {it.removesuffix(".antt").replace("/", "."): it for it in files}
         self.uses = {it: self.named_in(self.texts[file]) for it, file in self.files.items()}
 
     def named_in(self, text):
         """The modules that a text names."""
-        return set(self.path.findall(text)) & self.files.keys()
+        return set(self.names.findall(text)) & self.files.keys()
 
     def below(self, modules):
         """These modules, and those that they rest on."""
@@ -55,74 +59,83 @@ class Laws:
         return found
 
     def can_be_copied(self, edit, law):
-        """Whether the law can stand in another file, and the edit is of modules or of the law's file alone. What a parameter is
-        may be stated by a module that has to be copied, so a law has none."""
-        is_alone = re.search(rf"\bfn {law.name}(<[^()]*>)?\(\)", text_of(law, self.sources[law.file])) and law.depth() == 1
-        is_seen = all(public or module_of(law.file) == () for public, _ in self.beside(law))
+        """Whether the law can stand in another file, and the edit is of modules or of the law's file alone. The law has no
+        parameter: what its type says may rest on a module that is copied."""
+        is_free = law.depth() == 1 and re.search(rf"\bfn {law.name}(<[^()]*>)?\(\)", text_of(law, self.texts[law.file]))
+        is_seen = all(is_public or module_of(law.file) == () for is_public, _ in self.beside(law))
         is_of_modules = all(it == law.file or it in self.files.values() for it in edit.texts)
-        return bool(is_alone) and is_seen and is_of_modules and not edit.why
+        return bool(is_free) and is_seen and is_of_modules and not edit.why
 
     def beside(self, law):
         """The items of the law's file that it names: whether each is public, and its name."""
-        item = text_of(law, self.sources[law.file])
-        found = ITEM.findall(self.sources[law.file])
-        return [(bool(public), name) for public, name in found if name != law.name and re.search(rf"\b{name}\b", item)]
+        text = self.texts[law.file]
+        found = [it for it in ITEM.findall(text) if it[1] != law.name and is_word_of(it[1], text_of(law, text))]
+        return [(bool(public), name) for public, name in found]
 
     def copies(self, law_of):
         """A copy of each edit's law with the edit, as far as it can be copied, and one of each of these laws with none."""
         law_of = {edit: law for edit, law in law_of.items() if self.can_be_copied(edit, law)}
         below = {law: self.below(self.named_by(law)) for law in law_of.values()}
         changed = {edit: {it for it, file in self.files.items() if file in edit.texts} for edit in law_of}
-        plain = self.moved(set().union(*below.values()), set().union(*changed.values()))
+        plain = self.reached(set().union(*below.values()), set().union(*changed.values()))
         found = [Copy(law, None, f"plain_{at}", "Plain", plain) for at, law in enumerate(below)]
         for at, (edit, law) in enumerate(law_of.items()):
-            found.append(Copy(law, edit, f"tried_{at}", f"Tried{at}", self.moved(below[law], changed[edit])))
+            found.append(Copy(law, edit, f"tried_{at}", f"Tried{at}", self.reached(below[law], changed[edit])))
         return found
 
-    def moved(self, modules, changed):
-        """Those of the modules that rest on a changed one."""
+    def reached(self, modules, changed):
+        """Those of the modules that rest on a changed one, or are one."""
         return frozenset(it for it in modules if self.below([it]) & changed)
 
     def named_by(self, law):
         """The modules that the law and its proof name."""
-        own = [self.proofs[it] for it in self.proofs if it.startswith(self.folder(law.proof()))]
-        return self.named_in("\n".join([self.source_of(law, self.sources[law.file]), *own]))
+        own = [self.proofs[it] for it in self.files_of(law)]
+        return self.named_in("\n".join([self.alone(law, self.texts[law.file]), *own]))
 
-    @staticmethod
-    def folder(proof):
-        return f"proofs/{proof.replace('.', '/')}/"
+    def files_of(self, law):
+        """The files of the law's proof."""
+        return [it for it in self.proofs if it.startswith(folder_of(law))]
 
-    def source_of(self, law, text):
-        """A file with the law alone, and with the imports that it needs."""
+    def alone(self, law, text):
+        """A file with the law of this one alone, and with the imports that it needs."""
         item = text_of(law, text)
         imports = [needed(it, item) for it in IMPORT.findall(text)]
         imports += [f"use {'::'.join(['crate', *module_of(law.file), name])};" for _, name in self.beside(law)]
         return "\n".join([*filter(None, imports), "", item, ""])
 
     def with_copies(self, copies, others):
-        """These texts of other files, with those of the copies, and with what declares these."""
-        made, added = {}, {"specs/Lib.antt": [], "proofs/Lib.antt": [], "src/lib.rt": []}
+        """These texts of other files, with those of the copies and of the files that declare them."""
+        made, added = dict(others), {"specs/Lib.antt": [], "proofs/Lib.antt": [], "src/lib.rt": []}
         for copy in copies:
-            texts = copy.edit.texts if copy.edit else {}
-            for module in copy.moved:
+            for module in copy.copied:
                 file = self.files[module]
                 folder, name = os.path.split(file.removesuffix(".antt"))
-                to = f"{folder}/{name}{copy.mark}.antt"
-                if to not in made:
-                    made[to] = self.renamed(texts.get(file, self.texts[file]), copy)
-                    added[f"{folder}/Lib.antt"].append(f"pub mod {name}{copy.mark}")
-            made[copy.function().file] = self.renamed(self.source_of(copy.law, texts.get(copy.law.file, self.sources[copy.law.file])), copy)
+                made[f"{folder}/{name}{copy.mark}.antt"] = self.over_copies(copy, copy.edited(file, self.texts[file]))
+                added[f"{folder}/Lib.antt"].append(f"pub mod {name}{copy.mark}")
+            made.update(self.law_and_proof(copy))
             added["src/lib.rt"].append(f"pub mod {copy.name};")
-            old, new = copy.law.proof(), copy.function().proof()
-            for file in [it for it in self.proofs if it.startswith(self.folder(old))]:
-                text = re.sub(rf"\b({re.escape(self.own)}(?:proofs|specs\.contracts))\.{re.escape(old)}\b", rf"\1.{new}", self.proofs[file])
-                made[self.folder(new) + os.path.basename(file)] = self.renamed(text, copy)
-        every = {**self.texts, **self.sources, **others}
-        return {**others, **made, **{file: "\n".join([every[file].rstrip("\n"), *lines, ""]) for file, lines in added.items() if lines}}
+        for file in filter(added.get, added):
+            lines = made.get(file, self.texts.get(file, "")).rstrip("\n").split("\n")
+            made[file] = "\n".join([*lines, *dict.fromkeys(added[file]), ""])
+        return made
 
-    def renamed(self, text, copy):
-        """The text over the copy's modules."""
-        return self.path.sub(lambda it: it[0] + (copy.mark if it[1] in copy.moved else ""), text)
+    def law_and_proof(self, copy):
+        """The files of a copy of a law and of its proof."""
+        law, function = copy.law, copy.function()
+        old = rf"\b({re.escape(self.own)}\.(?:proofs|specs\.contracts))\.{re.escape(law.proof())}\b"
+        proofs = {it: re.sub(old, rf"\1.{function.proof()}", self.proofs[it]) for it in self.files_of(law)}
+        texts = {folder_of(function) + os.path.basename(it): text for it, text in proofs.items()}
+        texts[function.file] = self.alone(law, copy.edited(law.file, self.texts[law.file]))
+        return {file: self.over_copies(copy, text) for file, text in texts.items()}
+
+    def over_copies(self, copy, text):
+        """The text, which names modules, over those that are copied for a law."""
+        return self.names.sub(lambda it: it[0] + (copy.mark if it[1] in copy.copied else ""), text)
+
+
+def folder_of(function):
+    """The folder of the function's proof."""
+    return f"proofs/{function.proof().replace('.', '/')}/"
 
 
 def text_of(function, text):
@@ -134,6 +147,10 @@ def needed(line, item):
     """An import as far as the item needs it, or an empty text."""
     names, alias = NAMES.fullmatch(line), ALIAS.fullmatch(line)
     if names:
-        kept = [it for it in names[2].split(", ") if "◌" in it or re.search(rf"(?<!\w){re.escape(it.split()[-1])}(?!\w)", item)]
+        kept = [it for it in names[2].split(", ") if "◌" in it or is_word_of(it.split()[-1], item)]
         return f"{names[1]}{{{', '.join(kept)}}};" if kept else ""
     return "" if alias and not re.search(rf"\b{alias[1]}\.", item) else line
+
+
+def is_word_of(name, text):
+    return bool(re.search(rf"(?<!\w){re.escape(name)}(?!\w)", text))

@@ -30,6 +30,7 @@ from functions import CYCLE, HEAD, functions_of
 from law_copies import Laws
 
 TOP = os.path.dirname(os.path.dirname(os.path.abspath(__file__)))
+SCRIPT = ("functions.py", "law_copies.py", "wrong_edits.py")
 ONE_JOB = ["--jobs", "1"]
 MOST_AT_ONCE = 3
 NAME = re.compile(r"[A-Za-z0-9_-][A-Za-z0-9_.-]*\.edit")
@@ -53,8 +54,10 @@ pub no_offers : NothingOfThisName
 no_offers = no_offers
 """
 IS_NO_OFFERS = ": error: `no_offers`: "
-# An error of a proof that only names what the edit, or the name of a copy, took away: it says nothing of the contract.
-IS_OF_NAMES = re.compile(r".*(has no field|is not in scope|has no `|was not admitted)")
+# An error of a proof that only names what the edit, or the name of a copy, took away: it says nothing of the contract. Behind a
+# long name the message goes on in the next line.
+IS_OF_NAMES = re.compile(r".*(has no field|is not in scope|has no `|was not admitted|which was rejected)")
+GOES_ON_OF_NAMES = re.compile(r"\s+(has no field|is not in scope|has no `)")
 PLACE = re.compile(r"(?:\./)?(src/\S+\.rt):(\d+):\d+: error")
 LAW = re.compile(r"^law: (.*)$", re.MULTILINE)
 NOTE = re.compile(r"note: \S+:\d+:\d+: ")
@@ -85,7 +88,7 @@ class Results:
         keeps = all(hasattr(kit, it) for it in ("Kept", "stamp_of", "REFUSED"))
         self.kit, self.stamps = kit, {}
         self.kept = kit.Kept(crates, anew) if keeps else None
-        self.script = [hashlib.sha256(open(f"{TOP}/tests/{it}", "rb").read()).hexdigest() for it in ("functions.py", "law_copies.py", "wrong_edits.py")]
+        self.script = [hashlib.sha256(open(f"{TOP}/tests/{it}", "rb").read()).hexdigest() for it in SCRIPT]
 
     def name(self, crate, path):
         sum = hashlib.sha256(repr((self.script, self.kit.stamp_of(crate, self.stamps))).encode()).hexdigest()
@@ -438,14 +441,22 @@ class Trial:
             if line_of:
                 name = line_of[1].removeprefix(f"{self.crate.name}::")
                 one = next((it for it in [*functions, *self.functions] if it.is_named(name)), None)
-                inside = f"proofs/{one.proof().replace('.', '/')}/" if one else None
-                errors = [it for it in lines if inside and it.removeprefix("./").startswith(inside) and ": error: " in it]
-                is_law = one and self.is_copy_of_law(one)
-                why = note or next((it for it in errors if IS_NO_OFFERS not in it and (is_law or not IS_OF_NAMES.match(it))), "")
+                why = note or (self.error_of(one, lines) if one else "")
                 is_asked = one and one.proof() in silent
                 found.append((one, self.said_itself(one, line_of[2], why) if is_asked else line_of[2], why or line_of[2]))
             note = "" if line_of else note or (line if NOTE.match(line) else "")
         return is_whole, found
+
+    def error_of(self, function, lines):
+        """The first error in the function's proof that says more than that a name is not there, or an empty text. With an edit
+        of definitions names are there as before, but for those of what is refused."""
+        inside = f"proofs/{function.proof().replace('.', '/')}/"
+        for line, after in zip(lines, [*lines[1:], ""]):
+            is_error = line.removeprefix("./").startswith(inside) and ": error: " in line and IS_NO_OFFERS not in line
+            is_of_names = IS_OF_NAMES.match(line) or GOES_ON_OF_NAMES.match(after)
+            if is_error and (self.is_copy_of_law(function) or not is_of_names):
+                return line
+        return ""
 
     def said_itself(self, function, words, why):
         """What a check says of a function without the answer that was added to its own: what else is wrong has a note, or an
