@@ -38,11 +38,15 @@ fn is_want_kept(session: &mut Session<'_>, items: &mut Vec<Sound>) -> bool {
 fn is_session_right(rt: &impl Abort, alloc: Global, table: &Table) -> bool {
     let mut session = Session::new(alloc, table, limits(rt), 1000);
     let mut items = Vec::new(alloc);
+    is_feeding_right(&mut session, &mut items)
+}
+
+fn is_feeding_right(session: &mut Session<'_>, items: &mut Vec<Sound>) -> bool {
     for piece in STREAM.chunks(2) {
-        match session.feed(piece, &mut items) {
+        match session.feed(piece, items) {
             Ok(State::Open) => {}
             Ok(State::Ended(end)) => return end == END && items.len() == 4,
-            Err(_) => return is_want_kept(&mut session, &mut items),
+            Err(_) => return is_want_kept(session, items),
         }
     }
     false
@@ -57,16 +61,20 @@ fn a_session_ends_or_wants_memory(rt: HostRuntime) {
 }
 
 // The same where the items are taken one by one.
-fn is_taking_right(rt: &impl Abort, alloc: Global, table: &Table) -> bool {
+fn is_taking_session_right(rt: &impl Abort, alloc: Global, table: &Table) -> bool {
     let mut session = Session::new(alloc, table, limits(rt), 1000);
     let mut items = Vec::new(alloc);
+    is_taking_right(&mut session, &mut items)
+}
+
+fn is_taking_right(session: &mut Session<'_>, items: &mut Vec<Sound>) -> bool {
     let mut rest = STREAM;
     for _ in 0..STREAM.len() {
-        match session.feed_one(rest, &mut items) {
+        match session.feed_one(rest, items) {
             Ok(Advance::More) => return false,
             Ok(Advance::Ended(end)) => return end == END && items.len() == 4,
             Ok(Advance::Item { used, .. }) => rest = &rest[used.min(rest.len())..],
-            Err(_) => return is_want_kept(&mut session, &mut items),
+            Err(_) => return is_want_kept(session, items),
         }
     }
     false
@@ -76,7 +84,7 @@ fn is_taking_right(rt: &impl Abort, alloc: Global, table: &Table) -> bool {
 fn taking_one_by_one_ends_or_wants_memory(rt: HostRuntime) {
     let alloc = rt.alloc();
     if let Ok(Some(table)) = table(alloc) {
-        assert!(rt; is_taking_right(&rt, alloc, &table));
+        assert!(rt; is_taking_session_right(&rt, alloc, &table));
     }
 }
 

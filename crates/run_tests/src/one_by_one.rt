@@ -67,15 +67,46 @@ fn take_stream(
     Ok(taken.items)
 }
 
+// What a session tells of a stream.
+#[derive(Drop)]
+struct Told {
+    items: Vec<u8>,
+    end: End,
+}
+
+fn told_of(
+    rt: &impl Abort,
+    alloc: Global,
+    session: &mut Session<'_>,
+    stream: &[u8],
+    size: usize,
+) -> Result<Told, AllocError> {
+    let items = take_stream(rt, alloc, session, stream, size)?;
+    let end = session.finish()?;
+    Ok(Told {
+        items: notations(alloc, &items)?,
+        end,
+    })
+}
+
+fn told_one_by_one(
+    rt: &impl Abort,
+    alloc: Global,
+    table: &Table,
+    stream: &[u8],
+    size: usize,
+) -> Result<Told, AllocError> {
+    let mut session = Session::new(alloc, table, limits(rt), 1000);
+    told_of(rt, alloc, &mut session, stream, size)
+}
+
 fn expect_row(rt: &impl Abort, alloc: Global, table: &Table, line: &str) -> Result<(), AllocError> {
     let row = row_of(rt, line);
     let stream = bytes_of(rt, alloc, row.stream)?;
     for size in 1..stream.len() + 2 {
-        let mut session = Session::new(alloc, table, limits(rt), 1000);
-        let items = take_stream(rt, alloc, &mut session, &stream, size)?;
-        let end = session.finish()?;
-        expect_text(rt, notations(alloc, &items)?.as_slice(), row.items);
-        expect_text(rt, end_text(alloc, &end)?.as_str().as_bytes(), row.end);
+        let told = told_one_by_one(rt, alloc, table, &stream, size)?;
+        expect_text(rt, told.items.as_slice(), row.items);
+        expect_text(rt, end_text(alloc, &told.end)?.as_str().as_bytes(), row.end);
     }
     Ok(())
 }
@@ -90,12 +121,20 @@ fn takes_items_one_by_one(rt: HostRuntime) -> Result<(), Fail> {
     Ok(())
 }
 
-#[test]
-fn answers_its_end_again(rt: HostRuntime) -> Result<(), Fail> {
-    let alloc = rt.alloc();
-    let table = made_table(&rt, alloc)?;
-    let mut session = Session::new(alloc, &table, limits(&rt), 1000);
-    let mut items = Vec::new(alloc);
+fn is_told(
+    session: &mut Session<'_>,
+    piece: &[u8],
+    items: &mut Vec<Sound>,
+    wanted: Advance,
+) -> Result<bool, AllocError> {
+    Ok(session.feed_one(piece, items)? == wanted)
+}
+
+// Whether a stream of an item and of one that does not match has these told, and the end of each later piece.
+fn is_end_told_again(
+    session: &mut Session<'_>,
+    items: &mut Vec<Sound>,
+) -> Result<bool, AllocError> {
     let first = Advance::Item {
         used: 1,
         number: 1,
@@ -106,8 +145,20 @@ fn answers_its_end_again(rt: HostRuntime) -> Result<(), Fail> {
         offset: 1,
         cause: Cause::Mismatch(0),
     });
-    assert!(rt; session.feed_one(&[1, 0x20, 2], &mut items)? == first);
-    assert!(rt; session.feed_one(&[0x20, 2], &mut items)? == end);
-    assert!(rt; session.feed_one(&[2], &mut items)? == end && items.len() == 1);
+    Ok(
+        is_told(session, &[1, 0x20, 2], items, first)?
+            && is_told(session, &[0x20, 2], items, end)?
+            && is_told(session, &[2], items, end)?
+            && items.len() == 1,
+    )
+}
+
+#[test]
+fn answers_its_end_again(rt: HostRuntime) -> Result<(), Fail> {
+    let alloc = rt.alloc();
+    let table = made_table(&rt, alloc)?;
+    let mut session = Session::new(alloc, &table, limits(&rt), 1000);
+    let mut items = Vec::new(alloc);
+    assert!(rt; is_end_told_again(&mut session, &mut items)?);
     Ok(())
 }

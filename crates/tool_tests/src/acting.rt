@@ -14,6 +14,21 @@ struct Outcome {
     err: Vec<u8>,
 }
 
+fn status_of(
+    alloc: Global,
+    options: &Options,
+    spec: &[u8],
+    input: &mut Counted<Source<'_>>,
+    output: &mut Counted<Sink>,
+    errors: &mut Counted<Vec<u8>>,
+) -> u8 {
+    match ready(alloc, options, spec, errors) {
+        Ok(_) if options.task == Task::Check => accept(alloc, output, errors),
+        Ok(table) => act(alloc, options, &table, input, output, errors),
+        Err(status) => status,
+    }
+}
+
 fn outcome_of(
     alloc: Global,
     words: &[&str],
@@ -25,18 +40,7 @@ fn outcome_of(
     let mut input = Counted::new(source);
     let mut output = Counted::new(sink);
     let mut errors = Counted::new(Vec::new(alloc));
-    let status = match ready(alloc, &options, spec, &mut errors) {
-        Ok(_) if options.task == Task::Check => accept(alloc, &mut output, &mut errors),
-        Ok(table) => act(
-            alloc,
-            &options,
-            &table,
-            &mut input,
-            &mut output,
-            &mut errors,
-        ),
-        Err(status) => status,
-    };
+    let status = status_of(alloc, &options, spec, &mut input, &mut output, &mut errors);
     Ok(Outcome {
         status,
         out: output.into_inner().into_taken(),
