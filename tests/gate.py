@@ -7,8 +7,8 @@ bodies that are tried many in one check, and the rows on the programs that were 
 With --quick, for work in progress: what changed is proved over what earlier checks kept, then come the tests and the
 rows; no edit is tried, and no verdict follows from it.
 
-After each part comes a line with the processor time that it took. The last line is 'N passed, M failed', all counted
-together. The status is 0 only where all was run and nothing failed.
+After each part comes a line with the processor time that it took, and at the end one for all of them. The last line is
+'N passed, M failed', all counted together. The status is 0 only where all was run and nothing failed.
 """
 import argparse
 import glob
@@ -47,13 +47,17 @@ CHECKS_AT_ONCE = 3
 COUNT = re.compile(r"(\d+) passed, (\d+) failed")
 
 
+def time_of_processes():
+    """The processor time, user and system, of all processes that were run so far."""
+    used = resource.getrusage(resource.RUSAGE_CHILDREN)
+    return used.ru_utime + used.ru_stime
+
+
 def told(part, run):
-    """What a part of the gate answers; its processor time, user and system, of all its processes, is printed."""
-    before = resource.getrusage(resource.RUSAGE_CHILDREN)
+    """What a part of the gate answers; the processor time that it took is printed."""
+    before = time_of_processes()
     answer = run()
-    after = resource.getrusage(resource.RUSAGE_CHILDREN)
-    taken = after.ru_utime + after.ru_stime - before.ru_utime - before.ru_stime
-    print(f"{part}: {taken:.0f} processor seconds", flush=True)
+    print(f"{part}: {time_of_processes() - before:.0f} processor seconds", flush=True)
     return answer
 
 
@@ -158,7 +162,7 @@ def main():
     words = argparse.ArgumentParser(description="Runs the whole gate.")
     words.add_argument("--rt", default="rt", help="the command of the Rattle toolchain")
     words.add_argument("--quick", action="store_true", help="over what earlier checks kept, and without edits")
-    words = words.parse_args()
+    words, began = words.parse_args(), time.monotonic()
     clean = are_imports_clean()
     print(f"names of other crates' proofs: {'passed' if clean else 'FAILED'}", flush=True)
     passed, failed = told("proofs and tests", lambda: kept_proofs(words.rt) if words.quick else proofs(words.rt))
@@ -173,6 +177,7 @@ def main():
         more, bad = told("rows", rows)
         passed, failed = passed + more, failed + bad
     passed, failed = passed + clean, failed + (not clean)
+    print(f"all parts: {time_of_processes():.0f} processor seconds, {(time.monotonic() - began) / 60:.0f} minutes")
     print(f"{passed} passed, {failed} failed")
     return 1 if failed else 0
 
