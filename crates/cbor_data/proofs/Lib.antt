@@ -6,4 +6,14 @@ mod BadText
 mod SameLaws
 mod Embedding
 mod Told
+mod AnyOrderLaws
+mod Reorders
+mod Keeps
+mod SameByDet
+mod ByteOrder
+mod Apart
+mod Falls
+mod Rises
+mod SameTold
+mod Gathers
 pub mod Lemmas

@@ -5,8 +5,7 @@ use Rattle.std.proofs.lemmas.Str.{IsUtf8-from_is_utf8, is_utf8-from_IsUtf8}
 use Rattle.cbor_data.specs.Value.{Value, uint, nint, bytes, text, array, pairs, tag, simple, float, Values, no_values, value, Pairs, no_pairs, pair, place_count}
 use Rattle.cbor_data.specs.Validity.{IsOneOf, IsRepeatedKey, IsRepeatedKeyAmong, IsRepeatedKeyAfter, IsValid}
 use Rattle.cbor_data.specs.Forms.{Form, uint_form, nint_form, bytes_form, bytes_chunks, text_form, text_chunks, array_form, array_to_break, pairs_form, pairs_to_break, tag_form, simple_inside, simple_next, float_form, Forms, no_forms, form, PairForms, no_pair_forms, pair_form, Chunk, AllText, HasText, HaveText, HavePairsText}
-use Rattle.cbor_data.specs.Same.{same_value}
-use Rattle.cbor_data.proofs.SameLaws.{same_value-true, same_value-same}
+use Rattle.cbor_data.proofs.SameTold.{same_told}
 
 both_told : {P Q : Type 0} → P ⊎ (P → ⊥) → Q ⊎ (Q → ⊥) → (P × Q) ⊎ (P × Q → ⊥)
 both_told (inl p) (inl q) = inl (p, q)
@@ -61,10 +60,7 @@ mutual
   pair_texts_told no_pair_forms = inl tt
   pair_texts_told (pair_form k v ps) = three_told (text_told k) (text_told v) (pair_texts_told ps)
 
-same_told : (x y : Value) → (x ≡ y) ⊎ (x ≡ y → ⊥)
-same_told x y = by_test (same_value x y) (same_value-true x y) (λ e. subst (λ z. same_value x z ≡ true) e (same_value-same x))
-
-key_told : (ls : List Value) (k : Value) → IsOneOf ls k ⊎ (IsOneOf ls k → ⊥)
+pub key_told : (ls : List Value) (k : Value) → IsOneOf ls k ⊎ (IsOneOf ls k → ⊥)
 key_told [] k = inr (λ h. h)
 key_told (l ∷ ls) k = one_told (same_told k l) (key_told ls k)
 

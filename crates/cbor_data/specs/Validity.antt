@@ -1,13 +1,14 @@
--- Which items are valid: no map has two equal keys (RFC 8949 section 5.3.1).
+-- Which items are valid: no map has two keys that are the same up to the order of pairs in them (RFC 8949 section 5.3.1).
 use Rattle.std.specs.Prelude.{◌≡◌, ℕ, suc, ◌+◌, ◌≤◌, List, [], ◌∷◌, ◌⊎◌}
+use Rattle.cbor_data.specs.AnyOrder.{IsSame}
 use Rattle.cbor_data.specs.Value.{Value, array, pairs, tag, Values, no_values, value, Pairs, no_pairs, pair, place_count}
 
--- the key is one of these
+-- the key is the same as one of these
 abbrev pub IsOneOf : List Value → Value → Type 0
 IsOneOf [] k = ⊥
-IsOneOf (l ∷ ls) k = (k ≡ l) ⊎ IsOneOf ls k
+IsOneOf (l ∷ ls) k = IsSame k l ⊎ IsOneOf ls k
 
--- At this place of the item is a key that equals an earlier key of its map.
+-- At this place of the item is a key that is the same as an earlier key of its map.
 abbrev mutual
   pub IsRepeatedKey : Value → ℕ → Type 0
   IsRepeatedKey (array xs) i = (j : ℕ) × (i ≡ suc j) × IsRepeatedKeyAmong xs j
@@ -29,7 +30,7 @@ abbrev mutual
       ⊎ (((j : ℕ) × (i ≡ place_count k + j) × IsRepeatedKey v j)
       ⊎ ((j : ℕ) × (i ≡ place_count k + (place_count v + j)) × IsRepeatedKeyAfter (k ∷ earlier) ps j)))
 
--- no map in it has two equal keys
+-- no map in it has two keys that are the same
 abbrev pub IsValid : Value → Type 0
 IsValid x = (i : ℕ) → IsRepeatedKey x i → ⊥
 

@@ -1,7 +1,11 @@
 //! What items of CBOR are and how bytes spell them (RFC 8949), for contracts: the definitions are in `specs/`.
 #![tactic(auto)]
 
-ghost use Rattle.std.specs.Prelude.{◌≡◌, ◌≤◌, ◌*◌, ℕ, List, ◌++◌, length};
+ghost use Rattle.std.specs.Prelude.{◌≡◌, ◌≤◌, ◌*◌, ◌⊎◌, ◌↔◌, ℕ, List, ◌++◌, length};
+ghost use Rattle.cbor_data.specs.AnyOrder.{IsSame};
+ghost use Rattle.cbor_data.specs.Ordered.{ordered, det, IsRising};
+ghost use Rattle.cbor_data.specs.Validity.{IsValid};
+ghost use Rattle.cbor_data.specs.Writable.{IsWritable};
 ghost use Rattle.cbor_data.specs.Value.{Value, Values};
 ghost use Rattle.cbor_data.specs.Forms.{Form, Spells, IsWellFormed};
 ghost use Rattle.cbor_data.specs.Faults.{IsBadTextAt};
@@ -75,4 +79,49 @@ pub fn preferred_length()
 /// Bytes hold one list of valid items at most (RFC 8742).
 pub fn one_list()
     ensures { (b : List ℕ) (xs ys : Values) → EmbedsAll b xs → EmbedsAll b ys → xs ≡ ys }
+{}
+
+/// To be the same is an equivalence.
+pub fn equivalence()
+    ensures itself { (x : Value) → IsSame x x }
+    ensures back { (x y : Value) → IsSame x y → IsSame y x }
+    ensures onward { (x y z : Value) → IsSame x y → IsSame y z → IsSame x z }
+{}
+
+/// The deterministic bytes of an item spell one that is the same.
+pub fn det_is_spelling()
+    ensures spells { (x : Value) → IsWritable x → Spells (ordered x) (det x) }
+    ensures same { (x : Value) → IsSame x (ordered x) }
+{}
+
+/// Items of the same deterministic bytes are the same.
+pub fn told_by_det()
+    ensures { (x y : Value) → IsWritable x → IsWritable y → det x ≡ det y → IsSame x y }
+{}
+
+/// Items that are the same have the same deterministic bytes, if one of them is valid.
+pub fn one_det()
+    ensures { (x y : Value) → IsSame x y → IsWritable y → IsValid y → det x ≡ det y }
+{}
+
+/// In the deterministic bytes of a valid item the keys of each map rise, and only those bytes of an item that is the same
+/// do so.
+pub fn det_rises()
+    ensures rises { (x : Value) → IsWritable x → IsValid x → IsRising (ordered x) }
+    ensures alone { (x y : Value) → IsSame x y → IsWritable y → IsValid y → IsRising x → preferred x ≡ det y }
+{}
+
+/// Sound items are the same exactly if their deterministic bytes are.
+pub fn same_if_det()
+    ensures { (x y : Value) → IsSound x → IsSound y → (IsSame x y ↔ (det x ≡ det y)) }
+{}
+
+/// Two items are the same or not.
+pub fn same_or_not()
+    ensures { (x y : Value) → IsSame x y ⊎ (IsSame x y → ⊥) }
+{}
+
+/// An item that is the same as a valid one is valid.
+pub fn same_is_valid()
+    ensures { (x y : Value) → IsSame x y → IsValid x → IsValid y }
 {}

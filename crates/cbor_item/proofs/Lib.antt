@@ -9,7 +9,9 @@ mod Counts
 mod Keys
 mod Plain
 mod Walking
-mod Cursors
+mod Laying
+mod Noted
+mod KeySet
 mod Keeping
 mod Sizes
 mod Differing

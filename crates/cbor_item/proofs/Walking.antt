@@ -2,6 +2,7 @@
 use Rattle.std.proofs.Common.{◌≡◌, ℕ, suc, ◌+◌, ◌<◌, ◌≤◌, List, [], ◌∷◌, ◌⊎◌, inl, inr, refl, ap, ◌∙◌, subst, arith, Result, Ok, Err}
 use Rattle.cbor_data.specs.Validity.{IsOneOf, IsValid, IsRepeatedKey, IsRepeatedKeyAmong, IsRepeatedKeyAfter}
 use Rattle.cbor_data.specs.Value.{Value, uint, nint, bytes, text, array, pairs, tag, simple, float, Values, no_values, value, Pairs, no_pairs, pair, place_count, values_place_count, pairs_place_count}
+use Rattle.cbor_data.proofs.Lemmas.{back, same_valid}
 use Rattle.cbor_item.proofs.Plain.{place_some}
 use Rattle.cbor_item.specs.Walk.{Finds, Walks, WalksAmong, WalksAfter}
 use Rattle.cbor_item.specs.declared.sound.Unsound.{Unsound}
@@ -145,7 +146,7 @@ after_more earlier k v ps place mid next r new h i j =
 -- a key in which a repeated key is found is none of valid ones
 repeat_new : (earlier : List Value) (k : Value) (i : ℕ) → AreValid earlier → IsRepeatedKey k i → IsOneOf earlier k → ⊥
 repeat_new [] k i valid h o = o
-repeat_new (l ∷ ls) k i valid h (inl same) = valid.0 i (subst (λ x. IsRepeatedKey x i) same h)
+repeat_new (l ∷ ls) k i valid h (inl d) = same_valid l k (back d) valid.0 i h
 repeat_new (l ∷ ls) k i valid h (inr o) = repeat_new ls k i valid.1 h o
 
 -- or ends in its key, where the earlier keys are valid, or in its value

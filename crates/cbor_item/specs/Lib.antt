@@ -6,3 +6,4 @@ pub mod Gone
 pub mod Walk
 pub mod Comma
 pub mod Apart
+pub mod Laying

@@ -1,13 +1,13 @@
 -- What a walk over an item in search of its first repeated key answers.
-use Rattle.std.specs.Prelude.{◌≡◌, ℕ, ◌+◌, ◌<◌, ◌≤◌, ◌^◌, List, ◌++◌, length, Bool, Result, Ok, Err}
-use Rattle.std.specs.Borrow.{Bor}
+use Rattle.std.specs.Prelude.{◌≡◌, ℕ, ◌+◌, ◌<◌, ◌≤◌, ◌^◌, List, length, Bool, Result, Ok, Err}
 use Rattle.std.specs.BTreeSet.{BTreeSet, contains_by}
 use Rattle.std.specs.Cmp.Lexicographic.{slice_cmp}
 use Rattle.std.specs.Ordering.{nat_cmp}
+use Rattle.std.specs.declared.vec.Vec.{Vec}
+use Rattle.std.specs.declared.alloc.Global.{Global}
 use Rattle.cbor_data.specs.Preferred.{preferred, values_preferred, pairs_preferred, AreCountsShort, AreValueCountsShort, ArePairCountsShort}
 use Rattle.cbor_data.specs.Value.{Value, Values, Pairs, IsInRange, AreInRange, ArePairsInRange, AreBitsFitting, AreValuesFitting, ArePairsFitting, AreSimplesAssignable, AreValuesAssignable, ArePairsAssignable, place_count, values_place_count, pairs_place_count}
 use Rattle.cbor_data.specs.Validity.{IsRepeatedKey, IsRepeatedKeyAmong, IsRepeatedKeyAfter}
-use Rattle.cbor_item.specs.declared.maps.Cursor.{Cursor}
 use Rattle.cbor_item.specs.declared.sound.Unsound.{Unsound}
 use Rattle.cbor_item.specs.declared.sound.Unsound.TheVariants.{Duplicate, Memory}
 
@@ -56,46 +56,6 @@ WalksAmong xs = Finds (IsRepeatedKeyAmong xs) (values_place_count xs)
 abbrev pub WalksAfter : List Value → Pairs → ℕ → Result ℕ Unsound → Type 0
 WalksAfter earlier ps = Finds (IsRepeatedKeyAfter earlier ps) (pairs_place_count ps)
 
--- the part is in the bytes, with so many before it
-pub record IsAt (bytes part : List ℕ) (offset : ℕ) : Type 0 where
-  pub before : List ℕ
-  pub after : List ℕ
-  pub is : bytes ≡ before ++ (part ++ after)
-  pub count : offset ≡ length before
-
--- the preferred bytes of a plain item are in the bytes at the cursor, and there are numbers for its places
-pub record IsWritten (x : Value) (bytes : List ℕ) (start : Cursor) : Type 0 where
-  pub plain : IsPlain x
-  pub room : start.place + place_count x < 2 ^ 64
-  pub there : IsAt bytes (preferred x) start.offset
-  pub fit : length bytes < 2 ^ 64
-
-pub record AreWritten (xs : Values) (bytes : List ℕ) (start : Cursor) : Type 0 where
-  pub plain : ArePlain xs
-  pub room : start.place + values_place_count xs < 2 ^ 64
-  pub there : IsAt bytes (values_preferred xs) start.offset
-  pub fit : length bytes < 2 ^ 64
-
-pub record ArePairsWritten (ps : Pairs) (bytes : List ℕ) (start : Cursor) : Type 0 where
-  pub plain : ArePairsPlain ps
-  pub room : start.place + pairs_place_count ps < 2 ^ 64
-  pub there : IsAt bytes (pairs_preferred ps) start.offset
-  pub fit : length bytes < 2 ^ 64
-
--- what a walk over places answers from a cursor on; where it does not end early, it ends after these bytes
-abbrev pub ComesBy : (ℕ → Result ℕ Unsound → Type 0) → List ℕ → Cursor → Result Cursor Unsound → Type 0
-ComesBy walks part start (Ok last) = walks start.place (Ok last.place) × (last.offset ≡ start.offset + length part)
-ComesBy walks part start (Err e) = walks start.place (Err e)
-
-abbrev pub Comes : Value → Cursor → Result Cursor Unsound → Type 0
-Comes x = ComesBy (Walks x) (preferred x)
-
-abbrev pub ComesAmong : Values → Cursor → Result Cursor Unsound → Type 0
-ComesAmong xs = ComesBy (WalksAmong xs) (values_preferred xs)
-
-abbrev pub ComesAfter : List Value → Pairs → Cursor → Result Cursor Unsound → Type 0
-ComesAfter earlier ps = ComesBy (WalksAfter earlier ps) (pairs_preferred ps)
-
 -- whether the set has the bytes
-abbrev pub has : BTreeSet (Bor (List ℕ)) → List ℕ → Bool
-has keys bytes = contains_by (λ k. slice_cmp nat_cmp bytes k.now) keys
+abbrev pub has : BTreeSet (Vec ℕ Global) → List ℕ → Bool
+has keys bytes = contains_by (λ (k : Vec ℕ Global). slice_cmp nat_cmp bytes k.items) keys

@@ -7,10 +7,9 @@ ghost use Rattle.std.specs.List.{AllByRecursion};
 ghost use Rattle.std.specs.List.Sorted.{IsStrictlyIncreasing};
 ghost use Rattle.std.specs.Ordering.{nat_cmp};
 ghost use Rattle.std.specs.declared.cmp.Ordering.TheVariants.{Less};
-ghost use Rattle.cbor_data.specs.Same.{same_value};
 ghost use Rattle.cbor_data.specs.Validity.{IsValid};
 ghost use Rattle.cbor_data.specs.Value.{pairs as pairs_value};
-ghost use Rattle.cbor_item.specs.Apart.{keys_view, number_of, numbers_view, string_of, strings_view, AreKeysApart, AreValuesValid, RisesBelow};
+ghost use Rattle.cbor_item.specs.Apart.{has_parts, keys_view, may_be_same, number_of, numbers_view, string_of, strings_view, AreKeysApart, AreValuesValid, RisesBelow};
 ghost use Rattle.cbor_item.specs.View.{view, values_view, pairs_view};
 
 use crate::item::{Item, is_same};
@@ -87,10 +86,10 @@ fn are_few_apart(pairs: &[(Item, Item)]) -> bool
 }
 
 fn is_not_among(key: &Item, pairs: &[(Item, Item)]) -> bool
-    ensures { IsTrue result → AllByRecursion (λ k. same_value (view key.now) k ≡ false) (keys_view pairs.now) }
+    ensures { IsTrue result → AllByRecursion (λ k. may_be_same (view key.now) k ≡ false) (keys_view pairs.now) }
 {
     for pair in pairs {
-        if may_be_same(key, &pair.0) {
+        if is_maybe_same(key, &pair.0) {
             return false;
         }
     }
@@ -98,8 +97,8 @@ fn is_not_among(key: &Item, pairs: &[(Item, Item)]) -> bool
 }
 
 // Two containers are not compared: what is deep in keys of keys would be, for each map round it.
-fn may_be_same(key: &Item, other: &Item) -> bool
-    ensures { result ≡ false → same_value (view key.now) (view other.now) ≡ false }
+fn is_maybe_same(key: &Item, other: &Item) -> bool
+    ensures { result ≡ may_be_same (view key.now) (view other.now) }
 {
     (is_container(key) && is_container(other)) || is_same(key, other)
 }
@@ -107,7 +106,8 @@ fn may_be_same(key: &Item, other: &Item) -> bool
 // Whether the item has parts. One that has none repeats no key.
 #[inline]
 pub fn is_container(item: &Item) -> bool
-    ensures { result ≡ false → IsValid (view item.now) }
+    ensures parts { result ≡ has_parts (view item.now) }
+    ensures valid { result ≡ false → IsValid (view item.now) }
 {
     matches!(item, Item::Array(_) | Item::Map(_) | Item::Tag(..))
 }

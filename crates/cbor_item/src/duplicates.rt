@@ -1,24 +1,22 @@
 //! The first repeated key of an item (RFC 8949 section 5.3.1).
 
-ghost use Rattle.std.specs.Prelude.{◌≡◌, ◌+◌, ◌<◌, ◌^◌, length, OnOk, IfOk, IfErr};
-ghost use Rattle.cbor_data.specs.Preferred.{preferred};
+ghost use Rattle.std.specs.Prelude.{◌≡◌, ◌+◌, ◌<◌, ◌^◌, ◌||◌, List, [], ℕ, not, bytes_eq, IfOk, OnOk, IfErr};
 ghost use Rattle.cbor_data.specs.Sound.{HasShortSpelling};
 ghost use Rattle.cbor_data.specs.Validity.{IsValid};
-ghost use Rattle.cbor_data.specs.Value.{place_count, values_place_count, AreBitsFitting};
+ghost use Rattle.cbor_data.specs.Value.{place_count, values_place_count, pairs_place_count};
 ghost use Rattle.cbor_item.specs.Unsound.{IsRepeat};
-ghost use Rattle.cbor_item.specs.View.{view, values_view};
-ghost use Rattle.cbor_item.specs.Walk.{IsPlain, ArePlain, Walks, WalksAmong};
+ghost use Rattle.cbor_item.specs.View.{view, values_view, pairs_view};
+ghost use Rattle.cbor_item.specs.Walk.{IsPlain, ArePlain, ArePairsPlain, Walks, WalksAmong, WalksAfter, has};
 ghost use Rattle.cbor_item.specs.declared.sound.Unsound.TheVariants.{Memory};
 
 use crate::apart::{is_container, is_surely_valid};
-use crate::counted::Counted;
+use crate::det::append_det;
 use crate::item::Item;
-use crate::maps::{Cursor, walk_written};
 use crate::sound::Unsound;
-use crate::write::write_value;
 use std::alloc::Global;
+use std::collections::BTreeSet;
 
-// Whether no map in the item has two equal keys. An item with no parts is settled without a call.
+// Whether no map in the item has two keys that are the same. An item with no parts is settled without a call.
 #[inline]
 pub fn check_keys(alloc: Global, item: &Item) -> Result<(), Unsound>
     requires { HasShortSpelling (view item.now) }
@@ -51,7 +49,7 @@ fn walk(alloc: Global, item: &Item, place: usize) -> Result<usize, Unsound>
 {
     match item {
         Item::Array(items) => walk_members(alloc, items, place + 1),
-        Item::Map(_) => walk_map(alloc, item, place),
+        Item::Map(pairs) => walk_pairs(alloc, pairs, place + 1),
         Item::Tag(_, content) => walk(alloc, content, place + 1),
         _ => Ok(place + 1),
     }
@@ -70,26 +68,34 @@ fn walk_members(alloc: Global, items: &Vec<Item>, place: usize) -> Result<usize,
     Ok(next)
 }
 
-// The same of a map that is in no other map. Its preferred bytes are written once, and hold those of each key in it.
-fn walk_map(alloc: Global, map: &Item, place: usize) -> Result<usize, Unsound>
-    requires plain { IsPlain (view map.now) }
-    requires room { place + place_count (view map.now) < 2 ^ 64 }
-    ensures { Walks (view map.now) place result }
+// The same of the pairs of a map. Only keys are laid out as bytes.
+#[cycle(walk)]
+fn walk_pairs(alloc: Global, pairs: &Vec<(Item, Item)>, place: usize) -> Result<usize, Unsound>
+    requires plain { ArePairsPlain (pairs_view pairs.now.items) }
+    requires room { place + pairs_place_count (pairs_view pairs.now.items) < 2 ^ 64 }
+    ensures { WalksAfter [] (pairs_view pairs.now.items) place result }
 {
-    let bytes = preferred_bytes(alloc, map)?;
-    let end = walk_written(alloc, map, &bytes, Cursor { place, offset: 0 })?;
-    Ok(end.place)
+    let mut keys = BTreeSet::new(alloc);
+    let mut next = place;
+    for (key, value) in pairs {
+        let mut bytes = Vec::new(alloc);
+        let after = append_det(alloc, key, next, &mut bytes)?;
+        if !note_key(&mut keys, bytes)? {
+            return Err(Unsound::Duplicate(next));
+        }
+        next = walk(alloc, value, after)?;
+    }
+    Ok(next)
 }
 
-fn preferred_bytes(alloc: Global, item: &Item) -> Result<Vec<u8>, Unsound>
-    requires fitting { AreBitsFitting (view item.now) }
-    requires room { length (preferred (view item.now)) < 2 ^ 128 }
-    ensures ok { IfOk result (λ bytes. bytes.items ≡ preferred (view item.now)) }
+// Adds the key's deterministic bytes to those of the keys before it. Answers whether they are new.
+fn note_key(keys: &mut BTreeSet<Vec<u8>>, key: Vec<u8>) -> Result<bool, Unsound>
+    ensures new { IfOk result (λ new. new ≡ not (has keys.old key.items)) }
+    ensures noted { OnOk result ((bytes : List ℕ) → has keys.new bytes ≡ (bytes_eq bytes key.items || has keys.old bytes)) }
     ensures err { IfErr result (λ e. e ≡ Memory) }
 {
-    let mut out = Counted::new(Vec::new(alloc));
-    match write_value(item, 0, &mut out) {
-        Ok(_) => Ok(out.into_inner()),
+    match keys.insert(key) {
+        Ok(new) => Ok(new),
         Err(_) => Err(Unsound::Memory),
     }
 }

@@ -8,6 +8,7 @@ use Rattle.cbor_data.specs.declared.Width.TheVariants.{W16, W32, W64}
 use Rattle.cbor_data.specs.Value.{Value, uint, nint, bytes, text, array, pairs, tag, simple, float, Values, no_values, value, Pairs, no_pairs, pair, place_count}
 use Rattle.cbor_data.specs.Validity.{IsOneOf, IsRepeatedKey, IsRepeatedKeyAmong, IsRepeatedKeyAfter, IsValid, IsFirstRepeatedKey}
 use Rattle.cbor_data.specs.Forms.{Form, uint_form, nint_form, bytes_form, bytes_chunks, text_form, text_chunks, array_form, array_to_break, pairs_form, pairs_to_break, tag_form, simple_inside, simple_next, float_form, Forms, no_forms, form, PairForms, no_pair_forms, pair_form, Chunk, AllText, chunk_bytes, head_in, forms_len, pair_forms_len, flat, HasText, HaveText, HavePairsText}
+use Rattle.cbor_data.proofs.Lemmas.{key_told}
 use Rattle.cbor_data.specs.Faults.{IsBadChunkAt, IsBadTextAt, IsBadTextAmong, IsBadTextAmongPairs}
 
 -- ---- texts
@@ -78,74 +79,6 @@ mutual
     ]
   ]
 
--- ---- equal values
-
-abbrev Same : {A : Type 0} → A → A → Type 0
-Same x y = (x ≡ y) ⊎ (x ≡ y → ⊥)
-
-one_part : {A C : Type 0} (f : A → C) (a b : A) → (f a ≡ f b → a ≡ b) → Same a b → Same (f a) (f b)
-one_part f a b same (inl p) = inl (ap f p)
-one_part f a b same (inr n) = inr (λ e. n (same e))
-
-two_parts : {A B C : Type 0} (f : A → B → C) (a b : A) (c d : B) → (f a c ≡ f b d → (a ≡ b) × (c ≡ d)) → Same a b → Same c d → Same (f a c) (f b d)
-two_parts f a b c d same (inl p) (inl q) = inl (ap₂ f p q)
-two_parts f a b c d same (inl p) (inr n) = inr (λ e. n (same e).1)
-two_parts f a b c d same (inr n) q = inr (λ e. n (same e).0)
-
-three_parts : {A B C D : Type 0} (f : A → B → C → D) (a b : A) (c d : B) (g h : C) → (f a c g ≡ f b d h → (a ≡ b) × (c ≡ d) × (g ≡ h)) → Same a b → Same c d → Same g h → Same (f a c g) (f b d h)
-three_parts f a b c d g h same (inl p) (inl q) (inl r) = inl (ap₂ (λ x y. f x y g) p q ∙ ap (f b d) r)
-three_parts f a b c d g h same (inl p) (inl q) (inr n) = inr (λ e. n (same e).2)
-three_parts f a b c d g h same (inl p) (inr n) r = inr (λ e. n (same e).1)
-three_parts f a b c d g h same (inr n) q r = inr (λ e. n (same e).0)
-
-same_number : (m n : ℕ) → Same m n
-same_number m n = elim (cases_eq m n) [ inl e ↦ inl e | inr n ↦ inr n ]
-
-same_bytes : (s t : List ℕ) → Same s t
-same_bytes [] [] = inl refl
-same_bytes (x ∷ s) (y ∷ t) = two_parts (λ a r. a ∷ r) x y s t (λ e. (cc, cc)) (same_number x y) (same_bytes s t)
-same_bytes [] (y ∷ t) = inr (λ e. cc)
-same_bytes (x ∷ s) [] = inr (λ e. cc)
-
-same_width : (v w : Width) → Same v w
-same_width W16 W16 = inl refl
-same_width W32 W32 = inl refl
-same_width W64 W64 = inl refl
-same_width _ _ = inr (λ e. cc)
-
-mutual
-  same_item : (x y : Value) → Same x y
-  same_item (uint m) (uint n) = one_part uint m n (λ e. cc) (same_number m n)
-  same_item (nint m) (nint n) = one_part nint m n (λ e. cc) (same_number m n)
-  same_item (bytes s) (bytes t) = one_part bytes s t (λ e. cc) (same_bytes s t)
-  same_item (text s) (text t) = one_part text s t (λ e. cc) (same_bytes s t)
-  same_item (array xs) (array ys) = one_part array xs ys (λ e. cc) (same_items xs ys)
-  same_item (pairs ps) (pairs qs) = one_part pairs ps qs (λ e. cc) (same_pairs ps qs)
-  same_item (tag m x) (tag n y) = two_parts tag m n x y (λ e. (cc, cc)) (same_number m n) (same_item x y)
-  same_item (simple m) (simple n) = one_part simple m n (λ e. cc) (same_number m n)
-  same_item (float v m) (float w n) = two_parts float v w m n (λ e. (cc, cc)) (same_width v w) (same_number m n)
-  same_item _ _ = inr (λ e. cc)
-
-  same_items : (xs ys : Values) → Same xs ys
-  same_items no_values no_values = inl refl
-  same_items (value x xs) (value y ys) = two_parts value x y xs ys (λ e. (cc, cc)) (same_item x y) (same_items xs ys)
-  same_items _ _ = inr (λ e. cc)
-
-  same_pairs : (ps qs : Pairs) → Same ps qs
-  same_pairs no_pairs no_pairs = inl refl
-  same_pairs (pair k v ps) (pair l w qs) = three_parts pair k l v w ps qs (λ e. (cc, cc, cc)) (same_item k l) (same_item v w) (same_pairs ps qs)
-  same_pairs _ _ = inr (λ e. cc)
-
-one_of : (ls : List Value) (k : Value) → IsOneOf ls k ⊎ (IsOneOf ls k → ⊥)
-one_of [] k = inr (λ h. h)
-one_of (l ∷ ls) k = elim (same_item k l) [
-  | inl e ↦ inl (inl e)
-  | inr n ↦ elim (one_of ls k) [
-    | inl h ↦ inl (inr h)
-    | inr m ↦ inr (λ h. elim h [ inl e ↦ n e | inr o ↦ m o ])
-  ]
-]
-
 -- ---- repeated keys
 
 -- the least place at which something holds
@@ -206,7 +139,7 @@ mutual
   first_key_after : (earlier : List Value) (ps : Pairs) → FirstOr (IsRepeatedKeyAfter earlier ps)
   first_key_after earlier no_pairs = inr (λ i h. h)
   first_key_after earlier (pair k v ps) =
-      first_one (first_here (one_of earlier k))
+      first_one (first_here (key_told earlier k))
       (first_one (first_key k)
       (first_one (first_after (place_count k) (first_key v))
       (first_after_two (place_count k) (place_count v) (first_key_after (k ∷ earlier) ps))))

@@ -318,7 +318,7 @@ const DISTINCT: Form = Form::Map(&[
 // An item and its judgement.
 type Judgement = (Form, Result<(), Unsound>);
 
-static JUDGEMENTS: [Judgement; 20] = [
+static JUDGEMENTS: [Judgement; 21] = [
     (DISTINCT, Ok(())),
     (Form::Simple(23), Ok(())),
     (Form::Simple(24), Err(Unsound::BadSimple)),
@@ -369,6 +369,25 @@ static JUDGEMENTS: [Judgement; 20] = [
     (
         Form::Map(&[(TWO_THREE, Form::Uint(1)), (TWO_THREE, Form::Uint(2))]),
         Err(Unsound::Duplicate(5)),
+    ),
+    (
+        Form::Map(&[
+            (
+                Form::Map(&[
+                    (Form::Uint(1), Form::Uint(2)),
+                    (Form::Uint(3), Form::Uint(4)),
+                ]),
+                Form::Uint(0),
+            ),
+            (
+                Form::Map(&[
+                    (Form::Uint(3), Form::Uint(4)),
+                    (Form::Uint(1), Form::Uint(2)),
+                ]),
+                Form::Uint(0),
+            ),
+        ]),
+        Err(Unsound::Duplicate(7)),
     ),
 ];
 

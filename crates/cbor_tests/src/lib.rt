@@ -2,6 +2,8 @@
 #![tactic(auto)]
 
 #[cfg(test)]
+mod det;
+#[cfg(test)]
 mod form;
 #[cfg(test)]
 mod item;

@@ -1,6 +1,8 @@
--- What a run writes: the report of a stream, the line of its end alone, or its accepted items in preferred encoding.
+-- What a run writes: the report of a stream, the line of its end alone, or its accepted items in preferred
+-- or in deterministic encoding.
 use Rattle.std.specs.Prelude.{ℕ, suc, List, [], ◌∷◌, ◌++◌, Option}
 use Rattle.cbor_data.specs.Value.{Value}
+use Rattle.cbor_data.specs.Ordered.{det}
 use Rattle.cbor_data.specs.Preferred.{preferred}
 use Rattle.cbor_data.specs.Sequence.{Found}
 use Rattle.seq_run.specs.declared.end.End.{End}
@@ -13,6 +15,7 @@ abbrev pub item_output : Mode → ℕ → Found → List ℕ
 item_output mode.Report number f = item_line number f
 item_output mode.EndLine number f = []
 item_output mode.Rewrite number f = preferred f.item
+item_output mode.Deterministic number f = det f.item
 
 -- what is written of these items, the first of which has this number
 abbrev pub items_output : Mode → ℕ → List Found → List ℕ
@@ -24,6 +27,7 @@ abbrev pub end_output : Mode → End → Option Value → List ℕ
 end_output mode.Report end rejected = end_line end rejected
 end_output mode.EndLine end rejected = end_line end rejected
 end_output mode.Rewrite end rejected = []
+end_output mode.Deterministic end rejected = []
 
 -- what is written of a stream with these items and this end
 abbrev pub stream_output : Mode → List Found → End → Option Value → List ℕ

@@ -1,6 +1,7 @@
 //! What a run writes.
 
 ghost use Rattle.std.specs.Prelude.{◌≡◌, ◌<◌, ◌++◌, OnOk, option_copied};
+ghost use Rattle.cbor_data.specs.Ordered.{det};
 ghost use Rattle.cbor_data.specs.Preferred.{preferred};
 ghost use Rattle.cbor_data.specs.Value.{uint};
 ghost use Rattle.seq_run.specs.Output.{end_output, item_output};
@@ -9,7 +10,7 @@ ghost use Rattle.seq_run.specs.Report.{IsShown};
 use crate::end::End;
 use crate::head::Head;
 use crate::lines::{end_line, push_item_line};
-use cbor_item::{Counted, Sound, write_item};
+use cbor_item::{Counted, Sound, write_det, write_item};
 use std::alloc::{AllocError, Global};
 use std::mem;
 
@@ -22,6 +23,8 @@ pub enum Mode {
     EndLine,
     /// The preferred bytes (RFC 8949 section 4.1) of each accepted item, and nothing of its end.
     Rewrite,
+    /// The deterministic bytes (RFC 8949 section 4.2.1) of each accepted item, and nothing of its end.
+    Deterministic,
 }
 
 // Appends what is written of an accepted item. The head is that of any line, and is made into that of this item's.
@@ -40,6 +43,7 @@ pub(crate) fn push_item(
         Mode::Report => push_item_line(head, bytes, number, offset, item),
         Mode::EndLine => Ok(()),
         Mode::Rewrite => push_preferred(alloc, bytes, item),
+        Mode::Deterministic => push_det(alloc, bytes, item),
     }
 }
 
@@ -62,7 +66,7 @@ pub(crate) fn push_small(
             head.push_number(bytes, n)
         }
         Mode::EndLine => Ok(()),
-        Mode::Rewrite => Ok(bytes.push(n)?),
+        Mode::Rewrite | Mode::Deterministic => Ok(bytes.push(n)?),
     }
 }
 
@@ -73,6 +77,19 @@ fn push_preferred(alloc: Global, bytes: &mut Vec<u8>, item: &Sound) -> Result<()
     let mut out = Counted::new(mem::replace(bytes, Vec::new(alloc)));
     // A vector takes all bytes, unless there is no memory for them.
     if write_item(item, &mut out).is_err() {
+        return Err(AllocError);
+    }
+    *bytes = out.into_inner();
+    Ok(())
+}
+
+// Appends the item's deterministic bytes.
+fn push_det(alloc: Global, bytes: &mut Vec<u8>, item: &Sound) -> Result<(), AllocError>
+    ensures { OnOk result (bytes.new.items ≡ bytes.old.items ++ det item.now) }
+{
+    let mut out = Counted::new(mem::replace(bytes, Vec::new(alloc)));
+    // A vector takes all bytes, unless there is no memory for them.
+    if write_det(alloc, item, &mut out).is_err() {
         return Err(AllocError);
     }
     *bytes = out.into_inner();
@@ -95,6 +112,6 @@ pub(crate) fn push_end(
             let line = end_line(alloc, end, rejected)?;
             bytes.extend_from_slice(line.as_slice())
         }
-        Mode::Rewrite => Ok(()),
+        Mode::Rewrite | Mode::Deterministic => Ok(()),
     }
 }

@@ -1,9 +1,8 @@
 use Rattle.std.proofs.Common.{drop}
 use Rattle.std.specs.List.{IsDistinct}
-use Rattle.cbor_data.specs.Same.{same_value}
-use Rattle.cbor_item.specs.Apart.{keys_view}
+use Rattle.cbor_item.specs.Apart.{keys_view, may_be_same}
 use Rattle.cbor_item.proofs.apart.are_few_apart.Given as goal
 
 -- all keys differ if those that are left do
 abbrev pub invariant-loop-i : goal.invariant-loop-i
-invariant-loop-i l = IsDistinct same_value (keys_view (drop l.i l.pairs)) → IsDistinct same_value (keys_view l.pairs)
+invariant-loop-i l = IsDistinct may_be_same (keys_view (drop l.i l.pairs)) → IsDistinct may_be_same (keys_view l.pairs)

@@ -1,11 +1,10 @@
 use Rattle.std.proofs.Common.{◌≡◌, false, drop}
 use Rattle.std.specs.List.{AllByRecursion}
-use Rattle.cbor_data.specs.Same.{same_value}
-use Rattle.cbor_item.specs.Apart.{keys_view}
+use Rattle.cbor_item.specs.Apart.{keys_view, may_be_same}
 use Rattle.cbor_item.specs.View.{view}
 use Rattle.cbor_item.proofs.apart.is_not_among.Given as goal
 
 -- the key differs from all if it does from those that are left
 abbrev pub invariant-loop-pair : goal.invariant-loop-pair
 invariant-loop-pair l =
-    AllByRecursion (λ k. same_value (view l.key) k ≡ false) (keys_view (drop l.pair-index l.pairs)) → AllByRecursion (λ k. same_value (view l.key) k ≡ false) (keys_view l.pairs)
+    AllByRecursion (λ k. may_be_same (view l.key) k ≡ false) (keys_view (drop l.pair-index l.pairs)) → AllByRecursion (λ k. may_be_same (view l.key) k ≡ false) (keys_view l.pairs)

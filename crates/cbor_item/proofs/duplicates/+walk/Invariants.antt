@@ -1,8 +1,9 @@
 use Rattle.std.proofs.Common.{◌+◌, ◌<◌, ◌^◌, drop, Result, ℕ}
 use Rattle.cbor_data.specs.Value.{values_place_count}
 use Rattle.cbor_item.specs.Walk.{ArePlain, WalksAmong}
-use Rattle.cbor_item.specs.View.{values_view}
+use Rattle.cbor_item.specs.View.{values_view, pairs_view}
 use Rattle.cbor_item.specs.declared.sound.Unsound.{Unsound}
+use Rattle.cbor_item.proofs.Keeping.{KnowsKeys}
 use Rattle.cbor_item.proofs.duplicates.+walk.Given as goal
 
 -- what follows from here on follows from the start
@@ -12,3 +13,7 @@ invariant-walk_members-loop-item l = record {
   room : l.next + values_place_count (values_view (drop l.item-index l.item-items)) < 2 ^ 64;
   follows : (r : Result ℕ Unsound) → WalksAmong (values_view (drop l.item-index l.item-items)) l.next r → WalksAmong (values_view l.item-items) l.fn.place r;
 }
+
+-- and the set has the keys before
+abbrev pub invariant-walk_pairs-loop-key : goal.invariant-walk_pairs-loop-key
+invariant-walk_pairs-loop-key l = KnowsKeys l.keys (pairs_view (drop l.key-index l.key-items)) l.next (pairs_view l.key-items) l.fn.place

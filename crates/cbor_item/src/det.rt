@@ -1,0 +1,209 @@
+//! The deterministic bytes of an item (RFC 8949 section 4.2.1), and its first repeated key, which shows on the way.
+
+ghost use Rattle.std.specs.Prelude.{◌≡◌, ◌+◌, ◌<◌, ◌^◌, ◌++◌, ℕ, length, take, false, OnOk, OnErr, IfOk, IfErr, Ok, Err};
+ghost use Rattle.std.specs.BTreeMap.{insert_entry};
+ghost use Rattle.std.specs.Cmp.Lexicographic.{slice_cmp};
+ghost use Rattle.std.specs.Ordering.{nat_cmp};
+ghost use Rattle.std.specs.Io.KnownBytes.{Appends};
+ghost use Rattle.cbor_data.specs.Ordered.{det};
+ghost use Rattle.cbor_data.specs.Preferred.{shortest_head};
+ghost use Rattle.cbor_item.specs.Counted.{device_of, failures_of, HasRisen};
+ghost use Rattle.cbor_item.specs.Laying.{Lays, LaysAmong, LaysPairs, has_key, joined, seen};
+ghost use Rattle.cbor_item.specs.View.{view, values_view, pairs_view};
+ghost use Rattle.cbor_item.specs.Walk.{IsPlain, ArePlain, ArePairsPlain};
+ghost use Rattle.cbor_item.specs.declared.sound.Unsound.TheVariants.{Memory};
+ghost use Rattle.cbor_data.specs.Value.{place_count, values_place_count, pairs_place_count};
+
+use crate::counted::Counted;
+use crate::head::Head;
+use crate::item::Item;
+use crate::sound::{Sound, Unsound};
+use crate::write::{WriteFault, write_bytes};
+use std::alloc::Global;
+use std::collections::BTreeMap;
+use std::io::Write;
+use thiserror::Error;
+
+// Adds the deterministic bytes of an item at `place`, and answers the place after it; or else the place of its first
+// repeated key.
+#[cycle(det)]
+pub fn append_det(
+    alloc: Global,
+    item: &Item,
+    place: usize,
+    out: &mut Vec<u8>,
+) -> Result<usize, Unsound>
+    requires plain { IsPlain (view item.now) }
+    requires room { place + place_count (view item.now) < 2 ^ 64 }
+    ensures { Lays (view item.now) place out.old.items out.new.items result }
+{
+    match item {
+        Item::Uint(n) => append_part(Head::shortest(0, *n).as_slice(), place, out),
+        Item::Nint(n) => append_part(Head::shortest(1, *n).as_slice(), place, out),
+        Item::Bytes(bytes) => append_string(2, bytes.as_slice(), place, out),
+        Item::Text(text) => append_string(3, text.as_str().as_bytes(), place, out),
+        Item::Array(items) => {
+            append(Head::shortest(4, items.len() as u64).as_slice(), out)?;
+            append_members(alloc, items, place + 1, out)
+        }
+        Item::Map(pairs) => {
+            append(Head::shortest(5, pairs.len() as u64).as_slice(), out)?;
+            append_pairs(alloc, pairs, place + 1, out)
+        }
+        Item::Tag(number, content) => {
+            append(Head::shortest(6, *number).as_slice(), out)?;
+            append_det(alloc, content, place + 1, out)
+        }
+        Item::Simple(n) => append_part(Head::simple(*n).as_slice(), place, out),
+        Item::Float(width, bits) => append_part(Head::float(*width, *bits).as_slice(), place, out),
+    }
+}
+
+#[cycle(det)]
+fn append_members(
+    alloc: Global,
+    items: &Vec<Item>,
+    place: usize,
+    out: &mut Vec<u8>,
+) -> Result<usize, Unsound>
+    requires plain { ArePlain (values_view items.now.items) }
+    requires room { place + values_place_count (values_view items.now.items) < 2 ^ 64 }
+    ensures { LaysAmong (values_view items.now.items) place out.old.items out.new.items result }
+{
+    let mut next = place;
+    for item in items {
+        next = append_det(alloc, item, next, out)?;
+    }
+    Ok(next)
+}
+
+// The same of the pairs of a map, whose keys may not be the same.
+#[cycle(det)]
+fn append_pairs(
+    alloc: Global,
+    pairs: &Vec<(Item, Item)>,
+    place: usize,
+    out: &mut Vec<u8>,
+) -> Result<usize, Unsound>
+    requires plain { ArePairsPlain (pairs_view pairs.now.items) }
+    requires room { place + pairs_place_count (pairs_view pairs.now.items) < 2 ^ 64 }
+    ensures { LaysPairs (pairs_view pairs.now.items) place out.old.items out.new.items result }
+{
+    let mut noted = BTreeMap::new(alloc);
+    let mut next = place;
+    for (key, value) in pairs {
+        let mut key_bytes = Vec::new(alloc);
+        let after = append_det(alloc, key, next, &mut key_bytes)?;
+        if is_noted(&noted, &key_bytes) {
+            return Err(Unsound::Duplicate(next));
+        }
+        let mut value_bytes = Vec::new(alloc);
+        next = append_det(alloc, value, after, &mut value_bytes)?;
+        note(&mut noted, key_bytes, value_bytes)?;
+    }
+    append_noted(&noted, out)?;
+    Ok(next)
+}
+
+// Whether a key with these bytes is there.
+fn is_noted(noted: &BTreeMap<Vec<u8>, Vec<u8>>, key: &Vec<u8>) -> bool
+    ensures { result ≡ has_key key.now.items (seen noted.now) }
+{
+    noted.contains_key(key)
+}
+
+// Puts a pair in its place among those in order.
+fn note(noted: &mut BTreeMap<Vec<u8>, Vec<u8>>, key: Vec<u8>, value: Vec<u8>) -> Result<(), Unsound>
+    ensures ok { OnOk result (seen noted.new ≡ insert_entry (slice_cmp nat_cmp) (seen noted.old) key.items value.items) }
+    ensures err { IfErr result (λ e. e ≡ Memory) }
+{
+    match noted.insert(key, value) {
+        Ok(_) => Ok(()),
+        Err(_) => Err(Unsound::Memory),
+    }
+}
+
+// Adds the pairs in order, each key and then its value.
+fn append_noted(noted: &BTreeMap<Vec<u8>, Vec<u8>>, out: &mut Vec<u8>) -> Result<(), Unsound>
+    ensures ok { OnOk result (out.new.items ≡ out.old.items ++ joined (seen noted.now)) }
+    ensures err { IfErr result (λ e. e ≡ Memory) }
+{
+    for (key, value) in noted {
+        append(key.as_slice(), out)?;
+        append(value.as_slice(), out)?;
+    }
+    Ok(())
+}
+
+// Adds bytes.
+fn append(bytes: &[u8], out: &mut Vec<u8>) -> Result<(), Unsound>
+    ensures ok { OnOk result (out.new.items ≡ out.old.items ++ bytes.now) }
+    ensures err { IfErr result (λ e. e ≡ Memory) }
+{
+    match out.extend_from_slice(bytes) {
+        Ok(()) => Ok(()),
+        Err(_) => Err(Unsound::Memory),
+    }
+}
+
+// The bytes of an item without parts at `place`.
+fn append_part(bytes: &[u8], place: usize, out: &mut Vec<u8>) -> Result<usize, Unsound>
+    requires { place + 1 < 2 ^ 64 }
+    ensures ok { IfOk result (λ next. next ≡ place + 1) }
+    ensures bytes { OnOk result (out.new.items ≡ out.old.items ++ bytes.now) }
+    ensures err { IfErr result (λ e. e ≡ Memory) }
+{
+    append(bytes, out)?;
+    Ok(place + 1)
+}
+
+fn append_string(major: u8, bytes: &[u8], place: usize, out: &mut Vec<u8>) -> Result<usize, Unsound>
+    requires major { major < 8 }
+    requires room { place + 1 < 2 ^ 64 }
+    ensures ok { IfOk result (λ next. next ≡ place + 1) }
+    ensures bytes { OnOk result (out.new.items ≡ out.old.items ++ (shortest_head major (length bytes.now) ++ bytes.now)) }
+    ensures err { IfErr result (λ e. e ≡ Memory) }
+{
+    append(Head::shortest(major, bytes.len() as u64).as_slice(), out)?;
+    append_part(bytes, place, out)
+}
+
+/// Why the deterministic bytes of an item did not all go out.
+#[derive(Clone, Copy, Debug, PartialEq, Eq, Error)]
+pub enum DetFault {
+    /// There was no memory for them. Nothing went out.
+    #[error("out of memory")]
+    Memory,
+    /// The device failed while they were written to it.
+    #[error("{0}")]
+    Write(WriteFault),
+}
+
+/// Writes the item's deterministic bytes (RFC 8949 section 4.2.1): as the preferred ones, the pairs of each map in the
+/// bytewise order of the deterministic bytes of their keys. All memory is taken before the first write.
+///
+/// # Errors
+///
+/// `Memory`, with nothing written; or `Write` where the device failed in this call, and exactly the first `written` of
+/// these bytes went out.
+pub fn write_det<W: Write>(
+    alloc: Global,
+    sound: &Sound,
+    out: &mut Counted<W>,
+) -> Result<(), DetFault>
+    ensures all { OnOk result (Appends (W.contents (device_of out.old)) (W.contents (device_of out.new)) (det sound.now)) }
+    ensures count { OnOk result (failures_of out.new ≡ failures_of out.old) }
+    ensures memory { result ≡ Err DetFault.Memory → out.new ≡ out.old }
+    ensures short { (f : _) → result ≡ Err (DetFault.Write f) → f.written < length (det sound.now) }
+    ensures part { (f : _) → result ≡ Err (DetFault.Write f) → Appends (W.contents (device_of out.old)) (W.contents (device_of out.new)) (take f.written (det sound.now)) }
+    ensures failed { (f : _) → result ≡ Err (DetFault.Write f) → HasRisen (failures_of out.old) (failures_of out.new) }
+{
+    let mut bytes = Vec::new(alloc);
+    if append_det(alloc, sound.item(), 0, &mut bytes).is_err() {
+        return Err(DetFault::Memory);
+    }
+    match write_bytes(bytes.as_slice(), out) {
+        Ok(()) => Ok(()),
+        Err(fault) => Err(DetFault::Write(fault)),
+    }
+}

@@ -1,0 +1,4 @@
+mod Items
+mod Fates
+mod Judged
+pub mod Lemmas
