@@ -67,6 +67,7 @@ chosen_of words task rows o taken met read = record {
   limits = rw (met.found, read.task_is) read.limits;
   steps = rw (met.found, read.task_is) read.steps;
   quiet = read.quiet ∙ ap is_set (sym (ap (option_and_then (λ (p : Text × List Row). first_of (codes "quiet") p.1)) met.found));
+  deterministic = read.deterministic ∙ ap is_set (sym (ap (option_and_then (λ (p : Text × List Row). first_of (codes "deterministic") p.1)) met.found));
 }
 
 same_name : (s t : Task) → task_name s ≡ task_name t → s ≡ t
@@ -100,6 +101,7 @@ read_of words task rows o met c =
       limits = rw (met.found, same) at c.limits;
       steps = rw (met.found, same) at c.steps;
       quiet = c.quiet ∙ ap is_set (ap (option_and_then (λ (p : Text × List Row). first_of (codes "quiet") p.1)) met.found);
+      deterministic = c.deterministic ∙ ap is_set (ap (option_and_then (λ (p : Text × List Row). first_of (codes "deterministic") p.1)) met.found);
     }
 
 pub unread : (task : Task) (rows : List Row) (u : Use) → ((o : Options) → AreRead task rows o → ⊥) → AreUnread task rows u

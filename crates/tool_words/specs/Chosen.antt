@@ -43,9 +43,17 @@ abbrev pub steps_rule : Rule
 steps_rule =
     record (new_rule (codes "steps")) { long = Some (codes "steps"); value_names = 1; defaults = codes "10000000" ∷ []; parser = Some (Unsigned 1 most_steps) }
 
+-- an option without a value
+abbrev pub flag_rule : Text → Rule
+flag_rule name = record (new_rule name) { long = Some name; action = Some SetTrue }
+
 -- `--quiet`
 abbrev pub quiet_rule : Rule
-quiet_rule = record (new_rule (codes "quiet")) { long = Some (codes "quiet"); action = Some SetTrue }
+quiet_rule = flag_rule (codes "quiet")
+
+-- `--deterministic`
+abbrev pub deterministic_rule : Rule
+deterministic_rule = flag_rule (codes "deterministic")
 
 -- a command with `SPEC` and `--root NAME`
 abbrev pub spec_app : App → App
@@ -67,9 +75,9 @@ check_app = spec_app (new_app (codes "check"))
 abbrev pub validate_app : App
 validate_app = with_rule (judging_app (new_app (codes "validate"))) quiet_rule
 
--- `rewrite SPEC [FILE]`, with these options
+-- `rewrite SPEC [FILE]`, with these options and `--deterministic`
 abbrev pub rewrite_app : App
-rewrite_app = judging_app (new_app (codes "rewrite"))
+rewrite_app = with_rule (judging_app (new_app (codes "rewrite"))) deterministic_rule
 
 -- `show [FILE]`, with those of a stream
 abbrev pub show_app : App
@@ -143,6 +151,7 @@ pub record AreRead (task : Task) (rows : List Row) (o : Options) : Type 0 where
   pub limits : AreTaskLimits task (one_of (codes "depth") rows) (one_of (codes "item-bytes") rows) o.limits
   pub steps : AreTaskSteps task (one_of (codes "steps") rows) o.steps
   pub quiet : o.quiet ≡ is_set (first_of (codes "quiet") rows)
+  pub deterministic : o.deterministic ≡ is_set (first_of (codes "deterministic") rows)
 
 abbrev pub AreUnread : Task → List Row → Use → Type 0
 AreUnread task rows (Words e) = (o : Options) → AreRead task rows o → ⊥
@@ -158,6 +167,7 @@ pub record AreChosen (o : Options) (words : List Text) : Type 0 where
   pub limits : AreTaskLimits o.task (given_number (codes "depth") words) (given_number (codes "item-bytes") words) o.limits
   pub steps : AreTaskSteps o.task (given_number (codes "steps") words) o.steps
   pub quiet : o.quiet ≡ is_set (given_text (codes "quiet") words)
+  pub deterministic : o.deterministic ≡ is_set (given_text (codes "deterministic") words)
 
 -- Where the words are refused they give no options.
 abbrev pub IsMisuse : List Text → Use → Type 0

@@ -20,7 +20,7 @@ pub enum Task {
     Check,
     /// To validate a stream against a specification.
     Validate,
-    /// To write the items of a stream that match a specification in preferred encoding.
+    /// To write the items of a stream that match a specification in preferred or in deterministic encoding.
     Rewrite,
     /// To show the items of a stream, whatever they are.
     Show,
@@ -43,6 +43,8 @@ pub struct Options {
     pub steps: u64,
     /// Whether a stream is validated without a line for each item.
     pub quiet: bool,
+    /// Whether items are rewritten in deterministic encoding (RFC 8949 section 4.2.1), and not in preferred encoding.
+    pub deterministic: bool,
 }
 
 /// The name of the file with the stream. Without one, and where it is `-`, standard input is read.

@@ -4,7 +4,7 @@ ghost use Rattle.std.specs.Prelude.{◌≡◌, ℕ, codes, false, map, IfOk, IfE
 ghost use Rattle.cbor_data.specs.Faults.{Bounds};
 ghost use Rattle.clap.specs.Words.{app_of, first_value, found_of, one_text, rows_of, rule_of};
 ghost use Rattle.clap.specs.declared.builder.command.Command.TheViews.{out-Command};
-ghost use Rattle.tool_words.specs.Chosen.{check_app, file_rule, is_set, judging_app, most_steps, number_rule, program_app, quiet_rule, rewrite_app, root_rule, show_app, spec_app, spec_rule, steps_rule, stream_app, top_app, validate_app, AreChosen, AreLimits, AreRead, AreTaskLimits, AreTaskSteps, AreUnread, IsMisuse, IsNumber, IsToldOf};
+ghost use Rattle.tool_words.specs.Chosen.{check_app, file_rule, flag_rule, is_set, judging_app, most_steps, number_rule, program_app, rewrite_app, root_rule, show_app, spec_app, spec_rule, steps_rule, stream_app, top_app, validate_app, AreChosen, AreLimits, AreRead, AreTaskLimits, AreTaskSteps, AreUnread, IsMisuse, IsNumber, IsToldOf};
 
 use crate::choice::{Options, STEPS, Task, Use};
 use crate::shown::push_shown;
@@ -65,8 +65,8 @@ Exit status:
 /// Reads the words of the command line, the program's name first: `check SPEC`, `validate SPEC [FILE]`,
 /// `rewrite SPEC [FILE]` or `show [FILE]`; where there is a SPEC with `--root NAME`; where there is a stream with
 /// `--depth N`, from 1 to [`MOST_DEPTH`], and `--item-bytes N`, from 1 to [`MOST_ITEM_BYTES`]; where there are both with
-/// `--steps N`, from 1; and `validate` with `--quiet`. The greatest number is the default of the limits, and [`STEPS`] that of
-/// the steps; so are they where a command has no such option.
+/// `--steps N`, from 1; `validate` with `--quiet`, and `rewrite` with `--deterministic`. The greatest number is the default of
+/// the limits, and [`STEPS`] that of the steps; so are they where a command has no such option.
 ///
 /// # Errors
 ///
@@ -163,6 +163,7 @@ fn options_of(alloc: Global, task: Task, given: &ArgMatches<'_>) -> Result<Optio
         limits,
         steps,
         quiet: is_given(given, "quiet"),
+        deterministic: is_given(given, "deterministic"),
     })
 }
 
@@ -275,7 +276,11 @@ fn validate_command<'a>(alloc: Global) -> Result<Command<'a>, AllocError>
     let command = Command::new(alloc, "validate")
         .about("Prints a line for each item of the stream that matches, and one for its end")
         .after_help(VALIDATE_HELP);
-    with_judgement(alloc, command)?.arg(quiet_arg(alloc))
+    with_judgement(alloc, command)?.arg(flag_arg(
+        alloc,
+        "quiet",
+        "Prints the line of the end alone",
+    ))
 }
 
 fn rewrite_command<'a>(alloc: Global) -> Result<Command<'a>, AllocError>
@@ -285,7 +290,11 @@ fn rewrite_command<'a>(alloc: Global) -> Result<Command<'a>, AllocError>
     let command = Command::new(alloc, "rewrite")
         .about("Writes each item of the stream that matches in preferred encoding")
         .after_help(REWRITE_HELP);
-    with_judgement(alloc, command)
+    with_judgement(alloc, command)?.arg(flag_arg(
+        alloc,
+        "deterministic",
+        "Writes them in deterministic encoding: pairs in the order of their keys",
+    ))
 }
 
 fn show_command<'a>(alloc: Global) -> Result<Command<'a>, AllocError>
@@ -399,13 +408,14 @@ fn steps_arg<'a>(alloc: Global) -> Arg<'a>
         .default_value("10000000")
 }
 
-fn quiet_arg<'a>(alloc: Global) -> Arg<'a>
-    ensures rule { rule_of result ≡ quiet_rule }
+// An option without a value.
+fn flag_arg<'a>(alloc: Global, name: &'a str, help: &'a str) -> Arg<'a>
+    ensures rule { rule_of result ≡ flag_rule name.now }
     ensures own { result.global ≡ false }
 {
-    Arg::new(alloc, "quiet")
-        .long("quiet")
-        .help("Prints the line of the end alone")
+    Arg::new(alloc, name)
+        .long(name)
+        .help(help)
         .action(ArgAction::SetTrue)
 }
 

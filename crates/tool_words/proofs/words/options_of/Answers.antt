@@ -23,4 +23,5 @@ returns-clause-read c = record {
   limits = rw (one_text-rows (found_of c.args.given.now) (codes "depth"), one_text-rows (found_of c.args.given.now) (codes "item-bytes")) at c.in-Some.ensures.some;
   steps = rw (one_text-rows (found_of c.args.given.now) (codes "steps")) at c.in-Some-task_steps.ensures.some;
   quiet = c.is_given.ensures ∙ ap is_set (first_value-rows (found_of c.args.given.now) (codes "quiet"));
+  deterministic = c.is_given-2.ensures ∙ ap is_set (first_value-rows (found_of c.args.given.now) (codes "deterministic"));
 }
