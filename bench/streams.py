@@ -181,6 +181,25 @@ def deep_key_of_empty_strings(count):
     return Made(b"\xa1" * (DEPTH - 2) + array_of_empty_strings(count).unit + b"\x02" * (DEPTH - 2))
 
 
+def ordered_map_of_numbers(count):
+    """A map whose keys rise already."""
+    return Made(encoded(dict(sorted(numbered(count).items()))))
+
+
+def ordered_map_of_texts(count):
+    return Made(encoded(dict(sorted(named(count).items()))))
+
+
+def ordered_messages(count):
+    units = [dict(sorted(message(number % 240).items(), key=lambda it: encoded(it[0]))) for number in range(MESSAGES)]
+    return Made(b"".join(map(encoded, units)), count // MESSAGES, MESSAGES)
+
+
+def keys_round_a_map(count):
+    """A map that is a key of a map, which is a key of another, and so on; each has a smaller key behind it."""
+    return Made(b"\xa2" * 250 + encoded(numbered(count)) + b"\x00\x81\x00\x00" * 250)
+
+
 def nested_members(count):
     return Made(b"\x9f" + b"\x81\x80" * count + b"\xff", json="[" + ",".join(["[[]]"] * count) + "]\n")
 
@@ -217,4 +236,17 @@ STREAMS = [
     Stream("[_ [[]], [[]], ..]", "any", nested_members, 100_000, BOTH),
     Stream("a byte string of 1-byte chunks", "any", chunks_of_bytes, 500_000, CBOR),
     Stream("a text of 1-byte chunks", "any", chunks_of_text, 500_000, CBOR),
+]
+
+# Streams that are rewritten: for each the most times that the time of 'rewrite' may be taken with '--deterministic'.
+REWRITTEN = [
+    (Stream("maps of ten pairs, in order", "any", ordered_messages, 40 * MESSAGES), 1.3),
+    (Stream("a map of numbers, in order", "any", ordered_map_of_numbers, 50_000), 1.3),
+    (Stream("a map of texts, in order", "any", ordered_map_of_texts, 50_000), 1.3),
+    (Stream("maps of ten pairs", "any", messages, 40 * MESSAGES), 2.5),
+    (Stream("a map of numbers", "any", map_of_numbers, 50_000), 2.5),
+    (Stream("a map of texts", "any", map_of_texts, 50_000), 2.5),
+    (Stream("maps as keys, 256 deep", "any", deep_keys, 200), 2.5),
+    (Stream("a byte string in 256 keys", "any", deep_key_of_bytes, 2 * MIB), 2.5),
+    (Stream("a map in 250 keys", "any", keys_round_a_map, 50_000), 2.5),
 ]

@@ -11,7 +11,7 @@ _cddlseq() {
     case $command in
         check) options='--root' files=1 ;;
         validate) options='--root --depth --item-bytes --steps --quiet' files=2 ;;
-        rewrite) options='--root --depth --item-bytes --steps' files=2 ;;
+        rewrite) options='--root --depth --item-bytes --steps --deterministic' files=2 ;;
         show) options='--depth --item-bytes' files=1 ;;
         help)
             ((COMP_CWORD == 2)) && mapfile -t COMPREPLY < <(compgen -W "${commands[*]}" -- "$current")

@@ -23,6 +23,7 @@ import time
 from concurrent.futures import ThreadPoolExecutor
 
 import random_cuts
+import random_orders
 import recognizer
 from run_grammar import run_grammar
 from run_memory import run_memory
@@ -145,6 +146,7 @@ def rows():
     for name, run in (
         ("rows on the built program", lambda: run_rows(PROGRAM)),
         ("random streams as a file and in pieces", lambda: random_cuts.compare(PROGRAM)),
+        ("random items whose pairs are in two orders", lambda: random_orders.compare(PROGRAM)),
         ("commands and tests with each request for memory refused", lambda: run_memory(PROGRAM, TESTS)),
         ("comparisons of the man page with the program's help", lambda: (1, 0) if is_page_right(PROGRAM) else (0, 1)),
         ("comparisons of the completions with the program's help", lambda: (1, 0) if are_completions_right(PROGRAM) else (0, 1)),

@@ -23,12 +23,14 @@ AT_ONCE = 3
 GATEWAY, BROKEN, COSE, COSE_BROKEN = (
     os.path.join(TOP, "examples", name)
     for name in ("gateway.cddl", "broken.cborseq", "cose_sign1.cddl", "cose_sign1_broken.cborseq"))
-# Words of a command, in which a text with a line feed stands for a file with this text.
+# Words of a command, in which a text with a line feed stands for a file with this text, whose characters are one byte each.
 COMMANDS = [
     ["check", GATEWAY],
     ["validate", GATEWAY, BROKEN],
     ["show", BROKEN],
     ["rewrite", GATEWAY, BROKEN],
+    ["rewrite", "--deterministic", GATEWAY, BROKEN],
+    ["rewrite", "--deterministic", COSE, COSE_BROKEN],
     ["show", "no such\tfile"],
     ["show", "--depth", "\x1b0"],
     ["validate", COSE, COSE_BROKEN],
@@ -50,6 +52,8 @@ COMMANDS = [
     ["validate", "a = b / c / bstr .size s\nb = \"x\" .cat d\nc = 1 .plus 2\nd = \"y\" .det '  z'\ns = 2 / t\nt = 4..5\n", "cxyz\x03B\n\x01C\n\x01\x01"],
     ["check", "a = [b, c]\nb = \"x\" .cat 1\nc = \"\" .cat h'ff'\n"],
     ["check", "a = [b, c]\nb = \"\" .cat h'ff'\nc = # .size (1 / 'x')\n"],
+    # maps whose keys fall: one by itself, one as a key and as a value, and one that is a key that another one repeats
+    ["rewrite", "--deterministic", "a = any\n", "\xa2\x02\n\x01\n\xa1\xa2\x02\n\x01\n\xa2\x02\n\x01\n\xa2\xa2\x01\n\x02\n\x00\xa2\x02\n\x01\n\x00"],
     # byte strings that hold 10, 1 and 2; 10 in a byte string; and 10 and then an item that ends inside
     ["validate", "r = bstr .cborseq [* t]\nt = uint / bstr .cbor t\n", "C\n\x01\x02BA\nB\n\x18"],
 ]
@@ -104,7 +108,7 @@ def run_memory(program, tests=()):
             for word in command:
                 if "\n" in word:
                     path = f"{folder}/{place}.{len(words)}"
-                    with open(path, "w", encoding="utf-8") as file:
+                    with open(path, "w", encoding="latin-1") as file:
                         file.write(word)
                     word = path
                 words.append(word)

@@ -24,6 +24,7 @@ VALUED = {"--root", "--depth", "--item-bytes", "--steps"}
 FILES = {
     ("check", ""): True, ("check", "a", ""): False, ("validate", "a", ""): True, ("validate", "a", "b", ""): False,
     ("rewrite", "--root", "a", "b", ""): True, ("rewrite", "--root=a", "b", "c", ""): False, ("show", ""): True,
+    ("rewrite", "--deterministic", "a", ""): True, ("rewrite", "a", "--deterministic", "b", ""): False,
     ("show", "a", ""): False, ("show", "--", ""): True, ("show", "--depth", ""): False, ("help", ""): False,
 }
 
