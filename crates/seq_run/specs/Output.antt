@@ -1,5 +1,5 @@
--- What a run writes: the report of a stream, the line of its end alone, or its accepted items in preferred
--- or in deterministic encoding.
+-- What a run writes: the report of a stream, the line of its end alone, or its accepted items, in preferred or in
+-- deterministic encoding.
 use Rattle.std.specs.Prelude.{ℕ, suc, List, [], ◌∷◌, ◌++◌, Option}
 use Rattle.cbor_data.specs.Value.{Value}
 use Rattle.cbor_data.specs.Ordered.{det}

@@ -43,7 +43,7 @@ pub(crate) fn push_item(
         Mode::Report => push_item_line(head, bytes, number, offset, item),
         Mode::EndLine => Ok(()),
         Mode::Rewrite => push_preferred(alloc, bytes, item),
-        Mode::Deterministic => push_det(alloc, bytes, item),
+        Mode::Deterministic => push_deterministic(alloc, bytes, item),
     }
 }
 
@@ -84,7 +84,7 @@ fn push_preferred(alloc: Global, bytes: &mut Vec<u8>, item: &Sound) -> Result<()
 }
 
 // Appends the item's deterministic bytes.
-fn push_det(alloc: Global, bytes: &mut Vec<u8>, item: &Sound) -> Result<(), AllocError>
+fn push_deterministic(alloc: Global, bytes: &mut Vec<u8>, item: &Sound) -> Result<(), AllocError>
     ensures { OnOk result (bytes.new.items ≡ bytes.old.items ++ det item.now) }
 {
     let mut out = Counted::new(mem::replace(bytes, Vec::new(alloc)));

@@ -44,7 +44,8 @@ pub enum RunFault {
 /// each accepted item and of the end. It answers the end, and for a mismatch the item that failed.
 ///
 /// What a piece adds to the output is put together and written before the next one is read. Beside the item that is being read
-/// it takes memory for the output of one piece: that of one item, and of items in 4,096 bytes more.
+/// it takes memory for the output of one piece: that of one item, and of items in 4,096 bytes more. In
+/// [`Mode::Deterministic`] it takes what [`cbor_item::write_det`] does, too, to put one item in order.
 ///
 /// # Errors
 ///
