@@ -1,5 +1,5 @@
--- The deterministic bytes of an item (RFC 8949 section 4.2.1): the preferred bytes of the item whose maps have their pairs
--- in the bytewise order of the deterministic bytes of their keys.
+-- The deterministic bytes of an item (RFC 8949 section 4.2.1): preferred bytes, with the pairs of each map in the bytewise
+-- order of the deterministic bytes of their keys.
 use Rattle.std.specs.Prelude.{◌≡◌, ℕ, List, if◌then◌else◌, Bool}
 use Rattle.std.specs.Ordering.{nat_cmp, is_lt}
 use Rattle.std.specs.Cmp.Lexicographic.{slice_cmp}
@@ -7,17 +7,16 @@ use Rattle.std.specs.declared.cmp.Ordering.TheVariants.{Less}
 use Rattle.cbor_data.specs.Value.{Value, uint, nint, bytes, text, array, pairs, tag, simple, float, Values, no_values, value, Pairs, no_pairs, pair}
 use Rattle.cbor_data.specs.Preferred.{preferred}
 
--- The preferred bytes of the one item come before those of the other: at the first byte where they differ its byte is the
--- less, or it ends there.
+-- The preferred bytes of k come before those of l: at the first place where they differ k's byte is less, or k's end there.
 abbrev pub comes_before : Value → Value → Bool
 comes_before k l = is_lt (slice_cmp nat_cmp (preferred k) (preferred l))
 
--- a pair among pairs in order: before the first whose key it comes before
+-- The pair of k and v is put among pairs: before the first of them whose key k comes before, or else at the end.
 abbrev pub put : Value → Value → Pairs → Pairs
 put k v no_pairs = pair k v no_pairs
 put k v (pair l w ps) = if comes_before k l then pair k v (pair l w ps) else pair l w (put k v ps)
 
--- the same item, the pairs of each map in the order of their keys
+-- the same item with the pairs of each map put in order, one after the other
 abbrev mutual
   pub ordered : Value → Value
   ordered (uint n) = uint n
@@ -38,16 +37,16 @@ abbrev mutual
   pairs_ordered no_pairs = no_pairs
   pairs_ordered (pair k v ps) = put (ordered k) (ordered v) (pairs_ordered ps)
 
--- the deterministic bytes
-abbrev pub det : Value → List ℕ
-det x = preferred (ordered x)
+-- the deterministic bytes: the preferred bytes of the item in order
+abbrev pub deterministic : Value → List ℕ
+deterministic x = preferred (ordered x)
 
--- The preferred bytes of k come before those of each of these keys.
+-- The preferred bytes of k come before those of each key of these pairs.
 abbrev pub ComesBeforeAll : Value → Pairs → Type 0
 ComesBeforeAll k no_pairs = Unit {0}
 ComesBeforeAll k (pair l w ps) = (slice_cmp nat_cmp (preferred k) (preferred l) ≡ Less) × ComesBeforeAll k ps
 
--- the pairs of each map have their keys in strictly rising order of their bytes
+-- In each map the preferred bytes of each key come before those of all later ones.
 abbrev mutual
   pub IsRising : Value → Type 0
   IsRising (array xs) = AreRising xs

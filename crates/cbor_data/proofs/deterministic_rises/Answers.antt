@@ -3,7 +3,7 @@ use Rattle.cbor_data.specs.Preferred.{preferred}
 use Rattle.cbor_data.proofs.Apart.{valid_apart}
 use Rattle.cbor_data.proofs.Falls.{one_order}
 use Rattle.cbor_data.proofs.Rises.{rising, in_order}
-use Rattle.cbor_data.proofs.det_rises.Goals as goal
+use Rattle.cbor_data.proofs.deterministic_rises.Goals as goal
 
 pub returns : goal.returns
 returns c = record {
