@@ -1,5 +1,5 @@
 -- The fates of a map's pairs count alike in whatever order.
-use Rattle.std.proofs.Common.{◌≡◌, ℕ, suc, length, List, [], ◌∷◌, Option, Some, None, Bool, true, false, cond, nat_eq, nat_le, refl, sym, ap, ap₂, ◌∙◌}
+use Rattle.std.proofs.Common.{◌≡◌, ℕ, suc, length, List, [], ◌∷◌, Option, Some, None, Bool, true, false, cond, nat_eq, nat_le, refl, ap, ap₂, ◌∙◌}
 use Rattle.std.specs.Prelude.{◌&&◌}
 use Rattle.cddl_meaning.specs.Forms.{MapEntry}
 use Rattle.cddl_meaning.specs.Judges.{Answer, Yes, No, Fate, BelongsTo, Stray, count_of, is_up_to_most, are_enough, first_stray, first_failing, by_counts, shown_by, alternative_says, either}

@@ -1,13 +1,12 @@
 -- What a type says of an item it says of each that is the same, at whatever place.
-use Rattle.std.proofs.Common.{◌≡◌, ◌≢◌, ℕ, suc, ◌+◌, ◌-◌, max, length, List, [], ◌∷◌, Some, None, true, false, refl, sym, ap, ◌∙◌}
-use Rattle.cbor_data.specs.Value.{Value, uint, place_count, Pairs, no_pairs, pair}
-use Rattle.cbor_data.specs.AnyOrder.{IsAdded, first, later, IsSame, same_uint, ArePairsSame, no_more, one_more}
-use Rattle.cddl_meaning.specs.Forms.{passes, members_in, pairs_in, bytes_in, tag_in, simple_in, TagNumber, any_number, exactly, such_as, MapEntry, Node, Plain, Ref, Choice, ArrayOf, TagOf, SimpleBy, MapOf, Both, Such, Holding, Most, Group, Entry, GroupRef, Sequence, Alternatives, Repeat, Language}
-use Rattle.cddl_meaning.specs.Judges as J
-use Rattle.cddl_meaning.specs.Judges.{Answer, Yes, No, Reply, Takes, Fails, ArraySays, whole, over, failed, is_over, one_less, Says, passed, missed, ref, choice, no_array, array, no_tag, tagged, other_tag, no_simple, simple_such, other_simple, no_map, map, left_no, left_yes, none_such, such_passed, such_missed, holder_no, no_string, holds_nothing, held_yes, held_no, Fate, BelongsTo, Stray, alternative_says, either, Maps, no_alternative, alternative, Sorts, all_sorted, sort, Belongs, nowhere, other_key, here, cut_here, handed_on, Numbers, whichever, this_number, other_number, by_head, Chooses, no_more as none_left, this_one, not_this, Does, missing, matches, differs, group_ref, sequence, alternatives, repeat, DoesEach, all_done, one_fails, and_then, DoesFirst, all_fail, one_takes, or_else, Repeats, full, too_few, enough, empty_round, round}
-use Rattle.cddl_same.specs.Literals.{IsPlainNode, HasPlainLiterals}
-use Rattle.cddl_same.proofs.Items.{AllSame, none, both, as_long, test_same, HasMembers, HasPairs, HasContent, members_same, pairs_same, content_same, no_members_same, no_pairs_same, no_content_same, bytes_same, number_same}
-use Rattle.cddl_same.proofs.Fates.{AlikeAnswers, both_yes, both_no, AlikeFates, both_stray, both_belong, alike_fate, SameTally, tally_itself, tally_on, tally_more, tally_swapped, alternative_alike, either_alike}
+use Rattle.std.proofs.Common.{◌≡◌, ℕ, suc, ◌+◌, max, length, List, [], ◌∷◌, Some, sym, ◌∙◌}
+use Rattle.cbor_data.specs.Value.{Value, place_count, Pairs, no_pairs, pair}
+use Rattle.cbor_data.specs.Equivalence.{IsAdded, first, later, IsSame, same_uint, ArePairsSame, no_more, one_more}
+use Rattle.cddl_meaning.specs.Forms.{members_in, TagNumber, MapEntry, Node, ArrayOf, Most, Group, Language}
+use Rattle.cddl_meaning.specs.Judges.{Answer, Yes, No, Reply, Takes, Fails, ArraySays, whole, over, failed, Says, passed, missed, ref, choice, no_array, array, no_tag, tagged, other_tag, no_simple, simple_such, other_simple, no_map, map, left_no, left_yes, none_such, such_passed, such_missed, holder_no, no_string, holds_nothing, held_yes, held_no, Fate, BelongsTo, Stray, Maps, no_alternative, alternative, Sorts, all_sorted, sort, Belongs, nowhere, other_key, here, cut_here, handed_on, Numbers, whichever, this_number, other_number, by_head, Chooses, no_more as none_left, this_one, not_this, Does, missing, matches, differs, group_ref, sequence, alternatives, repeat, DoesEach, all_done, one_fails, and_then, DoesFirst, all_fail, one_takes, or_else, Repeats, full, too_few, enough, empty_round, round}
+use Rattle.cddl_meaning.specs.Literals.{IsPlainNode, HasPlainLiterals}
+use Rattle.cddl_meaning.proofs.SameItems.{AllSame, none, both, as_long, test_same, members_same, pairs_same, content_same, no_members_same, no_pairs_same, no_content_same, bytes_same, number_same}
+use Rattle.cddl_meaning.proofs.SameFates.{AlikeAnswers, both_yes, both_no, AlikeFates, both_stray, both_belong, alike_fate, SameTally, tally_itself, tally_on, tally_more, tally_swapped, alternative_alike, either_alike}
 
 -- yes, in some number of judgements; no, at some place
 pub record YesToo (S : Answer → ℕ → Type 0) : Type 0 where
@@ -105,39 +104,39 @@ module _ {N G : Type 0} (l : Language N G) (h : HasPlainLiterals l) where
       record { fates = f.fate ∷ t.fates; weight = suc (length es) + f.weight + t.weight; sorts = sort f.belongs t.sorts; tally = tally_more f.like t.tally }
 
   mutual
-    pub says_too : {f : Node N G} {p w : ℕ} {x y : Value} {a : Answer} → IsPlainNode f → Says l f p x a w → IsSame x y → (q : ℕ) → SaysToo (Says l f q y) a
-    says_too i (passed {t = t} e) s q = record { weight = 1; says = passed (sym (test_same t i s) ∙ e) }
-    says_too i (missed {t = t} e) s q = record { far = q; weight = 1; says = missed (sym (test_same t i s) ∙ e) }
-    says_too {a = a} i (ref {m = m} d) s q = lift (λ b v e. record { weight = suc v; holds = ref e }) a (says_too (h.plain m) d s q)
-    says_too {a = a} i (choice d) s q = lift (λ b v e. record { weight = suc v; holds = choice e }) a (chooses_too d s q q)
-    says_too i (no_array e) s q = record { far = q; weight = 1; says = no_array (no_members_same s e) }
-    says_too {y = y} i (array {g = g} e d r) s q = let m = members_same s e in array_too g q y m.are r (does_too d m.same q (suc q))
-    says_too i (no_tag e) s q = record { far = q; weight = 1; says = no_tag (no_content_same s e) }
-    says_too {a = a} i (tagged {m = m} e n d) s q =
+    pub said_of_same : {f : Node N G} {p w : ℕ} {x y : Value} {a : Answer} → IsPlainNode f → Says l f p x a w → IsSame x y → (q : ℕ) → SaysToo (Says l f q y) a
+    said_of_same i (passed {t = t} e) s q = record { weight = 1; says = passed (sym (test_same t i s) ∙ e) }
+    said_of_same i (missed {t = t} e) s q = record { far = q; weight = 1; says = missed (sym (test_same t i s) ∙ e) }
+    said_of_same {a = a} i (ref {m = m} d) s q = lift (λ b v e. record { weight = suc v; holds = ref e }) a (said_of_same (h.plain m) d s q)
+    said_of_same {a = a} i (choice d) s q = lift (λ b v e. record { weight = suc v; holds = choice e }) a (chooses_too d s q q)
+    said_of_same i (no_array e) s q = record { far = q; weight = 1; says = no_array (no_members_same s e) }
+    said_of_same {y = y} i (array {g = g} e d r) s q = let m = members_same s e in array_too g q y m.are r (does_too d m.same q (suc q))
+    said_of_same i (no_tag e) s q = record { far = q; weight = 1; says = no_tag (no_content_same s e) }
+    said_of_same {a = a} i (tagged {m = m} e n d) s q =
         let c = content_same s e in
         let t = numbers_too n q in
-        lift (λ b v g. record { weight = suc (t.weight + v); holds = tagged c.is t.says g }) a (says_too (h.plain m) d c.same (suc q))
-    says_too i (other_tag e n) s q = let c = content_same s e in let t = numbers_too n q in record { far = q; weight = suc t.weight; says = other_tag c.is t.says }
-    says_too i (no_simple e) s q = record { far = q; weight = 1; says = no_simple (sym (number_same s) ∙ e) }
-    says_too i (simple_such {m = m} e d) s q = let t = says_too (h.plain m) d same_uint q in record { weight = suc t.weight; says = simple_such (sym (number_same s) ∙ e) t.says }
-    says_too i (other_simple {m = m} e d) s q = let t = says_too (h.plain m) d same_uint q in record { far = q; weight = suc t.weight; says = other_simple (sym (number_same s) ∙ e) t.says }
-    says_too i (no_map e) s q = record { far = q; weight = 1; says = no_map (no_pairs_same s e) }
-    says_too {a = a} i (map e d) s q =
+        lift (λ b v g. record { weight = suc (t.weight + v); holds = tagged c.is t.says g }) a (said_of_same (h.plain m) d c.same (suc q))
+    said_of_same i (other_tag e n) s q = let c = content_same s e in let t = numbers_too n q in record { far = q; weight = suc t.weight; says = other_tag c.is t.says }
+    said_of_same i (no_simple e) s q = record { far = q; weight = 1; says = no_simple (sym (number_same s) ∙ e) }
+    said_of_same i (simple_such {m = m} e d) s q = let t = said_of_same (h.plain m) d same_uint q in record { weight = suc t.weight; says = simple_such (sym (number_same s) ∙ e) t.says }
+    said_of_same i (other_simple {m = m} e d) s q = let t = said_of_same (h.plain m) d same_uint q in record { far = q; weight = suc t.weight; says = other_simple (sym (number_same s) ∙ e) t.says }
+    said_of_same i (no_map e) s q = record { far = q; weight = 1; says = no_map (no_pairs_same s e) }
+    said_of_same {a = a} i (map e d) s q =
         let m = pairs_same s e in
         lift (λ b v g. record { weight = suc v; holds = map m.are g }) a (maps_too d m.same q both_no)
-    says_too i (left_no {m = m} d) s q = let t = says_too (h.plain m) d s q in record { far = t.far; weight = suc t.weight; says = left_no t.says }
-    says_too {a = a} i (left_yes {m = m} {n = n} d e) s q =
-        let t = says_too (h.plain m) d s q in
-        lift (λ b v g. record { weight = suc (t.weight + v); holds = left_yes t.says g }) a (says_too (h.plain n) e s q)
-    says_too i (none_such {m = m} d) s q = let t = says_too (h.plain m) d s q in record { far = t.far; weight = suc t.weight; says = none_such t.says }
-    says_too i (such_passed {m = m} {t = t} d e) s q = let g = says_too (h.plain m) d s q in record { weight = suc g.weight; says = such_passed g.says (sym (test_same t i s) ∙ e) }
-    says_too i (such_missed {m = m} {t = t} d e) s q = let g = says_too (h.plain m) d s q in record { far = q; weight = suc g.weight; says = such_missed g.says (sym (test_same t i s) ∙ e) }
-    says_too i (holder_no {m = m} d) s q = let t = says_too (h.plain m) d s q in record { far = t.far; weight = suc t.weight; says = holder_no t.says }
-    says_too i (no_string {m = m} d e) s q = let t = says_too (h.plain m) d s q in record { far = q; weight = suc t.weight; says = no_string t.says (sym (bytes_same s) ∙ e) }
-    says_too i (holds_nothing {m = m} d e j) s q = let t = says_too (h.plain m) d s q in record { far = q; weight = suc t.weight; says = holds_nothing t.says (sym (bytes_same s) ∙ e) j }
+    said_of_same i (left_no {m = m} d) s q = let t = said_of_same (h.plain m) d s q in record { far = t.far; weight = suc t.weight; says = left_no t.says }
+    said_of_same {a = a} i (left_yes {m = m} {n = n} d e) s q =
+        let t = said_of_same (h.plain m) d s q in
+        lift (λ b v g. record { weight = suc (t.weight + v); holds = left_yes t.says g }) a (said_of_same (h.plain n) e s q)
+    said_of_same i (none_such {m = m} d) s q = let t = said_of_same (h.plain m) d s q in record { far = t.far; weight = suc t.weight; says = none_such t.says }
+    said_of_same i (such_passed {m = m} {t = t} d e) s q = let g = said_of_same (h.plain m) d s q in record { weight = suc g.weight; says = such_passed g.says (sym (test_same t i s) ∙ e) }
+    said_of_same i (such_missed {m = m} {t = t} d e) s q = let g = said_of_same (h.plain m) d s q in record { far = q; weight = suc g.weight; says = such_missed g.says (sym (test_same t i s) ∙ e) }
+    said_of_same i (holder_no {m = m} d) s q = let t = said_of_same (h.plain m) d s q in record { far = t.far; weight = suc t.weight; says = holder_no t.says }
+    said_of_same i (no_string {m = m} d e) s q = let t = said_of_same (h.plain m) d s q in record { far = q; weight = suc t.weight; says = no_string t.says (sym (bytes_same s) ∙ e) }
+    said_of_same i (holds_nothing {m = m} d e j) s q = let t = said_of_same (h.plain m) d s q in record { far = q; weight = suc t.weight; says = holds_nothing t.says (sym (bytes_same s) ∙ e) j }
     -- What a byte string holds is the same item in both, at the same places.
-    says_too i (held_yes {m = m} {w = w} d e j g) s q = let t = says_too (h.plain m) d s q in record { weight = suc (t.weight + w); says = held_yes t.says (sym (bytes_same s) ∙ e) j g }
-    says_too i (held_no {m = m} {w = w} d e j g) s q = let t = says_too (h.plain m) d s q in record { far = q; weight = suc (t.weight + w); says = held_no t.says (sym (bytes_same s) ∙ e) j g }
+    said_of_same i (held_yes {m = m} {w = w} d e j g) s q = let t = said_of_same (h.plain m) d s q in record { weight = suc (t.weight + w); says = held_yes t.says (sym (bytes_same s) ∙ e) j g }
+    said_of_same i (held_no {m = m} {w = w} d e j g) s q = let t = said_of_same (h.plain m) d s q in record { far = q; weight = suc (t.weight + w); says = held_no t.says (sym (bytes_same s) ∙ e) j g }
 
     maps_too : {ess : List (List (MapEntry N))} {p w : ℕ} {ps qs : Pairs} {sofar other a : Answer} → Maps l ess p ps sofar a w → ArePairsSame ps qs → (q : ℕ) → AlikeAnswers sofar other → SaysToo (Maps l ess q qs other) a
     maps_too no_alternative s q both_yes = record { weight = 0; says = no_alternative }
@@ -158,20 +157,20 @@ module _ {N G : Type 0} (l : Language N G) (h : HasPlainLiterals l) where
     belongs_too : {es : List (MapEntry N)} {p w : ℕ} {k x m y : Value} {f : Fate} → Belongs l es p k x f w → IsSame k m → IsSame x y → (q : ℕ) → BelongsToo es q m y f
     belongs_too nowhere s t q = record { fate = Stray q; weight = 0; belongs = nowhere; like = both_stray }
     belongs_too (other_key {e = e} d b) s t q =
-        let u = says_too (h.plain e.key_type) d s q in
+        let u = said_of_same (h.plain e.key_type) d s q in
         let r = belongs_too b s t q in
         record { fate = r.fate; weight = u.weight + r.weight; belongs = other_key u.says r.belongs; like = r.like }
     belongs_too {m = m} (here {e = e} {es = es} d b) s t q =
-        let u = says_too (h.plain e.key_type) d s q in
-        let v = says_too (h.plain e.value_type) b t (q + place_count m) in
+        let u = said_of_same (h.plain e.key_type) d s q in
+        let v = said_of_same (h.plain e.value_type) b t (q + place_count m) in
         record { fate = BelongsTo (length es) Yes; weight = u.weight + v.weight; belongs = here u.says v.says; like = both_belong both_yes }
     belongs_too {m = m} (cut_here {e = e} {es = es} c d b) s t q =
-        let u = says_too (h.plain e.key_type) d s q in
-        let v = says_too (h.plain e.value_type) b t (q + place_count m) in
+        let u = said_of_same (h.plain e.key_type) d s q in
+        let v = said_of_same (h.plain e.value_type) b t (q + place_count m) in
         record { fate = BelongsTo (length es) (No v.far); weight = u.weight + v.weight; belongs = cut_here c u.says v.says; like = both_belong both_no }
     belongs_too {m = m} (handed_on {e = e} c d b g) s t q =
-        let u = says_too (h.plain e.key_type) d s q in
-        let v = says_too (h.plain e.value_type) b t (q + place_count m) in
+        let u = said_of_same (h.plain e.key_type) d s q in
+        let v = said_of_same (h.plain e.value_type) b t (q + place_count m) in
         let r = belongs_too g s t q in
         record { fate = r.fate; weight = u.weight + (v.weight + r.weight); belongs = handed_on c u.says v.says r.belongs; like = r.like }
 
@@ -179,19 +178,19 @@ module _ {N G : Type 0} (l : Language N G) (h : HasPlainLiterals l) where
     numbers_too whichever q = record { weight = 0; says = whichever }
     numbers_too this_number q = record { weight = 0; says = this_number }
     numbers_too (other_number e) q = record { far = q; weight = 0; says = other_number e }
-    numbers_too {a = a} (by_head {m = m} d) q = lift (λ b v g. record { weight = v; holds = by_head g }) a (says_too (h.plain m) d same_uint q)
+    numbers_too {a = a} (by_head {m = m} d) q = lift (λ b v g. record { weight = v; holds = by_head g }) a (said_of_same (h.plain m) d same_uint q)
 
     chooses_too : {ms : List N} {p far w : ℕ} {x y : Value} {a : Answer} → Chooses l ms p x far a w → IsSame x y → (q near : ℕ) → SaysToo (Chooses l ms q y near) a
     chooses_too none_left s q near = record { far = near; weight = 0; says = none_left }
-    chooses_too (this_one {m = m} d) s q near = let t = says_too (h.plain m) d s q in record { weight = t.weight; says = this_one t.says }
+    chooses_too (this_one {m = m} d) s q near = let t = said_of_same (h.plain m) d s q in record { weight = t.weight; says = this_one t.says }
     chooses_too {a = a} (not_this {m = m} d e) s q near =
-        let t = says_too (h.plain m) d s q in
+        let t = said_of_same (h.plain m) d s q in
         lift (λ b v g. record { weight = t.weight + v; holds = not_this t.says g }) a (chooses_too e s q (max near t.far))
 
     does_too : {f : Group N G} {p q w : ℕ} {xs ys : List Value} {r : Reply} → Does l f p q xs r w → AllSame xs ys → (o i : ℕ) → DoesToo (Does l f o i ys) r
     does_too missing none o i = record { far = o; weight = 1; does = missing }
-    does_too (matches {m = m} d) (both {y = y} {ys = ys} s ss) o i = let t = says_too (h.plain m) d s i in record { rest = ys; same = ss; next = i + place_count y; far = o; weight = suc t.weight; does = matches t.says }
-    does_too (differs {m = m} d) (both s ss) o i = let t = says_too (h.plain m) d s i in record { far = max o t.far; weight = suc t.weight; does = differs t.says }
+    does_too (matches {m = m} d) (both {y = y} {ys = ys} s ss) o i = let t = said_of_same (h.plain m) d s i in record { rest = ys; same = ss; next = i + place_count y; far = o; weight = suc t.weight; does = matches t.says }
+    does_too (differs {m = m} d) (both s ss) o i = let t = said_of_same (h.plain m) d s i in record { far = max o t.far; weight = suc t.weight; does = differs t.says }
     does_too {r = r} (group_ref d) ss o i = lift_reply (λ b v g. record { weight = suc v; holds = group_ref g }) r (does_too d ss o i)
     does_too {r = r} (sequence d) ss o i = lift_reply (λ b v g. record { weight = suc v; holds = sequence g }) r (each_too d ss o i o)
     does_too {r = r} (alternatives d) ss o i = lift_reply (λ b v g. record { weight = suc v; holds = alternatives g }) r (first_too d ss o i o)

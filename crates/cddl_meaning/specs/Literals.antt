@@ -1,5 +1,5 @@
--- Languages whose literals have no parts, as those that a specification can write: numbers, texts and byte strings.
-use Rattle.std.specs.Prelude.{ℕ}
+-- Languages whose literals have no parts, as all that a specification can write or compute (RFC 8610 section 2): they are
+-- numbers, texts and byte strings.
 use Rattle.cbor_data.specs.Value.{Value, array, pairs, tag}
 use Rattle.cddl_meaning.specs.Forms.{Test, equals, differs_from, Node, Plain, Such, Language}
 
@@ -10,7 +10,8 @@ HasNoParts (pairs ps) = ⊥
 HasNoParts (tag n x) = ⊥
 HasNoParts _ = Unit {0}
 
--- The literal of a test, if it has one, has no parts. The ends of ranges and the like are compared as whole numbers alone.
+-- The literal to which a test asks an item to be equal, or not to be, has no parts. Ends of ranges and the like are compared
+-- as whole numbers alone.
 abbrev pub IsPlainTest : Test → Type 0
 IsPlainTest (equals v) = HasNoParts v
 IsPlainTest (differs_from v) = HasNoParts v
@@ -21,5 +22,6 @@ IsPlainNode (Plain t) = IsPlainTest t
 IsPlainNode (Such m t) = IsPlainTest t
 IsPlainNode _ = Unit {0}
 
+-- each type that a name stands for has only such literals
 pub record HasPlainLiterals {N G : Type 0} (l : Language N G) : Type 0 where
   pub plain : (n : N) → IsPlainNode (l.type_at n)

@@ -1,13 +1,13 @@
 -- What is the same of items that are: how tests see them, and what their parts are.
-use Rattle.std.proofs.Common.{◌≡◌, ℕ, suc, length, List, [], ◌∷◌, Option, Some, None, Bool, true, false, nat_eq, refl, sym, ap, ap₂, ◌∙◌, subst}
+use Rattle.std.proofs.Common.{◌≡◌, ℕ, suc, length, List, [], ◌∷◌, Some, None, true, false, nat_eq, refl, ap, ap₂, subst}
 use Rattle.std.specs.Prelude.{not, ◌&&◌}
 use Rattle.cbor_data.specs.declared.Width.{Width}
 use Rattle.cbor_data.specs.declared.Width.TheVariants.{W16}
 use Rattle.cbor_data.specs.Same.{same_value}
-use Rattle.cbor_data.specs.Value.{Value, uint, nint, bytes, text, array, pairs, tag, simple, float, Values, no_values, value, Pairs, no_pairs, pair}
-use Rattle.cbor_data.specs.AnyOrder.{IsSame, same_uint, same_nint, same_bytes, same_text, same_array, same_map, same_tag, same_simple, same_float, AreSame, no_members, member, ArePairsSame}
+use Rattle.cbor_data.specs.Value.{Value, uint, nint, array, pairs, tag, Values, Pairs}
+use Rattle.cbor_data.specs.Equivalence.{IsSame, same_uint, same_nint, same_bytes, same_text, same_array, same_map, same_tag, same_simple, same_float, AreSame, no_members, member, ArePairsSame}
 use Rattle.cddl_meaning.specs.Forms.{Test, anything, of_major, simple_value, float_of, equals, between, differs_from, less_than, at_most_number, greater_than, at_least_number, sized, passes, major_of, is_below, is_up_to, is_simple, is_float, has_size, list_of, members_in, pairs_in, bytes_in, tag_in, simple_in}
-use Rattle.cddl_same.specs.Literals.{HasNoParts, IsPlainTest}
+use Rattle.cddl_meaning.specs.Literals.{HasNoParts, IsPlainTest}
 
 -- as many items, the same one by one
 pub data AllSame : List Value → List Value → Type 0 where

@@ -6,7 +6,7 @@ use Rattle.cddl_meaning.specs.Forms as F
 use Rattle.cddl_meaning.specs.Forms.{Node}
 use Rattle.cddl_literal.specs.Numbers.{Meaning, UintOf, NintOf, TextOf, BytesOf}
 use Rattle.cddl_language.specs.Controls.{Comparison, equal, different, less, at_most, greater, at_least, is_ordering, Control, left_alone, left_and_right, held_item, held_sequence, compared, sized, computed, control_of}
-use Rattle.cddl_language.specs.Numbers.{HashForm, any_item, major, numbered, hash_form, hash_test, number_test}
+use Rattle.cddl_language.specs.Numbers.{HashForm, any_item, major, numbered, hash_form, hash_test}
 use Rattle.cddl_language.specs.Terms.{Term, literal, named, parens, map_of, array_of, unwrapped, choice_of, choice_of_name, tagged, tagged_by, simple_by, hash, range, control, or, Definition, name_of}
 use Rattle.cddl_language.specs.Kinds.{Opened, opens_type, opens_group, opened, is_group}
 use Rattle.cddl_language.specs.Literals.{Values, item_of, whole, whole_of, computed_literal, literal_of}
@@ -14,7 +14,7 @@ use Rattle.cddl_language.specs.Sizes.{Sizes, sizes_of}
 use Rattle.cddl_language.specs.Choices.{chosen, chosen_by_name}
 use Rattle.cddl_language.specs.Maps.{Alternatives, map_alternatives}
 use Rattle.cddl_language.specs.Language.{TypeName, type, reference, chosen_of, word, GroupName, nothing, choice, content, between, map_node, comparand, such_as_compares, such_as_sized, equal_to, control_node, term_node, type_node}
-use Rattle.cddl_same.specs.Literals.{HasNoParts, IsPlainTest, IsPlainNode}
+use Rattle.cddl_meaning.specs.Literals.{HasNoParts, IsPlainTest, IsPlainNode}
 
 item_plain : (m : Meaning) → HasNoParts (item_of m)
 item_plain (UintOf n) = tt
