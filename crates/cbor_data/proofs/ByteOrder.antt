@@ -7,7 +7,7 @@ use Rattle.std.specs.declared.cmp.Ordering.TheVariants.{Less, Equal, Greater}
 use Rattle.std.proofs.lemmas.Cmp.{ranked, nat_list_cmp_total}
 use Rattle.cbor_data.specs.Value.{Value, Pairs, no_pairs, pair}
 use Rattle.cbor_data.specs.Preferred.{preferred}
-use Rattle.cbor_data.specs.Ordered.{comes_before, put, ComesBeforeAll}
+use Rattle.cbor_data.specs.Deterministic.{comes_before, put, ComesBeforeAll}
 
 then_equal : (a b : Ordering) → ordering_then a b ≡ Equal → (a ≡ Equal) × (b ≡ Equal)
 then_equal Less b e = absurd (cc)

@@ -1,13 +1,12 @@
 -- Items that are the same fall into one order, if their keys are apart.
-use Rattle.std.proofs.Common.{◌≡◌, ◌≢◌, ℕ, List, refl, sym, ap, ap₂, ◌∙◌}
-use Rattle.cbor_data.specs.Value.{Value, uint, nint, bytes, text, array, pairs, tag, simple, float, Values, no_values, value, Pairs, no_pairs, pair}
-use Rattle.cbor_data.specs.Preferred.{preferred}
-use Rattle.cbor_data.specs.AnyOrder.{IsAdded, first, later, IsSame, same_uint, same_nint, same_bytes, same_text, same_array, same_map, same_tag, same_simple, same_float, AreSame, no_members, member, ArePairsSame, no_more, one_more}
-use Rattle.cbor_data.specs.Ordered.{put, ordered, values_ordered, pairs_ordered, det}
+use Rattle.std.proofs.Common.{◌≡◌, ◌≢◌, refl, sym, ap, ap₂, ◌∙◌}
+use Rattle.cbor_data.specs.Value.{Value, array, pairs, tag, Values, value, Pairs}
+use Rattle.cbor_data.specs.Equivalence.{IsAdded, first, later, IsSame, same_uint, same_nint, same_bytes, same_text, same_array, same_map, same_tag, same_simple, same_float, AreSame, no_members, member, ArePairsSame, no_more, one_more}
+use Rattle.cbor_data.specs.Deterministic.{put, ordered, values_ordered, pairs_ordered, deterministic}
 use Rattle.cbor_data.specs.Writable.{IsWritable}
-use Rattle.cbor_data.proofs.AnyOrderLaws.{back}
+use Rattle.cbor_data.proofs.EquivalenceLaws.{back}
 use Rattle.cbor_data.proofs.Keeps.{AreWritable, ArePairsWritable, array_parts, map_parts, tag_part, member_part, members_part, key_part, rest_part, added_to}
-use Rattle.cbor_data.proofs.SameByDet.{same_by_det}
+use Rattle.cbor_data.proofs.ByDeterministic.{same_by_deterministic}
 use Rattle.cbor_data.proofs.ByteOrder.{swap}
 use Rattle.cbor_data.proofs.Apart.{HasKeysApart, HaveKeysApart, AreKeysApart, apart_without, from_added}
 
@@ -17,7 +16,7 @@ added_put first w h = refl
 added_put {k = k} {v = v} (later {l = l} {w = u} {ps = ps} a) w h =
     let t = added_to a (rest_part w) in
     let f = from_added a h.0 in
-    let differ : det l ≢ det k = λ e. f.0 (back (same_by_det l k (key_part w) t.key e)) in
+    let differ : deterministic l ≢ deterministic k = λ e. f.0 (back (same_by_deterministic l k (key_part w) t.key e)) in
     ap (put (ordered l) (ordered u)) (added_put a (rest_part w) h.3) ∙ swap (ordered l) (ordered u) (ordered k) (ordered v) (pairs_ordered ps) differ
 
 mutual

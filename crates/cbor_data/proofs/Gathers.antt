@@ -1,14 +1,11 @@
 -- Pairs that are put in order one after the other, the first of them first.
-use Rattle.std.proofs.Common.{◌≡◌, ◌≢◌, ℕ, List, refl, sym, ap, ap₂, ◌∙◌}
-use Rattle.cbor_data.specs.AnyOrder.{IsSame}
-use Rattle.cbor_data.specs.Ordered.{put, ordered, pairs_ordered, det}
-use Rattle.cbor_data.specs.Preferred.{preferred}
+use Rattle.std.proofs.Common.{◌≡◌, ◌≢◌, refl, ap, ◌∙◌}
+use Rattle.cbor_data.specs.Deterministic.{put, ordered, pairs_ordered, deterministic}
 use Rattle.cbor_data.specs.Value.{Value, Pairs, no_pairs, pair}
-use Rattle.cbor_data.proofs.AnyOrderLaws.{back}
 use Rattle.cbor_data.proofs.Apart.{IsApartFrom, AreKeysApart}
 use Rattle.cbor_data.proofs.ByteOrder.{swap}
 use Rattle.cbor_data.proofs.Keeps.{ArePairsWritable, key_part, rest_part}
-use Rattle.cbor_data.proofs.SameByDet.{same_by_det}
+use Rattle.cbor_data.proofs.ByDeterministic.{same_by_deterministic}
 use Rattle.cbor_data.specs.Writable.{IsWritable}
 
 -- these pairs, each in order, put among others
@@ -19,7 +16,7 @@ gathered (pair k v ps) others = gathered ps (put (ordered k) (ordered v) others)
 past : (k v : Value) (ps others : Pairs) → IsWritable k → ArePairsWritable ps → IsApartFrom k ps → gathered ps (put (ordered k) (ordered v) others) ≡ put (ordered k) (ordered v) (gathered ps others)
 past k v no_pairs others w ws h = refl
 past k v (pair l u ps) others w ws h =
-    let differ : det l ≢ det k = λ e. h.0 (same_by_det l k (key_part ws) w e) in
+    let differ : deterministic l ≢ deterministic k = λ e. h.0 (same_by_deterministic l k (key_part ws) w e) in
     ap (gathered ps) (swap (ordered l) (ordered u) (ordered k) (ordered v) others differ) ∙ past k v ps (put (ordered l) (ordered u) others) w (rest_part ws) h.1
 
 pub gathered_all : (ps : Pairs) → ArePairsWritable ps → AreKeysApart ps → gathered ps no_pairs ≡ pairs_ordered ps

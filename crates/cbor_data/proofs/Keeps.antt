@@ -1,8 +1,8 @@
 -- What can be written stays so when the pairs of its maps are put in another order.
-use Rattle.std.proofs.Common.{◌≡◌, ℕ, suc, ◌<◌, ◌^◌, List, refl, sym, ap, ◌∙◌, subst}
-use Rattle.cbor_data.specs.Value.{Value, uint, nint, bytes, text, array, pairs, tag, simple, float, Values, no_values, value, Pairs, no_pairs, pair, values_len, pairs_len, AreInRange, ArePairsInRange, AreValuesFitting, ArePairsFitting, AreValuesAssignable, ArePairsAssignable}
+use Rattle.std.proofs.Common.{◌≡◌, ℕ, suc, ◌<◌, ◌^◌, refl, ap, ◌∙◌, subst}
+use Rattle.cbor_data.specs.Value.{Value, array, pairs, tag, Values, value, Pairs, pair, values_len, pairs_len, AreInRange, ArePairsInRange, AreValuesFitting, ArePairsFitting, AreValuesAssignable, ArePairsAssignable}
 use Rattle.cbor_data.specs.Preferred.{AreValueCountsShort, ArePairCountsShort}
-use Rattle.cbor_data.specs.AnyOrder.{IsAdded, first, later, IsSame, same_uint, same_nint, same_bytes, same_text, same_array, same_map, same_tag, same_simple, same_float, AreSame, no_members, member, ArePairsSame, no_more, one_more}
+use Rattle.cbor_data.specs.Equivalence.{IsAdded, first, later, IsSame, same_uint, same_nint, same_bytes, same_text, same_array, same_map, same_tag, same_simple, same_float, AreSame, no_members, member, ArePairsSame, no_more, one_more}
 use Rattle.cbor_data.specs.Writable.{IsWritable}
 
 pub record AreWritable (xs : Values) : Type 0 where
@@ -61,7 +61,7 @@ pub added_to : {k v : Value} {ps qs : Pairs} → IsAdded k v ps qs → ArePairsW
 added_to first w = record { key = key_part w; held = held_part w; rest = rest_part w }
 added_to (later a) w = let t = added_to a (rest_part w) in record { key = t.key; held = t.held; rest = with_pair (key_part w) (held_part w) t.rest }
 
-as_many_members : {xs ys : Values} → AreSame xs ys → values_len xs ≡ values_len ys
+pub as_many_members : {xs ys : Values} → AreSame xs ys → values_len xs ≡ values_len ys
 as_many_members no_members = refl
 as_many_members (member d e) = ap suc (as_many_members e)
 

@@ -6,14 +6,16 @@ mod BadText
 mod SameLaws
 mod Embedding
 mod Told
-mod AnyOrderLaws
+mod EquivalenceLaws
 mod Reorders
 mod Keeps
-mod SameByDet
+mod ByDeterministic
 mod ByteOrder
 mod Apart
 mod Falls
 mod Rises
 mod SameTold
 mod Gathers
+mod SameSpelling
+mod SameSound
 pub mod Lemmas

@@ -1,8 +1,8 @@
 -- An item is the same as the one in order.
-use Rattle.std.proofs.Common.{◌≡◌, ℕ, List, Bool, true, false, cond, refl}
+use Rattle.std.proofs.Common.{Bool, true, false, cond}
 use Rattle.cbor_data.specs.Value.{Value, uint, nint, bytes, text, array, pairs, tag, simple, float, Values, no_values, value, Pairs, no_pairs, pair}
-use Rattle.cbor_data.specs.AnyOrder.{IsAdded, first, later, IsSame, same_uint, same_nint, same_bytes, same_text, same_array, same_map, same_tag, same_simple, same_float, AreSame, no_members, member, ArePairsSame, no_more, one_more}
-use Rattle.cbor_data.specs.Ordered.{comes_before, put, ordered, values_ordered, pairs_ordered}
+use Rattle.cbor_data.specs.Equivalence.{IsAdded, first, later, IsSame, same_uint, same_nint, same_bytes, same_text, same_array, same_map, same_tag, same_simple, same_float, AreSame, no_members, member, ArePairsSame, no_more, one_more}
+use Rattle.cbor_data.specs.Deterministic.{comes_before, put, ordered, values_ordered, pairs_ordered}
 
 put_either : {k v l w : Value} {ps qs : Pairs} (b : Bool) → IsAdded k v ps qs → IsAdded k v (pair l w ps) (cond b (pair k v (pair l w ps)) (pair l w qs))
 put_either true a = first

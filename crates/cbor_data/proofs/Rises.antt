@@ -1,16 +1,15 @@
 -- In the order of their bytes the keys of each map rise, and there is one such order.
-use Rattle.std.proofs.Common.{◌≡◌, ◌≢◌, ℕ, List, Bool, true, false, ◌⊎◌, inl, inr, refl, sym, ap, ap₂, ◌∙◌, subst}
-use Rattle.std.specs.Cmp.Lexicographic.{slice_cmp}
+use Rattle.std.proofs.Common.{◌≡◌, ◌≢◌, inl, inr, refl, sym, ap, ap₂, ◌∙◌, subst}
 use Rattle.cbor_data.specs.Value.{Value, uint, nint, bytes, text, array, pairs, tag, simple, float, Values, no_values, value, Pairs, no_pairs, pair}
 use Rattle.cbor_data.specs.Preferred.{preferred}
-use Rattle.cbor_data.specs.AnyOrder.{IsAdded, first, later, IsSame}
-use Rattle.cbor_data.specs.Ordered.{comes_before, put, ordered, values_ordered, pairs_ordered, det, ComesBeforeAll, IsRising, AreRising, ArePairsRising}
+use Rattle.cbor_data.specs.Equivalence.{IsAdded, first, later}
+use Rattle.cbor_data.specs.Deterministic.{put, ordered, values_ordered, pairs_ordered, ComesBeforeAll, IsRising, AreRising, ArePairsRising}
 use Rattle.cbor_data.specs.Writable.{IsWritable}
-use Rattle.cbor_data.proofs.AnyOrderLaws.{back}
+use Rattle.cbor_data.proofs.EquivalenceLaws.{back}
 use Rattle.cbor_data.proofs.Reorders.{put_added}
 use Rattle.cbor_data.proofs.Keeps.{AreWritable, ArePairsWritable, array_parts, map_parts, tag_part, member_part, members_part, key_part, held_part, rest_part}
-use Rattle.cbor_data.proofs.SameByDet.{same_by_det}
-use Rattle.cbor_data.proofs.ByteOrder.{IsBefore, true_before, before_back, before_on, one_before, before_true, put_first, put_here, put_after, tested}
+use Rattle.cbor_data.proofs.ByDeterministic.{same_by_deterministic}
+use Rattle.cbor_data.proofs.ByteOrder.{IsBefore, before_back, before_on, one_before, before_true, put_first, put_here, put_after}
 use Rattle.cbor_data.proofs.Apart.{IsApartFrom, HasKeysApart, HaveKeysApart, AreKeysApart}
 
 -- the bytes of k are not those of one of these keys
@@ -39,7 +38,7 @@ put_rising k v (pair l w ps) r s h d = elim (one_before k l d.0) [
 
 differs : (k : Value) (ps : Pairs) → IsWritable k → ArePairsWritable ps → IsApartFrom k ps → DiffersFrom (ordered k) (pairs_ordered ps)
 differs k no_pairs w ws h = tt
-differs k (pair l u ps) w ws h = added_differs (ordered k) (put_added (ordered l) (ordered u) (pairs_ordered ps)) (λ e. h.0 (back (same_by_det k l w (key_part ws) e))) (differs k ps w (rest_part ws) h.1)
+differs k (pair l u ps) w ws h = added_differs (ordered k) (put_added (ordered l) (ordered u) (pairs_ordered ps)) (λ e. h.0 (back (same_by_deterministic k l w (key_part ws) e))) (differs k ps w (rest_part ws) h.1)
 
 mutual
   pub rising : (x : Value) → IsWritable x → HasKeysApart x → IsRising (ordered x)

@@ -1,11 +1,11 @@
 -- It can be told whether two items are the same.
-use Rattle.std.proofs.Common.{◌≡◌, ℕ, List, Bool, true, false, ◌⊎◌, inl, inr, refl, sym, ap, ◌∙◌, subst}
+use Rattle.std.proofs.Common.{◌≡◌, ℕ, List, Bool, true, false, ◌⊎◌, inl, inr, refl, subst}
 use Rattle.cbor_data.specs.declared.Width.{Width}
 use Rattle.cbor_data.specs.Value.{Value, uint, nint, bytes, text, array, pairs, tag, simple, float, Values, no_values, value, Pairs, no_pairs, pair}
-use Rattle.cbor_data.specs.AnyOrder.{IsAdded, first, later, IsSame, same_uint, same_nint, same_bytes, same_text, same_array, same_map, same_tag, same_simple, same_float, AreSame, no_members, member, ArePairsSame, no_more, one_more}
+use Rattle.cbor_data.specs.Equivalence.{IsAdded, first, later, IsSame, same_uint, same_nint, same_bytes, same_text, same_array, same_map, same_tag, same_simple, same_float, AreSame, no_members, member, ArePairsSame, no_more, one_more}
 use Rattle.cbor_data.specs.Same.{same_value}
 use Rattle.cbor_data.proofs.SameLaws.{same_value-true, same_value-same}
-use Rattle.cbor_data.proofs.AnyOrderLaws.{itself, back, onward, pairs_itself, pairs_back, pairs_onward, without}
+use Rattle.cbor_data.proofs.EquivalenceLaws.{itself, onward, pairs_itself, pairs_back, pairs_onward, without}
 
 -- it holds, or it does not
 abbrev pub Told : Type 0 → Type 0

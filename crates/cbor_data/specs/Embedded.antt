@@ -5,7 +5,7 @@ use Rattle.cbor_data.specs.Value.{Value, Values, no_values, value, depth_of}
 use Rattle.cbor_data.specs.Validity.{IsValid}
 use Rattle.cbor_data.specs.Forms.{Spells}
 
--- the bytes are a spelling of the item, in which no map has two equal keys, and which is not deeper than 256
+-- the bytes are a spelling of the item, which is valid and not deeper than 256
 pub record Embeds (b : List ℕ) (x : Value) : Type 0 where
   pub spells : Spells x b
   pub valid : IsValid x

@@ -3,7 +3,7 @@ use Rattle.std.specs.Prelude.{◌≡◌, ◌≢◌, ℕ, suc, ◌+◌, ◌-◌, 
 use Rattle.cbor_data.specs.Value.{Value, depth_of}
 use Rattle.cbor_data.specs.Validity.{IsValid, IsFirstRepeatedKey}
 use Rattle.cbor_data.specs.Preferred.{initial}
-use Rattle.cbor_data.specs.Forms.{Form, bytes_form, text_form, text_chunks, array_form, array_to_break, pairs_form, pairs_to_break, tag_form, Forms, no_forms, form, PairForms, no_pair_forms, pair_form, Chunk, chunk_bytes, head_in, forms_len, pair_forms_len, flat, IsOk, meaning, HasText, IsWellFormed, Spells, Begins, IsUnfinished}
+use Rattle.cbor_data.specs.Forms.{Form, text_form, text_chunks, array_form, array_to_break, pairs_form, pairs_to_break, tag_form, Forms, no_forms, form, PairForms, no_pair_forms, pair_form, Chunk, chunk_bytes, head_in, forms_len, pair_forms_len, flat, IsOk, meaning, HasText, Spells, Begins, IsUnfinished}
 use Rattle.cbor_data.specs.declared.FaultKind.{FaultKind}
 use Rattle.cbor_data.specs.declared.FaultKind.TheVariants.{ReservedInfo, BadIndefinite, BadBreak, BadChunk, BadSimple, TooDeep, TooLong, Truncated, BadText, DuplicateKey}
 

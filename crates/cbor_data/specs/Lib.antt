@@ -9,6 +9,6 @@ pub mod Notation
 pub mod Same
 pub mod Codes
 pub mod Embedded
-pub mod AnyOrder
-pub mod Ordered
+pub mod Equivalence
+pub mod Deterministic
 pub mod Writable

@@ -1,5 +1,5 @@
--- Whether two values are the same.
-use Rattle.std.specs.Prelude.{◌≡◌, ℕ, List, [], ◌∷◌, Bool, true, false, ◌&&◌, ◌==◌}
+-- Whether two values are equal, pairs in the same order too, as a test.
+use Rattle.std.specs.Prelude.{ℕ, List, [], ◌∷◌, Bool, true, false, ◌&&◌, ◌==◌}
 use Rattle.cbor_data.specs.declared.Width.{Width}
 use Rattle.cbor_data.specs.declared.Width.TheVariants.{W16, W32, W64}
 use Rattle.cbor_data.specs.Value.{Value, uint, nint, bytes, text, array, pairs, tag, simple, float, Values, no_values, value, Pairs, no_pairs, pair}

@@ -1,6 +1,7 @@
--- Which items are valid: no map has two keys that are the same up to the order of pairs in them (RFC 8949 section 5.3.1).
+-- Which items are valid: no map has two keys that are the same (RFC 8949 sections 5.3.1 and 5.6), in whatever order the
+-- pairs of maps in them come.
 use Rattle.std.specs.Prelude.{◌≡◌, ℕ, suc, ◌+◌, ◌≤◌, List, [], ◌∷◌, ◌⊎◌}
-use Rattle.cbor_data.specs.AnyOrder.{IsSame}
+use Rattle.cbor_data.specs.Equivalence.{IsSame}
 use Rattle.cbor_data.specs.Value.{Value, array, pairs, tag, Values, no_values, value, Pairs, no_pairs, pair, place_count}
 
 -- the key is the same as one of these

@@ -2,8 +2,8 @@
 #![tactic(auto)]
 
 ghost use Rattle.std.specs.Prelude.{◌≡◌, ◌≤◌, ◌*◌, ◌⊎◌, ◌↔◌, ℕ, List, ◌++◌, length};
-ghost use Rattle.cbor_data.specs.AnyOrder.{IsSame};
-ghost use Rattle.cbor_data.specs.Ordered.{ordered, det, IsRising};
+ghost use Rattle.cbor_data.specs.Equivalence.{IsSame};
+ghost use Rattle.cbor_data.specs.Deterministic.{ordered, deterministic, IsRising};
 ghost use Rattle.cbor_data.specs.Validity.{IsValid};
 ghost use Rattle.cbor_data.specs.Writable.{IsWritable};
 ghost use Rattle.cbor_data.specs.Value.{Value, Values};
@@ -46,7 +46,7 @@ pub enum FaultKind {
     Truncated,
     /// A text string, or a chunk of one, that is not UTF-8 (RFC 8949 section 3.1).
     BadText,
-    /// A map repeats a key (RFC 8949 section 5.3.1).
+    /// A key of a map is the same as an earlier one, whatever the order of pairs in both (RFC 8949 sections 5.3.1 and 5.6).
     DuplicateKey,
 }
 
@@ -81,39 +81,11 @@ pub fn one_list()
     ensures { (b : List ℕ) (xs ys : Values) → EmbedsAll b xs → EmbedsAll b ys → xs ≡ ys }
 {}
 
-/// To be the same is an equivalence.
+/// To be the same is an equivalence (RFC 8949 section 5.6.1).
 pub fn equivalence()
     ensures itself { (x : Value) → IsSame x x }
     ensures back { (x y : Value) → IsSame x y → IsSame y x }
     ensures onward { (x y z : Value) → IsSame x y → IsSame y z → IsSame x z }
-{}
-
-/// The deterministic bytes of an item spell one that is the same.
-pub fn det_is_spelling()
-    ensures spells { (x : Value) → IsWritable x → Spells (ordered x) (det x) }
-    ensures same { (x : Value) → IsSame x (ordered x) }
-{}
-
-/// Items of the same deterministic bytes are the same.
-pub fn told_by_det()
-    ensures { (x y : Value) → IsWritable x → IsWritable y → det x ≡ det y → IsSame x y }
-{}
-
-/// Items that are the same have the same deterministic bytes, if one of them is valid.
-pub fn one_det()
-    ensures { (x y : Value) → IsSame x y → IsWritable y → IsValid y → det x ≡ det y }
-{}
-
-/// In the deterministic bytes of a valid item the keys of each map rise, and only those bytes of an item that is the same
-/// do so.
-pub fn det_rises()
-    ensures rises { (x : Value) → IsWritable x → IsValid x → IsRising (ordered x) }
-    ensures alone { (x y : Value) → IsSame x y → IsWritable y → IsValid y → IsRising x → preferred x ≡ det y }
-{}
-
-/// Sound items are the same exactly if their deterministic bytes are.
-pub fn same_if_det()
-    ensures { (x y : Value) → IsSound x → IsSound y → (IsSame x y ↔ (det x ≡ det y)) }
 {}
 
 /// Two items are the same or not.
@@ -124,4 +96,51 @@ pub fn same_or_not()
 /// An item that is the same as a valid one is valid.
 pub fn same_is_valid()
     ensures { (x y : Value) → IsSame x y → IsValid x → IsValid y }
+{}
+
+/// An item that is the same as a sound one is sound.
+pub fn same_is_sound()
+    ensures { (x y : Value) → IsSame x y → IsSound x → IsSound y }
+{}
+
+/// The deterministic bytes of an item spell the item in order, which is the same.
+pub fn deterministic_spells()
+    ensures spells { (x : Value) → IsWritable x → Spells (ordered x) (deterministic x) }
+    ensures same { (x : Value) → IsSame x (ordered x) }
+{}
+
+/// The deterministic bytes of a sound item are read back as an item that is sound and the same, and that has these
+/// deterministic bytes again.
+pub fn deterministic_read_back()
+    ensures some { (x : Value) → IsSound x → (y : Value) × Spells y (deterministic x) }
+    ensures sound { (x y : Value) → IsSound x → Spells y (deterministic x) → IsSound y }
+    ensures same { (x y : Value) → IsSound x → Spells y (deterministic x) → IsSame x y }
+    ensures again { (x y : Value) → IsSound x → Spells y (deterministic x) → deterministic y ≡ deterministic x }
+{}
+
+/// An item has as many deterministic bytes as preferred ones.
+pub fn deterministic_length()
+    ensures { (x : Value) → length (deterministic x) ≡ length (preferred x) }
+{}
+
+/// Items that have the same deterministic bytes are the same.
+pub fn same_by_deterministic()
+    ensures { (x y : Value) → IsWritable x → IsWritable y → deterministic x ≡ deterministic y → IsSame x y }
+{}
+
+/// Items that are the same have the same deterministic bytes, if one of them is valid.
+pub fn one_deterministic()
+    ensures { (x y : Value) → IsSame x y → IsWritable y → IsValid y → deterministic x ≡ deterministic y }
+{}
+
+/// Sound items are the same exactly if their deterministic bytes are.
+pub fn same_if_deterministic()
+    ensures { (x y : Value) → IsSound x → IsSound y → (IsSame x y ↔ (deterministic x ≡ deterministic y)) }
+{}
+
+/// In the deterministic bytes of a valid item the keys of each map rise (RFC 8949 section 4.2.1), and of all items that are
+/// the same as it only those in which they rise have these bytes as their preferred ones.
+pub fn deterministic_rises()
+    ensures rises { (x : Value) → IsWritable x → IsValid x → IsRising (ordered x) }
+    ensures alone { (x y : Value) → IsSame x y → IsWritable y → IsValid y → IsRising x → preferred x ≡ deterministic y }
 {}

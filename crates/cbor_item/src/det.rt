@@ -5,7 +5,7 @@ ghost use Rattle.std.specs.BTreeMap.{insert_entry};
 ghost use Rattle.std.specs.Cmp.Lexicographic.{slice_cmp};
 ghost use Rattle.std.specs.Ordering.{nat_cmp};
 ghost use Rattle.std.specs.Io.KnownBytes.{Appends};
-ghost use Rattle.cbor_data.specs.Ordered.{det};
+ghost use Rattle.cbor_data.specs.Deterministic.{deterministic};
 ghost use Rattle.cbor_data.specs.Preferred.{shortest_head};
 ghost use Rattle.cbor_item.specs.Counted.{device_of, failures_of, HasRisen};
 ghost use Rattle.cbor_item.specs.Laying.{Lays, LaysAmong, LaysPairs, has_key, joined, seen};
@@ -191,11 +191,11 @@ pub fn write_det<W: Write>(
     sound: &Sound,
     out: &mut Counted<W>,
 ) -> Result<(), DetFault>
-    ensures all { OnOk result (Appends (W.contents (device_of out.old)) (W.contents (device_of out.new)) (det sound.now)) }
+    ensures all { OnOk result (Appends (W.contents (device_of out.old)) (W.contents (device_of out.new)) (deterministic sound.now)) }
     ensures count { OnOk result (failures_of out.new ≡ failures_of out.old) }
     ensures memory { result ≡ Err DetFault.Memory → out.new ≡ out.old }
-    ensures short { (f : _) → result ≡ Err (DetFault.Write f) → f.written < length (det sound.now) }
-    ensures part { (f : _) → result ≡ Err (DetFault.Write f) → Appends (W.contents (device_of out.old)) (W.contents (device_of out.new)) (take f.written (det sound.now)) }
+    ensures short { (f : _) → result ≡ Err (DetFault.Write f) → f.written < length (deterministic sound.now) }
+    ensures part { (f : _) → result ≡ Err (DetFault.Write f) → Appends (W.contents (device_of out.old)) (W.contents (device_of out.new)) (take f.written (deterministic sound.now)) }
     ensures failed { (f : _) → result ≡ Err (DetFault.Write f) → HasRisen (failures_of out.old) (failures_of out.new) }
 {
     let mut bytes = Vec::new(alloc);

@@ -19,6 +19,7 @@ pub mod NoCycle
 pub mod NoReference
 pub mod Numbers
 pub mod OneFault
+pub mod PlainLiterals
 pub mod Saying
 pub mod Sized
 pub mod Tables

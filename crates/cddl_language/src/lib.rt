@@ -13,10 +13,12 @@ ghost use Rattle.cddl_language.specs.Faults.{IsAccepted, IsRefused, Specificatio
 ghost use Rattle.cddl_language.specs.Free.{IsOnCycle, LeadsBack};
 ghost use Rattle.cddl_language.specs.Kinds.{Opened, is_group_in, opened_in};
 ghost use Rattle.cbor_data.specs.Embedded.{Embeds, EmbedsAll};
+ghost use Rattle.cbor_data.specs.Equivalence.{IsSame};
 ghost use Rattle.cbor_data.specs.Value as V;
 ghost use Rattle.cbor_data.specs.Value.{Value, array, bytes, text, uint};
 ghost use Rattle.cddl_meaning.specs.Forms.{Choice, Language, any_number_of, at_most, exactly, has_size, is_below, is_up_to, passes};
 ghost use Rattle.cddl_meaning.specs.Judges.{Answer, No, Says, Yes};
+ghost use Rattle.cddl_meaning.specs.Literals.{HasPlainLiterals};
 ghost use Rattle.cddl_language.specs.Choices.{chosen, chosen_by_name};
 ghost use Rattle.cddl_language.specs.Controls.{Comparison, Computation, comparison_in, computation_in, control_of, is_ordering};
 ghost use Rattle.cddl_language.specs.MapFaults.{ComesBack, GoesThrough, HasMapShape, HasNoKey, IsSpliced, IsSplicedInto, LacksKey, LeadsTo, OccursBadly, closed_entry, point_in};
@@ -160,6 +162,18 @@ pub fn each_way_back_is_told()
 pub fn tables_say_the_same()
     ensures says { (worth : Values) (ds : List Definition) (root : Text) (l : Language ℕ ℕ) (top : ℕ) (rank : Name ℕ ℕ → ℕ) (ranks : ℕ) → StandsFor worth ds root l top rank ranks → (p w : ℕ) (x : Value) (a : Answer) → Says (language worth ds) (type_node worth ds (reference (call root no_terms))) p x a w → Says l (l.type_at top) p x a w }
     ensures no_more { (worth : Values) (ds : List Definition) (root : Text) (l : Language ℕ ℕ) (top : ℕ) (rank : Name ℕ ℕ → ℕ) (ranks : ℕ) → StandsFor worth ds root l top rank ranks → (p w : ℕ) (x : Value) (a : Answer) → Says l (l.type_at top) p x a w → Says (language worth ds) (type_node worth ds (reference (call root no_terms))) p x a w }
+{}
+
+/// The literals that a text can write or compute are numbers and strings.
+pub fn literals_are_plain()
+    ensures { (worth : Values) (ds : List Definition) → HasPlainLiterals (language worth ds) }
+{}
+
+/// A table that stands for a specification says yes to both of two items that are the same, or no to both. The places at which
+/// a no shows may differ.
+pub fn same_by_text<N, G>()
+    ensures yes { (worth : Values) (ds : List Definition) (root : Text) (l : Language N G) (top : N) (rank : Name N G → ℕ) (ranks : ℕ) → StandsFor worth ds root l top rank ranks → (x y : Value) (w : ℕ) → IsSame x y → Says l (l.type_at top) 0 x Yes w → (v : ℕ) × Says l (l.type_at top) 0 y Yes v }
+    ensures no { (worth : Values) (ds : List Definition) (root : Text) (l : Language N G) (top : N) (rank : Name N G → ℕ) (ranks : ℕ) → StandsFor worth ds root l top rank ranks → (x y : Value) (far w : ℕ) → IsSame x y → Says l (l.type_at top) 0 x (No far) w → (near v : ℕ) × Says l (l.type_at top) 0 y (No near) v }
 {}
 
 /// The values that are written in a specification have a table that is right, and right tables agree on them.

@@ -8,3 +8,6 @@ mod Sizes
 mod Tallies
 mod Inside
 mod Matches
+mod SameItems
+mod SameFates
+mod SameSays

@@ -4,3 +4,4 @@ pub mod Judges
 pub mod Alike
 pub mod Moves
 pub mod Size
+pub mod Literals

@@ -5,7 +5,7 @@
 ghost use Rattle.std.specs.Prelude.{◌≡◌, ◌<◌, ◌≤◌, ◌^◌, ◌↔◌, ℕ, List, length};
 ghost use Rattle.cbor_data.specs.Faults.{Bounds, last_offset};
 ghost use Rattle.cbor_data.specs.Sequence.{Found};
-ghost use Rattle.cbor_data.specs.AnyOrder.{IsSame};
+ghost use Rattle.cbor_data.specs.Equivalence.{IsSame};
 ghost use Rattle.cbor_data.specs.Value.{AreBytes, Value};
 ghost use Rattle.cddl_meaning.specs.Size.{size};
 ghost use Rattle.cddl_language.specs.Language.{language, reference, type_node};
@@ -22,10 +22,10 @@ ghost use Rattle.seq_run.specs.Judge.{judge_of};
 ghost use Rattle.seq_run.specs.Written.{AreWritable, clean_end, found_from, written_bytes};
 ghost use Rattle.seq_run.specs.declared.end.End.{End};
 
+use cddl_language::same_by_text;
 use cddl_match::decided;
 use cddl_table::{GroupId, TypeId};
 use seq_run::{one_end, written_is_read_back};
-use text_same::same_by_text;
 
 /// A table that stands for a text says of each item what the text says, in as many judgements, and a stream has by the table the
 /// items and the end that it has by the text. So what is promised over a table is promised over the text.
@@ -52,7 +52,7 @@ pub fn text_is_decided()
     decided();
 }
 
-/// A table that stands for a text says yes to both of two items that are the same up to the order of pairs in their maps, or
+/// A table that stands for a text says yes to both of two items that are the same, whatever the order of pairs in their maps, or
 /// no to both. The places at which a no shows may differ.
 pub fn same_by_table()
     ensures yes { (worth : Values) (ds : List Definition) (root : Text) (table : Table) → StandsFor worth ds root (language_of table) (root_of table) (rank_of table) (ranks_of table) → (x y : Value) (w : ℕ) → IsSame x y → RootSays table x Yes w → (v : ℕ) × RootSays table y Yes v }

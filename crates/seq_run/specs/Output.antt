@@ -2,7 +2,7 @@
 -- deterministic encoding.
 use Rattle.std.specs.Prelude.{ℕ, suc, List, [], ◌∷◌, ◌++◌, Option}
 use Rattle.cbor_data.specs.Value.{Value}
-use Rattle.cbor_data.specs.Ordered.{det}
+use Rattle.cbor_data.specs.Deterministic.{deterministic}
 use Rattle.cbor_data.specs.Preferred.{preferred}
 use Rattle.cbor_data.specs.Sequence.{Found}
 use Rattle.seq_run.specs.declared.end.End.{End}
@@ -15,7 +15,7 @@ abbrev pub item_output : Mode → ℕ → Found → List ℕ
 item_output mode.Report number f = item_line number f
 item_output mode.EndLine number f = []
 item_output mode.Rewrite number f = preferred f.item
-item_output mode.Deterministic number f = det f.item
+item_output mode.Deterministic number f = deterministic f.item
 
 -- what is written of these items, the first of which has this number
 abbrev pub items_output : Mode → ℕ → List Found → List ℕ

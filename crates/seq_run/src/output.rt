@@ -1,7 +1,7 @@
 //! What a run writes.
 
 ghost use Rattle.std.specs.Prelude.{◌≡◌, ◌<◌, ◌++◌, OnOk, option_copied};
-ghost use Rattle.cbor_data.specs.Ordered.{det};
+ghost use Rattle.cbor_data.specs.Deterministic.{deterministic};
 ghost use Rattle.cbor_data.specs.Preferred.{preferred};
 ghost use Rattle.cbor_data.specs.Value.{uint};
 ghost use Rattle.seq_run.specs.Output.{end_output, item_output};
@@ -85,7 +85,7 @@ fn push_preferred(alloc: Global, bytes: &mut Vec<u8>, item: &Sound) -> Result<()
 
 // Appends the item's deterministic bytes.
 fn push_deterministic(alloc: Global, bytes: &mut Vec<u8>, item: &Sound) -> Result<(), AllocError>
-    ensures { OnOk result (bytes.new.items ≡ bytes.old.items ++ det item.now) }
+    ensures { OnOk result (bytes.new.items ≡ bytes.old.items ++ deterministic item.now) }
 {
     let mut out = Counted::new(mem::replace(bytes, Vec::new(alloc)));
     // A vector takes all bytes, unless there is no memory for them.

@@ -1,4 +1,4 @@
-use Rattle.cbor_data.proofs.AnyOrderLaws.{itself, back, onward}
+use Rattle.cbor_data.proofs.EquivalenceLaws.{itself, back, onward}
 use Rattle.cbor_data.proofs.equivalence.Goals as goal
 
 pub returns : goal.returns

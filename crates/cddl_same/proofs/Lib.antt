@@ -1,4 +1,0 @@
-mod Items
-mod Fates
-mod Judged
-pub mod Lemmas
