@@ -14,5 +14,6 @@ pub mod Heads
 pub mod Small
 pub mod Accepting
 pub mod Rereading
+pub mod InOrder
 pub mod OneEnd
 pub mod SomeEnd

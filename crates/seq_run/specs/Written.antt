@@ -2,6 +2,8 @@
 use Rattle.std.specs.Prelude.{◌≡◌, ℕ, ◌+◌, ◌≤◌, List, [], ◌∷◌, ◌++◌, length, Option, Some, None}
 use Rattle.std.specs.Io.KnownBytes as bytes
 use Rattle.cbor_data.specs.Value.{Value, depth_of}
+use Rattle.cbor_data.specs.Equivalence.{IsSame}
+use Rattle.cbor_data.specs.Deterministic.{deterministic}
 use Rattle.cbor_data.specs.Preferred.{preferred}
 use Rattle.cbor_data.specs.Sound.{IsSound}
 use Rattle.cbor_data.specs.Faults.{Bounds, last_offset}
@@ -29,6 +31,21 @@ AreWritable accepts l (x ∷ xs) = IsWritable accepts l x × AreWritable accepts
 abbrev pub written_bytes : List Value → List ℕ
 written_bytes [] = []
 written_bytes (x ∷ xs) = preferred x ++ written_bytes xs
+
+-- the items' deterministic bytes, one after the other
+abbrev pub deterministic_bytes : List Value → List ℕ
+deterministic_bytes [] = []
+deterministic_bytes (x ∷ xs) = deterministic x ++ deterministic_bytes xs
+
+abbrev pub AreSound : List Value → Type 0
+AreSound [] = Unit {0}
+AreSound (x ∷ xs) = IsSound x × AreSound xs
+
+-- as many items, each the same as the other's at its place
+abbrev pub AreSameItems : List Value → List Value → Type 0
+AreSameItems [] [] = Unit {0}
+AreSameItems (x ∷ xs) (y ∷ ys) = IsSame x y × AreSameItems xs ys
+AreSameItems xs ys = ⊥
 
 -- the items, each with the offset of its first byte, where the first one's is o
 abbrev pub found_from : ℕ → List Value → List Found

@@ -8,9 +8,12 @@ ghost use Rattle.cddl_table.specs.declared.table.Table.{Table};
 ghost use Rattle.seq_run.specs.declared.end.End.{End};
 ghost use Rattle.seq_run.specs.Ends.{Accepts, Ends, EndsFreely, IsAccepted, IsDecisive};
 ghost use Rattle.seq_run.specs.Judge.{Judge};
-ghost use Rattle.seq_run.specs.Written.{AreWritable, clean_end, found_from, written_bytes};
+ghost use Rattle.seq_run.specs.Answers.{items_of};
+ghost use Rattle.seq_run.specs.Output.{items_output};
+ghost use Rattle.seq_run.specs.declared.output.Mode.TheVariants.{Deterministic};
+ghost use Rattle.seq_run.specs.Written.{AreSameItems, AreSound, AreWritable, clean_end, deterministic_bytes, found_from, written_bytes};
 
-use cbor_data::preferred_spells;
+use cbor_data::{deterministic_spells, one_item, preferred_spells, same_if_deterministic};
 use cbor_read::{one_fault, some_front};
 use cddl_match::{decided, one_answer};
 
@@ -23,6 +26,19 @@ pub fn written_is_read_back()
         Ends judge l (written_bytes items) (found_from 0 items) (clean_end items) }
 {
     preferred_spells();
+}
+
+/// In [`Mode::Deterministic`](crate::Mode::Deterministic) the deterministic bytes of the items are written, one after the other.
+/// Two lists of sound items have the same such bytes exactly if they are the same, item by item, whatever order the pairs in
+/// them have. It does nothing.
+pub fn same_if_rewritten()
+    ensures written { (number : ℕ) (found : List Found) → items_output Deterministic number found ≡ deterministic_bytes (items_of found) }
+    ensures same { (xs ys : List Value) → AreSound xs → AreSound ys → AreSameItems xs ys → deterministic_bytes xs ≡ deterministic_bytes ys }
+    ensures apart { (xs ys : List Value) → AreSound xs → AreSound ys → deterministic_bytes xs ≡ deterministic_bytes ys → AreSameItems xs ys }
+{
+    same_if_deterministic();
+    deterministic_spells();
+    one_item();
 }
 
 /// A stream has one end, and its run is one list of items. It does nothing.

@@ -12,7 +12,7 @@ mod running;
 mod session;
 
 pub use crate::end::{Cause, End, State, Stopped};
-pub use crate::laws::{decisive_end, one_end, some_end, written_is_read_back};
+pub use crate::laws::{decisive_end, one_end, same_if_rewritten, some_end, written_is_read_back};
 pub use crate::lines::end_line;
 pub use crate::output::Mode;
 pub use crate::pieces::validate_pieces;
