@@ -1,32 +1,45 @@
-# Needs rt (the Rattle toolchain) and python3 on PATH. For what each target shows see README.md.
+# README.md says what to install, what each target shows, and how long it takes.
 
 RT      = rt
 PYTHON  = python3 -B
 PREFIX  = /usr/local
+# The words of 'make try' and 'make edits'.
+ARGS    =
 
 MAKEFLAGS += --no-print-directory
 
-.PHONY: build run test quick edits bench install clean
+.PHONY: run try build test quick edits bench install clean needs needs-cc
 
-# Proves the program and every crate below it, and leaves it at build/cddlseq. 'rt run' is what proves, compiles and
-# links; it also runs the program, here for its help.
-build:
-	cd crates/cddlseq && $(RT) run -- --help > /dev/null
-	install -D -m 755 crates/cddlseq/out/cddlseq build/cddlseq
+# Says what is missing before minutes have passed.
+needs:
+	@for it in $(firstword $(RT)) $(firstword $(PYTHON)); do command -v "$$it" > /dev/null || { echo "$$it is not on PATH: README.md says what to install" >&2; exit 2; }; done
 
-run: build
-	build/cddlseq validate examples/readings.cddl examples/readings.cborseq
+needs-cc:
+	@command -v cc > /dev/null || command -v clang > /dev/null || { echo "there is no C compiler, neither cc nor clang, on PATH: README.md says what to install" >&2; exit 2; }
 
-test:
+# The main job on a shipped example, without proofs.
+run: needs
+	@$(PYTHON) scripts/try.py --rt "$(RT)" validate examples/readings.cddl examples/readings.cborseq
+
+# Any command without proofs: make try ARGS="validate SPEC FILE".
+try: needs
+	@$(PYTHON) scripts/try.py --rt "$(RT)" $(ARGS)
+
+# Proves the program and every crate below it, and leaves it at build/cddlseq.
+build: needs
+	@$(PYTHON) scripts/build.py --rt "$(RT)" cddlseq build/cddlseq
+
+# Every proof and test, and the rows on the built programs.
+test: needs needs-cc
 	@$(PYTHON) tests/gate.py --rt "$(RT)"
 
 # For work in progress: what changed is proved, over what earlier checks kept, and all tests and rows are run.
-quick:
+quick: needs needs-cc
 	@$(PYTHON) tests/gate.py --quick --rt "$(RT)"
 
-# Tries all wrong bodies, those of crates/*/wrong/inner/ too, of which the gate only sees that they apply.
-edits:
-	@$(PYTHON) tests/wrong_edits.py --rt "$(RT)" --inner
+# Tries the wrong bodies of crates/*/wrong; ARGS may have --anew, --inner and names of crates.
+edits: needs
+	@$(PYTHON) tests/edits.py --rt "$(RT)" $(ARGS)
 
 bench: build
 	@$(PYTHON) bench/run.py build/cddlseq

@@ -1,11 +1,11 @@
 #!/usr/bin/env python3
-"""The whole gate: what crates name of one another's proofs, every proof and test from nothing by 'rt ci', then the wrong
-bodies that are tried many in one check, and the rows on the programs that were built.
+"""Every proof, test and row: what crates name of one another's proofs, every proof and test from nothing by 'rt ci', and the
+rows on the programs that were built. The wrong bodies of crates/*/wrong are tried by tests/edits.py.
 
     gate.py [--rt COMMAND] [--quick]
 
 With --quick, for work in progress: what changed is proved over what earlier checks kept, then come the tests and the
-rows; no edit is tried, and no verdict follows from it.
+rows; no verdict follows from it.
 
 After each part comes a line with the processor time that it took, and at the end one for all of them. The last line is
 'N passed, M failed', all counted together. The status is 0 only where all was run and nothing failed.
@@ -14,7 +14,6 @@ import argparse
 import glob
 import os
 import re
-import resource
 import shlex
 import shutil
 import subprocess
@@ -25,14 +24,13 @@ from concurrent.futures import ThreadPoolExecutor
 import random_cuts
 import random_orders
 import recognizer
+from processor_time import time_of_processes, told
 from run_grammar import run_grammar
 from run_memory import run_memory
 from run_rows import TOP, run_rows
 from test_completions import are_completions_right
 from test_imports import are_imports_clean
 from test_man import is_page_right
-from test_wrong_edits import run_tests
-from wrong_edits import run_wrong
 
 PROVED = os.path.join(TOP, "crates", "cddlseq", "out", "cddlseq")
 OUTLINE = os.path.join(TOP, "crates", "cddl_outline", "out", "cddl_outline")
@@ -43,23 +41,9 @@ TESTS = [os.path.join(TOP, "crates", it, "out", f"{it}_tests") for it in ("run_t
 STEPS_AT_ONCE = 3
 # What a check may take, in KiB.
 MEMORY_OF_A_CHECK = 4 << 20
-# Of four side by side on four cores each takes a sixth more.
+# Of four side by side on four cores each takes a sixth more processor time.
 CHECKS_AT_ONCE = 3
 COUNT = re.compile(r"(\d+) passed, (\d+) failed")
-
-
-def time_of_processes():
-    """The processor time, user and system, of all processes that were run so far."""
-    used = resource.getrusage(resource.RUSAGE_CHILDREN)
-    return used.ru_utime + used.ru_stime
-
-
-def told(part, run):
-    """What a part of the gate answers; the processor time that it took is printed."""
-    before = time_of_processes()
-    answer = run()
-    print(f"{part}: {time_of_processes() - before:.0f} processor seconds", flush=True)
-    return answer
 
 
 def checks_at_once():
@@ -128,16 +112,6 @@ def crate_of(program):
     return os.path.dirname(os.path.dirname(program))
 
 
-def wrong_bodies(rt):
-    """Tries crates/*/wrong over the libraries that 'rt ci' proved just now, and returns how many passed and failed."""
-    print("== wrong bodies, many in one check", flush=True)
-    # what 'rt ci' takes from an earlier run is older than the files of this checkout
-    counts = [run_tests(rt), run_wrong(rt, is_built=True)]
-    for name, (passed, failed) in zip(("tests of tests/wrong_edits.py", "wrong bodies"), counts):
-        print(f"{name}: {passed} passed, {failed} failed", flush=True)
-    return sum(it for it, _ in counts), sum(it for _, it in counts)
-
-
 def rows():
     """Runs the rows on the programs that were proved just now, and returns how many passed and failed."""
     os.makedirs(os.path.dirname(PROGRAM), exist_ok=True)
@@ -161,9 +135,9 @@ def rows():
 
 
 def main():
-    words = argparse.ArgumentParser(description="Runs the whole gate.")
+    words = argparse.ArgumentParser(description="Runs every proof, test and row.")
     words.add_argument("--rt", default="rt", help="the command of the Rattle toolchain")
-    words.add_argument("--quick", action="store_true", help="over what earlier checks kept, and without edits")
+    words.add_argument("--quick", action="store_true", help="over what earlier checks kept")
     words, began = words.parse_args(), time.monotonic()
     clean = are_imports_clean()
     print(f"names of other crates' proofs: {'passed' if clean else 'FAILED'}", flush=True)
@@ -173,9 +147,6 @@ def main():
         print("the rows on the built programs are not run: there is no proved program")
         failed = max(failed, 1)
     else:
-        if not words.quick:
-            more, bad = told("wrong bodies, many in one check", lambda: wrong_bodies(words.rt))
-            passed, failed = passed + more, failed + bad
         more, bad = told("rows", rows)
         passed, failed = passed + more, failed + bad
     passed, failed = passed + clean, failed + (not clean)
