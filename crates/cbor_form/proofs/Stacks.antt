@@ -3,7 +3,9 @@ use Rattle.std.proofs.Common.{◌≡◌, ℕ, ◌+◌, List, [], ◌∷◌, ◌+
 use Rattle.std.proofs.lemmas.List.{take_all, take_more, take_more_set}
 use Rattle.std.proofs.Math.ListN.{length-set}
 use Rattle.cbor_machine.specs.Machine as machine
-use Rattle.cbor_form.specs.Stages.{frame_of, stack_onto, stack_of}
+use Rattle.cbor_form.specs.Stages.{frame_of, stack_onto, stack_of, state_of}
+use Rattle.cbor_form.specs.declared.stage.Stage.{Stage}
+use Rattle.cbor_form.specs.declared.stage.Stage.TheVariants as stage
 use Rattle.cbor_form.specs.declared.frame.Frame.{Frame}
 
 stack_onto_last : (K : List machine.Frame) (fs : List Frame) (f : Frame) → stack_onto K (fs ++ f ∷ []) ≡ frame_of f ∷ stack_onto K fs
@@ -34,3 +36,14 @@ stack_replaced fs i f e =
     let len : length (set fs i f) ≡ i + 1 = length-set fs i f ∙ e in
     let all : set fs i f ≡ take i fs ++ f ∷ [] = sym (take_all (i + 1) (set fs i f) (omega arith)) ∙ take_more_set fs i f (omega arith) in
     ap stack_of all ∙ stack_pushed (take i fs) f
+
+-- where an item is awaited, what is open is the stack
+pub item_stack : (s : Stage) (K L : List machine.Frame) → state_of s K ≡ machine.item L → K ≡ L
+item_stack stage.Item K L e = cc
+item_stack (stage.Argument m p) K L e = absurd (cc)
+item_stack (stage.Body n) K L e = absurd (cc)
+item_stack (stage.Chunk m) K L e = absurd (cc)
+item_stack (stage.ChunkArgument m p) K L e = absurd (cc)
+item_stack (stage.ChunkBody m n) K L e = absurd (cc)
+item_stack stage.Simple K L e = absurd (cc)
+item_stack stage.Done K L e = absurd (cc)

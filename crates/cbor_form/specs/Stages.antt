@@ -1,5 +1,5 @@
 -- What a reader's fields say, as a state of the machine.
-use Rattle.std.specs.Prelude.{◌≡◌, ℕ, suc, ◌+◌, ◌*◌, List, [], ◌∷◌, Option, Some, None}
+use Rattle.std.specs.Prelude.{◌≡◌, ℕ, suc, ◌+◌, ◌*◌, List, [], ◌∷◌, Option, Some, None, Bool, true, false}
 use Rattle.cbor_machine.specs.Machine as machine
 use Rattle.cbor_form.specs.declared.argument.Argument.{Argument}
 use Rattle.cbor_form.specs.declared.argument.Argument.TheVariants as arguments
@@ -72,3 +72,8 @@ next_of (Some s) K = Some (state_of s K)
 abbrev pub IsNext : Option machine.State → Option Stage → List machine.Frame → List machine.Frame → Type 0
 IsNext expected None before after = (expected ≡ None) × (after ≡ before)
 IsNext expected (Some s) before after = expected ≡ Some (state_of s after)
+
+-- whether the last item was given, or the state after
+abbrev pub IsGiven : Bool → machine.State → machine.State → Type 0
+IsGiven true given new = given ≡ machine.done
+IsGiven false given new = new ≡ given

@@ -13,4 +13,5 @@ mod reader;
 mod stage;
 mod turn;
 
+pub use frame::Frame;
 pub use reader::{FormReader, Progress};

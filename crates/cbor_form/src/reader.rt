@@ -1,10 +1,11 @@
 // Reads the form of items.
-ghost use Rattle.std.specs.Prelude.{◌≡◌, ◌≢◌, [], IfOk};
+ghost use Rattle.std.specs.Prelude.{◌≡◌, ◌≢◌, List, [], ◌∷◌, IfOk, OnOk};
+ghost use Rattle.cbor_machine.specs.Machine as machine;
 ghost use Rattle.cbor_machine.specs.Machine.{item, done};
 ghost use Rattle.cbor_form.specs.Progress.{IsProgress};
-ghost use Rattle.cbor_form.specs.Stages.{stack_of, state_of, IsAwaiting};
+ghost use Rattle.cbor_form.specs.Stages.{frame_of, stack_of, state_of, IsAwaiting, IsGiven};
 
-use crate::frame::Frame;
+use crate::frame::{Frame, end_item};
 use crate::stage::Stage;
 use crate::turn::{Turn, next_turn};
 use cbor_data::FaultKind;
@@ -54,6 +55,48 @@ impl FormReader {
             stage: Stage::Item,
             frames: Vec::new(alloc),
         }
+    }
+
+    /// Opens a container round the awaited item.
+    ///
+    /// # Errors
+    ///
+    /// [`AllocError`] where an allocation was refused.
+    pub fn open(&mut self, frame: Frame) -> Result<(), AllocError>
+        ensures live { self.old ≢ done }
+        ensures next { self.new ≢ done }
+        ensures opened { OnOk result ((around : List machine.Frame) → self.old ≡ item around → self.new ≡ item (frame_of frame ∷ around)) }
+    {
+        self.frames.push(frame)?;
+        self.stage = Stage::Item;
+        Ok(())
+    }
+
+    /// The awaited item is whole. Answers whether it was the last one.
+    pub fn end_item(&mut self) -> bool
+        ensures live { self.old ≢ done }
+        ensures next { self.new ≢ done }
+        ensures given { (around : List machine.Frame) → self.old ≡ item around → IsGiven result (machine.give around) self.new }
+    {
+        match end_item(&mut self.frames) {
+            Stage::Done => {
+                self.stage = Stage::Item;
+                true
+            }
+            stage => {
+                self.stage = stage;
+                false
+            }
+        }
+    }
+
+    /// The awaited item is a string of this major type in chunks, of which the next one is awaited.
+    pub fn await_chunk(&mut self, major: u8)
+        ensures live { self.old ≢ done }
+        ensures next { self.new ≢ done }
+        ensures chunk { (around : List machine.Frame) → self.old ≡ item around → self.new ≡ machine.chunk major around }
+    {
+        self.stage = Stage::Chunk(major);
     }
 
     /// Takes the next piece, up to the end of the item or to a byte that cannot be where it is, with at most `depth`

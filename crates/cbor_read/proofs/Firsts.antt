@@ -1,7 +1,7 @@
 -- What the first bytes tell of the items that bytes hold.
 use Rattle.std.proofs.Common.{◌≡◌, ◌≢◌, ℕ, ◌+◌, ◌<◌, ◌≤◌, ◌^◌, ◌&&◌, List, [], ◌∷◌, ◌++◌, length, get_or, take, drop, nat_le, Option, Some, None, option_and_then, inl, inr, refl, sym, ap, ◌∙◌, subst, arith, append-nil, length-take}
 use Rattle.std.proofs.lemmas.List.{take-append-drop, drop_more}
-use Rattle.cbor_data.specs.Value.{Value, AreBytes}
+use Rattle.cbor_data.specs.Value.{Value}
 use Rattle.cbor_data.specs.Validity.{IsValid}
 use Rattle.cbor_data.specs.Forms.{Form, flat, HasText, meaning, IsWellFormed, Spells}
 use Rattle.cbor_data.specs.Faults.{Bounds, IsFormFaultAt, malformed, IsWholeFront, IsFaultOf, of_form, of_end, of_text, of_key}
@@ -10,14 +10,18 @@ use Rattle.cbor_data.specs.declared.FaultKind.{FaultKind}
 use Rattle.cbor_data.specs.declared.FaultKind.TheVariants.{BadText, DuplicateKey}
 use Rattle.cbor_data.proofs.Lemmas.{good_text, one_form, unique_front}
 use Rattle.cbor_machine.specs.Machine.{State, item, argument, body, chunk, chunk_argument, chunk_body, simple, done, step, step_in, steps_in, opens_container}
-use Rattle.cbor_machine.specs.Reads.{Reads}
-use Rattle.cbor_machine.proofs.Lemmas.{embedded_read, tested}
-use Rattle.cbor_form.specs.Progress.{IsItemEnd, IsProgress}
-use Rattle.cbor_form.specs.declared.reader.Progress.{Progress}
-use Rattle.cbor_form.specs.declared.reader.Progress.TheVariants.{More, Whole, Refused, TooDeep}
+use Rattle.cbor_machine.specs.Reads.{LeadsWithin, Reads}
+use Rattle.cbor_machine.proofs.Lemmas.{embedded_read, tested, whole}
+use Rattle.cbor_item.specs.declared.item.Item.{Item}
+use Rattle.cbor_build.specs.Building as building
+use Rattle.cbor_build.specs.Working.{IsBuilt, IsTaken}
+use Rattle.cbor_build.specs.declared.work.Step.{Step}
+use Rattle.cbor_build.specs.declared.work.Step.TheVariants as steps
+use Rattle.cbor_build.specs.declared.work.Work.{Work}
+use Rattle.cbor_build.proofs.Lemmas.{builds_leads, notes_leads, built, work_leads}
 use Rattle.cbor_read.specs.Firsts.{BeginsNone, IsFirstItem}
-use Rattle.cbor_read.proofs.Pieces.{bytes-take}
-use Rattle.cbor_read.specs.Outcomes.{IsOutcome, IsOfValue, IsWrong}
+use Rattle.cbor_read.proofs.Valued.{text_told}
+use Rattle.cbor_read.specs.Outcomes.{IsOutcome, IsOfValue, IsValueOf, IsWrong}
 use Rattle.cbor_read.specs.declared.fault.Fault as declared
 use Rattle.cbor_read.specs.declared.value.Outcome.TheVariants as outcome
 
@@ -73,29 +77,23 @@ halted_none : (b : List ℕ) (used : ℕ) (t : State) → used < length b → st
 halted_none b used t within e live none =
     stuck_none b (take used b) (get_or b used 0 ∷ drop (used + 1) b) t (sym (take-append-drop used b) ∙ ap (λ d. take used b ++ d) (drop_more b used 0 within)) e live none
 
--- where the form of the first item does not come to its end, there is none
-pub none_first : (b : List ℕ) (progress : Progress) (t : State) → IsProgress 256 (item []) b progress t → t ≢ done → ((used : ℕ) → progress ≡ Whole used → ⊥) → BeginsNone b
-none_first b More t h live not = stuck_none b b [] t (sym (append-nil b)) h live tt
-none_first b (Whole used) t h live not = absurd (not used refl)
-none_first b (Refused used kind) t h live not = halted_none b used t h.within h.leads live (still_refused 256 t (get_or b used 0) h.refused)
-none_first b (TooDeep used) t h live not = halted_none b used t h.within h.leads live h.stops
-
 -- limits within which bytes of this number are
 abbrev pub enough : ℕ → Bounds
 enough count = record { depth = 256; item_bytes = count }
 
--- what is read of the first item, from a state that awaits one
-pub first_read : (s : State) (b : List ℕ) (used : ℕ) (progress : Progress) (t : State) → s ≡ item [] → progress ≡ Whole used → IsProgress 256 s b progress t → IsItemEnd 256 (item []) b used t
-first_read s b used progress t new is h = subst (λ u. IsItemEnd 256 u b used t) new (subst (λ p. IsProgress 256 s b p t) is h)
+reads_front : (b : List ℕ) (used : ℕ) → length b < 2 ^ 64 → used ≤ length b → LeadsWithin 256 (take used b) done → Reads (enough used) 0 (take used b) done
+reads_front b used few within leads =
+    let len : length (take used b) ≡ used = omega (arith, length-take used b, within) in
+    record { leads = leads; short = omega arith; placed = omega arith }
 
-pub reads_first : (b : List ℕ) (used : ℕ) (t : State) → AreBytes b → length b < 2 ^ 64 → IsItemEnd 256 (item []) b used t → Reads (enough used) 0 (take used b) done
-reads_first b used t bytes few h =
-    let len : length (take used b) ≡ used = omega (arith, length-take used b, h.within) in
-    let within : used ≤ length b = h.within in
-    record { leads = record { are = bytes-take used b bytes; is = h.leads }; short = omega arith; placed = omega arith }
+pub reads_first : (b : List ℕ) (used : ℕ) (x : Value) (s : building.State) (m : State) (noted : Option ℕ) → length b < 2 ^ 64 → IsBuilt 256 0 [] b used x s m noted → Reads (enough used) 0 (take used b) done
+reads_first b used x s m noted few h = reads_front b used few h.within (builds_leads 256 0 (take used b) (building.done x) h.builds)
 
-pub item_first : (b : List ℕ) (used : ℕ) (x : Value) (t : State) → IsItemEnd 256 (item []) b used t → IsOutcome (enough used) 0 (take used b) (outcome.Item x) → IsFirstItem b used x
-item_first b used x t h is = record { some = h.some; within = h.within; item = record { spells = is.spells; valid = is.valid; shallow = is.shallow } }
+pub value_first : (b : List ℕ) (used : ℕ) (x : Value) (s : building.State) (m : State) (noted : Option ℕ) → IsBuilt 256 0 [] b used x s m noted → IsValueOf (take used b) x
+value_first b used x s m noted h = record { means = built 256 0 (take used b) x h.builds }
+
+pub item_first : (b : List ℕ) (used : ℕ) (x : Value) → 0 < used → used ≤ length b → IsOutcome (enough used) 0 (take used b) (outcome.Item x) → IsFirstItem b used x
+item_first b used x some within is = record { some = some; within = within; item = record { spells = is.spells; valid = is.valid; shallow = is.shallow } }
 
 form_fault : (l : Bounds) (o : ℕ) (b : List ℕ) (p : ℕ) (k : FaultKind) → IsFormFaultAt l o b p k → IsOfValue k → ⊥
 form_fault l o b p BadText (malformed within not kind) v = kind
@@ -125,3 +123,13 @@ pub wrong_first : (b : List ℕ) (used : ℕ) (fault : declared.Fault) → IsWel
 wrong_first b used fault w h = λ x front back is e.
     let front_is : take used b ≡ front = (unique_front (take used b) (drop used b) front back w (written e.spells) (take-append-drop used b ∙ is)).0 in
     wrong (enough used) 0 (take used b) fault.kind fault.at x [] (h.told []) h.value (subst (λ c. Embeds c x) (sym front_is) e)
+
+-- where the first item is not built to its end, there is none
+pub none_first : (b : List ℕ) (step : Step) (v : Work) → length b < 2 ^ 64 → IsTaken 256 0 [] b step v → ((used : ℕ) (x : Item) → step ≡ steps.Item used x → ⊥) → BeginsNone b
+none_first b steps.More v few h not = let w = work_leads 256 0 b v h in stuck_none b b [] w.0 (sym (append-nil b)) w.2.is w.1 tt
+none_first b (steps.Item used x) v few h not = absurd (not used x refl)
+none_first b (steps.BadText used place) v few h not =
+    let reads : Reads (enough used) 0 (take used b) done = reads_front b used few h.within (notes_leads 256 0 (take used b) done place h.notes) in
+    wrong_first b used (record { at = place; kind = BadText }) (whole (enough used) 0 (take used b) reads) (text_told (enough used) 0 (take used b) place reads h.notes)
+none_first b (steps.Refused used kind) v few h not = halted_none b used h.state h.within h.leads.is h.live (still_refused 256 h.state (get_or b used 0) h.refused)
+none_first b (steps.TooDeep used) v few h not = halted_none b used h.state h.within h.leads.is h.live h.stops

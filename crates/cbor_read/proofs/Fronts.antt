@@ -1,7 +1,7 @@
 -- What an item that is whole at the front of bytes comes to.
-use Rattle.std.proofs.Common.{◌≡◌, ℕ, ◌+◌, ◌-◌, ◌<◌, ◌≤◌, ◌^◌, min, List, [], ◌++◌, length, take, drop, Option, Some, None, Result, Ok, Err, IfOk, IfSome, nat_le, true, refl, sym, ap, ◌∙◌, subst, arith, append-nil, length-take}
+use Rattle.std.proofs.Common.{◌≡◌, ℕ, ◌+◌, ◌-◌, ◌<◌, ◌≤◌, ◌^◌, min, List, [], ◌++◌, length, take, Option, Some, None, Result, Ok, Err, IfOk, IfSome, nat_le, true, refl, sym, ap, ◌∙◌, subst, arith, append-nil, length-take}
 use Rattle.std.specs.declared.alloc.AllocError.{AllocError}
-use Rattle.std.proofs.lemmas.List.{take-append-drop, take-take}
+use Rattle.std.proofs.lemmas.List.{take-take}
 use Rattle.std.proofs.lemmas.Bool.Decides.{nat_tests}
 use Rattle.cbor_data.specs.Value.{Value, depth_of, AreBytes}
 use Rattle.cbor_data.specs.Forms.{Form, flat, HasText, meaning, Spells}
@@ -13,11 +13,11 @@ use Rattle.cbor_machine.specs.Reads.{LeadsWithin, Reads}
 use Rattle.cbor_machine.proofs.Lemmas.{item_in}
 use Rattle.cbor_whole.specs.Whole.{IsWholeItem}
 use Rattle.cbor_read.specs.Firsts.{IsFirstItem}
-use Rattle.cbor_read.specs.Outcomes.{IsFrontItem, IsSoundButKeys}
+use Rattle.cbor_read.specs.Outcomes.{IsFrontItem, IsSoundButKeys, IsValueOf}
 use Rattle.cbor_read.specs.Turns.{IsWholeTurn}
 use Rattle.cbor_read.proofs.Firsts.{enough}
 use Rattle.cbor_read.proofs.Pieces.{bytes-take}
-use Rattle.cbor_read.proofs.Valued.{IsValueOf, item_read}
+use Rattle.cbor_read.proofs.Valued.{item_read}
 
 pub front_sound : (d : ℕ) (b : List ℕ) (n : ℕ) (x : Value) → d ≤ 256 → length b < 2 ^ 64 → IsWholeItem d b x n → IsSoundButKeys x
 front_sound d b n x few short h =
@@ -43,9 +43,6 @@ front_means x b front back s parts = record {
       (subst HasText same s.text, s.meant ∙ ap meaning same);
 }
 
-pub whole_means : (d : ℕ) (b : List ℕ) (x : Value) (n : ℕ) → IsWholeItem d b x n → IsValueOf b x
-whole_means d b x n h = front_means x b (take n b) (drop n b) h.spells (take-append-drop n b)
-
 pub front_item : (d : ℕ) (b : List ℕ) (n : ℕ) (x y : Value) → AreBytes b → IsWholeItem d b x n → y ≡ x → IsSound x → IsFrontItem d b n y
 front_item d b n x y all h same s = subst (IsFrontItem d b n) (sym same) (record {
   some = h.some;
@@ -55,8 +52,8 @@ front_item d b n x y all h same s = subst (IsFrontItem d b n) (sym same) (record
 })
 
 -- the same, of a piece as far as it has room
-whole_turn : (l : Bounds) (o : ℕ) (bytes piece : List ℕ) (room used : ℕ) (x : Value) → bytes ≡ [] → o < 2 ^ 64 → room ≡ min (l.item_bytes - 0) (2 ^ 64 - 1 - (o + 0)) → IsFrontItem l.depth (take room piece) used x → IsWholeTurn l o bytes piece used x
-whole_turn l o bytes piece room used x first placed r h =
+whole_turn : (l : Bounds) (o count : ℕ) (piece : List ℕ) (room used : ℕ) (x : Value) → count ≡ 0 → o < 2 ^ 64 → room ≡ min (l.item_bytes - 0) (2 ^ 64 - 1 - (o + 0)) → IsFrontItem l.depth (take room piece) used x → IsWholeTurn l o count piece used x
+whole_turn l o count piece room used x first placed r h =
     let len : length (take room piece) ≡ min room (length piece) = length-take room piece in
     let within : used ≤ length (take room piece) = h.within in
     let inside : used ≤ room = omega arith in
@@ -70,12 +67,12 @@ whole_turn l o bytes piece room used x first placed r h =
       read = subst (IsItem l o x) cut (h.comes l o (subst (λ b. Reads l o b done) (sym cut) reads));
     }
 
-pub whole_turns : (l : Bounds) (o : ℕ) (bytes piece : List ℕ) (room d : ℕ) (front : List ℕ) (found : Result (Option (ℕ × Value)) AllocError) → bytes ≡ [] → o < 2 ^ 64 → room ≡ min (l.item_bytes - 0) (2 ^ 64 - 1 - (o + 0)) → d ≡ l.depth → front ≡ take room piece →
-    IfOk found (λ f. IfSome f (λ x. IsFrontItem d front x.0 x.1)) → IfOk found (λ f. IfSome f (λ x. IsWholeTurn l o bytes piece x.0 x.1))
-whole_turns l o bytes piece room d front (Ok (Some x)) first placed r deep is h =
-    whole_turn l o bytes piece room x.0 x.1 first placed r (subst (λ k. IsFrontItem k (take room piece) x.0 x.1) deep (subst (λ b. IsFrontItem d b x.0 x.1) is h))
-whole_turns l o bytes piece room d front (Ok None) first placed r deep is h = tt
-whole_turns l o bytes piece room d front (Err e) first placed r deep is h = tt
+pub whole_turns : (l : Bounds) (o count : ℕ) (piece : List ℕ) (room d : ℕ) (front : List ℕ) (found : Result (Option (ℕ × Value)) AllocError) → count ≡ 0 → o < 2 ^ 64 → room ≡ min (l.item_bytes - 0) (2 ^ 64 - 1 - (o + 0)) → d ≡ l.depth → front ≡ take room piece →
+    IfOk found (λ f. IfSome f (λ x. IsFrontItem d front x.0 x.1)) → IfOk found (λ f. IfSome f (λ x. IsWholeTurn l o count piece x.0 x.1))
+whole_turns l o count piece room d front (Ok (Some x)) first placed r deep is h =
+    whole_turn l o count piece room x.0 x.1 first placed r (subst (λ k. IsFrontItem k (take room piece) x.0 x.1) deep (subst (λ b. IsFrontItem d b x.0 x.1) is h))
+whole_turns l o count piece room d front (Ok None) first placed r deep is h = tt
+whole_turns l o count piece room d front (Err e) first placed r deep is h = tt
 
 -- and of the first of the items that bytes hold
 pub front_first : (b : List ℕ) (n : ℕ) (x : Value) → length b < 2 ^ 64 → IsFrontItem 256 b n x → IsFirstItem b n x

@@ -1,7 +1,6 @@
 -- An unsigned integer of one byte.
 use Rattle.std.proofs.Common.{◌≡◌, ℕ, ◌+◌, ◌*◌, ◌<◌, ◌≤◌, ◌^◌, ◌==◌, List, [], ◌∷◌, length, take, slice_index_or, Option, Some, None, Bool, true, false, is_some, refl, sym, ap, ◌∙◌, subst, arith}
 use Rattle.std.proofs.lemmas.Bool.Decides.{nat_tests}
-use Rattle.std.specs.Global.{Vec}
 use Rattle.cbor_data.specs.Value.{uint}
 use Rattle.cbor_data.specs.Forms.{inside, uint_form, Spells}
 use Rattle.cbor_data.specs.Faults.{Bounds, IsItem}
@@ -20,11 +19,10 @@ first_taken : (piece : List ℕ) → 0 < length piece → take 1 piece ≡ slice
 first_taken [] some = absurd (omega arith)
 first_taken (x ∷ xs) some = refl
 
-pub small_taken : (l : Bounds) (o : ℕ) (fed bytes piece : List ℕ) (stopped : Option Stop) (old : Reading) → reading l o fed stopped ≡ old → stopped ≡ None → bytes ≡ [] → bytes ≡ fed → 0 < length piece →
+pub small_taken : (l : Bounds) (o : ℕ) (fed piece : List ℕ) (stopped : Option Stop) (old : Reading) → reading l o fed stopped ≡ old → stopped ≡ None → fed ≡ [] → 0 < length piece →
     slice_index_or piece 0 0 < 24 → 1 ≤ l.item_bytes → o + 1 < 2 ^ 64 → IsSmallTaken old piece (slice_index_or piece 0 0) (reading l (o + 1) fed stopped)
-small_taken l o fed bytes piece stopped old was live empty same some h few placed =
+small_taken l o fed piece stopped old was live nothing some h few placed =
     let n = slice_index_or piece 0 0 in
-    let nothing : fed ≡ [] = sym same ∙ empty in
     let first = first_taken piece some in
     let old_is : reading l o [] None ≡ old = ap (λ f. reading l o f None) (sym nothing) ∙ (ap (λ (s : Option Stop). reading l o fed s) (sym live) ∙ was) in
     subst (λ r. IsSmallTaken r piece n (reading l (o + 1) fed stopped)) old_is (rw (live, nothing) (record {
@@ -44,12 +42,6 @@ nothing_in (x ∷ xs) h = absurd (omega (arith, h))
 
 zero_is : (n : ℕ) (r : Bool) → r ≡ (n == 0) → r ≡ true → n ≡ 0
 zero_is n r e f = let g : (n == 0) ≡ true = sym e ∙ f in grind (arith, nat_tests)
-
-pub empty_is : {A : Type 0} (v : Vec A) (r : Bool) → r ≡ (v.len == 0) → r ≡ true → v.items ≡ []
-empty_is v r e f = nothing_in v.items (sym v.ok.0 ∙ zero_is v.len r e f)
-
-pub nothing_is : (xs : List ℕ) (r : Bool) → r ≡ (length xs == 0) → r ≡ true → xs ≡ []
-nothing_is xs r e f = nothing_in xs (zero_is (length xs) r e f)
 
 pub some_is : (xs : List ℕ) (r : Bool) → r ≡ (length xs == 0) → r ≡ false → 0 < length xs
 some_is [] r e f = absurd (cc)

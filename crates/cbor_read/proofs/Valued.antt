@@ -1,31 +1,32 @@
 -- What the value of a whole item tells of its bytes.
-use Rattle.std.proofs.Common.{◌≡◌, ℕ, ◌+◌, ◌<◌, ◌≤◌, ◌^◌, List, length, refl, sym, subst}
+use Rattle.std.proofs.Common.{ℕ, ◌+◌, ◌≤◌, List, length, sym, subst, arith}
 use Rattle.cbor_data.specs.Value.{Value, depth_of}
 use Rattle.cbor_data.specs.Validity.{IsFirstRepeatedKey}
 use Rattle.cbor_data.specs.Sound.{IsSound}
-use Rattle.cbor_data.specs.Forms.{Form, flat, IsOk, HasText, meaning, IsWellFormed}
-use Rattle.cbor_data.specs.Faults.{Bounds, IsBadTextAt, IsItem, of_text, of_key}
+use Rattle.cbor_data.specs.Forms.{Form, meaning, IsWellFormed}
+use Rattle.cbor_data.specs.Faults.{Bounds, last_offset, IsItem, of_text, of_key}
 use Rattle.cbor_machine.specs.Machine.{done}
 use Rattle.cbor_machine.specs.Reads.{Reads}
 use Rattle.cbor_machine.proofs.Lemmas.{whole, whole_front}
-use Rattle.cbor_value.specs.Unread.{IsWhole}
-use Rattle.cbor_read.specs.Outcomes.{IsOutcome, IsSettled, IsSoundButKeys, IsWrong}
+use Rattle.cbor_build.specs.Builds.{Notes}
+use Rattle.cbor_build.proofs.Lemmas.{noted}
+use Rattle.cbor_read.specs.Outcomes.{IsOutcome, IsSettled, IsSoundButKeys, IsValueOf, IsWrong}
 use Rattle.cbor_data.specs.declared.FaultKind.TheVariants.{BadText, DuplicateKey}
 use Rattle.cbor_read.specs.declared.value.Outcome.{Outcome}
 use Rattle.cbor_read.specs.declared.value.Outcome.TheVariants as outcome
-use Rattle.cbor_read.proofs.Meanings.{shallow, text_inside}
+use Rattle.cbor_read.proofs.Meanings.{shallow}
 
--- what is known of the value of the bytes b
-pub record IsValueOf (b : List ℕ) (x : Value) : Type 0 where
-  pub means : (f : Form) → IsOk f → b ≡ flat f → HasText f × (x ≡ meaning f)
-
-pub sound_but_keys : (b : List ℕ) (x : Value) → IsWhole 256 b → length b < 2 ^ 64 → IsValueOf b x → IsSoundButKeys x
-sound_but_keys b x w short v =
+pub sound_but_keys : (l : Bounds) (o : ℕ) (b : List ℕ) (x : Value) → Reads l o b done → l.depth ≤ 256 → IsValueOf b x → IsSoundButKeys x
+sound_but_keys l o b x r few v =
+    let w : IsWellFormed b = whole l o b r in
     let f : Form = w.written in
     let m = v.means f w.ok w.is in
+    let deep : depth_of (meaning f) ≤ l.depth = shallow l.depth b f r.leads w.ok w.is in
+    let deeper : depth_of (meaning f) ≤ 256 = omega arith in
+    let placed : o + length b ≤ last_offset = r.placed in
     record {
-      shallow = subst (λ y. depth_of y ≤ 256) (sym m.1) w.shallow;
-      short = record { spelling = b; spells = record { written = f; ok = w.ok; text = m.0; is = w.is; meant = m.1 }; short = short };
+      shallow = subst (λ y. depth_of y ≤ 256) (sym m.1) deeper;
+      short = record { spelling = b; spells = record { written = f; ok = w.ok; text = m.0; is = w.is; meant = m.1 }; short = omega arith };
     }
 
 -- a sound value is the item
@@ -55,13 +56,12 @@ pub settled : (l : Bounds) (o : ℕ) (b : List ℕ) (x : Value) (out : Outcome) 
 settled l o b x (outcome.Item y) r v s = subst (λ z. IsItem l o z b) (sym s.0) (item_read l o b x r v s.1)
 settled l o b x (outcome.Fault fault) r v s = subst (λ k. IsWrong l o b (record { at = fault.at; kind = k })) (sym s.0) (key_told l o b x fault.at r v s.1)
 
-pub text_told : (l : Bounds) (o : ℕ) (b : List ℕ) (i : ℕ) → Reads l o b done → ((f : Form) → IsOk f → b ≡ flat f → IsBadTextAt f i) → IsWrong l o b (record { at = o + i; kind = BadText })
-text_told l o b i r bad =
+-- the place that was noted is told
+pub text_told : (l : Bounds) (o : ℕ) (b : List ℕ) (place : ℕ) → Reads l o b done → Notes l.depth o b done place → IsWrong l o b (record { at = place; kind = BadText })
+text_told l o b place r n =
     let w : IsWellFormed b = whole l o b r in
+    let bad = noted l.depth o b place n w.written w.ok w.is in
     record {
       value = tt;
-      told = λ more. of_text (length b) i w.written (whole_front l o b more r) (bad w.written w.ok w.is) refl;
+      told = λ more. of_text (length b) bad.0 w.written (whole_front l o b more r) bad.2 bad.1;
     }
-
-pub text_placed : (b : List ℕ) (i : ℕ) → IsWhole 256 b → ((f : Form) → IsOk f → b ≡ flat f → IsBadTextAt f i) → i ≤ length b
-text_placed b i w bad = subst (λ c. i ≤ length c) (sym w.is) (text_inside w.written i (bad w.written w.ok w.is))

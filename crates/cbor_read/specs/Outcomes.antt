@@ -3,6 +3,7 @@ use Rattle.std.specs.Prelude.{◌≡◌, ℕ, ◌<◌, ◌≤◌, List, ◌++◌
 use Rattle.cbor_data.specs.Value.{Value, depth_of}
 use Rattle.cbor_data.specs.Validity.{IsFirstRepeatedKey}
 use Rattle.cbor_data.specs.Sound.{IsSound, HasShortSpelling}
+use Rattle.cbor_data.specs.Forms.{Form, flat, IsOk, HasText, meaning}
 use Rattle.cbor_data.specs.Faults.{Bounds, IsItem, IsFaultOf}
 use Rattle.cbor_machine.specs.Machine.{done}
 use Rattle.cbor_machine.specs.Reads.{LeadsWithin, Reads}
@@ -22,6 +23,10 @@ IsOfValue _ = ⊥
 pub record IsWrong (l : Bounds) (o : ℕ) (b : List ℕ) (fault : declared.Fault) : Type 0 where
   pub value : IsOfValue fault.kind
   pub told : (more : List ℕ) → IsFaultOf l o (b ++ more) fault.kind fault.at
+
+-- what is known of the value of the bytes b: each form that prints them has it, and texts that are UTF-8
+pub record IsValueOf (b : List ℕ) (x : Value) : Type 0 where
+  pub means : (f : Form) → IsOk f → b ≡ flat f → HasText f × (x ≡ meaning f)
 
 abbrev pub IsOutcome : Bounds → ℕ → List ℕ → Outcome → Type 0
 IsOutcome l o b (Item x) = IsItem l o x b

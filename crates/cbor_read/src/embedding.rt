@@ -5,8 +5,8 @@ ghost use Rattle.cbor_data.specs.Embedded.{Embeds, EmbedsAll};
 ghost use Rattle.cbor_read.specs.Firsts.{IsFirst};
 
 use crate::limits::MOST_DEPTH;
-use crate::value::{Outcome, front_item, plain_value_of};
-use cbor_form::{FormReader, Progress};
+use crate::value::{Outcome, front_item, sound_of};
+use cbor_build::{Step, Work};
 use cbor_item::Sound;
 use std::alloc::{AllocError, Global};
 
@@ -62,19 +62,19 @@ fn first_item(alloc: Global, bytes: &[u8]) -> Result<Option<(usize, Sound)>, All
 {
     match front_item(alloc, MOST_DEPTH, bytes)? {
         Some(first) => Ok(Some(first)),
-        None => followed_item(alloc, bytes),
+        None => built_item(alloc, bytes),
     }
 }
 
-// The same, by its form.
-fn followed_item(alloc: Global, bytes: &[u8]) -> Result<Option<(usize, Sound)>, AllocError>
+// The same, where one pass says nothing.
+fn built_item(alloc: Global, bytes: &[u8]) -> Result<Option<(usize, Sound)>, AllocError>
     ensures { IfOk result (λ first. IsFirst bytes.now first) }
 {
-    let mut form = FormReader::new(alloc);
-    let Progress::Whole { used } = form.read(MOST_DEPTH, bytes)? else {
+    let mut work = Work::new(alloc);
+    let Step::Item { used, item } = work.take(MOST_DEPTH, 0, bytes)? else {
         return Ok(None);
     };
-    match plain_value_of(alloc, 0, &bytes[..used])? {
+    match sound_of(alloc, item)? {
         Outcome::Item(item) => Ok(Some((used, item))),
         Outcome::Fault(_) => Ok(None),
     }

@@ -1,64 +1,63 @@
-// Follows the form of an item through a piece, within the limits.
-ghost use Rattle.std.specs.Prelude.{◌≡◌, ◌≢◌, ℕ, ◌+◌, ◌-◌, ◌^◌, ◌<◌, ◌≤◌, min, take, IfOk, length};
+// Follows an item through a piece, within the limits.
+ghost use Rattle.std.specs.Prelude.{◌≡◌, ℕ, ◌+◌, ◌-◌, ◌^◌, ◌<◌, ◌≤◌, List, min, take, IfOk, length};
 ghost use Rattle.cbor_data.specs.Faults.{IsFaultOf};
-ghost use Rattle.cbor_machine.specs.Machine.{done};
-ghost use Rattle.cbor_machine.specs.Reads.{Reads};
-ghost use Rattle.cbor_read.specs.Steps.{IsFollowed, IsOpen, IsToldPast};
+ghost use Rattle.cbor_read.specs.Steps.{IsBegun, IsFollowed, IsKept, IsOpen, IsToldPast, kind_past_of};
+ghost use Rattle.cbor_data.specs.declared.FaultKind.TheVariants as kinds;
 ghost use Rattle.cbor_read.specs.declared.follow.Advance.TheVariants as advance;
 
 use crate::fault::Fault;
 use crate::limits::Limits;
+use cbor_build::{Step, Work};
 use cbor_data::FaultKind;
-use cbor_form::{FormReader, Progress};
+use cbor_item::Item;
+use history::History;
 use std::alloc::AllocError;
 
-/// Where the form of an item goes in a piece.
-#[derive(Clone, Copy, Debug)]
+/// Where an item goes in a piece.
+#[derive(Drop)]
 pub enum Advance {
     /// Through the whole piece, and on.
     Open,
     /// To its end, with byte `used`.
-    Whole { used: usize },
-    /// To a byte that is at fault, after `used` others.
+    Whole { used: usize, item: Item },
+    /// To a fault: to its byte, after `used` others, or, where a text is not UTF-8, to the item's end, with byte `used`.
     Fault { used: usize, fault: Fault },
 }
 
-/// Follows the form of the item that began with the bytes `seen` at this offset.
+/// Follows the item that began at this offset, and of which `count` bytes were `fed`, through the piece.
 pub fn follow(
     limits: Limits,
     offset: u64,
-    seen: &[u8],
-    form: &mut FormReader,
+    fed: &History<u8>,
+    count: u64,
+    work: &mut Work,
     piece: &[u8],
 ) -> Result<Advance, AllocError>
-    requires live { form.old ≢ done }
-    requires reads { Reads limits offset seen.now form.old }
-    ensures live { form.new ≢ done }
-    ensures step { IfOk result (λ s. IsFollowed limits offset seen.now piece.now s form.new) }
+    requires { IsKept limits offset fed.now count work.old }
+    ensures { IfOk result (λ advance. IsFollowed limits offset fed.now piece.now advance work.new) }
 {
-    let count = seen.len() as u64;
     let next = offset + count;
     let room = room_of(limits, offset, count);
-    match form.read(limits.depth(), front_of(piece, room))? {
-        Progress::More => {
+    match work.take(limits.depth(), next, front_of(piece, room))? {
+        Step::More => {
             if piece.len() <= room {
                 return Ok(Advance::Open);
             }
-            let kind = kind_past(limits, form, &piece[room..room + 1])?;
+            let kind = kind_past(limits, next + room as u64, work, &piece[room..room + 1])?;
             Ok(fault_at(next, room, kind))
         }
-        Progress::Whole { used } => Ok(Advance::Whole { used }),
-        Progress::Refused { used, kind } => Ok(fault_at(next, used, kind)),
-        Progress::TooDeep { used } => Ok(fault_at(next, used, FaultKind::TooDeep)),
+        Step::Item { used, item } => Ok(Advance::Whole { used, item }),
+        Step::BadText { used, place } => Ok(bad_text_at(used, place)),
+        Step::Refused { used, kind } => Ok(fault_at(next, used, kind)),
+        Step::TooDeep { used } => Ok(fault_at(next, used, FaultKind::TooDeep)),
     }
 }
 
-/// What is told at the end of a stream that ends inside the item of these bytes.
-pub fn fault_at_end(limits: Limits, offset: u64, bytes: &[u8]) -> Fault
-    requires { IsOpen limits offset bytes.now }
-    ensures { IsFaultOf limits offset bytes.now result.kind result.at }
+/// What is told at the end of a stream that ends after so many bytes of an item.
+pub fn fault_at_end(limits: Limits, offset: u64, count: u64) -> Fault
+    requires { offset + count < 2 ^ 64 }
+    ensures { (bytes : List ℕ) → count ≡ length bytes → IsOpen limits offset bytes → IsFaultOf limits offset bytes result.kind result.at }
 {
-    let count = bytes.len() as u64;
     let kind = if count == u64::from(limits.item_bytes()) {
         FaultKind::TooLong
     } else {
@@ -88,16 +87,22 @@ pub fn front_of(piece: &[u8], room: usize) -> &[u8]
 }
 
 // What is wrong with a byte that has no room: what is wrong with its form comes first.
-fn kind_past(limits: Limits, form: &mut FormReader, byte: &[u8]) -> Result<FaultKind, AllocError>
-    requires live { form.old ≢ done }
-    requires one { length byte.now ≡ 1 }
-    ensures live { form.new ≢ done }
-    ensures kind { IfOk result (λ kind. IsToldPast limits form.old byte.now kind) }
+fn kind_past(limits: Limits, at: u64, work: &mut Work, byte: &[u8]) -> Result<FaultKind, AllocError>
+    requires { length byte.now ≡ 1 }
+    ensures { IfOk result (λ kind. (o : ℕ) (b : List ℕ) → at ≡ o + length b → IsBegun limits o b work.old → IsToldPast limits o b byte.now kind) }
 {
-    match form.read(limits.depth(), byte)? {
-        Progress::More | Progress::Whole { .. } => Ok(FaultKind::TooLong),
-        Progress::Refused { kind, .. } => Ok(kind),
-        Progress::TooDeep { .. } => Ok(FaultKind::TooDeep),
+    let step = work.take(limits.depth(), at, byte)?;
+    Ok(kind_of(step))
+}
+
+// The same, by where that byte leads.
+fn kind_of(step: Step) -> FaultKind
+    ensures { result ≡ kind_past_of step }
+{
+    match step {
+        Step::Refused { kind, .. } => kind,
+        Step::TooDeep { .. } => FaultKind::TooDeep,
+        Step::More | Step::Item { .. } | Step::BadText { .. } => FaultKind::TooLong,
     }
 }
 
@@ -107,6 +112,17 @@ fn fault_at(next: u64, used: usize, kind: FaultKind) -> Advance
     ensures { result ≡ advance.Fault used (record { at = next + used; kind = kind }) }
 {
     let at = next + used as u64;
+    Advance::Fault {
+        used,
+        fault: Fault { at, kind },
+    }
+}
+
+// The fault of a text, where the item ends with byte `used`.
+fn bad_text_at(used: usize, at: u64) -> Advance
+    ensures { result ≡ advance.Fault used (record { at = at; kind = kinds.BadText }) }
+{
+    let kind = FaultKind::BadText;
     Advance::Fault {
         used,
         fault: Fault { at, kind },

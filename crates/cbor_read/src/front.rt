@@ -5,9 +5,10 @@ ghost use Rattle.cbor_read.specs.Fronts.{IsFront};
 use crate::fault::Fault;
 use crate::follow::{Advance, fault_at_end, follow};
 use crate::limits::Limits;
-use crate::value::{Outcome, plain_value_of};
-use cbor_form::FormReader;
+use crate::value::{Outcome, sound_of};
+use cbor_build::Work;
 use cbor_item::Sound;
+use history::History;
 use std::alloc::{AllocError, Global};
 
 /// What is at the front of the rest of a stream.
@@ -38,10 +39,10 @@ pub fn read_front(
     if bytes.is_empty() {
         return Ok(Front::Nothing);
     }
-    let mut form = FormReader::new(alloc);
-    match follow(limits, offset, &[], &mut form, bytes)? {
-        Advance::Open => Ok(Front::Fault(fault_at_end(limits, offset, bytes))),
-        Advance::Whole { used } => match plain_value_of(alloc, offset, &bytes[..used])? {
+    let mut work = Work::new(alloc);
+    match follow(limits, offset, &History::new(), 0, &mut work, bytes)? {
+        Advance::Open => Ok(Front::Fault(fault_at_end(limits, offset, bytes.len() as u64))),
+        Advance::Whole { used, item } => match sound_of(alloc, item)? {
             Outcome::Item(item) => Ok(Front::Item { length: used, item }),
             Outcome::Fault(fault) => Ok(Front::Fault(fault)),
         },

@@ -1,19 +1,15 @@
 // Reads items from pieces.
-ghost use Rattle.std.specs.Prelude.{◌≡◌, ◌≢◌, ◌+◌, ◌<◌, ◌^◌, ◌↔◌, [], ◌++◌, length, None, IfNone, IfOk, IfSome, IsSome};
-ghost use Rattle.cbor_data.specs.Faults.{Bounds};
-ghost use Rattle.cbor_machine.specs.Machine.{done};
-ghost use Rattle.cbor_machine.specs.Reads.{Reads};
+ghost use Rattle.std.specs.Prelude.{◌≡◌, ◌↔◌, [], None, IfNone, IfOk, IfSome, IsSome};
 ghost use Rattle.cbor_read.specs.Answers.{IsAgain, IsAnswer, IsEnd, IsSmallNext, IsSmallTaken};
-ghost use Rattle.cbor_read.specs.Outcomes.{IsOutcome};
 ghost use Rattle.cbor_read.specs.Reading.{open_reading};
+ghost use Rattle.cbor_read.specs.Steps.{IsKept};
 ghost use Rattle.cbor_read.specs.Turns.{IsTurn, IsWholeTurn};
-ghost use Rattle.cbor_value.specs.Unread.{IsWhole};
 
 use crate::fault::{Fault, Stop};
 use crate::follow::{Advance, fault_at_end, follow, front_of, room_of};
 use crate::limits::Limits;
-use crate::value::{Outcome, front_item, plain_value_of, value_of};
-use cbor_form::FormReader;
+use crate::value::{Outcome, front_item, sound_of};
+use cbor_build::Work;
 use cbor_item::Sound;
 use history::History;
 use std::alloc::{AllocError, Global};
@@ -34,15 +30,16 @@ pub enum Fed {
 /// Reads the items of a stream, one after the other, from pieces of any size.
 ///
 /// Contracts see its limits, the offset of the item's first byte, the bytes used since, and why it has stopped, if it
-/// has. It keeps one copy of the item's bytes at most, and takes room for 32 members at most of a list whose length is only
-/// declared.
+/// has. Of an item that a piece does not end it keeps the open containers with their members so far, and the head or the
+/// string in work: at most as many containers as the limits allow, with no more places and bytes of strings than the item
+/// has bytes so far. It keeps no copy of the bytes.
 #[derive(Drop)]
 pub struct ItemReader {
     alloc: Global,
     limits: Limits,
     offset: u64,
-    form: FormReader,
-    bytes: Vec<u8>,
+    count: u64,
+    work: Work,
     stopped: Option<Stop>,
     fed: History<u8>,
 }
@@ -50,13 +47,13 @@ pub struct ItemReader {
 impl Model for ItemReader {
     ghost use Rattle.std.specs.Prelude.{◌≡◌, None};
     ghost use Rattle.cbor_read.specs.Reading.{Reading};
-    ghost use Rattle.cbor_read.specs.Turns.{IsKept};
+    ghost use Rattle.cbor_read.specs.Steps.{IsKept};
 
     ghost Value = { Reading };
 
     ghost view = { λ r. record { limits = r.limits; offset = r.offset; fed = r.fed; stopped = r.stopped } };
 
-    ghost invariant = { λ r. r.stopped ≡ None → IsKept r.limits r.offset r.fed r.bytes.items r.form };
+    ghost invariant = { λ r. r.stopped ≡ None → IsKept r.limits r.offset r.fed r.count r.work };
 }
 
 impl ItemReader {
@@ -68,8 +65,8 @@ impl ItemReader {
             alloc,
             limits,
             offset: 0,
-            form: FormReader::new(alloc),
-            bytes: Vec::new(alloc),
+            count: 0,
+            work: Work::new(alloc),
             stopped: None,
             fed: History::new(),
         }
@@ -87,7 +84,7 @@ impl ItemReader {
         if let Some(stop) = self.stopped {
             return answer_again(stop);
         }
-        match take_whole(self.alloc, self.limits, self.offset, &self.bytes, piece) {
+        match take_whole(self.alloc, self.limits, self.offset, self.count, piece) {
             Ok(Some((used, item))) => {
                 self.offset += used as u64;
                 Ok(Fed::Item { used, item })
@@ -100,29 +97,30 @@ impl ItemReader {
         }
     }
 
-    // The same of a reader that has not stopped, by the item's form.
+    // The same of a reader that has not stopped: the item is built.
     fn feed_on(&mut self, piece: &[u8]) -> Result<Fed, AllocError>
         requires { self.old.stopped ≡ None }
         ensures { IsAnswer self.old.stopped self.old piece.now result self.new }
     {
         self.stopped = Some(Stop::Memory);
-        let before = self.bytes.len();
         match take_turn(
             self.alloc,
             self.limits,
             self.offset,
-            &mut self.form,
-            &mut self.bytes,
+            &self.fed,
+            self.count,
+            &mut self.work,
             piece,
         )? {
             Fed::More => {
+                self.count += piece.len() as u64;
                 self.fed.extend(piece);
                 self.stopped = None;
                 Ok(Fed::More)
             }
             Fed::Item { used, item } => {
-                self.offset += (before + used) as u64;
-                self.bytes.clear();
+                self.offset += self.count + used as u64;
+                self.count = 0;
                 self.fed.clear();
                 self.stopped = None;
                 Ok(Fed::Item { used, item })
@@ -144,7 +142,7 @@ impl ItemReader {
         ensures taken { IfSome result (λ n. IsSmallTaken self.old piece.now n self.new) }
         ensures kept { IfNone result (self.new ≡ self.old) }
     {
-        if self.stopped.is_some() || !self.bytes.is_empty() || self.offset == u64::MAX {
+        if self.stopped.is_some() || self.count != 0 || self.offset == u64::MAX {
             return None;
         }
         if piece.is_empty() || piece[0] >= 24 {
@@ -166,10 +164,10 @@ impl ItemReader {
         if let Some(stop) = self.stopped {
             return Err(stop);
         }
-        if self.bytes.is_empty() {
+        if self.count == 0 {
             return Ok(());
         }
-        Err(Stop::Fault(fault_at_end(self.limits, self.offset, &self.bytes)))
+        Err(Stop::Fault(fault_at_end(self.limits, self.offset, self.count)))
     }
 }
 
@@ -183,25 +181,22 @@ fn answer_again(stop: Stop) -> Result<Fed, AllocError>
     }
 }
 
-// Reads on by the item's form. Where the item goes on, the piece is added to its bytes.
+// Builds the item on. Where it goes on, the reader has to note the piece.
 fn take_turn(
     alloc: Global,
     limits: Limits,
     offset: u64,
-    form: &mut FormReader,
-    bytes: &mut Vec<u8>,
+    fed: &History<u8>,
+    count: u64,
+    work: &mut Work,
     piece: &[u8],
 ) -> Result<Fed, AllocError>
-    requires live { form.old ≢ done }
-    requires reads { Reads limits offset bytes.old.items form.old }
-    ensures { IfOk result (λ fed. IsTurn (open_reading limits offset bytes.old.items) piece.now fed bytes.new.items form.new) }
+    requires { IsKept limits offset fed.now count work.old }
+    ensures { IfOk result (λ turn. IsTurn (open_reading limits offset fed.now) piece.now turn work.new) }
 {
-    match follow(limits, offset, bytes, form, piece)? {
-        Advance::Open => {
-            bytes.extend_from_slice(piece)?;
-            Ok(Fed::More)
-        }
-        Advance::Whole { used } => match joined_value(alloc, offset, bytes, &piece[..used])? {
+    match follow(limits, offset, fed, count, work, piece)? {
+        Advance::Open => Ok(Fed::More),
+        Advance::Whole { used, item } => match sound_of(alloc, item)? {
             Outcome::Item(item) => Ok(Fed::Item { used, item }),
             Outcome::Fault(fault) => Ok(Fed::Fault { used, fault }),
         },
@@ -215,33 +210,14 @@ fn take_whole(
     alloc: Global,
     limits: Limits,
     offset: u64,
-    bytes: &[u8],
+    count: u64,
     piece: &[u8],
 ) -> Result<Option<(usize, Sound)>, AllocError>
-    ensures { IfOk result (λ found. IfSome found (λ taken. IsWholeTurn limits offset bytes.now piece.now taken.0 taken.1)) }
+    ensures { IfOk result (λ found. IfSome found (λ taken. IsWholeTurn limits offset count piece.now taken.0 taken.1)) }
 {
-    if !bytes.is_empty() {
+    if count != 0 {
         return Ok(None);
     }
     let front = front_of(piece, room_of(limits, offset, 0));
     front_item(alloc, limits.depth(), front)
-}
-
-// Reads the value of the item that ends with these bytes, after the others that it has. Where they are all of it they were
-// tried in one pass, and are not copied.
-fn joined_value(
-    alloc: Global,
-    offset: u64,
-    bytes: &mut Vec<u8>,
-    end: &[u8],
-) -> Result<Outcome, AllocError>
-    requires whole { IsWhole 256 (bytes.old.items ++ end.now) }
-    requires placed { offset + length (bytes.old.items ++ end.now) < 2 ^ 64 }
-    ensures { IfOk result (λ outcome. (limits : Bounds) → Reads limits offset (bytes.old.items ++ end.now) done → IsOutcome limits offset (bytes.old.items ++ end.now) outcome) }
-{
-    if bytes.is_empty() {
-        return plain_value_of(alloc, offset, end);
-    }
-    bytes.extend_from_slice(end)?;
-    value_of(alloc, offset, bytes)
 }

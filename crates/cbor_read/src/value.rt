@@ -1,17 +1,11 @@
 // The value of a whole item.
-ghost use Rattle.std.specs.Prelude.{◌+◌, ◌^◌, ◌<◌, ◌≤◌, length, IfOk, IfSome};
-ghost use Rattle.cbor_data.specs.Faults.{Bounds};
-ghost use Rattle.cbor_machine.specs.Machine.{done};
-ghost use Rattle.cbor_machine.specs.Reads.{Reads};
+ghost use Rattle.std.specs.Prelude.{◌≤◌, IfOk, IfSome};
 ghost use Rattle.cbor_item.specs.View.{view};
-ghost use Rattle.cbor_value.specs.Unread.{IsWhole};
-ghost use Rattle.cbor_read.specs.Outcomes.{IsFrontItem, IsOutcome, IsSettled, IsSoundButKeys};
+ghost use Rattle.cbor_read.specs.Outcomes.{IsFrontItem, IsSettled, IsSoundButKeys};
 
 use crate::fault::Fault;
-use crate::limits::MOST_DEPTH;
 use cbor_data::FaultKind;
 use cbor_item::{Item, Sound, Unsound};
-use cbor_value::{Unread, read_value};
 use cbor_whole::whole_item;
 use std::alloc::{AllocError, Global};
 
@@ -22,37 +16,8 @@ pub enum Outcome {
     Fault(Fault),
 }
 
-/// Reads the value of the whole item that is at this offset, which is at most 256 containers deep: in one pass, or by its
-/// form where that says nothing.
-pub fn value_of(alloc: Global, offset: u64, bytes: &[u8]) -> Result<Outcome, AllocError>
-    requires whole { IsWhole 256 bytes.now }
-    requires placed { offset + length bytes.now < 2 ^ 64 }
-    ensures { IfOk result (λ outcome. (limits : Bounds) → Reads limits offset bytes.now done → IsOutcome limits offset bytes.now outcome) }
-{
-    match whole_item(alloc, bytes, MOST_DEPTH)? {
-        Some((item, _)) => sound_of(alloc, item),
-        None => plain_value_of(alloc, offset, bytes),
-    }
-}
-
-/// The same by its form alone, which tells where a text is that is not UTF-8.
-pub fn plain_value_of(alloc: Global, offset: u64, bytes: &[u8]) -> Result<Outcome, AllocError>
-    requires whole { IsWhole 256 bytes.now }
-    requires placed { offset + length bytes.now < 2 ^ 64 }
-    ensures { IfOk result (λ outcome. (limits : Bounds) → Reads limits offset bytes.now done → IsOutcome limits offset bytes.now outcome) }
-{
-    match read_value(alloc, bytes) {
-        Ok(item) => sound_of(alloc, item),
-        Err(Unread::BadText(place)) => Ok(Outcome::Fault(Fault {
-            at: offset + place as u64,
-            kind: FaultKind::BadText,
-        })),
-        Err(Unread::Memory) => Err(AllocError),
-    }
-}
-
 /// The item at the front of `bytes`, after how many bytes it has, in one pass. `None` says nothing, and is also the answer
-/// where a key is repeated: then the item's form has to be followed.
+/// where a key is repeated: then the item has to be built.
 #[inline]
 pub fn front_item(
     alloc: Global,
@@ -72,8 +37,8 @@ pub fn front_item(
     }
 }
 
-// The item as a sound one, if it repeats no key.
-fn sound_of(alloc: Global, item: Item) -> Result<Outcome, AllocError>
+/// The item as a sound one, if it repeats no key.
+pub fn sound_of(alloc: Global, item: Item) -> Result<Outcome, AllocError>
     requires { IsSoundButKeys (view item) }
     ensures { IfOk result (IsSettled (view item)) }
 {

@@ -16,6 +16,4 @@ mod read;
 #[cfg(test)]
 mod rows;
 #[cfg(test)]
-mod value;
-#[cfg(test)]
 mod whole;

@@ -1,6 +1,5 @@
 // What is read of whole streams, by pieces and by the plain reader.
-use crate::rows::{byte_by_byte, bytes_of, expect_text, told_of};
-use crate::value::nested_arrays;
+use crate::rows::{byte_by_byte, bytes_of, expect_text, nested_arrays, told_of};
 use cbor_item::{Sound, diag};
 use cbor_read::{Fault, FaultKind, Fed, Front, ItemReader, Limits, Stop, read_front};
 use std::alloc::{AllocError, Global};
@@ -73,7 +72,22 @@ f818|BadSimple at 1
 fc|ReservedInfo at 0
 ff|BadBreak at 0
 f93c00fa47c35000|0: f16'3c00'; 3: f32'47c35000'; clean at 8
-fb3ff199999999999a|0: f64'3ff199999999999a'; clean at 9";
+fb3ff199999999999a|0: f64'3ff199999999999a'; clean at 9
+0017186418001903e81a000f42401b000000e8d4a510001bffffffffffffffff293903e7|0: 0; 1: 23; 2: 100; 4: 0; 6: 1000; 9: 1000000; 14: 1000000000000; 23: 18446744073709551615; 32: -10; 33: -1000; clean at 36
+4044010203045801aa606449455446790002c3bc|0: h''; 1: h'01020304'; 6: h'aa'; 9: \"\"; 10: \"IETF\"; 15: \"\u{fc}\"; clean at 20
+5f420102405803030405ff7f657374726561646d696e67ff5fff7fff|0: h'0102030405'; 11: \"streaming\"; 24: h''; 26: \"\"; clean at 28
+80830102039fff9f018202039f0405ffff98019fffc11a514b67b0d818456449455446|0: []; 1: [1, 2, 3]; 5: []; 7: [1, [2, 3], [4, 5]]; 17: [[]]; 21: 1(1363896240); 27: 24(h'6449455446'); clean at 35
+a0a201020304bfffbf61610161629f0203ffffbf6346756ef563416d7421ff|0: {}; 1: {1: 2, 3: 4}; 6: {}; 8: {\"a\": 1, \"b\": [2, 3]}; 19: {\"Fun\": true, \"Amt\": -2}; clean at 31
+7f61c361a9ff|BadText at 1
+7f616161ffff|BadText at 3
+bf0061ffff|BadText at 2
+d900079f616178018061ffff|BadText at 6
+8261ff7f61ff1c|BadChunk at 6
+8361ff61ff61ff|BadText at 1
+8261617f6161616262c328ff|BadText at 8
+bf9f0102ff81030481f6ff|0: {[1, 2]: [3], 4: [null]}; clean at 11
+8282010281038203820405|0: [[1, 2], [3]]; 6: [3, [4, 5]]; clean at 11
+bf5f4101ff7f6161ff7f61ffff00ff|BadText at 10";
 
 // Limits, and streams at them.
 static LIMITED: [(u32, u32, &str); 6] = [
@@ -356,6 +370,38 @@ fn make_stream(alloc: Global, length: u32, state: &mut u64) -> Result<Vec<u8>, A
     Ok(stream)
 }
 
+// The stream in pieces of up to seven bytes, some of them empty.
+fn cut_anywhere<'b>(
+    alloc: Global,
+    stream: &'b [u8],
+    state: &mut u64,
+) -> Result<Vec<&'b [u8]>, AllocError> {
+    let mut pieces: Vec<&'b [u8]> = Vec::new(alloc);
+    let mut rest = stream;
+    for _ in 0..2 * stream.len() {
+        let (piece, back) = rest.split_at((draw(state) % 8).min(rest.len()));
+        pieces.push(piece)?;
+        rest = back;
+    }
+    pieces.push(rest)?;
+    Ok(pieces)
+}
+
+// Streams that are longer, so that containers go over several pieces.
+#[test]
+fn reads_streams_cut_anywhere_as_the_plain_reader_does(rt: HostRuntime) -> Result<(), Fail> {
+    let alloc = rt.alloc();
+    let mut state = 7u64;
+    let limits = limits_of(&rt, 8, 64);
+    for round in 0..400u32 {
+        let stream = make_stream(alloc, round % 97, &mut state)?;
+        let wanted = by_fronts(alloc, limits, &stream)?;
+        let pieces = cut_anywhere(alloc, &stream, &mut state)?;
+        expect_log(&rt, alloc, limits, &pieces, &wanted)?;
+    }
+    Ok(())
+}
+
 #[test]
 fn reads_made_up_streams_as_the_plain_reader_does(rt: HostRuntime) -> Result<(), Fail> {
     let mut state = 1u64;
@@ -515,16 +561,16 @@ fn count_items(
     Ok(items)
 }
 
-// Run with each allocation refused in turn (`rt try --test --fail-alloc N`), it finds no third answer, and a reader that
-// had no memory answers so for good.
+// Run with each request for memory refused in turn (`tests/run_memory.py`), it finds no third answer, and a reader that had
+// no memory answers so for good.
 #[test]
-fn stops_for_good_without_memory(rt: HostRuntime) {
+fn reads_cut_items_or_wants_memory(rt: HostRuntime) {
     let mut reader = ItemReader::new(rt.alloc(), limits_of(&rt, 64, 100));
     let pieces: [&[u8]; 4] = [
         b"\x82\x41\x01",
         b"\xf4\x5f\x42",
-        b"\x01\x02\xff\x9f\x01\xbf\x02",
-        b"\x03\xff\x04\xff",
+        b"\x01\x02\xff\x9f\xc1\x01\xbf\x61",
+        b"\x61\x7f\x61\x62\xff\xff\x04\xff",
     ];
     match count_items(&rt, rt.alloc(), &mut reader, &pieces) {
         Ok(items) => {
@@ -537,6 +583,25 @@ fn stops_for_good_without_memory(rt: HostRuntime) {
             assert!(rt; reader.at_end() == Err(Stop::Memory));
         }
     }
+}
+
+// The same of an item whose first text is not UTF-8, so that its form alone is followed.
+#[test]
+fn tells_bad_text_or_wants_memory(rt: HostRuntime) {
+    let mut reader = ItemReader::new(rt.alloc(), limits_of(&rt, 64, 100));
+    let told = Fault {
+        at: 4,
+        kind: FaultKind::BadText,
+    };
+    let pieces: [&[u8]; 3] = [b"\x82\x82\x01", b"\xa1\x61\xff\x9f", b"\x81\x61\x62"];
+    for piece in pieces {
+        if step_of(rt.alloc(), &mut reader, piece).is_err() {
+            assert!(rt; reader.at_end() == Err(Stop::Memory));
+            return;
+        }
+    }
+    let step = step_of(rt.alloc(), &mut reader, b"\xff\x00");
+    assert!(rt; step == Ok(FeedAnswer::Fault(2, told)) || reader.at_end() == Err(Stop::Memory));
 }
 
 // Each as the next item is: taken at once, inside another item, of more bytes, and behind a fault.

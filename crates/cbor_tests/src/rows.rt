@@ -67,3 +67,10 @@ pub(crate) fn item_of_row(
     let bytes = bytes_of(rt, alloc, row)?;
     item_of_bytes(rt, alloc, &bytes)
 }
+
+// An array in an array and so on, so many levels, round 0.
+pub(crate) fn nested_arrays(alloc: Global, levels: usize) -> Result<Vec<u8>, AllocError> {
+    let mut bytes = vec![in alloc; 0x81u8; levels]?;
+    bytes.push(0)?;
+    Ok(bytes)
+}

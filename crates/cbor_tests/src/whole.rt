@@ -1,7 +1,6 @@
 // Items that are whole in their bytes: the one at the front, in one pass, and those that bytes hold that are to be items
 // again.
-use crate::rows::{bytes_of, expect_text, told_of};
-use crate::value::nested_arrays;
+use crate::rows::{bytes_of, expect_text, nested_arrays, told_of};
 use cbor_item::{Sound, diag};
 use cbor_read::{Front, Limits, embedded, embedded_item, read_front};
 use cbor_whole::whole_item;

@@ -7,4 +7,6 @@ mod item;
 mod leaf;
 mod list;
 
+pub use crate::argument::argument_at;
 pub use crate::item::whole_item;
+pub use crate::list::{make_room, trimmed};

@@ -1,0 +1,12 @@
+mod Forms
+mod Forward
+mod Texts
+mod Counts
+mod Builds
+mod Containers
+mod Stacks
+mod Runs
+mod Holding
+mod WholeHeads
+mod Steps
+pub mod Lemmas

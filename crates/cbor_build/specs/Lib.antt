@@ -1,0 +1,12 @@
+pub mod Building
+pub mod Texts
+pub mod Counts
+pub mod Builds
+pub mod Limits
+pub mod Arguments
+pub mod Stages
+pub mod Noted
+pub mod Turns
+pub mod Progress
+pub mod Props
+pub mod Working

@@ -1,4 +1,0 @@
-pub mod Unread
-pub mod Heads
-pub mod Strings
-pub mod Items
