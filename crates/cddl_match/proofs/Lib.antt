@@ -10,3 +10,7 @@ mod Outcomes
 mod Sayings
 mod Handing
 mod Tellings
+mod Open
+mod Running
+mod Needs
+mod Machines

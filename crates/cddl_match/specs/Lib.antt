@@ -3,3 +3,6 @@ pub mod Unwinding
 pub mod Ahead
 pub mod Within
 pub mod Tellings
+pub mod Open
+pub mod Machine
+pub mod Progress

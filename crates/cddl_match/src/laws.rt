@@ -1,11 +1,14 @@
 //! What a table says of an item.
 
-ghost use Rattle.std.specs.Prelude.{◌≡◌, ◌+◌, ◌<◌, ◌^◌, ℕ};
+ghost use Rattle.std.specs.Prelude.{◌≡◌, ◌+◌, ◌*◌, ◌<◌, ◌≤◌, ◌^◌, ℕ, []};
 ghost use Rattle.cbor_data.specs.Value.{Value, place_count};
 ghost use Rattle.cddl_meaning.specs.Size.{size};
 ghost use Rattle.cddl_meaning.specs.Forms.{Language, Node};
 ghost use Rattle.cddl_meaning.specs.Judges.{Answer, Says};
 ghost use Rattle.cddl_ranks.specs.Decided.{IsDecided};
+ghost use Rattle.cddl_match.specs.Machine.{IsVerdict};
+ghost use Rattle.cddl_match.specs.Progress.{GoesOnFor, Progress};
+ghost use Rattle.cddl_match.specs.declared.answers.Verdict.{Verdict};
 ghost use Rattle.cddl_table.specs.Language.{RootSays, language_of, root_form};
 ghost use Rattle.cddl_table.specs.declared.nodes.GroupId.{GroupId};
 ghost use Rattle.cddl_table.specs.declared.nodes.TypeId.{TypeId};
@@ -26,4 +29,16 @@ pub fn decided()
 /// Where a table says no of an item, that shows at a place in it. It does nothing.
 pub fn shows_inside()
     ensures { (table : Table) (x : Value) (place w : ℕ) → RootSays table x (Answer.No place) w → place < place_count x }
+{}
+
+/// A table and a number of steps allow one verdict at most of an item whose size is below 2^64: so `verdict` answers what the
+/// turns of a machine answer, where neither wants memory. It does nothing.
+pub fn one_verdict()
+    ensures { (table : Table) (x : Value) (steps : ℕ) (u v : Verdict) → size x < 2 ^ 64 → IsVerdict table x steps u → IsVerdict table x steps v → v ≡ u }
+{}
+
+/// Of a new machine twice as many turns go on as it may take steps, at most: so the next turn after so many answers, or wants
+/// memory. It does nothing.
+pub fn turns_are_few()
+    ensures { (n : ℕ) (m k : Progress) → m.taken ≡ 0 → m.asked ≡ [] → GoesOnFor n m k → n ≤ 2 * m.steps }
 {}

@@ -12,9 +12,10 @@ const MOST_CHUNKS: usize = 48;
 /// Cells that are filled one by one. None moves, so an item stays where it is.
 type Chunk = Vec<OnceBox<Item>>;
 
-/// The chunks of cells. They are made when they are needed: where no byte string is read, there are none.
+/// Where a machine keeps what byte strings hold, one cell for each that was read. Their memory is asked for when it is needed:
+/// where no byte string is read, they take none.
 #[derive(Drop)]
-pub(crate) struct Cells {
+pub struct Cells {
     chunks: OnceBox<Vec<OnceBox<Chunk>>>,
 }
 
@@ -28,7 +29,7 @@ pub(crate) struct Shelf<'i> {
 
 impl Cells {
     /// No cell is filled yet.
-    pub(crate) fn new(alloc: Global) -> Cells {
+    pub fn new(alloc: Global) -> Cells {
         Cells {
             chunks: OnceBox::new(alloc),
         }

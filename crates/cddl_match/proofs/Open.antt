@@ -1,0 +1,62 @@
+-- Lists of open questions: each turn keeps one, and none is long.
+use Rattle.std.proofs.Common.{◌≡◌, ℕ, List, ◌∷◌, length, refl, arith}
+use Rattle.cbor_data.specs.Value.{Value}
+use Rattle.cddl_meaning.specs.Forms.{Content, Language}
+use Rattle.cddl_meaning.specs.Held.{Holds}
+use Rattle.cddl_meaning.specs.Judges.{Reply, Fails}
+use Rattle.cddl_meaning.specs.Moves.{Question, OfType, Pending, InRef, InHeld, Sorting, Move, Answered, Asks, Tries, Reads, Replies, LeadsTo, first_move, next_move, next_entry}
+use Rattle.cddl_meaning.specs.Moves as M
+use Rattle.cddl_ranks.specs.Reached as R
+use Rattle.cddl_ranks.specs.Reached.{IsReached}
+use Rattle.cddl_match.specs.Open.{ComesUpTo, begins, goes_on, tries, reads, reads_nothing, AreOpenWith, nothing, further}
+
+module _ {N G : Type 0} (l : Language N G) where
+  -- what a move comes to by itself is reached
+  ends_reached : {first : Question N G} {m : Move N G} {r : Reply} {w : ℕ} → LeadsTo l m r w → (os : List (Pending N G)) → IsReached l first os m → IsReached l first os (Answered r)
+  ends_reached M.at_once os h = h
+  ends_reached (M.after {o = o} (M.replies d) e) os h = ends_reached e os (R.answered (ends_reached d (o ∷ os) (R.asked h)))
+  ends_reached (M.tries e) os h = ends_reached e os (R.tried h)
+  ends_reached (M.reads k e) os h = ends_reached e os (R.read k h)
+  ends_reached (M.reads_nothing k) os h = R.read_nothing k h
+
+  comes_reached : {first q : Question N G} {o : Pending N G} {os : List (Pending N G)} {m : Move N G} → IsReached l first os (Asks q o) → ComesUpTo l q m → IsReached l first (o ∷ os) m
+  comes_reached h begins = R.asked h
+  comes_reached h (goes_on c (M.replies d)) = R.answered (ends_reached d _ (R.asked (comes_reached h c)))
+  comes_reached h (tries c) = R.tried (comes_reached h c)
+  comes_reached h (reads k c) = R.read k (comes_reached h c)
+  comes_reached h (reads_nothing k c) = R.read_nothing k (comes_reached h c)
+
+  pub open_reached : {first : Question N G} {qs : List (Question N G)} {os : List (Pending N G)} {m : Move N G} → AreOpenWith l first qs os m → IsReached l first os m
+  open_reached nothing = R.begun
+  open_reached (further h c) = comes_reached (open_reached h) c
+
+  pub as_many : {first : Question N G} {qs : List (Question N G)} {os : List (Pending N G)} {m : Move N G} → AreOpenWith l first qs os m → length os ≡ length qs
+  as_many nothing = refl
+  as_many (further h c) = omega (arith, as_many h)
+
+  -- What a question comes to and leads to is its reply.
+  pub comes_replies : {q : Question N G} {m : Move N G} {r : Reply} {u : ℕ} → ComesUpTo l q m → LeadsTo l m r u → (w : ℕ) × Replies l q r w
+  comes_replies begins d = (_, M.replies d)
+  comes_replies (goes_on c e) d = comes_replies c (M.after e d)
+  comes_replies (tries c) d = comes_replies c (M.tries d)
+  comes_replies (reads k c) d = comes_replies c (M.reads k d)
+  comes_replies (reads_nothing k c) M.at_once = comes_replies c (M.reads_nothing k)
+
+  -- a question is asked
+  pub open_asked : {first q : Question N G} {qs : List (Question N G)} {o : Pending N G} {os : List (Pending N G)} → AreOpenWith l first qs os (Asks q o) → AreOpenWith l first (q ∷ qs) (o ∷ os) (first_move l q)
+  open_asked h = further h begins
+
+  -- the last question is answered, and there is one below it
+  pub open_answered : {first p q : Question N G} {qs : List (Question N G)} {o : Pending N G} {os : List (Pending N G)} {r : Reply} → AreOpenWith l first (q ∷ p ∷ qs) (o ∷ os) (Answered r) → AreOpenWith l first (p ∷ qs) os (next_move o r)
+  open_answered (further (further h d) c) = further h (goes_on d (comes_replies c M.at_once).1)
+
+  -- a pair is tried
+  pub open_tried : {first : Question N G} {qs : List (Question N G)} {os : List (Pending N G)} {s : Sorting N} → AreOpenWith l first qs os (Tries s) → AreOpenWith l first qs os (next_entry s.entries s)
+  open_tried (further h c) = further h (tries c)
+
+  -- a byte string is read
+  pub open_read : {first : Question N G} {qs : List (Question N G)} {os : List (Pending N G)} {c : Content} {b : List ℕ} {n : N} {p next : ℕ} {y : Value} → Holds c b y → AreOpenWith l first qs os (Reads c b n p next) → AreOpenWith l first qs os (Asks (OfType n 0 y) (InHeld p next))
+  open_read k (further h c) = further h (reads k c)
+
+  pub open_unread : {first : Question N G} {qs : List (Question N G)} {os : List (Pending N G)} {c : Content} {b : List ℕ} {n : N} {p next : ℕ} → ((y : Value) → Holds c b y → ⊥) → AreOpenWith l first qs os (Reads c b n p next) → AreOpenWith l first qs os (Answered (Fails p))
+  open_unread k (further h c) = further h (reads_nothing k c)

@@ -1,0 +1,192 @@
+-- What each turn keeps.
+use Rattle.std.proofs.Common.{◌≡◌, ℕ, suc, ◌+◌, ◌-◌, ◌<◌, ◌≤◌, List, [], ◌∷◌, ◌++◌, inl, inr, length, reverse, refl, ap, subst, ◌∙◌, arith}
+use Rattle.std.specs.Prelude.{Option, Some, None, Result, Ok, Err, IfOk, IfSome}
+use Rattle.std.proofs.lemmas.List.{length-append, length-map, length-reverse, map-append, reverse-append}
+use Rattle.cbor_data.specs.Value.{Value}
+use Rattle.cddl_meaning.specs.Forms.{Content, Language}
+use Rattle.cddl_meaning.specs.Held.{Holds}
+use Rattle.cddl_meaning.specs.Judges.{Reply, Fails}
+use Rattle.cddl_meaning.specs.Moves.{Question, OfType, Pending, InRef, InHeld, Sorting, Move, Answered, Asks, Tries, Reads, Replies, LeadsTo, first_move, next_move, next_entry}
+use Rattle.cddl_meaning.specs.Moves as M
+use Rattle.cddl_match.specs.Ahead.{Opens}
+use Rattle.cddl_match.specs.Machine.{Finds, FindsAt, IsAt, IsRun, IsStep, WaitsAt, asked_in, noted, pending_in}
+use Rattle.cddl_match.specs.Open.{AreOpenWith, nothing, further}
+use Rattle.cddl_match.specs.Unwinding.{IsOnTheWay, Unwinds}
+use Rattle.cddl_match.specs.Views.{move_view, pending_view}
+use Rattle.cddl_match.specs.Within.{Replied, Stopped, Says}
+use Rattle.cddl_match.specs.declared.questions.Stop.TheVariants as S
+use Rattle.cddl_match.specs.declared.stack.Found.{Found}
+use Rattle.cddl_match.specs.declared.stack.Run.{Run}
+use Rattle.cddl_match.specs.declared.stack.Waiting.{Waiting}
+use Rattle.cddl_table.specs.declared.nodes.GroupId.{GroupId}
+use Rattle.cddl_table.specs.declared.nodes.TypeId.{TypeId}
+use Rattle.cddl_match.proofs.Held.{reads_none, reads_on}
+use Rattle.cddl_match.proofs.Open.{open_asked, open_answered, open_tried, open_read, open_unread}
+use Rattle.cddl_match.proofs.Turns as T
+use Rattle.cddl_match.proofs.Ways as W
+
+pub asked_push : (ws : List Waiting) (w : Waiting) → reverse (asked_in (ws ++ w ∷ [])) ≡ noted w.asked ∷ reverse (asked_in ws)
+asked_push ws w = ap reverse (map-append (λ w. noted w.asked) ws (w ∷ [])) ∙ reverse-append (asked_in ws) (noted w.asked ∷ [])
+
+pub pending_push : (ws : List Waiting) (w : Waiting) → reverse (pending_in (ws ++ w ∷ [])) ≡ pending_view w.pending ∷ reverse (pending_in ws)
+pending_push ws w = ap reverse (map-append (λ w. pending_view w.pending) ws (w ∷ [])) ∙ reverse-append (pending_in ws) (pending_view w.pending ∷ [])
+
+module _ {N G : Type 0} (l : Language N G) where
+  pub at_steps : {first : Question N G} {m n : ℕ} {qs : List (Question N G)} {os : List (Pending N G)} {o : Move N G} → m ≡ n → IsAt l first m qs os o → IsAt l first n qs os o
+  at_steps {first = first} {qs = qs} {os = os} {o = o} e h = subst (λ n. IsAt l first n qs os o) e h
+
+  pub at_begin : (q : Question N G) → IsAt l q 0 [] [] (Asks q InRef)
+  at_begin q = record { way = T.begun l q; opened = nothing }
+
+  pub at_asked : {first q : Question N G} {taken : ℕ} {qs : List (Question N G)} {o : Pending N G} {os : List (Pending N G)} → IsAt l first taken qs os (Asks q o) → IsAt l first (taken + 1) (q ∷ qs) (o ∷ os) (first_move l q)
+  at_asked {q = q} h = record { way = T.asked l (W.opens l q) h.way; opened = open_asked l h.opened }
+
+  pub at_answered : {first q : Question N G} {taken : ℕ} {o : Pending N G} {os : List (Pending N G)} {r : Reply} (qs : List (Question N G)) → 0 < length qs → IsAt l first taken (q ∷ qs) (o ∷ os) (Answered r) → IsAt l first taken qs os (next_move o r)
+  at_answered [] e h = absurd (omega (arith, e))
+  at_answered (p ∷ qs) e h = record { way = T.answered l h.way; opened = open_answered l h.opened }
+
+  pub at_tried : {first : Question N G} {taken : ℕ} {qs : List (Question N G)} {os : List (Pending N G)} {s : Sorting N} → IsAt l first taken qs os (Tries s) → IsAt l first (taken + suc (length s.entries)) qs os (next_entry s.entries s)
+  at_tried {s = s} h = record { way = T.gone_on l (W.tries_on l s) h.way; opened = open_tried l h.opened }
+
+  pub at_read : {first : Question N G} {taken : ℕ} {qs : List (Question N G)} {os : List (Pending N G)} {c : Content} {b : List ℕ} {n : N} {p next : ℕ} {y : Value} → Holds c b y → IsAt l first taken qs os (Reads c b n p next) → IsAt l first taken qs os (Asks (OfType n 0 y) (InHeld p next))
+  at_read {c = c} {b = b} {n = n} {p = p} {next = next} {y = y} k h = record { way = T.in_steps (omega arith) (T.gone_on l (reads_on l c b n p next y k) h.way); opened = open_read l k h.opened }
+
+  pub at_unread : {first : Question N G} {taken : ℕ} {qs : List (Question N G)} {os : List (Pending N G)} {c : Content} {b : List ℕ} {n : N} {p next : ℕ} → ((y : Value) → Holds c b y → ⊥) → IsAt l first taken qs os (Reads c b n p next) → IsAt l first taken qs os (Answered (Fails p))
+  at_unread {c = c} {b = b} {n = n} {p = p} {next = next} k h = record { way = T.in_steps (omega arith) (T.gone_on l (reads_none l c b n p next k) h.way); opened = open_unread l k h.opened }
+
+  root_only : {first q : Question N G} {o : Pending N G} {m : Move N G} → AreOpenWith l first (q ∷ []) (o ∷ []) m → o ≡ InRef
+  root_only (further nothing c) = refl
+
+  pub tried_some : {first : Question N G} {qs : List (Question N G)} {os : List (Pending N G)} {s : Sorting N} → AreOpenWith l first qs os (Tries s) → 0 < length qs
+  tried_some (further h c) = omega arith
+
+  -- what waits for the first question's reply has that reply
+  root_end : {s r : Reply} {u : ℕ} → Unwinds l (InRef ∷ []) (Answered r) s u → LeadsTo {N = N} {G = G} l (Answered r) s u
+  root_end (t, v, w, M.at_once, M.at_once, is) = subst (λ n. LeadsTo {N = N} {G = G} l (Answered t) t n) (omega (arith, is)) M.at_once
+
+  end_unwinds : {s r : Reply} {u : ℕ} → LeadsTo {N = N} {G = G} l (Answered r) s u → Unwinds l (InRef ∷ []) (Answered r) s u
+  end_unwinds {r = r} M.at_once = (r, 0, 0, M.at_once, M.at_once, refl)
+
+  -- the first question has its reply
+  pub at_end : {first q : Question N G} {taken : ℕ} {o : Pending N G} {r : Reply} → IsAt l first taken (q ∷ []) (o ∷ []) (Answered r) → Opens l first (Answered r) taken
+  at_end {first = first} {q = q} {taken = taken} {o = o} {r = r} h =
+      let way = subst (λ o. IsOnTheWay l first taken (o ∷ []) (Answered r)) (root_only h.opened) h.way in
+      record {
+        leads = λ s w d. way.leads s w (end_unwinds d);
+        comes = λ s w d. let c = way.comes s w d in (c.0, root_end c.1, c.2);
+      }
+
+  pub at_none : {first : Question N G} {taken : ℕ} {os : List (Pending N G)} {r : Reply} → IsAt l first taken [] os (Answered r) → ⊥
+  at_none h = by h.opened
+    where
+      by : {first : Question N G} {os : List (Pending N G)} {r : Reply} → AreOpenWith l first [] os (Answered r) → ⊥
+      by h = elim h [ ]
+
+  -- More steps are needed.
+  pub at_ask_over : {first q : Question N G} {taken : ℕ} {qs : List (Question N G)} {o : Pending N G} {os : List (Pending N G)} → IsAt l first taken qs os (Asks q o) → (r : Reply) (w : ℕ) → Replies l first r w → taken < w
+  at_ask_over {q = q} h r w d = omega (arith, T.heavier l (W.opens l q) h.way r w d)
+
+  pub at_most : {first : Question N G} {taken : ℕ} {qs : List (Question N G)} {os : List (Pending N G)} {m : Move N G} → IsAt l first taken qs os m → (r : Reply) (w : ℕ) → Replies l first r w → taken ≤ w
+  at_most h r w d = omega (arith, (h.way.comes r w d).2)
+
+  pub at_pair_over : {first : Question N G} {taken : ℕ} {qs : List (Question N G)} {os : List (Pending N G)} {s : Sorting N} → IsAt l first taken qs os (Tries s) → (r : Reply) (w : ℕ) → Replies l first r w → taken < w
+  at_pair_over h r w d = omega (arith, at_most (at_tried h) r w d)
+
+-- a question more waits
+asked_more : (ws : List Waiting) (w : Waiting) → asked_in (ws ++ w ∷ []) ≡ asked_in ws ++ noted w.asked ∷ []
+asked_more ws w = map-append (λ w. noted w.asked) ws (w ∷ [])
+
+some_left : (ws : List Waiting) (w : Waiting) → 0 < length (asked_in (ws ++ w ∷ []))
+some_left ws w = rw (asked_more ws w) (omega (arith, length-append (asked_in ws) (noted w.asked ∷ [])))
+
+module _ (l : Language TypeId GroupId) (first : Question TypeId GroupId) (steps : ℕ) where
+  -- More steps are needed.
+  pub is_spent : (left : ℕ) → ((r : Reply) (w : ℕ) → Replies l first r w → steps < w) → Says l first steps left (Stopped S.Spent)
+  is_spent left h = h
+
+  -- the first question has its reply, in so many steps
+  pub is_replied : (taken : ℕ) (r : Reply) → taken ≤ steps → Opens l first (Answered r) taken → Says l first steps (steps - taken) (Replied r)
+  is_replied taken r h d = (subst (λ n. Opens l first (Answered r) n) (omega (arith, h)) d, omega arith)
+
+module _ (l : Language TypeId GroupId) (first : Question TypeId GroupId) (steps : ℕ) (before after : Run) where
+  -- a question is asked
+  pub ask_step : (w : Waiting) {q : Question TypeId GroupId} {o : Pending TypeId GroupId} → before.owed ≡ 0 → after.owed ≡ before.owed → after.taken ≡ before.taken + 1 → before.taken < steps → WaitsAt l first before.taken before.waiting.items (Asks q o) → after.waiting.items ≡ before.waiting.items ++ w ∷ [] → noted w.asked ≡ q → pending_view w.pending ≡ o → move_view after.next ≡ first_move l q → IsStep l first steps before after
+  ask_step w {q = q} {o = o} owed owes taken less h items asked pending next = record {
+    run = record {
+      at = rw (items, asked_push before.waiting.items w, pending_push before.waiting.items w, asked, pending, next) (at_steps l (omega (arith, owed, owes, taken)) (at_asked l h));
+      owes = λ more. absurd (omega (arith, owed, owes, more));
+    };
+    within = omega (arith, taken, less);
+    turn = inl (taken, inr (q, rw (items, asked_more before.waiting.items w, asked) refl));
+    some = rw items (some_left before.waiting.items w);
+  }
+
+  -- a step of a pair that is tried
+  pub owed_step : 0 < before.owed → after.owed ≡ before.owed - 1 → after.taken ≡ before.taken + 1 → before.taken < steps → IsRun l first before → after.waiting.items ≡ before.waiting.items → after.next ≡ before.next → IsStep l first steps before after
+  owed_step owed owes taken less r items next = record {
+    run = record {
+      at = rw (items, next) (at_steps l (omega (arith, owed, owes, taken)) r.at);
+      owes = λ more. rw items (r.owes owed);
+    };
+    within = omega (arith, taken, less);
+    turn = inl (taken, inl (ap asked_in items));
+    some = rw items (r.owes owed);
+  }
+
+  -- a pair is tried
+  pub try_step : {s : Sorting TypeId} → after.owed ≡ length s.entries → after.taken ≡ before.taken + 1 → before.taken < steps → WaitsAt l first before.taken before.waiting.items (Tries s) → after.waiting.items ≡ before.waiting.items → move_view after.next ≡ next_entry s.entries s → IsStep l first steps before after
+  try_step {s = s} owed taken less h items next = record {
+    run = record {
+      at = rw (items, next) (at_steps l (omega (arith, owed, taken)) (at_tried l h));
+      owes = λ more. some;
+    };
+    within = omega (arith, taken, less);
+    turn = inl (taken, inl (ap asked_in items));
+    some = some;
+  }
+    where
+      some : 0 < length (asked_in after.waiting.items)
+      some =
+          let turned : length (reverse (asked_in before.waiting.items)) ≡ length (asked_in before.waiting.items) = length-reverse (asked_in before.waiting.items) in
+          rw items (omega (arith, turned, tried_some l h.opened))
+
+  -- the last question has its reply
+  pub reply_step : (w : Waiting) {r : Reply} → before.owed ≡ 0 → after.owed ≡ before.owed → after.taken ≡ before.taken → before.taken ≤ steps → WaitsAt l first before.taken before.waiting.items (Answered r) → before.waiting.items ≡ after.waiting.items ++ w ∷ [] → 0 < length after.waiting.items → move_view after.next ≡ next_move (pending_view w.pending) r → IsStep l first steps before after
+  reply_step w {r = r} owed owes taken within h items some next =
+      let many : length (asked_in after.waiting.items) ≡ length after.waiting.items = length-map after.waiting.items (λ w. noted w.asked) in
+      let turned : length (reverse (asked_in after.waiting.items)) ≡ length (asked_in after.waiting.items) = length-reverse (asked_in after.waiting.items) in
+      let h2 = rw (items, asked_push after.waiting.items w, pending_push after.waiting.items w) at h in
+      record {
+        run = record {
+          at = rw next (at_steps l (omega (arith, owed, owes, taken)) (at_answered l (reverse (asked_in after.waiting.items)) (omega (arith, some, many, turned)) h2));
+          owes = λ more. absurd (omega (arith, owed, owes, more));
+        };
+        within = omega (arith, taken, within);
+        turn = inr (taken, (noted w.asked, ap asked_in items ∙ asked_more after.waiting.items w));
+        some = omega (arith, some, many);
+      }
+
+-- the first question has its reply
+pub end_step : (l : Language TypeId GroupId) (first : Question TypeId GroupId) (steps taken : ℕ) (ws left : List Waiting) (w : Waiting) (r : Reply) → taken ≤ steps → WaitsAt l first taken ws (Answered r) → ws ≡ left ++ w ∷ [] → length left ≡ 0 → Says l first steps (steps - taken) (Replied r)
+end_step l first steps taken ws left w r within h items none =
+    let h2 = rw (items, T.none_left left none) at h in
+    is_replied l first steps taken r within (at_end l h2)
+
+-- a reply needs a question
+pub no_end : (l : Language TypeId GroupId) (first : Question TypeId GroupId) (taken : ℕ) (ws : List Waiting) (r : Reply) → length ws ≡ 0 → WaitsAt l first taken ws (Answered r) → ⊥
+no_end l first taken ws r none h =
+    let h2 = rw (T.none_left ws none) at h in
+    at_none l h2
+
+-- A turn from a run is one from another that has taken as many steps and in which the same questions wait.
+pub step_of : (l : Language TypeId GroupId) (first : Question TypeId GroupId) (steps : ℕ) (before other after : Run) → before.taken ≡ other.taken → asked_in before.waiting.items ≡ asked_in other.waiting.items → IsStep l first steps before after → IsStep l first steps other after
+step_of l first steps before other after taken asked s = record { run = s.run; within = s.within; turn = rw (← taken, ← asked) s.turn; some = s.some }
+
+-- what is found at a move to which a run leads
+pub finds_from : (l : Language TypeId GroupId) (steps : ℕ) (before : Run) (m : Move TypeId GroupId) (o : Option Found) → ((first : Question TypeId GroupId) → IsRun l first before → WaitsAt l first before.taken before.waiting.items m) → IfSome o (FindsAt l steps before m) → IfSome o (Finds l steps before)
+finds_from l steps before m (Some f) lead finds = λ first run within. finds first (lead first run) within
+finds_from l steps before m None lead finds = tt
+
+pub ok_finds_from : {E : Type 0} (l : Language TypeId GroupId) (steps : ℕ) (before : Run) (m : Move TypeId GroupId) (r : Result (Option Found) E) → ((first : Question TypeId GroupId) → IsRun l first before → WaitsAt l first before.taken before.waiting.items m) → IfOk r (λ o. IfSome o (FindsAt l steps before m)) → IfOk r (λ o. IfSome o (Finds l steps before))
+ok_finds_from l steps before m (Ok o) lead finds = finds_from l steps before m o lead finds
+ok_finds_from l steps before m (Err e) lead finds = tt
