@@ -1,12 +1,10 @@
 -- An item's texts are UTF-8, or one is the first that is not; its keys repeat nowhere, or one is the first that does.
-use Rattle.std.proofs.Common.{◌≡◌, ℕ, suc, ◌+◌, ◌≤◌, List, [], ◌∷◌, Bool, true, false, ◌⊎◌, inl, inr, refl, ap, ap₂, ◌∙◌, arith, length}
+use Rattle.std.proofs.Common.{◌≡◌, ℕ, suc, ◌+◌, ◌≤◌, List, [], ◌∷◌, Bool, true, false, ◌⊎◌, inl, inr, refl, arith, length}
 use Rattle.std.specs.Str.{IsUtf8, is_utf8}
-use Rattle.std.proofs.lemmas.Bool.{cases_eq, cases_lt}
+use Rattle.std.proofs.lemmas.Bool.{cases_lt}
 use Rattle.std.proofs.lemmas.Str.{IsUtf8-from_is_utf8, is_utf8-from_IsUtf8}
-use Rattle.cbor_data.specs.declared.Width.{Width}
-use Rattle.cbor_data.specs.declared.Width.TheVariants.{W16, W32, W64}
 use Rattle.cbor_data.specs.Value.{Value, uint, nint, bytes, text, array, pairs, tag, simple, float, Values, no_values, value, Pairs, no_pairs, pair, place_count}
-use Rattle.cbor_data.specs.Validity.{IsOneOf, IsRepeatedKey, IsRepeatedKeyAmong, IsRepeatedKeyAfter, IsValid, IsFirstRepeatedKey}
+use Rattle.cbor_data.specs.Validity.{IsRepeatedKey, IsRepeatedKeyAmong, IsRepeatedKeyAfter, IsValid, IsFirstRepeatedKey}
 use Rattle.cbor_data.specs.Forms.{Form, uint_form, nint_form, bytes_form, bytes_chunks, text_form, text_chunks, array_form, array_to_break, pairs_form, pairs_to_break, tag_form, simple_inside, simple_next, float_form, Forms, no_forms, form, PairForms, no_pair_forms, pair_form, Chunk, AllText, chunk_bytes, head_in, forms_len, pair_forms_len, flat, HasText, HaveText, HavePairsText}
 use Rattle.cbor_data.proofs.Lemmas.{key_told}
 use Rattle.cbor_data.specs.Faults.{IsBadChunkAt, IsBadTextAt, IsBadTextAmong, IsBadTextAmongPairs}
