@@ -43,7 +43,7 @@ nothing_told task a failures end rejected status other is =
     subst (λ n. IsTold task end rejected (record { before = a; after = a; failures_before = failures; failures_after = failures }) n) (sym is)
     (told (λ kept few. subst (λ (b : List ℕ). bytes.Appends a a b) (sym (tells_nothing task end rejected other)) (appends_nothing a)))
 
-module _ (o : Options) (judge : Judge) (input output error : Change) (m : Mode) (mode_is : m ≡ mode_of o.task o.quiet) where
+module _ (o : Options) (judge : Judge) (input output error : Change) (m : Mode) (mode_is : m ≡ mode_of o.task o.quiet o.deterministic) where
   pub fault_told : (fault : RunFault) → IsFault m judge o.limits input output fault → IsBroken o judge input output
   fault_told fault f = stopped fault (subst (λ n. IsFault n judge o.limits input output fault) mode_is f)
 
@@ -61,7 +61,7 @@ module _ (o : Options) (judge : Judge) (input output error : Change) (m : Mode) 
     answered h = answered_in input.before status w is_told h
 
     whole : (stream : Option (List ℕ)) → IfSome stream (λ s. WritesAll m judge o.limits s output end rejected) →
-        IfSome stream (λ s. (e : End) × (r : Option Value) × WritesAll (mode_of o.task o.quiet) judge o.limits s output e r)
+        IfSome stream (λ s. (e : End) × (r : Option Value) × WritesAll (mode_of o.task o.quiet o.deterministic) judge o.limits s output e r)
     whole None w = tt
     whole (Some s) w = (end, rejected, subst (λ k. WritesAll k judge o.limits s output end rejected) mode_is w)
 

@@ -52,10 +52,14 @@ abbrev pub report_mode_of : Bool → Mode
 report_mode_of true = mode.EndLine
 report_mode_of false = mode.Report
 
--- what is written of a stream
-abbrev pub mode_of : Task → Bool → Mode
-mode_of Rewrite quiet = mode.Rewrite
-mode_of task quiet = report_mode_of quiet
+abbrev pub rewrite_mode_of : Bool → Mode
+rewrite_mode_of true = mode.Deterministic
+rewrite_mode_of false = mode.Rewrite
+
+-- what is written of a stream, by the task, `--quiet` and `--deterministic`
+abbrev pub mode_of : Task → Bool → Bool → Mode
+mode_of Rewrite quiet deterministic = rewrite_mode_of deterministic
+mode_of task quiet deterministic = report_mode_of quiet
 
 -- what is told of an end on standard error: its line, where items are rewritten
 abbrev pub told_of : Task → End → Option Value → List ℕ
@@ -75,11 +79,11 @@ pub data IsTold (task : Task) (end : End) (rejected : Option Value) (error : Cha
 pub record IsAnswered (o : Options) (judge : Judge) (stream : List ℕ) (output error : Change) (status : ℕ) : Type 0 where
   pub end : End
   pub rejected : Option Value
-  pub written : WritesAll (mode_of o.task o.quiet) judge o.limits stream output end rejected
+  pub written : WritesAll (mode_of o.task o.quiet o.deterministic) judge o.limits stream output end rejected
   pub told : IsSaid error (told_of o.task end rejected)
   pub is : status ≡ status_for end
 
 -- Why there is no such status: the run stopped early, or it is whole and there was no memory for the line of its end.
 pub data IsBroken (o : Options) (judge : Judge) (input output : Change) : Type 0 where
-  stopped : (fault : RunFault) → IsFault (mode_of o.task o.quiet) judge o.limits input output fault → IsBroken o judge input output
-  untold : o.task ≡ Rewrite → IfSome input.before (λ stream. (end : End) × (rejected : Option Value) × WritesAll (mode_of o.task o.quiet) judge o.limits stream output end rejected) → IsBroken o judge input output
+  stopped : (fault : RunFault) → IsFault (mode_of o.task o.quiet o.deterministic) judge o.limits input output fault → IsBroken o judge input output
+  untold : o.task ≡ Rewrite → IfSome input.before (λ stream. (end : End) × (rejected : Option Value) × WritesAll (mode_of o.task o.quiet o.deterministic) judge o.limits stream output end rejected) → IsBroken o judge input output

@@ -6,7 +6,7 @@ ghost use Rattle.cddl_specification.specs.Text.{IsTabledText, IsUnreadText};
 ghost use Rattle.seq_run.specs.Judge.{judge_of};
 ghost use Rattle.seq_run.specs.Report.{IsShown};
 ghost use Rattle.seq_run.specs.Running.{change_of};
-ghost use Rattle.cddl_tool.specs.Acting.{mode_of, report_mode_of, specification_of, status_for, IsAccepted, IsAnswered, IsBroken, IsCutOff, IsRefusedText, IsTold};
+ghost use Rattle.cddl_tool.specs.Acting.{mode_of, report_mode_of, rewrite_mode_of, specification_of, status_for, IsAccepted, IsAnswered, IsBroken, IsCutOff, IsRefusedText, IsTold};
 
 use cbor_item::{Counted, Sound, write_bytes};
 use cddl_specification::{Unread, read_specification};
@@ -146,10 +146,10 @@ pub fn act<R: Read, W: Write, E: Write>(
 
 // What is written of a stream.
 fn mode_for(options: &Options) -> Mode
-    ensures { result ≡ mode_of options.now.task options.now.quiet }
+    ensures { result ≡ mode_of options.now.task options.now.quiet options.now.deterministic }
 {
     match options.task {
-        Task::Rewrite => Mode::Rewrite,
+        Task::Rewrite => rewrite_mode(options.deterministic),
         Task::Check | Task::Validate | Task::Show => report_mode(options.quiet),
     }
 }
@@ -158,6 +158,16 @@ fn report_mode(quiet: bool) -> Mode
     ensures { result ≡ report_mode_of quiet }
 {
     if quiet { Mode::EndLine } else { Mode::Report }
+}
+
+fn rewrite_mode(deterministic: bool) -> Mode
+    ensures { result ≡ rewrite_mode_of deterministic }
+{
+    if deterministic {
+        Mode::Deterministic
+    } else {
+        Mode::Rewrite
+    }
 }
 
 // Says the end of a stream whose items were rewritten, and answers the status.
