@@ -18,3 +18,5 @@ mod matching;
 mod terms;
 #[cfg(test)]
 mod token;
+#[cfg(test)]
+mod turns;

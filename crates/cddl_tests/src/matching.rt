@@ -1,3 +1,4 @@
+use crate::turns::run_by_turns;
 use cbor_item::{Item, Sound};
 use cbor_read::embedded_item;
 use cddl_match::{Verdict, verdict};
@@ -9,7 +10,11 @@ use std::alloc::{AllocError, Global};
 use std::process::Abort;
 
 /// The item that these bytes spell, in a box: each step of a proof has the types of a function's locals, up to a box.
-fn item_of(rt: &impl Abort, alloc: Global, bytes: &[u8]) -> Result<Box<Sound>, AllocError> {
+pub(crate) fn item_of(
+    rt: &impl Abort,
+    alloc: Global,
+    bytes: &[u8],
+) -> Result<Box<Sound>, AllocError> {
     let item = embedded_item(alloc, bytes)?.expect(rt, "an item");
     Ok(Box::new(alloc, item)?)
 }
@@ -231,7 +236,7 @@ pub(crate) fn table_of(
     }
 }
 
-/// What the root of a table says of an item, within so many steps.
+/// What the root of a table says of an item, within so many steps, by calls and by turns.
 fn verdict_in(
     rt: &impl Abort,
     alloc: Global,
@@ -240,7 +245,10 @@ fn verdict_in(
     steps: u64,
 ) -> Result<Verdict, AllocError> {
     let item = item_of(rt, alloc, bytes)?;
-    verdict(alloc, table, &item, steps)
+    let found = verdict(alloc, table, &item, steps)?;
+    let by_turns = run_by_turns(rt, alloc, table, &item, bytes.len(), steps, 16)?;
+    expect_verdict(rt, by_turns.verdict, found, table.root().number);
+    Ok(found)
 }
 
 /// What the type of this number says of an item, within so many steps.
