@@ -1,6 +1,6 @@
 -- Adding the deterministic bytes of an item in parts.
 use Rattle.std.proofs.Common.{◌≡◌, ℕ, suc, ◌+◌, ◌<◌, List, [], ◌∷◌, ◌++◌, refl, sym, ap, ◌∙◌, subst, Result, Ok, Err, OnOk, append_assoc, append-nil, Vec, Box, Global}
-use Rattle.cbor_data.specs.Ordered.{ordered, values_ordered, pairs_ordered, det}
+use Rattle.cbor_data.specs.Deterministic.{ordered, values_ordered, pairs_ordered, deterministic}
 use Rattle.cbor_data.specs.Preferred.{shortest_head, preferred, values_preferred, pairs_preferred}
 use Rattle.cbor_data.specs.Validity.{IsValid}
 use Rattle.cbor_data.specs.Value.{Value, array, pairs, tag, Values, no_values, value, Pairs, no_pairs, pair, values_len, pairs_len}
@@ -36,20 +36,20 @@ pub tag_known : (i : Item) (n : ℕ) (x : Box Item Global) → i ≡ Tag n x →
 tag_known i n x is p h =
     let k = at_view is (view-Tag n x) p h in record { plain = plain_content n (view x.value) k.plain; valid = apart_valid (view x.value) (valid_apart (tag n (view x.value)) k.valid) }
 
-pub added_array : (i : Item) (v : Vec Item Global) (old mid new : List ℕ) → i ≡ Array v → mid ≡ old ++ shortest_head 4 (values_len (values_view v.items)) → new ≡ mid ++ values_preferred (values_ordered (values_view v.items)) → new ≡ old ++ det (view i)
+pub added_array : (i : Item) (v : Vec Item Global) (old mid new : List ℕ) → i ≡ Array v → mid ≡ old ++ shortest_head 4 (values_len (values_view v.items)) → new ≡ mid ++ values_preferred (values_ordered (values_view v.items)) → new ≡ old ++ deterministic (view i)
 added_array i v old mid new is e h =
     let xs = values_view v.items in
     joined_on old mid new (shortest_head 4 (values_len xs)) (values_preferred (values_ordered xs)) e h
-    ∙ (ap (λ n. old ++ (shortest_head 4 n ++ values_preferred (values_ordered xs))) (sym (as_long xs)) ∙ ap (λ x. old ++ det x) (sym (ap view is ∙ view-Array v)))
+    ∙ (ap (λ n. old ++ (shortest_head 4 n ++ values_preferred (values_ordered xs))) (sym (as_long xs)) ∙ ap (λ x. old ++ deterministic x) (sym (ap view is ∙ view-Array v)))
 
-pub added_map : (i : Item) (v : Vec (Item × Item) Global) (old mid new : List ℕ) → i ≡ Map v → mid ≡ old ++ shortest_head 5 (pairs_len (pairs_view v.items)) → new ≡ mid ++ pairs_preferred (pairs_ordered (pairs_view v.items)) → new ≡ old ++ det (view i)
+pub added_map : (i : Item) (v : Vec (Item × Item) Global) (old mid new : List ℕ) → i ≡ Map v → mid ≡ old ++ shortest_head 5 (pairs_len (pairs_view v.items)) → new ≡ mid ++ pairs_preferred (pairs_ordered (pairs_view v.items)) → new ≡ old ++ deterministic (view i)
 added_map i v old mid new is e h =
     let ps = pairs_view v.items in
     joined_on old mid new (shortest_head 5 (pairs_len ps)) (pairs_preferred (pairs_ordered ps)) e h
-    ∙ (ap (λ n. old ++ (shortest_head 5 n ++ pairs_preferred (pairs_ordered ps))) (as_many_pairs (pairs_same_ordered ps)) ∙ ap (λ x. old ++ det x) (sym (ap view is ∙ view-Map v)))
+    ∙ (ap (λ n. old ++ (shortest_head 5 n ++ pairs_preferred (pairs_ordered ps))) (as_many_pairs (pairs_same_ordered ps)) ∙ ap (λ x. old ++ deterministic x) (sym (ap view is ∙ view-Map v)))
 
-pub added_tag : (i : Item) (n : ℕ) (x : Box Item Global) (old mid new : List ℕ) → i ≡ Tag n x → mid ≡ old ++ shortest_head 6 n → new ≡ mid ++ det (view x.value) → new ≡ old ++ det (view i)
-added_tag i n x old mid new is e h = joined_on old mid new (shortest_head 6 n) (det (view x.value)) e h ∙ ap (λ y. old ++ det y) (sym (ap view is ∙ view-Tag n x))
+pub added_tag : (i : Item) (n : ℕ) (x : Box Item Global) (old mid new : List ℕ) → i ≡ Tag n x → mid ≡ old ++ shortest_head 6 n → new ≡ mid ++ deterministic (view x.value) → new ≡ old ++ deterministic (view i)
+added_tag i n x old mid new is e h = joined_on old mid new (shortest_head 6 n) (deterministic (view x.value)) e h ∙ ap (λ y. old ++ deterministic y) (sym (ap view is ∙ view-Tag n x))
 
 -- so far and with a part more
 pub more_added : (here mid part rest whole : List ℕ) → mid ≡ here ++ part → here ++ (part ++ rest) ≡ whole → mid ++ rest ≡ whole

@@ -13,7 +13,7 @@ use Rattle.std.proofs.lemmas.List.{drop_more, drop_all, get_or-map, length-map}
 use Rattle.std.proofs.lemmas.List.Sorted.{all_adjacent_more, IsPermutation-map, IsPermutation-sym}
 use Rattle.std.proofs.lemmas.Map.Keys.{sorted_from_all_adjacent, sorted_from_strictly_increasing, IsDistinct-cons, IsDistinct-from_apart, IsDistinct-from_sorted, IsDistinct-head, IsDistinct-tail, IsDistinct-IsPermutation}
 use Rattle.std.specs.Prelude.{◌&&◌, ◌||◌}
-use Rattle.cbor_data.specs.AnyOrder.{IsSame, same_uint, same_nint, same_bytes, same_text, same_array, same_map, same_tag, same_simple, same_float}
+use Rattle.cbor_data.specs.Equivalence.{IsSame, same_uint, same_nint, same_bytes, same_text, same_array, same_map, same_tag, same_simple, same_float}
 use Rattle.cbor_data.specs.Validity.{IsOneOf, IsValid, IsRepeatedKeyAmong, IsRepeatedKeyAfter}
 use Rattle.cbor_data.specs.Value.{Value, array, pairs, tag, Values, no_values, value, Pairs, no_pairs, pair}
 use Rattle.cbor_data.proofs.Lemmas.{back, same_value-laws}

@@ -6,7 +6,7 @@ use Rattle.std.specs.declared.cmp.Ordering.{Ordering}
 use Rattle.std.specs.declared.cmp.Ordering.TheVariants.{Less, Equal, Greater}
 use Rattle.std.proofs.lemmas.List.{get_or-map}
 use Rattle.std.proofs.lemmas.List.Sorted.{all_adjacent_more}
-use Rattle.cbor_data.specs.Ordered.{det}
+use Rattle.cbor_data.specs.Deterministic.{deterministic}
 use Rattle.cbor_item.specs.Apart.{RisesBelow}
 use Rattle.cbor_item.specs.InOrder.{keys_det}
 use Rattle.cbor_item.specs.View.{view}
@@ -27,10 +27,10 @@ cmp-append (x ∷ s) (y ∷ t) p q e =
     ap (ordering_then (nat_cmp x y)) (cmp-append s t p q tails) ∙ then_assoc (nat_cmp x y) (slice_cmp nat_cmp s t) (slice_cmp nat_cmp p q)
 
 -- a key more is before the next
-pub keys_more : (ps : List (Item × Item)) (i : ℕ) (p q : Item × Item) → 1 ≤ i → i < length ps → slice_cmp nat_cmp (det (view (get_or ps (i - 1) p).0)) (det (view (get_or ps i q).0)) ≡ Less →
+pub keys_more : (ps : List (Item × Item)) (i : ℕ) (p q : Item × Item) → 1 ≤ i → i < length ps → slice_cmp nat_cmp (deterministic (view (get_or ps (i - 1) p).0)) (deterministic (view (get_or ps i q).0)) ≡ Less →
     RisesBelow (keys_det ps) i → RisesBelow (keys_det ps) (i + 1)
 keys_more ps i p q some h less up =
-    let key : Item × Item → List ℕ = λ r. det (view r.0) in
+    let key : Item × Item → List ℕ = λ r. deterministic (view r.0) in
     all_adjacent_more (keys_det ps) (λ s t. slice_cmp nat_cmp s t ≡ Less) i (omega arith) up (λ e.
     let one : get_or (keys_det ps) (i - 1) e ≡ key (get_or ps (i - 1) p) = get_or-map key ps (i - 1) p e (omega arith) in
     let two : get_or (keys_det ps) i e ≡ key (get_or ps i q) = get_or-map key ps i q e h in

@@ -14,7 +14,7 @@ use Rattle.std.proofs.lemmas.Cmp.{nat_list_cmp_total}
 use Rattle.std.proofs.lemmas.Map.Lookups.{exact_bytes}
 use Rattle.std.proofs.lemmas.Map.Text.{is_eq-slice_cmp}
 use Rattle.std.proofs.lemmas.Slice.Eq.{bytes_eq-Decides}
-use Rattle.cbor_data.specs.Ordered.{comes_before, put, ordered, pairs_ordered, det, ComesBeforeAll, ArePairsRising}
+use Rattle.cbor_data.specs.Deterministic.{comes_before, put, ordered, pairs_ordered, deterministic, ComesBeforeAll, ArePairsRising}
 use Rattle.cbor_data.specs.Preferred.{preferred, pairs_preferred}
 use Rattle.cbor_data.specs.Value.{Value, pairs, Pairs, no_pairs, pair}
 use Rattle.cbor_data.proofs.Lemmas.{HasKeysApart, rising}
@@ -149,7 +149,7 @@ any_put p k v (pair l w ps) = any_either (comes_before k l) p k v l w ps (any_pu
 
 any_ordered : (p : List ℕ × List ℕ → Bool) (ps : Pairs) → list_any p (laid ps) ≡ list_any p (byte_pairs (pairs_ordered ps))
 any_ordered p no_pairs = refl
-any_ordered p (pair k v ps) = ap (λ b. p (det k, det v) || b) (any_ordered p ps) ∙ sym (any_put p (ordered k) (ordered v) (pairs_ordered ps))
+any_ordered p (pair k v ps) = ap (λ b. p (deterministic k, deterministic v) || b) (any_ordered p ps) ∙ sym (any_put p (ordered k) (ordered v) (pairs_ordered ps))
 
 -- whichever list has the entries, with keys that rise, is joined to the deterministic bytes of the pairs
 pub joined_in_order : (ps : Pairs) (es : List (List ℕ × List ℕ)) → IsPlain (pairs ps) → HasKeysApart (pairs ps) → IsStrictlySortedBy (slice_cmp nat_cmp) (firsts es) → HaveSame es (laid ps) → joined es ≡ pairs_preferred (pairs_ordered ps)

@@ -8,7 +8,7 @@ use Rattle.std.specs.declared.cmp.Ordering.{Ordering}
 use Rattle.std.specs.declared.cmp.Ordering.TheVariants.{Less, Equal, Greater}
 use Rattle.std.proofs.lemmas.Map.Lookups.{exact_bytes}
 use Rattle.std.proofs.lemmas.Slice.Eq.{bytes_eq-Decides}
-use Rattle.cbor_data.specs.Ordered.{comes_before, put, ordered, values_ordered, pairs_ordered, det}
+use Rattle.cbor_data.specs.Deterministic.{comes_before, put, ordered, values_ordered, pairs_ordered, deterministic}
 use Rattle.cbor_data.specs.Preferred.{shortest_head, preferred, values_preferred, pairs_preferred}
 use Rattle.cbor_data.specs.Validity.{IsOneOf}
 use Rattle.cbor_data.specs.Value.{Value, array, pairs, tag, Values, no_values, value, Pairs, no_pairs, pair, values_len, pairs_len, pairs_place_count}
@@ -30,7 +30,7 @@ pub joined_on : (old mid new a b : List ℕ) → mid ≡ old ++ a → new ≡ mi
 joined_on old mid new a b e f = f ∙ ap (λ c. c ++ b) e ∙ append_assoc old a b
 
 pub lays_more : (x : Value) (xs : Values) (place next : ℕ) (old mid new : List ℕ) (r : Result ℕ Unsound) → Lays x place old mid (Ok next) → LaysAmong xs next mid new r → LaysAmong (value x xs) place old new r
-lays_more x xs place next old mid new (Ok last) h k = (among_more x xs place next (Ok last) h.0 k.0, joined_on old mid new (det x) (values_preferred (values_ordered xs)) h.1 k.1)
+lays_more x xs place next old mid new (Ok last) h k = (among_more x xs place next (Ok last) h.0 k.0, joined_on old mid new (deterministic x) (values_preferred (values_ordered xs)) h.1 k.1)
 lays_more x xs place next old mid new (Err e) h k = among_more x xs place next (Err e) h.0 k
 
 pub lays_stop : (x : Value) (xs : Values) (place : ℕ) (old new : List ℕ) (e : Unsound) → Lays x place old new (Err e) → LaysAmong (value x xs) place old new (Err e)
@@ -54,7 +54,7 @@ lays_map ps place old mid new (Ok next) e h = (
 lays_map ps place old mid new (Err f) e h = walks_pairs ps place (Err f) h
 
 pub lays_tag : (n : ℕ) (x : Value) (place : ℕ) (old mid new : List ℕ) (r : Result ℕ Unsound) → mid ≡ old ++ shortest_head 6 n → Lays x (place + 1) mid new r → Lays (tag n x) place old new r
-lays_tag n x place old mid new (Ok next) e h = (walks_tag n x place (Ok next) h.0, joined_on old mid new (shortest_head 6 n) (det x) e h.1)
+lays_tag n x place old mid new (Ok next) e h = (walks_tag n x place (Ok next) h.0, joined_on old mid new (shortest_head 6 n) (deterministic x) e h.1)
 lays_tag n x place old mid new (Err f) e h = walks_tag n x place (Err f) h
 
 -- ---- pairs in order as bytes
@@ -114,14 +114,14 @@ pub record KnowsPairs (es : List (List ℕ × List ℕ)) (left : Pairs) (next : 
 pub knows_none : (all : Pairs) (start : ℕ) → ArePairsPlain all → start + pairs_place_count all < 2 ^ 64 → KnowsPairs [] all start all start
 knows_none all start p r = record { plain = p; room = r; earlier = []; writable = tt; valid = tt; sofar = no_pairs; bytes = refl; has_them = λ part. refl; gathers = refl; follows = λ s h. h }
 
-has_it : (es : List (List ℕ × List ℕ)) (k v : Value) (ps : Pairs) (next : ℕ) (all : Pairs) (start : ℕ) (h : KnowsPairs es (pair k v ps) next all start) (b : Bool) → has_key (det k) es ≡ b → among h.earlier (det k) ≡ b
-has_it es k v ps next all start h b e = sym (h.has_them (det k)) ∙ (ap (has_key (det k)) (sym h.bytes) ∙ e)
+has_it : (es : List (List ℕ × List ℕ)) (k v : Value) (ps : Pairs) (next : ℕ) (all : Pairs) (start : ℕ) (h : KnowsPairs es (pair k v ps) next all start) (b : Bool) → has_key (deterministic k) es ≡ b → among h.earlier (deterministic k) ≡ b
+has_it es k v ps next all start h b e = sym (h.has_them (deterministic k)) ∙ (ap (has_key (deterministic k)) (sym h.bytes) ∙ e)
 
-pub new_key : (es : List (List ℕ × List ℕ)) (k v : Value) (ps : Pairs) (next : ℕ) (all : Pairs) (start : ℕ) (h : KnowsPairs es (pair k v ps) next all start) → has_key (det k) es ≡ false → IsOneOf h.earlier k → ⊥
+pub new_key : (es : List (List ℕ × List ℕ)) (k v : Value) (ps : Pairs) (next : ℕ) (all : Pairs) (start : ℕ) (h : KnowsPairs es (pair k v ps) next all start) → has_key (deterministic k) es ≡ false → IsOneOf h.earlier k → ⊥
 new_key es k v ps next all start h e = missed_among h.earlier k h.writable h.valid (has_it es k v ps next all start h false e)
 
-pub knows_more : (es : List (List ℕ × List ℕ)) (k v : Value) (ps : Pairs) (next mid last : ℕ) (all : Pairs) (start : ℕ) → KnowsPairs es (pair k v ps) next all start → has_key (det k) es ≡ false → Walks k next (Ok mid) → Walks v mid (Ok last) →
-    KnowsPairs (insert_entry (slice_cmp nat_cmp) es (det k) (det v)) ps last all start
+pub knows_more : (es : List (List ℕ × List ℕ)) (k v : Value) (ps : Pairs) (next mid last : ℕ) (all : Pairs) (start : ℕ) → KnowsPairs es (pair k v ps) next all start → has_key (deterministic k) es ≡ false → Walks k next (Ok mid) → Walks v mid (Ok last) →
+    KnowsPairs (insert_entry (slice_cmp nat_cmp) es (deterministic k) (deterministic v)) ps last all start
 knows_more es k v ps next mid last all start h e wk wv = record {
   plain = (plain_pair k v ps h.plain).2;
   room = omega (arith, h.room, wk.1, wv.1);
@@ -129,20 +129,20 @@ knows_more es k v ps next mid last all start h e wk wv = record {
   writable = (writable k (plain_pair k v ps h.plain).0, h.writable);
   valid = (wk.0, h.valid);
   sofar = put (ordered k) (ordered v) h.sofar;
-  bytes = ap (λ fs. insert_entry (slice_cmp nat_cmp) fs (det k) (det v)) h.bytes ∙ insert_put (ordered k) (ordered v) h.sofar (ap (has_key (det k)) (sym h.bytes) ∙ e);
-  has_them = λ part. has_put part (ordered k) (ordered v) h.sofar ∙ ap (λ b. bytes_eq part (det k) || b) (h.has_them part);
+  bytes = ap (λ fs. insert_entry (slice_cmp nat_cmp) fs (deterministic k) (deterministic v)) h.bytes ∙ insert_put (ordered k) (ordered v) h.sofar (ap (has_key (deterministic k)) (sym h.bytes) ∙ e);
+  has_them = λ part. has_put part (ordered k) (ordered v) h.sofar ∙ ap (λ b. bytes_eq part (deterministic k) || b) (h.has_them part);
   gathers = h.gathers;
   follows = λ r c. h.follows r (after_more h.earlier k v ps next mid last r (new_key es k v ps next all start h e) wk wv c);
 }
 
-pub ends_repeated : (es : List (List ℕ × List ℕ)) (k v : Value) (ps : Pairs) (next : ℕ) (all : Pairs) (start : ℕ) → KnowsPairs es (pair k v ps) next all start → has_key (det k) es ≡ true → WalksAfter [] all start (Err (Duplicate next))
+pub ends_repeated : (es : List (List ℕ × List ℕ)) (k v : Value) (ps : Pairs) (next : ℕ) (all : Pairs) (start : ℕ) → KnowsPairs es (pair k v ps) next all start → has_key (deterministic k) es ≡ true → WalksAfter [] all start (Err (Duplicate next))
 ends_repeated es k v ps next all start h e =
     h.follows (Err (Duplicate next)) (after_repeat h.earlier k v ps next (found_among h.earlier k h.writable (writable k (plain_pair k v ps h.plain).0) (has_it es k v ps next all start h true e)))
 
 pub ends_in_key : (es : List (List ℕ × List ℕ)) (k v : Value) (ps : Pairs) (next : ℕ) (all : Pairs) (start : ℕ) (e : Unsound) → KnowsPairs es (pair k v ps) next all start → Walks k next (Err e) → WalksAfter [] all start (Err e)
 ends_in_key es k v ps next all start e h w = h.follows (Err e) (after_key h.earlier k v ps next e h.valid w)
 
-pub ends_in_value : (es : List (List ℕ × List ℕ)) (k v : Value) (ps : Pairs) (next mid : ℕ) (all : Pairs) (start : ℕ) (e : Unsound) → KnowsPairs es (pair k v ps) next all start → has_key (det k) es ≡ false → Walks k next (Ok mid) → Walks v mid (Err e) → WalksAfter [] all start (Err e)
+pub ends_in_value : (es : List (List ℕ × List ℕ)) (k v : Value) (ps : Pairs) (next mid : ℕ) (all : Pairs) (start : ℕ) (e : Unsound) → KnowsPairs es (pair k v ps) next all start → has_key (deterministic k) es ≡ false → Walks k next (Ok mid) → Walks v mid (Err e) → WalksAfter [] all start (Err e)
 ends_in_value es k v ps next mid all start e h new wk wv = h.follows (Err e) (after_value h.earlier k v ps next mid e (new_key es k v ps next all start h new) wk wv)
 
 pub all_known : (es : List (List ℕ × List ℕ)) (next : ℕ) (all : Pairs) (start : ℕ) (old new : List ℕ) → KnowsPairs es no_pairs next all start → ArePairsPlain all → new ≡ old ++ joined es → LaysPairs all start old new (Ok next)

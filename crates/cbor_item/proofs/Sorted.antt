@@ -15,11 +15,11 @@ use Rattle.std.proofs.lemmas.List.Sorted.{IsPermutation-map, list_any-IsPermutat
 use Rattle.std.proofs.lemmas.Map.Keys.{apart_from_distinct, sorted_from_all_adjacent, IsDistinct-IsPermutation, IsDistinct-cons}
 use Rattle.std.proofs.lemmas.Map.Text.{is_eq-slice_cmp}
 use Rattle.std.proofs.lemmas.Slice.Eq.{bytes_eq-Decides}
-use Rattle.cbor_data.specs.AnyOrder.{IsSame}
-use Rattle.cbor_data.specs.Ordered.{pairs_ordered, det}
+use Rattle.cbor_data.specs.Equivalence.{IsSame}
+use Rattle.cbor_data.specs.Deterministic.{pairs_ordered, deterministic}
 use Rattle.cbor_data.specs.Preferred.{pairs_preferred}
 use Rattle.cbor_data.specs.Value.{Value, pairs, Pairs, no_pairs, pair}
-use Rattle.cbor_data.proofs.Lemmas.{HasKeysApart, same_by_det}
+use Rattle.cbor_data.proofs.Lemmas.{HasKeysApart, same_by_deterministic}
 use Rattle.cbor_item.specs.Apart.{RisesBelow}
 use Rattle.cbor_item.specs.InOrder.{laid, keys_det}
 use Rattle.cbor_item.specs.Laying.{joined, seen_entries}
@@ -34,11 +34,11 @@ use Rattle.cbor_item.proofs.Plain.{plain_pair, plain_pairs}
 
 firsts_laid : (ps : List (Item × Item)) → firsts (laid (pairs_view ps)) ≡ keys_det ps
 firsts_laid [] = refl
-firsts_laid (p ∷ ps) = ap (λ ks. det (view p.0) ∷ ks) (firsts_laid ps)
+firsts_laid (p ∷ ps) = ap (λ ks. deterministic (view p.0) ∷ ks) (firsts_laid ps)
 
 pub rising_joined : (ps : List (Item × Item)) → IsPlain (pairs (pairs_view ps)) → HasKeysApart (pairs (pairs_view ps)) → RisesBelow (keys_det ps) (length ps) → joined (laid (pairs_view ps)) ≡ pairs_preferred (pairs_ordered (pairs_view ps))
 rising_joined ps w a up =
-    let len : length (keys_det ps) ≡ length ps = length-map ps (λ (p : Item × Item). det (view p.0)) in
+    let len : length (keys_det ps) ≡ length ps = length-map ps (λ (p : Item × Item). deterministic (view p.0)) in
     let s : IsStrictlySortedBy (slice_cmp nat_cmp) (keys_det ps) = sorted_from_all_adjacent nat_list_cmp_total (keys_det ps) [] (λ k h. up k [] (omega arith)) in
     joined_in_order (pairs_view ps) (laid (pairs_view ps)) w a (subst (IsStrictlySortedBy (slice_cmp nat_cmp)) (sym (firsts_laid ps)) s) (λ p. refl)
 
@@ -57,10 +57,10 @@ not_true true f = absurd (f refl)
 not_true false f = refl
 
 -- of the keys of a map whose keys are apart none has the bytes of another
-key_apart : (k v : Value) (ps : Pairs) → IsPlain k → ArePairsPlain ps → HasKeysApart (pairs (pair k v ps)) → AllByRecursion (λ l. bytes_eq (det k) l ≡ false) (firsts (laid ps))
+key_apart : (k v : Value) (ps : Pairs) → IsPlain k → ArePairsPlain ps → HasKeysApart (pairs (pair k v ps)) → AllByRecursion (λ l. bytes_eq (deterministic k) l ≡ false) (firsts (laid ps))
 key_apart k v no_pairs w ws a = tt
 key_apart k v (pair l u ps) w ws a = (
-  not_true (bytes_eq (det k) (det l)) (λ h. a.0.0 (same_by_det l k (writable l (plain_pair l u ps ws).0) (writable k w) (sym ((bytes_eq-Decides (det k) (det l)).0 h)))),
+  not_true (bytes_eq (deterministic k) (deterministic l)) (λ h. a.0.0 (same_by_deterministic l k (writable l (plain_pair l u ps ws).0) (writable k w) (sym ((bytes_eq-Decides (deterministic k) (deterministic l)).0 h)))),
   key_apart k v ps w (plain_pair l u ps ws).2 (a.0.1, a.1, a.2, a.3.3),
 )
 

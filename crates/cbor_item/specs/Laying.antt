@@ -3,7 +3,7 @@ use Rattle.std.specs.Prelude.{◌≡◌, ℕ, List, [], ◌∷◌, ◌++◌, map
 use Rattle.std.specs.BTreeMap.{BTreeMap}
 use Rattle.std.specs.declared.vec.Vec.{Vec}
 use Rattle.std.specs.declared.alloc.Global.{Global}
-use Rattle.cbor_data.specs.Ordered.{det, values_ordered, pairs_ordered}
+use Rattle.cbor_data.specs.Deterministic.{deterministic, values_ordered, pairs_ordered}
 use Rattle.cbor_data.specs.Preferred.{values_preferred, pairs_preferred}
 use Rattle.cbor_data.specs.Value.{Value, Values, Pairs}
 use Rattle.cbor_item.specs.Walk.{Walks, WalksAmong, WalksAfter}
@@ -15,7 +15,7 @@ LaysBy walks part place old new (Ok next) = walks place (Ok next) × (new ≡ ol
 LaysBy walks part place old new (Err e) = walks place (Err e)
 
 abbrev pub Lays : Value → ℕ → List ℕ → List ℕ → Result ℕ Unsound → Type 0
-Lays x = LaysBy (Walks x) (det x)
+Lays x = LaysBy (Walks x) (deterministic x)
 
 abbrev pub LaysAmong : Values → ℕ → List ℕ → List ℕ → Result ℕ Unsound → Type 0
 LaysAmong xs = LaysBy (WalksAmong xs) (values_preferred (values_ordered xs))

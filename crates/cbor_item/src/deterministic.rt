@@ -2,7 +2,7 @@
 
 ghost use Rattle.std.specs.Prelude.{◌≡◌, ◌<◌, ◌++◌, length, take, OnOk, IfOk};
 ghost use Rattle.std.specs.Io.KnownBytes.{Appends};
-ghost use Rattle.cbor_data.specs.Ordered.{det, values_ordered, pairs_ordered};
+ghost use Rattle.cbor_data.specs.Deterministic.{deterministic, values_ordered, pairs_ordered};
 ghost use Rattle.cbor_data.specs.Preferred.{shortest_head, values_preferred, pairs_preferred};
 ghost use Rattle.cbor_data.specs.Validity.{IsValid};
 ghost use Rattle.cbor_data.specs.Value.{array, pairs as pairs_value};
@@ -45,11 +45,11 @@ pub fn write_det<W: Write>(
     sound: &Sound,
     out: &mut Counted<W>,
 ) -> Result<(), DetFault>
-    ensures all { OnOk result (Appends (W.contents (device_of out.old)) (W.contents (device_of out.new)) (det sound.now)) }
+    ensures all { OnOk result (Appends (W.contents (device_of out.old)) (W.contents (device_of out.new)) (deterministic sound.now)) }
     ensures count { OnOk result (failures_of out.new ≡ failures_of out.old) }
     ensures memory { result ≡ Err DetFault.Memory → out.new ≡ out.old }
-    ensures short { (f : _) → result ≡ Err (DetFault.Write f) → f.written < length (det sound.now) }
-    ensures part { (f : _) → result ≡ Err (DetFault.Write f) → Appends (W.contents (device_of out.old)) (W.contents (device_of out.new)) (take f.written (det sound.now)) }
+    ensures short { (f : _) → result ≡ Err (DetFault.Write f) → f.written < length (deterministic sound.now) }
+    ensures part { (f : _) → result ≡ Err (DetFault.Write f) → Appends (W.contents (device_of out.old)) (W.contents (device_of out.new)) (take f.written (deterministic sound.now)) }
     ensures failed { (f : _) → result ≡ Err (DetFault.Write f) → HasRisen (failures_of out.old) (failures_of out.new) }
 {
     let mut bytes = Vec::new(alloc);
@@ -67,7 +67,7 @@ pub fn write_det<W: Write>(
 fn add_det(alloc: Global, item: &Item, out: &mut Vec<u8>) -> Result<(), AllocError>
     requires plain { IsPlain (view item.now) }
     requires valid { IsValid (view item.now) }
-    ensures { OnOk result (out.new.items ≡ out.old.items ++ det (view item.now)) }
+    ensures { OnOk result (out.new.items ≡ out.old.items ++ deterministic (view item.now)) }
 {
     match item {
         Item::Uint(n) => out.extend_from_slice(Head::shortest(0, *n).as_slice()),

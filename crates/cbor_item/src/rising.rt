@@ -4,7 +4,7 @@ ghost use Rattle.std.specs.Prelude.{◌≡◌, ◌++◌, length, IfSome, IsTrue}
 ghost use Rattle.std.specs.Cmp.Lexicographic.{slice_cmp};
 ghost use Rattle.std.specs.Ordering.{nat_cmp};
 ghost use Rattle.std.specs.declared.cmp.Ordering.TheVariants.{Less};
-ghost use Rattle.cbor_data.specs.Ordered.{det};
+ghost use Rattle.cbor_data.specs.Deterministic.{deterministic};
 ghost use Rattle.cbor_item.specs.Apart.{string_of, RisesBelow};
 ghost use Rattle.cbor_item.specs.InOrder.{keys_det};
 ghost use Rattle.cbor_item.specs.View.{view};
@@ -28,7 +28,7 @@ pub fn are_keys_rising(pairs: &[(Item, Item)]) -> bool
 
 // Whether it is sure that the one key's bytes come before those of the other.
 fn comes_before(key: &Item, other: &Item) -> bool
-    ensures { IsTrue result → slice_cmp nat_cmp (det (view key.now)) (det (view other.now)) ≡ Less }
+    ensures { IsTrue result → slice_cmp nat_cmp (deterministic (view key.now)) (deterministic (view other.now)) ≡ Less }
 {
     let Some(head) = head_of(key) else {
         return false;
@@ -46,7 +46,7 @@ fn comes_before(key: &Item, other: &Item) -> bool
 
 // The head of an item that is a number, a string or a simple value.
 fn head_of(item: &Item) -> Option<Head>
-    ensures { IfSome result (λ head. det (view item.now) ≡ head ++ string_of (view item.now)) }
+    ensures { IfSome result (λ head. deterministic (view item.now) ≡ head ++ string_of (view item.now)) }
 {
     match item {
         Item::Uint(n) => Some(Head::shortest(0, *n)),

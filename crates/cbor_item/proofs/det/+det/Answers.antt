@@ -1,5 +1,5 @@
 use Rattle.std.proofs.Common.{◌≡◌, ◌≤◌, ◌<◌, ◌+◌, ◌++◌, ◌^◌, ℕ, List, length, drop, refl, sym, ap, ap₂, ◌∙◌, subst, rules, arith, Ok, Err, [], true, false}
-use Rattle.cbor_data.specs.Ordered.{det}
+use Rattle.cbor_data.specs.Deterministic.{deterministic}
 use Rattle.cbor_data.specs.Preferred.{shortest_head}
 use Rattle.std.specs.BTreeMap.{insert_entry}
 use Rattle.std.specs.Cmp.Lexicographic.{slice_cmp}
@@ -109,8 +109,8 @@ append_pairs-returns-then-is_noted t c =
     let next = c.loop-key.next in
     let first = pairs_view-drop ys c.loop-key.key-index p (omega arith) c.loop-key-item.is in
     let knows = subst (λ ps. KnowsPairs (seen c.loop-key.noted) ps next (pairs_view ys) c.args.place) first c.loop-key.invariant in
-    let key : c.append_det.new.out.items ≡ det k = c.in_ok-after.ensures.1 ∙ ap (λ b. b ++ det k) c.new-key_bytes.ensures.items in
-    let has : has_key (det k) (seen c.loop-key.noted) ≡ true = ap (λ b. has_key b (seen c.loop-key.noted)) (sym key) ∙ (sym c.is_noted.ensures ∙ c.if-is_noted.true) in
+    let key : c.append_det.new.out.items ≡ deterministic k = c.in_ok-after.ensures.1 ∙ ap (λ b. b ++ deterministic k) c.new-key_bytes.ensures.items in
+    let has : has_key (deterministic k) (seen c.loop-key.noted) ≡ true = ap (λ b. has_key b (seen c.loop-key.noted)) (sym key) ∙ (sym c.is_noted.ensures ∙ c.if-is_noted.true) in
     subst (λ zs. WalksAfter [] (pairs_view zs) c.args.place (Err (Duplicate next))) c.deref-key-items.ensures.value
     (ends_repeated (seen c.loop-key.noted) k v rest next (pairs_view ys) c.args.place knows has)
 
@@ -139,8 +139,8 @@ append_pairs-returns-in_err-next t c =
     let e = c.in_err-next.field-0.0 in
     let first = pairs_view-drop ys c.loop-key.key-index p (omega arith) c.loop-key-item.is in
     let knows = subst (λ ps. KnowsPairs (seen c.loop-key.noted) ps next (pairs_view ys) c.args.place) first c.loop-key.invariant in
-    let key : c.append_det.new.out.items ≡ det k = c.in_ok-after.ensures.1 ∙ ap (λ b. b ++ det k) c.new-key_bytes.ensures.items in
-    let new : has_key (det k) (seen c.loop-key.noted) ≡ false = ap (λ b. has_key b (seen c.loop-key.noted)) (sym key) ∙ (sym c.is_noted.ensures ∙ c.if-is_noted.false) in
+    let key : c.append_det.new.out.items ≡ deterministic k = c.in_ok-after.ensures.1 ∙ ap (λ b. b ++ deterministic k) c.new-key_bytes.ensures.items in
+    let new : has_key (deterministic k) (seen c.loop-key.noted) ≡ false = ap (λ b. has_key b (seen c.loop-key.noted)) (sym key) ∙ (sym c.is_noted.ensures ∙ c.if-is_noted.false) in
     let is : c.from_residual-in_err-next.result ≡ Err e = search rules in
     subst (LaysPairs (pairs_view c.args.pairs.now.items) c.args.place old old) (sym is)
     (subst (λ zs. WalksAfter [] (pairs_view zs) c.args.place (Err e)) c.deref-key-items.ensures.value
@@ -157,10 +157,10 @@ append_pairs-loop-key-preserved t c =
     let es = seen c.loop-key.noted in
     let first = pairs_view-drop ys c.loop-key.key-index p (omega arith) c.loop-key-item.is in
     let knows = subst (λ ps. KnowsPairs es ps next (pairs_view ys) c.args.place) first c.loop-key.invariant in
-    let key : c.append_det.new.out.items ≡ det k = c.in_ok-after.ensures.1 ∙ ap (λ b. b ++ det k) c.new-key_bytes.ensures.items in
-    let held : c.append_det-in-loop-key.new.out.items ≡ det v = c.in_ok-next.ensures.1 ∙ ap (λ b. b ++ det v) c.new-value_bytes.ensures.items in
-    let new : has_key (det k) es ≡ false = ap (λ b. has_key b es) (sym key) ∙ (sym c.is_noted.ensures ∙ c.if-is_noted.false) in
-    let noted : seen c.note.new.noted ≡ insert_entry (slice_cmp nat_cmp) es (det k) (det v) = c.in_ok-note.ensures.ok ∙ ap₂ (λ a b. insert_entry (slice_cmp nat_cmp) es a b) key held in
+    let key : c.append_det.new.out.items ≡ deterministic k = c.in_ok-after.ensures.1 ∙ ap (λ b. b ++ deterministic k) c.new-key_bytes.ensures.items in
+    let held : c.append_det-in-loop-key.new.out.items ≡ deterministic v = c.in_ok-next.ensures.1 ∙ ap (λ b. b ++ deterministic v) c.new-value_bytes.ensures.items in
+    let new : has_key (deterministic k) es ≡ false = ap (λ b. has_key b es) (sym key) ∙ (sym c.is_noted.ensures ∙ c.if-is_noted.false) in
+    let noted : seen c.note.new.noted ≡ insert_entry (slice_cmp nat_cmp) es (deterministic k) (deterministic v) = c.in_ok-note.ensures.ok ∙ ap₂ (λ a b. insert_entry (slice_cmp nat_cmp) es a b) key held in
     subst (λ fs. KnowsPairs fs rest c.in_ok-next.next (pairs_view ys) c.args.place) (sym noted)
     (knows_more es k v rest next c.in_ok-after.after c.in_ok-next.next (pairs_view ys) c.args.place knows new c.in_ok-after.ensures.0 c.in_ok-next.ensures.0)
 

@@ -1,5 +1,5 @@
 use Rattle.std.proofs.Common.{◌≡◌, ◌≤◌, ◌<◌, ◌+◌, ◌++◌, ℕ, List, length, drop, [], ◌∷◌, append-nil, refl, sym, ap, ◌∙◌, subst, rules, arith}
-use Rattle.cbor_data.specs.Ordered.{det, values_ordered, pairs_ordered}
+use Rattle.cbor_data.specs.Deterministic.{deterministic, values_ordered, pairs_ordered}
 use Rattle.cbor_data.specs.Preferred.{shortest_head, values_preferred, pairs_preferred}
 use Rattle.cbor_data.specs.Value.{array, pairs, value, pair, values_len, pairs_len}
 use Rattle.cbor_data.proofs.Lemmas.{HasKeysApart, apart_valid, valid_apart}
@@ -81,7 +81,7 @@ add_det-returns-in_ok-extend_from_slice-in-Tag t c =
     let mid = c.extend_from_slice-in-Tag.new.self.items in
     let new = c.add_det.new.out.items in
     let head : c.as_slice-in-Tag.result.now ≡ shortest_head 6 n = c.as_slice-in-Tag.ensures ∙ c.shortest-in-Tag.ensures in
-    ok_then c.add_det.result (λ h. added_tag c.args.item.now n x old mid new c.in-Tag.is (c.in_ok-extend_from_slice-in-Tag.ensures.items ∙ ap (λ b. old ++ b) head) (h ∙ ap (λ i. mid ++ det (view i)) c.deref.ensures)) c.add_det.ensures
+    ok_then c.add_det.result (λ h. added_tag c.args.item.now n x old mid new c.in-Tag.is (c.in_ok-extend_from_slice-in-Tag.ensures.items ∙ ap (λ b. old ++ b) head) (h ∙ ap (λ i. mid ++ deterministic (view i)) c.deref.ensures)) c.add_det.ensures
 
 pub add_members-loop-item-init : goal.add_members-loop-item-init
 add_members-loop-item-init t c =

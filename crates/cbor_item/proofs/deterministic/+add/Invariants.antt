@@ -1,5 +1,5 @@
 use Rattle.std.proofs.Common.{◌≡◌, ◌++◌, drop}
-use Rattle.cbor_data.specs.Ordered.{values_ordered}
+use Rattle.cbor_data.specs.Deterministic.{values_ordered}
 use Rattle.cbor_data.specs.Preferred.{values_preferred}
 use Rattle.cbor_data.specs.Value.{array, pairs}
 use Rattle.cbor_data.proofs.Lemmas.{HasKeysApart}

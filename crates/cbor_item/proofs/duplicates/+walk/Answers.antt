@@ -1,7 +1,7 @@
 use Rattle.std.proofs.Common.{◌≡◌, ◌≤◌, ◌<◌, ◌+◌, ◌^◌, ◌++◌, ◌||◌, ℕ, List, [], true, drop, sym, ap, ◌∙◌, subst, rules, arith, Ok, Err}
 use Rattle.std.specs.Prelude.{not}
 use Rattle.std.specs.Str.{bytes_eq}
-use Rattle.cbor_data.specs.Ordered.{det}
+use Rattle.cbor_data.specs.Deterministic.{deterministic}
 use Rattle.cbor_data.specs.Value.{value, values_place_count, pairs_place_count}
 use Rattle.cbor_item.specs.View.{view, values_view, pairs_view}
 use Rattle.cbor_item.specs.Walk.{Walks, WalksAmong, WalksAfter, ArePlain, ArePairsPlain, has}
@@ -109,7 +109,7 @@ walk_pairs-returns-then-not-branch t c =
     let next = c.loop-key.next in
     let first = pairs_view-drop ys c.loop-key.key-index p (omega arith) c.loop-key-item.is in
     let knows = subst (λ ps. KnowsKeys c.loop-key.keys ps next (pairs_view ys) c.args.place) first c.loop-key.invariant in
-    let key : c.append_det.new.out.items ≡ det k = c.in_ok-after.ensures.1 ∙ ap (λ b. b ++ det k) c.new-bytes.ensures.items in
+    let key : c.append_det.new.out.items ≡ deterministic k = c.in_ok-after.ensures.1 ∙ ap (λ b. b ++ deterministic k) c.new-bytes.ensures.items in
     let told = subst (λ b. c.in_ok-note_key.field-0 ≡ not (has c.loop-key.keys b)) key c.in_ok-note_key.ensures.new in
     subst (λ zs. WalksAfter [] (pairs_view zs) c.args.place (Err (Duplicate next))) c.deref-key-items.ensures.value
     (key_repeats c.loop-key.keys k v rest next (pairs_view ys) c.args.place knows (sym c.if-not-branch.true ∙ told))
@@ -137,7 +137,7 @@ walk_pairs-returns-in_err-next t c =
     let next = c.loop-key.next in
     let first = pairs_view-drop ys c.loop-key.key-index p (omega arith) c.loop-key-item.is in
     let knows = subst (λ ps. KnowsKeys c.loop-key.keys ps next (pairs_view ys) c.args.place) first c.loop-key.invariant in
-    let key : c.append_det.new.out.items ≡ det k = c.in_ok-after.ensures.1 ∙ ap (λ b. b ++ det k) c.new-bytes.ensures.items in
+    let key : c.append_det.new.out.items ≡ deterministic k = c.in_ok-after.ensures.1 ∙ ap (λ b. b ++ deterministic k) c.new-bytes.ensures.items in
     let told = subst (λ b. c.in_ok-note_key.field-0 ≡ not (has c.loop-key.keys b)) key c.in_ok-note_key.ensures.new in
     let added : c.in_ok-note_key.field-0 ≡ true = search rules in
     let e = c.in_err-next.field-0.0 in
@@ -156,7 +156,7 @@ walk_pairs-loop-key-preserved t c =
     let next = c.loop-key.next in
     let first = pairs_view-drop ys c.loop-key.key-index p (omega arith) c.loop-key-item.is in
     let knows = subst (λ ps. KnowsKeys c.loop-key.keys ps next (pairs_view ys) c.args.place) first c.loop-key.invariant in
-    let key : c.append_det.new.out.items ≡ det k = c.in_ok-after.ensures.1 ∙ ap (λ b. b ++ det k) c.new-bytes.ensures.items in
+    let key : c.append_det.new.out.items ≡ deterministic k = c.in_ok-after.ensures.1 ∙ ap (λ b. b ++ deterministic k) c.new-bytes.ensures.items in
     let told = subst (λ b. c.in_ok-note_key.field-0 ≡ not (has c.loop-key.keys b)) key c.in_ok-note_key.ensures.new in
     let added : c.in_ok-note_key.field-0 ≡ true = search rules in
     let noted = subst (λ b. (part : List ℕ) → has c.note_key.new.keys part ≡ (bytes_eq part b || has c.loop-key.keys part)) key c.in_ok-note_key.ensures.noted in
