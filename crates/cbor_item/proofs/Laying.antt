@@ -22,11 +22,11 @@ use Rattle.cbor_item.proofs.Keys.{among, AllWritable, found_among, missed_among,
 use Rattle.cbor_item.proofs.Plain.{plain_pair}
 use Rattle.cbor_item.proofs.Walking.{AreValid, among_more, among_stop, among_none, after_more, after_key, after_value, after_repeat, after_none, walks_array, walks_pairs, walks_tag}
 
-as_long : (xs : Values) → values_len (values_ordered xs) ≡ values_len xs
+pub as_long : (xs : Values) → values_len (values_ordered xs) ≡ values_len xs
 as_long no_values = refl
 as_long (value x xs) = ap suc (as_long xs)
 
-joined_on : (old mid new a b : List ℕ) → mid ≡ old ++ a → new ≡ mid ++ b → new ≡ old ++ (a ++ b)
+pub joined_on : (old mid new a b : List ℕ) → mid ≡ old ++ a → new ≡ mid ++ b → new ≡ old ++ (a ++ b)
 joined_on old mid new a b e f = f ∙ ap (λ c. c ++ b) e ∙ append_assoc old a b
 
 pub lays_more : (x : Value) (xs : Values) (place next : ℕ) (old mid new : List ℕ) (r : Result ℕ Unsound) → Lays x place old mid (Ok next) → LaysAmong xs next mid new r → LaysAmong (value x xs) place old new r
@@ -63,7 +63,7 @@ abbrev pub byte_pairs : Pairs → List (List ℕ × List ℕ)
 byte_pairs no_pairs = []
 byte_pairs (pair k v ps) = (preferred k, preferred v) ∷ byte_pairs ps
 
-joined_pairs : (ps : Pairs) → joined (byte_pairs ps) ≡ pairs_preferred ps
+pub joined_pairs : (ps : Pairs) → joined (byte_pairs ps) ≡ pairs_preferred ps
 joined_pairs no_pairs = refl
 joined_pairs (pair k v ps) = ap (λ b. preferred k ++ (preferred v ++ b)) (joined_pairs ps)
 

@@ -10,6 +10,10 @@ mod Keys
 mod Plain
 mod Walking
 mod Laying
+mod InOrder
+mod Sorted
+mod Adding
+mod HeadOrder
 mod Noted
 mod KeySet
 mod Keeping

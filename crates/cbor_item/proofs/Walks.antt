@@ -38,6 +38,12 @@ pair_size-within ps qs i p h is same =
     let there : pair_size (get_or qs i p) ≤ most pair_size qs = at_most pair_size qs i p h in
     subst (λ rs. pair_size p ≤ most pair_size rs) same (subst (λ q. pair_size q ≤ most pair_size qs) (sym is) there)
 
+-- an item of a list is no deeper than the list
+pub size-within : (xs ys : List Item) (i : ℕ) (x : Item) → i < length ys → x ≡ get_or ys i x → ys ≡ xs → the_size x ≤ most the_size xs
+size-within xs ys i x h is same =
+    let there : the_size (get_or ys i x) ≤ most the_size ys = at_most the_size ys i x h in
+    subst (λ zs. the_size x ≤ most the_size zs) same (subst (λ y. the_size y ≤ most the_size ys) (sym is) there)
+
 and-false : (b : Bool) → (b && false) ≡ false
 and-false true = refl
 and-false false = refl

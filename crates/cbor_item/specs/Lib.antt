@@ -3,6 +3,7 @@ pub mod Unsound
 pub mod Counted
 pub mod Length
 pub mod Gone
+pub mod InOrder
 pub mod Walk
 pub mod Comma
 pub mod Apart

@@ -201,7 +201,7 @@ fn is_ascending(strings: &[&[u8]]) -> bool
     true
 }
 
-fn is_before(s: &[u8], t: &[u8]) -> bool
+pub fn is_before(s: &[u8], t: &[u8]) -> bool
     ensures { IsTrue result → slice_cmp nat_cmp s.now t.now ≡ Less }
 {
     s.cmp(t) == Ordering::Less

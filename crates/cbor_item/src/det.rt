@@ -1,28 +1,22 @@
 //! The deterministic bytes of an item (RFC 8949 section 4.2.1), and its first repeated key, which shows on the way.
 
-ghost use Rattle.std.specs.Prelude.{◌≡◌, ◌+◌, ◌<◌, ◌^◌, ◌++◌, ℕ, length, take, false, OnOk, OnErr, IfOk, IfErr, Ok, Err};
+ghost use Rattle.std.specs.Prelude.{◌≡◌, ◌+◌, ◌<◌, ◌^◌, ◌++◌, ℕ, length, OnOk, IfOk, IfErr};
 ghost use Rattle.std.specs.BTreeMap.{insert_entry};
 ghost use Rattle.std.specs.Cmp.Lexicographic.{slice_cmp};
 ghost use Rattle.std.specs.Ordering.{nat_cmp};
-ghost use Rattle.std.specs.Io.KnownBytes.{Appends};
 ghost use Rattle.cbor_data.specs.Deterministic.{deterministic};
 ghost use Rattle.cbor_data.specs.Preferred.{shortest_head};
-ghost use Rattle.cbor_item.specs.Counted.{device_of, failures_of, HasRisen};
 ghost use Rattle.cbor_item.specs.Laying.{Lays, LaysAmong, LaysPairs, has_key, joined, seen};
 ghost use Rattle.cbor_item.specs.View.{view, values_view, pairs_view};
 ghost use Rattle.cbor_item.specs.Walk.{IsPlain, ArePlain, ArePairsPlain};
 ghost use Rattle.cbor_item.specs.declared.sound.Unsound.TheVariants.{Memory};
 ghost use Rattle.cbor_data.specs.Value.{place_count, values_place_count, pairs_place_count};
 
-use crate::counted::Counted;
 use crate::head::Head;
 use crate::item::Item;
-use crate::sound::{Sound, Unsound};
-use crate::write::{WriteFault, write_bytes};
+use crate::sound::Unsound;
 use std::alloc::Global;
 use std::collections::BTreeMap;
-use std::io::Write;
-use thiserror::Error;
 
 // Adds the deterministic bytes of an item at `place`, and answers the place after it; or else the place of its first
 // repeated key.
@@ -166,44 +160,4 @@ fn append_string(major: u8, bytes: &[u8], place: usize, out: &mut Vec<u8>) -> Re
 {
     append(Head::shortest(major, bytes.len() as u64).as_slice(), out)?;
     append_part(bytes, place, out)
-}
-
-/// Why the deterministic bytes of an item did not all go out.
-#[derive(Clone, Copy, Debug, PartialEq, Eq, Error)]
-pub enum DetFault {
-    /// There was no memory for them. Nothing went out.
-    #[error("out of memory")]
-    Memory,
-    /// The device failed while they were written to it.
-    #[error("{0}")]
-    Write(WriteFault),
-}
-
-/// Writes the item's deterministic bytes (RFC 8949 section 4.2.1): as the preferred ones, the pairs of each map in the
-/// bytewise order of the deterministic bytes of their keys. All memory is taken before the first write.
-///
-/// # Errors
-///
-/// `Memory`, with nothing written; or `Write` where the device failed in this call, and exactly the first `written` of
-/// these bytes went out.
-pub fn write_det<W: Write>(
-    alloc: Global,
-    sound: &Sound,
-    out: &mut Counted<W>,
-) -> Result<(), DetFault>
-    ensures all { OnOk result (Appends (W.contents (device_of out.old)) (W.contents (device_of out.new)) (deterministic sound.now)) }
-    ensures count { OnOk result (failures_of out.new ≡ failures_of out.old) }
-    ensures memory { result ≡ Err DetFault.Memory → out.new ≡ out.old }
-    ensures short { (f : _) → result ≡ Err (DetFault.Write f) → f.written < length (deterministic sound.now) }
-    ensures part { (f : _) → result ≡ Err (DetFault.Write f) → Appends (W.contents (device_of out.old)) (W.contents (device_of out.new)) (take f.written (deterministic sound.now)) }
-    ensures failed { (f : _) → result ≡ Err (DetFault.Write f) → HasRisen (failures_of out.old) (failures_of out.new) }
-{
-    let mut bytes = Vec::new(alloc);
-    if append_det(alloc, sound.item(), 0, &mut bytes).is_err() {
-        return Err(DetFault::Memory);
-    }
-    match write_bytes(bytes.as_slice(), out) {
-        Ok(()) => Ok(()),
-        Err(fault) => Err(DetFault::Write(fault)),
-    }
 }

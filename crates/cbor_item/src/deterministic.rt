@@ -1,0 +1,164 @@
+//! Writes items to a device in deterministic encoding (RFC 8949 section 4.2.1).
+
+ghost use Rattle.std.specs.Prelude.{◌≡◌, ◌<◌, ◌++◌, length, take, OnOk, IfOk};
+ghost use Rattle.std.specs.Io.KnownBytes.{Appends};
+ghost use Rattle.cbor_data.specs.Deterministic.{deterministic, values_ordered, pairs_ordered};
+ghost use Rattle.cbor_data.specs.Preferred.{shortest_head, values_preferred, pairs_preferred};
+ghost use Rattle.cbor_data.specs.Validity.{IsValid};
+ghost use Rattle.cbor_data.specs.Value.{array, pairs as pairs_value};
+ghost use Rattle.cbor_item.specs.Counted.{device_of, failures_of, HasRisen};
+ghost use Rattle.cbor_item.specs.InOrder.{laid};
+ghost use Rattle.cbor_item.specs.Laying.{joined, seen_entries};
+ghost use Rattle.cbor_item.specs.View.{view, values_view, pairs_view};
+ghost use Rattle.cbor_item.specs.Walk.{IsPlain, ArePlain, ArePairsPlain};
+
+use crate::counted::Counted;
+use crate::head::Head;
+use crate::item::Item;
+use crate::rising::are_keys_rising;
+use crate::sound::Sound;
+use crate::write::{WriteFault, write_bytes};
+use std::alloc::{AllocError, Global};
+use std::io::Write;
+use thiserror::Error;
+
+/// Why the deterministic bytes of an item did not all go out.
+#[derive(Clone, Copy, Debug, PartialEq, Eq, Error)]
+pub enum DetFault {
+    /// There was no memory for them. Nothing went out.
+    #[error("out of memory")]
+    Memory,
+    /// The device failed while they were written to it.
+    #[error("{0}")]
+    Write(WriteFault),
+}
+
+/// Writes the item's deterministic bytes (RFC 8949 section 4.2.1): as the preferred ones, the pairs of each map in the
+/// bytewise order of the deterministic bytes of their keys. All memory is taken before the first write.
+///
+/// # Errors
+///
+/// `Memory`, with nothing written; or `Write` where the device failed in this call, and exactly the first `written` of
+/// these bytes went out.
+pub fn write_det<W: Write>(
+    alloc: Global,
+    sound: &Sound,
+    out: &mut Counted<W>,
+) -> Result<(), DetFault>
+    ensures all { OnOk result (Appends (W.contents (device_of out.old)) (W.contents (device_of out.new)) (deterministic sound.now)) }
+    ensures count { OnOk result (failures_of out.new ≡ failures_of out.old) }
+    ensures memory { result ≡ Err DetFault.Memory → out.new ≡ out.old }
+    ensures short { (f : _) → result ≡ Err (DetFault.Write f) → f.written < length (deterministic sound.now) }
+    ensures part { (f : _) → result ≡ Err (DetFault.Write f) → Appends (W.contents (device_of out.old)) (W.contents (device_of out.new)) (take f.written (deterministic sound.now)) }
+    ensures failed { (f : _) → result ≡ Err (DetFault.Write f) → HasRisen (failures_of out.old) (failures_of out.new) }
+{
+    let mut bytes = Vec::new(alloc);
+    if add_det(alloc, sound.item(), &mut bytes).is_err() {
+        return Err(DetFault::Memory);
+    }
+    match write_bytes(bytes.as_slice(), out) {
+        Ok(()) => Ok(()),
+        Err(fault) => Err(DetFault::Write(fault)),
+    }
+}
+
+// Adds the deterministic bytes of a valid item.
+#[cycle(add)]
+fn add_det(alloc: Global, item: &Item, out: &mut Vec<u8>) -> Result<(), AllocError>
+    requires plain { IsPlain (view item.now) }
+    requires valid { IsValid (view item.now) }
+    ensures { OnOk result (out.new.items ≡ out.old.items ++ deterministic (view item.now)) }
+{
+    match item {
+        Item::Uint(n) => out.extend_from_slice(Head::shortest(0, *n).as_slice()),
+        Item::Nint(n) => out.extend_from_slice(Head::shortest(1, *n).as_slice()),
+        Item::Bytes(bytes) => add_string(2, bytes.as_slice(), out),
+        Item::Text(text) => add_string(3, text.as_str().as_bytes(), out),
+        Item::Array(items) => {
+            out.extend_from_slice(Head::shortest(4, items.len() as u64).as_slice())?;
+            add_members(alloc, items, out)
+        }
+        Item::Map(pairs) => {
+            out.extend_from_slice(Head::shortest(5, pairs.len() as u64).as_slice())?;
+            if are_keys_rising(pairs.as_slice()) {
+                return add_pairs(alloc, pairs, out);
+            }
+            let entries = entries_in_order(alloc, pairs)?;
+            add_entries(&entries, out)
+        }
+        Item::Tag(number, content) => {
+            out.extend_from_slice(Head::shortest(6, *number).as_slice())?;
+            add_det(alloc, content, out)
+        }
+        Item::Simple(n) => out.extend_from_slice(Head::simple(*n).as_slice()),
+        Item::Float(width, bits) => out.extend_from_slice(Head::float(*width, *bits).as_slice()),
+    }
+}
+
+#[cycle(add)]
+fn add_members(alloc: Global, items: &Vec<Item>, out: &mut Vec<u8>) -> Result<(), AllocError>
+    requires plain { ArePlain (values_view items.now.items) }
+    requires valid { IsValid (array (values_view items.now.items)) }
+    ensures { OnOk result (out.new.items ≡ out.old.items ++ values_preferred (values_ordered (values_view items.now.items))) }
+{
+    for item in items {
+        add_det(alloc, item, out)?;
+    }
+    Ok(())
+}
+
+// Adds the pairs of a map as they come.
+#[cycle(add)]
+fn add_pairs(alloc: Global, pairs: &Vec<(Item, Item)>, out: &mut Vec<u8>) -> Result<(), AllocError>
+    requires plain { ArePairsPlain (pairs_view pairs.now.items) }
+    requires valid { IsValid (pairs_value (pairs_view pairs.now.items)) }
+    ensures { OnOk result (out.new.items ≡ out.old.items ++ joined (laid (pairs_view pairs.now.items))) }
+{
+    for (key, value) in pairs {
+        add_det(alloc, key, out)?;
+        add_det(alloc, value, out)?;
+    }
+    Ok(())
+}
+
+// The bytes of the pairs of a map, in the order of their keys.
+#[cycle(add)]
+fn entries_in_order(
+    alloc: Global,
+    pairs: &Vec<(Item, Item)>,
+) -> Result<Vec<(Vec<u8>, Vec<u8>)>, AllocError>
+    requires plain { IsPlain (pairs_value (pairs_view pairs.now.items)) }
+    requires valid { IsValid (pairs_value (pairs_view pairs.now.items)) }
+    ensures { IfOk result (λ es. joined (seen_entries es.items) ≡ pairs_preferred (pairs_ordered (pairs_view pairs.now.items))) }
+{
+    let mut entries = Vec::new(alloc);
+    for (key, value) in pairs {
+        let mut key_bytes = Vec::new(alloc);
+        add_det(alloc, key, &mut key_bytes)?;
+        let mut value_bytes = Vec::new(alloc);
+        add_det(alloc, value, &mut value_bytes)?;
+        entries.push((key_bytes, value_bytes))?;
+    }
+    entries.sort_unstable();
+    Ok(entries)
+}
+
+// Adds pairs, each key and then its value.
+fn add_entries(entries: &Vec<(Vec<u8>, Vec<u8>)>, out: &mut Vec<u8>) -> Result<(), AllocError>
+    ensures { OnOk result (out.new.items ≡ out.old.items ++ joined (seen_entries entries.now.items)) }
+{
+    for (key, value) in entries {
+        out.extend_from_slice(key.as_slice())?;
+        out.extend_from_slice(value.as_slice())?;
+    }
+    Ok(())
+}
+
+// A string: its head, and then its bytes.
+fn add_string(major: u8, bytes: &[u8], out: &mut Vec<u8>) -> Result<(), AllocError>
+    requires { major < 8 }
+    ensures { OnOk result (out.new.items ≡ out.old.items ++ (shortest_head major (length bytes.now) ++ bytes.now)) }
+{
+    out.extend_from_slice(Head::shortest(major, bytes.len() as u64).as_slice())?;
+    out.extend_from_slice(bytes)
+}
