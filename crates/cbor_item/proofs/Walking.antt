@@ -103,7 +103,7 @@ among_none place = (λ i h. h, omega arith)
 pub after_none : (earlier : List Value) (place : ℕ) → WalksAfter earlier no_pairs place (Ok place)
 after_none earlier place = (λ i h. h, omega arith)
 
--- no map in the values has two equal keys
+-- no map in the values has two keys that are the same
 abbrev pub AreValid : List Value → Type 0
 AreValid [] = Unit {0}
 AreValid (x ∷ xs) = IsValid x × AreValid xs
