@@ -1,5 +1,5 @@
 -- Looking for the first repeated key in parts.
-use Rattle.std.proofs.Common.{◌≡◌, ℕ, suc, ◌+◌, ◌<◌, ◌≤◌, List, [], ◌∷◌, ◌⊎◌, inl, inr, refl, ap, ◌∙◌, subst, arith, Result, Ok, Err}
+use Rattle.std.proofs.Common.{◌≡◌, ℕ, suc, ◌+◌, ◌<◌, ◌≤◌, List, [], ◌∷◌, ◌⊎◌, inl, inr, refl, ap, ◌∙◌, arith, Result, Ok, Err}
 use Rattle.cbor_data.specs.Validity.{IsOneOf, IsValid, IsRepeatedKey, IsRepeatedKeyAmong, IsRepeatedKeyAfter}
 use Rattle.cbor_data.specs.Value.{Value, uint, nint, bytes, text, array, pairs, tag, simple, float, Values, no_values, value, Pairs, no_pairs, pair, place_count, values_place_count, pairs_place_count}
 use Rattle.cbor_data.proofs.Lemmas.{back, same_valid}

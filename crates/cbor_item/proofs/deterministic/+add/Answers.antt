@@ -1,6 +1,6 @@
-use Rattle.std.proofs.Common.{◌≡◌, ◌≤◌, ◌<◌, ◌+◌, ◌++◌, ℕ, List, length, drop, [], ◌∷◌, append-nil, refl, sym, ap, ◌∙◌, subst, rules, arith}
-use Rattle.cbor_data.specs.Ordered.{det, values_ordered, pairs_ordered}
-use Rattle.cbor_data.specs.Preferred.{shortest_head, values_preferred, pairs_preferred}
+use Rattle.std.proofs.Common.{◌≡◌, ◌≤◌, ◌+◌, ◌++◌, length, drop, [], append-nil, refl, sym, ap, ◌∙◌, subst, rules, arith}
+use Rattle.cbor_data.specs.Ordered.{det, pairs_ordered}
+use Rattle.cbor_data.specs.Preferred.{shortest_head, pairs_preferred}
 use Rattle.cbor_data.specs.Value.{array, pairs, value, pair, values_len, pairs_len}
 use Rattle.cbor_data.proofs.Lemmas.{HasKeysApart, apart_valid, valid_apart}
 use Rattle.cbor_item.specs.InOrder.{laid}
