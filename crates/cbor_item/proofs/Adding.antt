@@ -1,17 +1,15 @@
 -- Adding the deterministic bytes of an item in parts.
-use Rattle.std.proofs.Common.{◌≡◌, ℕ, suc, ◌+◌, ◌<◌, List, [], ◌∷◌, ◌++◌, refl, sym, ap, ◌∙◌, subst, Result, Ok, Err, OnOk, append_assoc, append-nil, Vec, Box, Global}
-use Rattle.cbor_data.specs.Deterministic.{ordered, values_ordered, pairs_ordered, deterministic}
-use Rattle.cbor_data.specs.Preferred.{shortest_head, preferred, values_preferred, pairs_preferred}
+use Rattle.std.proofs.Common.{◌≡◌, ℕ, List, [], ◌++◌, sym, ap, ◌∙◌, subst, Result, Ok, Err, OnOk, append_assoc, append-nil, Vec, Box, Global}
+use Rattle.cbor_data.specs.Deterministic.{values_ordered, pairs_ordered, deterministic}
+use Rattle.cbor_data.specs.Preferred.{shortest_head, values_preferred, pairs_preferred}
 use Rattle.cbor_data.specs.Validity.{IsValid}
-use Rattle.cbor_data.specs.Value.{Value, array, pairs, tag, Values, no_values, value, Pairs, no_pairs, pair, values_len, pairs_len}
-use Rattle.cbor_data.proofs.Lemmas.{HasKeysApart, apart_valid, as_many_pairs, pairs_same_ordered, valid_apart}
-use Rattle.cbor_item.specs.InOrder.{laid}
-use Rattle.cbor_item.specs.Laying.{joined, seen_entries}
+use Rattle.cbor_data.specs.Value.{Value, array, pairs, tag, values_len, pairs_len}
+use Rattle.cbor_data.proofs.Lemmas.{apart_valid, as_many_pairs, pairs_same_ordered, valid_apart}
 use Rattle.cbor_item.specs.View.{view, values_view, pairs_view}
-use Rattle.cbor_item.specs.Walk.{IsPlain, ArePlain, ArePairsPlain}
+use Rattle.cbor_item.specs.Walk.{IsPlain}
 use Rattle.cbor_item.specs.declared.item.Item.{Item, Array, Map, Tag}
 use Rattle.cbor_item.proofs.Laying.{as_long, joined_on}
-use Rattle.cbor_item.proofs.Plain.{plain_content, plain_members, plain_pairs}
+use Rattle.cbor_item.proofs.Plain.{plain_content}
 use Rattle.cbor_item.proofs.Views.{view-Array, view-Map, view-Tag}
 
 pub ok_then : {T E : Type 0} {P Q : Type 0} (r : Result T E) → (P → Q) → OnOk r P → OnOk r Q

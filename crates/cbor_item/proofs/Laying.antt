@@ -1,5 +1,5 @@
 -- Laying out the deterministic bytes of an item in parts.
-use Rattle.std.proofs.Common.{◌≡◌, ℕ, suc, ◌+◌, ◌<◌, ◌^◌, List, [], ◌∷◌, ◌++◌, Bool, true, false, ◌||◌, cond, refl, sym, ap, ◌∙◌, subst, arith, Result, Ok, Err, append_assoc, append-nil}
+use Rattle.std.proofs.Common.{◌≡◌, ℕ, suc, ◌+◌, ◌<◌, ◌^◌, List, [], ◌∷◌, ◌++◌, Bool, true, false, ◌||◌, cond, refl, sym, ap, ◌∙◌, arith, Result, Ok, Err, append_assoc, append-nil}
 use Rattle.std.specs.Str.{bytes_eq}
 use Rattle.std.specs.BTreeMap.{insert_entry}
 use Rattle.std.specs.Cmp.Lexicographic.{slice_cmp}
@@ -14,7 +14,7 @@ use Rattle.cbor_data.specs.Validity.{IsOneOf}
 use Rattle.cbor_data.specs.Value.{Value, array, pairs, tag, Values, no_values, value, Pairs, no_pairs, pair, values_len, pairs_len, pairs_place_count}
 use Rattle.cbor_data.specs.Writable.{IsWritable}
 use Rattle.cbor_data.proofs.Lemmas.{ArePairsWritable, as_many_pairs, gathered, gathered_all, pairs_same_ordered, valid_apart}
-use Rattle.cbor_item.specs.Laying.{LaysBy, Lays, LaysAmong, LaysPairs, has_key, joined}
+use Rattle.cbor_item.specs.Laying.{Lays, LaysAmong, LaysPairs, has_key, joined}
 use Rattle.cbor_item.specs.Walk.{IsPlain, ArePairsPlain, Walks, WalksAfter}
 use Rattle.cbor_item.specs.declared.sound.Unsound.{Unsound}
 use Rattle.cbor_item.specs.declared.sound.Unsound.TheVariants.{Duplicate}

@@ -1,5 +1,5 @@
 -- Looking for the first repeated key in parts.
-use Rattle.std.proofs.Common.{◌≡◌, ℕ, suc, ◌+◌, ◌<◌, ◌≤◌, List, [], ◌∷◌, ◌⊎◌, inl, inr, refl, ap, ◌∙◌, subst, arith, Result, Ok, Err}
+use Rattle.std.proofs.Common.{◌≡◌, ℕ, suc, ◌+◌, ◌<◌, ◌≤◌, List, [], ◌∷◌, ◌⊎◌, inl, inr, refl, ap, ◌∙◌, arith, Result, Ok, Err}
 use Rattle.cbor_data.specs.Validity.{IsOneOf, IsValid, IsRepeatedKey, IsRepeatedKeyAmong, IsRepeatedKeyAfter}
 use Rattle.cbor_data.specs.Value.{Value, uint, nint, bytes, text, array, pairs, tag, simple, float, Values, no_values, value, Pairs, no_pairs, pair, place_count, values_place_count, pairs_place_count}
 use Rattle.cbor_data.proofs.Lemmas.{back, same_valid}
@@ -103,7 +103,7 @@ among_none place = (λ i h. h, omega arith)
 pub after_none : (earlier : List Value) (place : ℕ) → WalksAfter earlier no_pairs place (Ok place)
 after_none earlier place = (λ i h. h, omega arith)
 
--- no map in the values has two equal keys
+-- no map in the values has two keys that are the same
 abbrev pub AreValid : List Value → Type 0
 AreValid [] = Unit {0}
 AreValid (x ∷ xs) = IsValid x × AreValid xs

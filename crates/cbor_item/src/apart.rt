@@ -19,7 +19,8 @@ use std::cmp::Ordering;
 // So many keys are compared with each other; of more, the numbers or strings are sorted.
 const FEW: usize = 8;
 
-// Whether it is sure that no map in the item has two equal keys. False says nothing. It looks at a byte of a key at most
+// Whether it is sure that no map in the item has two keys that are the same up to the order of pairs in them. False says
+// nothing. It looks at a byte of a key at most
 // seven times, or at most once for each level of a sort.
 #[cycle(surely)]
 pub fn is_surely_valid(alloc: Global, item: &Item) -> bool

@@ -1,4 +1,5 @@
-//! The deterministic bytes of an item (RFC 8949 section 4.2.1), and its first repeated key, which shows on the way.
+//! The deterministic bytes of a key (RFC 8949 section 4.2.1), which tell it from other keys, and its first repeated key,
+//! which shows while they are laid out. An item that is known to be valid is laid out by `deterministic`, with less work.
 
 ghost use Rattle.std.specs.Prelude.{◌≡◌, ◌+◌, ◌<◌, ◌^◌, ◌++◌, ℕ, length, OnOk, IfOk, IfErr};
 ghost use Rattle.std.specs.BTreeMap.{insert_entry};

@@ -22,24 +22,25 @@ use std::alloc::{AllocError, Global};
 use std::io::Write;
 use thiserror::Error;
 
-/// Why the deterministic bytes of an item did not all go out.
+/// Why not all of an item went out in deterministic encoding.
 #[derive(Clone, Copy, Debug, PartialEq, Eq, Error)]
 pub enum DetFault {
-    /// There was no memory for them. Nothing went out.
+    /// There was no memory to lay its bytes out. Nothing went out.
     #[error("out of memory")]
     Memory,
-    /// The device failed while they were written to it.
+    /// The device failed while the bytes were written to it.
     #[error("{0}")]
     Write(WriteFault),
 }
 
-/// Writes the item's deterministic bytes (RFC 8949 section 4.2.1): as the preferred ones, the pairs of each map in the
-/// bytewise order of the deterministic bytes of their keys. All memory is taken before the first write.
+/// Writes the item in deterministic encoding (RFC 8949 section 4.2.1): its preferred bytes, but the pairs of each map in the
+/// bytewise order of the deterministic bytes of their keys. So two items that are the same up to the order of pairs go out
+/// as the same bytes. All memory is taken before the first write.
 ///
 /// # Errors
 ///
-/// `Memory`, with nothing written; or `Write` where the device failed in this call, and exactly the first `written` of
-/// these bytes went out.
+/// `Memory` where there is none to lay the bytes out, with nothing written; or `Write` where the device failed in this call,
+/// and exactly the first `written` of these bytes went out.
 pub fn write_det<W: Write>(
     alloc: Global,
     sound: &Sound,
@@ -62,7 +63,8 @@ pub fn write_det<W: Write>(
     }
 }
 
-// Adds the deterministic bytes of a valid item.
+// Adds the deterministic bytes of a valid item. Pairs that come in their order are added at once; others are laid out
+// apart, so a byte is copied once for each map round it whose pairs do not.
 #[cycle(add)]
 fn add_det(alloc: Global, item: &Item, out: &mut Vec<u8>) -> Result<(), AllocError>
     requires plain { IsPlain (view item.now) }
@@ -121,7 +123,7 @@ fn add_pairs(alloc: Global, pairs: &Vec<(Item, Item)>, out: &mut Vec<u8>) -> Res
     Ok(())
 }
 
-// The bytes of the pairs of a map, in the order of their keys.
+// The bytes of the pairs of a map, sorted. No two keys have the same bytes, so the values decide nothing.
 #[cycle(add)]
 fn entries_in_order(
     alloc: Global,

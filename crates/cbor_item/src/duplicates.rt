@@ -1,4 +1,5 @@
-//! The first repeated key of an item (RFC 8949 section 5.3.1).
+//! The first repeated key of an item (RFC 8949 section 5.3.1): one that is the same as an earlier key of its map, up to the
+//! order of the pairs in maps in it. Such keys, and no others, have the same deterministic bytes (sections 4.2.1 and 5.6).
 
 ghost use Rattle.std.specs.Prelude.{◌≡◌, ◌+◌, ◌<◌, ◌^◌, ◌||◌, List, [], ℕ, not, bytes_eq, IfOk, OnOk, IfErr};
 ghost use Rattle.cbor_data.specs.Sound.{HasShortSpelling};

@@ -1,4 +1,4 @@
-//! A quick test that the keys of a map are in the order of their deterministic bytes. It writes no bytes.
+//! A quick test that the keys of a map are in the order of their deterministic bytes already. It lays out no key.
 
 ghost use Rattle.std.specs.Prelude.{◌≡◌, ◌++◌, length, IfSome, IsTrue};
 ghost use Rattle.std.specs.Cmp.Lexicographic.{slice_cmp};

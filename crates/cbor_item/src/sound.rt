@@ -18,7 +18,8 @@ use std::marker::Model;
 use thiserror::Error;
 
 /// An item that is sound: at most 256 containers deep, with no simple value 24 to 31, float bits that fit their width, a
-/// spelling shorter than 2^64 bytes, and no map with two equal keys. Contracts see it as its value.
+/// spelling shorter than 2^64 bytes, and no map with two keys that are the same up to the order of pairs in them (RFC 8949
+/// sections 4.2.1 and 5.6). Contracts see it as its value.
 #[derive(Debug, Drop)]
 pub struct Sound {
     item: Item,
@@ -39,8 +40,9 @@ pub enum Unsound {
     /// None of its spellings is shorter than 2^64 bytes.
     #[error("no spelling shorter than 2^64 bytes")]
     TooBig,
-    /// A map in it has two equal keys. The place is the least one of a key that equals an earlier key of its map: places
-    /// number an item and all below it in preorder, a key before its value, from 0.
+    /// A map in it has two keys that are the same up to the order of pairs in them (RFC 8949 sections 4.2.1 and 5.6). The
+    /// place is the least one of a key that is the same as an earlier key of its map: places number an item and all below it
+    /// in preorder, a key before its value, from 0.
     #[error("a repeated key at place {0}")]
     Duplicate(usize),
     /// There was no memory for the test of its length or of its keys. The reasons before these do not hold.
@@ -92,8 +94,8 @@ impl Sound {
         Sound::try_spelled(alloc, item)
     }
 
-    /// The item, if no map in it has two equal keys, where the rest is known: some spelling of it is shorter than 2^64
-    /// bytes, and it is at most 256 containers deep. That is so of an item that was read.
+    /// The item, if no map in it has two keys that are the same, where the rest is known: some spelling of it is shorter than
+    /// 2^64 bytes, and it is at most 256 containers deep. That is so of an item that was read.
     ///
     /// # Errors
     ///

@@ -13,9 +13,10 @@ use std::alloc::{AllocError, Global};
 /// The items of which `bytes` are spellings, one after the other (RFC 8949 section 3, RFC 8742), as those that the
 /// controls `.cbor` and `.cborseq` see in a byte string (RFC 8610 section 3.8.4).
 ///
-/// `None` where the bytes are of no such list: each item is valid, with no map that has two keys that are the same (RFC
-/// 8949 sections 5.3.1 and 5.6), and has a depth of at most [`MOST_DEPTH`]. No bytes are the empty list. There is no limit
-/// on the number of bytes. It takes a time in proportion to them, and memory within a constant for each byte.
+/// `None` where the bytes are of no such list: each item is valid, with no map that has two keys that are the same up to the
+/// order of pairs in them (RFC 8949 sections 5.3.1 and 5.6), and has a depth of at most [`MOST_DEPTH`]. No bytes are the
+/// empty list. There is no limit on the number of bytes. It takes a time in proportion to them, and memory within a constant
+/// for each byte.
 ///
 /// # Errors
 ///

@@ -1,11 +1,11 @@
-use Rattle.std.proofs.Common.{◌≡◌, ◌≤◌, ◌<◌, ◌+◌, ◌++◌, ◌^◌, ℕ, List, length, drop, refl, sym, ap, ap₂, ◌∙◌, subst, rules, arith, Ok, Err, [], true, false}
+use Rattle.std.proofs.Common.{◌≡◌, ◌≤◌, ◌<◌, ◌+◌, ◌++◌, ◌^◌, length, drop, sym, ap, ap₂, ◌∙◌, subst, rules, arith, Ok, Err, [], true, false}
 use Rattle.cbor_data.specs.Deterministic.{deterministic}
 use Rattle.cbor_data.specs.Preferred.{shortest_head}
 use Rattle.std.specs.BTreeMap.{insert_entry}
 use Rattle.std.specs.Cmp.Lexicographic.{slice_cmp}
 use Rattle.std.specs.Ordering.{nat_cmp}
 use Rattle.cbor_data.specs.Value.{value, values_len, pairs_len, values_place_count, pairs_place_count}
-use Rattle.cbor_item.specs.Laying.{Lays, LaysAmong, LaysPairs, has_key, joined, seen, seen_entries}
+use Rattle.cbor_item.specs.Laying.{Lays, LaysAmong, LaysPairs, has_key, seen, seen_entries}
 use Rattle.cbor_item.specs.View.{view, values_view, pairs_view}
 use Rattle.cbor_item.specs.Walk.{ArePlain, ArePairsPlain, WalksAfter}
 use Rattle.cbor_item.specs.declared.item.Item.{Item}

@@ -1,6 +1,6 @@
-use Rattle.std.proofs.Common.{◌≡◌, ◌≤◌, ◌<◌, ◌+◌, ◌++◌, ℕ, List, length, drop, [], ◌∷◌, append-nil, refl, sym, ap, ◌∙◌, subst, rules, arith}
-use Rattle.cbor_data.specs.Deterministic.{deterministic, values_ordered, pairs_ordered}
-use Rattle.cbor_data.specs.Preferred.{shortest_head, values_preferred, pairs_preferred}
+use Rattle.std.proofs.Common.{◌≡◌, ◌≤◌, ◌+◌, ◌++◌, length, drop, [], append-nil, refl, sym, ap, ◌∙◌, subst, rules, arith}
+use Rattle.cbor_data.specs.Deterministic.{deterministic, pairs_ordered}
+use Rattle.cbor_data.specs.Preferred.{shortest_head, pairs_preferred}
 use Rattle.cbor_data.specs.Value.{array, pairs, value, pair, values_len, pairs_len}
 use Rattle.cbor_data.proofs.Lemmas.{HasKeysApart, apart_valid, valid_apart}
 use Rattle.cbor_item.specs.InOrder.{laid}
@@ -24,24 +24,20 @@ add_det-add_members-requires t c =
     let known = array_known c.args.item.now c.in-Array.items c.in-Array.is c.requires.plain c.requires.valid in
     (omega (arith, array_size c.in-Array.items, ap the_size c.in-Array.is), (plain_members (values_view c.in-Array.items.items) known.plain, known.valid))
 
-
 pub add_det-add_pairs-requires : goal.add_det-add_pairs-requires
 add_det-add_pairs-requires t c =
     let known = map_known c.args.item.now c.in-Map.pairs c.in-Map.is c.requires.plain c.requires.valid in
     (omega (arith, map_size c.in-Map.pairs, ap the_size c.in-Map.is), (plain_pairs (pairs_view c.in-Map.pairs.items) known.plain, known.valid))
-
 
 pub add_det-entries_in_order-requires : goal.add_det-entries_in_order-requires
 add_det-entries_in_order-requires t c =
     let known = map_known c.args.item.now c.in-Map.pairs c.in-Map.is c.requires.plain c.requires.valid in
     (omega (arith, map_size c.in-Map.pairs, ap the_size c.in-Map.is), (known.plain, known.valid))
 
-
 pub add_det-add_det-requires : goal.add_det-add_det-requires
 add_det-add_det-requires t c =
     let known = tag_known c.args.item.now c.in-Tag.number c.in-Tag.content c.in-Tag.is c.requires.plain c.requires.valid in
     (omega (arith, tag_size c.in-Tag.number c.in-Tag.content, ap the_size c.in-Tag.is, ap the_size c.deref.ensures), (subst (λ i. IsPlain (view i)) (sym c.deref.ensures) known.plain, subst (λ i. IsValid (view i)) (sym c.deref.ensures) known.valid))
-
 
 pub add_det-returns-in_ok-extend_from_slice-in-Array : goal.add_det-returns-in_ok-extend_from_slice-in-Array
 add_det-returns-in_ok-extend_from_slice-in-Array t c =
@@ -102,7 +98,6 @@ add_members-add_det-requires t c =
     let apart : HasKeysApart (array (value x rest)) = subst (λ vs. HasKeysApart (array vs)) seen c.loop-item.invariant.apart in
     let less : the_size c.item-item.result ≤ most the_size c.args.items.now.items = size-within c.args.items.now.items ys c.loop-item.item-index c.item-item.result (omega arith) c.item-item.is c.deref-item-items.ensures.value in
     (omega (arith, less), (plain.0, apart_valid x apart.0))
-
 
 pub add_pairs-loop-key-init : goal.add_pairs-loop-key-init
 add_pairs-loop-key-init t c =
