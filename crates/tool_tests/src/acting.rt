@@ -64,6 +64,10 @@ const CHECK_ROOT: &[&str] = &["cddlseq", "check", "spec", "--root", "b"];
 
 const SHOW: &[&str] = &["cddlseq", "show"];
 
+const REWRITE: &[&str] = &["cddlseq", "rewrite", "spec"];
+
+const REWRITE_IN_ORDER: &[&str] = &["cddlseq", "rewrite", "--deterministic", "spec"];
+
 // A specification and a stream, and what comes of them.
 struct Row {
     words: &'static [&'static str],
@@ -74,7 +78,7 @@ struct Row {
     status: u8,
 }
 
-static ROWS: [Row; 10] = [
+static ROWS: [Row; 13] = [
     Row {
         words: CHECK,
         spec: b"b = bstr",
@@ -154,6 +158,30 @@ static ROWS: [Row; 10] = [
         out: b"item 1 at 0: true\nitem 2 at 1: null\nitem 3 at 2: undefined\nitem 4 at 3: simple(0)\nitem 5 at 4: simple(255)\nclean: 5 items, 6 bytes\n",
         err: b"",
         status: 0,
+    },
+    Row {
+        words: SHOW,
+        spec: b"a = any",
+        stream: b"\xa2\xa2\x01\x02\x03\x04\x00\xa2\x03\x04\x01\x02\x00",
+        out: b"failed: 0 items, offset 0: duplicate key at place 7\n",
+        err: b"",
+        status: 1,
+    },
+    Row {
+        words: REWRITE,
+        spec: b"a = any",
+        stream: b"\xbf\x02\x00\x18\x01\x00\xff",
+        out: b"\xa2\x02\x00\x01\x00",
+        err: b"clean: 1 items, 7 bytes\n",
+        status: 0,
+    },
+    Row {
+        words: REWRITE_IN_ORDER,
+        spec: b"a = { * any => any }",
+        stream: b"\xbf\x02\x00\x18\x01\x00\xff\xa2\x20\x01\x18\x64\x02\x05",
+        out: b"\xa2\x01\x00\x02\x00\xa2\x18\x64\x02\x20\x01",
+        err: b"failed: 2 items, offset 13: mismatch at $: 5\n",
+        status: 1,
     },
 ];
 

@@ -106,6 +106,38 @@ fn is_read(alloc: Global, row: &Row) -> bool {
     }
 }
 
+// Words, and whether they are quiet, and whether deterministic.
+static FLAGS: [(&[&str], bool, bool); 6] = [
+    (&["cddlseq", "validate", "a"], false, false),
+    (&["cddlseq", "validate", "a", "--quiet"], true, false),
+    (&["cddlseq", "rewrite", "a", "b"], false, false),
+    (&["cddlseq", "rewrite", "--deterministic", "a"], false, true),
+    (
+        &["cddlseq", "rewrite", "a", "--deterministic", "b"],
+        false,
+        true,
+    ),
+    (
+        &["cddlseq", "rewrite", "a", "--", "--deterministic"],
+        false,
+        false,
+    ),
+];
+
+fn has_flags(alloc: Global, words: &[&str], quiet: bool, deterministic: bool) -> bool {
+    match options(alloc, words) {
+        Ok(options) => options.quiet == quiet && options.deterministic == deterministic,
+        Err(_) => false,
+    }
+}
+
+#[test]
+fn reads_the_flags(rt: HostRuntime) {
+    for (words, quiet, deterministic) in FLAGS.iter() {
+        assert!(rt; has_flags(rt.alloc(), *words, *quiet, *deterministic));
+    }
+}
+
 #[test]
 fn reads_the_words(rt: HostRuntime) {
     for row in ROWS.iter() {
@@ -113,7 +145,7 @@ fn reads_the_words(rt: HostRuntime) {
     }
 }
 
-static REFUSED: [&[&str]; 14] = [
+static REFUSED: [&[&str]; 19] = [
     &["cddlseq"],
     &["cddlseq", "validate"],
     &["cddlseq", "check"],
@@ -128,6 +160,17 @@ static REFUSED: [&[&str]; 14] = [
     &["cddlseq", "show", "--depth", "one"],
     &["cddlseq", "show", "--item-bytes", "16777217"],
     &["cddlseq", "show", "--depth", "1", "--depth", "2"],
+    &["cddlseq", "check", "a", "--deterministic"],
+    &["cddlseq", "validate", "a", "--deterministic"],
+    &["cddlseq", "show", "--deterministic"],
+    &[
+        "cddlseq",
+        "rewrite",
+        "a",
+        "--deterministic",
+        "--deterministic",
+    ],
+    &["cddlseq", "rewrite", "a", "--deterministic=true"],
 ];
 
 #[test]
