@@ -299,6 +299,17 @@ const REPEATS: Form = Form::Map(&[
     (Form::Uint(1), Form::Uint(3)),
 ]);
 
+// Two maps that are the same up to the order of pairs.
+const ONE_THREE: Form = Form::Map(&[
+    (Form::Uint(1), Form::Uint(2)),
+    (Form::Uint(3), Form::Uint(4)),
+]);
+
+const THREE_ONE: Form = Form::Map(&[
+    (Form::Uint(3), Form::Uint(4)),
+    (Form::Uint(1), Form::Uint(2)),
+]);
+
 // Each key differs from the others in form, width or content alone.
 const DISTINCT: Form = Form::Map(&[
     (Form::Uint(1), Form::Uint(0)),
@@ -318,7 +329,7 @@ const DISTINCT: Form = Form::Map(&[
 // An item and its judgement.
 type Judgement = (Form, Result<(), Unsound>);
 
-static JUDGEMENTS: [Judgement; 21] = [
+static JUDGEMENTS: [Judgement; 26] = [
     (DISTINCT, Ok(())),
     (Form::Simple(23), Ok(())),
     (Form::Simple(24), Err(Unsound::BadSimple)),
@@ -371,23 +382,37 @@ static JUDGEMENTS: [Judgement; 21] = [
         Err(Unsound::Duplicate(5)),
     ),
     (
-        Form::Map(&[
-            (
-                Form::Map(&[
-                    (Form::Uint(1), Form::Uint(2)),
-                    (Form::Uint(3), Form::Uint(4)),
-                ]),
-                Form::Uint(0),
-            ),
-            (
-                Form::Map(&[
-                    (Form::Uint(3), Form::Uint(4)),
-                    (Form::Uint(1), Form::Uint(2)),
-                ]),
-                Form::Uint(0),
-            ),
-        ]),
+        Form::Map(&[(ONE_THREE, Form::Uint(0)), (THREE_ONE, Form::Uint(0))]),
         Err(Unsound::Duplicate(7)),
+    ),
+    (
+        Form::Map(&[
+            (Form::Array(&[ONE_THREE]), Form::Uint(0)),
+            (Form::Array(&[THREE_ONE]), Form::Uint(0)),
+        ]),
+        Err(Unsound::Duplicate(8)),
+    ),
+    (
+        Form::Map(&[
+            (Form::Tag(1, &ONE_THREE), Form::Uint(0)),
+            (Form::Tag(1, &THREE_ONE), Form::Uint(0)),
+        ]),
+        Err(Unsound::Duplicate(8)),
+    ),
+    (
+        Form::Map(&[
+            (Form::Map(&[(ONE_THREE, Form::Uint(0))]), Form::Uint(0)),
+            (Form::Map(&[(THREE_ONE, Form::Uint(0))]), Form::Uint(0)),
+        ]),
+        Err(Unsound::Duplicate(9)),
+    ),
+    (
+        Form::Map(&[(ONE_THREE, Form::Uint(0)), (THREE_ONE, REPEATS)]),
+        Err(Unsound::Duplicate(7)),
+    ),
+    (
+        Form::Map(&[(ONE_THREE, REPEATS), (THREE_ONE, Form::Uint(0))]),
+        Err(Unsound::Duplicate(9)),
     ),
 ];
 
