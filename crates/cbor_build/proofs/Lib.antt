@@ -8,5 +8,6 @@ mod Stacks
 mod Runs
 mod Holding
 mod WholeHeads
+mod LastHeads
 mod Steps
 pub mod Lemmas

@@ -23,27 +23,27 @@ use Rattle.cbor_build.proofs.Runs.{string_whole, text_ended_good}
 use Rattle.cbor_build.proofs.Holding.{string_kind}
 
 -- the additional information of the initial byte
-abbrev first_info : ArgumentSize → ℕ → ℕ
+abbrev pub first_info : ArgumentSize → ℕ → ℕ
 first_info inside n = n
 first_info one n = 24
 first_info two n = 25
 first_info four n = 26
 first_info eight n = 27
 
-first_info_small : (p : ArgumentSize) (n : ℕ) → FitsSize p n → first_info p n < 32
+pub first_info_small : (p : ArgumentSize) (n : ℕ) → FitsSize p n → first_info p n < 32
 first_info_small inside n h = omega arith
 first_info_small one n h = omega arith
 first_info_small two n h = omega arith
 first_info_small four n h = omega arith
 first_info_small eight n h = omega arith
 
-info_of-given : (n : ℕ) → n < 24 → info_of n ≡ given n
+pub info_of-given : (n : ℕ) → n < 24 → info_of n ≡ given n
 info_of-given n h = grind (arith, nat_tests)
 
-major_of_byte : (m i : ℕ) → i < 32 → initial m i / 32 ≡ m
+pub major_of_byte : (m i : ℕ) → i < 32 → initial m i / 32 ≡ m
 major_of_byte m i h = omega arith
 
-info_of_byte : (m i : ℕ) → i < 32 → initial m i % 32 ≡ i
+pub info_of_byte : (m i : ℕ) → i < 32 → initial m i % 32 ≡ i
 info_of_byte m i h = omega arith
 
 -- a head that the first step lets pass
@@ -60,7 +60,7 @@ byte_at b at x ys is =
     let same : at ≡ at + 0 = omega arith in
     ap (λ n. get_or b n 0) same ∙ (sym (get_or-drop at b 0 0) ∙ ap (λ l. get_or l 0 0) is)
 
-first_of : (p : ArgumentSize) (m n : ℕ) (b r : List ℕ) → drop 0 b ≡ head_in p m n ++ r → get_or b 0 0 ≡ initial m (first_info p n)
+pub first_of : (p : ArgumentSize) (m n : ℕ) (b r : List ℕ) → drop 0 b ≡ head_in p m n ++ r → get_or b 0 0 ≡ initial m (first_info p n)
 first_of inside m n b r e = byte_at b 0 _ _ e
 first_of one m n b r e = byte_at b 0 _ _ e
 first_of two m n b r e = byte_at b 0 _ _ e
@@ -93,7 +93,7 @@ head_runs d at m n end T K b r h small room =
     ap (step_in d at (item K)) (sym byte) ∙ (room ∙ (ap (step at (item K)) byte ∙ (ap (λ a. start at a (info_of (initial m i % 32)) K) (major_of_byte m i few) ∙ ap (λ a. start at m (info_of a) K) (info_of_byte m i few)))) in
     passed d h.size at m n T K r small h.fits f ∙ ap (λ k. steps_in d (at + k) T (after at m n K) r) (sym h.placed)
 
-head_taken : (b : List ℕ) (m n end : ℕ) (h : Heads b m n end) → take end b ≡ head_in h.size m n
+pub head_taken : (b : List ℕ) (m n end : ℕ) (h : Heads b m n end) → take end b ≡ head_in h.size m n
 head_taken b m n end h =
     ap₂ (λ k c. take k c) h.placed (drop_none b) ∙ (ap (take (length (head_in h.size m n))) h.is ∙ take-append_seam (head_in h.size m n) (drop end b))
   where

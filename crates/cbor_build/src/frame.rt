@@ -1,5 +1,5 @@
 // The stack of what is open, with the members so far.
-ghost use Rattle.std.specs.Prelude.{◌≡◌, ◌<◌, ℕ, List, [], ◌∷◌, true, false, Some, IfOk, IfSome, OnOk};
+ghost use Rattle.std.specs.Prelude.{◌≡◌, ◌<◌, ℕ, List, [], ◌∷◌, ◌++◌, true, false, Some, IfOk, IfSome, OnOk};
 ghost use Rattle.cbor_build.specs.Building as building;
 ghost use Rattle.cbor_item.specs.View.{view};
 ghost use Rattle.cbor_data.specs.Value.{no_values, no_pairs};
@@ -8,6 +8,7 @@ ghost use Rattle.cbor_build.specs.Stages.{frame_of, ends, breaks, one_less, stac
 
 use crate::stage::{Next, Stage};
 use cbor_item::Item;
+use cbor_whole::{make_room, trimmed};
 use std::alloc::{AllocError, Global};
 
 /// An open container: how many parts come after the awaited one, if that is known, and those before it.
@@ -32,6 +33,40 @@ fn is_ending(frame: &Frame) -> bool
     }
 }
 
+// How many parts a list has in the end, if that is known: those so far, one more, and so many after it.
+#[inline(always)]
+fn all_parts(read: usize, left: Option<u64>) -> Option<u64> {
+    match left {
+        Some(left) => Some((read as u64).saturating_add(left).saturating_add(1)),
+        None => None,
+    }
+}
+
+// Puts a member at the end of an array, with room as for one of so many.
+#[inline(always)]
+fn push_member(members: &mut Vec<Item>, item: Item, left: Option<u64>) -> Result<(), AllocError>
+    ensures { OnOk result (members.new.items ≡ members.old.items ++ item ∷ []) }
+{
+    make_room(members, all_parts(members.len(), left))?;
+    members.push(item)?;
+    Ok(())
+}
+
+// The same of a map.
+#[inline(always)]
+fn push_pair(
+    pairs: &mut Vec<(Item, Item)>,
+    key: Item,
+    value: Item,
+    left: Option<u64>,
+) -> Result<(), AllocError>
+    ensures { OnOk result (pairs.new.items ≡ pairs.old.items ++ (key, value) ∷ []) }
+{
+    make_room(pairs, all_parts(pairs.len(), left))?;
+    pairs.push((key, value))?;
+    Ok(())
+}
+
 // Puts the item into a container that awaits another one after it.
 #[inline(always)]
 fn add(frame: &mut Frame, item: Item) -> Result<(), AllocError>
@@ -40,12 +75,12 @@ fn add(frame: &mut Frame, item: Item) -> Result<(), AllocError>
 {
     match frame {
         Frame::Array(left, members) => {
-            members.push(item)?;
+            push_member(members, item, *left)?;
             count_down(left);
         }
         Frame::Map(left, pairs, key) => match key.take() {
             Some(first) => {
-                pairs.push((first, item))?;
+                push_pair(pairs, first, item, *left)?;
                 count_down(left);
             }
             None => *key = Some(item),
@@ -75,12 +110,12 @@ fn closed(alloc: Global, frame: Frame, item: Item) -> Result<Item, AllocError>
 {
     match frame {
         Frame::Array(_, mut members) => {
-            members.push(item)?;
+            push_member(&mut members, item, Some(0))?;
             Ok(Item::Array(members))
         }
         Frame::Map(_, mut pairs, key) => {
             let Some(key) = key else { unreachable!() };
-            pairs.push((key, item))?;
+            push_pair(&mut pairs, key, item, Some(0))?;
             Ok(Item::Map(pairs))
         }
         Frame::Tag(number) => Ok(Item::Tag(number, Box::new(alloc, item)?)),
@@ -165,8 +200,8 @@ fn broken(frame: Frame) -> Item
     ensures { (around : List building.Frame) → building.break (frame_of frame ∷ around) ≡ Some (building.give (view result) around) }
 {
     match frame {
-        Frame::Array(_, members) => Item::Array(members),
-        Frame::Map(_, pairs, _) => Item::Map(pairs),
+        Frame::Array(_, members) => Item::Array(trimmed(members)),
+        Frame::Map(_, pairs, _) => Item::Map(trimmed(pairs)),
         Frame::Tag(_) => unreachable!(),
     }
 }

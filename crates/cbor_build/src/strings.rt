@@ -17,10 +17,12 @@ pub(crate) fn string_item(is_text: bool, content: Vec<u8>) -> Option<Item>
     if !is_text {
         return Some(Item::Bytes(content));
     }
-    match String::from_utf8(content) {
-        Ok(text) => Some(Item::Text(text)),
-        Err(_) => None,
+    if !is_utf8(&content) {
+        return None;
     }
+    // Tested above, many bytes at a time; `String::from_utf8` would test them one by one.
+    let text = unsafe { String::from_utf8_unchecked(content) };
+    Some(Item::Text(text))
 }
 
 /// The major type of a text string, or of a byte string.

@@ -18,7 +18,7 @@ use crate::stage::{
 use crate::strings::{copied_string, major_of_string, may_hold, string_item};
 use cbor_data::FaultKind;
 use cbor_item::Item;
-use cbor_whole::argument_at;
+use cbor_whole::{argument_at, simple_or_float};
 use std::alloc::{AllocError, Global};
 use std::mem;
 
@@ -79,13 +79,39 @@ fn turn_item(
     if is_too_deep(frames.len(), depth, byte) {
         return Ok(Turn::TooDeep);
     }
-    if let Some(kind) = kind_of(byte / 32) {
-        let (argument, end) = argument_at(rest, 0);
-        if end > 0 {
-            return turn_head(alloc, frames, held, at, depth, kind, argument, end, rest);
-        }
+    let (argument, end) = argument_at(rest, 0);
+    if end == 0 {
+        return turn_byte(alloc, frames, held, at, depth, rest);
     }
-    turn_byte(alloc, frames, held, at, depth, rest)
+    match kind_of(byte / 32) {
+        Some(kind) => turn_head(alloc, frames, held, at, depth, kind, argument, end, rest),
+        None => turn_last(alloc, frames, held, at, depth, argument, end, rest),
+    }
+}
+
+// A simple value or a float.
+fn turn_last(
+    alloc: Global,
+    frames: &mut Vec<Frame>,
+    held: &mut Vec<u8>,
+    at: u64,
+    depth: u32,
+    argument: u64,
+    end: usize,
+    rest: &[u8],
+) -> Result<Turn, AllocError>
+    requires kind { slice_index rest.now 0 / 32 ≡ 7 }
+    requires head { IsArgumentAt rest.now 0 argument end }
+    requires room { HasRoom depth at (stack_of frames.old.items) (slice_index rest.now 0) }
+    ensures { IfOk result (λ turn. IsTurn depth at (building.item (stack_of frames.old.items)) rest.now turn held.new.items (stack_of frames.new.items) (building.item (stack_of frames.new.items))) }
+{
+    match simple_or_float(rest[0] % 32, argument) {
+        Some(item) => {
+            let next = end_item(alloc, frames, item)?;
+            Ok(Turn::On(end, next))
+        }
+        None => turn_byte(alloc, frames, held, at, depth, rest),
+    }
 }
 
 // A whole head, with the content of a string where that is all there.

@@ -3,3 +3,4 @@ mod Items
 mod Joined
 mod Members
 mod ToBreak
+pub mod Lemmas

@@ -55,6 +55,7 @@ pub fn text_string(
 
 /// The simple value or the float of a head of major type 7, from its additional information and its argument. `None` for
 /// a simple value that has to be written without an argument of its own.
+#[inline]
 pub fn simple_or_float(info: u8, argument: u64) -> Option<Item>
     requires { IsInfo info argument }
     ensures { IfSome result (λ x. IsSimpleOrFloat info argument (view x)) }

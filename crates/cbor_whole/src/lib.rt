@@ -9,4 +9,5 @@ mod list;
 
 pub use crate::argument::argument_at;
 pub use crate::item::whole_item;
+pub use crate::leaf::simple_or_float;
 pub use crate::list::{make_room, trimmed};

@@ -6,20 +6,20 @@ use Rattle.cbor_build.specs.declared.frame.Frame.TheVariants.{Array, Map}
 use Rattle.cbor_build.proofs.Containers.{member_added, pair_added}
 use Rattle.cbor_build.proofs.frame.add.Goals as goal
 
-pub returns-in_ok-push-in-Array : goal.returns-in_ok-push-in-Array
-returns-in_ok-push-in-Array c =
+pub returns-in_ok-push_member-in-Array : goal.returns-in_ok-push_member-in-Array
+returns-in_ok-push_member-in-Array c =
     let v = c.in-Array.members in
-    let w = c.push.new.self in
+    let w = c.push_member.new.members in
     λ around. ap (λ f. building.give (view c.args.item) (frame_of f ∷ around)) c.in-Array.is
-    ∙ (member_added c.in-Array.left v w c.args.item around c.in_ok-push-in-Array.ensures.items (subst (λ f. ends f ≡ false) c.in-Array.is c.requires)
+    ∙ (member_added c.in-Array.left v w c.args.item around c.in_ok-push_member-in-Array.ensures (subst (λ f. ends f ≡ false) c.in-Array.is c.requires)
     ∙ ap (λ l. building.item (frame_of (Array l w) ∷ around)) (sym c.count_down.ensures))
 
-pub returns-in_ok-push-in-Some : goal.returns-in_ok-push-in-Some
-returns-in_ok-push-in-Some c =
+pub returns-in_ok-push_pair-in-Some : goal.returns-in_ok-push_pair-in-Some
+returns-in_ok-push_pair-in-Some c =
     let v = c.in-Map.pairs in
-    let w = c.push-in-Some.new.self in
+    let w = c.push_pair.new.pairs in
     let is = c.in-Map.is ∙ ap (Map c.in-Map.left v) (sym c.take.ensures.value ∙ c.in-Some.is) in
     λ around. ap (λ f. building.give (view c.args.item) (frame_of f ∷ around)) is
-    ∙ (pair_added c.in-Map.left v w c.in-Some.first c.args.item around c.in_ok-push-in-Some.ensures.items (subst (λ f. ends f ≡ false) is c.requires)
+    ∙ (pair_added c.in-Map.left v w c.in-Some.first c.args.item around c.in_ok-push_pair-in-Some.ensures (subst (λ f. ends f ≡ false) is c.requires)
     ∙ (ap (λ l. building.item (frame_of (Map l w None) ∷ around)) (sym c.count_down-in-Some.ensures)
     ∙ ap (λ k. building.item (frame_of (Map c.count_down-in-Some.new.left w k) ∷ around)) (sym c.take.ensures.after)))
