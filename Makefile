@@ -43,6 +43,7 @@ edits: needs
 
 bench: build
 	@$(PYTHON) bench/run.py build/cddlseq
+	@$(PYTHON) bench/rewrites.py build/cddlseq
 	@$(PYTHON) bench/decoders.py build/cddlseq
 	cd crates/cddl_outline && $(RT) run < /dev/null > /dev/null
 	@$(PYTHON) bench/tokens.py crates/cddl_outline/out/cddl_outline
