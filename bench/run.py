@@ -25,16 +25,6 @@ What writes into the pipe is 'cat FILE', and for pieces of one byte 'dd bs=1', a
 that hands on one byte at a time is what takes the time there, for cat as for the program. The report has a line for
 each item, so small numbers make some 25 bytes of output from each byte of input.
 
-Then some streams go into 'PROGRAM rewrite SPEC' and into 'PROGRAM rewrite --deterministic SPEC', which take turns in the same
-way. The columns:
-
-  MiB/s     of the stream, for the one and for the other
-  ratio     the processor time with '--deterministic' over that without, for the larger size
-  bound     what that ratio may be at most; the status is 1 where it is more
-  growth    the growth of the processor time with '--deterministic'
-  peak      the most memory that lay in RAM with '--deterministic'
-  per byte  the same, over the bytes of an item
-
 --mib is the first size of the streams of strings and of single numbers, 16 if left out; the second is twice that. The
 other streams' sizes change with it; since an item may have 16 MiB, N is at most 128. --only takes the streams whose
 name has TEXT. The streams are made in bench/data. The status is 1 where a growth is below 1.5 or above 2.6. It is 1, too,
@@ -49,7 +39,7 @@ import subprocess
 import sys
 import time
 
-from streams import DATA, MIB, REWRITTEN, STREAMS
+from streams import DATA, MIB, STREAMS
 
 RUNS, MOST_RUNS, SECONDS = 3, 15, 5
 LEAST = 1.5
@@ -169,17 +159,12 @@ def ratio_to(name, stream, times, there):
     return "short" if decoding < SHORT * start else f"{times['program'][0] / decoding:.2f}"
 
 
-def spec_of(kind):
-    """The file of a specification that asks for items of this kind."""
-    path = os.path.join(DATA, f"{kind}.cddl")
-    with open(path, "w", encoding="ascii") as file:
-        file.write(f"item = {kind}\n")
-    return path
-
-
 def measured(program, stream, part, there):
     """Prints a line for each size, and returns the growth and the processor time of the larger."""
-    reader = [program, "validate", spec_of(stream.kind)]
+    spec = os.path.join(DATA, f"{stream.kind}.cddl")
+    with open(spec, "w", encoding="ascii") as file:
+        file.write(f"item = {stream.kind}\n")
+    reader = [program, "validate", spec]
     written = [stream.written(int(stream.first * part) * turn) for turn in (1, 2)]
     times = best_times([jobs_of(stream, files, reader, there) for files, _ in written])
     growth = times[1]["program"][1] / times[0]["program"][1]
@@ -193,24 +178,6 @@ def measured(program, stream, part, there):
     return growth, times[1]["program"][1]
 
 
-def rewritten(program, stream, most, part):
-    """Prints a line, and returns whether the growth and the time with '--deterministic' are within their bounds."""
-    spec = spec_of(stream.kind)
-    plain, ordered = [program, "rewrite", spec], [program, "rewrite", "--deterministic", spec]
-    written = [stream.written(int(stream.first * part) * turn) for turn in (1, 2)]
-    times = best_times([
-        {name: (stream.writer, files["cbor"], reader) for name, reader in (("plain", plain), ("ordered", ordered))}
-        for files, _ in written])
-    (files, item), of_size = written[1], times[1]
-    ratio = of_size["ordered"][1] / of_size["plain"][1]
-    growth = of_size["ordered"][1] / times[0]["ordered"][1]
-    mib, highest = os.path.getsize(files["cbor"]) / MIB, peak(files["cbor"], ordered)
-    per_byte = f"{highest / item:.1f}" if item >= LONG_ITEM else "-"
-    print(f"{stream.name:32}{mib:7.1f}{mib / of_size['plain'][0]:9.1f}{mib / of_size['ordered'][0]:15.1f}"
-          f"{ratio:8.2f}{most:8.1f}{growth:10.2f}{highest / MIB:10.1f}{per_byte:>10}", flush=True)
-    return LEAST <= growth <= stream.most and ratio <= most
-
-
 def main():
     words = argparse.ArgumentParser(description="Measures the built program.")
     words.add_argument("program")
@@ -218,24 +185,19 @@ def main():
     words.add_argument("--only", default="", metavar="TEXT", help="only the streams whose name has this text")
     given = words.parse_args()
     streams = [it for it in STREAMS if given.only in it.name]
-    to_rewrite = [(it, most) for it, most in REWRITTEN if given.only in it.name]
-    if not streams and not to_rewrite:
+    if not streams:
         words.error(f"no stream's name has {given.only!r}")
     os.makedirs(DATA, exist_ok=True)
     there = readers_there()
     print(f"{'stream':32}{'MiB':>7}{'MiB/s':>9}{'cat MiB/s':>11}{'ratio':>8}"
           + "".join(f"{f'to {name}':>10}" for name in READERS) + f"{'growth':>10}{'peak MiB':>10}{'per byte':>10}")
-    program, part = os.path.abspath(given.program), given.mib / 16
-    found = {it.name: measured(program, it, part, there) for it in streams}
+    found = {it.name: measured(os.path.abspath(given.program), it, given.mib / 16, there) for it in streams}
     uneven = [it.name for it in streams if not LEAST <= found[it.name][0] <= it.most]
     slow = [it.name for it in streams if it.beside in found and found[it.name][1] > MOST_BESIDE * found[it.beside][1]]
     print(f"the growth is out of bounds: {', '.join(uneven)}" if uneven else "each growth is within its bounds")
     if slow:
         print(f"more than {MOST_BESIDE} times the time of the stream beside it: {', '.join(slow)}")
-    print(f"{'rewritten':32}{'MiB':>7}{'MiB/s':>9}{'deterministic':>15}{'ratio':>8}{'bound':>8}{'growth':>10}{'peak MiB':>10}{'per byte':>10}")
-    dear = [it.name for it, most in to_rewrite if not rewritten(program, it, most, part)]
-    print(f"out of bounds when rewritten: {', '.join(dear)}" if dear else "each ratio and growth is within its bounds")
-    return 1 if uneven or slow or dear else 0
+    return 1 if uneven or slow else 0
 
 
 if __name__ == "__main__":

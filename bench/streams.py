@@ -181,25 +181,6 @@ def deep_key_of_empty_strings(count):
     return Made(b"\xa1" * (DEPTH - 2) + array_of_empty_strings(count).unit + b"\x02" * (DEPTH - 2))
 
 
-def ordered_map_of_numbers(count):
-    """A map whose keys rise already."""
-    return Made(encoded(dict(sorted(numbered(count).items()))))
-
-
-def ordered_map_of_texts(count):
-    return Made(encoded(dict(sorted(named(count).items()))))
-
-
-def ordered_messages(count):
-    units = [dict(sorted(message(number % 240).items(), key=lambda it: encoded(it[0]))) for number in range(MESSAGES)]
-    return Made(b"".join(map(encoded, units)), count // MESSAGES, MESSAGES)
-
-
-def keys_round_a_map(count):
-    """A map that is a key of a map, which is a key of another, and so on; each has a smaller key behind it."""
-    return Made(b"\xa2" * 250 + encoded(numbered(count)) + b"\x00\x81\x00\x00" * 250)
-
-
 def nested_members(count):
     return Made(b"\x9f" + b"\x81\x80" * count + b"\xff", json="[" + ",".join(["[[]]"] * count) + "]\n")
 
@@ -212,23 +193,7 @@ def chunks_of_text(count):
     return Made(b"\x7f" + b"".join(bytes([0x61, 0x61 + i % 26]) for i in range(count)) + b"\xff")
 
 
-def array_of_arrays(size):
-    """Arrays of numbers, of 4 KiB each, in an array."""
-    member = head(4, 4093) + bytes(i % 24 for i in range(4093))
-    return Made(head(4, size // 4096) + member * (size // 4096))
-
-
-def array_of_short_strings(size):
-    return Made(head(4, size // 17) + (b"\x50" + bytes(range(0xa0, 0xb0))) * (size // 17))
-
-
-def one_byte_string(size):
-    return Made(head(2, size) + bytes(range(256)) * (size // 256))
-
-
 BOTH, CBOR = ("cbor2", "json"), ("cbor2",)
-PIECES = ("dd", "bs=4096", "status=none")
-MOST = 16 * MIB - 4096  # so that an item of twice half as much has room for its head
 
 STREAMS = [
     Stream("numbers from 0 to 23", "uint", small_numbers, 16 * MIB),
@@ -252,20 +217,4 @@ STREAMS = [
     Stream("[_ [[]], [[]], ..]", "any", nested_members, 100_000, BOTH),
     Stream("a byte string of 1-byte chunks", "any", chunks_of_bytes, 500_000, CBOR),
     Stream("a text of 1-byte chunks", "any", chunks_of_text, 500_000, CBOR),
-    Stream("an item of arrays of numbers", "any", array_of_arrays, MOST // 2, CBOR, PIECES),
-    Stream("an item of 16-byte strings", "any", array_of_short_strings, MOST // 2, CBOR, PIECES),
-    Stream("an item that is a byte string", "any", one_byte_string, MOST // 2, CBOR, PIECES),
-]
-
-# Streams that are rewritten: for each the most times that the time of 'rewrite' may be taken with '--deterministic'.
-REWRITTEN = [
-    (Stream("maps of ten pairs, in order", "any", ordered_messages, 40 * MESSAGES), 1.3),
-    (Stream("a map of numbers, in order", "any", ordered_map_of_numbers, 50_000), 1.3),
-    (Stream("a map of texts, in order", "any", ordered_map_of_texts, 50_000), 1.3),
-    (Stream("maps of ten pairs", "any", messages, 40 * MESSAGES), 2.5),
-    (Stream("a map of numbers", "any", map_of_numbers, 50_000), 2.5),
-    (Stream("a map of texts", "any", map_of_texts, 50_000), 2.5),
-    (Stream("maps as keys, 256 deep", "any", deep_keys, 200), 2.5),
-    (Stream("a byte string in 256 keys", "any", deep_key_of_bytes, 2 * MIB), 2.5),
-    (Stream("a map in 250 keys", "any", keys_round_a_map, 50_000), 2.5),
 ]
