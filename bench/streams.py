@@ -193,7 +193,23 @@ def chunks_of_text(count):
     return Made(b"\x7f" + b"".join(bytes([0x61, 0x61 + i % 26]) for i in range(count)) + b"\xff")
 
 
+def array_of_arrays(size):
+    """Arrays of numbers, of 4 KiB each, in an array."""
+    member = head(4, 4093) + bytes(i % 24 for i in range(4093))
+    return Made(head(4, size // 4096) + member * (size // 4096))
+
+
+def array_of_short_strings(size):
+    return Made(head(4, size // 17) + (b"\x50" + bytes(range(0xa0, 0xb0))) * (size // 17))
+
+
+def one_byte_string(size):
+    return Made(head(2, size) + bytes(range(256)) * (size // 256))
+
+
 BOTH, CBOR = ("cbor2", "json"), ("cbor2",)
+PIECES = ("dd", "bs=4096", "status=none")
+MOST = 16 * MIB - 4096  # so that an item of twice half as much has room for its head
 
 STREAMS = [
     Stream("numbers from 0 to 23", "uint", small_numbers, 16 * MIB),
@@ -217,4 +233,7 @@ STREAMS = [
     Stream("[_ [[]], [[]], ..]", "any", nested_members, 100_000, BOTH),
     Stream("a byte string of 1-byte chunks", "any", chunks_of_bytes, 500_000, CBOR),
     Stream("a text of 1-byte chunks", "any", chunks_of_text, 500_000, CBOR),
+    Stream("an item of arrays of numbers", "any", array_of_arrays, MOST // 2, CBOR, PIECES),
+    Stream("an item of 16-byte strings", "any", array_of_short_strings, MOST // 2, CBOR, PIECES),
+    Stream("an item that is a byte string", "any", one_byte_string, MOST // 2, CBOR, PIECES),
 ]
