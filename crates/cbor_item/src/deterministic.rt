@@ -1,14 +1,14 @@
 //! Writes items to a device in deterministic encoding (RFC 8949 section 4.2.1).
 
-ghost use Rattle.std.specs.Prelude.{◌≡◌, ◌<◌, ◌++◌, length, take, OnOk, IfOk};
+ghost use Rattle.std.specs.Prelude.{◌≡◌, ◌<◌, ◌≤◌, ◌++◌, length, take, OnOk, IfOk};
 ghost use Rattle.std.specs.Io.KnownBytes.{Appends};
 ghost use Rattle.cbor_data.specs.Deterministic.{deterministic, values_ordered, pairs_ordered};
 ghost use Rattle.cbor_data.specs.Preferred.{shortest_head, values_preferred, pairs_preferred};
 ghost use Rattle.cbor_data.specs.Validity.{IsValid};
-ghost use Rattle.cbor_data.specs.Value.{array, pairs as pairs_value};
+ghost use Rattle.cbor_data.specs.Value.{Pairs, array, pairs as pairs_value};
 ghost use Rattle.cbor_item.specs.Counted.{device_of, failures_of, HasRisen};
-ghost use Rattle.cbor_item.specs.InOrder.{laid};
-ghost use Rattle.cbor_item.specs.Laying.{joined, seen_entries};
+ghost use Rattle.cbor_item.specs.InOrder.{laid, lengths_of, total, cut, seen_slices};
+ghost use Rattle.cbor_item.specs.Laying.{joined};
 ghost use Rattle.cbor_item.specs.View.{view, values_view, pairs_view};
 ghost use Rattle.cbor_item.specs.Walk.{IsPlain, ArePlain, ArePairsPlain};
 
@@ -85,8 +85,9 @@ fn add_det(alloc: Global, item: &Item, out: &mut Vec<u8>) -> Result<(), AllocErr
             if are_keys_rising(pairs.as_slice()) {
                 return add_pairs(alloc, pairs, out);
             }
-            let entries = entries_in_order(alloc, pairs)?;
-            add_entries(&entries, out)
+            let mut bytes = Vec::new(alloc);
+            let lengths = lay_out(alloc, pairs, &mut bytes)?;
+            add_sorted(alloc, bytes.as_slice(), &lengths, out)
         }
         Item::Tag(number, content) => {
             out.extend_from_slice(Head::shortest(6, *number).as_slice())?;
@@ -123,35 +124,72 @@ fn add_pairs(alloc: Global, pairs: &Vec<(Item, Item)>, out: &mut Vec<u8>) -> Res
     Ok(())
 }
 
-// The bytes of the pairs of a map, sorted. No two keys have the same bytes, so the values decide nothing.
+// Adds the pairs of a map as they come, and answers how many bytes each key and each value has.
 #[cycle(add)]
-fn entries_in_order(
+fn lay_out(
     alloc: Global,
     pairs: &Vec<(Item, Item)>,
-) -> Result<Vec<(Vec<u8>, Vec<u8>)>, AllocError>
-    requires plain { IsPlain (pairs_value (pairs_view pairs.now.items)) }
+    bytes: &mut Vec<u8>,
+) -> Result<Vec<(usize, usize)>, AllocError>
+    requires plain { ArePairsPlain (pairs_view pairs.now.items) }
     requires valid { IsValid (pairs_value (pairs_view pairs.now.items)) }
-    ensures { IfOk result (λ es. joined (seen_entries es.items) ≡ pairs_preferred (pairs_ordered (pairs_view pairs.now.items))) }
+    ensures lengths { IfOk result (λ lengths. lengths.items ≡ lengths_of (laid (pairs_view pairs.now.items))) }
+    ensures bytes { OnOk result (bytes.new.items ≡ bytes.old.items ++ joined (laid (pairs_view pairs.now.items))) }
 {
-    let mut entries = Vec::new(alloc);
+    let mut lengths = Vec::with_capacity(alloc, pairs.len())?;
     for (key, value) in pairs {
-        let mut key_bytes = Vec::new(alloc);
-        add_det(alloc, key, &mut key_bytes)?;
-        let mut value_bytes = Vec::new(alloc);
-        add_det(alloc, value, &mut value_bytes)?;
-        entries.push((key_bytes, value_bytes))?;
+        let start = bytes.len();
+        add_det(alloc, key, bytes)?;
+        let middle = bytes.len();
+        add_det(alloc, value, bytes)?;
+        lengths.push((middle - start, bytes.len() - middle))?;
     }
+    Ok(lengths)
+}
+
+// Adds the pairs whose keys and values have these lengths in the bytes, sorted. No two keys have the same bytes, so the values
+// decide nothing.
+fn add_sorted(
+    alloc: Global,
+    bytes: &[u8],
+    lengths: &Vec<(usize, usize)>,
+    out: &mut Vec<u8>,
+) -> Result<(), AllocError>
+    requires { total lengths.now.items ≤ length bytes.now }
+    ensures { OnOk result ((ps : Pairs) → IsPlain (pairs_value ps) → IsValid (pairs_value ps) → cut lengths.now.items bytes.now ≡ laid ps → out.new.items ≡ out.old.items ++ pairs_preferred (pairs_ordered ps)) }
+{
+    let mut entries = entries_in(alloc, bytes, lengths)?;
     entries.sort_unstable();
+    add_entries(&entries, out)
+}
+
+// The keys and the values of these lengths that are in the bytes, one after the other.
+fn entries_in<'a>(
+    alloc: Global,
+    bytes: &'a [u8],
+    lengths: &Vec<(usize, usize)>,
+) -> Result<Vec<(&'a [u8], &'a [u8])>, AllocError>
+    requires { total lengths.now.items ≤ length bytes.now }
+    ensures { IfOk result (λ entries. seen_slices entries.items ≡ cut lengths.now.items bytes.now) }
+{
+    let mut entries = Vec::with_capacity(alloc, lengths.len())?;
+    let mut rest = bytes;
+    for (key, value) in lengths {
+        let (key_bytes, after_key) = rest.split_at(*key);
+        let (value_bytes, after) = after_key.split_at(*value);
+        entries.push((key_bytes, value_bytes))?;
+        rest = after;
+    }
     Ok(entries)
 }
 
 // Adds pairs, each key and then its value.
-fn add_entries(entries: &Vec<(Vec<u8>, Vec<u8>)>, out: &mut Vec<u8>) -> Result<(), AllocError>
-    ensures { OnOk result (out.new.items ≡ out.old.items ++ joined (seen_entries entries.now.items)) }
+fn add_entries(entries: &Vec<(&[u8], &[u8])>, out: &mut Vec<u8>) -> Result<(), AllocError>
+    ensures { OnOk result (out.new.items ≡ out.old.items ++ joined (seen_slices entries.now.items)) }
 {
     for (key, value) in entries {
-        out.extend_from_slice(key.as_slice())?;
-        out.extend_from_slice(value.as_slice())?;
+        out.extend_from_slice(key)?;
+        out.extend_from_slice(value)?;
     }
     Ok(())
 }

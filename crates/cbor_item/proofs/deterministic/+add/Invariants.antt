@@ -3,8 +3,8 @@ use Rattle.cbor_data.specs.Deterministic.{values_ordered}
 use Rattle.cbor_data.specs.Preferred.{values_preferred}
 use Rattle.cbor_data.specs.Value.{array, pairs}
 use Rattle.cbor_data.proofs.Lemmas.{HasKeysApart}
-use Rattle.cbor_item.specs.InOrder.{laid}
-use Rattle.cbor_item.specs.Laying.{joined, seen_entries}
+use Rattle.cbor_item.specs.InOrder.{laid, lengths_of}
+use Rattle.cbor_item.specs.Laying.{joined}
 use Rattle.cbor_item.specs.View.{values_view, pairs_view}
 use Rattle.cbor_item.specs.Walk.{ArePlain, ArePairsPlain}
 use Rattle.cbor_item.proofs.deterministic.+add.Given as goal
@@ -24,9 +24,10 @@ invariant-add_pairs-loop-key l = record {
   sofar : l.out.items ++ joined (laid (pairs_view (drop l.key-index l.key-items))) ≡ l.fn.out.items ++ joined (laid (pairs_view l.key-items));
 }
 
-abbrev pub invariant-entries_in_order-loop-key : goal.invariant-entries_in_order-loop-key
-invariant-entries_in_order-loop-key l = record {
+abbrev pub invariant-lay_out-loop-key : goal.invariant-lay_out-loop-key
+invariant-lay_out-loop-key l = record {
   plain : ArePairsPlain (pairs_view (drop l.key-index l.key-items));
   apart : HasKeysApart (pairs (pairs_view (drop l.key-index l.key-items)));
-  sofar : seen_entries l.entries.items ++ laid (pairs_view (drop l.key-index l.key-items)) ≡ laid (pairs_view l.key-items);
+  lengths : l.lengths.items ++ lengths_of (laid (pairs_view (drop l.key-index l.key-items))) ≡ lengths_of (laid (pairs_view l.key-items));
+  sofar : l.bytes.items ++ joined (laid (pairs_view (drop l.key-index l.key-items))) ≡ l.fn.bytes.items ++ joined (laid (pairs_view l.key-items));
 }

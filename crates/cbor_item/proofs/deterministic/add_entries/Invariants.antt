@@ -1,7 +1,8 @@
 use Rattle.std.proofs.Common.{◌≡◌, ◌++◌, drop}
-use Rattle.cbor_item.specs.Laying.{joined, seen_entries}
+use Rattle.cbor_item.specs.InOrder.{seen_slices}
+use Rattle.cbor_item.specs.Laying.{joined}
 use Rattle.cbor_item.proofs.deterministic.add_entries.Given as goal
 
 -- with what is left to be added it will be all
 abbrev pub invariant-loop-key : goal.invariant-loop-key
-invariant-loop-key l = l.out.items ++ joined (seen_entries (drop l.key-index l.key-items)) ≡ l.fn.out.items ++ joined (seen_entries l.key-items)
+invariant-loop-key l = l.out.items ++ joined (seen_slices (drop l.key-index l.key-items)) ≡ l.fn.out.items ++ joined (seen_slices l.key-items)
