@@ -36,7 +36,7 @@ PROVED = os.path.join(TOP, "crates", "cddlseq", "out", "cddlseq")
 OUTLINE = os.path.join(TOP, "crates", "cddl_outline", "out", "cddl_outline")
 PROGRAM = os.path.join(TOP, "build", "cddlseq")
 # the tests that are run with requests for memory refused
-TESTS = [os.path.join(TOP, "crates", it, "out", f"{it}_tests") for it in ("run_tests", "tool_tests")]
+TESTS = [os.path.join(TOP, "crates", it, "out", f"{it}_tests") for it in ("cbor_tests", "cddl_tests", "run_tests", "tool_tests")]
 # Each step may take a few gigabytes.
 STEPS_AT_ONCE = 3
 # What a check may take, in KiB.

@@ -102,7 +102,7 @@ record GoesOn (d at : ℕ) (T : List Text) (s : State) (c : List ℕ) (m : machi
   pub form : form_of state ≡ m
   pub kept : (i : ℕ) → IsFirstBad T i → IsFirstBad told i
 
-reached : (o : Option (List Text × State)) (m : machine.State) → form_reached o ≡ Some m → (r : List Text × State) × (o ≡ Some r) × (form_of r.1 ≡ m)
+pub reached : (o : Option (List Text × State)) (m : machine.State) → form_reached o ≡ Some m → (r : List Text × State) × (o ≡ Some r) × (form_of r.1 ≡ m)
 reached None m e = absurd (cc)
 reached (Some r) m e = (r, refl, (let f : form_of r.1 ≡ m = cc in f))
 

@@ -9,5 +9,6 @@ mod Runs
 mod Holding
 mod WholeHeads
 mod LastHeads
+mod Taking
 mod Steps
 pub mod Lemmas

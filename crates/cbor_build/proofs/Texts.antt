@@ -52,6 +52,42 @@ mutual
       let here = hold k at T there.1 in
       ((here.0, there.0, rest.0), here.1)
 
+text_kept : (at : ℕ) (s : List ℕ) (T : List Text) → IsUtf8 s → AreTexts T → AreTexts (text_at at s T)
+text_kept at [] T u h = h
+text_kept at (b ∷ s) T u h = (u, h)
+
+chunks_kept : (cs : List Chunk) (at : ℕ) (T : List Text) → AllText cs → AreTexts T → AreTexts (chunk_texts at cs T)
+chunks_kept [] at T u h = h
+chunks_kept (c ∷ cs) at T u h = chunks_kept cs (at + length (chunk_bytes 3 c)) (text_at at c.content T) u.1 (text_kept at c.content T u.0 h)
+
+mutual
+  -- where each text chunk of the form is UTF-8, all that are told stay so
+  pub kept : (f : Form) (at : ℕ) (T : List Text) → HasText f → AreTexts T → AreTexts (texts_of at f T)
+  kept (uint_form p n) at T u h = h
+  kept (nint_form p n) at T u h = h
+  kept (bytes_form p s) at T u h = h
+  kept (bytes_chunks cs) at T u h = h
+  kept (text_form p s) at T u h = text_kept at s T u h
+  kept (text_chunks cs) at T u h = chunks_kept cs (suc at) T u h
+  kept (array_form p fs) at T u h = kept_all fs (at + length (head_in p 4 (forms_len fs))) T u h
+  kept (array_to_break fs) at T u h = kept_all fs (suc at) T u h
+  kept (pairs_form p ps) at T u h = kept_pairs ps (at + length (head_in p 5 (pair_forms_len ps))) T u h
+  kept (pairs_to_break ps) at T u h = kept_pairs ps (suc at) T u h
+  kept (tag_form p n f) at T u h = kept f (at + length (head_in p 6 n)) T u h
+  kept (simple_inside n) at T u h = h
+  kept (simple_next n) at T u h = h
+  kept (float_form w n) at T u h = h
+
+  pub kept_all : (fs : Forms) (at : ℕ) (T : List Text) → HaveText fs → AreTexts T → AreTexts (texts_among at fs T)
+  kept_all no_forms at T u h = h
+  kept_all (form f fs) at T u h = kept_all fs (at + length (flat f)) (texts_of at f T) u.1 (kept f at T u.0 h)
+
+  pub kept_pairs : (ps : PairForms) (at : ℕ) (T : List Text) → HavePairsText ps → AreTexts T → AreTexts (texts_among_pairs at ps T)
+  kept_pairs no_pair_forms at T u h = h
+  kept_pairs (pair_form k v ps) at T u h =
+      let i = at + length (flat k) in
+      kept_pairs ps (i + length (flat v)) (texts_of i v (texts_of at k T)) u.2 (kept v i (texts_of at k T) u.1 (kept k at T u.0 h))
+
 -- the first that is no text was told before, or is in a form (or in chunks, or among forms) from `at` on
 abbrev Bad : List Text → ℕ → ℕ → (ℕ → Type 0) → Type 0
 Bad T at i IsBad = IsFirstBad T i ⊎ (AreTexts T × (j : ℕ) × (i ≡ at + j) × IsBad j)

@@ -7,6 +7,7 @@ pub mod Arguments
 pub mod Stages
 pub mod Noted
 pub mod Turns
+pub mod Taking
 pub mod Progress
 pub mod Props
 pub mod Working

@@ -100,6 +100,7 @@ fn build_on(
     *stage = Stage::Item;
     let mut here = before;
     let mut used = 0;
+    let mut is_in_vain = false;
     while used < piece.len() {
         match next_turn(
             alloc,
@@ -108,6 +109,7 @@ fn build_on(
             held,
             at + used as u64,
             depth,
+            &mut is_in_vain,
             &piece[used..],
         )? {
             Turn::On(count, next) => {

@@ -8,7 +8,7 @@ ghost use Rattle.cbor_build.specs.Stages.{frame_of, ends, breaks, one_less, stac
 
 use crate::stage::{Next, Stage};
 use cbor_item::Item;
-use cbor_whole::{make_room, trimmed};
+use cbor_whole::{push_part, trimmed};
 use std::alloc::{AllocError, Global};
 
 /// An open container: how many parts come after the awaited one, if that is known, and those before it.
@@ -42,19 +42,22 @@ fn all_parts(read: usize, left: Option<u64>) -> Option<u64> {
     }
 }
 
-// Puts a member at the end of an array, with room as for one of so many.
+/// Puts a member at the end of an array, with room as for one of so many.
 #[inline(always)]
-fn push_member(members: &mut Vec<Item>, item: Item, left: Option<u64>) -> Result<(), AllocError>
+pub(crate) fn push_member(
+    members: &mut Vec<Item>,
+    item: Item,
+    left: Option<u64>,
+) -> Result<(), AllocError>
     ensures { OnOk result (members.new.items ≡ members.old.items ++ item ∷ []) }
 {
-    make_room(members, all_parts(members.len(), left))?;
-    members.push(item)?;
-    Ok(())
+    let count = all_parts(members.len(), left);
+    push_part(members, item, count)
 }
 
-// The same of a map.
+/// The same of a map.
 #[inline(always)]
-fn push_pair(
+pub(crate) fn push_pair(
     pairs: &mut Vec<(Item, Item)>,
     key: Item,
     value: Item,
@@ -62,9 +65,8 @@ fn push_pair(
 ) -> Result<(), AllocError>
     ensures { OnOk result (pairs.new.items ≡ pairs.old.items ++ (key, value) ∷ []) }
 {
-    make_room(pairs, all_parts(pairs.len(), left))?;
-    pairs.push((key, value))?;
-    Ok(())
+    let count = all_parts(pairs.len(), left);
+    push_part(pairs, (key, value), count)
 }
 
 // Puts the item into a container that awaits another one after it.
@@ -90,9 +92,9 @@ fn add(frame: &mut Frame, item: Item) -> Result<(), AllocError>
     Ok(())
 }
 
-// One fewer to come.
+/// One fewer to come.
 #[inline(always)]
-fn count_down(left: &mut Option<u64>)
+pub(crate) fn count_down(left: &mut Option<u64>)
     ensures { left.new ≡ one_less left.old }
 {
     if let Some(count) = *left {

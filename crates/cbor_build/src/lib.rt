@@ -9,6 +9,7 @@ mod frame;
 mod kind;
 mod laws;
 mod malformed;
+mod members;
 mod noted;
 mod partial;
 mod stage;

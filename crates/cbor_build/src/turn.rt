@@ -11,6 +11,7 @@ use crate::argument::info_of_byte;
 use crate::frame::{Frame, end_item};
 use crate::kind::{Kind, kind_of};
 use crate::malformed::{chunk_fault, item_fault};
+use crate::members::take_parts;
 use crate::stage::{
     Next, Stage, await_string, begin_chunk, begin_item, end_head, go_on_argument, go_on_bits,
     go_on_chunk_argument,
@@ -61,6 +62,28 @@ fn is_too_deep(count: usize, depth: u32, byte: u8) -> bool
     ensures { (at : ℕ) (stack : List building.Frame) → length stack ≡ count → IsDeepIf result depth at stack byte }
 {
     count >= depth as usize && opens_container(byte) && has_length(byte)
+}
+
+// Parts of the innermost container that are whole, or what is at the front of the rest.
+#[inline(always)]
+fn turn_parts(
+    alloc: Global,
+    frames: &mut Vec<Frame>,
+    held: &mut Vec<u8>,
+    at: u64,
+    depth: u32,
+    is_in_vain: &mut bool,
+    rest: &[u8],
+) -> Result<Turn, AllocError>
+    requires { 0 < length rest.now }
+    ensures { IfOk result (λ turn. IsTurn depth at (building.item (stack_of frames.old.items)) rest.now turn held.new.items (stack_of frames.new.items) (building.item (stack_of frames.new.items))) }
+{
+    let (used, is_vain) = take_parts(alloc, frames, depth, *is_in_vain, rest)?;
+    *is_in_vain = is_vain;
+    if used > 0 {
+        return Ok(Turn::On(used, Next::Await(Stage::Item)));
+    }
+    turn_item(alloc, frames, held, at, depth, rest)
 }
 
 #[inline(always)]
@@ -303,8 +326,8 @@ fn turn_simple(alloc: Global, frames: &mut Vec<Frame>, rest: &[u8]) -> Result<Tu
     Ok(Turn::On(1, next))
 }
 
-/// Where the next bytes of the piece lead from a stage, the first of them at this offset: one byte, or as many of a
-/// string's content as there are.
+/// Where the next bytes of the piece lead from a stage, the first of them at this offset: one byte, as many of a string's
+/// content as there are, or parts of the innermost container that are whole.
 #[inline(always)]
 pub(crate) fn next_turn(
     alloc: Global,
@@ -313,6 +336,7 @@ pub(crate) fn next_turn(
     held: &mut Vec<u8>,
     at: u64,
     depth: u32,
+    is_in_vain: &mut bool,
     rest: &[u8],
 ) -> Result<Turn, AllocError>
     requires some { 0 < length rest.now }
@@ -320,7 +344,7 @@ pub(crate) fn next_turn(
     ensures { IfOk result (λ turn. IsTurn depth at (state_of stage held.old.items (stack_of frames.old.items)) rest.now turn held.new.items (stack_of frames.new.items) (state_of stage held.new.items (stack_of frames.new.items))) }
 {
     match stage {
-        Stage::Item => turn_item(alloc, frames, held, at, depth, rest),
+        Stage::Item => turn_parts(alloc, frames, held, at, depth, is_in_vain, rest),
         Stage::Argument(from, kind, partial) => {
             let next = go_on_argument(alloc, frames, held, from, kind, partial, rest[0])?;
             Ok(Turn::On(1, next))

@@ -15,8 +15,9 @@ use std::alloc::{AllocError, Global};
 ///
 /// `None` where the bytes are of no such list: each item is valid, with no map that has two keys that are the same up to the
 /// order of pairs in them (RFC 8949 sections 5.3.1 and 5.6), and has a depth of at most [`MOST_DEPTH`]. No bytes are the
-/// empty list. There is no limit on the number of bytes. It takes a time in proportion to them, and memory within a constant
-/// for each byte.
+/// empty list. There is no limit on the number of bytes. It takes memory within a constant for each byte, and a time in
+/// proportion to them; but keys that are told apart by a sort take `n log n`, and a byte of a key in keys of keys counts once
+/// for each map that it is a key of.
 ///
 /// # Errors
 ///

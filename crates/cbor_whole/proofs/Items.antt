@@ -1,5 +1,5 @@
 -- An item from its head and what is after it.
-use Rattle.std.proofs.Common.{◌≡◌, ℕ, ◌+◌, ◌-◌, ◌/◌, ◌%◌, ◌==◌, ◌<◌, ◌≤◌, false, List, [], ◌∷◌, ◌++◌, length, take, drop, get_or, refl, sym, ap, ◌∙◌, subst, arith, append_assoc, length-append, length-drop, length-take, Option, Some, None, Result, Ok, Err, IfOk, IfSome}
+use Rattle.std.proofs.Common.{◌≡◌, ℕ, ◌+◌, ◌-◌, ◌/◌, ◌%◌, ◌==◌, ◌<◌, ◌≤◌, ◌⊎◌, inl, inr, Bool, true, false, nat_lt, List, [], ◌∷◌, ◌++◌, length, take, drop, get_or, refl, sym, ap, ◌∙◌, subst, arith, append_assoc, length-append, length-drop, length-take, Option, Some, None, Result, Ok, Err, IfOk, IfSome}
 use Rattle.std.specs.declared.alloc.AllocError.{AllocError}
 use Rattle.std.proofs.Math.Seq.{take-append_seam}
 use Rattle.std.proofs.lemmas.List.{take-append-drop, drop-drop}
@@ -44,6 +44,21 @@ uint_item d b at n end x h m is = item_of d b at end x (uint_form h.size n) h.fi
 
 pub nint_item : (d : ℕ) (b : List ℕ) (at n end : ℕ) (x : Value) → IsArgumentAt b at n end → get_or b at 0 / 32 ≡ 1 → x ≡ nint n → IsItemAt d b at x end
 nint_item d b at n end x h m is = item_of d b at end x (nint_form h.size n) h.fits tt is (omega arith) (head_lies b at n end 1 h m)
+
+pub integer_item : (d : ℕ) (b : List ℕ) (at n end : ℕ) (x : Value) → IsArgumentAt b at n end → get_or b at 0 < 64 → (get_or b at 0 / 32 ≡ 0 → x ≡ uint n) → (get_or b at 0 / 32 ≡ 1 → x ≡ nint n) → IsItemAt d b at x end
+integer_item d b at n end x h few u v =
+    let c : ℕ = get_or b at 0 in
+    elim (either c few) [
+      | inl m ↦ uint_item d b at n end x h m (u m)
+      | inr m ↦ nint_item d b at n end x h m (v m)
+    ]
+  where
+    settled : (t : Bool) → (t ≡ true) ⊎ (t ≡ false)
+    settled true = inl refl
+    settled false = inr refl
+
+    either : (c : ℕ) → c < 64 → (c / 32 ≡ 0) ⊎ (c / 32 ≡ 1)
+    either c few = elim (settled (nat_lt c 32)) [ inl t ↦ inl (grind (arith, nat_tests)) | inr t ↦ inr (grind (arith, nat_tests)) ]
 
 -- strings
 

@@ -1,7 +1,9 @@
 -- What is read where in bytes.
-use Rattle.std.specs.Prelude.{◌≡◌, ℕ, ◌+◌, ◌-◌, ◌/◌, ◌==◌, ◌<◌, ◌≤◌, List, ◌++◌, length, take, drop, slice_index, if◌then◌else◌, IsUtf8, Option, Some, None}
+use Rattle.std.specs.Prelude.{◌≡◌, ℕ, ◌+◌, ◌-◌, ◌/◌, ◌==◌, ◌<◌, ◌≤◌, List, [], ◌∷◌, ◌++◌, length, take, drop, slice_index, if◌then◌else◌, IsUtf8, Option, Some, None}
 use Rattle.cbor_data.specs.declared.Width.TheVariants.{W16, W32, W64}
 use Rattle.cbor_data.specs.Value.{Value, bytes, text, array, pairs, tag, simple, float, AreBytes, depth_of, values_depth, pairs_depth}
+use Rattle.cbor_item.specs.View.{view}
+use Rattle.cbor_item.specs.declared.item.Item.{Item}
 use Rattle.cbor_data.specs.Forms.{ArgumentSize, head_in, FitsSize, Chunk, chunks_bytes, joined, AreChunksOk, AllText, Form, Forms, PairForms, forms_len, pair_forms_len, flat, forms_flat, pair_forms_flat, IsOk, AreFormsOk, ArePairFormsOk, meaning, meanings, pair_meanings, HasText, HaveText, HavePairsText}
 
 -- a definite head with the argument n is in b from `at` up to `end`
@@ -131,3 +133,9 @@ pub record IsTagAt (depth number : ℕ) (b : List ℕ) (start : ℕ) (x : Value)
   pub some : 0 < depth
   pub there : IsItemAt (depth - 1) b start content end
   pub meant : x ≡ tag number content
+
+-- a member that is in b from `at` up to `end` has come to the others
+pub record IsMemberAt (depth : ℕ) (b : List ℕ) (at : ℕ) (before after : List Item) (end : ℕ) : Type 0 where
+  pub member : Item
+  pub there : IsItemAt depth b at (view member) end
+  pub more : after ≡ before ++ member ∷ []

@@ -1,13 +1,14 @@
 // Items of every kind.
 ghost use Rattle.std.specs.Prelude.{◌<◌, ◌≤◌, length, IfOk, IfSome};
 ghost use Rattle.cbor_item.specs.View.{view};
-ghost use Rattle.cbor_whole.specs.Parts.{IsItemAt, IsArrayAt, IsMapAt, IsTagAt};
+ghost use Rattle.cbor_whole.specs.Parts.{IsItemAt, IsArrayAt, IsMapAt, IsMemberAt, IsTagAt};
 ghost use Rattle.cbor_whole.specs.Whole.{IsWholeItem};
 
 use crate::argument::argument_at;
 use crate::chunks::{byte_chunks, text_chunks};
+use crate::integer::{INTEGERS_BELOW, push_integer};
 use crate::leaf::{byte_string, simple_or_float, text_string};
-use crate::list::{end_len, is_end, make_room, may_be_there, trimmed};
+use crate::list::{end_len, is_end, may_be_there, push_part, trimmed};
 use cbor_item::Item;
 use std::alloc::{AllocError, Global};
 
@@ -102,15 +103,36 @@ fn array(
     let mut items = Vec::new(alloc);
     let mut at = start;
     while !is_end(bytes, at, count, items.len()) {
-        let Some((item, end)) = item_at(alloc, bytes, at, depth - 1)? else {
+        let Some(end) = push_member(alloc, bytes, at, depth - 1, count, &mut items)? else {
             return Ok(None);
         };
-        make_room(&mut items, count)?;
-        items.push(item)?;
         at = end;
     }
     let items = trimmed(items);
     Ok(Some((Item::Array(items), at + end_len(count))))
+}
+
+// Adds the member at `at` to the others of an array, and answers where it ends.
+#[cycle(whole)]
+#[inline(always)]
+fn push_member(
+    alloc: Global,
+    bytes: &[u8],
+    at: usize,
+    depth: u32,
+    count: Option<u64>,
+    items: &mut Vec<Item>,
+) -> Result<Option<usize>, AllocError>
+    ensures { IfOk result (λ found. IfSome found (λ end. IsMemberAt depth bytes.now at items.old.items items.new.items end)) }
+{
+    if at < bytes.len() && bytes[at] < INTEGERS_BELOW {
+        return push_integer(bytes, at, count, items);
+    }
+    let Some((item, end)) = item_at(alloc, bytes, at, depth)? else {
+        return Ok(None);
+    };
+    push_part(items, item, count)?;
+    Ok(Some(end))
 }
 
 // The map of so many pairs from `start` on, or of those up to a break, and where it ends.
@@ -138,8 +160,7 @@ fn map(
         let Some((value, end)) = item_at(alloc, bytes, after_key, depth - 1)? else {
             return Ok(None);
         };
-        make_room(&mut pairs, count)?;
-        pairs.push((key, value))?;
+        push_part(&mut pairs, (key, value), count)?;
         at = end;
     }
     let pairs = trimmed(pairs);

@@ -3,11 +3,13 @@
 
 mod argument;
 mod chunks;
+mod integer;
 mod item;
 mod leaf;
 mod list;
 
 pub use crate::argument::argument_at;
+pub use crate::integer::{INTEGERS_BELOW, integer_of};
 pub use crate::item::whole_item;
 pub use crate::leaf::simple_or_float;
-pub use crate::list::{make_room, trimmed};
+pub use crate::list::{push_part, trimmed};

@@ -1,5 +1,5 @@
 // Lists of members or pairs: so many, or those up to a break.
-ghost use Rattle.std.specs.Prelude.{◌≡◌, ◌≤◌, length, IsTrue};
+ghost use Rattle.std.specs.Prelude.{◌≡◌, ◌≤◌, ◌∷◌, ◌++◌, [], length, IsTrue, OnOk};
 ghost use Rattle.cbor_whole.specs.Parts.{IsBreak, IsEnd, end_length};
 
 use crate::leaf::are_there;
@@ -52,21 +52,35 @@ pub fn end_len(count: Option<u64>) -> usize
     }
 }
 
-/// Makes room for a further part, where there is none: twice as much, but no more than for all parts where these are
-/// counted. At first it is for two, or for as many as are counted, up to [`MOST_ROOM`].
-#[inline]
-pub fn make_room<T>(list: &mut Vec<T>, count: Option<u64>) -> Result<(), AllocError>
+// Makes room for a further part of a list that has none: twice as much, but no more than for all parts where these are counted.
+// At first it is for two, or for as many as are counted, up to [`MOST_ROOM`].
+fn make_room<T>(list: &mut Vec<T>, count: Option<u64>) -> Result<(), AllocError>
     ensures { list.new.items ≡ list.old.items }
 {
     let read = list.len();
-    if read < list.capacity() {
-        return Ok(());
-    }
     let more = match count {
         Some(count) => (count.saturating_sub(read as u64) as usize).min(read.max(MOST_ROOM)),
         None => read.max(2),
     };
     list.reserve_exact(more)
+}
+
+/// Puts a part at the end of a list that has so many in the end, if that is known.
+///
+/// # Errors
+///
+/// [`AllocError`] where an allocation was refused.
+#[inline(always)]
+pub fn push_part<T: Drop>(list: &mut Vec<T>, part: T, count: Option<u64>) -> Result<(), AllocError>
+    ensures { OnOk result (list.new.items ≡ list.old.items ++ part ∷ []) }
+{
+    if list.len() < list.capacity() {
+        list.push_reserved(part);
+        return Ok(());
+    }
+    make_room(list, count)?;
+    list.push(part)?;
+    Ok(())
 }
 
 /// The list without the room that it does not need, if it is long. A short list up to a break may keep it: with as much again

@@ -1,8 +1,8 @@
-use Rattle.std.proofs.Common.{◌≡◌, ℕ, ◌+◌, ◌-◌, [], ◌∷◌, ◌++◌, Some, None, IfSome, sym, ap, ◌∙◌, subst, arith, rules}
+use Rattle.std.proofs.Common.{◌≡◌, ℕ, ◌+◌, ◌-◌, [], ◌∷◌, ◌++◌, Some, None, IfSome, sym, ◌∙◌, subst, arith, rules}
 use Rattle.cbor_data.specs.Value.{bytes, text}
 use Rattle.cbor_item.specs.View.{view}
 use Rattle.cbor_item.specs.declared.item.Item.{the_lemmas}
-use Rattle.cbor_whole.specs.Parts.{IsBytesAt, IsTextAt, IsJoinedAt, IsArrayAt, IsMapAt, IsTagAt, IsItemAt}
+use Rattle.cbor_whole.specs.Parts.{IsBytesAt, IsTextAt, IsJoinedAt, IsArrayAt, IsMapAt, IsTagAt, IsItemAt, IsMemberAt}
 use Rattle.cbor_whole.proofs.Arguments.{small_part}
 use Rattle.cbor_whole.proofs.Items.{found_so, uint_item, nint_item, bytes_item, text_item, array_item, map_item, tag_item, last_item, item_moves}
 use Rattle.cbor_whole.proofs.Members.{AreRead, ArePairsRead, none_read, one_more, array_read, no_pairs_read, one_pair_more, map_read}
@@ -111,16 +111,24 @@ array-loop-alloc-preserved t c =
     let d : ℕ = c.args.depth - 1 in
     let b = c.args.bytes.now in
     let end = c.in-Some.end in
-    let read = subst (λ f. IfSome f (λ r. IsItemAt d b c.loop-alloc.at (view r.0) r.1)) c.in-Some.is c.in_ok-item.ensures in
-    let items : c.push.new.self.items ≡ c.loop-alloc.items.items ++ c.in-Some.item ∷ [] = c.in_ok-push.ensures.items ∙ ap (λ xs. xs ++ c.in-Some.item ∷ []) c.make_room.ensures in
-    subst (AreRead d b c.args.start end) (sym items) (one_more d b c.args.start c.loop-alloc.at end c.loop-alloc.items.items c.in-Some.item c.loop-alloc.invariant read)
+    let items = c.loop-alloc.items.items in
+    let after = c.push_member.new.items.items in
+    let read = subst (λ f. IfSome f (λ e. IsMemberAt d b c.loop-alloc.at items after e)) c.in-Some.is c.in_ok-end.ensures in
+    subst (AreRead d b c.args.start end) (sym read.more) (one_more d b c.args.start c.loop-alloc.at end items read.member c.loop-alloc.invariant read.there)
 
 pub array-loop-alloc-smaller : goal.array-loop-alloc-smaller
 array-loop-alloc-smaller t c =
     let d : ℕ = c.args.depth - 1 in
     let b = c.args.bytes.now in
-    let read = subst (λ f. IfSome f (λ r. IsItemAt d b c.loop-alloc.at (view r.0) r.1)) c.in-Some.is c.in_ok-item.ensures in
-    item_moves d b c.loop-alloc.at c.in-Some.end (view c.in-Some.item) read
+    let read = subst (λ f. IfSome f (λ e. IsMemberAt d b c.loop-alloc.at c.loop-alloc.items.items c.push_member.new.items.items e)) c.in-Some.is c.in_ok-end.ensures in
+    item_moves d b c.loop-alloc.at c.in-Some.end (view read.member) read.there
+
+pub push_member-returns : goal.push_member-returns
+push_member-returns t c =
+    let d = c.args.depth in
+    let b = c.args.bytes.now in
+    let read = subst (λ f. IfSome f (λ r. IsItemAt d b c.args.at (view r.0) r.1)) c.in-Some.is c.in_ok-item.ensures in
+    record { member = c.in-Some.item; there = read; more = c.in_ok-push_part.ensures }
 
 pub array-overflow_add-result : goal.array-overflow_add-result
 array-overflow_add-result t c =
@@ -144,7 +152,7 @@ map-loop-alloc-preserved t c =
     let end = c.in-Some-2.end in
     let key = subst (λ f. IfSome f (λ r. IsItemAt d b c.loop-alloc.at (view r.0) r.1)) c.in-Some.is c.in_ok-key.ensures in
     let value = subst (λ f. IfSome f (λ r. IsItemAt d b between (view r.0) r.1)) c.in-Some-2.is c.in_ok-value.ensures in
-    let items : c.push.new.self.items ≡ c.loop-alloc.pairs.items ++ (c.in-Some.key, c.in-Some-2.value) ∷ [] = c.in_ok-push.ensures.items ∙ ap (λ ps. ps ++ (c.in-Some.key, c.in-Some-2.value) ∷ []) c.make_room.ensures in
+    let items : c.push_part.new.list.items ≡ c.loop-alloc.pairs.items ++ (c.in-Some.key, c.in-Some-2.value) ∷ [] = c.in_ok-push_part.ensures in
     subst (ArePairsRead d b c.args.start end) (sym items) (one_pair_more d b c.args.start c.loop-alloc.at between end c.loop-alloc.pairs.items (c.in-Some.key, c.in-Some-2.value) c.loop-alloc.invariant key value)
 
 pub map-loop-alloc-smaller : goal.map-loop-alloc-smaller

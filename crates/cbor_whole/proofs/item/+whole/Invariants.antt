@@ -3,19 +3,22 @@ use Rattle.cbor_whole.proofs.Members.{AreRead, ArePairsRead}
 use Rattle.cbor_whole.proofs.item.+whole.Given as goal
 
 abbrev pub decreases-item_at : goal.decreases-item_at
-decreases-item_at l = 3 * l.depth + 2
+decreases-item_at l = 4 * l.depth + 2
 
 abbrev pub decreases-item_to_break : goal.decreases-item_to_break
-decreases-item_to_break l = 3 * l.depth + 1
+decreases-item_to_break l = 4 * l.depth + 1
+
+abbrev pub decreases-push_member : goal.decreases-push_member
+decreases-push_member l = 4 * l.depth + 3
 
 abbrev pub decreases-array : goal.decreases-array
-decreases-array l = 3 * l.depth
+decreases-array l = 4 * l.depth
 
 abbrev pub decreases-map : goal.decreases-map
-decreases-map l = 3 * l.depth
+decreases-map l = 4 * l.depth
 
 abbrev pub decreases-tag : goal.decreases-tag
-decreases-tag l = 3 * l.depth
+decreases-tag l = 4 * l.depth
 
 abbrev pub invariant-array-loop-alloc : goal.invariant-array-loop-alloc
 invariant-array-loop-alloc l = AreRead (l.depth - 1) l.bytes l.start l.at l.items.items
