@@ -6,6 +6,7 @@ use Rattle.std.proofs.lemmas.List.{drop-drop}
 use Rattle.std.specs.declared.vec.Vec.{Vec}
 use Rattle.std.specs.declared.alloc.Global.{Global}
 use Rattle.cbor_data.specs.Value.{Value, uint, nint, depth_of}
+use Rattle.cbor_data.specs.Value.{bytes as byte_string}
 use Rattle.cbor_data.specs.Forms.{Form, flat, meaning, IsOk}
 use Rattle.cbor_item.specs.View.{view}
 use Rattle.cbor_item.specs.declared.item.Item.{Item}
@@ -28,7 +29,7 @@ use Rattle.cbor_build.proofs.Forward.{forward}
 use Rattle.cbor_build.proofs.Runs.{joined}
 use Rattle.cbor_build.proofs.Stacks.{stack_top, stack_replaced}
 use Rattle.cbor_build.proofs.Texts.{kept}
-use Rattle.cbor_build.proofs.WholeHeads.{heads, head_on}
+use Rattle.cbor_build.proofs.WholeHeads.{heads, head_on, string_head_on}
 
 -- the machine of forms gets along a form that is not too deep
 form_runs : (d : ℕ) (f : Form) (K : List machine.Frame) → IsOk f → depth_of (meaning f) + length K ≤ d → machine.steps_in d (machine.item K) (flat f) ≡ Some (machine.give K)
@@ -106,7 +107,7 @@ pair_taken d at room s bytes rest after used n m left more v w k x around is the
     (pair_added left v w k x around e (map_goes_on left v k goes) ∙ ap (λ l. item (frame_of (Map l w None) ∷ around)) (sym less)))
 
 -- the integer x, of this head
-small_room : (d at : ℕ) (K : List Frame) (b : ℕ) → b < 64 → HasRoom d at K b
+small_room : (d at : ℕ) (K : List Frame) (b : ℕ) → b < 128 → HasRoom d at K b
 small_room d at K b h = let t : nat_lt 3 (b / 32) ≡ false = grind (arith, nat_tests) in rw t refl
 
 integer_given : (b n : ℕ) (x : Value) → b < 64 → (b / 32 ≡ 0 → x ≡ uint n) → (b / 32 ≡ 1 → x ≡ nint n) → (from : ℕ) (K : List Frame) → give x K ≡ after from (b / 32) n K
@@ -125,9 +126,18 @@ integer_taken d at s bytes rest used end n left more v w x around is head few un
     let K : List Frame = frame_of (Array left v) ∷ around in
     let b : ℕ = get_or rest 0 0 in
     let to : give (view x) K ≡ item (frame_of (Array more w) ∷ around) = member_added left v w x around e (array_goes_on left v goes) ∙ ap (λ m. item (frame_of (Array m w) ∷ around)) (sym less) in
-    let on : IsOn d (at + used) (item K) rest end (item (frame_of (Array more w) ∷ around)) = head_on d (at + used) (b / 32) n end K rest _ (heads rest (b / 32) n end refl head) (omega arith) (small_room d (at + used) K b few) (sym to ∙ integer_given b n (view x) few unsigned negative (at + used) K) in
+    let on : IsOn d (at + used) (item K) rest end (item (frame_of (Array more w) ∷ around)) = head_on d (at + used) (b / 32) n end K rest _ (heads rest (b / 32) n end refl head) (omega arith) (small_room d (at + used) K b (omega arith)) (sym to ∙ integer_given b n (view x) few unsigned negative (at + used) K) in
     let there : IsOn d (at + used) (item K) (drop used bytes) end (item (frame_of (Array more w) ∷ around)) = subst (λ c. IsOn d (at + used) (item K) c end (item (frame_of (Array more w) ∷ around))) is on in
     taken_on d at s (item K) _ bytes used end h there.within there.run
+
+-- the byte string x, of this head
+pub bytes_taken : (d at : ℕ) (b : List ℕ) (n end : ℕ) (left more : Option ℕ) (v w : Vec Item Global) (x : Item) (around : List Frame) → IsArgumentAt b 0 n end → get_or b 0 0 / 32 ≡ 2 → end + n ≤ length b → view x ≡ byte_string (take n (drop end b)) →
+    is_last left ≡ false → more ≡ one_less left → w.items ≡ v.items ++ x ∷ [] → AreTaken d at (item (frame_of (Array left v) ∷ around)) b (end + n) (item (frame_of (Array more w) ∷ around))
+bytes_taken d at b n end left more v w x around head kind within is goes less e =
+    let K : List Frame = frame_of (Array left v) ∷ around in
+    let to : give (view x) K ≡ item (frame_of (Array more w) ∷ around) = member_added left v w x around e (array_goes_on left v goes) ∙ ap (λ m. item (frame_of (Array m w) ∷ around)) (sym less) in
+    let on : IsOn d at (item K) b (end + n) (item (frame_of (Array more w) ∷ around)) = string_head_on d at n end false K b _ (heads b 2 n end kind head) (small_room d at K (get_or b 0 0) (omega arith)) within (λ no. absurd (omega arith)) (sym to ∙ ap (λ y. give y K) is) in
+    record { within = on.within; run = on.run }
 
 -- one after the other
 pub taken_more : (d at : ℕ) (s t u : State) (bytes rest : List ℕ) (used n : ℕ) → rest ≡ drop used bytes → AreTaken d at s bytes used t → AreTaken d (at + used) t rest n u → AreTaken d at s bytes (used + n) u

@@ -1,5 +1,5 @@
 // Reads the parts of the innermost container that are whole in a piece, each in one pass.
-ghost use Rattle.std.specs.Prelude.{◌≡◌, ◌+◌, ◌/◌, ◌<◌, ◌≤◌, ℕ, List, ◌∷◌, length, false, None, IfOk};
+ghost use Rattle.std.specs.Prelude.{◌≡◌, ◌+◌, ◌/◌, ◌<◌, ◌≤◌, ℕ, List, ◌∷◌, length, slice_index, false, None, IfOk};
 ghost use Rattle.cbor_build.specs.Building as building;
 ghost use Rattle.cbor_build.specs.Taking.{AreTaken, is_last};
 ghost use Rattle.cbor_build.specs.Stages.{frame_of, stack_of};
@@ -13,9 +13,12 @@ use std::alloc::{AllocError, Global};
 // The byte that ends what has no declared length.
 const BREAK: u8 = 0xff;
 
+// The initial byte of a byte string in chunks. Those of other byte strings are below it.
+const BYTES_TO_BREAK: u8 = 0x5f;
+
 /// Takes the parts at the front of the bytes that are whole there into the innermost container, but not its last one. Answers
 /// how many bytes they have, and whether the bytes behind them were looked at in vain. Where that has been so in these bytes
-/// before, integers alone are taken, of which none is looked at in vain.
+/// before, only integers and byte strings are taken, of which none is looked at in vain.
 #[inline(always)]
 pub(crate) fn take_parts(
     alloc: Global,
@@ -99,6 +102,7 @@ fn take_members(
 }
 
 // Takes the integers at the front of the bytes as members, or the one other member there, but not the last that is awaited.
+// Integers and byte strings are not looked at in vain.
 // Answers how many bytes they have: 0 where nothing is whole there.
 #[inline(always)]
 fn take_next(
@@ -117,6 +121,9 @@ fn take_next(
     if bytes[0] < INTEGERS_BELOW {
         return take_integers(left, members, bytes);
     }
+    if bytes[0] < BYTES_TO_BREAK {
+        return take_bytes(alloc, left, members, bytes);
+    }
     if is_in_vain {
         return Ok(0);
     }
@@ -126,6 +133,31 @@ fn take_next(
     push_member(members, member, *left)?;
     count_down(left);
     Ok(length)
+}
+
+// Takes the byte string at the front of the bytes as a member. Answers how many bytes it has, and 0 where it is not whole there.
+#[inline(always)]
+fn take_bytes(
+    alloc: Global,
+    left: &mut Option<u64>,
+    members: &mut Vec<Item>,
+    bytes: &[u8],
+) -> Result<usize, AllocError>
+    requires some { 0 < length bytes.now }
+    requires string { slice_index bytes.now 0 / 32 ≡ 2 }
+    requires more { is_last left.old ≡ false }
+    ensures within { IfOk result (λ used. used ≤ length bytes.now) }
+    ensures taken { IfOk result (λ used. (depth at : ℕ) (around : List building.Frame) → AreTaken depth at (building.item (frame_of (frame.Array left.old members.old) ∷ around)) bytes.now used (building.item (frame_of (frame.Array left.new members.new) ∷ around))) }
+{
+    let (len, end) = argument_at(bytes, 0);
+    if end == 0 || len > (bytes.len() - end) as u64 {
+        return Ok(0);
+    }
+    let used = end + len as usize;
+    let content = Vec::from_slice(alloc, &bytes[end..used])?;
+    push_member(members, Item::Bytes(content), *left)?;
+    count_down(left);
+    Ok(used)
 }
 
 // Takes pairs of a map whose next key is awaited.

@@ -7,6 +7,9 @@ use Rattle.cbor_build.proofs.members.take_next.Goals as goal
 pub returns-then-bytes-lt-INTEGERS_BELOW-clause-taken : goal.returns-then-bytes-lt-INTEGERS_BELOW-clause-taken
 returns-then-bytes-lt-INTEGERS_BELOW-clause-taken c = taken_then c.take_integers.result (λ used h depth at around few. h depth at around) c.take_integers.ensures.taken
 
+pub returns-then-bytes-lt-BYTES_TO_BREAK-clause-taken : goal.returns-then-bytes-lt-BYTES_TO_BREAK-clause-taken
+returns-then-bytes-lt-BYTES_TO_BREAK-clause-taken c = taken_then c.take_bytes.result (λ used h depth at around few. h depth at around) c.take_bytes.ensures.taken
+
 pub returns-clause-taken : goal.returns-clause-taken
 returns-clause-taken c =
     let b = c.args.bytes.now in
