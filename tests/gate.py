@@ -34,11 +34,11 @@ from test_imports import are_imports_clean
 from test_man import is_page_right
 
 sys.path.insert(0, os.path.join(TOP, "scripts"))
-from library import ARCHIVE, CRATE, link, memory_of
+from library import archive_in, build, link
 
 PROVED = os.path.join(TOP, "crates", "cddlseq", "out", "cddlseq")
 OUTLINE = os.path.join(TOP, "crates", "cddl_outline", "out", "cddl_outline")
-CALLS = os.path.join(TOP, "crates", CRATE, "out", ARCHIVE)
+CALLS = archive_in(TOP)
 PROGRAM = os.path.join(TOP, "build", "cddlseq")
 # the tests that are run with requests for memory refused
 TESTS = [os.path.join(TOP, "crates", it, "out", f"{it}_tests") for it in ("run_tests", "tool_tests")]
@@ -122,7 +122,7 @@ def rows(rt):
     """Runs the rows on the programs and the library that were proved just now, and returns how many passed and failed."""
     os.makedirs(os.path.dirname(PROGRAM), exist_ok=True)
     shutil.copy(PROVED, PROGRAM)
-    link(CALLS, memory_of(rt), os.path.dirname(PROGRAM))
+    link(rt, CALLS, os.path.dirname(PROGRAM))
     passed = failed = 0
     for name, run in (
         ("rows on the built program", lambda: run_rows(PROGRAM)),
@@ -150,6 +150,10 @@ def main():
     clean = are_imports_clean()
     print(f"names of other crates' proofs: {'passed' if clean else 'FAILED'}", flush=True)
     passed, failed = told("proofs and tests", lambda: kept_proofs(words.rt) if words.quick else proofs(words.rt))
+    if not failed and not words.quick:
+        # 'rt ci' proves a static library, and builds none
+        is_built = told("library for C", lambda: bool(build(words.rt, TOP)))
+        passed, failed = passed + is_built, failed + (not is_built)
     # 'rt ci' set aside what earlier runs built, so these are the programs and the library that were proved just now
     if failed or not all(os.path.isfile(it) for it in (PROVED, OUTLINE, CALLS)):
         print("the rows on the built programs are not run: there is no proved program, or no library")
