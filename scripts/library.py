@@ -10,6 +10,7 @@ and its few functions over malloc, realloc and free, linked by the system's C co
 and builds the calls themselves.
 """
 import argparse
+import functools
 import importlib
 import os
 import shlex
@@ -37,6 +38,8 @@ def stamps_of(kit, top):
     """The stamp of each library below the calls, by its file."""
     sys.path.insert(0, os.path.join(kit, "bin"))
     rtlib = importlib.import_module("rtlib")
+    # It asks the crates below each crate anew, of which there are more ways than crates.
+    rtlib.Crate.stamp = functools.lru_cache(maxsize=None)(rtlib.Crate.stamp)
     folder = os.path.join(top, "crates", CRATE)
     crate = rtlib.Crate(folder, rtlib.root_above(folder) or folder, {})
     return {os.path.join(os.path.dirname(it.rlib), "stamp"): it.stamp() for it in crate.below()}
