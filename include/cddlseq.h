@@ -184,6 +184,41 @@ uint32_t cddlseq_validate_many(
     struct cddlseq_end *ends, size_t ends_length,
     size_t *done);
 
+/* A specification that was read once, with the limits of items. cddlseq_open makes it. A call takes it and gives it back, so that one
+   call has it at a time, and cddlseq_close frees it, once. It stays on the thread that opened it. Nothing checks this, nor that it is
+   one that cddlseq_open or another call wrote. */
+struct cddlseq_handle {
+    void *at;
+};
+
+/* Reads a text for many streams, and writes what a handle leads to: CDDLSEQ_OK, or what cddlseq_validate says where nothing is said of
+   a stream, and then nothing is written. */
+uint32_t cddlseq_open(
+    const uint8_t *text, size_t text_length,
+    const uint8_t *root, size_t root_length,
+    const struct cddlseq_limits *limits,
+    struct cddlseq_refusal *refusal,
+    void **at);
+
+/* What cddlseq_validate says of a stream, by a handle: CDDLSEQ_OK, _FAILED or _NO_MEMORY. The handle comes back by its last argument. */
+uint32_t cddlseq_validate_by(
+    struct cddlseq_handle handle,
+    const uint8_t *stream, size_t stream_length,
+    struct cddlseq_end *end,
+    void **back);
+
+/* What cddlseq_write says and writes of a stream, by a handle, which comes back by its last argument. */
+uint32_t cddlseq_write_by(
+    struct cddlseq_handle handle,
+    const uint8_t *stream, size_t stream_length,
+    uint32_t wanted,
+    struct cddlseq_end *end,
+    uint8_t *buffer, size_t buffer_length,
+    size_t *needed,
+    void **back);
+
+void cddlseq_close(struct cddlseq_handle handle);
+
 #ifdef __cplusplus
 }
 #endif

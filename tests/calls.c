@@ -46,6 +46,8 @@ static const struct cddlseq_limits limits = CDDLSEQ_LIMITS;
 static const struct cddlseq_end untold = {7, 7, 7, 7};
 static const char map[] = "m = {a: [* n], b: bstr .cbor n}\nn = uint .lt 10\n";
 
+static uint8_t buffer_of_no_handle[1];
+
 static int is_untold(const struct cddlseq_end *end) {
     return end->items == 7 && end->offset == 7 && end->cause == 7 && end->place == 7;
 }
@@ -160,6 +162,59 @@ static void validate_many(void) {
     EXPECT(done == 0 && is_untold(&ends[0]));
 }
 
+static void handles(void) {
+    struct cddlseq_refusal refusal = {9, 9};
+    struct cddlseq_end end = untold;
+    struct cddlseq_handle handle = {buffer_of_no_handle};
+    uint8_t buffer[64];
+    size_t needed = 99;
+    EXPECT(cddlseq_open(TEXT("a = b\n"), TEXT(""), &limits, &refusal, &handle.at) == CDDLSEQ_REFUSED);
+    EXPECT(refusal.code == CDDLSEQ_C3_UNDEFINED && refusal.offset == 4 && handle.at == buffer_of_no_handle);
+    const struct cddlseq_limits bad = {0, 1, 1}, shallow = {1, 3, 100};
+    EXPECT(cddlseq_open(TEXT(map), TEXT(""), &bad, &refusal, &handle.at) == CDDLSEQ_BAD_LIMITS && handle.at == buffer_of_no_handle);
+    EXPECT(cddlseq_open(TEXT("a = [* any]\n"), TEXT(""), &shallow, &refusal, &handle.at) == CDDLSEQ_OK && refusal.code == 0);
+    void *at = handle.at;
+    EXPECT(at && at != buffer_of_no_handle);
+    for (int time = 0; time < 3; time++) {
+        EXPECT(cddlseq_validate_by(handle, BYTES("\x80\x81\x01"), &end, &handle.at) == CDDLSEQ_OK && handle.at == at);
+        EXPECT(is_end(&end, 2, 3, CDDLSEQ_CLEAN, 0));
+        EXPECT(cddlseq_validate_by(handle, BYTES("\x80\x81\x80"), &end, &handle.at) == CDDLSEQ_FAILED && handle.at == at);
+        EXPECT(is_end(&end, 1, 1, CDDLSEQ_TOO_DEEP, 2));
+        EXPECT(cddlseq_write_by(handle, BYTES("\x9f\x01\xff\x01"), CDDLSEQ_PREFERRED, &end, buffer, 64, &needed, &handle.at) == CDDLSEQ_FAILED);
+        EXPECT(handle.at == at && needed == 2 && !memcmp(buffer, "\x81\x01", 2) && is_end(&end, 1, 3, CDDLSEQ_MISMATCH, 0));
+        EXPECT(cddlseq_write_by(handle, BYTES("\x80"), CDDLSEQ_REPORT, &end, buffer, 8, &needed, &handle.at) == CDDLSEQ_NO_ROOM && handle.at == at);
+        end = untold;
+        EXPECT(cddlseq_write_by(handle, BYTES("\x80"), 6, &end, buffer, 64, &needed, &handle.at) == CDDLSEQ_BAD_WANTED);
+        EXPECT(handle.at == at && needed == 0 && is_untold(&end));
+    }
+    cddlseq_close(handle);
+}
+
+// With the request for memory refused that comes after so many: whether a handle is opened, used and freed, or nothing is told.
+static int is_handle_told_without_memory(long number) {
+    struct cddlseq_refusal refusal;
+    struct cddlseq_end end = untold;
+    struct cddlseq_handle handle = {buffer_of_no_handle};
+    before_refusal = number, was_refused = 0;
+    uint32_t status = cddlseq_open(TEXT(map), TEXT("n"), &limits, &refusal, &handle.at);
+    int any = was_refused;
+    before_refusal = -1;
+    EXPECT(status == (any ? CDDLSEQ_NO_MEMORY : CDDLSEQ_OK) && (handle.at == buffer_of_no_handle) == any);
+    if (any) {
+        return 1;
+    }
+    void *at = handle.at;
+    for (long later = 0; later == 0 || was_refused; later++) {
+        end = untold;
+        before_refusal = later, was_refused = 0;
+        status = cddlseq_validate_by(handle, BYTES("\x01\x18\x20"), &end, &handle.at);
+        before_refusal = -1;
+        EXPECT(handle.at == at && (was_refused ? status == CDDLSEQ_NO_MEMORY && is_untold(&end) : is_end(&end, 1, 1, CDDLSEQ_MISMATCH, 0)));
+    }
+    cddlseq_close(handle);
+    return 0;
+}
+
 // With the request for memory refused that comes after so many: whether each call says so, and tells nothing. Returns whether one
 // was refused.
 static int is_told_without_memory(long number) {
@@ -209,11 +264,14 @@ static void refuse_memory(void) {
     for (; is_told_without_memory(number); number += step) {
         refusals++;
     }
+    for (number = 0; is_handle_told_without_memory(number); number += step) {
+        refusals++;
+    }
     printf("calls with %ld requests for memory refused in turn\n", refusals);
 }
 
 int main(int count, char **words) {
-    void (*const tests[])(void) = {check, validate, write_wanted, validate_many, refuse_memory};
+    void (*const tests[])(void) = {check, validate, write_wanted, validate_many, handles, refuse_memory};
     int number = sizeof tests / sizeof *tests, passed = 0;
     if (count > 1) {
         step = atol(words[1]);

@@ -1,2 +1,3 @@
 pub mod Telling
 pub mod Streams
+mod Values

@@ -3,7 +3,7 @@ use Rattle.std.proofs.Common.{◌≡◌, ℕ, List, Bool, true, false, length, r
 use Rattle.cbor_data.specs.Faults.{Bounds}
 use Rattle.seq_run.specs.Judge.{Judge, judge_of}
 use Rattle.seq_run.specs.declared.end.End.{End}
-use Rattle.cddlseq_c.specs.Answers.{HasEnd, IsChecked, IsPut, IsReady, IsStop, IsToldEnd, IsToldWanted, IsUntabled, IsValidated, IsWanted, IsWritten, unchecked, end_told, validated, unvalidated, put, no_room, written, unwritten}
+use Rattle.cddlseq_c.specs.Answers.{HasEnd, IsChecked, IsOpened, IsPut, IsReady, IsStop, IsToldEnd, IsToldWanted, IsUntabled, IsValidated, IsWanted, IsWritten, unchecked, end_told, unopened, validated, unvalidated, put, no_room, written, unwritten}
 use Rattle.cddlseq_c.specs.Told.{bounds_of, no_refusal, refusal_of, status_of, status_of_stop, told_end}
 use Rattle.cddlseq_c.specs.Wanted.{number_of_wanted}
 use Rattle.cddlseq_c.specs.declared.ready.Ready.{Ready}
@@ -46,6 +46,9 @@ module _ (text root : List ℕ) (limits : CddlseqLimits) (refusal : CddlseqRefus
   module _ (why : Stop) (status : ℕ) (is : IsStop limits text root why) (e : status ≡ status_of_stop why) (told : refusal ≡ refusal_of why) where
     pub stopped_before : (stream : List ℕ) (end : CddlseqEnd) → IsValidated text root stream limits refusal end end status
     stopped_before stream end = subst (λ n. IsValidated text root stream limits refusal end end n) (sym e) (unvalidated why is told refl)
+
+    pub stopped_opening : IsOpened text root limits refusal status
+    stopped_opening = subst (λ n. IsOpened text root limits refusal n) (sym e) (unopened why is told)
 
     pub unwritten_by : (stream : List ℕ) (number : ℕ) (end : CddlseqEnd) (out : List ℕ) → IsWritten text root stream limits number refusal end end out out 0 status
     unwritten_by stream number end out = subst (λ n. IsWritten text root stream limits number refusal end end out out 0 n) (sym e) (unwritten why is told refl refl refl)

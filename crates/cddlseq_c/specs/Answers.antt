@@ -119,6 +119,18 @@ pub data IsWritten (text root stream : List ℕ) (limits : CddlseqLimits) (numbe
   unwritten : (why : Stop) → IsStop limits text root why → refusal ≡ refusal_of why → new ≡ old → needed ≡ 0 → out_new ≡ out_old →
       IsWritten text root stream limits number refusal old new out_old out_new needed (status_of_stop why)
 
+-- What `cddlseq_open` answers: the text is ready, as above, with these limits; or this is why it is not.
+pub data IsOpened (text root : List ℕ) (limits : CddlseqLimits) (refusal : CddlseqRefusal) : ℕ → Type 0 where
+  opened : (ready : Ready) → IsReady text root limits ready → refusal ≡ no_refusal → IsOpened text root limits refusal OK
+  unopened : (why : Stop) → IsStop limits text root why → refusal ≡ refusal_of why → IsOpened text root limits refusal (status_of_stop why)
+
+-- What `cddlseq_write_by` answers: this is told of the stream, and what is wanted by the number is written; or nothing is wanted by
+-- it.
+pub data IsWrittenBy (number : ℕ) (judge : Judge) (l : Bounds) (stream : List ℕ) (old new : CddlseqEnd) (out_old out_new : List ℕ) (needed : ℕ) : ℕ → Type 0 where
+  by_number : (wanted : Wanted) → number ≡ number_of_wanted wanted → (status : ℕ) → IsToldWanted wanted judge l stream old new out_old out_new needed status →
+      IsWrittenBy number judge l stream old new out_old out_new needed status
+  by_none : ((wanted : Wanted) → number ≢ number_of_wanted wanted) → new ≡ old → needed ≡ 0 → out_new ≡ out_old → IsWrittenBy number judge l stream old new out_old out_new needed BAD_WANTED
+
 -- Stream k has the bytes from its offset up to the next one.
 pub record IsStream (bytes offsets : List ℕ) (k : ℕ) : Type 0 where
   pub rises : slice_index offsets k ≤ slice_index offsets (k + 1)

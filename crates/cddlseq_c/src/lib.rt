@@ -2,8 +2,10 @@
 //! call reads its text anew, and keeps nothing once it has returned. `include/cddlseq.h` declares them.
 #![tactic(auto)]
 
-ghost use Rattle.cddlseq_c.specs.Answers.{AreValidated, IsChecked, IsValidated, IsWritten};
+ghost use Rattle.seq_run.specs.Judge.{judge_of};
+ghost use Rattle.cddlseq_c.specs.Answers.{AreValidated, IsChecked, IsOpened, IsToldEnd, IsValidated, IsWritten, IsWrittenBy};
 
+mod handle;
 mod many;
 mod ready;
 mod running;
@@ -11,11 +13,13 @@ mod stop;
 mod told;
 mod wanted;
 
+use crate::handle::CddlseqHandle;
 use crate::many::{fits, tell_many};
 use crate::ready::{prepare, table_of};
-use crate::running::{tell_end, tell_wanted};
+use crate::running::{tell_by_number, tell_end, tell_wanted};
 use crate::told::{
-    BAD_OFFSETS, BAD_WANTED, CddlseqEnd, CddlseqLimits, CddlseqRefusal, NO_REFUSAL, OK, tell_stop,
+    BAD_OFFSETS, BAD_WANTED, CddlseqEnd, CddlseqLimits, CddlseqRefusal, NO_MEMORY, NO_REFUSAL, OK,
+    tell_stop,
 };
 use crate::wanted::wanted_by;
 use std::alloc::Global;
@@ -115,4 +119,73 @@ pub extern "C" fn cddlseq_validate_many(
         Ok(ready) => tell_many(alloc, &ready, bytes, offsets, ends, done),
         Err(why) => tell_stop(why, refusal),
     }
+}
+
+/// Reads a text for many streams, and makes a handle of it, which [`cddlseq_close`] frees.
+#[unsafe(no_mangle)]
+pub extern "C" fn cddlseq_open(
+    alloc: Global,
+    text: &[u8],
+    root: &[u8],
+    limits: &CddlseqLimits,
+    refusal: &mut CddlseqRefusal,
+    handle: &mut *mut u8,
+) -> u32
+    ensures { IsOpened text.now root.now limits.now refusal.new result }
+{
+    *refusal = NO_REFUSAL;
+    match prepare(alloc, text, root, limits) {
+        Ok(ready) => match Box::new(alloc, ready) {
+            Ok(held) => {
+                *handle = Box::into_raw(held) as *mut u8;
+                OK
+            }
+            Err(_) => NO_MEMORY,
+        },
+        Err(why) => tell_stop(why, refusal),
+    }
+}
+
+/// Says how a stream ends by what a handle holds. The handle is used up, and comes back.
+#[unsafe(no_mangle)]
+pub extern "C" fn cddlseq_validate_by(
+    alloc: Global,
+    handle: CddlseqHandle,
+    stream: &[u8],
+    end: &mut CddlseqEnd,
+    back: &mut *mut u8,
+) -> u32
+    ensures { IsToldEnd (judge_of handle.value.table handle.value.steps) handle.value.limits stream.now end.old end.new result }
+{
+    let held = handle.into_box();
+    let status = tell_end(alloc, &held, stream, end);
+    *back = Box::into_raw(held) as *mut u8;
+    status
+}
+
+/// Says how a stream ends by what a handle holds, and writes what is wanted of it by a number. The handle is used up, and comes
+/// back.
+#[unsafe(no_mangle)]
+pub extern "C" fn cddlseq_write_by(
+    alloc: Global,
+    handle: CddlseqHandle,
+    stream: &[u8],
+    wanted: u32,
+    end: &mut CddlseqEnd,
+    out: &mut [u8],
+    needed: &mut usize,
+    back: &mut *mut u8,
+) -> u32
+    ensures { IsWrittenBy wanted (judge_of handle.value.table handle.value.steps) handle.value.limits stream.now end.old end.new out.old out.new needed.new result }
+{
+    let held = handle.into_box();
+    let status = tell_by_number(alloc, &held, wanted, stream, end, out, needed);
+    *back = Box::into_raw(held) as *mut u8;
+    status
+}
+
+/// Frees what a handle holds.
+#[unsafe(no_mangle)]
+pub extern "C" fn cddlseq_close(handle: CddlseqHandle) {
+    drop(handle.into_box());
 }

@@ -2,12 +2,12 @@
 
 ghost use Rattle.std.specs.Prelude.{◌≡◌, ◌++◌, IfOk, drop, length};
 ghost use Rattle.seq_run.specs.Judge.{judge_of};
-ghost use Rattle.cddlseq_c.specs.Answers.{HasEnd, IsPut, IsRan, IsToldEnd, IsToldWanted, IsWanted};
+ghost use Rattle.cddlseq_c.specs.Answers.{HasEnd, IsPut, IsRan, IsToldEnd, IsToldWanted, IsWanted, IsWrittenBy};
 ghost use Rattle.cddlseq_c.specs.Wanted.{picked};
 
 use crate::ready::Ready;
-use crate::told::{CddlseqEnd, NO_MEMORY, NO_ROOM, status_of, told_end};
-use crate::wanted::{Wanted, mode_of, notation_of, path_of};
+use crate::told::{BAD_WANTED, CddlseqEnd, NO_MEMORY, NO_ROOM, status_of, told_end};
+use crate::wanted::{Wanted, mode_of, notation_of, path_of, wanted_by};
 use cbor_item::{Counted, Sound};
 use seq_run::{End, Mode, run};
 use std::alloc::{AllocError, Global};
@@ -69,6 +69,25 @@ pub(crate) fn tell_wanted(
             NO_MEMORY
         }
     }
+}
+
+// The same of what is wanted by a number.
+pub(crate) fn tell_by_number(
+    alloc: Global,
+    ready: &Ready,
+    number: u32,
+    stream: &[u8],
+    told: &mut CddlseqEnd,
+    out: &mut [u8],
+    needed: &mut usize,
+) -> u32
+    ensures { IsWrittenBy number (judge_of ready.now.table ready.now.steps) ready.now.limits stream.now told.old told.new out.old out.new needed.new result }
+{
+    let Some(wanted) = wanted_by(number) else {
+        *needed = 0;
+        return BAD_WANTED;
+    };
+    tell_wanted(alloc, ready, wanted, stream, told, out, needed)
 }
 
 // How the stream ends, and what is wanted of it.
