@@ -1,9 +1,9 @@
 /* cddlseq for programs in C: a stream of CBOR items (RFC 8742) in a buffer is validated against a specification in CDDL
    (RFC 8610), reported, and rewritten.
 
-   Each call reads the text of its specification anew. It keeps no pointer, prints nothing, ends no process, and may be made from
-   any thread, and from many at once; but not from a signal handler, nor from a forked child of a process with threads. It takes
-   memory by malloc, realloc and free, and has given back all of it when it returns.
+   A call that is given a text reads it anew; a handle has read one before. No call keeps a pointer of the caller's, prints, or ends
+   the process. Calls may be made from any thread, and from many at once, but not from a signal handler, nor from a forked child of a
+   process with threads. They take memory by malloc, realloc and free, and give back all of it but what a handle holds.
 
    Whoever calls has to see to this, which nothing checks: no pointer is null, also where the length is 0; each points to as much
    as its length says, or to one struct; and what a call writes overlaps nothing else that it is given. */

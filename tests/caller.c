@@ -141,16 +141,48 @@ static uint32_t ask(
     return status;
 }
 
-static int validate(
-    const struct options *options, const struct bytes *text, const struct bytes *stream, struct bytes *told, struct bytes *line) {
-    int rewrites = !strcmp(options->command, "rewrite");
-    uint32_t wanted = rewrites ? (options->deterministic ? CDDLSEQ_DETERMINISTIC : CDDLSEQ_PREFERRED)
-                               : (options->quiet ? CDDLSEQ_END_LINE : CDDLSEQ_REPORT);
+// The same by a handle.
+static uint32_t ask_by(struct cddlseq_handle *handle, const struct bytes *stream, uint32_t wanted, struct bytes *told) {
+    struct cddlseq_end end;
+    uint32_t status;
+    size_t needed = 64;
+    do {
+        if (!has_room(told, needed)) {
+            return CDDLSEQ_NO_MEMORY;
+        }
+        status = cddlseq_write_by(
+            *handle, stream->at, stream->length, wanted, &end, told->at, told->room, &needed, &handle->at);
+    } while (status == CDDLSEQ_NO_ROOM);
+    told->length = needed;
+    return status;
+}
+
+static int validate(const struct options *options, const struct bytes *text, const struct bytes *stream, struct bytes *told) {
     struct cddlseq_refusal refusal;
-    uint32_t status = ask(options, text, stream, wanted, &refusal, told);
-    if (status <= CDDLSEQ_FAILED && rewrites) {
-        status = ask(options, text, stream, CDDLSEQ_END_LINE, &refusal, line);
+    uint32_t status = ask(options, text, stream, options->quiet ? CDDLSEQ_END_LINE : CDDLSEQ_REPORT, &refusal, told);
+    if (status > CDDLSEQ_FAILED) {
+        return refused(status, &refusal);
     }
+    put(1, told->at, told->length);
+    return (int)status;
+}
+
+// Asks by a handle for the items and for the line of the end.
+static int rewrite(
+    const struct options *options, const struct bytes *text, const struct bytes *stream, struct bytes *told, struct bytes *line) {
+    const uint8_t *root = (const uint8_t *)(options->root ? options->root : "");
+    struct cddlseq_refusal refusal;
+    struct cddlseq_handle handle;
+    uint32_t status = cddlseq_open(
+        text->at, text->length, root, strlen((const char *)root), &options->limits, &refusal, &handle.at);
+    if (status != CDDLSEQ_OK) {
+        return refused(status, &refusal);
+    }
+    status = ask_by(&handle, stream, options->deterministic ? CDDLSEQ_DETERMINISTIC : CDDLSEQ_PREFERRED, told);
+    if (status <= CDDLSEQ_FAILED) {
+        status = ask_by(&handle, stream, CDDLSEQ_END_LINE, line);
+    }
+    cddlseq_close(handle);
     if (status > CDDLSEQ_FAILED) {
         return refused(status, &refusal);
     }
@@ -176,7 +208,11 @@ static int perform(const struct options *options, struct bytes *text, struct byt
         return 0;
     }
     status = read_file(options->stream, SIZE_MAX, stream);
-    return status ? status : validate(options, text, stream, told, line);
+    if (status) {
+        return status;
+    }
+    return strcmp(options->command, "rewrite") ? validate(options, text, stream, told)
+                                               : rewrite(options, text, stream, told, line);
 }
 
 // The value of this option, if the word begins with its name: behind '=', or the next word.
