@@ -1,4 +1,4 @@
--- The machine values of a handle: those of its pointer and of its allocator, which has none.
+-- The machine values of a handle: a pointer, and what there is of the allocator.
 use Rattle.std.proofs.Common.{◌≡◌, ℕ, List, [], ◌∷◌, ◌++◌, subst}
 use mathlib.Core.Bool.{true, ◌&&◌}
 use lib.Dec.{T}
@@ -23,9 +23,11 @@ use Rattle.std_heap.specs.contracts.GlobalAllocator.TheImpl.{ghosts}
 use Rattle.cddlseq_c.specs.contracts.ready.Ready as ready
 use Rattle.cddlseq_c.specs.contracts.handle.CddlseqHandle as handle
 
+-- a struct of two values
 abbrev pub both : Val → Val → Val
 both v w = vstruct (vcons v (vcons w vnil))
 
+-- what is in the box, its allocator, and the handle
 abbrev pub R : RattleType
 R = ready.the_row
 
@@ -35,13 +37,16 @@ Z = heap.the_row
 abbrev pub Handle : RattleType
 Handle = handle.the_row
 
+-- how a block of the allocator is freed
 abbrev al : Al
 al = record { row = Z; laws = heap_laws.the_row_laws; g = ghosts; d = impl [] tnil dnil; drops = impl [] tnil dnil }
 
+-- a handle's value fits its type, whatever the pointer is
 pub handle_good : (b o : ℕ) (h : Val) → Good (layout Z) h → T (has_ty (layout Z) h && true) × WT (both (vptr b o) h)
 handle_good b o h fits = (and_tt (has_ty (layout Z) h) fits.0, (tt, (fits.1, tt)))
 
 module _ {M : Type 1} {𝓤 : Ura M} {𝓛 : Logic 𝓤} {K : Type 0} {Γ : List (Item 𝓤)} {G : Goal 𝓤 𝓛.H} where
+  -- a handle is a pointer to a block, its allocator, and the right to what a box owns there
   pub handle_out : K → (d : Handle.Denot) (vs : List Val)
       → ((b o : ℕ) (h : Val) → d.at ≡ block_ptr b o → vs ≡ both (vptr b o) h ∷ [] → Good (layout Z) h → Seq K 𝓛 (‵ (box_owns (ghosts.dealloc_token d.alloc) R (block_ptr b o) d.value) ∷ ‵ (Z.own_val d.alloc (h ∷ [])) ∷ Γ) G)
       → Seq K 𝓛 (‵ (Handle.own_val d vs) ∷ Γ) G

@@ -1,5 +1,5 @@
-//! The calls for programs in C: a text is checked, and a stream in a buffer is validated, reported and rewritten by it. Each
-//! call reads its text anew, and keeps nothing once it has returned. `include/cddlseq.h` declares them.
+//! The calls for programs in C: a text is checked, and a stream in a buffer is validated, reported and rewritten by it, or by a
+//! handle of a text that was read before. `include/cddlseq.h` declares them.
 #![tactic(auto)]
 
 ghost use Rattle.seq_run.specs.Judge.{judge_of};

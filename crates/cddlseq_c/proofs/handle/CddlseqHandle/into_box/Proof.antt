@@ -1,4 +1,8 @@
 -- The pointer and the right to what it leads to make the box again.
+-- The walk goes over the body, statement by statement. The handle is taken apart into its pointer and its allocator, and
+-- `Box::from_raw` is called with both; the cast of the pointer leaves no statement. That call's contract has two lifetimes, that of
+-- what is in the box and that of the allocator, which are made for it, and the value in the box, which is the handle's. The walk is
+-- that of `Loose::into_box` in the kit's `once_cell`, with the rows of `Ready` and `Global` in the place of two parameters.
 use Rattle.std.proofs.Common.{◌≡◌, List, [], ◌∷◌, ◌++◌, refl, sym, ap, subst}
 use mir.Syntax.{tcons, tnil, dnil, impl, Dict}
 use mir.Val.{Val, vptr}
@@ -46,6 +50,7 @@ use Rattle.cddlseq_c.specs.contracts.handle.CddlseqHandle.into_box.Key.{name as 
 use Rattle.cddlseq_c.proofs.handle.CddlseqHandle.into_box.Statement.{statement}
 use Rattle.cddlseq_c.proofs.handle.CddlseqHandle.into_box.Code as code
 
+-- what is in the box, and the allocator, as arguments of the call
 abbrev RA : RattleType
 RA = arg (bare (layout R)) no R
 
@@ -58,6 +63,7 @@ ZA = arg (bare (layout Z)) no Z
 abbrev LZA : Laws ZA
 LZA = arg_laws (bare (layout Z)) no Z heap_laws.the_row_laws refl
 
+-- how the call may drop the allocator
 abbrev dd : Dict
 dd = impl ("cddlseq_c::Destruct++none::drop" ∷ []) (tcons (layout ZA) tnil) dnil
 
