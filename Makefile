@@ -57,7 +57,7 @@ bench: build
 	@$(PYTHON) bench/specifications.py build/cddlseq
 
 # The program and the libraries; each also by itself.
-install: install-program install-lib
+install: needs needs-ar install-program install-lib
 
 install-program: build
 	install -D -m 755 build/cddlseq "$(DESTDIR)$(PREFIX)/bin/cddlseq"
