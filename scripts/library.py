@@ -38,7 +38,7 @@ def stamps_of(kit, top):
     """The stamp of each library below the calls, by its file."""
     sys.path.insert(0, os.path.join(kit, "bin"))
     rtlib = importlib.import_module("rtlib")
-    # It asks the crates below each crate anew, of which there are more ways than crates.
+    # A stamp asks for those of the crates below, again on each way that leads to them.
     rtlib.Crate.stamp = functools.lru_cache(maxsize=None)(rtlib.Crate.stamp)
     folder = os.path.join(top, "crates", CRATE)
     crate = rtlib.Crate(folder, rtlib.root_above(folder) or folder, {})
@@ -47,9 +47,9 @@ def stamps_of(kit, top):
 
 def build(rt, top):
     """Has 'rt lib' prove and build the calls over the libraries that 'rt ci' left in the crates of this folder, and returns the
-    archive, or None. It takes libraries with a stamp alone, which 'rt ci' does not write. The stamps are taken away again, since
-    what other commands build does not fit these libraries."""
-    stamps = stamps_of(folder_of_kit(rt), top)
+    archive, or None. It takes libraries with a stamp alone, which 'rt ci' may not write. Those that are written here are taken away
+    again, since what other commands build does not fit these libraries."""
+    stamps = {path: stamp for path, stamp in stamps_of(folder_of_kit(rt), top).items() if not os.path.exists(path)}
     folder = os.path.join(top, "crates", CRATE)
     try:
         for path, stamp in stamps.items():
