@@ -8,7 +8,7 @@ ARGS    =
 
 MAKEFLAGS += --no-print-directory
 
-.PHONY: run try build test quick edits bench install clean needs needs-cc
+.PHONY: run try build lib test quick edits bench install install-program install-lib clean needs needs-cc needs-ar
 
 # Says what is missing before minutes have passed.
 needs:
@@ -16,6 +16,9 @@ needs:
 
 needs-cc:
 	@command -v cc > /dev/null || command -v clang > /dev/null || { echo "there is no C compiler, neither cc nor clang, on PATH: README.md says what to install" >&2; exit 2; }
+
+needs-ar: needs-cc
+	@for it in ar objcopy; do command -v "$$it" > /dev/null || { echo "$$it is not on PATH: README.md says what to install" >&2; exit 2; }; done
 
 # The main job on a shipped example, without proofs.
 run: needs
@@ -29,12 +32,16 @@ try: needs
 build: needs
 	@$(PYTHON) scripts/build.py --rt "$(RT)" cddlseq build/cddlseq
 
+# Proves the calls for programs in C and every crate below them, and leaves libcddlseq.a and libcddlseq.so in build.
+lib: needs needs-ar
+	@$(PYTHON) scripts/library.py --rt "$(RT)" build
+
 # Every proof and test, and the rows on the built programs.
-test: needs needs-cc
+test: needs needs-ar
 	@$(PYTHON) tests/gate.py --rt "$(RT)"
 
 # For work in progress: what changed is proved, over what earlier checks kept, and all tests and rows are run.
-quick: needs needs-cc
+quick: needs needs-ar
 	@$(PYTHON) tests/gate.py --quick --rt "$(RT)"
 
 # Tries the wrong bodies of crates/*/wrong; ARGS may have --anew, --inner and names of crates.
@@ -49,11 +56,22 @@ bench: build
 	@$(PYTHON) bench/tokens.py crates/cddl_outline/out/cddl_outline
 	@$(PYTHON) bench/specifications.py build/cddlseq
 
-install: build
+# The program and the libraries; each also by itself.
+install: needs needs-ar install-program install-lib
+
+install-program: build
 	install -D -m 755 build/cddlseq "$(DESTDIR)$(PREFIX)/bin/cddlseq"
 	install -D -m 644 man/cddlseq.1 "$(DESTDIR)$(PREFIX)/share/man/man1/cddlseq.1"
 	install -D -m 644 completions/cddlseq.bash "$(DESTDIR)$(PREFIX)/share/bash-completion/completions/cddlseq"
 	install -D -m 644 completions/_cddlseq "$(DESTDIR)$(PREFIX)/share/zsh/site-functions/_cddlseq"
+
+install-lib: lib
+	install -D -m 644 build/libcddlseq.a "$(DESTDIR)$(PREFIX)/lib/libcddlseq.a"
+	install -D -m 755 build/libcddlseq.so.1 "$(DESTDIR)$(PREFIX)/lib/libcddlseq.so.1"
+	ln -sf libcddlseq.so.1 "$(DESTDIR)$(PREFIX)/lib/libcddlseq.so"
+	install -D -m 644 include/cddlseq.h "$(DESTDIR)$(PREFIX)/include/cddlseq.h"
+	sed 's|@PREFIX@|$(PREFIX)|' include/cddlseq.pc.in > build/cddlseq.pc
+	install -D -m 644 build/cddlseq.pc "$(DESTDIR)$(PREFIX)/lib/pkgconfig/cddlseq.pc"
 
 clean:
 	rm -rf build bench/data crates/*/out

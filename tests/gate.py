@@ -26,14 +26,19 @@ import random_orders
 import recognizer
 from processor_time import time_of_processes, told
 from run_grammar import run_grammar
+from run_library import run_library
 from run_memory import run_memory
 from run_rows import TOP, run_rows
 from test_completions import are_completions_right
 from test_imports import are_imports_clean
 from test_man import is_page_right
 
+sys.path.insert(0, os.path.join(TOP, "scripts"))
+from library import archive_in, build, link
+
 PROVED = os.path.join(TOP, "crates", "cddlseq", "out", "cddlseq")
 OUTLINE = os.path.join(TOP, "crates", "cddl_outline", "out", "cddl_outline")
+CALLS = archive_in(TOP)
 PROGRAM = os.path.join(TOP, "build", "cddlseq")
 # the tests that are run with requests for memory refused
 TESTS = [os.path.join(TOP, "crates", it, "out", f"{it}_tests") for it in ("cbor_tests", "cddl_tests", "run_tests", "tool_tests")]
@@ -103,6 +108,7 @@ def kept_proofs(rt):
         return 0, 1
     steps = [(f"tests of {os.path.basename(it)}", [*rt, "test", "--jobs", "1"], it) for it in crates_with("#[test]")]
     steps += [(f"program {os.path.basename(it)}", [*rt, "run", "--", "--help"], crate_of(it)) for it in (PROVED, OUTLINE)]
+    steps += [("library for C", [*rt, "lib"], crate_of(CALLS))]
     with ThreadPoolExecutor(STEPS_AT_ONCE) as pool:
         passed = list(pool.map(lambda it: step(*it), steps))
     return 1 + sum(passed), passed.count(False)
@@ -112,13 +118,15 @@ def crate_of(program):
     return os.path.dirname(os.path.dirname(program))
 
 
-def rows():
-    """Runs the rows on the programs that were proved just now, and returns how many passed and failed."""
+def rows(rt):
+    """Runs the rows on the programs and the library that were proved just now, and returns how many passed and failed."""
     os.makedirs(os.path.dirname(PROGRAM), exist_ok=True)
     shutil.copy(PROVED, PROGRAM)
+    link(rt, CALLS, os.path.dirname(PROGRAM))
     passed = failed = 0
     for name, run in (
         ("rows on the built program", lambda: run_rows(PROGRAM)),
+        ("calls for C, and the rows through them and through Python", lambda: run_library(os.path.dirname(PROGRAM))),
         ("random streams as a file and in pieces", lambda: random_cuts.compare(PROGRAM)),
         ("random items whose pairs are in two orders", lambda: random_orders.compare(PROGRAM)),
         ("commands and tests with each request for memory refused", lambda: run_memory(PROGRAM, TESTS)),
@@ -142,12 +150,16 @@ def main():
     clean = are_imports_clean()
     print(f"names of other crates' proofs: {'passed' if clean else 'FAILED'}", flush=True)
     passed, failed = told("proofs and tests", lambda: kept_proofs(words.rt) if words.quick else proofs(words.rt))
-    # 'rt ci' set aside what earlier runs built, so these are the programs that were proved just now
-    if failed or not (os.path.isfile(PROVED) and os.path.isfile(OUTLINE)):
-        print("the rows on the built programs are not run: there is no proved program")
+    if not failed and not words.quick:
+        # 'rt ci' proves a static library, and builds none
+        is_built = told("library for C", lambda: bool(build(words.rt, TOP)))
+        passed, failed = passed + is_built, failed + (not is_built)
+    # 'rt ci' set aside what earlier runs built, so these are the programs and the library that were proved just now
+    if failed or not all(os.path.isfile(it) for it in (PROVED, OUTLINE, CALLS)):
+        print("the rows on the built programs are not run: there is no proved program, or no library")
         failed = max(failed, 1)
     else:
-        more, bad = told("rows", rows)
+        more, bad = told("rows", lambda: rows(words.rt))
         passed, failed = passed + more, failed + bad
     passed, failed = passed + clean, failed + (not clean)
     print(f"all parts: {time_of_processes():.0f} processor seconds, {(time.monotonic() - began) / 60:.0f} minutes")

@@ -1,0 +1,3 @@
+pub mod Telling
+pub mod Streams
+mod Values

@@ -1,0 +1,226 @@
+/* cddlseq for programs in C: a stream of CBOR items (RFC 8742) in a buffer is validated against a specification in CDDL
+   (RFC 8610), reported, and rewritten.
+
+   A call that is given a text reads it anew; a handle has read one before. No call keeps a pointer of the caller's, prints, or ends
+   the process. Calls may be made from any thread, and from many at once, but not from a signal handler, nor from a forked child of a
+   process with threads. They take memory by malloc, realloc and free, and give back all of it but what a handle holds.
+
+   Whoever calls has to see to this, which nothing checks: no pointer is null, also where the length is 0; each points to as much
+   as its length says, or to one struct; and what a call writes overlaps nothing else that it is given. */
+#ifndef CDDLSEQ_H
+#define CDDLSEQ_H
+
+#include <stddef.h>
+#include <stdint.h>
+
+#ifdef __cplusplus
+extern "C" {
+#endif
+
+/* What a call answers. */
+enum cddlseq_status {
+    /* The text is a specification. A stream is clean: all of its bytes are items that match. */
+    CDDLSEQ_OK = 0,
+    /* The stream has failed: its end says where and why. */
+    CDDLSEQ_FAILED = 1,
+    /* The text is refused: the refusal says where and why. */
+    CDDLSEQ_REFUSED = 2,
+    /* Memory was refused. */
+    CDDLSEQ_NO_MEMORY = 3,
+    /* The name of the root is not UTF-8. */
+    CDDLSEQ_BAD_ROOT = 4,
+    /* A limit is 0, or over the greatest. */
+    CDDLSEQ_BAD_LIMITS = 5,
+    /* What is wanted is no enum cddlseq_wanted. */
+    CDDLSEQ_BAD_WANTED = 6,
+    /* The offsets of the streams fall, or go beyond the bytes, or are not one more than the streams. */
+    CDDLSEQ_BAD_OFFSETS = 7,
+    /* The buffer has no room for what is wanted. */
+    CDDLSEQ_NO_ROOM = 8
+};
+
+/* What is wrong with a text. */
+enum cddlseq_code {
+    CDDLSEQ_NOT_REFUSED = 0,
+    CDDLSEQ_S1_NOT_UTF8 = 1,
+    CDDLSEQ_S2_BAD_CHARACTER = 2,
+    CDDLSEQ_S3_UNCLOSED = 3,
+    CDDLSEQ_S4_BAD_ESCAPE = 4,
+    CDDLSEQ_S5_BAD_NUMBER = 5,
+    CDDLSEQ_S6_FLOAT_LITERAL = 6,
+    CDDLSEQ_S7_NUMBER_TOO_LARGE = 7,
+    CDDLSEQ_S8_BAD_BYTES = 8,
+    CDDLSEQ_S9_SOURCE_TOO_LONG = 9,
+    CDDLSEQ_S10_UNEXPECTED = 10,
+    CDDLSEQ_S11_TOO_NESTED = 11,
+    CDDLSEQ_C1_DUPLICATE = 12,
+    CDDLSEQ_C2_KIND_CLASH = 13,
+    CDDLSEQ_C3_UNDEFINED = 14,
+    CDDLSEQ_C4_ARITY = 15,
+    CDDLSEQ_C5_NO_ROOT = 16,
+    CDDLSEQ_C6_BAD_ROOT = 17,
+    CDDLSEQ_C7_GROUP_AS_TYPE = 18,
+    CDDLSEQ_C8_HASH_FORM = 19,
+    CDDLSEQ_C9_UNKNOWN_CONTROL = 20,
+    CDDLSEQ_C10_TOO_MANY_INSTANCES = 21,
+    CDDLSEQ_C11_NOT_UNWRAPPABLE = 22,
+    CDDLSEQ_C12_RECURSION = 23,
+    CDDLSEQ_C13_NOT_LITERAL = 24,
+    CDDLSEQ_C14_BAD_RANGE = 25,
+    CDDLSEQ_C15_BAD_CONTROLLER = 26,
+    CDDLSEQ_C16_NO_KEY = 27,
+    CDDLSEQ_C17_MAP_SHAPE = 28,
+    CDDLSEQ_C18_TOO_MANY_ALTERNATIVES = 29
+};
+
+/* Why a stream has failed. */
+enum cddlseq_cause {
+    CDDLSEQ_CLEAN = 0,
+    CDDLSEQ_RESERVED_INFO = 1,
+    CDDLSEQ_BAD_INDEFINITE = 2,
+    CDDLSEQ_BAD_BREAK = 3,
+    CDDLSEQ_BAD_CHUNK = 4,
+    CDDLSEQ_BAD_SIMPLE = 5,
+    CDDLSEQ_TOO_DEEP = 6,
+    CDDLSEQ_TOO_LONG = 7,
+    CDDLSEQ_TRUNCATED = 8,
+    CDDLSEQ_BAD_TEXT = 9,
+    CDDLSEQ_DUPLICATE_KEY = 10,
+    CDDLSEQ_MISMATCH = 11,
+    CDDLSEQ_STEP_LIMIT = 12
+};
+
+/* What may be wanted of a stream. */
+enum cddlseq_wanted {
+    /* A line for each item that matches, and one for the end. */
+    CDDLSEQ_REPORT = 0,
+    /* The line of the end. */
+    CDDLSEQ_END_LINE = 1,
+    /* The items that match, in preferred encoding (RFC 8949, section 4.1). */
+    CDDLSEQ_PREFERRED = 2,
+    /* The items that match, in deterministic encoding (RFC 8949, section 4.2.1). */
+    CDDLSEQ_DETERMINISTIC = 3,
+    /* The path of the place of a mismatch, and nothing of another end. */
+    CDDLSEQ_PATH = 4,
+    /* What is at that place, in diagnostic notation, and nothing of another end. */
+    CDDLSEQ_NOTATION = 5
+};
+
+/* What is told of a text. */
+struct cddlseq_refusal {
+    /* An enum cddlseq_code. */
+    uint32_t code;
+    /* The byte of the text where it shows. */
+    size_t offset;
+};
+
+/* What is told of a stream. */
+struct cddlseq_end {
+    /* How many items match. */
+    uint64_t items;
+    /* How many bytes these have: the offset of the item that fails, if one does. */
+    uint64_t offset;
+    /* An enum cddlseq_cause. */
+    uint32_t cause;
+    /* The byte of the stream where a fault shows; of a mismatch, and of a key that is there twice, the place in the item: it and
+       all in it are numbered from 0 as they begin, a key before its value. */
+    uint64_t place;
+};
+
+/* What an item may have. */
+struct cddlseq_limits {
+    /* How many containers may be round a place of it, from 1 to 256. */
+    uint32_t depth;
+    /* How many bytes, from 1 to 16777216. */
+    uint32_t item_bytes;
+    /* How many questions may be asked about it. */
+    uint64_t steps;
+};
+
+/* The limits of the program, to begin a struct cddlseq_limits with. */
+#define CDDLSEQ_LIMITS {256, 16777216, 10000000}
+
+/* Says whether a text is a specification: CDDLSEQ_OK, _REFUSED, _NO_MEMORY or _BAD_ROOT. The root is the rule of this name, or
+   where the name has no bytes the first rule. */
+uint32_t cddlseq_check(
+    const uint8_t *text, size_t text_length,
+    const uint8_t *root, size_t root_length,
+    struct cddlseq_refusal *refusal);
+
+/* Says how a stream ends by a text: CDDLSEQ_OK or _FAILED, and then the end is told; or what cddlseq_check says, or _BAD_LIMITS,
+   and then the end is left as it was. */
+uint32_t cddlseq_validate(
+    const uint8_t *text, size_t text_length,
+    const uint8_t *root, size_t root_length,
+    const uint8_t *stream, size_t stream_length,
+    const struct cddlseq_limits *limits,
+    struct cddlseq_refusal *refusal,
+    struct cddlseq_end *end);
+
+/* The same, and writes what is wanted of the stream, an enum cddlseq_wanted, to the front of the buffer, whose other bytes stay.
+   The bytes wanted are as many as 'needed' says. Where there is no room for them none is written, and the answer is
+   CDDLSEQ_NO_ROOM; the end is told then too. CDDLSEQ_BAD_WANTED tells nothing. */
+uint32_t cddlseq_write(
+    const uint8_t *text, size_t text_length,
+    const uint8_t *root, size_t root_length,
+    const uint8_t *stream, size_t stream_length,
+    const struct cddlseq_limits *limits,
+    uint32_t wanted,
+    struct cddlseq_refusal *refusal,
+    struct cddlseq_end *end,
+    uint8_t *buffer, size_t buffer_length,
+    size_t *needed);
+
+/* Says how each of many streams ends by one text, which is read once. Stream k has the bytes from offset k up to offset k + 1, so
+   there is one offset more than there are ends. CDDLSEQ_OK: all ends are told, whatever they are. CDDLSEQ_BAD_OFFSETS and
+   _NO_MEMORY: as many as 'done' says are told, and the others are left as they were. */
+uint32_t cddlseq_validate_many(
+    const uint8_t *text, size_t text_length,
+    const uint8_t *root, size_t root_length,
+    const uint8_t *bytes, size_t bytes_length,
+    const size_t *offsets, size_t offsets_length,
+    const struct cddlseq_limits *limits,
+    struct cddlseq_refusal *refusal,
+    struct cddlseq_end *ends, size_t ends_length,
+    size_t *done);
+
+/* A specification that was read once, with the limits of items. cddlseq_open makes it. A call takes it and gives it back, so that one
+   call has it at a time, and cddlseq_close frees it, once. It stays on the thread that opened it. Nothing checks this, nor that it is
+   one that cddlseq_open or another call wrote. */
+struct cddlseq_handle {
+    void *at;
+};
+
+/* Reads a text for many streams, and writes what a handle leads to: CDDLSEQ_OK, or what cddlseq_validate says where nothing is said of
+   a stream, and then nothing is written. */
+uint32_t cddlseq_open(
+    const uint8_t *text, size_t text_length,
+    const uint8_t *root, size_t root_length,
+    const struct cddlseq_limits *limits,
+    struct cddlseq_refusal *refusal,
+    void **at);
+
+/* What cddlseq_validate says of a stream, by a handle: CDDLSEQ_OK, _FAILED or _NO_MEMORY. The handle comes back by its last argument. */
+uint32_t cddlseq_validate_by(
+    struct cddlseq_handle handle,
+    const uint8_t *stream, size_t stream_length,
+    struct cddlseq_end *end,
+    void **back);
+
+/* What cddlseq_write says and writes of a stream, by a handle, which comes back by its last argument. */
+uint32_t cddlseq_write_by(
+    struct cddlseq_handle handle,
+    const uint8_t *stream, size_t stream_length,
+    uint32_t wanted,
+    struct cddlseq_end *end,
+    uint8_t *buffer, size_t buffer_length,
+    size_t *needed,
+    void **back);
+
+void cddlseq_close(struct cddlseq_handle handle);
+
+#ifdef __cplusplus
+}
+#endif
+
+#endif

@@ -1,0 +1,285 @@
+// The commands check, validate and rewrite over the calls of include/cddlseq.h, so that the rows and the tests of the program can
+// be run on the library. It says what the program says, but for misuse, and reads a stream whole before it writes.
+#include "cddlseq.h"
+#include <errno.h>
+#include <fcntl.h>
+#include <stdint.h>
+#include <stdio.h>
+#include <stdlib.h>
+#include <string.h>
+#include <unistd.h>
+
+enum { BROKEN = 3, LONGEST_TEXT = 1048577 };
+
+struct bytes {
+    uint8_t *at;
+    size_t length, room;
+};
+
+struct options {
+    const char *command, *spec, *stream, *root;
+    int quiet, deterministic;
+    struct cddlseq_limits limits;
+};
+
+static const char *const codes[] = {
+    "", "S1 NotUtf8", "S2 BadCharacter", "S3 Unclosed", "S4 BadEscape", "S5 BadNumber", "S6 FloatLiteral", "S7 NumberTooLarge",
+    "S8 BadBytes", "S9 SourceTooLong", "S10 Unexpected", "S11 TooNested", "C1 Duplicate", "C2 KindClash", "C3 Undefined",
+    "C4 Arity", "C5 NoRoot", "C6 BadRoot", "C7 GroupAsType", "C8 HashForm", "C9 UnknownControl", "C10 TooManyInstances",
+    "C11 NotUnwrappable", "C12 Recursion", "C13 NotLiteral", "C14 BadRange", "C15 BadController", "C16 NoKey", "C17 MapShape",
+    "C18 TooManyAlternatives",
+};
+
+static void put(int device, const uint8_t *bytes, size_t length) {
+    while (length > 0) {
+        ssize_t taken = write(device, bytes, length);
+        if (taken <= 0) {
+            return;
+        }
+        bytes += taken;
+        length -= (size_t)taken;
+    }
+}
+
+static void say(const char *text) {
+    put(2, (const uint8_t *)text, strlen(text));
+}
+
+static int no_memory(void) {
+    say("out of memory\n");
+    return BROKEN;
+}
+
+static int misuse(void) {
+    say("usage: caller check|validate|rewrite [OPTION..] SPEC [FILE]\n");
+    return BROKEN;
+}
+
+// Says that a file cannot be used; control characters of its name as their numbers.
+static int bad_file(const char *what, const char *name) {
+    say(what);
+    for (; *name; name++) {
+        char shown[8];
+        int is_control = (unsigned char)*name < 32 || *name == 127;
+        snprintf(shown, sizeof shown, is_control ? "\\u%04x" : "%c", (unsigned char)*name);
+        say(shown);
+    }
+    say("\n");
+    return BROKEN;
+}
+
+static int has_room(struct bytes *it, size_t room) {
+    if (it->room < room) {
+        uint8_t *at = realloc(it->at, room);
+        if (!at) {
+            return 0;
+        }
+        it->at = at;
+        it->room = room;
+    }
+    return 1;
+}
+
+// Reads at most so many bytes of a file, or of standard input where it has no name. Returns 0, or the status.
+static int read_file(const char *name, size_t most, struct bytes *into) {
+    int device = name ? open(name, O_RDONLY) : 0, status = 0;
+    if (device < 0) {
+        return bad_file("cannot open ", name);
+    }
+    while (into->length < most) {
+        if (into->length == into->room && !has_room(into, 2 * into->room + 4096)) {
+            status = no_memory();
+            break;
+        }
+        size_t left = into->room - into->length;
+        ssize_t count = read(device, into->at + into->length, left < most - into->length ? left : most - into->length);
+        if (count < 0) {
+            status = bad_file("cannot read ", name ? name : "-");
+        }
+        if (count <= 0) {
+            break;
+        }
+        into->length += (size_t)count;
+    }
+    if (name) {
+        close(device);
+    }
+    return status;
+}
+
+// The status of the program for what a call answers where there is no end.
+static int refused(uint32_t status, const struct cddlseq_refusal *refusal) {
+    char line[128];
+    if (status == CDDLSEQ_NO_MEMORY) {
+        return no_memory();
+    }
+    if (status != CDDLSEQ_REFUSED) {
+        return misuse();
+    }
+    snprintf(line, sizeof line, "refused: %s at byte %zu\n", codes[refusal->code], refusal->offset);
+    say(line);
+    return 2;
+}
+
+// Has the library write what is wanted, to a buffer that is made larger where it has to be.
+static uint32_t ask(
+    const struct options *options, const struct bytes *text, const struct bytes *stream, uint32_t wanted,
+    struct cddlseq_refusal *refusal, struct bytes *told) {
+    const uint8_t *root = (const uint8_t *)(options->root ? options->root : "");
+    struct cddlseq_end end;
+    uint32_t status;
+    size_t needed = 64;
+    do {
+        if (!has_room(told, needed)) {
+            return CDDLSEQ_NO_MEMORY;
+        }
+        status = cddlseq_write(
+            text->at, text->length, root, strlen((const char *)root), stream->at, stream->length, &options->limits, wanted, refusal,
+            &end, told->at, told->room, &needed);
+    } while (status == CDDLSEQ_NO_ROOM);
+    told->length = needed;
+    return status;
+}
+
+// The same by a handle.
+static uint32_t ask_by(struct cddlseq_handle *handle, const struct bytes *stream, uint32_t wanted, struct bytes *told) {
+    struct cddlseq_end end;
+    uint32_t status;
+    size_t needed = 64;
+    do {
+        if (!has_room(told, needed)) {
+            return CDDLSEQ_NO_MEMORY;
+        }
+        status = cddlseq_write_by(
+            *handle, stream->at, stream->length, wanted, &end, told->at, told->room, &needed, &handle->at);
+    } while (status == CDDLSEQ_NO_ROOM);
+    told->length = needed;
+    return status;
+}
+
+static int validate(const struct options *options, const struct bytes *text, const struct bytes *stream, struct bytes *told) {
+    struct cddlseq_refusal refusal;
+    uint32_t status = ask(options, text, stream, options->quiet ? CDDLSEQ_END_LINE : CDDLSEQ_REPORT, &refusal, told);
+    if (status > CDDLSEQ_FAILED) {
+        return refused(status, &refusal);
+    }
+    put(1, told->at, told->length);
+    return (int)status;
+}
+
+// Asks by a handle for the items and for the line of the end.
+static int rewrite(
+    const struct options *options, const struct bytes *text, const struct bytes *stream, struct bytes *told, struct bytes *line) {
+    const uint8_t *root = (const uint8_t *)(options->root ? options->root : "");
+    struct cddlseq_refusal refusal;
+    struct cddlseq_handle handle;
+    uint32_t status = cddlseq_open(
+        text->at, text->length, root, strlen((const char *)root), &options->limits, &refusal, &handle.at);
+    if (status != CDDLSEQ_OK) {
+        return refused(status, &refusal);
+    }
+    status = ask_by(&handle, stream, options->deterministic ? CDDLSEQ_DETERMINISTIC : CDDLSEQ_PREFERRED, told);
+    if (status <= CDDLSEQ_FAILED) {
+        status = ask_by(&handle, stream, CDDLSEQ_END_LINE, line);
+    }
+    cddlseq_close(handle);
+    if (status > CDDLSEQ_FAILED) {
+        return refused(status, &refusal);
+    }
+    put(1, told->at, told->length);
+    put(2, line->at, line->length);
+    return (int)status;
+}
+
+// Reads the files, and does what the command says.
+static int perform(const struct options *options, struct bytes *text, struct bytes *stream, struct bytes *told, struct bytes *line) {
+    const uint8_t *root = (const uint8_t *)(options->root ? options->root : "");
+    struct cddlseq_refusal refusal;
+    int status = has_room(text, 1) && has_room(stream, 1) ? read_file(options->spec, LONGEST_TEXT, text) : no_memory();
+    if (status) {
+        return status;
+    }
+    uint32_t answer = cddlseq_check(text->at, text->length, root, strlen((const char *)root), &refusal);
+    if (answer != CDDLSEQ_OK) {
+        return refused(answer, &refusal);
+    }
+    if (!strcmp(options->command, "check")) {
+        put(1, (const uint8_t *)"accepted\n", 9);
+        return 0;
+    }
+    status = read_file(options->stream, SIZE_MAX, stream);
+    if (status) {
+        return status;
+    }
+    return strcmp(options->command, "rewrite") ? validate(options, text, stream, told)
+                                               : rewrite(options, text, stream, told, line);
+}
+
+// The value of this option, if the word begins with its name: behind '=', or the next word.
+static const char *value_of(const char *option, char ***words) {
+    size_t length = strlen(option);
+    if (strncmp(**words, option, length)) {
+        return NULL;
+    }
+    if ((**words)[length] == '=') {
+        return **words + length + 1;
+    }
+    return !(**words)[length] && (*words)[1] ? *++*words : NULL;
+}
+
+static int is_option(char ***words, struct options *into) {
+    const char *value;
+    if (!strcmp(**words, "--quiet")) {
+        into->quiet = 1;
+    } else if (!strcmp(**words, "--deterministic")) {
+        into->deterministic = 1;
+    } else if ((value = value_of("--root", words))) {
+        into->root = value;
+    } else if ((value = value_of("--depth", words))) {
+        into->limits.depth = (uint32_t)strtoul(value, NULL, 10);
+    } else if ((value = value_of("--item-bytes", words))) {
+        into->limits.item_bytes = (uint32_t)strtoul(value, NULL, 10);
+    } else if ((value = value_of("--steps", words))) {
+        into->limits.steps = strtoull(value, NULL, 10);
+    } else {
+        return 0;
+    }
+    return 1;
+}
+
+static int is_read(char **words, struct options *into) {
+    int all_are_names = 0;
+    for (; *words; words++) {
+        if (all_are_names || !is_option(&words, into)) {
+            if (!all_are_names && !strcmp(*words, "--")) {
+                all_are_names = 1;
+            } else if (!into->spec) {
+                into->spec = *words;
+            } else if (!into->stream) {
+                into->stream = *words;
+            } else {
+                return 0;
+            }
+        }
+    }
+    return into->spec != NULL;
+}
+
+int main(int count, char **words) {
+    struct options options = {0};
+    struct bytes text = {0}, stream = {0}, told = {0}, line = {0};
+    options.limits = (struct cddlseq_limits)CDDLSEQ_LIMITS;
+    if (count < 3 || !is_read(words + 2, &options)) {
+        return misuse();
+    }
+    options.command = words[1];
+    if (options.stream && !strcmp(options.stream, "-")) {
+        options.stream = NULL;
+    }
+    int status = perform(&options, &text, &stream, &told, &line);
+    free(text.at);
+    free(stream.at);
+    free(told.at);
+    free(line.at);
+    return status;
+}

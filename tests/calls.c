@@ -1,0 +1,284 @@
+// Tests of the calls of include/cddlseq.h: what each answers where nothing is said of a stream, what it leaves as it was, and what
+// comes of each request for memory that is refused: of all, or of each that comes after so many. Linked with --wrap for malloc and realloc.
+#include "cddlseq.h"
+#include <stdio.h>
+#include <stdlib.h>
+#include <string.h>
+
+#define TEXT(it) (const uint8_t *)(it), strlen(it)
+#define BYTES(it) (const uint8_t *)(it), sizeof(it) - 1
+#define EXPECT(it) expect(it, #it, __LINE__)
+
+static long before_refusal = -1;
+static int was_refused, wrong;
+
+void *__real_malloc(size_t size);
+void *__real_realloc(void *block, size_t size);
+
+static int is_refused(void) {
+    if (before_refusal < 0) {
+        return 0;
+    }
+    if (before_refusal == 0) {
+        was_refused = 1;
+        return 1;
+    }
+    before_refusal--;
+    return 0;
+}
+
+void *__wrap_malloc(size_t size) {
+    return is_refused() ? NULL : __real_malloc(size);
+}
+
+void *__wrap_realloc(void *block, size_t size) {
+    return is_refused() ? NULL : __real_realloc(block, size);
+}
+
+static void expect(int holds, const char *what, int line) {
+    if (!holds) {
+        wrong++;
+        printf("calls.c:%d: %s\n", line, what);
+    }
+}
+
+static const struct cddlseq_limits limits = CDDLSEQ_LIMITS;
+static const struct cddlseq_end untold = {7, 7, 7, 7};
+static const char map[] = "m = {a: [* n], b: bstr .cbor n}\nn = uint .lt 10\n";
+
+static uint8_t buffer_of_no_handle[1];
+
+static int is_untold(const struct cddlseq_end *end) {
+    return end->items == 7 && end->offset == 7 && end->cause == 7 && end->place == 7;
+}
+
+static int is_end(const struct cddlseq_end *end, uint64_t items, uint64_t offset, uint32_t cause, uint64_t place) {
+    return end->items == items && end->offset == offset && end->cause == cause && end->place == place;
+}
+
+static void check(void) {
+    struct cddlseq_refusal refusal = {9, 9};
+    EXPECT(cddlseq_check(TEXT(map), TEXT(""), &refusal) == CDDLSEQ_OK);
+    EXPECT(refusal.code == CDDLSEQ_NOT_REFUSED && refusal.offset == 0);
+    EXPECT(cddlseq_check(TEXT(map), TEXT("n"), &refusal) == CDDLSEQ_OK);
+    EXPECT(cddlseq_check(TEXT(map), TEXT("no"), &refusal) == CDDLSEQ_REFUSED);
+    EXPECT(refusal.code == CDDLSEQ_C5_NO_ROOT);
+    EXPECT(cddlseq_check(TEXT("a = b\n"), TEXT(""), &refusal) == CDDLSEQ_REFUSED);
+    EXPECT(refusal.code == CDDLSEQ_C3_UNDEFINED && refusal.offset == 4);
+    EXPECT(cddlseq_check(TEXT(map), TEXT("\xff"), &refusal) == CDDLSEQ_BAD_ROOT);
+    EXPECT(refusal.code == CDDLSEQ_NOT_REFUSED && refusal.offset == 0);
+}
+
+static void validate(void) {
+    struct cddlseq_refusal refusal = {9, 9};
+    struct cddlseq_end end = untold;
+    EXPECT(cddlseq_validate(TEXT("a = b\n"), TEXT(""), BYTES("\x01"), &limits, &refusal, &end) == CDDLSEQ_REFUSED && is_untold(&end));
+    EXPECT(cddlseq_validate(TEXT(map), TEXT("\x80"), BYTES("\x01"), &limits, &refusal, &end) == CDDLSEQ_BAD_ROOT && is_untold(&end));
+    for (int number = 0; number < 4; number++) {
+        const struct cddlseq_limits bad[] = {{0, 1, 1}, {257, 1, 1}, {1, 0, 1}, {1, 16777217, 1}};
+        EXPECT(cddlseq_validate(TEXT(map), TEXT(""), BYTES("\x01"), &bad[number], &refusal, &end) == CDDLSEQ_BAD_LIMITS);
+        EXPECT(is_untold(&end) && refusal.code == CDDLSEQ_NOT_REFUSED);
+    }
+    EXPECT(cddlseq_validate(TEXT(map), TEXT("n"), BYTES(""), &limits, &refusal, &end) == CDDLSEQ_OK && is_end(&end, 0, 0, 0, 0));
+    EXPECT(cddlseq_validate(TEXT(map), TEXT("n"), BYTES("\x01\x18\x09"), &limits, &refusal, &end) == CDDLSEQ_OK);
+    EXPECT(is_end(&end, 2, 3, CDDLSEQ_CLEAN, 0));
+    EXPECT(cddlseq_validate(TEXT(map), TEXT("n"), BYTES("\x01\x0a\x01"), &limits, &refusal, &end) == CDDLSEQ_FAILED);
+    EXPECT(is_end(&end, 1, 1, CDDLSEQ_MISMATCH, 0));
+    EXPECT(cddlseq_validate(TEXT(map), TEXT("n"), BYTES("\x01\x1c"), &limits, &refusal, &end) == CDDLSEQ_FAILED);
+    EXPECT(is_end(&end, 1, 1, CDDLSEQ_RESERVED_INFO, 1));
+    EXPECT(cddlseq_validate(TEXT(map), TEXT("n"), BYTES("\x01\xa2\x01\x02\x01\x03"), &limits, &refusal, &end) == CDDLSEQ_FAILED);
+    EXPECT(is_end(&end, 1, 1, CDDLSEQ_DUPLICATE_KEY, 3));
+    const struct cddlseq_limits few = {256, 16777216, 1};
+    EXPECT(cddlseq_validate(TEXT("a = [* [* int]]\n"), TEXT(""), BYTES("\x81\x81\x01"), &few, &refusal, &end) == CDDLSEQ_FAILED);
+    EXPECT(is_end(&end, 0, 0, CDDLSEQ_STEP_LIMIT, 0));
+}
+
+// Whether the call writes these bytes, and nothing behind them, and none where there is room for one less.
+static int writes(const char *stream, size_t length, uint32_t wanted, uint32_t status, const char *bytes) {
+    struct cddlseq_refusal refusal;
+    struct cddlseq_end end = untold;
+    uint8_t buffer[256], kept[256];
+    size_t needed = 99, size = strlen(bytes);
+    memset(buffer, 0xee, sizeof buffer);
+    memset(kept, 0xee, sizeof kept);
+    uint32_t told = cddlseq_write(
+        TEXT("a = {? a: uint, ? b: uint}\n"), TEXT(""), (const uint8_t *)stream, length, &limits, wanted, &refusal, &end, buffer, sizeof buffer, &needed);
+    if (told != status || needed != size || memcmp(buffer, bytes, size) || memcmp(buffer + size, kept, sizeof buffer - size)) {
+        return 0;
+    }
+    if (size == 0) {
+        return 1;
+    }
+    memset(buffer, 0xee, sizeof buffer);
+    end = untold;
+    told = cddlseq_write(
+        TEXT("a = {? a: uint, ? b: uint}\n"), TEXT(""), (const uint8_t *)stream, length, &limits, wanted, &refusal, &end, buffer, size - 1, &needed);
+    return told == CDDLSEQ_NO_ROOM && needed == size && !is_untold(&end) && !memcmp(buffer, kept, sizeof buffer);
+}
+
+static void write_wanted(void) {
+    static const char good[] = "\xa2\x61\x62\x18\x01\x61\x61\x02", bad[] = "\xa0\xa1\x61\x61\x20";
+    struct cddlseq_refusal refusal;
+    struct cddlseq_end end = untold;
+    uint8_t buffer[4] = "abcd";
+    size_t needed = 99;
+    EXPECT(writes(good, sizeof good - 1, CDDLSEQ_REPORT, CDDLSEQ_OK, "item 1 at 0: {\"b\": 1, \"a\": 2}\nclean: 1 items, 8 bytes\n"));
+    EXPECT(writes(good, sizeof good - 1, CDDLSEQ_END_LINE, CDDLSEQ_OK, "clean: 1 items, 8 bytes\n"));
+    EXPECT(writes(good, sizeof good - 1, CDDLSEQ_PREFERRED, CDDLSEQ_OK, "\xa2\x61\x62\x01\x61\x61\x02"));
+    EXPECT(writes(good, sizeof good - 1, CDDLSEQ_DETERMINISTIC, CDDLSEQ_OK, "\xa2\x61\x61\x02\x61\x62\x01"));
+    EXPECT(writes(good, sizeof good - 1, CDDLSEQ_PATH, CDDLSEQ_OK, ""));
+    EXPECT(writes(good, sizeof good - 1, CDDLSEQ_NOTATION, CDDLSEQ_OK, ""));
+    EXPECT(writes(bad, sizeof bad - 1, CDDLSEQ_PATH, CDDLSEQ_FAILED, "${\"a\"}"));
+    EXPECT(writes(bad, sizeof bad - 1, CDDLSEQ_NOTATION, CDDLSEQ_FAILED, "-1"));
+    EXPECT(writes(bad, sizeof bad - 1, CDDLSEQ_END_LINE, CDDLSEQ_FAILED, "failed: 1 items, offset 1: mismatch at ${\"a\"}: -1\n"));
+    EXPECT(cddlseq_write(TEXT(map), TEXT("n"), BYTES("\x01"), &limits, 6, &refusal, &end, buffer, 4, &needed) == CDDLSEQ_BAD_WANTED);
+    EXPECT(is_untold(&end) && needed == 0 && !memcmp(buffer, "abcd", 4));
+    needed = 99;
+    EXPECT(cddlseq_write(TEXT("a"), TEXT(""), BYTES("\x01"), &limits, CDDLSEQ_REPORT, &refusal, &end, buffer, 4, &needed) == CDDLSEQ_REFUSED);
+    EXPECT(is_untold(&end) && needed == 0 && !memcmp(buffer, "abcd", 4) && refusal.code == CDDLSEQ_S10_UNEXPECTED);
+}
+
+static void validate_many(void) {
+    struct cddlseq_refusal refusal;
+    struct cddlseq_end ends[3] = {untold, untold, untold};
+    const size_t offsets[] = {0, 2, 2, 3}, falling[] = {1, 2, 1, 3}, beyond[] = {0, 1, 4, 4}, late[] = {1, 2, 3, 3};
+    size_t done = 99;
+    EXPECT(cddlseq_validate_many(TEXT(map), TEXT("n"), BYTES("\x01\x02\x20"), offsets, 4, &limits, &refusal, ends, 3, &done) == CDDLSEQ_OK);
+    EXPECT(done == 3 && is_end(&ends[0], 2, 2, 0, 0) && is_end(&ends[1], 0, 0, 0, 0) && is_end(&ends[2], 0, 0, CDDLSEQ_MISMATCH, 0));
+    ends[0] = ends[1] = ends[2] = untold;
+    EXPECT(cddlseq_validate_many(TEXT(map), TEXT("n"), BYTES("\x01\x02\x20"), falling, 4, &limits, &refusal, ends, 3, &done) == CDDLSEQ_BAD_OFFSETS);
+    EXPECT(done == 1 && is_end(&ends[0], 1, 1, 0, 0) && is_untold(&ends[1]) && is_untold(&ends[2]));
+    ends[0] = untold;
+    EXPECT(cddlseq_validate_many(TEXT(map), TEXT("n"), BYTES("\x01\x02\x20"), beyond, 4, &limits, &refusal, ends, 3, &done) == CDDLSEQ_BAD_OFFSETS);
+    EXPECT(done == 1 && is_untold(&ends[1]));
+    EXPECT(cddlseq_validate_many(TEXT(map), TEXT("n"), BYTES("\x01\x02\x20"), late, 4, &limits, &refusal, ends, 3, &done) == CDDLSEQ_OK);
+    EXPECT(done == 3 && is_end(&ends[0], 1, 1, 0, 0) && is_end(&ends[1], 0, 0, CDDLSEQ_MISMATCH, 0));
+    ends[0] = untold;
+    EXPECT(cddlseq_validate_many(TEXT(map), TEXT("n"), BYTES("\x01"), offsets, 4, &limits, &refusal, ends, 2, &done) == CDDLSEQ_BAD_OFFSETS);
+    EXPECT(done == 0 && is_untold(&ends[0]));
+    EXPECT(cddlseq_validate_many(TEXT(map), TEXT("n"), BYTES("\x01"), offsets, 0, &limits, &refusal, ends, 0, &done) == CDDLSEQ_BAD_OFFSETS);
+    EXPECT(cddlseq_validate_many(TEXT(map), TEXT("n"), BYTES("\x01"), offsets, 1, &limits, &refusal, ends, 0, &done) == CDDLSEQ_OK && done == 0);
+    EXPECT(cddlseq_validate_many(TEXT("a"), TEXT(""), BYTES("\x01"), offsets, 4, &limits, &refusal, ends, 3, &done) == CDDLSEQ_REFUSED);
+    EXPECT(done == 0 && is_untold(&ends[0]));
+}
+
+static void handles(void) {
+    struct cddlseq_refusal refusal = {9, 9};
+    struct cddlseq_end end = untold;
+    struct cddlseq_handle handle = {buffer_of_no_handle};
+    uint8_t buffer[64];
+    size_t needed = 99;
+    EXPECT(cddlseq_open(TEXT("a = b\n"), TEXT(""), &limits, &refusal, &handle.at) == CDDLSEQ_REFUSED);
+    EXPECT(refusal.code == CDDLSEQ_C3_UNDEFINED && refusal.offset == 4 && handle.at == buffer_of_no_handle);
+    const struct cddlseq_limits bad = {0, 1, 1}, shallow = {1, 3, 100};
+    EXPECT(cddlseq_open(TEXT(map), TEXT(""), &bad, &refusal, &handle.at) == CDDLSEQ_BAD_LIMITS && handle.at == buffer_of_no_handle);
+    EXPECT(cddlseq_open(TEXT("a = [* any]\n"), TEXT(""), &shallow, &refusal, &handle.at) == CDDLSEQ_OK && refusal.code == 0);
+    void *at = handle.at;
+    EXPECT(at && at != buffer_of_no_handle);
+    for (int time = 0; time < 3; time++) {
+        EXPECT(cddlseq_validate_by(handle, BYTES("\x80\x81\x01"), &end, &handle.at) == CDDLSEQ_OK && handle.at == at);
+        EXPECT(is_end(&end, 2, 3, CDDLSEQ_CLEAN, 0));
+        EXPECT(cddlseq_validate_by(handle, BYTES("\x80\x81\x80"), &end, &handle.at) == CDDLSEQ_FAILED && handle.at == at);
+        EXPECT(is_end(&end, 1, 1, CDDLSEQ_TOO_DEEP, 2));
+        EXPECT(cddlseq_write_by(handle, BYTES("\x9f\x01\xff\x01"), CDDLSEQ_PREFERRED, &end, buffer, 64, &needed, &handle.at) == CDDLSEQ_FAILED);
+        EXPECT(handle.at == at && needed == 2 && !memcmp(buffer, "\x81\x01", 2) && is_end(&end, 1, 3, CDDLSEQ_MISMATCH, 0));
+        EXPECT(cddlseq_write_by(handle, BYTES("\x80"), CDDLSEQ_REPORT, &end, buffer, 8, &needed, &handle.at) == CDDLSEQ_NO_ROOM && handle.at == at);
+        end = untold;
+        EXPECT(cddlseq_write_by(handle, BYTES("\x80"), 6, &end, buffer, 64, &needed, &handle.at) == CDDLSEQ_BAD_WANTED);
+        EXPECT(handle.at == at && needed == 0 && is_untold(&end));
+    }
+    cddlseq_close(handle);
+}
+
+// With the request for memory refused that comes after so many: whether a handle is opened, used and freed, or nothing is told.
+static int is_handle_told_without_memory(long number) {
+    struct cddlseq_refusal refusal;
+    struct cddlseq_end end = untold;
+    struct cddlseq_handle handle = {buffer_of_no_handle};
+    before_refusal = number, was_refused = 0;
+    uint32_t status = cddlseq_open(TEXT(map), TEXT("n"), &limits, &refusal, &handle.at);
+    int any = was_refused;
+    before_refusal = -1;
+    EXPECT(status == (any ? CDDLSEQ_NO_MEMORY : CDDLSEQ_OK) && (handle.at == buffer_of_no_handle) == any);
+    if (any) {
+        return 1;
+    }
+    void *at = handle.at;
+    for (long later = 0; later == 0 || was_refused; later++) {
+        end = untold;
+        before_refusal = later, was_refused = 0;
+        status = cddlseq_validate_by(handle, BYTES("\x01\x18\x20"), &end, &handle.at);
+        before_refusal = -1;
+        EXPECT(handle.at == at && (was_refused ? status == CDDLSEQ_NO_MEMORY && is_untold(&end) : is_end(&end, 1, 1, CDDLSEQ_MISMATCH, 0)));
+    }
+    cddlseq_close(handle);
+    return 0;
+}
+
+// With the request for memory refused that comes after so many: whether each call says so, and tells nothing. Returns whether one
+// was refused.
+static int is_told_without_memory(long number) {
+    static const char stream[] = "\xa2\x61\x61\x82\x01\x02\x61\x62\x41\x05\xa2\x61\x62\x41\x05\x61\x61\x80";
+    const size_t offsets[] = {0, 10, 18};
+    struct cddlseq_refusal refusal = {9, 9};
+    struct cddlseq_end end = untold, ends[2] = {untold, untold};
+    uint8_t buffer[256];
+    size_t needed = 99, done = 99;
+    int any = 0;
+    before_refusal = number, was_refused = 0;
+    uint32_t status = cddlseq_check(TEXT(map), TEXT("m"), &refusal);
+    EXPECT(status == (was_refused ? CDDLSEQ_NO_MEMORY : CDDLSEQ_OK) && refusal.code == 0 && refusal.offset == 0);
+    any |= was_refused;
+    before_refusal = number, was_refused = 0;
+    status = cddlseq_validate(TEXT(map), TEXT(""), BYTES(stream), &limits, &refusal, &end);
+    EXPECT(was_refused ? status == CDDLSEQ_NO_MEMORY && is_untold(&end) : status == CDDLSEQ_OK && is_end(&end, 2, 18, 0, 0));
+    any |= was_refused;
+    for (uint32_t wanted = CDDLSEQ_REPORT; wanted <= CDDLSEQ_NOTATION; wanted++) {
+        end = untold;
+        before_refusal = number, was_refused = 0;
+        status = cddlseq_write(TEXT(map), TEXT("n"), BYTES("\x01\x18\x20"), &limits, wanted, &refusal, &end, buffer, sizeof buffer, &needed);
+        EXPECT(was_refused ? status == CDDLSEQ_NO_MEMORY && is_untold(&end) && needed == 0 : status == CDDLSEQ_FAILED && is_end(&end, 1, 1, CDDLSEQ_MISMATCH, 0));
+        any |= was_refused;
+    }
+    before_refusal = number, was_refused = 0;
+    status = cddlseq_validate_many(TEXT(map), TEXT("m"), BYTES(stream), offsets, 3, &limits, &refusal, ends, 2, &done);
+    EXPECT(status == (was_refused ? CDDLSEQ_NO_MEMORY : CDDLSEQ_OK) && (was_refused ? done < 2 : done == 2));
+    EXPECT(done == 0 ? is_untold(&ends[0]) : is_end(&ends[0], 1, 10, 0, 0));
+    EXPECT(done == 2 ? is_end(&ends[1], 1, 8, 0, 0) : is_untold(&ends[1]));
+    any |= was_refused;
+    before_refusal = -1;
+    return any;
+}
+
+// Whether nothing went wrong in a test.
+static int passes(void (*test)(void)) {
+    int before = wrong;
+    test();
+    return wrong == before;
+}
+
+static long step = 1;
+
+static void refuse_memory(void) {
+    long number = 0, refusals = 0;
+    for (; is_told_without_memory(number); number += step) {
+        refusals++;
+    }
+    for (number = 0; is_handle_told_without_memory(number); number += step) {
+        refusals++;
+    }
+    printf("calls with %ld requests for memory refused in turn\n", refusals);
+}
+
+int main(int count, char **words) {
+    void (*const tests[])(void) = {check, validate, write_wanted, validate_many, handles, refuse_memory};
+    int number = sizeof tests / sizeof *tests, passed = 0;
+    if (count > 1) {
+        step = atol(words[1]);
+    }
+    for (int at = 0; at < number; at++) {
+        passed += passes(tests[at]);
+    }
+    printf("%d passed, %d failed\n", passed, number - passed);
+    return passed < number;
+}

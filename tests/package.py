@@ -1,0 +1,158 @@
+#!/usr/bin/env python3
+"""Tests the Python package: the examples of its documentation, its numbers against those of the header, its calls, and the rows
+of rows.json for its commands, as far as these need no devices of their own.
+
+    package.py HEADER [--only TEXT] [-v]
+
+The package and its library are found by PYTHONPATH and CDDLSEQ_LIBRARY. Each row is run in a process that is forked off, since
+Python takes longer to begin than most rows do. The last line is 'N passed, M failed'.
+"""
+import argparse
+import doctest
+import io
+import os
+import re
+import sys
+import tempfile
+
+import cddlseq
+from cddlseq import Cause, Refused, Specification, _library
+from cddlseq.__main__ import main as command
+from run_rows import differences, errors_of, output_of, spec_of, stream_of
+from rows_of_library import needs_devices, rows_of_commands
+
+
+def spelled(name):
+    """A name as the header spells it: words in capitals, with low lines between them."""
+    return re.sub(r"(?<=[a-z0-9])(?=[A-Z])|(?<=[A-Z])(?=[A-Z][a-z])", "_", name).upper()
+
+
+def numbers_of(header):
+    with open(header, encoding="utf-8") as file:
+        return {name: int(number) for name, number in re.findall(r"CDDLSEQ_(\w+) = (\d+)", file.read())}
+
+
+def names_are_right(header):
+    """Whether the numbers of the package are the header's."""
+    numbers = numbers_of(header)
+    codes = {f"{code}_{spelled(name)}": number for number, (code, name) in enumerate(_library.CODES, 1)}
+    causes = {it.name: it.value for it in Cause}
+    named = [it for it in dir(_library) if it.isupper() and isinstance(getattr(_library, it), int)]
+    others = {it: getattr(_library, it) for it in named}
+    return numbers == {"NOT_REFUSED": 0, "CLEAN": 0, **codes, **causes, **others}
+
+
+def refusal_of(text, root=None):
+    try:
+        Specification(text, root)
+    except Refused as refused:
+        return refused.code, refused.name, refused.offset
+    return None
+
+
+def is_value_error(call):
+    try:
+        call()
+    except ValueError:
+        return True
+    return False
+
+
+def streams_are_alike():
+    """Whether a stream ends the same as bytes, as a file, in pieces and among many."""
+    specification = Specification("a = [* uint] / tstr\n")
+    stream = bytes.fromhex("810161628200f5")
+    ends = [
+        specification.validate(stream),
+        specification.validate(bytearray(stream)),
+        specification.validate(io.BytesIO(stream)),
+        specification.validate(stream[at:at + 1] for at in range(len(stream))),
+        *specification.validate_many([stream, stream]),
+    ]
+    return all((it.items, it.offset, it.cause, it.place, it.path, it.notation) == (2, 4, Cause.MISMATCH, 2, "$[1]", "true") for it in ends)
+
+
+def checks_of(header):
+    """What is tested, and whether it holds."""
+    specification = Specification("m = {* tstr => uint}\n")
+    clean = specification.validate(b"")
+    stream = bytes.fromhex("a2616201616102a0")
+    many = [bytes([it % 24]) * it for it in range(300)]
+    bad_limits = ({"depth": 0}, {"depth": 257}, {"item_bytes": 0}, {"steps": 2**64})
+    return {
+        "the examples of the documentation": doctest.testmod(cddlseq).failed == 0,
+        "the numbers of the header": names_are_right(header),
+        "a refusal": refusal_of("a = b\n") == ("C3", "Undefined", 4),
+        "a refusal for its root": refusal_of("a = int\n", "b")[0] == "C5",
+        "a root of no letters": refusal_of("a = int\n", "")[0] == "C5",
+        "a root": refusal_of("a = int\nb = uint\n", "b") is None,
+        "limits": all(is_value_error(lambda: Specification("a = int\n", **it)) for it in bad_limits),
+        "an end without a cause": clean.is_clean and clean.cause is None and clean.path is None and clean.notation is None,
+        "a stream in each form": streams_are_alike(),
+        "no streams": specification.validate_many([]) == [],
+        "many streams": [it.items for it in Specification("a = uint\n").validate_many(many)] == list(range(300)),
+        "preferred bytes": specification.rewrite(stream).data == stream,
+        "deterministic bytes": specification.rewrite(stream, deterministic=True).data == bytes.fromhex("a2616102616201a0"),
+        "a long report": Specification("a = uint\n").report(b"\x00" * 5000).count("\n") == 5001,
+    }
+
+
+def told_by(words, stream, folder):
+    """What the command writes to standard output and error in a folder, and its status."""
+    with tempfile.TemporaryFile() as given, tempfile.TemporaryFile() as out, tempfile.TemporaryFile() as err:
+        given.write(stream)
+        given.seek(0)
+        child = os.fork()
+        if child == 0:
+            os.chdir(folder)
+            for number, file in enumerate((given, out, err)):
+                os.dup2(file.fileno(), number)
+            sys.argv[1:] = words
+            os._exit(command())
+        status = os.waitstatus_to_exitcode(os.waitpid(child, 0)[1])
+        out.seek(0)
+        err.seek(0)
+        return out.read(), err.read(), status
+
+
+def faults_of(row):
+    """What is wrong with what the command says of a row, a line each."""
+    with tempfile.TemporaryDirectory() as folder:
+        spec = spec_of(row)
+        if spec is not None:
+            with open(os.path.join(folder, "SPEC"), "wb") as file:
+                file.write(spec)
+        got = told_by(row["words"], stream_of(row) or b"", folder)
+    return differences(got, output_of(row), errors_of(row), row.get("status", 0))
+
+
+def run_rows(only, is_verbose):
+    """Runs the rows, prints those that failed, and returns how many passed and failed."""
+    rows = [it for it in rows_of_commands(only) if not needs_devices(it)]
+    failed = 0
+    for row in rows:
+        wrong = faults_of(row)
+        failed += bool(wrong)
+        if wrong or is_verbose:
+            print("\n    ".join([f"{'FAILED' if wrong else 'ok'} {row['name']}", *wrong]))
+    return len(rows) - failed, failed
+
+
+def main():
+    words = argparse.ArgumentParser(description="Tests the Python package.")
+    words.add_argument("header")
+    words.add_argument("--only", default="", help="only the rows whose name has this text")
+    words.add_argument("-v", action="store_true", help="print each row that passed too")
+    words = words.parse_args()
+    checks = checks_of(words.header)
+    for name, holds in checks.items():
+        if not holds:
+            print(f"FAILED {name}")
+    passed, failed = run_rows(words.only, words.v)
+    wrong = list(checks.values()).count(False)
+    print(f"{passed + len(checks) - wrong} passed, {failed + wrong} failed")
+    return 1 if failed or wrong else 0
+
+
+if __name__ == "__main__":
+    sys.exit(main())
