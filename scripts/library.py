@@ -26,6 +26,17 @@ CALLS = "cddlseq_*"
 SONAME = "libcddlseq.so.1"
 # Nothing is resolved late, and nothing can be written to once it is.
 SHARED = ("-shared", f"-Wl,-soname,{SONAME}", "-Wl,-z,defs", "-Wl,-z,now", "-Wl,-z,relro", "-Wl,--gc-sections")
+# The kit's command rt, but of each crate it makes the list of those below and the stamp once. Else each is made again on every way
+# that leads to the crate, at every step.
+RT_ONCE = """\
+import functools, importlib.machinery, importlib.util, sys
+loader = importlib.machinery.SourceFileLoader("rt", sys.argv[1])
+rt = importlib.util.module_from_spec(importlib.util.spec_from_loader("rt", loader))
+loader.exec_module(rt)
+for each in ("below", "stamp"):
+    setattr(rt.rtlib.Crate, each, functools.lru_cache(maxsize=None)(getattr(rt.rtlib.Crate, each)))
+sys.exit(rt.main(sys.argv[2:]))
+"""
 
 
 def folder_of_kit(rt):
@@ -49,13 +60,15 @@ def build(rt, top):
     """Has 'rt lib' prove and build the calls over the libraries that 'rt ci' left in the crates of this folder, and returns the
     archive, or None. It takes libraries with a stamp alone, which 'rt ci' may not write. Those that are written here are taken away
     again, since what other commands build does not fit these libraries."""
-    stamps = {path: stamp for path, stamp in stamps_of(folder_of_kit(rt), top).items() if not os.path.exists(path)}
+    kit = folder_of_kit(rt)
+    stamps = {path: stamp for path, stamp in stamps_of(kit, top).items() if not os.path.exists(path)}
     folder = os.path.join(top, "crates", CRATE)
     try:
         for path, stamp in stamps.items():
             with open(path, "w", encoding="utf-8") as file:
                 file.write(stamp)
-        ran = subprocess.run([*shlex.split(rt), "lib"], cwd=folder, stdout=subprocess.PIPE, stderr=subprocess.STDOUT, text=True)
+        command = [sys.executable, "-B", "-c", RT_ONCE, os.path.join(kit, "bin", "rt"), "lib"]
+        ran = subprocess.run(command, cwd=folder, stdout=subprocess.PIPE, stderr=subprocess.STDOUT, text=True)
     finally:
         for path in stamps:
             os.remove(path)

@@ -187,5 +187,5 @@ pub extern "C" fn cddlseq_write_by(
 /// Frees what a handle holds.
 #[unsafe(no_mangle)]
 pub extern "C" fn cddlseq_close(handle: CddlseqHandle) {
-    drop(handle.into_box());
+    drop(Box::into_inner(handle.into_box()));
 }
