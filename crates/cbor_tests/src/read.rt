@@ -539,19 +539,14 @@ fn takes_the_limits_in_their_ranges(rt: HostRuntime) {
 }
 
 // How many items end in a piece, of which each byte may end one.
-fn items_of(
-    rt: &impl Abort,
-    alloc: Global,
-    reader: &mut ItemReader,
-    piece: &[u8],
-) -> Result<u32, AllocError> {
+fn items_of(rt: &impl Abort, reader: &mut ItemReader, piece: &[u8]) -> Result<u32, AllocError> {
     let mut items = 0u32;
     let mut rest = piece;
     for _ in 0..=piece.len() {
-        match step_of(alloc, reader, rest)? {
-            FeedAnswer::More => break,
-            FeedAnswer::Item(used) => rest = rest.get(used..).unwrap_or(&[]),
-            FeedAnswer::Fault(..) => panic!(rt; "a fault is told"),
+        match reader.feed(rest)? {
+            Fed::More => break,
+            Fed::Item { used, item: _ } => rest = rest.get(used..).unwrap_or(&[]),
+            Fed::Fault { .. } => panic!(rt; "a fault is told"),
         }
         items = items.saturating_add(1);
     }
@@ -560,13 +555,12 @@ fn items_of(
 
 fn count_items(
     rt: &impl Abort,
-    alloc: Global,
     reader: &mut ItemReader,
     pieces: &[&[u8]],
 ) -> Result<u32, AllocError> {
     let mut items = 0u32;
     for piece in pieces {
-        items = items.saturating_add(items_of(rt, alloc, reader, *piece)?);
+        items = items.saturating_add(items_of(rt, reader, *piece)?);
     }
     Ok(items)
 }
@@ -582,7 +576,7 @@ fn reads_cut_items_or_wants_memory(rt: HostRuntime) {
         b"\x01\x02\xff\x9f\xc1\x01\xbf\x61",
         b"\x61\x7f\x61\x62\xff\xff\x04\xff",
     ];
-    match count_items(&rt, rt.alloc(), &mut reader, &pieces) {
+    match count_items(&rt, &mut reader, &pieces) {
         Ok(items) => {
             assert!(rt; items == 3);
             assert!(rt; reader.at_end() == Ok(()));
