@@ -1,16 +1,18 @@
 """Copies of laws, each over definitions of its own, so that many edits of definitions can be tried in one check.
 
 A law is a function that is there for its contract. It rests on modules of its crate: files of definitions in specs/, and of
-lemmas right in proofs/. A copy of it stands in a source file of its own. Of those modules that an edit reaches it has copies,
+lemmas in proofs/, each right there or in the folder of a module of the crate. A copy of it stands in a source file of its own. Of those modules that an edit reaches it has copies,
 with the edit, under other names. What no edit reaches is the same for all.
 """
 import os
 import re
+from collections import defaultdict
 from dataclasses import dataclass, replace
 
 from functions import module_of
 
-MODULE = re.compile(r"(?:specs|proofs)/(\w+)\.antt")
+MODULE = re.compile(r"(?:specs|proofs)/(?:[A-Z]\w*/)?[A-Z]\w*\.antt")
+DECLARATIONS = re.compile(r"(?:\s|--[^\n]*\n|(?:pub )?mod \w+\n)*")
 IMPORT = re.compile(r"^(?:ghost )?use [^;]*;$", re.MULTILINE)
 NAMES = re.compile(r"(ghost use [\w.+]+\.)\{([^}]*)\};")
 ALIAS = re.compile(r"ghost use [\w.+]+ as (\w+);")
@@ -41,14 +43,15 @@ class Laws:
 
     def __init__(self, crate, sources, specs, proofs):
         self.own, self.proofs, self.texts = f"Rattle.{crate}", proofs, {**specs, **proofs, **sources}
-        self.names = re.compile(rf"\bRattle\.{crate}\.((?:specs|proofs)\.\w+)")
-        files = [it for it in self.texts if MODULE.fullmatch(it) and not it.endswith("/Lib.antt")]
+        files = [it for it, text in self.texts.items() if MODULE.fullmatch(it) and not DECLARATIONS.fullmatch(text)]
         self.files = {it.removesuffix(".antt").replace("/", "."): it for it in files}
+        own = "|".join(map(re.escape, sorted(self.files, key=len, reverse=True)))
+        self.names = re.compile(rf"\bRattle\.{crate}\.({own or '(?!)'})(?!\w)")
         self.uses = {it: self.named_in(self.texts[file]) for it, file in self.files.items()}
 
     def named_in(self, text):
         """The modules that a text names."""
-        return set(self.names.findall(text)) & self.files.keys()
+        return set(self.names.findall(text))
 
     def below(self, modules):
         """These modules, and those that they rest on."""
@@ -105,16 +108,16 @@ class Laws:
 
     def with_copies(self, copies, others):
         """These texts of other files, with those of the copies and of the files that declare them."""
-        made, added = dict(others), {"specs/Lib.antt": [], "proofs/Lib.antt": [], "src/lib.rt": []}
+        made, added = dict(others), defaultdict(list)
         for copy in copies:
             for module in copy.copied:
                 file = self.files[module]
                 folder, name = os.path.split(file.removesuffix(".antt"))
                 made[f"{folder}/{name}{copy.mark}.antt"] = self.over_copies(copy, copy.edited(file, self.texts[file]))
-                added[f"{folder}/Lib.antt"].append(f"pub mod {name}{copy.mark}")
+                added[declaring(folder)].append(f"pub mod {name}{copy.mark}")
             made.update(self.law_and_proof(copy))
             added["src/lib.rt"].append(f"pub mod {copy.name};")
-        for file in filter(added.get, added):
+        for file in added:
             lines = made.get(file, self.texts.get(file, "")).rstrip("\n").split("\n")
             made[file] = "\n".join([*lines, *dict.fromkeys(added[file]), ""])
         return made
@@ -131,6 +134,11 @@ class Laws:
     def over_copies(self, copy, text):
         """The text, which names modules, over those that are copied for a law."""
         return self.names.sub(lambda it: it[0] + (copy.mark if it[1] in copy.copied else ""), text)
+
+
+def declaring(folder):
+    """The file that declares the modules in this folder, as 'specs' or 'specs/Machine'."""
+    return f"{folder}.antt" if "/" in folder else f"{folder}/Lib.antt"
 
 
 def folder_of(function):

@@ -1,5 +1,7 @@
 #!/usr/bin/env python3
-"""Whether a crate names nothing of another crate's proofs but its public file of lemmas, proofs/Lemmas.antt.
+"""Whether a crate names nothing of another crate's proofs but its public files of lemmas: proofs/Lemmas.antt, and for a module of
+the crate as `place` proofs/OfPlace/Lemmas.antt. What the toolchain itself makes there of a type of the other crate (`TheLaws`, which
+has the size of a value) may be named too.
 
     test_imports.py
 
@@ -13,7 +15,8 @@ import sys
 import tempfile
 
 TOP = os.path.dirname(os.path.dirname(os.path.abspath(__file__)))
-NAMED = re.compile(r"\bRattle\.(\w+)\.proofs\.([\w+-]+)")
+NAMED = re.compile(r"\bRattle\.(\w+)\.proofs\.(?:Of[A-Z]\w*\.|(?:\w+\.)+(?=TheLaws\b))?([\w+-]+)")
+ALLOWED = ("Lemmas", "TheLaws")
 
 
 def strays(top):
@@ -29,17 +32,21 @@ def strays(top):
                 found += [
                     (os.path.relpath(path, top), number, it[0])
                     for it in NAMED.finditer(line)
-                    if it[1] in crates and it[1] != crate and it[2] != "Lemmas"
+                    if it[1] in crates and it[1] != crate and it[2] not in ALLOWED
                 ]
     return found
 
 
 def finds_strays():
-    """Whether the search finds the one stray name of a small repository, and no other name."""
+    """Whether the search finds the two stray names of a small repository, and no other name."""
     lines = {
         "low/proofs/Sums.antt": "use Rattle.low.proofs.Lists.{lists}\n",
+        "low/proofs/OfParts/Halves.antt": "use Rattle.low.proofs.Lists.{lists}\n",
         "high/proofs/Uses.antt": "use Rattle.low.proofs.Lemmas.{sums}\nuse Rattle.std.proofs.Common.{arith}\n",
+        "high/proofs/Cuts.antt": "use Rattle.low.proofs.OfParts.Lemmas.{halves}\n",
+        "high/proofs/Sizes.antt": "use Rattle.low.proofs.node.Node.TheLaws.{the_size}\n",
         "high/src/lib.rt": "ghost use Rattle.low.proofs.Sums.{sums};\n",
+        "high/src/parts.rt": "ghost use Rattle.low.proofs.OfParts.Halves.{halves};\n",
         "high/out/Kept.antt": "use Rattle.low.proofs.Sums.{sums}\n",
     }
     with tempfile.TemporaryDirectory() as top:
@@ -48,7 +55,10 @@ def finds_strays():
             os.makedirs(os.path.dirname(path), exist_ok=True)
             with open(path, "w", encoding="utf-8") as file:
                 file.write(text)
-        return strays(top) == [("crates/high/src/lib.rt", 1, "Rattle.low.proofs.Sums")]
+        return strays(top) == [
+            ("crates/high/src/lib.rt", 1, "Rattle.low.proofs.Sums"),
+            ("crates/high/src/parts.rt", 1, "Rattle.low.proofs.OfParts.Halves"),
+        ]
 
 
 def are_imports_clean():

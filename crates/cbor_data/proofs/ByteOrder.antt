@@ -1,10 +1,11 @@
 -- Pairs are put in order the same whichever comes first.
-use Rattle.std.proofs.Common.{◌≡◌, ◌≢◌, ℕ, List, [], ◌∷◌, Bool, true, false, cond, ◌⊎◌, inl, inr, refl, sym, ap, ap₂, ◌∙◌}
+use Rattle.std.proofs.Common.{◌≡◌, ◌≢◌, ℕ, List, [], ◌∷◌, true, false, cond, ◌⊎◌, inl, inr, refl, sym, ap, ap₂, ◌∙◌}
 use Rattle.std.specs.Cmp.Lexicographic.{slice_cmp}
 use Rattle.std.specs.Ordering.{nat_cmp, is_lt, ordering_then, ordering_reverse}
 use Rattle.std.specs.declared.cmp.Ordering.{Ordering}
 use Rattle.std.specs.declared.cmp.Ordering.TheVariants.{Less, Equal, Greater}
 use Rattle.std.proofs.lemmas.Cmp.{ranked, nat_list_cmp_total}
+use Rattle.lists.proofs.Lemmas.{tested}
 use Rattle.cbor_data.specs.Value.{Value, Pairs, no_pairs, pair}
 use Rattle.cbor_data.specs.Preferred.{preferred}
 use Rattle.cbor_data.specs.Deterministic.{comes_before, put, ComesBeforeAll}
@@ -60,10 +61,6 @@ one_before k l n = elim (turned (slice_cmp nat_cmp (preferred k) (preferred l)) 
     | inr e ↦ absurd (n (equal_bytes (preferred k) (preferred l) e))
   ]
 ]
-
-pub tested : (b : Bool) → (b ≡ true) ⊎ (b ≡ false)
-tested true = inl refl
-tested false = inr refl
 
 -- how a pair is put among pairs
 pub put_here : (k v l w : Value) (ps : Pairs) → comes_before k l ≡ true → put k v (pair l w ps) ≡ pair k v (pair l w ps)

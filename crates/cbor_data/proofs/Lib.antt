@@ -19,3 +19,4 @@ mod Gathers
 mod SameSpelling
 mod SameSound
 pub mod Lemmas
+pub mod OfMachine

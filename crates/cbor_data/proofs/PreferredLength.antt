@@ -1,9 +1,10 @@
 -- The preferred bytes of an item are at most nine times as many as those of any spelling.
 use Rattle.std.proofs.Common.{ℕ, ◌*◌, ◌<◌, ◌≤◌, ◌^◌, List, ◌++◌, length, nat_lt, inl, inr, sym, subst, arith, length-append}
+use Rattle.lists.proofs.Lemmas.{tested}
 use Rattle.cbor_data.specs.Preferred.{shortest_head, simple_bytes, preferred, values_preferred, pairs_preferred}
 use Rattle.cbor_data.specs.Value.{Value, values_len, pairs_len}
 use Rattle.cbor_data.specs.Forms.{Form, uint_form, nint_form, bytes_form, bytes_chunks, text_form, text_chunks, array_form, array_to_break, pairs_form, pairs_to_break, tag_form, simple_inside, simple_next, float_form, Forms, no_forms, form, PairForms, no_pair_forms, pair_form, chunks_bytes, joined, to_break, flat, forms_flat, pair_forms_flat, forms_len, pair_forms_len, meaning, meanings, pair_meanings, Spells, head_in}
-use Rattle.cbor_data.proofs.PreferredSpells.{joined_len, broken_len, head_some, tested}
+use Rattle.cbor_data.proofs.PreferredSpells.{joined_len, broken_len, head_some}
 
 pub shortest_head_len : (m n : ℕ) → length (shortest_head m n) ≤ 9
 shortest_head_len m n = elim (tested (nat_lt n 24)) [

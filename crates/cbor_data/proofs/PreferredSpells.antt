@@ -1,6 +1,7 @@
 -- The preferred bytes of an item spell it.
-use Rattle.std.proofs.Common.{◌≡◌, ℕ, suc, ◌<◌, ◌≤◌, ◌^◌, List, [], ◌∷◌, ◌++◌, length, nat_lt, cond, Bool, true, false, ◌⊎◌, inl, inr, refl, sym, ap, ap₂, ◌∙◌, subst, arith, length-append}
+use Rattle.std.proofs.Common.{◌≡◌, ℕ, suc, ◌<◌, ◌≤◌, ◌^◌, List, [], ◌∷◌, ◌++◌, length, nat_lt, cond, true, false, ◌⊎◌, inl, inr, refl, sym, ap, ap₂, ◌∙◌, subst, arith, length-append}
 use Rattle.std.proofs.lemmas.Bool.Decides.{nat_tests}
+use Rattle.lists.proofs.Lemmas.{tested}
 use Rattle.cbor_data.specs.declared.Width.{Width}
 use Rattle.cbor_data.specs.declared.Width.TheVariants.{W16, W32, W64}
 use Rattle.cbor_data.specs.Preferred.{shortest_head, simple_bytes, float_bytes, preferred, values_preferred, pairs_preferred, AreCountsShort, AreValueCountsShort, ArePairCountsShort}
@@ -12,10 +13,6 @@ use Rattle.cbor_data.specs.Forms.{Form, uint_form, nint_form, bytes_form, bytes_
 abbrev shortest : ℕ → ArgumentSize
 shortest n =
     cond (nat_lt n 24) inside (cond (nat_lt n (2 ^ 8)) one (cond (nat_lt n (2 ^ 16)) two (cond (nat_lt n (2 ^ 32)) four eight)))
-
-pub tested : (b : Bool) → (b ≡ true) ⊎ (b ≡ false)
-tested true = inl refl
-tested false = inr refl
 
 in_shortest : (m n : ℕ) → n < 2 ^ 64 → (shortest_head m n ≡ head_in (shortest n) m n) × FitsSize (shortest n) n
 in_shortest m n h = elim (tested (nat_lt n 24)) [

@@ -1,15 +1,12 @@
 -- The test answers true exactly at the same value.
-use Rattle.std.proofs.Common.{◌≡◌, ℕ, List, [], ◌∷◌, Bool, true, false, ◌&&◌, ◌==◌, refl, sym, ap, ap₂, ◌∙◌, subst, arith}
+use Rattle.std.proofs.Common.{◌≡◌, ℕ, List, [], ◌∷◌, true, ◌&&◌, ◌==◌, refl, sym, ap, ap₂, ◌∙◌, subst, arith}
 use Rattle.std.specs.Cmp.{IsEquivalence}
 use Rattle.std.proofs.lemmas.Bool.Decides.{nat_tests}
+use Rattle.lists.proofs.Lemmas.{both, from_true}
 use Rattle.cbor_data.specs.declared.Width.{Width}
 use Rattle.cbor_data.specs.declared.Width.TheVariants.{W16, W32, W64}
 use Rattle.cbor_data.specs.Value.{Value, uint, nint, bytes, text, array, pairs, tag, simple, float, Values, no_values, value, Pairs, no_pairs, pair}
 use Rattle.cbor_data.specs.Same.{same_list, same_width, same_value, same_values, same_pairs}
-
-both : (a b : Bool) → (a && b) ≡ true → (a ≡ true) × (b ≡ true)
-both true b e = (refl, e)
-both false b e = absurd (cc)
 
 number : (m n : ℕ) → (m == n) ≡ true → m ≡ n
 number m n e = grind (arith, nat_tests)
@@ -82,11 +79,6 @@ mutual
   pub same_pairs-same : (ps : Pairs) → same_pairs ps ps ≡ true
   same_pairs-same no_pairs = refl
   same_pairs-same (pair k v ps) = ap₂ (λ a b. a && b) (same_value-same k) (ap₂ (λ a b. a && b) (same_value-same v) (same_pairs-same ps))
-
-from_true : (a b : Bool) → (a ≡ true → b ≡ true) → (b ≡ true → a ≡ true) → a ≡ b
-from_true true b h k = sym (h refl)
-from_true false true h k = k refl
-from_true false false h k = refl
 
 at_same : (x y : Value) → x ≡ y → same_value x y ≡ true
 at_same x y e = subst (λ z. same_value x z ≡ true) e (same_value-same x)

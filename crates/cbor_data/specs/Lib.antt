@@ -12,3 +12,4 @@ pub mod Embedded
 pub mod Equivalence
 pub mod Deterministic
 pub mod Writable
+pub mod Machine

@@ -1,6 +1,8 @@
 //! What items of CBOR are and how bytes spell them (RFC 8949), for contracts: the definitions are in `specs/`.
 #![tactic(auto)]
 
+pub mod machine;
+
 ghost use Rattle.std.specs.Prelude.{◌≡◌, ◌≤◌, ◌*◌, ◌⊎◌, ◌↔◌, ℕ, List, ◌++◌, length};
 ghost use Rattle.cbor_data.specs.Equivalence.{IsSame};
 ghost use Rattle.cbor_data.specs.Deterministic.{ordered, deterministic, IsRising};

@@ -5,12 +5,12 @@ use Rattle.cbor_data.specs.Preferred.{shortest_head, values_preferred, pairs_pre
 use Rattle.cbor_data.specs.Validity.{IsValid}
 use Rattle.cbor_data.specs.Value.{Value, array, pairs, tag, values_len, pairs_len}
 use Rattle.cbor_data.proofs.Lemmas.{apart_valid, as_many_pairs, pairs_same_ordered, valid_apart}
-use Rattle.cbor_item.specs.View.{view, values_view, pairs_view}
+use Rattle.item_nodes.specs.View.{view, values_view, pairs_view}
 use Rattle.cbor_item.specs.Walk.{IsPlain}
-use Rattle.cbor_item.specs.declared.item.Item.{Item, Array, Map, Tag}
+use Rattle.item_nodes.specs.declared.item.Item.{Item, Array, Map, Tag}
 use Rattle.cbor_item.proofs.Laying.{as_long, joined_on}
 use Rattle.cbor_item.proofs.Plain.{plain_content}
-use Rattle.cbor_item.proofs.Views.{view-Array, view-Map, view-Tag}
+use Rattle.item_nodes.proofs.Lemmas.{view-Array, view-Map, view-Tag}
 
 pub ok_then : {T E : Type 0} {P Q : Type 0} (r : Result T E) → (P → Q) → OnOk r P → OnOk r Q
 ok_then (Ok x) f h = f h

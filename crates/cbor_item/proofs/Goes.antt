@@ -4,7 +4,7 @@ use Rattle.std.specs.Io.KnownBytes.{Appends}
 use Rattle.std.proofs.KnownBytes.{Appends-trans}
 use Rattle.std.proofs.Math.Seq.{take-append-add}
 use Rattle.std.proofs.lemmas.List.{take-append-le}
-use Rattle.cbor_item.specs.Counted.{HasRisen}
+use Rattle.item_nodes.specs.Counted.{HasRisen}
 use Rattle.cbor_item.specs.Gone.{State, GoesWhole, Stops, Goes}
 use Rattle.cbor_item.specs.declared.write.WriteFault.{WriteFault}
 

@@ -2,7 +2,7 @@
 use Rattle.std.proofs.Common.{◌≡◌, ℕ, ◌<◌, false, ◌&&◌, ◌==◌, nat_lt, arith, refl, ◌∙◌}
 use Rattle.std.specs.Prelude.{if◌then◌else◌}
 use Rattle.std.proofs.lemmas.Bool.Decides.{nat_tests}
-use Rattle.cbor_item.specs.Counted.{one_more}
+use Rattle.item_nodes.specs.Counted.{one_more}
 
 -- a write that took some bytes is no failure
 pub same_count : (taken len count : ℕ) {new : ℕ} → 0 < taken →

@@ -1,5 +1,5 @@
 -- Pairs as bytes in the order of their keys: there is one such order, and it is that of the deterministic bytes.
-use Rattle.std.proofs.Common.{◌≡◌, ℕ, List, [], ◌∷◌, map, Bool, true, false, ◌||◌, ◌⊎◌, inl, inr, cond, refl, sym, ap, ap₂, ◌∙◌, subst}
+use Rattle.std.proofs.Common.{◌≡◌, ℕ, List, [], ◌∷◌, map, Bool, true, false, ◌||◌, inl, inr, cond, refl, sym, ap, ap₂, ◌∙◌, subst}
 use Rattle.std.specs.Prelude.{◌&&◌, not}
 use Rattle.std.specs.Cmp.Lexicographic.{slice_cmp}
 use Rattle.std.specs.List.{AllByRecursion, list_any}
@@ -11,11 +11,12 @@ use Rattle.std.specs.declared.cmp.Ordering.TheVariants.{Less, Greater}
 use Rattle.std.proofs.lemmas.Cmp.{nat_list_cmp_total}
 use Rattle.std.proofs.lemmas.Map.Text.{is_eq-slice_cmp}
 use Rattle.std.proofs.lemmas.Slice.Eq.{bytes_eq-Decides}
+use Rattle.lists.proofs.Lemmas.{and_false as and_no, and_true as and_yes, both, either_true}
 use Rattle.cbor_data.specs.Deterministic.{comes_before, put, ordered, pairs_ordered, deterministic, ComesBeforeAll, ArePairsRising}
 use Rattle.cbor_data.specs.Preferred.{preferred, pairs_preferred}
 use Rattle.cbor_data.specs.Value.{Value, pairs, Pairs, no_pairs, pair}
 use Rattle.cbor_data.proofs.Lemmas.{HasKeysApart, rising}
-use Rattle.cbor_item.specs.InOrder.{laid}
+use Rattle.item_nodes.specs.InOrder.{laid}
 use Rattle.cbor_item.specs.Laying.{joined}
 use Rattle.cbor_item.specs.Walk.{IsPlain}
 use Rattle.cbor_item.proofs.Laying.{byte_pairs, joined_pairs, writable}
@@ -41,26 +42,10 @@ eq_itself s = (bytes_eq-Decides s s).1 refl
 entry_itself : (e : List ℕ × List ℕ) → is_entry e e ≡ true
 entry_itself e = ap₂ (λ a b. a && b) (eq_itself e.0) (eq_itself e.1)
 
-both : (a b : Bool) → (a && b) ≡ true → (a ≡ true) × (b ≡ true)
-both true b e = (refl, e)
-both false b e = absurd (cc)
-
 entry_is : (e f : List ℕ × List ℕ) → is_entry e f ≡ true → e ≡ f
 entry_is e f h =
     let b = both (bytes_eq e.0 f.0) (bytes_eq e.1 f.1) h in
     ap₂ (λ (x y : List ℕ). (x, y)) ((bytes_eq-Decides e.0 f.0).0 b.0) ((bytes_eq-Decides e.1 f.1).0 b.1)
-
-either_true : (a b : Bool) → (a || b) ≡ true → (a ≡ true) ⊎ (b ≡ true)
-either_true true b e = inl refl
-either_true false b e = inr e
-
-and_no : (a : Bool) → (a && false) ≡ false
-and_no true = refl
-and_no false = refl
-
-and_yes : (a : Bool) → (a && true) ≡ a
-and_yes true = refl
-and_yes false = refl
 
 -- an entry that is there has a key behind what is before all keys
 behind : (k : List ℕ) (e : List ℕ × List ℕ) (es : List (List ℕ × List ℕ)) → AllByRecursion (λ l. bytes_cmp k l ≡ Less) (firsts es) → list_any (is_entry e) es ≡ true → bytes_cmp k e.0 ≡ Less

@@ -1,7 +1,8 @@
 -- The keys of a map by their deterministic bytes.
-use Rattle.std.proofs.Common.{◌≡◌, ℕ, List, [], ◌∷◌, Bool, true, false, ◌||◌, ◌⊎◌, inl, inr, refl, sym, ap, ◌∙◌}
+use Rattle.std.proofs.Common.{◌≡◌, ℕ, List, [], ◌∷◌, Bool, true, false, ◌||◌, inl, inr, refl, sym, ap, ◌∙◌}
 use Rattle.std.specs.Str.{bytes_eq}
 use Rattle.std.proofs.lemmas.Slice.Eq.{bytes_eq-Decides}
+use Rattle.lists.proofs.Lemmas.{either_true as either, neither}
 use Rattle.cbor_data.specs.Deterministic.{deterministic}
 use Rattle.cbor_data.specs.Preferred.{preferred}
 use Rattle.cbor_data.specs.Validity.{IsOneOf}
@@ -25,14 +26,6 @@ among (k ∷ ks) bytes = bytes_eq bytes (deterministic k) || among ks bytes
 abbrev pub AllWritable : List Value → Type 0
 AllWritable [] = Unit {0}
 AllWritable (k ∷ ks) = IsWritable k × AllWritable ks
-
-either : (a b : Bool) → (a || b) ≡ true → (a ≡ true) ⊎ (b ≡ true)
-either true b e = inl refl
-either false b e = inr e
-
-pub neither : (a b : Bool) → (a || b) ≡ false → (a ≡ false) × (b ≡ false)
-neither true b e = absurd (cc)
-neither false b e = (refl, e)
 
 -- a key whose bytes are there is the same as one of the keys
 pub found_among : (ks : List Value) (k : Value) → AllWritable ks → IsWritable k → among ks (deterministic k) ≡ true → IsOneOf ks k

@@ -8,6 +8,7 @@ use Rattle.std.specs.declared.cmp.Ordering.{Ordering}
 use Rattle.std.specs.declared.cmp.Ordering.TheVariants.{Less, Equal, Greater}
 use Rattle.std.proofs.lemmas.Map.Lookups.{exact_bytes}
 use Rattle.std.proofs.lemmas.Slice.Eq.{bytes_eq-Decides}
+use Rattle.lists.proofs.Lemmas.{neither}
 use Rattle.cbor_data.specs.Deterministic.{comes_before, put, ordered, values_ordered, pairs_ordered, deterministic}
 use Rattle.cbor_data.specs.Preferred.{shortest_head, preferred, values_preferred, pairs_preferred}
 use Rattle.cbor_data.specs.Validity.{IsOneOf}
@@ -18,7 +19,7 @@ use Rattle.cbor_item.specs.Laying.{Lays, LaysAmong, LaysPairs, has_key, joined}
 use Rattle.cbor_item.specs.Walk.{IsPlain, ArePairsPlain, Walks, WalksAfter}
 use Rattle.cbor_item.specs.declared.sound.Unsound.{Unsound}
 use Rattle.cbor_item.specs.declared.sound.Unsound.TheVariants.{Duplicate}
-use Rattle.cbor_item.proofs.Keys.{among, AllWritable, found_among, missed_among, neither, or_swap}
+use Rattle.cbor_item.proofs.Keys.{among, AllWritable, found_among, missed_among, or_swap}
 use Rattle.cbor_item.proofs.Plain.{plain_pair}
 use Rattle.cbor_item.proofs.Walking.{AreValid, among_more, among_stop, among_none, after_more, after_key, after_value, after_repeat, after_none, walks_array, walks_pairs, walks_tag}
 

@@ -1,10 +1,5 @@
-mod Bytes
-mod Flats
 mod Going
-mod Walks
-mod Commas
 mod Goes
-mod Views
 mod Counts
 mod Keys
 mod Plain
@@ -13,10 +8,8 @@ mod Laying
 mod InOrder
 mod Sorted
 mod Adding
-mod HeadOrder
 mod Noted
 mod KeySet
 mod Keeping
 mod Sizes
-mod Differing
-pub mod Lemmas
+mod OfPlace

@@ -1,8 +1,8 @@
 -- The depths of what an item holds, as Rattle weighs it.
 use Rattle.std.proofs.Common.{◌<◌, ℕ, Vec, Box, Global, rules}
-use Rattle.cbor_item.specs.declared.item.Item.{Item, Array, Map, Tag, the_lemmas}
-use Rattle.cbor_item.proofs.item.Item.TheLaws.{the_size}
-use Rattle.cbor_item.proofs.Walks.{pair_size}
+use Rattle.item_nodes.specs.declared.item.Item.{Item, Array, Map, Tag, the_lemmas}
+use Rattle.item_nodes.proofs.item.Item.TheLaws.{the_size}
+use Rattle.item_nodes.proofs.Lemmas.{pair_size}
 use denote.Param.Weighed.{most}
 
 pub tag_size : (n : ℕ) (x : Box Item Global) → the_size x.value < the_size (Tag n x)

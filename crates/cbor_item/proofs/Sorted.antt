@@ -18,12 +18,12 @@ use Rattle.cbor_data.specs.Deterministic.{pairs_ordered, deterministic}
 use Rattle.cbor_data.specs.Preferred.{pairs_preferred}
 use Rattle.cbor_data.specs.Value.{Value, pairs, Pairs, no_pairs, pair}
 use Rattle.cbor_data.proofs.Lemmas.{HasKeysApart, same_by_deterministic}
-use Rattle.cbor_item.specs.Apart.{RisesBelow}
-use Rattle.cbor_item.specs.InOrder.{laid, keys_det, lengths_of, total, cut, seen_slices}
+use Rattle.item_nodes.specs.Apart.{RisesBelow}
+use Rattle.item_nodes.specs.InOrder.{laid, keys_det, lengths_of, total, cut, seen_slices}
 use Rattle.cbor_item.specs.Laying.{joined}
-use Rattle.cbor_item.specs.View.{view, pairs_view}
+use Rattle.item_nodes.specs.View.{view, pairs_view}
 use Rattle.cbor_item.specs.Walk.{IsPlain, ArePairsPlain}
-use Rattle.cbor_item.specs.declared.item.Item.{Item}
+use Rattle.item_nodes.specs.declared.item.Item.{Item}
 use Rattle.cbor_item.proofs.InOrder.{firsts, joined_in_order}
 use Rattle.cbor_item.proofs.Laying.{writable}
 use Rattle.cbor_item.proofs.Plain.{plain_pair, plain_pairs}

@@ -1,8 +1,8 @@
 -- What a part of a call's writing answers, and what went out then.
 use Rattle.std.specs.Prelude.{◌≡◌, ℕ, ◌+◌, ◌<◌, List, length, take, Result, Ok, Err, Option}
 use Rattle.std.specs.Io.KnownBytes.{Appends}
-use Rattle.cbor_item.specs.Counted.{device_of, failures_of, HasRisen}
-use Rattle.cbor_item.specs.declared.counted.Counted.{Counted}
+use Rattle.item_nodes.specs.Counted.{device_of, failures_of, HasRisen}
+use Rattle.item_nodes.specs.declared.counted.Counted.{Counted}
 use Rattle.cbor_item.specs.declared.write.WriteFault.{WriteFault}
 
 -- what a writer holds, and how often it failed

@@ -1,10 +1,6 @@
-pub mod View
 pub mod Unsound
-pub mod Counted
 pub mod Length
 pub mod Gone
-pub mod InOrder
 pub mod Walk
-pub mod Comma
-pub mod Apart
 pub mod Laying
+pub mod Place

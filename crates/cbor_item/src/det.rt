@@ -8,14 +8,14 @@ ghost use Rattle.std.specs.Ordering.{nat_cmp};
 ghost use Rattle.cbor_data.specs.Deterministic.{deterministic};
 ghost use Rattle.cbor_data.specs.Preferred.{shortest_head};
 ghost use Rattle.cbor_item.specs.Laying.{Lays, LaysAmong, LaysPairs, has_key, joined, seen};
-ghost use Rattle.cbor_item.specs.View.{view, values_view, pairs_view};
+ghost use Rattle.item_nodes.specs.View.{view, values_view, pairs_view};
 ghost use Rattle.cbor_item.specs.Walk.{IsPlain, ArePlain, ArePairsPlain};
 ghost use Rattle.cbor_item.specs.declared.sound.Unsound.TheVariants.{Memory};
 ghost use Rattle.cbor_data.specs.Value.{place_count, values_place_count, pairs_place_count};
 
-use crate::head::Head;
-use crate::item::Item;
 use crate::sound::Unsound;
+use item_nodes::Item;
+use item_nodes::head::Head;
 use std::alloc::Global;
 use std::collections::BTreeMap;
 

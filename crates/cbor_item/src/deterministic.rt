@@ -6,18 +6,17 @@ ghost use Rattle.cbor_data.specs.Deterministic.{deterministic, values_ordered, p
 ghost use Rattle.cbor_data.specs.Preferred.{shortest_head, values_preferred, pairs_preferred};
 ghost use Rattle.cbor_data.specs.Validity.{IsValid};
 ghost use Rattle.cbor_data.specs.Value.{Pairs, array, pairs as pairs_value};
-ghost use Rattle.cbor_item.specs.Counted.{device_of, failures_of, HasRisen};
-ghost use Rattle.cbor_item.specs.InOrder.{laid, lengths_of, total, cut, seen_slices};
+ghost use Rattle.item_nodes.specs.Counted.{device_of, failures_of, HasRisen};
+ghost use Rattle.item_nodes.specs.InOrder.{laid, lengths_of, total, cut, seen_slices};
 ghost use Rattle.cbor_item.specs.Laying.{joined};
-ghost use Rattle.cbor_item.specs.View.{view, values_view, pairs_view};
+ghost use Rattle.item_nodes.specs.View.{view, values_view, pairs_view};
 ghost use Rattle.cbor_item.specs.Walk.{IsPlain, ArePlain, ArePairsPlain};
 
-use crate::counted::Counted;
-use crate::head::Head;
-use crate::item::Item;
-use crate::rising::are_keys_rising;
 use crate::sound::Sound;
 use crate::write::{WriteFault, write_bytes};
+use item_nodes::head::Head;
+use item_nodes::rising::are_keys_rising;
+use item_nodes::{Counted, Item};
 use std::alloc::{AllocError, Global};
 use std::io::Write;
 use thiserror::Error;

@@ -6,14 +6,14 @@ ghost use Rattle.cbor_data.specs.Sound.{HasShortSpelling};
 ghost use Rattle.cbor_data.specs.Validity.{IsValid};
 ghost use Rattle.cbor_data.specs.Value.{place_count, values_place_count, pairs_place_count};
 ghost use Rattle.cbor_item.specs.Unsound.{IsRepeat};
-ghost use Rattle.cbor_item.specs.View.{view, values_view, pairs_view};
+ghost use Rattle.item_nodes.specs.View.{view, values_view, pairs_view};
 ghost use Rattle.cbor_item.specs.Walk.{IsPlain, ArePlain, ArePairsPlain, Walks, WalksAmong, WalksAfter, has};
 ghost use Rattle.cbor_item.specs.declared.sound.Unsound.TheVariants.{Memory};
 
-use crate::apart::{is_container, is_surely_valid};
 use crate::det::append_det;
-use crate::item::Item;
 use crate::sound::Unsound;
+use item_nodes::Item;
+use item_nodes::apart::{is_container, is_surely_valid};
 use std::alloc::Global;
 use std::collections::BTreeSet;
 

@@ -4,11 +4,11 @@ ghost use Rattle.std.specs.Prelude.{◌≡◌, ◌+◌, ◌^◌, ◌<◌, ℕ, l
 ghost use Rattle.cbor_data.specs.Preferred.{preferred, values_preferred, pairs_preferred, shortest_head, simple_bytes, float_bytes};
 ghost use Rattle.cbor_data.specs.Value.{array, pairs as pairs_value};
 ghost use Rattle.cbor_item.specs.Length.{capped_sum, IsTooLong};
-ghost use Rattle.cbor_item.specs.View.{view, values_view, pairs_view};
+ghost use Rattle.item_nodes.specs.View.{view, values_view, pairs_view};
 
-use crate::item::Item;
 use crate::sound::Unsound;
 use cbor_data::Width;
+use item_nodes::Item;
 
 // Whether some spelling of the item is shorter than 2^64 bytes. No memory holds an item of which the preferred bytes do not
 // tell.

@@ -4,15 +4,15 @@ ghost use Rattle.std.specs.Prelude.{◌≡◌, ◌≤◌, IfOk, IfErr};
 ghost use Rattle.cbor_data.specs.Sound.{HasShortSpelling, IsSound};
 ghost use Rattle.cbor_data.specs.Value.{depth_of};
 ghost use Rattle.cbor_item.specs.Unsound.{IsFirstUnsoundness, IsRepeat};
-ghost use Rattle.cbor_item.specs.View.{view};
+ghost use Rattle.item_nodes.specs.View.{view};
 
-use crate::bits::are_bits_fitting;
-use crate::depth::is_within;
 use crate::duplicates::check_keys;
-use crate::item::Item;
 use crate::length::check_length;
-use crate::ranges::note_ranges;
-use crate::simples::are_simples_assignable;
+use item_nodes::Item;
+use item_nodes::bits::are_bits_fitting;
+use item_nodes::depth::is_within;
+use item_nodes::ranges::note_ranges;
+use item_nodes::simples::are_simples_assignable;
 use std::alloc::Global;
 use std::marker::Model;
 use thiserror::Error;
@@ -59,7 +59,7 @@ impl Model for Sound {
 
     ghost coded = { coded_value };
 
-    ghost use Rattle.cbor_item.specs.View.{view as item_view};
+    ghost use Rattle.item_nodes.specs.View.{view as item_view};
 
     ghost view = { λ a. item_view a.item };
 

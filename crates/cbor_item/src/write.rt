@@ -4,14 +4,13 @@ ghost use Rattle.std.specs.Prelude.{◌≡◌, ◌+◌, ◌<◌, ◌^◌, ◌++�
 ghost use Rattle.std.specs.Io.KnownBytes.{Appends};
 ghost use Rattle.cbor_data.specs.Preferred.{preferred, shortest_head};
 ghost use Rattle.cbor_data.specs.Value.{array, pairs as pairs_value, AreBitsFitting};
-ghost use Rattle.cbor_item.specs.Counted.{device_of, failures_of, HasRisen};
+ghost use Rattle.item_nodes.specs.Counted.{device_of, failures_of, HasRisen};
 ghost use Rattle.cbor_item.specs.Gone.{Goes, state_of};
-ghost use Rattle.cbor_item.specs.View.{view, values_view, pairs_view};
+ghost use Rattle.item_nodes.specs.View.{view, values_view, pairs_view};
 
-use crate::counted::Counted;
-use crate::head::Head;
-use crate::item::Item;
 use crate::sound::Sound;
+use item_nodes::head::Head;
+use item_nodes::{Counted, Item};
 use std::io::Write;
 use thiserror::Error;
 

@@ -1,6 +1,7 @@
 -- What the first bytes tell of the items that bytes hold.
 use Rattle.std.proofs.Common.{◌≡◌, ◌≢◌, ℕ, ◌+◌, ◌<◌, ◌≤◌, ◌^◌, ◌&&◌, List, [], ◌∷◌, ◌++◌, length, get_or, take, drop, nat_le, Option, Some, None, option_and_then, inl, inr, refl, sym, ap, ◌∙◌, subst, arith, append-nil, length-take}
 use Rattle.std.proofs.lemmas.List.{take-append-drop, drop_more}
+use Rattle.lists.proofs.Lemmas.{tested}
 use Rattle.cbor_data.specs.Value.{Value}
 use Rattle.cbor_data.specs.Validity.{IsValid}
 use Rattle.cbor_data.specs.Forms.{Form, flat, HasText, meaning, IsWellFormed, Spells}
@@ -9,16 +10,16 @@ use Rattle.cbor_data.specs.Embedded.{Embeds}
 use Rattle.cbor_data.specs.declared.FaultKind.{FaultKind}
 use Rattle.cbor_data.specs.declared.FaultKind.TheVariants.{BadText, DuplicateKey}
 use Rattle.cbor_data.proofs.Lemmas.{good_text, one_form, unique_front}
-use Rattle.cbor_machine.specs.Machine.{State, item, argument, body, chunk, chunk_argument, chunk_body, simple, done, step, step_in, steps_in, opens_container}
-use Rattle.cbor_machine.specs.Reads.{LeadsWithin, Reads}
-use Rattle.cbor_machine.proofs.Lemmas.{embedded_read, tested, whole}
-use Rattle.cbor_item.specs.declared.item.Item.{Item}
-use Rattle.cbor_build.specs.Building as building
-use Rattle.cbor_build.specs.Working.{IsBuilt, IsTaken}
-use Rattle.cbor_build.specs.declared.work.Step.{Step}
-use Rattle.cbor_build.specs.declared.work.Step.TheVariants as steps
-use Rattle.cbor_build.specs.declared.work.Work.{Work}
-use Rattle.cbor_build.proofs.Lemmas.{builds_leads, notes_leads, built, work_leads}
+use Rattle.cbor_data.specs.Machine.Machine.{State, item, argument, body, chunk, chunk_argument, chunk_body, simple, done, step, step_in, steps_in, opens_container}
+use Rattle.cbor_data.specs.Machine.Reads.{LeadsWithin, Reads}
+use Rattle.cbor_data.proofs.OfMachine.Lemmas.{embedded_read, whole}
+use Rattle.item_nodes.specs.declared.item.Item.{Item}
+use Rattle.read_building.specs.Building as building
+use Rattle.read_building.specs.Working.{IsBuilt, IsTaken}
+use Rattle.read_building.specs.declared.work.Step.{Step}
+use Rattle.read_building.specs.declared.work.Step.TheVariants as steps
+use Rattle.read_building.specs.declared.work.Work.{Work}
+use Rattle.read_building.proofs.Lemmas.{builds_leads, notes_leads, built, work_leads}
 use Rattle.cbor_read.specs.Firsts.{BeginsNone, IsFirstItem}
 use Rattle.cbor_read.proofs.Valued.{text_told}
 use Rattle.cbor_read.specs.Outcomes.{IsOutcome, IsOfValue, IsValueOf, IsWrong}

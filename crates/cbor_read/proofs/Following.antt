@@ -2,24 +2,25 @@
 use Rattle.std.proofs.Common.{◌≡◌, ◌≢◌, ℕ, zero, suc, ◌+◌, ◌-◌, ◌<◌, ◌≤◌, ◌^◌, ◌/◌, ◌%◌, ◌==◌, min, inl, inr, List, [], ◌∷◌, ◌++◌, length, get_or, take, drop, Option, Some, None, option_and_then, refl, sym, ap, ◌∙◌, subst, arith, append-nil, length-append, length-take}
 use Rattle.std.proofs.lemmas.List.{take_all, take-take, get_or-take}
 use Rattle.std.proofs.lemmas.Bool.{cases_lt}
+use Rattle.lists.proofs.Lemmas.{tested}
 use Rattle.cbor_data.specs.Value.{Value, AreBytes}
 use Rattle.cbor_data.specs.Faults.{Bounds, last_offset, IsFaultOf}
 use Rattle.cbor_data.specs.declared.FaultKind.{FaultKind}
 use Rattle.cbor_data.specs.declared.FaultKind.TheVariants.{BadText, TooDeep, TooLong, Truncated}
-use Rattle.cbor_machine.specs.Machine.{State, item, argument, body, chunk, chunk_argument, chunk_body, simple, done, step, step_in, steps_in, refused_kind}
-use Rattle.cbor_machine.specs.Reads.{LeadsWithin, Reads}
-use Rattle.cbor_machine.proofs.Lemmas.{steps_in-append, tell_form, tell_deep, tell_long, tell_end, tell_long_end, tested}
-use Rattle.cbor_build.specs.Building as building
-use Rattle.cbor_build.specs.Builds.{Builds, Notes}
-use Rattle.cbor_build.specs.Progress.{state_in}
-use Rattle.cbor_build.specs.Working.{IsInWork, IsBuilt, IsBadEnd, IsTaken}
-use Rattle.cbor_build.specs.declared.work.Step.{Step}
-use Rattle.cbor_build.specs.declared.work.Step.TheVariants as steps
-use Rattle.cbor_item.specs.View.{view}
-use Rattle.cbor_item.specs.declared.item.Item.{Item}
-use Rattle.cbor_build.specs.Working as working
-use Rattle.cbor_build.specs.declared.work.Work.{Work}
-use Rattle.cbor_build.proofs.Lemmas.{builds_leads, notes_leads, built, work_leads}
+use Rattle.cbor_data.specs.Machine.Machine.{State, item, argument, body, chunk, chunk_argument, chunk_body, simple, done, step, step_in, steps_in, refused_kind}
+use Rattle.cbor_data.specs.Machine.Reads.{LeadsWithin, Reads}
+use Rattle.cbor_data.proofs.OfMachine.Lemmas.{steps_in-append, tell_form, tell_deep, tell_long, tell_end, tell_long_end}
+use Rattle.read_building.specs.Building as building
+use Rattle.read_building.specs.Builds.{Builds, Notes}
+use Rattle.read_building.specs.Progress.{state_in}
+use Rattle.read_building.specs.Working.{IsInWork, IsBuilt, IsBadEnd, IsTaken}
+use Rattle.read_building.specs.declared.work.Step.{Step}
+use Rattle.read_building.specs.declared.work.Step.TheVariants as steps
+use Rattle.item_nodes.specs.View.{view}
+use Rattle.item_nodes.specs.declared.item.Item.{Item}
+use Rattle.read_building.specs.Working as working
+use Rattle.read_building.specs.declared.work.Work.{Work}
+use Rattle.read_building.proofs.Lemmas.{builds_leads, notes_leads, built, work_leads}
 use Rattle.cbor_read.specs.Steps.{IsFull, IsBegun, IsKept, IsOpen, IsOfForm, IsToldPast, IsEnded, kind_past_of}
 use Rattle.cbor_read.proofs.Pieces.{bytes_small, cut_at, front_length}
 use Rattle.cbor_read.specs.Outcomes.{IsValueOf, IsWrong}

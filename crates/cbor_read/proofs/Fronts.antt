@@ -2,16 +2,16 @@
 use Rattle.std.proofs.Common.{◌≡◌, ℕ, ◌+◌, ◌-◌, ◌<◌, ◌≤◌, ◌^◌, min, List, [], ◌++◌, length, take, Option, Some, None, Result, Ok, Err, IfOk, IfSome, nat_le, true, refl, sym, ap, ◌∙◌, subst, arith, append-nil, length-take}
 use Rattle.std.specs.declared.alloc.AllocError.{AllocError}
 use Rattle.std.proofs.lemmas.List.{take-take}
-use Rattle.std.proofs.lemmas.Bool.Decides.{nat_tests}
+use Rattle.lists.proofs.Lemmas.{test_at_most as fits}
 use Rattle.cbor_data.specs.Value.{Value, depth_of, AreBytes}
 use Rattle.cbor_data.specs.Forms.{Form, flat, HasText, meaning, Spells}
 use Rattle.cbor_data.specs.Faults.{Bounds, IsItem}
 use Rattle.cbor_data.specs.Sound.{IsSound}
 use Rattle.cbor_data.proofs.Lemmas.{one_form}
-use Rattle.cbor_machine.specs.Machine.{item, done, steps_in}
-use Rattle.cbor_machine.specs.Reads.{LeadsWithin, Reads}
-use Rattle.cbor_machine.proofs.Lemmas.{item_in}
-use Rattle.cbor_whole.specs.Whole.{IsWholeItem}
+use Rattle.cbor_data.specs.Machine.Machine.{item, done, steps_in}
+use Rattle.cbor_data.specs.Machine.Reads.{LeadsWithin, Reads}
+use Rattle.cbor_data.proofs.OfMachine.Lemmas.{item_in}
+use Rattle.read_items.specs.Whole.Whole.{IsWholeItem}
 use Rattle.cbor_read.specs.Firsts.{IsFirstItem}
 use Rattle.cbor_read.specs.Outcomes.{IsFrontItem, IsSoundButKeys, IsValueOf}
 use Rattle.cbor_read.specs.Turns.{IsWholeTurn}
@@ -23,9 +23,6 @@ pub front_sound : (d : ℕ) (b : List ℕ) (n : ℕ) (x : Value) → d ≤ 256 �
 front_sound d b n x few short h =
     let shallow : depth_of x ≤ d = h.shallow in
     record { shallow = omega arith; short = record { spelling = take n b; spells = h.spells; short = omega (arith, length-take n b) } }
-
-fits : (a d : ℕ) → a ≤ d → nat_le a d ≡ true
-fits a d h = grind (arith, nat_tests)
 
 -- the bounded machine reads a spelling to its end
 spelled_leads : (d : ℕ) (x : Value) (b : List ℕ) → Spells x b → depth_of x ≤ d → steps_in d (item []) b ≡ Some done

@@ -1,11 +1,12 @@
 -- How deep the meaning of a well-formed item is.
 use Rattle.std.proofs.Common.{◌≡◌, ℕ, ◌+◌, ◌≤◌, List, [], ◌++◌, inl, inr, nat_le, cond, Option, Some, None, sym, ap, ◌∙◌, arith, append-nil}
 use Rattle.std.proofs.lemmas.Bool.Decides.{nat_tests}
+use Rattle.lists.proofs.Lemmas.{tested}
 use Rattle.cbor_data.specs.Value.{depth_of}
 use Rattle.cbor_data.specs.Forms.{Form, flat, IsOk, meaning}
-use Rattle.cbor_machine.specs.Machine.{State, item, done, steps_in}
-use Rattle.cbor_machine.specs.Reads.{LeadsWithin}
-use Rattle.cbor_machine.proofs.Lemmas.{tested, item_in}
+use Rattle.cbor_data.specs.Machine.Machine.{State, item, done, steps_in}
+use Rattle.cbor_data.specs.Machine.Reads.{LeadsWithin}
+use Rattle.cbor_data.proofs.OfMachine.Lemmas.{item_in}
 
 -- a form that the bounded machine reads to its end is no deeper
 

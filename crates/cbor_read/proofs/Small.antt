@@ -36,10 +36,6 @@ pub none_is : (s : Option Stop) (r : Bool) → r ≡ is_some s → r ≡ false �
 none_is None r e f = refl
 none_is (Some s) r e f = absurd (cc)
 
-nothing_in : {A : Type 0} (xs : List A) → length xs ≡ 0 → xs ≡ []
-nothing_in [] h = refl
-nothing_in (x ∷ xs) h = absurd (omega (arith, h))
-
 zero_is : (n : ℕ) (r : Bool) → r ≡ (n == 0) → r ≡ true → n ≡ 0
 zero_is n r e f = let g : (n == 0) ≡ true = sym e ∙ f in grind (arith, nat_tests)
 

@@ -7,9 +7,9 @@ use Rattle.cbor_data.specs.Forms.{meaning, IsWellFormed}
 use Rattle.cbor_data.specs.Faults.{Bounds, last_offset, IsItem, IsFaultOf, of_text, of_key}
 use Rattle.cbor_data.specs.declared.FaultKind.{FaultKind}
 use Rattle.cbor_data.specs.declared.FaultKind.TheVariants.{TooDeep, TooLong, Truncated, BadText, DuplicateKey}
-use Rattle.cbor_machine.specs.Machine.{State, item, argument, body, chunk, chunk_argument, chunk_body, simple, done, step, step_in, steps_in, refused_kind}
-use Rattle.cbor_machine.specs.Reads.{Reads}
-use Rattle.cbor_machine.proofs.Lemmas.{bytes-append, steps_in-append, tell_deep, tell_end, tell_form, tell_long, tell_long_end, whole, whole_front}
+use Rattle.cbor_data.specs.Machine.Machine.{State, item, argument, body, chunk, chunk_argument, chunk_body, simple, done, step, step_in, steps_in, refused_kind}
+use Rattle.cbor_data.specs.Machine.Reads.{Reads}
+use Rattle.cbor_data.proofs.OfMachine.Lemmas.{bytes-append, steps_in-append, tell_deep, tell_end, tell_form, tell_long, tell_long_end, whole, whole_front}
 use Rattle.cbor_read.specs.Fronts.{IsFront}
 use Rattle.cbor_read.specs.declared.front.Front.{Front}
 use Rattle.cbor_read.specs.declared.front.Front.TheVariants as front

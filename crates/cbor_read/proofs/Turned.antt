@@ -3,15 +3,15 @@ use Rattle.std.proofs.Common.{◌≡◌, ◌≢◌, ℕ, ◌+◌, ◌<◌, ◌�
 use Rattle.std.proofs.lemmas.List.{take-append-drop}
 use Rattle.cbor_data.specs.Forms.{IsWellFormed}
 use Rattle.cbor_data.specs.Faults.{Bounds, IsClearBefore, IsFaultOf}
-use Rattle.cbor_machine.specs.Machine.{done}
-use Rattle.cbor_machine.specs.Reads.{Reads}
-use Rattle.cbor_machine.proofs.Lemmas.{leads_begins_within, clear, unfinished, whole}
+use Rattle.cbor_data.specs.Machine.Machine.{done}
+use Rattle.cbor_data.specs.Machine.Reads.{Reads}
+use Rattle.cbor_data.proofs.OfMachine.Lemmas.{leads_begins_within, clear, unfinished, whole}
 use Rattle.cbor_read.specs.Reading.{Reading, open_reading}
 use Rattle.cbor_read.specs.Answers.{IsAnswer, IsEnd, IsGoingOn, IsUsedUpTo}
 use Rattle.cbor_read.specs.Outcomes.{IsOfValue, IsWrong}
-use Rattle.cbor_build.specs.Working.{IsInWork}
-use Rattle.cbor_build.specs.declared.work.Work.{Work}
-use Rattle.cbor_build.proofs.Lemmas.{nothing_in_work}
+use Rattle.read_building.specs.Working.{IsInWork}
+use Rattle.read_building.specs.declared.work.Work.{Work}
+use Rattle.read_building.proofs.Lemmas.{nothing_in_work}
 use Rattle.cbor_read.specs.Steps.{IsBegun, IsFaultTurn, IsKept, IsOfForm, IsOpen}
 use Rattle.cbor_read.specs.declared.fault.Fault.{Fault}
 use Rattle.cbor_data.specs.declared.FaultKind.{FaultKind}

@@ -5,11 +5,11 @@ use Rattle.cbor_data.specs.Validity.{IsFirstRepeatedKey}
 use Rattle.cbor_data.specs.Sound.{IsSound}
 use Rattle.cbor_data.specs.Forms.{Form, meaning, IsWellFormed}
 use Rattle.cbor_data.specs.Faults.{Bounds, last_offset, IsItem, of_text, of_key}
-use Rattle.cbor_machine.specs.Machine.{done}
-use Rattle.cbor_machine.specs.Reads.{Reads}
-use Rattle.cbor_machine.proofs.Lemmas.{whole, whole_front}
-use Rattle.cbor_build.specs.Builds.{Notes}
-use Rattle.cbor_build.proofs.Lemmas.{noted}
+use Rattle.cbor_data.specs.Machine.Machine.{done}
+use Rattle.cbor_data.specs.Machine.Reads.{Reads}
+use Rattle.cbor_data.proofs.OfMachine.Lemmas.{whole, whole_front}
+use Rattle.read_building.specs.Builds.{Notes}
+use Rattle.read_building.proofs.Lemmas.{noted}
 use Rattle.cbor_read.specs.Outcomes.{IsOutcome, IsSettled, IsSoundButKeys, IsValueOf, IsWrong}
 use Rattle.cbor_data.specs.declared.FaultKind.TheVariants.{BadText, DuplicateKey}
 use Rattle.cbor_read.specs.declared.value.Outcome.{Outcome}

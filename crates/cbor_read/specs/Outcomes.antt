@@ -5,8 +5,8 @@ use Rattle.cbor_data.specs.Validity.{IsFirstRepeatedKey}
 use Rattle.cbor_data.specs.Sound.{IsSound, HasShortSpelling}
 use Rattle.cbor_data.specs.Forms.{Form, flat, IsOk, HasText, meaning}
 use Rattle.cbor_data.specs.Faults.{Bounds, IsItem, IsFaultOf}
-use Rattle.cbor_machine.specs.Machine.{done}
-use Rattle.cbor_machine.specs.Reads.{LeadsWithin, Reads}
+use Rattle.cbor_data.specs.Machine.Machine.{done}
+use Rattle.cbor_data.specs.Machine.Reads.{LeadsWithin, Reads}
 use Rattle.cbor_read.specs.declared.fault.Fault as declared
 use Rattle.cbor_data.specs.declared.FaultKind.{FaultKind}
 use Rattle.cbor_data.specs.declared.FaultKind.TheVariants.{BadText, DuplicateKey}

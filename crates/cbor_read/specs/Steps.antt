@@ -2,13 +2,13 @@
 use Rattle.std.specs.Prelude.{◌≡◌, ◌≢◌, ℕ, ◌+◌, ◌<◌, ◌≤◌, ◌⊎◌, List, [], ◌++◌, length, take}
 use Rattle.cbor_data.specs.Value.{Value}
 use Rattle.cbor_data.specs.Faults.{Bounds, last_offset, IsFaultOf}
-use Rattle.cbor_item.specs.View.{view}
-use Rattle.cbor_machine.specs.Machine.{State, done}
-use Rattle.cbor_machine.specs.Reads.{Reads}
-use Rattle.cbor_build.specs.Working.{IsInWork}
-use Rattle.cbor_build.specs.declared.work.Step.{Step}
-use Rattle.cbor_build.specs.declared.work.Step.TheVariants as steps
-use Rattle.cbor_build.specs.declared.work.Work.{Work}
+use Rattle.item_nodes.specs.View.{view}
+use Rattle.cbor_data.specs.Machine.Machine.{State, done}
+use Rattle.cbor_data.specs.Machine.Reads.{Reads}
+use Rattle.read_building.specs.Working.{IsInWork}
+use Rattle.read_building.specs.declared.work.Step.{Step}
+use Rattle.read_building.specs.declared.work.Step.TheVariants as steps
+use Rattle.read_building.specs.declared.work.Work.{Work}
 use Rattle.cbor_read.specs.Reading.{Reading, open_reading}
 use Rattle.cbor_read.specs.Answers.{IsUsedUpTo}
 use Rattle.cbor_read.specs.Outcomes.{IsSoundButKeys, IsValueOf}

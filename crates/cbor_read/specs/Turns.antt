@@ -2,8 +2,8 @@
 use Rattle.std.specs.Prelude.{◌≡◌, ℕ, ◌<◌, ◌≤◌, List, [], ◌++◌, length, take}
 use Rattle.cbor_data.specs.Value.{Value}
 use Rattle.cbor_data.specs.Faults.{Bounds, IsItem}
-use Rattle.cbor_build.specs.Working.{IsInWork}
-use Rattle.cbor_build.specs.declared.work.Work.{Work}
+use Rattle.read_building.specs.Working.{IsInWork}
+use Rattle.read_building.specs.declared.work.Work.{Work}
 use Rattle.cbor_read.specs.Reading.{Reading}
 use Rattle.cbor_read.specs.Steps.{IsBegun, IsFaultTurn}
 use Rattle.cbor_read.specs.declared.reader.Fed.{Fed}

@@ -1,4 +1,4 @@
-// What bytes hold that are to be items again.
+//! What bytes hold that are to be items again.
 ghost use Rattle.std.specs.Prelude.{IfOk, IfSome, IfNone, MatchOption};
 ghost use Rattle.cbor_data.specs.Value.{Value, Values, values_of};
 ghost use Rattle.cbor_data.specs.Embedded.{Embeds, EmbedsAll};
@@ -6,8 +6,8 @@ ghost use Rattle.cbor_read.specs.Firsts.{IsFirst};
 
 use crate::limits::MOST_DEPTH;
 use crate::value::{Outcome, front_item, sound_of};
-use cbor_build::{Step, Work};
 use cbor_item::Sound;
+use read_building::{Step, Work};
 use std::alloc::{AllocError, Global};
 
 /// The items of which `bytes` are spellings, one after the other (RFC 8949 section 3, RFC 8742), as those that the

@@ -1,4 +1,4 @@
-// What a reader tells where it stops.
+//! What a reader tells where it stops.
 use cbor_data::FaultKind;
 
 // The kind is first: it lies where an item has its kind in an answer that holds the one or the other. Behind the offset it

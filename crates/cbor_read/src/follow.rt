@@ -1,4 +1,4 @@
-// Follows an item through a piece, within the limits.
+//! Follows an item through a piece, within the limits.
 ghost use Rattle.std.specs.Prelude.{◌≡◌, ℕ, ◌+◌, ◌-◌, ◌^◌, ◌<◌, ◌≤◌, List, min, take, IfOk, length};
 ghost use Rattle.cbor_data.specs.Faults.{IsFaultOf};
 ghost use Rattle.cbor_read.specs.Steps.{IsBegun, IsFollowed, IsKept, IsOpen, IsToldPast, kind_past_of};
@@ -7,10 +7,10 @@ ghost use Rattle.cbor_read.specs.declared.follow.Advance.TheVariants as advance;
 
 use crate::fault::Fault;
 use crate::limits::Limits;
-use cbor_build::{Step, Work};
 use cbor_data::FaultKind;
 use cbor_item::Item;
 use history::History;
+use read_building::{Step, Work};
 use std::alloc::AllocError;
 
 /// Where an item goes in a piece.

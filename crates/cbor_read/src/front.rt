@@ -1,4 +1,4 @@
-// The plain reader over a whole list of bytes.
+//! The plain reader over a whole list of bytes.
 ghost use Rattle.std.specs.Prelude.{IfOk};
 ghost use Rattle.cbor_read.specs.Fronts.{IsFront};
 
@@ -6,9 +6,9 @@ use crate::fault::Fault;
 use crate::follow::{Advance, fault_at_end, follow};
 use crate::limits::Limits;
 use crate::value::{Outcome, sound_of};
-use cbor_build::Work;
 use cbor_item::Sound;
 use history::History;
+use read_building::Work;
 use std::alloc::{AllocError, Global};
 
 /// What is at the front of the rest of a stream.

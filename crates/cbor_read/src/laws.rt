@@ -11,7 +11,7 @@ ghost use Rattle.cbor_read.specs.declared.front.Front.{Front};
 pub fn one_fault()
     ensures { (l : Bounds) (o : ℕ) (b : List ℕ) (j k : FaultKind) (at to : ℕ) → AreBytes b → IsFaultOf l o b j at → IsFaultOf l o b k to → (j ≡ k) × (at ≡ to) }
 {
-    cbor_machine::one_fault();
+    cbor_data::machine::one_fault();
 }
 
 /// The bytes of a rest, however many they are, are none, or begin with an item within the bounds, or have a fault. It does

@@ -1,3 +1,4 @@
+//! The limits of the items that a reader takes: the greatest depth, and the most bytes.
 ghost use Rattle.std.specs.Prelude.{◌≡◌, ◌≤◌, ◌⊎◌, ◌<◌, IfSome, IfNone};
 
 use std::marker::Model;

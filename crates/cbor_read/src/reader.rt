@@ -1,4 +1,4 @@
-// Reads items from pieces.
+//! Reads items from pieces.
 ghost use Rattle.std.specs.Prelude.{◌≡◌, ◌↔◌, [], None, IfNone, IfOk, IfSome, IsSome};
 ghost use Rattle.cbor_read.specs.Answers.{IsAgain, IsAnswer, IsEnd, IsSmallNext, IsSmallTaken};
 ghost use Rattle.cbor_read.specs.Reading.{open_reading};
@@ -9,9 +9,9 @@ use crate::fault::{Fault, Stop};
 use crate::follow::{Advance, fault_at_end, follow, front_of, room_of};
 use crate::limits::Limits;
 use crate::value::{Outcome, front_item, sound_of};
-use cbor_build::Work;
 use cbor_item::Sound;
 use history::History;
+use read_building::Work;
 use std::alloc::{AllocError, Global};
 use std::marker::Model;
 

@@ -1,12 +1,12 @@
-// The value of a whole item.
+//! The value of a whole item.
 ghost use Rattle.std.specs.Prelude.{◌≤◌, IfOk, IfSome};
-ghost use Rattle.cbor_item.specs.View.{view};
+ghost use Rattle.item_nodes.specs.View.{view};
 ghost use Rattle.cbor_read.specs.Outcomes.{IsFrontItem, IsSettled, IsSoundButKeys};
 
 use crate::fault::Fault;
 use cbor_data::FaultKind;
 use cbor_item::{Item, Sound, Unsound};
-use cbor_whole::whole_item;
+use read_items::whole::whole_item;
 use std::alloc::{AllocError, Global};
 
 /// What the bytes of a whole item come to.

@@ -1,7 +1,7 @@
-// What pieces lead to, however they are cut.
+//! What pieces lead to, however they are cut.
 use crate::rows::{byte_by_byte, bytes_of, expect_text, told_of};
 use cbor_data::FaultKind;
-use cbor_form::{FormReader, Progress};
+use read_items::form::{FormReader, Progress};
 use std::alloc::{AllocError, Global};
 use std::process::Abort;
 use std::test::Fail;

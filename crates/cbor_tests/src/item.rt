@@ -1,3 +1,4 @@
+//! Tests of items: their bytes and diagnostic notation, their equality, what is unsound in them, and devices that fail.
 use crate::rows::{bytes_of, expect_text, item_of_bytes, item_of_row, new_box, told_of};
 use cbor_item::{Counted, Item, Sound, Unsound, Width, WriteFault, diag, write_bytes, write_item};
 use std::alloc::{AllocError, Global};

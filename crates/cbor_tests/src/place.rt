@@ -1,7 +1,6 @@
-// Places of items, and the paths to them.
+//! Places of items, and the paths to them.
 use crate::rows::{expect_text, item_of_bytes, new_box};
-use cbor_item::{Item, diag};
-use cbor_place::{item_at, path_text};
+use cbor_item::{Item, diag, item_at, path_text};
 use std::alloc::{AllocError, Global};
 use std::process::Abort;
 use std::test::Fail;

@@ -1,4 +1,4 @@
-// What is read of whole streams, by pieces and by the plain reader.
+//! What is read of whole streams, by pieces and by the plain reader.
 use crate::rows::{byte_by_byte, bytes_of, expect_text, nested_arrays, told_of};
 use cbor_item::{Sound, diag};
 use cbor_read::{Fault, FaultKind, Fed, Front, ItemReader, Limits, Stop, read_front};

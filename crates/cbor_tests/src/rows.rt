@@ -1,4 +1,4 @@
-// Rows of tables, and the pieces that streams come in.
+//! Rows of tables, and the pieces that streams come in.
 use cbor_item::{Item, Sound};
 use cbor_read::{Front, Limits, read_front};
 use hex::FromHexError;

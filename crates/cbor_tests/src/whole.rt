@@ -1,9 +1,9 @@
-// Items that are whole in their bytes: the one at the front, in one pass, and those that bytes hold that are to be items
-// again.
+//! Items that are whole in their bytes: the one at the front, in one pass, and those that bytes hold that are to be items
+//! again.
 use crate::rows::{bytes_of, expect_text, nested_arrays, told_of};
 use cbor_item::{Sound, diag};
 use cbor_read::{Front, Limits, embedded, embedded_item, read_front};
-use cbor_whole::whole_item;
+use read_items::whole::whole_item;
 use std::alloc::{AllocError, Global};
 use std::process::Abort;
 use std::test::Fail;

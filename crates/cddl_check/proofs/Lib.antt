@@ -1,5 +1,5 @@
-pub mod Clear
-pub mod Firsts
-pub mod Refusing
-pub mod Rooting
-pub mod Staging
+pub mod Handing
+pub mod Leaves
+pub mod Lengths
+pub mod Roots
+pub mod Telling

@@ -1,2 +1,4 @@
-pub mod Codes
-pub mod First
+pub mod Outcome
+pub mod Stages
+pub mod Text
+pub mod Told

@@ -1,9 +1,19 @@
-//! What is wrong with a specification's text, and where: of the lowest code that stands anywhere, the least offset.
+//! Reads a specification in CDDL (RFC 8610): its text, its tree, and all stages from the tree to a table, or what is wrong.
 #![tactic(auto)]
 
-mod fault;
-pub mod laws;
+mod closing;
+mod faults;
+mod finding;
+mod mapping;
+mod outcome;
+mod questioning;
+mod reading;
+mod specification;
+mod splicing;
+mod tabling;
 mod text;
+mod unread;
 
-pub use crate::fault::Fault;
-pub use crate::text::text_fault;
+pub use crate::outcome::{Outcome, compile};
+pub use crate::specification::read_specification;
+pub use crate::unread::Unread;

@@ -5,15 +5,16 @@ use Rattle.std.proofs.lemmas.List.Elements.{Contains-get_or}
 use Rattle.cddl_token.specs.declared.Token.{Token}
 use Rattle.cddl_token.specs.declared.Code.{Code}
 use Rattle.cddl_token.specs.declared.Code.TheVariants as C
-use Rattle.cddl_syntax.specs.Syntax as S
+use Rattle.tree_nodes.specs.Syntax.Syntax as S
 use Rattle.std.proofs.lemmas.Bool.{false≢true}
+use Rattle.lists.proofs.Lemmas.{no_some as none_is_some, same_some, some_none as some_is_none}
 use Rattle.cddl_language.proofs.After.{free_first, in_one}
 use Rattle.cddl_language.proofs.Alone as A
 use Rattle.cddl_language.proofs.Alone.{in_type}
-use Rattle.cddl_language.proofs.Basics.{some_is_none, none_is_some, same_some, cons_is_nil, beyond_two, only}
+use Rattle.cddl_language.proofs.Basics.{cons_is_nil, beyond_two, only}
 use Rattle.cddl_language.specs.Numbers.{least_of, most_of}
 use Rattle.cddl_language.specs.Terms as M
-use Rattle.cddl_language.specs.Terms.{Text, Term, named, array_of, Ref, call, no_terms, Group, Entries, no_entries, entries, typed, Definition, name_of, alternatives, lone}
+use Rattle.cddl_language.specs.Terms.{Text, Term, named, array_of, Ref, call, no_terms, Group, no_entries, entries, typed, Definition, alternatives, lone}
 use Rattle.cddl_language.specs.Prelude.{prelude}
 use Rattle.cddl_language.specs.Reading.{definition_of, occurrence, name_in, parameter_tokens, parameters_in, rule_head}
 use Rattle.cddl_language.specs.Environment.{definitions_of}
@@ -26,7 +27,7 @@ use Rattle.cddl_language.specs.Free.{IsFree, IsFreeInSome, IsFreeInChoice, Leads
 use Rattle.cddl_language.specs.Sites.{Site, a_name, an_unwrapping, a_choice_of, a_choice_of_name, a_hash, an_operation, an_entry, a_map, sites, outer_sites, ref_at_site, ref_name, arguments, IsReached, in_body, in_argument, IsUsed, used}
 use Rattle.cddl_language.specs.MapFaults.{HasMapShape, HasNoKey, HasTooManyAlternatives, IsSpliced, comes_back, occurs_badly, of_map, of_name, of_opened, of_parens}
 use Rattle.cddl_language.specs.Faults as F
-use Rattle.cddl_language.specs.Faults.{IsFaultAt, IsAccepted, parameter_count, first_equals, first_rule, rules, HasSite, HasName}
+use Rattle.cddl_language.specs.Faults.{IsFaultAt, IsAccepted, parameter_count, first_equals, first_rule, HasSite, HasName}
 use Rattle.cddl_language.specs.Texts as T
 
 -- the rule, its definition, the reference in it, and what stands there

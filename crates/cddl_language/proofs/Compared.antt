@@ -1,7 +1,8 @@
 -- What comparisons with a literal say.
 use Rattle.std.specs.Prelude.{◌↔◌, ◌≢◌, not}
-use Rattle.std.proofs.Common.{◌≡◌, ℕ, suc, Bool, true, false, ◌&&◌, ◌==◌, List, [], ◌∷◌, Option, Some, None, refl, sym, ap, ap₂, subst, arith}
+use Rattle.std.proofs.Common.{◌≡◌, ℕ, suc, Bool, true, false, ◌==◌, List, [], ◌∷◌, Option, Some, None, refl, sym, ap, ap₂, subst, arith}
 use Rattle.std.proofs.lemmas.Bool.Decides.{nat_tests}
+use Rattle.lists.proofs.Lemmas.{both as both_so}
 use Rattle.cbor_data.specs.Same.{same_list, same_value}
 use Rattle.cbor_data.specs.Value.{Value, uint, nint, bytes, text}
 use Rattle.cbor_data.proofs.Lemmas.{same_value-laws}
@@ -14,10 +15,6 @@ use Rattle.cddl_language.specs.Literals.{Values, item_of, literal_of}
 use Rattle.cddl_language.specs.Terms.{Definition, Term, Text, control}
 
 -- The test of a literal's value is passed by that value alone.
-
-both_so : (a b : Bool) → (a && b) ≡ true → (a ≡ true) × (b ≡ true)
-both_so true b e = (refl, e)
-both_so false b e = absurd (cc)
 
 number : (m n : ℕ) → (m == n) ≡ true → m ≡ n
 number m n e = grind (arith, nat_tests)

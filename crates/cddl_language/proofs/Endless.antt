@@ -1,8 +1,8 @@
 -- `r = a<int>` and `a<t> = [t, ? a<[t]>]` have endless instances.
 use Rattle.std.specs.Prelude.{◌≡◌, ◌≢◌, ℕ, zero, suc, ◌<◌, ◌-◌, length, List, [], ◌∷◌, ◌++◌, slice_index_or, Contains, AllPairs, None, codes}
 use Rattle.std.proofs.Common.{refl, sym, ap, subst, arith}
+use Rattle.lists.proofs.Lemmas.{beyond_zero as below_zero}
 use Rattle.cddl_token.specs.declared.Code.TheVariants as C
-use Rattle.cddl_language.proofs.Basics.{below_zero}
 use Rattle.cddl_language.specs.Terms.{Term, array_of, Ref, call, no_terms, term, sole, entries, no_entries, typed}
 use Rattle.cddl_language.specs.Prelude.{prelude}
 use Rattle.cddl_language.specs.Reach.{Point, Reaches, at_root, onward, at_name, points, points_in}

@@ -1,7 +1,7 @@
 -- Ways through more names come to the same.
 use Rattle.std.specs.Prelude.{◌≡◌, ℕ, zero, suc, List, [], ◌∷◌, Option, Some, None, Bool, true, false, if◌then◌else◌, not, ◌&&◌}
 use Rattle.std.proofs.lemmas.Bool.{false≢true}
-use Rattle.cddl_language.proofs.Basics.{none_is_some}
+use Rattle.lists.proofs.Lemmas.{no_some as none_is_some}
 use Rattle.cddl_language.specs.Terms.{Text, Term, named, map_of, array_of, unwrapped, tagged, tagged_by, Ref, call, Body, of_types, of_entry, Definition, Sign, is, type_or, group_or, stripped, term_list, name_of}
 use Rattle.cddl_language.specs.Environment.{is_in, definitions_of, named_so, is_socket, is_group_socket, is_in_prelude}
 use Rattle.cddl_language.specs.Substitution.{fill_ref}

@@ -25,3 +25,5 @@ pub mod Sized
 pub mod Tables
 pub mod ThroughGroup
 pub mod Values
+pub mod OfLive
+mod OfWritten

@@ -3,7 +3,7 @@ use Rattle.std.specs.Prelude.{codes, [], None, unwrap_or}
 use Rattle.std.proofs.Common.{inl, refl, arith}
 use Rattle.cddl_token.specs.declared.Kind.TheVariants as K
 use Rattle.cddl_literal.specs.Numbers.{digit_value}
-use Rattle.cddl_syntax.specs.Syntax as S
+use Rattle.tree_nodes.specs.Syntax.Syntax as S
 use Rattle.cddl_language.specs.Prelude.{prelude}
 use Rattle.cddl_language.specs.Reach.{at_root}
 use Rattle.cddl_language.specs.Reading.{definitions_in, group_of, rules_of}

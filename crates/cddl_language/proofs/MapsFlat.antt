@@ -3,8 +3,9 @@ use Rattle.std.specs.Prelude.{◌≡◌, ℕ, zero, suc, ◌<◌, ◌≤◌, Boo
 use Rattle.std.proofs.Common.{inl, inr, refl, sym, ap, ◌∙◌, subst, arith}
 use Rattle.std.proofs.lemmas.List.{append-nil, append_assoc}
 use Rattle.std.proofs.lemmas.List.Elements.{Contains-append_cases}
+use Rattle.lists.proofs.Lemmas.{no_some as none_is_some, same_some, some_none as some_is_none}
 use Rattle.cddl_meaning.specs.Forms.{Most, at_most, any_number_of}
-use Rattle.cddl_language.proofs.Basics.{none_in, none_is_some, only, same_some, some_is_none}
+use Rattle.cddl_language.proofs.Basics.{none_in, only}
 use Rattle.cddl_language.specs.Numbers.{least_of, most_of}
 use Rattle.cddl_language.specs.Terms.{Text, Term, named, unwrapped, Group, sole, orelse, Entries, no_entries, entries, Entry, typed, keyed, grouped, Definition, alternatives, entry_list, stripped, name_of, occurrence_of}
 use Rattle.cddl_language.specs.Substitution.{group_choices}

@@ -2,7 +2,8 @@
 use Rattle.std.specs.Prelude.{◌≡◌, ℕ, zero, suc, ◌≤◌, ◌⊎◌, List, [], ◌∷◌, ◌++◌, Contains, Option, Some, None}
 use Rattle.std.proofs.Common.{inl, inr, refl, sym, ap, ◌∙◌, arith}
 use Rattle.std.proofs.lemmas.List.Elements.{Contains-append_cases, Contains-append_left, Contains-append_right, Contains-push}
-use Rattle.cddl_language.proofs.Basics.{none_in, none_is_some, some_is_none}
+use Rattle.lists.proofs.Lemmas.{no_some as none_is_some, some_none as some_is_none}
+use Rattle.cddl_language.proofs.Basics.{none_in}
 use Rattle.cddl_language.proofs.MapsFlat.{group_each, more_names}
 use Rattle.cddl_language.specs.Terms.{Text, Term, Group, sole, orelse, Entries, no_entries, entries, Entry, typed, keyed, grouped, Definition, alternatives, entry_list}
 use Rattle.cddl_language.specs.Substitution.{group_choices}

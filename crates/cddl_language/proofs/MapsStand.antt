@@ -5,9 +5,10 @@ use Rattle.std.specs.Cmp.Lexicographic.{same_text}
 use Rattle.std.proofs.Common.{inl, inr, refl, sym, ap, subst, ◌∙◌, arith, true≢false}
 use Rattle.std.proofs.lemmas.Bool.Decides.{eqb_tells}
 use Rattle.std.proofs.lemmas.List.Elements.{Contains-append_cases, Contains-append_left, Contains-append_right, Contains-push}
+use Rattle.lists.proofs.Lemmas.{later, no_some as none_is_some, same_some}
 use Rattle.cddl_token.specs.declared.Token.{Token}
-use Rattle.cddl_syntax.specs.Syntax as S
-use Rattle.cddl_language.proofs.Basics.{none_in, none_is_some, only, same_some}
+use Rattle.tree_nodes.specs.Syntax.Syntax as S
+use Rattle.cddl_language.proofs.Basics.{none_in, only}
 use Rattle.cddl_language.specs.Terms.{Text, Term, named, map_of, array_of, unwrapped, tagged, tagged_by, Ref, call, Group, Entries, Entry, Body, of_types, of_entry, Definition, alternatives, entry_list, stripped, name_of, arguments_of, term_list, lone}
 use Rattle.cddl_language.specs.Prelude.{prelude}
 use Rattle.cddl_language.specs.Environment.{is_same, is_in, is_equals, named_so, has_equals, counting, from_prelude, definitions_of, has_any, is_in_prelude, is_socket, is_group_socket, most_names}
@@ -27,9 +28,6 @@ first_or_later x xs y c = by (Contains-append_cases (x ∷ []) xs y c)
     by : Contains (x ∷ []) y ⊎ Contains xs y → (y ≡ x) ⊎ Contains xs y
     by (inl h) = inl (only h)
     by (inr h) = inr h
-
-later : {A : Type 0} (x : A) (xs : List A) (y : A) → Contains xs y → Contains (x ∷ xs) y
-later x xs y c = Contains-append_right (x ∷ []) xs y c
 
 -- an entry of the first choices, or of the last
 either : (ess fss : List Entries) (e : Entry) → Contains (F.entries_of (ess ++ fss)) e → Contains (F.entries_of ess) e ⊎ Contains (F.entries_of fss) e

@@ -4,6 +4,7 @@ use Rattle.std.proofs.Common.{◌≡◌, ℕ, zero, suc, ◌<◌, ◌≤◌, Lis
 use Rattle.std.specs.List.{Contains}
 use Rattle.std.proofs.Math.Nat.{pow-le-pow_right}
 use Rattle.std.proofs.lemmas.Bool.Decides.{nat_tests}
+use Rattle.lists.proofs.Lemmas.{either_true as one_of, or_right as right_so}
 use Rattle.cddl_language.proofs.Basics.{none_in}
 use Rattle.cddl_meaning.specs.Forms.{fits_in, is_member}
 
@@ -17,17 +18,9 @@ first_or_further : (r q : ℕ × ℕ) (rs : List (ℕ × ℕ)) → Contains (r �
 first_or_further r q rs (zero, l, e) = inl e
 first_or_further r q rs (suc k, l, e) = inr (k, omega (arith, l), e)
 
-one_of : (a b : Bool) → (a || b) ≡ true → (a ≡ true) ⊎ (b ≡ true)
-one_of true b e = inl refl
-one_of false b e = inr e
-
 left_so : (a b : Bool) → a ≡ true → (a || b) ≡ true
 left_so true b e = refl
 left_so false b e = absurd (cc)
-
-right_so : (a b : Bool) → b ≡ true → (a || b) ≡ true
-right_so true b e = refl
-right_so false b e = e
 
 within : (a b n : ℕ) → (nat_le a n && nat_le n b) ≡ true → (a ≤ n) × (n ≤ b)
 within a b n e = grind (arith, nat_tests)

@@ -3,7 +3,7 @@ use Rattle.std.specs.Prelude.{◌≡◌, ◌≢◌, zero, suc, List, [], ◌∷�
 use Rattle.std.specs.Cmp.Lexicographic.{other_text}
 use Rattle.std.proofs.Common.{refl, sym, ap, ◌∙◌, subst, arith, inl, inr}
 use Rattle.cddl_token.specs.declared.Code.TheVariants.{Recursion}
-use Rattle.cddl_syntax.specs.Syntax as S
+use Rattle.tree_nodes.specs.Syntax.Syntax as S
 use Rattle.cddl_language.proofs.Basics.{none_in}
 use Rattle.cddl_language.specs.Terms.{Text, Definition, name_of}
 use Rattle.cddl_language.specs.Reading.{name_in, name_at}

@@ -1,16 +1,17 @@
 -- The numbers that are read in texts are those that the texts spell.
 use Rattle.std.proofs.Common.{◌≡◌, ◌≢◌, ℕ, zero, suc, ◌+◌, ◌-◌, ◌<◌, ◌≤◌, ◌⊎◌, inl, inr, Bool, true, false, if◌then◌else◌, List, [], ◌∷◌, take, drop, length, get_or, slice_index, refl, sym, ap, ◌∙◌, subst, arith, add-one, drop-cons, length-drop}
-use Rattle.std.specs.Prelude.{slice_range, nat_eq}
+use Rattle.std.specs.Prelude.{slice_range}
 use Rattle.std.proofs.Math.Seq.{take-length}
 use Rattle.std.proofs.lemmas.List.{take_all, drop_all, get_or-drop, get_or_past}
 use Rattle.std.proofs.lemmas.Bool.{cases_lt, false≢true}
 use Rattle.std.proofs.lemmas.Bool.Decides.{nat_tests}
+use Rattle.lists.proofs.Lemmas.{beyond_zero as below_zero, test_equal as same_byte, unequal_number as other_byte}
 use Rattle.hex.specs.Hex.{is_hex_digit}
 use Rattle.cddl_literal.specs.Bytes.{IsAt, IsRun, is_decimal_digit, is_binary_digit, is_x, is_b}
 use Rattle.cddl_literal.specs.Numbers.{number_after, IsUint, decimal, hexadecimal, binary}
 use Rattle.cddl_token.specs.Numbers.{IsBound, IsStar, IsHashNumber, IsTagNumberOpen}
 use Rattle.cddl_meaning.specs.Forms.{at_most, any_number_of, exactly}
-use Rattle.cddl_language.proofs.Basics.{below_zero, beyond_one, beyond_two}
+use Rattle.cddl_language.proofs.Basics.{beyond_one, beyond_two}
 use Rattle.cddl_language.specs.Terms.{Text}
 use Rattle.cddl_language.specs.Numbers.{before, after, uint_in, is_byte, least_in, most_behind, most_in, number_or_any, tag_number, numbered, numbered_or_not, hash_form}
 
@@ -79,12 +80,6 @@ uint_is s n h = ap uint_in (sym whole) ∙ uint_part s 0 (length s) n (omega ari
     whole = let all : length s - 0 ≡ length s = omega arith in ap (λ k. take k s) all ∙ take-length s
 
 -- A text in two, at the first byte of a sort.
-
-other_byte : (x c : ℕ) → x ≢ c → nat_eq x c ≡ false
-other_byte x c h = grind (arith, nat_tests)
-
-same_byte : (x c : ℕ) → x ≡ c → nat_eq x c ≡ true
-same_byte x c h = grind (arith, nat_tests)
 
 before_first : (c : ℕ) (s : List ℕ) (k : ℕ) → k < length s → slice_index s k ≡ c → ((i : ℕ) → i < k → slice_index s i ≢ c) → before c s ≡ take k s
 before_first c [] k h e f = absurd (below_zero k h)

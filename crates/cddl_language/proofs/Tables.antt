@@ -17,7 +17,7 @@ use Rattle.cddl_language.specs.Prelude.{prelude}
 use Rattle.cddl_language.specs.Substitution.{type_choices}
 use Rattle.cddl_language.specs.Reach.{Point, Reaches, at_root, onward, points_in}
 use Rattle.cddl_language.specs.StandsFor.{StandsFor, HasNode, of_type}
-use Rattle.cddl_ranks.specs.Ranked.{Name, a_type, a_group, IsFree, in_type, in_group, member, alternative}
+use Rattle.cddl_meaning.specs.Ranks.Ranked.{Name, a_type, a_group, IsFree, in_type, in_group, member, alternative}
 
 module _ (worth : Values) (ds : List Definition) (root : Text) (l : Language ℕ ℕ) (top : ℕ) (rank : Name ℕ ℕ → ℕ) (ranks : ℕ) (table : StandsFor worth ds root l top rank ranks) where
   pub says : (p w : ℕ) (x : Value) (a : Answer) → Says (language worth ds) (type_node worth ds (reference (call root no_terms))) p x a w → Says l (l.type_at top) p x a w

@@ -2,11 +2,12 @@
 use Rattle.std.specs.Prelude.{◌≡◌, ◌⊎◌, ℕ, ◌<◌, List, slice_index_or, [], ◌∷◌, Contains, Option, Some, None, true, false, codes}
 use Rattle.std.proofs.Common.{refl, sym, ap, ◌∙◌, subst, arith, inl, inr}
 use Rattle.std.proofs.lemmas.Bool.{false≢true}
+use Rattle.lists.proofs.Lemmas.{no_some as none_is_some, same_some}
 use Rattle.cddl_token.specs.declared.Code.TheVariants as C
-use Rattle.cddl_syntax.specs.Syntax as S
-use Rattle.cddl_language.proofs.Basics.{only, none_is_some, same_some}
+use Rattle.tree_nodes.specs.Syntax.Syntax as S
+use Rattle.cddl_language.proofs.Basics.{only}
 use Rattle.cddl_language.specs.Terms as M
-use Rattle.cddl_language.specs.Terms.{Term, named, choice_of, Ref, call, no_terms, Group, Entries, no_entries, entries, typed, keyed, bareword, Definition, name_of, alternatives}
+use Rattle.cddl_language.specs.Terms.{named, choice_of, Ref, call, no_terms, Entries, no_entries, entries, typed, keyed, bareword, Definition, name_of}
 use Rattle.cddl_language.specs.Prelude.{prelude}
 use Rattle.cddl_language.specs.Reading.{name_at}
 use Rattle.cddl_language.specs.Substitution.{type_choices, group_choices}
@@ -14,7 +15,7 @@ use Rattle.cddl_language.specs.Kinds.{Opened, Part, asks_type, names_group, open
 use Rattle.cddl_language.specs.Reach.{Reaches, at_root, onward, Point, ref_at, is_reference, at_name, at_choice, at_chosen_name, points_in}
 use Rattle.cddl_language.specs.Literals.{Values}
 use Rattle.cddl_language.specs.Free as R
-use Rattle.cddl_language.specs.Free.{IsFree, IsFreeInSome, IsFreeInEach, IsFreeInEntry, IsFreeInChoice, LeadsTo, LeadsOn, LeadsBack, IsOnCycle}
+use Rattle.cddl_language.specs.Free.{IsFree, IsFreeInSome, IsFreeInEntry, IsFreeInChoice, LeadsTo, LeadsOn, LeadsBack, IsOnCycle}
 use Rattle.cddl_language.specs.Faults.{IsFaultAt, definitions, first_rule, rules}
 use Rattle.cddl_language.specs.Texts as T
 

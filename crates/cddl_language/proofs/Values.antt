@@ -9,9 +9,10 @@ use Rattle.cddl_token.specs.Spelling.{Good, Spells}
 use Rattle.cddl_token.specs.declared.Kind.{Kind}
 use Rattle.cddl_token.specs.declared.Kind.TheVariants as K
 use Rattle.cddl_token.specs.declared.Token.{Token}
-use Rattle.cddl_syntax.specs.Syntax as S
+use Rattle.tree_nodes.specs.Syntax.Syntax as S
 use Rattle.std.proofs.lemmas.Bool.{false≢true}
-use Rattle.cddl_language.proofs.Basics.{none_in, none_is_some, same_some}
+use Rattle.lists.proofs.Lemmas.{no_some as none_is_some, same_some}
+use Rattle.cddl_language.proofs.Basics.{none_in}
 use Rattle.cddl_language.specs.Terms.{Literal, number, text, bytes}
 use Rattle.cddl_language.specs.Environment.{is_same}
 use Rattle.cddl_language.specs.Literals.{Means, Values, written, Holds, AreTokens, AreRight}

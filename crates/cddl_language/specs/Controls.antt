@@ -1,8 +1,8 @@
 -- The controls by their names, given without the `.` (RFC 8610 section 3.8; RFC 9165): the type on the left of a control is
 -- asked of an item first, and the controller on its right as the name says.
 use Rattle.std.specs.Prelude.{Bool, true, false, if◌then◌else◌, List, [], ◌∷◌, Option, Some, None, codes}
-use Rattle.cddl_operators.specs.declared.Joining.{Joining}
-use Rattle.cddl_operators.specs.declared.Joining.TheVariants.{AsTheyAre, Dedented}
+use Rattle.cddl_literal.specs.declared.operators.Joining.{Joining}
+use Rattle.cddl_literal.specs.declared.operators.Joining.TheVariants.{AsTheyAre, Dedented}
 use Rattle.cddl_language.specs.Terms.{Text}
 use Rattle.cddl_language.specs.Environment.{is_in}
 

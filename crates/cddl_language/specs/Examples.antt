@@ -8,7 +8,7 @@ use Rattle.cddl_language.specs.Literals.{Values}
 use Rattle.cddl_language.specs.Maps.{Member}
 use Rattle.cddl_language.specs.Numbers.{uint_in}
 use Rattle.cddl_language.specs.Prelude.{definition, plain}
-use Rattle.cddl_ranks.specs.Ranked.{Name, a_type}
+use Rattle.cddl_meaning.specs.Ranks.Ranked.{Name, a_type}
 
 abbrev pub a_ref : Text → Ref
 a_ref n = call n no_terms

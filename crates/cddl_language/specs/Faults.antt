@@ -4,16 +4,16 @@ use Rattle.std.specs.Prelude.{◌≡◌, ◌≢◌, ℕ, ◌<◌, ◌≤◌, ◌
 use Rattle.cddl_token.specs.declared.Token.{Token}
 use Rattle.cddl_token.specs.declared.Code.{Code}
 use Rattle.cddl_token.specs.declared.Code.TheVariants.{Duplicate, KindClash, Undefined, Arity, NoRoot, BadRoot, GroupAsType, HashForm, UnknownControl, TooManyInstances, NotUnwrappable, Recursion, NotLiteral, BadRange, BadController, NoKey, MapShape, TooManyAlternatives}
-use Rattle.cddl_syntax.specs.Syntax as S
+use Rattle.tree_nodes.specs.Syntax.Syntax as S
 use Rattle.cddl_meaning.specs.Forms.{Most, at_most, any_number_of}
 use Rattle.cddl_language.specs.Numbers as N
 use Rattle.cddl_language.specs.Numbers.{hash_form, least_of, most_of}
 use Rattle.cddl_language.specs.Terms.{Text, Term, Ref, Group, Definition, name_of}
 use Rattle.cddl_language.specs.Reading.{text_of, control_name, occurrence, term_of2, ref_of, group_of, rule_head, name_in, name_at, parameters_in, parameter_tokens, sign_of, definition_of, rules_of, definitions_in}
 use Rattle.cddl_literal.specs.Numbers.{Meaning}
-use Rattle.cddl_operators.specs.declared.Fault.TheVariants.{OutOfRange, NotUtf8}
-use Rattle.cddl_operators.specs.Joins.{string_of}
-use Rattle.cddl_operators.specs.Sums.{number_of as number_in}
+use Rattle.cddl_literal.specs.declared.operators.Fault.TheVariants.{OutOfRange, NotUtf8}
+use Rattle.cddl_literal.specs.Operators.Joins.{string_of}
+use Rattle.cddl_literal.specs.Operators.Sums.{number_of as number_in}
 use Rattle.cddl_language.specs.Controls.{Comparison, is_ordering, control_of, comparison_in, Computation, sum, join, computation_in, is_sized}
 use Rattle.cddl_language.specs.Environment.{is_same, is_equals, named_so, definitions_of, is_in_prelude, is_socket}
 use Rattle.cddl_language.specs.Substitution.{fill, fill_ref, fill_group}

@@ -19,3 +19,5 @@ pub mod StandsFor
 pub mod Substitution
 pub mod Terms
 pub mod Texts
+pub mod Live
+pub mod Written

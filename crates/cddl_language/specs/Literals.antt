@@ -7,14 +7,14 @@ use Rattle.cbor_data.specs.Value as V
 use Rattle.cbor_data.specs.Value.{Value}
 use Rattle.cddl_literal.specs.Numbers.{Meaning, UintOf, NintOf, TextOf, BytesOf, IsNumber}
 use Rattle.cddl_literal.specs.Literals.{IsText, IsBytes}
-use Rattle.cddl_operators.specs.declared.Fault.{Fault}
-use Rattle.cddl_operators.specs.Sums.{plus}
-use Rattle.cddl_operators.specs.Joins.{joined}
+use Rattle.cddl_literal.specs.declared.operators.Fault.{Fault}
+use Rattle.cddl_literal.specs.Operators.Sums.{plus}
+use Rattle.cddl_literal.specs.Operators.Joins.{joined}
 use Rattle.cddl_token.specs.Answers.{IsAnswered}
 use Rattle.cddl_token.specs.declared.Token.{Token}
 use Rattle.cddl_token.specs.declared.Kind.{Kind}
 use Rattle.cddl_token.specs.declared.Kind.TheVariants as K
-use Rattle.cddl_syntax.specs.Syntax as S
+use Rattle.tree_nodes.specs.Syntax.Syntax as S
 use Rattle.cddl_language.specs.Controls.{Computation, sum, join, Control, computed, control_of}
 use Rattle.cddl_language.specs.Terms.{Literal, number, text, bytes, Term, literal, named, parens, control, Definition, name_of}
 use Rattle.cddl_language.specs.Reading.{text_of}

@@ -1,7 +1,7 @@
 -- What is wrong with the group of a map, and at which byte (RFC 8610 section 3.5): C16 to C18.
 use Rattle.std.specs.Prelude.{◌≡◌, ℕ, zero, suc, ◌<◌, ◌⊎◌, false, List, [], ◌∷◌, ◌++◌, flat_map, length, Contains, Option, Some, None}
 use Rattle.cddl_token.specs.declared.Token.{Token}
-use Rattle.cddl_syntax.specs.Syntax as S
+use Rattle.tree_nodes.specs.Syntax.Syntax as S
 use Rattle.cddl_language.specs.Terms.{Text, Term, named, Ref, Entries, Entry, typed, keyed, grouped, of_types, Definition, alternatives, entry_list, stripped, occurrence_of, name_of, arguments_of, lone}
 use Rattle.cddl_language.specs.Environment.{is_in, definitions_of}
 use Rattle.cddl_language.specs.Reading.{group_of, entry_of, rule_name, name_in, parameters_in, definitions_in}

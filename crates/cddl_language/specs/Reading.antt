@@ -1,7 +1,7 @@
 -- The terms of a tree: what is left of it without spans.
 use Rattle.std.specs.Prelude.{ℕ, List, [], ◌∷◌, ◌++◌, Option, option_map, is_some, true, false}
 use Rattle.cddl_token.specs.declared.Token.{Token}
-use Rattle.cddl_syntax.specs.Syntax as S
+use Rattle.tree_nodes.specs.Syntax.Syntax as S
 use Rattle.cddl_language.specs.Numbers.{before, after}
 use Rattle.cddl_language.specs.Terms.{Text, Literal, number, text, bytes, Term, literal, named, parens, map_of, array_of, unwrapped, choice_of, choice_of_name, tagged, tagged_by, simple_by, hash, range, control, or, Ref, call, Terms, no_terms, term, Group, sole, orelse, Entries, no_entries, entries, Entry, typed, keyed, grouped, Key, of_type, bareword, of_value, Sign, is, type_or, group_or, Body, of_types, of_entry, Definition}
 

@@ -1,7 +1,7 @@
 -- The sites of a specification's text where something can be wrong, with their tokens; and which of them a root reaches.
 use Rattle.std.specs.Prelude.{◌≡◌, ℕ, Bool, true, false, if◌then◌else◌, List, [], ◌∷◌, ◌++◌, Contains, Option, Some, None, slice_get}
 use Rattle.cddl_token.specs.declared.Token.{Token}
-use Rattle.cddl_syntax.specs.Syntax as S
+use Rattle.tree_nodes.specs.Syntax.Syntax as S
 use Rattle.cddl_language.specs.Terms.{Text, Term, Ref, name_of, arguments_of}
 use Rattle.cddl_language.specs.Reading.{ref_of, name_in, parameters_in, definitions_in}
 use Rattle.cddl_language.specs.Environment.{is_in}

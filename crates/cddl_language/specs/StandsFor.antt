@@ -3,7 +3,7 @@
 use Rattle.std.specs.Prelude.{◌≡◌, ◌≢◌, ℕ, true, false, List, AllPairs, Contains}
 use Rattle.cddl_meaning.specs.Forms.{Language}
 use Rattle.cddl_meaning.specs.Alike.{AreAlike}
-use Rattle.cddl_ranks.specs.Ranked.{Name, IsRanked}
+use Rattle.cddl_meaning.specs.Ranks.Ranked.{Name, IsRanked}
 use Rattle.cddl_language.specs.Terms.{Text, Ref, Definition, call, no_terms, name_of}
 use Rattle.cddl_language.specs.Substitution.{group_choices}
 use Rattle.cddl_language.specs.Kinds.{is_group}

@@ -3,7 +3,7 @@ use Rattle.std.specs.Prelude.{ℕ, zero, suc, ◌+◌, length, [], None, Some, c
 use Rattle.cddl_token.specs.declared.Token.{Token}
 use Rattle.cddl_token.specs.declared.Kind.{Kind}
 use Rattle.cddl_token.specs.declared.Kind.TheVariants.{Name, NameOpen, Control, Number, Occur, Text as TextToken, Hash, Assign, GroupAssign, Slash, DoubleSlash, Range, Comma, Colon, ParenOpen, ParenClose, BracketOpen, BracketClose, BraceOpen, BraceClose, Arrow, AngleClose, Tilde, Ampersand, End}
-use Rattle.cddl_syntax.specs.Syntax as S
+use Rattle.tree_nodes.specs.Syntax.Syntax as S
 use Rattle.cddl_language.specs.Terms.{Text}
 use Rattle.cddl_language.specs.Faults.{Specification}
 

@@ -5,8 +5,8 @@
 ghost use Rattle.std.specs.Prelude.{◌+◌, ◌^◌, ◌≢◌, ◌↔◌, ◌<◌, ◌≤◌, ◌⊎◌, map, length, slice_index, [], ◌∷◌, ◌≡◌, ℕ, suc, Contains, Bool, List, Option, true, false, Some, None, codes};
 ghost use Rattle.cddl_token.specs.declared.Code.{Code};
 ghost use Rattle.cddl_token.specs.declared.Token.{Token};
-ghost use Rattle.cddl_syntax.specs.Syntax as S;
-ghost use Rattle.cddl_syntax.specs.Syntax.{Cddl, Rule};
+ghost use Rattle.tree_nodes.specs.Syntax.Syntax as S;
+ghost use Rattle.tree_nodes.specs.Syntax.Syntax.{Cddl, Rule};
 ghost use Rattle.cddl_language.specs.Sites.{IsReached, a_map};
 ghost use Rattle.cddl_language.specs.Substitution.{fill_group};
 ghost use Rattle.cddl_language.specs.Faults.{IsAccepted, IsRefused, Specification, definitions, root_of, rules};
@@ -25,20 +25,22 @@ ghost use Rattle.cddl_language.specs.MapFaults.{ComesBack, GoesThrough, HasMapSh
 ghost use Rattle.cddl_language.specs.Maps.{Alternatives, alternatives_in, map_alternatives};
 ghost use Rattle.cddl_language.specs.Language.{Saying, TermSays, comparand, compared_test, language, type, reference, type_node};
 ghost use Rattle.cddl_language.specs.StandsFor.{StandsFor};
-ghost use Rattle.cddl_ranks.specs.Ranked.{Name};
+ghost use Rattle.cddl_meaning.specs.Ranks.Ranked.{Name};
 ghost use Rattle.cddl_literal.specs.Numbers.{IsUint, Meaning, number_after};
 ghost use Rattle.cddl_token.specs.Numbers.{IsHashNumber, IsStar, IsTagNumberOpen};
 ghost use Rattle.cddl_language.specs.Numbers.{hash_form, least_in, most_in, numbered, tag_number, uint_in};
 ghost use Rattle.cddl_language.specs.Literals.{AreRight, AreTokens, Holds, Values, answer_of, computed_literal, item_of, literal_of, whole};
 ghost use Rattle.cddl_language.specs.Sizes.{Sizes, sizes_of};
-ghost use Rattle.cddl_operators.specs.declared.Joining.TheVariants.{AsTheyAre, Dedented};
-ghost use Rattle.cddl_operators.specs.Joins.{joined};
-ghost use Rattle.cddl_operators.specs.Sums.{plus};
+ghost use Rattle.cddl_literal.specs.declared.operators.Joining.TheVariants.{AsTheyAre, Dedented};
+ghost use Rattle.cddl_literal.specs.Operators.Joins.{joined};
+ghost use Rattle.cddl_literal.specs.Operators.Sums.{plus};
 ghost use Rattle.cddl_language.specs.Reading.{definitions_in, group_of, name_in, parameters_in};
 ghost use Rattle.cddl_language.specs.Reach.{Point, Reaches, most_instances, points_in, ref_at};
 ghost use Rattle.cddl_language.specs.Terms.{Definition, Entries, Entry, Group, Literal, Ref, Term, Text, alternatives, call, choice_of, choice_of_name, control, name_of, no_terms};
 
 pub mod examples;
+pub mod live;
+pub mod written;
 
 /// The instances are the least set that holds the root and, with a closed reference, the references in what it means.
 pub fn instances_are_least()

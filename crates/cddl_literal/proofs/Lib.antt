@@ -10,3 +10,4 @@ mod ValueFacts
 mod OneMeaning
 mod CutFacts
 mod EndFacts
+mod OfOperators

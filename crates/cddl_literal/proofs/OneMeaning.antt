@@ -1,7 +1,8 @@
 -- A spelling has one end and one meaning.
-use Rattle.std.proofs.Common.{◌≡◌, ◌≢◌, ℕ, ◌+◌, ◌≤◌, ◌⊎◌, inl, inr, Bool, true, false, List, [], ◌∷◌, ◌++◌, Some, None, slice_index, sym, refl, ap, subst, ◌∙◌, ⊎_elim, arith}
+use Rattle.std.proofs.Common.{◌≡◌, ◌≢◌, ℕ, ◌+◌, ◌≤◌, ◌⊎◌, inl, inr, Bool, true, false, List, [], ◌∷◌, ◌++◌, Some, slice_index, sym, refl, ap, subst, ◌∙◌, ⊎_elim, arith}
 use Rattle.std.proofs.lemmas.Bool.Decides.{nat_tests}
 use Rattle.std.specs.Char.{encode_utf8}
+use Rattle.lists.proofs.Lemmas.{some_none}
 use Rattle.cddl_literal.specs.Bytes.{is_h, is_b, is_blank}
 use Rattle.cddl_literal.specs.Numbers.{Meaning, IsNumber, IsTooLarge, signed}
 use Rattle.cddl_literal.specs.Strings.{quote_byte, is_plain, Characters, none, plain, escape, line, HoldsCharacters, IsQuoted, IsFurthest}
@@ -160,9 +161,6 @@ bytes_one s a b e v w (inr (c, d, p, f)) (inl k) = absurd (quote_no_letter (slic
 bytes_one s a b e v w (inr (c, d, p, f)) (inr (c2, d2, p2, f2)) =
     let one = prefixed_one c c2 s a b e d d2 p p2 in
     (one.1, some_one (sym f ∙ sym (coded_bytes_one c c2 d d2 one.0 one.2) ∙ f2))
-
-some_none : {A : Type 0} {x : A} → Some x ≡ None → ⊥
-some_none e = cc
 
 pub bytes_not_bad : (s : List ℕ) (a b e : ℕ) (v : List ℕ) → IsBytes s a b v → IsBadBytes s a e → ⊥
 bytes_not_bad s a b e v (inl h) (c, d, p, f) = quote_no_letter (slice_index s a) h.opens (opens_letter c s a p.start p.opens)

@@ -1,8 +1,9 @@
 -- Which number a spelling is.
-use Rattle.std.proofs.Common.{◌≡◌, ◌≢◌, ℕ, zero, suc, ◌+◌, ◌-◌, ◌<◌, ◌≤◌, ◌^◌, ◌⊎◌, inl, inr, Bool, true, false, List, Option, Some, None, slice_index, sym, refl, ap, subst, ◌∙◌, arith, rules, tests, nat_lt, if◌then◌else◌, Result, Ok, Err, SomeIff}
+use Rattle.std.proofs.Common.{◌≡◌, ◌≢◌, ℕ, zero, suc, ◌+◌, ◌-◌, ◌<◌, ◌≤◌, ◌^◌, ◌⊎◌, inl, inr, Bool, true, false, List, Option, Some, None, slice_index, sym, refl, ap, subst, ◌∙◌, arith, if◌then◌else◌, Result, Ok, Err, SomeIff}
 use Rattle.std.specs.Result.{result_ok, OkIff}
 use Rattle.std.proofs.lemmas.Bool.{false≢true, cases_lt, cases_eq, cases_Bool}
 use Rattle.std.proofs.lemmas.Bool.Decides.{nat_tests}
+use Rattle.lists.proofs.Lemmas.{test_less as nat_lt_yes, test_not_less as nat_lt_no}
 use Rattle.cddl_literal.specs.Bytes.{is_decimal_digit, is_x, is_b}
 use Rattle.cddl_literal.specs.Numbers.{number_in, IsUint, decimal, hexadecimal, binary, IsSigned, Meaning, UintOf, NintOf, signed}
 
@@ -59,12 +60,6 @@ pub uint_past : {s : List ℕ} {a b n : ℕ} → IsUint s a b n → a < b
 uint_past (decimal r z e) = r.nonempty
 uint_past (hexadecimal o x r e) = let some = r.nonempty in omega arith
 uint_past (binary o x r e) = let some = r.nonempty in omega arith
-
-nat_lt_yes : (m n : ℕ) → m < n → nat_lt m n ≡ true
-nat_lt_yes m n h = search (rules, tests)
-
-nat_lt_no : (m n : ℕ) → n ≤ m → nat_lt m n ≡ false
-nat_lt_no m n h = search (rules, tests)
 
 pub small_uint : (n : ℕ) → n < 2 ^ 64 → Some (UintOf n) ≡ signed false n
 small_uint n h = sym (ap (λ b. if b then Some (UintOf n) else None) (nat_lt_yes n (2 ^ 64) h))

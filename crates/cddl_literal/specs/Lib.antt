@@ -5,3 +5,4 @@ pub mod Escapes
 pub mod Strings
 pub mod Prefixed
 pub mod Literals
+pub mod Operators

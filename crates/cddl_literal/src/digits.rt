@@ -7,7 +7,7 @@ ghost use Rattle.cddl_literal.specs.Numbers.{digit_value, number_after};
 
 use super::bytes::is_hex_digit;
 
-/// The value of a hex digit, of either case, or 0.
+// The value of a hex digit, of either case, or 0.
 #[tactic(auto, unfolding(crate::specs::Numbers::digit_value))]
 pub(crate) fn digit_value(b: u8) -> u32
     ensures value { result ≡ digit_value b }
@@ -24,7 +24,7 @@ pub(crate) fn digit_value(b: u8) -> u32
     }
 }
 
-/// Where the hex digits that begin here end.
+// Where the hex digits that begin here end.
 pub(crate) fn hex_end(source: &[u8], at: usize) -> usize
     requires { at ≤ length source.now }
     ensures from { at ≤ result }
@@ -39,7 +39,7 @@ pub(crate) fn hex_end(source: &[u8], at: usize) -> usize
     i
 }
 
-/// The number that digits stand for, up to 2^64.
+// The number that digits stand for, up to 2^64.
 pub(crate) fn number(digits: &[u8], base: u128) -> Option<u128>
     requires some { 1 ≤ base }
     requires small { base ≤ 16 }

@@ -20,7 +20,7 @@ pub struct Escape {
     pub scalar: char,
 }
 
-/// The character that a letter after a backslash means.
+// The character that a letter after a backslash means.
 fn letter_in(quote: Quote, b: u8) -> Option<char>
     ensures { result ≡ letter_in quote b }
 {
@@ -41,7 +41,7 @@ fn letter_in(quote: Quote, b: u8) -> Option<char>
     }
 }
 
-/// The number of the `\u` and four hex digits that are here.
+// The number of the `\u` and four hex digits that are here.
 fn unit_at(source: &[u8], at: usize) -> Option<u32>
     requires { at ≤ length source.now }
     ensures { MatchOption result ((n : ℕ) → IsUnit source.now at n → ⊥) (λ n. IsUnit source.now at n × (at + 6 ≤ length source.now) × (n < 65536)) }
@@ -57,7 +57,7 @@ fn unit_at(source: &[u8], at: usize) -> Option<u32>
     Some(high * 256 + low)
 }
 
-/// The character whose number the hex digits give.
+// The character whose number the hex digits give.
 fn scalar_of(digits: &[u8]) -> Option<char>
     ensures { SomeIff result (IsScalar (number_after 16 0 digits.now)) (number_after 16 0 digits.now) }
 {
@@ -68,7 +68,7 @@ fn scalar_of(digits: &[u8]) -> Option<char>
     char::from_u32(code as u32)
 }
 
-/// The escape of `\u` with braces that is here.
+// The escape of `\u` with braces that is here.
 fn braced_at(source: &[u8], at: usize, quote: Quote) -> Option<Escape>
     requires within { at + 3 ≤ length source.now }
     requires backslash { IsAt "\\" source.now at }
@@ -89,7 +89,7 @@ fn braced_at(source: &[u8], at: usize, quote: Quote) -> Option<Escape>
     }
 }
 
-/// The escape of one or two `\u` with four hex digits each that is here.
+// The escape of one or two `\u` with four hex digits each that is here.
 fn units_at(source: &[u8], at: usize, quote: Quote) -> Option<Escape>
     requires within { at + 2 ≤ length source.now }
     requires backslash { IsAt "\\" source.now at }

@@ -9,6 +9,7 @@ mod digits;
 mod escapes;
 mod laws;
 mod numbers;
+pub mod operators;
 mod prefixed;
 mod strings;
 mod values;

@@ -8,7 +8,7 @@ ghost use Rattle.cddl_literal.specs.Numbers.{Meaning, IsUint, IsSigned, IsNumber
 use super::Literal;
 use super::digits::number;
 
-/// The uint from one offset to another, if it is at most 2^64.
+// The uint from one offset to another, if it is at most 2^64.
 fn magnitude(source: &[u8], from: usize, to: usize) -> Option<u128>
     requires within { to ≤ length source.now }
     requires spelled { (n : ℕ) × IsUint source.now from to n }

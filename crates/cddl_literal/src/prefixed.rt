@@ -15,14 +15,14 @@ use base64::engine::general_purpose::{STANDARD, STANDARD_NO_PAD};
 use hex::FromHexError;
 use std::alloc::{AllocError, Global};
 
-/// Whether a comment inside a byte string may hold a byte.
+// Whether a comment inside a byte string may hold a byte.
 fn is_in_inner_comment(b: u8) -> bool
     ensures { result ≡ is_in_inner_comment b }
 {
     is_in_comment(b) && b != b'\'' && b != b'\\'
 }
 
-/// Where the comment that begins here ends, or holds what it may not.
+// Where the comment that begins here ends, or holds what it may not.
 fn comment_stop(source: &[u8], at: usize) -> usize
     requires begins { IsAt ";" source.now at }
     requires within { at < length source.now }
@@ -37,7 +37,7 @@ fn comment_stop(source: &[u8], at: usize) -> usize
     i
 }
 
-/// Whether a line ends here, or the string.
+// Whether a line ends here, or the string.
 fn ends_comment(source: &[u8], at: usize) -> bool
     ensures yes { IsTrue result → EndsComment source.now at }
     ensures goes_on { result ≡ false → EndsComment source.now at → ⊥ }
@@ -78,7 +78,7 @@ pub fn coded_end(source: &[u8], at: usize) -> usize
     i
 }
 
-/// What is from one offset to another, without white space and comments.
+// What is from one offset to another, without white space and comments.
 fn coded_between(
     alloc: Global,
     source: &[u8],
@@ -107,7 +107,7 @@ fn coded_between(
     Ok(out)
 }
 
-/// A letter of the alphabet for URLs as one of the standard alphabet.
+// A letter of the alphabet for URLs as one of the standard alphabet.
 fn standard_letter(b: u8) -> u8
     ensures { result ≡ standard_letter b }
 {
@@ -120,7 +120,7 @@ fn standard_letter(b: u8) -> u8
     }
 }
 
-/// The bytes that hex digits stand for, if they do.
+// The bytes that hex digits stand for, if they do.
 fn hex_bytes(alloc: Global, digits: &[u8]) -> Result<Option<Vec<u8>>, AllocError>
     ensures { IfOk result (λ o. option_map (λ v. v.items) o ≡ hex_bytes digits.now) }
 {
@@ -133,21 +133,21 @@ fn hex_bytes(alloc: Global, digits: &[u8]) -> Result<Option<Vec<u8>>, AllocError
     }
 }
 
-/// Whether `=` is among the letters.
+// Whether `=` is among the letters.
 fn has_padding(letters: &[u8]) -> bool
     ensures { result ≡ list_any is_padding letters.now }
 {
     letters.iter().any(|b| *b == b'=')
 }
 
-/// The letters in the standard alphabet.
+// The letters in the standard alphabet.
 fn standard_letters(alloc: Global, letters: &[u8]) -> Result<Vec<u8>, AllocError>
     ensures { IfOk result (λ v. v.items ≡ map standard_letter letters.now) }
 {
     letters.iter().map(|b| standard_letter(*b)).collect(alloc)
 }
 
-/// The bytes that a decoder answers, or none where the text was at fault.
+// The bytes that a decoder answers, or none where the text was at fault.
 fn unless_faulty(answer: Result<Vec<u8>, DecodeAllocError>) -> Result<Option<Vec<u8>>, AllocError>
     ensures { IfOk result (λ o. MatchResult answer (λ v. o ≡ Some v) (λ e. (o ≡ None) × (e ≢ DecodeAllocError.OutOfMemory))) }
 {
@@ -158,7 +158,7 @@ fn unless_faulty(answer: Result<Vec<u8>, DecodeAllocError>) -> Result<Option<Vec
     }
 }
 
-/// The bytes that letters in base64 stand for, if they do.
+// The bytes that letters in base64 stand for, if they do.
 fn base64_bytes(alloc: Global, letters: &[u8]) -> Result<Option<Vec<u8>>, AllocError>
     ensures { IfOk result (λ o. option_map (λ v. v.items) o ≡ base64_bytes letters.now) }
 {

@@ -12,7 +12,7 @@ use super::bytes::is_cr_lf;
 use super::escapes::escape_at;
 use std::alloc::{AllocError, Global};
 
-/// A byte that stands for itself.
+// A byte that stands for itself.
 fn is_plain(quote: Quote, b: u8) -> bool
     ensures { result ≡ is_plain quote b }
 {
@@ -22,7 +22,7 @@ fn is_plain(quote: Quote, b: u8) -> bool
     }
 }
 
-/// Where the bytes that begin here and stand for themselves end.
+// Where the bytes that begin here and stand for themselves end.
 fn plain_end(source: &[u8], at: usize, quote: Quote) -> usize
     requires { at ≤ length source.now }
     ensures from { at ≤ result }
@@ -37,7 +37,7 @@ fn plain_end(source: &[u8], at: usize, quote: Quote) -> usize
     i
 }
 
-/// Whether a carriage return and a line feed are here, in a string that may hold them.
+// Whether a carriage return and a line feed are here, in a string that may hold them.
 fn is_line(source: &[u8], at: usize, quote: Quote) -> bool
     ensures yes { IsTrue result → (quote ≡ Quote.Single) × IsCrLf source.now at }
     ensures inside { IsTrue result → at + 1 < length source.now }
@@ -72,7 +72,7 @@ pub fn characters_end(source: &[u8], at: usize, quote: Quote) -> usize
     i
 }
 
-/// The value of the characters from one offset to another, between quotes.
+// The value of the characters from one offset to another, between quotes.
 pub(crate) fn characters_between(
     alloc: Global,
     text: &str,

@@ -10,7 +10,7 @@ use super::strings::characters_between;
 use super::{Coding, Quote, bytes_between};
 use std::alloc::{AllocError, Global};
 
-/// The bytes of a plain byte string.
+// The bytes of a plain byte string.
 fn plain_value(alloc: Global, text: &str) -> Result<Vec<u8>, AllocError>
     requires { (v : List ℕ) × IsQuoted Quote.Single text.now 0 (length text.now) v }
     ensures { (v : List ℕ) → IsQuoted Quote.Single text.now 0 (length text.now) v → IfOk result (λ b. b.items ≡ v) }
@@ -19,7 +19,7 @@ fn plain_value(alloc: Global, text: &str) -> Result<Vec<u8>, AllocError>
     Ok(characters.into_bytes())
 }
 
-/// The bytes of a byte string with prefix, whose quote is before `start`.
+// The bytes of a byte string with prefix, whose quote is before `start`.
 fn prefixed_value(
     alloc: Global,
     coding: Coding,

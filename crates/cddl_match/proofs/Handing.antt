@@ -3,8 +3,8 @@ use Rattle.std.proofs.Common.{◌≡◌, ℕ, ◌-◌, ◌≤◌, ◌++◌, leng
 use Rattle.std.proofs.lemmas.List.{append-nil, length-append}
 use Rattle.std.specs.Prelude.{Err}
 use Rattle.cbor_data.specs.Value.{Pairs, place_count}
-use Rattle.cbor_item.specs.View.{view}
-use Rattle.cbor_item.specs.declared.item.Item.{Item}
+use Rattle.item_nodes.specs.View.{view}
+use Rattle.item_nodes.specs.declared.item.Item.{Item}
 use Rattle.cddl_meaning.specs.Forms as F
 use Rattle.cddl_meaning.specs.Forms.{Language}
 use Rattle.cddl_meaning.specs.Judges as J

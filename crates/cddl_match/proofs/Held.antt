@@ -1,8 +1,8 @@
 -- What a byte string holds, and what a reading of it comes to.
 use Rattle.std.proofs.Common.{◌≡◌, ℕ, ◌+◌, ◌<◌, List, [], ◌∷◌, ◌++◌, length, map, sym, subst, ◌∙◌, append_assoc, arith}
 use Rattle.std.proofs.lemmas.List.{append-nil, map-append}
-use Rattle.cbor_item.specs.View.{view}
-use Rattle.cbor_item.specs.declared.item.Item.{Item}
+use Rattle.item_nodes.specs.View.{view}
+use Rattle.item_nodes.specs.declared.item.Item.{Item}
 use Rattle.cbor_data.specs.Value.{Value, array, Values, no_values, value, values_of}
 use Rattle.cbor_data.specs.Embedded.{Embeds, EmbedsAll, none, one_more}
 use Rattle.cddl_meaning.specs.Forms.{Content, one_item, sequence_of_items, Language}

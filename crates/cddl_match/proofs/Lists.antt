@@ -5,10 +5,10 @@ use Rattle.std.proofs.lemmas.Bool.Decides.{nat_tests}
 use Rattle.std.proofs.lemmas.List.{drop-map, take-map}
 use Rattle.std.proofs.Math.Seq.{take-nil}
 use Rattle.cbor_data.specs.Value.{Value, array, uint, values_of}
-use Rattle.cbor_item.specs.View.{pairs_view, view}
-use Rattle.cbor_item.specs.declared.item.Item.{Item, the_lemmas}
-use Rattle.cbor_item.specs.declared.item.Item.TheVariants.{Array, Map, Uint}
-use Rattle.cbor_item.proofs.Lemmas.{view-Array, view-Map}
+use Rattle.item_nodes.specs.View.{pairs_view, view}
+use Rattle.item_nodes.specs.declared.item.Item.{Item, the_lemmas}
+use Rattle.item_nodes.specs.declared.item.Item.TheVariants.{Array, Map, Uint}
+use Rattle.item_nodes.proofs.Lemmas.{view-Array, view-Map}
 use Rattle.std.specs.declared.vec.Vec.{Vec}
 use Rattle.std.specs.declared.alloc.Global.{Global}
 use Rattle.cddl_match.specs.Views.{fated, values}
@@ -18,9 +18,9 @@ use Rattle.cddl_meaning.specs.Forms as F
 use Rattle.cddl_meaning.specs.Moves as M
 use Rattle.cddl_meaning.specs.Judges.{is_up_to_most}
 use Rattle.cddl_meaning.specs.Moves.{plus, counted, enough_of, no_counts}
-use Rattle.cddl_table.specs.declared.nodes.TypeId.{TypeId}
-use Rattle.cddl_table.specs.Nodes.{entries_view, entry_view}
-use Rattle.cddl_table.specs.declared.nodes.MapEntry.{MapEntry}
+use Rattle.table_nodes.specs.declared.nodes.TypeId.{TypeId}
+use Rattle.table_nodes.specs.Nodes.{entries_view, entry_view}
+use Rattle.table_nodes.specs.declared.nodes.MapEntry.{MapEntry}
 
 pub view-Uint : (n : ℕ) → view (Uint n) ≡ uint n
 view-Uint n = search (rules, the_lemmas)

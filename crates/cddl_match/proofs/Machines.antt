@@ -13,12 +13,12 @@ use Rattle.cddl_meaning.specs.Moves.{Question, Pending, InMap}
 use Rattle.cddl_meaning.specs.Size.{size}
 use Rattle.cddl_meaning.proofs.Lemmas.{one_saying, said, size_spelled}
 use Rattle.cddl_match.specs.declared.answers.Verdict.TheVariants as V
-use Rattle.cddl_ranks.specs.Reached.{one_for_empty_map}
-use Rattle.cddl_ranks.proofs.Lemmas.{few_are_open}
-use Rattle.cddl_table.specs.Language.{language_of, rank_of, ranks_of}
-use Rattle.cddl_table.specs.declared.nodes.GroupId.{GroupId}
-use Rattle.cddl_table.specs.declared.nodes.TypeId.{TypeId}
-use Rattle.cddl_table.specs.declared.table.Table.{Table}
+use Rattle.cddl_meaning.specs.Ranks.Reached.{one_for_empty_map}
+use Rattle.cddl_meaning.proofs.OfRanks.Lemmas.{few_are_open}
+use Rattle.table_nodes.specs.Language.{language_of, rank_of, ranks_of}
+use Rattle.table_nodes.specs.declared.nodes.GroupId.{GroupId}
+use Rattle.table_nodes.specs.declared.nodes.TypeId.{TypeId}
+use Rattle.table_nodes.specs.declared.table.Table.{Table}
 use Rattle.cddl_match.specs.Machine.{IsStep, IsTurn, IsVerdict, LastNeedsRoom, NeedsMore, asked_in, found_verdict, found_view, noted, root_question}
 use Rattle.cddl_match.specs.Open.{AreOpen, nothing}
 use Rattle.cddl_match.specs.Progress.{GoesOnFor, IsMachine, Progress, no_turn, one_more}

@@ -9,8 +9,8 @@ use Rattle.cddl_meaning.specs.Moves.{Question, OfType, OfGroup, OfAlternative, P
 use Rattle.std.specs.Prelude.{Result, Ok, Err, OnErr}
 use Rattle.cddl_match.specs.Machine.{NeedsMore, WaitsAt, asked_in, is_alternative}
 use Rattle.cddl_match.specs.declared.stack.Run.{Run}
-use Rattle.cddl_table.specs.declared.nodes.GroupId.{GroupId}
-use Rattle.cddl_table.specs.declared.nodes.TypeId.{TypeId}
+use Rattle.table_nodes.specs.declared.nodes.GroupId.{GroupId}
+use Rattle.table_nodes.specs.declared.nodes.TypeId.{TypeId}
 use Rattle.cddl_match.specs.Open.{ComesUpTo, begins, goes_on, tries, reads, reads_nothing, AreOpenWith, nothing, further, NeedsRoom, of_map, of_alternative, of_held}
 
 module _ {N G : Type 0} where

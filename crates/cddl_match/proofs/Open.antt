@@ -6,8 +6,8 @@ use Rattle.cddl_meaning.specs.Held.{Holds}
 use Rattle.cddl_meaning.specs.Judges.{Reply, Fails}
 use Rattle.cddl_meaning.specs.Moves.{Question, OfType, Pending, InRef, InHeld, Sorting, Move, Answered, Asks, Tries, Reads, Replies, LeadsTo, first_move, next_move, next_entry}
 use Rattle.cddl_meaning.specs.Moves as M
-use Rattle.cddl_ranks.specs.Reached as R
-use Rattle.cddl_ranks.specs.Reached.{IsReached}
+use Rattle.cddl_meaning.specs.Ranks.Reached as R
+use Rattle.cddl_meaning.specs.Ranks.Reached.{IsReached}
 use Rattle.cddl_match.specs.Open.{ComesUpTo, begins, goes_on, tries, reads, reads_nothing, AreOpenWith, nothing, further}
 
 module _ {N G : Type 0} (l : Language N G) where

@@ -18,10 +18,11 @@ use Rattle.cddl_match.specs.declared.questions.Stop.TheVariants as S
 use Rattle.cddl_match.specs.declared.stack.Found.{Found}
 use Rattle.cddl_match.specs.declared.stack.Run.{Run}
 use Rattle.cddl_match.specs.declared.stack.Waiting.{Waiting}
-use Rattle.cddl_table.specs.declared.nodes.GroupId.{GroupId}
-use Rattle.cddl_table.specs.declared.nodes.TypeId.{TypeId}
+use Rattle.table_nodes.specs.declared.nodes.GroupId.{GroupId}
+use Rattle.table_nodes.specs.declared.nodes.TypeId.{TypeId}
 use Rattle.cddl_match.proofs.Held.{reads_none, reads_on}
 use Rattle.cddl_match.proofs.Open.{open_asked, open_answered, open_tried, open_read, open_unread}
+use Rattle.lists.proofs.Lemmas.{none_left}
 use Rattle.cddl_match.proofs.Turns as T
 use Rattle.cddl_match.proofs.Ways as W
 
@@ -169,13 +170,13 @@ module _ (l : Language TypeId GroupId) (first : Question TypeId GroupId) (steps 
 -- the first question has its reply
 pub end_step : (l : Language TypeId GroupId) (first : Question TypeId GroupId) (steps taken : ℕ) (ws left : List Waiting) (w : Waiting) (r : Reply) → taken ≤ steps → WaitsAt l first taken ws (Answered r) → ws ≡ left ++ w ∷ [] → length left ≡ 0 → Says l first steps (steps - taken) (Replied r)
 end_step l first steps taken ws left w r within h items none =
-    let h2 = rw (items, T.none_left left none) at h in
+    let h2 = rw (items, none_left left none) at h in
     is_replied l first steps taken r within (at_end l h2)
 
 -- a reply needs a question
 pub no_end : (l : Language TypeId GroupId) (first : Question TypeId GroupId) (taken : ℕ) (ws : List Waiting) (r : Reply) → length ws ≡ 0 → WaitsAt l first taken ws (Answered r) → ⊥
 no_end l first taken ws r none h =
-    let h2 = rw (T.none_left ws none) at h in
+    let h2 = rw (none_left ws none) at h in
     at_none l h2
 
 -- A turn from a run is one from another that has taken as many steps and in which the same questions wait.

@@ -4,8 +4,8 @@ use Rattle.std.specs.Prelude.{Option, Some, None, IfSome, Ok, Err}
 use Rattle.std.proofs.lemmas.Bool.Decides.{nat_tests}
 use Rattle.std.proofs.lemmas.List.{length-append, length-take-le, take-append-drop, take-map, take_at}
 use Rattle.cbor_data.specs.Value.{Pairs, no_pairs, pair, pairs_len}
-use Rattle.cbor_item.specs.View.{pairs_view, view}
-use Rattle.cbor_item.specs.declared.item.Item.{Item}
+use Rattle.item_nodes.specs.View.{pairs_view, view}
+use Rattle.item_nodes.specs.declared.item.Item.{Item}
 use Rattle.cddl_meaning.specs.Forms as F
 use Rattle.cddl_meaning.specs.Forms.{Language}
 use Rattle.cddl_meaning.specs.Judges as J
@@ -20,10 +20,10 @@ use Rattle.cddl_match.specs.declared.questions.Fate.TheVariants as T
 use Rattle.cddl_match.specs.declared.questions.Stop.{Stop}
 use Rattle.cddl_match.specs.declared.questions.Stop.TheVariants.{Spent, NoMemory}
 use Rattle.cddl_match.specs.declared.tallied.Tallied.{Tallied}
-use Rattle.cddl_table.specs.Nodes.{entries_view, entry_view}
-use Rattle.cddl_table.specs.declared.nodes.GroupId.{GroupId}
-use Rattle.cddl_table.specs.declared.nodes.MapEntry.{MapEntry}
-use Rattle.cddl_table.specs.declared.nodes.TypeId.{TypeId}
+use Rattle.table_nodes.specs.Nodes.{entries_view, entry_view}
+use Rattle.table_nodes.specs.declared.nodes.GroupId.{GroupId}
+use Rattle.table_nodes.specs.declared.nodes.MapEntry.{MapEntry}
+use Rattle.table_nodes.specs.declared.nodes.TypeId.{TypeId}
 use Rattle.cddl_match.proofs.Handing.{becomes_so}
 use Rattle.cddl_match.proofs.Lists.{as_many_entries}
 use Rattle.cddl_match.proofs.Outcomes.{answered, ends_on, says_on}

@@ -1,5 +1,5 @@
 -- Each turn keeps what the pending questions lead to.
-use Rattle.std.proofs.Common.{◌≡◌, ℕ, ◌+◌, ◌<◌, ◌≤◌, List, [], ◌∷◌, ◌++◌, length, map, reverse, refl, ap, subst, ◌∙◌, arith}
+use Rattle.std.proofs.Common.{◌≡◌, ℕ, ◌+◌, ◌<◌, ◌≤◌, List, [], ◌∷◌, ◌++◌, map, reverse, refl, ap, subst, ◌∙◌, arith}
 use Rattle.std.proofs.lemmas.List.{map-append, reverse-append}
 use Rattle.cddl_meaning.specs.Forms.{Language}
 use Rattle.cddl_meaning.specs.Judges.{Reply}
@@ -12,10 +12,6 @@ use Rattle.cddl_match.specs.declared.questions.Pending.{Pending}
 
 pub stack_push : (fs : List Pending) (f : Pending) → stack_of (fs ++ f ∷ []) ≡ pending_view f ∷ stack_of fs
 stack_push fs f = ap reverse (map-append pending_view fs (f ∷ [])) ∙ reverse-append (map pending_view fs) (pending_view f ∷ [])
-
-pub none_left : {A : Type 0} (xs : List A) → length xs ≡ 0 → xs ≡ []
-none_left [] h = refl
-none_left (x ∷ xs) h = absurd (omega (arith, h))
 
 -- so many steps are left
 pub in_steps : {N G : Type 0} {l : Language N G} {first : Question N G} {m n : ℕ} {os : List (M.Pending N G)} {o : Move N G} → m ≡ n → IsOnTheWay l first m os o → IsOnTheWay l first n os o

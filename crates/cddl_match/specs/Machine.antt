@@ -5,10 +5,10 @@ use Rattle.cddl_meaning.specs.Forms.{Language}
 use Rattle.cddl_meaning.specs.Judges.{Answer, Yes, No}
 use Rattle.cddl_meaning.specs.Moves as M
 use Rattle.cddl_meaning.specs.Moves.{Question, OfType, Pending, Move}
-use Rattle.cddl_table.specs.Language.{RootSays, root_of}
-use Rattle.cddl_table.specs.declared.nodes.GroupId.{GroupId}
-use Rattle.cddl_table.specs.declared.nodes.TypeId.{TypeId}
-use Rattle.cddl_table.specs.declared.table.Table.{Table}
+use Rattle.table_nodes.specs.Language.{RootSays, root_of}
+use Rattle.table_nodes.specs.declared.nodes.GroupId.{GroupId}
+use Rattle.table_nodes.specs.declared.nodes.TypeId.{TypeId}
+use Rattle.table_nodes.specs.declared.table.Table.{Table}
 use Rattle.cddl_match.specs.Open.{AreOpenWith, NeedsRoom}
 use Rattle.cddl_match.specs.Unwinding.{IsOnTheWay}
 use Rattle.cddl_match.specs.Views.{move_view, pending_view, question_view, reply_view, verdict_of}

@@ -8,13 +8,13 @@ use Rattle.cbor_data.specs.Codes.{coded_value, coded_pairs}
 use Rattle.cddl_meaning.specs.Forms.{Most, at_most, any_number_of, MapEntry}
 use Rattle.cddl_meaning.specs.Judges.{Answer}
 use Rattle.cddl_meaning.specs.Moves.{Question, OfType, OfGroup, OfAlternative}
-use Rattle.cddl_table.specs.Language.{RootSays, language_of}
-use Rattle.cddl_table.specs.declared.nodes.GroupId.{GroupId}
-use Rattle.cddl_table.specs.declared.nodes.TypeId.{TypeId}
-use Rattle.cddl_table.specs.contracts.nodes.GroupId.{the_row as group_row}
-use Rattle.cddl_table.specs.contracts.nodes.TypeId.{the_row as type_row}
-use Rattle.cddl_table.specs.declared.table.Table.{Table}
-use Rattle.cddl_table.specs.contracts.table.Table.{the_row as table_row}
+use Rattle.table_nodes.specs.Language.{RootSays, language_of}
+use Rattle.table_nodes.specs.declared.nodes.GroupId.{GroupId}
+use Rattle.table_nodes.specs.declared.nodes.TypeId.{TypeId}
+use Rattle.table_nodes.specs.contracts.nodes.GroupId.{the_row as group_row}
+use Rattle.table_nodes.specs.contracts.nodes.TypeId.{the_row as type_row}
+use Rattle.table_nodes.specs.declared.table.Table.{Table}
+use Rattle.table_nodes.specs.contracts.table.Table.{the_row as table_row}
 use Rattle.cddl_match.specs.Machine.{IsRun, IsTurn, IsVerdict, asked_in, root_question}
 use Rattle.cddl_match.specs.Open.{AreOpen}
 use Rattle.cddl_match.specs.declared.answers.Verdict.{Verdict}

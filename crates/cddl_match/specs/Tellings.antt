@@ -1,17 +1,17 @@
 -- What pairs come to by the first entries of an alternative: so they do in each alternative that begins with these.
 use Rattle.std.specs.Prelude.{◌≡◌, ℕ, suc, ◌+◌, ◌-◌, ◌*◌, ◌<◌, ◌≤◌, ◌++◌, max, length, take, drop, List, Option, Some, None, IfSome, Result, Ok, Err}
 use Rattle.cbor_data.specs.Value.{Pairs, no_pairs, pairs_len, place_count}
-use Rattle.cbor_item.specs.View.{view}
-use Rattle.cbor_item.specs.declared.item.Item.{Item}
+use Rattle.item_nodes.specs.View.{view}
+use Rattle.item_nodes.specs.declared.item.Item.{Item}
 use Rattle.cddl_meaning.specs.Forms as F
 use Rattle.cddl_meaning.specs.Forms.{Language}
 use Rattle.cddl_meaning.specs.Judges as J
 use Rattle.cddl_meaning.specs.Moves as M
 use Rattle.cddl_meaning.specs.Moves.{LeadsTo, enough_of}
-use Rattle.cddl_table.specs.Nodes.{entries_view}
-use Rattle.cddl_table.specs.declared.nodes.GroupId.{GroupId}
-use Rattle.cddl_table.specs.declared.nodes.MapEntry.{MapEntry}
-use Rattle.cddl_table.specs.declared.nodes.TypeId.{TypeId}
+use Rattle.table_nodes.specs.Nodes.{entries_view}
+use Rattle.table_nodes.specs.declared.nodes.GroupId.{GroupId}
+use Rattle.table_nodes.specs.declared.nodes.MapEntry.{MapEntry}
+use Rattle.table_nodes.specs.declared.nodes.TypeId.{TypeId}
 use Rattle.cddl_match.specs.Ahead.{ComesTo}
 use Rattle.cddl_match.specs.Views.{tally_view}
 use Rattle.cddl_match.specs.declared.questions.Fate.{Fate}

@@ -4,8 +4,8 @@ use Rattle.cddl_meaning.specs.Forms.{Language}
 use Rattle.cddl_meaning.specs.Judges.{Reply}
 use Rattle.cddl_meaning.specs.Moves as M
 use Rattle.cddl_meaning.specs.Moves.{Question, Move, Replies, LeadsTo, next_move}
-use Rattle.cddl_table.specs.declared.nodes.TypeId.{TypeId}
-use Rattle.cddl_table.specs.declared.nodes.GroupId.{GroupId}
+use Rattle.table_nodes.specs.declared.nodes.TypeId.{TypeId}
+use Rattle.table_nodes.specs.declared.nodes.GroupId.{GroupId}
 use Rattle.cddl_match.specs.declared.questions.Pending.{Pending}
 use Rattle.cddl_match.specs.Views.{pending_view}
 

@@ -1,14 +1,14 @@
 -- What the code's questions, replies and frames stand for.
 use Rattle.std.specs.Prelude.{ℕ, List, map, Option, Some, None, Bool, true, false, take, nat_le, if◌then◌else◌}
 use Rattle.cbor_data.specs.Value.{Value, uint, place_count}
-use Rattle.cbor_item.specs.View.{pairs_view, view}
-use Rattle.cbor_item.specs.declared.item.Item.{Item}
+use Rattle.item_nodes.specs.View.{pairs_view, view}
+use Rattle.item_nodes.specs.declared.item.Item.{Item}
 use Rattle.cddl_meaning.specs.Forms as F
 use Rattle.cddl_meaning.specs.Judges as J
 use Rattle.cddl_meaning.specs.Moves as M
-use Rattle.cddl_table.specs.declared.nodes.TypeId.{TypeId}
-use Rattle.cddl_table.specs.declared.nodes.GroupId.{GroupId}
-use Rattle.cddl_table.specs.Nodes.{alternatives_view, content_view, entries_view, entry_view, most_view, test_view}
+use Rattle.table_nodes.specs.declared.nodes.TypeId.{TypeId}
+use Rattle.table_nodes.specs.declared.nodes.GroupId.{GroupId}
+use Rattle.table_nodes.specs.Nodes.{alternatives_view, content_view, entries_view, entry_view, most_view, test_view}
 use Rattle.cddl_match.specs.declared.counts.Counts.{Counts}
 use Rattle.cddl_match.specs.declared.questions.Subject.{Subject}
 use Rattle.cddl_match.specs.declared.questions.Subject.TheVariants as S

@@ -28,7 +28,7 @@ impl End {
     ghost use Rattle.cddl_match.specs.Progress.{IsAnswer};
     ghost use Rattle.cddl_match.specs.declared.answers.End.TheVariants as E;
 
-    /// What a machine answers that has ended so.
+    // What a machine answers that has ended so.
     pub(crate) fn answer(self) -> Result<Option<Verdict>, AllocError>
         ensures answer { IsAnswer result self }
         ensures some { result ≡ Ok None → ⊥ }

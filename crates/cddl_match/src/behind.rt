@@ -3,18 +3,18 @@
 ghost use Rattle.std.specs.Prelude.{◌≡◌, [], ◌∷◌, IfSome, MatchOption};
 ghost use Rattle.cddl_meaning.specs.Forms.{Choice, Language};
 ghost use Rattle.cddl_match.specs.Ahead.{IsGroupOf, IsTypeOf};
-ghost use Rattle.cddl_table.specs.Language.{language_of};
-ghost use Rattle.cddl_table.specs.Nodes.{type_view};
-ghost use Rattle.cddl_table.specs.declared.nodes.GroupId.{GroupId};
-ghost use Rattle.cddl_table.specs.declared.nodes.TypeId.{TypeId};
+ghost use Rattle.table_nodes.specs.Language.{language_of};
+ghost use Rattle.table_nodes.specs.Nodes.{type_view};
+ghost use Rattle.table_nodes.specs.declared.nodes.GroupId.{GroupId};
+ghost use Rattle.table_nodes.specs.declared.nodes.TypeId.{TypeId};
 
-use cddl_table::{Group, GroupId, Node, Table, TypeId};
+use table_nodes::{Group, GroupId, Node, Table, TypeId};
 
 /// So many names, choices of one and groups of one are looked through at once. What is behind more of them takes single
 /// questions, so that no way is looked through again and again.
 const FARTHEST: u8 = 8;
 
-/// The only one of the parts.
+// The only one of the parts.
 #[inline]
 fn only<Id: Copy>(parts: &[Id]) -> Option<Id>
     ensures { IfSome result (λ part. parts.now ≡ part ∷ []) }
@@ -25,7 +25,7 @@ fn only<Id: Copy>(parts: &[Id]) -> Option<Id>
     }
 }
 
-/// The type that a type of this form leads to, if that is a name or a choice of one.
+// The type that a type of this form leads to, if that is a name or a choice of one.
 #[inline(always)]
 fn next_type(form: &Node) -> Option<TypeId>
     ensures { IfSome result (λ next. (l : Language TypeId GroupId) (n : TypeId) → l.type_at n ≡ type_view form.now → IsTypeOf l n next 1) }
@@ -37,7 +37,7 @@ fn next_type(form: &Node) -> Option<TypeId>
     }
 }
 
-/// The group that a name or a group of one group leads to.
+// The group that a name or a group of one group leads to.
 fn next_group(table: &Table, group: GroupId) -> Option<GroupId>
     ensures { IfSome result (λ next. IsGroupOf (language_of table.now) group next 1) }
 {
@@ -59,7 +59,7 @@ pub(crate) struct Behind<'t> {
     pub(crate) passed: u8,
 }
 
-/// The type behind names and choices of one.
+// The type behind names and choices of one.
 #[inline(always)]
 pub(crate) fn type_behind<'t>(table: &'t Table, node: TypeId) -> Behind<'t>
     ensures passed { IsTypeOf (language_of table.now) node result.node result.passed }
@@ -86,7 +86,7 @@ pub(crate) fn type_behind<'t>(table: &'t Table, node: TypeId) -> Behind<'t>
     behind
 }
 
-/// The group behind names and groups of one group, and how many of them there are.
+// The group behind names and groups of one group, and how many of them there are.
 #[inline]
 pub(crate) fn group_behind(table: &Table, group: GroupId) -> (GroupId, u8)
     ensures { IsGroupOf (language_of table.now) group result.0 result.1 }

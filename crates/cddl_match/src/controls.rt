@@ -5,16 +5,16 @@ ghost use Rattle.cddl_meaning.specs.Forms.{Both, Such, Holding, bytes_in};
 ghost use Rattle.cddl_meaning.specs.Moves as M;
 ghost use Rattle.cddl_meaning.specs.Moves.{InHeld, InHolder, InLeft, InSuch, next_move, read_move, such_reply, type_move};
 ghost use Rattle.cddl_match.specs.Views.{move_view, reply_view, subject_view};
-ghost use Rattle.cddl_table.specs.declared.nodes.GroupId.{GroupId};
-ghost use Rattle.cddl_table.specs.declared.nodes.TypeId.{TypeId};
-ghost use Rattle.cddl_table.specs.Nodes.{content_view, test_view};
+ghost use Rattle.table_nodes.specs.declared.nodes.GroupId.{GroupId};
+ghost use Rattle.table_nodes.specs.declared.nodes.TypeId.{TypeId};
+ghost use Rattle.table_nodes.specs.Nodes.{content_view, test_view};
 
 use crate::questions::{Move, Pending, Question, Reading, Reply, Subject};
 use crate::tested::passes_test;
 use cbor_item::Item;
-use cddl_table::{Content, Test, TypeId};
+use table_nodes::{Content, Test, TypeId};
 
-/// Of two types the left one is asked first.
+// Of two types the left one is asked first.
 pub(crate) fn both_move<'t, 'i>(
     left: TypeId,
     right: TypeId,
@@ -37,7 +37,7 @@ pub(crate) fn both_move<'t, 'i>(
     )
 }
 
-/// The type is asked before its test.
+// The type is asked before its test.
 pub(crate) fn such_move<'t, 'i>(
     node: TypeId,
     test: &'t Test,
@@ -60,7 +60,7 @@ pub(crate) fn such_move<'t, 'i>(
     )
 }
 
-/// A byte string's own type is asked before what the string holds.
+// A byte string's own type is asked before what the string holds.
 pub(crate) fn holding_move<'t, 'i>(
     of: TypeId,
     content: Content,
@@ -85,7 +85,7 @@ pub(crate) fn holding_move<'t, 'i>(
     )
 }
 
-/// The left one of two types has said yes, and the right one is asked of the same item; or it has said no, for both.
+// The left one of two types has said yes, and the right one is asked of the same item; or it has said no, for both.
 pub(crate) fn next_in_left<'t, 'i>(
     node: TypeId,
     place: usize,
@@ -107,7 +107,7 @@ pub(crate) fn next_in_left<'t, 'i>(
     }
 }
 
-/// What a test replies that says this, after a type that has told the place after the item.
+// What a test replies that says this, after a type that has told the place after the item.
 fn such_reply<'i>(place: usize, next: usize, says: bool) -> Reply<'i>
     ensures { reply_view result ≡ such_reply place next says }
 {
@@ -122,7 +122,7 @@ fn such_reply<'i>(place: usize, next: usize, says: bool) -> Reply<'i>
     }
 }
 
-/// A type has said yes, and the item has to pass the test; or it has said no.
+// A type has said yes, and the item has to pass the test; or it has said no.
 pub(crate) fn next_in_such<'t, 'i>(
     test: &'t Test,
     place: usize,
@@ -139,7 +139,7 @@ pub(crate) fn next_in_such<'t, 'i>(
     }
 }
 
-/// A byte string is read. Another item holds nothing.
+// A byte string is read. Another item holds nothing.
 fn read_move<'t, 'i>(
     content: Content,
     node: TypeId,
@@ -161,7 +161,7 @@ fn read_move<'t, 'i>(
     }
 }
 
-/// A byte string's own type has said yes, and what the string holds is asked about; or it has said no.
+// A byte string's own type has said yes, and what the string holds is asked about; or it has said no.
 pub(crate) fn next_in_holder<'t, 'i>(
     content: Content,
     node: TypeId,
@@ -177,7 +177,7 @@ pub(crate) fn next_in_holder<'t, 'i>(
     }
 }
 
-/// What a byte string holds is as it has to be; or it is not, which shows at the string.
+// What a byte string holds is as it has to be; or it is not, which shows at the string.
 pub(crate) fn held_reply<'i>(place: usize, next: usize, reply: Reply<'_>) -> Reply<'i>
     ensures { M.Answered (reply_view result) ≡ next_move {N = TypeId} {G = GroupId} (InHeld place next) (reply_view reply.entry) }
 {

@@ -20,7 +20,7 @@ pub(crate) struct Counts {
     pub(crate) many: Vec<u64>,
 }
 
-/// The number of the entry with so many entries after it.
+// The number of the entry with so many entries after it.
 fn number_of(entries: usize, after: usize) -> Option<usize>
     ensures some { IfSome result (λ number. number + suc after ≡ entries) }
     ensures none { IfNone result (entries ≤ after) }
@@ -28,7 +28,7 @@ fn number_of(entries: usize, after: usize) -> Option<usize>
     entries.checked_sub(after)?.checked_sub(1)
 }
 
-/// Counts a pair for the entry with so many entries after it.
+// Counts a pair for the entry with so many entries after it.
 #[inline(always)]
 fn count_in(counts: &mut [u64], after: usize)
     ensures { counts.new ≡ counted after counts.old }
@@ -38,7 +38,7 @@ fn count_in(counts: &mut [u64], after: usize)
     }
 }
 
-/// No pair for each of so many entries.
+// No pair for each of so many entries.
 #[inline(never)]
 fn begin_many(counts: &mut Vec<u64>, entries: usize) -> Result<(), AllocError>
     ensures { IfOk result (λ _. counts.new.items ≡ replicate entries 0) }
@@ -49,7 +49,7 @@ fn begin_many(counts: &mut Vec<u64>, entries: usize) -> Result<(), AllocError>
 }
 
 impl Counts {
-    /// There is no entry. It takes no memory.
+    // There is no entry. It takes no memory.
     pub(crate) fn new(alloc: Global) -> Counts {
         Counts {
             entries: 0,
@@ -58,7 +58,7 @@ impl Counts {
         }
     }
 
-    /// No pair belongs to each of so many entries.
+    // No pair belongs to each of so many entries.
     #[inline]
     pub(crate) fn begin(&mut self, entries: usize) -> Result<(), AllocError>
         ensures { IfOk result (λ _. counts_view self.new ≡ replicate entries 0) }
@@ -71,7 +71,7 @@ impl Counts {
         begin_many(&mut self.many, entries)
     }
 
-    /// Counts a pair for the entry with so many entries after it.
+    // Counts a pair for the entry with so many entries after it.
     #[inline]
     pub(crate) fn count(&mut self, after: usize)
         ensures { counts_view self.new ≡ counted after (counts_view self.old) }
@@ -83,7 +83,7 @@ impl Counts {
         }
     }
 
-    /// The counts, in the order of the entries.
+    // The counts, in the order of the entries.
     #[inline]
     pub(crate) fn as_slice(&self) -> &[u64]
         ensures { result.now ≡ counts_view self.now }

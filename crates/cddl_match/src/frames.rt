@@ -2,7 +2,7 @@
 //! nest as they like.
 
 ghost use Rattle.std.specs.Prelude.{◌≡◌, ◌<◌, ◌≤◌, ◌+◌, ◌*◌, ◌-◌, ◌∷◌, ℕ, IfNone, IfOk, IfSome, vec_len};
-ghost use Rattle.cbor_item.specs.View.{view};
+ghost use Rattle.item_nodes.specs.View.{view};
 ghost use Rattle.cddl_meaning.specs.Forms.{Language};
 ghost use Rattle.cddl_meaning.specs.Judges as J;
 ghost use Rattle.cddl_meaning.specs.Moves as M;
@@ -10,9 +10,9 @@ ghost use Rattle.cddl_match.specs.Ahead.{Opens};
 ghost use Rattle.cddl_match.specs.Unwinding.{IsOnTheWay, stack_of};
 ghost use Rattle.cddl_match.specs.Views.{goes_on, move_view, pending_view, question_view, reply_view, turns_of, values};
 ghost use Rattle.cddl_match.specs.Within.{Says, done_view, said_view};
-ghost use Rattle.cddl_table.specs.Language.{language_of};
-ghost use Rattle.cddl_table.specs.declared.nodes.GroupId.{GroupId};
-ghost use Rattle.cddl_table.specs.declared.nodes.TypeId.{TypeId};
+ghost use Rattle.table_nodes.specs.Language.{language_of};
+ghost use Rattle.table_nodes.specs.declared.nodes.GroupId.{GroupId};
+ghost use Rattle.table_nodes.specs.declared.nodes.TypeId.{TypeId};
 
 use crate::looking::{Ahead, look_ahead, move_ahead};
 use crate::means::Means;
@@ -21,16 +21,16 @@ use crate::pairs::pairs_ahead;
 use crate::questions::{Move, Pending, Question, Reply, Said, Stop, Subject};
 use crate::shelf::Shelf;
 use cbor_item::Item;
-use cddl_table::{GroupId, Table, TypeId};
 use std::alloc::AllocError;
+use table_nodes::{GroupId, Table, TypeId};
 
-/// What a question is replied to, and how many of the steps are then left; or `None` where more are needed. What byte
-/// strings hold is put on the shelf.
-///
-/// # Errors
-///
-/// `AllocError` where there is no memory for the questions that wait, for the tally of a map's pairs, or for what byte
-/// strings hold.
+// What a question is replied to, and how many of the steps are then left; or `None` where more are needed. What byte
+// strings hold is put on the shelf.
+//
+// # Errors
+//
+// `AllocError` where there is no memory for the questions that wait, for the tally of a map's pairs, or for what byte
+// strings hold.
 fn question_reply<'t, 'i>(
     table: &'t Table,
     shelf: &mut Shelf<'i>,
@@ -76,7 +76,7 @@ fn question_reply<'t, 'i>(
     }
 }
 
-/// What is next after the first move of a question: what asked it goes on where that is the reply, and else waits.
+// What is next after the first move of a question: what asked it goes on where that is the reply, and else waits.
 fn after_first<'t, 'i>(
     waiting: &mut Vec<Pending<'t, 'i>>,
     pending: Pending<'t, 'i>,
@@ -93,7 +93,7 @@ fn after_first<'t, 'i>(
     Ok(first)
 }
 
-/// What a type says of an item.
+// What a type says of an item.
 #[cold]
 #[inline(never)]
 pub(crate) fn type_by_frames<'i>(
@@ -124,7 +124,7 @@ pub(crate) fn type_by_frames<'i>(
     }
 }
 
-/// What a group does with items.
+// What a group does with items.
 #[cold]
 #[inline(never)]
 pub(crate) fn group_by_frames<'i>(

@@ -2,8 +2,8 @@
 
 ghost use Rattle.std.specs.Prelude.{◌≡◌, ◌<◌, ◌≤◌, ℕ};
 ghost use Rattle.cddl_meaning.specs.Judges.{Answer};
-ghost use Rattle.cddl_ranks.specs.Decided.{IsDecided};
-ghost use Rattle.cddl_table.specs.Language.{RootSays, language_of, root_form};
+ghost use Rattle.cddl_meaning.specs.Ranks.Decided.{IsDecided};
+ghost use Rattle.table_nodes.specs.Language.{RootSays, language_of, root_form};
 
 use crate::answers::Verdict;
 use crate::means::Means;
@@ -11,8 +11,8 @@ use crate::questions::Said;
 use crate::saying::type_says;
 use crate::shelf::{Cells, Shelf};
 use cbor_item::Sound;
-use cddl_table::Table;
 use std::alloc::{AllocError, Global};
+use table_nodes::Table;
 
 /// So many questions deep, each is a call of its own. The number is small, since calls take room on the program's stack.
 const MOST_CALLS: u8 = 64;

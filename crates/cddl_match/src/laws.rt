@@ -5,14 +5,14 @@ ghost use Rattle.cbor_data.specs.Value.{Value, place_count};
 ghost use Rattle.cddl_meaning.specs.Size.{size};
 ghost use Rattle.cddl_meaning.specs.Forms.{Language, Node};
 ghost use Rattle.cddl_meaning.specs.Judges.{Answer, Says};
-ghost use Rattle.cddl_ranks.specs.Decided.{IsDecided};
+ghost use Rattle.cddl_meaning.specs.Ranks.Decided.{IsDecided};
 ghost use Rattle.cddl_match.specs.Machine.{IsVerdict};
 ghost use Rattle.cddl_match.specs.Progress.{GoesOnFor, Progress};
 ghost use Rattle.cddl_match.specs.declared.answers.Verdict.{Verdict};
-ghost use Rattle.cddl_table.specs.Language.{RootSays, language_of, root_form};
-ghost use Rattle.cddl_table.specs.declared.nodes.GroupId.{GroupId};
-ghost use Rattle.cddl_table.specs.declared.nodes.TypeId.{TypeId};
-ghost use Rattle.cddl_table.specs.declared.table.Table.{Table};
+ghost use Rattle.table_nodes.specs.Language.{RootSays, language_of, root_form};
+ghost use Rattle.table_nodes.specs.declared.nodes.GroupId.{GroupId};
+ghost use Rattle.table_nodes.specs.declared.nodes.TypeId.{TypeId};
+ghost use Rattle.table_nodes.specs.declared.table.Table.{Table};
 
 /// A type says one thing at most of an item whose place and size are below 2^64 together, and in one number of judgements;
 /// so does a table. It does nothing.

@@ -4,9 +4,9 @@ ghost use Rattle.std.specs.Prelude.{◌≡◌, ◌≤◌, false, IfOk, IfSome};
 ghost use Rattle.cddl_meaning.specs.Moves as M;
 ghost use Rattle.cddl_match.specs.Ahead.{ComesTo, IsEntered, Opens};
 ghost use Rattle.cddl_match.specs.Views.{goes_on, move_view, parts_move, question_view, reply_view, round_move, rounds_move, subject_view, values};
-ghost use Rattle.cddl_table.specs.Language.{language_of};
-ghost use Rattle.cddl_table.specs.Nodes.{type_view};
-ghost use Rattle.cddl_table.specs.declared.nodes.GroupId.{GroupId};
+ghost use Rattle.table_nodes.specs.Language.{language_of};
+ghost use Rattle.table_nodes.specs.Nodes.{type_view};
+ghost use Rattle.table_nodes.specs.declared.nodes.GroupId.{GroupId};
 ghost use Rattle.cddl_match.specs.declared.questions.Reading.{Reading};
 ghost use Rattle.cddl_match.specs.declared.questions.Rounds.{Rounds};
 
@@ -21,8 +21,8 @@ use crate::shelf::Shelf;
 use crate::sorting::alternative_move;
 use crate::telling::{DEEPEST, form_tells};
 use cbor_item::Item;
-use cddl_table::{Group, GroupId, Node, Table, TypeId};
 use std::alloc::{AllocError, Global};
+use table_nodes::{Group, GroupId, Node, Table, TypeId};
 
 /// A move that something comes to, and how many questions are asked until then.
 #[derive(Drop)]
@@ -31,7 +31,7 @@ pub(crate) struct Ahead<'t, 'i> {
     pub(crate) asked: u64,
 }
 
-/// What a type comes to.
+// What a type comes to.
 fn type_ahead<'t, 'i>(
     table: &'t Table,
     node: TypeId,
@@ -47,7 +47,7 @@ fn type_ahead<'t, 'i>(
     }
 }
 
-/// What a group comes to.
+// What a group comes to.
 fn group_ahead<'t, 'i>(
     table: &'t Table,
     group: GroupId,
@@ -64,11 +64,11 @@ fn group_ahead<'t, 'i>(
     }
 }
 
-/// What a question comes to.
-///
-/// # Errors
-///
-/// `AllocError` where there is no memory for the tally of an alternative.
+// What a question comes to.
+//
+// # Errors
+//
+// `AllocError` where there is no memory for the tally of an alternative.
 pub(crate) fn look_ahead<'t, 'i>(
     alloc: Global,
     table: &'t Table,
@@ -110,7 +110,7 @@ struct Entered<'t> {
     types: u8,
 }
 
-/// The entry that the group leads to, if it leads to one.
+// The entry that the group leads to, if it leads to one.
 fn entry_at<'t>(table: &'t Table, group: GroupId) -> Option<Entered<'t>>
     ensures { IfSome result (λ it. IsEntered (language_of table.now) group (type_view it.form.now) it.groups it.types) }
 {
@@ -127,7 +127,7 @@ fn entry_at<'t>(table: &'t Table, group: GroupId) -> Option<Entered<'t>>
     })
 }
 
-/// What the entry does with the items where tests alone tell it, and how many questions that takes, if not over `steps`.
+// What the entry does with the items where tests alone tell it, and how many questions that takes, if not over `steps`.
 #[inline]
 fn told<'i>(
     table: &Table,
@@ -155,7 +155,7 @@ fn told<'i>(
     }
 }
 
-/// What a group does with the items where tests alone tell it, and how many questions that takes, if not over `steps`.
+// What a group does with the items where tests alone tell it, and how many questions that takes, if not over `steps`.
 fn group_told<'i>(
     table: &Table,
     group: GroupId,
@@ -171,8 +171,8 @@ fn group_told<'i>(
     told(table, entered, base, place, items, steps)
 }
 
-/// Rounds of an entry, one after the other, as far as tests alone tell them and the steps go: the rounds that are left, or the
-/// reply; and how many questions that takes.
+// Rounds of an entry, one after the other, as far as tests alone tell them and the steps go: the rounds that are left, or the
+// reply; and how many questions that takes.
 fn rounds_of<'i>(
     table: &Table,
     entered: Entered<'_>,
@@ -204,7 +204,7 @@ fn rounds_of<'i>(
     (Round::Another(rounds), asked)
 }
 
-/// Rounds, one after the other, as far as tests alone tell them and the steps go, and how many questions that takes.
+// Rounds, one after the other, as far as tests alone tell them and the steps go, and how many questions that takes.
 pub(crate) fn rounds_told<'i>(table: &Table, rounds: Rounds<'i>, steps: u64) -> (Round<'i>, u64)
     ensures comes { ComesTo (language_of table.now) (rounds_move rounds.entry) (round_move result.0) result.1 }
     ensures within { result.1 ≤ steps }
@@ -215,7 +215,7 @@ pub(crate) fn rounds_told<'i>(table: &Table, rounds: Rounds<'i>, steps: u64) -> 
     }
 }
 
-/// What rounds come to: some of them that are told at once, and the question for the next one.
+// What rounds come to: some of them that are told at once, and the question for the next one.
 fn rounds_ahead<'t, 'i>(table: &Table, rounds: Rounds<'i>, steps: u64) -> Ahead<'t, 'i>
     ensures comes { ComesTo (language_of table.now) (rounds_move rounds.entry) (move_view result.next) result.asked }
     ensures within { result.asked ≤ steps }
@@ -234,8 +234,8 @@ fn rounds_ahead<'t, 'i>(table: &Table, rounds: Rounds<'i>, steps: u64) -> Ahead<
     }
 }
 
-/// What a sequence comes to after its next group, where that is told at once, and how many questions that takes, if not over
-/// `steps`.
+// What a sequence comes to after its next group, where that is told at once, and how many questions that takes, if not over
+// `steps`.
 fn part_told<'t, 'i>(table: &Table, left: Parts<'t, 'i>, steps: u64) -> Option<(Move<'t, 'i>, u64)>
     ensures comes { IfSome result (λ it. ComesTo (language_of table.now) (parts_move left.entry) (move_view it.0) it.1) }
     ensures kind { IfSome result (λ it. (rounds : Rounds) → it.0 ≡ Move.Repeats rounds → ⊥) }
@@ -247,7 +247,7 @@ fn part_told<'t, 'i>(table: &Table, left: Parts<'t, 'i>, steps: u64) -> Option<(
     Some((next_in_sequence(others, left.base, left.far, reply), asked))
 }
 
-/// What a sequence comes to: some of its groups that are told at once, and the question for the next one.
+// What a sequence comes to: some of its groups that are told at once, and the question for the next one.
 fn parts_ahead<'t, 'i>(table: &'t Table, parts: Parts<'t, 'i>, steps: u64) -> Ahead<'t, 'i>
     ensures comes { ComesTo (language_of table.now) (parts_move parts.entry) (move_view result.next) result.asked }
     ensures within { result.asked ≤ steps }
@@ -268,12 +268,12 @@ fn parts_ahead<'t, 'i>(table: &'t Table, parts: Parts<'t, 'i>, steps: u64) -> Ah
     }
 }
 
-/// What a move comes to: rounds and sequences go on as far as tests alone tell them and the steps go, and a byte string is
-/// read.
-///
-/// # Errors
-///
-/// `AllocError` where there is no memory for what a byte string holds.
+// What a move comes to: rounds and sequences go on as far as tests alone tell them and the steps go, and a byte string is
+// read.
+//
+// # Errors
+//
+// `AllocError` where there is no memory for what a byte string holds.
 pub(crate) fn move_ahead<'t, 'i>(
     table: &'t Table,
     shelf: &mut Shelf<'i>,

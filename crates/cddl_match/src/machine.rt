@@ -7,17 +7,17 @@ ghost use Rattle.cddl_match.specs.Machine.{IsVerdict, LastNeedsRoom, found_verdi
 ghost use Rattle.cddl_match.specs.Open.{AreOpen};
 ghost use Rattle.cddl_match.specs.Progress.{GoesOn, IsAnswer, IsSame};
 ghost use Rattle.cddl_match.specs.declared.answers.End.TheVariants as E;
-ghost use Rattle.cddl_ranks.specs.Decided.{IsDecided};
-ghost use Rattle.cddl_table.specs.Language.{RootSays, language_of, ranks_of, root_form};
+ghost use Rattle.cddl_meaning.specs.Ranks.Decided.{IsDecided};
+ghost use Rattle.table_nodes.specs.Language.{RootSays, language_of, ranks_of, root_form};
 
 use crate::answers::{End, Verdict};
 use crate::questions::{Move, Pending, Question, Reply, Subject};
 use crate::shelf::{Cells, Shelf};
 use crate::stack::{Found, Run, step};
 use cbor_item::Sound;
-use cddl_table::Table;
 use std::alloc::{AllocError, Global};
 use std::marker::Model;
+use table_nodes::Table;
 
 /// Asks the root type of a table about an item, one question a turn.
 ///
@@ -51,7 +51,7 @@ impl<'t, 'i> Model for Machine<'t, 'i> {
     ghost invariant = { λ m. IsMachine m.table.now m.item.now m.steps m.room m.run m.end };
 }
 
-/// What a table says whose root type was asked first.
+// What a table says whose root type was asked first.
 fn verdict_of(found: Found<'_>) -> Verdict
     ensures { result ≡ found_verdict found.entry }
 {

@@ -2,7 +2,7 @@
 
 ghost use Rattle.std.specs.Prelude.{◌≡◌, false, true};
 ghost use Rattle.cbor_data.specs.Value.{place_count};
-ghost use Rattle.cbor_item.specs.View.{view};
+ghost use Rattle.item_nodes.specs.View.{view};
 ghost use Rattle.cddl_meaning.specs.Judges.{is_over, one_less};
 ghost use Rattle.cddl_meaning.specs.Forms.{members_in, tag_in, simple_in};
 ghost use Rattle.cddl_meaning.specs.Moves as M;
@@ -35,10 +35,10 @@ ghost use Rattle.cddl_match.specs.Views.{goes_on, parts_move, pending_view, move
 ghost use Rattle.cddl_match.specs.declared.questions.Pending.TheVariants as P;
 ghost use Rattle.cddl_match.specs.declared.questions.Reading.{Reading};
 ghost use Rattle.cddl_match.specs.declared.questions.Rounds.{Rounds};
-ghost use Rattle.cddl_table.specs.declared.nodes.GroupId.{GroupId};
-ghost use Rattle.cddl_table.specs.declared.nodes.TypeId.{TypeId};
-ghost use Rattle.cddl_table.specs.Language.{language_of};
-ghost use Rattle.cddl_table.specs.Nodes.{group_view, most_view, tag_number_view, type_view};
+ghost use Rattle.table_nodes.specs.declared.nodes.GroupId.{GroupId};
+ghost use Rattle.table_nodes.specs.declared.nodes.TypeId.{TypeId};
+ghost use Rattle.table_nodes.specs.Language.{language_of};
+ghost use Rattle.table_nodes.specs.Nodes.{group_view, most_view, tag_number_view, type_view};
 
 use crate::controls::{
     both_move, held_reply, holding_move, next_in_holder, next_in_left, next_in_such, such_move,
@@ -48,9 +48,9 @@ use crate::questions::{Move, Parts, Pending, Question, Reply, Round, Rounds, Sub
 use crate::sorting::{map_move, next_in_key, next_in_map, next_in_value};
 use crate::tested::passes_test;
 use cbor_item::Item;
-use cddl_table::{Group, GroupId, Most, Node, Table, TagNumber, Test, TypeId};
+use table_nodes::{Group, GroupId, Most, Node, Table, TagNumber, Test, TypeId};
 
-/// The place after an item, or after one whose number is asked about.
+// The place after an item, or after one whose number is asked about.
 #[inline]
 pub(crate) fn place_behind(place: usize, subject: Subject<'_>) -> usize
     ensures { result ≡ M.plus place (place_count (subject_view subject.entry)) }
@@ -61,7 +61,7 @@ pub(crate) fn place_behind(place: usize, subject: Subject<'_>) -> usize
     }
 }
 
-/// A yes. It tells the place after the item, so that nobody counts the item's places a second time.
+// A yes. It tells the place after the item, so that nobody counts the item's places a second time.
 fn yes_reply<'i>(place: usize, subject: Subject<'i>) -> Reply<'i>
     ensures { reply_view result ≡ yes_reply place (subject_view subject.entry) }
 {
@@ -72,7 +72,7 @@ fn yes_reply<'i>(place: usize, subject: Subject<'i>) -> Reply<'i>
     }
 }
 
-/// What a test replies that says this: it fails at the item.
+// What a test replies that says this: it fails at the item.
 #[inline]
 pub(crate) fn said_reply<'i>(place: usize, subject: Subject<'i>, says: bool) -> Reply<'i>
     ensures { reply_view result ≡ test_reply place (subject_view subject.entry) says }
@@ -84,7 +84,7 @@ pub(crate) fn said_reply<'i>(place: usize, subject: Subject<'i>, says: bool) -> 
     }
 }
 
-/// The next member of a choice of types.
+// The next member of a choice of types.
 fn next_member<'t, 'i>(
     members: &'t [TypeId],
     place: usize,
@@ -111,7 +111,7 @@ fn next_member<'t, 'i>(
     }
 }
 
-/// The next group of a sequence, with what the one before left.
+// The next group of a sequence, with what the one before left.
 pub(crate) fn another_part<'t, 'i>(left: Parts<'t, 'i>) -> Move<'t, 'i>
     ensures asks { move_view result ≡ parts_move left.entry }
     ensures turns { goes_on result ≡ false }
@@ -141,7 +141,7 @@ pub(crate) fn another_part<'t, 'i>(left: Parts<'t, 'i>) -> Move<'t, 'i>
     }
 }
 
-/// The next group of a choice of groups, with the items that the ones before failed on.
+// The next group of a choice of groups, with the items that the ones before failed on.
 fn next_alternative<'t, 'i>(
     parts: &'t [GroupId],
     base: usize,
@@ -171,14 +171,14 @@ fn next_alternative<'t, 'i>(
     }
 }
 
-/// Whether no round may follow.
+// Whether no round may follow.
 pub(crate) fn is_over(most: Most) -> bool
     ensures { result ≡ is_over (most_view most) }
 {
     matches!(most, Most::AtMost(0))
 }
 
-/// The rounds that may follow after one more.
+// The rounds that may follow after one more.
 fn one_less(most: Most) -> Most
     ensures { most_view result ≡ one_less (most_view most) }
 {
@@ -188,7 +188,7 @@ fn one_less(most: Most) -> Most
     }
 }
 
-/// Another round of a repetition, unless there were as many as may be.
+// Another round of a repetition, unless there were as many as may be.
 pub(crate) fn another_round<'t, 'i>(rounds: Rounds<'i>) -> Move<'t, 'i>
     ensures asks { move_view result ≡ rounds_move rounds.entry }
     ensures turns { goes_on result ≡ false }
@@ -218,7 +218,7 @@ pub(crate) fn another_round<'t, 'i>(rounds: Rounds<'i>) -> Move<'t, 'i>
     )
 }
 
-/// An array asks its group of all of its items, the first of them at the place after its own.
+// An array asks its group of all of its items, the first of them at the place after its own.
 #[tactic(auto, using(crate::proofs::Lists::members_of_values, crate::proofs::Lists::members_of_array))]
 fn array_move<'t, 'i>(group: GroupId, place: usize, subject: Subject<'i>) -> Move<'t, 'i>
     ensures { move_view result ≡ array_move group place (members_in (subject_view subject.entry)) }
@@ -237,7 +237,7 @@ fn array_move<'t, 'i>(group: GroupId, place: usize, subject: Subject<'i>) -> Mov
     }
 }
 
-/// A tag asks about its content, whose place is after the tag's own.
+// A tag asks about its content, whose place is after the tag's own.
 fn content_move<'t, 'i>(node: TypeId, place: usize, content: &'i Item) -> Move<'t, 'i>
     ensures { move_view result ≡ content_move node place (view content.now) true }
 {
@@ -253,7 +253,7 @@ fn content_move<'t, 'i>(node: TypeId, place: usize, content: &'i Item) -> Move<'
     )
 }
 
-/// A tag asks about its content if its number is meant, and else fails.
+// A tag asks about its content if its number is meant, and else fails.
 fn content_move_if<'t, 'i>(
     is_meant: bool,
     node: TypeId,
@@ -268,7 +268,7 @@ fn content_move_if<'t, 'i>(
     Move::Answered(Reply::Fails { far: place })
 }
 
-/// A tag asks about its number first, then about its content.
+// A tag asks about its number first, then about its content.
 fn tag_move<'t, 'i>(
     number: TagNumber,
     node: TypeId,
@@ -301,7 +301,7 @@ fn tag_move<'t, 'i>(
     }
 }
 
-/// A simple value asks about its number, which has the value's own place.
+// A simple value asks about its number, which has the value's own place.
 fn simple_move<'t, 'i>(node: TypeId, place: usize, subject: Subject<'i>) -> Move<'t, 'i>
     ensures { move_view result ≡ simple_move node place (simple_in (subject_view subject.entry)) }
 {
@@ -318,7 +318,7 @@ fn simple_move<'t, 'i>(node: TypeId, place: usize, subject: Subject<'i>) -> Move
     }
 }
 
-/// What a type asks first, or its reply.
+// What a type asks first, or its reply.
 fn type_move<'t, 'i>(node: &'t Node, place: usize, subject: Subject<'i>) -> Move<'t, 'i>
     ensures { move_view result ≡ type_move (type_view node.now) place (subject_view subject.entry) }
 {
@@ -347,7 +347,7 @@ fn type_move<'t, 'i>(node: &'t Node, place: usize, subject: Subject<'i>) -> Move
     }
 }
 
-/// An entry asks about the first item. Where there is none, it fails at the array.
+// An entry asks about the first item. Where there is none, it fails at the array.
 fn entry_move<'t, 'i>(node: TypeId, base: usize, place: usize, items: &'i [Item]) -> Move<'t, 'i>
     ensures { move_view result ≡ entry_move node base place (values items.now) }
 {
@@ -364,7 +364,7 @@ fn entry_move<'t, 'i>(node: TypeId, base: usize, place: usize, items: &'i [Item]
     }
 }
 
-/// What a group asks first, or its reply.
+// What a group asks first, or its reply.
 fn group_move<'t, 'i>(
     group: &'t Group,
     base: usize,
@@ -410,7 +410,7 @@ fn group_move<'t, 'i>(
     }
 }
 
-/// What a type asks first, or its reply.
+// What a type asks first, or its reply.
 pub(crate) fn first_of_type<'t, 'i>(
     table: &'t Table,
     node: TypeId,
@@ -425,7 +425,7 @@ pub(crate) fn first_of_type<'t, 'i>(
     }
 }
 
-/// What a group asks first, or its reply.
+// What a group asks first, or its reply.
 pub(crate) fn first_of_group<'t, 'i>(
     table: &'t Table,
     group: GroupId,
@@ -441,7 +441,7 @@ pub(crate) fn first_of_group<'t, 'i>(
     }
 }
 
-/// An array's reply, by what its group did: the first item that is left shows a no.
+// An array's reply, by what its group did: the first item that is left shows a no.
 fn array_reply(reply: Reply<'_>) -> Reply<'_>
     ensures { reply_view result ≡ array_reply (reply_view reply.entry) }
 {
@@ -457,7 +457,7 @@ fn array_reply(reply: Reply<'_>) -> Reply<'_>
     }
 }
 
-/// A member of a choice of types has replied: a yes is the choice's own, without what failed before.
+// A member of a choice of types has replied: a yes is the choice's own, without what failed before.
 fn next_in_choice<'t, 'i>(
     members: &'t [TypeId],
     place: usize,
@@ -477,7 +477,7 @@ fn next_in_choice<'t, 'i>(
     }
 }
 
-/// The number of a tag is known to be meant, or not, which shows at the tag.
+// The number of a tag is known to be meant, or not, which shows at the tag.
 fn next_in_head<'t, 'i>(
     node: TypeId,
     place: usize,
@@ -492,7 +492,7 @@ fn next_in_head<'t, 'i>(
     }
 }
 
-/// The number of a simple value is known to be meant, or not.
+// The number of a simple value is known to be meant, or not.
 fn next_in_simple<'t, 'i>(place: usize, reply: Reply<'i>) -> Move<'t, 'i>
     ensures { move_view result ≡ next_move (InSimple place) (reply_view reply.entry) }
 {
@@ -506,7 +506,7 @@ fn next_in_simple<'t, 'i>(place: usize, reply: Reply<'i>) -> Move<'t, 'i>
     }
 }
 
-/// What an entry does whose item has matched, or not.
+// What an entry does whose item has matched, or not.
 #[inline]
 pub(crate) fn entry_reply<'i>(base: usize, rest: &'i [Item], reply: Reply<'i>) -> Reply<'i>
     ensures { M.Answered (reply_view result) ≡ next_move {N = TypeId} {G = GroupId} (InEntry base (values rest.now)) (reply_view reply.entry) }
@@ -523,7 +523,7 @@ pub(crate) fn entry_reply<'i>(base: usize, rest: &'i [Item], reply: Reply<'i>) -
     }
 }
 
-/// A group of a sequence has taken items, or failed: nothing is given back, so the sequence fails with it.
+// A group of a sequence has taken items, or failed: nothing is given back, so the sequence fails with it.
 pub(crate) fn next_in_sequence<'t, 'i>(
     parts: &'t [GroupId],
     base: usize,
@@ -553,7 +553,7 @@ pub(crate) fn next_in_sequence<'t, 'i>(
     }
 }
 
-/// A group of a choice of groups has taken items, and the choice is made; or it has failed.
+// A group of a choice of groups has taken items, and the choice is made; or it has failed.
 fn next_in_alternatives<'t, 'i>(
     parts: &'t [GroupId],
     base: usize,
@@ -578,7 +578,7 @@ fn next_in_alternatives<'t, 'i>(
     }
 }
 
-/// A round has failed: so does the repetition, unless there were enough rounds.
+// A round has failed: so does the repetition, unless there were enough rounds.
 fn end_of_rounds<'i>(least: u64, items: &'i [Item], place: usize, far: usize) -> Reply<'i>
     ensures { M.Answered (reply_view result) ≡ end_of_rounds {N = TypeId} {G = GroupId} least (values items.now) place far }
 {
@@ -592,7 +592,7 @@ fn end_of_rounds<'i>(least: u64, items: &'i [Item], place: usize, far: usize) ->
     }
 }
 
-/// A round has taken items, or failed.
+// A round has taken items, or failed.
 #[inline]
 pub(crate) fn after_round<'i>(rounds: Rounds<'i>, reply: Reply<'i>) -> Round<'i>
     ensures next { round_move result ≡ next_move (pending_view (P.Repeat rounds.entry)) (reply_view reply.entry) }
@@ -624,7 +624,7 @@ pub(crate) fn after_round<'i>(rounds: Rounds<'i>, reply: Reply<'i>) -> Round<'i>
     })
 }
 
-/// What a repetition asks next after a round, or its reply.
+// What a repetition asks next after a round, or its reply.
 fn next_in_repeat<'t, 'i>(rounds: Rounds<'i>, reply: Reply<'i>) -> Move<'t, 'i>
     ensures { move_view result ≡ next_move (pending_view (P.Repeat rounds.entry)) (reply_view reply.entry) }
 {
@@ -634,7 +634,7 @@ fn next_in_repeat<'t, 'i>(rounds: Rounds<'i>, reply: Reply<'i>) -> Move<'t, 'i>
     }
 }
 
-/// What a pending question asks next, or its reply, once it is told the reply to what it asked.
+// What a pending question asks next, or its reply, once it is told the reply to what it asked.
 pub(crate) fn next_move<'t, 'i>(pending: Pending<'t, 'i>, reply: Reply<'i>) -> Move<'t, 'i>
     ensures { move_view result ≡ next_move (pending_view pending.entry) (reply_view reply.entry) }
 {

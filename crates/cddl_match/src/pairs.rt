@@ -4,22 +4,22 @@ ghost use Rattle.std.specs.Prelude.{◌≡◌, ◌≤◌, ◌<◌, ◌∷◌, �
 ghost use Rattle.cddl_meaning.specs.Forms as F;
 ghost use Rattle.cddl_meaning.specs.Judges as J;
 ghost use Rattle.cddl_meaning.specs.Moves as M;
-ghost use Rattle.cbor_item.specs.View.{view};
+ghost use Rattle.item_nodes.specs.View.{view};
 ghost use Rattle.cddl_match.specs.Ahead.{ComesTo, Opens};
 ghost use Rattle.cddl_match.specs.Views.{fate_view, fated, move_view, sorting_view};
-ghost use Rattle.cddl_table.specs.Language.{language_of};
-ghost use Rattle.cddl_table.specs.Nodes.{entry_view};
-ghost use Rattle.cddl_table.specs.declared.nodes.TypeId.{TypeId};
+ghost use Rattle.table_nodes.specs.Language.{language_of};
+ghost use Rattle.table_nodes.specs.Nodes.{entry_view};
+ghost use Rattle.table_nodes.specs.declared.nodes.TypeId.{TypeId};
 
 use crate::looking::Ahead;
 use crate::questions::{Fate, Move, Sorting, Subject};
 use crate::sorting::{next_entry, sorted, value_place};
 use crate::telling::{DEEPEST, type_tells};
 use cbor_item::Item;
-use cddl_table::{MapEntry, Table, TypeId};
+use table_nodes::{MapEntry, Table, TypeId};
 
-/// Whether a type says yes to the item at a place, where tests alone tell it, and how many questions that takes, if not over
-/// `most`.
+// Whether a type says yes to the item at a place, where tests alone tell it, and how many questions that takes, if not over
+// `most`.
 fn said_at(table: &Table, node: TypeId, place: usize, item: &Item, most: u64) -> Option<(bool, u64)>
     ensures opens { IfSome result (λ said. Opens (language_of table.now) (M.OfType node place (view item.now)) (M.Answered (M.test_reply place (view item.now) said.0)) said.1) }
     ensures within { IfSome result (λ said. said.1 ≤ most) }
@@ -27,8 +27,8 @@ fn said_at(table: &Table, node: TypeId, place: usize, item: &Item, most: u64) ->
     type_tells(table, node, Subject::Item(item), DEEPEST, most)
 }
 
-/// What an entry with so many entries after it does with a pair, where tests alone tell it: what becomes of the pair, or
-/// nothing where it is handed on; and how many questions that takes, if not over `steps`.
+// What an entry with so many entries after it does with a pair, where tests alone tell it: what becomes of the pair, or
+// nothing where it is handed on; and how many questions that takes, if not over `steps`.
 fn entry_told(
     table: &Table,
     entry: &MapEntry,
@@ -55,7 +55,7 @@ fn entry_told(
     Some((None, asked))
 }
 
-/// What becomes of a pair where tests alone tell it, and how many questions that takes, if not over `steps`.
+// What becomes of a pair where tests alone tell it, and how many questions that takes, if not over `steps`.
 fn fate_told(table: &Table, sorting: &Sorting<'_, '_>, steps: u64) -> Option<(Fate, u64)>
     ensures comes { IfSome result (λ it. ComesTo (language_of table.now) (M.next_entry (sorting_view sorting.now).entries (sorting_view sorting.now)) (M.sorted (sorting_view sorting.now) (fate_view it.0)) it.1) }
     ensures within { IfSome result (λ it. it.1 ≤ steps) }
@@ -74,9 +74,9 @@ fn fate_told(table: &Table, sorting: &Sorting<'_, '_>, steps: u64) -> Option<(Fa
     Some((Fate::Stray { place }, asked))
 }
 
-/// What pairs come to, one after the other as far as tests alone tell what becomes of them: the reply of their alternative,
-/// or the question of the first entry about a pair. Each takes a step, and one more for each entry of the alternative; none
-/// is answered where there are not so many.
+// What pairs come to, one after the other as far as tests alone tell what becomes of them: the reply of their alternative,
+// or the question of the first entry about a pair. Each takes a step, and one more for each entry of the alternative; none
+// is answered where there are not so many.
 pub(crate) fn pairs_ahead<'t, 'i>(
     table: &'t Table,
     sorting: Sorting<'t, 'i>,

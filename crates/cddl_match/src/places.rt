@@ -2,12 +2,12 @@
 
 ghost use Rattle.std.specs.Prelude.{◌≡◌};
 ghost use Rattle.cbor_data.specs.Value.{place_count, values_place_count, pairs_place_count};
-ghost use Rattle.cbor_item.specs.View.{view, values_view, pairs_view};
+ghost use Rattle.item_nodes.specs.View.{view, values_view, pairs_view};
 ghost use Rattle.cddl_meaning.specs.Moves.{plus};
 
 use cbor_item::Item;
 
-/// A sum that stays at the greatest number, which no place of a sound item reaches.
+// A sum that stays at the greatest number, which no place of a sound item reaches.
 #[inline]
 pub(crate) fn plus(a: usize, b: usize) -> usize
     ensures { result ≡ plus a b }
@@ -15,7 +15,7 @@ pub(crate) fn plus(a: usize, b: usize) -> usize
     a.saturating_add(b)
 }
 
-/// The place after an item that is at this place, as far as 2^64 - 1.
+// The place after an item that is at this place, as far as 2^64 - 1.
 #[inline]
 pub(crate) fn place_after(item: &Item, place: usize) -> usize
     ensures { result ≡ plus place (place_count (view item.now)) }
@@ -26,7 +26,7 @@ pub(crate) fn place_after(item: &Item, place: usize) -> usize
     }
 }
 
-/// The place after an item and all that is in it.
+// The place after an item and all that is in it.
 #[cycle(after)]
 fn place_after_all(item: &Item, place: usize) -> usize
     ensures { result ≡ plus place (place_count (view item.now)) }
@@ -40,7 +40,7 @@ fn place_after_all(item: &Item, place: usize) -> usize
     }
 }
 
-/// The place after items, of which the first is at this place.
+// The place after items, of which the first is at this place.
 #[cycle(after)]
 fn place_after_items(items: &Vec<Item>, place: usize) -> usize
     ensures { result ≡ plus place (values_place_count (values_view items.now.items)) }
@@ -52,7 +52,7 @@ fn place_after_items(items: &Vec<Item>, place: usize) -> usize
     next
 }
 
-/// The place after pairs, of which the first key is at this place.
+// The place after pairs, of which the first key is at this place.
 #[cycle(after)]
 fn place_after_pairs(pairs: &Vec<(Item, Item)>, place: usize) -> usize
     ensures { result ≡ plus place (pairs_place_count (pairs_view pairs.now.items)) }

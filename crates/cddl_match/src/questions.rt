@@ -2,7 +2,7 @@
 
 use crate::counts::Counts;
 use cbor_item::Item;
-use cddl_table::{Content, GroupId, MapEntry, Most, Test, TypeId};
+use table_nodes::{Content, GroupId, MapEntry, Most, Test, TypeId};
 
 /// What a type is asked of.
 #[derive(Clone, Copy)]

@@ -2,23 +2,23 @@
 
 ghost use Rattle.std.specs.Prelude.{◌≡◌, false, IfOk, List, [], ◌∷◌, map, MatchOption};
 ghost use Rattle.cbor_data.specs.Value.{Value};
-ghost use Rattle.cbor_item.specs.View.{view};
+ghost use Rattle.item_nodes.specs.View.{view};
 ghost use Rattle.cddl_meaning.specs.Forms.{Language};
 ghost use Rattle.cddl_meaning.specs.Held.{Holds};
 ghost use Rattle.cddl_match.specs.Ahead.{ComesTo};
 ghost use Rattle.cddl_match.specs.Views.{goes_on, move_view, reading_move};
-ghost use Rattle.cddl_table.specs.Nodes.{content_view};
-ghost use Rattle.cddl_table.specs.declared.nodes.GroupId.{GroupId};
-ghost use Rattle.cddl_table.specs.declared.nodes.TypeId.{TypeId};
+ghost use Rattle.table_nodes.specs.Nodes.{content_view};
+ghost use Rattle.table_nodes.specs.declared.nodes.GroupId.{GroupId};
+ghost use Rattle.table_nodes.specs.declared.nodes.TypeId.{TypeId};
 
 use crate::questions::{Move, Pending, Question, Reading, Reply, Subject};
 use crate::shelf::Shelf;
 use cbor_item::{Item, Sound};
 use cbor_read::{embedded, embedded_item};
-use cddl_table::Content;
 use std::alloc::{AllocError, Global};
+use table_nodes::Content;
 
-/// The same items.
+// The same items.
 fn plain_items(alloc: Global, items: Vec<Sound>) -> Result<Vec<Item>, AllocError>
     ensures { IfOk result (λ plain. map view plain.items ≡ items.items) }
 {
@@ -29,7 +29,7 @@ fn plain_items(alloc: Global, items: Vec<Sound>) -> Result<Vec<Item>, AllocError
     Ok(plain)
 }
 
-/// What a byte string of these bytes holds, if it holds something.
+// What a byte string of these bytes holds, if it holds something.
 pub(crate) fn held_in(
     alloc: Global,
     content: Content,
@@ -53,11 +53,11 @@ pub(crate) fn held_in(
     }
 }
 
-/// What a reading comes to: a type is asked of what the byte string holds. If it holds nothing, that shows at the string.
-///
-/// # Errors
-///
-/// `AllocError` where there is no memory for what it holds.
+// What a reading comes to: a type is asked of what the byte string holds. If it holds nothing, that shows at the string.
+//
+// # Errors
+//
+// `AllocError` where there is no memory for what it holds.
 pub(crate) fn reading_ahead<'t, 'i>(
     shelf: &mut Shelf<'i>,
     reading: Reading<'i>,

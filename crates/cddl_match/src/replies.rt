@@ -1,25 +1,25 @@
 //! What follows at once from what was asked, and what is in an item.
 
 ghost use Rattle.std.specs.Prelude.{◌≡◌, Some, None, MatchOption};
-ghost use Rattle.cbor_item.specs.View.{pairs_view, view};
+ghost use Rattle.item_nodes.specs.View.{pairs_view, view};
 ghost use Rattle.cddl_meaning.specs.Forms as F;
 ghost use Rattle.cddl_meaning.specs.Forms.{Language, bytes_in, members_in, pairs_in, passes, simple_in};
 ghost use Rattle.cddl_meaning.specs.Judges as J;
 ghost use Rattle.cddl_meaning.specs.Moves as M;
 ghost use Rattle.cddl_match.specs.Views.{values};
 ghost use Rattle.cddl_match.specs.Within.{Replied, Says, array_outcome, done_view, entry_outcome, held_outcome, said_view, simple_outcome, such_outcome};
-ghost use Rattle.cddl_table.specs.Nodes.{test_view};
-ghost use Rattle.cddl_table.specs.declared.nodes.GroupId.{GroupId};
-ghost use Rattle.cddl_table.specs.declared.nodes.TypeId.{TypeId};
+ghost use Rattle.table_nodes.specs.Nodes.{test_view};
+ghost use Rattle.table_nodes.specs.declared.nodes.GroupId.{GroupId};
+ghost use Rattle.table_nodes.specs.declared.nodes.TypeId.{TypeId};
 
 use crate::means::Means;
 use crate::places::{place_after, plus};
 use crate::questions::{Reply, Said, Stop};
 use crate::tested::passes;
 use cbor_item::Item;
-use cddl_table::Test;
+use table_nodes::Test;
 
-/// The members of an array.
+// The members of an array.
 #[tactic(auto, using(crate::proofs::Lists::members_of_values, crate::proofs::Lists::members_of_array))]
 pub(crate) fn items_of(item: &Item) -> Option<&[Item]>
     ensures { MatchOption result (members_in (view item.now) ≡ None) (λ items. members_in (view item.now) ≡ Some (values items.now)) }
@@ -30,7 +30,7 @@ pub(crate) fn items_of(item: &Item) -> Option<&[Item]>
     }
 }
 
-/// The pairs of a map.
+// The pairs of a map.
 #[tactic(auto, using(crate::proofs::Lists::pairs_of_map))]
 pub(crate) fn pairs_of(item: &Item) -> Option<&[(Item, Item)]>
     ensures { MatchOption result (pairs_in (view item.now) ≡ None) (λ pairs. pairs_in (view item.now) ≡ Some (pairs_view pairs.now)) }
@@ -41,7 +41,7 @@ pub(crate) fn pairs_of(item: &Item) -> Option<&[(Item, Item)]>
     }
 }
 
-/// The bytes of a byte string.
+// The bytes of a byte string.
 pub(crate) fn bytes_of(item: &Item) -> Option<&[u8]>
     ensures { MatchOption result (bytes_in (view item.now) ≡ None) (λ bytes. bytes_in (view item.now) ≡ Some bytes.now) }
 {
@@ -51,7 +51,7 @@ pub(crate) fn bytes_of(item: &Item) -> Option<&[u8]>
     }
 }
 
-/// The number of a simple value.
+// The number of a simple value.
 pub(crate) fn simple_of(item: &Item) -> Option<u64>
     ensures { MatchOption result (simple_in (view item.now) ≡ None) (λ number. simple_in (view item.now) ≡ Some number) }
 {
@@ -61,7 +61,7 @@ pub(crate) fn simple_of(item: &Item) -> Option<u64>
     }
 }
 
-/// What a test says.
+// What a test says.
 #[inline(always)]
 pub(crate) fn tested(test: &Test, place: usize, item: &Item) -> Said
     ensures { said_view result ≡ Replied (M.test_reply place (view item.now) (passes (test_view test.now) (view item.now))) }
@@ -75,7 +75,7 @@ pub(crate) fn tested(test: &Test, place: usize, item: &Item) -> Said
     }
 }
 
-/// What a type says that is a test.
+// What a type says that is a test.
 #[inline(always)]
 pub(crate) fn test_says(means: &mut Means<'_>, test: &Test, place: usize, item: &Item) -> Said
     ensures { (l : Language TypeId GroupId) (n : TypeId) → l.type_at n ≡ F.Plain (test_view test.now) → Says l (M.OfType n place (view item.now)) means.old.left means.new.left (said_view result) }
@@ -87,7 +87,7 @@ pub(crate) fn test_says(means: &mut Means<'_>, test: &Test, place: usize, item: 
     tested(test, place, item)
 }
 
-/// What an array says by what its group did: the first item that is left shows a no.
+// What an array says by what its group did: the first item that is left shows a no.
 pub(crate) fn array_said(done: Result<Reply<'_>, Stop>) -> Said
     ensures { said_view result ≡ array_outcome (done_view done.entry) }
 {
@@ -100,7 +100,7 @@ pub(crate) fn array_said(done: Result<Reply<'_>, Stop>) -> Said
     }
 }
 
-/// What an entry does whose item has matched, or not.
+// What an entry does whose item has matched, or not.
 pub(crate) fn entry_done<'i>(base: usize, rest: &'i [Item], said: Said) -> Result<Reply<'i>, Stop>
     ensures { done_view result ≡ entry_outcome base (values rest.now) (said_view said) }
 {
@@ -116,7 +116,7 @@ pub(crate) fn entry_done<'i>(base: usize, rest: &'i [Item], said: Said) -> Resul
     }
 }
 
-/// What a simple value says whose number was asked about.
+// What a simple value says whose number was asked about.
 pub(crate) fn simple_said(place: usize, said: Said) -> Said
     ensures { said_view result ≡ simple_outcome place (said_view said) }
 {
@@ -130,7 +130,7 @@ pub(crate) fn simple_said(place: usize, said: Said) -> Said
     }
 }
 
-/// What a type with a test behind it says, which the item passes or not.
+// What a type with a test behind it says, which the item passes or not.
 pub(crate) fn such_said(place: usize, said: Said, passes: bool) -> Said
     ensures { said_view result ≡ such_outcome place passes (said_view said) }
 {
@@ -140,7 +140,7 @@ pub(crate) fn such_said(place: usize, said: Said, passes: bool) -> Said
     }
 }
 
-/// What a byte string, which ends before `next`, says by what is said of what it holds.
+// What a byte string, which ends before `next`, says by what is said of what it holds.
 pub(crate) fn held_said(place: usize, next: usize, said: Said) -> Said
     ensures { said_view result ≡ held_outcome place next (said_view said) }
 {
@@ -152,7 +152,7 @@ pub(crate) fn held_said(place: usize, next: usize, said: Said) -> Said
     }
 }
 
-/// What two alternatives of a map say, of which neither has stopped: yes if one of them does.
+// What two alternatives of a map say, of which neither has stopped: yes if one of them does.
 pub(crate) fn either_said(sofar: Said, said: Said) -> Said
     ensures { (r s : J.Reply) → said_view sofar ≡ Replied r → said_view said ≡ Replied s → said_view result ≡ Replied (M.either_reply r s) }
 {

@@ -2,7 +2,7 @@
 
 ghost use Rattle.std.specs.Prelude.{ℕ, List, Some};
 ghost use Rattle.cbor_data.specs.Value.{Pairs};
-ghost use Rattle.cbor_item.specs.View.{pairs_view, view};
+ghost use Rattle.item_nodes.specs.View.{pairs_view, view};
 ghost use Rattle.cddl_meaning.specs.Forms as F;
 ghost use Rattle.cddl_meaning.specs.Forms.{bytes_in};
 ghost use Rattle.cddl_meaning.specs.Judges as J;
@@ -10,9 +10,9 @@ ghost use Rattle.cddl_meaning.specs.Moves as M;
 ghost use Rattle.cddl_match.specs.Views.{parts_move, rounds_move, values};
 ghost use Rattle.cddl_match.specs.Tellings.{IsTallied, Sorts, Tallies};
 ghost use Rattle.cddl_match.specs.Within.{Ends, Says, done_view, said_view};
-ghost use Rattle.cddl_table.specs.Language.{language_of};
-ghost use Rattle.cddl_table.specs.Nodes.{alternatives_view, content_view, entries_view, group_view, tag_number_view, type_view};
-ghost use Rattle.cddl_table.specs.declared.nodes.TypeId.{TypeId};
+ghost use Rattle.table_nodes.specs.Language.{language_of};
+ghost use Rattle.table_nodes.specs.Nodes.{alternatives_view, content_view, entries_view, group_view, tag_number_view, type_view};
+ghost use Rattle.table_nodes.specs.declared.nodes.TypeId.{TypeId};
 
 use crate::behind::{group_behind, type_behind};
 use crate::frames::{group_by_frames, type_by_frames};
@@ -31,10 +31,10 @@ use crate::sorting::{begin_tally, first_are_enough, tally_pair};
 use crate::tallied::{Tallied, nothing_tallied, told_with};
 use crate::tested::passes;
 use cbor_item::Item;
-use cddl_table::{Content, Group, GroupId, MapEntry, Node, Table, TagNumber, TypeId};
+use table_nodes::{Content, Group, GroupId, MapEntry, Node, Table, TagNumber, TypeId};
 
-/// What a type says of an item. Tests are asked where this is called, since most types that are asked in a loop are tests, or
-/// names of them. Calls are as deep as this, and what is deeper is left to frames.
+// What a type says of an item. Tests are asked where this is called, since most types that are asked in a loop are tests, or
+// names of them. Calls are as deep as this, and what is deeper is left to frames.
 #[inline(always)]
 #[cycle(saying)]
 fn type_says_here<'i>(
@@ -68,7 +68,7 @@ fn type_says_here<'i>(
     }
 }
 
-/// What a type says of an item, by a call.
+// What a type says of an item, by a call.
 #[inline(never)]
 #[cycle(saying)]
 pub(crate) fn type_says<'i>(
@@ -84,7 +84,7 @@ pub(crate) fn type_says<'i>(
     type_says_here(table, means, node, place, item, depth)
 }
 
-/// What a type of this form says of an item.
+// What a type of this form says of an item.
 #[inline(never)]
 #[cycle(saying)]
 fn form_says<'i>(
@@ -149,7 +149,7 @@ fn form_says<'i>(
     }
 }
 
-/// The first yes of these types, asked in order.
+// The first yes of these types, asked in order.
 #[inline(never)]
 #[cycle(saying)]
 fn choice_says<'i>(
@@ -174,7 +174,7 @@ fn choice_says<'i>(
     Said::No { far }
 }
 
-/// A tag, whose number was found, is asked about that first, then about its content.
+// A tag, whose number was found, is asked about that first, then about its content.
 #[cycle(saying)]
 fn tag_says<'i>(
     table: &Table,
@@ -206,7 +206,7 @@ fn tag_says<'i>(
     }
 }
 
-/// What a byte string whose own type has said yes says by what it holds.
+// What a byte string whose own type has said yes says by what it holds.
 #[cycle(saying)]
 fn held_says(
     table: &Table,
@@ -230,7 +230,7 @@ fn held_says(
     }
 }
 
-/// What a type says of an item that is no part of the stream's, and is let go of then.
+// What a type says of an item that is no part of the stream's, and is let go of then.
 #[cycle(saying)]
 fn apart_says(
     table: &Table,
@@ -253,7 +253,7 @@ fn apart_says(
     said
 }
 
-/// What a map at `base` says by what its alternatives say, all of them.
+// What a map at `base` says by what its alternatives say, all of them.
 #[inline(never)]
 #[cycle(saying)]
 fn map_says<'i>(
@@ -280,8 +280,8 @@ fn map_says<'i>(
     sofar
 }
 
-/// What an alternative of these entries says of the map at `base`. Alternatives often begin with the same entries: where
-/// these told what became of each pair in the one before, the pairs are not asked again.
+// What an alternative of these entries says of the map at `base`. Alternatives often begin with the same entries: where
+// these told what became of each pair in the one before, the pairs are not asked again.
 #[cycle(saying)]
 fn alternative_says<'t, 'i>(
     table: &Table,
@@ -310,7 +310,7 @@ fn alternative_says<'t, 'i>(
     }
 }
 
-/// What the pairs of the map at `base` come to with these entries, one after the other.
+// What the pairs of the map at `base` come to with these entries, one after the other.
 #[cycle(saying)]
 fn tally_pairs<'t, 'i>(
     table: &Table,
@@ -357,7 +357,7 @@ fn tally_pairs<'t, 'i>(
     Ok(())
 }
 
-/// What becomes of a pair, its key at `place`, that is tried with these entries.
+// What becomes of a pair, its key at `place`, that is tried with these entries.
 #[inline(always)]
 #[cycle(saying)]
 fn pair_fate<'i>(
@@ -395,7 +395,7 @@ fn pair_fate<'i>(
     Ok(Fate::Stray { place })
 }
 
-/// What a group does with items. Entries are asked where this is called, since most groups of a sequence are entries.
+// What a group does with items. Entries are asked where this is called, since most groups of a sequence are entries.
 #[inline(always)]
 #[cycle(saying)]
 fn group_does_here<'i>(
@@ -421,7 +421,7 @@ fn group_does_here<'i>(
     }
 }
 
-/// What an entry does with items: it takes the first one, if that is of its type.
+// What an entry does with items: it takes the first one, if that is of its type.
 #[inline(always)]
 #[cycle(saying)]
 fn entry_does<'i>(
@@ -444,7 +444,7 @@ fn entry_does<'i>(
     }
 }
 
-/// What a group does with items. Calls are as deep as this, and what is deeper is left to frames.
+// What a group does with items. Calls are as deep as this, and what is deeper is left to frames.
 #[cycle(saying)]
 fn group_does<'i>(
     table: &Table,
@@ -471,7 +471,7 @@ fn group_does<'i>(
     }
 }
 
-/// What a group of this form does with items.
+// What a group of this form does with items.
 #[cycle(saying)]
 fn group_form_does<'i>(
     table: &Table,
@@ -519,7 +519,7 @@ fn group_form_does<'i>(
     }
 }
 
-/// What a sequence does: each group with what the one before left.
+// What a sequence does: each group with what the one before left.
 #[cycle(saying)]
 fn parts_do<'t, 'i>(
     table: &Table,
@@ -561,7 +561,7 @@ fn parts_do<'t, 'i>(
     })
 }
 
-/// What a choice of groups does: the first of them that does not fail.
+// What a choice of groups does: the first of them that does not fail.
 #[cycle(saying)]
 fn alternatives_do<'i>(
     table: &Table,
@@ -596,7 +596,7 @@ fn alternatives_do<'i>(
     Ok(Reply::Fails { far })
 }
 
-/// What a repetition does: rounds until one fails, or as many as may be. Those that tests alone tell are not asked by calls.
+// What a repetition does: rounds until one fails, or as many as may be. Those that tests alone tell are not asked by calls.
 #[cycle(saying)]
 fn rounds_do<'i>(
     table: &Table,

@@ -35,7 +35,7 @@ impl Cells {
         }
     }
 
-    /// The cell of this number, if there may be so many.
+    // The cell of this number, if there may be so many.
     fn cell(&self, alloc: Global, number: usize) -> Result<Option<&OnceBox<Item>>, AllocError> {
         let Some(place) = number.checked_add(1) else {
             return Ok(None);
@@ -53,7 +53,7 @@ impl Cells {
     }
 }
 
-/// So many empty cells.
+// So many empty cells.
 fn boxed_cells<T: Drop>(alloc: Global, count: usize) -> Result<Box<Vec<OnceBox<T>>>, AllocError> {
     let mut cells = Vec::new(alloc);
     for _ in 0..count {
@@ -62,7 +62,7 @@ fn boxed_cells<T: Drop>(alloc: Global, count: usize) -> Result<Box<Vec<OnceBox<T
     Ok(Box::new(alloc, cells)?)
 }
 
-/// The item, put into a cell, if that was free.
+// The item, put into a cell, if that was free.
 fn put(cell: &OnceBox<Item>, item: Box<Item>) -> Option<&Item>
     ensures { IfSome result (λ kept. kept.now ≡ item.value) }
 {
@@ -74,7 +74,7 @@ fn put(cell: &OnceBox<Item>, item: Box<Item>) -> Option<&Item>
 }
 
 impl<'i> Shelf<'i> {
-    /// No cell is filled yet.
+    // No cell is filled yet.
     pub(crate) fn new(alloc: Global, cells: &'i Cells) -> Shelf<'i> {
         Shelf {
             alloc,
@@ -83,11 +83,11 @@ impl<'i> Shelf<'i> {
         }
     }
 
-    /// The item, for as long as the cells.
-    ///
-    /// # Errors
-    ///
-    /// `AllocError` where there is no memory for it.
+    // The item, for as long as the cells.
+    //
+    // # Errors
+    //
+    // `AllocError` where there is no memory for it.
     pub(crate) fn keep(&mut self, item: Item) -> Result<&'i Item, AllocError>
         ensures { IfOk result (λ kept. kept.now ≡ item) }
     {

@@ -2,7 +2,7 @@
 
 ghost use Rattle.std.specs.Prelude.{◌≡◌, ◌≤◌, ◌+◌, ◌++◌, suc, length, take, drop, Some, IfNone, IfOk, IfSome, MatchOption};
 ghost use Rattle.cbor_data.specs.Value.{place_count};
-ghost use Rattle.cbor_item.specs.View.{pairs_view, view};
+ghost use Rattle.item_nodes.specs.View.{pairs_view, view};
 ghost use Rattle.cddl_meaning.specs.Forms.{pairs_in};
 ghost use Rattle.cddl_meaning.specs.Judges as J;
 ghost use Rattle.cddl_meaning.specs.Judges.{is_up_to_most};
@@ -30,17 +30,17 @@ ghost use Rattle.cddl_meaning.specs.Moves.{
 };
 ghost use Rattle.cddl_match.specs.Tellings.{counted_again};
 ghost use Rattle.cddl_match.specs.Views.{counts_view, fate_view, move_view, reply_view, sorting_view, subject_view, tally_view};
-ghost use Rattle.cddl_table.specs.Language.{language_of};
-ghost use Rattle.cddl_table.specs.Nodes.{alternatives_view, entries_view, entry_view, most_view};
+ghost use Rattle.table_nodes.specs.Language.{language_of};
+ghost use Rattle.table_nodes.specs.Nodes.{alternatives_view, entries_view, entry_view, most_view};
 
 use crate::counts::Counts;
 use crate::places::{place_after, plus};
 use crate::questions::{Fate, Move, Pending, Question, Reply, Sorting, Subject, Tally};
 use cbor_item::Item;
-use cddl_table::{MapEntry, Most};
 use std::alloc::{AllocError, Global};
+use table_nodes::{MapEntry, Most};
 
-/// Takes in what has become of a pair.
+// Takes in what has become of a pair.
 #[inline]
 pub(crate) fn tally_pair(tally: &mut Tally, fate: Fate)
     ensures { tally_view tally.new ≡ tallied (tally_view tally.old) (fate_view fate) }
@@ -55,7 +55,7 @@ pub(crate) fn tally_pair(tally: &mut Tally, fate: Fate)
     }
 }
 
-/// A tally that is not begun yet. It takes no memory.
+// A tally that is not begun yet. It takes no memory.
 pub(crate) fn no_tally(alloc: Global) -> Tally {
     Tally {
         counts: Counts::new(alloc),
@@ -64,7 +64,7 @@ pub(crate) fn no_tally(alloc: Global) -> Tally {
     }
 }
 
-/// Begins a tally anew, for an alternative with these entries and before any pair.
+// Begins a tally anew, for an alternative with these entries and before any pair.
 #[inline]
 pub(crate) fn begin_tally(tally: &mut Tally, entries: &[MapEntry]) -> Result<(), AllocError>
     ensures { IfOk result (λ _. tally_view tally.new ≡ fresh (entries_view entries.now)) }
@@ -75,7 +75,7 @@ pub(crate) fn begin_tally(tally: &mut Tally, entries: &[MapEntry]) -> Result<(),
     Ok(())
 }
 
-/// Before any pair of an alternative with these entries.
+// Before any pair of an alternative with these entries.
 fn empty_tally(alloc: Global, entries: &[MapEntry]) -> Result<Tally, AllocError>
     ensures { IfOk result (λ tally. tally_view tally ≡ fresh (entries_view entries.now)) }
 {
@@ -84,7 +84,7 @@ fn empty_tally(alloc: Global, entries: &[MapEntry]) -> Result<Tally, AllocError>
     Ok(tally)
 }
 
-/// Whether so many pairs may belong to an entry.
+// Whether so many pairs may belong to an entry.
 fn is_up_to(count: u64, most: Most) -> bool
     ensures { result ≡ is_up_to_most count (most_view most) }
 {
@@ -94,7 +94,7 @@ fn is_up_to(count: u64, most: Most) -> bool
     }
 }
 
-/// Whether as many pairs belong to each entry as it asks for.
+// Whether as many pairs belong to each entry as it asks for.
 fn are_enough(entries: &[MapEntry], counts: &[u64]) -> bool
     ensures { result ≡ enough_of (entries_view entries.now) counts.now }
 {
@@ -112,7 +112,7 @@ fn are_enough(entries: &[MapEntry], counts: &[u64]) -> bool
     true
 }
 
-/// Where an alternative's no shows once all pairs of the map at `base` are tallied, if it says no.
+// Where an alternative's no shows once all pairs of the map at `base` are tallied, if it says no.
 #[inline(never)]
 pub(crate) fn shown_by_tally(entries: &[MapEntry], base: usize, tally: &Tally) -> Option<usize>
     ensures { MatchOption result (tally_says (entries_view entries.now) base (tally_view tally.now) ≡ J.Yes) (λ far. tally_says (entries_view entries.now) base (tally_view tally.now) ≡ J.No far) }
@@ -129,7 +129,7 @@ pub(crate) fn shown_by_tally(entries: &[MapEntry], base: usize, tally: &Tally) -
     None
 }
 
-/// Whether each entry lets no pair belong to it.
+// Whether each entry lets no pair belong to it.
 fn need_none(entries: &[MapEntry]) -> bool
     ensures { result ≡ enough_of (entries_view entries.now) (no_counts (entries_view entries.now)) }
 {
@@ -141,7 +141,7 @@ fn need_none(entries: &[MapEntry]) -> bool
     true
 }
 
-/// Whether as many pairs belong to each of the first entries, so many, as it asks for.
+// Whether as many pairs belong to each of the first entries, so many, as it asks for.
 #[inline(never)]
 pub(crate) fn first_are_enough(told: Option<usize>, entries: &[MapEntry], tally: &Tally) -> bool
     requires { IfSome told (λ told. (told ≤ length entries.now) × (told ≤ length (counts_view tally.now.counts))) }
@@ -153,8 +153,8 @@ pub(crate) fn first_are_enough(told: Option<usize>, entries: &[MapEntry], tally:
     }
 }
 
-/// Whether as many pairs belong to each entry as it asks for, where they are those of so many of the first entries, which
-/// have enough or not.
+// Whether as many pairs belong to each entry as it asks for, where they are those of so many of the first entries, which
+// have enough or not.
 #[inline]
 fn are_enough_in_front(told: usize, enough: bool, entries: &[MapEntry], tally: &Tally) -> bool
     requires counted { told ≤ length (counts_view tally.now.counts) }
@@ -166,8 +166,8 @@ fn are_enough_in_front(told: usize, enough: bool, entries: &[MapEntry], tally: &
     enough && need_none(others)
 }
 
-/// Where an alternative's no shows once all pairs of the map at `base` are tallied, which belong to so many of the first
-/// entries, if it says no.
+// Where an alternative's no shows once all pairs of the map at `base` are tallied, which belong to so many of the first
+// entries, if it says no.
 #[inline]
 pub(crate) fn shown_by_first(
     told: usize,
@@ -190,7 +190,7 @@ pub(crate) fn shown_by_first(
     None
 }
 
-/// What an alternative replies once all pairs of the map at `base`, which ends before `next`, are tallied.
+// What an alternative replies once all pairs of the map at `base`, which ends before `next`, are tallied.
 fn alternative_reply<'i>(entries: &[MapEntry], base: usize, next: usize, tally: &Tally) -> Reply<'i>
     ensures { reply_view result ≡ answer_reply next (tally_says (entries_view entries.now) base (tally_view tally.now)) }
 {
@@ -204,7 +204,7 @@ fn alternative_reply<'i>(entries: &[MapEntry], base: usize, next: usize, tally: 
     }
 }
 
-/// The next pair of an alternative, its key at `place`; the reply, where there is none.
+// The next pair of an alternative, its key at `place`; the reply, where there is none.
 fn next_pair<'t, 'i>(
     entries: &'t [MapEntry],
     base: usize,
@@ -227,11 +227,11 @@ fn next_pair<'t, 'i>(
     }
 }
 
-/// An alternative asks first about the first pair of the map at `base`.
-///
-/// # Errors
-///
-/// `AllocError` where there is no memory for the tally.
+// An alternative asks first about the first pair of the map at `base`.
+//
+// # Errors
+//
+// `AllocError` where there is no memory for the tally.
 pub(crate) fn alternative_move<'t, 'i>(
     alloc: Global,
     entries: &'t [MapEntry],
@@ -244,14 +244,14 @@ pub(crate) fn alternative_move<'t, 'i>(
     Ok(next_pair(entries, base, plus(base, 1), pairs, tally))
 }
 
-/// The place of the pair's value.
+// The place of the pair's value.
 pub(crate) fn value_place(sorting: &Sorting<'_, '_>) -> usize
     ensures { result ≡ (sorting_view sorting.now).value_place }
 {
     place_after(&sorting.pair.0, sorting.place)
 }
 
-/// It is known what becomes of the pair, and the next one is sorted.
+// It is known what becomes of the pair, and the next one is sorted.
 pub(crate) fn sorted<'t, 'i>(sorting: Sorting<'t, 'i>, fate: Fate) -> Move<'t, 'i>
     ensures { move_view result ≡ sorted (sorting_view sorting.entry) (fate_view fate) }
 {
@@ -267,7 +267,7 @@ pub(crate) fn sorted<'t, 'i>(sorting: Sorting<'t, 'i>, fate: Fate) -> Move<'t, '
     next_pair(entries, base, place, rest, tally)
 }
 
-/// The pair is tried with the next of these entries.
+// The pair is tried with the next of these entries.
 pub(crate) fn next_entry<'t, 'i>(entries: &'t [MapEntry], sorting: Sorting<'t, 'i>) -> Move<'t, 'i>
     ensures { move_view result ≡ next_entry (entries_view entries.now) (sorting_view sorting.entry) }
 {
@@ -289,7 +289,7 @@ pub(crate) fn next_entry<'t, 'i>(entries: &'t [MapEntry], sorting: Sorting<'t, '
     }
 }
 
-/// An entry's key type has replied: where it says yes, the entry asks about the value.
+// An entry's key type has replied: where it says yes, the entry asks about the value.
 pub(crate) fn next_in_key<'t, 'i>(
     entry: &'t MapEntry,
     others: &'t [MapEntry],
@@ -315,7 +315,7 @@ pub(crate) fn next_in_key<'t, 'i>(
     }
 }
 
-/// An entry's value type has replied: where it says no, the pair is the entry's only if it cuts.
+// An entry's value type has replied: where it says no, the pair is the entry's only if it cuts.
 pub(crate) fn next_in_value<'t, 'i>(
     entry: &'t MapEntry,
     others: &'t [MapEntry],
@@ -332,7 +332,7 @@ pub(crate) fn next_in_value<'t, 'i>(
     }
 }
 
-/// The next alternative of the map at `base`; what those before replied, where there is none.
+// The next alternative of the map at `base`; what those before replied, where there is none.
 fn next_way<'t, 'i>(
     alternatives: &'t [Vec<MapEntry>],
     base: usize,
@@ -359,7 +359,7 @@ fn next_way<'t, 'i>(
     }
 }
 
-/// A map asks its alternatives, all of them.
+// A map asks its alternatives, all of them.
 #[tactic(auto, using(crate::proofs::Lists::pairs_of_map))]
 pub(crate) fn map_move<'t, 'i>(
     alternatives: &'t [Vec<MapEntry>],
@@ -375,7 +375,7 @@ pub(crate) fn map_move<'t, 'i>(
     }
 }
 
-/// The yes of one of them; else a no that shows at the greater place.
+// The yes of one of them; else a no that shows at the greater place.
 fn either_reply<'i>(sofar: Reply<'i>, reply: Reply<'i>) -> Reply<'i>
     ensures { reply_view result ≡ either_reply (reply_view sofar.entry) (reply_view reply.entry) }
 {
@@ -388,7 +388,7 @@ fn either_reply<'i>(sofar: Reply<'i>, reply: Reply<'i>) -> Reply<'i>
     }
 }
 
-/// An alternative of a map has replied.
+// An alternative of a map has replied.
 pub(crate) fn next_in_map<'t, 'i>(
     alternatives: &'t [Vec<MapEntry>],
     base: usize,

@@ -6,19 +6,19 @@ ghost use Rattle.cddl_meaning.specs.Moves as M;
 ghost use Rattle.cddl_match.specs.Machine.{Finds, FindsAt, Goes, GoesFrom, IsAt, IsKept, NeedsMore, asked_in, is_alternative};
 ghost use Rattle.cddl_match.specs.Views.{goes_on, move_view, pending_view, question_view, reading_move, reply_view, sorting_view};
 ghost use Rattle.cddl_match.specs.declared.questions.Reading as R;
-ghost use Rattle.cddl_table.specs.Language.{language_of};
-ghost use Rattle.cddl_table.specs.declared.nodes.GroupId.{GroupId};
-ghost use Rattle.cddl_table.specs.declared.nodes.TypeId.{TypeId};
+ghost use Rattle.table_nodes.specs.Language.{language_of};
+ghost use Rattle.table_nodes.specs.declared.nodes.GroupId.{GroupId};
+ghost use Rattle.table_nodes.specs.declared.nodes.TypeId.{TypeId};
 
 use crate::moves::{another_part, another_round, first_of_group, first_of_type, next_move};
 use crate::questions::{Move, Pending, Question, Reading, Reply, Sorting, Subject};
 use crate::reading::held_in;
 use crate::shelf::Shelf;
 use crate::sorting::{alternative_move, next_entry};
-use cddl_table::Table;
 use history::History;
 use std::alloc::{AllocError, Global};
 use std::mem;
+use table_nodes::Table;
 
 /// What a run ends with.
 #[derive(Clone, Copy)]
@@ -49,7 +49,7 @@ impl<'t, 'i> Waiting<'t, 'i> {
     ghost use Rattle.cddl_match.specs.Machine.{noted};
     ghost use Rattle.cddl_match.specs.Views.{question_view};
 
-    /// What waits for the reply to this question.
+    // What waits for the reply to this question.
     fn new(question: &Question<'t, 'i>, pending: Pending<'t, 'i>) -> Waiting<'t, 'i>
         ensures asked { noted result.asked ≡ question_view question.now }
         ensures pending { result.pending ≡ pending.entry }
@@ -61,7 +61,7 @@ impl<'t, 'i> Waiting<'t, 'i> {
     }
 }
 
-/// What a byte string holds is asked about, if it holds something.
+// What a byte string holds is asked about, if it holds something.
 fn read_next<'t, 'i>(
     shelf: &mut Shelf<'i>,
     reading: Reading<'i>,
@@ -89,11 +89,11 @@ fn read_next<'t, 'i>(
     ))
 }
 
-/// The next move, where rounds and sequences ask for the next of their groups, and a byte string is read.
-///
-/// # Errors
-///
-/// `AllocError` where there is no memory for what the byte string holds.
+// The next move, where rounds and sequences ask for the next of their groups, and a byte string is read.
+//
+// # Errors
+//
+// `AllocError` where there is no memory for what the byte string holds.
 fn settled<'t, 'i>(shelf: &mut Shelf<'i>, next: Move<'t, 'i>) -> Result<Move<'t, 'i>, AllocError>
     ensures at { IfOk result (λ it. (l : Language TypeId GroupId) (first : M.Question TypeId GroupId) (taken : ℕ) (qs : List (M.Question TypeId GroupId)) (os : List (M.Pending TypeId GroupId)) → IsAt l first taken qs os (move_view next.entry) → IsAt l first taken qs os (move_view it)) }
     ensures settled { IfOk result (λ it. goes_on it ≡ false) }
@@ -107,11 +107,11 @@ fn settled<'t, 'i>(shelf: &mut Shelf<'i>, next: Move<'t, 'i>) -> Result<Move<'t,
     }
 }
 
-/// What a question asks first, or its reply.
-///
-/// # Errors
-///
-/// `AllocError` where there is no memory for the tally of an alternative.
+// What a question asks first, or its reply.
+//
+// # Errors
+//
+// `AllocError` where there is no memory for the tally of an alternative.
 fn first_of<'t, 'i>(
     alloc: Global,
     table: &'t Table,
@@ -140,7 +140,7 @@ fn first_of<'t, 'i>(
     }
 }
 
-/// A step that the pair that is tried takes for one of the entries of its alternative.
+// A step that the pair that is tried takes for one of the entries of its alternative.
 #[inline]
 fn take_owed<'i>(run: &mut Run<'_, '_>, steps: u64) -> Option<Found<'i>>
     requires owed { 0 < run.old.owed }
@@ -157,7 +157,7 @@ fn take_owed<'i>(run: &mut Run<'_, '_>, steps: u64) -> Option<Found<'i>>
     None
 }
 
-/// A pair is tried: a step, and one more is owed for each entry of its alternative.
+// A pair is tried: a step, and one more is owed for each entry of its alternative.
 fn try_pair<'t, 'i>(
     run: &mut Run<'t, 'i>,
     sorting: Sorting<'t, 'i>,
@@ -178,7 +178,7 @@ fn try_pair<'t, 'i>(
     None
 }
 
-/// The last question has this reply, and the one below it goes on; or the first one has it.
+// The last question has this reply, and the one below it goes on; or the first one has it.
 fn reply_to_last<'t, 'i>(run: &mut Run<'t, 'i>, reply: Reply<'i>) -> Option<Found<'i>>
     requires owed { run.old.owed ≡ 0 }
     ensures goes { result ≡ None → (l : Language TypeId GroupId) (steps : ℕ) → GoesFrom l steps run.old (M.Answered (reply_view reply.entry)) run.new }
@@ -197,11 +197,11 @@ fn reply_to_last<'t, 'i>(run: &mut Run<'t, 'i>, reply: Reply<'i>) -> Option<Foun
     None
 }
 
-/// A question is asked: a step.
-///
-/// # Errors
-///
-/// `AllocError` where there is no memory for one question more, or for the tally of an alternative.
+// A question is asked: a step.
+//
+// # Errors
+//
+// `AllocError` where there is no memory for one question more, or for the tally of an alternative.
 fn ask<'t, 'i>(
     alloc: Global,
     table: &'t Table,
@@ -228,12 +228,12 @@ fn ask<'t, 'i>(
     Ok(None)
 }
 
-/// One turn: a step, with one question more or none; or the last question has its reply, and is taken off. Or the run ends.
-///
-/// # Errors
-///
-/// `AllocError` where there is no memory for one question more, for the tally of a map's pairs, or for what a byte string
-/// holds.
+// One turn: a step, with one question more or none; or the last question has its reply, and is taken off. Or the run ends.
+//
+// # Errors
+//
+// `AllocError` where there is no memory for one question more, for the tally of a map's pairs, or for what a byte string
+// holds.
 pub(crate) fn step<'t, 'i>(
     table: &'t Table,
     shelf: &mut Shelf<'i>,

@@ -1,22 +1,22 @@
 //! What the pairs of a map came to in an alternative, and what follows for one that begins with the same entries.
 
 ghost use Rattle.std.specs.Prelude.{◌≡◌, ◌<◌, ◌≤◌, ◌+◌, ◌*◌, suc, length, take, None, Some, IfSome, IsTrue, MatchOption};
-ghost use Rattle.cbor_item.specs.View.{pairs_view};
+ghost use Rattle.item_nodes.specs.View.{pairs_view};
 ghost use Rattle.cddl_meaning.specs.Judges as J;
 ghost use Rattle.cddl_meaning.specs.Moves as M;
 ghost use Rattle.cddl_meaning.specs.Moves.{answer_reply, tally_says};
 ghost use Rattle.cddl_match.specs.Tellings.{BeginAlike, IsTallied, told_with};
 ghost use Rattle.cddl_match.specs.Views.{tally_view};
 ghost use Rattle.cddl_match.specs.Within.{Replied, Says, said_view};
-ghost use Rattle.cddl_table.specs.Language.{language_of};
-ghost use Rattle.cddl_table.specs.Nodes.{entries_view};
+ghost use Rattle.table_nodes.specs.Language.{language_of};
+ghost use Rattle.table_nodes.specs.Nodes.{entries_view};
 
 use crate::means::Means;
 use crate::questions::{Fate, Said, Tally};
 use crate::sorting::{no_tally, shown_by_first, shown_by_tally};
 use cbor_item::Item;
-use cddl_table::{MapEntry, Table};
 use std::alloc::Global;
+use table_nodes::{MapEntry, Table};
 
 /// What the pairs of a map came to with the entries of the alternative that was asked last.
 #[derive(Drop)]
@@ -34,7 +34,7 @@ pub(crate) struct Tallied<'t> {
     pub(crate) next: usize,
 }
 
-/// Nothing was asked yet. It takes no memory.
+// Nothing was asked yet. It takes no memory.
 pub(crate) fn nothing_tallied<'t>(alloc: Global) -> Tallied<'t>
     ensures { result.told ≡ None }
 {
@@ -48,7 +48,7 @@ pub(crate) fn nothing_tallied<'t>(alloc: Global) -> Tallied<'t>
     }
 }
 
-/// How many of the first of so many entries tell what becomes of each pair, with a further pair that has this fate.
+// How many of the first of so many entries tell what becomes of each pair, with a further pair that has this fate.
 pub(crate) fn told_with(told: Option<usize>, fate: Fate, entries: usize) -> Option<usize>
     ensures { result ≡ told_with told fate entries }
 {
@@ -60,7 +60,7 @@ pub(crate) fn told_with(told: Option<usize>, fate: Fate, entries: usize) -> Opti
     }
 }
 
-/// Whether the first entries, so many, are the same.
+// Whether the first entries, so many, are the same.
 fn begin_alike(some: &[MapEntry], others: &[MapEntry], count: usize) -> bool
     ensures { IsTrue result → BeginAlike count some.now others.now }
 {
@@ -74,9 +74,9 @@ fn begin_alike(some: &[MapEntry], others: &[MapEntry], count: usize) -> bool
     true
 }
 
-/// How many of the steps an alternative leaves whose first entries tell what becomes of each of so many pairs, if there are
-/// so many: it takes one itself, and one for each pair and one more for each entry of the pair's, beside the questions that
-/// are asked about the pairs.
+// How many of the steps an alternative leaves whose first entries tell what becomes of each of so many pairs, if there are
+// so many: it takes one itself, and one for each pair and one more for each entry of the pair's, beside the questions that
+// are asked about the pairs.
 fn left_after(steps: u64, asked: u64, entries: usize, pairs: usize) -> Option<u64>
     ensures { MatchOption result (steps < 1 + (asked + pairs * suc entries)) (λ left. 1 + (asked + pairs * suc entries) + left ≡ steps) }
 {
@@ -85,7 +85,7 @@ fn left_after(steps: u64, asked: u64, entries: usize, pairs: usize) -> Option<u6
     steps.checked_sub(1)?.checked_sub(asked)?.checked_sub(tried)
 }
 
-/// What is said by where a no shows, if it does.
+// What is said by where a no shows, if it does.
 #[inline]
 fn said_where(shown: Option<usize>, next: usize) -> Said
     ensures { (a : J.Answer) → MatchOption shown (a ≡ J.Yes) (λ far. a ≡ J.No far) → said_view result ≡ Replied (answer_reply next a) }
@@ -97,7 +97,7 @@ fn said_where(shown: Option<usize>, next: usize) -> Said
 }
 
 impl<'t> Tallied<'t> {
-    /// How many of these entries tell what becomes of each pair, if they are the same as those that were asked.
+    // How many of these entries tell what becomes of each pair, if they are the same as those that were asked.
     pub(crate) fn told_in(&self, entries: &[MapEntry]) -> Option<usize>
         ensures { IfSome result (λ told. (self.now.told ≡ Some told) × BeginAlike told self.now.entries.now entries.now) }
     {
@@ -108,7 +108,7 @@ impl<'t> Tallied<'t> {
         None
     }
 
-    /// What the alternative says of the map at `base`.
+    // What the alternative says of the map at `base`.
     pub(crate) fn says(&self, table: &Table, base: usize, pairs: &[(Item, Item)]) -> Said
         requires known { IsTallied (language_of table.now) base (pairs_view pairs.now) self.now }
         ensures { said_view result ≡ Replied (answer_reply self.now.next (tally_says (entries_view self.now.entries.now) base (tally_view self.now.tally))) }
@@ -122,7 +122,7 @@ impl<'t> Tallied<'t> {
         }
     }
 
-    /// What an alternative of these entries says of the map at `base`, if so many of the first tell what becomes of each pair.
+    // What an alternative of these entries says of the map at `base`, if so many of the first tell what becomes of each pair.
     pub(crate) fn says_again(
         &self,
         table: &Table,

@@ -3,19 +3,19 @@
 ghost use Rattle.std.specs.Prelude.{◌≤◌, IfSome};
 ghost use Rattle.cddl_match.specs.Ahead.{AreTold, IsTold, IsTypeTold};
 ghost use Rattle.cddl_match.specs.Views.{subject_view};
-ghost use Rattle.cddl_table.specs.Language.{language_of};
-ghost use Rattle.cddl_table.specs.Nodes.{type_view};
+ghost use Rattle.table_nodes.specs.Language.{language_of};
+ghost use Rattle.table_nodes.specs.Nodes.{type_view};
 
 use crate::behind::type_behind;
 use crate::questions::Subject;
 use crate::tested::passes_test;
-use cddl_table::{Node, Table, TypeId};
+use table_nodes::{Node, Table, TypeId};
 
 /// Choices in choices are looked into so deep, so that few tests are made in vain where something else is in them.
 pub(crate) const DEEPEST: u8 = 3;
 
-/// Whether a type of this form says yes, and how many questions that takes after the first, if not over `most`. Choices are
-/// looked into as deep as this.
+// Whether a type of this form says yes, and how many questions that takes after the first, if not over `most`. Choices are
+// looked into as deep as this.
 #[inline(always)]
 #[cycle(telling)]
 pub(crate) fn form_tells(
@@ -34,7 +34,7 @@ pub(crate) fn form_tells(
     }
 }
 
-/// Whether one of these types says yes, and how many questions that takes, if not over `most`.
+// Whether one of these types says yes, and how many questions that takes, if not over `most`.
 #[cycle(telling)]
 fn one_tells(
     table: &Table,
@@ -56,7 +56,7 @@ fn one_tells(
     Some((false, asked))
 }
 
-/// Whether a type says yes, and how many questions that takes, if not over `most`.
+// Whether a type says yes, and how many questions that takes, if not over `most`.
 #[cycle(telling)]
 pub(crate) fn type_tells(
     table: &Table,

@@ -2,18 +2,18 @@
 
 ghost use Rattle.std.specs.Prelude.{◌≡◌};
 ghost use Rattle.cbor_data.specs.Same.{same_value};
-ghost use Rattle.cbor_item.specs.View.{view};
+ghost use Rattle.item_nodes.specs.View.{view};
 ghost use Rattle.cddl_meaning.specs.Forms.{has_size, is_below, is_float, is_simple, is_up_to, major_of, passes};
 ghost use Rattle.cddl_match.specs.Views.{subject_view};
-ghost use Rattle.cddl_table.specs.Nodes.{test_view, whole_view};
-ghost use Rattle.cddl_table.specs.SizeSets.{set_view};
+ghost use Rattle.table_nodes.specs.Nodes.{test_view, whole_view};
+ghost use Rattle.table_nodes.specs.SizeSets.{set_view};
 
 use crate::questions::Subject;
 use cbor_data::Width;
 use cbor_item::Item;
-use cddl_table::{SizeSet, Test, Whole};
+use table_nodes::{SizeSet, Test, Whole};
 
-/// The major type of an item (RFC 8949 section 3.1).
+// The major type of an item (RFC 8949 section 3.1).
 fn major_of(item: &Item) -> u8
     ensures { result ≡ major_of (view item.now) }
 {
@@ -29,7 +29,7 @@ fn major_of(item: &Item) -> u8
     }
 }
 
-/// Whether an item is the simple value of this number.
+// Whether an item is the simple value of this number.
 fn is_simple(number: u8, item: &Item) -> bool
     ensures { result ≡ is_simple number (view item.now) }
 {
@@ -39,7 +39,7 @@ fn is_simple(number: u8, item: &Item) -> bool
     }
 }
 
-/// Whether an item is a float of this width.
+// Whether an item is a float of this width.
 #[inline(never)]
 fn is_float(width: Width, item: &Item) -> bool
     ensures { result ≡ is_float width (view item.now) }
@@ -50,7 +50,7 @@ fn is_float(width: Width, item: &Item) -> bool
     }
 }
 
-/// Whether an item is a whole number from this one on.
+// Whether an item is a whole number from this one on.
 #[inline(never)]
 fn is_from(least: Whole, item: &Item) -> bool
     ensures { result ≡ is_up_to (whole_view least) (view item.now) }
@@ -63,7 +63,7 @@ fn is_from(least: Whole, item: &Item) -> bool
     }
 }
 
-/// Whether an item is a whole number up to this one.
+// Whether an item is a whole number up to this one.
 #[inline(never)]
 fn is_up_to(item: &Item, last: Whole) -> bool
     ensures { result ≡ is_up_to (view item.now) (whole_view last) }
@@ -76,7 +76,7 @@ fn is_up_to(item: &Item, last: Whole) -> bool
     }
 }
 
-/// Whether an item is a whole number below this one.
+// Whether an item is a whole number below this one.
 #[inline(never)]
 fn is_below(item: &Item, last: Whole) -> bool
     ensures { result ≡ is_below (view item.now) (whole_view last) }
@@ -89,7 +89,7 @@ fn is_below(item: &Item, last: Whole) -> bool
     }
 }
 
-/// Whether an item is a whole number above this one.
+// Whether an item is a whole number above this one.
 #[inline(never)]
 fn is_above(least: Whole, item: &Item) -> bool
     ensures { result ≡ is_below (whole_view least) (view item.now) }
@@ -102,7 +102,7 @@ fn is_above(least: Whole, item: &Item) -> bool
     }
 }
 
-/// Whether an item has such a size. That of a text is the number of its bytes.
+// Whether an item has such a size. That of a text is the number of its bytes.
 #[inline(never)]
 fn has_size(sizes: &SizeSet, item: &Item) -> bool
     ensures { result ≡ has_size (set_view sizes.now) (view item.now) }
@@ -115,7 +115,7 @@ fn has_size(sizes: &SizeSet, item: &Item) -> bool
     }
 }
 
-/// Whether an item is equal to this one. Most literals, and most items that are compared with one, are small numbers.
+// Whether an item is equal to this one. Most literals, and most items that are compared with one, are small numbers.
 #[inline(always)]
 fn is_equal(item: &Item, literal: &Item) -> bool
     ensures { result ≡ same_value (view item.now) (view literal.now) }
@@ -126,7 +126,7 @@ fn is_equal(item: &Item, literal: &Item) -> bool
     }
 }
 
-/// Whether an item passes a test. The common ones are asked where this is called.
+// Whether an item passes a test. The common ones are asked where this is called.
 #[inline(always)]
 pub(crate) fn passes(test: &Test, item: &Item) -> bool
     ensures { result ≡ passes (test_view test.now) (view item.now) }
@@ -156,7 +156,7 @@ pub(crate) fn passes(test: &Test, item: &Item) -> bool
     }
 }
 
-/// Whether an item, or a number as an unsigned item, passes a test.
+// Whether an item, or a number as an unsigned item, passes a test.
 #[inline]
 pub(crate) fn passes_test(test: &Test, subject: Subject<'_>) -> bool
     ensures { result ≡ passes (test_view test.now) (subject_view subject.entry) }

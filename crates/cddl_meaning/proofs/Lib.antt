@@ -11,3 +11,4 @@ mod Matches
 mod SameItems
 mod SameFates
 mod SameSays
+pub mod OfRanks

@@ -1,6 +1,6 @@
 -- What the definition says, the moves reply.
-use Rattle.std.proofs.Common.{◌≡◌, ◌≢◌, ℕ, suc, ◌+◌, ◌-◌, ◌<◌, ◌≤◌, ◌^◌, max, length, List, [], ◌∷◌, Some, true, false, nat_eq, refl, subst, sym, ap, ◌∙◌, arith}
-use Rattle.std.proofs.lemmas.Bool.Decides.{nat_tests}
+use Rattle.std.proofs.Common.{◌≡◌, ℕ, suc, ◌+◌, ◌-◌, ◌<◌, ◌≤◌, ◌^◌, max, length, List, [], ◌∷◌, Some, false, nat_eq, refl, subst, sym, ap, ◌∙◌, arith}
+use Rattle.lists.proofs.Lemmas.{test_equal as same_number, test_same as equal_number, unequal_number}
 use Rattle.cbor_data.specs.Value.{Value, place_count, Pairs, no_pairs, pair, pairs_place_count}
 use Rattle.cddl_meaning.specs.Forms.{members_in, pairs_in, tag_in, simple_in, TagNumber, MapEntry, Node, Most, Group, Language}
 use Rattle.cddl_meaning.specs.Size.{size, pairs_size, list_size}
@@ -24,15 +24,6 @@ placed p x h = omega (arith, h, few_places x)
 
 pub plus_is : (p n : ℕ) → Fits p n → plus p n ≡ p + n
 plus_is p n h = grind (arith)
-
-equal_number : (n : ℕ) → nat_eq n n ≡ true
-equal_number n = grind (arith, nat_tests)
-
-unequal_number : (m n : ℕ) → m ≢ n → nat_eq m n ≡ false
-unequal_number m n h = grind (arith, nat_tests)
-
-same_number : (m n : ℕ) → m ≡ n → nat_eq m n ≡ true
-same_number m n h = grind (arith, nat_tests)
 
 same_answer : (p : ℕ) (x : Value) (a b : Answer) → reply_of p x a ≡ reply_of p x b → a ≡ b
 same_answer p x Yes Yes e = refl

@@ -1,6 +1,7 @@
 -- What the moves reply, the definition says.
 use Rattle.std.proofs.Common.{◌≡◌, ◌≢◌, ℕ, zero, suc, ◌+◌, ◌-◌, ◌≤◌, max, length, List, [], ◌∷◌, Option, Some, None, Bool, true, false, nat_eq, refl, subst, sym, ap, ◌∙◌, arith}
 use Rattle.std.proofs.lemmas.Bool.Decides.{nat_tests}
+use Rattle.lists.proofs.Lemmas.{is_equal}
 use Rattle.cbor_data.specs.Value.{Value, place_count, Pairs, no_pairs, pair, pairs_place_count}
 use Rattle.cddl_meaning.specs.Forms.{Test, passes, members_in, pairs_in, bytes_in, tag_in, simple_in, TagNumber, any_number, exactly, such_as, Content, MapEntry, Node, Plain, Ref, Choice, ArrayOf, TagOf, SimpleBy, MapOf, Both, Such, Holding, Most, Group, Entry, GroupRef, Sequence, Alternatives, Repeat, Language}
 use Rattle.cddl_meaning.specs.Size.{size, pairs_size}
@@ -10,9 +11,6 @@ use Rattle.cddl_meaning.proofs.Covers.{leaves}
 use Rattle.cddl_meaning.proofs.Matches.{Fits, AllFit, plus_is, next_place, below, array_covers, tag_reply, simple_reply, map_reply, either_is, as_many}
 use Rattle.cddl_meaning.proofs.Tallies.{all_tallied, tally_is}
 use Rattle.cddl_meaning.specs.Moves.{Question, OfType, OfGroup, OfAlternative, Tally, tallied, fresh, tally_says, Sorting, InRef, Answered, Asks, plus, reply_of, test_reply, such_reply, answer_reply, either_reply, next_member, next_part, next_alternative, next_round, repetition, after_round, end_of_rounds, array_move, content_move, tag_move, simple_move, read_move, next_way, map_move, next_pair, sorted, next_entry, after_value, type_move, group_move, Replies, replies, LeadsTo, at_once, after, tries, reads, reads_nothing}
-
-is_equal : (m n : ℕ) → nat_eq m n ≡ true → m ≡ n
-is_equal m n h = grind (arith, nat_tests)
 
 is_unequal : (m n : ℕ) → nat_eq m n ≡ false → m ≢ n
 is_unequal m n h = λ e. absurd (clash m n h e)

@@ -1,6 +1,7 @@
 -- What is the same of items that are: how tests see them, and what their parts are.
 use Rattle.std.proofs.Common.{◌≡◌, ℕ, suc, length, List, [], ◌∷◌, Some, None, true, false, nat_eq, refl, ap, ap₂, subst}
 use Rattle.std.specs.Prelude.{not, ◌&&◌}
+use Rattle.lists.proofs.Lemmas.{same_some as some_same}
 use Rattle.cbor_data.specs.declared.Width.{Width}
 use Rattle.cbor_data.specs.declared.Width.TheVariants.{W16}
 use Rattle.cbor_data.specs.Same.{same_value}
@@ -90,9 +91,6 @@ test_same (at_most_number v) h d = (up_to_same v d).1
 test_same (greater_than v) h d = (up_to_same v d).3
 test_same (at_least_number v) h d = (up_to_same v d).0
 test_same (sized rs) h d = (leaf_same 0 W16 rs d).2
-
-some_same : {A : Type 0} {a b : A} → Some a ≡ Some b → a ≡ b
-some_same e = cc
 
 -- what an item has, the other has too
 pub record HasMembers (xs : List Value) (y : Value) : Type 0 where

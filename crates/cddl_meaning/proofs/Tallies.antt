@@ -1,6 +1,7 @@
 -- A tally that walks along the pairs of an alternative tells what their fates do.
 use Rattle.std.proofs.Common.{◌≡◌, ℕ, suc, ◌+◌, ◌<◌, ◌≤◌, ◌^◌, length, List, [], ◌∷◌, Option, Some, None, true, false, nat_eq, nat_le, ◌&&◌, refl, sym, ap, ◌∙◌, arith, Bool, if◌then◌else◌}
 use Rattle.std.proofs.lemmas.Bool.Decides.{nat_tests}
+use Rattle.lists.proofs.Lemmas.{is_equal}
 use Rattle.cddl_meaning.specs.Forms.{MapEntry}
 use Rattle.cddl_meaning.specs.Judges.{Yes, No, is_up_to_most, Fate, BelongsTo, Stray, count_of, are_enough, first_stray, first_failing, alternative_says, Answer}
 use Rattle.cddl_meaning.specs.Moves.{plus, Tally, no_counts, fresh, counted, first_of, tallied, enough_of, tally_says}
@@ -56,9 +57,6 @@ added_stray q (n ∷ ns) fs = ap (λ ms. (n + count_of (length ns) fs) ∷ ms) (
 
 higher : (m n : ℕ) → n < m → nat_eq m n ≡ false
 higher m n h = grind (arith, nat_tests)
-
-is_equal : (m n : ℕ) → nat_eq m n ≡ true → m ≡ n
-is_equal m n h = grind (arith, nat_tests)
 
 -- a pair of an entry before these
 added_before : (m : ℕ) (a : Answer) (ns : List ℕ) (fs : List Fate) → length ns ≤ m → added ns (BelongsTo m a ∷ fs) ≡ added ns fs

@@ -5,3 +5,4 @@ pub mod Alike
 pub mod Moves
 pub mod Size
 pub mod Literals
+pub mod Ranks

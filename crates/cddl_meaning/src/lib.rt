@@ -2,6 +2,8 @@
 //! here do nothing: their contracts are laws.
 #![tactic(auto)]
 
+pub mod ranks;
+
 ghost use Rattle.std.specs.Prelude.{◌≡◌, ℕ};
 ghost use Rattle.cbor_data.specs.Value.{Value};
 ghost use Rattle.cbor_data.specs.Equivalence.{IsSame};

@@ -8,20 +8,20 @@
 //! and rules it has, or why it has no tree: what `make bench` measures.
 #![tactic(auto)]
 
-ghost use Rattle.cddl_parse.specs.States.{EndsInEnd};
+ghost use Rattle.cddl_tree.specs.States.{EndsInEnd};
 
 mod nodes;
 mod sketch;
 
 use crate::sketch::{Piece, Sketch};
-use cddl_parse::{parse, tokens_end};
 use cddl_token::{Refusal, Token, tokens};
-use cddl_tree::{Tree, discard};
+use cddl_tree::{parse, tokens_end};
 use std::alloc::Global;
 use std::io;
 use std::io::Read;
+use tree_nodes::{Tree, discard};
 
-/// A text without the zero byte after it.
+// A text without the zero byte after it.
 fn without_end(text: &[u8]) -> &[u8] {
     match text.split_last() {
         Some((0, front)) => front,
@@ -29,7 +29,7 @@ fn without_end(text: &[u8]) -> &[u8] {
     }
 }
 
-/// Prints the line of a text.
+// Prints the line of a text.
 fn print_line(rt: &HostRuntime, text: &[u8]) -> io::Result<()> {
     tokens_end();
     match tokens(rt.alloc(), text) {
@@ -73,7 +73,7 @@ fn print_sketch(rt: &HostRuntime, tree: &Tree<'_>, sketch: &mut Sketch<'_>) -> i
     Ok(())
 }
 
-/// Prints a word or a token, or opens a node.
+// Prints a word or a token, or opens a node.
 fn print_piece<'t>(
     rt: &HostRuntime,
     tree: &Tree<'_>,
@@ -98,7 +98,7 @@ fn print_token(rt: &HostRuntime, node: &str, token: &Token<'_>) -> io::Result<()
     Ok(())
 }
 
-/// How many tokens and rules a text has.
+// How many tokens and rules a text has.
 fn counts(alloc: Global, text: &[u8]) -> Result<(usize, usize), Refusal> {
     tokens_end();
     let found = tokens(alloc, text)?;

@@ -2,7 +2,7 @@
 //!
 //! Boxes and lists are passed on as they are: each place that looks into one costs the check seconds.
 use crate::sketch::Sketch;
-use cddl_tree::{
+use tree_nodes::{
     AssignG, AssignT, Entry, GenericArg, Group, GrpChoice, GrpEnt, Leaf, MemberKey, Operator,
     Parameter, Ref, Rule, RuleName, Tree, Type1, Type2, Types, Value,
 };
@@ -86,7 +86,7 @@ impl<'t> Sketch<'t> {
         }
     }
 
-    /// A token between two spaces.
+    // A token between two spaces.
     fn sign(&mut self, node: &'static str, token: Leaf) {
         self.word(" ");
         self.leaf(node, token);
@@ -126,7 +126,7 @@ impl<'t> Sketch<'t> {
         }
     }
 
-    /// What a type2 is made of.
+    // What a type2 is made of.
     pub(crate) fn in_type2(&mut self, type2: &'t Type2) {
         match type2 {
             Type2::Literal(value) => self.value(value),
@@ -228,21 +228,21 @@ impl<'t> Sketch<'t> {
         self.reference(name);
     }
 
-    /// A type in brackets.
+    // A type in brackets.
     fn bracketed_type(&mut self, opening: Leaf, types: &'t Box<Types>, closing: Leaf) {
         self.token(opening);
         self.types(types);
         self.token(closing);
     }
 
-    /// A group in brackets.
+    // A group in brackets.
     fn bracketed_group(&mut self, opening: Leaf, group: &'t Group, closing: Leaf) {
         self.token(opening);
         self.group(group);
         self.token(closing);
     }
 
-    /// What a group is made of.
+    // What a group is made of.
     pub(crate) fn in_group(&mut self, group: &'t Group) {
         self.entries(&group.first);
         for choice in &group.others {
@@ -296,7 +296,7 @@ impl<'t> Sketch<'t> {
         }
     }
 
-    /// A token and a space, if there is one.
+    // A token and a space, if there is one.
     fn optional(&mut self, token: Option<Leaf>) {
         if let Some(token) = token {
             self.token(token);

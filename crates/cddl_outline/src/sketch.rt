@@ -1,6 +1,6 @@
 //! What is left to be printed of a sketch, as a list of pieces.
-use cddl_tree::{Group, Leaf, Tree, Type2};
 use std::alloc::{AllocError, Global};
+use tree_nodes::{Group, Leaf, Tree, Type2};
 
 /// A part of a sketch: what is printed as it is, or one of the two nodes that all nesting goes
 /// through, which is opened when its turn comes.
@@ -36,7 +36,7 @@ impl<'t> Sketch<'t> {
         sketch
     }
 
-    /// What comes next, up to the end, or to where there was no memory.
+    // What comes next, up to the end, or to where there was no memory.
     pub(crate) fn next(&mut self) -> Option<Piece<'t>> {
         match self.memory {
             Ok(()) => self.left.pop(),
@@ -44,24 +44,24 @@ impl<'t> Sketch<'t> {
         }
     }
 
-    /// Whether there was memory for all of the sketch.
+    // Whether there was memory for all of the sketch.
     pub(crate) fn memory(&self) -> Result<(), AllocError> {
         self.memory
     }
 
-    /// Puts what a type2 is made of before what is left.
+    // Puts what a type2 is made of before what is left.
     pub(crate) fn open_type2(&mut self, type2: &'t Box<Type2>) {
         self.in_type2(type2);
         self.turn();
     }
 
-    /// Puts what a group is made of before what is left.
+    // Puts what a group is made of before what is left.
     pub(crate) fn open_group(&mut self, group: &'t Group) {
         self.in_group(group);
         self.turn();
     }
 
-    /// Puts the parts of a node before what is left.
+    // Puts the parts of a node before what is left.
     fn turn(&mut self) {
         self.parts.reverse();
         if self.left.append(&mut self.parts).is_err() {

@@ -1,5 +1,11 @@
+mod Lists
 mod Rows
-mod Greatest
-mod Joining
+mod Freedom
+mod Emptiness
+mod Down
+mod Parts
+mod Types
+mod Groups
+mod Ranked
 mod Finding
-mod Members
+mod Standing

@@ -1,5 +1,2 @@
-pub mod Sizes
-pub mod SizeSets
-pub mod Nodes
 pub mod Ranks
-pub mod Language
+pub mod Root

@@ -1,25 +1,25 @@
--- Ranks in lists, and flags of the groups that may take no item.
-use Rattle.std.specs.Prelude.{ℕ, max, List, [], ◌∷◌, Bool, false, slice_index_or}
-use Rattle.cddl_ranks.specs.Ranked.{Name, a_type, a_group}
-use Rattle.cddl_table.specs.declared.nodes.TypeId.{TypeId}
-use Rattle.cddl_table.specs.declared.nodes.GroupId.{GroupId}
+-- Ranks of types and groups, by what they are of.
+use Rattle.std.specs.Prelude.{ℕ, ◌+◌, ◌*◌, Some, None}
+use Rattle.table_making.specs.declared.origin.GroupOrigin.{GroupOrigin}
+use Rattle.table_making.specs.declared.origin.GroupOrigin.TheVariants as G
+use Rattle.table_making.specs.declared.origin.TypeOrigin.{TypeOrigin}
+use Rattle.table_making.specs.declared.origin.TypeOrigin.TheVariants as T
+use Rattle.check_recursion.specs.declared.graph.Ranks.{Ranks}
+use Rattle.check_recursion.specs.declared.node.Node.TheVariants as N
+use Rattle.check_recursion.specs.Order.{rank}
 
--- A type or a group for which the list has no rank has the rank 0.
-abbrev pub type_rank_in : List ℕ → TypeId → ℕ
-type_rank_in ranks n = slice_index_or ranks n.number 0
+-- Twice the rank of the node that it is of. An entry is above its rounds, which are of the same row. A word asks nothing else.
 
-abbrev pub group_rank_in : List ℕ → GroupId → ℕ
-group_rank_in ranks g = slice_index_or ranks g.number 0
+abbrev pub type_rank : Ranks → TypeOrigin → ℕ
+type_rank r (T.Row n) = 2 * rank r (N.Row n)
+type_rank r (T.Instance k) = 2 * rank r (N.Name k)
+type_rank r (T.Chosen (Some n)) = 2 * rank r (N.Chosen n)
+type_rank r (T.Chosen None) = 0
+type_rank r (T.Word n) = 0
 
-abbrev pub rank_in : List ℕ → List ℕ → Name TypeId GroupId → ℕ
-rank_in types groups (a_type n) = type_rank_in types n
-rank_in types groups (a_group g) = group_rank_in groups g
-
--- Whether a group may take no item. A group for which the list has no flag takes one, or fails.
-abbrev pub flag_in : List Bool → GroupId → Bool
-flag_in flags g = slice_index_or flags g.number false
-
--- the greatest of these numbers, or 0
-abbrev pub greatest : List ℕ → ℕ
-greatest [] = 0
-greatest (n ∷ ns) = max n (greatest ns)
+abbrev pub group_rank : Ranks → GroupOrigin → ℕ
+group_rank r (G.Alternatives (Some n)) = 2 * rank r (N.Row n)
+group_rank r (G.Alternatives None) = 0
+group_rank r (G.Sequence n) = 2 * rank r (N.Row n)
+group_rank r (G.Entry n) = 2 * rank r (N.Row n) + 1
+group_rank r (G.Round n) = 2 * rank r (N.Row n)

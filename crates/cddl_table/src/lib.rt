@@ -1,14 +1,12 @@
-//! A table of types and groups, each known by its number: what a matcher runs, and a language by its contracts.
+//! The table of a specification: its types and groups, with ranks.
 #![tactic(auto)]
 
-mod nodes;
 mod ranks;
-mod sizes;
+mod root;
 mod table;
 
-pub use crate::nodes::{
-    Content, Group, GroupId, MapEntry, Most, Node, TagNumber, Test, TypeId, Whole,
+pub use crate::table::{Unmade, table_of};
+pub use table_nodes::{
+    Content, Group, GroupId, MapEntry, Most, Node, NotRanked, Ranks, SizeRange, SizeSet, Table,
+    TagNumber, Test, TypeId, Whole,
 };
-pub use crate::ranks::{NotRanked, Ranks};
-pub use crate::sizes::{SizeRange, SizeSet};
-pub use crate::table::Table;

@@ -1,101 +1,122 @@
-//! A table: what is kept of a specification.
+//! A table made of the closed terms of a specification.
 
-ghost use Rattle.std.specs.Prelude.{◌≡◌, max};
-ghost use Rattle.cddl_ranks.specs.Ranked.{IsRanked};
-ghost use Rattle.cddl_table.specs.Nodes.{language_in};
-ghost use Rattle.cddl_table.specs.Ranks.{greatest, rank_in};
+ghost use Rattle.std.specs.Prelude.{◌≡◌, ℕ, IfErr, IfOk, List, Some, false, map, slice_get};
+ghost use Rattle.cddl_language.specs.Kinds.{is_group};
+ghost use Rattle.cddl_language.specs.StandsFor.{StandsFor};
+ghost use Rattle.cddl_table.specs.Ranks.{group_rank, type_rank};
+ghost use Rattle.table_making.specs.Basis.{IsSource, Sense};
+ghost use Rattle.check_recursion.specs.Order.{AreRanked};
+ghost use Rattle.cddl_meaning.specs.Ranks.Flags.{AreFlags};
+ghost use Rattle.cddl_meaning.specs.Ranks.Ranked.{IsRanked};
+ghost use Rattle.table_nodes.specs.Nodes.{language_in};
+ghost use Rattle.table_nodes.specs.Ranks.{flag_in, rank_in};
+ghost use Rattle.table_nodes.specs.declared.nodes.Node.{Node};
+ghost use Rattle.table_nodes.specs.Language.{language_of, rank_of, ranks_of, root_of};
+ghost use Rattle.cddl_table.specs.declared.table.Unmade.{Unmade as Unmades};
+ghost use Rattle.cddl_table.specs.declared.table.Unmade.TheVariants as Why;
 
-use crate::nodes::{Group, GroupId, Node, TypeId};
-use crate::ranks::{NotRanked, Ranks, are_ranked, greatest};
+use crate::ranks::{group_ranks, type_ranks};
+use crate::root::root_place;
+use check_instances::closed::laws::{meaning_at, meanings_are_reached};
+use check_instances::openings::laws::part_is_reached;
+use check_recursion::Ranks;
+use check_terms::laws::equal_numbers;
+use check_terms::{NoRoom, Terms};
+use std::alloc::{AllocError, Global};
+use table_making::{Nodes, Source, nodes_of};
+use table_nodes::flags::flags_of;
+use table_nodes::{Ranks as NodeRanks, Table};
 
-/// Types and groups by their numbers, each with a rank, and the number of the root type. A number that is not there is a
-/// type that says no to every item, or a group that fails.
-#[derive(Drop)]
-pub struct Table {
-    types: Vec<Node>,
-    groups: Vec<Group>,
-    root: TypeId,
-    type_ranks: Vec<usize>,
-    group_ranks: Vec<usize>,
-    ranks: usize,
-    pub ghost bound: { ranks ≡ max (greatest type_ranks.items) (greatest group_ranks.items) },
-    pub ghost ranked: { IsRanked (language_in types.items groups.items) (rank_in type_ranks.items group_ranks.items) ranks },
+/// Why there is no table.
+#[derive(Clone, Copy, Debug, PartialEq, Eq)]
+pub enum Unmade {
+    /// Memory was refused, or a number does not fit.
+    NoRoom,
+    /// The ranks do not go down, or the root has no place: this never comes of a specification's own instances and ranks.
+    NotRanked,
 }
 
-impl Table {
-    ghost use Rattle.std.specs.Prelude.{◌≡◌, [], ℕ, IfErr, IfOk, IfSome, IfNone};
-    ghost use Rattle.cddl_meaning.specs.Forms.{Alternatives, Choice};
-    ghost use Rattle.cddl_ranks.specs.Flags.{AreFlags};
-    ghost use Rattle.cddl_ranks.specs.Ranked.{IsRanked};
-    ghost use Rattle.cddl_table.specs.Nodes.{group_view, language_in, type_view};
-    ghost use Rattle.cddl_table.specs.Ranks.{flag_in, rank_in};
-    ghost use Rattle.cddl_table.specs.Language.{language_of, rank_of, ranks_of, root_of};
+impl From<NoRoom> for Unmade {
+    ghost from_gives = { λ _ e. e ≡ Why.NoRoom };
 
-    /// The table of these types and groups, each with its number in the list, and of this root type. Takes no memory, and
-    /// looks at each part at most twice.
-    ///
-    /// # Errors
-    ///
-    /// [`NotRanked`] where what is free in a type or group has no lower rank, or where not just the groups that may take no
-    /// item are flagged.
-    pub fn new(
-        types: Vec<Node>,
-        groups: Vec<Group>,
-        root: TypeId,
-        ranks: Ranks,
-    ) -> Result<Table, NotRanked>
-        ensures language { IfOk result (λ table. language_of table ≡ language_in types.items groups.items) }
-        ensures root { IfOk result (λ table. root_of table ≡ root) }
-        ensures ranks { IfOk result (λ table. rank_of table ≡ rank_in ranks.types.items ranks.groups.items) }
-        ensures refused { IfErr result (λ _. AreFlags (language_in types.items groups.items) (flag_in ranks.may_be_empty.items) → (bound : ℕ) → IsRanked (language_in types.items groups.items) (rank_in ranks.types.items ranks.groups.items) bound → ⊥) }
-    {
-        if !are_ranked(&types, &groups, &ranks) {
-            return Err(NotRanked);
+    fn from(_: NoRoom) -> Self {
+        Unmade::NoRoom
+    }
+}
+
+impl From<AllocError> for Unmade {
+    ghost from_gives = { λ _ e. e ≡ Why.NoRoom };
+
+    fn from(_: AllocError) -> Self {
+        Unmade::NoRoom
+    }
+}
+
+/// The table of a specification (RFC 8610 sections 2 and 3): a type or a group for each of its instances and for what their
+/// parts ask for, each with a rank that is above those of what it asks of the same item.
+///
+/// It is given the table of terms, what is known of the instances and of the rows, ranks of what they ask, and the number of the
+/// root's name.
+///
+/// It takes time and memory in proportion to the forms that are made. Nothing recurses.
+///
+/// # Errors
+///
+/// [`Unmade::NoRoom`] where memory is refused or a number does not fit. [`Unmade::NotRanked`] never comes where what is given
+/// is of one specification, and the root is a name of a type.
+pub fn table_of(
+    alloc: Global,
+    terms: &Terms<'_>,
+    source: &Source<'_>,
+    ranks: &Ranks,
+    root: u32,
+) -> Result<Table, Unmade>
+    ensures stands { IfOk result (λ table. (s : Sense) → IsSource s terms.now source.now → slice_get terms.now.texts root ≡ Some s.root → is_group s.definitions s.root ≡ false → AreRanked s.definitions s.root s.refs terms.now ranks.now → StandsFor s.worth s.definitions s.root (language_of table) (root_of table) (rank_of table) (ranks_of table)) }
+    ensures ranked { IfErr result (λ why. why ≡ Why.NotRanked → (s : Sense) → IsSource s terms.now source.now → slice_get terms.now.texts root ≡ Some s.root → is_group s.definitions s.root ≡ false → AreRanked s.definitions s.root s.refs terms.now ranks.now → ⊥) }
+{
+    equal_numbers(terms);
+    meaning_at();
+    meanings_are_reached();
+    part_is_reached();
+    let Some(place) = root_place(terms, source.closed, root) else {
+        return Err(Unmade::NotRanked);
+    };
+    let nodes = nodes_of(alloc, terms, source, place)?;
+    let ranks = ranks_of(alloc, ranks, &nodes)?;
+    ranked_table(nodes, ranks)
+}
+
+// Ranks of the types and groups, and which groups may take no item.
+fn ranks_of(alloc: Global, ranks: &Ranks, nodes: &Nodes) -> Result<NodeRanks, Unmade>
+    ensures ranks { IfOk result (λ v. (v.types.items ≡ map (type_rank ranks.now) nodes.now.type_origins.items) × (v.groups.items ≡ map (group_rank ranks.now) nodes.now.group_origins.items)) }
+    ensures flags { IfOk result (λ v. (types : List Node) → AreFlags (language_in types nodes.now.groups.items) (flag_in v.may_be_empty.items)) }
+    ensures none { IfErr result (λ why. why ≡ Why.NoRoom) }
+{
+    Ok(NodeRanks {
+        types: type_ranks(alloc, ranks, &nodes.type_origins)?,
+        groups: group_ranks(alloc, ranks, &nodes.group_origins)?,
+        may_be_empty: flags_of(alloc, &nodes.groups)?,
+    })
+}
+
+// The table of these types and groups, with their ranks.
+fn ranked_table(nodes: Nodes, ranks: NodeRanks) -> Result<Table, Unmade>
+    ensures language { IfOk result (λ table. language_of table ≡ language_in nodes.types.items nodes.groups.items) }
+    ensures root { IfOk result (λ table. root_of table ≡ nodes.root) }
+    ensures ranked { IfOk result (λ table. IsRanked (language_of table) (rank_of table) (ranks_of table)) }
+    ensures refused { IfErr result (λ _. AreFlags (language_in nodes.types.items nodes.groups.items) (flag_in ranks.may_be_empty.items) → (bound : ℕ) → IsRanked (language_in nodes.types.items nodes.groups.items) (rank_in ranks.types.items ranks.groups.items) bound → ⊥) }
+{
+    let Nodes {
+        types,
+        groups,
+        root,
+        ..
+    } = nodes;
+    match Table::new(types, groups, root, ranks) {
+        Ok(table) => {
+            table.ranks();
+            Ok(table)
         }
-        let Ranks {
-            types: type_ranks,
-            groups: group_ranks,
-            ..
-        } = ranks;
-        let most = greatest(&type_ranks).max(greatest(&group_ranks));
-        Ok(Table {
-            types,
-            groups,
-            root,
-            type_ranks,
-            group_ranks,
-            ranks: most,
-        })
-    }
-
-    /// The number of the root type.
-    pub fn root(&self) -> TypeId
-        ensures { result ≡ root_of self.now }
-    {
-        self.root
-    }
-
-    /// The greatest rank of a type or a group.
-    pub fn ranks(&self) -> usize
-        ensures greatest { result ≡ ranks_of self.now }
-        ensures ranked { IsRanked (language_of self.now) (rank_of self.now) result }
-    {
-        self.ranks
-    }
-
-    /// The type of this number, if it is there.
-    pub fn node(&self, id: TypeId) -> Option<&Node>
-        ensures found { IfSome result (λ node. (language_of self.now).type_at id ≡ type_view node.now) }
-        ensures none { IfNone result ((language_of self.now).type_at id ≡ Choice []) }
-    {
-        self.types.get(id.number)
-    }
-
-    /// The group of this number, if it is there.
-    pub fn group(&self, id: GroupId) -> Option<&Group>
-        ensures found { IfSome result (λ group. (language_of self.now).group_at id ≡ group_view group.now) }
-        ensures none { IfNone result ((language_of self.now).group_at id ≡ Alternatives []) }
-    {
-        self.groups.get(id.number)
+        Err(_) => Err(Unmade::NotRanked),
     }
 }

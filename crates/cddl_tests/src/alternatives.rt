@@ -5,8 +5,8 @@ use crate::matching::{
     Kind, ONE, Order, Plan, Row, Steps, TEXT, TWO, YES, check_rows, check_steps,
 };
 use cddl_match::Verdict;
-use cddl_table::Most;
 use std::alloc::AllocError;
+use table_nodes::Most;
 
 const ONCE: Most = Most::AtMost(1);
 

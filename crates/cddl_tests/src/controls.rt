@@ -1,9 +1,11 @@
+//! Tests of `.ne`, `.lt`, `.le`, `.gt`, `.ge`, `.size` and `.and`: what they say of items, and in how many steps.
+
 use crate::matching::{
     Asked, Kind, ONE, Order, Part, Plan, Row, Steps, TEXT, TWO, YES, check_rows, check_steps,
 };
 use cddl_match::Verdict;
-use cddl_table::Whole;
 use std::alloc::AllocError;
+use table_nodes::Whole;
 
 // Controls that restrict: -2 is written as `nint` 1.
 static CONTROLS: [Kind; 18] = [

@@ -1,12 +1,14 @@
+//! Tests of `.cbor` and `.cborseq`: what types say of the items that byte strings hold, and in how many steps.
+
 use crate::matching::{
     Kind, ONE, Order, Part, Plan, Row, Steps, TEXT, YES, check_rows, check_steps, expect_verdict,
     table_of,
 };
 use cbor_item::{Item, Sound};
 use cddl_match::{Verdict, verdict};
-use cddl_table::{Content, Most};
 use std::alloc::{AllocError, Global};
 use std::process::Abort;
+use table_nodes::{Content, Most};
 
 // Byte strings that hold items.
 static HOLDERS: [Kind; 13] = [

@@ -1,15 +1,17 @@
-use crate::matching::{Part, groups_of};
-use cddl_flags::flags_of;
-use cddl_table::Most;
-use std::alloc::{AllocError, Global};
+//! Tests of which groups of a table may take no item.
 
-/// The flags of the groups: whether each may take no item.
+use crate::matching::{Part, groups_of};
+use std::alloc::{AllocError, Global};
+use table_nodes::Most;
+use table_nodes::flags::flags_of;
+
+// The flags of the groups: whether each may take no item.
 fn flags_for(alloc: Global, parts: &[Part]) -> Result<Vec<bool>, AllocError> {
     let groups = groups_of(alloc, parts)?;
     flags_of(alloc, &groups)
 }
 
-/// Whether just these groups may take no item.
+// Whether just these groups may take no item.
 fn are(alloc: Global, parts: &[Part], flags: &[bool]) -> Result<bool, AllocError> {
     let found = flags_for(alloc, parts)?;
     Ok(found.as_slice() == flags)

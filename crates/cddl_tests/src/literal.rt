@@ -1,3 +1,5 @@
+//! Tests of literals: the values of numbers, text strings and byte strings, escapes, and where strings end.
+
 ghost use Rattle.std.specs.Prelude.{◌≡◌, ℕ, ◌+◌, ◌<◌, ◌≤◌, Bool, length, slice_index, IsTrue};
 ghost use Rattle.cddl_literal.specs.Bytes.{Each, is_decimal_digit, is_binary_digit};
 ghost use Rattle.cddl_literal.specs.Numbers.{IsUint, IsSigned};
@@ -11,7 +13,7 @@ use std::alloc::{AllocError, Global};
 use std::process::Abort;
 use std::test::Fail;
 
-/// Whether digits are from here to the end.
+// Whether digits are from here to the end.
 fn are_decimal(source: &[u8], from: usize) -> bool
     ensures { IsTrue result → Each is_decimal_digit source.now from (length source.now) }
 {
@@ -25,7 +27,7 @@ fn are_decimal(source: &[u8], from: usize) -> bool
     true
 }
 
-/// Whether hex digits are from here to the end.
+// Whether hex digits are from here to the end.
 fn are_hex(source: &[u8], from: usize) -> bool
     ensures { IsTrue result → Each is_hex_digit source.now from (length source.now) }
 {
@@ -39,7 +41,7 @@ fn are_hex(source: &[u8], from: usize) -> bool
     true
 }
 
-/// Whether binary digits are from here to the end.
+// Whether binary digits are from here to the end.
 fn are_binary(source: &[u8], from: usize) -> bool
     ensures { IsTrue result → Each is_binary_digit source.now from (length source.now) }
 {
@@ -53,7 +55,7 @@ fn are_binary(source: &[u8], from: usize) -> bool
     true
 }
 
-/// Whether a uint is from here to the end.
+// Whether a uint is from here to the end.
 fn is_uint(source: &[u8], from: usize) -> bool
     requires { from < length source.now }
     ensures { IsTrue result → (n : ℕ) × IsUint source.now from (length source.now) n }
@@ -76,7 +78,7 @@ fn is_uint(source: &[u8], from: usize) -> bool
     false
 }
 
-/// What a source that is a number stands for, if it is one that is not too large.
+// What a source that is a number stands for, if it is one that is not too large.
 fn number(source: &[u8]) -> Option<Literal> {
     let from = if byte_at(source, 0) == b'-' { 1 } else { 0 };
     if from < source.len() && is_uint(source, from) {
@@ -203,7 +205,7 @@ static NO_ESCAPES: [&str; 27] = [
     "\\1",
 ];
 
-/// A string of either kind has the same escape at its front, or none.
+// A string of either kind has the same escape at its front, or none.
 fn expect_escape(rt: &impl Abort, source: &str, want: Option<Escape>) {
     let double = escape_at(source.as_bytes(), 0, Quote::Double);
     let single = escape_at(source.as_bytes(), 0, Quote::Single);
@@ -261,7 +263,7 @@ static STRINGS: [(&[u8], Quote, usize); 15] = [
     (b"a\r", Quote::Single, 1),
 ];
 
-/// Only here a source of bytes is shown, since each type that a message shows costs a check seconds.
+// Only here a source of bytes is shown, since each type that a message shows costs a check seconds.
 fn expect_end(rt: &impl Abort, found: usize, end: usize, source: &[u8]) {
     assert_eq!(rt; found, end, "{source:?}");
 }
@@ -305,7 +307,7 @@ fn stops_of_prefixed(rt: HostRuntime) {
     expect_coded_ends(&rt, &PREFIXED);
 }
 
-/// The value of a source that is a text string, if it is one.
+// The value of a source that is a text string, if it is one.
 fn text(alloc: Global, source: &str) -> Result<Option<String>, AllocError> {
     let bytes = source.as_bytes();
     if byte_at(bytes, 0) != b'"' {
@@ -348,7 +350,7 @@ fn texts(rt: HostRuntime) -> Result<(), Fail> {
     Ok(())
 }
 
-/// The value of a source that is a plain byte string, if it is one.
+// The value of a source that is a plain byte string, if it is one.
 fn plain(alloc: Global, source: &str) -> Result<Option<Vec<u8>>, AllocError> {
     let bytes = source.as_bytes();
     if byte_at(bytes, 0) != b'\'' {
@@ -390,7 +392,7 @@ fn plain_bytes(rt: HostRuntime) -> Result<(), Fail> {
     Ok(())
 }
 
-/// The bytes between the quotes of a closed string with prefix, if they are fit for them.
+// The bytes between the quotes of a closed string with prefix, if they are fit for them.
 fn between(alloc: Global, coding: Coding, source: &[u8]) -> Result<Option<Vec<u8>>, AllocError> {
     let end = coded_end(source, 0);
     if byte_at(source, end) != b'\'' {
@@ -495,7 +497,7 @@ fn base64(rt: HostRuntime) -> Result<(), Fail> {
     Ok(())
 }
 
-/// The letter's six bits are the first byte's last two and the second byte's first four.
+// The letter's six bits are the first byte's last two and the second byte's first four.
 fn bits_of(rt: &impl Abort, alloc: Global, letter: u8) -> Result<usize, AllocError> {
     let source = [b'A', letter, b'A', b'A', b'\''];
     let bytes = between(alloc, Coding::Base64, &source)?.expect(rt, "bytes");
@@ -512,7 +514,7 @@ fn base64_alphabet(rt: HostRuntime) -> Result<(), Fail> {
     Ok(())
 }
 
-/// The value of a source that is a byte string in hex, if it is one.
+// The value of a source that is a byte string in hex, if it is one.
 fn in_hex(alloc: Global, source: &str) -> Result<Option<Vec<u8>>, AllocError> {
     let bytes = source.as_bytes();
     let first = byte_at(bytes, 0);
@@ -532,7 +534,7 @@ fn in_hex(alloc: Global, source: &str) -> Result<Option<Vec<u8>>, AllocError> {
     }
 }
 
-/// The value of a source that is a byte string in base64, if it is one.
+// The value of a source that is a byte string in base64, if it is one.
 fn in_base64(alloc: Global, source: &str) -> Result<Option<Vec<u8>>, AllocError> {
     let bytes = source.as_bytes();
     if !is_b(byte_at(bytes, 0)) || byte_at(bytes, 1) != b'6' {

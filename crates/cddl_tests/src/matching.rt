@@ -1,15 +1,17 @@
+//! Tests of what types say of arrays, maps, tags and simple values, with the tables and rows that other tests use too.
+
 use crate::turns::run_by_turns;
 use cbor_item::{Item, Sound};
 use cbor_read::embedded_item;
 use cddl_match::{Verdict, verdict};
-use cddl_table::{
+use std::alloc::{AllocError, Global};
+use std::process::Abort;
+use table_nodes::{
     Content, Group, GroupId, MapEntry, Most, Node, Ranks, SizeRange, SizeSet, Table, TagNumber,
     Test, TypeId, Whole,
 };
-use std::alloc::{AllocError, Global};
-use std::process::Abort;
 
-/// The item that these bytes spell, in a box: each step of a proof has the types of a function's locals, up to a box.
+// The item that these bytes spell, in a box: each step of a proof has the types of a function's locals, up to a box.
 pub(crate) fn item_of(
     rt: &impl Abort,
     alloc: Global,
@@ -221,7 +223,7 @@ pub(crate) struct Plan {
     pub(crate) order: &'static Order,
 }
 
-/// The table of these types and groups, whose root is the type of this number, if their ranks go down.
+// The table of these types and groups, whose root is the type of this number, if their ranks go down.
 pub(crate) fn table_of(
     alloc: Global,
     plan: &Plan,
@@ -236,7 +238,7 @@ pub(crate) fn table_of(
     }
 }
 
-/// What the root of a table says of an item, within so many steps, by calls and by turns.
+// What the root of a table says of an item, within so many steps, by calls and by turns.
 fn verdict_in(
     rt: &impl Abort,
     alloc: Global,
@@ -251,7 +253,7 @@ fn verdict_in(
     Ok(found)
 }
 
-/// What the type of this number says of an item, within so many steps.
+// What the type of this number says of an item, within so many steps.
 fn verdict_of(
     rt: &impl Abort,
     alloc: Global,
@@ -264,7 +266,7 @@ fn verdict_of(
     verdict_in(rt, alloc, &table, bytes, steps)
 }
 
-/// Only here verdicts are compared and shown, since each type that a message shows costs a check seconds.
+// Only here verdicts are compared and shown, since each type that a message shows costs a check seconds.
 pub(crate) fn expect_verdict(rt: &impl Abort, found: Verdict, wanted: Verdict, number: usize) {
     assert_eq!(rt; found, wanted, "of type {number}");
 }
@@ -282,7 +284,7 @@ pub(crate) fn check_rows(
     Ok(())
 }
 
-/// So many steps tell, and one fewer does not.
+// So many steps tell, and one fewer does not.
 fn check_limit(rt: &impl Abort, alloc: Global, plan: &Plan, row: &Steps) -> Result<(), AllocError> {
     let (number, bytes, steps) = *row;
     let enough = verdict_of(rt, alloc, plan, number, bytes, steps)?;
@@ -478,7 +480,7 @@ fn counts_steps(rt: HostRuntime) -> Result<(), AllocError> {
     check_steps(&rt, rt.alloc(), &arrays(), step_rows())
 }
 
-/// Whether a type says yes to an item, or there is no memory.
+// Whether a type says yes to an item, or there is no memory.
 fn is_yes_or_wants_memory(
     rt: &impl Abort,
     alloc: Global,

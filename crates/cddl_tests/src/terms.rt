@@ -1,10 +1,12 @@
+//! Tests that equal rows and equal texts of terms get one number, and of the names in openings and controls.
+
 ghost use Rattle.std.specs.Prelude.{◌≡◌, None};
 
-use cddl_terms::{Form, NoRoom, Row, Terms, control_name, opened_name};
+use check_terms::{Form, NoRoom, Row, Terms, control_name, opened_name};
 use std::alloc::Global;
 use std::process::Abort;
 
-/// A row without parts and without a text.
+// A row without parts and without a text.
 fn bare(form: Form) -> Row
     ensures { result ≡ record { form = form; text = None; first = None; second = None } }
 {
@@ -16,7 +18,7 @@ fn bare(form: Form) -> Row
     }
 }
 
-/// The numbers of two rows, and of the first again.
+// The numbers of two rows, and of the first again.
 fn three_numbers(terms: &mut Terms<'_>) -> Result<(u32, u32, u32), NoRoom> {
     let first = terms.add(bare(Form::NoTerms))?;
     let second = terms.add(bare(Form::NoEntries))?;
@@ -24,7 +26,7 @@ fn three_numbers(terms: &mut Terms<'_>) -> Result<(u32, u32, u32), NoRoom> {
     Ok((first, second, again))
 }
 
-/// Whether equal rows have one number, and no row has one that was not given.
+// Whether equal rows have one number, and no row has one that was not given.
 fn are_rows_numbered(terms: &mut Terms<'_>) -> bool {
     let numbers = three_numbers(terms);
     let second = terms.row(1);
@@ -38,7 +40,7 @@ fn are_rows_numbered(terms: &mut Terms<'_>) -> bool {
     matches!(numbers, Ok((0, 1, 0))) && terms.len() == 2 && is_second && terms.row(2).is_none()
 }
 
-/// The same of a new table, which is dropped here and in no test: each assertion after a table shows its destruction.
+// The same of a new table, which is dropped here and in no test: each assertion after a table shows its destruction.
 fn are_new_rows_numbered(alloc: Global) -> bool {
     let mut terms = Terms::new(alloc);
     are_rows_numbered(&mut terms)
@@ -49,7 +51,7 @@ fn numbers_equal_rows_once(rt: HostRuntime) {
     assert!(rt; are_new_rows_numbered(rt.alloc()));
 }
 
-/// The numbers of two texts, and of the first again.
+// The numbers of two texts, and of the first again.
 fn three_texts<'s>(
     terms: &mut Terms<'s>,
     one: &'s str,
@@ -61,7 +63,7 @@ fn three_texts<'s>(
     Ok((first, second, again))
 }
 
-/// Whether equal texts have one number, by which they are found.
+// Whether equal texts have one number, by which they are found.
 fn are_texts_numbered(terms: &mut Terms<'_>) -> bool {
     let numbers = three_texts(terms, "int", "tstr");
     matches!(numbers, Ok((0, 1, 0)))
@@ -81,14 +83,14 @@ fn numbers_equal_texts_once(rt: HostRuntime) {
     assert!(rt; are_new_texts_numbered(rt.alloc()));
 }
 
-/// The number of the name's use as a type, as `int`: a reference without arguments.
+// The number of the name's use as a type, as `int`: a reference without arguments.
 fn number_of_use<'s>(terms: &mut Terms<'s>, name: &'s str) -> Result<u32, NoRoom> {
     let nothing = terms.add_node(Form::NoTerms, None, None, None)?;
     let reference = terms.add_node(Form::Call, Some(name), Some(nothing), None)?;
     terms.add_node(Form::Named, None, Some(reference), None)
 }
 
-/// Whether the uses of two names are rows of their own, over their texts.
+// Whether the uses of two names are rows of their own, over their texts.
 fn are_nodes_numbered(terms: &mut Terms<'_>) -> bool {
     let one = number_of_use(terms, "int");
     let other = number_of_use(terms, "tstr");
@@ -105,7 +107,7 @@ fn are_nodes_numbered(terms: &mut Terms<'_>) -> bool {
     matches!((one, other), (Ok(2), Ok(4))) && terms.len() == 5 && is_call
 }
 
-/// Whether the texts of these uses are in their order.
+// Whether the texts of these uses are in their order.
 fn are_texts_in_order(terms: &Terms<'_>) -> bool {
     terms.text_count() == 2
         && terms.text_at(2).is_none()
@@ -123,7 +125,7 @@ fn numbers_nodes_and_texts(rt: HostRuntime) {
     assert!(rt; are_new_nodes_numbered(rt.alloc()));
 }
 
-/// Whether there was room for two texts; then they have their numbers.
+// Whether there was room for two texts; then they have their numbers.
 fn are_texts_numbered_or_refused(terms: &mut Terms<'_>) -> bool {
     let numbers = three_texts(terms, "int", "tstr");
     matches!(numbers, Ok((0, 1, 0)) | Err(NoRoom))

@@ -1,3 +1,5 @@
+//! Tests of the scanner: the tokens of sources, the values of those that are literals, and what is refused.
+
 ghost use Rattle.std.specs.Prelude.{◌<◌, All, vec_len};
 ghost use Rattle.cddl_token.specs.Answers.{IsAnswered};
 
@@ -13,7 +15,7 @@ use codes::codes;
 use rows::{Row, rows_1, rows_2, rows_3, rows_4, rows_5, rows_6, rows_7, rows_8, value_rows};
 use texts::{Specification, cose, examples};
 
-/// The kinds of the tokens, or the line of the refusal.
+// The kinds of the tokens, or the line of the refusal.
 fn kinds_or_refusal(alloc: Global, source: &[u8]) -> Result<String, AllocError> {
     match tokens(alloc, source) {
         Ok(found) => kinds(alloc, &found),
@@ -30,7 +32,7 @@ fn kinds(alloc: Global, found: &[Token<'_>]) -> Result<String, AllocError> {
     Ok(out)
 }
 
-/// What a token of a list stands for.
+// What a token of a list stands for.
 fn value_at(alloc: Global, found: &Vec<Token<'_>>, i: usize) -> Result<Option<Literal>, AllocError>
     requires within { i < vec_len found.now }
     requires answered { All IsAnswered found.now.items }
@@ -38,7 +40,7 @@ fn value_at(alloc: Global, found: &Vec<Token<'_>>, i: usize) -> Result<Option<Li
     value(alloc, &found[i])
 }
 
-/// What the tokens that are literals stand for.
+// What the tokens that are literals stand for.
 fn values(alloc: Global, found: &Vec<Token<'_>>) -> Result<String, AllocError>
     requires { All IsAnswered found.now.items }
 {
@@ -51,7 +53,7 @@ fn values(alloc: Global, found: &Vec<Token<'_>>) -> Result<String, AllocError>
     Ok(out)
 }
 
-/// What the literals of a source stand for, or the line of the refusal.
+// What the literals of a source stand for, or the line of the refusal.
 fn values_or_refusal(alloc: Global, source: &[u8]) -> Result<String, AllocError> {
     match tokens(alloc, source) {
         Ok(found) => values(alloc, &found),
@@ -59,7 +61,7 @@ fn values_or_refusal(alloc: Global, source: &[u8]) -> Result<String, AllocError>
     }
 }
 
-/// Only here texts are compared and shown, since each type that a message shows costs a check seconds.
+// Only here texts are compared and shown, since each type that a message shows costs a check seconds.
 fn expect_told(rt: &impl Abort, told: &str, want: &str, source: &[u8]) {
     assert_eq!(rt; told, want, "at {source:?}");
 }
@@ -135,7 +137,7 @@ fn gives_values(rt: HostRuntime) -> Result<(), AllocError> {
     check_values(&rt, rt.alloc(), value_rows())
 }
 
-/// How many `=` are in a source, and None where it has no tokens.
+// How many `=` are in a source, and None where it has no tokens.
 fn rules(alloc: Global, source: &str) -> Option<usize> {
     let found = tokens(alloc, source.as_bytes()).ok()?;
     Some(
@@ -174,7 +176,7 @@ fn lengths() -> &'static [(u8, usize, &'static str)] {
     &LENGTHS
 }
 
-/// A source of so many times the byte is told so.
+// A source of so many times the byte is told so.
 fn check_length(
     rt: &impl Abort,
     alloc: Global,
@@ -196,7 +198,7 @@ fn limits_the_length(rt: HostRuntime) -> Result<(), AllocError> {
     Ok(())
 }
 
-/// Whether the first token has a value, or memory runs out.
+// Whether the first token has a value, or memory runs out.
 fn has_value(alloc: Global, found: &Vec<Token<'_>>) -> bool
     requires within { 0 < vec_len found.now }
     requires answered { All IsAnswered found.now.items }

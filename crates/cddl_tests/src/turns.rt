@@ -1,9 +1,11 @@
+//! Tests of the machine that judges an item by turns: its answers and steps, and the room that its open questions take.
+
 use crate::matching::{Kind, Order, Part, Plan, YES, expect_verdict, item_of, table_of};
 use cbor_item::Sound;
 use cddl_match::{Cells, Machine, Verdict};
-use cddl_table::{Most, Node, Ranks, Table, Test, TypeId};
 use std::alloc::{AllocError, Global};
 use std::process::Abort;
+use table_nodes::{Most, Node, Ranks, Table, Test, TypeId};
 
 /// What the turns of a machine come to.
 #[derive(Clone, Copy)]
@@ -13,14 +15,14 @@ pub(crate) struct Ran {
     most: usize,
 }
 
-/// So many questions may be open, of an item with so many bytes.
+// So many questions may be open, of an item with so many bytes.
 fn bound_of(table: &Table, bytes: usize) -> usize {
     let rows = table.ranks().saturating_add(1);
     rows.saturating_mul(bytes.saturating_add(1))
 }
 
-/// Takes turns until one answers, and sees after each one how many questions are open and how many steps were taken. There are
-/// at most twice as many turns as steps, and one more.
+// Takes turns until one answers, and sees after each one how many questions are open and how many steps were taken. There are
+// at most twice as many turns as steps, and one more.
 pub(crate) fn turns_of(
     rt: &impl Abort,
     machine: &mut Machine<'_, '_>,
@@ -47,7 +49,7 @@ pub(crate) fn turns_of(
     })
 }
 
-/// What the turns of a machine come to that has room for so many open questions.
+// What the turns of a machine come to that has room for so many open questions.
 pub(crate) fn run_by_turns(
     rt: &impl Abort,
     alloc: Global,
@@ -94,7 +96,7 @@ const MEMBERS: usize = 100_000;
 
 const STEPS: u64 = 10_000_000;
 
-/// The bytes of an array of so many members, each the number 0.
+// The bytes of an array of so many members, each the number 0.
 fn members(alloc: Global) -> Result<Vec<u8>, AllocError> {
     let mut bytes = Vec::from_array(alloc, [0x9a, 0x00, 0x01, 0x86, 0xa0])?;
     for _ in 0..MEMBERS {
@@ -114,7 +116,7 @@ fn asks_100_000_members_in_each_other(rt: HostRuntime) -> Result<(), AllocError>
     Ok(())
 }
 
-/// A machine for the array of members, in whose turns no memory is wanted; or there was none before them.
+// A machine for the array of members, in whose turns no memory is wanted; or there was none before them.
 fn answers_in_its_room(rt: &impl Abort, alloc: Global) -> Result<Verdict, AllocError> {
     let bytes = members(alloc)?;
     let item = item_of(rt, alloc, &bytes)?;
@@ -136,7 +138,7 @@ fn answers_in_its_room_or_wants_memory(rt: HostRuntime) {
 
 const NAMES: usize = 1000;
 
-/// Rules of which each is a name of the next one, and the last `int`.
+// Rules of which each is a name of the next one, and the last `int`.
 fn names(rt: &impl Abort, alloc: Global) -> Result<Box<Table>, AllocError> {
     let mut types = Vec::new(alloc);
     let mut ranks = Vec::new(alloc);

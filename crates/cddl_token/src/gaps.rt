@@ -7,7 +7,7 @@ ghost use Rattle.cddl_token.specs.Tokens.{IsComment, GapFrom, StartsNoGap, Fault
 use crate::{Code, Fault};
 use cddl_literal::{is_blank, is_cr_lf, is_in_comment};
 
-/// Where the comment that begins here ends.
+// Where the comment that begins here ends.
 fn comment_end(source: &[u8], at: usize) -> Result<usize, Fault>
     requires begins { IsAt ";" source.now at }
     requires within { at < length source.now }
@@ -33,7 +33,7 @@ fn comment_end(source: &[u8], at: usize) -> Result<usize, Fault>
     Ok(i)
 }
 
-/// Where the gap that begins here ends.
+// Where the gap that begins here ends.
 pub(crate) fn gap_end(source: &[u8], at: usize) -> Result<usize, Fault>
     requires { at ≤ length source.now }
     ensures { MatchResult result (λ e. GapFrom source.now at e × (at ≤ e) × (e ≤ length source.now) × (e < length source.now → StartsNoGap source.now e × (IsAt ";" source.now e → ⊥))) (λ f. (a : ℕ) × GapFrom source.now at a × (a < length source.now) × FaultAt source.now a f.code f.at) }

@@ -10,7 +10,7 @@ use crate::uints::{fits, uint_end};
 use crate::{Code, Fault, Kind};
 use cddl_literal::{byte_at, is_digit};
 
-/// Whether `6` is after `#`, and `(` is here.
+// Whether `6` is after `#`, and `(` is here.
 fn opens_tag(source: &[u8], at: usize, here: usize) -> bool
     requires { at < length source.now }
     ensures yes { IsTrue result → IsAt "6" source.now (at + 1) × IsAt "(" source.now here × (here < length source.now) }
@@ -19,7 +19,7 @@ fn opens_tag(source: &[u8], at: usize, here: usize) -> bool
     byte_at(source, at + 1) == b'6' && byte_at(source, here) == b'('
 }
 
-/// What begins with `#d.` and the uint up to `end`.
+// What begins with `#d.` and the uint up to `end`.
 fn hash_number_at(source: &[u8], at: usize, end: usize) -> Result<(Kind, usize), Fault>
     requires begins { IsHashDot source.now at }
     requires number { IsLongestBound source.now (at + 3) end }
@@ -41,7 +41,7 @@ fn hash_number_at(source: &[u8], at: usize, end: usize) -> Result<(Kind, usize),
     }
 }
 
-/// The token that begins with `#`, a digit and `.`.
+// The token that begins with `#`, a digit and `.`.
 fn hash_dot_at(source: &[u8], at: usize) -> Result<(Kind, usize), Fault>
     requires begins { IsHashDot source.now at }
     requires within { at + 3 ≤ length source.now }
@@ -58,7 +58,7 @@ fn hash_dot_at(source: &[u8], at: usize) -> Result<(Kind, usize), Fault>
     }
 }
 
-/// The token that begins with `#`, a digit, `.` and `<`.
+// The token that begins with `#`, a digit, `.` and `<`.
 fn head_at(source: &[u8], at: usize) -> (Kind, usize)
     requires begins { IsHashDot source.now at }
     requires sign { IsAt "<" source.now (at + 3) }
@@ -73,7 +73,7 @@ fn head_at(source: &[u8], at: usize) -> (Kind, usize)
     }
 }
 
-/// The token that begins with `#`.
+// The token that begins with `#`.
 pub(crate) fn hash_at(source: &[u8], at: usize) -> Result<(Kind, usize), Fault>
     requires begins { IsAt "#" source.now at }
     requires within { at < length source.now }

@@ -186,7 +186,7 @@ pub enum Refusal {
 impl fmt::Display for Code {
     ghost output = { λ code. Some (code_text code) };
 
-    /// The number and the name, as `S4 BadEscape`.
+    // The number and the name, as `S4 BadEscape`.
     fn fmt<W: fmt::Write>(&self, f: &mut fmt::Formatter<W>) -> fmt::Result {
         f.write_str(label(*self))
     }
@@ -195,7 +195,7 @@ impl fmt::Display for Code {
 impl fmt::Display for Refusal {
     ghost output = { λ refusal. Some (refusal_text refusal) };
 
-    /// The line that says so, as `refused: S4 BadEscape at byte 5`.
+    // The line that says so, as `refused: S4 BadEscape at byte 5`.
     fn fmt<W: fmt::Write>(&self, f: &mut fmt::Formatter<W>) -> fmt::Result {
         match self {
             Refusal::At(code, at) => write!(f, "refused: {code} at byte {at}"),
@@ -222,7 +222,7 @@ impl<T: Drop> From<AllocFailed<T>> for Refusal {
     }
 }
 
-/// The number and the name of a code.
+// The number and the name of a code.
 fn label(code: Code) -> &'static str
     ensures { result.now ≡ code_text code }
 {

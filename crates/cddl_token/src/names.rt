@@ -11,7 +11,7 @@ use crate::bytes::{is_ealpha, is_id_byte, is_mark};
 use crate::{Code, Fault, Kind};
 use cddl_literal::byte_at;
 
-/// Where the id that begins here ends.
+// Where the id that begins here ends.
 pub(crate) fn id_end(source: &[u8], at: usize) -> usize
     requires begins { is_ealpha (slice_index source.now at) ≡ true }
     requires within { at < length source.now }
@@ -35,7 +35,7 @@ pub(crate) fn id_end(source: &[u8], at: usize) -> usize
     end
 }
 
-/// The name that begins here, and its end.
+// The name that begins here, and its end.
 pub(crate) fn name_at(source: &[u8], at: usize) -> (Kind, usize)
     requires begins { is_ealpha (slice_index source.now at) ≡ true }
     requires no_string { OpensPrefixed source.now at → ⊥ }
@@ -51,7 +51,7 @@ pub(crate) fn name_at(source: &[u8], at: usize) -> (Kind, usize)
     }
 }
 
-/// The control or the dots that begin here, and their end.
+// The control or the dots that begin here, and their end.
 pub(crate) fn dot_at(source: &[u8], at: usize) -> Result<(Kind, usize), Fault>
     requires begins { IsAt "." source.now at }
     requires within { at < length source.now }

@@ -24,7 +24,7 @@ pub(crate) enum Shape {
     Float,
 }
 
-/// Whether a byte is a digit.
+// Whether a byte is a digit.
 fn is_digit_in(radix: Radix, b: u8) -> bool
     ensures { result ≡ is_digit_in radix b }
 {
@@ -35,7 +35,7 @@ fn is_digit_in(radix: Radix, b: u8) -> bool
     }
 }
 
-/// Whether a byte begins the exponent of a number in this radix.
+// Whether a byte begins the exponent of a number in this radix.
 fn marks_exponent(radix: Radix, b: u8) -> bool
     ensures { result ≡ marks_exponent radix b }
 {
@@ -45,14 +45,14 @@ fn marks_exponent(radix: Radix, b: u8) -> bool
     }
 }
 
-/// Whether a byte is `+` or `-`.
+// Whether a byte is `+` or `-`.
 fn is_sign(b: u8) -> bool
     ensures { result ≡ is_sign b }
 {
     b == b'+' || b == b'-'
 }
 
-/// Where the digits that begin here end.
+// Where the digits that begin here end.
 pub(crate) fn digits_end(source: &[u8], at: usize, radix: Radix) -> usize
     requires { at ≤ length source.now }
     ensures from { at ≤ result }
@@ -67,7 +67,7 @@ pub(crate) fn digits_end(source: &[u8], at: usize, radix: Radix) -> usize
     i
 }
 
-/// Where the exponent that begins here ends.
+// Where the exponent that begins here ends.
 fn exponent_end(source: &[u8], at: usize, radix: Radix) -> Option<usize>
     requires { at ≤ length source.now }
     ensures { MatchOption result ((m : ℕ) → IsExponent (marks_exponent radix) source.now at m → ⊥) (λ e. IsExponent (marks_exponent radix) source.now at e × (e ≤ length source.now)) }
@@ -85,7 +85,7 @@ fn exponent_end(source: &[u8], at: usize, radix: Radix) -> Option<usize>
     None
 }
 
-/// Where the `.` and the digit end that are here.
+// Where the `.` and the digit end that are here.
 fn fraction_end(source: &[u8], at: usize) -> Option<usize>
     requires { at ≤ length source.now }
     ensures { MatchOption result (IsAt "." source.now at → is_decimal_digit (slice_index source.now (at + 1)) ≡ true → ⊥) (λ e. IsAt "." source.now at × (is_decimal_digit (slice_index source.now (at + 1)) ≡ true) × (e ≡ at + 2) × (e ≤ length source.now)) }
@@ -97,7 +97,7 @@ fn fraction_end(source: &[u8], at: usize) -> Option<usize>
     }
 }
 
-/// Where what shows a float after a decimal ends.
+// Where what shows a float after a decimal ends.
 fn decimal_tail_end(source: &[u8], at: usize) -> Option<usize>
     requires { at ≤ length source.now }
     ensures { MatchOption result ((m : ℕ) → IsDecimalTail source.now at m → ⊥) (λ e. IsDecimalTail source.now at e × (e ≤ length source.now)) }
@@ -108,7 +108,7 @@ fn decimal_tail_end(source: &[u8], at: usize) -> Option<usize>
     }
 }
 
-/// Where the `.`, hex digits and exponent end that are here.
+// Where the `.`, hex digits and exponent end that are here.
 fn hex_fraction_end(source: &[u8], at: usize) -> Option<usize>
     requires { at ≤ length source.now }
     ensures { MatchOption result ((m : ℕ) → IsHexFraction source.now at m → ⊥) (λ e. IsHexFraction source.now at e × (e ≤ length source.now)) }
@@ -123,7 +123,7 @@ fn hex_fraction_end(source: &[u8], at: usize) -> Option<usize>
     exponent_end(source, end, Radix::Hexadecimal)
 }
 
-/// Where what shows a float after hex digits ends.
+// Where what shows a float after hex digits ends.
 fn hex_tail_end(source: &[u8], at: usize) -> Option<usize>
     requires { at ≤ length source.now }
     ensures { MatchOption result ((m : ℕ) → IsHexTail source.now at m → ⊥) (λ e. IsHexTail source.now at e × (e ≤ length source.now)) }
@@ -134,7 +134,7 @@ fn hex_tail_end(source: &[u8], at: usize) -> Option<usize>
     }
 }
 
-/// What begins with `0x`, and its end.
+// What begins with `0x`, and its end.
 fn hex_shape_at(source: &[u8], at: usize) -> (Shape, usize)
     requires begins { IsPrefix is_x source.now at }
     requires within { at + 2 ≤ length source.now }
@@ -151,7 +151,7 @@ fn hex_shape_at(source: &[u8], at: usize) -> (Shape, usize)
     }
 }
 
-/// What begins with `0b`, and its end.
+// What begins with `0b`, and its end.
 fn binary_shape_at(source: &[u8], at: usize) -> (Shape, usize)
     requires begins { IsPrefix is_b source.now at }
     requires within { at + 2 ≤ length source.now }
@@ -166,7 +166,7 @@ fn binary_shape_at(source: &[u8], at: usize) -> (Shape, usize)
     }
 }
 
-/// Whether digits begin with a 0 and go on.
+// Whether digits begin with a 0 and go on.
 fn has_zero_first(source: &[u8], from: usize, end: usize) -> bool
     requires some { from < end }
     requires within { end ≤ length source.now }
@@ -176,7 +176,7 @@ fn has_zero_first(source: &[u8], from: usize, end: usize) -> bool
     source[from] == b'0' && from + 1 < end
 }
 
-/// What begins with a decimal, and its end.
+// What begins with a decimal, and its end.
 fn decimal_shape_at(source: &[u8], at: usize) -> (Shape, usize)
     requires begins { is_decimal_digit (slice_index source.now at) ≡ true }
     requires no_hex { IsPrefix is_x source.now at → ⊥ }
@@ -198,7 +198,7 @@ fn decimal_shape_at(source: &[u8], at: usize) -> (Shape, usize)
     }
 }
 
-/// What begins with a digit, and its end.
+// What begins with a digit, and its end.
 pub(crate) fn shape_at(source: &[u8], at: usize) -> (Shape, usize)
     requires begins { is_decimal_digit (slice_index source.now at) ≡ true }
     requires within { at < length source.now }

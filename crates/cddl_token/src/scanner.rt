@@ -17,7 +17,7 @@ use crate::{Code, Fault, Kind, Refusal, Token};
 use cddl_literal::{Quote, is_digit};
 use std::alloc::Global;
 
-/// The name or the byte string with prefix that begins here, and its end.
+// The name or the byte string with prefix that begins here, and its end.
 fn word_at(alloc: Global, source: &[u8], at: usize) -> Result<(Kind, usize), Refusal>
     requires begins { is_ealpha (slice_index source.now at) ≡ true }
     requires within { at < length source.now }
@@ -29,7 +29,7 @@ fn word_at(alloc: Global, source: &[u8], at: usize) -> Result<(Kind, usize), Ref
     }
 }
 
-/// The token that begins here with no letter, and its end.
+// The token that begins here with no letter, and its end.
 fn sign_at(source: &[u8], at: usize) -> Result<(Kind, usize), Fault>
     requires within { at < length source.now }
     requires no_gap { StartsNoGap source.now at }
@@ -60,7 +60,7 @@ fn sign_at(source: &[u8], at: usize) -> Result<(Kind, usize), Fault>
     }
 }
 
-/// The token that begins here, and its end.
+// The token that begins here, and its end.
 fn token_at(alloc: Global, source: &[u8], at: usize) -> Result<(Kind, usize), Refusal>
     requires within { at < length source.now }
     requires no_gap { StartsNoGap source.now at }
@@ -76,7 +76,7 @@ fn token_at(alloc: Global, source: &[u8], at: usize) -> Result<(Kind, usize), Re
     }
 }
 
-/// The part of a text from one offset to another, with ASCII on the inner side of both.
+// The part of a text from one offset to another, with ASCII on the inner side of both.
 fn text_between(text: &str, start: usize, end: usize) -> &str
     requires past { start < end }
     requires within { end ≤ length text.now }
@@ -87,7 +87,7 @@ fn text_between(text: &str, start: usize, end: usize) -> &str
     &text[start..end]
 }
 
-/// The tokens of a source, which `text` is too.
+// The tokens of a source, which `text` is too.
 pub(crate) fn scan<'s>(
     alloc: Global,
     source: &[u8],

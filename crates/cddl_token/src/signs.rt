@@ -8,7 +8,7 @@ ghost use Rattle.cddl_token.specs.Signs.{is_single};
 use crate::Kind;
 use cddl_literal::byte_at;
 
-/// The sign with `/` that begins here, and its end.
+// The sign with `/` that begins here, and its end.
 pub(crate) fn slash_at(source: &[u8], at: usize) -> (Kind, usize)
     requires begins { IsAt "/" source.now at }
     requires within { at < length source.now }
@@ -27,7 +27,7 @@ pub(crate) fn slash_at(source: &[u8], at: usize) -> (Kind, usize)
     }
 }
 
-/// `=` or `=>`, and its end.
+// `=` or `=>`, and its end.
 pub(crate) fn equals_at(source: &[u8], at: usize) -> (Kind, usize)
     requires begins { IsAt "=" source.now at }
     requires within { at < length source.now }
@@ -41,7 +41,7 @@ pub(crate) fn equals_at(source: &[u8], at: usize) -> (Kind, usize)
     }
 }
 
-/// The sign of one byte, or the occurrence `+` or `?`, that a byte is.
+// The sign of one byte, or the occurrence `+` or `?`, that a byte is.
 pub(crate) fn single_at(source: &[u8], at: usize) -> Option<Kind>
     requires within { at < length source.now }
     ensures { MatchOption result (is_single (slice_index source.now at) ≡ false) (λ kind. IsToken kind source.now at (at + 1)) }

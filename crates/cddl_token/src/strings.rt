@@ -12,7 +12,7 @@ use crate::{Code, Fault, Kind, Refusal};
 use cddl_literal::{Coding, Quote, byte_at, bytes_between, characters_end, coded_end, is_b, is_h};
 use std::alloc::Global;
 
-/// The quote that closes a string.
+// The quote that closes a string.
 fn quote_byte(quote: Quote) -> u8
     ensures { result ≡ quote_byte quote }
 {
@@ -22,7 +22,7 @@ fn quote_byte(quote: Quote) -> u8
     }
 }
 
-/// Why the string that opens at `at` can't be read on from here, where its characters stop.
+// Why the string that opens at `at` can't be read on from here, where its characters stop.
 fn stop_at(source: &[u8], at: usize, here: usize) -> Fault
     requires { here ≤ length source.now }
     ensures { StopsAt source.now at here result.code result.at }
@@ -45,7 +45,7 @@ fn stop_at(source: &[u8], at: usize, here: usize) -> Fault
     }
 }
 
-/// The text string or plain byte string that opens here, and its end.
+// The text string or plain byte string that opens here, and its end.
 pub(crate) fn quoted_at(source: &[u8], at: usize, quote: Quote) -> Result<(Kind, usize), Fault>
     requires begins { slice_index source.now at ≡ quote_byte quote }
     requires within { at < length source.now }
@@ -61,7 +61,7 @@ pub(crate) fn quoted_at(source: &[u8], at: usize, quote: Quote) -> Result<(Kind,
     }
 }
 
-/// Whether `h'` is here.
+// Whether `h'` is here.
 fn opens_hex(source: &[u8], at: usize) -> bool
     requires { at < length source.now }
     ensures yes { IsTrue result → Opens Hex source.now at (at + 2) × (at + 2 ≤ length source.now) }
@@ -70,7 +70,7 @@ fn opens_hex(source: &[u8], at: usize) -> bool
     is_h(source[at]) && byte_at(source, at + 1) == b'\''
 }
 
-/// Whether `64'` is here.
+// Whether `64'` is here.
 fn has_64(source: &[u8], at: usize) -> bool
     requires { at ≤ length source.now }
     ensures yes { IsTrue result → IsAt "6" source.now at × IsAt "4" source.now (at + 1) × IsAt "'" source.now (at + 2) × (at + 3 ≤ length source.now) }
@@ -81,7 +81,7 @@ fn has_64(source: &[u8], at: usize) -> bool
         && byte_at(source, at + 2) == b'\''
 }
 
-/// Whether `b64'` is here.
+// Whether `b64'` is here.
 fn opens_base64(source: &[u8], at: usize) -> bool
     requires { at < length source.now }
     ensures yes { IsTrue result → Opens Base64 source.now at (at + 4) × (at + 4 ≤ length source.now) }
@@ -90,7 +90,7 @@ fn opens_base64(source: &[u8], at: usize) -> bool
     is_b(source[at]) && has_64(source, at + 1)
 }
 
-/// The prefix of a byte string that is here, and the offset after its quote.
+// The prefix of a byte string that is here, and the offset after its quote.
 pub(crate) fn prefix_at(source: &[u8], at: usize) -> Option<(Coding, usize)>
     requires { at < length source.now }
     ensures { MatchOption result (OpensPrefixed source.now at → ⊥) (λ p. Opens p.0 source.now at p.1 × (p.1 ≤ length source.now)) }
@@ -104,7 +104,7 @@ pub(crate) fn prefix_at(source: &[u8], at: usize) -> Option<(Coding, usize)>
     }
 }
 
-/// The byte string with prefix whose inside begins at `start`.
+// The byte string with prefix whose inside begins at `start`.
 pub(crate) fn prefixed_at(
     alloc: Global,
     source: &[u8],

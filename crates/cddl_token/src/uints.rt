@@ -12,7 +12,7 @@ use crate::numbers::{Radix, Shape, digits_end, shape_at};
 use crate::{Code, Fault, Kind};
 use cddl_literal::{byte_at, is_b, is_digit, is_x, number_of, uint_of};
 
-/// Where the uint with a prefix ends that begins here. Without digits it is the prefix's `0` alone.
+// Where the uint with a prefix ends that begins here. Without digits it is the prefix's `0` alone.
 fn prefixed_uint_end(source: &[u8], at: usize, radix: Radix) -> usize
     requires begins { IsPrefix (marks_radix radix) source.now at }
     requires within { at + 2 ≤ length source.now }
@@ -23,7 +23,7 @@ fn prefixed_uint_end(source: &[u8], at: usize, radix: Radix) -> usize
     if end == at + 2 { at + 1 } else { end }
 }
 
-/// Where the uint that begins here ends, or this offset where none does.
+// Where the uint that begins here ends, or this offset where none does.
 pub(crate) fn uint_end(source: &[u8], at: usize) -> usize
     requires { at ≤ length source.now }
     ensures bound { IsLongestBound source.now at result }
@@ -42,7 +42,7 @@ pub(crate) fn uint_end(source: &[u8], at: usize) -> usize
     }
 }
 
-/// Whether a uint or nothing counts less than 2^64.
+// Whether a uint or nothing counts less than 2^64.
 pub(crate) fn fits(source: &[u8], from: usize, to: usize) -> bool
     requires within { to ≤ length source.now }
     requires spelled { (n : ℕ) × IsBound source.now from to n }
@@ -58,7 +58,7 @@ pub(crate) fn fits(source: &[u8], from: usize, to: usize) -> bool
     }
 }
 
-/// Whether both bounds of an occurrence count less than 2^64.
+// Whether both bounds of an occurrence count less than 2^64.
 fn both_fit(source: &[u8], at: usize, star: usize, end: usize) -> bool
     requires within { star < end }
     requires in_source { end ≤ length source.now }
@@ -73,7 +73,7 @@ fn both_fit(source: &[u8], at: usize, star: usize, end: usize) -> bool
     fits(source, star + 1, end)
 }
 
-/// The occurrence whose `*` is at `star`.
+// The occurrence whose `*` is at `star`.
 pub(crate) fn occur_at(source: &[u8], at: usize, star: usize) -> Result<(Kind, usize), Fault>
     requires within { star < length source.now }
     requires sign { IsAt "*" source.now star }
@@ -91,7 +91,7 @@ pub(crate) fn occur_at(source: &[u8], at: usize, star: usize) -> Result<(Kind, u
     }
 }
 
-/// Whether a number is not too large.
+// Whether a number is not too large.
 fn number_fits(source: &[u8], from: usize, to: usize) -> bool
     requires within { to ≤ length source.now }
     requires spelled { (minus : Bool) × (n : ℕ) × IsSigned minus source.now from to n }
@@ -101,7 +101,7 @@ fn number_fits(source: &[u8], from: usize, to: usize) -> bool
     number_of(source, from, to).is_some()
 }
 
-/// The number that is here, if it is not too large.
+// The number that is here, if it is not too large.
 fn number_or_fault(source: &[u8], at: usize, end: usize) -> Result<(Kind, usize), Fault>
     requires within { end ≤ length source.now }
     requires spelled { (minus : Bool) × (n : ℕ) × IsSigned minus source.now at end n }
@@ -118,7 +118,7 @@ fn number_or_fault(source: &[u8], at: usize, end: usize) -> Result<(Kind, usize)
     }
 }
 
-/// What begins with `-`.
+// What begins with `-`.
 pub(crate) fn negative_at(source: &[u8], at: usize) -> Result<(Kind, usize), Fault>
     requires begins { IsAt "-" source.now at }
     requires within { at < length source.now }
@@ -144,7 +144,7 @@ pub(crate) fn negative_at(source: &[u8], at: usize) -> Result<(Kind, usize), Fau
     }
 }
 
-/// What begins with a digit.
+// What begins with a digit.
 pub(crate) fn digit_at(source: &[u8], at: usize) -> Result<(Kind, usize), Fault>
     requires begins { is_decimal_digit (slice_index source.now at) ≡ true }
     requires within { at < length source.now }

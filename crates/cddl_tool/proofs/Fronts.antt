@@ -2,16 +2,16 @@
 use Rattle.std.proofs.Common.{◌≡◌, ℕ, ◌<◌, ◌≤◌, inl, inr, ◌⊎◌, List, length, take, Option, subst, arith}
 use Rattle.std.proofs.lemmas.Bool.{cases_lt}
 use Rattle.std.proofs.lemmas.List.{length-take-le, take_all}
-use Rattle.cddl_check.specs.declared.fault.Fault.{Fault}
-use Rattle.cddl_specification.specs.Text.{AreTokensOf, IsTabledText, IsTreeOfText, IsUnreadText, IsWrongText, no_tokens, no_tree, has_fault}
-use Rattle.cddl_specification.specs.declared.unread.Unread.{Unread}
-use Rattle.cddl_specification.specs.declared.unread.Unread.TheVariants as UnreadV
-use Rattle.cddl_syntax.specs.Syntax.{Cddl}
-use Rattle.cddl_table.specs.declared.table.Table.{Table}
+use Rattle.check_text.specs.declared.fault.Fault.{Fault}
+use Rattle.cddl_check.specs.Text.{AreTokensOf, IsTabledText, IsTreeOfText, IsUnreadText, IsWrongText, no_tokens, no_tree, has_fault}
+use Rattle.cddl_check.specs.declared.unread.Unread.{Unread}
+use Rattle.cddl_check.specs.declared.unread.Unread.TheVariants as UnreadV
+use Rattle.tree_nodes.specs.Syntax.Syntax.{Cddl}
+use Rattle.table_nodes.specs.declared.table.Table.{Table}
 use Rattle.cddl_token.specs.Answers.{IsRefused}
 use Rattle.cddl_token.specs.declared.Code.{Code}
 use Rattle.cddl_token.specs.declared.Token.{Token}
-use Rattle.tool_words.specs.Reading.{most_read}
+use Rattle.command_line.specs.Reading.{most_read}
 
 -- a text with a tree is short
 short : {x : Cddl} {text : List ℕ} → IsTreeOfText x text → length text ≤ 1048576

@@ -1,11 +1,11 @@
 -- What becomes of a text that has no table.
 use Rattle.std.specs.Prelude.{IfSome}
 use Rattle.std.proofs.Common.{◌≡◌, ℕ, List, ◌⊎◌, Option, Some, None, subst}
-use Rattle.cddl_specification.specs.Text.{IsUnreadText}
-use Rattle.cddl_specification.specs.declared.unread.Unread.{Unread}
-use Rattle.cddl_specification.specs.declared.unread.Unread.TheVariants as UnreadV
-use Rattle.cddl_check.specs.declared.fault.Fault.{Fault}
-use Rattle.tool_words.specs.declared.status.TheConstants.{REFUSED, BROKEN}
+use Rattle.cddl_check.specs.Text.{IsUnreadText}
+use Rattle.cddl_check.specs.declared.unread.Unread.{Unread}
+use Rattle.cddl_check.specs.declared.unread.Unread.TheVariants as UnreadV
+use Rattle.check_text.specs.declared.fault.Fault.{Fault}
+use Rattle.command_line.specs.declared.status.TheConstants.{REFUSED, BROKEN}
 use Rattle.cddl_tool.specs.Acting.{IsRefusedText}
 
 -- the status says that the text is refused, or that something broke

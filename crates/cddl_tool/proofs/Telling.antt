@@ -8,11 +8,11 @@ use Rattle.seq_run.specs.Judge.{Judge}
 use Rattle.seq_run.specs.Report.{end_line}
 use Rattle.seq_run.specs.Running.{Change, WritesAll, IsFault}
 use Rattle.seq_run.specs.declared.running.RunFault.{RunFault}
-use Rattle.tool_words.specs.declared.choice.Task.{Task}
-use Rattle.tool_words.specs.declared.choice.Task.TheVariants.{Check, Validate, Rewrite, Show}
+use Rattle.command_line.specs.declared.choice.Task.{Task}
+use Rattle.command_line.specs.declared.choice.Task.TheVariants.{Check, Validate, Rewrite, Show}
 use Rattle.seq_run.specs.declared.output.Mode.{Mode}
-use Rattle.tool_words.specs.declared.choice.Options.{Options}
-use Rattle.tool_words.specs.declared.status.TheConstants.{BROKEN}
+use Rattle.command_line.specs.declared.choice.Options.{Options}
+use Rattle.command_line.specs.declared.status.TheConstants.{BROKEN}
 use Rattle.cddl_tool.specs.Acting.{mode_of, status_for, told_of, IsAnswered, IsBroken, stopped, untold, IsSaid, IsTold, told, no_memory}
 
 never_broken : (end : End) → status_for end ≡ BROKEN → ⊥

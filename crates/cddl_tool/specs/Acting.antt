@@ -10,12 +10,12 @@ use Rattle.seq_run.specs.declared.output.Mode.TheVariants as mode
 use Rattle.seq_run.specs.declared.running.RunFault.{RunFault}
 use Rattle.seq_run.specs.Report.{end_line}
 use Rattle.seq_run.specs.Running.{Change, HasFailed, HasNotFailed, IsFault, WritesAll}
-use Rattle.cddl_specification.specs.Text.{IsWrongText}
-use Rattle.cddl_check.specs.declared.fault.Fault.{Fault}
-use Rattle.tool_words.specs.declared.choice.Options.{Options}
-use Rattle.tool_words.specs.declared.choice.Task.{Task}
-use Rattle.tool_words.specs.declared.choice.Task.TheVariants.{Check, Validate, Rewrite, Show}
-use Rattle.tool_words.specs.declared.status.TheConstants.{BROKEN}
+use Rattle.cddl_check.specs.Text.{IsWrongText}
+use Rattle.check_text.specs.declared.fault.Fault.{Fault}
+use Rattle.command_line.specs.declared.choice.Options.{Options}
+use Rattle.command_line.specs.declared.choice.Task.{Task}
+use Rattle.command_line.specs.declared.choice.Task.TheVariants.{Check, Validate, Rewrite, Show}
+use Rattle.command_line.specs.declared.status.TheConstants.{BROKEN}
 
 -- the specification of a task: to show a stream, that of any item
 abbrev pub specification_of : Task → List ℕ → List ℕ

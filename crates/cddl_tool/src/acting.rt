@@ -1,21 +1,21 @@
 //! What the program does with a specification and a stream.
 
 ghost use Rattle.std.specs.Prelude.{◌≡◌, ◌≢◌, ◌⊎◌, ℕ, List, Option, IfOk, IfErr, IfSome, option_copied, option_map, string_bytes};
-ghost use Rattle.cbor_item.specs.Counted.{device_of};
-ghost use Rattle.cddl_specification.specs.Text.{IsTabledText, IsUnreadText};
+ghost use Rattle.item_nodes.specs.Counted.{device_of};
+ghost use Rattle.cddl_check.specs.Text.{IsTabledText, IsUnreadText};
 ghost use Rattle.seq_run.specs.Judge.{judge_of};
 ghost use Rattle.seq_run.specs.Report.{IsShown};
 ghost use Rattle.seq_run.specs.Running.{change_of};
 ghost use Rattle.cddl_tool.specs.Acting.{mode_of, report_mode_of, rewrite_mode_of, specification_of, status_for, IsAccepted, IsAnswered, IsBroken, IsCutOff, IsRefusedText, IsTold};
 
 use cbor_item::{Counted, Sound, write_bytes};
-use cddl_specification::{Unread, read_specification};
-use cddl_table::Table;
+use cddl_check::{Unread, read_specification};
 use cddl_token::Refusal;
+use command_line::{BROKEN, FAILED, Options, REFUSED, Task, say};
 use seq_run::{End, Mode, RunFault, end_line, run};
 use std::alloc::Global;
 use std::io::{Read, Write};
-use tool_words::{BROKEN, FAILED, Options, REFUSED, Task, say};
+use table_nodes::Table;
 
 /// Reads the specification: `spec`, or to show a stream `a = any`. The root is the name that the options give, or the first
 /// rule.

@@ -1,10 +1,10 @@
 //! What is read of a long text tells what all of it does.
 
 ghost use Rattle.std.specs.Prelude.{ℕ, List, Option, take};
-ghost use Rattle.cddl_specification.specs.Text.{IsTabledText, IsUnreadText};
-ghost use Rattle.cddl_specification.specs.declared.unread.Unread.{Unread};
-ghost use Rattle.cddl_table.specs.declared.table.Table.{Table};
-ghost use Rattle.tool_words.specs.Reading.{most_read};
+ghost use Rattle.cddl_check.specs.Text.{IsTabledText, IsUnreadText};
+ghost use Rattle.cddl_check.specs.declared.unread.Unread.{Unread};
+ghost use Rattle.table_nodes.specs.declared.table.Table.{Table};
+ghost use Rattle.command_line.specs.Reading.{most_read};
 
 /// The first 1,048,577 bytes of a text tell whether it is accepted, and else why it is refused: a text that has as many is
 /// too long. It does nothing.

@@ -1,2 +1,12 @@
-pub mod Starting
-pub mod Lemmas
+mod Adding
+mod After
+mod Bodies
+mod Closing
+mod Contents
+mod Elsewhere
+mod Ending
+mod Ends
+mod Heads
+mod Pushing
+mod Steps
+mod Whole

@@ -3,7 +3,6 @@
 #![tactic(auto)]
 
 use cbor_item::Counted;
-use cddl_table::Table;
 use cddl_tool::{
     Options, Task, Use, accept, act, options_of_arguments, read_text, ready, say_no_memory,
     say_no_text, say_of_file, say_words, stream_name,
@@ -11,6 +10,7 @@ use cddl_tool::{
 use std::io::{self, ErrorKind, Read, Write};
 use std::process::ExitCode;
 use std::{env, fs};
+use table_nodes::Table;
 
 fn main(rt: HostRuntime) -> ExitCode {
     let mut err = Counted::new(rt.stderr());

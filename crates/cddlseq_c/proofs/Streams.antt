@@ -1,7 +1,8 @@
 -- One stream more is told.
-use Rattle.std.proofs.Common.{◌≡◌, ◌≢◌, ℕ, suc, zero, ◌+◌, ◌<◌, List, [], ◌∷◌, length, drop, set, Some, refl, sym, ap, ◌∙◌, subst, arith, below_more}
-use Rattle.std.specs.Prelude.{slice_get, slice_range, slice_index}
+use Rattle.std.proofs.Common.{◌≡◌, ◌≢◌, ℕ, ◌+◌, ◌<◌, List, length, drop, set, Some, refl, sym, ap, ◌∙◌, subst, arith, below_more}
+use Rattle.std.specs.Prelude.{slice_range, slice_index}
 use Rattle.std.proofs.lemmas.List.{length-set, drop-set-lt, drop-drop}
+use Rattle.lists.proofs.Lemmas.{set_elsewhere as get_set_other, set_there as get_set_same}
 use Rattle.cbor_data.specs.Faults.{Bounds}
 use Rattle.seq_run.specs.Judge.{Judge, judge_of}
 use Rattle.seq_run.specs.declared.end.End.{End}
@@ -12,18 +13,6 @@ use Rattle.cddlseq_c.specs.declared.stop.Stop.{Stop}
 use Rattle.cddlseq_c.specs.declared.told.CddlseqEnd.{CddlseqEnd}
 use Rattle.cddlseq_c.specs.declared.told.CddlseqLimits.{CddlseqLimits}
 use Rattle.cddlseq_c.specs.declared.told.CddlseqRefusal.{CddlseqRefusal}
-
-get_set_same : {X : Type 0} (xs : List X) (i : ℕ) (x : X) → i < length xs → slice_get (set xs i x) i ≡ Some x
-get_set_same [] i x h = absurd (omega arith)
-get_set_same (y ∷ ys) zero x h = refl
-get_set_same (y ∷ ys) (suc i) x h = get_set_same ys i x (omega arith)
-
-get_set_other : {X : Type 0} (xs : List X) (i j : ℕ) (x : X) → j ≢ i → slice_get (set xs i x) j ≡ slice_get xs j
-get_set_other [] i j x h = refl
-get_set_other (y ∷ ys) zero zero x h = absurd (h refl)
-get_set_other (y ∷ ys) zero (suc j) x h = refl
-get_set_other (y ∷ ys) (suc i) zero x h = refl
-get_set_other (y ∷ ys) (suc i) (suc j) x h = get_set_other ys i j x (λ e. h (ap suc e))
 
 module _ (judge : Judge) (l : Bounds) (bytes offsets : List ℕ) where
   pub none_told : (ends : List CddlseqEnd) → AreTold judge l bytes offsets ends ends 0

@@ -4,7 +4,7 @@ use Rattle.std.specs.Option.{option_map}
 use Rattle.cbor_data.specs.Value.{Value, places}
 use Rattle.cbor_data.specs.Notation.{notation}
 use Rattle.cbor_data.specs.Sequence.{Found}
-use Rattle.cbor_place.specs.Paths.{path}
+use Rattle.cbor_item.specs.Place.Paths.{path}
 use Rattle.seq_run.specs.Output.{stream_output}
 use Rattle.seq_run.specs.Report.{or_nothing}
 use Rattle.seq_run.specs.declared.end.Cause.TheVariants.{Fault, Mismatch, Spent}

@@ -1,17 +1,17 @@
 //! A specification is read, and made ready for streams.
 
 ghost use Rattle.std.specs.Prelude.{◌≡◌, IfErr, IfNone, IfOk, IfSome, option_map};
-ghost use Rattle.cddl_specification.specs.Text.{IsTabledText};
+ghost use Rattle.cddl_check.specs.Text.{IsTabledText};
 ghost use Rattle.cddlseq_c.specs.Answers.{AreOutside, IsReady, IsStop, IsUnread, IsUntabled, root_name};
 ghost use Rattle.cddlseq_c.specs.Told.{bounds_of};
 
 use crate::stop::Stop;
 use crate::told::CddlseqLimits;
 use cbor_read::Limits;
-use cddl_specification::{Unread, read_specification};
-use cddl_table::Table;
+use cddl_check::{Unread, read_specification};
 use std::alloc::Global;
 use std::str;
+use table_nodes::Table;
 
 // The table of a text, and what an item may have.
 #[derive(Drop)]

@@ -1,6 +1,6 @@
 //! Why a call says nothing of a stream.
 
-use cddl_check::Fault;
+use check_text::Fault;
 
 /// Why a call says nothing of a stream.
 #[derive(Clone, Copy)]

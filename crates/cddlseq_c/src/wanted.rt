@@ -3,15 +3,14 @@
 ghost use Rattle.std.specs.Prelude.{◌≡◌, ◌≢◌, ◌++◌, IfNone, IfOk, IfSome, OnOk, option_copied};
 ghost use Rattle.std.specs.Option.{option_map};
 ghost use Rattle.cbor_data.specs.Notation.{notation};
-ghost use Rattle.cbor_item.specs.View.{view};
-ghost use Rattle.cbor_place.specs.Paths.{path};
+ghost use Rattle.item_nodes.specs.View.{view};
+ghost use Rattle.cbor_item.specs.Place.Paths.{path};
 ghost use Rattle.seq_run.specs.Report.{or_nothing};
 ghost use Rattle.cddlseq_c.specs.Wanted.{number_of_wanted, notation_at as notation_of_place, path_to as path_of_place};
 ghost use Rattle.cddlseq_c.specs.Wanted.{mismatch_of as mismatch_of_end, mode_of as mode_of_wanted};
 ghost use Rattle.cddlseq_c.specs.declared.wanted.Wanted.{Wanted as AnyWanted};
 
-use cbor_item::{Item, Sound, push_notation};
-use cbor_place::{item_at, path_text};
+use cbor_item::{Item, Sound, item_at, path_text, push_notation};
 use seq_run::{Cause, End, Mode};
 use std::alloc::{AllocError, Global};
 

@@ -1,13 +1,15 @@
+//! Tests of the faults of a text that are told at its rules and sites, and of their offsets.
+
 use crate::rows::first_other;
 use crate::telling::text_in;
-use cddl_rule_faults::{
+use check_reading::survey::Survey;
+use check_terms::Terms;
+use check_text::rule_faults::{
     bad_root, duplicate, kind_clash, no_root, root_of, wrong_arity as wrong_arity_of_rule,
 };
-use cddl_site_faults::{bad_hash, group_as_type, undefined, unknown_control, wrong_arity};
-use cddl_survey::Survey;
-use cddl_terms::Terms;
-use cddl_tree::Tree;
+use check_text::site_faults::{bad_hash, group_as_type, undefined, unknown_control, wrong_arity};
 use std::alloc::Global;
+use tree_nodes::Tree;
 
 /// The number of a fault's code, `4r` for what is told at rules, the least offset at which it stands or `-`, and the text of a
 /// specification.
@@ -76,7 +78,7 @@ const ROWS: &str = "1 | 8 | a = int a = tstr
 9 | - | a = int .size 3
 9 | - | a = 1..3";
 
-/// The least offset of a fault whose search allocates, if there is memory.
+// The least offset of a fault whose search allocates, if there is memory.
 fn searched(
     alloc: Global,
     terms: &Terms<'_>,
@@ -93,7 +95,7 @@ fn searched(
     }
 }
 
-/// The least offset of a fault of roots or of another code.
+// The least offset of a fault of roots or of another code.
 fn offset(terms: &Terms<'_>, tree: &Tree<'_>, survey: &Survey<'_>, code: &str) -> Option<usize> {
     match code {
         "5" => no_root(terms, tree, survey, None),
@@ -119,7 +121,7 @@ fn offset_at_rule_or_site(
     }
 }
 
-/// The least offset of the fault of this code, or `-`.
+// The least offset of the fault of this code, or `-`.
 pub(crate) fn fault_in(
     alloc: Global,
     terms: &Terms<'_>,

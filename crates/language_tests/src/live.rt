@@ -1,11 +1,13 @@
+//! Tests of which names of a text are at live sites.
+
 use crate::rows::first_other;
 use crate::telling::told_of;
-use cddl_live_sites::live_sites;
-use cddl_sites::{Found, Site, name_token};
-use cddl_survey::Survey;
-use cddl_terms::Terms;
-use cddl_tree::Tree;
+use check_reached::live_sites::live_sites;
+use check_reading::sites::{Found, Site, name_token};
+use check_reading::survey::Survey;
+use check_terms::Terms;
 use std::alloc::{AllocError, Global};
+use tree_nodes::Tree;
 
 /// The offsets of the names that are live, and the text of a specification.
 const ROWS: &str = "live | 4 16 22 6 | a = b<c> b<t> = t c = int
@@ -21,7 +23,7 @@ live | 4 16 28 34 6 | a = b<c> b<t> = int b<u> /= u c = int
 live | 17 23 7 | a = ~b<c> b<t> = t c = int
 live | 4 | a = uint<int>";
 
-/// The offset of a name.
+// The offset of a name.
 fn start_of(tree: &Tree<'_>, found: &Found<'_>) -> Option<usize> {
     match &found.site {
         Site::Name { name, .. } => Some(name_token(tree, name).start),
@@ -29,7 +31,7 @@ fn start_of(tree: &Tree<'_>, found: &Found<'_>) -> Option<usize> {
     }
 }
 
-/// The offsets of names, each with a space behind it.
+// The offsets of names, each with a space behind it.
 fn offsets(alloc: Global, tree: &Tree<'_>, live: &[Found<'_>]) -> Result<String, AllocError> {
     let mut listed = String::new(alloc);
     for found in live {
@@ -40,7 +42,7 @@ fn offsets(alloc: Global, tree: &Tree<'_>, live: &[Found<'_>]) -> Result<String,
     Ok(listed)
 }
 
-/// The offsets of the live names, if there is memory.
+// The offsets of the live names, if there is memory.
 pub(crate) fn live_names(
     alloc: Global,
     terms: &Terms<'_>,

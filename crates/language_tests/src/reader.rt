@@ -1,9 +1,11 @@
+//! Tests of whether two definitions have the same body, told by numbers, and of operations that are read again.
+
 use crate::rows::{first_other, is_right};
 use crate::telling::text_in;
-use cddl_reader::{read, read_operation};
-use cddl_terms::{Body, Definition, Terms};
-use cddl_tree::{Rule, Tree, Type1};
+use check_reading::reader::{read, read_operation};
+use check_terms::{Body, Definition, Terms};
 use std::alloc::Global;
+use tree_nodes::{Rule, Tree, Type1};
 
 /// Specifications whose first two definitions have one body, as only spans differ.
 const ALIKE: &str = "alike | yes | a = int / tstr b = int/tstr
@@ -66,7 +68,7 @@ fn word(holds: Option<bool>) -> &'static str {
     }
 }
 
-/// Whether the first two definitions have one body; `-` of a text without two.
+// Whether the first two definitions have one body; `-` of a text without two.
 pub(crate) fn are_alike<'s>(
     alloc: Global,
     terms: &mut Terms<'s>,
@@ -78,7 +80,7 @@ pub(crate) fn are_alike<'s>(
     }
 }
 
-/// Whether a body has the number that the operation in it has by itself; nothing of a body without one.
+// Whether a body has the number that the operation in it has by itself; nothing of a body without one.
 fn has_number_again<'s>(
     terms: &mut Terms<'s>,
     tree: &Tree<'s>,
@@ -112,7 +114,7 @@ fn is_first_read_again<'s>(
     }
 }
 
-/// The same of the first rule's body; `-` of one without an operation.
+// The same of the first rule's body; `-` of one without an operation.
 pub(crate) fn is_read_again<'s>(
     alloc: Global,
     terms: &mut Terms<'s>,

@@ -1,7 +1,9 @@
+//! Tests of the list of a text's sites: their rules, kinds, offsets and numbers of arguments.
+
 use crate::rows::{first_other, is_right};
-use cddl_sites::{Found, Site, argument_count, is_range, name_token, occur, sites};
-use cddl_tree::Tree;
+use check_reading::sites::{Found, Site, argument_count, is_range, name_token, occur, sites};
 use std::alloc::{AllocError, Global};
+use tree_nodes::Tree;
 
 /// The lines of all sites, and the text of a specification.
 const ROWS: &str = "sites | 0 name 4 0; | a = int
@@ -19,7 +21,7 @@ sites | 0 entry 6 0; 0 ~name 7 1; 0* type 10 0; | a //= (~b<c>)";
 const LINES: &str =
     "sites | 0 name 4 0; 1 type 10 2; 1* type 12 0; 1* map 15 0; 1* entry 16 0; 1* name 16 0; 1 type 22 0; | a = b\nc = d<e, {f}> / g";
 
-/// A word for the kind of a site, the offset where it begins, and how many arguments its name has.
+// A word for the kind of a site, the offset where it begins, and how many arguments its name has.
 fn described(tree: &Tree<'_>, site: &Site<'_>) -> (&'static str, usize, usize) {
     match site {
         Site::Name { demanded, name } => {
@@ -59,7 +61,7 @@ fn described(tree: &Tree<'_>, site: &Site<'_>) -> (&'static str, usize, usize) {
     }
 }
 
-/// A line for a site: the place of its rule, `*` in an argument, and what describes it.
+// A line for a site: the place of its rule, `*` in an argument, and what describes it.
 fn line(alloc: Global, tree: &Tree<'_>, found: &Found<'_>) -> Result<String, AllocError> {
     let rule = found.rule;
     let inside = if found.in_argument { "*" } else { "" };
@@ -75,7 +77,7 @@ fn lines(alloc: Global, tree: &Tree<'_>, sites: &[Found<'_>]) -> Result<String, 
     Ok(lines)
 }
 
-/// The lines of all sites, if there is memory.
+// The lines of all sites, if there is memory.
 pub(crate) fn listed(alloc: Global, tree: &Tree<'_>) -> Option<String> {
     match &sites(alloc, tree) {
         Ok(found) => lines(alloc, tree, found).ok(),

@@ -1,8 +1,11 @@
+//! Tests of the kinds of names, of what `~` of a name opens, and of the lesser of two offsets.
+
 use crate::rows::first_other;
 use crate::telling::text_in;
-use cddl_kinds::Shape;
-use cddl_survey::{Survey, lesser};
-use cddl_terms::Terms;
+use check_names::kinds::Shape;
+use check_reading::survey::Survey;
+use check_terms::Terms;
+use lists::lesser;
 use std::alloc::Global;
 
 /// Specifications, each of which says what `a` is, and what `~` of it opens.
@@ -38,7 +41,7 @@ fn letter(shape: Option<Shape>) -> &'static str {
     }
 }
 
-/// The kind of the name, and what `~` of it opens; `-` of a name that stands nowhere.
+// The kind of the name, and what `~` of it opens; `-` of a name that stands nowhere.
 pub(crate) fn kind_of(
     alloc: Global,
     terms: &Terms<'_>,

@@ -1,16 +1,18 @@
-ghost use Rattle.cddl_parse.specs.States.{EndsInEnd};
+//! What is told of a text, by the name of what a test asks.
+
+ghost use Rattle.cddl_tree.specs.States.{EndsInEnd};
 
 use crate::faults::fault_in;
 use crate::live::live_names;
 use crate::reader::{are_alike, is_read_again};
 use crate::sites::listed;
 use crate::survey::kind_of;
-use cddl_parse::{parse, tokens_end};
-use cddl_survey::{Survey, survey_of};
-use cddl_terms::Terms;
 use cddl_token::{Token, tokens};
-use cddl_tree::{Tree, discard};
+use cddl_tree::{parse, tokens_end};
+use check_reading::survey::{Survey, survey_of};
+use check_terms::Terms;
 use std::alloc::Global;
+use tree_nodes::{Tree, discard};
 
 pub(crate) fn text_in(alloc: Global, text: &str) -> Option<String> {
     format!(in alloc; "{text} ").ok()
@@ -83,7 +85,7 @@ fn in_tokens(alloc: Global, found: &[Token<'_>], what: &str) -> Option<String>
     }
 }
 
-/// What is told of the text, by the name of what is asked, with a space behind each word, if the text is read.
+// What is told of the text, by the name of what is asked, with a space behind each word, if the text is read.
 pub(crate) fn told_of(alloc: Global, source: &str, what: &str) -> Option<String> {
     tokens_end();
     match tokens(alloc, source.as_bytes()) {

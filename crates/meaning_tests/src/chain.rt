@@ -1,30 +1,32 @@
-ghost use Rattle.cddl_parse.specs.States.{EndsInEnd};
+//! All that is known of the instances of a text, by the calls that lead there from the text, for tests that ask of it.
+
+ghost use Rattle.cddl_tree.specs.States.{EndsInEnd};
 
 use crate::faults::fault_of;
 use crate::telling::told;
-use cddl_choosing::choosable;
-use cddl_closed::{Closed, close};
-use cddl_empty::may_be_empty;
-use cddl_environment::names;
-use cddl_instances::{Found, Instance, instances};
-use cddl_kinds::{Kinds, kinds_of};
-use cddl_literals::{Literals, literals};
-use cddl_live_sites::live_sites;
-use cddl_map_faults::{MapFaults, map_faults};
-use cddl_openings::{Opening, endings_of, openings_of};
-use cddl_parse::{parse, tokens_end};
-use cddl_reached::{Asked, entry_questions, questions, reached_sites};
-use cddl_rule_faults::root_of;
-use cddl_sites::Found as FoundSite;
-use cddl_sizes::{Sizes, sizable, sizes};
-use cddl_spliced::{Spliced, spliced_entries};
-use cddl_splices::parts_of;
-use cddl_survey::{Survey, survey_of};
-use cddl_terms::Terms;
+use alternatives::summaries;
 use cddl_token::{Token, tokens};
-use cddl_tree::{Tree, discard};
-use splices::summaries;
+use cddl_tree::{parse, tokens_end};
+use check_groups::choosing::choosable;
+use check_groups::empty::may_be_empty;
+use check_groups::splices::parts_of;
+use check_instances::closed::{Closed, close};
+use check_instances::openings::{Opening, endings_of, openings_of};
+use check_instances::{Found, Instance, instances};
+use check_literals::sizes::{Sizes, sizable, sizes};
+use check_literals::{Literals, literals};
+use check_maps::map_faults::{MapFaults, map_faults};
+use check_maps::spliced::{Spliced, spliced_entries};
+use check_names::environment::names;
+use check_names::kinds::{Kinds, kinds_of};
+use check_reached::live_sites::live_sites;
+use check_reached::{Asked, entry_questions, questions, reached_sites};
+use check_reading::sites::Found as FoundSite;
+use check_reading::survey::{Survey, survey_of};
+use check_terms::Terms;
+use check_text::rule_faults::root_of;
 use std::alloc::Global;
+use tree_nodes::{Tree, discard};
 
 /// What is asked at the sites that the root reaches, and of entries.
 #[derive(Drop)]
@@ -76,7 +78,7 @@ pub(crate) struct Meant<'m> {
     pub groups: &'m Groups,
 }
 
-/// The instances, if they are few and memory is there.
+// The instances, if they are few and memory is there.
 fn instances_in(
     alloc: Global,
     terms: &mut Terms<'_>,
@@ -96,7 +98,7 @@ fn instances_in(
     }
 }
 
-/// The sites that the root reaches.
+// The sites that the root reaches.
 pub(crate) fn sites_in<'t>(
     alloc: Global,
     terms: &Terms<'_>,
@@ -156,7 +158,7 @@ fn reached_in<'s>(
     }
 }
 
-/// The kinds of the names of the table.
+// The kinds of the names of the table.
 fn kinds_in(alloc: Global, terms: &Terms<'_>, survey: &Survey<'_>) -> Option<Kinds> {
     let count = terms.text_count();
     match &names(alloc, count, &survey.known, &survey.definitions) {
@@ -208,7 +210,7 @@ fn valued_in(alloc: Global, terms: &Terms<'_>, opened: &Opened) -> Option<Valued
     }
 }
 
-/// The entries of groups, each where it is spliced in.
+// The entries of groups, each where it is spliced in.
 fn spliced_in(
     alloc: Global,
     terms: &Terms<'_>,
@@ -227,7 +229,7 @@ fn spliced_in(
     .ok()
 }
 
-/// What is wrong in the groups of maps.
+// What is wrong in the groups of maps.
 fn map_faults_in(alloc: Global, terms: &Terms<'_>, opened: &Opened) -> Option<Vec<MapFaults>> {
     let Ok(parts) = parts_of(
         alloc,
@@ -371,7 +373,7 @@ fn in_tokens(alloc: Global, found: &[Token<'_>], what: &str) -> Option<String>
     }
 }
 
-/// What is told of the text, if it is read.
+// What is told of the text, if it is read.
 pub(crate) fn told_of(alloc: Global, source: &str, what: &str) -> Option<String> {
     tokens_end();
     match tokens(alloc, source.as_bytes()) {

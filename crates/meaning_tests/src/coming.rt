@@ -1,9 +1,11 @@
+//! Tests of which spliced entries come back to the reference in whose group they stand.
+
 use crate::chain::Meant;
 use crate::rows::first_other;
 use crate::telling::word_of_entry;
-use cddl_map_cycles::coming_back;
-use cddl_spliced::Spliced;
-use cddl_terms::Terms;
+use check_maps::map_cycles::coming_back;
+use check_maps::spliced::Spliced;
+use check_terms::Terms;
 use std::alloc::Global;
 
 /// The entries that come back to the reference in whose group they stand, by their owners and offsets, and the text of a
@@ -23,7 +25,7 @@ back |  | m = {? g} g = (a: 1, ? h) h = (b: 2)
 back |  | m = {a: m}
 back |  | m = {a: {~m}}";
 
-/// Which entries come back.
+// Which entries come back.
 pub(crate) fn back_in(alloc: Global, terms: &Terms<'_>, meant: &Meant<'_>) -> Option<Vec<bool>> {
     coming_back(
         alloc,
@@ -48,7 +50,7 @@ fn of_flagged(alloc: Global, spliced: &[Spliced], flags: &[bool]) -> Option<Stri
     Some(words)
 }
 
-/// The entries that come back, by their owners and offsets.
+// The entries that come back, by their owners and offsets.
 pub(crate) fn of_coming_back(
     alloc: Global,
     terms: &Terms<'_>,

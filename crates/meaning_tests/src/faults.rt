@@ -1,17 +1,19 @@
+//! The offset of a fault in what a root reaches, by the name of the call that a test asks.
+
 use crate::chain::{Meant, sites_in};
 use crate::telling::{order_in, text_in};
-use cddl_control_faults::{bad_controller, not_literal};
-use cddl_environment::names;
-use cddl_range_faults::bad_range;
-use cddl_reached_faults::{not_unwrappable, not_unwrapped, nothing_chosen};
-use cddl_root_faults::recursion;
-use cddl_sites::Found;
-use cddl_survey::Survey;
-use cddl_terms::Terms;
-use cddl_tree::Tree;
+use check_names::environment::names;
+use check_reading::sites::Found;
+use check_reading::survey::Survey;
+use check_root::control_faults::{bad_controller, not_literal};
+use check_root::range_faults::bad_range;
+use check_root::reached_faults::{not_unwrappable, not_unwrapped, nothing_chosen};
+use check_root::root_faults::recursion;
+use check_terms::Terms;
 use std::alloc::Global;
+use tree_nodes::Tree;
 
-/// The offset of a fault in what the root of a text reaches, by the name of the call that tells it.
+// The offset of a fault in what the root of a text reaches, by the name of the call that tells it.
 pub(crate) fn fault_of<'t>(
     alloc: Global,
     terms: &Terms<'_>,

@@ -1,9 +1,11 @@
+//! Tests of the first fault of the maps that a root reaches.
+
 use crate::chain::Meant;
 use crate::coming::back_in;
 use crate::rows::first_other;
 use crate::telling::text_in;
-use cddl_spliced_faults::{map_shape, no_key, too_many_alternatives};
-use cddl_terms::Terms;
+use check_root::spliced_faults::{map_shape, no_key, too_many_alternatives};
+use check_terms::Terms;
 use std::alloc::Global;
 
 /// The first fault of the maps that the root reaches, and the text of a specification.
@@ -44,8 +46,8 @@ wrong maps | alternatives 4 | m = {? (g, g, g, g, g, g, g, g, g)} g = (x: 1 // y
 wrong maps | alternatives 4 | m = {g, g, g, g, g, g, g, g, g, g, g, g, g, g, g, g, g, g, g, g} g = (x: 1 // y: 1)
 wrong maps | key 35 | m = {g, g, g, g, g, g, g, g, g, g, int, 2*2 g} g = (x: 1 // y: 1)";
 
-/// The first of an entry without a key, of a group that comes back or occurs badly, and of too many alternatives, by its least
-/// offset.
+// The first of an entry without a key, of a group that comes back or occurs badly, and of too many alternatives, by its least
+// offset.
 fn first_fault(meant: &Meant<'_>, back: &[bool]) -> Option<(&'static str, usize)> {
     if let Some(at) = no_key(&meant.groups.spliced, &meant.groups.map_faults) {
         return Some(("key", at));

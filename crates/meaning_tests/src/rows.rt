@@ -1,6 +1,8 @@
+//! Tests of what is told of the instances of texts, with the check of rows that other tests use too.
+
 use crate::chain::told_of;
-use cddl_instances::Found;
-use cddl_root_faults::too_many;
+use check_instances::Found;
+use check_root::root_faults::too_many;
 use std::alloc::Global;
 
 /// What is told, by the name of the call, and the text of a specification.
@@ -108,7 +110,7 @@ recursion | 0 | a = b b = a
 recursion | 8 | a = [g] g = (? #, g)
 recursion | 20 | a = [b] c = (x: &b) b = (c)";
 
-/// Whether this is told of a text.
+// Whether this is told of a text.
 fn is_told(alloc: Global, what: &str, rest: &str) -> bool {
     match rest.split_once(" | ") {
         Some((wanted, source)) => match told_of(alloc, source, what) {
@@ -119,7 +121,7 @@ fn is_told(alloc: Global, what: &str, rest: &str) -> bool {
     }
 }
 
-/// Whether a row is right: the name of what is asked, what is told, and the text of a specification, with ` | ` between them.
+// Whether a row is right: the name of what is asked, what is told, and the text of a specification, with ` | ` between them.
 fn is_right(alloc: Global, row: &str) -> bool {
     match row.split_once(" | ") {
         Some((what, rest)) => is_told(alloc, what, rest),
@@ -127,7 +129,7 @@ fn is_right(alloc: Global, row: &str) -> bool {
     }
 }
 
-/// The number of the first row of which something else is told.
+// The number of the first row of which something else is told.
 pub(crate) fn first_other(alloc: Global, rows: &str) -> Option<usize> {
     rows.lines().position(|row| !is_right(alloc, row))
 }

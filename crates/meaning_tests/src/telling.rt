@@ -1,26 +1,28 @@
+//! What is told of the instances of a text, by the name of the call that a test asks.
+
 use crate::chain::{Meant, Opened};
 use crate::coming::of_coming_back;
 use crate::maps::of_map_faults;
-use cddl_closed::{Meaning, alternatives, choices, entries};
-use cddl_entries::Holder;
+use alternatives::{Part as SplicePart, Summary, summaries};
 use cddl_literal::Literal;
-use cddl_literals::Literals;
-use cddl_map_faults::MapFaults;
-use cddl_nodes::{Nodes, Source, nodes_of};
-use cddl_openings::{Opening, Part, part_of};
-use cddl_operators::Fault;
-use cddl_reached::{Asked, Question};
-use cddl_recursion::{Node, Order, Ranks, find_order};
-use cddl_sizes::Sizes;
-use cddl_spliced::{Owner, Spliced};
-use cddl_splices::parts_of;
-use cddl_table::SizeSet;
-use cddl_terms::Terms;
-use splices::{Part as SplicePart, Summary, summaries};
+use cddl_literal::operators::Fault;
+use check_groups::splices::parts_of;
+use check_instances::closed::{Meaning, alternatives, choices, entries};
+use check_instances::openings::{Opening, Part, part_of};
+use check_literals::Literals;
+use check_literals::sizes::Sizes;
+use check_maps::map_faults::MapFaults;
+use check_maps::spliced::{Owner, Spliced};
+use check_reached::{Asked, Question};
+use check_reading::entries::Holder;
+use check_recursion::{Node, Order, Ranks, find_order};
+use check_terms::Terms;
 use std::alloc::Global;
+use table_making::{Nodes, Source, nodes_of};
+use table_nodes::SizeSet;
 
-/// What is told of the instances of a text, by the name of the call that tells it. They stand in the order in which they are
-/// found, with the root first.
+// What is told of the instances of a text, by the name of the call that tells it. They stand in the order in which they are
+// found, with the root first.
 pub(crate) fn told(
     alloc: Global,
     terms: &Terms<'_>,
@@ -40,7 +42,7 @@ pub(crate) fn told(
     }
 }
 
-/// The word of an instance.
+// The word of an instance.
 fn word_of(
     alloc: Global,
     terms: &Terms<'_>,
@@ -61,7 +63,7 @@ fn word_of(
     }
 }
 
-/// A word for each instance, and a space after each.
+// A word for each instance, and a space after each.
 fn of_each(alloc: Global, terms: &Terms<'_>, meant: &Meant<'_>, what: &str) -> Option<String> {
     let mut words = String::new(alloc);
     for meaning in &meant.opened.closed.meanings {
@@ -91,7 +93,7 @@ fn name_of(alloc: Global, terms: &Terms<'_>, meaning: &Meaning) -> Option<String
     text_in(alloc, terms.text(name)?)
 }
 
-/// How many choices the instance has, and how many its first one has by itself.
+// How many choices the instance has, and how many its first one has by itself.
 fn types_of(alloc: Global, terms: &Terms<'_>, meaning: &Meaning) -> Option<String> {
     let count = meaning.types.len();
     match meaning.types.first() {
@@ -103,7 +105,7 @@ fn types_of(alloc: Global, terms: &Terms<'_>, meaning: &Meaning) -> Option<Strin
     }
 }
 
-/// How many alternatives the instance has, and how many entries its first one has.
+// How many alternatives the instance has, and how many entries its first one has.
 fn group_of(alloc: Global, terms: &Terms<'_>, meaning: &Meaning) -> Option<String> {
     let Some(group) = meaning.group else {
         return text_in(alloc, "-");
@@ -114,7 +116,7 @@ fn group_of(alloc: Global, terms: &Terms<'_>, meaning: &Meaning) -> Option<Strin
     format!(in alloc; "{count}/{inner}").ok()
 }
 
-/// What is wrong in a map with each entry of an alternative.
+// What is wrong in a map with each entry of an alternative.
 fn push_wrong(
     alloc: Global,
     terms: &Terms<'_>,
@@ -128,7 +130,7 @@ fn push_wrong(
     Some(())
 }
 
-/// What is wrong in a map with each entry of the instance's alternatives, and whether its group has too many.
+// What is wrong in a map with each entry of the instance's alternatives, and whether its group has too many.
 fn wrong_in(
     alloc: Global,
     terms: &Terms<'_>,
@@ -169,7 +171,7 @@ fn of_openings(alloc: Global, openings: &[Opening]) -> Option<String> {
     Some(words)
 }
 
-/// What the first choice of the instance is as an entry.
+// What the first choice of the instance is as an entry.
 fn part_in(alloc: Global, terms: &Terms<'_>, opened: &Opened, meaning: &Meaning) -> Option<String> {
     let Some(row) = meaning.types.first() else {
         return text_in(alloc, "-");
@@ -181,7 +183,7 @@ fn part_in(alloc: Global, terms: &Terms<'_>, opened: &Opened, meaning: &Meaning)
     }
 }
 
-/// The literal that the first choice of the instance is, or why it computes none.
+// The literal that the first choice of the instance is, or why it computes none.
 fn literal_in(alloc: Global, literals: &Literals, meaning: &Meaning) -> Option<String> {
     let Some(row) = meaning.types.first() else {
         return text_in(alloc, "-");
@@ -213,7 +215,7 @@ fn sizes_at<'m>(terms: &Terms<'_>, sizes: &'m Sizes, meaning: &Meaning) -> Optio
     sizes.get(controller)
 }
 
-/// The members of the controller of the first choice of the instance, and how many ranges they are.
+// The members of the controller of the first choice of the instance, and how many ranges they are.
 fn sizes_in(alloc: Global, terms: &Terms<'_>, sizes: &Sizes, meaning: &Meaning) -> Option<String> {
     let Some(sizes) = sizes_at(terms, sizes, meaning) else {
         return text_in(alloc, "-");
@@ -258,7 +260,7 @@ fn word_at(alloc: Global, word: &str, at: usize) -> Option<String> {
     format!(in alloc; "{word}{at} ").ok()
 }
 
-/// The owner and the offset of an entry.
+// The owner and the offset of an entry.
 pub(crate) fn word_of_entry(alloc: Global, entry: &Spliced) -> Option<String> {
     let owner = match entry.owner {
         Owner::Map => "map",
@@ -277,7 +279,7 @@ fn of_spliced(alloc: Global, spliced: &[Spliced]) -> Option<String> {
     Some(words)
 }
 
-/// Whether the ranks of what an instance means, opens and chooses from are within their bound.
+// Whether the ranks of what an instance means, opens and chooses from are within their bound.
 fn are_bounded(ranks: &Ranks, place: u32) -> bool {
     let most = ranks.bound();
     ranks.rank(Node::Name(place)) <= most
@@ -287,7 +289,7 @@ fn are_bounded(ranks: &Ranks, place: u32) -> bool {
         && ranks.rank(Node::OpenedChoice(place)) <= most
 }
 
-/// Whether an instance is above the first of its choices, and this is above the row after it in which `&` would choose.
+// Whether an instance is above the first of its choices, and this is above the row after it in which `&` would choose.
 fn is_above(ranks: &Ranks, place: u32, meaning: &Meaning) -> bool {
     match meaning.types.first() {
         Some(row) => ranks.rank(Node::Row(*row)) < ranks.rank(Node::Name(place)),
@@ -295,7 +297,7 @@ fn is_above(ranks: &Ranks, place: u32, meaning: &Meaning) -> bool {
     }
 }
 
-/// The order of what is asked of an item.
+// The order of what is asked of an item.
 pub(crate) fn order_in(alloc: Global, terms: &Terms<'_>, meant: &Meant<'_>) -> Option<Order> {
     find_order(
         alloc,
@@ -309,7 +311,7 @@ pub(crate) fn order_in(alloc: Global, terms: &Terms<'_>, meant: &Meant<'_>) -> O
     .ok()
 }
 
-/// Of each instance whether it is above what it means; or of each whether it comes back to itself.
+// Of each instance whether it is above what it means; or of each whether it comes back to itself.
 fn order_of(alloc: Global, terms: &Terms<'_>, meant: &Meant<'_>) -> Option<String> {
     match &order_in(alloc, terms, meant) {
         Some(Order::Ranks(ranks)) => of_ranks(alloc, &meant.opened.closed.meanings, ranks),
@@ -337,7 +339,7 @@ fn of_flags(alloc: Global, flags: &[bool]) -> Option<String> {
     Some(words)
 }
 
-/// How many types and groups are made, and whether there is an origin for each.
+// How many types and groups are made, and whether there is an origin for each.
 fn counts_of(alloc: Global, nodes: &Nodes) -> Option<String> {
     let types = nodes.types.len();
     let groups = nodes.groups.len();

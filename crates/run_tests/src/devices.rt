@@ -1,3 +1,4 @@
+//! Devices for tests: a reader that gives bytes in pieces and notes how many, and a writer with little room.
 use std::io::{self, Read, Write};
 
 /// Gives its bytes in pieces of at most this size, and notes how large the largest buffer was that it was to fill, and how

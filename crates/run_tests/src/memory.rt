@@ -1,4 +1,4 @@
-// Run with each allocation refused in turn (`tests/run_memory.py`), these find no third answer.
+//! Run with each allocation refused in turn (`tests/run_memory.py`), these find no third answer.
 ghost use Rattle.std.specs.Prelude.{IfOk};
 ghost use Rattle.seq_run.specs.Report.{IsShown};
 
@@ -6,10 +6,10 @@ use crate::devices::{Sheet, Watched};
 use crate::tables::table;
 use cbor_item::{Counted, Sound};
 use cbor_read::Limits;
-use cddl_table::Table;
 use seq_run::{Advance, Cause, End, Mode, RunFault, Session, State, end_line, run};
 use std::alloc::Global;
 use std::process::Abort;
+use table_nodes::Table;
 
 const STREAM: &[u8] = &[0x17, 0x82, 1, 2, 0x18, 0x18, 0x9f, 0x03, 0xff, 0x20, 0];
 

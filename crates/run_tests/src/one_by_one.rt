@@ -1,11 +1,12 @@
+//! Tests of sessions whose items are taken one by one.
 use crate::rows::{bytes_of, end_text, expect_text, limits, notations, row_of, rows};
 use crate::tables::made_table;
 use cbor_item::Sound;
-use cddl_table::Table;
 use seq_run::{Advance, Cause, End, Session};
 use std::alloc::{AllocError, Global};
 use std::process::Abort;
 use std::test::Fail;
+use table_nodes::Table;
 
 // What was taken of a stream so far: its items, how many bytes, and where the next item begins.
 #[derive(Drop)]

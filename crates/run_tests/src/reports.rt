@@ -1,12 +1,13 @@
+//! Tests of the report of a stream: the number and the offset of the item in each line.
 use crate::devices::Watched;
 use crate::rows::{expect_text, limits};
 use crate::tables::made_table;
 use cbor_item::Counted;
-use cddl_table::Table;
 use seq_run::{Mode, run};
 use std::alloc::{AllocError, Global};
 use std::process::Abort;
 use std::test::Fail;
+use table_nodes::Table;
 
 // A stream, its report so far, and how many items it has.
 #[derive(Drop)]

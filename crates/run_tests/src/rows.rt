@@ -1,3 +1,4 @@
+//! Rows of streams, each with its items and its end, and what tests need to read and compare them.
 use cbor_item::{Sound, diag};
 use cbor_read::Limits;
 use hex::FromHexError;
@@ -28,7 +29,7 @@ pub(crate) struct Row<'t> {
     pub(crate) known: &'t str,
 }
 
-/// A proof that names the text itself unfolds all of it at each of its steps.
+// A proof that names the text itself unfolds all of it at each of its steps.
 pub(crate) fn rows() -> &'static str {
     ROWS
 }
@@ -63,7 +64,7 @@ pub(crate) fn limits(rt: &impl Abort) -> Limits {
     Limits::try_new(64, 8192).expect(rt, "limits")
 }
 
-/// An end as rows have it.
+// An end as rows have it.
 pub(crate) fn end_text(alloc: Global, end: &End) -> Result<String, AllocError> {
     match *end {
         End::Clean { items, bytes } => format!(in alloc; "clean {items} {bytes}"),
@@ -87,7 +88,7 @@ fn fault_text(alloc: Global, items: u64, offset: u64, at: u64) -> Result<String,
     format!(in alloc; "fault {items} {offset} {at}")
 }
 
-/// The items in diagnostic notation, each with `; ` after it.
+// The items in diagnostic notation, each with `; ` after it.
 pub(crate) fn notations(alloc: Global, items: &[Sound]) -> Result<Vec<u8>, AllocError> {
     let mut text = Vec::new(alloc);
     for item in items {
@@ -98,12 +99,12 @@ pub(crate) fn notations(alloc: Global, items: &[Sound]) -> Result<Vec<u8>, Alloc
     Ok(text)
 }
 
-/// Only here is a text that a test got compared with its row's, since each type that a message shows costs a check seconds.
+// Only here is a text that a test got compared with its row's, since each type that a message shows costs a check seconds.
 pub(crate) fn expect_text(rt: &impl Abort, got: &[u8], wanted: &str) {
     assert_eq!(rt; got, wanted.as_bytes());
 }
 
-/// How many bytes are given in pieces of this size before the end of so many is known.
+// How many bytes are given in pieces of this size before the end of so many is known.
 pub(crate) fn given_of(rt: &impl Abort, row: &Row<'_>, len: usize, size: usize) -> usize {
     if row.known.is_empty() {
         return len;
@@ -112,7 +113,7 @@ pub(crate) fn given_of(rt: &impl Abort, row: &Row<'_>, len: usize, size: usize) 
     len.min(known.div_ceil(size.max(1)).saturating_mul(size))
 }
 
-/// 20,000 bytes: 9,000 numbers, one that is negative, and zeros.
+// 20,000 bytes: 9,000 numbers, one that is negative, and zeros.
 pub(crate) fn long_stream(alloc: Global) -> Result<Vec<u8>, AllocError> {
     let mut stream = Vec::new(alloc);
     stream.resize(9000, 23)?;

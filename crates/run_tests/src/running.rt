@@ -1,12 +1,13 @@
+//! Tests of runs over a device: what is written, how many bytes are read, and how many at once.
 use crate::devices::Watched;
 use crate::rows::{Row, bytes_of, expect_text, given_of, limits, long_stream, row_of, rows};
 use crate::tables::made_table;
 use cbor_item::Counted;
-use cddl_table::Table;
 use seq_run::{Mode, run};
 use std::alloc::{AllocError, Global};
 use std::process::Abort;
 use std::test::Fail;
+use table_nodes::Table;
 
 // What a run wrote, how large its buffer was, and how many bytes it read.
 #[derive(Drop)]

@@ -1,13 +1,14 @@
+//! Tests of sessions: the items and the end of a stream in pieces of every size, and that the end stays.
 use crate::rows::{
     bytes_of, end_text, expect_text, given_of, limits, long_stream, notations, row_of, rows,
 };
 use crate::tables::made_table;
 use cbor_item::{Item, Sound};
-use cddl_table::Table;
 use seq_run::{Cause, End, Session, State, validate_pieces};
 use std::alloc::{AllocError, Global};
 use std::process::Abort;
 use std::test::Fail;
+use table_nodes::Table;
 
 // What a session told of a stream: its items, its end, and how many bytes it had been given when the end was known.
 #[derive(Drop)]

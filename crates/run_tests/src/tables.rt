@@ -1,6 +1,7 @@
-use cddl_table::{Group, GroupId, Most, Node, Ranks, Table, Test, TypeId};
+//! The table of `t = uint / [* uint]`, by which the tests run streams.
 use std::alloc::{AllocError, Global};
 use std::process::Abort;
+use table_nodes::{Group, GroupId, Most, Node, Ranks, Table, Test, TypeId};
 
 // `t = uint / [* uint]`: the choice, the numbers, the arrays; the repetition, and its entry.
 fn types(alloc: Global) -> Result<Vec<Node>, AllocError> {
@@ -39,7 +40,7 @@ fn ranks(alloc: Global) -> Result<Ranks, AllocError> {
     })
 }
 
-/// The table of `t = uint / [* uint]`.
+// The table of `t = uint / [* uint]`.
 pub(crate) fn table(alloc: Global) -> Result<Option<Table>, AllocError> {
     let types = types(alloc)?;
     let groups = groups(alloc)?;
@@ -47,7 +48,7 @@ pub(crate) fn table(alloc: Global) -> Result<Option<Table>, AllocError> {
     Ok(Table::new(types, groups, TypeId { number: 0 }, ranks).ok())
 }
 
-/// The same, which there is.
+// The same, which there is.
 pub(crate) fn made_table(rt: &impl Abort, alloc: Global) -> Result<Table, AllocError> {
     Ok(table(alloc)?.expect(rt, "a table"))
 }

@@ -17,3 +17,4 @@ pub mod Rereading
 pub mod InOrder
 pub mod OneEnd
 pub mod SomeEnd
+mod OfMeaning

@@ -5,7 +5,7 @@ use Rattle.cbor_data.specs.Faults.{Bounds, IsItem, IsFaultOf}
 use Rattle.cbor_data.specs.Sequence as sequence
 use Rattle.cbor_data.specs.Sequence.{Found, Takes, none, next, IsRunOf, EndsBy, cleanly, at_fault, at_mismatch, at_spent, failed, fault, mismatch, spent}
 use Rattle.cbor_data.specs.declared.FaultKind.{FaultKind}
-use Rattle.cddl_table.specs.declared.table.Table.{Table}
+use Rattle.table_nodes.specs.declared.table.Table.{Table}
 use Rattle.seq_run.specs.Judge.{Judge}
 use Rattle.seq_run.specs.declared.end.Cause.{Cause}
 use Rattle.seq_run.specs.declared.end.Cause.TheVariants.{Fault, Mismatch, Spent}

@@ -10,7 +10,7 @@ use Rattle.cbor_data.specs.Faults.{Bounds, last_offset, IsItem}
 use Rattle.cbor_data.specs.Sequence as sequence
 use Rattle.cbor_data.specs.Sequence.{Found, Takes, none, next, IsRunOf, EndsBy, cleanly, at_fault, at_mismatch, at_spent}
 use Rattle.cbor_data.specs.declared.FaultKind.{FaultKind}
-use Rattle.cddl_table.specs.declared.table.Table.{Table}
+use Rattle.table_nodes.specs.declared.table.Table.{Table}
 use Rattle.seq_run.specs.Judge.{Judge}
 use Rattle.seq_run.specs.declared.end.End.{End}
 use Rattle.seq_run.specs.declared.end.End.TheVariants.{Clean, Failed}

@@ -8,7 +8,7 @@ use Rattle.cbor_data.specs.Value.{Value}
 use Rattle.cbor_data.specs.Faults.{Bounds}
 use Rattle.cbor_data.specs.Sequence as sequence
 use Rattle.cbor_data.specs.Sequence.{Found, Takes, none, IsRunOf, EndsBy, cleanly, at_fault, at_mismatch, at_spent}
-use Rattle.cbor_item.specs.Counted.{HasRisen, one_more}
+use Rattle.item_nodes.specs.Counted.{HasRisen, one_more}
 use Rattle.seq_run.specs.Judge.{Judge}
 use Rattle.seq_run.specs.declared.end.Cause.TheVariants.{Fault, Mismatch, Spent}
 use Rattle.seq_run.specs.declared.end.End.{End}

@@ -5,9 +5,9 @@ use Rattle.cbor_data.specs.Forms.{inside, uint_form}
 use Rattle.cbor_data.specs.Preferred.{preferred}
 use Rattle.cbor_data.specs.Sound.{HasShortSpelling}
 use Rattle.cbor_data.specs.Value.{uint}
-use Rattle.cbor_item.specs.View.{view}
-use Rattle.cbor_item.specs.declared.item.Item.{the_lemmas}
-use Rattle.cbor_item.specs.declared.item.Item.TheVariants as item
+use Rattle.item_nodes.specs.View.{view}
+use Rattle.item_nodes.specs.declared.item.Item.{the_lemmas}
+use Rattle.item_nodes.specs.declared.item.Item.TheVariants as item
 
 initial_is : (n : ℕ) → n ≡ 32 * 0 + n
 initial_is n = omega arith

@@ -12,9 +12,9 @@ use Rattle.cbor_read.specs.declared.front.Front.{Front}
 use Rattle.cbor_read.specs.declared.front.Front.TheVariants as front
 use Rattle.cddl_meaning.specs.Judges.{Answer, Yes, No}
 use Rattle.cddl_meaning.specs.Size.{size}
-use Rattle.cddl_ranks.specs.Decided.{IsDecided}
-use Rattle.cddl_table.specs.Language.{RootSays, language_of, root_form}
-use Rattle.cddl_table.specs.declared.table.Table.{Table}
+use Rattle.cddl_meaning.specs.Ranks.Decided.{IsDecided}
+use Rattle.table_nodes.specs.Language.{RootSays, language_of, root_form}
+use Rattle.table_nodes.specs.declared.table.Table.{Table}
 use Rattle.seq_run.specs.declared.end.End.{End}
 use Rattle.seq_run.specs.Ends.{Accepts, Misses, Overruns, Ends, IsAccepted, IsMissed, EndsFreely, end_of}
 use Rattle.seq_run.specs.Judge.{Judge}

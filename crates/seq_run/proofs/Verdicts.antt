@@ -5,8 +5,8 @@ use Rattle.cbor_data.specs.Faults.{Bounds, IsItem}
 use Rattle.cddl_meaning.specs.Judges.{Answer, Yes, No}
 use Rattle.cddl_meaning.specs.Size.{size}
 use Rattle.cddl_meaning.proofs.Lemmas.{size_spelled}
-use Rattle.cddl_table.specs.Language.{RootSays}
-use Rattle.cddl_table.specs.declared.table.Table.{Table}
+use Rattle.table_nodes.specs.Language.{RootSays}
+use Rattle.table_nodes.specs.declared.table.Table.{Table}
 use Rattle.seq_run.specs.Judge.{Judge}
 use Rattle.seq_run.specs.Ends.{Accepts, Misses, Overruns}
 

@@ -6,8 +6,8 @@ use Rattle.cbor_data.specs.Sequence as sequence
 use Rattle.cbor_data.specs.Sequence.{Found, Takes, IsRunOf, EndsBy, clean, failed, fault, mismatch, spent}
 use Rattle.cbor_data.specs.declared.FaultKind.{FaultKind}
 use Rattle.cddl_meaning.specs.Judges.{Answer, Yes, No}
-use Rattle.cddl_table.specs.Language.{RootSays}
-use Rattle.cddl_table.specs.declared.table.Table.{Table}
+use Rattle.table_nodes.specs.Language.{RootSays}
+use Rattle.table_nodes.specs.declared.table.Table.{Table}
 use Rattle.seq_run.specs.Judge.{Judge}
 use Rattle.seq_run.specs.declared.end.Cause.{Cause}
 use Rattle.seq_run.specs.declared.end.Cause.TheVariants.{Fault, Mismatch, Spent}

@@ -1,8 +1,8 @@
 -- What says of an item whether it is accepted.
 use Rattle.std.specs.Prelude.{ℕ, refl}
 use Rattle.std.specs.Coded.{Coded, code_by, coded×, coded_ℕ}
-use Rattle.cddl_table.specs.declared.table.Table.{Table}
-use Rattle.cddl_table.specs.contracts.table.Table.{the_row as table_row}
+use Rattle.table_nodes.specs.declared.table.Table.{Table}
+use Rattle.table_nodes.specs.contracts.table.Table.{the_row as table_row}
 
 -- a specification's table, and the most judgements that may be made of one item
 pub record Judge : Type 0 where

@@ -11,3 +11,4 @@ pub mod Heads
 pub mod Output
 pub mod Running
 pub mod Written
+pub mod Meaning

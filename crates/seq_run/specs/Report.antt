@@ -2,7 +2,7 @@
 use Rattle.std.specs.Prelude.{ℕ, ◌<◌, List, [], ◌++◌, Option, Some, None, slice_get, codes, decimal}
 use Rattle.std.specs.Option.{option_map}
 use Rattle.cbor_data.specs.Value.{Value, places, place_count}
-use Rattle.cbor_place.specs.Paths.{path}
+use Rattle.cbor_item.specs.Place.Paths.{path}
 use Rattle.cbor_data.specs.Sequence.{Found}
 use Rattle.cbor_data.specs.Notation.{notation}
 use Rattle.cbor_data.specs.declared.FaultKind.{FaultKind}

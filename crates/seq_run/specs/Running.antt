@@ -4,8 +4,8 @@ use Rattle.std.specs.Io.KnownBytes as bytes
 use Rattle.cbor_data.specs.Value.{Value}
 use Rattle.cbor_data.specs.Faults.{Bounds}
 use Rattle.cbor_data.specs.Sequence.{Found}
-use Rattle.cbor_item.specs.Counted.{device_of, failures_of, HasRisen}
-use Rattle.cbor_item.specs.declared.counted.Counted.{Counted}
+use Rattle.item_nodes.specs.Counted.{device_of, failures_of, HasRisen}
+use Rattle.item_nodes.specs.declared.counted.Counted.{Counted}
 use Rattle.seq_run.specs.Judge.{Judge}
 use Rattle.seq_run.specs.declared.end.End.{End}
 use Rattle.seq_run.specs.declared.end.State.{State}

@@ -8,7 +8,7 @@ use Rattle.cbor_data.specs.Preferred.{preferred}
 use Rattle.cbor_data.specs.Sound.{IsSound}
 use Rattle.cbor_data.specs.Faults.{Bounds, last_offset}
 use Rattle.cbor_data.specs.Sequence.{Found}
-use Rattle.cddl_table.specs.declared.table.Table.{Table}
+use Rattle.table_nodes.specs.declared.table.Table.{Table}
 use Rattle.seq_run.specs.declared.end.End.{End}
 use Rattle.seq_run.specs.declared.end.End.TheVariants.{Clean}
 use Rattle.seq_run.specs.declared.output.Mode.{Mode}

@@ -5,9 +5,9 @@ ghost use Rattle.cbor_data.specs.Value.{uint};
 
 use cbor_item::{Item, Sound};
 use cddl_match::{Verdict, verdict};
-use cddl_table::Table;
 use std::alloc::{AllocError, Global};
 use std::marker::Model;
+use table_nodes::Table;
 
 // How many unsigned integers are one byte.
 const NUMBERS: usize = 24;

@@ -4,7 +4,7 @@ ghost use Rattle.std.specs.Prelude.{◌≡◌, ◌≤◌, ℕ, List, length};
 ghost use Rattle.cbor_data.specs.Faults.{last_offset, Bounds};
 ghost use Rattle.cbor_data.specs.Sequence.{Found};
 ghost use Rattle.cbor_data.specs.Value.{AreBytes, Value};
-ghost use Rattle.cddl_table.specs.declared.table.Table.{Table};
+ghost use Rattle.table_nodes.specs.declared.table.Table.{Table};
 ghost use Rattle.seq_run.specs.declared.end.End.{End};
 ghost use Rattle.seq_run.specs.Ends.{Accepts, Ends, EndsFreely, IsAccepted, IsDecisive};
 ghost use Rattle.seq_run.specs.Judge.{Judge};

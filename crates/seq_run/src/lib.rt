@@ -6,6 +6,7 @@ mod examiner;
 mod head;
 mod laws;
 mod lines;
+pub mod meaning;
 mod output;
 mod pieces;
 mod running;

@@ -3,14 +3,13 @@
 ghost use Rattle.std.specs.Prelude.{◌≡◌, ◌++◌, decimal, IfOk, OnOk, option_copied};
 ghost use Rattle.std.specs.Option.{option_map};
 ghost use Rattle.cbor_data.specs.Notation.{notation};
-ghost use Rattle.cbor_item.specs.View.{view};
-ghost use Rattle.cbor_place.specs.Paths.{path};
+ghost use Rattle.item_nodes.specs.View.{view};
+ghost use Rattle.cbor_item.specs.Place.Paths.{path};
 ghost use Rattle.seq_run.specs.Report.{cause_text, end_line as end_line_of, fault_text, item_line, mismatch_text, or_nothing, IsShown};
 
 use crate::end::{Cause, End};
 use crate::head::Head;
-use cbor_item::{Item, Sound, push_notation};
-use cbor_place::{item_at, path_text};
+use cbor_item::{Item, Sound, item_at, path_text, push_notation};
 use cbor_read::FaultKind;
 use itoa::Buffer;
 use std::alloc::{AllocError, Global};

@@ -10,8 +10,8 @@ use crate::end::End;
 use crate::session::Session;
 use cbor_item::Sound;
 use cbor_read::Limits;
-use cddl_table::Table;
 use std::alloc::{AllocError, Global};
+use table_nodes::Table;
 
 /// The end of the stream that comes in these pieces, empty ones too, and the items of its run: exactly the longest list of
 /// accepted items that the stream begins with, however it is cut.

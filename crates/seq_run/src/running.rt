@@ -2,7 +2,7 @@
 
 ghost use Rattle.std.specs.Prelude.{◌≡◌, List, [], None, IfOk, IfErr, OnOk, IfSome};
 ghost use Rattle.cbor_data.specs.Value.{Value};
-ghost use Rattle.cbor_item.specs.Counted.{device_of, failures_of};
+ghost use Rattle.item_nodes.specs.Counted.{device_of, failures_of};
 ghost use Rattle.seq_run.specs.Answers.{IsFed};
 ghost use Rattle.seq_run.specs.Ends.{IsDecisive};
 ghost use Rattle.seq_run.specs.Judge.{judge_of};
@@ -18,9 +18,9 @@ use crate::session::{Advance, Session};
 use cbor_item::{Counted, Sound, write_bytes};
 use cbor_read::Limits;
 use cddl_match::shows_inside;
-use cddl_table::Table;
 use std::alloc::{AllocError, Global};
 use std::io::{Read, Write};
+use table_nodes::Table;
 use thiserror::Error;
 
 // How many bytes are read at once, at most.

@@ -12,10 +12,10 @@ use crate::examiner::Examiner;
 use cbor_item::Sound;
 use cbor_read::{Fed, ItemReader, Limits, Stop};
 use cddl_match::{Verdict, one_answer};
-use cddl_table::Table;
 use history::History;
 use std::alloc::{AllocError, Global};
 use std::marker::Model;
+use table_nodes::Table;
 
 // An item that was taken, and the offset of its first byte, for contracts alone.
 #[derive(Drop)]

@@ -1,8 +1,10 @@
+//! Tests of which facts follow from implications.
+
 use crate::rows::{are_letters, are_right, digit};
-use implications::{Implication, following};
+use graphs::implications::{Implication, following};
 use std::alloc::{AllocError, Global};
 
-/// The fact of this place: a digit, `m` for the greatest number, or `-` for none.
+// The fact of this place: a digit, `m` for the greatest number, or `-` for none.
 fn fact_at(text: &[u8], place: usize) -> Option<usize> {
     match text.get(place) {
         None | Some(b'-') => None,
@@ -11,7 +13,7 @@ fn fact_at(text: &[u8], place: usize) -> Option<usize> {
     }
 }
 
-/// That a fact follows from up to two.
+// That a fact follows from up to two.
 fn rule(text: &[u8]) -> Implication {
     Implication {
         then: fact_at(text, 0).unwrap_or(0),
@@ -20,7 +22,7 @@ fn rule(text: &[u8]) -> Implication {
     }
 }
 
-/// The implications, with a space between them.
+// The implications, with a space between them.
 fn rules_of(alloc: Global, text: &[u8]) -> Result<Vec<Implication>, AllocError> {
     let mut rules = Vec::new(alloc);
     for one in text.chunks(4) {
@@ -29,7 +31,7 @@ fn rules_of(alloc: Global, text: &[u8]) -> Result<Vec<Implication>, AllocError> 
     Ok(rules)
 }
 
-/// Whether just these facts follow.
+// Whether just these facts follow.
 pub(crate) fn follow(
     alloc: Global,
     facts: usize,
@@ -71,7 +73,7 @@ fn single(then: usize, first: Option<usize>) -> Implication {
     }
 }
 
-/// A chain of many facts, from the last one down to the first, of which the last one follows where one is to.
+// A chain of many facts, from the last one down to the first, of which the last one follows where one is to.
 fn chain(alloc: Global, does_follow: bool) -> Result<Vec<Implication>, AllocError> {
     let mut implications = Vec::new(alloc);
     for fact in 1..MANY {
@@ -83,7 +85,7 @@ fn chain(alloc: Global, does_follow: bool) -> Result<Vec<Implication>, AllocErro
     Ok(implications)
 }
 
-/// Whether all facts of a chain follow, or none.
+// Whether all facts of a chain follow, or none.
 fn follow_alike(alloc: Global, do_follow: bool) -> Result<bool, AllocError> {
     let implications = chain(alloc, do_follow)?;
     let found = following(alloc, MANY, &implications)?;

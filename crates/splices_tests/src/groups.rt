@@ -1,12 +1,16 @@
+//! Tests of the alternatives of parts and of their summaries, and of what is refused or too large.
+
 use crate::rows::{are_right, digit, digit_at, is_y, number_of};
-use splices::{Bounds, Member, Part, Summary, alternatives, is_too_large, occurs_badly, summaries};
+use alternatives::{
+    Bounds, Member, Part, Summary, alternatives, is_too_large, occurs_badly, summaries,
+};
 use std::alloc::{AllocError, Global};
 
 fn bounds(least: u64, most: Option<u64>) -> Bounds {
     Bounds { least, most }
 }
 
-/// The bounds of an occurrence: `?`, `*`, `+`, or once.
+// The bounds of an occurrence: `?`, `*`, `+`, or once.
 fn bounds_of(sign: u8) -> Bounds {
     match sign {
         b'?' => bounds(0, Some(1)),
@@ -16,8 +20,8 @@ fn bounds_of(sign: u8) -> Bounds {
     }
 }
 
-/// The part of a sign and the numbers of up to two others: an entry, what is refused, nothing more, the same, both, either, or
-/// an occurrence.
+// The part of a sign and the numbers of up to two others: an entry, what is refused, nothing more, the same, both, either, or
+// an occurrence.
 fn part_of(text: &[u8]) -> Part {
     let sign = text.first().copied().unwrap_or(b' ');
     match sign {
@@ -31,7 +35,7 @@ fn part_of(text: &[u8]) -> Part {
     }
 }
 
-/// The parts, of three characters each, with a space between them.
+// The parts, of three characters each, with a space between them.
 fn parts_of(alloc: Global, text: &[u8]) -> Result<Vec<Part>, AllocError> {
     let mut parts = Vec::new(alloc);
     for one in text.chunks(4) {
@@ -40,13 +44,13 @@ fn parts_of(alloc: Global, text: &[u8]) -> Result<Vec<Part>, AllocError> {
     Ok(parts)
 }
 
-/// The summary of the last part.
+// The summary of the last part.
 fn last_summary(alloc: Global, parts: &[Part]) -> Result<Option<Summary>, AllocError> {
     let found = summaries(alloc, parts)?;
     Ok(found.last().copied().unwrap_or(None))
 }
 
-/// Whether the last part has so many alternatives and members.
+// Whether the last part has so many alternatives and members.
 fn counts(
     alloc: Global,
     parts: &[Part],
@@ -61,7 +65,7 @@ fn counts(
     }
 }
 
-/// Whether the last part stands for nothing.
+// Whether the last part stands for nothing.
 fn is_refused(alloc: Global, parts: &[Part]) -> Result<bool, AllocError> {
     Ok(last_summary(alloc, parts)?.is_none())
 }
@@ -75,13 +79,13 @@ fn are_bad(parts: &[Part], found: &[Option<Summary>], letters: &[u8]) -> bool {
     true
 }
 
-/// Whether just the parts of a `y` occur as they may not.
+// Whether just the parts of a `y` occur as they may not.
 fn occur_badly(alloc: Global, parts: &[Part], letters: &[u8]) -> Result<bool, AllocError> {
     let found = summaries(alloc, parts)?;
     Ok(are_bad(parts, &found, letters))
 }
 
-/// The alternatives of the last part.
+// The alternatives of the last part.
 fn last_alternatives(
     alloc: Global,
     parts: &[Part],
@@ -90,7 +94,7 @@ fn last_alternatives(
     alternatives(alloc, parts, &found, parts.len().saturating_sub(1))
 }
 
-/// Whether a member is the entry of the first digit, as often at least as the second says.
+// Whether a member is the entry of the first digit, as often at least as the second says.
 fn is_member(member: Member, digits: &[u8]) -> bool {
     member.entry == digit_at(digits, 1) && member.bounds.least == digit_at(digits, 2) as u64
 }
@@ -103,7 +107,7 @@ fn are_members(found: &[Member], wanted: &[u8]) -> bool {
     right
 }
 
-/// Whether the alternative of the first digit has these members, with a space before each.
+// Whether the alternative of the first digit has these members, with a space before each.
 fn has_members(found: &[Vec<Member>], wanted: &[u8]) -> bool {
     match wanted.split_first() {
         Some((number, members)) => match found.get(digit(*number)) {
@@ -114,7 +118,7 @@ fn has_members(found: &[Vec<Member>], wanted: &[u8]) -> bool {
     }
 }
 
-/// Whether the last part has so many alternatives, of which one has these members.
+// Whether the last part has so many alternatives, of which one has these members.
 fn has(alloc: Global, parts: &[Part], count: usize, wanted: &[u8]) -> Result<bool, AllocError> {
     match last_alternatives(alloc, parts)? {
         Some(found) => Ok(found.len() == count && has_members(&found, wanted)),
@@ -122,7 +126,7 @@ fn has(alloc: Global, parts: &[Part], count: usize, wanted: &[u8]) -> Result<boo
     }
 }
 
-/// How many alternatives the last part has, where they are made.
+// How many alternatives the last part has, where they are made.
 fn made(alloc: Global, parts: &[Part]) -> Result<Option<usize>, AllocError> {
     match last_alternatives(alloc, parts)? {
         Some(found) => Ok(Some(found.len())),
@@ -146,8 +150,8 @@ fn is_told_of(
     }
 }
 
-/// Whether this is told of parts: how many alternatives and members the last has, that it stands for nothing, which occur as
-/// they may not, that no alternatives are made, or an alternative.
+// Whether this is told of parts: how many alternatives and members the last has, that it stands for nothing, which occur as
+// they may not, that no alternatives are made, or an alternative.
 pub(crate) fn is_told(
     alloc: Global,
     what: &str,
@@ -182,7 +186,7 @@ fn refuses(rt: HostRuntime) {
     assert!(rt; are_right(rt.alloc(), REFUSED));
 }
 
-/// A group of two alternatives, doubled so often, and where it is to be, the same together with nothing.
+// A group of two alternatives, doubled so often, and where it is to be, the same together with nothing.
 fn doubled(alloc: Global, times: usize, with_nothing: bool) -> Result<Vec<Part>, AllocError> {
     let mut parts = Vec::new(alloc);
     parts.push(Part::Entry(bounds(1, Some(1))))?;
@@ -197,7 +201,7 @@ fn doubled(alloc: Global, times: usize, with_nothing: bool) -> Result<Vec<Part>,
     Ok(parts)
 }
 
-/// Whether the part has a summary that is too large.
+// Whether the part has a summary that is too large.
 fn is_large_at(found: &[Option<Summary>], number: usize) -> bool {
     match found.get(number).copied() {
         Some(Some(summary)) => is_too_large(summary),
@@ -234,7 +238,7 @@ fn makes_alternatives(rt: HostRuntime) {
     assert!(rt; are_right(rt.alloc(), ALTERNATIVES));
 }
 
-/// How many alternatives a large group has where they are made, or the group together with nothing.
+// How many alternatives a large group has where they are made, or the group together with nothing.
 fn made_of_large(alloc: Global, with_nothing: bool) -> Result<Option<usize>, AllocError> {
     let parts = doubled(alloc, 20, with_nothing)?;
     made(alloc, &parts)

@@ -5,8 +5,8 @@
 #[cfg(test)]
 mod facts;
 #[cfg(test)]
-mod graphs;
-#[cfg(test)]
 mod groups;
+#[cfg(test)]
+mod nodes;
 #[cfg(test)]
 mod rows;

@@ -1,15 +1,15 @@
 //! Rows of graphs, of implications and of parts: what is asked, the answer, how many nodes, facts or alternatives there are,
 //! and the edges, the implications or the parts.
 
-use crate::{facts, graphs, groups};
+use crate::{facts, groups, nodes};
 use std::alloc::{AllocError, Global};
 
-/// The number that a digit says.
+// The number that a digit says.
 pub(crate) fn digit(byte: u8) -> usize {
     usize::from(byte.wrapping_sub(b'0'))
 }
 
-/// The number of the digit at this place.
+// The number of the digit at this place.
 pub(crate) fn digit_at(digits: &[u8], place: usize) -> usize {
     match digits.get(place) {
         Some(byte) => digit(*byte),
@@ -17,7 +17,7 @@ pub(crate) fn digit_at(digits: &[u8], place: usize) -> usize {
     }
 }
 
-/// The number that digits say.
+// The number that digits say.
 pub(crate) fn number_of(digits: &[u8]) -> usize {
     let mut number = 0usize;
     for byte in digits {
@@ -26,7 +26,7 @@ pub(crate) fn number_of(digits: &[u8]) -> usize {
     number
 }
 
-/// Whether these are the numbers that so many digits say.
+// Whether these are the numbers that so many digits say.
 pub(crate) fn are_digits(numbers: &[usize], digits: &[u8]) -> bool {
     if numbers.len() != digits.len() {
         return false;
@@ -39,12 +39,12 @@ pub(crate) fn are_digits(numbers: &[usize], digits: &[u8]) -> bool {
     true
 }
 
-/// Whether the letter at this place is `y`.
+// Whether the letter at this place is `y`.
 pub(crate) fn is_y(letters: &[u8], place: usize) -> bool {
     matches!(letters.get(place), Some(b'y'))
 }
 
-/// Whether these are the flags that so many letters say, `y` or `n`.
+// Whether these are the flags that so many letters say, `y` or `n`.
 pub(crate) fn are_letters(flags: &[bool], letters: &[u8]) -> bool {
     if flags.len() != letters.len() {
         return false;
@@ -57,7 +57,7 @@ pub(crate) fn are_letters(flags: &[bool], letters: &[u8]) -> bool {
     true
 }
 
-/// Whether this is told of what the text says.
+// Whether this is told of what the text says.
 fn is_told(
     alloc: Global,
     what: &str,
@@ -67,12 +67,12 @@ fn is_told(
 ) -> Result<bool, AllocError> {
     match what {
         "facts" => facts::follow(alloc, count, text, wanted),
-        "order" | "ranks" | "cycles" => graphs::is_told(alloc, what, wanted, count, text),
+        "order" | "ranks" | "cycles" => nodes::is_told(alloc, what, wanted, count, text),
         _ => groups::is_told(alloc, what, wanted, count, text),
     }
 }
 
-/// The same, where the count is before the text.
+// The same, where the count is before the text.
 fn is_told_with_count(
     alloc: Global,
     what: &str,
@@ -91,7 +91,7 @@ fn is_told_with_answer(alloc: Global, what: &str, rest: &str) -> bool {
     }
 }
 
-/// Whether a row is right: what is asked, the answer, and the rest, with ` | ` between them.
+// Whether a row is right: what is asked, the answer, and the rest, with ` | ` between them.
 fn is_right(alloc: Global, row: &str) -> bool {
     match row.split_once(" | ") {
         Some((what, rest)) => is_told_with_answer(alloc, what, rest),
@@ -99,7 +99,7 @@ fn is_right(alloc: Global, row: &str) -> bool {
     }
 }
 
-/// Whether all rows are right.
+// Whether all rows are right.
 pub(crate) fn are_right(alloc: Global, rows: &str) -> bool {
     rows.lines().all(|row| is_right(alloc, row))
 }

@@ -1,5 +1,7 @@
-use cddl_environment::{Name, names};
-use cddl_terms::{Body, Definition, Sign};
+//! Tests of the indices at which the definitions of names stand in the prelude's list and in the text's.
+
+use check_names::environment::{Name, names};
+use check_terms::{Body, Definition, Sign};
 use std::alloc::{AllocError, Global};
 
 fn definitions_of(alloc: Global, rows: &[(u32, Sign)]) -> Result<Vec<Definition>, AllocError> {
@@ -19,8 +21,8 @@ fn definition(alloc: Global, name: u32, sign: Sign) -> Definition {
     }
 }
 
-/// Five names: one that the text replaces, one that it extends, one that it extends first and then defines, one without
-/// definitions, and one that it defines, extends and defines again. The text defines a sixth name too, and so does the prelude.
+// Five names: one that the text replaces, one that it extends, one that it extends first and then defines, one without
+// definitions, and one that it defines, extends and defines again. The text defines a sixth name too, and so does the prelude.
 fn five_names(alloc: Global) -> Result<Vec<Name>, AllocError> {
     let known = definitions_of(alloc, &[(1, Sign::Is), (5, Sign::Is), (0, Sign::Is)])?;
     let definitions = definitions_of(
@@ -41,7 +43,7 @@ fn five_names(alloc: Global) -> Result<Vec<Name>, AllocError> {
     names(alloc, 5, &known, &definitions)
 }
 
-/// Whether a name has these places: the prelude's, its first and its first by `=`, and those that count.
+// Whether a name has these places: the prelude's, its first and its first by `=`, and those that count.
 fn stands(name: Option<&Name>, first: &[Option<usize>], counting: &[usize]) -> bool {
     match name {
         Some(name) => {
@@ -64,7 +66,7 @@ fn finds_places(rt: HostRuntime) -> Result<(), AllocError> {
     Ok(())
 }
 
-/// So many `/=` of one name, and then a `=`.
+// So many `/=` of one name, and then a `=`.
 fn many_choices(alloc: Global, count: usize) -> Result<Vec<Definition>, AllocError> {
     let mut definitions = Vec::new(alloc);
     for _ in 0..count {

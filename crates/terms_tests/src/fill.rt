@@ -1,8 +1,10 @@
-ghost use Rattle.std.specs.Prelude.{◌↔◌, IsTrue};
-ghost use Rattle.cddl_terms.specs.Table.{IsPart};
+//! Tests of bodies whose parameters are replaced by arguments, and of those that are shared in many places.
 
-use cddl_fill::Template;
-use cddl_terms::{Form, NoRoom, Terms};
+ghost use Rattle.std.specs.Prelude.{◌↔◌, IsTrue};
+ghost use Rattle.check_terms.specs.Table.{IsPart};
+
+use check_terms::fill::Template;
+use check_terms::{Form, NoRoom, Terms};
 use std::alloc::Global;
 
 fn is_part(terms: &Terms<'_>, number: Option<u32>) -> bool
@@ -14,7 +16,7 @@ fn is_part(terms: &Terms<'_>, number: Option<u32>) -> bool
     }
 }
 
-/// The number of a row, whose parts have to be there.
+// The number of a row, whose parts have to be there.
 fn add<'s>(
     terms: &mut Terms<'s>,
     form: Form,
@@ -29,14 +31,14 @@ fn add<'s>(
     }
 }
 
-/// The name as a type, `name` or `~name`.
+// The name as a type, `name` or `~name`.
 fn name<'s>(terms: &mut Terms<'s>, form: Form, text: &'s str) -> Result<u32, NoRoom> {
     let none = add(terms, Form::NoTerms, None, None, None)?;
     let call = add(terms, Form::Call, Some(text), Some(none), None)?;
     add(terms, form, None, Some(call), None)
 }
 
-/// The entries with a name after them.
+// The entries with a name after them.
 fn with_name<'s>(
     terms: &mut Terms<'s>,
     entries: u32,
@@ -48,7 +50,7 @@ fn with_name<'s>(
     add(terms, Form::EntriesComma, None, Some(entries), Some(entry))
 }
 
-/// `[one, other, ]`, where the other may have a `~`.
+// `[one, other, ]`, where the other may have a `~`.
 fn pair<'s>(
     terms: &mut Terms<'s>,
     one: &'s str,
@@ -62,7 +64,7 @@ fn pair<'s>(
     add(terms, Form::ArrayOf, None, Some(group), None)
 }
 
-/// What `[t, ~u, ]` is with these parameters, and with these names as arguments.
+// What `[t, ~u, ]` is with these parameters, and with these names as arguments.
 fn fill_pair<'s>(
     alloc: Global,
     terms: &mut Terms<'s>,
@@ -98,7 +100,7 @@ fn is_pair_in<'s>(
     Ok(filled == pair(terms, one, form, other)?)
 }
 
-/// Whether `[t, ~u, ]` filled so is `[one, other, ]`.
+// Whether `[t, ~u, ]` filled so is `[one, other, ]`.
 fn is_pair<'s>(
     alloc: Global,
     parameters: [&'s str; 2],
@@ -111,7 +113,7 @@ fn is_pair<'s>(
     is_pair_in(alloc, &mut terms, parameters, names, one, form, other)
 }
 
-/// The type in a choice with itself, and that in a choice with itself, so often.
+// The type in a choice with itself, and that in a choice with itself, so often.
 fn doubled(terms: &mut Terms<'_>, value: u32, times: u32) -> Result<u32, NoRoom> {
     let mut whole = value;
     for _ in 0..times {
@@ -120,13 +122,13 @@ fn doubled(terms: &mut Terms<'_>, value: u32, times: u32) -> Result<u32, NoRoom>
     Ok(whole)
 }
 
-/// The name as a type, in 2 to the 1,000 places.
+// The name as a type, in 2 to the 1,000 places.
 fn many<'s>(terms: &mut Terms<'s>, text: &'s str) -> Result<u32, NoRoom> {
     let value = name(terms, Form::Named, text)?;
     doubled(terms, value, 1000)
 }
 
-/// What the body is with `int` in the place of `t`.
+// What the body is with `int` in the place of `t`.
 fn with_int(alloc: Global, terms: &mut Terms<'_>, body: u32) -> Result<u32, NoRoom> {
     let parameter = terms.add_text("t")?;
     let int = name(terms, Form::Named, "int")?;
@@ -134,7 +136,7 @@ fn with_int(alloc: Global, terms: &mut Terms<'_>, body: u32) -> Result<u32, NoRo
     template.fill(alloc, terms, &[int])
 }
 
-/// What `t` in many places is with `int` in its place, and how many rows were added for it.
+// What `t` in many places is with `int` in its place, and how many rows were added for it.
 fn fill_many(alloc: Global, terms: &mut Terms<'_>) -> Result<(u32, usize), NoRoom> {
     let body = many(terms, "t")?;
     let before = terms.len();
@@ -147,7 +149,7 @@ fn is_shared(alloc: Global, terms: &mut Terms<'_>) -> Result<bool, NoRoom> {
     Ok(added == 1002 && many(terms, "int")? == filled)
 }
 
-/// Whether a body that is shared in 2 to the 1,000 places is filled, one row at a time.
+// Whether a body that is shared in 2 to the 1,000 places is filled, one row at a time.
 fn shares(alloc: Global) -> Result<bool, NoRoom> {
     let mut terms = Terms::new(alloc);
     is_shared(alloc, &mut terms)

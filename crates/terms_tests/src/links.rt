@@ -1,9 +1,11 @@
-use chains::{Link, ends};
+//! Tests of where chains of links end.
+
+use graphs::chains::{Link, ends};
 use std::alloc::{AllocError, Global};
 
 const END: Link = Link::End(7);
 
-/// The answers of a chain of three links, of a circle of two, and of one that leads nowhere.
+// The answers of a chain of three links, of a circle of two, and of one that leads nowhere.
 fn answers_within(alloc: Global, most: usize) -> Result<Vec<Option<u32>>, AllocError> {
     let links = [
         Link::Next(1),
@@ -38,7 +40,7 @@ fn goes_on_to_the_end(rt: HostRuntime) -> Result<(), AllocError> {
     Ok(())
 }
 
-/// A chain of so many links and an end.
+// A chain of so many links and an end.
 fn long_chain(alloc: Global, length: usize) -> Result<Vec<Link>, AllocError> {
     let mut links = Vec::new(alloc);
     for number in 1..length {

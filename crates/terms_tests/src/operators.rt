@@ -1,9 +1,11 @@
+//! Tests of what `.plus`, `.cat` and `.det` make of two literals.
+
 use crate::values::{are_right, literal_of};
 use cddl_literal::Literal;
-use cddl_operators::{Fault, Joining, joined, plus};
+use cddl_literal::operators::{Fault, Joining, joined, plus};
 use std::alloc::{AllocError, Global};
 
-/// What an operator makes of two literals.
+// What an operator makes of two literals.
 fn apply(
     alloc: Global,
     operator: &str,
@@ -33,7 +35,7 @@ fn is(alloc: Global, literal: &Literal, wanted: &str) -> Result<bool, AllocError
     }
 }
 
-/// Whether this is the literal that is wanted, or the fault of that name.
+// Whether this is the literal that is wanted, or the fault of that name.
 fn is_as(alloc: Global, made: &Result<Literal, Fault>, wanted: &str) -> Result<bool, AllocError> {
     match made {
         Ok(literal) => is(alloc, literal, wanted),
@@ -41,7 +43,7 @@ fn is_as(alloc: Global, made: &Result<Literal, Fault>, wanted: &str) -> Result<b
     }
 }
 
-/// Whether an operator makes a literal of two, or else tells a fault.
+// Whether an operator makes a literal of two, or else tells a fault.
 fn answers(
     alloc: Global,
     operator: &str,
@@ -66,7 +68,7 @@ fn answers_with_right(
     }
 }
 
-/// The same, of a right operand and the answer with ` | ` between them.
+// The same, of a right operand and the answer with ` | ` between them.
 fn answers_with_rest(
     alloc: Global,
     operator: &str,
@@ -91,7 +93,7 @@ fn answers_with_left(
     }
 }
 
-/// Whether an operator answers so: two operands and the literal or the fault, with ` | ` between them.
+// Whether an operator answers so: two operands and the literal or the fault, with ` | ` between them.
 pub(crate) fn answers_with_operands(alloc: Global, operator: &str, rest: &str) -> bool {
     match rest.split_once(" | ") {
         Some((left, rest)) => matches!(answers_with_left(alloc, operator, left, rest), Ok(true)),

@@ -1,13 +1,15 @@
-use cddl_prelude::add_prelude;
-use cddl_terms::{Body, Definition, Form, NoRoom, Row, Terms};
+//! Tests of the definitions of the prelude: how many there are, and what `int` means.
+
+use check_reading::prelude::add_prelude;
+use check_terms::{Body, Definition, Form, NoRoom, Row, Terms};
 use std::alloc::Global;
 
-/// How many of the definitions are of the name.
+// How many of the definitions are of the name.
 fn count_of(definitions: &[Definition], name: u32) -> usize {
     definitions.iter().filter(|it| it.name == name).count()
 }
 
-/// Whether these are 40 definitions, no two of one name.
+// Whether these are 40 definitions, no two of one name.
 fn are_forty(definitions: &[Definition]) -> bool {
     for definition in definitions {
         if count_of(definitions, definition.name) != 1 {
@@ -17,7 +19,7 @@ fn are_forty(definitions: &[Definition]) -> bool {
     definitions.len() == 40
 }
 
-/// The row of the definition of this index, if its name is this and it says a type.
+// The row of the definition of this index, if its name is this and it says a type.
 fn row_of(terms: &Terms<'_>, definitions: &[Definition], index: usize, name: &str) -> Option<Row> {
     let definition = definitions.get(index)?;
     match definition.body {
@@ -26,26 +28,26 @@ fn row_of(terms: &Terms<'_>, definitions: &[Definition], index: usize, name: &st
     }
 }
 
-/// The name of which the row of this number is a use.
+// The name of which the row of this number is a use.
 fn name_used<'s>(terms: &Terms<'s>, number: Option<u32>) -> Option<&'s str> {
     let named = terms.row(number?)?;
     let reference = terms.row(named.first?)?;
     terms.text(reference.text?)
 }
 
-/// Whether the row is that of `uint / nint`.
+// Whether the row is that of `uint / nint`.
 fn are_uint_or_nint(terms: &Terms<'_>, row: Row) -> bool {
     matches!(row.form, Form::Or)
         && name_used(terms, row.first) == Some("uint")
         && name_used(terms, row.second) == Some("nint")
 }
 
-/// Whether these say that an `int` is `uint / nint`.
+// Whether these say that an `int` is `uint / nint`.
 fn is_int_either(terms: &Terms<'_>, definitions: &[Definition]) -> bool {
     row_of(terms, definitions, 3, "int").is_some_and(|row| are_uint_or_nint(terms, row))
 }
 
-/// Whether the prelude defines 40 names, each once, and whether it says that an `int` is `uint / nint`.
+// Whether the prelude defines 40 names, each once, and whether it says that an `int` is `uint / nint`.
 fn told(alloc: Global, terms: &mut Terms<'_>) -> Result<(bool, bool), NoRoom> {
     let definitions = add_prelude(alloc, terms)?;
     Ok((are_forty(&definitions), is_int_either(terms, &definitions)))

@@ -1,5 +1,7 @@
-use cddl_operators::Joining;
-use cddl_texts::{
+//! Tests of what the texts of numbers, occurrences, tags, forms of `#`, controls and names say.
+
+use cddl_literal::operators::Joining;
+use check_terms::texts::{
     Comparison, Computation, Control, HashForm, TagNumber, control_of, hash_form, is_bad_hash,
     is_group_socket, is_socket, occurrence_of, tag_number, uint,
 };

@@ -1,10 +1,12 @@
+//! Tests of the values of literals, with the check of rows that tests of operators use too.
+
 use crate::operators::answers_with_operands;
 use cbor_item::diag;
 use cddl_literal::Literal;
-use cddl_values::{Whole, Written, item_of, value_of, whole_of};
+use check_literals::values::{Whole, Written, item_of, value_of, whole_of};
 use std::alloc::{AllocError, Global};
 
-/// A literal of this kind.
+// A literal of this kind.
 fn written<'t>(kind: &str, text: &'t str) -> Written<'t> {
     match kind {
         "text" => Written::Text(text),
@@ -13,7 +15,7 @@ fn written<'t>(kind: &str, text: &'t str) -> Written<'t> {
     }
 }
 
-/// The kind of literal that begins so.
+// The kind of literal that begins so.
 fn kind_of(text: &str) -> &'static str {
     match text.as_bytes().first() {
         Some(b'"') => "text",
@@ -22,13 +24,13 @@ fn kind_of(text: &str) -> &'static str {
     }
 }
 
-/// A byte string of one byte, so many times.
+// A byte string of one byte, so many times.
 fn times(alloc: Global, byte: u8, count: usize) -> Result<Option<Literal>, AllocError> {
     let bytes = vec![in alloc; byte; count]?;
     Ok(Some(Literal::Bytes(bytes)))
 }
 
-/// The literal that is written so, or a long one by how often it has its byte.
+// The literal that is written so, or a long one by how often it has its byte.
 pub(crate) fn literal_of(alloc: Global, text: &str) -> Result<Option<Literal>, AllocError> {
     match text {
         "65535 a" => times(alloc, b'a', 65_535),
@@ -38,7 +40,7 @@ pub(crate) fn literal_of(alloc: Global, text: &str) -> Result<Option<Literal>, A
     }
 }
 
-/// The item of a literal, in diagnostic notation.
+// The item of a literal, in diagnostic notation.
 fn notation_of(alloc: Global, literal: &Literal) -> Result<Vec<u8>, AllocError> {
     let item = item_of(alloc, literal)?;
     diag(alloc, &item)
@@ -49,7 +51,7 @@ fn is(alloc: Global, literal: &Literal, wanted: &str) -> Result<bool, AllocError
     Ok(notation.as_slice() == wanted.as_bytes())
 }
 
-/// Whether a literal has the value of this notation, or none where this is `-`.
+// Whether a literal has the value of this notation, or none where this is `-`.
 fn has_value(alloc: Global, written: Written<'_>, wanted: &str) -> Result<bool, AllocError> {
     match value_of(alloc, written)? {
         Some(literal) => is(alloc, &literal, wanted),
@@ -71,8 +73,8 @@ fn is_told(alloc: Global, what: &str, rest: &str) -> bool {
     }
 }
 
-/// Whether a row is right: the kind of a literal, its text and its value, or an operator, two operands and the answer, with
-/// ` | ` between them.
+// Whether a row is right: the kind of a literal, its text and its value, or an operator, two operands and the answer, with
+// ` | ` between them.
 fn is_right(alloc: Global, row: &str) -> bool {
     match row.split_once(" | ") {
         Some((what, rest)) => is_told(alloc, what, rest),
@@ -91,7 +93,7 @@ number | -0b101 | -5
 number | 18446744073709551616 | -
 number | 007 | -";
 
-/// Whether just the literals that are numbers have a whole number.
+// Whether just the literals that are numbers have a whole number.
 fn have_whole_numbers(alloc: Global) -> bool {
     matches!(
         whole_of(&Literal::Uint(u64::MAX)),

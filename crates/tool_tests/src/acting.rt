@@ -1,3 +1,4 @@
+//! Tests of what the program writes and of its exit status, for streams in pieces and for devices that fail.
 use crate::devices::{Sink, Source};
 use cbor_item::Counted;
 use cddl_tool::{BROKEN, Options, Task, accept, act, options, ready};

@@ -1,4 +1,4 @@
-// Which argument is told of, where one is not UTF-8.
+//! Which argument is told of, where one is not UTF-8.
 use crate::devices::Sheet;
 use cbor_item::Counted;
 use cddl_tool::{BROKEN, say_no_text};

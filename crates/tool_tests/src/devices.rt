@@ -1,3 +1,4 @@
+//! Devices for tests: a reader of bytes in pieces, and writers with little room, some of which fail.
 use std::alloc::Global;
 use std::io::{self, ErrorKind, Read, Write};
 
@@ -12,7 +13,7 @@ pub struct Source<'a> {
 }
 
 impl<'a> Source<'a> {
-    /// Gives the bytes in two pieces, or in one where the cut is their end.
+    // Gives the bytes in two pieces, or in one where the cut is their end.
     pub(crate) fn cut(bytes: &'a [u8], cut: usize) -> Source<'a> {
         Source {
             bytes,
@@ -23,7 +24,7 @@ impl<'a> Source<'a> {
         }
     }
 
-    /// Gives one byte in each of so many reads, and then fails.
+    // Gives one byte in each of so many reads, and then fails.
     pub(crate) fn failing(bytes: &'a [u8], reads: usize, fault: ErrorKind) -> Source<'a> {
         Source {
             bytes,
@@ -109,7 +110,7 @@ impl Sheet {
         }
     }
 
-    /// How often it was asked to take something.
+    // How often it was asked to take something.
     pub(crate) fn writes(&self) -> usize {
         self.writes
     }

@@ -1,4 +1,4 @@
-// What goes to standard error, and the text of a specification's file.
+//! What goes to standard error, and the text of a specification's file.
 use crate::devices::{Sheet, Sink, Source};
 use cbor_item::Counted;
 use cddl_tool::{BROKEN, read_text, say, say_of_file};

@@ -1,4 +1,4 @@
-// Run with each allocation refused in turn (`tests/run_memory.py`), these find no third answer.
+//! Run with each allocation refused in turn (`tests/run_memory.py`), these find no third answer.
 use crate::devices::{Sheet, Source};
 use cbor_item::Counted;
 use cddl_tool::{BROKEN, FAILED, Options, Use, act, options, read_text, ready};

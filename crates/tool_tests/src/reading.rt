@@ -1,6 +1,7 @@
-use cddl_check::Fault;
+//! Tests of which specifications are read, and which are refused, by which code and at which offset.
 use cddl_token::Code;
 use cddl_tool::{Unread, read_specification};
+use check_text::Fault;
 use std::alloc::Global;
 
 /// A text with each kind of what a root can lead to.
@@ -33,7 +34,7 @@ fn root_of(code: Code) -> Option<&'static str> {
     }
 }
 
-/// Whether the text is refused so, or memory was.
+// Whether the text is refused so, or memory was.
 fn is_refused(alloc: Global, text: &[u8], code: Code, at: usize, memory: bool) -> bool {
     match read_specification(alloc, text, root_of(code)) {
         Ok(_) => false,

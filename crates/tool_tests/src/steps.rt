@@ -1,9 +1,10 @@
+//! Tests of the end of a stream whose items take more steps than there may be.
 use cbor_read::Limits;
-use cddl_table::Table;
 use cddl_tool::read_specification;
 use seq_run::{Cause, End, end_line, validate_pieces};
 use std::alloc::Global;
 use std::test::Fail;
+use table_nodes::Table;
 
 const SPENT: End = End::Failed {
     items: 0,

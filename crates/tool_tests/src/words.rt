@@ -1,3 +1,4 @@
+//! Tests of what the words of a command line say, and of which words are refused.
 use cddl_tool::{Options, Task, options};
 use std::alloc::Global;
 

@@ -1,5 +1,5 @@
 use Rattle.std.proofs.Common.{ap₂}
-use Rattle.cddl_operators.specs.declared.Joining.TheVariants.{AsTheyAre, Dedented}
+use Rattle.cddl_literal.specs.declared.operators.Joining.TheVariants.{AsTheyAre, Dedented}
 use Rattle.cddl_language.specs.Controls.{join, sum}
 use Rattle.cddl_language.specs.Literals.{computed_literal}
 use Rattle.cddl_language.proofs.Sized.{literal_is, literal_says, literal_says_no}

@@ -7,7 +7,7 @@ use Rattle.cddl_language.specs.Terms.{Definition, Text, call, no_terms}
 use Rattle.cddl_meaning.specs.Forms.{Language}
 use Rattle.cddl_meaning.specs.Judges.{Answer, Yes, No, Says}
 use Rattle.cddl_meaning.proofs.Lemmas.{said_before, said_of_same, says_too}
-use Rattle.cddl_ranks.specs.Ranked.{Name}
+use Rattle.cddl_meaning.specs.Ranks.Ranked.{Name}
 use Rattle.cddl_meaning.specs.Literals.{HasPlainLiterals}
 use Rattle.cddl_language.proofs.PlainLiterals.{node_plain}
 use Rattle.cddl_language.proofs.same_by_text.Goals as goal

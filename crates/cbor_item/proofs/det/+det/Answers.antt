@@ -6,17 +6,16 @@ use Rattle.std.specs.Cmp.Lexicographic.{slice_cmp}
 use Rattle.std.specs.Ordering.{nat_cmp}
 use Rattle.cbor_data.specs.Value.{value, values_len, pairs_len, values_place_count, pairs_place_count}
 use Rattle.cbor_item.specs.Laying.{Lays, LaysAmong, LaysPairs, has_key, seen, seen_entries}
-use Rattle.cbor_item.specs.View.{view, values_view, pairs_view}
+use Rattle.item_nodes.specs.View.{view, values_view, pairs_view}
 use Rattle.cbor_item.specs.Walk.{ArePlain, ArePairsPlain, WalksAfter}
-use Rattle.cbor_item.specs.declared.item.Item.{Item}
-use Rattle.cbor_item.specs.declared.item.Item.TheShapes.{weighed-Item-Map-0-at-2}
+use Rattle.item_nodes.specs.declared.item.Item.{Item}
+use Rattle.item_nodes.specs.declared.item.Item.TheShapes.{weighed-Item-Map-0-at-2}
 use Rattle.cbor_item.specs.declared.sound.Unsound.TheVariants.{Duplicate}
-use Rattle.cbor_item.proofs.item.Item.TheLaws.{the_size}
+use Rattle.item_nodes.proofs.item.Item.TheLaws.{the_size}
+use Rattle.item_nodes.proofs.Lemmas.{view-Array, view-Map, view-Tag, values_view-drop, values_view-end, values_len-view, pairs_view-drop, pairs_view-end, pairs_len-view, pair_size, pair_size-within}
 use denote.Param.Weighed.{most}
 use Rattle.cbor_item.proofs.Laying.{KnowsPairs, knows_none, knows_more, ends_repeated, ends_in_key, ends_in_value, all_known, lays_more, lays_stop, lays_none, lays_array, lays_map, lays_tag}
 use Rattle.cbor_item.proofs.Plain.{plain_first, plain_pair}
-use Rattle.cbor_item.proofs.Views.{view-Array, view-Map, view-Tag}
-use Rattle.cbor_item.proofs.Walks.{values_view-drop, values_view-end, values_len-view, pairs_view-drop, pairs_view-end, pairs_len-view, pair_size, pair_size-within}
 use Rattle.cbor_item.proofs.det.+det.Goals as goal
 
 pub append_members-returns-in_err-next : goal.append_members-returns-in_err-next

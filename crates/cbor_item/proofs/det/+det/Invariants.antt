@@ -2,7 +2,7 @@ use Rattle.std.proofs.Common.{◌+◌, ◌<◌, ◌^◌, drop, List, Result, ℕ
 use Rattle.cbor_data.specs.Value.{values_place_count}
 use Rattle.cbor_item.specs.Laying.{LaysAmong, seen}
 use Rattle.cbor_item.specs.Walk.{ArePlain}
-use Rattle.cbor_item.specs.View.{values_view, pairs_view}
+use Rattle.item_nodes.specs.View.{values_view, pairs_view}
 use Rattle.cbor_item.specs.declared.sound.Unsound.{Unsound}
 use Rattle.cbor_item.proofs.Laying.{KnowsPairs}
 use Rattle.cbor_item.proofs.det.+det.Given as goal

@@ -3,20 +3,20 @@ use Rattle.cbor_data.specs.Deterministic.{deterministic, pairs_ordered}
 use Rattle.cbor_data.specs.Preferred.{shortest_head, pairs_preferred}
 use Rattle.cbor_data.specs.Value.{array, pairs, value, pair, values_len, pairs_len}
 use Rattle.cbor_data.proofs.Lemmas.{HasKeysApart, apart_valid, valid_apart}
-use Rattle.cbor_item.specs.InOrder.{laid, lengths_of, total, cut}
+use Rattle.item_nodes.specs.InOrder.{laid, lengths_of, total, cut}
 use Rattle.cbor_item.specs.Laying.{joined}
-use Rattle.cbor_item.specs.View.{view, values_view, pairs_view}
+use Rattle.item_nodes.specs.View.{view, values_view, pairs_view}
 use Rattle.cbor_data.specs.Validity.{IsValid}
 use Rattle.cbor_item.specs.Walk.{IsPlain, ArePlain, ArePairsPlain}
-use Rattle.cbor_item.specs.declared.item.Item.{Item}
-use Rattle.cbor_item.specs.declared.item.Item.TheShapes.{weighed-Item-Map-0-at-2}
-use Rattle.cbor_item.proofs.item.Item.TheLaws.{the_size}
+use Rattle.item_nodes.specs.declared.item.Item.{Item}
+use Rattle.item_nodes.specs.declared.item.Item.TheShapes.{weighed-Item-Map-0-at-2}
+use Rattle.item_nodes.proofs.item.Item.TheLaws.{the_size}
+use Rattle.item_nodes.proofs.Lemmas.{values_view-drop, values_len-view, pairs_view-drop, pairs_len-view, pair_size, pair_size-within, size-within}
 use denote.Param.Weighed.{most}
 use Rattle.cbor_item.proofs.Adding.{ok_then, array_known, map_known, tag_known, added_array, added_map, added_tag}
 use Rattle.cbor_item.proofs.Plain.{plain_first, plain_members, plain_pair, plain_pairs}
 use Rattle.cbor_item.proofs.Sizes.{array_size, map_size, tag_size}
 use Rattle.cbor_item.proofs.Sorted.{rising_joined, total_joined, cut_joined}
-use Rattle.cbor_item.proofs.Walks.{values_view-drop, values_len-view, pairs_view-drop, pairs_len-view, pair_size, pair_size-within, size-within}
 use Rattle.cbor_item.proofs.deterministic.+add.Goals as goal
 
 pub add_det-add_members-requires : goal.add_det-add_members-requires

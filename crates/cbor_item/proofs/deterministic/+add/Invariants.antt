@@ -3,9 +3,9 @@ use Rattle.cbor_data.specs.Deterministic.{values_ordered}
 use Rattle.cbor_data.specs.Preferred.{values_preferred}
 use Rattle.cbor_data.specs.Value.{array, pairs}
 use Rattle.cbor_data.proofs.Lemmas.{HasKeysApart}
-use Rattle.cbor_item.specs.InOrder.{laid, lengths_of}
+use Rattle.item_nodes.specs.InOrder.{laid, lengths_of}
 use Rattle.cbor_item.specs.Laying.{joined}
-use Rattle.cbor_item.specs.View.{values_view, pairs_view}
+use Rattle.item_nodes.specs.View.{values_view, pairs_view}
 use Rattle.cbor_item.specs.Walk.{ArePlain, ArePairsPlain}
 use Rattle.cbor_item.proofs.deterministic.+add.Given as goal
 

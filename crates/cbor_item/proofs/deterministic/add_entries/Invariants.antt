@@ -1,5 +1,5 @@
 use Rattle.std.proofs.Common.{◌≡◌, ◌++◌, drop}
-use Rattle.cbor_item.specs.InOrder.{seen_slices}
+use Rattle.item_nodes.specs.InOrder.{seen_slices}
 use Rattle.cbor_item.specs.Laying.{joined}
 use Rattle.cbor_item.proofs.deterministic.add_entries.Given as goal
 

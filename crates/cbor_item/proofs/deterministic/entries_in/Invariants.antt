@@ -1,5 +1,5 @@
 use Rattle.std.proofs.Common.{◌≡◌, ◌≤◌, ◌++◌, length, drop}
-use Rattle.cbor_item.specs.InOrder.{total, cut, seen_slices}
+use Rattle.item_nodes.specs.InOrder.{total, cut, seen_slices}
 use Rattle.cbor_item.proofs.deterministic.entries_in.Given as goal
 
 -- with what the rest has it will be all

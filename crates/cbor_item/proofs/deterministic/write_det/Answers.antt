@@ -1,7 +1,7 @@
 use Rattle.std.proofs.Common.{sym, subst}
 use Rattle.cbor_data.specs.Sound.{HasShortSpelling}
 use Rattle.cbor_data.specs.Validity.{IsValid}
-use Rattle.cbor_item.specs.View.{view}
+use Rattle.item_nodes.specs.View.{view}
 use Rattle.cbor_item.proofs.Plain.{plain_spelled}
 use Rattle.cbor_item.proofs.deterministic.write_det.Goals as goal
 

@@ -3,18 +3,17 @@ use Rattle.std.specs.Prelude.{not}
 use Rattle.std.specs.Str.{bytes_eq}
 use Rattle.cbor_data.specs.Deterministic.{deterministic}
 use Rattle.cbor_data.specs.Value.{value, values_place_count, pairs_place_count}
-use Rattle.cbor_item.specs.View.{view, values_view, pairs_view}
+use Rattle.item_nodes.specs.View.{view, values_view, pairs_view}
 use Rattle.cbor_item.specs.Walk.{Walks, WalksAmong, WalksAfter, ArePlain, ArePairsPlain, has}
-use Rattle.cbor_item.specs.declared.item.Item.{Item}
-use Rattle.cbor_item.specs.declared.item.Item.TheShapes.{weighed-Item-Map-0-at-2}
+use Rattle.item_nodes.specs.declared.item.Item.{Item}
+use Rattle.item_nodes.specs.declared.item.Item.TheShapes.{weighed-Item-Map-0-at-2}
 use Rattle.cbor_item.specs.declared.sound.Unsound.TheVariants.{Duplicate}
-use Rattle.cbor_item.proofs.item.Item.TheLaws.{the_size}
+use Rattle.item_nodes.proofs.item.Item.TheLaws.{the_size}
+use Rattle.item_nodes.proofs.Lemmas.{view-Array, view-Map, view-Tag, values_view-drop, values_view-end, pairs_view-drop, pairs_view-end, pair_size, pair_size-within}
 use denote.Param.Weighed.{most}
 use Rattle.cbor_item.proofs.Keeping.{KnowsKeys, knows_no_key, knows_key, key_repeats, key_ends, value_ends}
 use Rattle.cbor_item.proofs.Plain.{plain_first, plain_pair}
-use Rattle.cbor_item.proofs.Views.{view-Array, view-Map, view-Tag}
 use Rattle.cbor_item.proofs.Walking.{among_more, among_stop, among_none, after_none, walks_array, walks_pairs, walks_tag}
-use Rattle.cbor_item.proofs.Walks.{values_view-drop, values_view-end, pairs_view-drop, pairs_view-end, pair_size, pair_size-within}
 use Rattle.cbor_item.proofs.duplicates.+walk.Goals as goal
 
 pub walk-returns-in-Array : goal.walk-returns-in-Array

@@ -1,7 +1,7 @@
 use Rattle.std.proofs.Common.{◌+◌, ◌<◌, ◌^◌, drop, Result, ℕ}
 use Rattle.cbor_data.specs.Value.{values_place_count}
 use Rattle.cbor_item.specs.Walk.{ArePlain, WalksAmong}
-use Rattle.cbor_item.specs.View.{values_view, pairs_view}
+use Rattle.item_nodes.specs.View.{values_view, pairs_view}
 use Rattle.cbor_item.specs.declared.sound.Unsound.{Unsound}
 use Rattle.cbor_item.proofs.Keeping.{KnowsKeys}
 use Rattle.cbor_item.proofs.duplicates.+walk.Given as goal

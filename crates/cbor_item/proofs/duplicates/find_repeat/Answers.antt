@@ -1,4 +1,4 @@
-use Rattle.cbor_item.specs.View.{view}
+use Rattle.item_nodes.specs.View.{view}
 use Rattle.cbor_item.proofs.Plain.{few_places, plain_spelled}
 use Rattle.cbor_item.proofs.duplicates.find_repeat.Goals as goal
 

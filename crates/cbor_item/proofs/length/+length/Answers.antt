@@ -2,10 +2,9 @@ use Rattle.std.proofs.Common.{◌≡◌, length, refl, sym, ap, ◌∙◌, rules
 use Rattle.cbor_data.specs.Preferred.{preferred, shortest_head, values_preferred, pairs_preferred}
 use Rattle.cbor_data.specs.Value.{array, pairs, values_len, pairs_len}
 use Rattle.cbor_item.specs.Length.{capped_sum}
-use Rattle.cbor_item.specs.View.{view, values_view, pairs_view}
+use Rattle.item_nodes.specs.View.{view, values_view, pairs_view}
 use Rattle.cbor_item.proofs.Counts.{capped-append, capped_string, capped-none}
-use Rattle.cbor_item.proofs.Views.{view-Uint, view-Nint, view-Bytes, view-Text, view-Tag}
-use Rattle.cbor_item.proofs.Walks.{values_len-view, values_view-end, pairs_len-view, pairs_view-end}
+use Rattle.item_nodes.proofs.Lemmas.{view-Uint, view-Nint, view-Bytes, view-Text, view-Tag, values_len-view, values_view-end, pairs_len-view, pairs_view-end}
 use Rattle.cbor_item.proofs.length.+length.Goals as goal
 
 pub count_bytes-returns-in-Bytes : goal.count_bytes-returns-in-Bytes

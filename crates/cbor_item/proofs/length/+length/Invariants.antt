@@ -2,7 +2,7 @@ use Rattle.std.proofs.Common.{◌≡◌, ◌<◌, ◌^◌, drop, length}
 use Rattle.cbor_data.specs.Preferred.{preferred, values_preferred, pairs_preferred}
 use Rattle.cbor_data.specs.Value.{array, pairs}
 use Rattle.cbor_item.specs.Length.{capped_sum}
-use Rattle.cbor_item.specs.View.{values_view, pairs_view}
+use Rattle.item_nodes.specs.View.{values_view, pairs_view}
 use Rattle.cbor_item.proofs.length.+length.Given as goal
 
 -- what is counted so far and what is left are all

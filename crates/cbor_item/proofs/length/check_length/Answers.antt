@@ -1,6 +1,6 @@
 use Rattle.std.proofs.Common.{arith}
 use Rattle.cbor_data.proofs.Lemmas.{preferred_len}
-use Rattle.cbor_item.specs.View.{view}
+use Rattle.item_nodes.specs.View.{view}
 use Rattle.cbor_item.proofs.length.check_length.Goals as goal
 
 pub returns-else-count-2-clause-err : goal.returns-else-count-2-clause-err

@@ -2,14 +2,13 @@ use Rattle.std.proofs.Common.{◌≡◌, ◌≤◌, ◌<◌, ◌+◌, ◌^◌, �
 use Rattle.cbor_data.specs.Preferred.{shortest_head, preferred, values_preferred, pairs_preferred}
 use Rattle.cbor_data.specs.Value.{array, pairs, values_len, pairs_len, AreValuesFitting, ArePairsFitting}
 use Rattle.cbor_item.specs.Gone.{state_of, Goes}
-use Rattle.cbor_item.specs.View.{view, values_view, pairs_view}
-use Rattle.cbor_item.specs.declared.item.Item.{Item}
-use Rattle.cbor_item.specs.declared.item.Item.TheShapes.{weighed-Item-Map-0-at-2}
-use Rattle.cbor_item.proofs.item.Item.TheLaws.{the_size}
+use Rattle.item_nodes.specs.View.{view, values_view, pairs_view}
+use Rattle.item_nodes.specs.declared.item.Item.{Item}
+use Rattle.item_nodes.specs.declared.item.Item.TheShapes.{weighed-Item-Map-0-at-2}
+use Rattle.item_nodes.proofs.item.Item.TheLaws.{the_size}
+use Rattle.item_nodes.proofs.Lemmas.{view-Tag, values_view-drop, values_view-end, values_len-view, pairs_view-drop, pairs_view-end, pairs_len-view, pair_size, pair_size-within}
 use denote.Param.Weighed.{most}
 use Rattle.cbor_item.proofs.Goes.{goes_on, goes_no_further, goes_nowhere, room_first, room_rest}
-use Rattle.cbor_item.proofs.Views.{view-Tag}
-use Rattle.cbor_item.proofs.Walks.{values_view-drop, values_view-end, values_len-view, pairs_view-drop, pairs_view-end, pairs_len-view, pair_size, pair_size-within}
 use Rattle.cbor_item.proofs.write.+write.Goals as goal
 
 pub write_members-write_head-requires : goal.write_members-write_head-requires

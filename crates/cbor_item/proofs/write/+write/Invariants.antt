@@ -2,7 +2,7 @@ use Rattle.std.proofs.Common.{◌+◌, ◌<◌, ◌^◌, drop, length, Result, �
 use Rattle.cbor_data.specs.Preferred.{preferred, values_preferred, pairs_preferred}
 use Rattle.cbor_data.specs.Value.{array, pairs, AreValuesFitting, ArePairsFitting}
 use Rattle.cbor_item.specs.Gone.{State, state_of, Goes}
-use Rattle.cbor_item.specs.View.{values_view, pairs_view}
+use Rattle.item_nodes.specs.View.{values_view, pairs_view}
 use Rattle.cbor_item.specs.declared.write.WriteFault.{WriteFault}
 use Rattle.cbor_item.proofs.write.+write.Given as goal
 

@@ -3,7 +3,7 @@ use Rattle.std.proofs.lemmas.List.{take_rest}
 use Rattle.std.proofs.Math.Seq.{take-add}
 use Rattle.std.proofs.KnownBytes.{Appends-trans}
 use Rattle.std.specs.Io.KnownBytes.{Appends}
-use Rattle.cbor_item.specs.Counted.{device_of, failures_of}
+use Rattle.item_nodes.specs.Counted.{device_of, failures_of}
 use Rattle.cbor_item.proofs.Going.{same_count}
 use Rattle.cbor_item.proofs.write.write_bytes.Goals as goal
 

@@ -1,6 +1,6 @@
 use Rattle.std.proofs.Common.{length, ◌-◌, ◌≡◌, ◌≤◌, take}
 use Rattle.std.specs.Io.KnownBytes.{Appends}
-use Rattle.cbor_item.specs.Counted.{device_of, failures_of}
+use Rattle.item_nodes.specs.Counted.{device_of, failures_of}
 use Rattle.cbor_item.proofs.write.write_bytes.Given as goal
 
 -- the bytes before `at` went out, and no write failed

@@ -1,7 +1,7 @@
 use Rattle.std.proofs.Common.{[], take, refl, subst, arith}
-use Rattle.cbor_item.specs.View.{view}
-use Rattle.cbor_machine.proofs.Lemmas.{whole}
-use Rattle.cbor_build.specs.Working.{IsTaken}
+use Rattle.item_nodes.specs.View.{view}
+use Rattle.cbor_data.proofs.OfMachine.Lemmas.{whole}
+use Rattle.read_building.specs.Working.{IsTaken}
 use Rattle.cbor_read.specs.Outcomes.{IsOutcome}
 use Rattle.cbor_read.proofs.Firsts.{none_first, enough, reads_first, value_first, item_first, wrong_first}
 use Rattle.cbor_read.proofs.Valued.{settled, sound_but_keys}

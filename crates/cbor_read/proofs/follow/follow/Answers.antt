@@ -1,7 +1,7 @@
 use Rattle.std.proofs.Common.{◌+◌, ◌-◌, ◌≤◌, ◌++◌, take, drop, refl, sym, subst, arith}
 use Rattle.cbor_data.specs.Value.{AreBytes}
 use Rattle.cbor_data.specs.declared.FaultKind.TheVariants.{TooDeep}
-use Rattle.cbor_build.specs.Working.{IsTaken}
+use Rattle.read_building.specs.Working.{IsTaken}
 use Rattle.cbor_read.specs.Steps.{IsFollowed, IsKept}
 use Rattle.cbor_read.proofs.Pieces.{are_bytes, one_byte, front_length}
 use Rattle.cbor_read.proofs.Following.{HasRoom, has_room, inside_room, room_is, taken_front, goes_on, ends, misread, refused, too_deep_there, begun_past, past_room, halted_at}

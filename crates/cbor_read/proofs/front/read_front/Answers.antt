@@ -1,5 +1,5 @@
 use Rattle.std.proofs.Common.{◌≢◌, [], length, take, refl, ap, subst, arith}
-use Rattle.cbor_item.specs.View.{view}
+use Rattle.item_nodes.specs.View.{view}
 use Rattle.cbor_read.specs.Outcomes.{IsOutcome}
 use Rattle.cbor_read.specs.Steps.{IsFollowed, IsEnded}
 use Rattle.cbor_read.proofs.Following.{open_end}

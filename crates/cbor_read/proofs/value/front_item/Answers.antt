@@ -1,6 +1,6 @@
 use Rattle.std.proofs.Common.{IfSome, arith, subst}
-use Rattle.cbor_item.specs.View.{view}
-use Rattle.cbor_whole.specs.Whole.{IsWholeItem}
+use Rattle.item_nodes.specs.View.{view}
+use Rattle.read_items.specs.Whole.Whole.{IsWholeItem}
 use Rattle.cbor_read.proofs.Fronts.{front_sound, front_item}
 use Rattle.cbor_read.proofs.Pieces.{are_bytes}
 use Rattle.cbor_read.proofs.value.front_item.Goals as goal

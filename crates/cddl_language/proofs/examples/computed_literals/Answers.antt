@@ -3,7 +3,7 @@ use Rattle.std.proofs.Common.{◌≡◌, ℕ, zero, suc, ◌<◌, Bool, true, Ok
 use Rattle.std.specs.Str.{is_utf8}
 use Rattle.std.proofs.lemmas.Str.{IsUtf8-from_ascii, is_utf8-from_IsUtf8}
 use Rattle.cddl_literal.specs.Numbers.{TextOf, digit_value}
-use Rattle.cddl_operators.specs.declared.Fault.TheVariants.{NotUtf8}
+use Rattle.cddl_literal.specs.declared.operators.Fault.TheVariants.{NotUtf8}
 use Rattle.cddl_language.specs.Examples as E
 use Rattle.cddl_language.specs.Literals.{answer_of}
 use Rattle.cddl_language.specs.Prelude.{prelude}

@@ -1,5 +1,5 @@
 use Rattle.std.proofs.Common.{◌-◌}
-use Rattle.cddl_table.specs.Language.{language_of}
+use Rattle.table_nodes.specs.Language.{language_of}
 use Rattle.cddl_match.specs.Ahead.{IsGroupOf}
 use Rattle.cddl_match.proofs.behind.group_behind.Given as goal
 

@@ -1,6 +1,6 @@
 use Rattle.std.proofs.Common.{ap, ◌∙◌}
-use Rattle.cddl_table.specs.Language.{language_of}
-use Rattle.cddl_table.specs.Nodes.{group_view}
+use Rattle.table_nodes.specs.Language.{language_of}
+use Rattle.table_nodes.specs.Nodes.{group_view}
 use Rattle.cddl_match.proofs.Ways.{by_group_ref, only_part, only_alternative}
 use Rattle.cddl_match.proofs.behind.next_group.Goals as goal
 

@@ -1,5 +1,5 @@
 use Rattle.std.proofs.Common.{ap, ◌∙◌}
-use Rattle.cddl_table.specs.Nodes.{type_view}
+use Rattle.table_nodes.specs.Nodes.{type_view}
 use Rattle.cddl_match.proofs.Ways.{by_ref, only_type}
 use Rattle.cddl_match.proofs.behind.next_type.Goals as goal
 

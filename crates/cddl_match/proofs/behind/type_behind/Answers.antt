@@ -1,5 +1,5 @@
 use Rattle.std.proofs.Common.{refl}
-use Rattle.cddl_table.specs.Language.{language_of}
+use Rattle.table_nodes.specs.Language.{language_of}
 use Rattle.cddl_match.proofs.Lists.{there_or_not}
 use Rattle.cddl_match.proofs.Ways.{further, itself}
 use Rattle.cddl_match.proofs.behind.type_behind.Goals as goal

@@ -1,8 +1,8 @@
 use Rattle.std.proofs.Common.{◌≡◌, ◌-◌, []}
 use Rattle.std.specs.Prelude.{MatchOption}
 use Rattle.cddl_meaning.specs.Forms.{Choice}
-use Rattle.cddl_table.specs.Language.{language_of}
-use Rattle.cddl_table.specs.Nodes.{type_view}
+use Rattle.table_nodes.specs.Language.{language_of}
+use Rattle.table_nodes.specs.Nodes.{type_view}
 use Rattle.cddl_match.specs.Ahead.{IsTypeOf}
 use Rattle.cddl_match.proofs.behind.type_behind.Given as goal
 

@@ -1,5 +1,5 @@
 use Rattle.std.proofs.Common.{arith}
-use Rattle.cddl_table.specs.Language.{language_of}
+use Rattle.table_nodes.specs.Language.{language_of}
 use Rattle.cddl_match.specs.Views.{question_view}
 use Rattle.cddl_match.proofs.Turns.{asked, answered, begun, gone_on, heavier, in_steps, over, stack_push}
 use Rattle.cddl_match.proofs.frames.question_reply.Goals as goal

@@ -1,5 +1,5 @@
 use Rattle.std.proofs.Common.{◌≤◌, ◌-◌, ◌+◌, ◌*◌, length}
-use Rattle.cddl_table.specs.Language.{language_of}
+use Rattle.table_nodes.specs.Language.{language_of}
 use Rattle.cddl_match.specs.Views.{goes_on, move_view, question_view, turns_of}
 use Rattle.cddl_match.specs.Unwinding.{IsOnTheWay, stack_of}
 use Rattle.cddl_match.proofs.frames.question_reply.Given as goal

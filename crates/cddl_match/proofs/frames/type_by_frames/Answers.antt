@@ -1,6 +1,6 @@
 use Rattle.std.proofs.Common.{arith}
-use Rattle.cbor_item.specs.View.{view}
-use Rattle.cddl_table.specs.Language.{language_of}
+use Rattle.item_nodes.specs.View.{view}
+use Rattle.table_nodes.specs.Language.{language_of}
 use Rattle.cddl_match.specs.Views.{values}
 use Rattle.cddl_match.proofs.Sayings.{type_yes}
 use Rattle.cddl_match.proofs.frames.type_by_frames.Goals as goal

@@ -1,6 +1,6 @@
 use Rattle.std.proofs.Common.{refl, arith}
 use Rattle.cddl_meaning.proofs.Lemmas.{said}
-use Rattle.cddl_table.specs.Language.{language_of}
+use Rattle.table_nodes.specs.Language.{language_of}
 use Rattle.cddl_match.proofs.Decides.{decides}
 use Rattle.cddl_match.proofs.Room.{room}
 use Rattle.cddl_match.proofs.Turns.{replied}

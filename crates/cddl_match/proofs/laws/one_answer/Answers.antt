@@ -1,6 +1,6 @@
 use Rattle.std.proofs.Common.{◌+◌, ◌<◌, ◌^◌, arith}
 use Rattle.cddl_meaning.specs.Size.{size}
-use Rattle.cddl_table.specs.Language.{language_of}
+use Rattle.table_nodes.specs.Language.{language_of}
 use Rattle.cddl_meaning.proofs.Lemmas.{one_saying}
 use Rattle.cddl_match.proofs.laws.one_answer.Goals as goal
 

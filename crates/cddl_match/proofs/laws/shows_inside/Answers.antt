@@ -1,5 +1,5 @@
 use Rattle.std.proofs.Common.{arith}
-use Rattle.cddl_table.specs.Language.{language_of}
+use Rattle.table_nodes.specs.Language.{language_of}
 use Rattle.cddl_meaning.proofs.Lemmas.{says_inside}
 use Rattle.cddl_match.proofs.laws.shows_inside.Goals as goal
 

@@ -1,6 +1,6 @@
 use Rattle.std.proofs.Common.{arith}
 use Rattle.cddl_meaning.specs.Moves.{OfGroup}
-use Rattle.cddl_table.specs.Language.{language_of}
+use Rattle.table_nodes.specs.Language.{language_of}
 use Rattle.cddl_match.specs.Views.{values}
 use Rattle.cddl_match.proofs.Ways.{and_opens, opens}
 use Rattle.cddl_match.proofs.looking.group_ahead.Goals as goal

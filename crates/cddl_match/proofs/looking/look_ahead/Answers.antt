@@ -1,8 +1,8 @@
 use Rattle.std.proofs.Common.{arith}
-use Rattle.cbor_item.specs.View.{pairs_view}
+use Rattle.item_nodes.specs.View.{pairs_view}
 use Rattle.cddl_meaning.specs.Moves.{OfAlternative}
-use Rattle.cddl_table.specs.Language.{language_of}
-use Rattle.cddl_table.specs.Nodes.{entries_view}
+use Rattle.table_nodes.specs.Language.{language_of}
+use Rattle.table_nodes.specs.Nodes.{entries_view}
 use Rattle.cddl_match.proofs.Ways.{opens}
 use Rattle.cddl_match.proofs.looking.look_ahead.Goals as goal
 

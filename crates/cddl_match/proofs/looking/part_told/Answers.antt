@@ -1,6 +1,6 @@
 use Rattle.std.proofs.Common.{sym, subst}
 use Rattle.cddl_meaning.specs.Moves.{next_part}
-use Rattle.cddl_table.specs.Language.{language_of}
+use Rattle.table_nodes.specs.Language.{language_of}
 use Rattle.cddl_match.specs.Ahead.{ComesTo}
 use Rattle.cddl_match.specs.Views.{move_view, values}
 use Rattle.cddl_match.proofs.Ways.{a_part}

@@ -1,5 +1,5 @@
 use Rattle.std.proofs.Common.{◌≤◌, ◌-◌}
-use Rattle.cddl_table.specs.Language.{language_of}
+use Rattle.table_nodes.specs.Language.{language_of}
 use Rattle.cddl_match.specs.Ahead.{ComesTo}
 use Rattle.cddl_match.specs.Views.{parts_move}
 use Rattle.cddl_match.proofs.looking.parts_ahead.Given as goal

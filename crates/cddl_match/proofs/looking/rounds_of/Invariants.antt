@@ -1,6 +1,6 @@
 use Rattle.std.proofs.Common.{◌≡◌, ◌≤◌, ◌-◌}
-use Rattle.cddl_table.specs.Language.{language_of}
-use Rattle.cddl_table.specs.Nodes.{type_view}
+use Rattle.table_nodes.specs.Language.{language_of}
+use Rattle.table_nodes.specs.Nodes.{type_view}
 use Rattle.cddl_match.specs.Ahead.{ComesTo, IsEntered}
 use Rattle.cddl_match.specs.Views.{rounds_move}
 use Rattle.cddl_match.proofs.looking.rounds_of.Given as goal

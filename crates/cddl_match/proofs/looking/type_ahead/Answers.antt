@@ -1,6 +1,6 @@
 use Rattle.std.proofs.Common.{arith}
 use Rattle.cddl_meaning.specs.Moves.{OfType}
-use Rattle.cddl_table.specs.Language.{language_of}
+use Rattle.table_nodes.specs.Language.{language_of}
 use Rattle.cddl_match.specs.Views.{subject_view}
 use Rattle.cddl_match.proofs.Ways.{and_opens, opens}
 use Rattle.cddl_match.proofs.looking.type_ahead.Goals as goal

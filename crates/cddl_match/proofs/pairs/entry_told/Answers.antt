@@ -1,6 +1,6 @@
 use Rattle.std.proofs.Common.{true, sym}
-use Rattle.cddl_table.specs.Language.{language_of}
-use Rattle.cddl_table.specs.Nodes.{entry_view}
+use Rattle.table_nodes.specs.Language.{language_of}
+use Rattle.table_nodes.specs.Nodes.{entry_view}
 use Rattle.cddl_match.specs.Views.{sorting_view}
 use Rattle.cddl_match.proofs.Ways.{other_key, its_key, it_cuts, it_hands_on}
 use Rattle.cddl_match.proofs.pairs.entry_told.Goals as goal

@@ -1,6 +1,6 @@
 use Rattle.std.proofs.Common.{refl, arith}
-use Rattle.cddl_table.specs.Language.{language_of}
-use Rattle.cddl_table.specs.Nodes.{entries_view}
+use Rattle.table_nodes.specs.Language.{language_of}
+use Rattle.table_nodes.specs.Nodes.{entries_view}
 use Rattle.cddl_match.specs.Views.{sorting_view}
 use Rattle.cddl_match.proofs.Ways.{and_on}
 use Rattle.cddl_match.proofs.Lists.{as_many_entries, handed_on}

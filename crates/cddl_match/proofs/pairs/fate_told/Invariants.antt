@@ -1,7 +1,7 @@
 use Rattle.std.proofs.Common.{◌≤◌, length}
 use Rattle.cddl_meaning.specs.Moves.{next_entry}
-use Rattle.cddl_table.specs.Language.{language_of}
-use Rattle.cddl_table.specs.Nodes.{entries_view}
+use Rattle.table_nodes.specs.Language.{language_of}
+use Rattle.table_nodes.specs.Nodes.{entries_view}
 use Rattle.cddl_match.specs.Ahead.{ComesTo}
 use Rattle.cddl_match.specs.Views.{sorting_view}
 use Rattle.cddl_match.proofs.pairs.fate_told.Given as goal

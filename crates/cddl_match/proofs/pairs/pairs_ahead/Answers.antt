@@ -1,5 +1,5 @@
 use Rattle.std.proofs.Common.{refl, arith}
-use Rattle.cddl_table.specs.Language.{language_of}
+use Rattle.table_nodes.specs.Language.{language_of}
 use Rattle.cddl_match.specs.Views.{sorting_view}
 use Rattle.cddl_match.proofs.Lists.{as_many_entries}
 use Rattle.cddl_match.proofs.Ways.{and_on, a_pair, one_pair_more}

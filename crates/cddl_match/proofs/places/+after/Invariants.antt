@@ -1,6 +1,6 @@
 use Rattle.std.proofs.Common.{◌≡◌, ◌<◌, ◌^◌, drop}
 use Rattle.cbor_data.specs.Value.{values_place_count, pairs_place_count}
-use Rattle.cbor_item.specs.View.{values_view, pairs_view}
+use Rattle.item_nodes.specs.View.{values_view, pairs_view}
 use Rattle.cddl_meaning.specs.Moves.{plus}
 use Rattle.cddl_match.proofs.places.+after.Given as goal
 

@@ -1,6 +1,6 @@
-use Rattle.cbor_item.proofs.Lemmas.{view-Array}
+use Rattle.item_nodes.proofs.Lemmas.{view-Array}
 use Rattle.cddl_meaning.specs.Held.{item}
-use Rattle.cddl_table.specs.Nodes.{content_view}
+use Rattle.table_nodes.specs.Nodes.{content_view}
 use Rattle.cddl_match.proofs.Held.{holds_list, holds_none, not_held}
 use Rattle.cddl_match.proofs.reading.held_in.Goals as goal
 

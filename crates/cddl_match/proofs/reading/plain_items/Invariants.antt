@@ -1,5 +1,5 @@
 use Rattle.std.proofs.Common.{◌≡◌, ◌++◌, map}
-use Rattle.cbor_item.specs.View.{view}
+use Rattle.item_nodes.specs.View.{view}
 use Rattle.cddl_match.proofs.reading.plain_items.Given as goal
 
 abbrev pub invariant-loop-item : goal.invariant-loop-item

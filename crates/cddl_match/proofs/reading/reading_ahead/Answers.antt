@@ -1,5 +1,5 @@
-use Rattle.cbor_item.specs.View.{view}
-use Rattle.cddl_table.specs.Nodes.{content_view}
+use Rattle.item_nodes.specs.View.{view}
+use Rattle.table_nodes.specs.Nodes.{content_view}
 use Rattle.cddl_match.proofs.Held.{reads_none, reads_on}
 use Rattle.cddl_match.proofs.reading.reading_ahead.Goals as goal
 

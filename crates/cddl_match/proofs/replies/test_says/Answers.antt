@@ -1,7 +1,7 @@
 use Rattle.std.proofs.Common.{arith}
-use Rattle.cbor_item.specs.View.{view}
+use Rattle.item_nodes.specs.View.{view}
 use Rattle.cddl_meaning.specs.Moves.{OfType}
-use Rattle.cddl_table.specs.Nodes.{test_view}
+use Rattle.table_nodes.specs.Nodes.{test_view}
 use Rattle.cddl_match.proofs.Outcomes.{few}
 use Rattle.cddl_match.proofs.Sayings.{test_on}
 use Rattle.cddl_match.proofs.Ways.{opens}

@@ -1,14 +1,15 @@
 use Rattle.std.proofs.Common.{◌≡◌, ◌+◌, ◌-◌, length, max, refl, sym, ap, subst, ◌∙◌, arith}
 use Rattle.std.specs.Prelude.{Err}
 use Rattle.std.proofs.lemmas.Result.{err_from_is_err_and}
+use Rattle.lists.proofs.Lemmas.{none_left}
 use Rattle.cbor_data.specs.Value.{pairs_len, place_count, uint}
-use Rattle.cbor_item.specs.View.{pairs_view, view}
+use Rattle.item_nodes.specs.View.{pairs_view, view}
 use Rattle.cddl_meaning.specs.Forms.{passes}
 use Rattle.cddl_meaning.specs.Judges as J
 use Rattle.cddl_meaning.specs.Moves as M
-use Rattle.cddl_table.specs.Language.{language_of}
-use Rattle.cddl_table.specs.Nodes.{alternatives_view, content_view, entries_view, entry_view, most_view, test_view, type_view}
-use Rattle.cddl_table.specs.declared.nodes.GroupId.{GroupId}
+use Rattle.table_nodes.specs.Language.{language_of}
+use Rattle.table_nodes.specs.Nodes.{alternatives_view, content_view, entries_view, entry_view, most_view, test_view, type_view}
+use Rattle.table_nodes.specs.declared.nodes.GroupId.{GroupId}
 use Rattle.cddl_match.specs.Ahead.{ComesTo}
 use Rattle.cddl_match.specs.Tellings.{sorting_of}
 use Rattle.cddl_match.specs.Views.{reply_view, rounds_move, tally_view, values}
@@ -19,7 +20,6 @@ use Rattle.cddl_match.proofs.Outcomes.{answered, begins, ends_on, passes_on, say
 use Rattle.cddl_match.proofs.Sayings.{has_said, type_on, type_few, group_on, group_few, no_passes, yes_passes, array_ends, simple_ends, such_ends, meant_ends, held_ends, nothing_held, entry_ends, goes_on, ends_so, stops, round_stops}
 use Rattle.cddl_match.proofs.Handing.{none_tried, other_key_next, other_value_next, its_value, kept, key_stops, value_stops}
 use Rattle.cddl_match.proofs.Tellings.{all_told, no_pair_told, pair_sorted, pair_stops, pair_told, told_and}
-use Rattle.cddl_match.proofs.Turns.{none_left}
 use Rattle.cddl_match.proofs.Ways.{and_on, a_round, itself, more_than, opens}
 use Rattle.cddl_match.proofs.saying.+saying.Goals as goal
 

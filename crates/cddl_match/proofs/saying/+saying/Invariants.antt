@@ -1,11 +1,11 @@
 use Rattle.std.proofs.Common.{◌≡◌, ℕ, ◌+◌, ◌-◌, ◌*◌, ◌≤◌, None, length}
 use Rattle.std.specs.Prelude.{IfSome}
 use Rattle.cbor_data.specs.Value.{pairs_len}
-use Rattle.cbor_item.specs.View.{pairs_view, view}
+use Rattle.item_nodes.specs.View.{pairs_view, view}
 use Rattle.cddl_meaning.specs.Judges.{Reply, Fails}
 use Rattle.cddl_meaning.specs.Moves as M
-use Rattle.cddl_table.specs.Language.{language_of}
-use Rattle.cddl_table.specs.Nodes.{alternatives_view, entries_view}
+use Rattle.table_nodes.specs.Language.{language_of}
+use Rattle.table_nodes.specs.Nodes.{alternatives_view, entries_view}
 use Rattle.cddl_match.specs.Ahead.{ComesTo}
 use Rattle.cddl_match.specs.Tellings.{AreTold, HandsOn, IsTallied}
 use Rattle.cddl_match.specs.Views.{parts_move, rounds_move, tally_view, values}

@@ -1,7 +1,7 @@
 use Rattle.std.proofs.Common.{sym, ◌∙◌, drop}
-use Rattle.cddl_table.specs.Nodes.{entries_view}
+use Rattle.lists.proofs.Lemmas.{none_left}
+use Rattle.table_nodes.specs.Nodes.{entries_view}
 use Rattle.cddl_match.proofs.Lists.{enough_of_none}
-use Rattle.cddl_match.proofs.Turns.{none_left}
 use Rattle.cddl_match.proofs.sorting.are_enough.Goals as goal
 
 pub returns-in-None : goal.returns-in-None

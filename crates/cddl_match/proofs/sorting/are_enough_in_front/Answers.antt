@@ -1,7 +1,7 @@
 use Rattle.std.proofs.Common.{◌&&◌, ap, sym, refl, ◌∙◌, take}
 use Rattle.cddl_meaning.specs.Moves.{enough_of, no_counts}
 use Rattle.cddl_match.specs.Views.{counts_view}
-use Rattle.cddl_table.specs.Nodes.{entries_view}
+use Rattle.table_nodes.specs.Nodes.{entries_view}
 use Rattle.cddl_match.proofs.Lists.{front_is_enough}
 use Rattle.cddl_match.proofs.sorting.are_enough_in_front.Goals as goal
 

@@ -1,6 +1,6 @@
 use Rattle.std.proofs.Common.{◌≡◌, drop}
 use Rattle.cddl_meaning.specs.Moves.{enough_of, no_counts}
-use Rattle.cddl_table.specs.Nodes.{entries_view}
+use Rattle.table_nodes.specs.Nodes.{entries_view}
 use Rattle.cddl_match.proofs.sorting.need_none.Given as goal
 
 -- those so far need none

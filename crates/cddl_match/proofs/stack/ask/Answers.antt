@@ -1,5 +1,5 @@
 use Rattle.std.proofs.Common.{refl, ap, arith}
-use Rattle.cddl_table.specs.Language.{language_of}
+use Rattle.table_nodes.specs.Language.{language_of}
 use Rattle.cddl_match.specs.Views.{pending_view}
 use Rattle.cddl_match.proofs.Running.{at_ask_over, ask_step}
 use Rattle.cddl_match.proofs.stack.ask.Goals as goal

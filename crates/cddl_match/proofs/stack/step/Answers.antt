@@ -1,5 +1,5 @@
 use Rattle.std.proofs.Common.{inl, inr, refl, reverse, arith}
-use Rattle.cddl_table.specs.Language.{language_of}
+use Rattle.table_nodes.specs.Language.{language_of}
 use Rattle.cddl_match.specs.Machine.{asked_in, pending_in}
 use Rattle.cddl_match.specs.Views.{move_view, pending_view, question_view, reply_view, sorting_view}
 use Rattle.cddl_meaning.specs.Moves as M

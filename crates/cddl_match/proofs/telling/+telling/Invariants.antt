@@ -1,7 +1,7 @@
 use Rattle.std.proofs.Common.{ℕ, ◌+◌, ◌*◌, ◌≤◌, Bool, drop}
 use Rattle.cddl_match.specs.Ahead.{AreTold}
 use Rattle.cddl_match.specs.Views.{subject_view}
-use Rattle.cddl_table.specs.Language.{language_of}
+use Rattle.table_nodes.specs.Language.{language_of}
 use Rattle.cddl_match.proofs.telling.+telling.Given as goal
 
 abbrev pub decreases-form_tells : goal.decreases-form_tells

@@ -1,5 +1,5 @@
 use Rattle.std.proofs.Common.{option_copied}
-use Rattle.cbor_item.specs.Counted.{device_of, failures_of}
+use Rattle.item_nodes.specs.Counted.{device_of, failures_of}
 use Rattle.cddl_tool.proofs.Telling.{nothing_told}
 use Rattle.cddl_tool.proofs.acting.tell_end.Goals as goal
 

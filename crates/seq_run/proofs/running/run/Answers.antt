@@ -1,5 +1,5 @@
 use Rattle.std.proofs.Common.{◌≡◌, take, None, refl, ◌∙◌, arith, length-take}
-use Rattle.cbor_item.specs.Counted.{device_of, failures_of}
+use Rattle.item_nodes.specs.Counted.{device_of, failures_of}
 use Rattle.seq_run.specs.Judge.{judge_of}
 use Rattle.seq_run.specs.Running.{change_of}
 use Rattle.seq_run.proofs.RunLoop.{begin_run, shown_last, read_by_pieces, read_failed, read_no_more, no_memory, write_failed, reported_all, goes_on, no_bytes}

@@ -1,5 +1,5 @@
 use Rattle.std.proofs.Common.{◌-◌, ◌^◌, length}
-use Rattle.cbor_item.specs.Counted.{device_of, failures_of}
+use Rattle.item_nodes.specs.Counted.{device_of, failures_of}
 use Rattle.seq_run.specs.Judge.{judge_of}
 use Rattle.seq_run.proofs.RunLoop.{IsOn}
 use Rattle.seq_run.proofs.running.run.Given as goal

@@ -2,7 +2,7 @@ use Rattle.std.proofs.Common.{◌≤◌, rules}
 use Rattle.std.proofs.lemmas.Result.{IfErr-weaker}
 use Rattle.cbor_data.specs.Sound.{HasShortSpelling}
 use Rattle.cbor_data.specs.Value.{AreBitsFitting, AreSimplesAssignable, depth_of}
-use Rattle.cbor_item.specs.View.{view}
+use Rattle.item_nodes.specs.View.{view}
 use Rattle.cbor_item.proofs.Plain.{short_spelling, repeat_first}
 use Rattle.cbor_item.proofs.sound.Sound.try_new.Goals as goal
 

@@ -1,5 +1,5 @@
 use Rattle.std.proofs.Common.{refl}
-use Rattle.cbor_item.specs.View.{view}
+use Rattle.item_nodes.specs.View.{view}
 use Rattle.cbor_item.proofs.Plain.{spelled_sound}
 use Rattle.cbor_item.proofs.sound.Sound.try_spelled.Goals as goal
 

@@ -1,5 +1,5 @@
 use Rattle.std.proofs.Common.{arith}
-use Rattle.cddl_table.specs.Language.{language_of}
+use Rattle.table_nodes.specs.Language.{language_of}
 use Rattle.cddl_match.specs.Machine.{root_question}
 use Rattle.cddl_match.proofs.Running.{at_begin}
 use Rattle.cddl_match.proofs.machine.Machine.new.Goals as goal

@@ -1,10 +1,10 @@
 use Rattle.std.proofs.Common.{◌+◌, ◌*◌, suc, length, refl, arith}
-use Rattle.cbor_item.specs.View.{pairs_view}
+use Rattle.item_nodes.specs.View.{pairs_view}
 use Rattle.cddl_meaning.specs.Moves as M
 use Rattle.cddl_match.specs.Tellings.{counted_again}
 use Rattle.cddl_match.specs.Views.{tally_view}
-use Rattle.cddl_table.specs.Language.{language_of}
-use Rattle.cddl_table.specs.Nodes.{entries_view}
+use Rattle.table_nodes.specs.Language.{language_of}
+use Rattle.table_nodes.specs.Nodes.{entries_view}
 use Rattle.cddl_match.proofs.Outcomes.{few}
 use Rattle.cddl_match.proofs.Tellings.{again, says_so}
 use Rattle.cddl_match.proofs.tallied.Tallied.says_again.Goals as goal

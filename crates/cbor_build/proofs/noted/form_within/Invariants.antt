@@ -1,9 +1,0 @@
-use Rattle.std.proofs.Common.{◌≡◌, take}
-use Rattle.cbor_machine.specs.Machine as machine
-use Rattle.cbor_build.specs.Building as building
-use Rattle.cbor_build.specs.Stages.{stack_of}
-use Rattle.cbor_build.proofs.noted.form_within.Given as goal
-
--- the reader awaits an item in the frames so far
-abbrev pub invariant-loop-frame : goal.invariant-loop-frame
-invariant-loop-frame l = l.form ≡ machine.item (building.frames_of (stack_of (take l.frame-index l.frames.items)))

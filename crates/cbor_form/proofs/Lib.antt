@@ -1,3 +1,0 @@
-mod Stacks
-mod Heads
-mod Runs

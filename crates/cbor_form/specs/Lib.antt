@@ -1,4 +1,0 @@
-pub mod Arguments
-pub mod Stages
-pub mod Turns
-pub mod Progress

@@ -1,6 +1,0 @@
-use Rattle.std.proofs.Common.{◌≡◌, take}
-use Rattle.cbor_item.specs.Apart.{numbers_view}
-use Rattle.cbor_item.proofs.apart.numbers_of.Given as goal
-
-abbrev pub invariant-loop-pair : goal.invariant-loop-pair
-invariant-loop-pair l = l.numbers.items ≡ numbers_view (take l.pair-index l.pairs)

@@ -1,8 +1,0 @@
-use Rattle.cbor_machine.proofs.Embedding.{held_told, item_told}
-use Rattle.cbor_machine.proofs.held_or_not.Goals as goal
-
-pub returns-clause-list : goal.returns-clause-list
-returns-clause-list c = held_told
-
-pub returns-clause-single : goal.returns-clause-single
-returns-clause-single c = item_told

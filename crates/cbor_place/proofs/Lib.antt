@@ -1,4 +1,0 @@
-mod Searching
-mod Counting
-mod Arriving
-mod Leading

@@ -1,2 +1,0 @@
--- What callers' proofs may name of this crate.
-pub use Rattle.cbor_whole.proofs.Items.{is_info}

@@ -1,6 +1,0 @@
-mod Arguments
-mod Items
-mod Joined
-mod Members
-mod ToBreak
-pub mod Lemmas

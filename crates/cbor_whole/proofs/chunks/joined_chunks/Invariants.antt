@@ -1,9 +1,0 @@
-use Rattle.std.proofs.Common.{◌-◌, length}
-use Rattle.cbor_whole.specs.Parts.{AreChunksAt}
-use Rattle.cbor_whole.proofs.chunks.joined_chunks.Given as goal
-
-abbrev pub invariant-loop-chunk : goal.invariant-loop-chunk
-invariant-loop-chunk l = AreChunksAt l.major l.bytes l.start l.joined.items l.at
-
-abbrev pub decreases-loop-chunk : goal.decreases-loop-chunk
-decreases-loop-chunk l = length l.bytes - l.at

@@ -1,5 +1,0 @@
-use Rattle.cddl_check.proofs.Clear.{clear_text}
-use Rattle.cddl_check.proofs.laws.text_is_clear.Goals as goal
-
-pub returns : goal.returns
-returns c = clear_text c.args.terms.now c.equal_definitions.ensures

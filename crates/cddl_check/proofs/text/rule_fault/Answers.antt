@@ -1,9 +1,0 @@
-use Rattle.std.proofs.Common.{[], ◌∷◌, subst, sym}
-use Rattle.cddl_token.specs.declared.Code.TheVariants.{Duplicate, KindClash}
-use Rattle.cddl_language.specs.Faults.{IsFaultAt}
-use Rattle.cddl_check.specs.First.{IsFirst}
-use Rattle.cddl_check.proofs.Firsts.{joined}
-use Rattle.cddl_check.proofs.text.rule_fault.Goals as goal
-
-pub returns : goal.returns
-returns c s worth e is = subst (IsFirst (IsFaultAt s worth) (Duplicate ∷ KindClash ∷ [])) (sym c.first_of.ensures) (joined (IsFaultAt s worth) (Duplicate ∷ []) (KindClash ∷ []) _ _ (c.fault_of-twice.ensures s worth (c.in_ok-duplicate.ensures s e is)) (c.fault_of-clash.ensures s worth (c.kind_clash.ensures s e is)))

@@ -1,0 +1,121 @@
+-- What each stage has found.
+use Rattle.std.specs.Prelude.{◌≡◌, ◌≤◌, List, length, Option, Some, None, slice_get}
+use Rattle.cddl_language.specs.Terms.{Text, Ref}
+use Rattle.cddl_language.specs.Faults.{HasBadController, HasBadRange, HasNotLiteral, HasTooManyInstances, IsFaultAt, Specification, definitions, root_of, rules}
+use Rattle.cddl_language.specs.Literals.{AreRight, AreTokens, Values}
+use Rattle.cddl_language.specs.Prelude.{prelude}
+use Rattle.cddl_language.specs.Reach.{most_instances}
+use Rattle.cddl_language.specs.StandsFor.{AreInstances}
+use Rattle.tree_nodes.specs.declared.tree.Tree.{Tree}
+use Rattle.tree_nodes.specs.View.{token_of, view}
+use Rattle.check_terms.specs.Definitions.{AreDefinitions}
+use Rattle.check_terms.specs.Table.{Table}
+use Rattle.check_names.specs.Environment.Names.{AreNames}
+use Rattle.check_names.specs.Kinds.Kinds.{AreKinds}
+use Rattle.check_reading.specs.declared.survey.survey.Survey.{Survey}
+use Rattle.lists.specs.Least.{IsLeast}
+use Rattle.check_reading.specs.Survey.Survey.{IsSurvey}
+use Rattle.cddl_language.specs.Live.Live.{IsClear}
+use Rattle.check_text.specs.Codes.{text_codes}
+use Rattle.check_text.specs.First.{IsFirst}
+use Rattle.check_instances.specs.Found.{AreFound}
+use Rattle.check_reached.specs.Asked.{AreAsked, AreEntriesAsked}
+use Rattle.check_reached.specs.Reached.{AreReachedSites}
+use Rattle.check_instances.specs.Closed.Closed.{IsClosed}
+use Rattle.check_instances.specs.Openings.Openings.{AreOpenings}
+use Rattle.check_literals.specs.Literals.{AreLiterals}
+use Rattle.check_literals.specs.Sizes.Sizes.{AreSizable, AreSizes}
+use Rattle.check_groups.specs.Choosing.Choosing.{AreChoosable}
+use Rattle.cddl_language.specs.MapFaults.{HasMapShape, HasNoKey, HasTooManyAlternatives}
+use Rattle.alternatives.specs.Summaries.{AreSummaries}
+use Rattle.check_groups.specs.Splices.Parts.{AreParts}
+use Rattle.check_root.specs.ReachedFaults.Unwrapping.{OpensWrongly}
+use Rattle.cddl_check.specs.declared.closing.Meant.{Meant}
+use Rattle.cddl_check.specs.declared.finding.Instanced.{Instanced}
+use Rattle.cddl_check.specs.declared.mapping.MapFaults.{MapFaults}
+use Rattle.cddl_check.specs.declared.questioning.Naming.{Naming}
+use Rattle.cddl_check.specs.declared.questioning.Questions.{Questions}
+use Rattle.cddl_check.specs.declared.reading.Reading.{Reading}
+use Rattle.cddl_check.specs.declared.splicing.Splices.{Splices}
+
+-- The specification has this tree, of tokens, and this name as its root, and the values are right for it.
+pub record IsGiven (s : Specification) (worth : Values) (x : Tree) (name : Option Text) : Type 0 where
+  pub tree : s.tree ≡ view x
+  pub given : s.given ≡ name
+  pub tokens : AreTokens s.tree
+  pub right : AreRight s.tree worth
+
+-- Nothing is wrong in the whole text.
+pub record IsRight (s : Specification) (worth : Values) : Type 0 where
+  pub no_fault : IsFirst (IsFaultAt s worth) text_codes None
+  pub clear : IsClear s
+
+-- The root, its instances in order, which are no more than may be, and the sites that it reaches.
+pub record IsRooted (s : Specification) (root : Text) (refs : List Ref) (tree : Tree) (x : Instanced) : Type 0 where
+  pub rooted : root_of s ≡ Some root
+  pub instances : AreInstances (definitions s) root refs
+  pub few : length refs ≤ most_instances
+  pub no_more : IsLeast (HasTooManyInstances s root) None
+  pub reached : AreReachedSites (rules s) root (token_of tree) x.reached.items
+
+-- The same, and the survey, by the numbers of the table.
+pub record IsInstanced (s : Specification) (root : Text) (refs : List Ref) (t : Table) (tree : Tree) (v : Survey) (x : Instanced) : Type 0 where
+  pub survey : IsSurvey t tree v
+  pub rooted : IsRooted s root refs tree x
+  pub number : slice_get t.texts x.root ≡ Some root
+  pub found : AreFound (definitions s) t x.instances.items refs
+
+-- The definitions and their names, by the numbers of the table.
+pub record IsNamed (s : Specification) (t : Table) (v : Survey) (x : Naming) : Type 0 where
+  pub known : AreDefinitions t v.known.items prelude
+  pub defined : AreDefinitions t v.definitions.items (definitions s)
+  pub names : AreNames (length t.texts) v.known.items v.definitions.items x.names.items
+  pub kinds : AreKinds t.texts (definitions s) x.kinds
+
+-- What is asked of at the sites that the root reaches, and the least of those where `~` opens wrongly.
+pub record IsAsking (s : Specification) (root : Text) (t : Table) (v : Survey) (x : Questions) : Type 0 where
+  pub named : IsNamed s t v x.naming
+  pub asked : AreAsked (rules s) root t x.asked.items
+  pub entries : AreEntriesAsked (rules s) root t x.entries.items
+  pub opens : IsLeast (OpensWrongly s root) x.opens
+
+-- What the instances mean and open, which literals and sizes types are, and what may be chosen from.
+pub record IsMeant (s : Specification) (worth : Values) (root : Text) (refs : List Ref) (t : Table) (x : Meant) : Type 0 where
+  pub closed : IsClosed (definitions s) root refs t x.closed
+  pub openings : AreOpenings (definitions s) t refs x.openings.items
+  pub literals : AreLiterals (definitions s) root worth t x.literals
+  pub sizable : AreSizable (definitions s) root worth t x.sizable.items
+  pub sizes : AreSizes (definitions s) root worth t x.sizes
+  pub choosable : AreChoosable (definitions s) root t x.choosable.items
+
+-- What the groups in maps stand for.
+pub record AreSplices (s : Specification) (root : Text) (t : Table) (x : Splices) : Type 0 where
+  pub parts : AreParts (definitions s) root t x.parts.items
+  pub summaries : AreSummaries x.parts.items x.summaries.items
+
+-- Nothing is wrong with literals and numbers.
+pub record AreValued (s : Specification) (worth : Values) (root : Text) : Type 0 where
+  pub literals : IsLeast (HasNotLiteral s worth root) None
+  pub ranges : IsLeast (HasBadRange s worth root) None
+  pub controllers : IsLeast (HasBadController s worth root) None
+
+-- The least offsets of what is wrong in maps.
+pub record AreMapFaults (s : Specification) (root : Text) (x : MapFaults) : Type 0 where
+  pub no_key : IsLeast (HasNoKey (rules s) root) x.no_key
+  pub shape : IsLeast (HasMapShape (rules s) root) x.shape
+  pub too_many : IsLeast (HasTooManyAlternatives (rules s) root) x.too_many
+
+-- Nothing is wrong in maps.
+pub record AreFlat (s : Specification) (root : Text) : Type 0 where
+  pub keyed : IsLeast (HasNoKey (rules s) root) None
+  pub shaped : IsLeast (HasMapShape (rules s) root) None
+  pub few : IsLeast (HasTooManyAlternatives (rules s) root) None
+
+-- All of this, for a text in which nothing is wrong.
+pub record IsReading (s : Specification) (worth : Values) (root : Text) (refs : List Ref) (t : Table) (tree : Tree) (x : Reading) : Type 0 where
+  pub right : IsRight s worth
+  pub rooted : IsRooted s root refs tree x.instanced
+  pub number : slice_get t.texts x.instanced.root ≡ Some root
+  pub asking : IsAsking s root t x.survey x.questions
+  pub meant : IsMeant s worth root refs t x.meant
+  pub splices : AreSplices s root t x.splices

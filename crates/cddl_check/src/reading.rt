@@ -1,0 +1,63 @@
+//! The stages that come before what is told of the root.
+
+ghost use Rattle.std.specs.Prelude.{◌≡◌, ◌+◌, IfErr, IfOk, List, length, option_map};
+ghost use Rattle.cddl_language.specs.Environment.{most_names};
+ghost use Rattle.cddl_language.specs.Faults.{Specification, definitions};
+ghost use Rattle.cddl_language.specs.Literals.{Values};
+ghost use Rattle.cddl_language.specs.Prelude.{prelude};
+ghost use Rattle.cddl_language.specs.Terms.{Ref, Text};
+ghost use Rattle.cddl_check.specs.Outcome.{IsStopped};
+ghost use Rattle.cddl_check.specs.Stages.{IsGiven, IsReading};
+
+use crate::closing::{Meant, close_instances};
+use crate::finding::{Instanced, find_instances};
+use crate::questioning::{Questions, ask};
+use crate::splicing::{Splices, splices_of};
+use crate::text::clear_text;
+use crate::unread::Unread;
+use check_reached::laws::{entry_questions_grow, instances_grow, questions_grow};
+use check_reading::survey::Survey;
+use check_terms::Terms;
+use check_terms::laws::growing_keeps;
+use std::alloc::Global;
+use tree_nodes::Tree;
+
+/// All that was found of a specification, by the numbers of a table of terms.
+#[derive(Drop)]
+pub(crate) struct Reading<'t> {
+    pub survey: Survey<'t>,
+    pub instanced: Instanced<'t>,
+    pub questions: Questions,
+    pub meant: Meant,
+    pub splices: Splices,
+}
+
+// What is found of a specification in whose text nothing is wrong, and whose root has no more instances than may be.
+pub(crate) fn read_tree<'s, 't>(
+    alloc: Global,
+    terms: &mut Terms<'s>,
+    tree: &'t Tree<'s>,
+    given: Option<&str>,
+) -> Result<Reading<'t>, Unread>
+    ensures read { IfOk result (λ x. (s : Specification) (worth : Values) → IsGiven s worth tree.now (option_map (λ t. t.now) given.entry) → (root : Text) × (refs : List Ref) × IsReading s worth root refs terms.new tree.now x) }
+    ensures stopped { IfErr result (λ e. (s : Specification) (worth : Values) → IsGiven s worth tree.now (option_map (λ t. t.now) given.entry) → IsStopped s worth e) }
+{
+    growing_keeps();
+    instances_grow();
+    questions_grow();
+    entry_questions_grow();
+    let survey = clear_text(alloc, terms, tree, given)?;
+    let instanced = find_instances(alloc, terms, tree, &survey, given)?;
+    let questions = ask(alloc, terms, tree, &survey, &instanced)?;
+    let most = survey.known.len() + survey.definitions.len();
+    let kinds = &questions.naming.kinds;
+    let meant = close_instances(alloc, terms, &instanced.instances, kinds, most)?;
+    let splices = splices_of(alloc, terms, kinds, &meant)?;
+    Ok(Reading {
+        survey,
+        instanced,
+        questions,
+        meant,
+        splices,
+    })
+}

@@ -1,0 +1,52 @@
+//! Reads the text of a specification.
+
+ghost use Rattle.std.specs.Prelude.{◌≡◌, ℕ, IfErr, IfOk, List, option_map};
+ghost use Rattle.cddl_tree.specs.States.{EndsInEnd};
+ghost use Rattle.cddl_check.specs.Text.{AreTokensOf, IsTabledText, IsUnreadText};
+
+use crate::tabling::table_of_tree;
+use crate::unread::Unread;
+use cddl_language::one_table_of_values;
+use cddl_token::{Token, tokens};
+use cddl_tree::{parse, tokens_end};
+use std::alloc::Global;
+use table_nodes::Table;
+use tree_nodes::discard;
+
+/// The table of the specification that the text is (RFC 8610). Its root is the given name, or that of the first rule.
+///
+/// The time and the memory are those of the stages together: n log n for a text of n bytes until the instances are known, of
+/// which there may be 1,024; then in proportion to the rows of these and to the forms of the table. The text has at most
+/// 1,048,576 bytes.
+///
+/// # Errors
+///
+/// [`Unread::Refused`] with what is wrong, and the byte where it shows: of the text's first token that cannot be read, or else
+/// of the first that fits no specification, or else of the lowest code that stands anywhere in the tree the least offset.
+/// [`Unread::Memory`] where memory was refused, or each number of 32 bits was taken.
+pub fn read_specification(alloc: Global, text: &[u8], root: Option<&str>) -> Result<Table, Unread>
+    ensures tabled { IfOk result (λ table. IsTabledText text.now (option_map (λ t. t.now) root.entry) table) }
+    ensures unread { IfErr result (λ e. IsUnreadText text.now (option_map (λ t. t.now) root.entry) e) }
+{
+    tokens_end();
+    let found = tokens(alloc, text)?;
+    let table = read_tokens(alloc, &found, root)?;
+    Ok(table)
+}
+
+// The table of the specification that the tokens are.
+fn read_tokens<'s>(
+    alloc: Global,
+    tokens: &'s [Token<'s>],
+    root: Option<&str>,
+) -> Result<Table, Unread>
+    requires { EndsInEnd tokens.now }
+    ensures tabled { IfOk result (λ table. (text : List ℕ) → AreTokensOf tokens.now text → IsTabledText text (option_map (λ t. t.now) root.entry) table) }
+    ensures unread { IfErr result (λ e. (text : List ℕ) → AreTokensOf tokens.now text → IsUnreadText text (option_map (λ t. t.now) root.entry) e) }
+{
+    one_table_of_values();
+    let tree = parse(alloc, tokens)?;
+    let told = table_of_tree(alloc, &tree, root);
+    discard(tree);
+    told
+}

@@ -1,6 +1,0 @@
-use Rattle.std.proofs.Common.{drop}
-use Rattle.cddl_closed.proofs.Groups.{AreMade}
-use Rattle.cddl_closed.proofs.meanings.meanings_of.Given as goal
-
-abbrev pub invariant-loop-instance : goal.invariant-loop-instance
-invariant-loop-instance l = AreMade l.initial.terms l.terms l.found (drop l.instance-index l.found) l.meanings.items

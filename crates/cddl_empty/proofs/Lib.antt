@@ -1,7 +1,0 @@
-pub mod Emptiness
-pub mod Following
-pub mod Lists
-pub mod Parts
-pub mod Reaching
-pub mod Rows
-pub mod Texts

@@ -1,6 +1,0 @@
-use Rattle.std.proofs.Common.{◌≡◌, drop}
-use Rattle.cddl_environment.specs.Places.{added_all, lists, no_places}
-use Rattle.cddl_environment.proofs.places.all_places.Given as goal
-
-abbrev pub invariant-loop-place : goal.invariant-loop-place
-invariant-loop-place l = added_all l.place (drop l.place l.definitions) (lists l.places.items) ≡ added_all 0 l.definitions (no_places l.count)

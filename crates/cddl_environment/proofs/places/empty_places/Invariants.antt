@@ -1,6 +1,0 @@
-use Rattle.std.proofs.Common.{◌≡◌, ◌++◌, ◌-◌}
-use Rattle.cddl_environment.specs.Places.{lists, no_places}
-use Rattle.cddl_environment.proofs.places.empty_places.Given as goal
-
-abbrev pub invariant-loop : goal.invariant-loop
-invariant-loop l = lists l.places.items ++ no_places (l.count - l.counter) ≡ no_places l.count

@@ -1,6 +1,0 @@
-use Rattle.std.proofs.Common.{◌≡◌, drop}
-use Rattle.cddl_environment.specs.Places.{first_equals}
-use Rattle.cddl_environment.proofs.places.first_equals.Given as goal
-
-abbrev pub invariant-loop-place : goal.invariant-loop-place
-invariant-loop-place l = first_equals l.definitions (drop l.place-index l.places) ≡ first_equals l.definitions l.places

@@ -1,0 +1,4 @@
+pub mod Counting
+pub mod Lemmas
+pub mod Reached
+pub mod Standing

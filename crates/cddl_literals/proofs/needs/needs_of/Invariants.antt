@@ -1,6 +1,0 @@
-use Rattle.std.proofs.Common.{map}
-use Rattle.cddl_literals.specs.Needs.{AreNeeds, need_view}
-use Rattle.cddl_literals.proofs.needs.needs_of.Given as goal
-
-abbrev pub invariant-loop-row : goal.invariant-loop-row
-invariant-loop-row l = AreNeeds l.terms l.closed l.kinds l.row (map need_view l.needs.items)

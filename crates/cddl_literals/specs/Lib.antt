@@ -1,5 +1,0 @@
-pub mod Edges
-pub mod Found
-pub mod Literals
-pub mod Needs
-pub mod Written

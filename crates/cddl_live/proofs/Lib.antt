@@ -1,4 +1,0 @@
-mod Counting
-pub mod Lemmas
-mod Reached
-mod Standing

@@ -1,8 +1,0 @@
-use Rattle.cddl_live.proofs.Reached.{references, standing_there}
-use Rattle.cddl_live.proofs.reached_references.Goals as goal
-
-pub returns-clause-instance : goal.returns-clause-instance
-returns-clause-instance c = references
-
-pub returns-clause-present : goal.returns-clause-present
-returns-clause-present c = standing_there

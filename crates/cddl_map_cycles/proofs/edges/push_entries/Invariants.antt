@@ -1,6 +1,0 @@
-use Rattle.std.proofs.Common.{◌≡◌, ◌++◌}
-use Rattle.cddl_map_cycles.specs.Edges as by
-use Rattle.cddl_map_cycles.proofs.edges.push_entries.Given as goal
-
-abbrev pub invariant-loop-place : goal.invariant-loop-place
-invariant-loop-place l = l.edges.items ≡ l.initial.edges.items ++ by.entries_edges l.layout l.spliced l.place

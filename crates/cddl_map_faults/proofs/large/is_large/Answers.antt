@@ -1,7 +1,0 @@
-use Rattle.std.proofs.Common.{subst}
-use Rattle.splices.specs.Summaries.{IsSummary}
-use Rattle.cddl_map_faults.proofs.Flags.{is_large_by}
-use Rattle.cddl_map_faults.proofs.large.is_large.Goals as goal
-
-pub returns-in-Some : goal.returns-in-Some
-returns-in-Some c parts n h = is_large_by parts n c.in-Some.summary c.is_too_large.result (c.one_meaning.ensures parts n) c.is_too_large.ensures (subst (IsSummary parts n) c.in-Some.is h)

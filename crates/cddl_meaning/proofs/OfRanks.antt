@@ -1,0 +1,13 @@
+pub mod Readable
+pub mod Takes
+pub mod Induction
+pub mod ByForm
+pub mod Down
+pub mod Total
+pub mod Well
+pub mod Some
+pub mod Frames
+pub mod Bytes
+pub mod Example
+pub mod Flags
+pub mod Lemmas

@@ -1,0 +1,4 @@
+-- What callers' proofs may name of this crate.
+pub use Rattle.cddl_meaning.proofs.OfRanks.Flags.{ranked_by, by_flags}
+pub use Rattle.cddl_meaning.proofs.OfRanks.Frames.{few_are_open}
+pub use Rattle.cddl_meaning.proofs.OfRanks.Some.{is_decided}

@@ -1,8 +1,0 @@
-use Rattle.std.proofs.Common.{drop}
-use Rattle.cddl_nodes.specs.Numbers.{IsTypeAt, keys_of}
-use Rattle.cddl_nodes.specs.Origins.{IsTypeOrigin}
-use Rattle.cddl_nodes.proofs.Numbering.{IsNumbering}
-use Rattle.cddl_nodes.proofs.numbers.Numbers.number_types.Given as goal
-
-abbrev pub invariant-loop-origin : goal.invariant-loop-origin
-invariant-loop-origin l = IsNumbering IsTypeAt IsTypeOrigin (keys_of l.fn.self) (keys_of l.self) l.origins (drop l.origin-index l.origins) l.numbers.items

@@ -1,6 +1,0 @@
-use Rattle.std.proofs.lemmas.Result.{IfOk-weaker}
-use Rattle.cddl_nodes.proofs.Forming.{control_formed}
-use Rattle.cddl_nodes.proofs.types.control_form.Goals as goal
-
-pub returns : goal.returns
-returns c = IfOk-weaker c.known_form.result _ _ (λ f h s n a b src w e g i re. control_formed s c.args.terms.now c.args.source.now.literals.now c.args.source.now.sizes.now src.literals_are src.sizes_are a b n c.args.row c.args.left c.args.right _ _ (c.control_at-control.ensures n e) h w g i re) c.known_form.ensures

@@ -1,6 +1,0 @@
-use Rattle.cddl_language.specs.Numbers as N
-use Rattle.cddl_nodes.proofs.Forming.{plain_formed}
-use Rattle.cddl_nodes.proofs.types.hash_form.Goals as goal
-
-pub returns : goal.returns
-returns c s n e = plain_formed s c.args.terms.now (N.hash_test (N.hash_form n)) _ (c.in_ok-test.ensures n e)

@@ -1,6 +1,0 @@
-use Rattle.std.proofs.Common.{◌≡◌, ◌++◌, drop}
-use Rattle.cddl_openings.specs.Steps.{own_links_of}
-use Rattle.cddl_openings.proofs.endings.own_links.Given as goal
-
-abbrev pub invariant-loop-meaning : goal.invariant-loop-meaning
-invariant-loop-meaning l = l.links.items ++ own_links_of l.terms.rows l.closed.places.items l.closed.stripped.items (drop l.meaning-index l.closed.meanings.items) ≡ own_links_of l.terms.rows l.closed.places.items l.closed.stripped.items l.closed.meanings.items

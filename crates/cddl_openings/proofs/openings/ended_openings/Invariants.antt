@@ -1,6 +1,0 @@
-use Rattle.std.proofs.Common.{◌≡◌, ◌++◌, drop}
-use Rattle.cddl_openings.specs.Steps.{openings_of}
-use Rattle.cddl_openings.proofs.openings.ended_openings.Given as goal
-
-abbrev pub invariant-loop-place : goal.invariant-loop-place
-invariant-loop-place l = l.openings.items ++ openings_of l.terms.rows l.kinds l.ends l.place (drop l.place l.meanings) ≡ openings_of l.terms.rows l.kinds l.ends 0 l.meanings

@@ -1,7 +1,0 @@
-use Rattle.std.proofs.Common.{◌≡◌, ◌++◌, drop}
-use Rattle.cddl_operators.specs.Dedent.{shifted}
-use Rattle.cddl_operators.proofs.Shifts.{rest}
-use Rattle.cddl_operators.proofs.dedent.push_shifted.Given as goal
-
-abbrev pub invariant-loop-byte : goal.invariant-loop-byte
-invariant-loop-byte l = l.bytes.items ++ rest l.left l.spaces (drop l.byte-index l.string) ≡ l.initial.bytes.items ++ shifted l.spaces l.string

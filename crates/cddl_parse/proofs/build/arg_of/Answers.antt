@@ -1,9 +1,0 @@
-use Rattle.cddl_tree.proofs.Lemmas.{view_out-GenericArg}
-use Rattle.cddl_parse.proofs.Pushing.{views}
-use Rattle.cddl_parse.proofs.build.arg_of.Goals as goal
-
-pub returns-in-None : goal.returns-in-None
-returns-in-None c read = simp (c.in-None.is, views, c.new.ensures.items, c.into_inner-type1.ensures)
-
-pub returns-in-Ok : goal.returns-in-Ok
-returns-in-Ok c read = simp (c.in-Some.is, views, c.in-Ok.ensures.items, c.into_inner-first.ensures, c.into_inner-type1.ensures, view_out-GenericArg)

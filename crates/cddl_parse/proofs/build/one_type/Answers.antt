@@ -1,5 +1,0 @@
-use Rattle.cddl_parse.proofs.Pushing.{views}
-use Rattle.cddl_parse.proofs.build.one_type.Goals as goal
-
-pub returns : goal.returns
-returns c read = simp (views, c.new.ensures.items, c.into_inner.ensures)

@@ -1,5 +1,0 @@
-use Rattle.cddl_parse.proofs.Pushing.{views}
-use Rattle.cddl_parse.proofs.build.parm_of.Goals as goal
-
-pub returns-in-Ok : goal.returns-in-Ok
-returns-in-Ok c read = simp (c.in-Some.is, views, c.in-Ok.ensures.items)

@@ -1,8 +1,0 @@
-use Rattle.std.proofs.Common.{map, take}
-use Rattle.cddl_terms.specs.Definitions.{AreDefinitions}
-use Rattle.cddl_terms.specs.Table.{Grows}
-use Rattle.cddl_prelude.specs.Lines.{definition_in}
-use Rattle.cddl_prelude.proofs.numbering.add_lines.Given as goal
-
-abbrev pub invariant-loop-line : goal.invariant-loop-line
-invariant-loop-line l = record { grows : Grows l.fn.terms l.terms; numbered : AreDefinitions l.terms l.definitions.items (map definition_in (take l.line-index l.lines)) }

@@ -1,9 +1,0 @@
-use Rattle.cddl_terms.specs.Table.{nothing, no_part}
-use Rattle.cddl_prelude.proofs.Standing.{further, ok_then}
-use Rattle.cddl_prelude.proofs.numbering.add_tagged.Goals as goal
-
-pub returns-clause-stands : goal.returns-clause-stands
-returns-clause-stands c = ok_then c.add_node.result _ _ (λ n stands. stands _ nothing c.in_ok-content.ensures.stands no_part) c.add_node.ensures.stands
-
-pub returns-clause-grows : goal.returns-clause-grows
-returns-clause-grows c = further c.in_ok-content.ensures.grows c.add_node.ensures.grows

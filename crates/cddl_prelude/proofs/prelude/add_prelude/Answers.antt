@@ -1,4 +1,0 @@
-use Rattle.cddl_prelude.proofs.prelude.add_prelude.Goals as goal
-
-pub returns-clause-definitions : goal.returns-clause-definitions
-returns-clause-definitions c = rw c.lines.ensures at c.add_lines.ensures.definitions

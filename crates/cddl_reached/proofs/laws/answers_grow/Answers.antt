@@ -1,5 +1,0 @@
-use Rattle.cddl_reached.proofs.Asking.{answers_kept}
-use Rattle.cddl_reached.proofs.laws.answers_grow.Goals as goal
-
-pub returns-clause-answers : goal.returns-clause-answers
-returns-clause-answers c = λ old new grows. answers_kept old new (c.growing_keeps.ensures.tree old new grows)

@@ -1,5 +1,0 @@
-use Rattle.cddl_reached.proofs.Growing.{entries_kept}
-use Rattle.cddl_reached.proofs.laws.entry_questions_grow.Goals as goal
-
-pub returns : goal.returns
-returns c = λ old new grows. entries_kept old new (c.growing_keeps.ensures.tree old new grows)

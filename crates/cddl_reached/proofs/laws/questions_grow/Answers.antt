@@ -1,5 +1,0 @@
-use Rattle.cddl_reached.proofs.Growing.{asked_kept}
-use Rattle.cddl_reached.proofs.laws.questions_grow.Goals as goal
-
-pub returns : goal.returns
-returns c = λ old new grows. asked_kept old new (c.growing_keeps.ensures.tree old new grows)

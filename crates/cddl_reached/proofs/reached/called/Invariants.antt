@@ -1,7 +1,0 @@
-use Rattle.std.proofs.Common.{◌≡◌, ◌++◌, drop}
-use Rattle.cddl_environment.specs.Places.{lists}
-use Rattle.cddl_reached.specs.Calls.{called_in}
-use Rattle.cddl_reached.proofs.reached.called.Given as goal
-
-abbrev pub invariant-loop-site : goal.invariant-loop-site
-invariant-loop-site l = l.reached.items ++ called_in (lists l.calls) l.definitions (drop l.site-index l.live) ≡ called_in (lists l.calls) l.definitions l.live

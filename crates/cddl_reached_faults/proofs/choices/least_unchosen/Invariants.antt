@@ -1,7 +1,0 @@
-use Rattle.std.proofs.Common.{◌≡◌, None, drop}
-use Rattle.cddl_reached_faults.specs.Choices.{unchosen_at}
-use Rattle.cddl_reached_faults.specs.Least.{least_over}
-use Rattle.cddl_reached_faults.proofs.choices.least_unchosen.Given as goal
-
-abbrev pub invariant-loop-question : goal.invariant-loop-question
-invariant-loop-question l = least_over (unchosen_at l.closed l.choosable) l.least (drop l.question-index l.asked) ≡ least_over (unchosen_at l.closed l.choosable) None l.asked

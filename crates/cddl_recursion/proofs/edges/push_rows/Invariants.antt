@@ -1,7 +1,0 @@
-use Rattle.std.proofs.Common.{◌≡◌, ◌++◌}
-use Rattle.cddl_recursion.specs.Edges as by
-use Rattle.cddl_recursion.specs.Views.{known}
-use Rattle.cddl_recursion.proofs.edges.push_rows.Given as goal
-
-abbrev pub invariant-loop-row : goal.invariant-loop-row
-invariant-loop-row l = l.edges.items ≡ l.initial.edges.items ++ by.rows_edges l.layout.rows l.layout.places (known l.terms l.view) l.row

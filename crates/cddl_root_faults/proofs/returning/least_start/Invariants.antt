@@ -1,6 +1,0 @@
-use Rattle.std.proofs.Common.{◌≡◌, drop}
-use Rattle.cddl_root_faults.specs.Starts.{least_from, least_start, start_if}
-use Rattle.cddl_root_faults.proofs.returning.least_start.Given as goal
-
-abbrev pub invariant-loop-place : goal.invariant-loop-place
-invariant-loop-place l = least_from (start_if l.terms l.tree l.names l.closed) l.place l.least (drop l.place l.flags) ≡ least_start l.terms l.tree l.names l.closed l.flags

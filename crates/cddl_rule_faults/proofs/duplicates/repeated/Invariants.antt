@@ -1,7 +1,0 @@
-use Rattle.cddl_language.specs.Reading.{parameter_tokens, rule_head}
-use Rattle.cddl_tree.specs.View.{token_of, view_rule}
-use Rattle.cddl_rule_faults.proofs.Repeats.{IsRead}
-use Rattle.cddl_rule_faults.proofs.duplicates.repeated.Given as goal
-
-abbrev pub invariant-loop-place : goal.invariant-loop-place
-invariant-loop-place l = IsRead l.parameters (parameter_tokens (rule_head (view_rule (token_of l.tree) l.rule))) l.seen.keys l.place l.least

@@ -1,9 +1,0 @@
-use Rattle.std.proofs.Common.{sym, subst, ◌∙◌, arith}
-use Rattle.cddl_rule_faults.proofs.Roots.{IsRoot, has_root, is_root}
-use Rattle.cddl_rule_faults.proofs.root.no_root.Goals as goal
-
-pub returns-in-Some : goal.returns-in-Some
-returns-in-Some c z e g is = has_root c.args.terms.now c.args.tree.now c.args.survey.now is z e _ (subst (IsRoot c.args.terms.now z) (sym c.root_of.ensures.number ∙ c.in-Some.is) (is_root c.args.terms.now c.args.tree.now c.args.survey.now is z e _ g))
-
-pub returns-in-None : goal.returns-in-None
-returns-in-None c z e g is = (subst (IsRoot c.args.terms.now z) (sym c.root_of.ensures.number ∙ c.in-None.is) (is_root c.args.terms.now c.args.tree.now c.args.survey.now is z e _ g), λ p f. omega arith)

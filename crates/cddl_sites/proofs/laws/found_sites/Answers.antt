@@ -1,9 +1,0 @@
-use Rattle.cddl_language.specs.Sites.{sites}
-use Rattle.cddl_sites.proofs.Containing.{stands, was_found}
-use Rattle.cddl_sites.proofs.laws.found_sites.Goals as goal
-
-pub returns-clause-found : goal.returns-clause-found
-returns-clause-found c = stands sites
-
-pub returns-clause-every : goal.returns-clause-every
-returns-clause-every c = was_found sites

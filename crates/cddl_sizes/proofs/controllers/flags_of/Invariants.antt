@@ -1,6 +1,0 @@
-use Rattle.std.proofs.Common.{◌≡◌, ◌++◌, drop, map}
-use Rattle.cddl_sizes.specs.Depths.{is_few}
-use Rattle.cddl_sizes.proofs.controllers.flags_of.Given as goal
-
-abbrev pub invariant-loop-depth : goal.invariant-loop-depth
-invariant-loop-depth l = l.flags.items ++ map is_few (drop l.depth-index l.depths) ≡ map is_few l.depths

@@ -1,6 +1,0 @@
-use Rattle.std.proofs.Common.{◌≡◌, drop, Some}
-use Rattle.cddl_sizes.specs.Depths.{deeper, deepest}
-use Rattle.cddl_sizes.proofs.depths.deepest.Given as goal
-
-abbrev pub invariant-loop-row : goal.invariant-loop-row
-invariant-loop-row l = deeper (Some l.depth) (deepest l.named l.depths (drop l.row-index l.rows)) ≡ deepest l.named l.depths l.rows

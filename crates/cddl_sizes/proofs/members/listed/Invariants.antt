@@ -1,9 +1,0 @@
-use Rattle.cddl_sizes.specs.Controllers.{AreListed, HaveLists, IsReady}
-use Rattle.cddl_sizes.proofs.members.listed.Given as goal
-
-abbrev pub invariant-loop-number : goal.invariant-loop-number
-invariant-loop-number l = record {
-  listed : AreListed l.sources l.sizable l.sizes;
-  ready : IsReady l.sources l.sizes l.search;
-  all : HaveLists l.terms l.sizable l.number l.sizes;
-}

@@ -1,9 +1,0 @@
-use Rattle.std.proofs.Common.{length, sym, subst}
-use Rattle.cddl_environment.specs.Names.{AreNames}
-use Rattle.cddl_specification.proofs.faults.recursion_of.Goals as goal
-
-pub returns : goal.returns
-returns c s worth root refs tree reading order =
-    let v = c.args.reading.now.survey in
-    let names = subst (AreNames (length c.args.terms.now.texts) v.known.items v.definitions.items) (sym c.deref.ensures.value) reading.asking.named.names in
-    c.recursion.ensures s root refs v.known.items v.definitions.items tree reading.asking.named.known reading.asking.named.defined names reading.meant.closed order

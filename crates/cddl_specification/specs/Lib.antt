@@ -1,4 +1,0 @@
-pub mod Outcome
-pub mod Stages
-pub mod Text
-pub mod Told

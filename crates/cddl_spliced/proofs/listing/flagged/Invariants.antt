@@ -1,6 +1,0 @@
-use Rattle.std.proofs.Common.{◌≡◌, ◌++◌, drop}
-use Rattle.cddl_spliced.specs.Steps.{flagged}
-use Rattle.cddl_spliced.proofs.listing.flagged.Given as goal
-
-abbrev pub invariant-loop-question : goal.invariant-loop-question
-invariant-loop-question l = l.spliced.items ++ flagged l.closed.places.items l.flags (drop l.question-index l.asked) ≡ flagged l.closed.places.items l.flags l.asked

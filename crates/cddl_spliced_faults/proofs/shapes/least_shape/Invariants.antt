@@ -1,7 +1,0 @@
-use Rattle.std.proofs.Common.{◌≡◌, None, drop}
-use Rattle.cddl_spliced_faults.specs.Least.{least_from}
-use Rattle.cddl_spliced_faults.specs.Lookups.{shape_at}
-use Rattle.cddl_spliced_faults.proofs.shapes.least_shape.Given as goal
-
-abbrev pub invariant-loop-place : goal.invariant-loop-place
-invariant-loop-place l = least_from (shape_at l.faults l.coming_back) l.place l.least (drop l.place l.spliced) ≡ least_from (shape_at l.faults l.coming_back) 0 None l.spliced

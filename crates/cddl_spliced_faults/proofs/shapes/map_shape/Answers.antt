@@ -1,9 +1,0 @@
-use Rattle.std.proofs.Common.{sym, subst}
-use Rattle.cddl_language.specs.Faults.{rules}
-use Rattle.cddl_language.specs.MapFaults.{HasMapShape}
-use Rattle.cddl_survey.specs.Least.{IsLeast}
-use Rattle.cddl_spliced_faults.proofs.Shaping.{least_shape}
-use Rattle.cddl_spliced_faults.proofs.shapes.map_shape.Goals as goal
-
-pub returns : goal.returns
-returns c = λ s root t refs spliced faults back. subst (IsLeast (HasMapShape (rules s) root)) (sym c.least_shape.ensures) (least_shape s root (c.map_faults_stand.ensures.leads (rules s) root) t refs c.args.spliced.now c.args.faults.now c.args.coming_back.now spliced faults back)

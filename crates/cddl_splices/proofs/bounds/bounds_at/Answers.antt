@@ -1,5 +1,0 @@
-use Rattle.cddl_splices.proofs.Rows.{bounds_said}
-use Rattle.cddl_splices.proofs.bounds.bounds_at.Goals as goal
-
-pub returns-in-Some-occurrence_of : goal.returns-in-Some-occurrence_of
-returns-in-Some-occurrence_of c o h = bounds_said c.args.terms.now.texts c.args.text c.in-Some.number c.in-Some-text.text.now c.in-Some-occurrence_of.field-0 c.in-Some.is c.in-Some-text.ensures c.in-Some-occurrence_of.ensures o h

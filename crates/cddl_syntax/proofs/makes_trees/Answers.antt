@@ -1,8 +1,0 @@
-use Rattle.cddl_syntax.proofs.Verdict.{sound, complete}
-use Rattle.cddl_syntax.proofs.makes_trees.Goals as goal
-
-pub returns-clause-sound : goal.returns-clause-sound
-returns-clause-sound c = sound
-
-pub returns-clause-complete : goal.returns-clause-complete
-returns-clause-complete c = complete

@@ -1,8 +1,0 @@
-use Rattle.cddl_syntax.proofs.Verdict.{apart, one_refusal}
-use Rattle.cddl_syntax.proofs.one_answer.Goals as goal
-
-pub returns-clause-apart : goal.returns-clause-apart
-returns-clause-apart c = apart
-
-pub returns-clause-refusal : goal.returns-clause-refusal
-returns-clause-refusal c = one_refusal

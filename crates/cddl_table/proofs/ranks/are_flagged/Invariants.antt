@@ -1,7 +1,0 @@
-use Rattle.std.proofs.Common.{◌≡◌, drop}
-use Rattle.cddl_ranks.specs.Flags.{all_flagged}
-use Rattle.cddl_table.specs.Ranks.{flag_in}
-use Rattle.cddl_table.proofs.ranks.are_flagged.Given as goal
-
-abbrev pub invariant-loop-id : goal.invariant-loop-id
-invariant-loop-id l = all_flagged (flag_in l.flags) (drop l.id-index l.ids) ≡ all_flagged (flag_in l.flags) l.ids

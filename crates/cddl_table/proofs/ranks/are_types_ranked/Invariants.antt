@@ -1,8 +1,0 @@
-use Rattle.std.proofs.Common.{ℕ, ◌<◌, slice_get, slice_index_or}
-use Rattle.cddl_ranks.specs.Flags.{IsTypeRanked}
-use Rattle.cddl_table.specs.Nodes.{type_or_none}
-use Rattle.cddl_table.specs.Ranks.{type_rank_in, group_rank_in}
-use Rattle.cddl_table.proofs.ranks.are_types_ranked.Given as goal
-
-abbrev pub invariant-loop-i : goal.invariant-loop-i
-invariant-loop-i l = (n : ℕ) → n < l.i → IsTypeRanked (type_rank_in l.types) (group_rank_in l.groups) (slice_index_or l.types n 0) (type_or_none (slice_get l.nodes n))

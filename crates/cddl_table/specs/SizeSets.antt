@@ -1,9 +1,0 @@
--- What contracts see of a set of sizes.
-use Rattle.std.specs.Prelude.{ℕ, List}
-use Rattle.std.specs.Rc.{rc_slice_items}
-use Rattle.cddl_table.specs.declared.sizes.SizeSet.{SizeSet}
-use Rattle.cddl_table.specs.Sizes.{sizes_view}
-
--- its ranges, each by its first and its last number
-abbrev pub set_view : SizeSet → List (ℕ × ℕ)
-set_view z = sizes_view (rc_slice_items z.ranges)

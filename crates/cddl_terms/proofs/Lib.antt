@@ -1,9 +1,0 @@
-pub mod Adding
-pub mod Defining
-pub mod Equal
-pub mod Filling
-pub mod Growing
-pub mod Holding
-pub mod Inverse
-pub mod Numbering
-pub mod Texts

@@ -1,5 +1,0 @@
-use Rattle.cddl_terms.proofs.Holding as holding
-use Rattle.cddl_terms.proofs.laws.one_tree.Goals as goal
-
-pub returns : goal.returns
-returns c = holding.one_tree

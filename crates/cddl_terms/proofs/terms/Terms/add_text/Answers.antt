@@ -1,9 +1,0 @@
-use Rattle.cddl_terms.proofs.Adding.{text-added}
-use Rattle.cddl_terms.proofs.Numbering.{numbered_texts}
-use Rattle.cddl_terms.proofs.terms.Terms.add_text.Goals as goal
-
-pub invariant_of-self : goal.invariant_of-self
-invariant_of-self c =
-    let numbered = c.insert_text.ensures.numbered in
-    let is = text-added _ c.args.text.now _ c.self.invariant.0 (numbered_texts _ _ _ numbered) c.insert_text.ensures.adds in
-    (is, numbered, c.self.invariant.2)

@@ -1,5 +1,0 @@
-pub mod Definitions
-pub mod Filled
-pub mod Numbers
-pub mod Table
-pub mod Trees

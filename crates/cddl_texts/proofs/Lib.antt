@@ -1,4 +1,0 @@
-pub mod Lemmas
-mod Digits
-mod Places
-mod Forms

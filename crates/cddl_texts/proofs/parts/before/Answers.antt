@@ -1,8 +1,0 @@
-use Rattle.cddl_texts.proofs.Places.{before_it, all_before}
-use Rattle.cddl_texts.proofs.parts.before.Goals as goal
-
-pub returns-in-Some : goal.returns-in-Some
-returns-in-Some c = before_it c.args.sign c.args.text.now c.in-Some.at c.in-Some.ensures
-
-pub returns-in-None : goal.returns-in-None
-returns-in-None c = all_before c.args.sign c.args.text.now c.in-None.ensures

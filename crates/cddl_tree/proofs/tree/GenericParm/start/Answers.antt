@@ -1,6 +1,0 @@
-use Rattle.cddl_tree.proofs.Starting.{parm_start}
-use Rattle.cddl_tree.specs.View.{token_of}
-use Rattle.cddl_tree.proofs.tree.GenericParm.start.Goals as goal
-
-pub returns : goal.returns
-returns c = parm_start (token_of c.args.tree.now) c.args.self.now c.start_of.result c.start_of.ensures

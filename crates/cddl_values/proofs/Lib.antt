@@ -1,3 +1,0 @@
-mod Uints
-mod Quoting
-mod Answering

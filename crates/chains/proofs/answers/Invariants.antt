@@ -1,6 +1,0 @@
-use Rattle.std.proofs.Common.{◌≡◌, ◌++◌, drop, map}
-use Rattle.chains.specs.Steps.{answer}
-use Rattle.chains.proofs.answers.Given as goal
-
-abbrev pub invariant-loop-link : goal.invariant-loop-link
-invariant-loop-link l = l.found.items ++ map answer (drop l.link-index l.links) ≡ map answer l.links

@@ -1,0 +1,3 @@
+mod OfChoosing
+mod OfEmpty
+mod OfSplices

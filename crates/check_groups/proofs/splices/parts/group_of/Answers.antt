@@ -1,0 +1,20 @@
+use Rattle.std.proofs.Common.{refl, sym, subst, ◌∙◌, ap}
+use Rattle.cddl_language.specs.Kinds.{part_of}
+use Rattle.cddl_language.specs.MapFaults.{group_of_part}
+use Rattle.check_terms.specs.Table.{Holds}
+use Rattle.check_terms.specs.Trees.{term_tree}
+use Rattle.check_groups.specs.Splices.Parts.{IsNamed}
+use Rattle.check_groups.specs.Splices.Rows.{group_in}
+use Rattle.check_groups.proofs.OfSplices.Naming.{named_group}
+use Rattle.check_groups.proofs.OfSplices.Rows.{no_term}
+use Rattle.check_groups.proofs.splices.parts.group_of.Goals as goal
+
+pub returns-in_err-number : goal.returns-in_err-number
+returns-in_err-number c xs root refs k a o x h r = absurd (no_term c.args.terms.now x (subst (λ n. Holds c.args.terms.now n (term_tree x)) c.in_err-number.was h))
+
+pub returns : goal.returns
+returns c xs root refs k a o x h r =
+    let t = c.args.terms.now in
+    let meanings = c.args.closed.now.meanings.items in
+    let is = subst (λ n. Holds t n (term_tree x)) c.in_ok-number.was h in
+    subst (IsNamed xs root t (group_of_part xs (part_of xs x))) (sym (c.group_in.ensures ∙ ap (λ n. group_in meanings n c.part_of-part.result) c.len.ensures.value)) (named_group xs root t refs meanings (λ k2 q e. c.meaning_at.ensures xs root refs t c.args.closed.now k2 q k e) (c.meanings_are_reached.ensures.group xs root) x (λ q e. c.part_is_reached.ensures.named xs root x q r e) (λ q g e. c.part_is_reached.ensures.group xs root x q g r e) (part_of xs x) refl c.part_of-part.result (c.part_of-part.ensures xs root refs x k a o is r))

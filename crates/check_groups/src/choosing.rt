@@ -1,0 +1,8 @@
+//! From which groups of a specification `&` can choose, by rows of a table.
+mod causes;
+mod choosing;
+pub mod laws;
+mod occurrences;
+mod rules;
+
+pub use crate::choosing::choosing::choosable;

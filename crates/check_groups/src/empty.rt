@@ -1,0 +1,7 @@
+//! Which groups of a specification may be empty, by rows of a table.
+mod causes;
+mod empty;
+mod occurrences;
+mod rules;
+
+pub use crate::empty::empty::may_be_empty;

@@ -1,0 +1,68 @@
+-- Each controller's list has the members of its type.
+use Rattle.std.proofs.Common.{◌≡◌, inl, inr, ℕ, ◌<◌, List, length, Bool, true, false, if◌then◌else◌, Option, Some, None, option_map, slice_get, refl, sym, ap, subst, ◌∙◌, arith}
+use Rattle.std.specs.Prelude.{is_some}
+use Rattle.lists.proofs.Lemmas.{not_both, tested as is_either, within}
+use Rattle.cddl_meaning.specs.Alike.{SameTest}
+use Rattle.cddl_meaning.specs.Forms as F
+use Rattle.cddl_language.specs.Controls.{Control, control_of, is_sized, sized}
+use Rattle.cddl_language.specs.Terms.{Text, Term, control, Ref, Definition}
+use Rattle.cddl_language.specs.Literals.{Values}
+use Rattle.cddl_language.specs.Sizes as L
+use Rattle.cddl_language.specs.Sizes.{sizes_of}
+use Rattle.check_terms.specs.Table.{Holds, Table, Tree, part, some_text}
+use Rattle.check_terms.specs.Trees.{IsTerm, term_tree}
+use Rattle.check_names.specs.declared.kinds.kinds.Kinds.{Kinds}
+use Rattle.check_instances.specs.declared.closed.closed.Closed.{Closed}
+use Rattle.check_literals.specs.declared.known.Literals.{Literals}
+use Rattle.check_literals.specs.Literals.{IsKnown}
+use Rattle.table_nodes.specs.SizeSets.{set_view}
+use Rattle.table_nodes.specs.declared.sizes.SizeSet.{SizeSet}
+use Rattle.check_literals.specs.declared.sizes.known.Sizes.{Sizes}
+use Rattle.check_literals.specs.declared.sizes.sources.Source.{Source}
+use Rattle.check_literals.specs.Sizes.Sizes.{AreSizable, AreSizes, SameSizes, flag_at, list_at, sizes_at}
+use Rattle.check_literals.specs.Sizes.Controllers.{AreListed, HaveLists, IsListed, controller_at, controller_in, is_size_name}
+use Rattle.check_literals.specs.Sizes.Reach.{ranges_of}
+use Rattle.check_literals.proofs.OfSizes.Below.{reached_below, same_sizes, sizes_below}
+use Rattle.check_literals.proofs.OfSizes.Induction.{AreGiven, row_within}
+
+some_same : (o p : Option L.Sizes) (qs : L.Sizes) → is_some o ≡ true → p ≡ Some qs → ((rs : L.Sizes) → o ≡ Some rs → SameTest (F.sized rs) (F.sized qs)) → SameSizes o p
+some_same (Some rs) p qs e q h = subst (SameSizes (Some rs)) (sym q) (h rs refl)
+some_same None p qs e q h = absurd (not_both false e refl)
+
+none_same : (o p : Option L.Sizes) → is_some o ≡ false → p ≡ None → SameSizes o p
+none_same (Some rs) p e q = absurd (not_both true refl e)
+none_same None p e q = subst (SameSizes None) (sym q) tt
+
+module _ (xs : List Definition) (root : Text) (worth : Values) (refs : List Ref) (t : Table) (c : Closed) (ks : Kinds) (ls : Literals) (ss : List Source) (given : AreGiven xs root worth refs t c ks ls ss) (one : (n m : Option ℕ) (x : Tree) → Holds t n x → Holds t m x → n ≡ m) (flags : List Bool) (sizable : AreSizable xs root worth t flags) (z : Sizes) (listed : AreListed ss flags z) (all : HaveLists t flags (length t.rows) z) where
+  record IsAsked (n j : ℕ) : Type 0 where
+    pub within : j < length t.rows
+    pub asks : controller_at t j ≡ Some n
+
+  asked : (n j : ℕ) (a b : Term) (m : Text) → IsTerm t j (control a m b) → control_of m ≡ Some sized → IsTerm t n b → IsAsked n j
+  asked n j a b m (part {j = o} e (some_text {n = k} f) x y) q i = record {
+    within = within t.rows j _ e;
+    asks = ap (controller_in t.texts) e ∙ (ap (λ (u : Option Text). if is_size_name u then o else None) f ∙ (ap (λ (u : Option Control). if is_sized u then o else None) q ∙ one o (Some n) (term_tree b) y i));
+  }
+
+  no_list : (n : ℕ) (o : Option (Option ℕ)) → slice_get z.rows.items n ≡ o → flag_at flags n ≡ false → list_at z.lists.items o ≡ None
+  no_list n None e f = refl
+  no_list n (Some None) e f = refl
+  no_list n (Some (Some i)) e f = absurd (not_both (flag_at flags n) (listed.flagged n i e) f)
+
+  list_there : (n i : ℕ) → slice_get z.rows.items n ≡ Some (Some i) → (v : SizeSet) → slice_get z.lists.items i ≡ Some v → sizes_at z n ≡ Some (set_view v)
+  list_there n i e v g = ap (list_at z.lists.items) e ∙ ap (option_map set_view) g
+
+  same_list : (n i : ℕ) (x : Term) → IsTerm t n x → IsKnown xs root worth x → is_some (sizes_of worth xs x) ≡ true → slice_get z.rows.items n ≡ Some (Some i) → IsListed ss n i z.lists.items → SameSizes (sizes_of worth xs x) (sizes_at z n)
+  same_list n i x h k some e l = some_same (sizes_of worth xs x) (sizes_at z n) (set_view l.list) some (list_there n i e l.list l.there) (λ rs q v. same_sizes ss n rs (ranges_of ss l.is_list.reached) (sizes_below xs root worth refs t c ks ls ss given n x h k rs q) (reached_below ss n l.is_list.reached l.is_list.are_reached) v ∙ l.is_list.same v)
+
+  pub are_sizes : AreSizes xs root worth t z
+  are_sizes n x is h k = elim (is_either (flag_at flags n)) [
+    | inl on ↦
+        (let a = asked n is.row is.left is.right is.name is.there is.asks is.controller in
+        let w = row_within t n (term_tree x) h in
+        let rows = given.sources.all in
+        let places = listed.all in
+        let p = (all is.row n a.within a.asks).place on (omega (arith, w, rows, places)) in
+        same_list n p.0 x h k (sym (sizable n x h k) ∙ on) p.1 (listed.each n p.0 p.1))
+    | inr off ↦ none_same (sizes_of worth xs x) (sizes_at z n) (sym (sizable n x h k) ∙ off) (no_list n (slice_get z.rows.items n) refl off)
+  ]

@@ -1,0 +1,3 @@
+pub mod Uints
+pub mod Quoting
+pub mod Answering

@@ -1,0 +1,208 @@
+//! The members of the controllers of `.size`.
+
+ghost use Rattle.std.specs.Prelude.{◌≡◌, ◌++◌, ◌∷◌, [], ℕ, Bool, IfOk, List, Some, length, set, slice_get};
+ghost use Rattle.cddl_language.specs.Controls.{control_of, is_sized};
+ghost use Rattle.check_literals.specs.declared.sizes.sources.Source.{Source};
+ghost use Rattle.check_instances.specs.Closed.Closed.{IsClosed};
+ghost use Rattle.check_names.specs.Kinds.Kinds.{AreKinds};
+ghost use Rattle.cddl_language.specs.Literals.{AreRight, Values};
+ghost use Rattle.cddl_language.specs.Reading.{definitions_in, rules_of};
+ghost use Rattle.cddl_language.specs.Terms.{Ref, Text};
+ghost use Rattle.check_literals.specs.Literals.{AreLiterals};
+ghost use Rattle.check_literals.specs.Sizes.Controllers.{AreListed, HasList, HaveLists, IsReady, KeepsLists, controller_at, is_free, is_wanted, is_size_form, is_size_text};
+ghost use Rattle.check_literals.specs.Sizes.Sizes.{AreSizable, AreSizes, flag_at};
+ghost use Rattle.tree_nodes.specs.Syntax.Syntax.{Cddl};
+
+use crate::Literals;
+use crate::sizes::known::Sizes;
+use crate::sizes::reach::{Search, no_search, set_of};
+use crate::sizes::sources::{Source, sources};
+use cddl_language::written::reached_values;
+use check_instances::closed::Closed;
+use check_instances::closed::laws::{meaning_at, meanings_are_reached, place_of};
+use check_names::kinds::Kinds;
+use check_terms::laws::equal_numbers;
+use check_terms::texts::{Control, control_of};
+use check_terms::{Form, Row, Terms};
+use std::alloc::{AllocError, Global};
+use table_nodes::SizeSet;
+
+/// The members of the types that are controllers of `.size` (RFC 8610 section 3.8.1), where `sizable` tells which rows may be
+/// such. Each row to which a controller leads is looked at once for it, however many ways lead there.
+///
+/// For each controller it takes a time of n log n for the rows to which it leads, and 16 bytes for each of their ranges that is
+/// left when those that overlap or touch are one: a range that belongs to many controllers is kept for each. An error comes only
+/// where memory is refused, or where the table numbers no further row.
+pub fn sizes(
+    alloc: Global,
+    terms: &Terms<'_>,
+    closed: &Closed,
+    kinds: &Kinds,
+    literals: &Literals,
+    sizable: &[bool],
+) -> Result<Sizes, AllocError>
+    ensures { IfOk result (λ z. (x : Cddl) (worth : Values) (root : Text) (refs : List Ref) → AreRight x worth → IsClosed (definitions_in (rules_of x)) root refs terms.now closed.now → AreKinds terms.now.texts (definitions_in (rules_of x)) kinds.now → AreLiterals (definitions_in (rules_of x)) root worth terms.now literals.now → AreSizable (definitions_in (rules_of x)) root worth terms.now sizable.now → AreSizes (definitions_in (rules_of x)) root worth terms.now z) }
+{
+    equal_numbers(terms);
+    place_of(terms);
+    meaning_at();
+    meanings_are_reached();
+    reached_values();
+    let sources = sources(alloc, terms, closed, kinds, literals)?;
+    listed(alloc, terms, &sources, sizable)
+}
+
+// The lists of all controllers.
+fn listed(
+    alloc: Global,
+    terms: &Terms<'_>,
+    sources: &[Source],
+    sizable: &[bool],
+) -> Result<Sizes, AllocError>
+    requires { length sources.now ≡ length terms.now.rows }
+    ensures listed { IfOk result (λ z. AreListed sources.now sizable.now z) }
+    ensures all { IfOk result (λ z. HaveLists terms.now sizable.now (length terms.now.rows) z) }
+{
+    let count = terms.row_count()?;
+    let mut search = no_search(alloc, sources.len())?;
+    let mut sizes = no_sizes(alloc, sources.len())?;
+    for number in 0..count {
+        let controller = controller_at(terms, number);
+        add_controller(alloc, sources, sizable, &mut search, &mut sizes, controller)?;
+    }
+    Ok(sizes)
+}
+
+fn no_sizes(alloc: Global, rows: usize) -> Result<Sizes, AllocError>
+    ensures lists { IfOk result (λ z. length z.lists.items ≡ 0) }
+    ensures listed { IfOk result (λ z. (ss : List Source) (flags : List Bool) → length ss ≡ rows → AreListed ss flags z) }
+{
+    let rows = vec![in alloc; None; rows]?;
+    Ok(Sizes {
+        lists: Vec::new(alloc),
+        rows,
+    })
+}
+
+// The controller, where the row is a `.size`.
+fn controller_at(terms: &Terms<'_>, number: u32) -> Option<u32>
+    ensures { result ≡ controller_at terms.now number }
+{
+    let row = terms.row(number)?;
+    if is_size_form(terms, row) {
+        row.second
+    } else {
+        None
+    }
+}
+
+fn is_size_form(terms: &Terms<'_>, row: Row) -> bool
+    ensures { result ≡ is_size_form terms.now.texts row.form row.text }
+{
+    match row.form {
+        Form::Control => is_size_text(terms, row.text),
+        _ => false,
+    }
+}
+
+fn is_size_text(terms: &Terms<'_>, name: Option<u32>) -> bool
+    ensures { result ≡ is_size_text terms.now.texts name }
+{
+    let Some(name) = name else {
+        return false;
+    };
+    match terms.text(name) {
+        Some(name) => is_size_name(name),
+        None => false,
+    }
+}
+
+fn is_size_name(name: &str) -> bool
+    ensures { result ≡ is_sized (control_of name.now) }
+{
+    matches!(control_of(name), Some(Control::Sized))
+}
+
+// Adds the list of the controller, if there is one.
+fn add_controller(
+    alloc: Global,
+    sources: &[Source],
+    sizable: &[bool],
+    search: &mut Search,
+    sizes: &mut Sizes,
+    controller: Option<u32>,
+) -> Result<(), AllocError>
+    requires listed { AreListed sources.now sizable.now sizes.old }
+    requires ready { IsReady sources.now sizes.old search.old }
+    ensures listed { IfOk result (λ _. AreListed sources.now sizable.now sizes.new) }
+    ensures ready { IfOk result (λ _. IsReady sources.now sizes.new search.new) }
+    ensures added { IfOk result (λ _. (n : ℕ) → controller ≡ Some n → HasList sizable.now n sizes.new) }
+    ensures kept { IfOk result (λ _. KeepsLists sizes.old sizes.new) }
+{
+    match controller {
+        Some(row) => add_list(alloc, sources, sizable, search, sizes, row),
+        None => Ok(()),
+    }
+}
+
+// Adds the list of the row, where it may be a controller and has none yet.
+fn add_list(
+    alloc: Global,
+    sources: &[Source],
+    sizable: &[bool],
+    search: &mut Search,
+    sizes: &mut Sizes,
+    row: u32,
+) -> Result<(), AllocError>
+    requires listed { AreListed sources.now sizable.now sizes.old }
+    requires ready { IsReady sources.now sizes.old search.old }
+    ensures listed { IfOk result (λ _. AreListed sources.now sizable.now sizes.new) }
+    ensures ready { IfOk result (λ _. IsReady sources.now sizes.new search.new) }
+    ensures added { IfOk result (λ _. HasList sizable.now row sizes.new) }
+    ensures kept { IfOk result (λ _. KeepsLists sizes.old sizes.new) }
+{
+    if !is_wanted(sizable, &sizes.rows, row) {
+        return Ok(());
+    }
+    search.reach(sources, row, sizes.lists.len() + 1)?;
+    let list = set_of(alloc, sources, &search.reached)?;
+    put_list(sizes, row, list)
+}
+
+fn put_list(sizes: &mut Sizes, row: u32, list: SizeSet) -> Result<(), AllocError>
+    ensures rows { IfOk result (λ _. sizes.new.rows.items ≡ set sizes.old.rows.items row (Some (length sizes.old.lists.items))) }
+    ensures lists { IfOk result (λ _. sizes.new.lists.items ≡ sizes.old.lists.items ++ list ∷ []) }
+{
+    let place = sizes.lists.len();
+    sizes.lists.push(list)?;
+    put_place(&mut sizes.rows, row, place);
+    Ok(())
+}
+
+fn put_place(rows: &mut Vec<Option<usize>>, row: u32, place: usize)
+    ensures { rows.new.items ≡ set rows.old.items row (Some place) }
+{
+    if (row as usize) < rows.len() {
+        rows[row as usize] = Some(place);
+    }
+}
+
+// Whether the row may be a controller, and has no list.
+fn is_wanted(sizable: &[bool], rows: &[Option<usize>], row: u32) -> bool
+    ensures { result ≡ is_wanted (flag_at sizable.now row) (slice_get rows.now row) }
+{
+    flag_at(sizable, row) && is_free(rows, row)
+}
+
+fn flag_at(flags: &[bool], row: u32) -> bool
+    ensures { result ≡ flag_at flags.now row }
+{
+    matches!(flags.get(row as usize), Some(true))
+}
+
+// Whether the row is there and has no list.
+fn is_free(rows: &[Option<usize>], row: u32) -> bool
+    ensures { result ≡ is_free (slice_get rows.now row) }
+{
+    matches!(rows.get(row as usize), Some(None))
+}

@@ -1,0 +1,3 @@
+mod OfSpliced
+mod OfMapFaults
+mod OfMapCycles

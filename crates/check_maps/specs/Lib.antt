@@ -1,0 +1,3 @@
+pub mod Spliced
+pub mod MapFaults
+pub mod MapCycles

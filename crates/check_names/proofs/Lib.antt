@@ -1,0 +1,2 @@
+mod OfEnvironment
+mod OfKinds

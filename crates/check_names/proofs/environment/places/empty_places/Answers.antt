@@ -1,0 +1,9 @@
+use Rattle.std.proofs.Common.{◌++◌, ◌+◌, ◌-◌, sym, ap, ◌∙◌}
+use Rattle.check_names.specs.Environment.Places.{lists, no_places}
+use Rattle.check_names.proofs.OfEnvironment.Adding.{next_empty, one_more}
+use Rattle.check_names.proofs.environment.places.empty_places.Goals as goal
+
+pub loop-preserved : goal.loop-preserved
+loop-preserved c =
+    let further = no_places (c.args.count - (c.loop.counter + 1)) in
+    ap (λ ls. ls ++ further) (ap lists c.in_ok-push.ensures.items) ∙ one_more c.loop.places.items c.new.result (c.new.ensures.items) further ∙ ap (λ ls. lists c.loop.places.items ++ ls) (sym (next_empty c.loop.counter c.args.count c.loop-test.true)) ∙ c.loop.invariant

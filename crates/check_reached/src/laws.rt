@@ -1,0 +1,59 @@
+//! Laws: functions that do nothing, whose contracts are for proofs.
+
+ghost use Rattle.std.specs.Prelude.{ℕ, List, Option};
+ghost use Rattle.cddl_language.specs.Terms as L;
+ghost use Rattle.cddl_language.specs.Terms.{Ref, Text};
+ghost use Rattle.tree_nodes.specs.Syntax.Syntax.{Rule};
+ghost use Rattle.check_terms.specs.Definitions.{AreTexts};
+ghost use Rattle.check_terms.specs.Table.{Grows, Holds, IsTable, Table, Tree};
+ghost use Rattle.check_terms.specs.Fill.Templates.{AreTrees, IsTemplate};
+ghost use Rattle.check_terms.specs.declared.fill.template.Template.{Template};
+ghost use Rattle.check_instances.specs.Found.{AreFound};
+ghost use Rattle.check_instances.specs.declared.found.Instance.{Instance};
+ghost use Rattle.check_reached.specs.Asked.{AreAnswers, AreAsked, AreEntriesAsked, Wanted};
+ghost use Rattle.check_reached.specs.declared.asked.Asked.{Asked};
+
+use check_terms::Terms;
+use check_terms::laws::growing_keeps;
+
+// No two rows or texts of a table are equal, and the parts of a row stand before it.
+pub(crate) fn is_table(terms: &Terms<'_>)
+    ensures { IsTable terms.now }
+{
+    terms.len();
+}
+
+/// The instances that were found stay so when the table grows.
+pub fn instances_grow()
+    ensures { (old new : Table) → Grows old new → (xs : List L.Definition) (found : List Instance) (refs : List Ref) → AreFound xs old found refs → AreFound xs new found refs }
+{
+    growing_keeps();
+}
+
+/// What was asked stays so when the table grows.
+pub fn questions_grow()
+    ensures { (old new : Table) → Grows old new → (rs : List Rule) (root : Text) (answers : List Asked) → AreAsked rs root old answers → AreAsked rs root new answers }
+{
+    growing_keeps();
+}
+
+/// What was asked of entries stays so when the table grows.
+pub fn entry_questions_grow()
+    ensures { (old new : Table) → Grows old new → (rs : List Rule) (root : Text) (answers : List Asked) → AreEntriesAsked rs root old answers → AreEntriesAsked rs root new answers }
+{
+    growing_keeps();
+}
+
+// What a table's growth keeps.
+pub(crate) fn answers_grow()
+    ensures same { (t : Table) → Grows t t }
+    ensures further { (a b c : Table) → Grows a b → Grows b c → Grows a c }
+    ensures texts { (old new : Table) → Grows old new → (ns : List ℕ) (xs : List Text) → AreTexts old.texts ns xs → AreTexts new.texts ns xs }
+    ensures tree { (old new : Table) → Grows old new → (n : Option ℕ) (x : Tree) → Holds old n x → Holds new n x }
+    ensures trees { (old new : Table) → Grows old new → (ns : List ℕ) (xs : List Tree) → AreTrees old ns xs → AreTrees new ns xs }
+    ensures template { (old new : Table) → Grows old new → (ps : List Text) (m : Template) (x : Tree) → IsTemplate old ps m x → IsTemplate new ps m x }
+    ensures answers { (old new : Table) → Grows old new → (answers : List Asked) (ws : List Wanted) → AreAnswers old answers ws → AreAnswers new answers ws }
+{
+    growing_keeps();
+    check_terms::fill::laws::growing_keeps();
+}

@@ -1,0 +1,67 @@
+//! The live sites of a text: those outside of arguments, and those in an argument whose parameter is used.
+
+ghost use Rattle.std.specs.Prelude.{◌≡◌, IfOk};
+ghost use Rattle.cddl_language.specs.Reading.{rules_of};
+ghost use Rattle.check_reached.specs.LiveSites.Live.{AreLive};
+ghost use Rattle.check_reached.specs.LiveSites.Search.{live_in};
+ghost use Rattle.check_reading.specs.Survey.Survey.{IsSurvey};
+ghost use Rattle.tree_nodes.specs.View.{token_of, view};
+
+use crate::live_sites::facts::{Facts, facts_of};
+use crate::live_sites::search::{Standing, begin, run};
+use check_reading::sites::Found;
+use check_reading::sites::laws::found_outer_sites;
+use check_reading::survey::Survey;
+use check_terms::Terms;
+use graphs::implications::following;
+use std::alloc::{AllocError, Global};
+use tree_nodes::Tree;
+
+/// How many numbers texts can have.
+const NUMBERS: usize = 4_294_967_296;
+
+/// The live sites of a text: those outside of arguments, and those in an argument whose parameter is used (RFC 8610 section
+/// 3.10).
+///
+/// It takes time and memory in proportion to the sites, the texts of their tokens and the parameters of all rules. An error
+/// comes only where memory is refused, or where the table has more texts than there are numbers of 32 bits.
+pub fn live_sites<'t>(
+    alloc: Global,
+    terms: &Terms<'_>,
+    tree: &'t Tree<'_>,
+    survey: &Survey<'t>,
+) -> Result<Vec<Found<'t>>, AllocError>
+    ensures { IfOk result (λ v. IsSurvey terms.now tree.now survey.now → AreLive (rules_of (view tree.now)) (token_of tree.now) v.items) }
+{
+    found_outer_sites();
+    if terms.text_count() > NUMBERS {
+        return Err(AllocError);
+    }
+    let Facts {
+        numbers,
+        implications,
+    } = facts_of(alloc, &survey.definitions)?;
+    let count = numbers.len();
+    let mut search = begin(alloc, count, implications, &survey.sites)?;
+    run(alloc, terms, tree, &numbers, &mut search)?;
+    let facts = count + search.implications.len();
+    let flags = following(alloc, facts, &search.implications)?;
+    live_of(alloc, &flags, &search.standing)
+}
+
+// The sites of the contexts that follow.
+fn live_of<'t>(
+    alloc: Global,
+    flags: &[bool],
+    standing: &[Standing<'t>],
+) -> Result<Vec<Found<'t>>, AllocError>
+    ensures { IfOk result (λ v. v.items ≡ live_in flags.now standing.now) }
+{
+    let mut live = Vec::new(alloc);
+    for site in standing {
+        if flags.get(site.context).copied().unwrap_or(false) {
+            live.push(site.found)?;
+        }
+    }
+    Ok(live)
+}

@@ -1,0 +1,5 @@
+mod OfPrelude
+mod OfReader
+mod OfSites
+mod OfEntries
+pub mod OfSurvey

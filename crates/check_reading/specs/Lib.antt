@@ -1,0 +1,4 @@
+pub mod Prelude
+pub mod Sites
+pub mod Entries
+pub mod Survey

@@ -1,0 +1,32 @@
+-- What a survey says of a specification.
+use Rattle.std.specs.Prelude.{◌≡◌, ℕ, List, length, map, Some, slice_get}
+use Rattle.cddl_language.specs.Terms as L
+use Rattle.cddl_language.specs.Terms.{Text}
+use Rattle.cddl_language.specs.Prelude.{prelude}
+use Rattle.cddl_language.specs.Reading.{definitions_in, rules_of}
+use Rattle.tree_nodes.specs.declared.tree.Tree.{Tree}
+use Rattle.tree_nodes.specs.View.{token_of, view}
+use Rattle.check_terms.specs.Definitions.{AreDefinitions}
+use Rattle.check_terms.specs.Table.{IsTable, Table}
+use Rattle.check_names.specs.declared.environment.environment.Name.{Name}
+use Rattle.check_names.specs.Environment.Environment.{IsStanding}
+use Rattle.check_names.specs.Environment.Names.{AreNames, standing}
+use Rattle.check_names.specs.Kinds.Kinds.{AreKinds}
+use Rattle.check_reading.specs.Sites.View.{outside, view_found}
+use Rattle.check_reading.specs.Sites.Walk.{all_outer_sites, all_sites}
+use Rattle.check_reading.specs.declared.survey.survey.Survey.{Survey}
+
+-- the definitions of a tree
+abbrev pub defined_in : Tree → List L.Definition
+defined_in tree = definitions_in (rules_of (view tree))
+
+-- the survey is of this tree, by the numbers of this table
+pub record IsSurvey (t : Table) (tree : Tree) (s : Survey) : Type 0 where
+  pub table : IsTable t
+  pub prelude_read : AreDefinitions t s.known.items prelude
+  pub text_read : AreDefinitions t s.definitions.items (defined_in tree)
+  pub names_found : AreNames (length t.texts) s.known.items s.definitions.items s.names.items
+  pub names_stand : (k : ℕ) (n : Text) (v : Name) → slice_get t.texts k ≡ Some n → slice_get s.names.items k ≡ Some v → IsStanding (defined_in tree) n (standing v)
+  pub kinds_found : AreKinds t.texts (defined_in tree) s.kinds
+  pub sites_found : map (view_found (token_of tree)) s.sites.items ≡ all_sites (rules_of (view tree))
+  pub outer_found : map (view_found (token_of tree)) (outside s.sites.items) ≡ all_outer_sites (rules_of (view tree))

@@ -1,0 +1,66 @@
+//! A survey of a tree: its definitions and the prelude's, where those of each name stand, the kinds of names, and all sites.
+ghost use Rattle.std.specs.Prelude.{IfOk};
+ghost use Rattle.check_reading.specs.Survey.Survey.{IsSurvey};
+ghost use Rattle.check_terms.specs.Table.{Grows};
+
+use crate::prelude::add_prelude;
+use crate::reader::read;
+use crate::sites::{Found, sites};
+use check_names::environment::laws::names_stand;
+use check_names::environment::{Name, names};
+use check_names::kinds::{Kinds, kinds_of};
+use check_terms::laws::growing_keeps;
+use check_terms::{Definition, NoRoom, Terms};
+use std::alloc::Global;
+use tree_nodes::Tree;
+
+/// What is read of a specification once, by the numbers of a table of terms.
+#[derive(Drop)]
+pub struct Survey<'t> {
+    /// The definitions of the prelude, in order.
+    pub known: Vec<Definition>,
+    /// The definitions of the text, rule by rule.
+    pub definitions: Vec<Definition>,
+    /// Where the definitions of each name stand, by the number of its text.
+    pub names: Vec<Name>,
+    /// The kinds of names, and what `~` of each opens.
+    pub kinds: Kinds,
+    /// All sites, rule by rule.
+    pub sites: Vec<Found<'t>>,
+}
+
+/// Reads the prelude and the rules of the tree, and finds where names are defined, of what kind they are, and all sites.
+///
+/// It takes a time of n log n for a tree of n nodes. The table keeps what it has, also after an error, which comes only where
+/// memory is refused or each number of 32 bits is taken.
+pub fn survey_of<'s, 't>(
+    alloc: Global,
+    terms: &mut Terms<'s>,
+    tree: &'t Tree<'s>,
+) -> Result<Survey<'t>, NoRoom>
+    ensures grows { Grows terms.old terms.new }
+    ensures survey { IfOk result (λ v. IsSurvey terms.new tree.now v) }
+{
+    growing_keeps();
+    names_stand();
+    let known = add_prelude(alloc, terms)?;
+    let definitions = read(alloc, terms, tree)?;
+    let count = terms.text_count();
+    terms.len();
+    let Ok(names) = names(alloc, count, &known, &definitions) else {
+        return Err(NoRoom);
+    };
+    let Ok(kinds) = kinds_of(alloc, terms, &names, &known, &definitions) else {
+        return Err(NoRoom);
+    };
+    let Ok(sites) = sites(alloc, tree) else {
+        return Err(NoRoom);
+    };
+    Ok(Survey {
+        known,
+        definitions,
+        names,
+        kinds,
+        sites,
+    })
+}

@@ -1,0 +1,5 @@
+mod OfReachedFaults
+pub mod OfRangeFaults
+mod OfControlFaults
+mod OfRootFaults
+mod OfSplicedFaults

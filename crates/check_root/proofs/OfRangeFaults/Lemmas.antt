@@ -1,0 +1,3 @@
+-- What callers' proofs may name of this crate.
+pub use Rattle.check_root.proofs.OfRangeFaults.Telling.{Goes, finished, step_at}
+pub use Rattle.check_root.proofs.OfRangeFaults.Whole.{OneTerm}

@@ -1,0 +1,124 @@
+-- What flags tell of the names of instances is where a name comes back to itself.
+use Rattle.std.proofs.Common.{◌≡◌, ℕ, zero, suc, ◌+◌, ◌<◌, Bool, true, false, if◌then◌else◌, List, [], ◌∷◌, ◌++◌, length, map, Option, Some, None, slice_get, refl, sym, ap, subst, ◌∙◌, append_assoc, arith}
+use Rattle.std.specs.List.{Contains}
+use Rattle.std.specs.Option.{option_map}
+use Rattle.std.proofs.lemmas.List.{append-nil}
+use Rattle.std.proofs.lemmas.Option.{same_Some, slice_get-map, slice_get_read, slice_get_within}
+use Rattle.cddl_token.specs.declared.Token.{Token}
+use Rattle.tree_nodes.specs.Syntax.Syntax as S
+use Rattle.cddl_language.specs.Terms.{Ref, Text, call, name_of}
+use Rattle.cddl_language.specs.Environment.{is_same}
+use Rattle.cddl_language.specs.Faults.{HasRecursion, Specification, definitions, first_rule, rules}
+use Rattle.cddl_language.specs.Reach.{Reaches, ref_at}
+use Rattle.cddl_language.specs.Reading.{definitions_in, name_at, name_in, rule_list, rules_of}
+use Rattle.tree_nodes.specs.declared.tree.Leaf.{Leaf}
+use Rattle.tree_nodes.specs.declared.tree.Rule.{Rule}
+use Rattle.tree_nodes.specs.declared.tree.Tree.{Tree}
+use Rattle.tree_nodes.specs.View.{token_of, view, view_rule, with_rules}
+use Rattle.check_terms.specs.declared.row.Row.{Row}
+use Rattle.check_terms.specs.Table.{Table, part, some_text}
+use Rattle.check_terms.specs.Trees.{IsRef}
+use Rattle.check_names.specs.declared.environment.environment.Name.{Name}
+use Rattle.check_names.specs.Environment.Environment.{IsStanding, named_from}
+use Rattle.check_names.specs.Environment.Names.{standing}
+use Rattle.check_names.specs.Environment.Places.{first_of}
+use Rattle.check_instances.specs.declared.closed.closed.Closed.{Closed}
+use Rattle.check_instances.specs.declared.closed.closed.Meaning.{Meaning}
+use Rattle.check_instances.specs.Closed.Closed.{IsMeaning}
+use Rattle.check_recursion.specs.Order.{AreCycles}
+use Rattle.lists.specs.Least.{IsLeast}
+use Rattle.check_root.specs.RootFaults.Starts.{least_start, meaning_start, name_start, number_start, place_start, row_start, rule_start, start_at, start_if}
+use Rattle.check_root.proofs.OfRootFaults.Least.{least_of_all}
+
+there_is : {A : Type 0} (xs : List A) (i : ℕ) → i < length xs → (x : A) × (slice_get xs i ≡ Some x)
+there_is [] i h = absurd (omega arith)
+there_is (x ∷ xs) zero h = (x, refl)
+there_is (x ∷ xs) (suc i) h = there_is xs i (omega arith)
+
+-- The rules of a tree, as a list.
+
+rule_list_with : (read : Leaf → Token) (rs : S.Rules) (xs : List Rule) → rule_list (with_rules read rs xs) ≡ rule_list rs ++ map (view_rule read) xs
+rule_list_with read rs [] = sym (append-nil (rule_list rs))
+rule_list_with read rs (x ∷ xs) = rule_list_with read (S.rules rs (view_rule read x)) xs ∙ append_assoc (rule_list rs) (view_rule read x ∷ []) (map (view_rule read) xs)
+
+rules_view : (tree : Tree) → rules_of (view tree) ≡ map (view_rule (token_of tree)) tree.rules.items
+rules_view tree = rule_list_with (token_of tree) S.no_rules tree.rules.items
+
+-- where a rule begins, if there is one
+abbrev begins : Option S.Rule → Option ℕ
+begins None = None
+begins (Some r) = Some (name_at r)
+
+viewed_begins : (read : Leaf → Token) (o : Option Rule) → begins (option_map (view_rule read) o) ≡ rule_start read o
+viewed_begins read None = refl
+viewed_begins read (Some r) = refl
+
+-- The first rule of a name is at the first place of its definitions.
+
+abbrev at_place : List S.Rule → Option ℕ → Option S.Rule
+at_place all None = None
+at_place all (Some p) = slice_get all p
+
+first_there : (n : Text) (all : List S.Rule) (i : ℕ) (rs : List S.Rule) → ((j : ℕ) → slice_get all (i + j) ≡ slice_get rs j) → first_rule rs n ≡ at_place all (first_of (named_from i n (definitions_in rs)))
+first_there n all i [] h = refl
+first_there n all i (r ∷ rs) h = by (is_same (name_in r) n) (first_there n all (i + 1) rs (λ j. ap (slice_get all) (further i j) ∙ h (suc j)))
+  where
+    further : (i j : ℕ) → i + 1 + j ≡ i + suc j
+    further i j = omega arith
+
+    here : (i : ℕ) → i ≡ i + 0
+    here i = omega arith
+
+    by : (b : Bool) → first_rule rs n ≡ at_place all (first_of (named_from (i + 1) n (definitions_in rs))) → (if b then Some r else first_rule rs n) ≡ at_place all (first_of (if b then i ∷ named_from (i + 1) n (definitions_in rs) else named_from (i + 1) n (definitions_in rs)))
+    by true k = sym (ap (slice_get all) (here i) ∙ h 0)
+    by false k = k
+
+place_begins : (tree : Tree) (all : List S.Rule) → all ≡ map (view_rule (token_of tree)) tree.rules.items → (o : Option ℕ) → place_start tree o ≡ begins (at_place all o)
+place_begins tree all e None = refl
+place_begins tree all e (Some p) = sym (ap (λ rs. begins (slice_get rs p)) e ∙ ap begins (slice_get-map (view_rule (token_of tree)) tree.rules.items p) ∙ viewed_begins (token_of tree) (slice_get tree.rules.items p))
+
+-- the row of a reference has the number of its name
+row_there : (t : Table) (n : ℕ) (r : Ref) → IsRef t n r → (i : ℕ) × (row : Row) × (slice_get t.rows n ≡ Some row) × (row.text ≡ Some i) × (slice_get t.texts i ≡ Some (name_of r))
+row_there t n (call x ts) (part {m = Some i} e (some_text h) a b) = (i, _, e, refl, h)
+row_there t n (call x ts) (part {m = None} e h a b) = elim h [ ]
+
+module _ (t : Table) (tree : Tree) (names : List Name) (closed : Closed) (s : Specification) (root : Text) (refs : List Ref) (of : s.tree ≡ view tree) (all : length names ≡ length t.texts) (stand : (k : ℕ) (n : Text) (v : Name) → slice_get t.texts k ≡ Some n → slice_get names k ≡ Some v → IsStanding (definitions s) n (standing v)) (meaning : (k : ℕ) (r : Ref) → slice_get refs k ≡ Some r → (m : Meaning) × (slice_get closed.meanings.items k ≡ Some m) × IsMeaning (definitions s) t r m) where
+  rules_here : rules s ≡ map (view_rule (token_of tree)) tree.rules.items
+  rules_here = ap rules_of of ∙ rules_view tree
+
+  name_begins : (n : Text) (v : Name) → IsStanding (definitions s) n (standing v) → name_start tree (Some v) ≡ begins (first_rule (rules s) n)
+  name_begins n v h = ap (place_start tree) h.first ∙ place_begins tree (rules s) rules_here (first_of (named_from 0 n (definitions s))) ∙ ap begins (sym (first_there n (rules s) 0 (rules s) (λ j. ap (slice_get (rules s)) (from_first j))))
+    where
+      from_first : (j : ℕ) → 0 + j ≡ j
+      from_first j = omega arith
+
+  -- where the first rule of the name of the instance at a place begins
+  start_there : (k : ℕ) (r : Ref) → slice_get refs k ≡ Some r → start_at t tree names closed k ≡ begins (first_rule (rules s) (name_of r))
+  start_there k r e =
+      let m = meaning k r e in
+      let w = row_there t m.0.call r m.2.ref in
+      let v = there_is names w.0 (subst (λ (n : ℕ). w.0 < n) (sym all) (slice_get_within t.texts w.0 (name_of r) w.4)) in
+      ap (meaning_start t tree names) m.1 ∙ ap (row_start tree names) w.2 ∙ ap (number_start tree names) w.3 ∙ ap (name_start tree) v.1 ∙ name_begins (name_of r) v.0 (stand w.0 (name_of r) v.0 w.4 v.1)
+
+  module _ (flags : List Bool) (cycles : AreCycles (definitions s) root refs flags) (whole : (r : Ref) → Reaches (definitions s) root r → Contains refs r) where
+    one_start : (o : Option S.Rule) (at : ℕ) → begins o ≡ Some at → (r : S.Rule) × (o ≡ Some r) × (at ≡ name_at r)
+    one_start None at e = cc
+    one_start (Some r) at e = (r, refl, sym (same_Some (name_at r) at e))
+
+    sound : (k : ℕ) (b : Bool) (at : ℕ) → slice_get flags k ≡ Some b → start_if t tree names closed k b ≡ Some at → HasRecursion s root at
+    sound k false at e f = cc
+    sound k true at e f =
+        let r = there_is refs k (subst (λ (n : ℕ). k < n) cycles.all (slice_get_within flags k true e)) in
+        let p = (cycles.each k r.0 r.1).0 e in
+        let q = one_start (first_rule (rules s) (name_of r.0)) at (sym (start_there k r.0 r.1) ∙ f) in
+        record { point = p.0; cycle = p.2; rule = q.0; first = ap (λ z. first_rule (rules s) (name_of z)) p.1 ∙ q.1; offset = q.2 }
+
+    complete : (at : ℕ) → HasRecursion s root at → (k : ℕ) × (b : Bool) × (slice_get flags k ≡ Some b) × (start_if t tree names closed k b ≡ Some at)
+    complete at h =
+        let r = ref_at h.point in
+        let c = whole r h.cycle.back.instance in
+        let there = slice_get_read refs (length refs) c.0 r refl c.1 (sym c.2) in
+        (c.0, true, (cycles.each c.0 r there).1 (h.point, refl, h.cycle), start_there c.0 r there ∙ ap begins h.first ∙ ap Some (sym h.offset))
+
+    pub least_recursion : IsLeast (HasRecursion s root) (least_start t tree names closed flags)
+    least_recursion = least_of_all (start_if t tree names closed) (HasRecursion s root) flags sound complete

@@ -1,0 +1,11 @@
+use Rattle.std.proofs.Common.{List, drop}
+use Rattle.cddl_language.specs.Literals.{Values}
+use Rattle.cddl_language.specs.Terms as L
+use Rattle.cddl_language.specs.Terms.{Text}
+use Rattle.check_literals.specs.Literals.{AreLiterals}
+use Rattle.check_root.specs.RangeFaults.Ends.{AreEnds, IsBadEnd}
+use Rattle.check_root.proofs.OfRangeFaults.Telling.{Goes}
+use Rattle.check_root.proofs.range_faults.ends.bad_end.Given as goal
+
+abbrev pub invariant-loop-question : goal.invariant-loop-question
+invariant-loop-question l = (xs : List L.Definition) (root : Text) (worth : Values) → AreLiterals xs root worth l.terms l.literals → AreEnds xs root worth l.terms l.asked → Goes (IsBadEnd xs worth l.terms) l.asked (drop l.question-index l.asked) l.least

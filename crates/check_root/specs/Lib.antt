@@ -1,0 +1,5 @@
+pub mod ReachedFaults
+pub mod RangeFaults
+pub mod ControlFaults
+pub mod RootFaults
+pub mod SplicedFaults

@@ -1,0 +1,52 @@
+//! What is wrong with ranges and occurrences at the sites that a root reaches.
+mod bounds;
+mod ends;
+
+ghost use Rattle.std.specs.Prelude.{◌≡◌};
+ghost use Rattle.cddl_language.specs.Faults.{HasBadRange, Specification, definitions, rules};
+ghost use Rattle.cddl_language.specs.Literals.{AreRight, AreTokens, Values};
+ghost use Rattle.cddl_language.specs.Terms.{Text};
+ghost use Rattle.check_literals.specs.Literals.{AreLiterals};
+ghost use Rattle.cddl_language.specs.Live.Live.{IsClear};
+ghost use Rattle.check_reached.specs.Asked.{AreAsked};
+ghost use Rattle.check_reached.specs.Reached.{AreReachedSites};
+ghost use Rattle.lists.specs.Least.{IsLeast};
+ghost use Rattle.tree_nodes.specs.View.{token_of, view};
+
+use crate::range_faults::bounds::bad_bounds;
+use crate::range_faults::ends::bad_end;
+use cddl_language::live::reached_parts;
+use cddl_language::numbers_are_spelled;
+use cddl_language::written::{operand_values, site_tokens};
+use cddl_literal::ends_in_ascii;
+use check_literals::Literals;
+use check_reached::Asked;
+use check_reading::sites::Found;
+use check_terms::Terms;
+use check_terms::laws::equal_numbers;
+use lists::lesser;
+use tree_nodes::Tree;
+
+/// The least offset of an end of a range that is no whole number (RFC 8610 section 2.2.2.1), or of an occurrence with a minimum
+/// over its maximum (section 3.2).
+///
+/// The rows are of this table, and the sites of this tree. It takes a time in proportion to what is asked and to the texts of
+/// the occurrences at the sites.
+pub fn bad_range(
+    terms: &Terms<'_>,
+    tree: &Tree<'_>,
+    literals: &Literals,
+    asked: &[Asked],
+    reached: &[Found<'_>],
+) -> Option<usize>
+    ensures { (s : Specification) (root : Text) (worth : Values) → s.tree ≡ view tree.now → AreTokens s.tree → AreRight s.tree worth → IsClear s → AreReachedSites (rules s) root (token_of tree.now) reached.now → AreLiterals (definitions s) root worth terms.now literals.now → AreAsked (rules s) root terms.now asked.now → IsLeast (HasBadRange s worth root) result }
+{
+    equal_numbers(terms);
+    reached_parts();
+    operand_values();
+    site_tokens();
+    numbers_are_spelled();
+    ends_in_ascii();
+    let end = bad_end(terms, literals, asked);
+    lesser(end, bad_bounds(tree, reached))
+}

@@ -1,0 +1,45 @@
+//! What `~` opens, and C11 as a whole.
+
+ghost use Rattle.std.specs.Prelude.{◌≡◌, IfOk};
+ghost use Rattle.cddl_language.specs.Faults.{HasNotUnwrappable, Specification, rules};
+ghost use Rattle.cddl_language.specs.Terms.{Text};
+ghost use Rattle.check_reached.specs.Reached.{AreReachedSites};
+ghost use Rattle.check_root.specs.ReachedFaults.Choices.{ChoosesFromNone};
+ghost use Rattle.check_root.specs.ReachedFaults.Unwrapping.{OpensWrongly};
+ghost use Rattle.lists.specs.Least.{IsLeast};
+ghost use Rattle.check_reading.specs.Survey.Survey.{IsSurvey};
+ghost use Rattle.tree_nodes.specs.View.{token_of, view};
+
+use cddl_language::live::reached_sites;
+use check_reading::sites::Found;
+use check_reading::survey::Survey;
+use check_terms::Terms;
+use check_text::site_faults::wrong_opening;
+use lists::lesser;
+use std::alloc::{AllocError, Global};
+use tree_nodes::Tree;
+
+/// The least offset of a `~`, at a site that is reached, that opens nothing, or that opens a group where a type is demanded (RFC
+/// 8610 section 3.7).
+///
+/// It takes a time in proportion to the sites that are reached, the texts of their tokens and the parameters of all rules. An
+/// error comes only where memory is refused, or where the table has more texts than there are numbers of 32 bits.
+pub fn not_unwrapped(
+    alloc: Global,
+    terms: &Terms<'_>,
+    tree: &Tree<'_>,
+    survey: &Survey<'_>,
+    reached: &[Found<'_>],
+) -> Result<Option<usize>, AllocError>
+    ensures { IfOk result (λ o. (s : Specification) (root : Text) → s.tree ≡ view tree.now → IsSurvey terms.now tree.now survey.now → AreReachedSites (rules s) root (token_of tree.now) reached.now → IsLeast (OpensWrongly s root) o) }
+{
+    reached_sites();
+    wrong_opening(alloc, terms, tree, survey, reached)
+}
+
+/// The least offset of C11, of those of `~` and of `&`.
+pub fn not_unwrappable(opens: Option<usize>, chooses: Option<usize>) -> Option<usize>
+    ensures { (s : Specification) (root : Text) → IsLeast (OpensWrongly s root) opens → IsLeast (ChoosesFromNone s root) chooses → IsLeast (HasNotUnwrappable s root) result }
+{
+    lesser(opens, chooses)
+}

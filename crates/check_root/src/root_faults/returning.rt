@@ -1,0 +1,105 @@
+//! Instances that come back to themselves before an item is taken or gone into (C12).
+
+ghost use Rattle.std.specs.Prelude.{◌≡◌, List, length};
+ghost use Rattle.check_instances.specs.Closed.Closed.{IsClosed};
+ghost use Rattle.check_names.specs.Environment.Names.{AreNames};
+ghost use Rattle.cddl_language.specs.Faults.{HasRecursion, Specification, definitions as definitions_of};
+ghost use Rattle.cddl_language.specs.Prelude.{prelude};
+ghost use Rattle.cddl_language.specs.Reading.{name_at};
+ghost use Rattle.cddl_language.specs.Terms.{Ref, Text};
+ghost use Rattle.check_recursion.specs.Order.{IsOrder};
+ghost use Rattle.check_root.specs.RootFaults.Starts as by;
+ghost use Rattle.check_root.specs.RootFaults.Starts.{least_start};
+ghost use Rattle.lists.specs.Least.{IsLeast};
+ghost use Rattle.check_terms.specs.Definitions.{AreDefinitions};
+ghost use Rattle.check_terms.specs.declared.definition.Definition.{Definition};
+ghost use Rattle.tree_nodes.specs.View.{token_of, view, view_rule};
+
+use check_instances::closed::Closed;
+use check_instances::closed::laws::meaning_at;
+use check_names::environment::Name;
+use check_names::environment::laws::names_stand;
+use check_recursion::Order;
+use check_terms::Terms;
+use lists::lesser;
+use tree_nodes::{Rule, Tree};
+
+/// The least offset of the first rule of a name whose instance comes back to itself (C12): by itself, after `~` or after `&` it
+/// asks itself before an item is taken or gone into, which RFC 8610 does not say the meaning of. A name that the prelude alone
+/// defines has no rule, and tells nothing.
+///
+/// The rows and the numbers of names are of this table. It takes a time in proportion to the instances.
+pub fn recursion(
+    terms: &Terms<'_>,
+    tree: &Tree<'_>,
+    names: &[Name],
+    closed: &Closed,
+    order: &Order,
+) -> Option<usize>
+    ensures { (s : Specification) (root : Text) (refs : List Ref) (known definitions : List Definition) → s.tree ≡ view tree.now → AreDefinitions terms.now known prelude → AreDefinitions terms.now definitions (definitions_of s) → AreNames (length terms.now.texts) known definitions names.now → IsClosed (definitions_of s) root refs terms.now closed.now → IsOrder (definitions_of s) root refs terms.now order.now → IsLeast (HasRecursion s root) result }
+{
+    names_stand();
+    meaning_at();
+    match order {
+        Order::Ranks(_) => None,
+        Order::Cycles(flags) => least_start(terms, tree, names, closed, flags),
+    }
+}
+
+// The least offset of the first rules of the names of all instances with a flag.
+fn least_start(
+    terms: &Terms<'_>,
+    tree: &Tree<'_>,
+    names: &[Name],
+    closed: &Closed,
+    flags: &[bool],
+) -> Option<usize>
+    ensures { result ≡ least_start terms.now tree.now names.now closed.now flags.now }
+{
+    let mut least = None;
+    for (place, flag) in flags.iter().enumerate() {
+        least = lesser(least, start_if(terms, tree, names, closed, place, *flag));
+    }
+    least
+}
+
+fn start_if(
+    terms: &Terms<'_>,
+    tree: &Tree<'_>,
+    names: &[Name],
+    closed: &Closed,
+    place: usize,
+    flag: bool,
+) -> Option<usize>
+    ensures { result ≡ by.start_if terms.now tree.now names.now closed.now place flag }
+{
+    if flag {
+        start_at(terms, tree, names, closed, place)
+    } else {
+        None
+    }
+}
+
+// The offset of the first rule of the name of the instance at this place, if a rule defines it.
+fn start_at(
+    terms: &Terms<'_>,
+    tree: &Tree<'_>,
+    names: &[Name],
+    closed: &Closed,
+    place: usize,
+) -> Option<usize>
+    ensures { result ≡ by.start_at terms.now tree.now names.now closed.now place }
+{
+    let meaning = closed.meanings.get(place)?;
+    let number = terms.row(meaning.call)?.text?;
+    let first = names.get(number as usize)?.first?;
+    let rule = tree.rules.get(first)?;
+    Some(start_of(tree, rule))
+}
+
+// The offset of the name that a rule defines.
+fn start_of(tree: &Tree<'_>, rule: &Rule) -> usize
+    ensures { result ≡ name_at (view_rule (token_of tree.now) rule.now) }
+{
+    rule.start(tree)
+}

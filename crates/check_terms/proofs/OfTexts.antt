@@ -1,0 +1,4 @@
+pub mod Lemmas
+pub mod Digits
+pub mod Places
+pub mod Forms

@@ -1,0 +1,7 @@
+pub mod Clear
+pub mod Firsts
+pub mod Refusing
+pub mod Rooting
+pub mod Staging
+mod OfRuleFaults
+pub mod OfSiteFaults

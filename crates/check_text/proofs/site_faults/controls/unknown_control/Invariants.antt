@@ -1,0 +1,11 @@
+use Rattle.std.proofs.Common.{◌≡◌, drop, map}
+use Rattle.cddl_language.specs.Reading.{rules_of}
+use Rattle.check_reading.specs.Sites.View.{view_found}
+use Rattle.check_reading.specs.Sites.Walk.{all_sites}
+use Rattle.tree_nodes.specs.View.{token_of, view}
+use Rattle.check_text.specs.SiteFaults.Sites.{IsUnknownControlAt}
+use Rattle.check_text.proofs.OfSiteFaults.Telling.{Goes}
+use Rattle.check_text.proofs.site_faults.controls.unknown_control.Given as goal
+
+abbrev pub invariant-loop-found : goal.invariant-loop-found
+invariant-loop-found l = map (view_found (token_of l.tree)) l.found-items ≡ all_sites (rules_of (view l.tree)) → Goes (token_of l.tree) (rules_of (view l.tree)) (λ r. IsUnknownControlAt) l.found-items (drop l.found-index l.found-items) l.least

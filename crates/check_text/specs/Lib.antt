@@ -1,0 +1,4 @@
+pub mod Codes
+pub mod First
+pub mod RuleFaults
+pub mod SiteFaults

@@ -1,0 +1,56 @@
+-- Definitions with another number of parameters than their name has.
+use Rattle.std.specs.Prelude.{◌≡◌, ◌≢◌, ℕ, ◌+◌, nat_eq, if◌then◌else◌, List, [], ◌∷◌, length, Contains, Option, Some, None, slice_get}
+use Rattle.cddl_token.specs.declared.Token.{Token}
+use Rattle.tree_nodes.specs.Syntax.Syntax as S
+use Rattle.cddl_language.specs.Faults.{Specification, definitions, parameter_count, rules}
+use Rattle.cddl_language.specs.Reading.{name_at, name_in, parameters_in}
+use Rattle.tree_nodes.specs.declared.tree.Leaf.{Leaf}
+use Rattle.tree_nodes.specs.declared.tree.Rule.{Rule}
+use Rattle.tree_nodes.specs.View.{view_rule}
+use Rattle.check_terms.specs.declared.definition.Definition.{Definition}
+use Rattle.check_names.specs.declared.environment.environment.Name.{Name}
+use Rattle.check_names.specs.Environment.Names.{Standing, standing}
+use Rattle.lists.specs.Least.{lesser_of}
+
+-- The part of C4 that is told at rules (`by_rule` of `HasWrongArity`).
+pub record HasWrongArityAtRule (s : Specification) (at : ℕ) : Type 0 where
+  pub rule : S.Rule
+  pub count : ℕ
+  pub present : Contains (rules s) rule
+  pub counted : parameter_count (definitions s) (name_in rule) ≡ Some count
+  pub differs : length (parameters_in rule) ≢ count
+  pub offset : at ≡ name_at rule
+
+-- What the code finds.
+
+abbrev pub parameters_there : Option Definition → Option ℕ
+parameters_there None = None
+parameters_there (Some d) = Some (length d.parameters.items)
+
+abbrev pub first_count : List Definition → Option ℕ → Option ℕ
+first_count ds None = None
+first_count ds (Some p) = parameters_there (slice_get ds p)
+
+abbrev pub count_by : List Definition → (known first : Option ℕ) → Option ℕ
+count_by ds (Some k) p = Some 0
+count_by ds None p = first_count ds p
+
+abbrev pub count_of : List Definition → Standing → Option ℕ
+count_of ds s = count_by ds s.known s.first
+
+abbrev pub count_there : List Definition → Option Name → Option ℕ
+count_there ds None = None
+count_there ds (Some n) = count_of ds (standing n)
+
+abbrev pub told_unless : ℕ → Option ℕ → ℕ → Option ℕ
+told_unless own None at = None
+told_unless own (Some count) at = if nat_eq own count then None else Some at
+
+abbrev pub arity_at : (Leaf → Token) → List Definition → List Name → Option Rule → Definition → Option ℕ
+arity_at read ds names None d = None
+arity_at read ds names (Some r) d = told_unless (length d.parameters.items) (count_there ds (slice_get names d.name)) (name_at (view_rule read r))
+
+-- of these definitions, of which the first is of the rule of the place i
+abbrev pub arities : (Leaf → Token) → List Definition → List Name → List Rule → ℕ → List Definition → Option ℕ
+arities read ds names rs i [] = None
+arities read ds names rs i (d ∷ further) = lesser_of (arity_at read ds names (slice_get rs i) d) (arities read ds names rs (i + 1) further)

@@ -1,0 +1,50 @@
+-- The root of a text.
+use Rattle.std.specs.Prelude.{ℕ, Bool, true, false, if◌then◌else◌, ◌||◌, List, [], ◌∷◌, Option, Some, None, slice_get}
+use Rattle.cddl_token.specs.declared.Token.{Token}
+use Rattle.cddl_language.specs.Terms.{Text}
+use Rattle.cddl_language.specs.Reading.{name_at}
+use Rattle.cddl_language.specs.Environment.{is_same}
+use Rattle.tree_nodes.specs.declared.tree.Leaf.{Leaf}
+use Rattle.tree_nodes.specs.declared.tree.Rule.{Rule}
+use Rattle.tree_nodes.specs.View.{view_rule}
+use Rattle.check_terms.specs.declared.definition.Definition.{Definition}
+use Rattle.check_names.specs.declared.environment.environment.Name.{Name}
+use Rattle.check_names.specs.Kinds.Kinds.{is_group_there}
+use Rattle.check_names.specs.declared.kinds.kinds.Kinds.{Kinds}
+
+abbrev pub is_text : Text → Option Text → Bool
+is_text n None = false
+is_text n (Some t) = is_same t n
+
+abbrev pub number_in : List Text → Text → List Definition → Option ℕ
+number_in texts n [] = None
+number_in texts n (d ∷ ds) = if is_text n (slice_get texts d.name) then Some d.name else number_in texts n ds
+
+abbrev pub first_number : List Definition → Option ℕ
+first_number [] = None
+first_number (d ∷ ds) = Some d.name
+
+abbrev pub either_number : Option ℕ → Option ℕ → Option ℕ
+either_number (Some k) o = Some k
+either_number None o = o
+
+abbrev pub root_number : List Text → List Definition → List Definition → Option Text → Option ℕ
+root_number texts known own (Some n) = either_number (number_in texts n own) (number_in texts n known)
+root_number texts known own None = first_number own
+
+abbrev pub has_some : List ℕ → Bool
+has_some [] = false
+has_some (k ∷ ks) = true
+
+-- the offset of the rule, where its name is a group's or has parameters
+abbrev pub bad_by : (Leaf → Token) → Bool → Option Definition → Option Rule → Option ℕ
+bad_by read group (Some d) (Some r) = if group || has_some d.parameters.items then Some (name_at (view_rule read r)) else None
+bad_by read group _ _ = None
+
+abbrev pub bad_first : (Leaf → Token) → Bool → List Definition → List Rule → Option ℕ → Option ℕ
+bad_first read group ds rs None = None
+bad_first read group ds rs (Some p) = bad_by read group (slice_get ds p) (slice_get rs p)
+
+abbrev pub bad_at : (Leaf → Token) → Kinds → List Definition → List Rule → ℕ → Option Name → Option ℕ
+bad_at read ks ds rs k None = None
+bad_at read ks ds rs k (Some n) = bad_first read (is_group_there ks k) ds rs n.first

@@ -1,0 +1,11 @@
+//! What is wrong with the rules of a text, whatever its root leads to.
+mod arity;
+mod duplicates;
+mod kinds;
+mod root;
+mod start;
+
+pub use crate::rule_faults::arity::wrong_arity;
+pub use crate::rule_faults::duplicates::duplicate;
+pub use crate::rule_faults::kinds::kind_clash;
+pub use crate::rule_faults::root::{bad_root, no_root, root_of};

@@ -1,0 +1,16 @@
+//! The faults that are told at sites of a text, whatever a root reaches.
+mod arity;
+mod controls;
+mod hashes;
+mod kinds;
+mod marks;
+mod names;
+mod openings;
+mod undefined_names;
+
+pub use crate::site_faults::arity::wrong_arity;
+pub use crate::site_faults::controls::unknown_control;
+pub use crate::site_faults::hashes::bad_hash;
+pub use crate::site_faults::kinds::group_as_type;
+pub use crate::site_faults::openings::wrong_opening;
+pub use crate::site_faults::undefined_names::undefined;

@@ -1,0 +1,116 @@
+//! The faults of the whole text, whatever its root reaches.
+
+ghost use Rattle.std.specs.Prelude.{◌≡◌, [], ◌∷◌, IfOk, option_map};
+ghost use Rattle.cddl_token.specs.declared.Code.TheVariants.{Duplicate, KindClash, Undefined, Arity, NoRoot, BadRoot, GroupAsType, HashForm, UnknownControl};
+ghost use Rattle.check_text.specs.Codes.{text_codes};
+ghost use Rattle.check_text.specs.First.{IsFirst};
+ghost use Rattle.cddl_language.specs.Faults.{HasWrongArity, IsFaultAt, Specification};
+ghost use Rattle.cddl_language.specs.Literals.{Values};
+ghost use Rattle.lists.specs.Least.{IsLeast};
+ghost use Rattle.check_reading.specs.Survey.Survey.{IsSurvey};
+ghost use Rattle.tree_nodes.specs.View.{view};
+
+use crate::fault::{Fault, fault_of, first_of};
+use crate::rule_faults::{bad_root, duplicate, kind_clash, no_root};
+use crate::site_faults::{bad_hash, group_as_type, undefined, unknown_control};
+use cddl_token::Code;
+use check_reading::survey::Survey;
+use check_terms::Terms;
+use lists::lesser;
+use std::alloc::{AllocError, Global};
+use tree_nodes::Tree;
+
+/// The first fault of the whole text, whatever its root reaches: of the lowest of C1 to C9 that stands anywhere, the least
+/// offset (RFC 8610; the codes are those of [`Code`]). The root is the given name, or the first rule's.
+///
+/// It takes a time of n log n for a text of n bytes. An error comes only where memory is refused, or where the table has more
+/// texts than there are numbers of 32 bits.
+pub fn text_fault(
+    alloc: Global,
+    terms: &Terms<'_>,
+    tree: &Tree<'_>,
+    survey: &Survey<'_>,
+    given: Option<&str>,
+) -> Result<Option<Fault>, AllocError>
+    ensures { IfOk result (λ o. (s : Specification) (worth : Values) → s.tree ≡ view tree.now → s.given ≡ option_map (λ t. t.now) given.entry → IsSurvey terms.now tree.now survey.now → IsFirst (IsFaultAt s worth) text_codes o) }
+{
+    let rules = rule_fault(alloc, terms, tree, survey)?;
+    let names = name_fault(alloc, terms, tree, survey)?;
+    let root = root_fault(terms, tree, survey, given);
+    let types = type_fault(alloc, terms, tree, survey)?;
+    Ok(first_of(rules, first_of(names, first_of(root, types))))
+}
+
+// The first fault of C1 and C2: of definitions.
+fn rule_fault(
+    alloc: Global,
+    terms: &Terms<'_>,
+    tree: &Tree<'_>,
+    survey: &Survey<'_>,
+) -> Result<Option<Fault>, AllocError>
+    ensures { IfOk result (λ o. (s : Specification) (worth : Values) → s.tree ≡ view tree.now → IsSurvey terms.now tree.now survey.now → IsFirst (IsFaultAt s worth) (Duplicate ∷ KindClash ∷ []) o) }
+{
+    let twice = fault_of(Code::Duplicate, duplicate(alloc, terms, tree, survey)?);
+    let clash = fault_of(Code::KindClash, kind_clash(terms, tree, survey));
+    Ok(first_of(twice, clash))
+}
+
+// The least offset of a wrong number of arguments or of parameters, at rules and at names.
+fn wrong_arity(
+    alloc: Global,
+    terms: &Terms<'_>,
+    tree: &Tree<'_>,
+    survey: &Survey<'_>,
+) -> Result<Option<usize>, AllocError>
+    ensures { IfOk result (λ o. (s : Specification) → s.tree ≡ view tree.now → IsSurvey terms.now tree.now survey.now → IsLeast (HasWrongArity s) o) }
+{
+    let at_rules = crate::rule_faults::wrong_arity(terms, tree, survey);
+    let at_names = crate::site_faults::wrong_arity(alloc, terms, tree, survey)?;
+    Ok(lesser(at_rules, at_names))
+}
+
+// The first fault of C3 and C4: of names that are used.
+fn name_fault(
+    alloc: Global,
+    terms: &Terms<'_>,
+    tree: &Tree<'_>,
+    survey: &Survey<'_>,
+) -> Result<Option<Fault>, AllocError>
+    ensures { IfOk result (λ o. (s : Specification) (worth : Values) → s.tree ≡ view tree.now → IsSurvey terms.now tree.now survey.now → IsFirst (IsFaultAt s worth) (Undefined ∷ Arity ∷ []) o) }
+{
+    let undefined = fault_of(Code::Undefined, undefined(alloc, terms, tree, survey)?);
+    let arity = fault_of(Code::Arity, wrong_arity(alloc, terms, tree, survey)?);
+    Ok(first_of(undefined, arity))
+}
+
+// The first fault of C5 and C6: of the root.
+fn root_fault(
+    terms: &Terms<'_>,
+    tree: &Tree<'_>,
+    survey: &Survey<'_>,
+    given: Option<&str>,
+) -> Option<Fault>
+    ensures { (s : Specification) (worth : Values) → s.tree ≡ view tree.now → s.given ≡ option_map (λ t. t.now) given.entry → IsSurvey terms.now tree.now survey.now → IsFirst (IsFaultAt s worth) (NoRoot ∷ BadRoot ∷ []) result }
+{
+    let none = fault_of(Code::NoRoot, no_root(terms, tree, survey, given));
+    let bad = fault_of(Code::BadRoot, bad_root(terms, tree, survey, given));
+    first_of(none, bad)
+}
+
+// The first fault of C7, C8 and C9: of what stands in the place of a type.
+fn type_fault(
+    alloc: Global,
+    terms: &Terms<'_>,
+    tree: &Tree<'_>,
+    survey: &Survey<'_>,
+) -> Result<Option<Fault>, AllocError>
+    ensures { IfOk result (λ o. (s : Specification) (worth : Values) → s.tree ≡ view tree.now → IsSurvey terms.now tree.now survey.now → IsFirst (IsFaultAt s worth) (GroupAsType ∷ HashForm ∷ UnknownControl ∷ []) o) }
+{
+    let group = fault_of(
+        Code::GroupAsType,
+        group_as_type(alloc, terms, tree, survey)?,
+    );
+    let hash = fault_of(Code::HashForm, bad_hash(tree, survey));
+    let control = fault_of(Code::UnknownControl, unknown_control(tree, survey));
+    Ok(first_of(group, first_of(hash, control)))
+}

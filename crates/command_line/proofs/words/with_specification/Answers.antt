@@ -1,0 +1,17 @@
+use Rattle.std.proofs.Common.{refl}
+use Rattle.std.proofs.lemmas.Result.{IfOk-weaker}
+use Rattle.clap.specs.Words.{app_of}
+use Rattle.command_line.proofs.Commands.{IsApp, with_arg}
+use Rattle.command_line.proofs.words.with_specification.Goals as goal
+
+pub returns-clause-app : goal.returns-clause-app
+returns-clause-app c =
+    let old_is : IsApp c.args.command (app_of c.args.command) = record { shape = refl; own = c.requires } in
+    let step = with_arg old_is c.spec_arg.ensures.rule c.spec_arg.ensures.own c.in_ok-arg.ensures in
+    IfOk-weaker c.arg-2.result _ _ (λ r h. (with_arg step c.root_arg.ensures.rule c.root_arg.ensures.own h).shape) c.arg-2.ensures
+
+pub returns-clause-local : goal.returns-clause-local
+returns-clause-local c =
+    let old_is : IsApp c.args.command (app_of c.args.command) = record { shape = refl; own = c.requires } in
+    let step = with_arg old_is c.spec_arg.ensures.rule c.spec_arg.ensures.own c.in_ok-arg.ensures in
+    IfOk-weaker c.arg-2.result _ _ (λ r h. (with_arg step c.root_arg.ensures.rule c.root_arg.ensures.own h).own) c.arg-2.ensures

@@ -1,0 +1,180 @@
+-- The command line that the program reads, and what it gives.
+use Rattle.std.specs.Prelude.{◌≡◌, ℕ, ◌-◌, ◌^◌, ◌≤◌, pos, Bool, true, false, List, [], ◌∷◌, codes, if◌then◌else◌, Option, Some, None, option_and_then, option_map, string_bytes}
+use Rattle.std.specs.Str.{bytes_eq}
+use Rattle.std.specs.Str.Parse.{IsNumeral, digits_value, without_leading_plus}
+use Rattle.cbor_data.specs.Faults.{Bounds}
+use Rattle.cbor_read.specs.declared.limits.TheConstants.{MOST_DEPTH, MOST_ITEM_BYTES}
+use Rattle.clap.specs.declared.builder.action.ArgAction.TheVariants.{SetTrue}
+use Rattle.clap.specs.Words.{App, Row, Rule, Text, fault_of, new_app, new_rule, with_rule, with_subcommand, subcommand_of, first_of, one_of}
+use Rattle.clap.specs.declared.builder.value_parser.ValueParser.TheVariants.{Signed, Unsigned}
+use Rattle.command_line.specs.declared.choice.Options.{Options}
+use Rattle.command_line.specs.declared.choice.Task.{Task}
+use Rattle.command_line.specs.declared.choice.Task.TheVariants.{Check, Validate, Rewrite, Show}
+use Rattle.command_line.specs.declared.choice.TheConstants.{STEPS}
+use Rattle.command_line.specs.declared.choice.Use.{Use}
+use Rattle.command_line.specs.declared.choice.Use.TheVariants.{Words, Memory}
+
+abbrev pub spec_rule : Rule
+spec_rule = record (new_rule (codes "spec")) { value_names = 1; required = true }
+
+-- `--root NAME`
+abbrev pub root_rule : Rule
+root_rule = record (new_rule (codes "root")) { long = Some (codes "root"); value_names = 1 }
+
+abbrev pub file_rule : Rule
+file_rule = record (new_rule (codes "file")) { value_names = 1 }
+
+-- an option with a number from 1 to `most`, which is the number where the option is absent
+abbrev pub number_rule : Text → ℕ → Text → Rule
+number_rule name most default =
+    record (new_rule name) { long = Some name; value_names = 1; defaults = default ∷ []; parser = Some (Signed (pos 1) (pos most)) }
+
+abbrev pub depth_rule : Rule
+depth_rule = number_rule (codes "depth") MOST_DEPTH (codes "256")
+
+abbrev pub item_bytes_rule : Rule
+item_bytes_rule = number_rule (codes "item-bytes") MOST_ITEM_BYTES (codes "16777216")
+
+abbrev pub most_steps : ℕ
+most_steps = 2 ^ 64 - 1
+
+-- `--steps N`
+abbrev pub steps_rule : Rule
+steps_rule =
+    record (new_rule (codes "steps")) { long = Some (codes "steps"); value_names = 1; defaults = codes "10000000" ∷ []; parser = Some (Unsigned 1 most_steps) }
+
+-- an option without a value
+abbrev pub flag_rule : Text → Rule
+flag_rule name = record (new_rule name) { long = Some name; action = Some SetTrue }
+
+-- `--quiet`
+abbrev pub quiet_rule : Rule
+quiet_rule = flag_rule (codes "quiet")
+
+-- `--deterministic`
+abbrev pub deterministic_rule : Rule
+deterministic_rule = flag_rule (codes "deterministic")
+
+-- a command with `SPEC` and `--root NAME`
+abbrev pub spec_app : App → App
+spec_app a = with_rule (with_rule a spec_rule) root_rule
+
+-- a command with `[FILE]`, `--depth N` and `--item-bytes N`
+abbrev pub stream_app : App → App
+stream_app a = with_rule (with_rule (with_rule a file_rule) depth_rule) item_bytes_rule
+
+-- a command with `SPEC`, `[FILE]`, all options of these, and `--steps N`
+abbrev pub judging_app : App → App
+judging_app a = with_rule (stream_app (spec_app a)) steps_rule
+
+-- `check SPEC`, with `--root`
+abbrev pub check_app : App
+check_app = spec_app (new_app (codes "check"))
+
+-- `validate SPEC [FILE]`, with these options and `--quiet`
+abbrev pub validate_app : App
+validate_app = with_rule (judging_app (new_app (codes "validate"))) quiet_rule
+
+-- `rewrite SPEC [FILE]`, with these options and `--deterministic`
+abbrev pub rewrite_app : App
+rewrite_app = with_rule (judging_app (new_app (codes "rewrite"))) deterministic_rule
+
+-- `show [FILE]`, with those of a stream
+abbrev pub show_app : App
+show_app = stream_app (new_app (codes "show"))
+
+-- the program's command, which has a version, and of which a subcommand is required
+abbrev pub top_app : App
+top_app = record { top = record ((new_app (codes "cddlseq")).top) { has_version = true; subcommand_required = true }; subs = [] }
+
+abbrev pub program_app : App
+program_app = with_subcommand (with_subcommand (with_subcommand (with_subcommand top_app check_app.top) validate_app.top) rewrite_app.top) show_app.top
+
+abbrev pub task_name : Task → Text
+task_name Check = codes "check"
+task_name Validate = codes "validate"
+task_name Rewrite = codes "rewrite"
+task_name Show = codes "show"
+
+-- the subcommand that the words name, by clap's rules
+unfoldable pub named_command : List Text → Option Text
+named_command words = option_map (λ p. p.0) (subcommand_of program_app words)
+
+-- the name of the file with the stream, unless standard input is read: without a name, and for `-`
+abbrev pub named_stream : Option Text → Option Text
+named_stream None = None
+named_stream (Some name) = if bytes_eq name (codes "-") then None else Some name
+
+-- the value that the words give this argument of it
+unfoldable pub given_text : Text → List Text → Option Text
+given_text id words = option_and_then (λ p. first_of id p.1) (subcommand_of program_app words)
+
+-- the text that they give an option with a number
+unfoldable pub given_number : Text → List Text → Option Text
+given_number id words = option_and_then (λ p. one_of id p.1) (subcommand_of program_app words)
+
+-- the text is this number, from 1 to `most`, in decimal
+abbrev pub IsNumber : ℕ → Option Text → ℕ → Type 0
+IsNumber most None n = ⊥
+IsNumber most (Some text) n = IsNumeral 10 (without_leading_plus text) × (n ≡ digits_value 10 (without_leading_plus text)) × (1 ≤ n) × (n ≤ most)
+
+-- These texts are the two numbers of the limits.
+pub record AreLimits (depth_text item_bytes_text : Option Text) (limits : Bounds) : Type 0 where
+  pub depth : IsNumber MOST_DEPTH depth_text limits.depth
+  pub item_bytes : IsNumber MOST_ITEM_BYTES item_bytes_text limits.item_bytes
+
+-- the limits of a task: those of its options, and the greatest ones where it has none
+abbrev pub AreTaskLimits : Task → Option Text → Option Text → Bounds → Type 0
+AreTaskLimits Check depth_text item_bytes_text limits = limits ≡ record { depth = MOST_DEPTH; item_bytes = MOST_ITEM_BYTES }
+AreTaskLimits Validate depth_text item_bytes_text limits = AreLimits depth_text item_bytes_text limits
+AreTaskLimits Rewrite depth_text item_bytes_text limits = AreLimits depth_text item_bytes_text limits
+AreTaskLimits Show depth_text item_bytes_text limits = AreLimits depth_text item_bytes_text limits
+
+-- the steps of a task: those of its option, and the default where it has none
+abbrev pub AreTaskSteps : Task → Option Text → ℕ → Type 0
+AreTaskSteps Check text steps = steps ≡ STEPS
+AreTaskSteps Validate text steps = IsNumber most_steps text steps
+AreTaskSteps Rewrite text steps = IsNumber most_steps text steps
+AreTaskSteps Show text steps = steps ≡ STEPS
+
+-- whether an option without a value is given
+abbrev pub is_set : Option Text → Bool
+is_set None = false
+is_set (Some text) = bytes_eq text (codes "true")
+
+-- what the rows of a subcommand's matches give
+pub record AreRead (task : Task) (rows : List Row) (o : Options) : Type 0 where
+  pub task_is : o.task ≡ task
+  pub spec : option_map (λ s. string_bytes s) o.spec ≡ first_of (codes "spec") rows
+  pub root : option_map (λ s. string_bytes s) o.root ≡ first_of (codes "root") rows
+  pub file : option_map (λ s. string_bytes s) o.file ≡ first_of (codes "file") rows
+  pub limits : AreTaskLimits task (one_of (codes "depth") rows) (one_of (codes "item-bytes") rows) o.limits
+  pub steps : AreTaskSteps task (one_of (codes "steps") rows) o.steps
+  pub quiet : o.quiet ≡ is_set (first_of (codes "quiet") rows)
+  pub deterministic : o.deterministic ≡ is_set (first_of (codes "deterministic") rows)
+
+abbrev pub AreUnread : Task → List Row → Use → Type 0
+AreUnread task rows (Words e) = (o : Options) → AreRead task rows o → ⊥
+AreUnread task rows Memory = Unit {0}
+
+-- By clap's rules nothing is wrong with the words, and they give these options.
+pub record AreChosen (o : Options) (words : List Text) : Type 0 where
+  pub taken : fault_of program_app words ≡ []
+  pub task : named_command words ≡ Some (task_name o.task)
+  pub spec : option_map (λ s. string_bytes s) o.spec ≡ given_text (codes "spec") words
+  pub root : option_map (λ s. string_bytes s) o.root ≡ given_text (codes "root") words
+  pub file : option_map (λ s. string_bytes s) o.file ≡ given_text (codes "file") words
+  pub limits : AreTaskLimits o.task (given_number (codes "depth") words) (given_number (codes "item-bytes") words) o.limits
+  pub steps : AreTaskSteps o.task (given_number (codes "steps") words) o.steps
+  pub quiet : o.quiet ≡ is_set (given_text (codes "quiet") words)
+  pub deterministic : o.deterministic ≡ is_set (given_text (codes "deterministic") words)
+
+-- Where the words are refused they give no options.
+abbrev pub IsMisuse : List Text → Use → Type 0
+IsMisuse words (Words e) = (o : Options) → AreChosen o words → ⊥
+IsMisuse words Memory = Unit {0}
+
+-- Want of memory stays what it is, and what is wrong with the words may be told in other words.
+abbrev pub IsToldOf : Use → Use → Type 0
+IsToldOf (Words e) told = Unit {0}
+IsToldOf Memory told = told ≡ Memory

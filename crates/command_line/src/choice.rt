@@ -1,0 +1,93 @@
+//! What the words of the command line say.
+
+ghost use Rattle.std.specs.Prelude.{◌≡◌, Some, option_map, string_bytes};
+ghost use Rattle.command_line.specs.Chosen.{named_stream};
+ghost use Rattle.command_line.specs.Errors.{IsUseOf};
+ghost use Rattle.command_line.specs.declared.choice.Use.TheVariants.{Memory as OutOfMemory};
+
+use cbor_read::Limits;
+use clap::Error;
+use clap::error::ErrorKind;
+use std::alloc::AllocError;
+
+/// How many questions a specification may ask of one item, where no option says it.
+pub const STEPS: u64 = 10_000_000;
+
+/// What the program is asked to do.
+#[derive(Clone, Copy, Debug, PartialEq, Eq)]
+pub enum Task {
+    /// To say whether a specification is accepted.
+    Check,
+    /// To validate a stream against a specification.
+    Validate,
+    /// To write the items of a stream that match a specification in preferred or in deterministic encoding.
+    Rewrite,
+    /// To show the items of a stream, whatever they are.
+    Show,
+}
+
+/// What the words say.
+#[derive(Debug, Drop)]
+pub struct Options {
+    /// What to do.
+    pub task: Task,
+    /// The name of the file with the specification, if the task has one.
+    pub spec: Option<String>,
+    /// The name of the rule that is the root. Without it the first rule of the specification is.
+    pub root: Option<String>,
+    /// The name of the file with the stream. Without it standard input is read.
+    pub file: Option<String>,
+    /// The greatest depth of an item, and the most bytes of one.
+    pub limits: Limits,
+    /// How many questions the specification may ask of one item.
+    pub steps: u64,
+    /// Whether a stream is validated without a line for each item.
+    pub quiet: bool,
+    /// Whether items are rewritten in deterministic encoding (RFC 8949 section 4.2.1), and not in preferred encoding.
+    pub deterministic: bool,
+}
+
+/// The name of the file with the stream. Without one, and where it is `-`, standard input is read.
+pub fn stream_name(options: &Options) -> Option<&str>
+    ensures { option_map (λ n. n.now) result ≡ named_stream (option_map (λ s. string_bytes s) options.now.file) }
+{
+    match &options.file {
+        Some(name) => unless_dash(name.as_str()),
+        None => None,
+    }
+}
+
+fn unless_dash(name: &str) -> Option<&str>
+    ensures { option_map (λ n. n.now) result ≡ named_stream (Some name.now) }
+{
+    if name == "-" { None } else { Some(name) }
+}
+
+/// Why the words say nothing.
+#[derive(Drop)]
+pub enum Use {
+    /// They are no command, or ask for help.
+    Words(Error),
+    /// An allocation was refused.
+    Memory,
+}
+
+impl From<Error> for Use {
+    ghost from_gives = { λ e u. IsUseOf e u };
+
+    fn from(error: Error) -> Use {
+        if error.kind() == ErrorKind::OutOfMemory {
+            Use::Memory
+        } else {
+            Use::Words(error)
+        }
+    }
+}
+
+impl From<AllocError> for Use {
+    ghost from_gives = { λ _ u. u ≡ OutOfMemory };
+
+    fn from(_error: AllocError) -> Use {
+        Use::Memory
+    }
+}

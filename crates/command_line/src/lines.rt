@@ -1,0 +1,107 @@
+//! Lines on standard error, and what clap says of the words.
+
+ghost use Rattle.std.specs.Prelude.{◌≡◌, ◌≢◌, ◌⊎◌, ◌<◌, ◌^◌, ◌-◌, IfOk, string_bytes};
+ghost use Rattle.std.specs.Io.KnownBytes.{Appends};
+ghost use Rattle.item_nodes.specs.Counted.{device_of, failures_of, HasRisen};
+ghost use Rattle.clap.specs.Words.{kind_of};
+ghost use Rattle.command_line.specs.Errors.{IsAskedFor};
+ghost use Rattle.command_line.specs.Shown.{file_line, memory_line};
+
+use crate::shown::push_shown;
+use crate::status::BROKEN;
+use cbor_item::{Counted, write_bytes};
+use clap::Error;
+use std::alloc::{AllocError, Global};
+use std::io::Write;
+
+/// Writes a text to the standard error: all of it, unless the device failed. A failed write is passed over.
+pub fn say<E: Write>(text: &[u8], err: &mut Counted<E>)
+    ensures { failures_of err.new ≡ failures_of err.old → failures_of err.old < 2 ^ 64 - 1 →
+        Appends (E.contents (device_of err.old)) (E.contents (device_of err.new)) text.now }
+{
+    put(text, err);
+}
+
+/// Says that a file cannot be used, in one line: `text`, what is shown of the file's name, and a line end. Control characters
+/// of the name are shown as `\u` and four hex digits. It answers the status.
+pub fn say_of_file<E: Write>(alloc: Global, text: &str, name: &str, err: &mut Counted<E>) -> u8
+    ensures status { result ≡ BROKEN }
+    ensures line { failures_of err.new ≡ failures_of err.old → failures_of err.old < 2 ^ 64 - 1 →
+        Appends (E.contents (device_of err.old)) (E.contents (device_of err.new)) (file_line text.now name.now)
+        ⊎ Appends (E.contents (device_of err.old)) (E.contents (device_of err.new)) memory_line }
+{
+    match line_of_file(alloc, text, name) {
+        Ok(line) => {
+            say(line.as_str().as_bytes(), err);
+            BROKEN
+        }
+        Err(_) => say_no_memory(err),
+    }
+}
+
+fn line_of_file(alloc: Global, text: &str, name: &str) -> Result<String, AllocError>
+    ensures { IfOk result (λ line. string_bytes line ≡ file_line text.now name.now) }
+{
+    let mut line = String::from_str(alloc, text)?;
+    push_shown(&mut line, name)?;
+    line.push('\n')?;
+    Ok(line)
+}
+
+/// Says that an allocation was refused, and answers the status.
+pub fn say_no_memory<E: Write>(err: &mut Counted<E>) -> u8
+    ensures status { result ≡ BROKEN }
+    ensures line { failures_of err.new ≡ failures_of err.old → failures_of err.old < 2 ^ 64 - 1 →
+        Appends (E.contents (device_of err.old)) (E.contents (device_of err.new)) memory_line }
+{
+    say(b"out of memory\n", err);
+    BROKEN
+}
+
+/// Says what clap says of words that give no options: help and the version, where the words ask for them, on `out`, and what
+/// is wrong with the words on `err`. It answers the status: 0 where the words ask and the text went out whole, and else
+/// [`BROKEN`], with a line on `err` where a write failed or an allocation was refused.
+pub fn say_words<W: Write, E: Write>(
+    alloc: Global,
+    error: &Error,
+    out: &mut Counted<W>,
+    err: &mut Counted<E>,
+) -> u8
+    ensures asked { result ≢ BROKEN → (result ≡ 0) × IsAskedFor (kind_of error.now) × (failures_of out.new ≡ failures_of out.old) }
+    ensures broken { result ≡ BROKEN → (out.new ≡ out.old) ⊎ HasRisen (failures_of out.old) (failures_of out.new) }
+    ensures apart { (IsAskedFor (kind_of error.now) → ⊥) → out.new ≡ out.old }
+{
+    let Ok(text) = format!(in alloc; "{error}") else {
+        return say_no_memory(err);
+    };
+    if error.use_stderr() {
+        say(text.as_str().as_bytes(), err);
+        return BROKEN;
+    }
+    match write_bytes(text.as_str().as_bytes(), out) {
+        Ok(()) => 0,
+        Err(fault) => say_cut(alloc, fault.written, err),
+    }
+}
+
+// Says that a write failed behind so many bytes, and answers the status.
+fn say_cut<E: Write>(alloc: Global, written: u128, err: &mut Counted<E>) -> u8
+    ensures { result ≡ BROKEN }
+{
+    match format!(in alloc; "write failed after {written} bytes\n") {
+        Ok(line) => {
+            say(line.as_str().as_bytes(), err);
+            BROKEN
+        }
+        Err(_) => say_no_memory(err),
+    }
+}
+
+// Writes a text, and leaves a failure to the device's count.
+fn put<E: Write>(text: &[u8], err: &mut Counted<E>)
+    ensures text { failures_of err.new ≡ failures_of err.old → failures_of err.old < 2 ^ 64 - 1 →
+        Appends (E.contents (device_of err.old)) (E.contents (device_of err.new)) text.now }
+    ensures count { (failures_of err.new ≡ failures_of err.old) ⊎ HasRisen (failures_of err.old) (failures_of err.new) }
+{
+    let _ = write_bytes(text, err);
+}

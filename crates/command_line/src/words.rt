@@ -1,0 +1,452 @@
+//! The words of the command line.
+
+ghost use Rattle.std.specs.Prelude.{◌≡◌, ℕ, codes, false, map, IfOk, IfErr, IfSome, IfNone, option_map, string_bytes};
+ghost use Rattle.cbor_data.specs.Faults.{Bounds};
+ghost use Rattle.clap.specs.Words.{app_of, first_value, found_of, one_text, rows_of, rule_of};
+ghost use Rattle.clap.specs.declared.builder.command.Command.TheViews.{out-Command};
+ghost use Rattle.command_line.specs.Chosen.{check_app, file_rule, flag_rule, is_set, judging_app, most_steps, number_rule, program_app, rewrite_app, root_rule, show_app, spec_app, spec_rule, steps_rule, stream_app, top_app, validate_app, AreChosen, AreLimits, AreRead, AreTaskLimits, AreTaskSteps, AreUnread, IsMisuse, IsNumber, IsToldOf};
+
+use crate::choice::{Options, STEPS, Task, Use};
+use crate::shown::push_shown;
+use cbor_read::{Limits, MOST_DEPTH, MOST_ITEM_BYTES};
+use clap::builder::ValueParser;
+use clap::error::ErrorKind;
+use clap::{Arg, ArgAction, ArgMatches, Command, Error};
+use std::alloc::{AllocError, Global};
+
+/// The version of the program.
+pub const VERSION: &str = "0.1.0";
+
+// What the help of each command ends with: an example, and the exit statuses.
+const CHECK_HELP: &str = "\
+Example:
+  cddlseq check messages.cddl
+
+Exit status:
+  0  The specification is accepted
+  2  The specification is refused: standard error says why
+  3  The command line, a file, a device or memory failed
+";
+
+const VALIDATE_HELP: &str = "\
+Example:
+  cddlseq validate messages.cddl messages.cborseq
+
+Exit status:
+  0  All of the stream is items that match
+  1  The stream failed: the last line says where and why
+  2  The specification is refused: standard error says why
+  3  The command line, a file, a device or memory failed
+";
+
+const REWRITE_HELP: &str = "\
+Example:
+  cddlseq rewrite messages.cddl < messages.cborseq > preferred.cborseq
+
+The line of the end goes to standard error.
+
+Exit status:
+  0  All of the stream is items that match
+  1  The stream failed: the line of the end says where and why
+  2  The specification is refused: standard error says why
+  3  The command line, a file, a device or memory failed
+";
+
+const SHOW_HELP: &str = "\
+Example:
+  cddlseq show messages.cborseq
+
+Exit status:
+  0  All of the stream is items
+  1  The stream failed: the last line says where and why
+  3  The command line, a file, a device or memory failed
+";
+
+/// Reads the words of the command line, the program's name first: `check SPEC`, `validate SPEC [FILE]`,
+/// `rewrite SPEC [FILE]` or `show [FILE]`; where there is a SPEC with `--root NAME`; where there is a stream with
+/// `--depth N`, from 1 to [`MOST_DEPTH`], and `--item-bytes N`, from 1 to [`MOST_ITEM_BYTES`]; where there are both with
+/// `--steps N`, from 1; `validate` with `--quiet`, and `rewrite` with `--deterministic`. The greatest number is the default of
+/// the limits, and [`STEPS`] that of the steps; so are they where a command has no such option.
+///
+/// # Errors
+///
+/// [`Use::Words`] where the words are no such command, or ask for help or by `--version` for the version; [`Use::Memory`]
+/// where an allocation was refused. What clap says of wrong words has no control characters of theirs: each is shown as `\u`
+/// and four hex digits.
+pub fn options(alloc: Global, words: &[&str]) -> Result<Options, Use>
+    ensures chosen { IfOk result (λ o. AreChosen o (map (λ w. w.now) words.entry.now)) }
+    ensures misuse { IfErr result (IsMisuse (map (λ w. w.now) words.entry.now)) }
+{
+    match chosen(alloc, words) {
+        Ok(options) => Ok(options),
+        Err(why) => Err(told(alloc, words, why)),
+    }
+}
+
+// Why the words give no options, in words that can be printed: clap tells it of the words as they are shown.
+fn told(alloc: Global, words: &[&str], why: Use) -> Use
+    ensures { IsToldOf why result }
+{
+    match why {
+        Use::Words(error) => {
+            if !error.use_stderr() {
+                return Use::Words(error);
+            }
+            match shown_misuse(alloc, words) {
+                Ok(why) => why,
+                Err(_) => Use::Memory,
+            }
+        }
+        Use::Memory => Use::Memory,
+    }
+}
+
+// What clap says of the words as they are shown. It takes no such words where it refuses them as they are.
+fn shown_misuse(alloc: Global, words: &[&str]) -> Result<Use, AllocError> {
+    let shown = shown_words(alloc, words)?;
+    match command(alloc)?.try_get_matches_from(shown.as_slice()) {
+        Ok(_) => Ok(misuse(alloc, ErrorKind::InvalidValue, "the words give no options")),
+        Err(error) => Ok(Use::from(error)),
+    }
+}
+
+fn shown_words(alloc: Global, words: &[&str]) -> Result<Vec<String>, AllocError> {
+    let mut shown = Vec::new(alloc);
+    for word in words {
+        let mut text = String::new(alloc);
+        push_shown(&mut text, *word)?;
+        shown.push(text)?;
+    }
+    Ok(shown)
+}
+
+// The options that the words give.
+fn chosen(alloc: Global, words: &[&str]) -> Result<Options, Use>
+    ensures chosen { IfOk result (λ o. AreChosen o (map (λ w. w.now) words.entry.now)) }
+    ensures misuse { IfErr result (IsMisuse (map (λ w. w.now) words.entry.now)) }
+{
+    let matches = command(alloc)?.try_get_matches_from(words)?;
+    if let Some(given) = matches.subcommand_matches("check") {
+        return options_of(alloc, Task::Check, given);
+    }
+    if let Some(given) = matches.subcommand_matches("validate") {
+        return options_of(alloc, Task::Validate, given);
+    }
+    if let Some(given) = matches.subcommand_matches("rewrite") {
+        return options_of(alloc, Task::Rewrite, given);
+    }
+    if let Some(given) = matches.subcommand_matches("show") {
+        return options_of(alloc, Task::Show, given);
+    }
+    Err(misuse(alloc, ErrorKind::MissingSubcommand, "no command is given"))
+}
+
+// The options of a task among what was given with it.
+fn options_of(alloc: Global, task: Task, given: &ArgMatches<'_>) -> Result<Options, Use>
+    ensures read { IfOk result (AreRead task (rows_of (found_of given.now))) }
+    ensures misuse { IfErr result (AreUnread task (rows_of (found_of given.now))) }
+{
+    let spec = value(alloc, given, "spec")?;
+    let root = value(alloc, given, "root")?;
+    let file = value(alloc, given, "file")?;
+    let Some(limits) = task_limits(task, given) else {
+        return Err(range_error(alloc));
+    };
+    let Some(steps) = task_steps(task, given) else {
+        return Err(range_error(alloc));
+    };
+    Ok(Options {
+        task,
+        spec,
+        root,
+        file,
+        limits,
+        steps,
+        quiet: is_given(given, "quiet"),
+        deterministic: is_given(given, "deterministic"),
+    })
+}
+
+// The limits of a task: those of its options, and the greatest ones where it has none.
+fn task_limits(task: Task, given: &ArgMatches<'_>) -> Option<Limits>
+    ensures some { IfSome result (AreTaskLimits task (one_text (found_of given.now) (codes "depth")) (one_text (found_of given.now) (codes "item-bytes"))) }
+    ensures none { IfNone result ((limits : Bounds) → AreTaskLimits task (one_text (found_of given.now) (codes "depth")) (one_text (found_of given.now) (codes "item-bytes")) limits → ⊥) }
+{
+    match task {
+        Task::Check => Some(greatest_limits()),
+        Task::Validate => limits_of(given),
+        Task::Rewrite => limits_of(given),
+        Task::Show => limits_of(given),
+    }
+}
+
+// The steps of a task: those of its option, and the default where it has none.
+fn task_steps(task: Task, given: &ArgMatches<'_>) -> Option<u64>
+    ensures some { IfSome result (AreTaskSteps task (one_text (found_of given.now) (codes "steps"))) }
+    ensures none { IfNone result ((steps : ℕ) → AreTaskSteps task (one_text (found_of given.now) (codes "steps")) steps → ⊥) }
+{
+    match task {
+        Task::Check => Some(STEPS),
+        Task::Validate => steps_of(given),
+        Task::Rewrite => steps_of(given),
+        Task::Show => Some(STEPS),
+    }
+}
+
+// The steps that their option gives, if it is a number in its range.
+fn steps_of(given: &ArgMatches<'_>) -> Option<u64>
+    ensures some { IfSome result (IsNumber most_steps (one_text (found_of given.now) (codes "steps"))) }
+    ensures none { IfNone result ((n : ℕ) → IsNumber most_steps (one_text (found_of given.now) (codes "steps")) n → ⊥) }
+{
+    let n = given.get_one::<u64>("steps")?;
+    if n >= 1 { Some(n) } else { None }
+}
+
+fn greatest_limits() -> Limits
+    ensures { result ≡ record { depth = MOST_DEPTH; item_bytes = MOST_ITEM_BYTES } }
+{
+    match Limits::try_new(MOST_DEPTH, MOST_ITEM_BYTES) {
+        Some(limits) => limits,
+        // Both numbers are in their ranges.
+        None => unreachable!(),
+    }
+}
+
+// The limits that the options with a number give, if each number is in its range.
+fn limits_of(given: &ArgMatches<'_>) -> Option<Limits>
+    ensures some { IfSome result (AreLimits (one_text (found_of given.now) (codes "depth")) (one_text (found_of given.now) (codes "item-bytes"))) }
+    ensures none { IfNone result ((limits : Bounds) → AreLimits (one_text (found_of given.now) (codes "depth")) (one_text (found_of given.now) (codes "item-bytes")) limits → ⊥) }
+{
+    let depth = number(given, "depth", MOST_DEPTH)?;
+    let item_bytes = number(given, "item-bytes", MOST_ITEM_BYTES)?;
+    Limits::try_new(depth, item_bytes)
+}
+
+fn range_error(alloc: Global) -> Use {
+    misuse(
+        alloc,
+        ErrorKind::ValueValidation,
+        "a number is out of its range",
+    )
+}
+
+// The error of words that give no options.
+fn misuse(alloc: Global, kind: ErrorKind, message: &str) -> Use {
+    match words_error(alloc, kind, message) {
+        Ok(error) => Use::Words(error),
+        Err(_) => Use::Memory,
+    }
+}
+
+fn command<'a>(alloc: Global) -> Result<Command<'a>, AllocError>
+    ensures { IfOk result (λ c. app_of c ≡ program_app) }
+{
+    top_command(alloc)
+        .subcommand(check_command(alloc)?)?
+        .subcommand(validate_command(alloc)?)?
+        .subcommand(rewrite_command(alloc)?)?
+        .subcommand(show_command(alloc)?)
+}
+
+// The program's command, before it has subcommands.
+fn top_command<'a>(alloc: Global) -> Command<'a>
+    ensures app { app_of result ≡ top_app }
+    ensures local { (out-Command result).has_globals ≡ false }
+{
+    Command::new(alloc, "cddlseq")
+        .about("Validates sequences of CBOR items against a CDDL specification")
+        .version(VERSION)
+        .subcommand_required(true)
+}
+
+fn check_command<'a>(alloc: Global) -> Result<Command<'a>, AllocError>
+    ensures app { IfOk result (λ c. app_of c ≡ check_app) }
+    ensures local { IfOk result (λ c. (out-Command c).has_globals ≡ false) }
+{
+    let command = Command::new(alloc, "check")
+        .about("Says whether the specification is accepted")
+        .after_help(CHECK_HELP);
+    with_specification(alloc, command)
+}
+
+fn validate_command<'a>(alloc: Global) -> Result<Command<'a>, AllocError>
+    ensures app { IfOk result (λ c. app_of c ≡ validate_app) }
+    ensures local { IfOk result (λ c. (out-Command c).has_globals ≡ false) }
+{
+    let command = Command::new(alloc, "validate")
+        .about("Prints a line for each item of the stream that matches, and one for its end")
+        .after_help(VALIDATE_HELP);
+    with_judgement(alloc, command)?.arg(flag_arg(
+        alloc,
+        "quiet",
+        "Prints the line of the end alone",
+    ))
+}
+
+fn rewrite_command<'a>(alloc: Global) -> Result<Command<'a>, AllocError>
+    ensures app { IfOk result (λ c. app_of c ≡ rewrite_app) }
+    ensures local { IfOk result (λ c. (out-Command c).has_globals ≡ false) }
+{
+    let command = Command::new(alloc, "rewrite")
+        .about("Writes each item of the stream that matches in preferred encoding")
+        .after_help(REWRITE_HELP);
+    with_judgement(alloc, command)?.arg(flag_arg(
+        alloc,
+        "deterministic",
+        "Writes them in deterministic encoding: pairs in the order of their keys",
+    ))
+}
+
+fn show_command<'a>(alloc: Global) -> Result<Command<'a>, AllocError>
+    ensures app { IfOk result (λ c. app_of c ≡ show_app) }
+    ensures local { IfOk result (λ c. (out-Command c).has_globals ≡ false) }
+{
+    let command = Command::new(alloc, "show")
+        .about("Prints a line for each item of the stream, and one for its end")
+        .after_help(SHOW_HELP);
+    with_stream(alloc, command)
+}
+
+// The command with what is taken with a specification and a stream, and the steps.
+fn with_judgement<'a>(alloc: Global, command: Command<'a>) -> Result<Command<'a>, AllocError>
+    requires { (out-Command command).has_globals ≡ false }
+    ensures app { IfOk result (λ c. app_of c ≡ judging_app (app_of command.entry)) }
+    ensures local { IfOk result (λ c. (out-Command c).has_globals ≡ false) }
+{
+    with_stream(alloc, with_specification(alloc, command)?)?.arg(steps_arg(alloc))
+}
+
+// The command with what is taken with a specification: its file and the root.
+fn with_specification<'a>(alloc: Global, command: Command<'a>) -> Result<Command<'a>, AllocError>
+    requires { (out-Command command).has_globals ≡ false }
+    ensures app { IfOk result (λ c. app_of c ≡ spec_app (app_of command.entry)) }
+    ensures local { IfOk result (λ c. (out-Command c).has_globals ≡ false) }
+{
+    command.arg(spec_arg(alloc))?.arg(root_arg(alloc))
+}
+
+// The command with what is taken with a stream: its file and the limits.
+fn with_stream<'a>(alloc: Global, command: Command<'a>) -> Result<Command<'a>, AllocError>
+    requires { (out-Command command).has_globals ≡ false }
+    ensures app { IfOk result (λ c. app_of c ≡ stream_app (app_of command.entry)) }
+    ensures local { IfOk result (λ c. (out-Command c).has_globals ≡ false) }
+{
+    command
+        .arg(file_arg(alloc))?
+        .arg(number_arg(
+            alloc,
+            "depth",
+            "The greatest depth of an item, 1 to 256",
+            MOST_DEPTH,
+            "256",
+        ))?
+        .arg(number_arg(
+            alloc,
+            "item-bytes",
+            "The most bytes of an item, 1 to 16777216",
+            MOST_ITEM_BYTES,
+            "16777216",
+        ))
+}
+
+fn spec_arg<'a>(alloc: Global) -> Arg<'a>
+    ensures rule { rule_of result ≡ spec_rule }
+    ensures own { result.global ≡ false }
+{
+    Arg::new(alloc, "spec")
+        .value_name("SPEC")
+        .help("The file with the specification, in CDDL")
+        .required(true)
+}
+
+fn root_arg<'a>(alloc: Global) -> Arg<'a>
+    ensures rule { rule_of result ≡ root_rule }
+    ensures own { result.global ≡ false }
+{
+    Arg::new(alloc, "root").long("root").value_name("NAME").help(
+        "The name of the rule that is the root; without it the first rule of SPEC",
+    )
+}
+
+fn file_arg<'a>(alloc: Global) -> Arg<'a>
+    ensures rule { rule_of result ≡ file_rule }
+    ensures own { result.global ≡ false }
+{
+    Arg::new(alloc, "file").value_name("FILE").help(
+        "The file with the stream; without it, or for -, standard input is read",
+    )
+}
+
+// An option with a number from 1 to `most`.
+fn number_arg<'a>(
+    alloc: Global,
+    name: &'a str,
+    help: &'a str,
+    most: u32,
+    default: &'a str,
+) -> Arg<'a>
+    ensures rule { rule_of result ≡ number_rule name.now most default.now }
+    ensures own { result.global ≡ false }
+{
+    Arg::new(alloc, name)
+        .long(name)
+        .value_name("N")
+        .help(help)
+        .value_parser(ValueParser::signed(1, i64::from(most)))
+        .default_value(default)
+}
+
+fn steps_arg<'a>(alloc: Global) -> Arg<'a>
+    ensures rule { rule_of result ≡ steps_rule }
+    ensures own { result.global ≡ false }
+{
+    Arg::new(alloc, "steps")
+        .long("steps")
+        .value_name("N")
+        .help("How many questions SPEC may ask of one item, from 1")
+        .value_parser(ValueParser::unsigned(1, u64::MAX))
+        .default_value("10000000")
+}
+
+// An option without a value.
+fn flag_arg<'a>(alloc: Global, name: &'a str, help: &'a str) -> Arg<'a>
+    ensures rule { rule_of result ≡ flag_rule name.now }
+    ensures own { result.global ≡ false }
+{
+    Arg::new(alloc, name)
+        .long(name)
+        .help(help)
+        .action(ArgAction::SetTrue)
+}
+
+fn value(alloc: Global, given: &ArgMatches<'_>, name: &str) -> Result<Option<String>, AllocError>
+    ensures { IfOk result (λ o. option_map (λ s. string_bytes s) o ≡ first_value (found_of given.now) name.now) }
+{
+    match given.get_str(name) {
+        Some(text) => Ok(Some(String::from_str(alloc, text)?)),
+        None => Ok(None),
+    }
+}
+
+// The number of an option, if it is one from 1 to `most`.
+fn number(given: &ArgMatches<'_>, name: &str, most: u32) -> Option<u32>
+    ensures some { IfSome result (IsNumber most (one_text (found_of given.now) name.now)) }
+    ensures none { IfNone result ((n : ℕ) → IsNumber most (one_text (found_of given.now) name.now) n → ⊥) }
+{
+    let n = given.get_one::<u32>(name)?;
+    if n >= 1 && n <= most { Some(n) } else { None }
+}
+
+// Whether an option without a value is given.
+fn is_given(given: &ArgMatches<'_>, name: &str) -> bool
+    ensures { result ≡ is_set (first_value (found_of given.now) name.now) }
+{
+    match given.get_str(name) {
+        Some(text) => text == "true",
+        None => false,
+    }
+}
+
+fn words_error(alloc: Global, kind: ErrorKind, message: &str) -> Result<Error, AllocError> {
+    command(alloc)?.error(kind, message)
+}

@@ -1,9 +1,0 @@
-use Rattle.std.proofs.Common.{◌≡◌, drop, length}
-use Rattle.cycles.specs.Links.{flagged, flags_of}
-use Rattle.cycles.proofs.flags_within.Given as goal
-
-abbrev pub invariant-loop-edge : goal.invariant-loop-edge
-invariant-loop-edge l = record {
-  all : length l.flags.items ≡ length l.numbers;
-  rest : flagged l.numbers (drop l.edge-index l.edges) l.flags.items ≡ flags_of l.numbers l.edges;
-}

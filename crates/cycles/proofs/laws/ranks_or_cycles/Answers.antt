@@ -1,5 +1,0 @@
-use Rattle.cycles.proofs.Ways.{no_way_back}
-use Rattle.cycles.proofs.laws.ranks_or_cycles.Goals as goal
-
-pub returns : goal.returns
-returns c = λ nodes edges ranks h i k. no_way_back nodes edges ranks h i k

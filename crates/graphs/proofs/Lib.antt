@@ -1,0 +1,3 @@
+mod OfChains
+mod OfCycles
+mod OfImplications

@@ -1,6 +1,0 @@
-use Rattle.std.proofs.Common.{◌≡◌, ◌++◌, drop}
-use Rattle.implications.specs.Rules.{premises_of}
-use Rattle.implications.proofs.rules.premises.Given as goal
-
-abbrev pub invariant-loop-implication : goal.invariant-loop-implication
-invariant-loop-implication l = l.premises.items ++ premises_of l.facts (drop l.implication-index l.implications) ≡ premises_of l.facts l.implications

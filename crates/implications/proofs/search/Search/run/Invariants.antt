@@ -1,8 +1,0 @@
-use Rattle.implications.specs.Search.{IsKept, Nowhere, gap, state}
-use Rattle.implications.proofs.search.Search.run.Given as goal
-
-abbrev pub invariant-loop-fact : goal.invariant-loop-fact
-invariant-loop-fact l = IsKept l.rules.facts l.rules.implications.now Nowhere (state l.self)
-
-abbrev pub decreases-loop-fact : goal.decreases-loop-fact
-decreases-loop-fact l = gap (state l.self)

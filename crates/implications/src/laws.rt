@@ -1,9 +1,0 @@
-ghost use Rattle.std.specs.Prelude.{◌≡◌, ℕ, List, Bool, true};
-ghost use Rattle.implications.specs.Implications.{Follows, IsClosed};
-ghost use Rattle.implications.specs.declared.Implication.{Implication};
-
-/// What follows is closed under the implications, and it is the least such set: each that is closed has all that follows.
-pub fn least_closed()
-    ensures least { (facts : ℕ) (is : List Implication) (holds : ℕ → Bool) → IsClosed facts is (λ x. holds x ≡ true) → (x : ℕ) → Follows facts is x → holds x ≡ true }
-    ensures closed { (facts : ℕ) (is : List Implication) → IsClosed facts is (Follows facts is) }
-{}

@@ -1,0 +1,14 @@
+pub mod Forms
+pub mod Forward
+pub mod Texts
+pub mod Counts
+pub mod Builds
+pub mod Containers
+pub mod Stacks
+pub mod Runs
+pub mod Holding
+pub mod WholeHeads
+pub mod LastHeads
+pub mod Taking
+pub mod Steps
+pub mod Lemmas

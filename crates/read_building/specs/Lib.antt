@@ -1,0 +1,11 @@
+pub mod Building
+pub mod Texts
+pub mod Counts
+pub mod Builds
+pub mod Stages
+pub mod Noted
+pub mod Turns
+pub mod Taking
+pub mod Progress
+pub mod Props
+pub mod Working

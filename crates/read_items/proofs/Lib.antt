@@ -1,0 +1,2 @@
+mod OfForm
+pub mod OfWhole

@@ -1,0 +1,4 @@
+pub mod Arguments
+pub mod Form
+pub mod Room
+pub mod Whole

@@ -1,5 +1,0 @@
-use Rattle.splices.proofs.Asked.{described}
-use Rattle.splices.proofs.laws.all_described.Goals as goal
-
-pub returns : goal.returns
-returns c = λ parts ss are n mss d. described parts ss are n mss d

@@ -1,5 +1,0 @@
-use Rattle.splices.proofs.Once.{once}
-use Rattle.splices.proofs.laws.one_meaning.Goals as goal
-
-pub returns : goal.returns
-returns c = λ parts n mss nss d e. once parts d e

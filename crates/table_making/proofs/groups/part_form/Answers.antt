@@ -1,0 +1,9 @@
+use Rattle.cddl_language.specs.Kinds.{part_of}
+use Rattle.table_making.proofs.Forming.{group_part, type_part}
+use Rattle.table_making.proofs.groups.part_form.Goals as goal
+
+pub returns-in-Type : goal.returns-in-Type
+returns-in-Type c s x src is re = type_part s c.args.terms.now x (part_of s.definitions x) c.args.row (c.in-Type.ensures s x src is re) is re
+
+pub returns-in-Group : goal.returns-in-Group
+returns-in-Group c s x src is re = group_part s c.args.terms.now x (part_of s.definitions x) c.in-Group.group (c.in-Group.ensures s x src is re)

@@ -1,0 +1,6 @@
+mod Rows
+mod Greatest
+mod Joining
+mod Finding
+mod Members
+mod OfFlags

@@ -1,0 +1,15 @@
+//! A table of types and groups, each known by its number: what a matcher runs, and a language by its contracts.
+#![tactic(auto)]
+
+pub mod flags;
+mod nodes;
+mod ranks;
+mod sizes;
+mod table;
+
+pub use crate::nodes::{
+    Content, Group, GroupId, MapEntry, Most, Node, TagNumber, Test, TypeId, Whole,
+};
+pub use crate::ranks::{NotRanked, Ranks};
+pub use crate::sizes::{SizeRange, SizeSet};
+pub use crate::table::Table;

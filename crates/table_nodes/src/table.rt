@@ -1,0 +1,101 @@
+//! A table: what is kept of a specification.
+
+ghost use Rattle.std.specs.Prelude.{◌≡◌, max};
+ghost use Rattle.cddl_meaning.specs.Ranks.Ranked.{IsRanked};
+ghost use Rattle.table_nodes.specs.Nodes.{language_in};
+ghost use Rattle.table_nodes.specs.Ranks.{greatest, rank_in};
+
+use crate::nodes::{Group, GroupId, Node, TypeId};
+use crate::ranks::{NotRanked, Ranks, are_ranked, greatest};
+
+/// Types and groups by their numbers, each with a rank, and the number of the root type. A number that is not there is a
+/// type that says no to every item, or a group that fails.
+#[derive(Drop)]
+pub struct Table {
+    types: Vec<Node>,
+    groups: Vec<Group>,
+    root: TypeId,
+    type_ranks: Vec<usize>,
+    group_ranks: Vec<usize>,
+    ranks: usize,
+    pub ghost bound: { ranks ≡ max (greatest type_ranks.items) (greatest group_ranks.items) },
+    pub ghost ranked: { IsRanked (language_in types.items groups.items) (rank_in type_ranks.items group_ranks.items) ranks },
+}
+
+impl Table {
+    ghost use Rattle.std.specs.Prelude.{◌≡◌, [], ℕ, IfErr, IfOk, IfSome, IfNone};
+    ghost use Rattle.cddl_meaning.specs.Forms.{Alternatives, Choice};
+    ghost use Rattle.cddl_meaning.specs.Ranks.Flags.{AreFlags};
+    ghost use Rattle.cddl_meaning.specs.Ranks.Ranked.{IsRanked};
+    ghost use Rattle.table_nodes.specs.Nodes.{group_view, language_in, type_view};
+    ghost use Rattle.table_nodes.specs.Ranks.{flag_in, rank_in};
+    ghost use Rattle.table_nodes.specs.Language.{language_of, rank_of, ranks_of, root_of};
+
+    /// The table of these types and groups, each with its number in the list, and of this root type. Takes no memory, and
+    /// looks at each part at most twice.
+    ///
+    /// # Errors
+    ///
+    /// [`NotRanked`] where what is free in a type or group has no lower rank, or where not just the groups that may take no
+    /// item are flagged.
+    pub fn new(
+        types: Vec<Node>,
+        groups: Vec<Group>,
+        root: TypeId,
+        ranks: Ranks,
+    ) -> Result<Table, NotRanked>
+        ensures language { IfOk result (λ table. language_of table ≡ language_in types.items groups.items) }
+        ensures root { IfOk result (λ table. root_of table ≡ root) }
+        ensures ranks { IfOk result (λ table. rank_of table ≡ rank_in ranks.types.items ranks.groups.items) }
+        ensures refused { IfErr result (λ _. AreFlags (language_in types.items groups.items) (flag_in ranks.may_be_empty.items) → (bound : ℕ) → IsRanked (language_in types.items groups.items) (rank_in ranks.types.items ranks.groups.items) bound → ⊥) }
+    {
+        if !are_ranked(&types, &groups, &ranks) {
+            return Err(NotRanked);
+        }
+        let Ranks {
+            types: type_ranks,
+            groups: group_ranks,
+            ..
+        } = ranks;
+        let most = greatest(&type_ranks).max(greatest(&group_ranks));
+        Ok(Table {
+            types,
+            groups,
+            root,
+            type_ranks,
+            group_ranks,
+            ranks: most,
+        })
+    }
+
+    /// The number of the root type.
+    pub fn root(&self) -> TypeId
+        ensures { result ≡ root_of self.now }
+    {
+        self.root
+    }
+
+    /// The greatest rank of a type or a group.
+    pub fn ranks(&self) -> usize
+        ensures greatest { result ≡ ranks_of self.now }
+        ensures ranked { IsRanked (language_of self.now) (rank_of self.now) result }
+    {
+        self.ranks
+    }
+
+    /// The type of this number, if it is there.
+    pub fn node(&self, id: TypeId) -> Option<&Node>
+        ensures found { IfSome result (λ node. (language_of self.now).type_at id ≡ type_view node.now) }
+        ensures none { IfNone result ((language_of self.now).type_at id ≡ Choice []) }
+    {
+        self.types.get(id.number)
+    }
+
+    /// The group of this number, if it is there.
+    pub fn group(&self, id: GroupId) -> Option<&Group>
+        ensures found { IfSome result (λ group. (language_of self.now).group_at id ≡ group_view group.now) }
+        ensures none { IfNone result ((language_of self.now).group_at id ≡ Alternatives []) }
+    {
+        self.groups.get(id.number)
+    }
+}

@@ -1,5 +1,0 @@
-use Rattle.tool_words.proofs.Limiting.{in_bounds}
-use Rattle.tool_words.proofs.words.greatest_limits.Goals as goal
-
-pub unreachable-requires : goal.unreachable-requires
-unreachable-requires c = in_bounds c.in-None.ensures.outside
