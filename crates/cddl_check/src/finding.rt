@@ -19,7 +19,7 @@ use cddl_token::Code;
 use check_instances::{Found, Instance, instances};
 use check_reached::live_sites::live_sites;
 use check_reached::reached_sites;
-use check_reading::sites::Found as Site;
+use check_sites::sites::Found as Site;
 use check_reading::survey::Survey;
 use check_reading::survey::laws::survey_grows;
 use check_root::root_faults::too_many;

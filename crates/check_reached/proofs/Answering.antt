@@ -15,8 +15,8 @@ use Rattle.check_terms.specs.Filled.{filled, term_trees}
 use Rattle.check_terms.specs.Table.{Holds, Table, Tree, nothing}
 use Rattle.check_terms.specs.Trees.{entry_tree, group_tree, ref_tree, term_tree}
 use Rattle.cddl_language.specs.Live.Live.{IsClear}
-use Rattle.check_reading.specs.declared.sites.site.Found.{Found}
-use Rattle.check_reading.specs.Sites.View.{view_site}
+use Rattle.check_sites.specs.declared.sites.site.Found.{Found}
+use Rattle.check_sites.specs.Sites.View.{view_site}
 use Rattle.check_reached.specs.Calls.{refs_named}
 use Rattle.check_reached.specs.Reached.{AreReachedSites}
 use Rattle.check_reached.specs.declared.asked.Asked.{Asked}

@@ -13,8 +13,8 @@ use Rattle.check_terms.specs.Table.{Holds, Table, Tree}
 use Rattle.check_terms.specs.Trees.{IsRef, ref_tree}
 use Rattle.check_terms.specs.Fill.Templates.{AreTrees, further_tree}
 use Rattle.cddl_language.specs.Sites.{Site}
-use Rattle.check_reading.specs.declared.sites.site.Found.{Found}
-use Rattle.check_reading.specs.Sites.View.{view_site}
+use Rattle.check_sites.specs.declared.sites.site.Found.{Found}
+use Rattle.check_sites.specs.Sites.View.{view_site}
 use Rattle.check_reached.specs.Calls.{refs_named}
 use Rattle.check_reached.specs.declared.asked.Asked.{Asked}
 use Rattle.check_reached.specs.Asked.{AreAnswers, no_answers, further_answer, AreReady, IsAnswer, IsReady, Wanted, first_part, last_part, wanted_at, wanted_by, wanted_one, wanted_each, wanted_in, wanted_some, wanted_there}

@@ -13,11 +13,11 @@ use Rattle.cddl_language.specs.Terms.{Ref, Term, Text, arguments_of}
 use Rattle.check_terms.specs.Table.{Holds, Table}
 use Rattle.check_terms.specs.Trees.{IsEntry, entry_tree}
 use Rattle.cddl_language.specs.Live.Live.{IsClear}
-use Rattle.check_reading.specs.declared.sites.site.Found.{Found}
-use Rattle.check_reading.specs.declared.entries.entry.Holder.{Holder}
-use Rattle.check_reading.specs.declared.entries.entry.Holder.TheVariants as HolderV
-use Rattle.check_reading.specs.declared.entries.entry.TextEntry.{TextEntry}
-use Rattle.check_reading.specs.Entries.Entries.{AreEntries, Stands, group_inside, in_map, in_opened, in_rule, view_node}
+use Rattle.check_sites.specs.declared.sites.site.Found.{Found}
+use Rattle.check_sites.specs.declared.entries.entry.Holder.{Holder}
+use Rattle.check_sites.specs.declared.entries.entry.Holder.TheVariants as HolderV
+use Rattle.check_sites.specs.declared.entries.entry.TextEntry.{TextEntry}
+use Rattle.check_sites.specs.Entries.Entries.{AreEntries, Stands, group_inside, in_map, in_opened, in_rule, view_node}
 use Rattle.check_reached.specs.Calls.{refs_named}
 use Rattle.check_reached.specs.Reached.{AreReachedSites}
 use Rattle.check_reached.specs.declared.asked.Asked.{Asked}

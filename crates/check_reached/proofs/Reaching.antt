@@ -23,9 +23,9 @@ use Rattle.check_instances.specs.declared.found.Instance.{Instance}
 use Rattle.check_instances.specs.Found.{AreFound}
 use Rattle.cddl_language.specs.Live.Live.{IsClear, IsLive}
 use Rattle.check_reached.specs.LiveSites.Live.{AreLive}
-use Rattle.check_reading.specs.declared.sites.site.Found.{Found}
-use Rattle.check_reading.specs.Sites.View.{view_site}
-use Rattle.check_reading.specs.Sites.Listed.{WasFound}
+use Rattle.check_sites.specs.declared.sites.site.Found.{Found}
+use Rattle.check_sites.specs.Sites.View.{view_site}
+use Rattle.check_sites.specs.Sites.Listed.{WasFound}
 use Rattle.check_reached.specs.Calls.{called_in, calls_named, has_any, has_calls, refs_named, with_calls}
 use Rattle.check_reached.specs.Reached.{AreReachedSites, IsReachedSite}
 use Rattle.check_reached.specs.Asked.{AreReady, IsReady}

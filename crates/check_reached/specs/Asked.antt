@@ -17,12 +17,12 @@ use Rattle.check_terms.specs.Filled.{filled, term_trees}
 use Rattle.check_terms.specs.Table.{Holds, Table, Tree, nothing}
 use Rattle.check_terms.specs.Trees.{IsEntry, IsGroup, IsRef, IsTerm, entry_tree, group_tree, ref_tree, term_tree}
 use Rattle.check_terms.specs.Fill.Templates.{AreTrees}
-use Rattle.check_reading.specs.declared.sites.site.Found.{Found}
-use Rattle.check_reading.specs.declared.entries.entry.Holder.{Holder}
-use Rattle.check_reading.specs.declared.entries.entry.Holder.TheVariants as HolderV
-use Rattle.check_reading.specs.declared.entries.entry.TextEntry.{TextEntry}
-use Rattle.check_reading.specs.Entries.Entries.{group_inside, opened_inside, rule_inside, view_node}
-use Rattle.check_reading.specs.Sites.View.{view_site}
+use Rattle.check_sites.specs.declared.sites.site.Found.{Found}
+use Rattle.check_sites.specs.declared.entries.entry.Holder.{Holder}
+use Rattle.check_sites.specs.declared.entries.entry.Holder.TheVariants as HolderV
+use Rattle.check_sites.specs.declared.entries.entry.TextEntry.{TextEntry}
+use Rattle.check_sites.specs.Entries.Entries.{group_inside, opened_inside, rule_inside, view_node}
+use Rattle.check_sites.specs.Sites.View.{view_site}
 use Rattle.check_reached.specs.Calls.{refs_named}
 use Rattle.check_reached.specs.declared.asked.Asked.{Asked}
 use Rattle.check_reached.specs.declared.asked.Question.{Question}

@@ -6,7 +6,7 @@ use Rattle.check_terms.specs.declared.row.Row.{Row}
 use Rattle.check_terms.specs.declared.definition.Definition.{Definition}
 use Rattle.check_names.specs.Environment.Places.{added}
 use Rattle.check_instances.specs.declared.found.Instance.{Instance}
-use Rattle.check_reading.specs.declared.sites.site.Found.{Found}
+use Rattle.check_sites.specs.declared.sites.site.Found.{Found}
 
 -- the number of the name's text, of the reference of this row
 abbrev pub number_in : Option Row → Option ℕ

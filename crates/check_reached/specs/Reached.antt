@@ -5,9 +5,9 @@ use Rattle.tree_nodes.specs.Syntax.Syntax as S
 use Rattle.tree_nodes.specs.declared.tree.Leaf.{Leaf}
 use Rattle.cddl_language.specs.Sites.{IsReached, Site}
 use Rattle.cddl_language.specs.Terms.{Term, Text}
-use Rattle.check_reading.specs.Sites.Listed.{WasFound}
-use Rattle.check_reading.specs.declared.sites.site.Found.{Found}
-use Rattle.check_reading.specs.Sites.View.{view_site}
+use Rattle.check_sites.specs.Sites.Listed.{WasFound}
+use Rattle.check_sites.specs.declared.sites.site.Found.{Found}
+use Rattle.check_sites.specs.Sites.View.{view_site}
 
 -- What was found is reached in the rule at its place, in an instance with these arguments.
 pub record IsReachedSite (rs : List S.Rule) (root : Text) (read : Leaf → Token) (f : Found) : Type 0 where

@@ -5,8 +5,8 @@ ghost use Rattle.check_terms.specs.Table.{Grows, Holds};
 ghost use Rattle.check_terms.specs.Trees.{IsEntry};
 ghost use Rattle.check_reached.specs.Asked as by;
 ghost use Rattle.check_reached.specs.Asked.{entry_wanted, node_tree, wanted};
-ghost use Rattle.check_reading.specs.Entries.Entries.{view_node};
-ghost use Rattle.check_reading.specs.Sites.View.{view_site};
+ghost use Rattle.check_sites.specs.Entries.Entries.{view_node};
+ghost use Rattle.check_sites.specs.Sites.View.{view_site};
 ghost use Rattle.tree_nodes.specs.View.{token_of, view_grpent, view_operator, view_type2, view_types};
 ghost use Rattle.cddl_language.specs.Controls.{computation_in, control_of as known_control};
 ghost use Rattle.cddl_language.specs.Faults.{operand_at};
@@ -16,11 +16,11 @@ ghost use Rattle.tree_nodes.specs.Syntax.Syntax.{typed};
 ghost use Rattle.check_terms.specs.Texts.Controls.{comparison_view, computation_view, control_view};
 
 use crate::asked::Question;
-use check_reading::entries::{Node as EntryNode, TextEntry};
+use check_sites::entries::{Node as EntryNode, TextEntry};
 use check_reading::reader::{
     read_entry, read_group, read_operand, read_operation, read_reference, read_type_entry,
 };
-use check_reading::sites::Site;
+use check_sites::sites::Site;
 use check_terms::texts::{Comparison, Computation, Control, control_of};
 use check_terms::{NoRoom, Terms, control_name};
 use tree_nodes::{Group, GrpEnt, Leaf, Operator, Ref, Tree, Type2, Types};

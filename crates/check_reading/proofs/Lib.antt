@@ -1,5 +1,3 @@
 mod OfPrelude
 mod OfReader
-mod OfSites
-mod OfEntries
 pub mod OfSurvey

@@ -1,4 +1,2 @@
 pub mod Prelude
-pub mod Sites
-pub mod Entries
 pub mod Survey

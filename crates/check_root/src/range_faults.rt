@@ -21,7 +21,7 @@ use cddl_language::written::{operand_values, site_tokens};
 use cddl_literal::ends_in_ascii;
 use check_literals::Literals;
 use check_reached::Asked;
-use check_reading::sites::Found;
+use check_sites::sites::Found;
 use check_terms::Terms;
 use check_terms::laws::equal_numbers;
 use lists::lesser;

@@ -19,9 +19,8 @@ use std::cmp::Ordering;
 // So many keys are compared with each other; of more, the numbers or strings are sorted.
 const FEW: usize = 8;
 
-// Whether it is sure that no map in the item has two keys that are the same up to the order of pairs in them. False says
-// nothing. It looks at a byte of a key at most
-// seven times, or at most once for each level of a sort.
+/// Whether it is sure that no map in the item has two keys that are the same up to the order of pairs in them. False says
+/// nothing. It looks at a byte of a key at most seven times, or at most once for each level of a sort.
 #[cycle(surely)]
 pub fn is_surely_valid(alloc: Global, item: &Item) -> bool
     ensures { IsTrue result → IsValid (view item.now) }
@@ -104,7 +103,7 @@ fn is_maybe_same(key: &Item, other: &Item) -> bool
     (is_container(key) && is_container(other)) || is_same(key, other)
 }
 
-// Whether the item has parts. One that has none repeats no key.
+/// Whether the item has parts. One that has none repeats no key.
 #[inline]
 pub fn is_container(item: &Item) -> bool
     ensures parts { result ≡ has_parts (view item.now) }
@@ -202,7 +201,8 @@ fn is_ascending(strings: &[&[u8]]) -> bool
     true
 }
 
-pub fn is_before(s: &[u8], t: &[u8]) -> bool
+/// Whether the first string comes before the second one, byte by byte. False says nothing.
+pub(crate) fn is_before(s: &[u8], t: &[u8]) -> bool
     ensures { IsTrue result → slice_cmp nat_cmp s.now t.now ≡ Less }
 {
     s.cmp(t) == Ordering::Less

@@ -7,7 +7,7 @@ ghost use Rattle.item_nodes.specs.View.{view, values_view, pairs_view};
 use crate::item::Item;
 use cbor_data::Width;
 
-// Whether the bits of each float in the item fit its width.
+/// Whether the bits of each float in the item fit its width.
 #[cycle(bits)]
 pub fn are_bits_fitting(item: &Item) -> bool
     ensures { IsTrue result ↔ AreBitsFitting (view item.now) }

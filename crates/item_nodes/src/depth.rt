@@ -6,7 +6,7 @@ ghost use Rattle.item_nodes.specs.View.{view, values_view, pairs_view};
 
 use crate::item::Item;
 
-// Whether no place of the item has more than `allowed` containers round or at it. It goes no deeper than that.
+/// Whether no place of the item has more than `allowed` containers round or at it. It goes no deeper than that.
 #[cycle(within)]
 pub fn is_within(item: &Item, allowed: u32) -> bool
     ensures { IsTrue result ↔ (depth_of (view item.now) ≤ allowed) }

@@ -52,7 +52,7 @@ impl Eq for Item {
     ghost laws = { same_value-laws item_view };
 }
 
-// Whether two items stand for the same value.
+/// Whether two items stand for the same value.
 #[cycle(same)]
 pub fn is_same(a: &Item, b: &Item) -> bool
     ensures { result ≡ same_value (view a.now) (view b.now) }

@@ -6,7 +6,7 @@ ghost use Rattle.item_nodes.specs.View.{view, values_view, pairs_view};
 
 use crate::item::Item;
 
-// Does nothing. What the types of an item's parts say of them: numbers are in range, and texts are UTF-8.
+/// Does nothing. What the types of an item's parts say of them: numbers are in range, and texts are UTF-8.
 #[cycle(ranges)]
 pub fn note_ranges(item: &Item)
     ensures { IsInRange (view item.now) }

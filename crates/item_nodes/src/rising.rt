@@ -14,7 +14,7 @@ use crate::head::Head;
 use crate::item::Item;
 use std::cmp::Ordering;
 
-// Whether it is sure that the keys rise. False says nothing where a key is a float or has parts.
+/// Whether it is sure that the keys rise. False says nothing where a key is a float or has parts.
 pub fn are_keys_rising(pairs: &[(Item, Item)]) -> bool
     ensures { IsTrue result → RisesBelow (keys_det pairs.now) (length pairs.now) }
 {

@@ -6,7 +6,7 @@ ghost use Rattle.item_nodes.specs.View.{view, values_view, pairs_view};
 
 use crate::item::Item;
 
-// Whether no simple value in the item is one of 24 to 31, which RFC 8949 section 3.3 reserves.
+/// Whether no simple value in the item is one of 24 to 31, which RFC 8949 section 3.3 reserves.
 #[cycle(simples)]
 pub fn are_simples_assignable(item: &Item) -> bool
     ensures { IsTrue result ↔ AreSimplesAssignable (view item.now) }

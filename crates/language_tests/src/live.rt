@@ -3,7 +3,7 @@
 use crate::rows::first_other;
 use crate::telling::told_of;
 use check_reached::live_sites::live_sites;
-use check_reading::sites::{Found, Site, name_token};
+use check_sites::sites::{Found, Site, name_token};
 use check_reading::survey::Survey;
 use check_terms::Terms;
 use std::alloc::{AllocError, Global};

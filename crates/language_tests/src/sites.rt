@@ -1,7 +1,7 @@
 //! Tests of the list of a text's sites: their rules, kinds, offsets and numbers of arguments.
 
 use crate::rows::{first_other, is_right};
-use check_reading::sites::{Found, Site, argument_count, is_range, name_token, occur, sites};
+use check_sites::sites::{Found, Site, argument_count, is_range, name_token, occur, sites};
 use std::alloc::{AllocError, Global};
 use tree_nodes::Tree;
 

@@ -21,7 +21,7 @@ use check_names::environment::names;
 use check_names::kinds::{Kinds, kinds_of};
 use check_reached::live_sites::live_sites;
 use check_reached::{Asked, entry_questions, questions, reached_sites};
-use check_reading::sites::Found as FoundSite;
+use check_sites::sites::Found as FoundSite;
 use check_reading::survey::{Survey, survey_of};
 use check_terms::Terms;
 use check_text::rule_faults::root_of;

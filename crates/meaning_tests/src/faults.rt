@@ -3,7 +3,7 @@
 use crate::chain::{Meant, sites_in};
 use crate::telling::{order_in, text_in};
 use check_names::environment::names;
-use check_reading::sites::Found;
+use check_sites::sites::Found;
 use check_reading::survey::Survey;
 use check_root::control_faults::{bad_controller, not_literal};
 use check_root::range_faults::bad_range;

@@ -14,7 +14,7 @@ use check_literals::sizes::Sizes;
 use check_maps::map_faults::MapFaults;
 use check_maps::spliced::{Owner, Spliced};
 use check_reached::{Asked, Question};
-use check_reading::entries::Holder;
+use check_sites::entries::Holder;
 use check_recursion::{Node, Order, Ranks, find_order};
 use check_terms::Terms;
 use std::alloc::Global;

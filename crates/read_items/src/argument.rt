@@ -34,6 +34,7 @@ pub enum Argument {
     Whole(u64),
 }
 
+/// What additional information, the low five bits of a head's first byte, says of its argument (RFC 8949 section 3).
 pub fn info_of_byte(byte: u8) -> Info
     ensures { info_view result ≡ info_of (byte % 32) }
 {

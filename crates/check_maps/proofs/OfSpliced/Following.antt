@@ -20,10 +20,10 @@ use Rattle.check_terms.specs.Trees.{IsEntry, IsRef}
 use Rattle.check_instances.specs.declared.closed.closed.Closed.{Closed}
 use Rattle.check_instances.specs.Closed.Closed.{AreReached, IsClosed}
 use Rattle.check_instances.specs.Openings.Endings.{LeadsOn}
-use Rattle.check_reading.specs.declared.entries.entry.Holder.{Holder}
-use Rattle.check_reading.specs.declared.entries.entry.Holder.TheVariants as HolderV
-use Rattle.check_reading.specs.Entries.Entries.{group_inside, opened_in, rule_inside, some_inside}
-use Rattle.check_reading.specs.Entries.Spliced.{AreSplicedIn, IsAmongSpliced, of_a_map, of_a_name, of_an_opening}
+use Rattle.check_sites.specs.declared.entries.entry.Holder.{Holder}
+use Rattle.check_sites.specs.declared.entries.entry.Holder.TheVariants as HolderV
+use Rattle.check_sites.specs.Entries.Entries.{group_inside, opened_in, rule_inside, some_inside}
+use Rattle.check_sites.specs.Entries.Spliced.{AreSplicedIn, IsAmongSpliced, of_a_map, of_a_name, of_an_opening}
 use Rattle.check_reached.specs.declared.asked.Asked.{Asked}
 use Rattle.check_reached.specs.declared.asked.Question.TheVariants as QuestionV
 use Rattle.check_reached.specs.Asked.{AreEntriesAsked, IsEntryAsked, held_inside, of_map_entry, of_rule_entry}

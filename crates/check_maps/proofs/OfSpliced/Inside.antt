@@ -8,7 +8,7 @@ use Rattle.cddl_language.specs.Reach.{Point, body_points, entries_points, entry_
 use Rattle.cddl_language.specs.Reading.{body_of, entries_of, entry_of, group_of, term_of}
 use Rattle.cddl_language.specs.Substitution.{fill, fill_body, fill_entries, fill_entry, fill_group}
 use Rattle.cddl_language.specs.Terms.{Term, Text}
-use Rattle.check_reading.specs.Entries.Entries.{bare_types, choice_inside, entry_inside, group_inside, rule_inside}
+use Rattle.check_sites.specs.Entries.Entries.{bare_types, choice_inside, entry_inside, group_inside, rule_inside}
 
 pub none_in : {X C : Type 0} {x : X} → Contains [] x → C
 none_in c = absurd (beyond_zero c.0 c.1)

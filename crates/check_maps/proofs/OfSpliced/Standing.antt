@@ -9,8 +9,8 @@ use Rattle.cddl_language.specs.Reading.{definition_of, definitions_in, name_in, 
 use Rattle.cddl_language.specs.Substitution.{fill_ref}
 use Rattle.cddl_language.specs.Terms.{Term, named, Ref, of_types, Definition, stripped, name_of, arguments_of}
 use Rattle.check_instances.specs.Openings.Endings.{IsOneType, LeadsOn, at_once, through, is_name}
-use Rattle.check_reading.specs.Entries.Entries.{bare_types, opened_in}
-use Rattle.check_reading.specs.Entries.Spliced.{IsBareGroup}
+use Rattle.check_sites.specs.Entries.Entries.{bare_types, opened_in}
+use Rattle.check_sites.specs.Entries.Spliced.{IsBareGroup}
 use Rattle.check_maps.proofs.OfSpliced.Inside.{only_one}
 
 -- the laws of bare groups

@@ -10,7 +10,7 @@ use Rattle.check_terms.specs.Table.{Table}
 use Rattle.check_terms.specs.Trees.{IsEntry}
 use Rattle.check_instances.specs.Closed.Closed.{AreReached}
 use Rattle.check_instances.specs.Openings.Endings.{IsOneType, LeadsOn, is_name}
-use Rattle.check_reading.specs.Entries.Spliced.{IsSplicedPoint}
+use Rattle.check_sites.specs.Entries.Spliced.{IsSplicedPoint}
 use Rattle.check_reached.specs.declared.asked.Asked.{Asked}
 use Rattle.check_maps.specs.declared.spliced.listing.Spliced.{Spliced}
 use Rattle.check_maps.specs.declared.spliced.owners.Owner.{Owner}

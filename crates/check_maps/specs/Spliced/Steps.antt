@@ -6,8 +6,8 @@ use Rattle.check_terms.specs.declared.row.Form.TheVariants as F
 use Rattle.check_terms.specs.declared.row.Row.{Row}
 use Rattle.check_instances.specs.declared.openings.openings.Part.{Part}
 use Rattle.check_instances.specs.declared.openings.openings.Part.TheVariants as PartV
-use Rattle.check_reading.specs.declared.entries.entry.Holder.{Holder}
-use Rattle.check_reading.specs.declared.entries.entry.Holder.TheVariants as HolderV
+use Rattle.check_sites.specs.declared.entries.entry.Holder.{Holder}
+use Rattle.check_sites.specs.declared.entries.entry.Holder.TheVariants as HolderV
 use Rattle.check_reached.specs.declared.asked.Asked.{Asked}
 use Rattle.check_reached.specs.declared.asked.Question.{Question}
 use Rattle.check_reached.specs.declared.asked.Question.TheVariants as QuestionV

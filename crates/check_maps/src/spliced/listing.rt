@@ -20,7 +20,7 @@ use check_instances::closed::Closed;
 use check_instances::openings::Opening;
 use check_names::kinds::Kinds;
 use check_reached::Asked;
-use check_reading::entries::laws::{bare_groups, spliced_groups};
+use check_sites::entries::laws::{bare_groups, spliced_groups};
 use check_terms::Terms;
 use check_terms::laws::equal_numbers;
 use graphs::implications::following;

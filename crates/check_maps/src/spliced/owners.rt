@@ -17,7 +17,7 @@ use check_instances::closed::Closed;
 use check_instances::openings::{Opening, Part, part_of};
 use check_names::kinds::Kinds;
 use check_reached::{Asked, Question};
-use check_reading::entries::Holder;
+use check_sites::entries::Holder;
 use check_terms::laws::equal_numbers;
 use check_terms::{Form, Terms};
 

@@ -10,10 +10,10 @@ use Rattle.cddl_language.specs.Reading.{rules_of}
 use Rattle.cddl_language.specs.Sites.{Site, outer_sites}
 use Rattle.check_terms.specs.Table.{Table}
 use Rattle.check_terms.specs.declared.definition.Definition.{Definition}
-use Rattle.check_reading.specs.declared.sites.site.Found.{Found}
-use Rattle.check_reading.specs.Sites.Listed.{StandsIn, WasFound}
-use Rattle.check_reading.specs.Sites.View.{outside, view_found}
-use Rattle.check_reading.specs.Sites.Walk.{all_outer_sites}
+use Rattle.check_sites.specs.declared.sites.site.Found.{Found}
+use Rattle.check_sites.specs.Sites.Listed.{StandsIn, WasFound}
+use Rattle.check_sites.specs.Sites.View.{outside, view_found}
+use Rattle.check_sites.specs.Sites.Walk.{all_outer_sites}
 use Rattle.check_reading.specs.Survey.Survey.{IsSurvey}
 use Rattle.check_reading.specs.declared.survey.survey.Survey.{Survey}
 use Rattle.graphs.specs.declared.implications.Implication.{Implication}

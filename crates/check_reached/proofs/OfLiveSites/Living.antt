@@ -14,8 +14,8 @@ use Rattle.cddl_language.specs.Terms.{Text}
 use Rattle.check_terms.specs.Definitions.{AreDefinitions, further_definition, AreTexts, no_texts, further_text}
 use Rattle.check_terms.specs.Table.{AreDistinct, Table}
 use Rattle.check_terms.specs.declared.definition.Definition.{Definition}
-use Rattle.check_reading.specs.declared.sites.site.Found.{Found}
-use Rattle.check_reading.specs.Sites.View.{view_site}
+use Rattle.check_sites.specs.declared.sites.site.Found.{Found}
+use Rattle.check_sites.specs.Sites.View.{view_site}
 use Rattle.cddl_language.specs.Live.Live.{IsLive, IsLiveSlot, inner, outer, slot}
 use Rattle.graphs.specs.declared.implications.Implication.{Implication}
 use Rattle.graphs.specs.Implications.Implications.{AreFollowing, Follows, concludes}

@@ -8,9 +8,9 @@ use Rattle.tree_nodes.specs.View.{view_ref}
 use Rattle.cddl_language.specs.Sites.{Site, arguments, in_type1, outer_sites, ref_at_site, ref_name}
 use Rattle.cddl_language.specs.Terms.{Text}
 use Rattle.check_terms.specs.declared.definition.Definition.{Definition}
-use Rattle.check_reading.specs.declared.sites.site.Found.{Found}
-use Rattle.check_reading.specs.Sites.View.{view_found, view_site}
-use Rattle.check_reading.specs.Sites.Walk.{placed}
+use Rattle.check_sites.specs.declared.sites.site.Found.{Found}
+use Rattle.check_sites.specs.Sites.View.{view_found, view_site}
+use Rattle.check_sites.specs.Sites.Walk.{placed}
 use Rattle.graphs.specs.declared.implications.Implication.{Implication}
 use Rattle.check_reached.specs.declared.live_sites.facts.Fact.{Fact}
 use Rattle.check_reached.specs.declared.live_sites.search.Search.{Search}

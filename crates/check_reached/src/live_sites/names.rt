@@ -2,12 +2,12 @@
 
 ghost use Rattle.std.specs.Prelude.{◌≡◌, option_map};
 ghost use Rattle.cddl_language.specs.Sites.{ref_at_site, ref_name};
-ghost use Rattle.check_reading.specs.Sites.View.{view_site};
+ghost use Rattle.check_sites.specs.Sites.View.{view_site};
 ghost use Rattle.cddl_token.specs.declared.Token.{Token};
 ghost use Rattle.tree_nodes.specs.View.{token_of, view_ref};
 ghost use Rattle.tree_nodes.specs.declared.tree.Leaf.{Leaf};
 
-use check_reading::sites::Site;
+use check_sites::sites::Site;
 use check_terms::opened_name;
 use tree_nodes::{Ref, Tree};
 

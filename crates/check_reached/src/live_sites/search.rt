@@ -4,7 +4,7 @@
 ghost use Rattle.std.specs.Prelude.{◌≡◌, ◌<◌, ◌+◌, ◌^◌, ◌++◌, ◌∷◌, [], List, OnOk, IfOk, length};
 ghost use Rattle.cddl_language.specs.Sites.{arguments};
 ghost use Rattle.check_reached.specs.LiveSites.Search.{AddsArgument, AddsArguments, Brings, BringsName, IsSearch, State, of_rules, standing_at, state};
-ghost use Rattle.check_reading.specs.Sites.View.{outside};
+ghost use Rattle.check_sites.specs.Sites.View.{outside};
 ghost use Rattle.tree_nodes.specs.Syntax.Syntax.{Rule};
 ghost use Rattle.check_terms.specs.declared.definition.Definition.{Definition};
 ghost use Rattle.cddl_token.specs.declared.Token.{Token};
@@ -13,7 +13,7 @@ ghost use Rattle.tree_nodes.specs.declared.tree.Leaf.{Leaf};
 
 use crate::live_sites::facts::{Fact, find, slot_of, use_of};
 use crate::live_sites::names::{name_at, name_text};
-use check_reading::sites::{Found, argument, argument_count, argument_sites};
+use check_sites::sites::{Found, argument, argument_count, argument_sites};
 use check_terms::Terms;
 use graphs::implications::Implication;
 use indexmap::IndexSet;

@@ -12,8 +12,8 @@ use Rattle.check_names.specs.declared.environment.environment.Name.{Name}
 use Rattle.check_names.specs.Environment.Environment.{IsStanding}
 use Rattle.check_names.specs.Environment.Names.{AreNames, standing}
 use Rattle.check_names.specs.Kinds.Kinds.{AreKinds}
-use Rattle.check_reading.specs.Sites.View.{outside, view_found}
-use Rattle.check_reading.specs.Sites.Walk.{all_outer_sites, all_sites}
+use Rattle.check_sites.specs.Sites.View.{outside, view_found}
+use Rattle.check_sites.specs.Sites.Walk.{all_outer_sites, all_sites}
 use Rattle.check_reading.specs.declared.survey.survey.Survey.{Survey}
 
 -- the definitions of a tree

@@ -5,7 +5,7 @@ ghost use Rattle.check_terms.specs.Table.{Grows};
 
 use crate::prelude::add_prelude;
 use crate::reader::read;
-use crate::sites::{Found, sites};
+use check_sites::sites::{Found, sites};
 use check_names::environment::laws::names_stand;
 use check_names::environment::{Name, names};
 use check_names::kinds::{Kinds, kinds_of};

@@ -13,8 +13,8 @@ use Rattle.cddl_language.specs.Numbers.{least_in, most_in}
 use Rattle.cddl_language.specs.Reading.{text_of}
 use Rattle.cddl_language.specs.Sites.{IsReached, in_body, in_argument, Site, a_name, an_unwrapping, a_choice_of, a_choice_of_name, a_hash, an_operation, an_entry, a_map}
 use Rattle.cddl_language.specs.Terms.{Term, Text}
-use Rattle.check_reading.specs.declared.sites.site.Found.{Found}
-use Rattle.check_reading.specs.Sites.View.{view_site}
+use Rattle.check_sites.specs.declared.sites.site.Found.{Found}
+use Rattle.check_sites.specs.Sites.View.{view_site}
 use Rattle.cddl_language.specs.Written.Sites.{site_lexemes}
 use Rattle.check_reached.specs.Reached.{AreReachedSites}
 use Rattle.check_root.specs.RangeFaults.Bounds.{AreSmall, IsOverFound, IsOverThere, IsSmall, occur_at}

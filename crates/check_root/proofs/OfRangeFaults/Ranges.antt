@@ -6,7 +6,7 @@ use Rattle.cddl_language.specs.Faults.{HasBadRange, Specification, bounds, defin
 use Rattle.cddl_language.specs.Literals.{Values}
 use Rattle.cddl_language.specs.Terms.{Text}
 use Rattle.check_terms.specs.Table.{Table}
-use Rattle.check_reading.specs.declared.sites.site.Found.{Found}
+use Rattle.check_sites.specs.declared.sites.site.Found.{Found}
 use Rattle.lists.specs.Least.{IsLeast, lesser_of}
 use Rattle.lists.proofs.Lemmas.{same_least as alike, lesser_least as either}
 use Rattle.check_reached.specs.declared.asked.Asked.{Asked}

@@ -10,8 +10,8 @@ use Rattle.cddl_language.specs.Kinds.{Opened, opens_group, opens_type}
 use Rattle.cddl_language.specs.Sites.{IsInstance, IsReached, Site, a_name, an_unwrapping, a_choice_of, a_choice_of_name, a_hash, an_operation, an_entry, a_map}
 use Rattle.cddl_language.specs.Terms.{Ref, Term, Text, arguments_of}
 use Rattle.check_names.specs.Kinds.Kinds.{sort_of}
-use Rattle.check_reading.specs.declared.sites.site.Found.{Found}
-use Rattle.check_reading.specs.Sites.View.{view_site}
+use Rattle.check_sites.specs.declared.sites.site.Found.{Found}
+use Rattle.check_sites.specs.Sites.View.{view_site}
 use Rattle.check_reached.specs.Reached.{AreReachedSites}
 use Rattle.check_text.specs.SiteFaults.Openings.{IsOpenedWronglyAt, is_wrong, sort_named}
 use Rattle.check_text.specs.SiteFaults.Told.{Among, HaveRules}

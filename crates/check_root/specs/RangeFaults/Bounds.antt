@@ -7,8 +7,8 @@ use Rattle.cddl_language.specs.Numbers.{least_in, most_in}
 use Rattle.cddl_language.specs.Reading.{text_of}
 use Rattle.cddl_language.specs.Sites.{Site, an_entry}
 use Rattle.check_terms.specs.Texts.Occurrence.{IsTooGreat}
-use Rattle.check_reading.specs.declared.sites.site.Found.{Found}
-use Rattle.check_reading.specs.Sites.View.{view_site}
+use Rattle.check_sites.specs.declared.sites.site.Found.{Found}
+use Rattle.check_sites.specs.Sites.View.{view_site}
 
 -- the occurrence of the entry at a site
 abbrev pub occur_at : Site → Option Token

@@ -5,7 +5,7 @@ ghost use Rattle.cddl_language.specs.Faults.{IsOver};
 ghost use Rattle.cddl_language.specs.Numbers.{least_in, most_in};
 ghost use Rattle.check_root.specs.RangeFaults.Bounds.{AreSmall, IsOverFound, IsOverThere, IsOverToken, IsSmall, occur_at};
 ghost use Rattle.check_root.specs.RangeFaults.Telling.{IsAmong};
-ghost use Rattle.check_reading.specs.Sites.View.{view_site};
+ghost use Rattle.check_sites.specs.Sites.View.{view_site};
 ghost use Rattle.lists.specs.Least.{IsLeast};
 ghost use Rattle.check_terms.specs.Texts.Occurrence.{IsTooGreat};
 ghost use Rattle.cddl_token.specs.declared.Token.{Token};
@@ -13,7 +13,7 @@ ghost use Rattle.tree_nodes.specs.View.{leaf, token_of};
 ghost use Rattle.tree_nodes.specs.declared.tree.Leaf.{Leaf};
 
 use cddl_token::Token;
-use check_reading::sites::{Found, Site, occur};
+use check_sites::sites::{Found, Site, occur};
 use check_terms::texts::occurrence_of;
 use lists::lesser;
 use tree_nodes::{Leaf, Tree};

@@ -11,10 +11,10 @@ use Rattle.cddl_language.specs.Terms.{Text}
 use Rattle.cddl_language.specs.Reading.{rules_of}
 use Rattle.cddl_language.specs.Sites.{Site, sites}
 use Rattle.cddl_language.specs.Faults.{HasSite, Specification}
-use Rattle.check_reading.specs.declared.sites.site.Found.{Found}
-use Rattle.check_reading.specs.Sites.Listed.{StandsIn, WasFound}
-use Rattle.check_reading.specs.Sites.View.{view_found, view_site}
-use Rattle.check_reading.specs.Sites.Walk.{all_sites}
+use Rattle.check_sites.specs.declared.sites.site.Found.{Found}
+use Rattle.check_sites.specs.Sites.Listed.{StandsIn, WasFound}
+use Rattle.check_sites.specs.Sites.View.{view_found, view_site}
+use Rattle.check_sites.specs.Sites.Walk.{all_sites}
 use Rattle.lists.specs.Least.{IsLeast, lesser_of}
 use Rattle.check_text.specs.SiteFaults.Told.{Among, HaveRules, IsToldAt}
 use Rattle.lists.proofs.Lemmas.{same_least as alike, lesser_least as either}

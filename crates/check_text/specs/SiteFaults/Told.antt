@@ -4,8 +4,8 @@ use Rattle.cddl_token.specs.declared.Token.{Token}
 use Rattle.tree_nodes.specs.Syntax.Syntax as S
 use Rattle.tree_nodes.specs.declared.tree.Leaf.{Leaf}
 use Rattle.cddl_language.specs.Sites.{Site}
-use Rattle.check_reading.specs.declared.sites.site.Found.{Found}
-use Rattle.check_reading.specs.Sites.View.{view_site}
+use Rattle.check_sites.specs.declared.sites.site.Found.{Found}
+use Rattle.check_sites.specs.Sites.View.{view_site}
 
 -- one of the list has it at this offset
 pub record IsAmong {A : Type 0} (P : A → ℕ → Type 0) (xs : List A) (at : ℕ) : Type 0 where

@@ -2,7 +2,7 @@
 
 ghost use Rattle.std.specs.Prelude.{◌≡◌};
 ghost use Rattle.cddl_language.specs.Faults.{HasBadHash, Specification};
-ghost use Rattle.check_reading.specs.Sites.View.{view_site};
+ghost use Rattle.check_sites.specs.Sites.View.{view_site};
 ghost use Rattle.check_text.specs.SiteFaults.Sites.{IsBadHashAt, IsBadHashToken};
 ghost use Rattle.lists.specs.Least.{IsLeast};
 ghost use Rattle.check_reading.specs.Survey.Survey.{IsSurvey};
@@ -10,8 +10,8 @@ ghost use Rattle.check_terms.specs.Table.{Table};
 ghost use Rattle.tree_nodes.specs.View.{token_of, view};
 
 use cddl_token::Token;
-use check_reading::sites::Site;
-use check_reading::sites::laws::found_sites;
+use check_sites::sites::Site;
+use check_sites::sites::laws::found_sites;
 use check_reading::survey::Survey;
 use check_terms::texts::is_bad_hash;
 use lists::lesser;

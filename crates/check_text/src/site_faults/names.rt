@@ -3,13 +3,13 @@
 ghost use Rattle.std.specs.Prelude.{◌≡◌, option_map};
 ghost use Rattle.cddl_language.specs.Sites.{ref_at_site, ref_name};
 ghost use Rattle.check_text.specs.SiteFaults.Names.{IsNumber, count_there, is_defined_there, kind_there, name_there};
-ghost use Rattle.check_reading.specs.Sites.View.{view_site};
+ghost use Rattle.check_sites.specs.Sites.View.{view_site};
 ghost use Rattle.cddl_token.specs.declared.Token.{Token};
 ghost use Rattle.tree_nodes.specs.View.{token_of, view_ref};
 ghost use Rattle.tree_nodes.specs.declared.tree.Leaf.{Leaf};
 
 use check_names::environment::Name;
-use check_reading::sites::Site;
+use check_sites::sites::Site;
 use check_reading::survey::Survey;
 use check_terms::texts::is_group_socket;
 use check_terms::{Terms, opened_name};

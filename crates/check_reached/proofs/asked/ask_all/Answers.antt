@@ -1,6 +1,6 @@
 use Rattle.std.proofs.Common.{◌≤◌, sym, subst, drop, drop_of_length-le, length, arith}
 use Rattle.check_names.specs.Environment.Places.{lists}
-use Rattle.check_reading.specs.declared.sites.site.Found.{Found}
+use Rattle.check_sites.specs.declared.sites.site.Found.{Found}
 use Rattle.tree_nodes.specs.View.{token_of}
 use Rattle.check_reached.specs.Asked.{wanted_at}
 use Rattle.check_reached.proofs.Asking.{IsGoing, all_gone, next_gone, none_gone, ready_kept}

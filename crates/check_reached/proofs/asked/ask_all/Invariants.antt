@@ -4,7 +4,7 @@ use Rattle.cddl_language.specs.Terms.{Ref}
 use Rattle.check_names.specs.Environment.Places.{lists}
 use Rattle.check_terms.specs.Table.{Grows}
 use Rattle.tree_nodes.specs.View.{token_of}
-use Rattle.check_reading.specs.declared.sites.site.Found.{Found}
+use Rattle.check_sites.specs.declared.sites.site.Found.{Found}
 use Rattle.check_reached.specs.Asked.{AreReady, wanted_at}
 use Rattle.check_reached.proofs.Asking.{IsGoing}
 use Rattle.check_reached.proofs.asked.ask_all.Given as goal

@@ -2,7 +2,7 @@ use Rattle.std.proofs.Common.{option_copied, option_map, refl, sym, ap, ◌∙�
 use Rattle.lists.proofs.Lemmas.{on_ok}
 use Rattle.check_names.specs.Environment.Places.{lists}
 use Rattle.tree_nodes.specs.View.{token_of}
-use Rattle.check_reading.specs.Sites.View.{view_site}
+use Rattle.check_sites.specs.Sites.View.{view_site}
 use Rattle.check_reached.specs.Asked.{wanted, wanted_there}
 use Rattle.check_reached.proofs.Asking.{no_calls, no_definition, site_asked}
 use Rattle.check_reached.proofs.asked.ask_site.Goals as goal

@@ -1,6 +1,6 @@
 use Rattle.std.proofs.Common.{◌≤◌, sym, subst, drop, drop_of_length-le, length, arith}
 use Rattle.check_names.specs.Environment.Places.{lists}
-use Rattle.check_reading.specs.declared.entries.entry.TextEntry.{TextEntry}
+use Rattle.check_sites.specs.declared.entries.entry.TextEntry.{TextEntry}
 use Rattle.tree_nodes.specs.View.{token_of}
 use Rattle.check_reached.specs.Asked.{wanted_entry}
 use Rattle.check_reached.proofs.Asking.{IsGoing, all_gone, next_gone, none_gone, ready_kept}

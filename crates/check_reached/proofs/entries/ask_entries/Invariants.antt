@@ -4,7 +4,7 @@ use Rattle.cddl_language.specs.Terms.{Ref}
 use Rattle.check_names.specs.Environment.Places.{lists}
 use Rattle.check_terms.specs.Table.{Grows}
 use Rattle.tree_nodes.specs.View.{token_of}
-use Rattle.check_reading.specs.declared.entries.entry.TextEntry.{TextEntry}
+use Rattle.check_sites.specs.declared.entries.entry.TextEntry.{TextEntry}
 use Rattle.check_reached.specs.Asked.{AreReady, wanted_entry}
 use Rattle.check_reached.proofs.Asking.{IsGoing}
 use Rattle.check_reached.proofs.entries.ask_entries.Given as goal

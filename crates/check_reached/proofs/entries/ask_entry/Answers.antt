@@ -1,7 +1,7 @@
 use Rattle.std.proofs.Common.{option_copied, option_map, refl, sym, ap, ◌∙◌}
 use Rattle.lists.proofs.Lemmas.{on_ok}
 use Rattle.check_names.specs.Environment.Places.{lists}
-use Rattle.check_reading.specs.Entries.Entries.{view_node}
+use Rattle.check_sites.specs.Entries.Entries.{view_node}
 use Rattle.tree_nodes.specs.View.{token_of}
 use Rattle.check_reached.specs.Asked.{entry_wanted, wanted, wanted_one}
 use Rattle.check_reached.proofs.Asking.{no_calls, no_definition, part_asked}

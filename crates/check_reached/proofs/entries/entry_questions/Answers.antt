@@ -4,7 +4,7 @@ use Rattle.cddl_language.specs.Reading.{rules_of}
 use Rattle.cddl_language.specs.Faults.{definitions, rules}
 use Rattle.check_names.specs.Environment.Places.{lists}
 use Rattle.tree_nodes.specs.View.{token_of}
-use Rattle.check_reading.specs.Entries.Entries.{AreEntries}
+use Rattle.check_sites.specs.Entries.Entries.{AreEntries}
 use Rattle.check_reached.proofs.Answering.{Trees}
 use Rattle.check_reached.proofs.Placing.{entries_are_asked}
 use Rattle.check_reached.proofs.Reaching.{Laws, are_ready}

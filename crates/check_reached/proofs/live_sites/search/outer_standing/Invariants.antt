@@ -1,5 +1,5 @@
 use Rattle.std.proofs.Common.{◌≡◌, ◌++◌, drop}
-use Rattle.check_reading.specs.Sites.View.{outside}
+use Rattle.check_sites.specs.Sites.View.{outside}
 use Rattle.check_reached.specs.LiveSites.Search.{standing_at}
 use Rattle.check_reached.proofs.live_sites.search.outer_standing.Given as goal
 

@@ -1,7 +1,7 @@
 use Rattle.std.proofs.Common.{◌≡◌, drop, map}
 use Rattle.cddl_language.specs.Reading.{rules_of}
-use Rattle.check_reading.specs.Sites.View.{view_found}
-use Rattle.check_reading.specs.Sites.Walk.{all_sites}
+use Rattle.check_sites.specs.Sites.View.{view_found}
+use Rattle.check_sites.specs.Sites.Walk.{all_sites}
 use Rattle.check_reading.specs.Survey.Survey.{IsSurvey, defined_in}
 use Rattle.tree_nodes.specs.View.{token_of, view}
 use Rattle.check_text.specs.SiteFaults.Sites.{IsWrongArityAt}

@@ -1,6 +1,6 @@
 use Rattle.std.proofs.Common.{map, ap, ◌∙◌}
 use Rattle.cddl_language.specs.Reading.{rules_of}
-use Rattle.check_reading.specs.Sites.View.{view_found}
+use Rattle.check_sites.specs.Sites.View.{view_found}
 use Rattle.tree_nodes.specs.View.{token_of, view}
 use Rattle.check_text.specs.SiteFaults.Sites.{IsBadHashAt}
 use Rattle.check_text.proofs.OfSiteFaults.Telling.{begins, finished, steps}

@@ -1,6 +1,6 @@
 use Rattle.std.proofs.Common.{map, subst, ap, ◌∙◌}
 use Rattle.cddl_language.specs.Reading.{rules_of}
-use Rattle.check_reading.specs.Sites.View.{view_found}
+use Rattle.check_sites.specs.Sites.View.{view_found}
 use Rattle.check_reading.specs.Survey.Survey.{defined_in}
 use Rattle.tree_nodes.specs.View.{token_of, view}
 use Rattle.check_text.specs.SiteFaults.Marks.{AreMarks}

@@ -1,5 +1,0 @@
-use Rattle.check_reading.proofs.OfEntries.Adding.{adds_one}
-use Rattle.check_reading.proofs.entries.push.push.Goals as goal
-
-pub returns : goal.returns
-returns c = adds_one _ _ c.args.place c.args.node c.in_ok-push.ensures.items

@@ -1,0 +1,2 @@
+mod OfSites
+mod OfEntries
