@@ -5,10 +5,10 @@ ghost use Rattle.check_terms.specs.Table.{Grows};
 
 use crate::prelude::add_prelude;
 use crate::reader::read;
-use check_sites::sites::{Found, sites};
 use check_names::environment::laws::names_stand;
 use check_names::environment::{Name, names};
 use check_names::kinds::{Kinds, kinds_of};
+use check_sites::sites::{Found, sites};
 use check_terms::laws::growing_keeps;
 use check_terms::{Definition, NoRoom, Terms};
 use std::alloc::Global;
