@@ -16,10 +16,10 @@ ghost use Rattle.tree_nodes.specs.Syntax.Syntax.{typed};
 ghost use Rattle.check_terms.specs.Texts.Controls.{comparison_view, computation_view, control_view};
 
 use crate::asked::Question;
-use check_sites::entries::{Node as EntryNode, TextEntry};
 use check_reading::reader::{
     read_entry, read_group, read_operand, read_operation, read_reference, read_type_entry,
 };
+use check_sites::entries::{Node as EntryNode, TextEntry};
 use check_sites::sites::Site;
 use check_terms::texts::{Comparison, Computation, Control, control_of};
 use check_terms::{NoRoom, Terms, control_name};

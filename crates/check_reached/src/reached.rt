@@ -17,8 +17,8 @@ ghost use Rattle.tree_nodes.specs.declared.tree.Tree.{Tree};
 use crate::calls::{calls_by_name, calls_of};
 use cddl_language::live::reached_sites as reached_sites_are_live;
 use check_instances::Instance;
-use check_sites::sites::Found;
 use check_reading::survey::Survey;
+use check_sites::sites::Found;
 use check_terms::{Definition, Terms};
 use std::alloc::{AllocError, Global};
 

@@ -3,8 +3,8 @@
 use crate::rows::first_other;
 use crate::telling::told_of;
 use check_reached::live_sites::live_sites;
-use check_sites::sites::{Found, Site, name_token};
 use check_reading::survey::Survey;
+use check_sites::sites::{Found, Site, name_token};
 use check_terms::Terms;
 use std::alloc::{AllocError, Global};
 use tree_nodes::Tree;

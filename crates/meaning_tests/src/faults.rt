@@ -3,12 +3,12 @@
 use crate::chain::{Meant, sites_in};
 use crate::telling::{order_in, text_in};
 use check_names::environment::names;
-use check_sites::sites::Found;
 use check_reading::survey::Survey;
 use check_root::control_faults::{bad_controller, not_literal};
 use check_root::range_faults::bad_range;
 use check_root::reached_faults::{not_unwrappable, not_unwrapped, nothing_chosen};
 use check_root::root_faults::recursion;
+use check_sites::sites::Found;
 use check_terms::Terms;
 use std::alloc::Global;
 use tree_nodes::Tree;

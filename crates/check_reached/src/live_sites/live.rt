@@ -9,9 +9,9 @@ ghost use Rattle.tree_nodes.specs.View.{token_of, view};
 
 use crate::live_sites::facts::{Facts, facts_of};
 use crate::live_sites::search::{Standing, begin, run};
+use check_reading::survey::Survey;
 use check_sites::sites::Found;
 use check_sites::sites::laws::found_outer_sites;
-use check_reading::survey::Survey;
 use check_terms::Terms;
 use graphs::implications::following;
 use std::alloc::{AllocError, Global};

@@ -11,8 +11,8 @@ ghost use Rattle.check_reading.specs.Survey.Survey.{IsSurvey};
 ghost use Rattle.tree_nodes.specs.View.{token_of, view};
 
 use cddl_language::live::reached_sites;
-use check_sites::sites::Found;
 use check_reading::survey::Survey;
+use check_sites::sites::Found;
 use check_terms::Terms;
 use check_text::site_faults::wrong_opening;
 use lists::lesser;

@@ -14,9 +14,9 @@ ghost use Rattle.tree_nodes.specs.View.{token_of, view};
 
 use crate::site_faults::marks::{Mark, is_marked, marks_of};
 use crate::site_faults::names::{name_at, name_text, number_of, parameter_count};
+use check_reading::survey::Survey;
 use check_sites::sites::laws::found_sites;
 use check_sites::sites::{Found, argument_count, name_token};
-use check_reading::survey::Survey;
 use check_terms::Terms;
 use indexmap::IndexSet;
 use lists::lesser;

@@ -10,9 +10,9 @@ ghost use Rattle.check_terms.specs.Table.{Table};
 ghost use Rattle.tree_nodes.specs.View.{token_of, view, view_operator};
 
 use cddl_token::Token;
+use check_reading::survey::Survey;
 use check_sites::sites::Site;
 use check_sites::sites::laws::found_sites;
-use check_reading::survey::Survey;
 use check_terms::control_name;
 use check_terms::texts::control_of;
 use lists::lesser;

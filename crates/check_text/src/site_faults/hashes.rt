@@ -10,9 +10,9 @@ ghost use Rattle.check_terms.specs.Table.{Table};
 ghost use Rattle.tree_nodes.specs.View.{token_of, view};
 
 use cddl_token::Token;
+use check_reading::survey::Survey;
 use check_sites::sites::Site;
 use check_sites::sites::laws::found_sites;
-use check_reading::survey::Survey;
 use check_terms::texts::is_bad_hash;
 use lists::lesser;
 use tree_nodes::Tree;

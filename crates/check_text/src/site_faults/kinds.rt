@@ -16,9 +16,9 @@ ghost use Rattle.tree_nodes.specs.declared.tree.Leaf.{Leaf};
 
 use crate::site_faults::marks::{Mark, is_marked, marks_of};
 use crate::site_faults::names::{is_group, name_text, number_of};
+use check_reading::survey::Survey;
 use check_sites::sites::laws::found_sites;
 use check_sites::sites::{Found, Site, name_token};
-use check_reading::survey::Survey;
 use check_terms::Terms;
 use indexmap::IndexSet;
 use lists::lesser;

@@ -9,8 +9,8 @@ ghost use Rattle.tree_nodes.specs.View.{token_of, view_ref};
 ghost use Rattle.tree_nodes.specs.declared.tree.Leaf.{Leaf};
 
 use check_names::environment::Name;
-use check_sites::sites::Site;
 use check_reading::survey::Survey;
+use check_sites::sites::Site;
 use check_terms::texts::is_group_socket;
 use check_terms::{Terms, opened_name};
 use tree_nodes::{Ref, Tree};

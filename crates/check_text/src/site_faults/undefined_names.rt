@@ -15,9 +15,9 @@ ghost use Rattle.tree_nodes.specs.View.{token_of, view};
 
 use crate::site_faults::marks::{Mark, is_marked, marks_of};
 use crate::site_faults::names::{is_defined, name_at, name_text, number_of};
+use check_reading::survey::Survey;
 use check_sites::sites::laws::found_sites;
 use check_sites::sites::{Found, name_token};
-use check_reading::survey::Survey;
 use check_terms::Terms;
 use check_terms::texts::is_socket;
 use indexmap::IndexSet;
