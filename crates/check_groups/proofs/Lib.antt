@@ -1,3 +1,4 @@
 mod OfChoosing
 mod OfEmpty
 mod OfSplices
+mod Rows

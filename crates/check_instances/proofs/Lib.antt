@@ -2,7 +2,6 @@ pub mod Ending
 pub mod Lists
 pub mod Marking
 pub mod Meaning
-pub mod Reading
 pub mod Standing
 pub mod Walking
 mod OfClosed

@@ -30,20 +30,6 @@ waiting_after rows marks n ns = if is_new marks n then with_parts (slice_get row
 abbrev pub calls_after : List Row → List Bool → ℕ → List ℕ → List ℕ
 calls_after rows marks n ns = if is_new marks n then with_call (slice_get rows n) n ns else ns
 
--- an argument, and those after it
-
-abbrev pub argument_of : Form → Option ℕ → Option ℕ → Option (ℕ × Option ℕ)
-argument_of F.Argument (Some n) further = Some (n, further)
-argument_of f first further = None
-
-abbrev pub argument_in : Option Row → Option (ℕ × Option ℕ)
-argument_in None = None
-argument_in (Some r) = argument_of r.form r.first r.second
-
-abbrev pub argument_at : List Row → Option ℕ → Option (ℕ × Option ℕ)
-argument_at rows None = None
-argument_at rows (Some n) = argument_in (slice_get rows n)
-
 abbrev pub row_of : Body → ℕ
 row_of (BodyV.Types n) = n
 row_of (BodyV.Entry n) = n

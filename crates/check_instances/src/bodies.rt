@@ -16,11 +16,11 @@ ghost use Rattle.check_terms.specs.Fill.Templates.{AreTrees};
 ghost use Rattle.check_instances.specs.Bodies.{AreBodies, AreMeanings, ArePatterns, filled_bodies};
 ghost use Rattle.check_instances.specs.Steps as by;
 
-use crate::arguments::arguments_of;
-use crate::laws::{is_table, patterns_grow};
+use crate::laws::patterns_grow;
 use crate::patterns::Pattern;
 use check_names::environment::Name;
-use check_terms::laws::filled_trees;
+use check_terms::fill::arguments_of;
+use check_terms::laws::{filled_trees, is_table};
 use check_terms::{Body, NoRoom, Terms, push};
 use std::alloc::Global;
 

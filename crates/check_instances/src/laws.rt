@@ -6,21 +6,12 @@ ghost use Rattle.cddl_language.specs.Terms as L;
 ghost use Rattle.cddl_language.specs.Terms.{Term, Ref, Group, Entries, Entry, Key};
 ghost use Rattle.check_terms.specs.declared.definition.Body.{Body};
 ghost use Rattle.check_terms.specs.Definitions.{IsBody};
-ghost use Rattle.check_terms.specs.Table.{Grows, IsTable, Table, Tree};
+ghost use Rattle.check_terms.specs.Table.{Grows, Table, Tree};
 ghost use Rattle.check_terms.specs.Trees.{term_tree, group_tree, entries_tree, entry_tree, key_tree};
 ghost use Rattle.check_terms.specs.Fill.Templates.{AreTrees};
 ghost use Rattle.check_instances.specs.declared.patterns.Pattern.{Pattern};
 ghost use Rattle.check_instances.specs.Bodies.{ArePatterns};
 ghost use Rattle.check_instances.specs.Calls.{body_tree, calls, point_tree};
-
-use check_terms::Terms;
-
-// No two rows or texts of a table are equal, and the parts of a row stand before it.
-pub(crate) fn is_table(terms: &Terms<'_>)
-    ensures { IsTable terms.now }
-{
-    terms.len();
-}
 
 // What a table's growth keeps.
 pub(crate) fn patterns_grow()

@@ -2,7 +2,6 @@
 //! of terms (RFC 8610 section 3.10).
 #![tactic(auto)]
 
-mod arguments;
 mod bodies;
 pub mod closed;
 mod found;

@@ -1,3 +1,4 @@
+mod Entries
 mod OfSpliced
 mod OfMapFaults
 mod OfMapCycles

@@ -1,4 +1,3 @@
-pub mod Entries
 pub mod Flags
 pub mod Following
 pub mod Lists

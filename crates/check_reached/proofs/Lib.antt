@@ -6,5 +6,4 @@ pub mod Lists
 pub mod Named
 pub mod Placing
 pub mod Reaching
-pub mod Reading
 mod OfLiveSites

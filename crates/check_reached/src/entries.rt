@@ -16,13 +16,13 @@ ghost use Rattle.tree_nodes.specs.View.{token_of, view};
 
 use crate::asked::{Asked, ask_part, definition_at};
 use crate::calls::{calls_by_name, calls_of};
-use crate::laws::{answers_grow, is_table};
+use crate::laws::answers_grow;
 use crate::parts::entry_part;
 use cddl_language::live::reached_sites as reached_sites_are_live;
 use check_instances::Instance;
 use check_sites::entries::{TextEntry, entries};
 use check_sites::sites::Found;
-use check_terms::laws::filled_trees;
+use check_terms::laws::{filled_trees, is_table};
 use check_terms::{Definition, NoRoom, Terms};
 use std::alloc::Global;
 use tree_nodes::Tree;

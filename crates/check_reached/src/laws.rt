@@ -5,7 +5,7 @@ ghost use Rattle.cddl_language.specs.Terms as L;
 ghost use Rattle.cddl_language.specs.Terms.{Ref, Text};
 ghost use Rattle.tree_nodes.specs.Syntax.Syntax.{Rule};
 ghost use Rattle.check_terms.specs.Definitions.{AreTexts};
-ghost use Rattle.check_terms.specs.Table.{Grows, Holds, IsTable, Table, Tree};
+ghost use Rattle.check_terms.specs.Table.{Grows, Holds, Table, Tree};
 ghost use Rattle.check_terms.specs.Fill.Templates.{AreTrees, IsTemplate};
 ghost use Rattle.check_terms.specs.declared.fill.template.Template.{Template};
 ghost use Rattle.check_instances.specs.Found.{AreFound};
@@ -13,15 +13,7 @@ ghost use Rattle.check_instances.specs.declared.found.Instance.{Instance};
 ghost use Rattle.check_reached.specs.Asked.{AreAnswers, AreAsked, AreEntriesAsked, Wanted};
 ghost use Rattle.check_reached.specs.declared.asked.Asked.{Asked};
 
-use check_terms::Terms;
 use check_terms::laws::growing_keeps;
-
-// No two rows or texts of a table are equal, and the parts of a row stand before it.
-pub(crate) fn is_table(terms: &Terms<'_>)
-    ensures { IsTable terms.now }
-{
-    terms.len();
-}
 
 /// The instances that were found stay so when the table grows.
 pub fn instances_grow()

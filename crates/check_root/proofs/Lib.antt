@@ -1,3 +1,4 @@
+mod Least
 mod OfReachedFaults
 pub mod OfRangeFaults
 mod OfControlFaults

@@ -1,4 +1,3 @@
 pub mod Choosing
-pub mod Least
 pub mod Sorts
 pub mod Tildes

@@ -1,5 +1,4 @@
 pub mod Crowding
 pub mod Keyless
-pub mod Least
 pub mod Rows
 pub mod Shaping

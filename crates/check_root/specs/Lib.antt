@@ -1,3 +1,4 @@
+pub mod Least
 pub mod ReachedFaults
 pub mod RangeFaults
 pub mod ControlFaults

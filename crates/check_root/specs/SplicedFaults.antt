@@ -1,2 +1,1 @@
-pub mod Least
 pub mod Lookups

@@ -1,5 +1,6 @@
 pub mod Filled
 pub mod Growing
 pub mod Placing
+pub mod Reading
 pub mod Replacing
 pub mod Unfolding

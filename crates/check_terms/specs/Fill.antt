@@ -1,3 +1,4 @@
+pub mod Arguments
 pub mod Filling
 pub mod Making
 pub mod Rows

@@ -27,6 +27,13 @@ pub fn rows_stand(terms: &Terms)
     terms.len();
 }
 
+/// No two rows or texts of a table are equal, and the parts of a row stand before it.
+pub fn is_table(terms: &Terms<'_>)
+    ensures { IsTable terms.now }
+{
+    terms.len();
+}
+
 /// What a number stands for stays when a row or a text is added.
 pub fn adding_keeps()
     ensures row { (old new : Table) (r : Row) → AddsRow old r new → (n : Option ℕ) (x : Tree) → Holds old n x → Holds new n x }

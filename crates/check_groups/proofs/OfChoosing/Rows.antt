@@ -16,58 +16,7 @@ use Rattle.check_groups.specs.declared.choosing.causes.Cause.TheVariants as Caus
 use Rattle.check_terms.specs.Entries.{is_entry}
 use Rattle.check_groups.specs.Choosing.Causes.{IsCauseOfGroup, of_sole, of_orelse, IsCauseOfEntries, of_none, of_more, IsCauseOfEntry, not_once, of_type, of_named, of_keyed, of_grouped, IsGroupOf, no_group, group_of, IsCause, cause_from, cause_in, both, alternatives_at}
 use Rattle.check_groups.specs.Choosing.Occurrences.{is_once_at, is_once_by}
-
-pub row_there : (t : Table) (n : ℕ) (x : Tree) (r : Row) → Holds t (Some n) x → slice_get t.rows n ≡ Some r → HoldsRow t r x
-row_there t n x r (part e h a b) g = subst (λ s. HoldsRow t s x) (one _ _ _ e g) (row_of refl h a b)
-  where
-    one : (o : Option Row) (s r : Row) → o ≡ Some s → o ≡ Some r → s ≡ r
-    one o s r e g = cc
-
-pub no_row : (t : Table) (n : ℕ) (x : Tree) → Holds t (Some n) x → slice_get t.rows n ≡ None → ⊥
-no_row t n x (part e h a b) g = never _ _ e g
-  where
-    never : (o : Option Row) (s : Row) → o ≡ Some s → o ≡ None → ⊥
-    never o s e g = cc
-
--- A part that stands for something is a row.
-
-node_there : (t : Table) (o : Option ℕ) (f : Form) (x : Option Text) (a b : Tree) → Holds t o (node f x a b) → (n : ℕ) × (o ≡ Some n) × Holds t (Some n) (node f x a b)
-node_there t o f x a b (part {n = n} e h k l) = (n, refl, part e h k l)
-
-group_there : (t : Table) (o : Option ℕ) (g : Group) → Holds t o (group_tree g) → (n : ℕ) × (o ≡ Some n) × IsGroup t n g
-group_there t o (sole es) h = node_there t o _ _ _ _ h
-group_there t o (orelse g es) h = node_there t o _ _ _ _ h
-
-entries_there : (t : Table) (o : Option ℕ) (es : Entries) → Holds t o (entries_tree es) → (n : ℕ) × (o ≡ Some n) × IsEntries t n es
-entries_there t o no_entries h = node_there t o _ _ _ _ h
-entries_there t o (entries es e c) h = node_there t o _ _ _ _ h
-
-entry_there : (t : Table) (o : Option ℕ) (e : Entry) → Holds t o (entry_tree e) → (n : ℕ) × (o ≡ Some n) × IsEntry t n e
-entry_there t o (typed p x) h = node_there t o _ _ _ _ h
-entry_there t o (keyed p k x) h = node_there t o _ _ _ _ h
-entry_there t o (grouped p g) h = node_there t o _ _ _ _ h
-
-no_node : (t : Table) (f : Form) (x : Option Text) (a b : Tree) → Holds t None (node f x a b) → ⊥
-no_node t f x a b h = elim h [ ]
-
-pub no_term : (t : Table) (x : Term) → Holds t None (term_tree x) → ⊥
-no_term t (literal (number x)) h = no_node t _ _ _ _ h
-no_term t (literal (text x)) h = no_node t _ _ _ _ h
-no_term t (literal (bytes x)) h = no_node t _ _ _ _ h
-no_term t (named r) h = no_node t _ _ _ _ h
-no_term t (parens y) h = no_node t _ _ _ _ h
-no_term t (map_of g) h = no_node t _ _ _ _ h
-no_term t (array_of g) h = no_node t _ _ _ _ h
-no_term t (unwrapped r) h = no_node t _ _ _ _ h
-no_term t (choice_of g) h = no_node t _ _ _ _ h
-no_term t (choice_of_name r) h = no_node t _ _ _ _ h
-no_term t (tagged x y) h = no_node t _ _ _ _ h
-no_term t (tagged_by z y) h = no_node t _ _ _ _ h
-no_term t (simple_by y) h = no_node t _ _ _ _ h
-no_term t (hash x) h = no_node t _ _ _ _ h
-no_term t (range y c z) h = no_node t _ _ _ _ h
-no_term t (control y x z) h = no_node t _ _ _ _ h
-no_term t (or y z) h = no_node t _ _ _ _ h
+use Rattle.check_groups.proofs.Rows.{row_there, no_row, group_there, entries_there, entry_there, group_is_no_entry, entries_are_no_entry, entry_is_entry}
 
 -- Rows of groups and of entries.
 
@@ -90,20 +39,6 @@ of_entries t r (entries es x false) (row_of e h a b) =
     let p = entries_there t r.first es a in
     let q = entry_there t r.second x b in
     subst (IsCauseOfEntries t (entries es x false)) (sym (ap (λ (f : Form). cause_in f r.first r.second) e ∙ ap (λ o. both o r.second) p.1 ∙ ap (both (Some p.0)) q.1)) (of_more p.2 q.2)
-
-group_is_no_entry : (t : Table) (r : Row) (g : Group) → HoldsRow t r (group_tree g) → is_entry r.form ≡ false
-group_is_no_entry t r (sole es) (row_of e h a b) = ap is_entry e
-group_is_no_entry t r (orelse g es) (row_of e h a b) = ap is_entry e
-
-entries_are_no_entry : (t : Table) (r : Row) (es : Entries) → HoldsRow t r (entries_tree es) → is_entry r.form ≡ false
-entries_are_no_entry t r no_entries (row_of e h a b) = ap is_entry e
-entries_are_no_entry t r (entries es x true) (row_of e h a b) = ap is_entry e
-entries_are_no_entry t r (entries es x false) (row_of e h a b) = ap is_entry e
-
-entry_is_entry : (t : Table) (r : Row) (e : Entry) → HoldsRow t r (entry_tree e) → is_entry r.form ≡ true
-entry_is_entry t r (typed o x) (row_of e h a b) = ap is_entry e
-entry_is_entry t r (keyed o k x) (row_of e h a b) = ap is_entry e
-entry_is_entry t r (grouped o g) (row_of e h a b) = ap is_entry e
 
 module _ (xs : List Definition) (root : Text) (t : Table) where
   pub no_cause : (n : ℕ) (c : Cause) → slice_get t.rows n ≡ None → IsCause xs root t n c

@@ -5,7 +5,7 @@ ghost use Rattle.cddl_language.specs.Terms as L;
 ghost use Rattle.cddl_language.specs.Terms.{Text, Term, Ref, Group, Entries};
 ghost use Rattle.cddl_language.specs.Substitution.{type_choices, group_choices};
 ghost use Rattle.cddl_language.specs.Reach.{Reaches, points, group_points, entries_points};
-ghost use Rattle.check_terms.specs.Table.{IsTable, Table};
+ghost use Rattle.check_terms.specs.Table.{Table};
 ghost use Rattle.check_terms.specs.Trees.{IsRef};
 ghost use Rattle.check_instances.specs.Closed.Closed.{AreReached, IsClosed, IsMeaning};
 ghost use Rattle.check_instances.specs.declared.closed.closed.Closed.{Closed};
@@ -13,13 +13,6 @@ ghost use Rattle.check_instances.specs.declared.closed.closed.Meaning.{Meaning};
 
 use check_terms::Terms;
 use check_terms::laws::equal_numbers;
-
-// No two rows or texts of a table are equal, and the parts of a row stand before it.
-pub(crate) fn is_table(terms: &Terms<'_>)
-    ensures { IsTable terms.now }
-{
-    terms.len();
-}
 
 /// All references that stand in what an instance means are instances.
 pub fn meanings_are_reached()

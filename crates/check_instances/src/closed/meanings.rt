@@ -16,10 +16,9 @@ ghost use Rattle.check_instances.specs.Closed.Closed.{IsClosed, IsMeaning, TermR
 use crate::Instance;
 use crate::closed::closed::{Closed, Meaning};
 use crate::closed::joining::group_of;
-use crate::closed::laws::is_table;
 use crate::closed::looking::{places_of, stripped_of};
 use crate::closed::spines::choices;
-use check_terms::laws::{equal_numbers, growing_keeps, rows_stand};
+use check_terms::laws::{equal_numbers, growing_keeps, is_table, rows_stand};
 use check_terms::{Body, NoRoom, Terms, push};
 use std::alloc::Global;
 

@@ -7,7 +7,7 @@ ghost use Rattle.check_terms.specs.Trees.{IsTerm, IsGroup, IsEntries};
 ghost use Rattle.check_instances.specs.Closed.Closed.{TermRow, EntriesRow, EntryRow};
 ghost use Rattle.check_instances.specs.Closed.Spines as by;
 
-use crate::closed::laws::is_table;
+use check_terms::laws::is_table;
 use check_terms::{Form, Terms};
 use std::alloc::{AllocError, Global};
 

@@ -22,7 +22,8 @@ use Rattle.check_maps.specs.declared.map_cycles.layout.Layout.{Layout}
 use Rattle.check_maps.specs.MapCycles.Coming.{AreComingBack, AreMarked, AreTargets, LeadsBack}
 use Rattle.check_maps.specs.MapCycles.Edges.{nodes, entry_node, owner_node}
 use Rattle.check_maps.proofs.OfMapCycles.Owners.{AreOnce, HasGroup, one_owner, point_group}
-use Rattle.check_maps.proofs.OfMapCycles.Rows.{IsGroupAt, refused_at, keyed_at, group_at, deeper, group_there, group_told, in_choices, in_earlier, in_last, in_last_choice, in_lone, left, node_within, of_within, right, row_inside, spliced_row, wider}
+use Rattle.check_maps.proofs.OfMapCycles.Rows.{IsGroupAt, refused_at, keyed_at, group_at, deeper, group_there, group_told, left, node_within, of_within, right, row_inside, spliced_row, wider}
+use Rattle.check_maps.proofs.Entries.{in_choices, in_earlier, in_last, in_last_choice, in_lone}
 use Rattle.check_maps.proofs.OfMapCycles.Ways.{Link, Step, to_part, to_owner, to_entry, to_row, Way, arrived, onward, edges, join, leads_on, one_owner_node, owner_behind, way_of}
 
 abbrev pub More : List Definition → Type 0

@@ -20,50 +20,7 @@ use Rattle.check_maps.specs.declared.map_cycles.layout.Layout.{Layout}
 use Rattle.check_maps.specs.MapCycles.Edges.{nodes}
 use Rattle.check_maps.proofs.OfMapCycles.Owners.{none_is_some}
 use Rattle.check_maps.proofs.OfMapCycles.Ways.{Link, to_part, Way, onward}
-
--- The entries of choices.
-
-in_one : (es : Entries) (e : Entry) → IsIn e (entries_of (es ∷ [])) → IsIn e (entry_list es)
-in_one es e h = by (in_cases (entry_list es) [] e h)
-  where
-    by : IsIn e (entry_list es) ⊎ IsIn e [] → IsIn e (entry_list es)
-    by (inl k) = k
-    by (inr k) = absurd k
-
-pub of_one : (es : Entries) (e : Entry) → Contains (entries_of (es ∷ [])) e → IsIn e (entry_list es)
-of_one es e c = in_one es e (from_contains (entries_of (es ∷ [])) e c)
-
-pub to_one : (es : Entries) (e : Entry) → IsIn e (entry_list es) → Contains (entries_of (es ∷ [])) e
-to_one es e h = to_contains (entries_of (es ∷ [])) e (in_left (entry_list es) [] e h)
-
-pub in_lone : (e : Entry) → Contains (entries_of (lone e ∷ [])) e
-in_lone e = to_one (lone e) e (inl refl)
-
--- of choices and one more
-pub of_choices : (ess : List Entries) (es : Entries) (e : Entry) → Contains (entries_of (ess ++ es ∷ [])) e → Contains (entries_of ess) e ⊎ IsIn e (entry_list es)
-of_choices ess es e c =
-    let b = from_flat entry_list (ess ++ es ∷ []) e (from_contains (entries_of (ess ++ es ∷ [])) e c) in
-    by b.0 b.2 (in_cases ess (es ∷ []) b.0 b.1)
-  where
-    by : (fs : Entries) → IsIn e (entry_list fs) → IsIn fs ess ⊎ IsIn fs (es ∷ []) → Contains (entries_of ess) e ⊎ IsIn e (entry_list es)
-    by fs h (inl i) = inl (to_contains (entries_of ess) e (to_flat entry_list ess fs e i h))
-    by fs h (inr (inl i)) = inr (subst (λ gs. IsIn e (entry_list gs)) i h)
-    by fs h (inr (inr i)) = absurd i
-
-pub in_choices : (ess : List Entries) (es : Entries) (e : Entry) → Contains (entries_of ess) e → Contains (entries_of (ess ++ es ∷ [])) e
-in_choices ess es e c =
-    let b = from_flat entry_list ess e (from_contains (entries_of ess) e c) in
-    to_contains (entries_of (ess ++ es ∷ [])) e (to_flat entry_list (ess ++ es ∷ []) b.0 e (in_left ess (es ∷ []) b.0 b.1) b.2)
-
-pub in_last_choice : (ess : List Entries) (es : Entries) (e : Entry) → Contains (entries_of (es ∷ [])) e → Contains (entries_of (ess ++ es ∷ [])) e
-in_last_choice ess es e c = to_contains (entries_of (ess ++ es ∷ [])) e (to_flat entry_list (ess ++ es ∷ []) es e (in_right ess (es ∷ []) es (inl refl)) (of_one es e c))
-
--- of entries and one more
-pub in_earlier : (es : Entries) (x : Entry) (b : Bool) (e : Entry) → Contains (entries_of (es ∷ [])) e → Contains (entries_of (entries es x b ∷ [])) e
-in_earlier es x b e c = to_one (entries es x b) e (in_left (entry_list es) (x ∷ []) e (of_one es e c))
-
-pub in_last : (es : Entries) (x : Entry) (b : Bool) (e : Entry) → Contains (entries_of (lone x ∷ [])) e → Contains (entries_of (entries es x b ∷ [])) e
-in_last es x b e c = to_one (entries es x b) e (in_right (entry_list es) (x ∷ []) e (of_one (lone x) e c))
+use Rattle.check_maps.proofs.Entries.{of_one, of_choices}
 
 -- What is spliced into a group of what is spliced in is spliced in.
 

@@ -18,7 +18,8 @@ use Rattle.check_maps.specs.declared.spliced.listing.Spliced.{Spliced}
 use Rattle.check_maps.specs.Spliced.Spliced.{AreSpliced, IsOwner, a_name, an_opening, IsSplicedEntry}
 use Rattle.check_maps.proofs.OfMapCycles.Back.{More, StandsInside}
 use Rattle.check_maps.proofs.OfMapCycles.Owners.{HasGroup, has_named, has_opened, none_is_some, one_group, opened_one, opened_through, opened_types, point_group}
-use Rattle.check_maps.proofs.OfMapCycles.Rows.{deeper, in_choices, in_last_choice, to_one}
+use Rattle.check_maps.proofs.OfMapCycles.Rows.{deeper}
+use Rattle.check_maps.proofs.Entries.{in_choices, in_last_choice, to_one}
 
 -- The entries of a group of the text are those of the closed group.
 module _ (ps : List Text) (ts : List Term) where

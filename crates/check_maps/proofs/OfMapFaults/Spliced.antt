@@ -21,7 +21,7 @@ use Rattle.alternatives.specs.Summaries as Y
 use Rattle.check_groups.specs.Splices.Parts.{IsOf, no_choices, choices_of, IsPartOfGroup, of_sole, of_orelse, IsPartOfEntries, of_none, of_more, AreParts}
 use Rattle.check_maps.specs.MapFaults.Large as L
 use Rattle.check_maps.specs.MapFaults.Large.{HasLarge, IsLarge}
-use Rattle.check_maps.proofs.OfMapFaults.Entries.{in_choices, in_earlier, in_last, in_last_choice, in_lone, of_choices, of_one}
+use Rattle.check_maps.proofs.Entries.{in_choices, in_earlier, in_last, in_last_choice, in_lone, of_choices, of_one}
 use Rattle.check_maps.proofs.OfMapFaults.Sizes.{too_many}
 use Rattle.check_maps.proofs.OfMapFaults.Parts.{StandAlike, IsGroupAt, refused_at, keyed_at, group_at, entry_at, group_there, group_told, left, part_there, right}
 

@@ -24,8 +24,8 @@ use Rattle.check_reached.specs.declared.asked.Question.{Question}
 use Rattle.check_reached.specs.declared.asked.Question.TheVariants as QuestionV
 use Rattle.check_reached.specs.Asked.{AreAsked, IsAsked, choosing, choosing_by_name, comparand_question, computation, controller, first_end, last_end, left_operand, of_map, operand_question, size_controller}
 use Rattle.check_root.specs.ReachedFaults.Choices.{ChoosesFromNone, from_none, from_no_name, chooses, flag_in, from_group, from_meaning, is_choosable_by_name, meaning_in, place_in, unchosen_at, unless}
-use Rattle.check_root.specs.ReachedFaults.Least.{least_over}
-use Rattle.check_root.proofs.OfReachedFaults.Least.{least_of_all}
+use Rattle.check_root.specs.Least.{least_over}
+use Rattle.check_root.proofs.Least.{least_of_members}
 
 same_flag : (o : Option Bool) (b : Bool) → (o ≡ Some true) ↔ (b ≡ true) → flag_in o ≡ b
 same_flag None true h = absurd (no_flag (h.1 refl))
@@ -131,4 +131,4 @@ module _ (s : Specification) (root : Text) (refs : List Ref) (t : Table) (c : Cl
         (w.asked, (w.contained, ap (λ b. unless b w.asked.at) told ∙ ap Some (w.same_at ∙ sym e)))
 
     pub least_unchosen : IsLeast (ChoosesFromNone s root) (least_over (unchosen_at c flags) None asked)
-    least_unchosen = least_of_all (unchosen_at c flags) (ChoosesFromNone s root) asked (λ a at k e. sound a at (are.sound a k) e) complete
+    least_unchosen = least_of_members (unchosen_at c flags) (ChoosesFromNone s root) asked (λ a at k e. sound a at (are.sound a k) e) complete

@@ -28,7 +28,7 @@ use Rattle.check_instances.specs.Closed.Closed.{IsMeaning}
 use Rattle.check_recursion.specs.Order.{AreCycles}
 use Rattle.lists.specs.Least.{IsLeast}
 use Rattle.check_root.specs.RootFaults.Starts.{least_start, meaning_start, name_start, number_start, place_start, row_start, rule_start, start_at, start_if}
-use Rattle.check_root.proofs.OfRootFaults.Least.{least_of_all}
+use Rattle.check_root.proofs.Least.{least_at_places}
 
 there_is : {A : Type 0} (xs : List A) (i : ℕ) → i < length xs → (x : A) × (slice_get xs i ≡ Some x)
 there_is [] i h = absurd (omega arith)
@@ -121,4 +121,4 @@ module _ (t : Table) (tree : Tree) (names : List Name) (closed : Closed) (s : Sp
         (c.0, true, (cycles.each c.0 r there).1 (h.point, refl, h.cycle), start_there c.0 r there ∙ ap begins h.first ∙ ap Some (sym h.offset))
 
     pub least_recursion : IsLeast (HasRecursion s root) (least_start t tree names closed flags)
-    least_recursion = least_of_all (start_if t tree names closed) (HasRecursion s root) flags sound complete
+    least_recursion = least_at_places (start_if t tree names closed) (HasRecursion s root) flags sound complete

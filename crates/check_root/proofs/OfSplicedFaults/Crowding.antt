@@ -20,10 +20,10 @@ use Rattle.check_reached.specs.declared.asked.Question.TheVariants as QuestionV
 use Rattle.check_reached.specs.Asked.{AreAsked, IsAsked, choosing, choosing_by_name, comparand_question, computation, controller, first_end, last_end, left_operand, of_map, operand_question, size_controller}
 use Rattle.lists.specs.Least.{IsLeast}
 use Rattle.check_terms.specs.Table.{Table}
-use Rattle.check_root.specs.SplicedFaults.Least.{least_over}
+use Rattle.check_root.specs.Least.{least_over}
 use Rattle.check_root.specs.SplicedFaults.Lookups as L
 use Rattle.check_root.specs.SplicedFaults.Lookups.{crowded_at, crowded_by, told_if}
-use Rattle.check_root.proofs.OfSplicedFaults.Least.{least_of_all}
+use Rattle.check_root.proofs.Least.{least_of_all}
 use Rattle.check_root.proofs.OfSplicedFaults.Rows.{has_too_many, place_in, told_parts}
 
 no_offset : {C : Type 0} (at : ℕ) → None ≡ Some at → C

@@ -10,10 +10,10 @@ use Rattle.check_maps.specs.declared.spliced.listing.Spliced.{Spliced}
 use Rattle.check_maps.specs.Spliced.Spliced.{AreSpliced}
 use Rattle.lists.specs.Least.{IsLeast}
 use Rattle.check_terms.specs.Table.{Table}
-use Rattle.check_root.specs.SplicedFaults.Least.{least_over}
+use Rattle.check_root.specs.Least.{least_over}
 use Rattle.check_root.specs.SplicedFaults.Lookups as L
 use Rattle.check_root.specs.SplicedFaults.Lookups.{keyless_at, told_if}
-use Rattle.check_root.proofs.OfSplicedFaults.Least.{least_of_all}
+use Rattle.check_root.proofs.Least.{least_of_all}
 use Rattle.check_root.proofs.OfSplicedFaults.Rows.{lacks_key, place_in, told_parts}
 
 module _ (s : Specification) (root : Text) (t : Table) (refs : List Ref) (spliced : List Spliced) (faults : List MapFaults) (are : AreSpliced (rules s) root t refs spliced) (wrong : AreFaults (definitions s) root t faults) where

@@ -14,10 +14,10 @@ use Rattle.check_maps.specs.Spliced.Spliced.{AreSpliced, IsSplicedEntry, of_poin
 use Rattle.lists.specs.Least.{IsLeast}
 use Rattle.check_terms.specs.Table.{Table}
 use Rattle.check_maps.specs.MapCycles.Coming.{AreComingBack, LeadsBack}
-use Rattle.check_root.specs.SplicedFaults.Least.{least_from}
+use Rattle.check_root.specs.Least.{least_from}
 use Rattle.check_root.specs.SplicedFaults.Lookups as L
 use Rattle.check_root.specs.SplicedFaults.Lookups.{flag_in, is_set, shape_at, told_if}
-use Rattle.check_root.proofs.OfSplicedFaults.Least.{least_at_places}
+use Rattle.check_root.proofs.Least.{least_at_places}
 use Rattle.check_root.proofs.OfSplicedFaults.Rows as R
 use Rattle.check_root.proofs.OfSplicedFaults.Rows.{place_in, told_parts}
 

@@ -11,7 +11,7 @@ use Rattle.check_terms.specs.Table.{Table}
 use Rattle.check_names.specs.declared.environment.environment.Name.{Name}
 use Rattle.check_instances.specs.declared.closed.closed.Closed.{Closed}
 use Rattle.check_instances.specs.declared.closed.closed.Meaning.{Meaning}
-use Rattle.lists.specs.Least.{lesser_of}
+use Rattle.check_root.specs.Least.{least_from}
 
 abbrev pub rule_start : (Leaf → Token) → Option Rule → Option ℕ
 rule_start read None = None
@@ -47,10 +47,6 @@ start_at t tree names closed k = meaning_start t tree names (slice_get closed.me
 abbrev pub start_if : Table → Tree → List Name → Closed → ℕ → Bool → Option ℕ
 start_if t tree names closed k flag = if flag then start_at t tree names closed k else None
 
--- The least of the offsets that flags tell, of which the first is at this place, and of those before.
-abbrev pub least_from : (ℕ → Bool → Option ℕ) → ℕ → Option ℕ → List Bool → Option ℕ
-least_from f k least [] = least
-least_from f k least (b ∷ bs) = least_from f (k + 1) (lesser_of least (f k b)) bs
-
+-- the least of the offsets that flags tell
 abbrev pub least_start : Table → Tree → List Name → Closed → List Bool → Option ℕ
 least_start t tree names closed flags = least_from (start_if t tree names closed) 0 None flags

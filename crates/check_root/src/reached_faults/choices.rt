@@ -9,7 +9,7 @@ ghost use Rattle.cddl_language.specs.Live.Live.{IsClear};
 ghost use Rattle.check_reached.specs.Asked.{AreAsked};
 ghost use Rattle.check_root.specs.ReachedFaults.Choices as by;
 ghost use Rattle.check_root.specs.ReachedFaults.Choices.{ChoosesFromNone, flag_in};
-ghost use Rattle.check_root.specs.ReachedFaults.Least.{least_over};
+ghost use Rattle.check_root.specs.Least.{least_over};
 ghost use Rattle.lists.specs.Least.{IsLeast};
 
 use cddl_language::live::reached_parts;

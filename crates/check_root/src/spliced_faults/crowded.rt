@@ -7,7 +7,7 @@ ghost use Rattle.cddl_language.specs.Terms.{Text};
 ghost use Rattle.cddl_language.specs.Live.Live.{IsClear};
 ghost use Rattle.check_maps.specs.MapFaults.Faults.{AreFaults};
 ghost use Rattle.check_reached.specs.Asked.{AreAsked};
-ghost use Rattle.check_root.specs.SplicedFaults.Least.{least_over};
+ghost use Rattle.check_root.specs.Least.{least_over};
 ghost use Rattle.check_root.specs.SplicedFaults.Lookups as by;
 ghost use Rattle.lists.specs.Least.{IsLeast};
 ghost use Rattle.check_terms.specs.Table.{Table};

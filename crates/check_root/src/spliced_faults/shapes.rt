@@ -7,7 +7,7 @@ ghost use Rattle.cddl_language.specs.Terms.{Ref, Text};
 ghost use Rattle.check_maps.specs.MapFaults.Faults.{AreFaults};
 ghost use Rattle.check_maps.specs.Spliced.Spliced.{AreSpliced};
 ghost use Rattle.check_maps.specs.MapCycles.Coming.{AreComingBack};
-ghost use Rattle.check_root.specs.SplicedFaults.Least.{least_from};
+ghost use Rattle.check_root.specs.Least.{least_from};
 ghost use Rattle.check_root.specs.SplicedFaults.Lookups as by;
 ghost use Rattle.lists.specs.Least.{IsLeast};
 ghost use Rattle.check_terms.specs.Table.{Table};

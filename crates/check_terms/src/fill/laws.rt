@@ -2,18 +2,9 @@
 
 ghost use Rattle.std.specs.Prelude.{List, ℕ};
 ghost use Rattle.cddl_language.specs.Terms.{Text};
-ghost use Rattle.check_terms.specs.Table.{Grows, IsTable, Table, Tree};
+ghost use Rattle.check_terms.specs.Table.{Grows, Table, Tree};
 ghost use Rattle.check_terms.specs.Fill.Templates.{AreTrees, IsTemplate};
 ghost use Rattle.check_terms.specs.declared.fill.template.Template.{Template};
-
-use crate::Terms;
-
-// No two rows or texts of a table are equal, and the parts of a row stand before it.
-pub(crate) fn is_table(terms: &Terms<'_>)
-    ensures { IsTable terms.now }
-{
-    terms.len();
-}
 
 /// What numbers stand for, and of what a template is, stays when a table grows.
 pub fn growing_keeps()

@@ -3,7 +3,7 @@
 ghost use Rattle.std.specs.Prelude.{◌≡◌, IfOk, OnOk};
 ghost use Rattle.check_terms.specs.Fill.Rows.{IsUnfolded, with_part, with_parts};
 
-use crate::fill::laws::is_table;
+use crate::laws::is_table;
 use crate::store::push;
 use crate::{NoRoom, Terms};
 use std::alloc::Global;

@@ -8,11 +8,10 @@ ghost use Rattle.check_terms.specs.Table.{Grows, Holds, Tree};
 ghost use Rattle.check_terms.specs.Fill.Templates.{AreTrees, IsTemplate};
 
 use crate::fill::filling::{fill_step, part};
-use crate::fill::laws::is_table;
 use crate::fill::making::template_of;
 use crate::fill::rows::rows_of;
 use crate::fill::slots::slots_of;
-use crate::laws::growing_keeps;
+use crate::laws::{growing_keeps, is_table};
 use crate::store::push;
 use crate::{NoRoom, Terms};
 use std::alloc::Global;

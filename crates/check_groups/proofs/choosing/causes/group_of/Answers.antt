@@ -4,7 +4,7 @@ use Rattle.check_terms.specs.Table.{Holds}
 use Rattle.check_terms.specs.Trees.{term_tree}
 use Rattle.check_groups.specs.Choosing.Causes.{IsGroupOf, alternatives_at}
 use Rattle.check_groups.proofs.OfChoosing.Parts.{group_named}
-use Rattle.check_groups.proofs.OfChoosing.Rows.{no_term}
+use Rattle.check_groups.proofs.Rows.{no_term}
 use Rattle.check_groups.proofs.choosing.causes.group_of.Goals as goal
 
 pub returns-in_err-number : goal.returns-in_err-number

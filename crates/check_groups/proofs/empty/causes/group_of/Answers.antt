@@ -6,7 +6,7 @@ use Rattle.check_terms.specs.Table.{Holds}
 use Rattle.check_terms.specs.Trees.{term_tree}
 use Rattle.check_groups.specs.Empty.Causes.{IsGroupOf, alternatives_at}
 use Rattle.check_groups.proofs.OfEmpty.Parts.{group_named}
-use Rattle.check_groups.proofs.OfEmpty.Rows.{no_term}
+use Rattle.check_groups.proofs.Rows.{no_term}
 use Rattle.check_groups.proofs.empty.causes.group_of.Goals as goal
 
 pub returns-in_err-number : goal.returns-in_err-number

@@ -6,7 +6,7 @@ use Rattle.check_terms.specs.Trees.{term_tree}
 use Rattle.check_groups.specs.Splices.Parts.{IsNamed}
 use Rattle.check_groups.specs.Splices.Rows.{group_in}
 use Rattle.check_groups.proofs.OfSplices.Naming.{named_group}
-use Rattle.check_groups.proofs.OfSplices.Rows.{no_term}
+use Rattle.check_groups.proofs.Rows.{no_term}
 use Rattle.check_groups.proofs.splices.parts.group_of.Goals as goal
 
 pub returns-in_err-number : goal.returns-in_err-number

@@ -1,5 +1,6 @@
 use Rattle.std.proofs.Common.{◌≡◌, drop}
-use Rattle.check_root.specs.RootFaults.Starts.{least_from, least_start, start_if}
+use Rattle.check_root.specs.Least.{least_from}
+use Rattle.check_root.specs.RootFaults.Starts.{least_start, start_if}
 use Rattle.check_root.proofs.root_faults.returning.least_start.Given as goal
 
 abbrev pub invariant-loop-place : goal.invariant-loop-place

@@ -1,5 +1,5 @@
 use Rattle.std.proofs.Common.{◌≡◌, None, drop}
-use Rattle.check_root.specs.SplicedFaults.Least.{least_over}
+use Rattle.check_root.specs.Least.{least_over}
 use Rattle.check_root.specs.SplicedFaults.Lookups.{crowded_at}
 use Rattle.check_root.proofs.spliced_faults.crowded.least_crowded.Given as goal
 

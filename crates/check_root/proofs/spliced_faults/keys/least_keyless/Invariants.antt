@@ -1,5 +1,5 @@
 use Rattle.std.proofs.Common.{◌≡◌, None, drop}
-use Rattle.check_root.specs.SplicedFaults.Least.{least_over}
+use Rattle.check_root.specs.Least.{least_over}
 use Rattle.check_root.specs.SplicedFaults.Lookups.{keyless_at}
 use Rattle.check_root.proofs.spliced_faults.keys.least_keyless.Given as goal
 

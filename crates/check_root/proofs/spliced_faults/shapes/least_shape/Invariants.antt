@@ -1,5 +1,5 @@
 use Rattle.std.proofs.Common.{◌≡◌, None, drop}
-use Rattle.check_root.specs.SplicedFaults.Least.{least_from}
+use Rattle.check_root.specs.Least.{least_from}
 use Rattle.check_root.specs.SplicedFaults.Lookups.{shape_at}
 use Rattle.check_root.proofs.spliced_faults.shapes.least_shape.Given as goal
 

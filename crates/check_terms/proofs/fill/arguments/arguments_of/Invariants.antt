@@ -1,8 +1,8 @@
 use Rattle.cddl_language.specs.Terms.{Terms}
 use Rattle.check_terms.specs.Table.{Holds}
 use Rattle.check_terms.specs.Trees.{terms_tree}
-use Rattle.check_instances.proofs.Reading.{AreRead, above}
-use Rattle.check_instances.proofs.arguments.arguments_of.Given as goal
+use Rattle.check_terms.proofs.OfFill.Reading.{AreRead, above}
+use Rattle.check_terms.proofs.fill.arguments.arguments_of.Given as goal
 
 abbrev pub invariant-loop-argument : goal.invariant-loop-argument
 invariant-loop-argument l = (ts : Terms) → Holds l.terms l.fn.first (terms_tree ts) → AreRead l.terms ts l.left l.arguments.items

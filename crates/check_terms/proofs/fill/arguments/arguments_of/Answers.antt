@@ -1,6 +1,6 @@
 use Rattle.std.proofs.Common.{sym, subst, ◌∙◌}
-use Rattle.check_reached.proofs.Reading.{AreRead, all_read, falls, none_read, one_read}
-use Rattle.check_reached.proofs.arguments.arguments_of.Goals as goal
+use Rattle.check_terms.proofs.OfFill.Reading.{AreRead, all_read, falls, none_read, one_read}
+use Rattle.check_terms.proofs.fill.arguments.arguments_of.Goals as goal
 
 pub loop-argument-init : goal.loop-argument-init
 loop-argument-init c = λ ts h. subst (AreRead c.args.terms.now ts c.args.first) (sym c.new-arguments.ensures.items) (none_read c.args.terms.now ts c.args.first h)

@@ -1,9 +1,10 @@
 -- The least of the offsets that a list's elements have is the least at which any of them stands.
-use Rattle.std.proofs.Common.{◌≡◌, ℕ, zero, suc, ◌+◌, ◌⊎◌, inl, inr, List, [], ◌∷◌, Option, Some, None, slice_get, refl, sym, subst, arith}
-use Rattle.std.proofs.lemmas.Option.{same_Some}
+use Rattle.std.proofs.Common.{◌≡◌, ℕ, zero, suc, ◌+◌, ◌⊎◌, inl, inr, List, [], ◌∷◌, length, Option, Some, None, slice_get, refl, sym, subst, arith}
+use Rattle.std.specs.List.{Contains}
+use Rattle.std.proofs.lemmas.Option.{get_or_from_slice_get, same_Some, slice_get_read, slice_get_within}
 use Rattle.lists.specs.Least.{IsLeast, lesser_of}
 use Rattle.lists.proofs.Lemmas.{same_least as alike, lesser_least as either}
-use Rattle.check_root.specs.SplicedFaults.Least.{least_from, least_over}
+use Rattle.check_root.specs.Least.{least_from, least_over}
 
 is_itself : (o : Option ℕ) → IsLeast (λ at. o ≡ Some at) o
 is_itself None = λ p e. cc
@@ -77,3 +78,10 @@ module _ {A : Type 0} (f : A → Option ℕ) where
 
   pub least_of_all : (P : ℕ → Type 0) (xs : List A) → ((i : ℕ) (x : A) (at : ℕ) → slice_get xs i ≡ Some x → f x ≡ Some at → P at) → ((at : ℕ) → P at → (i : ℕ) × (x : A) × (slice_get xs i ≡ Some x) × (f x ≡ Some at)) → IsLeast P (least_over f None xs)
   least_of_all P xs sound complete = subst (IsLeast P) (same_least 0 None xs) (least_at_places (λ j. f) P xs sound complete)
+
+  -- as the least of all, by the members of the list
+  pub least_of_members : (P : ℕ → Type 0) (xs : List A) → ((x : A) (at : ℕ) → Contains xs x → f x ≡ Some at → P at) → ((at : ℕ) → P at → (x : A) × (Contains xs x × (f x ≡ Some at))) → IsLeast P (least_over f None xs)
+  least_of_members P xs sound complete = least_of_all P xs (λ i x at e h. sound x at (i, slice_get_within xs i x e, get_or_from_slice_get xs i x x e) h) there
+    where
+      there : (at : ℕ) → P at → (i : ℕ) × (x : A) × (slice_get xs i ≡ Some x) × (f x ≡ Some at)
+      there at h = let w = complete at h in (w.1.0.0, w.0, slice_get_read xs (length xs) w.1.0.0 w.0 refl w.1.0.1 (sym w.1.0.2), w.1.1)

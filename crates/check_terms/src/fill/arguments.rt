@@ -6,14 +6,14 @@ ghost use Rattle.check_terms.specs.Filled.{term_trees};
 ghost use Rattle.check_terms.specs.Table.{Holds};
 ghost use Rattle.check_terms.specs.Trees.{terms_tree};
 ghost use Rattle.check_terms.specs.Fill.Templates.{AreTrees};
-ghost use Rattle.check_instances.specs.Steps as by;
+ghost use Rattle.check_terms.specs.Fill.Arguments as by;
 
 use crate::laws::is_table;
-use check_terms::{Form, NoRoom, Terms, push};
+use crate::{Form, NoRoom, Terms, push};
 use std::alloc::Global;
 
-// The rows of the arguments, in order.
-pub(crate) fn arguments_of(
+/// The rows of the arguments that begin at this row, in order.
+pub fn arguments_of(
     alloc: Global,
     terms: &Terms<'_>,
     first: Option<u32>,

@@ -2,6 +2,7 @@
 use Rattle.std.proofs.Common.{◌≡◌, ℕ, suc, ◌<◌, List, [], ◌∷◌, ◌++◌, append_assoc, Option, Some, None, IfSome, slice_get, refl, sym, ap, ◌∙◌, subst, arith, Bool, true, false, true≢false}
 use Rattle.std.proofs.lemmas.List.{map-append}
 use Rattle.std.proofs.lemmas.Option.{same_Some}
+use Rattle.lists.proofs.Lemmas.{none_more}
 use Rattle.cddl_language.specs.Terms.{number, text, bytes, Term, literal, named, parens, map_of, array_of, unwrapped, choice_of, choice_of_name, tagged, tagged_by, simple_by, hash, range, control, or, Terms, no_terms, term, term_list}
 use Rattle.check_terms.specs.declared.row.Form.{Form}
 use Rattle.check_terms.specs.declared.row.Form.TheVariants as F
@@ -10,8 +11,7 @@ use Rattle.check_terms.specs.Filled.{term_trees}
 use Rattle.check_terms.specs.Table.{IsTable, Table, Tree, node, nothing, Holds, no_part, part}
 use Rattle.check_terms.specs.Trees.{term_tree, terms_tree}
 use Rattle.check_terms.specs.Fill.Templates.{AreTrees, no_trees, further_tree}
-use Rattle.check_instances.specs.Steps.{argument_at, argument_in, argument_of}
-use Rattle.check_reached.proofs.Lists.{none_more}
+use Rattle.check_terms.specs.Fill.Arguments.{argument_at, argument_in, argument_of}
 
 trees_push : (t : Table) (ns : List ℕ) (xs : List Tree) (n : ℕ) (x : Tree) → AreTrees t ns xs → Holds t (Some n) x → AreTrees t (ns ++ n ∷ []) (xs ++ x ∷ [])
 trees_push t ns xs n x no_trees h = further_tree h no_trees
