@@ -1,3 +1,4 @@
+mod OfCauses
 mod OfChoosing
 mod OfEmpty
 mod OfSplices

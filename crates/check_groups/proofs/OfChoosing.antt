@@ -1,9 +1,6 @@
-pub mod Following
 pub mod Joining
 pub mod Meaning
 pub mod Nesting
-pub mod Parts
-pub mod Reaching
 pub mod Rows
 pub mod Settling
 pub mod Signed

@@ -2,5 +2,4 @@ pub mod Causes
 pub mod Choosing
 pub mod Nesting
 pub mod Occurrences
-pub mod Rules
 pub mod Signs

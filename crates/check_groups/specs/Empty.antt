@@ -1,4 +1,3 @@
 pub mod Causes
 pub mod Empty
 pub mod Occurrences
-pub mod Rules

@@ -1,3 +1,4 @@
+pub mod Causes
 pub mod Choosing
 pub mod Empty
 pub mod Splices

@@ -3,6 +3,5 @@ mod causes;
 mod choosing;
 pub mod laws;
 mod occurrences;
-mod rules;
 
 pub use crate::choosing::choosing::choosable;

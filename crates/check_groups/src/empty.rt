@@ -2,6 +2,5 @@
 mod causes;
 mod empty;
 mod occurrences;
-mod rules;
 
 pub use crate::empty::empty::may_be_empty;

@@ -2,6 +2,7 @@
 //! in maps stand for.
 #![tactic(auto)]
 
+mod causes;
 pub mod choosing;
 pub mod empty;
 pub mod splices;

@@ -12,15 +12,16 @@ use Rattle.check_terms.specs.Table.{Table, Tree, Holds, part}
 use Rattle.check_terms.specs.Trees.{IsGroup, IsEntries, IsEntry, group_tree, entries_tree, entry_tree}
 use Rattle.check_instances.specs.Closed.Closed.{AreReached}
 use Rattle.graphs.specs.Implications.Implications.{AreFollowing}
-use Rattle.check_groups.specs.declared.choosing.causes.Cause.{Cause}
-use Rattle.check_groups.specs.declared.choosing.causes.Cause.TheVariants as CauseV
-use Rattle.check_groups.specs.Choosing.Causes.{IsCauseOfGroup, of_sole, of_orelse, IsCauseOfEntries, of_none, of_more, IsCauseOfEntry, not_once, of_type, of_named, of_keyed, of_grouped, AreCauses, alternatives_at}
+use Rattle.check_groups.specs.declared.causes.cause.Cause.{Cause}
+use Rattle.check_groups.specs.declared.causes.cause.Cause.TheVariants as CauseV
+use Rattle.check_groups.specs.Choosing.Causes.{IsCauseOfGroup, of_sole, of_orelse, IsCauseOfEntries, of_none, of_more, IsCauseOfEntry, not_once, of_type, of_named, of_keyed, of_grouped, AreCauses}
+use Rattle.check_groups.specs.Causes.Groups.{alternatives_at}
 use Rattle.check_groups.specs.Choosing.Choosing.{AreChoosable}
-use Rattle.check_groups.specs.Choosing.Rules.{all_rules}
+use Rattle.check_groups.specs.Causes.Rules.{all_rules}
 use Rattle.check_groups.specs.Choosing.Signs.{HaveEntries}
-use Rattle.check_groups.proofs.OfChoosing.Following.{Stands, always, of_one, of_both, stands, follows}
+use Rattle.check_groups.proofs.OfCauses.Following.{Stands, always, of_one, of_first, of_second, of_both, stands, follows}
 use Rattle.check_groups.proofs.OfChoosing.Joining.{IsThere, both_there, first_there, second_there, from_each, to_each}
-use Rattle.check_groups.proofs.OfChoosing.Reaching.{left_reached, right_reached}
+use Rattle.check_groups.proofs.OfCauses.Reaching.{left_reached, right_reached}
 use Rattle.check_groups.proofs.OfChoosing.Through.{Carries, enough, in_is, named_part, names_in, opened_by_part}
 
 nothing : false ≡ true → ⊥
@@ -96,6 +97,23 @@ module _ (xs : List Definition) (root : Text) (t : Table) (causes : List Cause) 
     no_entry_both : (e : Entry) (a b : ℕ) → IsCauseOfEntry xs root t e (CauseV.Both a b) → ⊥
     no_entry_both e a b h = elim h [ ]
 
+    -- one of two rows is never enough
+    no_group_either : (g : Group) (a b : ℕ) → IsCauseOfGroup t g (CauseV.Either a b) → ⊥
+    no_group_either g a b h = elim h [ ]
+
+    no_entries_either : (es : Entries) (a b : ℕ) → IsCauseOfEntries t es (CauseV.Either a b) → ⊥
+    no_entries_either es a b h = elim h [ ]
+
+    no_entry_either : (e : Entry) (a b : ℕ) → IsCauseOfEntry xs root t e (CauseV.Either a b) → ⊥
+    no_entry_either e a b h = elim h [ ]
+
+    never_either : (n a b : ℕ) → slice_get causes n ≡ Some (CauseV.Either a b) → ChosenRow n
+    never_either n a b e = record {
+      group = λ g h r. absurd (no_group_either g a b ((are.each n (CauseV.Either a b) e).group g h));
+      entries = λ es h r. absurd (no_entries_either es a b ((are.each n (CauseV.Either a b) e).entries es h));
+      entry = λ x h r. absurd (no_entry_either x a b ((are.each n (CauseV.Either a b) e).entry x h r));
+    }
+
     sound : (n : ℕ) → Stands causes n → ChosenRow n
     sound n (always e) = record {
       group = λ g h r. absurd (no_group g ((are.each n CauseV.Always e).group g h));
@@ -109,6 +127,8 @@ module _ (xs : List Definition) (root : Text) (t : Table) (causes : List Cause) 
           entries = λ es h r. absurd (no_entries_one es a ((are.each n (CauseV.One a) e).entries es h));
           entry = λ x h r. entry_one x a ((are.each n (CauseV.One a) e).entry x h r) m r;
         }
+    sound n (of_first {a = a} {b = b} e s) = never_either n a b e
+    sound n (of_second {a = a} {b = b} e s) = never_either n a b e
     sound n (of_both {a = a} {b = b} e s u) =
         let m = sound a s in
         let k = sound b u in

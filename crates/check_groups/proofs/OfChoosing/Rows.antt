@@ -11,10 +11,12 @@ use Rattle.check_terms.specs.Table.{Table, Tree, node, Holds, part, HoldsText, n
 use Rattle.check_terms.specs.Trees.{IsGroup, IsEntries, IsEntry, group_tree, entries_tree, entry_tree, term_tree}
 use Rattle.check_names.specs.Kinds.Heads.{HoldsRow, row_of}
 use Rattle.check_instances.specs.Closed.Closed.{AreReached}
-use Rattle.check_groups.specs.declared.choosing.causes.Cause.{Cause}
-use Rattle.check_groups.specs.declared.choosing.causes.Cause.TheVariants as CauseV
+use Rattle.check_groups.specs.declared.causes.cause.Cause.{Cause}
+use Rattle.check_groups.specs.declared.causes.cause.Cause.TheVariants as CauseV
 use Rattle.check_terms.specs.Entries.{is_entry}
-use Rattle.check_groups.specs.Choosing.Causes.{IsCauseOfGroup, of_sole, of_orelse, IsCauseOfEntries, of_none, of_more, IsCauseOfEntry, not_once, of_type, of_named, of_keyed, of_grouped, IsGroupOf, no_group, group_of, IsCause, cause_from, cause_in, both, alternatives_at}
+use Rattle.check_groups.specs.Choosing.Causes.{IsCauseOfGroup, of_sole, of_orelse, IsCauseOfEntries, of_none, of_more, IsCauseOfEntry, not_once, of_type, of_named, of_keyed, of_grouped, IsCause, cause_from, cause_in}
+use Rattle.check_groups.specs.Causes.Groups.{IsGroupOf, no_group, group_of, alternatives_at}
+use Rattle.check_groups.specs.Causes.Rules.{both}
 use Rattle.check_groups.specs.Choosing.Occurrences.{is_once_at, is_once_by}
 use Rattle.check_groups.proofs.Rows.{row_there, no_row, group_there, entries_there, entry_there, group_is_no_entry, entries_are_no_entry, entry_is_entry}
 

@@ -11,7 +11,7 @@ use Rattle.cddl_language.specs.Choices.{chosen_each, chosen_entries, chosen_entr
 use Rattle.check_instances.specs.Closed.Closed.{AreReached}
 use Rattle.check_groups.specs.Choosing.Signs.{HaveEntries}
 use Rattle.check_groups.proofs.OfChoosing.Joining.{IsThere, both_there, first_there, second_there}
-use Rattle.check_groups.proofs.OfChoosing.Reaching.{choices_reached, in_group, left_reached, right_reached}
+use Rattle.check_groups.proofs.OfCauses.Reaching.{choices_reached, in_group, left_reached, right_reached}
 use Rattle.check_groups.proofs.OfChoosing.Settling as S
 use Rattle.check_groups.proofs.OfChoosing.Signed.{opened_is_no_group}
 

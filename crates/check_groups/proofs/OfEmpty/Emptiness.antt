@@ -12,13 +12,14 @@ use Rattle.check_terms.specs.Table.{Table, Tree, Holds, part}
 use Rattle.check_terms.specs.Trees.{IsGroup, IsEntries, IsEntry, group_tree, entries_tree, entry_tree}
 use Rattle.check_instances.specs.Closed.Closed.{AreReached}
 use Rattle.graphs.specs.Implications.Implications.{AreFollowing}
-use Rattle.check_groups.specs.declared.empty.causes.Cause.{Cause}
-use Rattle.check_groups.specs.declared.empty.causes.Cause.TheVariants as CauseV
-use Rattle.check_groups.specs.Empty.Causes.{IsCauseOfGroup, of_sole, of_orelse, IsCauseOfEntries, of_none, of_more, IsCauseOfEntry, no_time, no_inner, of_inner, AreCauses, alternatives_at, inner_alternatives}
+use Rattle.check_groups.specs.declared.causes.cause.Cause.{Cause}
+use Rattle.check_groups.specs.declared.causes.cause.Cause.TheVariants as CauseV
+use Rattle.check_groups.specs.Empty.Causes.{IsCauseOfGroup, of_sole, of_orelse, IsCauseOfEntries, of_none, of_more, IsCauseOfEntry, no_time, no_inner, of_inner, AreCauses, inner_alternatives}
+use Rattle.check_groups.specs.Causes.Groups.{alternatives_at}
 use Rattle.check_groups.specs.Empty.Empty.{AreEmpty}
-use Rattle.check_groups.specs.Empty.Rules.{all_rules}
-use Rattle.check_groups.proofs.OfEmpty.Following.{Stands, always, of_one, of_first, of_second, of_both, stands, follows}
-use Rattle.check_groups.proofs.OfEmpty.Reaching.{left_reached, right_reached}
+use Rattle.check_groups.specs.Causes.Rules.{all_rules}
+use Rattle.check_groups.proofs.OfCauses.Following.{Stands, always, of_one, of_first, of_second, of_both, stands, follows}
+use Rattle.check_groups.proofs.OfCauses.Reaching.{left_reached, right_reached}
 
 none_may : (xs : List Definition) → SomeMayBeEmpty xs [] → ⊥
 none_may xs h = elim h [ ]

@@ -2,37 +2,23 @@
 use Rattle.std.specs.Prelude.{◌≡◌, ◌≢◌, ℕ, Bool, List, [], length, Option, Some, None, slice_get}
 use Rattle.cddl_language.specs.Terms.{Text, Group, sole, orelse, Entries, no_entries, entries, Entry, typed, keyed, grouped, Definition, alternatives, occurrence_of}
 use Rattle.cddl_language.specs.Numbers.{least_of}
-use Rattle.cddl_language.specs.Substitution.{group_choices}
-use Rattle.cddl_language.specs.Kinds as K
 use Rattle.cddl_language.specs.Kinds.{part_of}
 use Rattle.cddl_language.specs.Reach.{group_points, entry_points}
 use Rattle.check_terms.specs.declared.row.Form.{Form}
 use Rattle.check_terms.specs.declared.row.Form.TheVariants as F
 use Rattle.check_terms.specs.Table.{Table}
 use Rattle.check_terms.specs.Trees.{IsGroup, IsEntries, IsEntry}
-use Rattle.check_instances.specs.declared.closed.closed.Meaning.{Meaning}
 use Rattle.check_instances.specs.Closed.Closed.{AreReached}
-use Rattle.check_instances.specs.declared.openings.openings.Part.{Part}
-use Rattle.check_instances.specs.declared.openings.openings.Part.TheVariants as PartV
-use Rattle.check_groups.specs.declared.empty.causes.Cause.{Cause}
-use Rattle.check_groups.specs.declared.empty.causes.Cause.TheVariants as CauseV
-
--- the alternatives of the group that this names or opens
-abbrev pub alternatives_at : List Definition → K.Part → List Entries
-alternatives_at xs K.asks_type = []
-alternatives_at xs (K.names_group r) = group_choices xs r
-alternatives_at xs (K.opens r g) = alternatives g
+use Rattle.check_groups.specs.declared.causes.cause.Cause.{Cause}
+use Rattle.check_groups.specs.declared.causes.cause.Cause.TheVariants as CauseV
+use Rattle.check_groups.specs.Causes.Groups.{alternatives_at}
+use Rattle.check_groups.specs.Causes.Rules.{both}
 
 -- the alternatives of an entry without its occurrence, if it is one of a group
 abbrev pub inner_alternatives : List Definition → Entry → List Entries
 inner_alternatives xs (typed o x) = alternatives_at xs (part_of xs x)
 inner_alternatives xs (keyed o k x) = []
 inner_alternatives xs (grouped o g) = alternatives g
-
--- the row is of a group with these alternatives, whose references are all instances; without a row there is none
-pub data IsGroupOf (xs : List Definition) (root : Text) (t : Table) (ess : List Entries) : Option ℕ → Type 0 where
-  no_group : ess ≡ [] → IsGroupOf xs root t ess None
-  group_of : {n : ℕ} (g : Group) → ess ≡ alternatives g → IsGroup t n g → AreReached xs root (group_points g) → IsGroupOf xs root t ess (Some n)
 
 abbrev pub cause_from : Option ℕ → Cause
 cause_from None = CauseV.Never
@@ -70,10 +56,6 @@ abbrev pub either : Option ℕ → Option ℕ → Cause
 either (Some n) (Some m) = CauseV.Either n m
 either _ _ = CauseV.Never
 
-abbrev pub both : Option ℕ → Option ℕ → Cause
-both (Some n) (Some m) = CauseV.Both n m
-both _ _ = CauseV.Never
-
 abbrev pub cause_in : Form → Option ℕ → Option ℕ → Cause
 cause_in F.Sole first second = cause_from first
 cause_in F.OrElse first second = either first second
@@ -81,14 +63,3 @@ cause_in F.NoEntries first second = CauseV.Always
 cause_in F.Entries first second = both first second
 cause_in F.EntriesComma first second = both first second
 cause_in _ first second = CauseV.Never
-
--- the row of the group that is named or opened
-
-abbrev pub group_there : Option Meaning → Option ℕ
-group_there None = None
-group_there (Some m) = m.group
-
-abbrev pub group_in : List Meaning → Part → Option ℕ
-group_in meanings PartV.AsksType = None
-group_in meanings (PartV.NamesGroup k) = group_there (slice_get meanings k)
-group_in meanings (PartV.Opens k n) = Some n

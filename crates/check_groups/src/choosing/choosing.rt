@@ -9,8 +9,8 @@ ghost use Rattle.check_instances.specs.Openings.Openings.{AreOpenings};
 ghost use Rattle.check_groups.specs.Choosing.Choosing.{AreChoosable};
 ghost use Rattle.check_groups.specs.Choosing.Signs.{HaveEntries};
 
+use crate::causes::rules::rules_of;
 use crate::choosing::causes::causes_of;
-use crate::choosing::rules::rules_of;
 use check_instances::closed::Closed;
 use check_instances::openings::Opening;
 use check_instances::openings::laws::opened_is_reached;

@@ -1,42 +1,25 @@
 //! Of what it follows that what a row stands for may be empty.
 
-ghost use Rattle.std.specs.Prelude.{◌≡◌, ℕ, IfOk, List, Some, length, slice_get};
-ghost use Rattle.cddl_language.specs.Kinds.{part_of};
-ghost use Rattle.cddl_language.specs.Reach.{entry_points, points};
+ghost use Rattle.std.specs.Prelude.{◌≡◌, IfOk, List, Some};
+ghost use Rattle.cddl_language.specs.Reach.{entry_points};
 ghost use Rattle.cddl_language.specs.Terms as L;
-ghost use Rattle.cddl_language.specs.Terms.{Entry, Ref, Term, Text};
-ghost use Rattle.check_terms.specs.Table.{Holds};
-ghost use Rattle.check_terms.specs.Trees.{entry_tree, term_tree};
+ghost use Rattle.cddl_language.specs.Terms.{Entry, Ref, Text};
+ghost use Rattle.check_terms.specs.Trees.{entry_tree};
 ghost use Rattle.check_names.specs.Kinds.Heads.{HoldsRow};
 ghost use Rattle.check_names.specs.Kinds.Kinds.{AreKinds};
 ghost use Rattle.check_instances.specs.Closed.Closed.{AreReached, IsClosed};
 ghost use Rattle.check_instances.specs.Openings.Openings.{AreOpenings};
 ghost use Rattle.check_terms.specs.Entries.{is_entry};
-ghost use Rattle.check_groups.specs.Empty.Causes.{AreCauses, IsCause, IsCauseOfEntry, IsGroupOf, alternatives_at, cause_from, cause_in, group_in};
+ghost use Rattle.check_groups.specs.Empty.Causes.{AreCauses, IsCause, IsCauseOfEntry, cause_from, cause_in};
 
+use crate::causes::cause::Cause;
+use crate::causes::groups::group_of;
 use crate::empty::occurrences::is_optional;
 use check_instances::closed::Closed;
-use check_instances::closed::laws::{meaning_at, meanings_are_reached};
-use check_instances::openings::laws::part_is_reached;
-use check_instances::openings::{Opening, Part, part_of};
+use check_instances::openings::Opening;
 use check_names::kinds::Kinds;
 use check_terms::{Form, Row, Terms};
 use std::alloc::{AllocError, Global};
-
-/// Of which rows it follows that what a row stands for may be empty.
-#[derive(Clone, Copy)]
-pub(crate) enum Cause {
-    /// It may not.
-    Never,
-    /// It may, whatever other rows stand for.
-    Always,
-    /// It may where this row may.
-    One(usize),
-    /// It may where one of these may.
-    Either(usize, usize),
-    /// It may where both of these may.
-    Both(usize, usize),
-}
 
 // The cause of each row.
 pub(crate) fn causes_of(
@@ -116,32 +99,5 @@ fn cause_of_entry(
         Form::Typed => cause_from(group_of(terms, closed, kinds, openings, row.first)),
         Form::Grouped => cause_from(row.first),
         _ => Cause::Never,
-    }
-}
-
-// The row of the group that the type of an entry names or opens, if it does and the group has alternatives.
-fn group_of(
-    terms: &Terms<'_>,
-    closed: &Closed,
-    kinds: &Kinds,
-    openings: &[Opening],
-    number: Option<u32>,
-) -> Option<u32>
-    ensures { (xs : List L.Definition) (root : Text) (refs : List Ref) → IsClosed xs root refs terms.now closed.now → AreKinds terms.now.texts xs kinds.now → AreOpenings xs terms.now refs openings.now → (x : Term) → Holds terms.now number (term_tree x) → AreReached xs root (points x) → IsGroupOf xs root terms.now (alternatives_at xs (part_of xs x)) result }
-{
-    meaning_at();
-    meanings_are_reached();
-    part_is_reached();
-    let part = part_of(terms, closed, kinds, openings, number?);
-    group_in(closed, part)
-}
-
-fn group_in(closed: &Closed, part: Part) -> Option<u32>
-    ensures { result ≡ group_in closed.now.meanings.items part }
-{
-    match part {
-        Part::AsksType => None,
-        Part::NamesGroup(place) => closed.meanings.get(place as usize)?.group,
-        Part::Opens(_, group) => Some(group),
     }
 }

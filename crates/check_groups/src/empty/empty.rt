@@ -8,8 +8,8 @@ ghost use Rattle.check_instances.specs.Closed.Closed.{IsClosed};
 ghost use Rattle.check_instances.specs.Openings.Openings.{AreOpenings};
 ghost use Rattle.check_groups.specs.Empty.Empty.{AreEmpty};
 
+use crate::causes::rules::rules_of;
 use crate::empty::causes::causes_of;
-use crate::empty::rules::rules_of;
 use check_instances::closed::Closed;
 use check_instances::openings::Opening;
 use check_names::kinds::Kinds;

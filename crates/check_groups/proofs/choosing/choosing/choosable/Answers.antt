@@ -1,7 +1,7 @@
 use Rattle.std.proofs.Common.{rules, ◌≡◌, ◌∙◌, ap, length, subst}
 use Rattle.std.proofs.lemmas.Result.{IfOk-weaker}
 use Rattle.graphs.specs.Implications.Implications.{AreFollowing}
-use Rattle.check_groups.specs.Choosing.Rules.{all_rules}
+use Rattle.check_groups.specs.Causes.Rules.{all_rules}
 use Rattle.check_groups.proofs.OfChoosing.Meaning.{are_choosable}
 use Rattle.check_groups.proofs.choosing.choosing.choosable.Goals as goal
 

@@ -3,7 +3,7 @@ use Rattle.cddl_language.specs.Terms.{Definition, Ref, Text}
 use Rattle.check_names.specs.Kinds.Kinds.{AreKinds}
 use Rattle.check_instances.specs.Closed.Closed.{IsClosed}
 use Rattle.check_instances.specs.Openings.Openings.{AreOpenings}
-use Rattle.check_groups.specs.declared.empty.causes.Cause.{Cause}
+use Rattle.check_groups.specs.declared.causes.cause.Cause.{Cause}
 use Rattle.check_groups.specs.Empty.Causes.{IsCause}
 use Rattle.check_groups.proofs.empty.causes.causes_of.Given as goal
 

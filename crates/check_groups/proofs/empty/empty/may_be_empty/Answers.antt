@@ -1,7 +1,7 @@
 use Rattle.std.proofs.Common.{rules, ◌≡◌, ◌∙◌, ap, length, subst}
 use Rattle.std.proofs.lemmas.Result.{IfOk-weaker}
 use Rattle.graphs.specs.Implications.Implications.{AreFollowing}
-use Rattle.check_groups.specs.Empty.Rules.{all_rules}
+use Rattle.check_groups.specs.Causes.Rules.{all_rules}
 use Rattle.check_groups.proofs.OfEmpty.Emptiness.{are_empty}
 use Rattle.check_groups.proofs.empty.empty.may_be_empty.Goals as goal
 

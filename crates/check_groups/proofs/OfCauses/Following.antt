@@ -4,9 +4,9 @@ use Rattle.std.proofs.Math.Nat.{zero-add}
 use Rattle.lists.proofs.Lemmas.{IsIn, from_get, in_cases, in_left, in_right, to_get, within}
 use Rattle.graphs.specs.declared.implications.Implication.{Implication}
 use Rattle.graphs.specs.Implications.Implications.{Follows, concludes}
-use Rattle.check_groups.specs.declared.empty.causes.Cause.{Cause}
-use Rattle.check_groups.specs.declared.empty.causes.Cause.TheVariants as CauseV
-use Rattle.check_groups.specs.Empty.Rules.{all_rules, rule, rules_by}
+use Rattle.check_groups.specs.declared.causes.cause.Cause.{Cause}
+use Rattle.check_groups.specs.declared.causes.cause.Cause.TheVariants as CauseV
+use Rattle.check_groups.specs.Causes.Rules.{all_rules, rule, rules_by}
 
 -- what follows of causes: the least set
 pub data Stands (causes : List Cause) : ℕ → Type 0 where

@@ -2,10 +2,10 @@ use Rattle.std.proofs.Common.{refl, sym, subst}
 use Rattle.cddl_language.specs.Kinds.{part_of}
 use Rattle.check_terms.specs.Table.{Holds}
 use Rattle.check_terms.specs.Trees.{term_tree}
-use Rattle.check_groups.specs.Choosing.Causes.{IsGroupOf, alternatives_at}
-use Rattle.check_groups.proofs.OfChoosing.Parts.{group_named}
+use Rattle.check_groups.specs.Causes.Groups.{IsGroupOf, alternatives_at}
+use Rattle.check_groups.proofs.OfCauses.Parts.{group_named}
 use Rattle.check_groups.proofs.Rows.{no_term}
-use Rattle.check_groups.proofs.choosing.causes.group_of.Goals as goal
+use Rattle.check_groups.proofs.causes.groups.group_of.Goals as goal
 
 pub returns-in_err-number : goal.returns-in_err-number
 returns-in_err-number c xs root refs k a o x h r = absurd (no_term c.args.terms.now x (subst (λ n. Holds c.args.terms.now n (term_tree x)) c.in_err-number.was h))

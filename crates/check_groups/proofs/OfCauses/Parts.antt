@@ -11,8 +11,8 @@ use Rattle.check_instances.specs.declared.closed.closed.Meaning.{Meaning}
 use Rattle.check_instances.specs.Closed.Closed.{AreAlternatives, no_alternatives, alternatives_of, AreReached, IsMeaning}
 use Rattle.check_instances.specs.declared.openings.openings.Part.{Part}
 use Rattle.check_instances.specs.Openings.Openings.{IsPart, a_type, a_group, an_opened_group}
-use Rattle.check_groups.specs.Choosing.Causes.{IsGroupOf, no_group, group_of, alternatives_at, group_in, group_there}
-use Rattle.check_groups.proofs.OfChoosing.Reaching.{choices_reached, group_reached}
+use Rattle.check_groups.specs.Causes.Groups.{IsGroupOf, no_group, group_of, alternatives_at, group_in, group_there}
+use Rattle.check_groups.proofs.OfCauses.Reaching.{choices_reached, group_reached}
 
 -- what is related to what is at a place
 related_at : {A B : Type 0} (R : A → B → Type 0) (xs : List A) (ys : List B) → AlikeAll R xs ys → (k : ℕ) (x : A) → slice_get xs k ≡ Some x → (y : B) × (slice_get ys k ≡ Some y) × R x y

@@ -1,9 +1,9 @@
 //! Causes as implications.
 
 ghost use Rattle.std.specs.Prelude.{◌≡◌, ◌++◌, ◌∷◌, [], IfOk, OnOk};
-ghost use Rattle.check_groups.specs.Empty.Rules.{all_rules, rule, rules_by};
+ghost use Rattle.check_groups.specs.Causes.Rules.{all_rules, rule, rules_by};
 
-use crate::empty::causes::Cause;
+use crate::causes::cause::Cause;
 use graphs::implications::Implication;
 use std::alloc::{AllocError, Global};
 

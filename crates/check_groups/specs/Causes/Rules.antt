@@ -1,8 +1,8 @@
 -- Causes as implications.
 use Rattle.std.specs.Prelude.{ℕ, ◌+◌, List, [], ◌∷◌, ◌++◌, Option, Some, None}
 use Rattle.graphs.specs.declared.implications.Implication.{Implication}
-use Rattle.check_groups.specs.declared.empty.causes.Cause.{Cause}
-use Rattle.check_groups.specs.declared.empty.causes.Cause.TheVariants as CauseV
+use Rattle.check_groups.specs.declared.causes.cause.Cause.{Cause}
+use Rattle.check_groups.specs.declared.causes.cause.Cause.TheVariants as CauseV
 
 abbrev pub rule : ℕ → Option ℕ → Option ℕ → Implication
 rule n a b = record { then = n; first = a; second = b }
@@ -19,3 +19,8 @@ rules_by n (CauseV.Both a b) = rule n (Some a) (Some b) ∷ []
 abbrev pub all_rules : ℕ → List Cause → List Implication
 all_rules n [] = []
 all_rules n (c ∷ cs) = rules_by n c ++ all_rules (n + 1) cs
+
+-- of two rows, where both are there
+abbrev pub both : Option ℕ → Option ℕ → Cause
+both (Some n) (Some m) = CauseV.Both n m
+both _ _ = CauseV.Never
