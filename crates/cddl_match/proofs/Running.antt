@@ -1,5 +1,5 @@
 -- What each turn keeps.
-use Rattle.std.proofs.Common.{◌≡◌, ℕ, suc, ◌+◌, ◌-◌, ◌<◌, ◌≤◌, List, [], ◌∷◌, ◌++◌, inl, inr, length, reverse, refl, ap, subst, ◌∙◌, arith}
+use Rattle.std.proofs.Common.{◌≡◌, ℕ, suc, ◌+◌, ◌*◌, ◌-◌, ◌<◌, ◌≤◌, List, [], ◌∷◌, ◌++◌, inl, inr, length, reverse, refl, ap, subst, ◌∙◌, arith}
 use Rattle.std.specs.Prelude.{Option, Some, None, Result, Ok, Err, IfOk, IfSome}
 use Rattle.std.proofs.lemmas.List.{length-append, length-map, length-reverse, map-append, reverse-append}
 use Rattle.cbor_data.specs.Value.{Value}
@@ -9,7 +9,7 @@ use Rattle.cddl_meaning.specs.Judges.{Reply, Fails}
 use Rattle.cddl_meaning.specs.Moves.{Question, OfType, Pending, InRef, InHeld, Sorting, Move, Answered, Asks, Tries, Reads, Replies, LeadsTo, first_move, next_move, next_entry}
 use Rattle.cddl_meaning.specs.Moves as M
 use Rattle.cddl_match.specs.Ahead.{Opens}
-use Rattle.cddl_match.specs.Machine.{Finds, FindsAt, IsAt, IsRun, IsStep, WaitsAt, asked_in, noted, pending_in}
+use Rattle.cddl_match.specs.Machine.{Finds, FindsAt, IsAt, IsRun, IsStep, IsTurn, WaitsAt, asked_in, noted, pending_in}
 use Rattle.cddl_match.specs.Open.{AreOpenWith, nothing, further}
 use Rattle.cddl_match.specs.Unwinding.{IsOnTheWay, Unwinds}
 use Rattle.cddl_match.specs.Views.{move_view, pending_view}
@@ -191,3 +191,12 @@ finds_from l steps before m None lead finds = tt
 pub ok_finds_from : {E : Type 0} (l : Language TypeId GroupId) (steps : ℕ) (before : Run) (m : Move TypeId GroupId) (r : Result (Option Found) E) → ((first : Question TypeId GroupId) → IsRun l first before → WaitsAt l first before.taken before.waiting.items m) → IfOk r (λ o. IfSome o (FindsAt l steps before m)) → IfOk r (λ o. IfSome o (Finds l steps before))
 ok_finds_from l steps before m (Ok o) lead finds = finds_from l steps before m o lead finds
 ok_finds_from l steps before m (Err e) lead finds = tt
+
+-- Turns come to an end: each takes a step, and asks one question more at most, or takes one off.
+pub turns_left : (l : Language TypeId GroupId) (first : Question TypeId GroupId) (steps : ℕ) (before after : Run) → IsStep l first steps before after → 2 * (steps - after.taken) + length (asked_in after.waiting.items) < 2 * (steps - before.taken) + length (asked_in before.waiting.items)
+turns_left l first steps before after s = by before.taken after.taken (asked_in before.waiting.items) (asked_in after.waiting.items) s.within s.turn
+  where
+    by : (taken later : ℕ) (qs rs : List (Question TypeId GroupId)) → later ≤ steps → IsTurn taken qs later rs → 2 * (steps - later) + length rs < 2 * (steps - taken) + length qs
+    by taken later qs rs h (inl (more, inl same)) = omega (arith, h, more, ap length same)
+    by taken later qs rs h (inl (more, inr (q, asked))) = omega (arith, h, more, ap length asked, length-append qs (q ∷ []))
+    by taken later qs rs h (inr (same, (q, off))) = omega (arith, h, same, ap length off, length-append rs (q ∷ []))

@@ -1,9 +1,8 @@
 -- What the code's questions, replies and frames stand for.
-use Rattle.std.specs.Prelude.{ℕ, List, map, Option, Some, None, Bool, true, false, take, nat_le, if◌then◌else◌}
+use Rattle.std.specs.Prelude.{ℕ, List, map, Bool, true, false, take, nat_le, if◌then◌else◌}
 use Rattle.cbor_data.specs.Value.{Value, uint, place_count}
 use Rattle.item_nodes.specs.View.{pairs_view, view}
 use Rattle.item_nodes.specs.declared.item.Item.{Item}
-use Rattle.cddl_meaning.specs.Forms as F
 use Rattle.cddl_meaning.specs.Judges as J
 use Rattle.cddl_meaning.specs.Moves as M
 use Rattle.table_nodes.specs.declared.nodes.TypeId.{TypeId}
@@ -67,11 +66,6 @@ sorting_view s = record {
   tally = tally_view s.tally.value;
 }
 
--- What an entry with these entries after it leads to: it hands the pair on to them, or it is known what becomes of the pair.
-abbrev pub fated : M.Sorting TypeId → List (F.MapEntry TypeId) → Option Fate → M.Move TypeId GroupId
-fated s es None = M.next_entry es s
-fated s es (Some f) = M.sorted s (fate_view f)
-
 -- a question, a reply, what waits, and a move, each as the definitions have it
 abbrev pub question_view : Question → M.Question TypeId GroupId
 question_view (OfType n p x) = M.OfType n p (subject_view x)
@@ -130,11 +124,6 @@ goes_on (Repeats r) = true
 goes_on (GoesOn p) = true
 goes_on (Tries s) = false
 goes_on (Reads r) = true
-
--- The turns that a move takes before something is asked or answered.
-abbrev pub turns_of : Bool → ℕ
-turns_of true = 1
-turns_of false = 0
 
 -- what a type's reply says
 abbrev pub verdict_of : J.Reply → Verdict

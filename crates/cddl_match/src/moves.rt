@@ -33,7 +33,6 @@ ghost use Rattle.cddl_meaning.specs.Moves.{
 };
 ghost use Rattle.cddl_match.specs.Views.{goes_on, parts_move, pending_view, move_view, reply_view, round_move, rounds_move, subject_view, values};
 ghost use Rattle.cddl_match.specs.declared.questions.Pending.TheVariants as P;
-ghost use Rattle.cddl_match.specs.declared.questions.Reading.{Reading};
 ghost use Rattle.cddl_match.specs.declared.questions.Rounds.{Rounds};
 ghost use Rattle.table_nodes.specs.declared.nodes.GroupId.{GroupId};
 ghost use Rattle.table_nodes.specs.declared.nodes.TypeId.{TypeId};
@@ -524,16 +523,13 @@ pub(crate) fn entry_reply<'i>(base: usize, rest: &'i [Item], reply: Reply<'i>) -
 }
 
 // A group of a sequence has taken items, or failed: nothing is given back, so the sequence fails with it.
-pub(crate) fn next_in_sequence<'t, 'i>(
+fn next_in_sequence<'t, 'i>(
     parts: &'t [GroupId],
     base: usize,
     far: usize,
     reply: Reply<'i>,
 ) -> Move<'t, 'i>
-    ensures next { move_view result ≡ next_move (InSequence parts.now base far) (reply_view reply.entry) }
-    ensures parts { (left : Parts) → result ≡ Move.GoesOn left → left.parts.now ≡ parts.now }
-    ensures kind { (rounds : Rounds) → result ≡ Move.Repeats rounds → ⊥ }
-    ensures reads { (reading : Reading) → result ≡ Move.Reads reading → ⊥ }
+    ensures { move_view result ≡ next_move (InSequence parts.now base far) (reply_view reply.entry) }
 {
     match reply {
         Reply::Takes {

@@ -11,7 +11,7 @@ ghost use Rattle.table_nodes.specs.declared.nodes.GroupId.{GroupId};
 ghost use Rattle.table_nodes.specs.declared.nodes.TypeId.{TypeId};
 
 use crate::moves::{another_part, another_round, first_of_group, first_of_type, next_move};
-use crate::questions::{Move, Pending, Question, Reading, Reply, Sorting, Subject};
+use crate::questions::{Move, Pending, Question, Reading, Reply, Sorting, Stop, Subject};
 use crate::reading::held_in;
 use crate::shelf::Shelf;
 use crate::sorting::{alternative_move, next_entry};
@@ -43,6 +43,22 @@ pub(crate) struct Run<'t, 'i> {
     pub(crate) next: Move<'t, 'i>,
     pub(crate) taken: u64,
     pub(crate) owed: u64,
+}
+
+impl<'i> Found<'i> {
+    ghost use Rattle.std.specs.Prelude.{◌≡◌};
+    ghost use Rattle.cddl_match.specs.Machine.{found_view};
+    ghost use Rattle.cddl_match.specs.Within.{done_view};
+
+    // The reply, if there is one.
+    pub(crate) fn reply(self) -> Result<Reply<'i>, Stop>
+        ensures { done_view result ≡ found_view self.entry }
+    {
+        match self {
+            Found::Replied(reply) => Ok(reply),
+            Found::Spent => Err(Stop::Spent),
+        }
+    }
 }
 
 impl<'t, 'i> Waiting<'t, 'i> {
