@@ -19,10 +19,10 @@ use Rattle.table_nodes.specs.Language.{language_of, rank_of, ranks_of}
 use Rattle.table_nodes.specs.declared.nodes.GroupId.{GroupId}
 use Rattle.table_nodes.specs.declared.nodes.TypeId.{TypeId}
 use Rattle.table_nodes.specs.declared.table.Table.{Table}
-use Rattle.cddl_match.specs.Machine.{IsStep, IsTurn, IsVerdict, LastNeedsRoom, NeedsMore, asked_in, found_verdict, found_view, noted, root_question}
+use Rattle.cddl_match.specs.Machine.{IsStep, IsTurn, IsVerdict, LastNeedsRoom, NeedsMore, asked_in, found_verdict, found_view, next_in, noted, root_question}
 use Rattle.cddl_match.specs.Open.{AreOpen, nothing}
 use Rattle.cddl_match.specs.Progress.{GoesOnFor, IsMachine, Progress, no_turn, one_more}
-use Rattle.cddl_match.specs.Views.{move_view, reply_view, verdict_of}
+use Rattle.cddl_match.specs.Views.{reply_view, verdict_of}
 use Rattle.cddl_match.specs.Within.{Replied, Says}
 use Rattle.cddl_match.specs.declared.answers.Verdict.{Verdict}
 use Rattle.cddl_match.specs.declared.answers.End.{End}
@@ -89,7 +89,7 @@ module _ (t : Table) (x : Value) (steps space : ℕ) (before after : Run) where
   }
 
 -- Memory is wanted only where there was no room, or for something else than one question more.
-pub wants_room : (t : Table) (x : Value) (steps space : ℕ) (r : Run) → IsMachine t x steps space r None → (vec_capacity r.waiting ≤ vec_len r.waiting) ⊎ NeedsMore (language_of t) r (move_view r.next) → (space ≤ length (asked_in r.waiting.items)) ⊎ LastNeedsRoom (language_of t) (asked_in r.waiting.items)
+pub wants_room : (t : Table) (x : Value) (steps space : ℕ) (r : Run) → IsMachine t x steps space r None → (vec_capacity r.waiting ≤ vec_len r.waiting) ⊎ NeedsMore (language_of t) r (next_in r) → (space ≤ length (asked_in r.waiting.items)) ⊎ LastNeedsRoom (language_of t) (asked_in r.waiting.items)
 wants_room t x steps space r m (inl full) =
     let many : length (asked_in r.waiting.items) ≡ length r.waiting.items = length-map r.waiting.items (λ w. noted w.asked) in
     inl (omega (arith, m.room_kept, full, many))

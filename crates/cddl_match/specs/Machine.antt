@@ -33,12 +33,22 @@ abbrev pub noted : List Q.Question → M.Question TypeId GroupId
 noted [] = M.OfAlternative [] 0 no_pairs
 noted (q ∷ qs) = question_view q
 
--- the open questions, the first one first, and what waits for the reply to each
+-- the open questions, the first one first, and how each waits, the last one first
 abbrev pub asked_in : List Waiting → List (M.Question TypeId GroupId)
 asked_in ws = map (λ w. noted w.asked) ws
 
 abbrev pub pending_in : List Waiting → List (M.Pending TypeId GroupId)
-pending_in ws = map (λ w. pending_view w.pending) ws
+pending_in ws = reverse (map (λ w. pending_view w.pending) ws)
+
+-- what waits for the reply to a further question, which the last one asks, and what waits for the reply to each open one:
+-- nothing goes on with the reply to the first
+abbrev pub last_of : List (M.Pending TypeId GroupId) → M.Pending TypeId GroupId
+last_of [] = M.InRef
+last_of (o ∷ os) = o
+
+abbrev pub below : List (M.Pending TypeId GroupId) → List (M.Pending TypeId GroupId)
+below [] = []
+below (o ∷ os) = os ++ M.InRef ∷ []
 
 -- what the root type is asked
 abbrev pub root_question : Table → Value → M.Question TypeId GroupId
@@ -51,12 +61,19 @@ pub record IsAt {N G : Type 0} (l : Language N G) (first : Question N G) (taken 
 
 -- So it is of these questions that wait, the first one first.
 abbrev pub WaitsAt : Language TypeId GroupId → M.Question TypeId GroupId → ℕ → List Waiting → M.Move TypeId GroupId → Type 0
-WaitsAt l first taken ws m = IsAt l first taken (reverse (asked_in ws)) (reverse (pending_in ws)) m
+WaitsAt l first taken ws m = IsAt l first taken (reverse (asked_in ws)) (below (pending_in ws)) m
+
+-- the question that the last open one asks, and the next move of a run
+abbrev pub asks_in : Run → M.Question TypeId GroupId → M.Move TypeId GroupId
+asks_in r q = M.Asks q (last_of (pending_in r.waiting.items))
+
+abbrev pub next_in : Run → M.Move TypeId GroupId
+next_in r = move_view r.next (last_of (pending_in r.waiting.items))
 
 -- The run, which began with this question, has come so far. The steps that it owes are taken in the turns to come, with
 -- nothing asked.
 pub record IsRun (l : Language TypeId GroupId) (first : M.Question TypeId GroupId) (r : Run) : Type 0 where
-  pub at : WaitsAt l first (r.taken + r.owed) r.waiting.items (move_view r.next)
+  pub at : WaitsAt l first (r.taken + r.owed) r.waiting.items (next_in r)
   pub owes : 0 < r.owed → 0 < length (asked_in r.waiting.items)
 
 -- what was found, and what a table says by it

@@ -8,7 +8,7 @@ ghost use Rattle.cddl_match.specs.Within.{Says, done_view, said_view};
 ghost use Rattle.table_nodes.specs.Language.{language_of};
 
 use crate::means::Means;
-use crate::questions::{Move, Pending, Question, Reply, Said, Stop, Subject};
+use crate::questions::{Move, Question, Reply, Said, Stop, Subject};
 use crate::stack::{Run, step};
 use cbor_item::Item;
 use table_nodes::{Table, TypeId};
@@ -26,7 +26,7 @@ pub(crate) fn replied_by_turns<'t, 'i>(
     let steps = means.left;
     let mut run = Run {
         waiting: Vec::new(means.shelf.alloc),
-        next: Move::Asks(question, Pending::Ref),
+        next: Move::Asks(question),
         taken: 0,
         owed: 0,
     };

@@ -11,7 +11,7 @@ ghost use Rattle.cddl_meaning.specs.Ranks.Decided.{IsDecided};
 ghost use Rattle.table_nodes.specs.Language.{RootSays, language_of, ranks_of, root_form};
 
 use crate::answers::{End, Verdict};
-use crate::questions::{Move, Pending, Question, Reply, Subject};
+use crate::questions::{Move, Question, Reply, Subject};
 use crate::shelf::{Cells, Shelf};
 use crate::stack::{Found, Run, step};
 use cbor_item::Sound;
@@ -93,7 +93,7 @@ impl<'t, 'i> Machine<'t, 'i> {
             room,
             run: Run {
                 waiting,
-                next: Move::Asks(root, Pending::Ref),
+                next: Move::Asks(root),
                 taken: 0,
                 owed: 0,
             },

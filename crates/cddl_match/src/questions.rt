@@ -267,16 +267,12 @@ pub(crate) struct Parts<'t, 'i> {
     pub(crate) far: usize,
 }
 
-/// Either the reply, or what is asked first.
+/// What a question comes to: its reply, or what is next before that.
 #[derive(Drop)]
 pub(crate) enum Move<'t, 'i> {
     Answered(Reply<'i>),
-    /// What is asked, and what waits for its reply.
-    Asks(Question<'t, 'i>, Pending<'t, 'i>),
-    /// The group of another round, unless there were as many as may be.
-    Repeats(Rounds<'i>),
-    /// The next group of a sequence, unless there is none.
-    GoesOn(Parts<'t, 'i>),
+    /// What is asked. What waits for its reply stands where the question that asks it waits.
+    Asks(Question<'t, 'i>),
     /// A pair is tried with the entries of its alternative.
     Tries(Sorting<'t, 'i>),
     /// A type is asked of what a byte string holds.

@@ -1,6 +1,5 @@
-use Rattle.std.proofs.Common.{refl, ap, arith}
+use Rattle.std.proofs.Common.{refl, arith}
 use Rattle.table_nodes.specs.Language.{language_of}
-use Rattle.cddl_match.specs.Views.{pending_view}
 use Rattle.cddl_match.proofs.Running.{at_ask_over, ask_step}
 use Rattle.cddl_match.proofs.stack.ask.Goals as goal
 
@@ -10,4 +9,4 @@ returns-then-run-steps-clause-finds c = λ first at within r w d.
     omega (arith, h, c.if-run-steps.true)
 
 pub returns-clause-goes : goal.returns-clause-goes
-returns-clause-goes c = λ e first at within. ask_step (language_of c.args.table.now) first c.args.steps _ _ c.new.result c.requires.owed refl refl c.if-run-steps.false at c.in_ok-push.ensures.items c.new.ensures.asked (ap pending_view c.new.ensures.pending) c.in_ok-first.ensures.first
+returns-clause-goes c = λ e first at within. ask_step (language_of c.args.table.now) first c.args.steps _ _ c.new.result c.requires.owed refl refl c.if-run-steps.false at c.in_ok-push.ensures.items c.new.ensures.asked (rw c.new.ensures.pending c.in_ok-run.ensures.first)
