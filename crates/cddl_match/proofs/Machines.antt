@@ -19,16 +19,15 @@ use Rattle.table_nodes.specs.Language.{language_of, rank_of, ranks_of}
 use Rattle.table_nodes.specs.declared.nodes.GroupId.{GroupId}
 use Rattle.table_nodes.specs.declared.nodes.TypeId.{TypeId}
 use Rattle.table_nodes.specs.declared.table.Table.{Table}
-use Rattle.cddl_match.specs.Machine.{IsStep, IsTurn, IsVerdict, LastNeedsRoom, NeedsMore, asked_in, found_verdict, found_view, next_in, noted, root_question}
+use Rattle.cddl_match.specs.Machine.{IsStep, IsTurn, IsVerdict, LastNeedsRoom, NeedsMore, asked_in, next_in, noted, root_question}
 use Rattle.cddl_match.specs.Open.{AreOpen, nothing}
 use Rattle.cddl_match.specs.Progress.{GoesOnFor, IsMachine, Progress, no_turn, one_more}
 use Rattle.cddl_match.specs.Views.{reply_view, verdict_of}
-use Rattle.cddl_match.specs.Within.{Replied, Says}
+use Rattle.cddl_match.specs.Within.{Replied, Stopped, Says}
 use Rattle.cddl_match.specs.declared.answers.Verdict.{Verdict}
 use Rattle.cddl_match.specs.declared.answers.End.{End}
 use Rattle.cddl_match.specs.declared.answers.End.TheVariants.{Said, NoMemory}
-use Rattle.cddl_match.specs.declared.stack.Found.{Found}
-use Rattle.cddl_match.specs.declared.stack.Found.TheVariants as F
+use Rattle.cddl_match.specs.declared.questions.Stop.TheVariants as S
 use Rattle.cddl_match.specs.declared.stack.Run.{Run}
 use Rattle.cddl_match.proofs.Open.{as_many, open_reached}
 use Rattle.cddl_match.proofs.Room.{room}
@@ -96,13 +95,12 @@ wants_room t x steps space r m (inl full) =
 wants_room t x steps space r m (inr more) = inr (more (root_question t x) _ refl m.parts.at)
 
 -- What the first question comes to is a verdict where that is what the root type is asked.
-pub is_verdict : (t : Table) (x : Value) (steps left : ℕ) (f : Found) → IsSound x → Says (language_of t) (root_question t x) steps left (found_view f) → IsVerdict t x steps (found_verdict f)
-is_verdict t x steps left (F.Replied r) s h = by (reply_view r) s h
-  where
-    by : (r : Reply) → IsSound x → Says (language_of t) (root_question t x) steps left (Replied r) → IsVerdict t x steps (verdict_of r)
-    by (J.Takes xs next far) s h = (_, said_yes (language_of t) (J.Takes xs next far) (room x s) refl (replied (language_of t) h.0), omega arith)
-    by (J.Fails far) s h = (_, said_no (language_of t) (J.Fails far) (room x s) refl (replied (language_of t) h.0), omega arith)
-is_verdict t x steps left F.Spent s h = λ a w d. h _ w (said (language_of t) (room x s) d)
+pub is_verdict : (t : Table) (x : Value) (steps left : ℕ) (r : Reply) → IsSound x → Says (language_of t) (root_question t x) steps left (Replied r) → IsVerdict t x steps (verdict_of r)
+is_verdict t x steps left (J.Takes xs next far) s h = (_, said_yes (language_of t) (J.Takes xs next far) (room x s) refl (replied (language_of t) h.0), omega arith)
+is_verdict t x steps left (J.Fails far) s h = (_, said_no (language_of t) (J.Fails far) (room x s) refl (replied (language_of t) h.0), omega arith)
+
+pub is_spent_verdict : (t : Table) (x : Value) (steps : ℕ) → IsSound x → Says (language_of t) (root_question t x) steps 0 (Stopped S.Spent) → IsVerdict t x steps V.Spent
+is_spent_verdict t x steps s h = λ a w d. h _ w (said (language_of t) (room x s) d)
 
 -- the open questions of any machine
 pub opened_so : (t : Table) (x : Value) (steps space : ℕ) (r : Run) (e : Option End) → IsMachine t x steps space r e → AreOpen (language_of t) (root_question t x) (asked_in r.waiting.items)

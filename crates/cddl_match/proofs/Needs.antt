@@ -1,12 +1,11 @@
 -- Room beside that for questions is needed only where the last question is one of a map or of what a byte string holds.
-use Rattle.std.proofs.Common.{◌≡◌, ℕ, List, [], ◌∷◌, ◌++◌, reverse, refl, ap, sym, subst, ◌∙◌}
+use Rattle.std.proofs.Common.{◌≡◌, ◌⊎◌, inl, inr, ℕ, List, [], ◌∷◌, ◌++◌, reverse, refl, ap, sym, subst, ◌∙◌}
 use Rattle.std.specs.Prelude.{Bool, true, false, ◌||◌, zero, suc, Option, Some, None, nat_eq, length}
 use Rattle.std.proofs.lemmas.List.{reverse-append, reverse-reverse}
 use Rattle.cbor_data.specs.Value.{Value, Pairs, no_pairs, pair}
 use Rattle.cddl_meaning.specs.Forms.{TagNumber, any_number, exactly, such_as, MapEntry, Node, Plain, Ref, Choice, ArrayOf, TagOf, SimpleBy, MapOf, Both, Such, Holding, Most, Group, Entry, GroupRef, Sequence, Alternatives, Repeat, Language, members_in, tag_in, simple_in}
 use Rattle.cddl_meaning.specs.Judges.{Reply, Takes, Fails, is_over}
 use Rattle.cddl_meaning.specs.Moves.{Question, OfType, OfGroup, OfAlternative, Pending, InRef, InChoice, InArray, InHead, InSimple, InEntry, InSequence, InAlternatives, InRepeat, InMap, InKey, InValue, InLeft, InSuch, InHolder, InHeld, Sorting, Tally, Move, Answered, Asks, Tries, Reads, next_member, next_part, next_alternative, next_round, after_round, end_of_rounds, array_move, content_move, tag_move, simple_move, next_pair, next_entry, after_value, type_move, entry_move, group_move, first_move, next_move}
-use Rattle.std.specs.Prelude.{Result, Ok, Err, IfOk, IfSome, OnErr}
 use Rattle.cddl_match.specs.Machine.{NeedsMore, asked_in, is_alternative, last_of, next_in, pending_in}
 use Rattle.cddl_match.specs.Views.{move_view}
 use Rattle.cddl_match.specs.declared.questions.Move as C
@@ -160,18 +159,9 @@ module _ {N G : Type 0} (l : Language N G) where
   last_needs qs [] a e nothing h = cc
   last_needs qs (q ∷ rs) a e (further o c) h = (q, reverse rs, turned qs q rs (sym e), comes_needs c h)
 
-pub on_err : {T E P Q : Type 0} (r : Result T E) → (P → Q) → OnErr r P → OnErr r Q
-on_err (Ok x) f h = tt
-on_err (Err e) f h = f h
-
-pub err_so : {T E P : Type 0} (r : Result T E) → P → OnErr r P
-err_so (Ok x) p = tt
-err_so (Err e) p = p
-
-pub some_so : {T E P Q : Type 0} (r : Result (Option T) E) → (P → Q) → IfOk r (λ o. IfSome o (λ _. P)) → IfOk r (λ o. IfSome o (λ _. Q))
-some_so (Ok (Some x)) f h = f h
-some_so (Ok None) f h = tt
-some_so (Err e) f h = tt
+pub or_so : {P Q R : Type 0} → P ⊎ Q → (Q → R) → P ⊎ R
+or_so (inl p) f = inl p
+or_so (inr q) f = inr (f q)
 
 pub or_true : {N G : Type 0} (o : Pending N G) (q : Question N G) → is_alternative q ≡ true → takes_room (Asks q o) ≡ true
 or_true o q h = by (needs_more o) h

@@ -13,10 +13,9 @@ use Rattle.cddl_match.specs.Machine.{Finds, FindsAt, IsAt, IsRun, IsStep, IsTurn
 use Rattle.cddl_match.specs.Open.{AreOpenWith, nothing, further}
 use Rattle.cddl_match.specs.Unwinding.{IsOnTheWay, Unwinds}
 use Rattle.cddl_match.specs.Views.{move_view, pending_view}
-use Rattle.cddl_match.specs.Within.{Replied, Stopped, Says}
+use Rattle.cddl_match.specs.Within.{Outcome, Replied, Stopped, Says}
 use Rattle.cddl_match.specs.declared.questions.Move as C
 use Rattle.cddl_match.specs.declared.questions.Stop.TheVariants as S
-use Rattle.cddl_match.specs.declared.stack.Found.{Found}
 use Rattle.cddl_match.specs.declared.stack.Run.{Run}
 use Rattle.cddl_match.specs.declared.stack.Waiting.{Waiting}
 use Rattle.table_nodes.specs.declared.nodes.GroupId.{GroupId}
@@ -43,6 +42,12 @@ last_there [] k x h e = absurd (omega (arith, h))
 last_there (y ∷ []) zero x h e = ap (λ z. z ∷ []) (sym e)
 last_there (y ∷ z ∷ xs) zero x h e = absurd (omega (arith, h))
 last_there (y ∷ xs) (suc k) x h e = ap (λ ys. y ∷ ys) (last_there xs k x (omega (arith, h)) e)
+
+pub some_last : {A : Type 0} (xs : List A) (k : ℕ) → k + 1 ≡ length xs → (x : A) × (xs ≡ take k xs ++ x ∷ [])
+some_last [] k h = absurd (omega (arith, h))
+some_last (y ∷ []) zero h = (y, refl)
+some_last (y ∷ z ∷ xs) zero h = absurd (omega (arith, h))
+some_last (y ∷ xs) (suc k) h = let more = some_last xs k (omega (arith, h)) in (more.0, ap (λ ys. y ∷ ys) more.1)
 
 pub last_written : {A : Type 0} (xs : List A) (k : ℕ) (x : A) → k + 1 ≡ length xs → slice_set xs k x ≡ take k xs ++ x ∷ []
 last_written [] k x h = absurd (omega (arith, h))
@@ -113,6 +118,25 @@ module _ {N G : Type 0} (l : Language N G) where
 
   pub at_pair_over : {first : Question N G} {taken : ℕ} {qs : List (Question N G)} {os : List (Pending N G)} {s : Sorting N} → IsAt l first taken qs os (Tries s) → (r : Reply) (w : ℕ) → Replies l first r w → taken < w
   at_pair_over h r w d = omega (arith, at_most (at_tried h) r w d)
+
+-- one that was put behind all others
+pub pushed_there : {A : Type 0} (xs : List A) (k : ℕ) (x v : A) (ys : List A) → k ≡ length xs → ys ≡ xs ++ x ∷ [] → v ≡ slice_index_or ys k v → v ≡ x
+pushed_there {A = A} xs k x v ys h e i = i ∙ ap (λ ys. slice_index_or ys k v) e ∙ by xs k h
+  where
+    by : (xs : List A) (k : ℕ) → k ≡ length xs → slice_index_or (xs ++ x ∷ []) k v ≡ x
+    by [] zero h = refl
+    by [] (suc k) h = absurd (omega (arith, h))
+    by (y ∷ xs) zero h = absurd (omega (arith, h))
+    by (y ∷ xs) (suc k) h = by xs k (omega (arith, h))
+
+pub pushed_written : {A : Type 0} (xs : List A) (k : ℕ) (x u : A) (ys : List A) → k ≡ length xs → ys ≡ xs ++ x ∷ [] → slice_set ys k u ≡ xs ++ u ∷ []
+pushed_written {A = A} xs k x u ys h e = ap (λ ys. slice_set ys k u) e ∙ by xs k h
+  where
+    by : (xs : List A) (k : ℕ) → k ≡ length xs → slice_set (xs ++ x ∷ []) k u ≡ xs ++ u ∷ []
+    by [] zero h = refl
+    by [] (suc k) h = absurd (omega (arith, h))
+    by (y ∷ xs) zero h = absurd (omega (arith, h))
+    by (y ∷ xs) (suc k) h = ap (λ ys. y ∷ ys) (by xs k (omega (arith, h)))
 
 -- a question more waits
 asked_more : (ws : List Waiting) (w : Waiting) → asked_in (ws ++ w ∷ []) ≡ asked_in ws ++ noted w.asked ∷ []
@@ -243,27 +267,23 @@ no_end l first taken ws r none h =
     let h2 = rw (none_left ws none) at h in
     at_none l h2
 
+-- one question has its reply, and none has none
+pub end_or_none : (l : Language TypeId GroupId) (first : Question TypeId GroupId) (steps taken : ℕ) (ws : List Waiting) (r : Reply) → taken ≤ steps → WaitsAt l first taken ws (Answered r) → length ws < 2 → Says l first steps (steps - taken) (Replied r)
+end_or_none l first steps taken [] r within h few = absurd (no_end l first taken [] r refl h)
+end_or_none l first steps taken (w ∷ []) r within h few = end_step l first steps taken (w ∷ []) [] w r within h refl refl
+end_or_none l first steps taken (w ∷ v ∷ ws) r within h few = absurd (omega (arith, few))
+
 -- A turn from a run is one from another that has taken as many steps and in which the same questions wait.
 pub step_of : (l : Language TypeId GroupId) (first : Question TypeId GroupId) (steps : ℕ) (before other after : Run) → before.taken ≡ other.taken → asked_in before.waiting.items ≡ asked_in other.waiting.items → IsStep l first steps before after → IsStep l first steps other after
 step_of l first steps before other after taken asked s = record { run = s.run; within = s.within; turn = rw (← taken, ← asked) s.turn; some = s.some }
 
 -- what is found at a move to which another run or move leads, which has taken as many steps
-pub found_from : (l : Language TypeId GroupId) (steps : ℕ) (before mid : Run) (m n : Move TypeId GroupId) (o : Option Found) → mid.taken ≡ before.taken → ((first : Question TypeId GroupId) → WaitsAt l first before.taken before.waiting.items n → WaitsAt l first mid.taken mid.waiting.items m) → IfSome o (FindsAt l steps mid m) → IfSome o (FindsAt l steps before n)
-found_from l steps before mid m n (Some f) taken lead finds = λ first at within. rw (← taken) (finds first (lead first at) (omega (arith, within, taken)))
-found_from l steps before mid m n None taken lead finds = tt
-
-pub ok_found_from : {E : Type 0} (l : Language TypeId GroupId) (steps : ℕ) (before mid : Run) (m n : Move TypeId GroupId) (r : Result (Option Found) E) → mid.taken ≡ before.taken → ((first : Question TypeId GroupId) → WaitsAt l first before.taken before.waiting.items n → WaitsAt l first mid.taken mid.waiting.items m) → IfOk r (λ o. IfSome o (FindsAt l steps mid m)) → IfOk r (λ o. IfSome o (FindsAt l steps before n))
-ok_found_from l steps before mid m n (Ok o) taken lead finds = found_from l steps before mid m n o taken lead finds
-ok_found_from l steps before mid m n (Err e) taken lead finds = tt
+pub found_from : (l : Language TypeId GroupId) (steps : ℕ) (before mid : Run) (m n : Move TypeId GroupId) (o : Outcome) → mid.taken ≡ before.taken → ((first : Question TypeId GroupId) → WaitsAt l first before.taken before.waiting.items n → WaitsAt l first mid.taken mid.waiting.items m) → FindsAt l steps mid m o → FindsAt l steps before n o
+found_from l steps before mid m n o taken lead finds = λ first at within. rw (← taken) (finds first (lead first at) (omega (arith, within, taken)))
 
 -- what is found by a run whose next move is this one
-pub finds_from : (l : Language TypeId GroupId) (steps : ℕ) (before mid : Run) (m : Move TypeId GroupId) (o : Option Found) → mid.taken ≡ before.taken → ((first : Question TypeId GroupId) → IsRun l first before → WaitsAt l first mid.taken mid.waiting.items m) → IfSome o (FindsAt l steps mid m) → IfSome o (Finds l steps before)
-finds_from l steps before mid m (Some f) taken lead finds = λ first run within. rw (← taken) (finds first (lead first run) (omega (arith, within, taken)))
-finds_from l steps before mid m None taken lead finds = tt
-
-pub ok_finds_from : {E : Type 0} (l : Language TypeId GroupId) (steps : ℕ) (before mid : Run) (m : Move TypeId GroupId) (r : Result (Option Found) E) → mid.taken ≡ before.taken → ((first : Question TypeId GroupId) → IsRun l first before → WaitsAt l first mid.taken mid.waiting.items m) → IfOk r (λ o. IfSome o (FindsAt l steps mid m)) → IfOk r (λ o. IfSome o (Finds l steps before))
-ok_finds_from l steps before mid m (Ok o) taken lead finds = finds_from l steps before mid m o taken lead finds
-ok_finds_from l steps before mid m (Err e) taken lead finds = tt
+pub finds_from : (l : Language TypeId GroupId) (steps : ℕ) (before mid : Run) (m : Move TypeId GroupId) (o : Outcome) → mid.taken ≡ before.taken → ((first : Question TypeId GroupId) → IsRun l first before → WaitsAt l first mid.taken mid.waiting.items m) → FindsAt l steps mid m o → Finds l steps before o
+finds_from l steps before mid m o taken lead finds = λ first run within. rw (← taken) (finds first (lead first run) (omega (arith, within, taken)))
 
 -- Turns come to an end: each takes a step, and asks one question more at most, or takes one off.
 pub turns_left : (l : Language TypeId GroupId) (first : Question TypeId GroupId) (steps : ℕ) (before after : Run) → IsStep l first steps before after → 2 * (steps - after.taken) + length (asked_in after.waiting.items) < 2 * (steps - before.taken) + length (asked_in before.waiting.items)

@@ -1,17 +1,29 @@
 //! What is asked by turns, since calls are deep enough: a run that begins at that question, so that types may nest as they
 //! like.
 
+ghost use Rattle.std.specs.Prelude.{◌≡◌, Ok};
 ghost use Rattle.item_nodes.specs.View.{view};
 ghost use Rattle.cddl_meaning.specs.Moves as M;
 ghost use Rattle.cddl_match.specs.Views.{question_view};
 ghost use Rattle.cddl_match.specs.Within.{Says, done_view, said_view};
+ghost use Rattle.cddl_match.specs.declared.questions.Reply as R;
 ghost use Rattle.table_nodes.specs.Language.{language_of};
 
 use crate::means::Means;
 use crate::questions::{Move, Question, Reply, Said, Stop, Subject};
-use crate::stack::{Run, step};
+use crate::stack::{Run, Turned, step};
 use cbor_item::Item;
 use table_nodes::{Table, TypeId};
+
+// The reply that the first question of a run has.
+fn reply_of<'i>(run: &Run<'_, 'i>) -> Result<Reply<'i>, Stop>
+    ensures { (r : R.Reply) → run.now.next ≡ Move.Answered r → result ≡ Ok r }
+{
+    match &run.next {
+        Move::Answered(reply) => Ok(*reply),
+        _ => Err(Stop::NoMemory),
+    }
+}
 
 // What a question is replied to by turns. What byte strings hold is put on the shelf.
 #[cold]
@@ -32,12 +44,13 @@ pub(crate) fn replied_by_turns<'t, 'i>(
     };
     'turns: loop {
         match step(table, &mut means.shelf, &mut run, steps) {
-            Ok(None) => {}
-            Ok(Some(found)) => {
+            Turned::GoesOn => {}
+            Turned::Replied => {
                 means.left = steps - run.taken;
-                return found.reply();
+                return reply_of(&run);
             }
-            Err(_) => return Err(Stop::NoMemory),
+            Turned::Spent => return Err(Stop::Spent),
+            Turned::NoMemory => return Err(Stop::NoMemory),
         }
     }
 }

@@ -1,20 +1,21 @@
 //! What a machine keeps while it asks: the questions that wait, each with what it waits for, and its next move.
 
-ghost use Rattle.std.specs.Prelude.{◌≡◌, ◌⊎◌, ◌<◌, ◌≤◌, ℕ, [], None, Ok, true, IfOk, OnErr, IfSome, MatchOption, vec_capacity, vec_len};
+ghost use Rattle.std.specs.Prelude.{◌≡◌, ◌⊎◌, ◌<◌, ◌≤◌, ℕ, [], true, IfOk, OnErr, MatchOption, vec_capacity, vec_len};
 ghost use Rattle.cbor_data.specs.Value.{Value};
 ghost use Rattle.item_nodes.specs.View.{view};
 ghost use Rattle.cddl_meaning.specs.Forms.{Language};
 ghost use Rattle.cddl_meaning.specs.Held.{Holds};
 ghost use Rattle.cddl_meaning.specs.Moves as M;
-ghost use Rattle.cddl_match.specs.Machine.{Finds, FindsAt, Goes, GoesFrom, IsKept, NeedsMore, asked_in, asks_in, is_alternative, next_in};
+ghost use Rattle.cddl_match.specs.Machine.{Finds, FindsAt, Goes, GoesFrom, IsKept, NeedsMore, asked_in, asks_in, found_in, is_alternative, next_in};
 ghost use Rattle.cddl_match.specs.Views.{move_view, pending_view, question_view, reading_move, reply_view, sorting_view};
+ghost use Rattle.cddl_match.specs.declared.questions.Reply as R;
 ghost use Rattle.table_nodes.specs.Language.{language_of};
 ghost use Rattle.table_nodes.specs.Nodes.{content_view};
 ghost use Rattle.table_nodes.specs.declared.nodes.GroupId.{GroupId};
 ghost use Rattle.table_nodes.specs.declared.nodes.TypeId.{TypeId};
 
 use crate::moves::{first_of_group, first_of_type, next_move};
-use crate::questions::{Move, Pending, Question, Reading, Reply, Sorting, Stop, Subject};
+use crate::questions::{Move, Pending, Question, Reading, Reply, Sorting, Subject};
 use crate::reading::held_in;
 use crate::shelf::Shelf;
 use crate::sorting::{alternative_move, next_entry};
@@ -24,29 +25,17 @@ use std::alloc::{AllocError, Global};
 use std::mem;
 use table_nodes::Table;
 
-/// What a run ends with.
+/// How a turn ends. It is small, and a reply is left where the next move stands.
 #[derive(Clone, Copy)]
-pub(crate) enum Found<'i> {
-    /// The reply to its first question.
-    Replied(Reply<'i>),
+pub(crate) enum Turned {
+    /// The run goes on.
+    GoesOn,
+    /// The first question has its reply, which is the next move.
+    Replied,
     /// The reply takes more steps.
     Spent,
-}
-
-impl<'i> Found<'i> {
-    ghost use Rattle.std.specs.Prelude.{◌≡◌};
-    ghost use Rattle.cddl_match.specs.Machine.{found_view};
-    ghost use Rattle.cddl_match.specs.Within.{done_view};
-
-    // The reply, if there is one.
-    pub(crate) fn reply(self) -> Result<Reply<'i>, Stop>
-        ensures { done_view result ≡ found_view self.entry }
-    {
-        match self {
-            Found::Replied(reply) => Ok(reply),
-            Found::Spent => Err(Stop::Spent),
-        }
-    }
+    /// There is no memory for it.
+    NoMemory,
 }
 
 /// An open question, which contracts alone see, and how it waits for the reply to what it has asked.
@@ -69,15 +58,14 @@ impl<'t, 'i> Waiting<'t, 'i> {
     ghost use Rattle.cddl_match.specs.Machine.{noted};
     ghost use Rattle.cddl_match.specs.Views.{question_view};
 
-    // The question, which waits so.
+    // The question, which has asked nothing yet.
     #[inline]
-    fn new(question: &Question<'t, 'i>, pending: Pending<'t, 'i>) -> Waiting<'t, 'i>
-        ensures asked { noted result.asked ≡ question_view question.now }
-        ensures pending { result.pending ≡ pending.entry }
+    fn new(question: &Question<'t, 'i>) -> Waiting<'t, 'i>
+        ensures { noted result.asked ≡ question_view question.now }
     {
         Waiting {
             asked: History::new().with(question),
-            pending,
+            pending: Pending::Ref,
         }
     }
 }
@@ -114,94 +102,104 @@ fn first_of<'t, 'i>(
 
 // A step that the pair that is tried takes for one of the entries of its alternative.
 #[inline]
-fn take_owed<'i>(run: &mut Run<'_, '_>, steps: u64) -> Option<Found<'i>>
+fn take_owed(run: &mut Run<'_, '_>, steps: u64) -> Turned
     requires owed { 0 < run.old.owed }
-    ensures goes { result ≡ None → (l : Language TypeId GroupId) → Goes l steps run.old run.new }
-    ensures finds { (l : Language TypeId GroupId) → IfSome result (Finds l steps run.old) }
-    ensures kept { IfSome result (λ _. IsKept run.old run.new) }
+    ensures goes { result ≡ Turned.GoesOn → (l : Language TypeId GroupId) → Goes l steps run.old run.new }
+    ensures finds { (l : Language TypeId GroupId) → Finds l steps run.old (found_in result run.new.next) }
+    ensures kind { (result ≡ Turned.Replied → ⊥) × (result ≡ Turned.NoMemory → ⊥) }
+    ensures kept { (result ≡ Turned.GoesOn → ⊥) → IsKept run.old run.new }
     ensures capacity { vec_capacity run.new.waiting ≡ vec_capacity run.old.waiting }
 {
     if run.taken >= steps {
-        return Some(Found::Spent);
+        return Turned::Spent;
     }
     run.taken += 1;
     run.owed -= 1;
-    None
+    Turned::GoesOn
 }
 
 // A pair is tried: a step, and one more is owed for each entry of its alternative.
-fn try_pair<'t, 'i>(
-    run: &mut Run<'t, 'i>,
-    sorting: Sorting<'t, 'i>,
-    steps: u64,
-) -> Option<Found<'i>>
-    ensures goes { result ≡ None → (l : Language TypeId GroupId) → GoesFrom l steps run.old (M.Tries (sorting_view sorting.entry)) run.new }
-    ensures finds { (l : Language TypeId GroupId) → IfSome result (FindsAt l steps run.old (M.Tries (sorting_view sorting.entry))) }
-    ensures kept { IfSome result (λ _. IsKept run.old run.new) }
+#[inline(never)]
+fn try_pair<'t, 'i>(run: &mut Run<'t, 'i>, sorting: Sorting<'t, 'i>, steps: u64) -> Turned
+    ensures goes { result ≡ Turned.GoesOn → (l : Language TypeId GroupId) → GoesFrom l steps run.old (M.Tries (sorting_view sorting.entry)) run.new }
+    ensures finds { (l : Language TypeId GroupId) → FindsAt l steps run.old (M.Tries (sorting_view sorting.entry)) (found_in result run.new.next) }
+    ensures kind { (result ≡ Turned.Replied → ⊥) × (result ≡ Turned.NoMemory → ⊥) }
+    ensures kept { (result ≡ Turned.GoesOn → ⊥) → IsKept run.old run.new }
     ensures capacity { vec_capacity run.new.waiting ≡ vec_capacity run.old.waiting }
 {
+    let count = run.waiting.len();
     // A question is open, whose pair this is.
-    let Some(last) = run.waiting.last_mut() else {
-        return Some(Found::Spent);
-    };
+    if count == 0 {
+        return Turned::Spent;
+    }
     if run.taken >= steps {
-        return Some(Found::Spent);
+        return Turned::Spent;
     }
     let entries = sorting.entries;
+    let last = &mut run.waiting[count - 1];
     run.next = next_entry(entries, sorting, &mut last.pending);
     run.taken += 1;
     run.owed = entries.len() as u64;
-    None
+    Turned::GoesOn
 }
 
 // The last question has this reply, and the one below it goes on; or the first one has it.
-fn reply_to_last<'t, 'i>(run: &mut Run<'t, 'i>, reply: Reply<'i>) -> Option<Found<'i>>
+fn reply_to_last<'t, 'i>(run: &mut Run<'t, 'i>, reply: Reply<'i>) -> Turned
     requires owed { run.old.owed ≡ 0 }
-    ensures goes { result ≡ None → (l : Language TypeId GroupId) (steps : ℕ) → GoesFrom l steps run.old (M.Answered (reply_view reply.entry)) run.new }
-    ensures finds { (l : Language TypeId GroupId) (steps : ℕ) → IfSome result (FindsAt l steps run.old (M.Answered (reply_view reply.entry))) }
-    ensures emptied { IfSome result (λ _. asked_in run.new.waiting.items ≡ []) }
+    ensures goes { result ≡ Turned.GoesOn → (l : Language TypeId GroupId) (steps : ℕ) → GoesFrom l steps run.old (M.Answered (reply_view reply.entry)) run.new }
+    ensures finds { (l : Language TypeId GroupId) (steps : ℕ) → FindsAt l steps run.old (M.Answered (reply_view reply.entry)) (found_in result run.new.next) }
+    ensures told { result ≡ Turned.Replied → run.new.next ≡ Move.Answered reply.entry }
+    ensures kind { (result ≡ Turned.NoMemory → ⊥) }
+    ensures emptied { result ≡ Turned.Replied → asked_in run.new.waiting.items ≡ [] }
+    ensures ends { (result ≡ Turned.GoesOn → ⊥) → result ≡ Turned.Replied }
     ensures taken { run.new.taken ≡ run.old.taken }
     ensures capacity { vec_capacity run.new.waiting ≡ vec_capacity run.old.waiting }
 {
-    let Some(answered) = run.waiting.pop() else {
-        return Some(Found::Replied(reply));
-    };
-    drop(answered);
-    let Some(last) = run.waiting.last_mut() else {
-        return Some(Found::Replied(reply));
-    };
+    let count = run.waiting.len();
+    if count < 2 {
+        run.waiting.clear();
+        run.next = Move::Answered(reply);
+        return Turned::Replied;
+    }
+    run.waiting.truncate(count - 1);
+    let last = &mut run.waiting[count - 2];
     run.next = next_move(&mut last.pending, reply);
-    None
+    Turned::GoesOn
 }
 
-// A question is asked: a step.
-//
-// # Errors
-//
-// `AllocError` where there is no memory for one question more, or for the tally of an alternative.
+// A question is asked: a step. There may be no memory for one question more, or for the tally of an alternative.
 fn ask<'t, 'i>(
     alloc: Global,
     table: &'t Table,
     run: &mut Run<'t, 'i>,
     question: Question<'t, 'i>,
     steps: u64,
-) -> Result<Option<Found<'i>>, AllocError>
+) -> Turned
     requires owed { run.old.owed ≡ 0 }
-    ensures goes { result ≡ Ok None → GoesFrom (language_of table.now) steps run.old (asks_in run.old (question_view question.entry)) run.new }
-    ensures finds { IfOk result (λ it. IfSome it (FindsAt (language_of table.now) steps run.old (asks_in run.old (question_view question.entry)))) }
-    ensures kept { IfOk result (λ it. IfSome it (λ _. IsKept run.old run.new)) }
-    ensures left { OnErr result (IsKept run.old run.new) }
-    ensures memory { OnErr result ((vec_capacity run.old.waiting ≤ vec_len run.old.waiting) ⊎ (is_alternative (question_view question.entry) ≡ true)) }
+    ensures goes { result ≡ Turned.GoesOn → GoesFrom (language_of table.now) steps run.old (asks_in run.old (question_view question.entry)) run.new }
+    ensures finds { FindsAt (language_of table.now) steps run.old (asks_in run.old (question_view question.entry)) (found_in result run.new.next) }
+    ensures kind { (result ≡ Turned.Replied → ⊥) }
+    ensures kept { (result ≡ Turned.GoesOn → ⊥) → IsKept run.old run.new }
+    ensures memory { result ≡ Turned.NoMemory → (vec_capacity run.old.waiting ≤ vec_len run.old.waiting) ⊎ (is_alternative (question_view question.entry) ≡ true) }
     ensures capacity { vec_capacity run.old.waiting ≤ vec_capacity run.new.waiting }
 {
     if run.taken >= steps {
-        return Ok(Some(Found::Spent));
+        return Turned::Spent;
     }
-    let mut pending = Pending::Ref;
-    run.next = first_of(alloc, table, question, &mut pending)?;
-    run.waiting.push(Waiting::new(&question, pending))?;
+    let count = run.waiting.len();
+    let Ok(()) = run.waiting.push(Waiting::new(&question)) else {
+        return Turned::NoMemory;
+    };
+    let last = &mut run.waiting[count];
+    match first_of(alloc, table, question, &mut last.pending) {
+        Ok(first) => run.next = first,
+        Err(_) => {
+            run.waiting.truncate(count);
+            return Turned::NoMemory;
+        }
+    }
     run.taken += 1;
-    Ok(None)
+    Turned::GoesOn
 }
 
 // What a byte string holds, put on the shelf, if it holds something.
@@ -218,24 +216,23 @@ fn held_on<'i>(shelf: &mut Shelf<'i>, reading: Reading<'i>) -> Result<Option<&'i
     Ok(Some(shelf.keep(item)?))
 }
 
-// A byte string is read, and a type is asked of what it holds; if it holds nothing, that is the last question's reply.
-//
-// # Errors
-//
-// `AllocError` where there is no memory for what it holds, or for one question more.
+// A byte string is read, and a type is asked of what it holds; if it holds nothing, that is the last question's reply. There
+// may be no memory for what it holds, or for one question more.
+#[inline(never)]
 fn read<'t, 'i>(
     table: &'t Table,
     shelf: &mut Shelf<'i>,
     run: &mut Run<'t, 'i>,
     reading: Reading<'i>,
     steps: u64,
-) -> Result<Option<Found<'i>>, AllocError>
+) -> Turned
     requires owed { run.old.owed ≡ 0 }
-    ensures goes { result ≡ Ok None → GoesFrom (language_of table.now) steps run.old (reading_move reading.entry) run.new }
-    ensures finds { IfOk result (λ it. IfSome it (FindsAt (language_of table.now) steps run.old (reading_move reading.entry))) }
-    ensures kept { IfOk result (λ it. IfSome it (λ _. (asked_in run.new.waiting.items ≡ asked_in run.old.waiting.items) ⊎ (asked_in run.new.waiting.items ≡ []))) }
-    ensures left { OnErr result (IsKept run.old run.new) }
-    ensures taken { (result ≡ Ok None → ⊥) → run.new.taken ≡ run.old.taken }
+    ensures goes { result ≡ Turned.GoesOn → GoesFrom (language_of table.now) steps run.old (reading_move reading.entry) run.new }
+    ensures finds { FindsAt (language_of table.now) steps run.old (reading_move reading.entry) (found_in result run.new.next) }
+    ensures told { result ≡ Turned.Replied → (r : R.Reply) × (run.new.next ≡ Move.Answered r) }
+    ensures kept { (result ≡ Turned.GoesOn → ⊥) → (asked_in run.new.waiting.items ≡ asked_in run.old.waiting.items) ⊎ (asked_in run.new.waiting.items ≡ []) }
+    ensures left { result ≡ Turned.NoMemory → IsKept run.old run.new }
+    ensures taken { (result ≡ Turned.GoesOn → ⊥) → run.new.taken ≡ run.old.taken }
     ensures capacity { vec_capacity run.old.waiting ≤ vec_capacity run.new.waiting }
 {
     let Reading {
@@ -246,13 +243,15 @@ fn read<'t, 'i>(
     } = reading;
     let item = match held_on(shelf, reading) {
         Ok(Some(item)) => item,
-        Ok(None) => return Ok(reply_to_last(run, Reply::Fails { far: place })),
-        Err(error) => return Err(error),
+        Ok(None) => return reply_to_last(run, Reply::Fails { far: place }),
+        Err(_) => return Turned::NoMemory,
     };
+    let count = run.waiting.len();
     // A question is open, which has come to read it.
-    let Some(last) = run.waiting.last_mut() else {
-        return Ok(Some(Found::Spent));
-    };
+    if count == 0 {
+        return Turned::Spent;
+    }
+    let last = &mut run.waiting[count - 1];
     last.pending = Pending::Held { place, next };
     let question = Question::OfType {
         node,
@@ -263,33 +262,30 @@ fn read<'t, 'i>(
 }
 
 // One turn: a step, with one question more or none; or the last question has its reply, and is taken off. Or the run ends.
-//
-// # Errors
-//
-// `AllocError` where there is no memory for one question more, for the tally of a map's pairs, or for what a byte string
-// holds.
+// There may be no memory for one question more, for the tally of a map's pairs, or for what a byte string holds.
 pub(crate) fn step<'t, 'i>(
     table: &'t Table,
     shelf: &mut Shelf<'i>,
     run: &mut Run<'t, 'i>,
     steps: u64,
-) -> Result<Option<Found<'i>>, AllocError>
-    ensures goes { result ≡ Ok None → Goes (language_of table.now) steps run.old run.new }
-    ensures finds { IfOk result (λ it. IfSome it (Finds (language_of table.now) steps run.old)) }
+) -> Turned
+    ensures goes { result ≡ Turned.GoesOn → Goes (language_of table.now) steps run.old run.new }
+    ensures finds { Finds (language_of table.now) steps run.old (found_in result run.new.next) }
+    ensures told { result ≡ Turned.Replied → (r : R.Reply) × (run.new.next ≡ Move.Answered r) }
     // After a reply nothing is open, and else the list is as it was.
-    ensures kept { IfOk result (λ it. IfSome it (λ _. (asked_in run.new.waiting.items ≡ asked_in run.old.waiting.items) ⊎ (asked_in run.new.waiting.items ≡ []))) }
-    ensures left { OnErr result (asked_in run.new.waiting.items ≡ asked_in run.old.waiting.items) }
-    ensures taken { (result ≡ Ok None → ⊥) → run.new.taken ≡ run.old.taken }
-    ensures memory { OnErr result ((vec_capacity run.old.waiting ≤ vec_len run.old.waiting) ⊎ NeedsMore (language_of table.now) run.old (next_in run.old)) }
+    ensures kept { (result ≡ Turned.GoesOn → ⊥) → (asked_in run.new.waiting.items ≡ asked_in run.old.waiting.items) ⊎ (asked_in run.new.waiting.items ≡ []) }
+    ensures left { result ≡ Turned.NoMemory → asked_in run.new.waiting.items ≡ asked_in run.old.waiting.items }
+    ensures taken { (result ≡ Turned.GoesOn → ⊥) → run.new.taken ≡ run.old.taken }
+    ensures memory { result ≡ Turned.NoMemory → (vec_capacity run.old.waiting ≤ vec_len run.old.waiting) ⊎ NeedsMore (language_of table.now) run.old (next_in run.old) }
     ensures capacity { vec_capacity run.old.waiting ≤ vec_capacity run.new.waiting }
 {
     if run.owed > 0 {
-        return Ok(take_owed(run, steps));
+        return take_owed(run, steps);
     }
     match mem::replace(&mut run.next, Move::Answered(Reply::Fails { far: 0 })) {
         Move::Asks(question) => return ask(shelf.alloc, table, run, question, steps),
-        Move::Answered(reply) => return Ok(reply_to_last(run, reply)),
-        Move::Tries(sorting) => return Ok(try_pair(run, sorting, steps)),
+        Move::Answered(reply) => return reply_to_last(run, reply),
+        Move::Tries(sorting) => return try_pair(run, sorting, steps),
         Move::Reads(reading) => return read(table, shelf, run, reading, steps),
     }
 }

@@ -1,6 +1,9 @@
-use Rattle.std.proofs.Common.{arith}
+use Rattle.std.proofs.Common.{◌≡◌, refl, ap, ◌∙◌, arith}
 use Rattle.table_nodes.specs.Language.{language_of}
+use Rattle.cddl_match.specs.Machine.{found_in}
 use Rattle.cddl_match.specs.Views.{question_view}
+use Rattle.cddl_match.specs.Within.{done_view}
+use Rattle.cddl_match.specs.declared.stack.Turned.TheVariants as T
 use Rattle.cddl_match.proofs.Running.{at_begin, turns_left}
 use Rattle.cddl_match.proofs.deeper.replied_by_turns.Goals as goal
 
@@ -14,15 +17,18 @@ turns-init c = record {
 }
 
 pub turns-smaller : goal.turns-smaller
-turns-smaller c = turns_left (language_of c.args.table.now) (question_view c.args.question) c.args.means.now.left c.turns.run c.step.new.run (c.in-Ok-None.ensures.goes (cc c.in-Ok-None.field-0-is) (question_view c.args.question) c.turns.invariant.run c.turns.invariant.within)
+turns-smaller c = turns_left (language_of c.args.table.now) (question_view c.args.question) c.args.means.now.left c.turns.run c.step.new.run (c.in-GoesOn.ensures.goes refl (question_view c.args.question) c.turns.invariant.run c.turns.invariant.within)
 
 pub turns-preserved : goal.turns-preserved
 turns-preserved c =
-    let s = c.in-Ok-None.ensures.goes (cc c.in-Ok-None.field-0-is) (question_view c.args.question) c.turns.invariant.run c.turns.invariant.within in
+    let s = c.in-GoesOn.ensures.goes refl (question_view c.args.question) c.turns.invariant.run c.turns.invariant.within in
     record { run = s.run; within = s.within }
 
-pub returns-in-Ok-Some : goal.returns-in-Ok-Some
-returns-in-Ok-Some c =
-    let found = rw c.in-Ok-Some.field-0-is at c.in-Ok-Some.ensures.finds in
-    let taken = c.in-Ok-Some.ensures.taken (λ e. cc (e, c.in-Ok-Some.field-0-is)) in
-    rw (taken, c.reply.ensures) (found (question_view c.args.question) c.turns.invariant.run c.turns.invariant.within)
+pub returns-in-Replied : goal.returns-in-Replied
+returns-in-Replied c =
+    let told = c.in-Replied.ensures.told refl in
+    let found = rw told.1 at (c.in-Replied.ensures.finds (question_view c.args.question) c.turns.invariant.run c.turns.invariant.within) in
+    rw (c.in-Replied.ensures.taken (λ e. cc e), c.reply_of.ensures told.0 told.1) found
+
+pub returns-in-Spent : goal.returns-in-Spent
+returns-in-Spent c = c.in-Spent.ensures.finds (question_view c.args.question) c.turns.invariant.run c.turns.invariant.within
