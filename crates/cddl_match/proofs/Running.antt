@@ -1,6 +1,6 @@
 -- What each turn keeps.
 use Rattle.std.proofs.Common.{◌≡◌, ℕ, zero, suc, ◌+◌, ◌*◌, ◌-◌, ◌<◌, ◌≤◌, List, [], ◌∷◌, ◌++◌, inl, inr, length, map, reverse, slice_index_or, slice_set, take, refl, sym, ap, subst, ◌∙◌, arith}
-use Rattle.std.specs.Prelude.{Option, Some, None, Result, Ok, Err, IfOk, IfSome, true, false}
+use Rattle.std.specs.Prelude.{true, false}
 use Rattle.std.proofs.lemmas.List.{length-append, map-append, reverse-append}
 use Rattle.cbor_data.specs.Value.{Value}
 use Rattle.cddl_meaning.specs.Forms.{Content, Language}

@@ -9,13 +9,14 @@ ghost use Rattle.cddl_meaning.specs.Moves as M;
 ghost use Rattle.cddl_match.specs.Machine.{Finds, FindsAt, Goes, GoesFrom, IsKept, NeedsMore, asked_in, asks_in, found_in, is_alternative, next_in};
 ghost use Rattle.cddl_match.specs.Views.{move_view, pending_view, question_view, reading_move, reply_view, sorting_view};
 ghost use Rattle.cddl_match.specs.declared.questions.Reply as R;
+ghost use Rattle.cddl_match.specs.declared.questions.Sorting as C;
 ghost use Rattle.table_nodes.specs.Language.{language_of};
 ghost use Rattle.table_nodes.specs.Nodes.{content_view};
 ghost use Rattle.table_nodes.specs.declared.nodes.GroupId.{GroupId};
 ghost use Rattle.table_nodes.specs.declared.nodes.TypeId.{TypeId};
 
 use crate::moves::{first_of_group, first_of_type, next_move};
-use crate::questions::{Move, Pending, Question, Reading, Reply, Sorting, Subject};
+use crate::questions::{Move, Pending, Question, Reading, Reply, Subject};
 use crate::reading::held_in;
 use crate::shelf::Shelf;
 use crate::sorting::{alternative_move, next_entry};
@@ -120,9 +121,9 @@ fn take_owed(run: &mut Run<'_, '_>, steps: u64) -> Turned
 
 // A pair is tried: a step, and one more is owed for each entry of its alternative.
 #[inline(never)]
-fn try_pair<'t, 'i>(run: &mut Run<'t, 'i>, sorting: Sorting<'t, 'i>, steps: u64) -> Turned
-    ensures goes { result ≡ Turned.GoesOn → (l : Language TypeId GroupId) → GoesFrom l steps run.old (M.Tries (sorting_view sorting.entry)) run.new }
-    ensures finds { (l : Language TypeId GroupId) → FindsAt l steps run.old (M.Tries (sorting_view sorting.entry)) (found_in result run.new.next) }
+fn try_pair(run: &mut Run<'_, '_>, steps: u64) -> Turned
+    ensures goes { result ≡ Turned.GoesOn → (l : Language TypeId GroupId) (s : C.Sorting) → run.old.next ≡ Move.Tries s → GoesFrom l steps run.old (M.Tries (sorting_view s)) run.new }
+    ensures finds { (l : Language TypeId GroupId) (s : C.Sorting) → run.old.next ≡ Move.Tries s → FindsAt l steps run.old (M.Tries (sorting_view s)) (found_in result run.new.next) }
     ensures kind { (result ≡ Turned.Replied → ⊥) × (result ≡ Turned.NoMemory → ⊥) }
     ensures kept { (result ≡ Turned.GoesOn → ⊥) → IsKept run.old run.new }
     ensures capacity { vec_capacity run.new.waiting ≡ vec_capacity run.old.waiting }
@@ -135,6 +136,10 @@ fn try_pair<'t, 'i>(run: &mut Run<'t, 'i>, sorting: Sorting<'t, 'i>, steps: u64)
     if run.taken >= steps {
         return Turned::Spent;
     }
+    let next = mem::replace(&mut run.next, Move::Answered(Reply::Fails { far: 0 }));
+    let Move::Tries(sorting) = next else {
+        return Turned::Spent;
+    };
     let entries = sorting.entries;
     let last = &mut run.waiting[count - 1];
     run.next = next_entry(entries, sorting, &mut last.pending);
@@ -282,10 +287,19 @@ pub(crate) fn step<'t, 'i>(
     if run.owed > 0 {
         return take_owed(run, steps);
     }
-    match mem::replace(&mut run.next, Move::Answered(Reply::Fails { far: 0 })) {
-        Move::Asks(question) => return ask(shelf.alloc, table, run, question, steps),
-        Move::Answered(reply) => return reply_to_last(run, reply),
-        Move::Tries(sorting) => return try_pair(run, sorting, steps),
-        Move::Reads(reading) => return read(table, shelf, run, reading, steps),
+    match &run.next {
+        Move::Asks(question) => {
+            let question = question.again();
+            return ask(shelf.alloc, table, run, question, steps);
+        }
+        Move::Answered(reply) => {
+            let reply = reply.again();
+            return reply_to_last(run, reply);
+        }
+        Move::Tries(_) => return try_pair(run, steps),
+        Move::Reads(reading) => {
+            let reading = *reading;
+            return read(table, shelf, run, reading, steps);
+        }
     }
 }

@@ -1,9 +1,6 @@
-use Rattle.std.proofs.Common.{◌≡◌, refl, ap, ◌∙◌, arith}
+use Rattle.std.proofs.Common.{refl, arith}
 use Rattle.table_nodes.specs.Language.{language_of}
-use Rattle.cddl_match.specs.Machine.{found_in}
 use Rattle.cddl_match.specs.Views.{question_view}
-use Rattle.cddl_match.specs.Within.{done_view}
-use Rattle.cddl_match.specs.declared.stack.Turned.TheVariants as T
 use Rattle.cddl_match.proofs.Running.{at_begin, turns_left}
 use Rattle.cddl_match.proofs.deeper.replied_by_turns.Goals as goal
 

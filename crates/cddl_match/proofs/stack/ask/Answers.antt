@@ -1,4 +1,4 @@
-use Rattle.std.proofs.Common.{◌≡◌, ◌∷◌, [], ◌++◌, length, refl, sym, take, ap, ◌∙◌, arith}
+use Rattle.std.proofs.Common.{◌≡◌, length, refl, ap, ◌∙◌, arith}
 use Rattle.table_nodes.specs.Language.{language_of}
 use Rattle.cddl_match.specs.Machine.{noted}
 use Rattle.cddl_match.specs.Views.{question_view}

@@ -1,4 +1,4 @@
-use Rattle.std.proofs.Common.{◌≡◌, ◌+◌, ◌-◌, inl, inr, length, refl, take, sym, ap, ◌∙◌, arith}
+use Rattle.std.proofs.Common.{◌≡◌, ◌+◌, ◌-◌, inl, length, refl, take, sym, ap, ◌∙◌, arith}
 use Rattle.std.specs.Vec.{with_item}
 use Rattle.item_nodes.specs.View.{view}
 use Rattle.cddl_meaning.specs.Judges.{Fails}
@@ -10,7 +10,7 @@ use Rattle.cddl_match.specs.declared.stack.Run.{Run}
 use Rattle.cddl_match.specs.declared.stack.Waiting.{Waiting}
 use Rattle.table_nodes.specs.Language.{language_of}
 use Rattle.table_nodes.specs.Nodes.{content_view}
-use Rattle.cddl_match.proofs.Running.{at_unread, found_from, last_there, last_written, none_reads, read_on, same_asked, step_of}
+use Rattle.cddl_match.proofs.Running.{at_unread, found_from, last_there, last_written, read_on, same_asked, step_of}
 use Rattle.cddl_match.proofs.stack.read.Goals as goal
 
 pub returns-in-Ok-None-clause-goes : goal.returns-in-Ok-None-clause-goes
