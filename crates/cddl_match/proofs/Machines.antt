@@ -120,6 +120,14 @@ verdict_once t x steps V.Spent V.Yes f a b = absurd (omega (arith, b.2, a _ _ b.
 verdict_once t x steps V.Spent (V.No q) f a b = absurd (omega (arith, b.2, a _ _ b.1))
 verdict_once t x steps V.Spent V.Spent f a b = refl
 
+-- Turns that go on keep the table, the item and the steps: so what one of them answers is the only verdict.
+kept_for : {n : ℕ} {m k : Progress} → GoesOnFor n m k → (k.table ≡ m.table) × (k.item ≡ m.item) × (k.steps ≡ m.steps)
+kept_for no_turn = (refl, refl, refl)
+kept_for (one_more d same g) = let i = kept_for d in (same.table ∙ i.0, same.item ∙ i.1, same.steps ∙ i.2)
+
+pub same_by_turns : (n : ℕ) (m k : Progress) (u v : Verdict) → 0 + size m.item < 2 ^ 64 → GoesOnFor n m k → IsVerdict m.table m.item m.steps u → IsVerdict k.table k.item k.steps v → v ≡ u
+same_by_turns n m k u v f d a b = let i = kept_for d in verdict_once m.table m.item m.steps u v f a (rw (i.0, i.1, i.2) at b)
+
 -- Few turns go on: each takes a step, and asks one question more at most, or takes one off.
 turns_counted : {n : ℕ} {m k : Progress} → GoesOnFor n m k → m.taken ≡ 0 → m.asked ≡ [] → (n + length k.asked ≤ 2 * k.taken) × (k.taken ≤ m.steps ⊎ (n ≡ 0)) × (k.steps ≡ m.steps)
 turns_counted {m = m} no_turn t a = (omega (arith, ap length a), inr refl, refl)
