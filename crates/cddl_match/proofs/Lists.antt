@@ -11,11 +11,9 @@ use Rattle.item_nodes.specs.declared.item.Item.TheVariants.{Array, Map, Uint}
 use Rattle.item_nodes.proofs.Lemmas.{view-Array, view-Map}
 use Rattle.std.specs.declared.vec.Vec.{Vec}
 use Rattle.std.specs.declared.alloc.Global.{Global}
-use Rattle.cddl_match.specs.Views.{fated, values}
-use Rattle.cddl_match.specs.declared.questions.Fate.{Fate}
+use Rattle.cddl_match.specs.Views.{values}
 use Rattle.cddl_meaning.specs.Forms.{list_of, members_in, pairs_in}
 use Rattle.cddl_meaning.specs.Forms as F
-use Rattle.cddl_meaning.specs.Moves as M
 use Rattle.cddl_meaning.specs.Judges.{is_up_to_most}
 use Rattle.cddl_meaning.specs.Moves.{plus, counted, enough_of, no_counts}
 use Rattle.table_nodes.specs.declared.nodes.TypeId.{TypeId}
@@ -89,10 +87,6 @@ front_is_enough es first others cs told h i e f = rw (e, f, sym (take-map entry_
 pub enough_of_none : (es : List (F.MapEntry TypeId)) (ns : List ℕ) → ns ≡ [] → true ≡ enough_of es ns
 enough_of_none [] ns e = refl
 enough_of_none (x ∷ es) ns e = rw e refl
-
-pub handed_on : (s : M.Sorting TypeId) (es : List (F.MapEntry TypeId)) (o : Option Fate) → ((f : Fate) → o ≡ Some f → ⊥) → fated s es o ≡ M.next_entry es s
-handed_on s es None h = refl
-handed_on s es (Some f) h = absurd (h f refl)
 
 -- what is known where something is not there, and where it is
 pub there_or_not : {A : Type 0} (P : Type 0) (Q : A → Type 0) (o : Option A) → IfNone o P → IfSome o Q → MatchOption o P Q

@@ -19,16 +19,15 @@ use Rattle.table_nodes.specs.Language.{language_of, rank_of, ranks_of}
 use Rattle.table_nodes.specs.declared.nodes.GroupId.{GroupId}
 use Rattle.table_nodes.specs.declared.nodes.TypeId.{TypeId}
 use Rattle.table_nodes.specs.declared.table.Table.{Table}
-use Rattle.cddl_match.specs.Machine.{IsStep, IsTurn, IsVerdict, LastNeedsRoom, NeedsMore, asked_in, found_verdict, found_view, noted, root_question}
+use Rattle.cddl_match.specs.Machine.{IsStep, IsTurn, IsVerdict, LastNeedsRoom, NeedsMore, asked_in, next_in, noted, root_question}
 use Rattle.cddl_match.specs.Open.{AreOpen, nothing}
 use Rattle.cddl_match.specs.Progress.{GoesOnFor, IsMachine, Progress, no_turn, one_more}
-use Rattle.cddl_match.specs.Views.{move_view, reply_view, verdict_of}
-use Rattle.cddl_match.specs.Within.{Replied, Says}
+use Rattle.cddl_match.specs.Views.{verdict_of}
+use Rattle.cddl_match.specs.Within.{Replied, Stopped, Says}
 use Rattle.cddl_match.specs.declared.answers.Verdict.{Verdict}
 use Rattle.cddl_match.specs.declared.answers.End.{End}
 use Rattle.cddl_match.specs.declared.answers.End.TheVariants.{Said, NoMemory}
-use Rattle.cddl_match.specs.declared.stack.Found.{Found}
-use Rattle.cddl_match.specs.declared.stack.Found.TheVariants as F
+use Rattle.cddl_match.specs.declared.questions.Stop.TheVariants as S
 use Rattle.cddl_match.specs.declared.stack.Run.{Run}
 use Rattle.cddl_match.proofs.Open.{as_many, open_reached}
 use Rattle.cddl_match.proofs.Room.{room}
@@ -89,20 +88,19 @@ module _ (t : Table) (x : Value) (steps space : ℕ) (before after : Run) where
   }
 
 -- Memory is wanted only where there was no room, or for something else than one question more.
-pub wants_room : (t : Table) (x : Value) (steps space : ℕ) (r : Run) → IsMachine t x steps space r None → (vec_capacity r.waiting ≤ vec_len r.waiting) ⊎ NeedsMore (language_of t) r (move_view r.next) → (space ≤ length (asked_in r.waiting.items)) ⊎ LastNeedsRoom (language_of t) (asked_in r.waiting.items)
+pub wants_room : (t : Table) (x : Value) (steps space : ℕ) (r : Run) → IsMachine t x steps space r None → (vec_capacity r.waiting ≤ vec_len r.waiting) ⊎ NeedsMore (language_of t) r (next_in r) → (space ≤ length (asked_in r.waiting.items)) ⊎ LastNeedsRoom (language_of t) (asked_in r.waiting.items)
 wants_room t x steps space r m (inl full) =
     let many : length (asked_in r.waiting.items) ≡ length r.waiting.items = length-map r.waiting.items (λ w. noted w.asked) in
     inl (omega (arith, m.room_kept, full, many))
 wants_room t x steps space r m (inr more) = inr (more (root_question t x) _ refl m.parts.at)
 
 -- What the first question comes to is a verdict where that is what the root type is asked.
-pub is_verdict : (t : Table) (x : Value) (steps left : ℕ) (f : Found) → IsSound x → Says (language_of t) (root_question t x) steps left (found_view f) → IsVerdict t x steps (found_verdict f)
-is_verdict t x steps left (F.Replied r) s h = by (reply_view r) s h
-  where
-    by : (r : Reply) → IsSound x → Says (language_of t) (root_question t x) steps left (Replied r) → IsVerdict t x steps (verdict_of r)
-    by (J.Takes xs next far) s h = (_, said_yes (language_of t) (J.Takes xs next far) (room x s) refl (replied (language_of t) h.0), omega arith)
-    by (J.Fails far) s h = (_, said_no (language_of t) (J.Fails far) (room x s) refl (replied (language_of t) h.0), omega arith)
-is_verdict t x steps left F.Spent s h = λ a w d. h _ w (said (language_of t) (room x s) d)
+pub is_verdict : (t : Table) (x : Value) (steps left : ℕ) (r : Reply) → IsSound x → Says (language_of t) (root_question t x) steps left (Replied r) → IsVerdict t x steps (verdict_of r)
+is_verdict t x steps left (J.Takes xs next far) s h = (_, said_yes (language_of t) (J.Takes xs next far) (room x s) refl (replied (language_of t) h.0), omega arith)
+is_verdict t x steps left (J.Fails far) s h = (_, said_no (language_of t) (J.Fails far) (room x s) refl (replied (language_of t) h.0), omega arith)
+
+pub is_spent_verdict : (t : Table) (x : Value) (steps : ℕ) → IsSound x → Says (language_of t) (root_question t x) steps 0 (Stopped S.Spent) → IsVerdict t x steps V.Spent
+is_spent_verdict t x steps s h = λ a w d. h _ w (said (language_of t) (room x s) d)
 
 -- the open questions of any machine
 pub opened_so : (t : Table) (x : Value) (steps space : ℕ) (r : Run) (e : Option End) → IsMachine t x steps space r e → AreOpen (language_of t) (root_question t x) (asked_in r.waiting.items)
@@ -121,6 +119,14 @@ verdict_once t x steps (V.No p) V.Spent f a b = absurd (omega (arith, a.2, b _ _
 verdict_once t x steps V.Spent V.Yes f a b = absurd (omega (arith, b.2, a _ _ b.1))
 verdict_once t x steps V.Spent (V.No q) f a b = absurd (omega (arith, b.2, a _ _ b.1))
 verdict_once t x steps V.Spent V.Spent f a b = refl
+
+-- Turns that go on keep the table, the item and the steps: so what one of them answers is the only verdict.
+kept_for : {n : ℕ} {m k : Progress} → GoesOnFor n m k → (k.table ≡ m.table) × (k.item ≡ m.item) × (k.steps ≡ m.steps)
+kept_for no_turn = (refl, refl, refl)
+kept_for (one_more d same g) = let i = kept_for d in (same.table ∙ i.0, same.item ∙ i.1, same.steps ∙ i.2)
+
+pub same_by_turns : (n : ℕ) (m k : Progress) (u v : Verdict) → 0 + size m.item < 2 ^ 64 → GoesOnFor n m k → IsVerdict m.table m.item m.steps u → IsVerdict k.table k.item k.steps v → v ≡ u
+same_by_turns n m k u v f d a b = let i = kept_for d in verdict_once m.table m.item m.steps u v f a (rw (i.0, i.1, i.2) at b)
 
 -- Few turns go on: each takes a step, and asks one question more at most, or takes one off.
 turns_counted : {n : ℕ} {m k : Progress} → GoesOnFor n m k → m.taken ≡ 0 → m.asked ≡ [] → (n + length k.asked ≤ 2 * k.taken) × (k.taken ≤ m.steps ⊎ (n ≡ 0)) × (k.steps ≡ m.steps)

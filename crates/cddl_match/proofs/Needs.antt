@@ -1,13 +1,14 @@
 -- Room beside that for questions is needed only where the last question is one of a map or of what a byte string holds.
-use Rattle.std.proofs.Common.{◌≡◌, ℕ, List, [], ◌∷◌, ◌++◌, reverse, refl, ap, sym, ◌∙◌}
+use Rattle.std.proofs.Common.{◌≡◌, ◌⊎◌, inl, inr, ℕ, List, [], ◌∷◌, ◌++◌, reverse, refl, ap, sym, subst, ◌∙◌}
 use Rattle.std.specs.Prelude.{Bool, true, false, ◌||◌, zero, suc, Option, Some, None, nat_eq, length}
 use Rattle.std.proofs.lemmas.List.{reverse-append, reverse-reverse}
 use Rattle.cbor_data.specs.Value.{Value, Pairs, no_pairs, pair}
 use Rattle.cddl_meaning.specs.Forms.{TagNumber, any_number, exactly, such_as, MapEntry, Node, Plain, Ref, Choice, ArrayOf, TagOf, SimpleBy, MapOf, Both, Such, Holding, Most, Group, Entry, GroupRef, Sequence, Alternatives, Repeat, Language, members_in, tag_in, simple_in}
 use Rattle.cddl_meaning.specs.Judges.{Reply, Takes, Fails, is_over}
 use Rattle.cddl_meaning.specs.Moves.{Question, OfType, OfGroup, OfAlternative, Pending, InRef, InChoice, InArray, InHead, InSimple, InEntry, InSequence, InAlternatives, InRepeat, InMap, InKey, InValue, InLeft, InSuch, InHolder, InHeld, Sorting, Tally, Move, Answered, Asks, Tries, Reads, next_member, next_part, next_alternative, next_round, after_round, end_of_rounds, array_move, content_move, tag_move, simple_move, next_pair, next_entry, after_value, type_move, entry_move, group_move, first_move, next_move}
-use Rattle.std.specs.Prelude.{Result, Ok, Err, OnErr}
-use Rattle.cddl_match.specs.Machine.{NeedsMore, WaitsAt, asked_in, is_alternative}
+use Rattle.cddl_match.specs.Machine.{NeedsMore, asked_in, is_alternative, last_of, next_in, pending_in}
+use Rattle.cddl_match.specs.Views.{move_view}
+use Rattle.cddl_match.specs.declared.questions.Move as C
 use Rattle.cddl_match.specs.declared.stack.Run.{Run}
 use Rattle.table_nodes.specs.declared.nodes.GroupId.{GroupId}
 use Rattle.table_nodes.specs.declared.nodes.TypeId.{TypeId}
@@ -158,9 +159,9 @@ module _ {N G : Type 0} (l : Language N G) where
   last_needs qs [] a e nothing h = cc
   last_needs qs (q ∷ rs) a e (further o c) h = (q, reverse rs, turned qs q rs (sym e), comes_needs c h)
 
-pub on_err : {T E P Q : Type 0} (r : Result T E) → (P → Q) → OnErr r P → OnErr r Q
-on_err (Ok x) f h = tt
-on_err (Err e) f h = f h
+pub or_so : {P Q R : Type 0} → P ⊎ Q → (Q → R) → P ⊎ R
+or_so (inl p) f = inl p
+or_so (inr q) f = inr (f q)
 
 pub or_true : {N G : Type 0} (o : Pending N G) (q : Question N G) → is_alternative q ≡ true → takes_room (Asks q o) ≡ true
 or_true o q h = by (needs_more o) h
@@ -170,9 +171,8 @@ or_true o q h = by (needs_more o) h
     by false h = h
 
 -- the last question needs room, where the run did not begin with an alternative
-pub room_needed : (l : Language TypeId GroupId) (r : Run) (m : Move TypeId GroupId) → takes_room m ≡ true → NeedsMore l r m
-room_needed l r m e first taken a h = last_needs l (asked_in r.waiting.items) (reverse (asked_in r.waiting.items)) a refl h.opened e
-
--- a move that follows from another one, of a question of an alternative
-pub room_after : (l : Language TypeId GroupId) (r : Run) (m : Move TypeId GroupId) (q : Question TypeId GroupId) (o : Pending TypeId GroupId) → is_alternative q ≡ true → ((first : Question TypeId GroupId) (taken : ℕ) → WaitsAt l first taken r.waiting.items m → WaitsAt l first taken r.waiting.items (Asks q o)) → NeedsMore l r m
-room_after l r m q o e lead first taken a h = room_needed l r (Asks q o) (or_true o q e) first taken a (lead first taken h)
+pub room_needed : (l : Language TypeId GroupId) (r : Run) (m : C.Move) → r.next ≡ m → takes_room (move_view m (last_of (pending_in r.waiting.items))) ≡ true → NeedsMore l r (next_in r)
+room_needed l r m next e = subst (λ m. NeedsMore l r (move_view m (last_of (pending_in r.waiting.items)))) (sym next) (needed (move_view m (last_of (pending_in r.waiting.items))) e)
+  where
+    needed : (m : Move TypeId GroupId) → takes_room m ≡ true → NeedsMore l r m
+    needed m e first taken a h = last_needs l (asked_in r.waiting.items) (reverse (asked_in r.waiting.items)) a refl h.opened e

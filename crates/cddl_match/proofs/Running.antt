@@ -1,7 +1,7 @@
 -- What each turn keeps.
-use Rattle.std.proofs.Common.{◌≡◌, ℕ, suc, ◌+◌, ◌-◌, ◌<◌, ◌≤◌, List, [], ◌∷◌, ◌++◌, inl, inr, length, reverse, refl, ap, subst, ◌∙◌, arith}
-use Rattle.std.specs.Prelude.{Option, Some, None, Result, Ok, Err, IfOk, IfSome}
-use Rattle.std.proofs.lemmas.List.{length-append, length-map, length-reverse, map-append, reverse-append}
+use Rattle.std.proofs.Common.{◌≡◌, ℕ, zero, suc, ◌+◌, ◌*◌, ◌-◌, ◌<◌, ◌≤◌, List, [], ◌∷◌, ◌++◌, inl, inr, length, map, reverse, slice_index_or, slice_set, take, refl, sym, ap, subst, ◌∙◌, arith}
+use Rattle.std.specs.Prelude.{true, false}
+use Rattle.std.proofs.lemmas.List.{length-append, map-append, reverse-append}
 use Rattle.cbor_data.specs.Value.{Value}
 use Rattle.cddl_meaning.specs.Forms.{Content, Language}
 use Rattle.cddl_meaning.specs.Held.{Holds}
@@ -9,13 +9,13 @@ use Rattle.cddl_meaning.specs.Judges.{Reply, Fails}
 use Rattle.cddl_meaning.specs.Moves.{Question, OfType, Pending, InRef, InHeld, Sorting, Move, Answered, Asks, Tries, Reads, Replies, LeadsTo, first_move, next_move, next_entry}
 use Rattle.cddl_meaning.specs.Moves as M
 use Rattle.cddl_match.specs.Ahead.{Opens}
-use Rattle.cddl_match.specs.Machine.{Finds, FindsAt, IsAt, IsRun, IsStep, WaitsAt, asked_in, noted, pending_in}
+use Rattle.cddl_match.specs.Machine.{Finds, FindsAt, IsAt, IsRun, IsStep, IsTurn, WaitsAt, asked_in, asks_in, below, last_of, next_in, noted, pending_in}
 use Rattle.cddl_match.specs.Open.{AreOpenWith, nothing, further}
 use Rattle.cddl_match.specs.Unwinding.{IsOnTheWay, Unwinds}
 use Rattle.cddl_match.specs.Views.{move_view, pending_view}
-use Rattle.cddl_match.specs.Within.{Replied, Stopped, Says}
+use Rattle.cddl_match.specs.Within.{Outcome, Replied, Stopped, Says}
+use Rattle.cddl_match.specs.declared.questions.Move as C
 use Rattle.cddl_match.specs.declared.questions.Stop.TheVariants as S
-use Rattle.cddl_match.specs.declared.stack.Found.{Found}
 use Rattle.cddl_match.specs.declared.stack.Run.{Run}
 use Rattle.cddl_match.specs.declared.stack.Waiting.{Waiting}
 use Rattle.table_nodes.specs.declared.nodes.GroupId.{GroupId}
@@ -29,8 +29,31 @@ use Rattle.cddl_match.proofs.Ways as W
 pub asked_push : (ws : List Waiting) (w : Waiting) → reverse (asked_in (ws ++ w ∷ [])) ≡ noted w.asked ∷ reverse (asked_in ws)
 asked_push ws w = ap reverse (map-append (λ w. noted w.asked) ws (w ∷ [])) ∙ reverse-append (asked_in ws) (noted w.asked ∷ [])
 
-pub pending_push : (ws : List Waiting) (w : Waiting) → reverse (pending_in (ws ++ w ∷ [])) ≡ pending_view w.pending ∷ reverse (pending_in ws)
-pending_push ws w = ap reverse (map-append (λ w. pending_view w.pending) ws (w ∷ [])) ∙ reverse-append (pending_in ws) (pending_view w.pending ∷ [])
+pub pending_push : (ws : List Waiting) (w : Waiting) → pending_in (ws ++ w ∷ []) ≡ pending_view w.pending ∷ pending_in ws
+pending_push ws w = ap reverse (map-append (λ w. pending_view w.pending) ws (w ∷ [])) ∙ reverse-append (map (λ w. pending_view w.pending) ws) (pending_view w.pending ∷ [])
+
+last_below : (os : List (Pending TypeId GroupId)) → last_of os ∷ below os ≡ os ++ InRef ∷ []
+last_below [] = refl
+last_below (o ∷ os) = refl
+
+-- a list that has just so many, and one whose last one was written anew
+pub last_there : {A : Type 0} (xs : List A) (k : ℕ) (x : A) → k + 1 ≡ length xs → x ≡ slice_index_or xs k x → xs ≡ take k xs ++ x ∷ []
+last_there [] k x h e = absurd (omega (arith, h))
+last_there (y ∷ []) zero x h e = ap (λ z. z ∷ []) (sym e)
+last_there (y ∷ z ∷ xs) zero x h e = absurd (omega (arith, h))
+last_there (y ∷ xs) (suc k) x h e = ap (λ ys. y ∷ ys) (last_there xs k x (omega (arith, h)) e)
+
+pub some_last : {A : Type 0} (xs : List A) (k : ℕ) → k + 1 ≡ length xs → (x : A) × (xs ≡ take k xs ++ x ∷ [])
+some_last [] k h = absurd (omega (arith, h))
+some_last (y ∷ []) zero h = (y, refl)
+some_last (y ∷ z ∷ xs) zero h = absurd (omega (arith, h))
+some_last (y ∷ xs) (suc k) h = let more = some_last xs k (omega (arith, h)) in (more.0, ap (λ ys. y ∷ ys) more.1)
+
+pub last_written : {A : Type 0} (xs : List A) (k : ℕ) (x : A) → k + 1 ≡ length xs → slice_set xs k x ≡ take k xs ++ x ∷ []
+last_written [] k x h = absurd (omega (arith, h))
+last_written (y ∷ []) zero x h = refl
+last_written (y ∷ z ∷ xs) zero x h = absurd (omega (arith, h))
+last_written (y ∷ xs) (suc k) x h = ap (λ ys. y ∷ ys) (last_written xs k x (omega (arith, h)))
 
 module _ {N G : Type 0} (l : Language N G) where
   pub at_steps : {first : Question N G} {m n : ℕ} {qs : List (Question N G)} {os : List (Pending N G)} {o : Move N G} → m ≡ n → IsAt l first m qs os o → IsAt l first n qs os o
@@ -57,6 +80,9 @@ module _ {N G : Type 0} (l : Language N G) where
 
   root_only : {first q : Question N G} {o : Pending N G} {m : Move N G} → AreOpenWith l first (q ∷ []) (o ∷ []) m → o ≡ InRef
   root_only (further nothing c) = refl
+
+  pub read_some : {first : Question N G} {qs : List (Question N G)} {os : List (Pending N G)} {c : Content} {b : List ℕ} {n : N} {p next : ℕ} → AreOpenWith l first qs os (Reads c b n p next) → 0 < length qs
+  read_some (further h c) = omega arith
 
   pub tried_some : {first : Question N G} {qs : List (Question N G)} {os : List (Pending N G)} {s : Sorting N} → AreOpenWith l first qs os (Tries s) → 0 < length qs
   tried_some (further h c) = omega arith
@@ -93,12 +119,79 @@ module _ {N G : Type 0} (l : Language N G) where
   pub at_pair_over : {first : Question N G} {taken : ℕ} {qs : List (Question N G)} {os : List (Pending N G)} {s : Sorting N} → IsAt l first taken qs os (Tries s) → (r : Reply) (w : ℕ) → Replies l first r w → taken < w
   at_pair_over h r w d = omega (arith, at_most (at_tried h) r w d)
 
+-- one that was put behind all others
+pub pushed_there : {A : Type 0} (xs : List A) (k : ℕ) (x v : A) (ys : List A) → k ≡ length xs → ys ≡ xs ++ x ∷ [] → v ≡ slice_index_or ys k v → v ≡ x
+pushed_there {A = A} xs k x v ys h e i = i ∙ ap (λ ys. slice_index_or ys k v) e ∙ by xs k h
+  where
+    by : (xs : List A) (k : ℕ) → k ≡ length xs → slice_index_or (xs ++ x ∷ []) k v ≡ x
+    by [] zero h = refl
+    by [] (suc k) h = absurd (omega (arith, h))
+    by (y ∷ xs) zero h = absurd (omega (arith, h))
+    by (y ∷ xs) (suc k) h = by xs k (omega (arith, h))
+
+pub pushed_written : {A : Type 0} (xs : List A) (k : ℕ) (x u : A) (ys : List A) → k ≡ length xs → ys ≡ xs ++ x ∷ [] → slice_set ys k u ≡ xs ++ u ∷ []
+pushed_written {A = A} xs k x u ys h e = ap (λ ys. slice_set ys k u) e ∙ by xs k h
+  where
+    by : (xs : List A) (k : ℕ) → k ≡ length xs → slice_set (xs ++ x ∷ []) k u ≡ xs ++ u ∷ []
+    by [] zero h = refl
+    by [] (suc k) h = absurd (omega (arith, h))
+    by (y ∷ xs) zero h = absurd (omega (arith, h))
+    by (y ∷ xs) (suc k) h = ap (λ ys. y ∷ ys) (by xs k (omega (arith, h)))
+
 -- a question more waits
 asked_more : (ws : List Waiting) (w : Waiting) → asked_in (ws ++ w ∷ []) ≡ asked_in ws ++ noted w.asked ∷ []
 asked_more ws w = map-append (λ w. noted w.asked) ws (w ∷ [])
 
 some_left : (ws : List Waiting) (w : Waiting) → 0 < length (asked_in (ws ++ w ∷ []))
 some_left ws w = rw (asked_more ws w) (omega (arith, length-append (asked_in ws) (noted w.asked ∷ [])))
+
+-- the last one waits in another way
+pub same_asked : (ws : List Waiting) (v u : Waiting) → noted u.asked ≡ noted v.asked → asked_in (ws ++ u ∷ []) ≡ asked_in (ws ++ v ∷ [])
+same_asked ws v u e = asked_more ws u ∙ ap (λ q. asked_in ws ++ q ∷ []) e ∙ sym (asked_more ws v)
+
+last_waits : (ws : List Waiting) (w : Waiting) → last_of (pending_in (ws ++ w ∷ [])) ≡ pending_view w.pending
+last_waits ws w = ap last_of (pending_push ws w)
+
+pub nothing_there : (n : ℕ) → (0 < n → false ≡ true) → n ≡ 0
+nothing_there zero f = refl
+nothing_there (suc n) f = cc (f (omega arith))
+
+-- the next move of a run that owes nothing
+pub next_at : (l : Language TypeId GroupId) (first : Question TypeId GroupId) (r : Run) (m : C.Move) → r.owed ≡ 0 → r.next ≡ m → IsRun l first r → WaitsAt l first r.taken r.waiting.items (move_view m (last_of (pending_in r.waiting.items)))
+next_at l first r m owed next run = subst (λ m. WaitsAt l first r.taken r.waiting.items (move_view m (last_of (pending_in r.waiting.items)))) next (at_steps l {m = r.taken + r.owed} (omega (arith, owed)) run.at)
+
+module _ (l : Language TypeId GroupId) (first : Question TypeId GroupId) (taken : ℕ) where
+  -- what holds where the last question is this one
+  waits_more : (ws : List Waiting) (w : Waiting) (m : Move TypeId GroupId) → IsAt l first taken (noted w.asked ∷ reverse (asked_in ws)) (pending_in ws ++ InRef ∷ []) m → WaitsAt l first taken (ws ++ w ∷ []) m
+  waits_more ws w m h = rw (asked_push ws w, pending_push ws w) h
+
+  waits_last : (xs ws : List Waiting) (w : Waiting) (m : Move TypeId GroupId) → xs ≡ ws ++ w ∷ [] → WaitsAt l first taken xs m → IsAt l first taken (noted w.asked ∷ reverse (asked_in ws)) (pending_in ws ++ InRef ∷ []) m
+  waits_last xs ws w m e h = rw (e, asked_push ws w, pending_push ws w) at h
+
+  -- the next move of a run is one of its last question
+  run_more : (r : Run) (ws : List Waiting) (w : Waiting) {m : Move TypeId GroupId} → r.waiting.items ≡ ws ++ w ∷ [] → move_view r.next (pending_view w.pending) ≡ m → IsAt l first taken (noted w.asked ∷ reverse (asked_in ws)) (pending_in ws ++ InRef ∷ []) m → WaitsAt l first taken r.waiting.items (next_in r)
+  run_more r ws w {m = m} items next h =
+      let same : move_view r.next (last_of (pending_in r.waiting.items)) ≡ m = ap (λ xs. move_view r.next (last_of (pending_in xs))) items ∙ ap (λ o. move_view r.next o) (last_waits ws w) ∙ next in
+      subst (λ n. WaitsAt l first taken r.waiting.items n) (sym same) (subst (λ xs. WaitsAt l first taken xs m) (sym items) (waits_more ws w m h))
+
+  -- Only questions that are open try pairs and read byte strings.
+  pub none_tries : (ws : List Waiting) (s : Sorting TypeId) → length ws ≡ 0 → WaitsAt l first taken ws (Tries s) → ⊥
+  none_tries ws s none h =
+      let h2 = rw (none_left ws none) at h in
+      absurd (omega (arith, tried_some l h2.opened))
+
+  pub none_reads : (ws : List Waiting) (c : Content) (b : List ℕ) (n : TypeId) (p next : ℕ) → length ws ≡ 0 → WaitsAt l first taken ws (Reads c b n p next) → ⊥
+  none_reads ws c b n p next none h =
+      let h2 = rw (none_left ws none) at h in
+      absurd (omega (arith, read_some l h2.opened))
+
+  -- A byte string is read, and the last question waits for what is said of what it holds.
+  pub read_on : (xs ys ws : List Waiting) (v u : Waiting) (c : Content) (b : List ℕ) (n : TypeId) (p next : ℕ) (y : Value) → Holds c b y → xs ≡ ws ++ v ∷ [] → ys ≡ ws ++ u ∷ [] → noted u.asked ≡ noted v.asked → pending_view u.pending ≡ InHeld p next → WaitsAt l first taken xs (Reads c b n p next) → WaitsAt l first taken ys (Asks (OfType n 0 y) (last_of (pending_in ys)))
+  read_on xs ys ws v u c b n p next y k before after asked held h =
+      let read = at_read l k (waits_last xs ws v (Reads c b n p next) before h) in
+      let here = rw (← asked) at read in
+      let same : last_of (pending_in ys) ≡ InHeld p next = ap (λ xs. last_of (pending_in xs)) after ∙ last_waits ws u ∙ held in
+      subst (λ o. WaitsAt l first taken ys (Asks (OfType n 0 y) o)) (sym same) (subst (λ xs. WaitsAt l first taken xs (Asks (OfType n 0 y) (InHeld p next))) (sym after) (waits_more ws u (Asks (OfType n 0 y) (InHeld p next)) here))
 
 module _ (l : Language TypeId GroupId) (first : Question TypeId GroupId) (steps : ℕ) where
   -- More steps are needed.
@@ -111,10 +204,10 @@ module _ (l : Language TypeId GroupId) (first : Question TypeId GroupId) (steps 
 
 module _ (l : Language TypeId GroupId) (first : Question TypeId GroupId) (steps : ℕ) (before after : Run) where
   -- a question is asked
-  pub ask_step : (w : Waiting) {q : Question TypeId GroupId} {o : Pending TypeId GroupId} → before.owed ≡ 0 → after.owed ≡ before.owed → after.taken ≡ before.taken + 1 → before.taken < steps → WaitsAt l first before.taken before.waiting.items (Asks q o) → after.waiting.items ≡ before.waiting.items ++ w ∷ [] → noted w.asked ≡ q → pending_view w.pending ≡ o → move_view after.next ≡ first_move l q → IsStep l first steps before after
-  ask_step w {q = q} {o = o} owed owes taken less h items asked pending next = record {
+  pub ask_step : (w : Waiting) {q : Question TypeId GroupId} → before.owed ≡ 0 → after.owed ≡ before.owed → after.taken ≡ before.taken + 1 → before.taken < steps → WaitsAt l first before.taken before.waiting.items (asks_in before q) → after.waiting.items ≡ before.waiting.items ++ w ∷ [] → noted w.asked ≡ q → move_view after.next (pending_view w.pending) ≡ first_move l q → IsStep l first steps before after
+  ask_step w {q = q} owed owes taken less h items asked next = record {
     run = record {
-      at = rw (items, asked_push before.waiting.items w, pending_push before.waiting.items w, asked, pending, next) (at_steps l (omega (arith, owed, owes, taken)) (at_asked l h));
+      at = run_more l first (after.taken + after.owed) after before.waiting.items w items next (at_steps l {m = before.taken + 1} (omega (arith, owed, owes, taken)) (rw (asked, ← last_below (pending_in before.waiting.items)) (at_asked l h)));
       owes = λ more. absurd (omega (arith, owed, owes, more));
     };
     within = omega (arith, taken, less);
@@ -135,36 +228,31 @@ module _ (l : Language TypeId GroupId) (first : Question TypeId GroupId) (steps 
   }
 
   -- a pair is tried
-  pub try_step : {s : Sorting TypeId} → after.owed ≡ length s.entries → after.taken ≡ before.taken + 1 → before.taken < steps → WaitsAt l first before.taken before.waiting.items (Tries s) → after.waiting.items ≡ before.waiting.items → move_view after.next ≡ next_entry s.entries s → IsStep l first steps before after
-  try_step {s = s} owed taken less h items next = record {
+  pub try_step : (ws : List Waiting) (v u : Waiting) {s : Sorting TypeId} → after.owed ≡ length s.entries → after.taken ≡ before.taken + 1 → before.taken < steps → WaitsAt l first before.taken before.waiting.items (Tries s) → before.waiting.items ≡ ws ++ v ∷ [] → after.waiting.items ≡ ws ++ u ∷ [] → noted u.asked ≡ noted v.asked → move_view after.next (pending_view u.pending) ≡ next_entry s.entries s → IsStep l first steps before after
+  try_step ws v u {s = s} owed taken less h items left asked next = record {
     run = record {
-      at = rw (items, next) (at_steps l (omega (arith, owed, taken)) (at_tried l h));
-      owes = λ more. some;
+      at = run_more l first (after.taken + after.owed) after ws u left next (at_steps l {m = before.taken + suc (length s.entries)} (omega (arith, owed, taken)) (rw asked (at_tried l (waits_last l first before.taken before.waiting.items ws v (Tries s) items h))));
+      owes = λ more. rw left (some_left ws u);
     };
     within = omega (arith, taken, less);
-    turn = inl (taken, inl (ap asked_in items));
-    some = some;
+    turn = inl (taken, inl (rw (items, left) (same_asked ws v u asked)));
+    some = rw left (some_left ws u);
   }
-    where
-      some : 0 < length (asked_in after.waiting.items)
-      some =
-          let turned : length (reverse (asked_in before.waiting.items)) ≡ length (asked_in before.waiting.items) = length-reverse (asked_in before.waiting.items) in
-          rw items (omega (arith, turned, tried_some l h.opened))
 
   -- the last question has its reply
-  pub reply_step : (w : Waiting) {r : Reply} → before.owed ≡ 0 → after.owed ≡ before.owed → after.taken ≡ before.taken → before.taken ≤ steps → WaitsAt l first before.taken before.waiting.items (Answered r) → before.waiting.items ≡ after.waiting.items ++ w ∷ [] → 0 < length after.waiting.items → move_view after.next ≡ next_move (pending_view w.pending) r → IsStep l first steps before after
-  reply_step w {r = r} owed owes taken within h items some next =
-      let many : length (asked_in after.waiting.items) ≡ length after.waiting.items = length-map after.waiting.items (λ w. noted w.asked) in
-      let turned : length (reverse (asked_in after.waiting.items)) ≡ length (asked_in after.waiting.items) = length-reverse (asked_in after.waiting.items) in
-      let h2 = rw (items, asked_push after.waiting.items w, pending_push after.waiting.items w) at h in
+  pub reply_step : (ws : List Waiting) (v u w : Waiting) {r : Reply} → before.owed ≡ 0 → after.owed ≡ before.owed → after.taken ≡ before.taken → before.taken ≤ steps → WaitsAt l first before.taken before.waiting.items (Answered r) → before.waiting.items ≡ (ws ++ v ∷ []) ++ w ∷ [] → after.waiting.items ≡ ws ++ u ∷ [] → noted u.asked ≡ noted v.asked → move_view after.next (pending_view u.pending) ≡ next_move (pending_view v.pending) r → IsStep l first steps before after
+  reply_step ws v u w {r = r} owed owes taken within h items left asked next =
+      let last = waits_last l first before.taken before.waiting.items (ws ++ v ∷ []) w (Answered r) items h in
+      let below_it = rw (asked_push ws v, pending_push ws v) at last in
+      let here = at_answered l (noted v.asked ∷ reverse (asked_in ws)) (omega arith) below_it in
       record {
         run = record {
-          at = rw next (at_steps l (omega (arith, owed, owes, taken)) (at_answered l (reverse (asked_in after.waiting.items)) (omega (arith, some, many, turned)) h2));
+          at = run_more l first (after.taken + after.owed) after ws u left next (at_steps l {m = before.taken} (omega (arith, owed, owes, taken)) (rw asked here));
           owes = λ more. absurd (omega (arith, owed, owes, more));
         };
         within = omega (arith, taken, within);
-        turn = inr (taken, (noted w.asked, ap asked_in items ∙ asked_more after.waiting.items w));
-        some = omega (arith, some, many);
+        turn = inr (taken, (noted w.asked, ap asked_in items ∙ asked_more (ws ++ v ∷ []) w ∙ ap (λ qs. qs ++ noted w.asked ∷ []) (sym (ap asked_in left ∙ same_asked ws v u asked))));
+        some = rw left (some_left ws u);
       }
 
 -- the first question has its reply
@@ -179,15 +267,29 @@ no_end l first taken ws r none h =
     let h2 = rw (none_left ws none) at h in
     at_none l h2
 
+-- one question has its reply, and none has none
+pub end_or_none : (l : Language TypeId GroupId) (first : Question TypeId GroupId) (steps taken : ℕ) (ws : List Waiting) (r : Reply) → taken ≤ steps → WaitsAt l first taken ws (Answered r) → length ws < 2 → Says l first steps (steps - taken) (Replied r)
+end_or_none l first steps taken [] r within h few = absurd (no_end l first taken [] r refl h)
+end_or_none l first steps taken (w ∷ []) r within h few = end_step l first steps taken (w ∷ []) [] w r within h refl refl
+end_or_none l first steps taken (w ∷ v ∷ ws) r within h few = absurd (omega (arith, few))
+
 -- A turn from a run is one from another that has taken as many steps and in which the same questions wait.
 pub step_of : (l : Language TypeId GroupId) (first : Question TypeId GroupId) (steps : ℕ) (before other after : Run) → before.taken ≡ other.taken → asked_in before.waiting.items ≡ asked_in other.waiting.items → IsStep l first steps before after → IsStep l first steps other after
 step_of l first steps before other after taken asked s = record { run = s.run; within = s.within; turn = rw (← taken, ← asked) s.turn; some = s.some }
 
--- what is found at a move to which a run leads
-pub finds_from : (l : Language TypeId GroupId) (steps : ℕ) (before : Run) (m : Move TypeId GroupId) (o : Option Found) → ((first : Question TypeId GroupId) → IsRun l first before → WaitsAt l first before.taken before.waiting.items m) → IfSome o (FindsAt l steps before m) → IfSome o (Finds l steps before)
-finds_from l steps before m (Some f) lead finds = λ first run within. finds first (lead first run) within
-finds_from l steps before m None lead finds = tt
+-- what is found at a move to which another run or move leads, which has taken as many steps
+pub found_from : (l : Language TypeId GroupId) (steps : ℕ) (before mid : Run) (m n : Move TypeId GroupId) (o : Outcome) → mid.taken ≡ before.taken → ((first : Question TypeId GroupId) → WaitsAt l first before.taken before.waiting.items n → WaitsAt l first mid.taken mid.waiting.items m) → FindsAt l steps mid m o → FindsAt l steps before n o
+found_from l steps before mid m n o taken lead finds = λ first at within. rw (← taken) (finds first (lead first at) (omega (arith, within, taken)))
 
-pub ok_finds_from : {E : Type 0} (l : Language TypeId GroupId) (steps : ℕ) (before : Run) (m : Move TypeId GroupId) (r : Result (Option Found) E) → ((first : Question TypeId GroupId) → IsRun l first before → WaitsAt l first before.taken before.waiting.items m) → IfOk r (λ o. IfSome o (FindsAt l steps before m)) → IfOk r (λ o. IfSome o (Finds l steps before))
-ok_finds_from l steps before m (Ok o) lead finds = finds_from l steps before m o lead finds
-ok_finds_from l steps before m (Err e) lead finds = tt
+-- what is found by a run whose next move is this one
+pub finds_from : (l : Language TypeId GroupId) (steps : ℕ) (before mid : Run) (m : Move TypeId GroupId) (o : Outcome) → mid.taken ≡ before.taken → ((first : Question TypeId GroupId) → IsRun l first before → WaitsAt l first mid.taken mid.waiting.items m) → FindsAt l steps mid m o → Finds l steps before o
+finds_from l steps before mid m o taken lead finds = λ first run within. rw (← taken) (finds first (lead first run) (omega (arith, within, taken)))
+
+-- Turns come to an end: each takes a step, and asks one question more at most, or takes one off.
+pub turns_left : (l : Language TypeId GroupId) (first : Question TypeId GroupId) (steps : ℕ) (before after : Run) → IsStep l first steps before after → 2 * (steps - after.taken) + length (asked_in after.waiting.items) < 2 * (steps - before.taken) + length (asked_in before.waiting.items)
+turns_left l first steps before after s = by before.taken after.taken (asked_in before.waiting.items) (asked_in after.waiting.items) s.within s.turn
+  where
+    by : (taken later : ℕ) (qs rs : List (Question TypeId GroupId)) → later ≤ steps → IsTurn taken qs later rs → 2 * (steps - later) + length rs < 2 * (steps - taken) + length qs
+    by taken later qs rs h (inl (more, inl same)) = omega (arith, h, more, ap length same)
+    by taken later qs rs h (inl (more, inr (q, asked))) = omega (arith, h, more, ap length asked, length-append qs (q ∷ []))
+    by taken later qs rs h (inr (same, (q, off))) = omega (arith, h, same, ap length off, length-append rs (q ∷ []))

@@ -1,17 +1,11 @@
 -- Each turn keeps what the pending questions lead to.
-use Rattle.std.proofs.Common.{◌≡◌, ℕ, ◌+◌, ◌<◌, ◌≤◌, List, [], ◌∷◌, ◌++◌, map, reverse, refl, ap, subst, ◌∙◌, arith}
-use Rattle.std.proofs.lemmas.List.{map-append, reverse-append}
+use Rattle.std.proofs.Common.{◌≡◌, ℕ, ◌+◌, ◌≤◌, List, [], ◌∷◌, refl, subst, arith}
 use Rattle.cddl_meaning.specs.Forms.{Language}
 use Rattle.cddl_meaning.specs.Judges.{Reply}
 use Rattle.cddl_meaning.specs.Moves.{Question, InRef, Move, Answered, Asks, Replies, LeadsTo, at_once, after, next_move}
 use Rattle.cddl_meaning.specs.Moves as M
-use Rattle.cddl_match.specs.Unwinding.{Unwinds, IsOnTheWay, stack_of}
+use Rattle.cddl_match.specs.Unwinding.{Unwinds, IsOnTheWay}
 use Rattle.cddl_match.specs.Ahead.{ComesTo, Opens}
-use Rattle.cddl_match.specs.Views.{pending_view}
-use Rattle.cddl_match.specs.declared.questions.Pending.{Pending}
-
-pub stack_push : (fs : List Pending) (f : Pending) → stack_of (fs ++ f ∷ []) ≡ pending_view f ∷ stack_of fs
-stack_push fs f = ap reverse (map-append pending_view fs (f ∷ [])) ∙ reverse-append (map pending_view fs) (pending_view f ∷ [])
 
 -- so many steps are left
 pub in_steps : {N G : Type 0} {l : Language N G} {first : Question N G} {m n : ℕ} {os : List (M.Pending N G)} {o : Move N G} → m ≡ n → IsOnTheWay l first m os o → IsOnTheWay l first n os o
@@ -75,11 +69,3 @@ module _ {N G : Type 0} (l : Language N G) where
     leads = λ r u d. subst (λ n. Replies l first r n) (omega arith) (old.leads r _ (go_leads a os r u d));
     comes = λ r w d. let c = old.comes r w d in let x = go_comes a os r c.0 c.1 in (x.0, x.1, omega (arith, x.2, c.2));
   }
-
-  -- A move takes more than so many.
-  over_leads : {m : Move N G} {k : ℕ} → ((r : Reply) (w : ℕ) → LeadsTo l m r w → k < w) → (os : List (M.Pending N G)) (r : Reply) (u : ℕ) → Unwinds l os m r u → k < u
-  over_leads a [] r u d = a r u d
-  over_leads a (o ∷ os) r u (s, v, w, d, f, is) = omega (arith, a s v d, is)
-
-  pub over : {first : Question N G} {taken k : ℕ} {os : List (M.Pending N G)} {m : Move N G} → ((r : Reply) (w : ℕ) → LeadsTo l m r w → k < w) → IsOnTheWay l first taken os m → (r : Reply) (w : ℕ) → Replies l first r w → taken + k < w
-  over {os = os} a old r w d = let c = old.comes r w d in omega (arith, over_leads a os r c.0 c.1, c.2)

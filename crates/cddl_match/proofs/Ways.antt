@@ -1,9 +1,8 @@
 -- Names, choices of one and groups of one group reply as what is behind them.
 use Rattle.std.proofs.Common.{◌≡◌, ℕ, suc, ◌+◌, ◌≤◌, ◌<◌, length, List, [], ◌∷◌, Option, Some, None, IfSome, Bool, true, false, refl, ap, sym, subst, ◌∙◌, arith}
 use Rattle.cbor_data.specs.Value.{Value}
-use Rattle.cddl_meaning.specs.Forms as F
 use Rattle.cddl_meaning.specs.Forms.{Language, Test, passes, Node, Plain, Ref, Choice, Entry, GroupRef, Sequence, Alternatives, Most}
-use Rattle.cddl_meaning.specs.Judges.{No, BelongsTo, Reply, Takes, Fails, is_over}
+use Rattle.cddl_meaning.specs.Judges.{Reply, Takes, Fails, is_over}
 use Rattle.cddl_meaning.specs.Moves as M
 use Rattle.cddl_meaning.specs.Moves.{Question, OfType, OfGroup, InRef, InChoice, InEntry, InSequence, InAlternatives, InRepeat, Move, Answered, Asks, Replies, replies, LeadsTo, at_once, after, first_move, type_move, group_move, next_move, next_member, next_part, next_round, repetition}
 use Rattle.cddl_match.specs.Ahead.{ComesTo, Opens, AsksOn, IsTypeOf, IsGroupOf, IsTold, AreTold, IsTypeTold, IsEntered}
@@ -159,40 +158,14 @@ module _ {N G : Type 0} (l : Language N G) where
       let o = InRepeat least most g base q xs far in
       subst (λ m. ComesTo l (repetition least most g base q xs far) m n) (sym e) (subst (λ b. ComesTo l (next_round b least most g base q xs far) (next_move o s) n) (sym over) (answers o a))
 
-  pub a_part : (g : G) (gs : List G) (base q : ℕ) (xs : List Value) (far : ℕ) → {n : ℕ} {s : Reply} {m : Move N G} → Opens l (OfGroup g base q xs) (Answered s) n → m ≡ next_move (InSequence gs base far) s → ComesTo l (next_part (g ∷ gs) base q xs far) m n
-  a_part g gs base q xs far {n = n} {s = s} a e =
-      subst (λ m. ComesTo l (next_part (g ∷ gs) base q xs far) m n) (sym e) (answers (InSequence gs base far) a)
-
   pub tries_on : (s : M.Sorting N) → ComesTo l (M.Tries s) (M.next_entry s.entries s) (suc (length s.entries))
   tries_on s = record { leads = λ r w d. M.tries d; comes = λ r w d. by d }
     where
       by : {r : Reply} {w : ℕ} → LeadsTo l (M.Tries s) r w → (v : ℕ) × LeadsTo l (M.next_entry s.entries s) r v × (w ≡ suc (length s.entries) + v)
       by (M.tries {w = v} d) = (v, d, refl)
 
-  -- a pair is tried with the entries of its alternative
-  pub a_pair : (s : M.Sorting N) {m : Move N G} {k : ℕ} → m ≡ M.next_entry s.entries s → k ≡ suc (length s.entries) → ComesTo l (M.Tries s) m k
-  a_pair s e i = rw (e, i) (tries_on s)
-
-  -- so many pairs, the last of which is told
-  pub one_pair_more : (s : M.Sorting N) {first m : Move N G} {i j k n : ℕ} → ComesTo l first (M.Tries s) i → k ≡ suc (length s.entries) → ComesTo l (M.next_entry s.entries s) m j → n ≡ i + k + j → ComesTo l first m n
-  one_pair_more s {i = i} {j = j} {k = k} a e b is = and_on a (and_on (a_pair s refl e) b refl) (omega (arith, is))
-
   pub more_than : (s : M.Sorting N) (k : ℕ) → k ≤ length s.entries → (r : Reply) (w : ℕ) → LeadsTo l (M.Tries s) r w → k < w
   more_than s k h r w d = let x = (tries_on s).comes r w d in omega (arith, x.2, h)
-
-  -- what an entry does with a pair, where tests tell it
-
-  pub other_key : (e : F.MapEntry N) (es : List (F.MapEntry N)) (s : M.Sorting N) {k : ℕ} → Opens l (OfType e.key_type s.key_place s.key) (Answered (M.test_reply s.key_place s.key false)) k → ComesTo l (M.next_entry (e ∷ es) s) (M.next_entry es s) k
-  other_key e es s a = answers (M.InKey e es s) a
-
-  pub its_key : (e : F.MapEntry N) (es : List (F.MapEntry N)) (s : M.Sorting N) (says : Bool) {j k : ℕ} → Opens l (OfType e.key_type s.key_place s.key) (Answered (M.test_reply s.key_place s.key true)) j → Opens l (OfType e.value_type s.value_place s.held) (Answered (M.test_reply s.value_place s.held says)) k → ComesTo l (M.next_entry (e ∷ es) s) (next_move (M.InValue e es s) (M.test_reply s.value_place s.held says)) (j + k)
-  its_key e es s says a b = and_on (answers (M.InKey e es s) a) (answers (M.InValue e es s) b) refl
-
-  pub it_cuts : (e : F.MapEntry N) (es : List (F.MapEntry N)) (s : M.Sorting N) {j k : ℕ} → e.cuts ≡ true → Opens l (OfType e.key_type s.key_place s.key) (Answered (M.test_reply s.key_place s.key true)) j → Opens l (OfType e.value_type s.value_place s.held) (Answered (M.test_reply s.value_place s.held false)) k → ComesTo l (M.next_entry (e ∷ es) s) (M.sorted s (BelongsTo (length es) (No s.value_place))) (j + k)
-  it_cuts e es s {j = j} {k = k} c a b = subst (λ b. ComesTo l (M.next_entry (e ∷ es) s) (M.after_value b es s s.value_place) (j + k)) c (its_key e es s false a b)
-
-  pub it_hands_on : (e : F.MapEntry N) (es : List (F.MapEntry N)) (s : M.Sorting N) {j k : ℕ} → e.cuts ≡ false → Opens l (OfType e.key_type s.key_place s.key) (Answered (M.test_reply s.key_place s.key true)) j → Opens l (OfType e.value_type s.value_place s.held) (Answered (M.test_reply s.value_place s.held false)) k → ComesTo l (M.next_entry (e ∷ es) s) (M.next_entry es s) (j + k)
-  it_hands_on e es s {j = j} {k = k} c a b = subst (λ b. ComesTo l (M.next_entry (e ∷ es) s) (M.after_value b es s s.value_place) (j + k)) c (its_key e es s false a b)
 
 -- A choice of one, which leads to its only member.
 pub only_type : {N G : Type 0} (f : Node N G) (ms : List N) (o : Option N) → f ≡ Choice ms → IfSome o (λ m. ms ≡ m ∷ []) → IfSome o (λ next. (l : Language N G) (n : N) → l.type_at n ≡ f → IsTypeOf l n next 1)

@@ -11,14 +11,16 @@ use Rattle.table_nodes.specs.declared.nodes.TypeId.{TypeId}
 use Rattle.table_nodes.specs.declared.table.Table.{Table}
 use Rattle.cddl_match.specs.Open.{AreOpenWith, NeedsRoom}
 use Rattle.cddl_match.specs.Unwinding.{IsOnTheWay}
-use Rattle.cddl_match.specs.Views.{move_view, pending_view, question_view, reply_view, verdict_of}
+use Rattle.cddl_match.specs.Views.{move_view, pending_view, question_view, reply_view}
 use Rattle.cddl_match.specs.Within.{Outcome, Replied, Stopped, Says}
 use Rattle.cddl_match.specs.declared.answers.Verdict.{Verdict}
 use Rattle.cddl_match.specs.declared.answers.Verdict.TheVariants as V
+use Rattle.cddl_match.specs.declared.questions.Move as C
+use Rattle.cddl_match.specs.declared.questions.Move.TheVariants as D
 use Rattle.cddl_match.specs.declared.questions.Question as Q
 use Rattle.cddl_match.specs.declared.questions.Stop.TheVariants as S
-use Rattle.cddl_match.specs.declared.stack.Found.{Found}
-use Rattle.cddl_match.specs.declared.stack.Found.TheVariants as F
+use Rattle.cddl_match.specs.declared.stack.Turned.{Turned}
+use Rattle.cddl_match.specs.declared.stack.Turned.TheVariants as T
 use Rattle.cddl_match.specs.declared.stack.Run.{Run}
 use Rattle.cddl_match.specs.declared.stack.Waiting.{Waiting}
 
@@ -33,12 +35,22 @@ abbrev pub noted : List Q.Question → M.Question TypeId GroupId
 noted [] = M.OfAlternative [] 0 no_pairs
 noted (q ∷ qs) = question_view q
 
--- the open questions, the first one first, and what waits for the reply to each
+-- the open questions, the first one first, and how each waits, the last one first
 abbrev pub asked_in : List Waiting → List (M.Question TypeId GroupId)
 asked_in ws = map (λ w. noted w.asked) ws
 
 abbrev pub pending_in : List Waiting → List (M.Pending TypeId GroupId)
-pending_in ws = map (λ w. pending_view w.pending) ws
+pending_in ws = reverse (map (λ w. pending_view w.pending) ws)
+
+-- what waits for the reply to a further question, which the last one asks, and what waits for the reply to each open one:
+-- nothing goes on with the reply to the first
+abbrev pub last_of : List (M.Pending TypeId GroupId) → M.Pending TypeId GroupId
+last_of [] = M.InRef
+last_of (o ∷ os) = o
+
+abbrev pub below : List (M.Pending TypeId GroupId) → List (M.Pending TypeId GroupId)
+below [] = []
+below (o ∷ os) = os ++ M.InRef ∷ []
 
 -- what the root type is asked
 abbrev pub root_question : Table → Value → M.Question TypeId GroupId
@@ -51,22 +63,28 @@ pub record IsAt {N G : Type 0} (l : Language N G) (first : Question N G) (taken 
 
 -- So it is of these questions that wait, the first one first.
 abbrev pub WaitsAt : Language TypeId GroupId → M.Question TypeId GroupId → ℕ → List Waiting → M.Move TypeId GroupId → Type 0
-WaitsAt l first taken ws m = IsAt l first taken (reverse (asked_in ws)) (reverse (pending_in ws)) m
+WaitsAt l first taken ws m = IsAt l first taken (reverse (asked_in ws)) (below (pending_in ws)) m
+
+-- the question that the last open one asks, and the next move of a run
+abbrev pub asks_in : Run → M.Question TypeId GroupId → M.Move TypeId GroupId
+asks_in r q = M.Asks q (last_of (pending_in r.waiting.items))
+
+abbrev pub next_in : Run → M.Move TypeId GroupId
+next_in r = move_view r.next (last_of (pending_in r.waiting.items))
 
 -- The run, which began with this question, has come so far. The steps that it owes are taken in the turns to come, with
 -- nothing asked.
 pub record IsRun (l : Language TypeId GroupId) (first : M.Question TypeId GroupId) (r : Run) : Type 0 where
-  pub at : WaitsAt l first (r.taken + r.owed) r.waiting.items (move_view r.next)
+  pub at : WaitsAt l first (r.taken + r.owed) r.waiting.items (next_in r)
   pub owes : 0 < r.owed → 0 < length (asked_in r.waiting.items)
 
--- what was found, and what a table says by it
-abbrev pub found_view : Found → Outcome
-found_view (F.Replied r) = Replied (reply_view r)
-found_view F.Spent = Stopped S.Spent
-
-abbrev pub found_verdict : Found → Verdict
-found_verdict (F.Replied r) = verdict_of (reply_view r)
-found_verdict F.Spent = V.Spent
+-- what is found where a turn ends so, with the next move
+abbrev pub found_in : Turned → C.Move → Outcome
+found_in T.Replied (D.Answered r) = Replied (reply_view r)
+found_in T.Replied _ = Stopped S.NoMemory
+found_in T.Spent m = Stopped S.Spent
+found_in T.GoesOn m = Stopped S.NoMemory
+found_in T.NoMemory m = Stopped S.NoMemory
 
 -- The verdict is the definition's, or the steps are spent.
 abbrev pub IsVerdict : Table → Value → ℕ → Verdict → Type 0
@@ -98,15 +116,15 @@ pub record IsKept (before after : Run) : Type 0 where
 abbrev pub GoesFrom : Language TypeId GroupId → ℕ → Run → M.Move TypeId GroupId → Run → Type 0
 GoesFrom l steps before m after = (first : M.Question TypeId GroupId) → WaitsAt l first before.taken before.waiting.items m → before.taken ≤ steps → IsStep l first steps before after
 
-abbrev pub FindsAt : Language TypeId GroupId → ℕ → Run → M.Move TypeId GroupId → Found → Type 0
-FindsAt l steps before m f = (first : M.Question TypeId GroupId) → WaitsAt l first before.taken before.waiting.items m → before.taken ≤ steps → Says l first steps (steps - before.taken) (found_view f)
+abbrev pub FindsAt : Language TypeId GroupId → ℕ → Run → M.Move TypeId GroupId → Outcome → Type 0
+FindsAt l steps before m o = (first : M.Question TypeId GroupId) → WaitsAt l first before.taken before.waiting.items m → before.taken ≤ steps → Says l first steps (steps - before.taken) o
 
 -- So it is of a run, which may owe steps.
 abbrev pub Goes : Language TypeId GroupId → ℕ → Run → Run → Type 0
 Goes l steps before after = (first : M.Question TypeId GroupId) → IsRun l first before → before.taken ≤ steps → IsStep l first steps before after
 
-abbrev pub Finds : Language TypeId GroupId → ℕ → Run → Found → Type 0
-Finds l steps before f = (first : M.Question TypeId GroupId) → IsRun l first before → before.taken ≤ steps → Says l first steps (steps - before.taken) (found_view f)
+abbrev pub Finds : Language TypeId GroupId → ℕ → Run → Outcome → Type 0
+Finds l steps before o = (first : M.Question TypeId GroupId) → IsRun l first before → before.taken ≤ steps → Says l first steps (steps - before.taken) o
 
 -- Room beside that for questions is needed, if the run did not begin with an alternative of a map.
 abbrev pub NeedsMore : Language TypeId GroupId → Run → M.Move TypeId GroupId → Type 0

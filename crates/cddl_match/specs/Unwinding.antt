@@ -1,13 +1,9 @@
--- What pending questions lead to: the matcher's loop keeps this, and so its last reply is the first question's.
-use Rattle.std.specs.Prelude.{◌≡◌, ℕ, ◌+◌, List, [], ◌∷◌, map, reverse}
+-- What pending questions lead to: each turn keeps this, and so the last reply is the first question's.
+use Rattle.std.specs.Prelude.{◌≡◌, ℕ, ◌+◌, List, [], ◌∷◌}
 use Rattle.cddl_meaning.specs.Forms.{Language}
 use Rattle.cddl_meaning.specs.Judges.{Reply}
 use Rattle.cddl_meaning.specs.Moves as M
 use Rattle.cddl_meaning.specs.Moves.{Question, Move, Replies, LeadsTo, next_move}
-use Rattle.table_nodes.specs.declared.nodes.TypeId.{TypeId}
-use Rattle.table_nodes.specs.declared.nodes.GroupId.{GroupId}
-use Rattle.cddl_match.specs.declared.questions.Pending.{Pending}
-use Rattle.cddl_match.specs.Views.{pending_view}
 
 -- The move of the last question leads to the reply of the first, in so many questions more. The last one is the head.
 abbrev pub Unwinds : {N G : Type 0} → Language N G → List (M.Pending N G) → Move N G → Reply → ℕ → Type 0
@@ -19,7 +15,3 @@ Unwinds l (o ∷ os) m r u = (s : Reply) × (v : ℕ) × (w : ℕ) × LeadsTo l 
 pub record IsOnTheWay {N G : Type 0} (l : Language N G) (first : Question N G) (taken : ℕ) (os : List (M.Pending N G)) (m : Move N G) : Type 0 where
   pub leads : (r : Reply) (u : ℕ) → Unwinds l os m r u → Replies l first r (taken + u)
   pub comes : (r : Reply) (w : ℕ) → Replies l first r w → (u : ℕ) × Unwinds l os m r u × (w ≡ taken + u)
-
--- what waits, the last one first
-abbrev pub stack_of : List Pending → List (M.Pending TypeId GroupId)
-stack_of ps = reverse (map pending_view ps)

@@ -1,9 +1,8 @@
 -- What the code's questions, replies and frames stand for.
-use Rattle.std.specs.Prelude.{ℕ, List, map, Option, Some, None, Bool, true, false, take, nat_le, if◌then◌else◌}
+use Rattle.std.specs.Prelude.{ℕ, List, map, take, nat_le, if◌then◌else◌}
 use Rattle.cbor_data.specs.Value.{Value, uint, place_count}
 use Rattle.item_nodes.specs.View.{pairs_view, view}
 use Rattle.item_nodes.specs.declared.item.Item.{Item}
-use Rattle.cddl_meaning.specs.Forms as F
 use Rattle.cddl_meaning.specs.Judges as J
 use Rattle.cddl_meaning.specs.Moves as M
 use Rattle.table_nodes.specs.declared.nodes.TypeId.{TypeId}
@@ -28,7 +27,7 @@ use Rattle.cddl_match.specs.declared.questions.Rounds.{Rounds}
 use Rattle.cddl_match.specs.declared.questions.Parts.{Parts}
 use Rattle.cddl_match.specs.declared.questions.Reading.{Reading}
 use Rattle.cddl_match.specs.declared.questions.Move.{Move}
-use Rattle.cddl_match.specs.declared.questions.Move.TheVariants.{Answered, Asks, Repeats, GoesOn, Tries, Reads}
+use Rattle.cddl_match.specs.declared.questions.Move.TheVariants.{Answered, Asks, Tries, Reads}
 use Rattle.cddl_match.specs.declared.answers.Verdict.{Verdict}
 use Rattle.cddl_match.specs.declared.answers.Verdict.TheVariants.{Yes, No}
 
@@ -67,12 +66,7 @@ sorting_view s = record {
   tally = tally_view s.tally.value;
 }
 
--- What an entry with these entries after it leads to: it hands the pair on to them, or it is known what becomes of the pair.
-abbrev pub fated : M.Sorting TypeId → List (F.MapEntry TypeId) → Option Fate → M.Move TypeId GroupId
-fated s es None = M.next_entry es s
-fated s es (Some f) = M.sorted s (fate_view f)
-
--- a question, a reply, what waits, and a move, each as the definitions have it
+-- a question, a reply and what waits, each as the definitions have it
 abbrev pub question_view : Question → M.Question TypeId GroupId
 question_view (OfType n p x) = M.OfType n p (subject_view x)
 question_view (OfGroup g base q xs) = M.OfGroup g base q (values xs.now)
@@ -114,27 +108,12 @@ parts_move p = M.next_part p.parts.now p.base p.place (values p.items.now) p.far
 abbrev pub reading_move : Reading → M.Move TypeId GroupId
 reading_move r = M.Reads (content_view r.content) r.bytes.now r.node r.place r.next
 
-abbrev pub move_view : Move → M.Move TypeId GroupId
-move_view (Answered r) = M.Answered (reply_view r)
-move_view (Asks q o) = M.Asks (question_view q) (pending_view o)
-move_view (Repeats r) = rounds_move r
-move_view (GoesOn p) = parts_move p
-move_view (Tries s) = M.Tries (sorting_view s)
-move_view (Reads r) = reading_move r
-
--- whether a move is of rounds or of a sequence, of which nothing was asked yet, or of a byte string that was not read yet
-abbrev pub goes_on : Move → Bool
-goes_on (Answered r) = false
-goes_on (Asks q o) = false
-goes_on (Repeats r) = true
-goes_on (GoesOn p) = true
-goes_on (Tries s) = false
-goes_on (Reads r) = true
-
--- The turns that a move takes before something is asked or answered.
-abbrev pub turns_of : Bool → ℕ
-turns_of true = 1
-turns_of false = 0
+-- a move, with what waits for the reply to what it asks
+abbrev pub move_view : Move → M.Pending TypeId GroupId → M.Move TypeId GroupId
+move_view (Answered r) o = M.Answered (reply_view r)
+move_view (Asks q) o = M.Asks (question_view q) o
+move_view (Tries s) o = M.Tries (sorting_view s)
+move_view (Reads r) o = reading_move r
 
 -- what a type's reply says
 abbrev pub verdict_of : J.Reply → Verdict

@@ -3,8 +3,8 @@
 ghost use Rattle.std.specs.Prelude.{◌≡◌};
 ghost use Rattle.cddl_meaning.specs.Forms.{Both, Such, Holding, bytes_in};
 ghost use Rattle.cddl_meaning.specs.Moves as M;
-ghost use Rattle.cddl_meaning.specs.Moves.{InHeld, InHolder, InLeft, InSuch, next_move, read_move, such_reply, type_move};
-ghost use Rattle.cddl_match.specs.Views.{move_view, reply_view, subject_view};
+ghost use Rattle.cddl_meaning.specs.Moves.{InHeld, InHolder, InLeft, InSuch, next_move, read_move, type_move};
+ghost use Rattle.cddl_match.specs.Views.{move_view, pending_view, reply_view, subject_view};
 ghost use Rattle.table_nodes.specs.declared.nodes.GroupId.{GroupId};
 ghost use Rattle.table_nodes.specs.declared.nodes.TypeId.{TypeId};
 ghost use Rattle.table_nodes.specs.Nodes.{content_view, test_view};
@@ -20,21 +20,20 @@ pub(crate) fn both_move<'t, 'i>(
     right: TypeId,
     place: usize,
     subject: Subject<'i>,
+    pending: &mut Pending<'t, 'i>,
 ) -> Move<'t, 'i>
-    ensures { move_view result ≡ type_move (Both left right) place (subject_view subject.entry) }
+    ensures { move_view result (pending_view pending.new) ≡ type_move (Both left right) place (subject_view subject.entry) }
 {
-    Move::Asks(
-        Question::OfType {
-            node: left,
-            place,
-            subject,
-        },
-        Pending::Left {
-            node: right,
-            place,
-            subject,
-        },
-    )
+    *pending = Pending::Left {
+        node: right,
+        place,
+        subject,
+    };
+    Move::Asks(Question::OfType {
+        node: left,
+        place,
+        subject,
+    })
 }
 
 // The type is asked before its test.
@@ -43,21 +42,20 @@ pub(crate) fn such_move<'t, 'i>(
     test: &'t Test,
     place: usize,
     subject: Subject<'i>,
+    pending: &mut Pending<'t, 'i>,
 ) -> Move<'t, 'i>
-    ensures { move_view result ≡ type_move (Such node (test_view test.now)) place (subject_view subject.entry) }
+    ensures { move_view result (pending_view pending.new) ≡ type_move (Such node (test_view test.now)) place (subject_view subject.entry) }
 {
-    Move::Asks(
-        Question::OfType {
-            node,
-            place,
-            subject,
-        },
-        Pending::Such {
-            test,
-            place,
-            subject,
-        },
-    )
+    *pending = Pending::Such {
+        test,
+        place,
+        subject,
+    };
+    Move::Asks(Question::OfType {
+        node,
+        place,
+        subject,
+    })
 }
 
 // A byte string's own type is asked before what the string holds.
@@ -67,22 +65,21 @@ pub(crate) fn holding_move<'t, 'i>(
     node: TypeId,
     place: usize,
     subject: Subject<'i>,
+    pending: &mut Pending<'t, 'i>,
 ) -> Move<'t, 'i>
-    ensures { move_view result ≡ type_move (Holding of (content_view content) node) place (subject_view subject.entry) }
+    ensures { move_view result (pending_view pending.new) ≡ type_move (Holding of (content_view content) node) place (subject_view subject.entry) }
 {
-    Move::Asks(
-        Question::OfType {
-            node: of,
-            place,
-            subject,
-        },
-        Pending::Holder {
-            content,
-            node,
-            place,
-            subject,
-        },
-    )
+    *pending = Pending::Holder {
+        content,
+        node,
+        place,
+        subject,
+    };
+    Move::Asks(Question::OfType {
+        node: of,
+        place,
+        subject,
+    })
 }
 
 // The left one of two types has said yes, and the right one is asked of the same item; or it has said no, for both.
@@ -91,51 +88,40 @@ pub(crate) fn next_in_left<'t, 'i>(
     place: usize,
     subject: Subject<'i>,
     reply: Reply<'i>,
+    pending: &mut Pending<'t, 'i>,
 ) -> Move<'t, 'i>
-    ensures { move_view result ≡ next_move (InLeft node place (subject_view subject.entry)) (reply_view reply.entry) }
+    ensures { move_view result (pending_view pending.new) ≡ next_move (InLeft node place (subject_view subject.entry)) (reply_view reply.entry) }
 {
     match reply {
-        Reply::Takes { .. } => Move::Asks(
-            Question::OfType {
+        Reply::Takes { .. } => {
+            *pending = Pending::Ref;
+            Move::Asks(Question::OfType {
                 node,
                 place,
                 subject,
-            },
-            Pending::Ref,
-        ),
-        Reply::Fails { far } => Move::Answered(Reply::Fails { far }),
-    }
-}
-
-// What a test replies that says this, after a type that has told the place after the item.
-fn such_reply<'i>(place: usize, next: usize, says: bool) -> Reply<'i>
-    ensures { reply_view result ≡ such_reply place next says }
-{
-    if says {
-        Reply::Takes {
-            left: &[],
-            next,
-            far: 0,
+            })
         }
-    } else {
-        Reply::Fails { far: place }
+        Reply::Fails { far } => Move::Answered(Reply::Fails { far }),
     }
 }
 
 // A type has said yes, and the item has to pass the test; or it has said no.
-pub(crate) fn next_in_such<'t, 'i>(
-    test: &'t Test,
+pub(crate) fn such_reply<'i>(
+    test: &Test,
     place: usize,
-    subject: Subject<'i>,
-    reply: Reply<'i>,
-) -> Move<'t, 'i>
-    ensures { move_view result ≡ next_move (InSuch (test_view test.now) place (subject_view subject.entry)) (reply_view reply.entry) }
+    subject: Subject<'_>,
+    reply: Reply<'_>,
+) -> Reply<'i>
+    ensures { M.Answered (reply_view result) ≡ next_move {N = TypeId} {G = GroupId} (InSuch (test_view test.now) place (subject_view subject.entry)) (reply_view reply.entry) }
 {
     match reply {
-        Reply::Takes { next, .. } => {
-            Move::Answered(such_reply(place, next, passes_test(test, subject)))
-        }
-        Reply::Fails { far } => Move::Answered(Reply::Fails { far }),
+        Reply::Takes { next, .. } if passes_test(test, subject) => Reply::Takes {
+            left: &[],
+            next,
+            far: 0,
+        },
+        Reply::Takes { .. } => Reply::Fails { far: place },
+        Reply::Fails { far } => Reply::Fails { far },
     }
 }
 
@@ -147,7 +133,7 @@ fn read_move<'t, 'i>(
     next: usize,
     subject: Subject<'i>,
 ) -> Move<'t, 'i>
-    ensures { move_view result ≡ read_move (content_view content) node place next (bytes_in (subject_view subject.entry)) }
+    ensures { (o : M.Pending TypeId GroupId) → move_view result o ≡ read_move (content_view content) node place next (bytes_in (subject_view subject.entry)) }
 {
     match subject {
         Subject::Item(Item::Bytes(bytes)) => Move::Reads(Reading {
@@ -169,7 +155,7 @@ pub(crate) fn next_in_holder<'t, 'i>(
     subject: Subject<'i>,
     reply: Reply<'i>,
 ) -> Move<'t, 'i>
-    ensures { move_view result ≡ next_move (InHolder (content_view content) node place (subject_view subject.entry)) (reply_view reply.entry) }
+    ensures { (o : M.Pending TypeId GroupId) → move_view result o ≡ next_move (InHolder (content_view content) node place (subject_view subject.entry)) (reply_view reply.entry) }
 {
     match reply {
         Reply::Takes { next, .. } => return read_move(content, node, place, next, subject),

@@ -31,10 +31,15 @@ pub fn shows_inside()
     ensures { (table : Table) (x : Value) (place w : ℕ) → RootSays table x (Answer.No place) w → place < place_count x }
 {}
 
-/// A table and a number of steps allow one verdict at most of an item whose size is below 2^64: so `verdict` answers what the
-/// turns of a machine answer, where neither wants memory. It does nothing.
+/// A table and a number of steps allow one verdict at most of an item whose size is below 2^64. It does nothing.
 pub fn one_verdict()
     ensures { (table : Table) (x : Value) (steps : ℕ) (u v : Verdict) → size x < 2 ^ 64 → IsVerdict table x steps u → IsVerdict table x steps v → v ≡ u }
+{}
+
+/// A turn answers what `verdict` answers of the same table, item and number of steps, however many turns went on before, where
+/// neither wants memory. It does nothing.
+pub fn turns_answer_alike()
+    ensures { (n : ℕ) (m k : Progress) (u v : Verdict) → size m.item < 2 ^ 64 → GoesOnFor n m k → IsVerdict m.table m.item m.steps u → IsVerdict k.table k.item k.steps v → v ≡ u }
 {}
 
 /// Of a new machine twice as many turns go on as it may take steps, at most: so the next turn after so many answers, or wants

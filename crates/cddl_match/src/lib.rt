@@ -5,14 +5,13 @@ mod answers;
 mod behind;
 mod controls;
 mod counts;
-mod frames;
+mod deeper;
 mod judging;
 mod laws;
 mod looking;
 mod machine;
 mod means;
 mod moves;
-mod pairs;
 mod places;
 mod questions;
 mod reading;
@@ -27,6 +26,8 @@ mod tested;
 
 pub use crate::answers::{End, Verdict};
 pub use crate::judging::verdict;
-pub use crate::laws::{decided, one_answer, one_verdict, shows_inside, turns_are_few};
+pub use crate::laws::{
+    decided, one_answer, one_verdict, shows_inside, turns_answer_alike, turns_are_few,
+};
 pub use crate::machine::Machine;
 pub use crate::shelf::Cells;

@@ -3,17 +3,19 @@
 ghost use Rattle.std.specs.Prelude.{◌≡◌, ◌⊎◌, ◌+◌, ◌*◌, ◌≤◌, ℕ, [], length, None, Some, Ok, IfOk, OnErr};
 ghost use Rattle.cbor_data.specs.Preferred.{preferred};
 ghost use Rattle.cddl_meaning.specs.Judges.{Answer};
-ghost use Rattle.cddl_match.specs.Machine.{IsVerdict, LastNeedsRoom, found_verdict, root_question};
+ghost use Rattle.cddl_match.specs.Machine.{IsVerdict, LastNeedsRoom, root_question};
 ghost use Rattle.cddl_match.specs.Open.{AreOpen};
 ghost use Rattle.cddl_match.specs.Progress.{GoesOn, IsAnswer, IsSame};
+ghost use Rattle.cddl_match.specs.Views.{reply_view, verdict_of};
 ghost use Rattle.cddl_match.specs.declared.answers.End.TheVariants as E;
+ghost use Rattle.cddl_match.specs.declared.questions.Reply as R;
 ghost use Rattle.cddl_meaning.specs.Ranks.Decided.{IsDecided};
 ghost use Rattle.table_nodes.specs.Language.{RootSays, language_of, ranks_of, root_form};
 
 use crate::answers::{End, Verdict};
-use crate::questions::{Move, Pending, Question, Reply, Subject};
+use crate::questions::{Move, Question, Reply, Subject};
 use crate::shelf::{Cells, Shelf};
-use crate::stack::{Found, Run, step};
+use crate::stack::{Run, Turned, step};
 use cbor_item::Sound;
 use std::alloc::{AllocError, Global};
 use std::marker::Model;
@@ -51,14 +53,14 @@ impl<'t, 'i> Model for Machine<'t, 'i> {
     ghost invariant = { λ m. IsMachine m.table.now m.item.now m.steps m.room m.run m.end };
 }
 
-// What a table says whose root type was asked first.
-fn verdict_of(found: Found<'_>) -> Verdict
-    ensures { result ≡ found_verdict found.entry }
+// What a table says whose root type has replied.
+fn verdict_by(next: &Move<'_, '_>) -> Verdict
+    ensures { (r : R.Reply) → next.now ≡ Move.Answered r → result ≡ verdict_of (reply_view r) }
 {
-    match found {
-        Found::Replied(Reply::Takes { .. }) => Verdict::Yes,
-        Found::Replied(Reply::Fails { far }) => Verdict::No { place: far },
-        Found::Spent => Verdict::Spent,
+    match next {
+        Move::Answered(Reply::Takes { .. }) => Verdict::Yes,
+        Move::Answered(Reply::Fails { far }) => Verdict::No { place: *far },
+        _ => Verdict::Spent,
     }
 }
 
@@ -93,7 +95,7 @@ impl<'t, 'i> Machine<'t, 'i> {
             room,
             run: Run {
                 waiting,
-                next: Move::Asks(root, Pending::Ref),
+                next: Move::Asks(root),
                 taken: 0,
                 owed: 0,
             },
@@ -127,15 +129,19 @@ impl<'t, 'i> Machine<'t, 'i> {
             return end.answer();
         }
         match step(self.table, &mut self.shelf, &mut self.run, self.steps) {
-            Ok(None) => return Ok(None),
-            Ok(Some(found)) => {
-                let verdict = verdict_of(found);
+            Turned::GoesOn => return Ok(None),
+            Turned::Replied => {
+                let verdict = verdict_by(&self.run.next);
                 self.end = Some(End::Said(verdict));
                 return Ok(Some(verdict));
             }
-            Err(error) => {
+            Turned::Spent => {
+                self.end = Some(End::Said(Verdict::Spent));
+                return Ok(Some(Verdict::Spent));
+            }
+            Turned::NoMemory => {
                 self.end = Some(End::NoMemory);
-                return Err(error);
+                return Err(AllocError);
             }
         }
     }

@@ -1,6 +1,6 @@
 //! What is asked next, one small step for each form of type and group.
 
-ghost use Rattle.std.specs.Prelude.{◌≡◌, false, true};
+ghost use Rattle.std.specs.Prelude.{◌≡◌, true};
 ghost use Rattle.cbor_data.specs.Value.{place_count};
 ghost use Rattle.item_nodes.specs.View.{view};
 ghost use Rattle.cddl_meaning.specs.Judges.{is_over, one_less};
@@ -31,9 +31,8 @@ ghost use Rattle.cddl_meaning.specs.Moves.{
   type_move,
   yes_reply,
 };
-ghost use Rattle.cddl_match.specs.Views.{goes_on, parts_move, pending_view, move_view, reply_view, round_move, rounds_move, subject_view, values};
+ghost use Rattle.cddl_match.specs.Views.{parts_move, pending_view, move_view, reply_view, round_move, rounds_move, subject_view, values};
 ghost use Rattle.cddl_match.specs.declared.questions.Pending.TheVariants as P;
-ghost use Rattle.cddl_match.specs.declared.questions.Reading.{Reading};
 ghost use Rattle.cddl_match.specs.declared.questions.Rounds.{Rounds};
 ghost use Rattle.table_nodes.specs.declared.nodes.GroupId.{GroupId};
 ghost use Rattle.table_nodes.specs.declared.nodes.TypeId.{TypeId};
@@ -41,13 +40,14 @@ ghost use Rattle.table_nodes.specs.Language.{language_of};
 ghost use Rattle.table_nodes.specs.Nodes.{group_view, most_view, tag_number_view, type_view};
 
 use crate::controls::{
-    both_move, held_reply, holding_move, next_in_holder, next_in_left, next_in_such, such_move,
+    both_move, held_reply, holding_move, next_in_holder, next_in_left, such_move, such_reply,
 };
 use crate::places::{place_after, plus};
 use crate::questions::{Move, Parts, Pending, Question, Reply, Round, Rounds, Subject};
 use crate::sorting::{map_move, next_in_key, next_in_map, next_in_value};
 use crate::tested::passes_test;
 use cbor_item::Item;
+use std::mem;
 use table_nodes::{Group, GroupId, Most, Node, Table, TagNumber, Test, TypeId};
 
 // The place after an item, or after one whose number is asked about.
@@ -90,31 +90,31 @@ fn next_member<'t, 'i>(
     place: usize,
     subject: Subject<'i>,
     far: usize,
+    pending: &mut Pending<'t, 'i>,
 ) -> Move<'t, 'i>
-    ensures { move_view result ≡ next_member members.now place (subject_view subject.entry) far }
+    ensures { move_view result (pending_view pending.new) ≡ next_member members.now place (subject_view subject.entry) far }
 {
     match members {
         [] => Move::Answered(Reply::Fails { far }),
-        [member, others @ ..] => Move::Asks(
-            Question::OfType {
-                node: *member,
-                place,
-                subject,
-            },
-            Pending::Choice {
+        [member, others @ ..] => {
+            *pending = Pending::Choice {
                 members: others,
                 place,
                 subject,
                 far,
-            },
-        ),
+            };
+            Move::Asks(Question::OfType {
+                node: *member,
+                place,
+                subject,
+            })
+        }
     }
 }
 
 // The next group of a sequence, with what the one before left.
-pub(crate) fn another_part<'t, 'i>(left: Parts<'t, 'i>) -> Move<'t, 'i>
-    ensures asks { move_view result ≡ parts_move left.entry }
-    ensures turns { goes_on result ≡ false }
+fn another_part<'t, 'i>(left: Parts<'t, 'i>, pending: &mut Pending<'t, 'i>) -> Move<'t, 'i>
+    ensures { move_view result (pending_view pending.new) ≡ parts_move left.entry }
 {
     let Parts {
         base,
@@ -129,15 +129,15 @@ pub(crate) fn another_part<'t, 'i>(left: Parts<'t, 'i>) -> Move<'t, 'i>
             next: place,
             far,
         }),
-        [part, parts @ ..] => Move::Asks(
-            Question::OfGroup {
+        [part, parts @ ..] => {
+            *pending = Pending::Sequence { parts, base, far };
+            Move::Asks(Question::OfGroup {
                 group: *part,
                 base,
                 place,
                 items,
-            },
-            Pending::Sequence { parts, base, far },
-        ),
+            })
+        }
     }
 }
 
@@ -148,26 +148,27 @@ fn next_alternative<'t, 'i>(
     place: usize,
     items: &'i [Item],
     far: usize,
+    pending: &mut Pending<'t, 'i>,
 ) -> Move<'t, 'i>
-    ensures { move_view result ≡ next_alternative parts.now base place (values items.now) far }
+    ensures { move_view result (pending_view pending.new) ≡ next_alternative parts.now base place (values items.now) far }
 {
     match parts {
         [] => Move::Answered(Reply::Fails { far }),
-        [part, others @ ..] => Move::Asks(
-            Question::OfGroup {
-                group: *part,
-                base,
-                place,
-                items,
-            },
-            Pending::Alternatives {
+        [part, others @ ..] => {
+            *pending = Pending::Alternatives {
                 parts: others,
                 base,
                 place,
                 items,
                 far,
-            },
-        ),
+            };
+            Move::Asks(Question::OfGroup {
+                group: *part,
+                base,
+                place,
+                items,
+            })
+        }
     }
 }
 
@@ -189,9 +190,8 @@ fn one_less(most: Most) -> Most
 }
 
 // Another round of a repetition, unless there were as many as may be.
-pub(crate) fn another_round<'t, 'i>(rounds: Rounds<'i>) -> Move<'t, 'i>
-    ensures asks { move_view result ≡ rounds_move rounds.entry }
-    ensures turns { goes_on result ≡ false }
+fn another_round<'t, 'i>(rounds: Rounds<'i>, pending: &mut Pending<'t, 'i>) -> Move<'t, 'i>
+    ensures { move_view result (pending_view pending.new) ≡ rounds_move rounds.entry }
 {
     let Rounds {
         group,
@@ -207,50 +207,56 @@ pub(crate) fn another_round<'t, 'i>(rounds: Rounds<'i>) -> Move<'t, 'i>
             far: rounds.far,
         });
     }
-    Move::Asks(
-        Question::OfGroup {
-            group,
-            base,
-            place,
-            items,
-        },
-        Pending::Repeat(rounds),
-    )
+    *pending = Pending::Repeat(rounds);
+    Move::Asks(Question::OfGroup {
+        group,
+        base,
+        place,
+        items,
+    })
 }
 
 // An array asks its group of all of its items, the first of them at the place after its own.
 #[tactic(auto, using(crate::proofs::Lists::members_of_values, crate::proofs::Lists::members_of_array))]
-fn array_move<'t, 'i>(group: GroupId, place: usize, subject: Subject<'i>) -> Move<'t, 'i>
-    ensures { move_view result ≡ array_move group place (members_in (subject_view subject.entry)) }
+fn array_move<'t, 'i>(
+    group: GroupId,
+    place: usize,
+    subject: Subject<'i>,
+    pending: &mut Pending<'t, 'i>,
+) -> Move<'t, 'i>
+    ensures { move_view result (pending_view pending.new) ≡ array_move group place (members_in (subject_view subject.entry)) }
 {
     match subject {
-        Subject::Item(Item::Array(items)) => Move::Asks(
-            Question::OfGroup {
+        Subject::Item(Item::Array(items)) => {
+            *pending = Pending::Array;
+            Move::Asks(Question::OfGroup {
                 group,
                 base: place,
                 place: plus(place, 1),
                 items,
-            },
-            Pending::Array,
-        ),
+            })
+        }
         _ => Move::Answered(Reply::Fails { far: place }),
     }
 }
 
 // A tag asks about its content, whose place is after the tag's own.
-fn content_move<'t, 'i>(node: TypeId, place: usize, content: &'i Item) -> Move<'t, 'i>
-    ensures { move_view result ≡ content_move node place (view content.now) true }
+fn content_move<'t, 'i>(
+    node: TypeId,
+    place: usize,
+    content: &'i Item,
+    pending: &mut Pending<'t, 'i>,
+) -> Move<'t, 'i>
+    ensures { move_view result (pending_view pending.new) ≡ content_move node place (view content.now) true }
 {
     let place = plus(place, 1);
     let subject = Subject::Item(content);
-    Move::Asks(
-        Question::OfType {
-            node,
-            place,
-            subject,
-        },
-        Pending::Ref,
-    )
+    *pending = Pending::Ref;
+    Move::Asks(Question::OfType {
+        node,
+        place,
+        subject,
+    })
 }
 
 // A tag asks about its content if its number is meant, and else fails.
@@ -259,11 +265,12 @@ fn content_move_if<'t, 'i>(
     node: TypeId,
     place: usize,
     content: &'i Item,
+    pending: &mut Pending<'t, 'i>,
 ) -> Move<'t, 'i>
-    ensures { move_view result ≡ content_move node place (view content.now) is_meant }
+    ensures { move_view result (pending_view pending.new) ≡ content_move node place (view content.now) is_meant }
 {
     if is_meant {
-        return content_move(node, place, content);
+        return content_move(node, place, content, pending);
     }
     Move::Answered(Reply::Fails { far: place })
 }
@@ -274,93 +281,110 @@ fn tag_move<'t, 'i>(
     node: TypeId,
     place: usize,
     subject: Subject<'i>,
+    pending: &mut Pending<'t, 'i>,
 ) -> Move<'t, 'i>
-    ensures { move_view result ≡ tag_move (tag_number_view number) node place (tag_in (subject_view subject.entry)) }
+    ensures { move_view result (pending_view pending.new) ≡ tag_move (tag_number_view number) node place (tag_in (subject_view subject.entry)) }
 {
     let (found, content) = match subject {
         Subject::Item(Item::Tag(found, content)) => (*found, content),
         _ => return Move::Answered(Reply::Fails { far: place }),
     };
     match number {
-        TagNumber::Any => return content_move(node, place, content),
-        TagNumber::Exactly(wanted) => return content_move_if(wanted == found, node, place, content),
+        TagNumber::Any => return content_move(node, place, content, pending),
+        TagNumber::Exactly(wanted) => {
+            return content_move_if(wanted == found, node, place, content, pending)
+        }
         TagNumber::SuchAs(head) => {
-            return Move::Asks(
-                Question::OfType {
-                    node: head,
-                    place,
-                    subject: Subject::Number(found),
-                },
-                Pending::Head {
-                    node,
-                    place,
-                    content,
-                },
-            )
+            *pending = Pending::Head {
+                node,
+                place,
+                content,
+            };
+            return Move::Asks(Question::OfType {
+                node: head,
+                place,
+                subject: Subject::Number(found),
+            });
         }
     }
 }
 
 // A simple value asks about its number, which has the value's own place.
-fn simple_move<'t, 'i>(node: TypeId, place: usize, subject: Subject<'i>) -> Move<'t, 'i>
-    ensures { move_view result ≡ simple_move node place (simple_in (subject_view subject.entry)) }
+fn simple_move<'t, 'i>(
+    node: TypeId,
+    place: usize,
+    subject: Subject<'i>,
+    pending: &mut Pending<'t, 'i>,
+) -> Move<'t, 'i>
+    ensures { move_view result (pending_view pending.new) ≡ simple_move node place (simple_in (subject_view subject.entry)) }
 {
     match subject {
-        Subject::Item(Item::Simple(number)) => Move::Asks(
-            Question::OfType {
+        Subject::Item(Item::Simple(number)) => {
+            *pending = Pending::Simple { place };
+            Move::Asks(Question::OfType {
                 node,
                 place,
                 subject: Subject::Number(u64::from(*number)),
-            },
-            Pending::Simple { place },
-        ),
+            })
+        }
         _ => Move::Answered(Reply::Fails { far: place }),
     }
 }
 
 // What a type asks first, or its reply.
-fn type_move<'t, 'i>(node: &'t Node, place: usize, subject: Subject<'i>) -> Move<'t, 'i>
-    ensures { move_view result ≡ type_move (type_view node.now) place (subject_view subject.entry) }
+fn type_move<'t, 'i>(
+    node: &'t Node,
+    place: usize,
+    subject: Subject<'i>,
+    pending: &mut Pending<'t, 'i>,
+) -> Move<'t, 'i>
+    ensures { move_view result (pending_view pending.new) ≡ type_move (type_view node.now) place (subject_view subject.entry) }
 {
     match node {
         Node::Plain(test) => {
             return Move::Answered(said_reply(place, subject, passes_test(test, subject)))
         }
-        Node::Ref(to) => return Move::Asks(
-            Question::OfType {
+        Node::Ref(to) => {
+            *pending = Pending::Ref;
+            return Move::Asks(Question::OfType {
                 node: *to,
                 place,
                 subject,
-            },
-            Pending::Ref,
-        ),
-        Node::Choice(members) => return next_member(members, place, subject, place),
-        Node::ArrayOf(group) => return array_move(*group, place, subject),
-        Node::TagOf(number, content) => return tag_move(*number, *content, place, subject),
-        Node::SimpleBy(head) => return simple_move(*head, place, subject),
-        Node::MapOf(alternatives) => return map_move(alternatives, place, subject),
-        Node::Both(left, right) => return both_move(*left, *right, place, subject),
-        Node::Such(of, test) => return such_move(*of, test, place, subject),
+            });
+        }
+        Node::Choice(members) => return next_member(members, place, subject, place, pending),
+        Node::ArrayOf(group) => return array_move(*group, place, subject, pending),
+        Node::TagOf(number, content) => return tag_move(*number, *content, place, subject, pending),
+        Node::SimpleBy(head) => return simple_move(*head, place, subject, pending),
+        Node::MapOf(alternatives) => return map_move(alternatives, place, subject, pending),
+        Node::Both(left, right) => return both_move(*left, *right, place, subject, pending),
+        Node::Such(of, test) => return such_move(*of, test, place, subject, pending),
         Node::Holding(of, content, node) => {
-            return holding_move(*of, *content, *node, place, subject)
+            return holding_move(*of, *content, *node, place, subject, pending)
         }
     }
 }
 
 // An entry asks about the first item. Where there is none, it fails at the array.
-fn entry_move<'t, 'i>(node: TypeId, base: usize, place: usize, items: &'i [Item]) -> Move<'t, 'i>
-    ensures { move_view result ≡ entry_move node base place (values items.now) }
+fn entry_move<'t, 'i>(
+    node: TypeId,
+    base: usize,
+    place: usize,
+    items: &'i [Item],
+    pending: &mut Pending<'t, 'i>,
+) -> Move<'t, 'i>
+    ensures { move_view result (pending_view pending.new) ≡ entry_move node base place (values items.now) }
 {
     match items {
         [] => Move::Answered(Reply::Fails { far: base }),
-        [item, rest @ ..] => Move::Asks(
-            Question::OfType {
+        [item, rest @ ..] => {
+            *pending = Pending::Entry { base, rest };
+            Move::Asks(Question::OfType {
                 node,
                 place,
                 subject: Subject::Item(item),
-            },
-            Pending::Entry { base, rest },
-        ),
+            })
+        }
     }
 }
 
@@ -370,34 +394,36 @@ fn group_move<'t, 'i>(
     base: usize,
     place: usize,
     items: &'i [Item],
+    pending: &mut Pending<'t, 'i>,
 ) -> Move<'t, 'i>
-    ensures { move_view result ≡ group_move (group_view group.now) base place (values items.now) }
+    ensures { move_view result (pending_view pending.new) ≡ group_move (group_view group.now) base place (values items.now) }
 {
     match group {
-        Group::Entry(node) => return entry_move(*node, base, place, items),
+        Group::Entry(node) => return entry_move(*node, base, place, items, pending),
         Group::Ref(to) => {
-            return Move::Asks(
-                Question::OfGroup {
-                    group: *to,
-                    base,
-                    place,
-                    items,
-                },
-                Pending::Ref,
-            )
+            *pending = Pending::Ref;
+            return Move::Asks(Question::OfGroup {
+                group: *to,
+                base,
+                place,
+                items,
+            });
         }
         Group::Sequence(parts) => {
-            return Move::GoesOn(Parts {
+            let parts = Parts {
                 parts,
                 base,
                 place,
                 items,
                 far: base,
-            })
+            };
+            return another_part(parts, pending);
         }
-        Group::Alternatives(parts) => return next_alternative(parts, base, place, items, base),
+        Group::Alternatives(parts) => {
+            return next_alternative(parts, base, place, items, base, pending)
+        }
         Group::Repeat { least, most, group } => {
-            return Move::Repeats(Rounds {
+            let rounds = Rounds {
                 least: *least,
                 most: *most,
                 group: *group,
@@ -405,7 +431,8 @@ fn group_move<'t, 'i>(
                 place,
                 items,
                 far: base,
-            })
+            };
+            return another_round(rounds, pending);
         }
     }
 }
@@ -416,11 +443,12 @@ pub(crate) fn first_of_type<'t, 'i>(
     node: TypeId,
     place: usize,
     subject: Subject<'i>,
+    pending: &mut Pending<'t, 'i>,
 ) -> Move<'t, 'i>
-    ensures { move_view result ≡ first_move (language_of table.now) (OfType node place (subject_view subject.entry)) }
+    ensures { move_view result (pending_view pending.new) ≡ first_move (language_of table.now) (OfType node place (subject_view subject.entry)) }
 {
     match table.node(node) {
-        Some(node) => type_move(node, place, subject),
+        Some(node) => type_move(node, place, subject, pending),
         None => Move::Answered(Reply::Fails { far: place }),
     }
 }
@@ -432,11 +460,12 @@ pub(crate) fn first_of_group<'t, 'i>(
     base: usize,
     place: usize,
     items: &'i [Item],
+    pending: &mut Pending<'t, 'i>,
 ) -> Move<'t, 'i>
-    ensures { move_view result ≡ first_move (language_of table.now) (OfGroup group base place (values items.now)) }
+    ensures { move_view result (pending_view pending.new) ≡ first_move (language_of table.now) (OfGroup group base place (values items.now)) }
 {
     match table.group(group) {
-        Some(group) => group_move(group, base, place, items),
+        Some(group) => group_move(group, base, place, items, pending),
         None => Move::Answered(Reply::Fails { far: base }),
     }
 }
@@ -464,8 +493,9 @@ fn next_in_choice<'t, 'i>(
     subject: Subject<'i>,
     far: usize,
     reply: Reply<'i>,
+    pending: &mut Pending<'t, 'i>,
 ) -> Move<'t, 'i>
-    ensures { move_view result ≡ next_move (InChoice members.now place (subject_view subject.entry) far) (reply_view reply.entry) }
+    ensures { move_view result (pending_view pending.new) ≡ next_move (InChoice members.now place (subject_view subject.entry) far) (reply_view reply.entry) }
 {
     match reply {
         Reply::Takes { next, .. } => Move::Answered(Reply::Takes {
@@ -473,7 +503,13 @@ fn next_in_choice<'t, 'i>(
             next,
             far: 0,
         }),
-        Reply::Fails { far: later } => next_member(members, place, subject, far.max(later)),
+        Reply::Fails { far: later } => next_member(
+            members,
+            place,
+            subject,
+            far.max(later),
+            pending,
+        ),
     }
 }
 
@@ -483,26 +519,27 @@ fn next_in_head<'t, 'i>(
     place: usize,
     content: &'i Item,
     reply: Reply<'i>,
+    pending: &mut Pending<'t, 'i>,
 ) -> Move<'t, 'i>
-    ensures { move_view result ≡ next_move (InHead node place (view content.now)) (reply_view reply.entry) }
+    ensures { move_view result (pending_view pending.new) ≡ next_move (InHead node place (view content.now)) (reply_view reply.entry) }
 {
     match reply {
-        Reply::Takes { .. } => return content_move(node, place, content),
+        Reply::Takes { .. } => return content_move(node, place, content, pending),
         Reply::Fails { .. } => return Move::Answered(Reply::Fails { far: place }),
     }
 }
 
 // The number of a simple value is known to be meant, or not.
-fn next_in_simple<'t, 'i>(place: usize, reply: Reply<'i>) -> Move<'t, 'i>
-    ensures { move_view result ≡ next_move (InSimple place) (reply_view reply.entry) }
+fn simple_reply<'i>(place: usize, reply: Reply<'_>) -> Reply<'i>
+    ensures { M.Answered (reply_view result) ≡ next_move {N = TypeId} {G = GroupId} (InSimple place) (reply_view reply.entry) }
 {
     match reply {
-        Reply::Takes { .. } => Move::Answered(Reply::Takes {
+        Reply::Takes { .. } => Reply::Takes {
             left: &[],
             next: plus(place, 1),
             far: 0,
-        }),
-        Reply::Fails { .. } => Move::Answered(Reply::Fails { far: place }),
+        },
+        Reply::Fails { .. } => Reply::Fails { far: place },
     }
 }
 
@@ -524,29 +561,30 @@ pub(crate) fn entry_reply<'i>(base: usize, rest: &'i [Item], reply: Reply<'i>) -
 }
 
 // A group of a sequence has taken items, or failed: nothing is given back, so the sequence fails with it.
-pub(crate) fn next_in_sequence<'t, 'i>(
+fn next_in_sequence<'t, 'i>(
     parts: &'t [GroupId],
     base: usize,
     far: usize,
     reply: Reply<'i>,
+    pending: &mut Pending<'t, 'i>,
 ) -> Move<'t, 'i>
-    ensures next { move_view result ≡ next_move (InSequence parts.now base far) (reply_view reply.entry) }
-    ensures parts { (left : Parts) → result ≡ Move.GoesOn left → left.parts.now ≡ parts.now }
-    ensures kind { (rounds : Rounds) → result ≡ Move.Repeats rounds → ⊥ }
-    ensures reads { (reading : Reading) → result ≡ Move.Reads reading → ⊥ }
+    ensures { move_view result (pending_view pending.new) ≡ next_move (InSequence parts.now base far) (reply_view reply.entry) }
 {
     match reply {
         Reply::Takes {
             left,
             next,
             far: later,
-        } => Move::GoesOn(Parts {
-            parts,
-            base,
-            place: next,
-            items: left,
-            far: far.max(later),
-        }),
+        } => {
+            let others = Parts {
+                parts,
+                base,
+                place: next,
+                items: left,
+                far: far.max(later),
+            };
+            another_part(others, pending)
+        }
         Reply::Fails { far: later } => Move::Answered(Reply::Fails {
             far: far.max(later),
         }),
@@ -561,8 +599,9 @@ fn next_in_alternatives<'t, 'i>(
     items: &'i [Item],
     far: usize,
     reply: Reply<'i>,
+    pending: &mut Pending<'t, 'i>,
 ) -> Move<'t, 'i>
-    ensures { move_view result ≡ next_move (InAlternatives parts.now base place (values items.now) far) (reply_view reply.entry) }
+    ensures { move_view result (pending_view pending.new) ≡ next_move (InAlternatives parts.now base place (values items.now) far) (reply_view reply.entry) }
 {
     match reply {
         Reply::Takes {
@@ -574,7 +613,9 @@ fn next_in_alternatives<'t, 'i>(
             next,
             far: far.max(later),
         }),
-        Reply::Fails { far: later } => next_alternative(parts, base, place, items, far.max(later)),
+        Reply::Fails { far: later } => {
+            next_alternative(parts, base, place, items, far.max(later), pending)
+        }
     }
 }
 
@@ -625,70 +666,76 @@ pub(crate) fn after_round<'i>(rounds: Rounds<'i>, reply: Reply<'i>) -> Round<'i>
 }
 
 // What a repetition asks next after a round, or its reply.
-fn next_in_repeat<'t, 'i>(rounds: Rounds<'i>, reply: Reply<'i>) -> Move<'t, 'i>
-    ensures { move_view result ≡ next_move (pending_view (P.Repeat rounds.entry)) (reply_view reply.entry) }
+fn next_in_repeat<'t, 'i>(
+    rounds: Rounds<'i>,
+    reply: Reply<'i>,
+    pending: &mut Pending<'t, 'i>,
+) -> Move<'t, 'i>
+    ensures { move_view result (pending_view pending.new) ≡ next_move (pending_view (P.Repeat rounds.entry)) (reply_view reply.entry) }
 {
     match after_round(rounds, reply) {
-        Round::Another(others) => Move::Repeats(others),
+        Round::Another(others) => another_round(others, pending),
         Round::Over(reply) => Move::Answered(reply),
     }
 }
 
-// What a pending question asks next, or its reply, once it is told the reply to what it asked.
-pub(crate) fn next_move<'t, 'i>(pending: Pending<'t, 'i>, reply: Reply<'i>) -> Move<'t, 'i>
-    ensures { move_view result ≡ next_move (pending_view pending.entry) (reply_view reply.entry) }
+// What a question that waits asks next, or its reply, once it is told the reply to what it asked.
+pub(crate) fn next_move<'t, 'i>(pending: &mut Pending<'t, 'i>, reply: Reply<'i>) -> Move<'t, 'i>
+    ensures { move_view result (pending_view pending.new) ≡ next_move (pending_view pending.old) (reply_view reply.entry) }
 {
-    match pending {
+    match mem::replace(pending, Pending::Ref) {
         Pending::Ref => return Move::Answered(reply),
         Pending::Choice {
             members,
             place,
             subject,
             far,
-        } => return next_in_choice(members, place, subject, far, reply),
+        } => return next_in_choice(members, place, subject, far, reply, pending),
         Pending::Array => return Move::Answered(array_reply(reply)),
         Pending::Head {
             node,
             place,
             content,
-        } => return next_in_head(node, place, content, reply),
-        Pending::Simple { place } => return next_in_simple(place, reply),
+        } => return next_in_head(node, place, content, reply, pending),
+        Pending::Simple { place } => return Move::Answered(simple_reply(place, reply)),
         Pending::Entry { base, rest } => return Move::Answered(entry_reply(base, rest, reply)),
-        Pending::Sequence { parts, base, far } => return next_in_sequence(parts, base, far, reply),
+        Pending::Sequence { parts, base, far } => {
+            return next_in_sequence(parts, base, far, reply, pending)
+        }
         Pending::Alternatives {
             parts,
             base,
             place,
             items,
             far,
-        } => return next_in_alternatives(parts, base, place, items, far, reply),
-        Pending::Repeat(rounds) => return next_in_repeat(rounds, reply),
+        } => return next_in_alternatives(parts, base, place, items, far, reply, pending),
+        Pending::Repeat(rounds) => return next_in_repeat(rounds, reply, pending),
         Pending::Map {
             alternatives,
             base,
             pairs,
             sofar,
-        } => return next_in_map(alternatives, base, pairs, sofar, reply),
+        } => return next_in_map(alternatives, base, pairs, sofar, reply, pending),
         Pending::Key {
             entry,
             others,
             sorting,
-        } => return next_in_key(entry, others, sorting, reply),
+        } => return next_in_key(entry, others, sorting, reply, pending),
         Pending::Value {
             entry,
             others,
             sorting,
-        } => return next_in_value(entry, others, sorting, reply),
+        } => return next_in_value(entry, others, sorting, reply, pending),
         Pending::Left {
             node,
             place,
             subject,
-        } => return next_in_left(node, place, subject, reply),
+        } => return next_in_left(node, place, subject, reply, pending),
         Pending::Such {
             test,
             place,
             subject,
-        } => return next_in_such(test, place, subject, reply),
+        } => return Move::Answered(such_reply(test, place, subject, reply)),
         Pending::Holder {
             content,
             node,

@@ -53,6 +53,67 @@ pub(crate) enum Reply<'i> {
     },
 }
 
+impl<'t, 'i> Question<'t, 'i> {
+    ghost use Rattle.std.specs.Prelude.{◌≡◌};
+
+    // The same, read field by field: the whole is slow to copy where it was written just before.
+    #[inline(always)]
+    pub(crate) fn again(&self) -> Question<'t, 'i>
+        ensures { result ≡ self.now }
+    {
+        match self {
+            Question::OfType {
+                node,
+                place,
+                subject,
+            } => Question::OfType {
+                node: *node,
+                place: *place,
+                subject: *subject,
+            },
+            Question::OfGroup {
+                group,
+                base,
+                place,
+                items,
+            } => Question::OfGroup {
+                group: *group,
+                base: *base,
+                place: *place,
+                items: *items,
+            },
+            Question::OfAlternative {
+                entries,
+                base,
+                pairs,
+            } => Question::OfAlternative {
+                entries: *entries,
+                base: *base,
+                pairs: *pairs,
+            },
+        }
+    }
+}
+
+impl<'i> Reply<'i> {
+    ghost use Rattle.std.specs.Prelude.{◌≡◌};
+
+    // The same, read field by field.
+    #[inline(always)]
+    pub(crate) fn again(&self) -> Reply<'i>
+        ensures { result ≡ self.now }
+    {
+        match self {
+            Reply::Takes { left, next, far } => Reply::Takes {
+                left: *left,
+                next: *next,
+                far: *far,
+            },
+            Reply::Fails { far } => Reply::Fails { far: *far },
+        }
+    }
+}
+
 /// What is said of an item, or why nothing is. It is small enough to be returned in registers.
 #[derive(Clone, Copy)]
 pub(crate) enum Said {
@@ -267,16 +328,12 @@ pub(crate) struct Parts<'t, 'i> {
     pub(crate) far: usize,
 }
 
-/// Either the reply, or what is asked first.
+/// What a question comes to: its reply, or what is next before that.
 #[derive(Drop)]
 pub(crate) enum Move<'t, 'i> {
     Answered(Reply<'i>),
-    /// What is asked, and what waits for its reply.
-    Asks(Question<'t, 'i>, Pending<'t, 'i>),
-    /// The group of another round, unless there were as many as may be.
-    Repeats(Rounds<'i>),
-    /// The next group of a sequence, unless there is none.
-    GoesOn(Parts<'t, 'i>),
+    /// What is asked. What waits for its reply stands where the question that asks it waits.
+    Asks(Question<'t, 'i>),
     /// A pair is tried with the entries of its alternative.
     Tries(Sorting<'t, 'i>),
     /// A type is asked of what a byte string holds.

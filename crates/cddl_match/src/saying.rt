@@ -15,12 +15,12 @@ ghost use Rattle.table_nodes.specs.Nodes.{alternatives_view, content_view, entri
 ghost use Rattle.table_nodes.specs.declared.nodes.TypeId.{TypeId};
 
 use crate::behind::{group_behind, type_behind};
-use crate::frames::{group_by_frames, type_by_frames};
+use crate::deeper::{replied_by_turns, type_by_turns};
 use crate::looking::rounds_told;
 use crate::means::Means;
 use crate::moves::{after_round, is_over};
 use crate::places::{place_after, plus};
-use crate::questions::{Fate, Parts, Reply, Round, Rounds, Said, Stop};
+use crate::questions::{Fate, Parts, Question, Reply, Round, Rounds, Said, Stop};
 use crate::reading::held_in;
 use crate::replies::{
     array_said, bytes_of, either_said, entry_done, held_said, items_of, pairs_of, simple_of,
@@ -34,7 +34,7 @@ use cbor_item::Item;
 use table_nodes::{Content, Group, GroupId, MapEntry, Node, Table, TagNumber, TypeId};
 
 // What a type says of an item. Tests are asked where this is called, since most types that are asked in a loop are tests, or
-// names of them. Calls are as deep as this, and what is deeper is left to frames.
+// names of them. Calls are as deep as this, and what is deeper is asked by turns.
 #[inline(always)]
 #[cycle(saying)]
 fn type_says_here<'i>(
@@ -51,7 +51,7 @@ fn type_says_here<'i>(
         return test_says(means, test, place, item);
     }
     if depth == 0 {
-        return type_by_frames(table, means, node, place, item);
+        return type_by_turns(table, means, node, place, item);
     }
     let behind = type_behind(table, node);
     let Some(left) = means.left.checked_sub(u64::from(behind.passed) + 1) else {
@@ -444,7 +444,7 @@ fn entry_does<'i>(
     }
 }
 
-// What a group does with items. Calls are as deep as this, and what is deeper is left to frames.
+// What a group does with items. Calls are as deep as this, and what is deeper is asked by turns.
 #[cycle(saying)]
 fn group_does<'i>(
     table: &Table,
@@ -458,7 +458,13 @@ fn group_does<'i>(
     ensures { Says (language_of table.now) (M.OfGroup group base place (values items.now)) means.old.left means.new.left (done_view result) }
 {
     if depth == 0 {
-        return group_by_frames(table, means, group, base, place, items);
+        let question = Question::OfGroup {
+            group,
+            base,
+            place,
+            items,
+        };
+        return replied_by_turns(table, means, question);
     }
     let (behind, passed) = group_behind(table, group);
     let Some(left) = means.left.checked_sub(u64::from(passed) + 1) else {

@@ -29,8 +29,9 @@ ghost use Rattle.cddl_meaning.specs.Moves.{
   tally_says,
 };
 ghost use Rattle.cddl_match.specs.Tellings.{counted_again};
-ghost use Rattle.cddl_match.specs.Views.{counts_view, fate_view, move_view, reply_view, sorting_view, subject_view, tally_view};
-ghost use Rattle.table_nodes.specs.Language.{language_of};
+ghost use Rattle.cddl_match.specs.Views.{counts_view, fate_view, move_view, pending_view, reply_view, sorting_view, subject_view, tally_view};
+ghost use Rattle.table_nodes.specs.declared.nodes.GroupId.{GroupId};
+ghost use Rattle.table_nodes.specs.declared.nodes.TypeId.{TypeId};
 ghost use Rattle.table_nodes.specs.Nodes.{alternatives_view, entries_view, entry_view, most_view};
 
 use crate::counts::Counts;
@@ -212,7 +213,7 @@ fn next_pair<'t, 'i>(
     pairs: &'i [(Item, Item)],
     tally: Box<Tally>,
 ) -> Move<'t, 'i>
-    ensures { move_view result ≡ next_pair (entries_view entries.now) base place (pairs_view pairs.now) (tally_view tally.value) }
+    ensures { (o : M.Pending TypeId GroupId) → move_view result o ≡ next_pair (entries_view entries.now) base place (pairs_view pairs.now) (tally_view tally.value) }
 {
     match pairs {
         [] => Move::Answered(alternative_reply(entries, base, place, &tally)),
@@ -238,22 +239,22 @@ pub(crate) fn alternative_move<'t, 'i>(
     base: usize,
     pairs: &'i [(Item, Item)],
 ) -> Result<Move<'t, 'i>, AllocError>
-    ensures { IfOk result (λ m. move_view m ≡ next_pair (entries_view entries.now) base (plus base 1) (pairs_view pairs.now) (fresh (entries_view entries.now))) }
+    ensures { IfOk result (λ m. (o : M.Pending TypeId GroupId) → move_view m o ≡ next_pair (entries_view entries.now) base (plus base 1) (pairs_view pairs.now) (fresh (entries_view entries.now))) }
 {
     let tally = Box::new(alloc, empty_tally(alloc, entries)?)?;
     Ok(next_pair(entries, base, plus(base, 1), pairs, tally))
 }
 
 // The place of the pair's value.
-pub(crate) fn value_place(sorting: &Sorting<'_, '_>) -> usize
+fn value_place(sorting: &Sorting<'_, '_>) -> usize
     ensures { result ≡ (sorting_view sorting.now).value_place }
 {
     place_after(&sorting.pair.0, sorting.place)
 }
 
 // It is known what becomes of the pair, and the next one is sorted.
-pub(crate) fn sorted<'t, 'i>(sorting: Sorting<'t, 'i>, fate: Fate) -> Move<'t, 'i>
-    ensures { move_view result ≡ sorted (sorting_view sorting.entry) (fate_view fate) }
+fn sorted<'t, 'i>(sorting: Sorting<'t, 'i>, fate: Fate) -> Move<'t, 'i>
+    ensures { (o : M.Pending TypeId GroupId) → move_view result o ≡ sorted (sorting_view sorting.entry) (fate_view fate) }
 {
     let place = place_after(&sorting.pair.1, value_place(&sorting));
     let Sorting {
@@ -268,24 +269,29 @@ pub(crate) fn sorted<'t, 'i>(sorting: Sorting<'t, 'i>, fate: Fate) -> Move<'t, '
 }
 
 // The pair is tried with the next of these entries.
-pub(crate) fn next_entry<'t, 'i>(entries: &'t [MapEntry], sorting: Sorting<'t, 'i>) -> Move<'t, 'i>
-    ensures { move_view result ≡ next_entry (entries_view entries.now) (sorting_view sorting.entry) }
+pub(crate) fn next_entry<'t, 'i>(
+    entries: &'t [MapEntry],
+    sorting: Sorting<'t, 'i>,
+    pending: &mut Pending<'t, 'i>,
+) -> Move<'t, 'i>
+    ensures { move_view result (pending_view pending.new) ≡ next_entry (entries_view entries.now) (sorting_view sorting.entry) }
 {
     let place = sorting.place;
     match entries {
         [] => sorted(sorting, Fate::Stray { place }),
-        [entry, others @ ..] => Move::Asks(
-            Question::OfType {
-                node: entry.key_type,
-                place,
-                subject: Subject::Item(&sorting.pair.0),
-            },
-            Pending::Key {
+        [entry, others @ ..] => {
+            let pair = sorting.pair;
+            *pending = Pending::Key {
                 entry,
                 others,
                 sorting,
-            },
-        ),
+            };
+            Move::Asks(Question::OfType {
+                node: entry.key_type,
+                place,
+                subject: Subject::Item(&pair.0),
+            })
+        }
     }
 }
 
@@ -295,23 +301,26 @@ pub(crate) fn next_in_key<'t, 'i>(
     others: &'t [MapEntry],
     sorting: Sorting<'t, 'i>,
     reply: Reply<'i>,
+    pending: &mut Pending<'t, 'i>,
 ) -> Move<'t, 'i>
-    ensures { move_view result ≡ next_move (InKey (entry_view entry.now) (entries_view others.now) (sorting_view sorting.entry)) (reply_view reply.entry) }
+    ensures { move_view result (pending_view pending.new) ≡ next_move (InKey (entry_view entry.now) (entries_view others.now) (sorting_view sorting.entry)) (reply_view reply.entry) }
 {
     match reply {
-        Reply::Takes { .. } => Move::Asks(
-            Question::OfType {
-                node: entry.value_type,
-                place: value_place(&sorting),
-                subject: Subject::Item(&sorting.pair.1),
-            },
-            Pending::Value {
+        Reply::Takes { .. } => {
+            let place = value_place(&sorting);
+            let pair = sorting.pair;
+            *pending = Pending::Value {
                 entry,
                 others,
                 sorting,
-            },
-        ),
-        Reply::Fails { .. } => next_entry(others, sorting),
+            };
+            Move::Asks(Question::OfType {
+                node: entry.value_type,
+                place,
+                subject: Subject::Item(&pair.1),
+            })
+        }
+        Reply::Fails { .. } => next_entry(others, sorting, pending),
     }
 }
 
@@ -321,14 +330,15 @@ pub(crate) fn next_in_value<'t, 'i>(
     others: &'t [MapEntry],
     sorting: Sorting<'t, 'i>,
     reply: Reply<'i>,
+    pending: &mut Pending<'t, 'i>,
 ) -> Move<'t, 'i>
-    ensures { move_view result ≡ next_move (InValue (entry_view entry.now) (entries_view others.now) (sorting_view sorting.entry)) (reply_view reply.entry) }
+    ensures { move_view result (pending_view pending.new) ≡ next_move (InValue (entry_view entry.now) (entries_view others.now) (sorting_view sorting.entry)) (reply_view reply.entry) }
 {
     let after = others.len();
     match reply {
         Reply::Takes { .. } => sorted(sorting, Fate::Matches { after }),
         Reply::Fails { far } if entry.cuts => sorted(sorting, Fate::Fails { after, far }),
-        Reply::Fails { .. } => next_entry(others, sorting),
+        Reply::Fails { .. } => next_entry(others, sorting, pending),
     }
 }
 
@@ -338,24 +348,25 @@ fn next_way<'t, 'i>(
     base: usize,
     pairs: &'i [(Item, Item)],
     sofar: Reply<'i>,
+    pending: &mut Pending<'t, 'i>,
 ) -> Move<'t, 'i>
-    ensures { move_view result ≡ next_way (alternatives_view alternatives.now) base (pairs_view pairs.now) (reply_view sofar.entry) }
+    ensures { move_view result (pending_view pending.new) ≡ next_way (alternatives_view alternatives.now) base (pairs_view pairs.now) (reply_view sofar.entry) }
 {
     match alternatives {
         [] => Move::Answered(sofar),
-        [entries, alternatives @ ..] => Move::Asks(
-            Question::OfAlternative {
-                entries,
-                base,
-                pairs,
-            },
-            Pending::Map {
+        [entries, alternatives @ ..] => {
+            *pending = Pending::Map {
                 alternatives,
                 base,
                 pairs,
                 sofar,
-            },
-        ),
+            };
+            Move::Asks(Question::OfAlternative {
+                entries,
+                base,
+                pairs,
+            })
+        }
     }
 }
 
@@ -365,12 +376,13 @@ pub(crate) fn map_move<'t, 'i>(
     alternatives: &'t [Vec<MapEntry>],
     place: usize,
     subject: Subject<'i>,
+    pending: &mut Pending<'t, 'i>,
 ) -> Move<'t, 'i>
-    ensures { move_view result ≡ map_move (alternatives_view alternatives.now) place (pairs_in (subject_view subject.entry)) }
+    ensures { move_view result (pending_view pending.new) ≡ map_move (alternatives_view alternatives.now) place (pairs_in (subject_view subject.entry)) }
 {
     let no = Reply::Fails { far: place };
     match subject {
-        Subject::Item(Item::Map(pairs)) => next_way(alternatives, place, pairs, no),
+        Subject::Item(Item::Map(pairs)) => next_way(alternatives, place, pairs, no, pending),
         _ => Move::Answered(no),
     }
 }
@@ -395,8 +407,15 @@ pub(crate) fn next_in_map<'t, 'i>(
     pairs: &'i [(Item, Item)],
     sofar: Reply<'i>,
     reply: Reply<'i>,
+    pending: &mut Pending<'t, 'i>,
 ) -> Move<'t, 'i>
-    ensures { move_view result ≡ next_move (M.InMap (alternatives_view alternatives.now) base (pairs_view pairs.now) (reply_view sofar.entry)) (reply_view reply.entry) }
+    ensures { move_view result (pending_view pending.new) ≡ next_move (M.InMap (alternatives_view alternatives.now) base (pairs_view pairs.now) (reply_view sofar.entry)) (reply_view reply.entry) }
 {
-    next_way(alternatives, base, pairs, either_reply(sofar, reply))
+    next_way(
+        alternatives,
+        base,
+        pairs,
+        either_reply(sofar, reply),
+        pending,
+    )
 }

@@ -1,35 +1,45 @@
 //! What a machine keeps while it asks: the questions that wait, each with what it waits for, and its next move.
 
-ghost use Rattle.std.specs.Prelude.{◌≡◌, ◌⊎◌, ◌+◌, ◌<◌, ◌≤◌, ℕ, List, [], None, Ok, false, true, IfOk, OnErr, IfSome, vec_capacity, vec_len};
+ghost use Rattle.std.specs.Prelude.{◌≡◌, ◌⊎◌, ◌<◌, ◌≤◌, ℕ, [], true, IfOk, OnErr, MatchOption, vec_capacity, vec_len};
+ghost use Rattle.cbor_data.specs.Value.{Value};
+ghost use Rattle.item_nodes.specs.View.{view};
 ghost use Rattle.cddl_meaning.specs.Forms.{Language};
+ghost use Rattle.cddl_meaning.specs.Held.{Holds};
 ghost use Rattle.cddl_meaning.specs.Moves as M;
-ghost use Rattle.cddl_match.specs.Machine.{Finds, FindsAt, Goes, GoesFrom, IsAt, IsKept, NeedsMore, asked_in, is_alternative};
-ghost use Rattle.cddl_match.specs.Views.{goes_on, move_view, pending_view, question_view, reading_move, reply_view, sorting_view};
-ghost use Rattle.cddl_match.specs.declared.questions.Reading as R;
+ghost use Rattle.cddl_match.specs.Machine.{Finds, FindsAt, Goes, GoesFrom, IsKept, NeedsMore, asked_in, asks_in, found_in, is_alternative, next_in};
+ghost use Rattle.cddl_match.specs.Views.{move_view, pending_view, question_view, reading_move, reply_view, sorting_view};
+ghost use Rattle.cddl_match.specs.declared.questions.Reply as R;
+ghost use Rattle.cddl_match.specs.declared.questions.Sorting as C;
 ghost use Rattle.table_nodes.specs.Language.{language_of};
+ghost use Rattle.table_nodes.specs.Nodes.{content_view};
 ghost use Rattle.table_nodes.specs.declared.nodes.GroupId.{GroupId};
 ghost use Rattle.table_nodes.specs.declared.nodes.TypeId.{TypeId};
 
-use crate::moves::{another_part, another_round, first_of_group, first_of_type, next_move};
-use crate::questions::{Move, Pending, Question, Reading, Reply, Sorting, Subject};
+use crate::moves::{first_of_group, first_of_type, next_move};
+use crate::questions::{Move, Pending, Question, Reading, Reply, Subject};
 use crate::reading::held_in;
 use crate::shelf::Shelf;
 use crate::sorting::{alternative_move, next_entry};
+use cbor_item::Item;
 use history::History;
 use std::alloc::{AllocError, Global};
 use std::mem;
 use table_nodes::Table;
 
-/// What a run ends with.
+/// How a turn ends. It is small, and a reply is left where the next move stands.
 #[derive(Clone, Copy)]
-pub(crate) enum Found<'i> {
-    /// The reply to its first question.
-    Replied(Reply<'i>),
+pub(crate) enum Turned {
+    /// The run goes on.
+    GoesOn,
+    /// The first question has its reply, which is the next move.
+    Replied,
     /// The reply takes more steps.
     Spent,
+    /// There is no memory for it.
+    NoMemory,
 }
 
-/// What waits for the reply to an open question. Contracts see the question too.
+/// An open question, which contracts alone see, and how it waits for the reply to what it has asked.
 #[derive(Drop)]
 pub(crate) struct Waiting<'t, 'i> {
     pub(crate) asked: History<Question<'t, 'i>>,
@@ -49,75 +59,26 @@ impl<'t, 'i> Waiting<'t, 'i> {
     ghost use Rattle.cddl_match.specs.Machine.{noted};
     ghost use Rattle.cddl_match.specs.Views.{question_view};
 
-    // What waits for the reply to this question.
-    fn new(question: &Question<'t, 'i>, pending: Pending<'t, 'i>) -> Waiting<'t, 'i>
-        ensures asked { noted result.asked ≡ question_view question.now }
-        ensures pending { result.pending ≡ pending.entry }
+    // The question, which has asked nothing yet.
+    #[inline]
+    fn new(question: &Question<'t, 'i>) -> Waiting<'t, 'i>
+        ensures { noted result.asked ≡ question_view question.now }
     {
         Waiting {
             asked: History::new().with(question),
-            pending,
+            pending: Pending::Ref,
         }
     }
 }
 
-// What a byte string holds is asked about, if it holds something.
-fn read_next<'t, 'i>(
-    shelf: &mut Shelf<'i>,
-    reading: Reading<'i>,
-) -> Result<Move<'t, 'i>, AllocError>
-    ensures at { IfOk result (λ next. (l : Language TypeId GroupId) (first : M.Question TypeId GroupId) (taken : ℕ) (qs : List (M.Question TypeId GroupId)) (os : List (M.Pending TypeId GroupId)) → IsAt l first taken qs os (reading_move reading.entry) → IsAt l first taken qs os (move_view next)) }
-    ensures settled { IfOk result (λ next. goes_on next ≡ false) }
-{
-    let Reading {
-        node,
-        place,
-        next,
-        ..
-    } = reading;
-    let Some(item) = held_in(shelf.alloc, reading.content, reading.bytes)? else {
-        return Ok(Move::Answered(Reply::Fails { far: place }));
-    };
-    let item = shelf.keep(item)?;
-    Ok(Move::Asks(
-        Question::OfType {
-            node,
-            place: 0,
-            subject: Subject::Item(item),
-        },
-        Pending::Held { place, next },
-    ))
-}
-
-// The next move, where rounds and sequences ask for the next of their groups, and a byte string is read.
-//
-// # Errors
-//
-// `AllocError` where there is no memory for what the byte string holds.
-fn settled<'t, 'i>(shelf: &mut Shelf<'i>, next: Move<'t, 'i>) -> Result<Move<'t, 'i>, AllocError>
-    ensures at { IfOk result (λ it. (l : Language TypeId GroupId) (first : M.Question TypeId GroupId) (taken : ℕ) (qs : List (M.Question TypeId GroupId)) (os : List (M.Pending TypeId GroupId)) → IsAt l first taken qs os (move_view next.entry) → IsAt l first taken qs os (move_view it)) }
-    ensures settled { IfOk result (λ it. goes_on it ≡ false) }
-    ensures memory { OnErr result ((reading : R.Reading) × (next.entry ≡ Move.Reads reading)) }
-{
-    match next {
-        Move::Repeats(rounds) => return Ok(another_round(rounds)),
-        Move::GoesOn(parts) => return Ok(another_part(parts)),
-        Move::Reads(reading) => return read_next(shelf, reading),
-        Move::Answered(_) | Move::Asks(..) | Move::Tries(_) => return Ok(next),
-    }
-}
-
 // What a question asks first, or its reply.
-//
-// # Errors
-//
-// `AllocError` where there is no memory for the tally of an alternative.
 fn first_of<'t, 'i>(
     alloc: Global,
     table: &'t Table,
     question: Question<'t, 'i>,
+    pending: &mut Pending<'t, 'i>,
 ) -> Result<Move<'t, 'i>, AllocError>
-    ensures first { IfOk result (λ next. move_view next ≡ M.first_move (language_of table.now) (question_view question.entry)) }
+    ensures first { IfOk result (λ next. move_view next (pending_view pending.new) ≡ M.first_move (language_of table.now) (question_view question.entry)) }
     ensures memory { OnErr result (is_alternative (question_view question.entry) ≡ true) }
 {
     match question {
@@ -125,13 +86,13 @@ fn first_of<'t, 'i>(
             node,
             place,
             subject,
-        } => Ok(first_of_type(table, node, place, subject)),
+        } => Ok(first_of_type(table, node, place, subject, pending)),
         Question::OfGroup {
             group,
             base,
             place,
             items,
-        } => Ok(first_of_group(table, group, base, place, items)),
+        } => Ok(first_of_group(table, group, base, place, items, pending)),
         Question::OfAlternative {
             entries,
             base,
@@ -142,128 +103,203 @@ fn first_of<'t, 'i>(
 
 // A step that the pair that is tried takes for one of the entries of its alternative.
 #[inline]
-fn take_owed<'i>(run: &mut Run<'_, '_>, steps: u64) -> Option<Found<'i>>
+fn take_owed(run: &mut Run<'_, '_>, steps: u64) -> Turned
     requires owed { 0 < run.old.owed }
-    ensures goes { result ≡ None → (l : Language TypeId GroupId) → Goes l steps run.old run.new }
-    ensures finds { (l : Language TypeId GroupId) → IfSome result (Finds l steps run.old) }
-    ensures kept { IfSome result (λ _. IsKept run.old run.new) }
+    ensures goes { result ≡ Turned.GoesOn → (l : Language TypeId GroupId) → Goes l steps run.old run.new }
+    ensures finds { (l : Language TypeId GroupId) → Finds l steps run.old (found_in result run.new.next) }
+    ensures kind { (result ≡ Turned.Replied → ⊥) × (result ≡ Turned.NoMemory → ⊥) }
+    ensures kept { (result ≡ Turned.GoesOn → ⊥) → IsKept run.old run.new }
     ensures capacity { vec_capacity run.new.waiting ≡ vec_capacity run.old.waiting }
 {
     if run.taken >= steps {
-        return Some(Found::Spent);
+        return Turned::Spent;
     }
     run.taken += 1;
     run.owed -= 1;
-    None
+    Turned::GoesOn
 }
 
 // A pair is tried: a step, and one more is owed for each entry of its alternative.
-fn try_pair<'t, 'i>(
-    run: &mut Run<'t, 'i>,
-    sorting: Sorting<'t, 'i>,
-    steps: u64,
-) -> Option<Found<'i>>
-    ensures goes { result ≡ None → (l : Language TypeId GroupId) → GoesFrom l steps run.old (M.Tries (sorting_view sorting.entry)) run.new }
-    ensures finds { (l : Language TypeId GroupId) → IfSome result (FindsAt l steps run.old (M.Tries (sorting_view sorting.entry))) }
-    ensures kept { IfSome result (λ _. IsKept run.old run.new) }
+#[inline(never)]
+fn try_pair(run: &mut Run<'_, '_>, steps: u64) -> Turned
+    ensures goes { result ≡ Turned.GoesOn → (l : Language TypeId GroupId) (s : C.Sorting) → run.old.next ≡ Move.Tries s → GoesFrom l steps run.old (M.Tries (sorting_view s)) run.new }
+    ensures finds { (l : Language TypeId GroupId) (s : C.Sorting) → run.old.next ≡ Move.Tries s → FindsAt l steps run.old (M.Tries (sorting_view s)) (found_in result run.new.next) }
+    ensures kind { (result ≡ Turned.Replied → ⊥) × (result ≡ Turned.NoMemory → ⊥) }
+    ensures kept { (result ≡ Turned.GoesOn → ⊥) → IsKept run.old run.new }
     ensures capacity { vec_capacity run.new.waiting ≡ vec_capacity run.old.waiting }
 {
-    if run.taken >= steps {
-        return Some(Found::Spent);
+    let count = run.waiting.len();
+    // A question is open, whose pair this is.
+    if count == 0 {
+        return Turned::Spent;
     }
+    if run.taken >= steps {
+        return Turned::Spent;
+    }
+    let next = mem::replace(&mut run.next, Move::Answered(Reply::Fails { far: 0 }));
+    let Move::Tries(sorting) = next else {
+        return Turned::Spent;
+    };
     let entries = sorting.entries;
+    let last = &mut run.waiting[count - 1];
+    run.next = next_entry(entries, sorting, &mut last.pending);
     run.taken += 1;
     run.owed = entries.len() as u64;
-    run.next = next_entry(entries, sorting);
-    None
+    Turned::GoesOn
 }
 
 // The last question has this reply, and the one below it goes on; or the first one has it.
-fn reply_to_last<'t, 'i>(run: &mut Run<'t, 'i>, reply: Reply<'i>) -> Option<Found<'i>>
+fn reply_to_last<'t, 'i>(run: &mut Run<'t, 'i>, reply: Reply<'i>) -> Turned
     requires owed { run.old.owed ≡ 0 }
-    ensures goes { result ≡ None → (l : Language TypeId GroupId) (steps : ℕ) → GoesFrom l steps run.old (M.Answered (reply_view reply.entry)) run.new }
-    ensures finds { (l : Language TypeId GroupId) (steps : ℕ) → IfSome result (FindsAt l steps run.old (M.Answered (reply_view reply.entry))) }
-    ensures emptied { IfSome result (λ _. asked_in run.new.waiting.items ≡ []) }
+    ensures goes { result ≡ Turned.GoesOn → (l : Language TypeId GroupId) (steps : ℕ) → GoesFrom l steps run.old (M.Answered (reply_view reply.entry)) run.new }
+    ensures finds { (l : Language TypeId GroupId) (steps : ℕ) → FindsAt l steps run.old (M.Answered (reply_view reply.entry)) (found_in result run.new.next) }
+    ensures told { result ≡ Turned.Replied → run.new.next ≡ Move.Answered reply.entry }
+    ensures kind { (result ≡ Turned.NoMemory → ⊥) }
+    ensures emptied { result ≡ Turned.Replied → asked_in run.new.waiting.items ≡ [] }
+    ensures ends { (result ≡ Turned.GoesOn → ⊥) → result ≡ Turned.Replied }
     ensures taken { run.new.taken ≡ run.old.taken }
     ensures capacity { vec_capacity run.new.waiting ≡ vec_capacity run.old.waiting }
 {
-    let Some(last) = run.waiting.pop() else {
-        return Some(Found::Replied(reply));
-    };
-    if run.waiting.len() == 0 {
-        return Some(Found::Replied(reply));
+    let count = run.waiting.len();
+    if count < 2 {
+        run.waiting.clear();
+        run.next = Move::Answered(reply);
+        return Turned::Replied;
     }
-    run.next = next_move(last.pending, reply);
-    None
+    run.waiting.truncate(count - 1);
+    let last = &mut run.waiting[count - 2];
+    run.next = next_move(&mut last.pending, reply);
+    Turned::GoesOn
 }
 
-// A question is asked: a step.
-//
-// # Errors
-//
-// `AllocError` where there is no memory for one question more, or for the tally of an alternative.
+// A question is asked: a step. There may be no memory for one question more, or for the tally of an alternative.
 fn ask<'t, 'i>(
     alloc: Global,
     table: &'t Table,
     run: &mut Run<'t, 'i>,
     question: Question<'t, 'i>,
-    pending: Pending<'t, 'i>,
     steps: u64,
-) -> Result<Option<Found<'i>>, AllocError>
+) -> Turned
     requires owed { run.old.owed ≡ 0 }
-    ensures goes { result ≡ Ok None → GoesFrom (language_of table.now) steps run.old (M.Asks (question_view question.entry) (pending_view pending.entry)) run.new }
-    ensures finds { IfOk result (λ it. IfSome it (FindsAt (language_of table.now) steps run.old (M.Asks (question_view question.entry) (pending_view pending.entry)))) }
-    ensures kept { IfOk result (λ it. IfSome it (λ _. IsKept run.old run.new)) }
-    ensures left { OnErr result (IsKept run.old run.new) }
-    ensures memory { OnErr result ((vec_capacity run.old.waiting ≤ vec_len run.old.waiting) ⊎ (is_alternative (question_view question.entry) ≡ true)) }
+    ensures goes { result ≡ Turned.GoesOn → GoesFrom (language_of table.now) steps run.old (asks_in run.old (question_view question.entry)) run.new }
+    ensures finds { FindsAt (language_of table.now) steps run.old (asks_in run.old (question_view question.entry)) (found_in result run.new.next) }
+    ensures kind { (result ≡ Turned.Replied → ⊥) }
+    ensures kept { (result ≡ Turned.GoesOn → ⊥) → IsKept run.old run.new }
+    ensures memory { result ≡ Turned.NoMemory → (vec_capacity run.old.waiting ≤ vec_len run.old.waiting) ⊎ (is_alternative (question_view question.entry) ≡ true) }
     ensures capacity { vec_capacity run.old.waiting ≤ vec_capacity run.new.waiting }
 {
     if run.taken >= steps {
-        return Ok(Some(Found::Spent));
+        return Turned::Spent;
     }
-    let first = first_of(alloc, table, question)?;
-    run.waiting.push(Waiting::new(&question, pending))?;
+    let count = run.waiting.len();
+    let Ok(()) = run.waiting.push(Waiting::new(&question)) else {
+        return Turned::NoMemory;
+    };
+    let last = &mut run.waiting[count];
+    match first_of(alloc, table, question, &mut last.pending) {
+        Ok(first) => run.next = first,
+        Err(_) => {
+            run.waiting.truncate(count);
+            return Turned::NoMemory;
+        }
+    }
     run.taken += 1;
-    run.next = first;
-    Ok(None)
+    Turned::GoesOn
 }
 
-// One turn: a step, with one question more or none; or the last question has its reply, and is taken off. Or the run ends.
+// What a byte string holds, put on the shelf, if it holds something.
 //
 // # Errors
 //
-// `AllocError` where there is no memory for one question more, for the tally of a map's pairs, or for what a byte string
-// holds.
+// `AllocError` where there is no memory for it.
+fn held_on<'i>(shelf: &mut Shelf<'i>, reading: Reading<'i>) -> Result<Option<&'i Item>, AllocError>
+    ensures { IfOk result (λ held. MatchOption held ((y : Value) → Holds (content_view reading.entry.content) reading.entry.bytes.now y → ⊥) (λ item. Holds (content_view reading.entry.content) reading.entry.bytes.now (view item.now))) }
+{
+    let Some(item) = held_in(shelf.alloc, reading.content, reading.bytes)? else {
+        return Ok(None);
+    };
+    Ok(Some(shelf.keep(item)?))
+}
+
+// A byte string is read, and a type is asked of what it holds; if it holds nothing, that is the last question's reply. There
+// may be no memory for what it holds, or for one question more.
+#[inline(never)]
+fn read<'t, 'i>(
+    table: &'t Table,
+    shelf: &mut Shelf<'i>,
+    run: &mut Run<'t, 'i>,
+    reading: Reading<'i>,
+    steps: u64,
+) -> Turned
+    requires owed { run.old.owed ≡ 0 }
+    ensures goes { result ≡ Turned.GoesOn → GoesFrom (language_of table.now) steps run.old (reading_move reading.entry) run.new }
+    ensures finds { FindsAt (language_of table.now) steps run.old (reading_move reading.entry) (found_in result run.new.next) }
+    ensures told { result ≡ Turned.Replied → (r : R.Reply) × (run.new.next ≡ Move.Answered r) }
+    ensures kept { (result ≡ Turned.GoesOn → ⊥) → (asked_in run.new.waiting.items ≡ asked_in run.old.waiting.items) ⊎ (asked_in run.new.waiting.items ≡ []) }
+    ensures left { result ≡ Turned.NoMemory → IsKept run.old run.new }
+    ensures taken { (result ≡ Turned.GoesOn → ⊥) → run.new.taken ≡ run.old.taken }
+    ensures capacity { vec_capacity run.old.waiting ≤ vec_capacity run.new.waiting }
+{
+    let Reading {
+        node,
+        place,
+        next,
+        ..
+    } = reading;
+    let item = match held_on(shelf, reading) {
+        Ok(Some(item)) => item,
+        Ok(None) => return reply_to_last(run, Reply::Fails { far: place }),
+        Err(_) => return Turned::NoMemory,
+    };
+    let count = run.waiting.len();
+    // A question is open, which has come to read it.
+    if count == 0 {
+        return Turned::Spent;
+    }
+    let last = &mut run.waiting[count - 1];
+    last.pending = Pending::Held { place, next };
+    let question = Question::OfType {
+        node,
+        place: 0,
+        subject: Subject::Item(item),
+    };
+    ask(shelf.alloc, table, run, question, steps)
+}
+
+// One turn: a step, with one question more or none; or the last question has its reply, and is taken off. Or the run ends.
+// There may be no memory for one question more, for the tally of a map's pairs, or for what a byte string holds.
 pub(crate) fn step<'t, 'i>(
     table: &'t Table,
     shelf: &mut Shelf<'i>,
     run: &mut Run<'t, 'i>,
     steps: u64,
-) -> Result<Option<Found<'i>>, AllocError>
-    ensures goes { result ≡ Ok None → Goes (language_of table.now) steps run.old run.new }
-    ensures finds { IfOk result (λ it. IfSome it (Finds (language_of table.now) steps run.old)) }
+) -> Turned
+    ensures goes { result ≡ Turned.GoesOn → Goes (language_of table.now) steps run.old run.new }
+    ensures finds { Finds (language_of table.now) steps run.old (found_in result run.new.next) }
+    ensures told { result ≡ Turned.Replied → (r : R.Reply) × (run.new.next ≡ Move.Answered r) }
     // After a reply nothing is open, and else the list is as it was.
-    ensures kept { IfOk result (λ it. IfSome it (λ _. (asked_in run.new.waiting.items ≡ asked_in run.old.waiting.items) ⊎ (asked_in run.new.waiting.items ≡ []))) }
-    ensures left { OnErr result (asked_in run.new.waiting.items ≡ asked_in run.old.waiting.items) }
-    ensures taken { (result ≡ Ok None → ⊥) → run.new.taken ≡ run.old.taken }
-    ensures memory { OnErr result ((vec_capacity run.old.waiting ≤ vec_len run.old.waiting) ⊎ NeedsMore (language_of table.now) run.old (move_view run.old.next)) }
+    ensures kept { (result ≡ Turned.GoesOn → ⊥) → (asked_in run.new.waiting.items ≡ asked_in run.old.waiting.items) ⊎ (asked_in run.new.waiting.items ≡ []) }
+    ensures left { result ≡ Turned.NoMemory → asked_in run.new.waiting.items ≡ asked_in run.old.waiting.items }
+    ensures taken { (result ≡ Turned.GoesOn → ⊥) → run.new.taken ≡ run.old.taken }
+    ensures memory { result ≡ Turned.NoMemory → (vec_capacity run.old.waiting ≤ vec_len run.old.waiting) ⊎ NeedsMore (language_of table.now) run.old (next_in run.old) }
     ensures capacity { vec_capacity run.old.waiting ≤ vec_capacity run.new.waiting }
 {
     if run.owed > 0 {
-        return Ok(take_owed(run, steps));
+        return take_owed(run, steps);
     }
-    let next = mem::replace(&mut run.next, Move::Answered(Reply::Fails { far: 0 }));
-    let next = match settled(shelf, next) {
-        Ok(next) => next,
-        Err(error) => return Err(error),
-    };
-    match next {
-        Move::Asks(question, pending) => {
-            return ask(shelf.alloc, table, run, question, pending, steps)
+    match &run.next {
+        Move::Asks(question) => {
+            let question = question.again();
+            return ask(shelf.alloc, table, run, question, steps);
         }
-        Move::Answered(reply) => return Ok(reply_to_last(run, reply)),
-        Move::Tries(sorting) => return Ok(try_pair(run, sorting, steps)),
-        // No move that is settled is one of these.
-        Move::Repeats(_) | Move::GoesOn(_) | Move::Reads(_) => return Ok(Some(Found::Spent)),
+        Move::Answered(reply) => {
+            let reply = reply.again();
+            return reply_to_last(run, reply);
+        }
+        Move::Tries(_) => return try_pair(run, steps),
+        Move::Reads(reading) => {
+            let reading = *reading;
+            return read(table, shelf, run, reading, steps);
+        }
     }
 }

@@ -58,7 +58,7 @@ fn one_tells(
 
 // Whether a type says yes, and how many questions that takes, if not over `most`.
 #[cycle(telling)]
-pub(crate) fn type_tells(
+fn type_tells(
     table: &Table,
     node: TypeId,
     subject: Subject<'_>,

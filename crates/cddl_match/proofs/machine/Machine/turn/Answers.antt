@@ -1,9 +1,11 @@
-use Rattle.std.proofs.Common.{◌≡◌}
+use Rattle.std.proofs.Common.{◌≡◌, refl, subst}
 use Rattle.std.specs.Prelude.{Some}
 use Rattle.cddl_match.specs.declared.answers.End.TheVariants.{Said}
+use Rattle.cddl_match.specs.declared.answers.Verdict.TheVariants as V
 use Rattle.cddl_match.proofs.Decides.{decides}
-use Rattle.cddl_match.specs.Machine.{found_verdict, root_question}
-use Rattle.cddl_match.proofs.Machines.{goes, is_verdict, says, wants_room}
+use Rattle.cddl_match.specs.Machine.{IsVerdict, root_question}
+use Rattle.cddl_match.specs.Views.{reply_view, verdict_of}
+use Rattle.cddl_match.proofs.Machines.{goes, is_spent_verdict, is_verdict, says, wants_room}
 use Rattle.cddl_match.proofs.Room.{room}
 use Rattle.cddl_match.proofs.machine.Machine.turn.Goals as goal
 
@@ -11,25 +13,41 @@ pub invariant_of-self : goal.invariant_of-self
 invariant_of-self c =
     let i = c.self.inside in
     let m = rw c.in_default.is at c.self.invariant in
-    rw c.in_default.is (goes i.table.now i.item.now i.steps i.room i.run c.step.new.run m (c.in-Ok-None.ensures.goes (cc c.in-Ok-None.field-0-is) (root_question i.table.now i.item.now) m.parts m.within) c.step.ensures.capacity)
+    rw c.in_default.is (goes i.table.now i.item.now i.steps i.room i.run c.step.new.run m (c.in-GoesOn.ensures.goes refl (root_question i.table.now i.item.now) m.parts m.within) c.step.ensures.capacity)
 
-pub invariant_of-self-in-Ok-Some : goal.invariant_of-self-in-Ok-Some
-invariant_of-self-in-Ok-Some c =
+pub invariant_of-self-in-Replied : goal.invariant_of-self-in-Replied
+invariant_of-self-in-Replied c =
     let i = c.self.inside in
     let m = rw c.in_default.is at c.self.invariant in
-    let found = rw c.in-Ok-Some.field-0-is at c.in-Ok-Some.ensures.finds in
-    let told = is_verdict i.table.now i.item.now i.steps _ c.in-Ok-Some.found m.sound (found (root_question i.table.now i.item.now) m.parts m.within) in
-    let kept = rw c.in-Ok-Some.field-0-is at c.in-Ok-Some.ensures.kept in
-    rw c.verdict_of-verdict.ensures (says i.table.now i.item.now i.steps i.room i.run c.step.new.run (found_verdict c.in-Ok-Some.found) m told kept (c.in-Ok-Some.ensures.taken (λ e. cc (e, c.in-Ok-Some.field-0-is))) c.step.ensures.capacity)
+    let reply = c.in-Replied.ensures.told refl in
+    let found = rw reply.1 at (c.in-Replied.ensures.finds (root_question i.table.now i.item.now) m.parts m.within) in
+    let told = is_verdict i.table.now i.item.now i.steps _ (reply_view reply.0) m.sound found in
+    rw (c.verdict_by-verdict.ensures reply.0 reply.1) (says i.table.now i.item.now i.steps i.room i.run c.step.new.run (verdict_of (reply_view reply.0)) m told (c.in-Replied.ensures.kept (λ e. cc e)) (c.in-Replied.ensures.taken (λ e. cc e)) c.step.ensures.capacity)
 
-pub returns-in-Ok-Some-clause-verdict : goal.returns-in-Ok-Some-clause-verdict
-returns-in-Ok-Some-clause-verdict c = λ v e.
+pub invariant_of-self-in-Spent : goal.invariant_of-self-in-Spent
+invariant_of-self-in-Spent c =
     let i = c.self.inside in
     let m = rw c.in_default.is at c.self.invariant in
-    let found = rw c.in-Ok-Some.field-0-is at c.in-Ok-Some.ensures.finds in
-    let told = is_verdict i.table.now i.item.now i.steps _ c.in-Ok-Some.found m.sound (found (root_question i.table.now i.item.now) m.parts m.within) in
-    let same : found_verdict c.in-Ok-Some.found ≡ v = cc (e, c.verdict_of-verdict.ensures) in
-    rw (← c.self.view_is) (rw same at told, cc)
+    let told = is_spent_verdict i.table.now i.item.now i.steps m.sound (c.in-Spent.ensures.finds (root_question i.table.now i.item.now) m.parts m.within) in
+    says i.table.now i.item.now i.steps i.room i.run c.step.new.run V.Spent m told (c.in-Spent.ensures.kept (λ e. cc e)) (c.in-Spent.ensures.taken (λ e. cc e)) c.step.ensures.capacity
+
+pub returns-in-Replied-clause-verdict : goal.returns-in-Replied-clause-verdict
+returns-in-Replied-clause-verdict c = λ v e.
+    let i = c.self.inside in
+    let m = rw c.in_default.is at c.self.invariant in
+    let reply = c.in-Replied.ensures.told refl in
+    let found = rw reply.1 at (c.in-Replied.ensures.finds (root_question i.table.now i.item.now) m.parts m.within) in
+    let told = is_verdict i.table.now i.item.now i.steps _ (reply_view reply.0) m.sound found in
+    let same : verdict_of (reply_view reply.0) ≡ v = cc (e, c.verdict_by-verdict.ensures reply.0 reply.1) in
+    rw (← c.self.view_is) (rw same at told, cc (e, c.verdict_by-verdict.ensures reply.0 reply.1))
+
+pub returns-in-Spent-clause-verdict : goal.returns-in-Spent-clause-verdict
+returns-in-Spent-clause-verdict c = λ v e.
+    let i = c.self.inside in
+    let m = rw c.in_default.is at c.self.invariant in
+    let told = is_spent_verdict i.table.now i.item.now i.steps m.sound (c.in-Spent.ensures.finds (root_question i.table.now i.item.now) m.parts m.within) in
+    let same : V.Spent ≡ v = cc e in
+    rw (← c.self.view_is) (subst (λ v. IsVerdict i.table.now i.item.now i.steps v) same told, cc e)
 
 pub returns-in-Some-clause-verdict : goal.returns-in-Some-clause-verdict
 returns-in-Some-clause-verdict c = λ v e.
@@ -41,17 +59,20 @@ returns-in-Some-clause-verdict c = λ v e.
 pub returns-in-Some-clause-decided : goal.returns-in-Some-clause-decided
 returns-in-Some-clause-decided c = rw (← c.self.view_is) (decides c.self.inside.table.now c.self.inside.item.now (room c.self.inside.item.now c.self.invariant.sound))
 
-pub returns-in-Ok-None-clause-decided : goal.returns-in-Ok-None-clause-decided
-returns-in-Ok-None-clause-decided c = rw (← c.self.view_is) (decides c.self.inside.table.now c.self.inside.item.now (room c.self.inside.item.now c.self.invariant.sound))
+pub returns-in-GoesOn-clause-decided : goal.returns-in-GoesOn-clause-decided
+returns-in-GoesOn-clause-decided c = rw (← c.self.view_is) (decides c.self.inside.table.now c.self.inside.item.now (room c.self.inside.item.now c.self.invariant.sound))
 
-pub returns-in-Ok-Some-clause-decided : goal.returns-in-Ok-Some-clause-decided
-returns-in-Ok-Some-clause-decided c = rw (← c.self.view_is) (decides c.self.inside.table.now c.self.inside.item.now (room c.self.inside.item.now c.self.invariant.sound))
+pub returns-in-Replied-clause-decided : goal.returns-in-Replied-clause-decided
+returns-in-Replied-clause-decided c = rw (← c.self.view_is) (decides c.self.inside.table.now c.self.inside.item.now (room c.self.inside.item.now c.self.invariant.sound))
 
-pub returns-in-Err-clause-decided : goal.returns-in-Err-clause-decided
-returns-in-Err-clause-decided c = rw (← c.self.view_is) (decides c.self.inside.table.now c.self.inside.item.now (room c.self.inside.item.now c.self.invariant.sound))
+pub returns-in-Spent-clause-decided : goal.returns-in-Spent-clause-decided
+returns-in-Spent-clause-decided c = rw (← c.self.view_is) (decides c.self.inside.table.now c.self.inside.item.now (room c.self.inside.item.now c.self.invariant.sound))
 
-pub returns-in-Err-clause-room : goal.returns-in-Err-clause-room
-returns-in-Err-clause-room c = λ e.
+pub returns-in-NoMemory-clause-decided : goal.returns-in-NoMemory-clause-decided
+returns-in-NoMemory-clause-decided c = rw (← c.self.view_is) (decides c.self.inside.table.now c.self.inside.item.now (room c.self.inside.item.now c.self.invariant.sound))
+
+pub returns-in-NoMemory-clause-room : goal.returns-in-NoMemory-clause-room
+returns-in-NoMemory-clause-room c = λ e.
     let i = c.self.inside in
     let m = rw c.in_default.is at c.self.invariant in
-    rw (← c.self.view_is) (wants_room i.table.now i.item.now i.steps i.room i.run m c.in-Err.ensures.memory)
+    rw (← c.self.view_is) (wants_room i.table.now i.item.now i.steps i.room i.run m (c.in-NoMemory.ensures.memory refl))
