@@ -1,21 +1,25 @@
 #!/usr/bin/env python3
-"""Runs the program, and tests that were built, with each request for memory refused in turn, by tests/refuse.c.
+"""Runs the program, calls, and tests that were built, with each request for memory refused in turn, by tests/refuse.c.
 
-    run_memory.py PROGRAM [TESTS ..]
+    run_memory.py PROGRAM CALLS [TESTS ..]
 
 A run of the program whose request was refused has to end as the run with ample memory does; or with status 3 and the one line
-'out of memory' on standard error, where what it printed before is a beginning of what it prints with ample memory. Of TESTS,
-programs that 'rt test' made, the tests named '.._wants_memory' are run, and have to pass with each request refused. There is a
+'out of memory' on standard error, where what it printed before is a beginning of what it prints with ample memory. CALLS, the program cddl_calls, reads the
+rows of tests/calls that are for this (tests/run_calls.py): each answer has to be that with ample memory, or to say 'no memory', and
+a reader of items that had none answers so from then on; or the program ends with status 3 and that line. Of TESTS, programs that 'rt test' made, the tests named '.._wants_memory' are run, and have to pass with each request refused. There is a
 line for each command and each test with its number of requests. The last line is 'N passed, M failed', and the status is 0
 only where none failed.
 """
 import argparse
 import os
+import re
 import shutil
 import subprocess
 import sys
 import tempfile
 from concurrent.futures import ThreadPoolExecutor
+
+from run_calls import lines_of_refusals
 
 HERE = os.path.dirname(os.path.abspath(__file__))
 TOP = os.path.dirname(HERE)
@@ -59,10 +63,10 @@ COMMANDS = [
 ]
 
 
-def run(words, shim, **how):
+def run(words, shim, given=b"", **how):
     """The status of a run, and what it printed on standard output and on standard error."""
     env = {**os.environ, **how, "LD_PRELOAD": shim}
-    ran = subprocess.run(words, env=env, stdin=subprocess.DEVNULL, stdout=subprocess.PIPE, stderr=subprocess.PIPE)
+    ran = subprocess.run(words, env=env, input=given, stdout=subprocess.PIPE, stderr=subprocess.PIPE)
     return ran.returncode, ran.stdout, ran.stderr
 
 
@@ -76,13 +80,33 @@ def passes(ample, told):
     return ample[0] == 0 and told == ample
 
 
-def run_command(words, shim, folder, pool, is_right=is_right):
+def lines_in(out):
+    return out.decode(errors="replace").split("\n")[:-1]
+
+
+def are_answers(calls, ample, told):
+    """Whether a run of calls answers each as with ample memory, or with want of it; a reader keeps to that."""
+    wanted, got = lines_in(ample[1]), lines_in(told[1])
+    is_lost = False
+    for call, want, it in zip(calls, wanted, got):
+        name = call.split(" ")[0]
+        is_lost = is_lost and name != "read.new"
+        if is_lost and name in ("read.feed", "read.feed_all", "read.at_end"):
+            want = "no memory"
+        if it != want and "no memory" not in it and not (is_lost and it == "none"):
+            return False
+        is_lost = is_lost or name in ("read.feed", "read.feed_all") and re.search(r"(^|; )no memory$", it) is not None
+    is_whole = len(got) == len(wanted) == len(calls) and told[0] == 0 and not told[2]
+    return is_whole or told[0] == 3 and told[2] == b"out of memory\n" and len(got) <= len(wanted)
+
+
+def run_command(words, shim, folder, pool, is_right=is_right, given=b""):
     """Whether each run of a command is right, and how many requests for memory it makes."""
     count = f"{folder}/count"
-    ample = run(words, shim, COUNT=count)
+    ample = run(words, shim, given, COUNT=count)
     with open(count, encoding="ascii") as file:
         made = int(file.read())
-    told = pool.map(lambda number: (number, run(words, shim, REFUSE=str(number))), range(1, made + 1))
+    told = pool.map(lambda number: (number, run(words, shim, given, REFUSE=str(number))), range(1, made + 1))
     wrong = [(number, it) for number, it in told if not is_right(ample, it)]
     for number, it in wrong[:3]:
         print(f"with request {number} refused: status {it[0]}, {it[1][-200:]!r}, {it[2]!r}")
@@ -96,8 +120,15 @@ def tests_of(program):
     return [it for it in names if it.endswith("_wants_memory")]
 
 
-def run_memory(program, tests=()):
-    """Runs all commands, and these tests, and returns how many passed and failed."""
+def run_lines(calls, shim, folder, pool):
+    """The same of the lines that are asked of the program of calls."""
+    lines = lines_of_refusals()
+    given = "".join(f"{it}\n" for it in lines).encode()
+    return run_command([os.path.abspath(calls)], shim, folder, pool, lambda ample, told: are_answers(lines, ample, told), given)
+
+
+def run_memory(program, calls, tests=()):
+    """Runs all commands, the calls, and these tests, and returns how many passed and failed."""
     passed = failed = 0
     with tempfile.TemporaryDirectory() as folder, ThreadPoolExecutor(AT_ONCE) as pool:
         shim = f"{folder}/refuse.so"
@@ -116,6 +147,9 @@ def run_memory(program, tests=()):
             passed, failed = passed + good, failed + (not good)
             told = command[0] + (" a text" if "\n" in "".join(command) else " an example")
             print(f"{told}: {made} requests, {'passed' if good else 'FAILED'}", flush=True)
+        good, made = run_lines(calls, shim, folder, pool)
+        passed, failed = passed + good, failed + (not good)
+        print(f"calls: {made} requests, {'passed' if good else 'FAILED'}", flush=True)
         for path in tests:
             for name in tests_of(path):
                 good, made = run_command([os.path.abspath(path), name], shim, folder, pool, passes)
@@ -127,9 +161,10 @@ def run_memory(program, tests=()):
 def main():
     words = argparse.ArgumentParser(description="Refuses each request of a program for memory in turn.")
     words.add_argument("program")
+    words.add_argument("calls")
     words.add_argument("tests", nargs="*")
     given = words.parse_args()
-    passed, failed = run_memory(given.program, given.tests)
+    passed, failed = run_memory(given.program, given.calls, given.tests)
     print(f"{passed} passed, {failed} failed")
     return 1 if failed else 0
 

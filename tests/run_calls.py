@@ -1,0 +1,443 @@
+#!/usr/bin/env python3
+"""Runs the rows of tests/calls/*.txt on the built cddl_calls: what public calls answer.
+
+    run_calls.py PROGRAM [--only TEXT] [-v]
+    run_calls.py --count
+
+Prints each row that failed, with what came, and last 'N passed, M failed'. --only takes the rows whose line, or whose file's
+name, has TEXT. --count runs nothing, and prints how many rows each file has. A row that stands for many counts as many.
+
+A row is one line, 'CALL WORD.. -> ANSWER'. The program reads the line up to the arrow, and the line that it prints is to be
+the answer. '-> ' at the end of a line is an empty answer. Lines that begin with '# ' say what the rows after them show. With
+'## ' these, up to an empty line, are asked with each request for memory refused in turn, too (tests/run_memory.py). What a row expects comes from an RFC or from docs/, never from what the program printed. A call is named 'ROOM.NAME':
+item, device, read and form are of cbor_item, its devices, cbor_read and read_items. These are the words:
+
+  8101+00*3     bytes in hex; parts with '+' between them are one after the other, and '*' says how often a part is there
+  "a = \\x01"    the same bytes as text, with the escapes \\" \\\\ \\n \\r \\t \\0, \\u{e9} for a character, and \\xe9 for a byte
+  uint:1        builds an item and puts it on a stack, and so do nint:0 (which is -1), bytes:61, text:a, simple:20, f16:0, f32:0,
+                f64:0 and 8101 (the item that these bytes spell); array:2 and map:1 take the last 2 items, or the last pair,
+                from the stack, and tag:7 its content. A call has what is on top of it
+  WORD{256}     the word 256 times
+
+Answers are the names of the variants in the code, and items in diagnostic notation (docs/ITEMS.md); 'none' is an answer that
+has nothing in it. A refusal is the name of its kind, with 'at' its place. Readers go on with the next row:
+
+  read.new DEPTH BYTES         a reader with these limits; read.feed, read.feed_all (until a piece is used up), read.take_small
+                               and read.at_end are its calls, and answer 'USED: ITEM', 'USED: KIND at PLACE' or 'More'
+  read.read_fronts DEPTH BYTES OFFSET HEX
+                               the same of all items at once, by the plain reader; read.read_front of the first one
+  form.new, form.read DEPTH HEX
+  device.CALL ROOM END ..      a device that takes or gives one byte a call, so many in all, and then 'fails' or 'stops':
+                               what the call answers, how often the device failed, and what it took
+
+A row whose call begins with '@' stands for many:
+
+  @form DEPTH HEX              the form of these bytes, cut in two at each byte, and byte by byte with empty pieces between
+  @stream DEPTH BYTES HEX      all items and the end of this stream, by the plain reader, and by pieces cut in these ways
+  @written HEX                 an item's notation, and its preferred bytes on a device that fails or stops at each of them
+  @deterministic HEX           its deterministic bytes, on a device that fails or stops at each of them
+  @apart                       of the items of all rows @written before it, two are the same only where they are one row's
+  @keys KIND PLACES            maps with keys of this kind, in three orders and of several lengths, of which one repeats an
+                               earlier one; each key has so many places
+  @keys_inside COUNT           a map that repeats a key, as the last value of a map with so many keys
+  @thousand LAST               a map with the keys 0 to 999, and this one
+  @made SEED COUNT LENGTH DEPTH BYTES
+                               streams that look like chance: the plain reader and the reader by pieces say the same
+"""
+import argparse
+import glob
+import os
+import re
+import subprocess
+import sys
+
+TOP = os.path.dirname(os.path.dirname(os.path.abspath(__file__)))
+SECONDS = 120
+ARROW = " -> "
+# A word in quotes, and one that is repeated.
+QUOTED = re.compile(r'"((?:[^"\\]|\\.)*)"')
+REPEATED = re.compile(r"(\S+)\{(\d+)\}")
+ESCAPE = re.compile(r"\\(?:u\{([0-9a-f]+)\}|x([0-9a-f]{2})|(.))", re.S)
+LETTERS = {"n": b"\n", "r": b"\r", "t": b"\t", "0": b"\0"}
+
+
+class Case:
+    """Lines that are asked one after the other, and what is wrong with their answers: a function of their list."""
+
+    def __init__(self, row, lines, fault):
+        self.row, self.lines, self.fault = row, lines, fault
+
+
+def unescaped(text):
+    """The bytes of what is between quotes."""
+    out, at = b"", 0
+    for it in ESCAPE.finditer(text):
+        out += text[at:it.start()].encode()
+        out += chr(int(it[1], 16)).encode() if it[1] else bytes.fromhex(it[2]) if it[2] else LETTERS.get(it[3], it[3].encode())
+        at = it.end()
+    return out + text[at:].encode()
+
+
+def asked(words):
+    """The line that the program reads."""
+    words = QUOTED.sub(lambda it: unescaped(it[1]).hex(), words)
+    return REPEATED.sub(lambda it: " ".join([it[1]] * int(it[2])), words)
+
+
+def bytes_of(word):
+    """The bytes of a word in hex."""
+    parts = (part.partition("*") for part in word.split("+"))
+    return b"".join(bytes.fromhex(digits) * int(times or 1) for digits, _, times in parts)
+
+
+def shown(text):
+    return text if len(text) <= 200 else f"{text[:200]}.. ({len(text)} characters)"
+
+
+def unlike(got, wanted, of=""):
+    """What is wrong where an answer is not the one that is wanted."""
+    return None if got == wanted else f"{of}{shown(got)!r}, wanted {shown(wanted)!r}"
+
+
+def first_fault(faults):
+    return next((it for it in faults if it), None)
+
+
+# Pieces
+
+def cuts_of(stream):
+    """The stream cut in two at each byte, and byte by byte with empty pieces between."""
+    cuts = [[stream[:at], stream[at:]] for at in range(len(stream) + 1)]
+    return cuts + [[it for at in range(len(stream)) for it in (b"", stream[at:at + 1])]]
+
+
+def form_case(row, words, answer):
+    depth, word = words[0], words[1] if len(words) > 1 else ""
+    cuts, lines = cuts_of(bytes_of(word)), []
+    for pieces in cuts:
+        lines += ["form.new", *(f"form.read {depth} {it.hex()}" for it in pieces)]
+
+    def fault(answers):
+        answers, faults = iter(answers), []
+        for pieces in cuts:
+            next(answers)
+            faults.append(unlike(form_of(pieces, [next(answers) for _ in pieces]), answer, f"cut at {len(pieces[0]) if pieces else 0}: "))
+        return first_fault(faults)
+    return Case(row, lines, fault)
+
+
+def form_of(pieces, answers):
+    """Where the pieces lead together: 'used' counts from the beginning of the first one."""
+    before = 0
+    for piece, answer in zip(pieces, answers):
+        if answer != "More":
+            return re.sub(r"used: (\d+)", lambda it: f"used: {int(it[1]) + before}", answer)
+        before += len(piece)
+    return "More"
+
+
+def feeds(limits, pieces):
+    return [f"read.new {limits}", *(f"read.feed_all {it.hex()}" for it in pieces), "read.at_end"]
+
+
+def log_of(pieces, answers):
+    """What the answers to feeds tell of a stream: its items, each with its offset, and the end."""
+    log, offset, seen = "", 0, 0
+    for piece, answer in zip(pieces, answers[1:]):
+        at = seen
+        for part in answer.split("; "):
+            used, _, told = part.partition(": ")
+            if part == "More":
+                break
+            if is_fault(told):
+                return log + told
+            at += int(used)
+            log, offset = f"{log}{offset}: {told}; ", at
+        seen += len(piece)
+    return log + (f"clean at {seen}" if answers[-1] == "clean" else answers[-1])
+
+
+def log_of_fronts(answer):
+    """The same of the answer of the plain reader."""
+    log, offset = "", 0
+    *items, end = answer.split("; ")
+    for part in items:
+        length, _, told = part.partition(": ")
+        log, offset = f"{log}{offset}: {told}; ", offset + int(length)
+    return log + (f"clean at {offset}" if end == "Nothing" else end)
+
+
+def is_fault(told):
+    return re.fullmatch(r"[A-Z]\w+ at \d+", told) is not None
+
+
+def stream_case(row, limits, stream, cuts, wanted=None):
+    """The plain reader and the reader by pieces say the same of a stream, and what is wanted."""
+    lines = [f"read.read_fronts {limits} 0 {stream.hex()}"]
+    for pieces in cuts:
+        lines += feeds(limits, pieces)
+
+    def fault(answers):
+        answers = iter(answers)
+        log = log_of_fronts(next(answers))
+        faults = [wanted is not None and unlike(log, wanted, "by fronts: ")]
+        for pieces in cuts:
+            part = [next(answers) for _ in range(len(pieces) + 2)]
+            faults.append(unlike(log_of(pieces, part), log, f"in pieces {[it.hex() for it in pieces][:4]}: "))
+        return first_fault(faults)
+    return Case(row, lines, fault)
+
+
+# Streams that look like chance
+
+HEADS = bytes.fromhex("001820415f617f80829fa0a1a2bfc1d8f4f8f9ffff1c")
+
+
+class Chance:
+    """A fixed sequence of numbers."""
+
+    def __init__(self, seed):
+        self.state = seed
+
+    def draw(self):
+        self.state = (self.state * 6364136223846793005 + 1442695040888963407) % 2**64
+        return self.state >> 33
+
+    def byte(self):
+        number = self.draw()
+        return (0, ord("a"), number // 4 % 256, HEADS[number // 4 % len(HEADS)])[number % 4]
+
+    def stream(self, length):
+        return bytes(self.byte() for _ in range(length))
+
+    def pieces(self, stream):
+        """The stream in pieces of up to seven bytes, some of them empty."""
+        pieces, rest = [], stream
+        for _ in range(2 * len(stream)):
+            size = min(self.draw() % 8, len(rest))
+            pieces.append(rest[:size])
+            rest = rest[size:]
+        return pieces + [rest]
+
+
+def made_cases(row, words):
+    """With limits the streams are cut anywhere, and without limits at each byte, with limits that go round."""
+    seed, count, longest, *limits = (int(it) for it in words)
+    chance = Chance(seed)
+    for number in range(count):
+        stream = chance.stream(number % longest)
+        if limits:
+            yield stream_case(row, f"{limits[0]} {limits[1]}", stream, [chance.pieces(stream)])
+        else:
+            yield stream_case(row, f"{1 + number % 3} {1 + number % 12}", stream, cuts_of(stream))
+
+
+# Items
+
+def device_lines(call, word, length):
+    return [f"device.{call} {room} {end} {word}" for room in range(length + 1) for end in ("fails", "stops")]
+
+
+def device_faults(answers, written):
+    """A device with room for so many bytes takes these, and the call tells how many where that are not all."""
+    for at, answer in enumerate(answers):
+        room = at // 2
+        told = "all; failures: 0" if room == len(written) else f"written: {room}; failures: 1"
+        yield unlike(answer, f"{told}; took: {written[:room].hex() or 'none'}", f"room for {room}: ")
+
+
+def written_case(row, word, answer):
+    item = bytes_of(word)
+    lines = [f"item.diag {word}", *device_lines("write_item", word, len(item))]
+
+    def fault(answers):
+        return unlike(answers[0], answer) or first_fault(device_faults(answers[1:], item))
+    return Case(row, lines, fault)
+
+
+def deterministic_case(row, word, answer):
+    written = bytes_of(answer)
+    return Case(row, device_lines("write_det", word, len(written)), lambda answers: first_fault(device_faults(answers, written)))
+
+
+def apart_cases(row, items):
+    for one in items:
+        lines = [f"item.is_same {one} {other}" for other in items]
+        wanted = ["yes" if other == one else "no" for other in items]
+        yield Case(f"{row} {one}", lines, lambda got, wanted=wanted: None if got == wanted else "another one is the same")
+
+
+KEYS = {
+    "integer": lambda n: [f"nint:{n // 2}" if n % 2 else f"uint:{n // 2}"],
+    "text": lambda n: [f"text:key{n}"],
+    "string": lambda n: [f"text:key{n // 2}" if n % 2 else f"bytes:{f'key{n // 2}'.encode().hex()}"],
+    "mixed": lambda n: [f"text:key{n // 2}" if n % 2 else f"uint:{n // 2}"],
+    "float": lambda n: [f"f64:{n}"],
+    "array": lambda n: [f"uint:{n}", "array:1"],
+}
+
+
+def map_words(keys, last=("uint:0",)):
+    """A map with these keys, whose last value is built by these words."""
+    words = []
+    for at, key in enumerate(keys):
+        words += [*key, *(last if at == len(keys) - 1 else ["uint:0"])]
+    return " ".join([*words, f"map:{len(keys)}"])
+
+
+def keys_of(kind, step, count, at=0, like=0):
+    """So many keys in the order that the step gives: 1 lets them rise, 22 fall. The key at 'at' is the one at 'like'."""
+    return [KEYS[kind]((like if i == at else i) * step % 23) for i in range(count)]
+
+
+def judged(row, words, wanted):
+    """An item is unsound for this reason, or sound."""
+    def fault(answers):
+        return None if wanted == "sound" and answers[0].startswith("sound ") else unlike(answers[0], wanted)
+    return Case(row, [f"item.try_new {words}"], fault)
+
+
+def keys_cases(row, kind, places):
+    for step in (1, 11, 22):
+        for count in (0, 1, 2, 7, 8, 9, 20):
+            yield judged(row, map_words(keys_of(kind, step, count)), "sound")
+            for at in range(1, count):
+                for like in (0, at - 1):
+                    wanted = f"Duplicate({1 + at * (int(places) + 1)})"
+                    yield judged(row, map_words(keys_of(kind, step, count, at, like)), wanted)
+
+
+def keys_inside(row, count, answer):
+    inner = map_words(keys_of("integer", 1, 2, 1, 0))
+    return judged(row, map_words(keys_of("integer", 11, count), inner.split()), answer)
+
+
+def thousand(row, last, answer):
+    return judged(row, map_words([[f"uint:{it}"] for it in [*range(1000), last]]), answer)
+
+
+# Rows
+
+def families(row, call, words, answer, before):
+    """The cases of a row that stands for many."""
+    if call == "@form":
+        return [form_case(row, words, answer)]
+    if call == "@stream":
+        stream = bytes_of(words[2] if len(words) > 2 else "")
+        return [stream_case(row, " ".join(words[:2]), stream, cuts_of(stream), answer)]
+    if call == "@written":
+        before.append(words[0])
+        return [written_case(row, words[0], answer)]
+    if call == "@deterministic":
+        return [deterministic_case(row, words[0], answer)]
+    if call == "@apart":
+        return list(apart_cases(row, before))
+    if call == "@keys":
+        return list(keys_cases(row, *words))
+    if call == "@keys_inside":
+        return [keys_inside(row, int(words[0]), answer)]
+    if call == "@thousand":
+        return [thousand(row, int(words[0]), answer)]
+    if call == "@made":
+        return list(made_cases(row, words))
+    raise SystemExit(f"there is no family {call}")
+
+
+def cases_of(path):
+    """The cases of a file, in its order."""
+    cases, before = [], []
+    with open(path, encoding="utf-8") as file:
+        lines = file.read().split("\n")
+    for line in lines:
+        if not line or line.startswith(("# ", "## ")):
+            continue
+        words, arrow, answer = line.rpartition(ARROW)
+        if not arrow and not line.startswith("@"):
+            raise SystemExit(f"{path}: no arrow in {shown(line)!r}")
+        words = asked(words if arrow else line)
+        call, *others = words.split(" ")
+        if call.startswith("@"):
+            cases += families(line, call, others, answer, before)
+        else:
+            cases.append(Case(line, [words], lambda got, answer=answer: unlike(got[0], answer)))
+    return cases
+
+
+def lines_of_refusals():
+    """The lines that are asked with each request for memory refused in turn, too."""
+    lines = []
+    for path in files():
+        with open(path, encoding="utf-8") as file:
+            for part in file.read().split("\n\n"):
+                title, *rows = part.rstrip("\n").split("\n")
+                if title.startswith("## "):
+                    lines += [asked(row.rpartition(ARROW)[0]) for row in rows if not row.startswith("#")]
+    return lines
+
+
+def files():
+    return sorted(glob.glob(os.path.join(TOP, "tests", "calls", "*.txt")))
+
+
+def selected(only):
+    found = []
+    for path in files():
+        name = os.path.basename(path)
+        found += [it for it in cases_of(path) if only in it.row or only in name]
+    return found
+
+
+def answers_of(program, lines):
+    """The line that the program prints for each, and what is wrong with the run, if anything."""
+    given = "".join(f"{it}\n" for it in lines).encode()
+    try:
+        run = subprocess.run([program], input=given, stdout=subprocess.PIPE, stderr=subprocess.PIPE, timeout=SECONDS)
+    except subprocess.TimeoutExpired:
+        return [], f"no end in {SECONDS} seconds"
+    except OSError as error:
+        return [], f"cannot run the program: {error}"
+    answers = run.stdout.decode(errors="replace").split("\n")[:-1]
+    if run.returncode or run.stderr or len(answers) != len(lines):
+        return answers, f"status {run.returncode}, {len(answers)} answers for {len(lines)} lines, standard error {run.stderr[:160]!r}"
+    return answers, None
+
+
+def run_calls(program, only="", is_verbose=False):
+    """Runs the rows, prints those that failed, and returns how many passed and failed."""
+    cases = selected(only)
+    answers, wrong = answers_of(program, [line for case in cases for line in case.lines])
+    if wrong:
+        print(f"FAILED {wrong}")
+        return 0, max(len(cases), 1)
+    passed = failed = at = 0
+    for case in cases:
+        fault = case.fault(answers[at:at + len(case.lines)])
+        at += len(case.lines)
+        passed, failed = (passed, failed + 1) if fault else (passed + 1, failed)
+        if fault:
+            print(f"FAILED {shown(case.row)}\n    {fault}")
+        elif is_verbose:
+            print(f"ok {shown(case.row)}")
+    return passed, failed
+
+
+def main():
+    words = argparse.ArgumentParser(description="Runs the rows of tests/calls/*.txt on the built cddl_calls.")
+    words.add_argument("program", nargs="?")
+    words.add_argument("--count", action="store_true", help="print how many rows each file has")
+    words.add_argument("--only", default="", help="only the rows whose line or whose file's name has this text")
+    words.add_argument("-v", action="store_true", help="print each row that passed too")
+    given = words.parse_args()
+    if given.count:
+        for path in files():
+            print(f"{os.path.basename(path)}: {len(cases_of(path))}")
+        return 0
+    if not given.program:
+        words.error("give PROGRAM or --count")
+    passed, failed = run_calls(os.path.abspath(given.program), given.only, given.v)
+    print(f"{passed} passed, {failed} failed")
+    return 1 if failed or not passed else 0
+
+
+if __name__ == "__main__":
+    sys.exit(main())
