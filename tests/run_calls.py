@@ -1,16 +1,17 @@
 #!/usr/bin/env python3
-"""Runs the rows of tests/calls/*.txt on the built cddl_calls: what public calls answer.
+"""Runs the rows of tests/calls/NAME/*.txt on the built program NAME: what public calls answer.
 
-    run_calls.py PROGRAM [--only TEXT] [-v]
+    run_calls.py [PROGRAM ..] [--only TEXT] [-v]
     run_calls.py --count
 
-Prints each row that failed, with what came, and last 'N passed, M failed'. --only takes the rows whose line, or whose file's
+With no PROGRAM the rows of all programs are run, on those that are built in crates/. Prints each row that failed, with what came, and last 'N passed, M failed'. --only takes the rows whose line, or whose file's
 name, has TEXT. --count runs nothing, and prints how many rows each file has. A row that stands for many counts as many.
 
 A row is one line, 'CALL WORD.. -> ANSWER'. The program reads the line up to the arrow, and the line that it prints is to be
 the answer. '-> ' at the end of a line is an empty answer. Lines that begin with '# ' say what the rows after them show. With
 '## ' these, up to an empty line, are asked with each request for memory refused in turn, too (tests/run_memory.py). What a row expects comes from an RFC or from docs/, never from what the program printed. A call is named 'ROOM.NAME':
-item, device, read and form are of cbor_item, its devices, cbor_read and read_items. These are the words:
+item, device, read and form are of cbor_item, its devices, cbor_read and read_items; literal, token, terms and match of cddl_literal,
+cddl_token, check_terms, and table_nodes with cddl_match; session and run of seq_run. These are the words:
 
   8101+00*3     bytes in hex; parts with '+' between them are one after the other, and '*' says how often a part is there
   "a = \\x01"    the same bytes as text, with the escapes \\" \\\\ \\n \\r \\t \\0, \\u{e9} for a character, and \\xe9 for a byte
@@ -18,6 +19,15 @@ item, device, read and form are of cbor_item, its devices, cbor_read and read_it
                 f64:0 and 8101 (the item that these bytes spell); array:2 and map:1 take the last 2 items, or the last pair,
                 from the stack, and tag:7 its content. A call has what is on top of it
   WORD{256}     the word 256 times
+  <1..9: a#>    what is after the colon for each of these numbers, with its first character, here a space, between them; '#+' is
+                the next number. An answer may have it too, and <61*9> for 61 so many times
+
+A table of match.types, match.groups and match.ranks is made of words, whose numbers name other words of the same list:
+
+  any, major:0, closed:1:5 (1..5), open:1:5 (1...5), ref:2, choice:1,2, array:GROUP, tag:NUMBER:CONTENT, simple:1, both:1:2,
+  one:1:2 and sequence:1:2 (.cbor and .cborseq), such:1:TEST with ne:5, lt:n5 (-6), le, gt, ge or size:1..2,4..4;
+  map:ALTERNATIVE/.., each '-' or entries with commas, as 0*any:1=2, or 1*1:1^2 where the key cuts; and groups entry:TYPE,
+  ref:2, seq:1,2, alt:1,2, 0*any:1. Ranks are of types, then of groups, and then 1 for each group that may take no item
 
 Answers are the names of the variants in the code, and items in diagnostic notation (docs/ITEMS.md); 'none' is an answer that
 has nothing in it. A refusal is the name of its kind, with 'at' its place. Readers go on with the next row:
@@ -29,6 +39,17 @@ has nothing in it. A refusal is the name of its kind, with 'at' its place. Reade
   form.new, form.read DEPTH HEX
   device.CALL ROOM END ..      a device that takes or gives one byte a call, so many in all, and then 'fails' or 'stops':
                                what the call answers, how often the device failed, and what it took
+
+  match.verdict ROOT STEPS HEX what the type says of an item; match.turns ROOT STEPS ROOM HEX says so by turns
+  session.feed ROOT STEPS DEPTH BYTES PIECE..
+                               what a session answers to each piece with its items, its end and the item that it rejected, with
+                               '|' between them; session.feed_one takes items one by one, session.validate_pieces all at once;
+                               a piece '-' is empty
+  run.report ROOT STEPS DEPTH BYTES SIZE HEX
+                               the line of the end, or why there is none; how many bytes were read of a device that gives at most
+                               SIZE at once, and how many were asked for at once; and what was written, each line after ' / '.
+                               So do run.end_line, run.rewrite and run.deterministic
+  terms.ask WORD..             calls of one new table of terms, each with its answer
 
 A row whose call begins with '@' stands for many:
 
@@ -43,6 +64,14 @@ A row whose call begins with '@' stands for many:
   @thousand LAST               a map with the keys 0 to 999, and this one
   @made SEED COUNT LENGTH DEPTH BYTES
                                streams that look like chance: the plain reader and the reader by pieces say the same
+  @assigns HEX                 how many '=' are among the tokens of a source
+  @judge ROOT HEX              what a type says of an item, by calls and by turns, with few questions open
+  @steps ROOT HEX              in how many steps it says so: in one fewer it does not
+  @open ROOT STEPS ROOM HEX N  what it says by turns, with more than N questions open
+  @run ROOT SIZES HEX KNOWN    the items, the end in short and its line, in pieces of these or of all sizes, by all calls of
+                               sessions and by a run; the end is known after so many bytes, or at the end
+  @report ROOT TIMES           the report of many small numbers
+  @strings ROOT N              what it says of 1 in so many byte strings, each in the next one
 """
 import argparse
 import glob
@@ -57,7 +86,9 @@ ARROW = " -> "
 # A word in quotes, and one that is repeated.
 QUOTED = re.compile(r'"((?:[^"\\]|\\.)*)"')
 REPEATED = re.compile(r"(\S+)\{(\d+)\}")
-ESCAPE = re.compile(r"\\(?:u\{([0-9a-f]+)\}|x([0-9a-f]{2})|(.))", re.S)
+RANGE = re.compile(r"<(\d+)\.\.(\d+):(.)([^>]*)>")
+TIMES = re.compile(r"<([^<>]+)\*(\d+)>")
+ESCAPE = re.compile(r"\\(?:u\{([0-9a-fA-F]+)\}|x([0-9a-f]{2})|(.))", re.S)
 LETTERS = {"n": b"\n", "r": b"\r", "t": b"\t", "0": b"\0"}
 
 
@@ -66,6 +97,8 @@ class Case:
 
     def __init__(self, row, lines, fault):
         self.row, self.lines, self.fault = row, lines, fault
+        # whether the lines are asked with each request for memory refused in turn, too
+        self.is_refused = False
 
 
 def unescaped(text):
@@ -78,9 +111,17 @@ def unescaped(text):
     return out + text[at:].encode()
 
 
+def ranged(found):
+    """A text for each number of a range, in its order."""
+    first, last = int(found[1]), int(found[2])
+    step = 1 if first <= last else -1
+    return found[3].join(found[4].replace("#+", str(it + 1)).replace("#", str(it)) for it in range(first, last + step, step))
+
+
 def asked(words):
     """The line that the program reads."""
     words = QUOTED.sub(lambda it: unescaped(it[1]).hex(), words)
+    words = RANGE.sub(ranged, words)
     return REPEATED.sub(lambda it: " ".join([it[1]] * int(it[2])), words)
 
 
@@ -91,6 +132,7 @@ def bytes_of(word):
 
 
 def shown(text):
+    text = str(text)
     return text if len(text) <= 200 else f"{text[:200]}.. ({len(text)} characters)"
 
 
@@ -316,75 +358,221 @@ def thousand(row, last, answer):
     return judged(row, map_words([[f"uint:{it}"] for it in [*range(1000), last]]), answer)
 
 
+# Tokens and tables
+
+def assigns_case(row, word, answer):
+    def fault(answers):
+        return unlike(str(answers[0].split(" ").count("Assign")), answer)
+    return Case(row, [f"token.tokens {word}"], fault)
+
+
+TURNS = re.compile(r"(.*), at most (\d+) open, steps (\d+)")
+
+
+def judge_case(row, root, word, answer):
+    lines = [f"match.verdict {root} 1000 {word}", f"match.turns {root} 1000 16 {word}", f"match.ranks_of {root}"]
+
+    def fault(answers):
+        told = TURNS.fullmatch(answers[1])
+        if not told or unlike(answers[0], answer):
+            return unlike(answers[0], answer) or f"by turns {answers[1]!r}"
+        few = (int(answers[2]) + 1) * (len(bytes_of(word)) + 1)
+        return unlike(told[1], answer, "by turns: ") or (None if int(told[2]) <= few and int(told[3]) <= 1000 else answers[1])
+    return Case(row, lines, fault)
+
+
+def steps_case(row, root, word, answer):
+    lines = [f"match.{call} {word}" for steps in (int(answer), int(answer) - 1)
+             for call in (f"verdict {root} {steps}", f"turns {root} {steps} 16")]
+
+    def fault(answers):
+        enough, enough_by_turns, fewer, fewer_by_turns = answers
+        same = enough_by_turns.startswith(f"{enough}, ") and fewer_by_turns.startswith("Spent, ")
+        return None if same and enough != "Spent" and fewer == "Spent" else " ".join(answers)
+    return Case(row, lines, fault)
+
+
+def open_case(row, words, answer):
+    def fault(answers):
+        told = TURNS.fullmatch(answers[0])
+        return None if told and told[1] == answer and int(told[2]) > int(words[4]) else shown(answers[0])
+    return Case(row, [f"match.turns {' '.join(words[:4])}"], fault)
+
+
+def strings_case(row, root, count, answer):
+    held = b"\x01"
+    for _ in range(int(count)):
+        held = b"\x59" + len(held).to_bytes(2, "big") + held
+    return Case(row, [f"match.verdict {root} 100000 {held.hex()}"], lambda answers: unlike(answers[0], answer))
+
+
+# Sessions and runs
+
+SHORT_ENDS = [
+    (re.compile(r"Clean { items: (\d+), bytes: (\d+) }"), r"clean \1 \2"),
+    (re.compile(r"Failed { items: (\d+), offset: (\d+), cause: Mismatch\((\d+)\) }"), r"mismatch \1 \2 \3"),
+    (re.compile(r"Failed { items: (\d+), offset: (\d+), cause: Fault\(Fault { kind: \w+, at: (\d+) }\) }"), r"fault \1 \2 \3"),
+    (re.compile(r"Failed { items: (\d+), offset: (\d+), cause: Spent }"), r"spent \1 \2"),
+]
+
+
+def end_of(told):
+    """An end in short: how it ends, after how many items, and its numbers."""
+    return next((it.sub(short, told) for it, short in SHORT_ENDS if it.fullmatch(told)), told)
+
+
+def fed_fault(pieces, answer, items, end, given):
+    """What is wrong with the answer of a session that was fed these pieces; the end is known after so many bytes."""
+    *parts, last, _ = answer.split(" | ")
+    came, at = [], 0
+    for number, (piece, part) in enumerate(zip(pieces, parts)):
+        *more, state = part.split("; ")
+        came, at = came + more, at + len(piece)
+        if state != "Open":
+            same = all(it == state for it in parts[number + 1:]) and end_of(state) == end
+            return None if same and at == given and came == items and end_of(last) == end else f"{shown(answer)}, known at {at}"
+    return None if came == items and end_of(last) == end and at == given else shown(answer)
+
+
+def taken_fault(pieces, answer, items, end):
+    """The same of a session whose items were taken one by one."""
+    *parts, last, _ = answer.split(" | ")
+    came, taken, following = [], 0, 0
+    for piece, part in zip(pieces, parts):
+        *more, state = part.split("; ")
+        before = taken
+        for it in more:
+            head, _, notation = it.partition(": ")
+            number, offset, used = (int(word) for word in re.fullmatch(r"(\d+) at (\d+) used (\d+)", head).groups())
+            if number != len(came) + 1 or offset != following:
+                return f"item {it}, wanted number {len(came) + 1} at {following}"
+            came.append(notation)
+            taken += used
+            following = taken
+        if state != "More":
+            break
+        taken = before + len(piece)
+    return None if came == items and end_of(last) == end else shown(answer)
+
+
+def validated_fault(answer, items, end):
+    *came, last = answer.split("; ")
+    return None if came == items and end_of(last) == end else shown(answer)
+
+
+def run_cases(row, root, sizes, word, known, answer):
+    """A case for each call, over all sizes: pieces of a size have an empty one before each."""
+    stream = bytes_of(word) if word != "-" else b""
+    items, end, line = answer.split(" | ")
+    items = [] if items == "none" else items.split("; ")
+    sizes = range(1, len(stream) + 2) if sizes == "all" else [int(it) for it in sizes.split(",")]
+    cuts = [[it for at in range(0, len(stream), size) for it in (b"", stream[at:at + size])] for size in sizes]
+    given = [len(stream) if known == "end" else min(len(stream), -(-int(known) // size) * size) for size in sizes]
+    words = [" ".join(it.hex() or "-" for it in pieces) or "-" for pieces in cuts]
+
+    def case(lines, fault_of):
+        return Case(row, lines, lambda answers: first_fault(map(fault_of, answers, cuts, given)))
+    yield case([f"session.feed {root} 1000 64 8192 {it}" for it in words],
+               lambda answer, pieces, known: fed_fault(pieces, answer, items, end, known))
+    yield case([f"session.feed_one {root} 1000 64 8192 {it}" for it in words],
+               lambda answer, pieces, _: taken_fault(pieces, answer, items, end))
+    yield case([f"session.validate_pieces {root} 1000 64 8192 {it}" for it in words],
+               lambda answer, *_: validated_fault(answer, items, end))
+    yield case([f"run.end_line {root} 1000 64 8192 {size} {stream.hex()}" for size in sizes],
+               lambda answer, _, known: unlike(answer, f"{line}; given {known}, at once 4096 / {line}"))
+
+
+def report_case(row, root, times):
+    """Each number below 24 so often, and each third time one of two bytes: the report has a line for each."""
+    stream, report, count = b"", [], 0
+    for time in range(int(times)):
+        for item, notation in [(bytes([n]), n) for n in range(24)] + ([(b"\x18\xc8", 200)] if time % 3 == 0 else []):
+            count += 1
+            report.append(f"item {count} at {len(stream)}: {notation}")
+            stream += item
+    report.append(f"clean: {count} items, {len(stream)} bytes")
+    lines = [f"run.report {root} 1000 64 8192 {size} {stream.hex()}" for size in (1, 7, 4096)]
+    return Case(row, lines, lambda answers: first_fault(unlike(it.split(" / ")[1:], report) for it in answers))
+
+
 # Rows
 
-def families(row, call, words, answer, before):
-    """The cases of a row that stands for many."""
-    if call == "@form":
-        return [form_case(row, words, answer)]
-    if call == "@stream":
-        stream = bytes_of(words[2] if len(words) > 2 else "")
-        return [stream_case(row, " ".join(words[:2]), stream, cuts_of(stream), answer)]
-    if call == "@written":
-        before.append(words[0])
-        return [written_case(row, words[0], answer)]
-    if call == "@deterministic":
-        return [deterministic_case(row, words[0], answer)]
-    if call == "@apart":
-        return list(apart_cases(row, before))
-    if call == "@keys":
-        return list(keys_cases(row, *words))
-    if call == "@keys_inside":
-        return [keys_inside(row, int(words[0]), answer)]
-    if call == "@thousand":
-        return [thousand(row, int(words[0]), answer)]
-    if call == "@made":
-        return list(made_cases(row, words))
-    raise SystemExit(f"there is no family {call}")
+def stream_of_row(row, words, answer):
+    stream = bytes_of(words[2] if len(words) > 2 else "")
+    return stream_case(row, " ".join(words[:2]), stream, cuts_of(stream), answer)
+
+
+# The cases of a row that stands for many, by its call: of the row, its words, its answer, and the items before it.
+FAMILIES = {
+    "@form": lambda row, words, answer, before: [form_case(row, words, answer)],
+    "@stream": lambda row, words, answer, before: [stream_of_row(row, words, answer)],
+    "@made": lambda row, words, answer, before: made_cases(row, words),
+    "@written": lambda row, words, answer, before: [written_case(row, words[0], answer)],
+    "@deterministic": lambda row, words, answer, before: [deterministic_case(row, words[0], answer)],
+    "@apart": lambda row, words, answer, before: apart_cases(row, before),
+    "@keys": lambda row, words, answer, before: keys_cases(row, *words),
+    "@keys_inside": lambda row, words, answer, before: [keys_inside(row, int(words[0]), answer)],
+    "@thousand": lambda row, words, answer, before: [thousand(row, int(words[0]), answer)],
+    "@assigns": lambda row, words, answer, before: [assigns_case(row, words[0], answer)],
+    "@judge": lambda row, words, answer, before: [judge_case(row, *words, answer)],
+    "@steps": lambda row, words, answer, before: [steps_case(row, *words, answer)],
+    "@open": lambda row, words, answer, before: [open_case(row, words, answer)],
+    "@run": lambda row, words, answer, before: run_cases(row, *words, answer),
+    "@report": lambda row, words, answer, before: [report_case(row, *words)],
+    "@strings": lambda row, words, answer, before: [strings_case(row, *words, answer)],
+}
 
 
 def cases_of(path):
     """The cases of a file, in its order."""
-    cases, before = [], []
+    cases, before, is_refused = [], [], False
     with open(path, encoding="utf-8") as file:
         lines = file.read().split("\n")
     for line in lines:
-        if not line or line.startswith(("# ", "## ")):
-            continue
-        words, arrow, answer = line.rpartition(ARROW)
-        if not arrow and not line.startswith("@"):
-            raise SystemExit(f"{path}: no arrow in {shown(line)!r}")
-        words = asked(words if arrow else line)
-        call, *others = words.split(" ")
-        if call.startswith("@"):
-            cases += families(line, call, others, answer, before)
-        else:
-            cases.append(Case(line, [words], lambda got, answer=answer: unlike(got[0], answer)))
+        if not line or line.startswith("## "):
+            is_refused = bool(line)
+        elif not line.startswith("# "):
+            for case in cases_of_row(path, line, before):
+                case.is_refused = is_refused
+                cases.append(case)
     return cases
 
 
-def lines_of_refusals():
-    """The lines that are asked with each request for memory refused in turn, too."""
-    lines = []
-    for path in files():
-        with open(path, encoding="utf-8") as file:
-            for part in file.read().split("\n\n"):
-                title, *rows = part.rstrip("\n").split("\n")
-                if title.startswith("## "):
-                    lines += [asked(row.rpartition(ARROW)[0]) for row in rows if not row.startswith("#")]
-    return lines
+def cases_of_row(path, line, before):
+    words, arrow, answer = line.rpartition(ARROW)
+    if not arrow and not line.startswith("@"):
+        raise SystemExit(f"{path}: no arrow in {shown(line)!r}")
+    words, answer = asked(words if arrow else line), TIMES.sub(lambda it: it[1] * int(it[2]), RANGE.sub(ranged, answer))
+    call, *others = words.split(" ")
+    if call == "@written":
+        before.append(others[0])
+    if call.startswith("@"):
+        return FAMILIES[call](line, others, answer, before)
+    return [Case(line, [words], lambda got: unlike(got[0], answer))]
 
 
-def files():
-    return sorted(glob.glob(os.path.join(TOP, "tests", "calls", "*.txt")))
+def programs():
+    """The programs that have rows, as they are built."""
+    names = sorted(os.listdir(os.path.join(TOP, "tests", "calls")))
+    return [os.path.join(TOP, "crates", it, "out", it) for it in names]
 
 
-def selected(only):
+def files(program):
+    """The files of rows of a program."""
+    return sorted(glob.glob(os.path.join(TOP, "tests", "calls", os.path.basename(program), "*.txt")))
+
+
+def selected(program, only=""):
     found = []
-    for path in files():
+    for path in files(program):
         name = os.path.basename(path)
         found += [it for it in cases_of(path) if only in it.row or only in name]
     return found
+
+
+def lines_of_refusals(program):
+    """The lines that are asked with each request for memory refused in turn, too."""
+    return [line for case in selected(program) if case.is_refused for line in case.lines]
 
 
 def answers_of(program, lines):
@@ -402,9 +590,15 @@ def answers_of(program, lines):
     return answers, None
 
 
-def run_calls(program, only="", is_verbose=False):
-    """Runs the rows, prints those that failed, and returns how many passed and failed."""
-    cases = selected(only)
+def run_calls(only="", is_verbose=False, chosen=()):
+    """Runs the rows of all programs or of those that are chosen, prints those that failed, and returns how many passed and
+    failed."""
+    counts = [run_program(program, only, is_verbose) for program in chosen or programs()]
+    return sum(passed for passed, _ in counts), sum(failed for _, failed in counts)
+
+
+def run_program(program, only="", is_verbose=False):
+    cases = selected(program, only)
     answers, wrong = answers_of(program, [line for case in cases for line in case.lines])
     if wrong:
         print(f"FAILED {wrong}")
@@ -422,19 +616,18 @@ def run_calls(program, only="", is_verbose=False):
 
 
 def main():
-    words = argparse.ArgumentParser(description="Runs the rows of tests/calls/*.txt on the built cddl_calls.")
-    words.add_argument("program", nargs="?")
+    words = argparse.ArgumentParser(description="Runs the rows of tests/calls on the programs that answer calls.")
+    words.add_argument("programs", nargs="*")
     words.add_argument("--count", action="store_true", help="print how many rows each file has")
     words.add_argument("--only", default="", help="only the rows whose line or whose file's name has this text")
     words.add_argument("-v", action="store_true", help="print each row that passed too")
     given = words.parse_args()
     if given.count:
-        for path in files():
-            print(f"{os.path.basename(path)}: {len(cases_of(path))}")
+        for program in programs():
+            for path in files(program):
+                print(f"{os.path.basename(path)}: {len(cases_of(path))}")
         return 0
-    if not given.program:
-        words.error("give PROGRAM or --count")
-    passed, failed = run_calls(os.path.abspath(given.program), given.only, given.v)
+    passed, failed = run_calls(given.only, given.v, [os.path.abspath(it) for it in given.programs])
     print(f"{passed} passed, {failed} failed")
     return 1 if failed or not passed else 0
 

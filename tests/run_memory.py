@@ -1,11 +1,11 @@
 #!/usr/bin/env python3
 """Runs the program, calls, and tests that were built, with each request for memory refused in turn, by tests/refuse.c.
 
-    run_memory.py PROGRAM CALLS [TESTS ..]
+    run_memory.py PROGRAM [TESTS ..]
 
 A run of the program whose request was refused has to end as the run with ample memory does; or with status 3 and the one line
-'out of memory' on standard error, where what it printed before is a beginning of what it prints with ample memory. CALLS, the program cddl_calls, reads the
-rows of tests/calls that are for this (tests/run_calls.py): each answer has to be that with ample memory, or to say 'no memory', and
+'out of memory' on standard error, where what it printed before is a beginning of what it prints with ample memory. The built
+programs that answer calls read those rows of tests/calls that are for this (tests/run_calls.py): each answer has to be that with ample memory, or to say 'no memory', and
 a reader of items that had none answers so from then on; or the program ends with status 3 and that line. Of TESTS, programs that 'rt test' made, the tests named '.._wants_memory' are run, and have to pass with each request refused. There is a
 line for each command and each test with its number of requests. The last line is 'N passed, M failed', and the status is 0
 only where none failed.
@@ -19,7 +19,7 @@ import sys
 import tempfile
 from concurrent.futures import ThreadPoolExecutor
 
-from run_calls import lines_of_refusals
+from run_calls import lines_of_refusals, programs
 
 HERE = os.path.dirname(os.path.abspath(__file__))
 TOP = os.path.dirname(HERE)
@@ -84,8 +84,39 @@ def lines_in(out):
     return out.decode(errors="replace").split("\n")[:-1]
 
 
+def is_lost_session(want, it):
+    """Whether a session answers as it should up to want of memory, and keeps to that."""
+    lost = next((at for at, (a, b) in enumerate(zip(want, it)) if a != b), None)
+    if lost is None or len(want) != len(it) or not it[lost].endswith("no memory"):
+        return False
+    if not want[lost].startswith(it[lost].removesuffix("no memory")):
+        return False
+    return len(it) == 1 or it[-1] == "none" and all(part == "no memory" for part in it[lost + 1:-1])
+
+
+def is_lost_run(want, it):
+    """Whether a run wrote just what the items before want of memory have, or all but the line of the end was made again."""
+    items = re.match(r"no memory after (\d+);", it[0])
+    if items and not want[1].startswith("item "):
+        return want[1].startswith(it[1].replace("none", ""))
+    return it[1:] == (want[1:int(items[1]) + 1] or ["none"]) if items else it[0].startswith("no memory for a line;") and it[1:] == want[1:]
+
+
+def wants_memory(call, want, it):
+    """Whether this is an answer that says so, where the call may. A machine says so only where it lacks room at its
+    beginning, or has no room for one more question."""
+    if call.startswith("session."):
+        return is_lost_session(want.split(" | "), it.split(" | "))
+    if call.startswith("run."):
+        return is_lost_run(want.split(" / "), it.split(" / "))
+    open_at_most = re.search(r"at most (\d+) open", want)
+    if open_at_most:
+        return it == "no room" or "no memory" in it and int(open_at_most[1]) > int(call.split(" ")[3])
+    return "no memory" in it
+
+
 def are_answers(calls, ample, told):
-    """Whether a run of calls answers each as with ample memory, or with want of it; a reader keeps to that."""
+    """Whether a run of calls answers each as with ample memory, or with want of it; a reader of items keeps to that."""
     wanted, got = lines_in(ample[1]), lines_in(told[1])
     is_lost = False
     for call, want, it in zip(calls, wanted, got):
@@ -93,7 +124,7 @@ def are_answers(calls, ample, told):
         is_lost = is_lost and name != "read.new"
         if is_lost and name in ("read.feed", "read.feed_all", "read.at_end"):
             want = "no memory"
-        if it != want and "no memory" not in it and not (is_lost and it == "none"):
+        if it != want and not wants_memory(call, want, it) and not (is_lost and it == "none"):
             return False
         is_lost = is_lost or name in ("read.feed", "read.feed_all") and re.search(r"(^|; )no memory$", it) is not None
     is_whole = len(got) == len(wanted) == len(calls) and told[0] == 0 and not told[2]
@@ -121,13 +152,13 @@ def tests_of(program):
 
 
 def run_lines(calls, shim, folder, pool):
-    """The same of the lines that are asked of the program of calls."""
-    lines = lines_of_refusals()
+    """The same of the lines that are asked of a program of calls."""
+    lines = lines_of_refusals(calls)
     given = "".join(f"{it}\n" for it in lines).encode()
-    return run_command([os.path.abspath(calls)], shim, folder, pool, lambda ample, told: are_answers(lines, ample, told), given)
+    return run_command([calls], shim, folder, pool, lambda ample, told: are_answers(lines, ample, told), given)
 
 
-def run_memory(program, calls, tests=()):
+def run_memory(program, tests=()):
     """Runs all commands, the calls, and these tests, and returns how many passed and failed."""
     passed = failed = 0
     with tempfile.TemporaryDirectory() as folder, ThreadPoolExecutor(AT_ONCE) as pool:
@@ -147,9 +178,10 @@ def run_memory(program, calls, tests=()):
             passed, failed = passed + good, failed + (not good)
             told = command[0] + (" a text" if "\n" in "".join(command) else " an example")
             print(f"{told}: {made} requests, {'passed' if good else 'FAILED'}", flush=True)
-        good, made = run_lines(calls, shim, folder, pool)
-        passed, failed = passed + good, failed + (not good)
-        print(f"calls: {made} requests, {'passed' if good else 'FAILED'}", flush=True)
+        for calls in programs():
+            good, made = run_lines(calls, shim, folder, pool)
+            passed, failed = passed + good, failed + (not good)
+            print(f"{os.path.basename(calls)}: {made} requests, {'passed' if good else 'FAILED'}", flush=True)
         for path in tests:
             for name in tests_of(path):
                 good, made = run_command([os.path.abspath(path), name], shim, folder, pool, passes)
@@ -161,10 +193,9 @@ def run_memory(program, calls, tests=()):
 def main():
     words = argparse.ArgumentParser(description="Refuses each request of a program for memory in turn.")
     words.add_argument("program")
-    words.add_argument("calls")
     words.add_argument("tests", nargs="*")
     given = words.parse_args()
-    passed, failed = run_memory(given.program, given.calls, given.tests)
+    passed, failed = run_memory(given.program, given.tests)
     print(f"{passed} passed, {failed} failed")
     return 1 if failed else 0
 

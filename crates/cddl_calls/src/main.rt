@@ -1,59 +1,41 @@
-//! Answers calls: a line on standard input names a public call and its arguments, and the line that is printed for it is its
-//! answer. `tests/run_calls.py` explains both, and has the rows that are asked.
-//!
-//! What is refused for want of memory by a call is answered by `no memory`, and the next line is asked. Where the program itself
-//! has no memory, it ends with the status 3.
+//! Answers calls of `cddl_literal`, `cddl_token` and `check_terms`.
 #![tactic(auto)]
 
-mod desk;
-mod device;
-mod form_calls;
-mod item_calls;
-mod items;
-mod read_calls;
-mod words;
-mod write_calls;
+mod literal_calls;
+mod term_calls;
+mod token_calls;
 
-use crate::desk::Desk;
-use std::io::{self, ErrorKind, Read};
+use call_lines::{all_lines, first, status_of};
+use std::alloc::{AllocError, Global};
+use std::io;
 use std::process::ExitCode;
 
 fn main(rt: HostRuntime) -> ExitCode {
-    let status = match answer_all(&rt) {
-        Ok(()) => 0,
-        Err(error) => status_of(&rt, &error),
-    };
-    ExitCode::from(status)
+    status_of(&rt, &answer_lines(&rt))
 }
 
-// Says why not all lines were answered.
-fn status_of(rt: &HostRuntime, error: &io::Error) -> u8 {
-    if error.kind() == ErrorKind::OutOfMemory {
-        let _ = eprintln!(rt; "out of memory");
-        return 3;
-    }
-    1
-}
-
-fn answer_all(rt: &HostRuntime) -> io::Result<()> {
-    let mut input = Vec::new(rt.alloc());
-    rt.stdin().read_to_end(&mut input)?;
-    match str::from_utf8(&input) {
-        Ok(text) => answer_lines(rt, text),
-        Err(_) => Err(io::Error::from(ErrorKind::InvalidData)),
-    }
-}
-
-fn answer_lines(rt: &HostRuntime, text: &str) -> io::Result<()> {
-    let mut desk = Desk::new(rt.alloc())?;
-    for line in text.lines() {
-        print_answer(rt, &mut desk, line)?;
+fn answer_lines(rt: &HostRuntime) -> io::Result<()> {
+    let text = all_lines(rt)?;
+    for line in text.as_str().lines() {
+        print_answer(rt, line)?;
     }
     Ok(())
 }
 
-fn print_answer(rt: &HostRuntime, desk: &mut Desk, line: &str) -> io::Result<()> {
+fn print_answer(rt: &HostRuntime, line: &str) -> io::Result<()> {
     let mut out = String::new(rt.alloc());
-    desk.answer(line, &mut out)?;
+    answer(rt.alloc(), line, &mut out)?;
     println!(rt; "{out}")
+}
+
+// Adds the answer to a line.
+fn answer(alloc: Global, line: &str, out: &mut String) -> Result<(), AllocError> {
+    let (call, words) = first(line);
+    let (room, name) = call.split_once('.').unwrap_or((call, ""));
+    match room {
+        "literal" => literal_calls::answer(alloc, name, words, out),
+        "terms" => term_calls::answer(alloc, name, words, out),
+        "token" => token_calls::answer(alloc, name, words, out),
+        _ => out.push_str("no such call"),
+    }
 }
