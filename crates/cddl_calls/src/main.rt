@@ -1,9 +1,15 @@
-//! Answers calls of `cddl_literal`, `cddl_token` and `check_terms`.
+//! Answers calls of what reads the texts of specifications: `cddl_literal`, `cddl_token`, `check_terms`, `check_literals` and
+//! `check_names`; and of `graphs` and `alternatives`.
 #![tactic(auto)]
 
+mod graph_calls;
 mod literal_calls;
+mod name_calls;
+mod part_calls;
 mod term_calls;
+mod text_calls;
 mod token_calls;
+mod value_calls;
 
 use call_lines::{all_lines, first, status_of};
 use std::alloc::{AllocError, Global};
@@ -33,8 +39,13 @@ fn answer(alloc: Global, line: &str, out: &mut String) -> Result<(), AllocError>
     let (call, words) = first(line);
     let (room, name) = call.split_once('.').unwrap_or((call, ""));
     match room {
+        "graph" => graph_calls::answer(alloc, name, words, out),
         "literal" => literal_calls::answer(alloc, name, words, out),
+        "names" => name_calls::answer(alloc, words, out),
+        "parts" => part_calls::answer(alloc, name, words, out),
         "terms" => term_calls::answer(alloc, name, words, out),
+        "texts" => text_calls::answer(alloc, name, words, out),
+        "value" => value_calls::answer(alloc, name, words, out),
         "token" => token_calls::answer(alloc, name, words, out),
         _ => out.push_str("no such call"),
     }
