@@ -11,7 +11,8 @@ A row is one line, 'CALL WORD.. -> ANSWER'. The program reads the line up to the
 the answer. '-> ' at the end of a line is an empty answer. Lines that begin with '# ' say what the rows after them show. With
 '## ' these, up to an empty line, are asked with each request for memory refused in turn, too (tests/run_memory.py). What a row expects comes from an RFC or from docs/, never from what the program printed. A call is named 'ROOM.NAME':
 item, device, read and form are of cbor_item, its devices, cbor_read and read_items; literal, token, terms and match of cddl_literal,
-cddl_token, check_terms, and table_nodes with cddl_match; session and run of seq_run. These are the words:
+cddl_token, check_terms, and table_nodes with cddl_match; session and run of seq_run; text and root of what the
+rooms of cddl_check tell of a text, and of what its root leads to. These are the words:
 
   8101+00*3     bytes in hex; parts with '+' between them are one after the other, and '*' says how often a part is there
   "a = \\x01"    the same bytes as text, with the escapes \\" \\\\ \\n \\r \\t \\0, \\u{e9} for a character, and \\xe9 for a byte

@@ -1,7 +1,7 @@
-//! The offset of a fault in what a root reaches, by the name of the call that a test asks.
+//! The offset of a fault in what a root reaches, by the name of the call that is asked.
 
 use crate::chain::{Meant, sites_in};
-use crate::telling::{order_in, text_in};
+use crate::roots_told::{order_in, text_in};
 use check_names::environment::names;
 use check_reading::survey::Survey;
 use check_root::control_faults::{bad_controller, not_literal};

@@ -1,9 +1,9 @@
-//! All that is known of the instances of a text, by the calls that lead there from the text, for tests that ask of it.
+//! All that is known of the instances of a text, by the calls that lead there from the text.
 
 ghost use Rattle.cddl_tree.specs.States.{EndsInEnd};
 
-use crate::faults::fault_of;
-use crate::telling::told;
+use crate::root_faults::fault_of;
+use crate::roots_told::told;
 use alternatives::summaries;
 use cddl_token::{Token, tokens};
 use cddl_tree::{parse, tokens_end};

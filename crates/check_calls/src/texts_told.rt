@@ -1,12 +1,12 @@
-//! What is told of a text, by the name of what a test asks.
+//! What is told of a text, by the name of what is asked.
 
 ghost use Rattle.cddl_tree.specs.States.{EndsInEnd};
 
-use crate::faults::fault_in;
 use crate::live::live_names;
 use crate::reader::{are_alike, is_read_again};
 use crate::sites::listed;
 use crate::survey::kind_of;
+use crate::text_faults::fault_in;
 use cddl_token::{Token, tokens};
 use cddl_tree::{parse, tokens_end};
 use check_reading::survey::{Survey, survey_of};
@@ -28,7 +28,7 @@ fn surveyed(
     if what == "live" {
         return live_names(alloc, terms, tree, survey);
     }
-    match what.strip_prefix("kind of ") {
+    match what.strip_prefix("kind:") {
         Some(name) => kind_of(alloc, terms, survey, name),
         None => fault_in(alloc, terms, tree, survey, what),
     }

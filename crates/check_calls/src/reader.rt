@@ -1,49 +1,10 @@
-//! Tests of whether two definitions have the same body, told by numbers, and of operations that are read again.
+//! Whether two definitions have the same body, told by numbers, and of operations that are read again.
 
-use crate::rows::{first_other, is_right};
-use crate::telling::text_in;
+use crate::texts_told::text_in;
 use check_reading::reader::{read, read_operation};
 use check_terms::{Body, Definition, Terms};
 use std::alloc::Global;
 use tree_nodes::{Rule, Tree, Type1};
-
-/// Specifications whose first two definitions have one body, as only spans differ.
-const ALIKE: &str = "alike | yes | a = int / tstr b = int/tstr
-alike | yes | a = {? x: 1..5, * k ^ => v} b = { ?x:1..5 ,*k^=>v }
-alike | yes | a = t<p, [q // r], #6.3(s)> b = t<p,[q//r],#6.3( s )>
-alike | yes | a = &(x: 1, 'y': 2) b = & ( x:1,'y':2 )
-alike | yes | a = tstr .size (1..3) b = tstr  .size ( 1..3 )
-alike | yes | a = (? int, b) b = (?int,b)
-alike | yes | a<p, q> = p b<q> = p
-alike | yes | a = x a /= x";
-
-/// Specifications whose first two definitions differ in their bodies.
-const UNLIKE: &str = "alike | no | a = 1..2 b = 2..1
-alike | no | a = 1..2 b = 1...2
-alike | no | a = [x, y] b = [x y]
-alike | no | a = {x => y} b = {x ^ => y}
-alike | no | a = {x => y} b = {x: y}
-alike | no | a = {? x: y} b = {x: y}
-alike | no | a = t<p, q> b = t<q, p>
-alike | no | a = t<p, q, r> b = t<p, q>
-alike | no | a = t<p> b = t
-alike | no | a = x / y b = y / x
-alike | no | a = [x // y] b = [y // x]
-alike | no | a = [x // y] b = [y]
-alike | no | a = int .size 3 b = int .bits 3
-alike | no | a = [x] b = {x}
-alike | no | a = #6.<x>(y) b = #6.<y>(x)
-alike | no | a = #6.3(x) b = #6.4(x)
-alike | no | a = ~x b = x
-alike | no | a = &(x) b = [x]
-alike | no | a = 1 b = '1'
-alike | no | a = (x) b = (x, y)";
-
-/// Specifications whose first body is an operation.
-const OPERATIONS: &str = "again | yes | a = 1..2
-again | yes | a = 1...x
-again | yes | a = (1 / 2) .eq [3]
-again | yes | a = 'x' .cat y<z>";
 
 fn has_number(body: Body, other: Body) -> bool {
     match (body, other) {
@@ -127,16 +88,4 @@ pub(crate) fn is_read_again<'s>(
         }
         Err(_) => None,
     }
-}
-
-#[test]
-fn tells_terms_apart(rt: HostRuntime) {
-    assert!(rt; first_other(rt.alloc(), ALIKE) == None);
-    assert!(rt; first_other(rt.alloc(), UNLIKE) == None);
-}
-
-#[test]
-fn reads_operations_again(rt: HostRuntime) {
-    assert!(rt; first_other(rt.alloc(), OPERATIONS) == None);
-    assert!(rt; is_right(rt.alloc(), "again | - | a = (1..2)"));
 }

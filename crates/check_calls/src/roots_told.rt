@@ -1,4 +1,4 @@
-//! What is told of the instances of a text, by the name of the call that a test asks.
+//! What is told of the instances of a text, by the name of the call that is asked.
 
 use crate::chain::{Meant, Opened};
 use crate::coming::of_coming_back;
@@ -35,7 +35,7 @@ pub(crate) fn told(
         "entries" => of_asked(alloc, &meant.reached.questions.entries),
         "spliced" => of_spliced(alloc, &meant.groups.spliced),
         "back" => of_coming_back(alloc, terms, meant),
-        "wrong maps" => of_map_faults(alloc, terms, meant),
+        "wrong_maps" => of_map_faults(alloc, terms, meant),
         "order" => order_of(alloc, terms, meant),
         "nodes" => nodes_in(alloc, terms, meant),
         _ => of_each(alloc, terms, meant, what),
