@@ -42,8 +42,6 @@ OUTLINE = os.path.join(TOP, "crates", "cddl_outline", "out", "cddl_outline")
 ANSWERS = programs()
 CALLS = archive_in(TOP)
 PROGRAM = os.path.join(TOP, "build", "cddlseq")
-# the tests that are run with requests for memory refused
-TESTS = [os.path.join(TOP, "crates", it, "out", f"{it}_tests") for it in ("tool_tests",)]
 # Each step may take a few gigabytes.
 STEPS_AT_ONCE = 3
 # What a check may take, in KiB.
@@ -132,7 +130,7 @@ def rows(rt):
         ("calls for C, and the rows through them and through Python", lambda: run_library(os.path.dirname(PROGRAM))),
         ("random streams as a file and in pieces", lambda: random_cuts.compare(PROGRAM)),
         ("random items whose pairs are in two orders", lambda: random_orders.compare(PROGRAM)),
-        ("commands, calls and tests with each request for memory refused", lambda: run_memory(PROGRAM, TESTS)),
+        ("commands and calls with each request for memory refused", lambda: run_memory(PROGRAM)),
         ("comparisons of the man page with the program's help", lambda: (1, 0) if is_page_right(PROGRAM) else (0, 1)),
         ("comparisons of the completions with the program's help", lambda: (1, 0) if are_completions_right(PROGRAM) else (0, 1)),
         ("rows of the grammar", lambda: run_grammar(OUTLINE)),

@@ -50,7 +50,13 @@ has nothing in it. A refusal is the name of its kind, with 'at' its place. Reade
                                the line of the end, or why there is none; how many bytes were read of a device that gives at most
                                SIZE at once, and how many were asked for at once; and what was written, each line after ' / '.
                                So do run.end_line, run.rewrite and run.deterministic
-  terms.ask WORD..             calls of one new table of terms, each with its answer
+  terms.ask WORD..             calls of one new table of terms, each with its answer: add:FORM, add_node:FORM:TEXT:FIRST:SECOND,
+                               fill:BODY:PARAMETERS:ARGUMENTS and others; '=3' is the number that the third word answered
+
+  tool.act SOURCE SINK SPEC STREAM WORD..
+                               the status of a command, standard error and the output, as text in quotes or in hex. A source
+                               cut:2 gives two pieces, and Other:2 fails so after two bytes; a sink has room for so many bytes,
+                               and then 'fails' or 'stops'
 
 A row whose call begins with '@' stands for many:
 
@@ -72,10 +78,16 @@ A row whose call begins with '@' stands for many:
   @run ROOT SIZES HEX KNOWN    the items, the end in short and its line, in pieces of these or of all sizes, by all calls of
                                sessions and by a run; the end is known after so many bytes, or at the end
   @report ROOT TIMES           the report of many small numbers
+  @cuts SPEC STREAM WORD..     tool.act for a stream in two pieces cut at each byte
+  @rooms SPEC STREAM WORD..    the same for a device that fails or stops at each byte of this output
+  @said ROOM TEXT NAME         what a device takes of what is said, however often it is asked
+  @fill PARAMETERS ARGUMENTS   what '[t, ~u, ]' is with these names as arguments
+  @shared TIMES                how many rows are added where a body that has 't' in 2 to so many places is filled
   @strings ROOT N              what it says of 1 in so many byte strings, each in the next one
 """
 import argparse
 import glob
+import json
 import os
 import re
 import subprocess
@@ -98,8 +110,8 @@ class Case:
 
     def __init__(self, row, lines, fault):
         self.row, self.lines, self.fault = row, lines, fault
-        # whether the lines are asked with each request for memory refused in turn, too
-        self.is_refused = False
+        # the part of its file whose lines are asked with each request for memory refused in turn, too
+        self.refused = None
 
 
 def unescaped(text):
@@ -407,6 +419,70 @@ def strings_case(row, root, count, answer):
     return Case(row, [f"match.verdict {root} 100000 {held.hex()}"], lambda answers: unlike(answers[0], answer))
 
 
+# Terms
+
+class Words:
+    """Words of terms.ask, each of which names the words before it whose numbers it takes."""
+
+    def __init__(self):
+        self.words = []
+
+    def add(self, word):
+        self.words.append(word)
+        return f"={len(self.words)}"
+
+    def node(self, form, text="", first="", second=""):
+        return self.add(f"add_node:{form}:{text}:{first}:{second}")
+
+    def name(self, form, text):
+        return self.node(form, "", self.node("Call", text, self.node("NoTerms")))
+
+    def pair(self, one, form, other):
+        """'[one, other, ]', where the other may have a '~'."""
+        entries = self.node("NoEntries")
+        for value in (self.name("Named", one), self.name(form, other)):
+            entries = self.node("EntriesComma", "", entries, self.node("Typed", "", value))
+        return self.node("ArrayOf", "", self.node("Sole", "", entries))
+
+
+def fill_case(row, parameters, arguments, answer):
+    """'[t, ~u, ]' with these parameters and these names as arguments is the answer, which is built after it."""
+    words = Words()
+    body = words.pair("t", "Unwrapped", "u")
+    texts = [words.add(f"add_text:{it}") for it in parameters.split(",")]
+    names = [words.name("Named", it) for it in arguments.split(",")]
+    filled = int(words.add(f"fill:{body}:{','.join(texts)}:{','.join(names)}")[1:])
+    one, other = answer.split(" ")
+    words.pair(one, "Unwrapped" if other.startswith("~") else "Named", other.lstrip("~"))
+
+    def fault(answers):
+        numbers = answers[0].split(" ")
+        return None if numbers[filled - 1] == numbers[-1] and numbers[-1].isdigit() else answers[0]
+    return Case(row, [f"terms.ask {' '.join(words.words)}"], fault)
+
+
+def shared_case(row, times, answer):
+    """A name in 2 to so many places is filled, and so many rows are added."""
+    def doubled(name):
+        value = words.name("Named", name)
+        for _ in range(int(times)):
+            value = words.node("Or", "", value, value)
+        return value
+    words = Words()
+    body, text = doubled("t"), words.add("add_text:t")
+    words.add("len")
+    before, name = len(words.words), words.name("Named", "int")
+    filled = int(words.add(f"fill:{body}:{text}:{name}")[1:])
+    words.add("len")
+    doubled("int")
+
+    def fault(answers):
+        numbers = answers[0].split(" ")
+        same = numbers[filled - 1] == numbers[-1]
+        return unlike(str(int(numbers[filled]) - int(numbers[before - 1])), answer) if same else "another term"
+    return Case(row, [f"terms.ask {' '.join(words.words)}"], fault)
+
+
 # Sessions and runs
 
 SHORT_ENDS = [
@@ -496,6 +572,29 @@ def report_case(row, root, times):
     return Case(row, lines, lambda answers: first_fault(unlike(it.split(" / ")[1:], report) for it in answers))
 
 
+# The program
+
+def cuts_case(row, spec, stream, words, answer):
+    """The stream as a whole, and cut in two at each byte."""
+    given = "" if stream == "-" else stream
+    length = max(len(bytes_of(given)), 1)
+    lines = [f"tool.act cut:{cut} 1000:fails {spec} {given} {words}" for cut in range(1, length + 1)]
+    return Case(row, lines, lambda answers: first_fault(unlike(it, answer) for it in answers))
+
+
+def rooms_case(row, spec, stream, words, answer):
+    """A device that has room for all but some bytes of the output."""
+    written = json.loads(answer.split(" ", 2)[2])
+    lines = [f"tool.act cut:1 {room}:{end} {spec} {stream} {words}" for room in range(len(written)) for end in ("fails", "stops")]
+    wanted = [f'3 "write failed after {at // 2} bytes\\n" {json.dumps(written[:at // 2])}' for at in range(len(lines))]
+    return Case(row, lines, lambda answers: first_fault(map(unlike, answers, wanted)))
+
+
+def said_case(row, words, answer):
+    """What a device takes, however often it is asked."""
+    return Case(row, [f"tool.say {words}"], lambda answers: unlike(re.sub(r", writes \d+", "", answers[0]), answer))
+
+
 # Rows
 
 def stream_of_row(row, words, answer):
@@ -520,21 +619,26 @@ FAMILIES = {
     "@open": lambda row, words, answer, before: [open_case(row, words, answer)],
     "@run": lambda row, words, answer, before: run_cases(row, *words, answer),
     "@report": lambda row, words, answer, before: [report_case(row, *words)],
+    "@cuts": lambda row, words, answer, before: [cuts_case(row, *words[:2], " ".join(words[2:]), answer)],
+    "@rooms": lambda row, words, answer, before: [rooms_case(row, *words[:2], " ".join(words[2:]), answer)],
+    "@said": lambda row, words, answer, before: [said_case(row, " ".join(words), answer)],
+    "@fill": lambda row, words, answer, before: [fill_case(row, *words, answer)],
+    "@shared": lambda row, words, answer, before: [shared_case(row, *words, answer)],
     "@strings": lambda row, words, answer, before: [strings_case(row, *words, answer)],
 }
 
 
 def cases_of(path):
     """The cases of a file, in its order."""
-    cases, before, is_refused = [], [], False
+    cases, before, refused = [], [], None
     with open(path, encoding="utf-8") as file:
         lines = file.read().split("\n")
     for line in lines:
         if not line or line.startswith("## "):
-            is_refused = bool(line)
+            refused = (path, len(cases)) if line else None
         elif not line.startswith("# "):
             for case in cases_of_row(path, line, before):
-                case.is_refused = is_refused
+                case.refused = refused
                 cases.append(case)
     return cases
 
@@ -571,9 +675,13 @@ def selected(program, only=""):
     return found
 
 
-def lines_of_refusals(program):
-    """The lines that are asked with each request for memory refused in turn, too."""
-    return [line for case in selected(program) if case.is_refused for line in case.lines]
+def parts_of_refusals(program):
+    """The lines that are asked with each request for memory refused in turn, too, by the parts of the files that they are in."""
+    parts = {}
+    for case in selected(program):
+        if case.refused:
+            parts.setdefault(case.refused, []).extend(case.lines)
+    return list(parts.values())
 
 
 def answers_of(program, lines):

@@ -1,15 +1,14 @@
 #!/usr/bin/env python3
-"""Runs the program, calls, and tests that were built, with each request for memory refused in turn, by tests/refuse.c.
+"""Runs the program, and the programs that answer calls, with each request for memory refused in turn, by tests/refuse.c.
 
-    run_memory.py PROGRAM [TESTS ..]
+    run_memory.py PROGRAM
 
 A run of the program whose request was refused has to end as the run with ample memory does; or with status 3 and the one line
 'out of memory' on standard error, where what it printed before is a beginning of what it prints with ample memory. The built
 programs that answer calls read those rows of tests/calls that are for this (tests/run_calls.py): each answer has to be that with
 ample memory, or to say 'no memory', and a reader of items that had none answers so from then on; or the program ends with status
-3 and that line. Of TESTS, programs that 'rt test' made, the tests named '.._wants_memory' are run, and have to pass with each
-request refused. There is a line for each command, each program of calls and each test with its number of requests. The last line
-is 'N passed, M failed', and the status is 0 only where none failed.
+3 and that line. There is a line for each command and each program of calls with its number of requests. The last line is 'N
+passed, M failed', and the status is 0 only where none failed.
 """
 import argparse
 import os
@@ -20,7 +19,7 @@ import sys
 import tempfile
 from concurrent.futures import ThreadPoolExecutor
 
-from run_calls import lines_of_refusals, programs
+from run_calls import parts_of_refusals, programs, unescaped
 
 HERE = os.path.dirname(os.path.abspath(__file__))
 TOP = os.path.dirname(HERE)
@@ -76,11 +75,6 @@ def is_right(ample, told):
     return told == ample or (status == 3 and err == b"out of memory\n" and ample[1].startswith(out))
 
 
-def passes(ample, told):
-    """Whether a test passes, with ample memory and without."""
-    return ample[0] == 0 and told == ample
-
-
 def lines_in(out):
     return out.decode(errors="replace").split("\n")[:-1]
 
@@ -103,11 +97,31 @@ def is_lost_run(want, it):
     return it[1:] == (want[1:int(items[1]) + 1] or ["none"]) if items else it[0].startswith("no memory for a line;") and it[1:] == want[1:]
 
 
+ACTED = re.compile(r'(\d) ("(?:[^"\\]|\\.)*") (.*)')
+
+
+def written_of(shown):
+    """The bytes that an answer shows, as text in quotes or in hex."""
+    return unescaped(shown[1:-1]) if shown.startswith('"') else bytes.fromhex(shown.replace("none", ""))
+
+
+def is_lost_act(want, it):
+    """Whether the program told want of memory, after a beginning of what it is to write; or did not come to act."""
+    wanted, got = ACTED.fullmatch(want), ACTED.fullmatch(it)
+    if not got:
+        return it == "no options"
+    return got[1] == "3" and got[2] == '"out of memory\\n"' and written_of(wanted[3]).startswith(written_of(got[3]))
+
+
 def wants_memory(call, want, it):
     """Whether this is an answer that says so, where the call may. A machine says so only where it lacks room at its
     beginning, or has no room for one more question."""
     if call.startswith("session."):
         return is_lost_session(want.split(" | "), it.split(" | "))
+    if call.startswith("tool.act "):
+        return is_lost_act(want, it)
+    if call.startswith("tool."):
+        return "no memory" in it or "out of memory" in it
     if call.startswith("run."):
         return is_lost_run(want.split(" / "), it.split(" / "))
     if call.startswith(("text.", "root.")):
@@ -147,22 +161,18 @@ def run_command(words, shim, folder, pool, is_right=is_right, given=b""):
     return not wrong, made
 
 
-def tests_of(program):
-    """The tests that hold with any request refused."""
-    listed = subprocess.run([program, "--list"], stdout=subprocess.PIPE, text=True, check=True).stdout
-    names = [line.split(": test")[0] for line in listed.splitlines()]
-    return [it for it in names if it.endswith("_wants_memory")]
-
-
 def run_lines(calls, shim, folder, pool):
-    """The same of the lines that are asked of a program of calls."""
-    lines = lines_of_refusals(calls)
-    given = "".join(f"{it}\n" for it in lines).encode()
-    return run_command([calls], shim, folder, pool, lambda ample, told: are_answers(lines, ample, told), given)
+    """The same of the lines that are asked of a program of calls, part by part."""
+    is_good, requests = True, 0
+    for lines in parts_of_refusals(calls):
+        given = "".join(f"{it}\n" for it in lines).encode()
+        good, made = run_command([calls], shim, folder, pool, lambda ample, told, it=lines: are_answers(it, ample, told), given)
+        is_good, requests = is_good and good, requests + made
+    return is_good, requests
 
 
-def run_memory(program, tests=()):
-    """Runs all commands, the calls, and these tests, and returns how many passed and failed."""
+def run_memory(program):
+    """Runs all commands and the calls, and returns how many passed and failed."""
     passed = failed = 0
     with tempfile.TemporaryDirectory() as folder, ThreadPoolExecutor(AT_ONCE) as pool:
         shim = f"{folder}/refuse.so"
@@ -185,20 +195,14 @@ def run_memory(program, tests=()):
             good, made = run_lines(calls, shim, folder, pool)
             passed, failed = passed + good, failed + (not good)
             print(f"{os.path.basename(calls)}: {made} requests, {'passed' if good else 'FAILED'}", flush=True)
-        for path in tests:
-            for name in tests_of(path):
-                good, made = run_command([os.path.abspath(path), name], shim, folder, pool, passes)
-                passed, failed = passed + good, failed + (not good)
-                print(f"{name}: {made} requests, {'passed' if good else 'FAILED'}", flush=True)
     return passed, failed
 
 
 def main():
     words = argparse.ArgumentParser(description="Refuses each request of a program for memory in turn.")
     words.add_argument("program")
-    words.add_argument("tests", nargs="*")
     given = words.parse_args()
-    passed, failed = run_memory(given.program, given.tests)
+    passed, failed = run_memory(given.program)
     print(f"{passed} passed, {failed} failed")
     return 1 if failed else 0
 
