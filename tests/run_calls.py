@@ -4,15 +4,23 @@
     run_calls.py [PROGRAM ..] [--only TEXT] [-v]
     run_calls.py --count
 
-With no PROGRAM the rows of all programs are run, on those that are built in crates/. Prints each row that failed, with what came, and last 'N passed, M failed'. --only takes the rows whose line, or whose file's
-name, has TEXT. --count runs nothing, and prints how many rows each file has. A row that stands for many counts as many.
+With no PROGRAM the rows of all programs are run, on those that are built in crates/. Prints each row that failed, with what came,
+and last 'N passed, M failed'. --only takes the rows whose line, or whose file's name, has TEXT. --count runs nothing, and prints
+how many rows each file has. A row that stands for many counts as many.
 
 A row is one line, 'CALL WORD.. -> ANSWER'. The program reads the line up to the arrow, and the line that it prints is to be
-the answer. '-> ' at the end of a line is an empty answer. Lines that begin with '# ' say what the rows after them show. With
-'## ' these, up to an empty line, are asked with each request for memory refused in turn, too (tests/run_memory.py). What a row expects comes from an RFC or from docs/, never from what the program printed. A call is named 'ROOM.NAME':
-item, device, read and form are of cbor_item, its devices, cbor_read and read_items; literal, token, terms and match of cddl_literal,
-cddl_token, check_terms, and table_nodes with cddl_match; session and run of seq_run; text and root of what the
-rooms of cddl_check tell of a text, and of what its root leads to. These are the words:
+the answer. Lines that begin with '# ' say what the rows after them show. With '## ' these, up to an empty line, are asked with
+each request for memory refused in turn, too (tests/run_memory.py). What a row expects comes from an RFC or from docs/, never from
+what the program printed. A call is named 'ROOM.NAME', mostly by the name of the function:
+
+  cbor_calls    item and device of cbor_item, read of cbor_read, form of read_items
+  cddl_calls    literal of cddl_literal, token of cddl_token, terms and texts of check_terms, value of check_literals::values and
+                cddl_literal::operators, names of check_names, prelude of check_reading, graph of graphs, parts of alternatives
+  check_calls   text and root: what the rooms of cddl_check tell of a text, and of what its root leads to; lesser and too_many
+  seq_calls     match of table_nodes and cddl_match, session and run of seq_run
+  tool_calls    tool of command_line and cddl_tool
+
+These are the words:
 
   8101+00*3     bytes in hex; parts with '+' between them are one after the other, and '*' says how often a part is there
   "a = \\x01"    the same bytes as text, with the escapes \\" \\\\ \\n \\r \\t \\0, \\u{e9} for a character, and \\xe9 for a byte
@@ -176,7 +184,8 @@ def form_case(row, words, answer):
         answers, faults = iter(answers), []
         for pieces in cuts:
             next(answers)
-            faults.append(unlike(form_of(pieces, [next(answers) for _ in pieces]), answer, f"cut at {len(pieces[0]) if pieces else 0}: "))
+            told = form_of(pieces, [next(answers) for _ in pieces])
+            faults.append(unlike(told, answer, f"cut at {len(pieces[0]) if pieces else 0}: "))
         return first_fault(faults)
     return Case(row, lines, fault)
 
@@ -695,7 +704,8 @@ def answers_of(program, lines):
         return [], f"cannot run the program: {error}"
     answers = run.stdout.decode(errors="replace").split("\n")[:-1]
     if run.returncode or run.stderr or len(answers) != len(lines):
-        return answers, f"status {run.returncode}, {len(answers)} answers for {len(lines)} lines, standard error {run.stderr[:160]!r}"
+        told = f"status {run.returncode}, {len(answers)} answers for {len(lines)} lines"
+        return answers, f"{told}, standard error {run.stderr[:160]!r}"
     return answers, None
 
 

@@ -94,7 +94,9 @@ def is_lost_run(want, it):
     items = re.match(r"no memory after (\d+);", it[0])
     if items and not want[1].startswith("item "):
         return want[1].startswith(it[1].replace("none", ""))
-    return it[1:] == (want[1:int(items[1]) + 1] or ["none"]) if items else it[0].startswith("no memory for a line;") and it[1:] == want[1:]
+    if items:
+        return it[1:] == (want[1:int(items[1]) + 1] or ["none"])
+    return it[0].startswith("no memory for a line;") and it[1:] == want[1:]
 
 
 ACTED = re.compile(r'(\d) ("(?:[^"\\]|\\.)*") (.*)')

@@ -1,11 +1,12 @@
-//! Answers calls of what reads the texts of specifications: `cddl_literal`, `cddl_token`, `check_terms`, `check_literals` and
-//! `check_names`; and of `graphs` and `alternatives`.
+//! Answers calls of what reads the texts of specifications: `cddl_literal`, `cddl_token`, `check_terms`, `check_literals`,
+//! `check_names` and the prelude of `check_reading`; and of `graphs` and `alternatives`.
 #![tactic(auto)]
 
 mod graph_calls;
 mod literal_calls;
 mod name_calls;
 mod part_calls;
+mod prelude_calls;
 mod term_calls;
 mod text_calls;
 mod token_calls;
@@ -43,6 +44,7 @@ fn answer(alloc: Global, line: &str, out: &mut String) -> Result<(), AllocError>
         "literal" => literal_calls::answer(alloc, name, words, out),
         "names" => name_calls::answer(alloc, words, out),
         "parts" => part_calls::answer(alloc, name, words, out),
+        "prelude" => prelude_calls::answer(alloc, name, words, out),
         "terms" => term_calls::answer(alloc, name, words, out),
         "texts" => text_calls::answer(alloc, name, words, out),
         "value" => value_calls::answer(alloc, name, words, out),
