@@ -391,6 +391,11 @@ def assigns_case(row, word, answer):
 TURNS = re.compile(r"(.*), at most (\d+) open, steps (\d+)")
 
 
+def few_open(ranks, word):
+    """How many questions may be open at most of an item: by the ranks of the table and the item's bytes."""
+    return (int(ranks) + 1) * (len(bytes_of(word)) + 1)
+
+
 def judge_case(row, root, word, answer):
     lines = [f"match.verdict {root} 1000 {word}", f"match.turns {root} 1000 16 {word}", f"match.ranks_of {root}"]
 
@@ -398,8 +403,8 @@ def judge_case(row, root, word, answer):
         told = TURNS.fullmatch(answers[1])
         if not told or unlike(answers[0], answer):
             return unlike(answers[0], answer) or f"by turns {answers[1]!r}"
-        few = (int(answers[2]) + 1) * (len(bytes_of(word)) + 1)
-        return unlike(told[1], answer, "by turns: ") or (None if int(told[2]) <= few and int(told[3]) <= 1000 else answers[1])
+        is_few = int(told[2]) <= few_open(answers[2], word) and int(told[3]) <= 1000
+        return unlike(told[1], answer, "by turns: ") or (None if is_few else answers[1])
     return Case(row, lines, fault)
 
 
@@ -417,8 +422,10 @@ def steps_case(row, root, word, answer):
 def open_case(row, words, answer):
     def fault(answers):
         told = TURNS.fullmatch(answers[0])
-        return None if told and told[1] == answer and int(told[2]) > int(words[4]) else shown(answers[0])
-    return Case(row, [f"match.turns {' '.join(words[:4])}"], fault)
+        if not told or told[1] != answer or int(told[3]) > int(words[1]):
+            return shown(answers[0])
+        return None if int(words[4]) < int(told[2]) <= few_open(answers[1], words[3]) else shown(answers[0])
+    return Case(row, [f"match.turns {' '.join(words[:4])}", f"match.ranks_of {words[0]}"], fault)
 
 
 def strings_case(row, root, count, answer):
