@@ -684,17 +684,14 @@ def files(program):
 
 
 def selected(program, only=""):
-    found = []
-    for path in files(program):
-        name = os.path.basename(path)
-        found += [it for it in cases_of(path) if only in it.row or only in name]
-    return found
+    """All cases of a program, each with whether it is one that is wanted: the others may make what it is asked of."""
+    return [(it, only in it.row or only in os.path.basename(path)) for path in files(program) for it in cases_of(path)]
 
 
 def parts_of_refusals(program):
     """The lines that are asked with each request for memory refused in turn, too, by the parts of the files that they are in."""
     parts = {}
-    for case in selected(program):
+    for case, _ in selected(program):
         if case.refused:
             parts.setdefault(case.refused, []).extend(case.lines)
     return list(parts.values())
@@ -725,14 +722,16 @@ def run_calls(only="", is_verbose=False, chosen=()):
 
 def run_program(program, only="", is_verbose=False):
     cases = selected(program, only)
-    answers, wrong = answers_of(program, [line for case in cases for line in case.lines])
+    answers, wrong = answers_of(program, [line for case, _ in cases for line in case.lines])
     if wrong:
         print(f"FAILED {wrong}")
         return 0, max(len(cases), 1)
     passed = failed = at = 0
-    for case in cases:
-        fault = case.fault(answers[at:at + len(case.lines)])
-        at += len(case.lines)
+    for case, is_wanted in cases:
+        mine, at = answers[at:at + len(case.lines)], at + len(case.lines)
+        if not is_wanted:
+            continue
+        fault = case.fault(mine)
         passed, failed = (passed, failed + 1) if fault else (passed + 1, failed)
         if fault:
             print(f"FAILED {shown(case.row)}\n    {fault}")
