@@ -25,6 +25,7 @@ import random_cuts
 import random_orders
 import recognizer
 from processor_time import time_of_processes, told
+from run_calls import programs, run_calls
 from run_grammar import run_grammar
 from run_library import run_library
 from run_memory import run_memory
@@ -38,10 +39,9 @@ from library import archive_in, build, link
 
 PROVED = os.path.join(TOP, "crates", "cddlseq", "out", "cddlseq")
 OUTLINE = os.path.join(TOP, "crates", "cddl_outline", "out", "cddl_outline")
+ANSWERS = programs()
 CALLS = archive_in(TOP)
 PROGRAM = os.path.join(TOP, "build", "cddlseq")
-# the tests that are run with requests for memory refused
-TESTS = [os.path.join(TOP, "crates", it, "out", f"{it}_tests") for it in ("cbor_tests", "cddl_tests", "run_tests", "tool_tests")]
 # Each step may take a few gigabytes.
 STEPS_AT_ONCE = 3
 # What a check may take, in KiB.
@@ -107,7 +107,7 @@ def kept_proofs(rt):
     if not step("proofs", [*rt, "all", "check"], TOP):
         return 0, 1
     steps = [(f"tests of {os.path.basename(it)}", [*rt, "test", "--jobs", "1"], it) for it in crates_with("#[test]")]
-    steps += [(f"program {os.path.basename(it)}", [*rt, "run", "--", "--help"], crate_of(it)) for it in (PROVED, OUTLINE)]
+    steps += [(f"program {os.path.basename(it)}", [*rt, "run", "--", "--help"], crate_of(it)) for it in (PROVED, OUTLINE, *ANSWERS)]
     steps += [("library for C", [*rt, "lib"], crate_of(CALLS))]
     with ThreadPoolExecutor(STEPS_AT_ONCE) as pool:
         passed = list(pool.map(lambda it: step(*it), steps))
@@ -126,10 +126,11 @@ def rows(rt):
     passed = failed = 0
     for name, run in (
         ("rows on the built program", lambda: run_rows(PROGRAM)),
+        ("rows of public calls", run_calls),
         ("calls for C, and the rows through them and through Python", lambda: run_library(os.path.dirname(PROGRAM))),
         ("random streams as a file and in pieces", lambda: random_cuts.compare(PROGRAM)),
         ("random items whose pairs are in two orders", lambda: random_orders.compare(PROGRAM)),
-        ("commands and tests with each request for memory refused", lambda: run_memory(PROGRAM, TESTS)),
+        ("commands and calls with each request for memory refused", lambda: run_memory(PROGRAM)),
         ("comparisons of the man page with the program's help", lambda: (1, 0) if is_page_right(PROGRAM) else (0, 1)),
         ("comparisons of the completions with the program's help", lambda: (1, 0) if are_completions_right(PROGRAM) else (0, 1)),
         ("rows of the grammar", lambda: run_grammar(OUTLINE)),
@@ -155,7 +156,7 @@ def main():
         is_built = told("library for C", lambda: bool(build(words.rt, TOP)))
         passed, failed = passed + is_built, failed + (not is_built)
     # 'rt ci' set aside what earlier runs built, so these are the programs and the library that were proved just now
-    if failed or not all(os.path.isfile(it) for it in (PROVED, OUTLINE, CALLS)):
+    if failed or not all(os.path.isfile(it) for it in (PROVED, OUTLINE, *ANSWERS, CALLS)):
         print("the rows on the built programs are not run: there is no proved program, or no library")
         failed = max(failed, 1)
     else:

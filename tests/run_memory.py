@@ -1,21 +1,25 @@
 #!/usr/bin/env python3
-"""Runs the program, and tests that were built, with each request for memory refused in turn, by tests/refuse.c.
+"""Runs the program, and the programs that answer calls, with each request for memory refused in turn, by tests/refuse.c.
 
-    run_memory.py PROGRAM [TESTS ..]
+    run_memory.py PROGRAM
 
 A run of the program whose request was refused has to end as the run with ample memory does; or with status 3 and the one line
-'out of memory' on standard error, where what it printed before is a beginning of what it prints with ample memory. Of TESTS,
-programs that 'rt test' made, the tests named '.._wants_memory' are run, and have to pass with each request refused. There is a
-line for each command and each test with its number of requests. The last line is 'N passed, M failed', and the status is 0
-only where none failed.
+'out of memory' on standard error, where what it printed before is a beginning of what it prints with ample memory. The built
+programs that answer calls read those rows of tests/calls that are for this (tests/run_calls.py): each answer has to be that with
+ample memory, or to say 'no memory', and a reader of items that had none answers so from then on; or the program ends with status
+3 and that line. There is a line for each command and each program of calls with its number of requests. The last line is 'N
+passed, M failed', and the status is 0 only where none failed.
 """
 import argparse
 import os
+import re
 import shutil
 import subprocess
 import sys
 import tempfile
 from concurrent.futures import ThreadPoolExecutor
+
+from run_calls import parts_of_refusals, programs, unescaped
 
 HERE = os.path.dirname(os.path.abspath(__file__))
 TOP = os.path.dirname(HERE)
@@ -59,10 +63,10 @@ COMMANDS = [
 ]
 
 
-def run(words, shim, **how):
+def run(words, shim, given=b"", **how):
     """The status of a run, and what it printed on standard output and on standard error."""
     env = {**os.environ, **how, "LD_PRELOAD": shim}
-    ran = subprocess.run(words, env=env, stdin=subprocess.DEVNULL, stdout=subprocess.PIPE, stderr=subprocess.PIPE)
+    ran = subprocess.run(words, env=env, input=given, stdout=subprocess.PIPE, stderr=subprocess.PIPE)
     return ran.returncode, ran.stdout, ran.stderr
 
 
@@ -71,33 +75,106 @@ def is_right(ample, told):
     return told == ample or (status == 3 and err == b"out of memory\n" and ample[1].startswith(out))
 
 
-def passes(ample, told):
-    """Whether a test passes, with ample memory and without."""
-    return ample[0] == 0 and told == ample
+def lines_in(out):
+    return out.decode(errors="replace").split("\n")[:-1]
 
 
-def run_command(words, shim, folder, pool, is_right=is_right):
+def is_lost_session(want, it):
+    """Whether a session answers as it should up to want of memory, and keeps to that."""
+    lost = next((at for at, (a, b) in enumerate(zip(want, it)) if a != b), None)
+    if lost is None or len(want) != len(it) or not it[lost].endswith("no memory"):
+        return False
+    if not want[lost].startswith(it[lost].removesuffix("no memory")):
+        return False
+    return len(it) == 1 or it[-1] == "none" and all(part == "no memory" for part in it[lost + 1:-1])
+
+
+def is_lost_run(want, it):
+    """Whether a run wrote just what the items before want of memory have, or all but the line of the end was made again."""
+    items = re.match(r"no memory after (\d+);", it[0])
+    if items and not want[1].startswith("item "):
+        return want[1].startswith(it[1].replace("none", ""))
+    if items:
+        return it[1:] == (want[1:int(items[1]) + 1] or ["none"])
+    return it[0].startswith("no memory for a line;") and it[1:] == want[1:]
+
+
+ACTED = re.compile(r'(\d) ("(?:[^"\\]|\\.)*") (.*)')
+
+
+def written_of(shown):
+    """The bytes that an answer shows, as text in quotes or in hex."""
+    return unescaped(shown[1:-1]) if shown.startswith('"') else bytes.fromhex(shown.replace("none", ""))
+
+
+def is_lost_act(want, it):
+    """Whether the program told want of memory, after a beginning of what it is to write; or did not come to act."""
+    wanted, got = ACTED.fullmatch(want), ACTED.fullmatch(it)
+    if not got:
+        return it == "no options"
+    return got[1] == "3" and got[2] == '"out of memory\\n"' and written_of(wanted[3]).startswith(written_of(got[3]))
+
+
+def wants_memory(call, want, it):
+    """Whether this is an answer that says so, where the call may. A machine says so only where it lacks room at its
+    beginning, or has no room for one more question."""
+    if call.startswith("session."):
+        return is_lost_session(want.split(" | "), it.split(" | "))
+    if call.startswith("tool.act "):
+        return is_lost_act(want, it)
+    if call.startswith("tool."):
+        return "no memory" in it or "out of memory" in it
+    if call.startswith("run."):
+        return is_lost_run(want.split(" / "), it.split(" / "))
+    if call.startswith(("text.", "root.")):
+        return it == "no answer"
+    open_at_most = re.search(r"at most (\d+) open", want)
+    if open_at_most:
+        return it == "no room" or "no memory" in it and int(open_at_most[1]) > int(call.split(" ")[3])
+    return "no memory" in it
+
+
+def are_answers(calls, ample, told):
+    """Whether a run of calls answers each as with ample memory, or with want of it; a reader of items keeps to that."""
+    wanted, got = lines_in(ample[1]), lines_in(told[1])
+    is_lost = False
+    for call, want, it in zip(calls, wanted, got):
+        name = call.split(" ")[0]
+        is_lost = is_lost and name != "read.new"
+        if is_lost and name in ("read.feed", "read.feed_all", "read.at_end"):
+            want = "no memory"
+        if it != want and not wants_memory(call, want, it) and not (is_lost and it == "none"):
+            return False
+        is_lost = is_lost or name in ("read.feed", "read.feed_all") and re.search(r"(^|; )no memory$", it) is not None
+    is_whole = len(got) == len(wanted) == len(calls) and told[0] == 0 and not told[2]
+    return is_whole or told[0] == 3 and told[2] == b"out of memory\n" and len(got) <= len(wanted)
+
+
+def run_command(words, shim, folder, pool, is_right=is_right, given=b""):
     """Whether each run of a command is right, and how many requests for memory it makes."""
     count = f"{folder}/count"
-    ample = run(words, shim, COUNT=count)
+    ample = run(words, shim, given, COUNT=count)
     with open(count, encoding="ascii") as file:
         made = int(file.read())
-    told = pool.map(lambda number: (number, run(words, shim, REFUSE=str(number))), range(1, made + 1))
+    told = pool.map(lambda number: (number, run(words, shim, given, REFUSE=str(number))), range(1, made + 1))
     wrong = [(number, it) for number, it in told if not is_right(ample, it)]
     for number, it in wrong[:3]:
         print(f"with request {number} refused: status {it[0]}, {it[1][-200:]!r}, {it[2]!r}")
     return not wrong, made
 
 
-def tests_of(program):
-    """The tests that hold with any request refused."""
-    listed = subprocess.run([program, "--list"], stdout=subprocess.PIPE, text=True, check=True).stdout
-    names = [line.split(": test")[0] for line in listed.splitlines()]
-    return [it for it in names if it.endswith("_wants_memory")]
+def run_lines(calls, shim, folder, pool):
+    """The same of the lines that are asked of a program of calls, part by part."""
+    is_good, requests = True, 0
+    for lines in parts_of_refusals(calls):
+        given = "".join(f"{it}\n" for it in lines).encode()
+        good, made = run_command([calls], shim, folder, pool, lambda ample, told, it=lines: are_answers(it, ample, told), given)
+        is_good, requests = is_good and good, requests + made
+    return is_good, requests
 
 
-def run_memory(program, tests=()):
-    """Runs all commands, and these tests, and returns how many passed and failed."""
+def run_memory(program):
+    """Runs all commands and the calls, and returns how many passed and failed."""
     passed = failed = 0
     with tempfile.TemporaryDirectory() as folder, ThreadPoolExecutor(AT_ONCE) as pool:
         shim = f"{folder}/refuse.so"
@@ -116,20 +193,18 @@ def run_memory(program, tests=()):
             passed, failed = passed + good, failed + (not good)
             told = command[0] + (" a text" if "\n" in "".join(command) else " an example")
             print(f"{told}: {made} requests, {'passed' if good else 'FAILED'}", flush=True)
-        for path in tests:
-            for name in tests_of(path):
-                good, made = run_command([os.path.abspath(path), name], shim, folder, pool, passes)
-                passed, failed = passed + good, failed + (not good)
-                print(f"{name}: {made} requests, {'passed' if good else 'FAILED'}", flush=True)
+        for calls in programs():
+            good, made = run_lines(calls, shim, folder, pool)
+            passed, failed = passed + good, failed + (not good)
+            print(f"{os.path.basename(calls)}: {made} requests, {'passed' if good else 'FAILED'}", flush=True)
     return passed, failed
 
 
 def main():
     words = argparse.ArgumentParser(description="Refuses each request of a program for memory in turn.")
     words.add_argument("program")
-    words.add_argument("tests", nargs="*")
     given = words.parse_args()
-    passed, failed = run_memory(given.program, given.tests)
+    passed, failed = run_memory(given.program)
     print(f"{passed} passed, {failed} failed")
     return 1 if failed else 0
 

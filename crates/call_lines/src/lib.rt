@@ -1,0 +1,15 @@
+//! What the programs share that answer calls: a line on standard input names a public call and its arguments, and the line that
+//! is printed for it is its answer. `tests/run_calls.py` explains both, and has the rows that are asked.
+//!
+//! What is refused for want of memory by a call is answered by `no memory`, and the next line is asked. Where the program itself
+//! has no memory, it ends with the status 3.
+#![tactic(auto)]
+
+mod lines;
+mod words;
+
+pub use crate::lines::{all_lines, status_of};
+pub use crate::words::{
+    bytes, count, first, limit, number, push_bytes, push_hex, push_is, push_no_memory, push_none,
+    push_number, push_space, push_text,
+};

@@ -1,0 +1,37 @@
+//! What is kept from line to line, and the calls by their rooms.
+use crate::form_calls::Forming;
+use crate::read_calls::Reading;
+use crate::{item_calls, write_calls};
+use call_lines::first;
+use std::alloc::{AllocError, Global};
+
+/// Readers that go on with the next line.
+#[derive(Drop)]
+pub(crate) struct Desk {
+    alloc: Global,
+    forming: Box<Forming>,
+    reading: Box<Reading>,
+}
+
+impl Desk {
+    pub(crate) fn new(alloc: Global) -> Result<Desk, AllocError> {
+        Ok(Desk {
+            alloc,
+            forming: Box::new(alloc, Forming::new(alloc))?,
+            reading: Box::new(alloc, Reading::new(alloc))?,
+        })
+    }
+
+    // Adds the answer to a line.
+    pub(crate) fn answer(&mut self, line: &str, out: &mut String) -> Result<(), AllocError> {
+        let (call, words) = first(line);
+        let (room, name) = call.split_once('.').unwrap_or((call, ""));
+        match room {
+            "item" => item_calls::answer(self.alloc, name, words, out),
+            "device" => write_calls::answer(self.alloc, name, words, out),
+            "form" => self.forming.answer(name, words, out),
+            "read" => self.reading.answer(name, words, out),
+            _ => out.push_str("no such call"),
+        }
+    }
+}

@@ -1,0 +1,97 @@
+//! Answers what the rooms of `cddl_check` tell of the text of a specification: what it has, and what its root leads to.
+#![tactic(auto)]
+
+mod chain;
+mod coming;
+mod live;
+mod maps;
+mod reader;
+mod root_faults;
+mod roots_told;
+mod sites;
+mod survey;
+mod text_faults;
+mod texts_told;
+
+use call_lines::{all_lines, bytes, count, first, push_none, status_of};
+use check_instances::Found;
+use check_root::root_faults::too_many;
+use lists::lesser;
+use std::alloc::{AllocError, Global};
+use std::io;
+use std::process::ExitCode;
+
+fn main(rt: HostRuntime) -> ExitCode {
+    status_of(&rt, &answer_lines(&rt))
+}
+
+fn answer_lines(rt: &HostRuntime) -> io::Result<()> {
+    let text = all_lines(rt)?;
+    for line in text.as_str().lines() {
+        print_answer(rt, line)?;
+    }
+    Ok(())
+}
+
+fn print_answer(rt: &HostRuntime, line: &str) -> io::Result<()> {
+    let mut out = String::new(rt.alloc());
+    answer(rt.alloc(), line, &mut out)?;
+    println!(rt; "{out}")
+}
+
+// Adds the answer to a line.
+fn answer(alloc: Global, line: &str, out: &mut String) -> Result<(), AllocError> {
+    let (call, words) = first(line);
+    let (room, what) = call.split_once('.').unwrap_or((call, ""));
+    match room {
+        "text" | "root" => push_told(alloc, room, what, words, out),
+        "too_many" => push_offset(alloc, too_many(&found_of(alloc, words)), out),
+        "lesser" => {
+            let (one, other) = first(words);
+            push_offset(alloc, lesser(offset(one), offset(other)), out)
+        }
+        _ => out.push_str("no such call"),
+    }
+}
+
+// What is told of a text, or of what its root leads to.
+fn push_told(
+    alloc: Global,
+    room: &str,
+    what: &str,
+    words: &str,
+    out: &mut String,
+) -> Result<(), AllocError> {
+    let source = bytes(alloc, words)?;
+    let text = str::from_utf8(&source).unwrap_or("");
+    let told = match room {
+        "text" => texts_told::told_of(alloc, text, what),
+        _ => chain::told_of(alloc, text, what),
+    };
+    match told {
+        Some(told) => out.push_str(told.as_str().trim_end())?,
+        None => out.push_str("no answer")?,
+    }
+    push_none(out)
+}
+
+fn found_of(alloc: Global, words: &str) -> Found {
+    match words {
+        "many" => Found::TooMany,
+        _ => Found::Instances(Vec::new(alloc)),
+    }
+}
+
+fn offset(word: &str) -> Option<usize> {
+    match word {
+        "-" => None,
+        _ => Some(count(word)),
+    }
+}
+
+fn push_offset(alloc: Global, at: Option<usize>, out: &mut String) -> Result<(), AllocError> {
+    match at {
+        Some(at) => out.push_str(format!(in alloc; "{at}")?.as_str()),
+        None => out.push_str("none"),
+    }
+}

@@ -1,0 +1,102 @@
+//! The offset of a fault in what a root reaches, by the name of the call that is asked.
+
+use crate::chain::{Meant, sites_in};
+use crate::roots_told::{order_in, text_in};
+use check_names::environment::names;
+use check_reading::survey::Survey;
+use check_root::control_faults::{bad_controller, not_literal};
+use check_root::range_faults::bad_range;
+use check_root::reached_faults::{not_unwrappable, not_unwrapped, nothing_chosen};
+use check_root::root_faults::recursion;
+use check_sites::sites::Found;
+use check_terms::Terms;
+use std::alloc::Global;
+use tree_nodes::Tree;
+
+// The offset of a fault in what the root of a text reaches, by the name of the call that tells it.
+pub(crate) fn fault_of<'t>(
+    alloc: Global,
+    terms: &Terms<'_>,
+    tree: &'t Tree<'_>,
+    survey: &Survey<'t>,
+    meant: &Meant<'_>,
+    what: &str,
+) -> Option<String> {
+    match &sites_in(alloc, terms, tree, survey, &meant.reached.instances) {
+        Some(reached) => fault_at(alloc, terms, tree, survey, meant, reached, what),
+        None => None,
+    }
+}
+
+fn fault_at(
+    alloc: Global,
+    terms: &Terms<'_>,
+    tree: &Tree<'_>,
+    survey: &Survey<'_>,
+    meant: &Meant<'_>,
+    reached: &[Found<'_>],
+    what: &str,
+) -> Option<String> {
+    let at = match what {
+        "opened" => not_unwrapped(alloc, terms, tree, survey, reached).ok()?,
+        "unwrapped" => unwrapping(alloc, terms, tree, survey, meant, reached)?,
+        "literal" | "number" => of_controller(terms, meant, what),
+        "range" => range_in(terms, tree, meant, reached),
+        _ => returning(alloc, terms, tree, survey, meant)?,
+    };
+    match at {
+        Some(at) => format!(in alloc; "{at} ").ok(),
+        None => text_in(alloc, "- "),
+    }
+}
+
+fn of_controller(terms: &Terms<'_>, meant: &Meant<'_>, what: &str) -> Option<usize> {
+    let asked = &meant.reached.questions.asked;
+    let literals = &meant.valued.literals;
+    match what {
+        "literal" => not_literal(terms, literals, asked),
+        _ => bad_controller(terms, literals, &meant.valued.sizable, asked),
+    }
+}
+
+fn unwrapping(
+    alloc: Global,
+    terms: &Terms<'_>,
+    tree: &Tree<'_>,
+    survey: &Survey<'_>,
+    meant: &Meant<'_>,
+    reached: &[Found<'_>],
+) -> Option<Option<usize>> {
+    let opens = not_unwrapped(alloc, terms, tree, survey, reached).ok()?;
+    let asked = &meant.reached.questions.asked;
+    let chooses = nothing_chosen(terms, &meant.opened.closed, &meant.groups.choosable, asked);
+    Some(not_unwrappable(opens, chooses))
+}
+
+fn range_in(
+    terms: &Terms<'_>,
+    tree: &Tree<'_>,
+    meant: &Meant<'_>,
+    reached: &[Found<'_>],
+) -> Option<usize> {
+    bad_range(
+        terms,
+        tree,
+        &meant.valued.literals,
+        &meant.reached.questions.asked,
+        reached,
+    )
+}
+
+fn returning(
+    alloc: Global,
+    terms: &Terms<'_>,
+    tree: &Tree<'_>,
+    survey: &Survey<'_>,
+    meant: &Meant<'_>,
+) -> Option<Option<usize>> {
+    let count = terms.text_count();
+    let names = names(alloc, count, &survey.known, &survey.definitions).ok()?;
+    let order = order_in(alloc, terms, meant)?;
+    Some(recursion(terms, tree, &names, &meant.opened.closed, &order))
+}

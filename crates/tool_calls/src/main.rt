@@ -1,0 +1,45 @@
+//! Answers calls of `command_line` and `cddl_tool`.
+#![tactic(auto)]
+
+mod act_calls;
+mod devices;
+mod say_calls;
+mod shown;
+mod word_calls;
+
+use call_lines::{all_lines, first, status_of};
+use std::alloc::{AllocError, Global};
+use std::io;
+use std::process::ExitCode;
+
+fn main(rt: HostRuntime) -> ExitCode {
+    status_of(&rt, &answer_lines(&rt))
+}
+
+fn answer_lines(rt: &HostRuntime) -> io::Result<()> {
+    let text = all_lines(rt)?;
+    for line in text.as_str().lines() {
+        print_answer(rt, line)?;
+    }
+    Ok(())
+}
+
+fn print_answer(rt: &HostRuntime, line: &str) -> io::Result<()> {
+    let mut out = String::new(rt.alloc());
+    answer(rt.alloc(), line, &mut out)?;
+    println!(rt; "{out}")
+}
+
+// Adds the answer to a line.
+fn answer(alloc: Global, line: &str, out: &mut String) -> Result<(), AllocError> {
+    let (call, words) = first(line);
+    match call {
+        "tool.options" => word_calls::push_options(alloc, words, out),
+        "tool.act" => act_calls::push_acted(alloc, words, out),
+        "tool.read_specification" => act_calls::push_read(alloc, words, out),
+        "tool.read_text" => say_calls::push_read_text(alloc, words, out),
+        "tool.say" => say_calls::push_said(alloc, words, out),
+        "tool.say_no_text" => say_calls::push_no_text(alloc, words, out),
+        _ => out.push_str("no such call"),
+    }
+}

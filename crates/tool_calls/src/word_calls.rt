@@ -1,0 +1,54 @@
+//! Calls of `options` of `command_line`.
+use call_lines::push_no_memory;
+use cddl_tool::{Options, Use, options};
+use std::alloc::{AllocError, Global};
+
+// The options of words with a space between them.
+pub(crate) fn options_of(alloc: Global, words: &str) -> Result<Result<Options, Use>, AllocError> {
+    let mut list = Vec::new(alloc);
+    for word in words.split(' ') {
+        list.push(word)?;
+    }
+    Ok(options(alloc, &list))
+}
+
+pub(crate) fn push_options(alloc: Global, words: &str, out: &mut String) -> Result<(), AllocError> {
+    match options_of(alloc, words)? {
+        Ok(options) => {
+            push_names(alloc, &options, out)?;
+            push_numbers(alloc, &options, out)
+        }
+        Err(Use::Words(_)) => out.push_str("Words"),
+        Err(Use::Memory) => push_no_memory(out),
+    }
+}
+
+fn push_names(alloc: Global, options: &Options, out: &mut String) -> Result<(), AllocError> {
+    let task = options.task;
+    out.push_str(format!(in alloc; "{task:?}")?.as_str())?;
+    push_name(", spec ", &options.spec, out)?;
+    push_name(", root ", &options.root, out)?;
+    push_name(", file ", &options.file, out)
+}
+
+fn push_name(text: &str, name: &Option<String>, out: &mut String) -> Result<(), AllocError> {
+    if let Some(name) = name {
+        out.push_str(text)?;
+        out.push_str(name.as_str())?;
+    }
+    Ok(())
+}
+
+fn push_numbers(alloc: Global, options: &Options, out: &mut String) -> Result<(), AllocError> {
+    let depth = options.limits.depth();
+    let item_bytes = options.limits.item_bytes();
+    let steps = options.steps;
+    out.push_str(format!(in alloc; ", limits {depth} {item_bytes} {steps}")?.as_str())?;
+    if options.quiet {
+        out.push_str(", quiet")?;
+    }
+    if options.deterministic {
+        out.push_str(", deterministic")?;
+    }
+    Ok(())
+}
