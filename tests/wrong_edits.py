@@ -35,6 +35,8 @@ ONE_JOB = ["--jobs", "1"]
 MOST_AT_ONCE = 3
 NAME = re.compile(r"[A-Za-z0-9_-][A-Za-z0-9_.-]*\.edit")
 NAMING = "its name is of letters, digits, _, - and . and ends in .edit"
+# What the line of an edit ends with that costs a check with all bodies, for itself or with others.
+OVER_WHOLE, ALONE = "(over whole functions)", "(alone)"
 # The folder in wrong/ with edits that the gate does not try.
 INNER = "inner"
 LINE = re.compile(r"fn (\S+): (.*)")
@@ -166,7 +168,7 @@ class Trial:
         paths = [it.path for it in self.functions]
         self.doubles = {it for it in paths if paths.count(it) > 1}
         self.words = {it: words_in(self.sources[it.file].split("\n")[it.opens : it.last + 1]) for it in self.functions}
-        self.broken = set()
+        self.broken, self.over_whole = set(), set()
 
     def tells_of(self, function):
         """Whether the lines of a check tell what becomes of this function's body, whatever becomes of other bodies."""
@@ -200,7 +202,8 @@ class Trial:
             by_law = self.try_laws([it for it in edits if it.law and not refused.get(it)], kept)
             alone = self.try_alone([it for it in edits if not it.law and not refused.get(it)], kept)
         for edit in edits:
-            said = by_law.get(edit) or f"refused, as it must be: {refused.get(edit, '')[:160]}"
+            way = f" {OVER_WHOLE}" if edit in self.over_whole else ""
+            said = by_law.get(edit) or f"refused, as it must be: {refused.get(edit, '')[:160]}{way}"
             told.append(alone.get(edit) or (said.startswith("refused"), f"{self.label(edit.path)}: {said}"))
             if told[-1][0]:
                 self.results.keep(self.crate, edit.path, told[-1][1])
@@ -242,7 +245,9 @@ class Trial:
             refused.update(self.try_over_bare(placed, beside, copied, kept))
             left = [it for it in left if it not in placed and it not in beside and it not in self.broken]
             copied = []
-        return {**refused, **self.try_over_whole([it for it in edits if it not in refused and it not in self.broken], kept)}
+        whole = self.try_over_whole([it for it in edits if it not in refused and it not in self.broken], kept)
+        self.over_whole.update(whole)
+        return {**refused, **whole}
 
     def turn_of(self, left):
         """Those of the edits that one check over bare functions can tell apart: made in place, and made beside."""
@@ -483,7 +488,7 @@ class Trial:
         found = {}
         for edit in edits:
             said, text = self.kit.must_fail(self.crate, edit.path, ONE_JOB, kept if is_sound else None)
-            found[edit] = is_refusal(self.kit, said), text.replace("must-fail ", "wrong ", 1)
+            found[edit] = is_refusal(self.kit, said), f"{text.replace('must-fail ', 'wrong ', 1)} {ALONE}"
         return found
 
     def words_below(self, words):

@@ -86,7 +86,7 @@ one_member ms ns x s i all at e h =
     let rest = map (from 0) (drop (i + 1) s) in
     ap (λ ks. ks ++ rest) e ∙ (append_assoc ms (from 0 x ∷ []) rest ∙ (ap (λ zs. ms ++ map (from 0) zs) (sym (drop_more s i x at)) ∙ h))
 
--- the members are put behind each alternative, in its place
+-- the members are put after each alternative, in its place
 
 map_set : {A B : Type 0} (f : A → B) (xs : List A) (i : ℕ) (v : A) → map f (set xs i v) ≡ set (map f xs) i (f v)
 map_set f [] i v = refl

@@ -89,7 +89,7 @@ pub sorts_append : (mss nss : Alternatives) → sorts_of (mss ++ nss) ≡ joined
 sorts_append [] nss = refl
 sorts_append (ms ∷ mss) nss = ap (joined (only (sort ms))) (sorts_append mss nss) ∙ sym (joined_assoc (only (sort ms)) (sorts_of mss) (sorts_of nss))
 
--- the sorts of those behind an alternative of this sort
+-- the sorts of those after an alternative of this sort
 abbrev shifted : Sort → Sorts → Sorts
 shifted empty t = t
 shifted optional t = record { empty = false; optional = t.empty || t.optional; needed = false; other = t.needed || t.other }

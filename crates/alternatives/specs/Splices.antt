@@ -14,7 +14,7 @@ Alternatives = List (List Member)
 abbrev pub members : Alternatives → List Member
 members mss = flat_map (λ ms. ms) mss
 
--- each of these behind the members
+-- each of these after the members
 abbrev pub behind : List Member → Alternatives → Alternatives
 behind ms nss = map (λ ns. ms ++ ns) nss
 

@@ -41,7 +41,7 @@ fn only_one(alloc: Global, members: Vec<Member>) -> Result<Vec<Vec<Member>>, All
 }
 
 /// All ways to take an alternative of the first and then one of the second, the first slowest. Where there is one second, it
-/// is put behind each of the first, which stay where they are: so rows of entries grow in place.
+/// is put after each of the first, which stay where they are: so rows of entries grow in place.
 pub fn ways_beside(
     alloc: Global,
     mut first: Vec<Vec<Member>>,
@@ -56,7 +56,7 @@ pub fn ways_beside(
     Ok(first)
 }
 
-// Puts the members behind each alternative.
+// Puts the members after each alternative.
 fn put_behind(alternatives: &mut Vec<Vec<Member>>, members: &[Member]) -> Result<(), AllocError>
     ensures { IfOk result (λ _. map vec_items alternatives.new.items ≡ map (λ ms. ms ++ members.now) (map vec_items alternatives.old.items)) }
 {
@@ -81,7 +81,7 @@ fn ways_of(
     Ok(alternatives)
 }
 
-// Adds each of the second behind these members.
+// Adds each of the second after these members.
 fn add_behind(
     alloc: Global,
     alternatives: &mut Vec<Vec<Member>>,

@@ -47,7 +47,7 @@ entry_is e f h =
     let b = both (bytes_eq e.0 f.0) (bytes_eq e.1 f.1) h in
     ap₂ (λ (x y : List ℕ). (x, y)) ((bytes_eq-Decides e.0 f.0).0 b.0) ((bytes_eq-Decides e.1 f.1).0 b.1)
 
--- an entry that is there has a key behind what is before all keys
+-- an entry that is there has a key after what is before all keys
 behind : (k : List ℕ) (e : List ℕ × List ℕ) (es : List (List ℕ × List ℕ)) → AllByRecursion (λ l. bytes_cmp k l ≡ Less) (firsts es) → list_any (is_entry e) es ≡ true → bytes_cmp k e.0 ≡ Less
 behind k e [] h m = absurd (cc)
 behind k e (f ∷ es) h m = elim (either_true (is_entry e f) (list_any (is_entry e) es) m) [

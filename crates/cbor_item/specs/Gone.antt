@@ -13,7 +13,7 @@ pub record State : Type 0 where
 abbrev pub state_of : {D : Type 0} → (D → Option (List ℕ)) → Counted D → State
 state_of contents_of c = record { contents = contents_of (device_of c); failures = failures_of c }
 
--- a proper front of the bytes went out, and then the device failed, with `written` bytes of the call gone in all
+-- a proper prefix of the bytes went out, and then the device failed, with `written` bytes of the call gone in all
 pub record Stops (old new : State) (before : ℕ) (bytes : List ℕ) (written : ℕ) : Type 0 where
   pub count : ℕ
   pub short : count < length bytes

@@ -16,7 +16,7 @@ use check_names::kinds::Kinds;
 use check_terms::Terms;
 use std::alloc::Global;
 
-/// What groups in maps stand for: a part for each row of a table, and one behind them.
+/// What groups in maps stand for: a part for each row of a table, and one after them.
 #[derive(Drop)]
 pub(crate) struct Splices {
     pub parts: Vec<Part>,

@@ -10,7 +10,7 @@
 -- in each of them all pairs, also after one that failed.
 --
 -- Where two types have to say yes, the left is asked first, and the right only if it has said yes; a no is that of the one
--- that said it. A test behind a type is tried if that has said yes, and its no shows at the item.
+-- that said it. A test after a type is tried if that has said yes, and its no shows at the item.
 --
 -- What a byte string holds is asked about if its own type has said yes. It is an item by itself, with places of its own from
 -- 0 on, so a no of it shows at the byte string. Reading is no judgement.

@@ -94,7 +94,7 @@ abbrev pub test_reply : ℕ → Value → Bool → Reply
 test_reply p x true = yes_reply p x
 test_reply p x false = Fails p
 
--- a test's reply behind a type that has told the place after the item
+-- a test's reply after a type that has told the place after the item
 abbrev pub such_reply : ℕ → (next : ℕ) → Bool → Reply
 such_reply p next true = Takes [] next 0
 such_reply p next false = Fails p

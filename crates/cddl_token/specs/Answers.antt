@@ -45,7 +45,7 @@ IsSource s = (length s ≤ 1048576) × IsUtf8 s
 abbrev pub IsTokenized : List ℕ → List Spanned → Type 0
 IsTokenized s ts = IsSource s × Tokenized s 0 ts
 
--- Why s has no tokens: it is too long; or it is no text, which shows where its longest front that is text ends; or a token can't be read.
+-- Why s has no tokens: it is too long; or it is no text, which shows at the length of its longest valid prefix; or a token can't be read.
 abbrev pub IsRefused : List ℕ → Code → ℕ → Type 0
 IsRefused s code at = ((1048576 < length s) × (code ≡ SourceTooLong) × (at ≡ 1048576)) ⊎ (((length s ≤ 1048576) × (IsUtf8 s → ⊥) × (code ≡ NotUtf8) × (at ≡ utf8_valid_len s)) ⊎ (IsSource s × Refused s 0 code at))
 

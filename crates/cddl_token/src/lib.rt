@@ -114,7 +114,7 @@ pub struct Token<'s> {
 /// What is wrong with a specification.
 #[derive(Clone, Copy, Debug, PartialEq, Eq)]
 pub enum Code {
-    /// S1: the source is not UTF-8, from the end of its longest front that is.
+    /// S1: the source is not UTF-8. The offset is the length of its longest valid prefix.
     NotUtf8,
     /// S2: a character that begins no token, or that a string or a comment may not hold.
     BadCharacter,

@@ -32,7 +32,7 @@ pub struct MapFaults {
 }
 
 /// For each row of a table what is wrong with it, where these are the parts of the rows and their summaries, and for the part
-/// behind the rows.
+/// after the rows.
 ///
 /// The first two tell of rows of entries, the last one of rows of groups. Of other rows, and of rows that stand for what has
 /// references that are no instances, they say nothing.

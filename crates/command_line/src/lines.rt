@@ -84,7 +84,7 @@ pub fn say_words<W: Write, E: Write>(
     }
 }
 
-// Says that a write failed behind so many bytes, and answers the status.
+// Says that a write failed after so many bytes, and answers the status.
 fn say_cut<E: Write>(alloc: Global, written: u128, err: &mut Counted<E>) -> u8
     ensures { result ≡ BROKEN }
 {

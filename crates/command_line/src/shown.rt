@@ -6,7 +6,7 @@ ghost use Rattle.command_line.specs.Shown.{escaped, shown, shown_char};
 
 use std::alloc::AllocError;
 
-// Puts behind the line what is shown of a word: its characters, but for control characters (U+0000 to U+001F, and U+007F to
+// Appends to the line what is shown of a word: its characters, but for control characters (U+0000 to U+001F, and U+007F to
 // U+009F), each of which is `\u` and four hex digits. So a word ends no line, and is no command to a terminal.
 pub(crate) fn push_shown(line: &mut String, word: &str) -> Result<(), AllocError>
     ensures { OnOk result (string_bytes line.new ≡ string_bytes line.old ++ shown word.now) }

@@ -32,7 +32,7 @@ pub fn diag(alloc: Global, item: &Item) -> Result<Vec<u8>, AllocError>
 ///
 /// # Errors
 ///
-/// `AllocError` where memory runs out. A front of the notation may be appended then.
+/// `AllocError` where memory runs out. A prefix of the notation may be appended then.
 #[cycle(show)]
 pub fn push_notation(out: &mut Vec<u8>, item: &Item) -> Result<(), AllocError>
     ensures { OnOk result (out.new.items ≡ out.old.items ++ notation (view item.now)) }

@@ -17,7 +17,7 @@ const BREAK: u8 = 0xff;
 const BYTES_TO_BREAK: u8 = 0x5f;
 
 // Takes the parts at the front of the bytes that are whole there into the innermost container, but not its last one. Answers
-// how many bytes they have, and whether the bytes behind them were looked at in vain. Where that has been so in these bytes
+// how many bytes they have, and whether the bytes after them were looked at in vain. Where that has been so in these bytes
 // before, only integers and byte strings are taken, of which none is looked at in vain.
 #[inline(always)]
 pub(crate) fn take_parts(

@@ -111,7 +111,7 @@ head_put buffer rest start number_end number offset size also text place =
     let e : start + length head ≡ 51 = omega (arith, ap length text, length-drop start buffer, length-append head rest, length-head number offset) in
     record { text = ap (λ (k : ℕ). drop start (take k buffer)) (sym e) ∙ (drop-take start (length head) buffer ∙ (ap (λ (xs : List ℕ). take (length head) xs) text ∙ take-append_seam head rest)); place = place }
 
--- the digit of a number and a line feed behind the place of a head
+-- the digit of a number and a line feed after the place of a head
 pub digit_written : (buffer : List ℕ) (n : ℕ) → length buffer ≡ 54 → n < 10 → drop 51 (set (set buffer 51 (48 + n)) 52 10) ≡ (decimal n ++ codes "\n") ++ drop 53 buffer
 digit_written buffer n size h =
     let there : drop 51 buffer ≡ get_or buffer 51 0 ∷ (get_or buffer 52 0 ∷ drop 53 buffer) = drop-cons buffer 51 0 (omega arith) ∙ ap (λ (xs : List ℕ). get_or buffer 51 0 ∷ xs) (drop-cons buffer 52 0 (omega arith)) in
@@ -143,7 +143,7 @@ length-digit n h = ap (λ (xs : List ℕ). length (xs ++ codes "\n")) (decimal_d
 pub length-digits : (n : ℕ) → 10 ≤ n → n < 100 → length (decimal n ++ codes "\n") ≡ 3
 length-digits n low high = ap (λ (xs : List ℕ). length (xs ++ codes "\n")) (two_digits n low high)
 
--- the head with what was written behind it
+-- the head with what was written after it
 pub head_with : (buffer old text rest : List ℕ) (start number_end number offset end : ℕ) → length buffer ≡ 54 → length old ≡ 54 → IsHead old start number_end number offset → take 51 buffer ≡ take 51 old → drop 51 buffer ≡ text ++ rest → end ≡ 51 + length text →
     take (end - start) (drop start buffer) ≡ head_text number offset ++ text
 head_with buffer old text rest start number_end number offset end size also h before written stop =

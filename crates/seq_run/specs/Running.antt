@@ -89,7 +89,7 @@ pub record WritesRun (mode : Mode) (judge : Judge) (l : Bounds) (input output : 
   pub count : n ≡ length found
   pub written : bytes.Appends output.before output.after (items_output mode 1 found)
 
--- Nothing was read behind the piece that shows the end: the bytes before the last piece leave the end open, and that piece
+-- Nothing was read after the piece that shows the end: the bytes before the last piece leave the end open, and that piece
 -- has at most 4,096 bytes.
 pub record ReadsByPieces (judge : Judge) (l : Bounds) (input : Change) : Type 0 where
   pub front : List ℕ

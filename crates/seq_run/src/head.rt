@@ -16,7 +16,7 @@ const LINE: usize = 54;
 // Where the offset ends in each head.
 const OFFSET_END: usize = 49;
 
-// The head of an item's line, `item N at OFFSET: `, with room for a small number behind it. That of the next item mostly
+// The head of an item's line, `item N at OFFSET: `, with room for a small number after it. That of the next item mostly
 // differs in the last two digits of its numbers alone.
 #[derive(Drop)]
 pub(crate) struct Head {
@@ -112,7 +112,7 @@ fn is_near(a: u64, b: u64) -> bool
     a >= 100 && a / 100 == b / 100
 }
 
-// Writes the digits of a number below 24 and a line feed behind the place of a head, and answers where they end.
+// Writes the digits of a number below 24 and a line feed after the place of a head, and answers where they end.
 #[inline]
 fn put_number(buffer: &mut [u8], n: u8) -> usize
     requires small { n < 24 }

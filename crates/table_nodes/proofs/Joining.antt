@@ -1,4 +1,4 @@
--- What is put behind ranges in order, or joined to the last of them.
+-- What is put after ranges in order, or joined to the last of them.
 use Rattle.std.proofs.Common.{◌≡◌, ℕ, ◌+◌, ◌<◌, ◌≤◌, max, List, [], ◌∷◌, ◌++◌, drop, length, slice_index_or, Bool, true, false, refl, sym, ap, subst, ◌∙◌, add-one, arith}
 use Rattle.std.specs.Prelude.{nat_le, ◌&&◌, ◌||◌}
 use Rattle.std.specs.List.Sorted.{IsNonDecreasingBy}

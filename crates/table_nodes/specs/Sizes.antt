@@ -16,7 +16,7 @@ abbrev pub IsGap : ℕ → List SizeRange → Type 0
 IsGap last [] = Unit {0}
 IsGap last (r ∷ rs) = last + 1 < r.least
 
--- No range is empty, and each is behind a gap.
+-- No range is empty, and each is after a gap.
 abbrev pub AreInOrder : List SizeRange → Type 0
 AreInOrder [] = Unit {0}
 AreInOrder (r ∷ rs) = (r.least ≤ r.last) × (IsGap r.last rs × AreInOrder rs)

@@ -22,7 +22,7 @@ pub struct SizeRange {
 /// A set of numbers of bytes. All that are shared from one have its ranges in common.
 #[derive(Drop)]
 pub struct SizeSet {
-    /// No range is empty, and each is behind a gap.
+    /// No range is empty, and each is after a gap.
     ranges: RcSlice<SizeRange>,
     pub ghost in_order: { AreInOrder (rc_slice_items ranges) } by { are_in_order_once (rc_slice_items ranges) },
 }

@@ -33,7 +33,7 @@ module _ (Q : S.Lexeme → Type 0) where
   first_one : (x : S.Lexeme) (xs : List S.Lexeme) → EachToken (x ∷ xs) → Q x
   first_one x xs h = h x (0, omega arith, refl)
 
-  -- a sign, and others of the tokens behind it
+  -- a sign, and others of the tokens after it
   with_sign : (x : S.Lexeme) (ys : List S.Lexeme) → Q x → EachToken ys → EachToken (x ∷ ys)
   with_sign x ys h k l (zero, c, e) = subst Q e h
   with_sign x ys h k l (suc n, c, e) = k l (n, omega arith, e)

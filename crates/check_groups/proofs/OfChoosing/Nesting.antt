@@ -66,7 +66,7 @@ module _ (ds : List Definition) where
       all : (most_instances - k) + k ≡ most_instances
       all = omega (arith, h)
 
-  -- The parts of what can be chosen from through some names, where `next` is for what is behind a name.
+  -- The parts of what can be chosen from through some names, where `next` is for what is after a name.
   module _ (next : List Entries → Option (List Term)) (can : (us : List Entries) → IsThere (next us) → can_choose ds us ≡ true) (inner : (g : Group) → IsThere (chosen_group ds next g) → can_choose ds (alternatives g) ≡ true) where
     part_nests : (t : Term) (p : Part) → IsThere (chosen_part ds next t p) → IsChosenPart ds p
     part_nests t asks_type e = tt

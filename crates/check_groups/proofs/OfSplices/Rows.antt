@@ -110,7 +110,7 @@ module _ (xs : List Definition) (root : Text) (t : Table) where
     keyed_part f g (grouped o x) (row_of e h a c) = absurd (g e)
     keyed_part f g (keyed o q x) (row_of e h a c) = of_keyed (says o h)
 
-  -- All parts, with one more behind those of the rows.
+  -- All parts, with one more after those of the rows.
   pub are_parts : (ps : List Part) → length ps ≡ length t.rows → ((n : ℕ) (p : Part) → slice_get ps n ≡ Some p → IsPartAt xs root t n p) → AreParts xs root t (ps ++ PartV.Nothing ∷ [])
   are_parts ps e f = record {
     all = push_length ps PartV.Nothing ∙ ap (λ n. n + 1) e;

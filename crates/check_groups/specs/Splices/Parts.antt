@@ -18,7 +18,7 @@ pub record HasBounds (o : Option Text) (b : Bounds) : Type 0 where
   pub least : b.least ≡ least_of o
   pub most : most_in b.most ≡ most_of o
 
--- the number is that of a group with these choices, whose references are all instances; that behind the rows where there are none
+-- the number is that of a group with these choices, whose references are all instances; that after the rows where there are none
 pub data IsOf (xs : List Definition) (root : Text) (t : Table) : List Entries → ℕ → Type 0 where
   no_choices : IsOf xs root t [] (length t.rows)
   choices_of : {n : ℕ} (g : Group) → IsGroup t n g → AreReached xs root (group_points g) → IsOf xs root t (alternatives g) n
@@ -49,7 +49,7 @@ pub record IsPartAt (xs : List Definition) (root : Text) (t : Table) (n : ℕ) (
   pub entries : (es : Entries) → IsEntries t n es → IsPartOfEntries t es p
   pub entry : (e : Entry) → IsEntry t n e → AreReached xs root (entry_points e) → IsPartOfEntry xs root t e p
 
--- of each row, and behind them nothing to choose from
+-- of each row, and after them nothing to choose from
 pub record AreParts (xs : List Definition) (root : Text) (t : Table) (parts : List Part) : Type 0 where
   pub all : length parts ≡ length t.rows + 1
   pub nothing : slice_get parts (length t.rows) ≡ Some Nothing

@@ -25,7 +25,7 @@ in_edge n (Some m) e (inr h) = absurd h
 edge_in : (n : ℕ) (o : Option ℕ) (m : ℕ) → o ≡ Some m → IsIn (edge_of n m) (edge_to n o)
 edge_in n o m f = subst (λ z. IsIn (edge_of n m) (edge_to n z)) (sym f) (inl refl)
 
--- The numbers of owners lie behind those of the entries, and no two owners have one.
+-- The numbers of owners lie after those of the entries, and no two owners have one.
 
 pub owner_behind : (l : Layout) (w : Owner) (n : ℕ) → owner_node l w ≡ Some n → l.parts + l.entries ≤ n
 owner_behind l OwnerV.Map n e = cc

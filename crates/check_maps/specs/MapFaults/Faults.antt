@@ -14,7 +14,7 @@ pub record HasFaults (xs : List Definition) (root : Text) (t : Table) (n : ℕ) 
   pub occurs_badly : (e : Entry) → IsEntry t n e → AreReached xs root (entry_points e) → (f.occurs_badly ≡ true) ↔ OccursBadly xs e
   pub has_too_many : (g : Group) → IsGroup t n g → AreReached xs root (group_points g) → (f.has_too_many ≡ true) ↔ HasTooMany xs (alternatives g)
 
--- of each row, and of what is behind them
+-- of each row, and of what is after them
 pub record AreFaults (xs : List Definition) (root : Text) (t : Table) (faults : List MapFaults) : Type 0 where
   pub all : length faults ≡ length t.rows + 1
   pub each : (n : ℕ) (f : MapFaults) → slice_get faults n ≡ Some f → HasFaults xs root t n f

@@ -13,6 +13,10 @@ use crate::{Form, NoRoom, Terms, push};
 use std::alloc::Global;
 
 /// The rows of the arguments that begin at this row, in order.
+///
+/// # Errors
+///
+/// [`NoRoom`] where an allocation was refused.
 pub fn arguments_of(
     alloc: Global,
     terms: &Terms<'_>,

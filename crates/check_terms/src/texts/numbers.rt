@@ -6,7 +6,7 @@ ghost use Rattle.cddl_language.specs.Numbers.{uint_in};
 
 use cddl_literal::{is_b, is_x};
 
-/// The number that a text spells, in decimal digits, behind `0x` in hex digits, or behind `0b` in binary ones, if it is below
+/// The number that a text spells, in decimal digits, after `0x` in hex digits, or after `0b` in binary ones, if it is below
 /// 2^64 (RFC 8610, appendix B: uint). No text is 0, and so is each byte that is no digit.
 pub fn uint(text: &str) -> Option<u64>
     ensures { SomeIff result (uint_in text.now < 2 ^ 64) (uint_in text.now) }

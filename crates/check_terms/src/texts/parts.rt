@@ -1,4 +1,4 @@
-//! Parts of a text, to the first of some sign and behind it.
+//! Parts of a text, to the first of some sign and after it.
 
 ghost use Rattle.std.specs.Prelude.{◌≡◌, nat_eq};
 ghost use Rattle.std.specs.List.{position};
