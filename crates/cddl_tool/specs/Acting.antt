@@ -1,6 +1,7 @@
 -- What the program's status says.
 use Rattle.std.specs.Prelude.{◌≡◌, ℕ, ◌<◌, ◌-◌, ◌^◌, Bool, true, false, List, [], length, take, Option, IfSome, codes}
 use Rattle.std.specs.Io.KnownBytes as bytes
+use Rattle.cbor_data.specs.Faults.{Bounds}
 use Rattle.cbor_data.specs.Value.{Value}
 use Rattle.seq_run.specs.declared.end.End.{End}
 use Rattle.seq_run.specs.declared.end.End.TheVariants.{Clean, Failed}
@@ -44,6 +45,10 @@ pub record IsCutOff (output : Change) : Type 0 where
   pub short : k < length accepted_line
   pub part : bytes.Appends output.before output.after (take k accepted_line)
 
+-- the limits of items that the options give
+abbrev pub limits_of : Options → Bounds
+limits_of o = record { depth = o.depth; item_bytes = o.item_bytes }
+
 abbrev pub status_for : End → ℕ
 status_for (Clean items bytes) = 0
 status_for (Failed items offset cause) = 1
@@ -79,11 +84,11 @@ pub data IsTold (task : Task) (end : End) (rejected : Option Value) (error : Cha
 pub record IsAnswered (o : Options) (judge : Judge) (stream : List ℕ) (output error : Change) (status : ℕ) : Type 0 where
   pub end : End
   pub rejected : Option Value
-  pub written : WritesAll (mode_of o.task o.quiet o.deterministic) judge o.limits stream output end rejected
+  pub written : WritesAll (mode_of o.task o.quiet o.deterministic) judge (limits_of o) stream output end rejected
   pub told : IsSaid error (told_of o.task end rejected)
   pub is : status ≡ status_for end
 
 -- Why there is no such status: the run stopped early, or it is whole and there was no memory for the line of its end.
 pub data IsBroken (o : Options) (judge : Judge) (input output : Change) : Type 0 where
-  stopped : (fault : RunFault) → IsFault (mode_of o.task o.quiet o.deterministic) judge o.limits input output fault → IsBroken o judge input output
-  untold : o.task ≡ Rewrite → IfSome input.before (λ stream. (end : End) × (rejected : Option Value) × WritesAll (mode_of o.task o.quiet o.deterministic) judge o.limits stream output end rejected) → IsBroken o judge input output
+  stopped : (fault : RunFault) → IsFault (mode_of o.task o.quiet o.deterministic) judge (limits_of o) input output fault → IsBroken o judge input output
+  untold : o.task ≡ Rewrite → IfSome input.before (λ stream. (end : End) × (rejected : Option Value) × WritesAll (mode_of o.task o.quiet o.deterministic) judge (limits_of o) stream output end rejected) → IsBroken o judge input output

@@ -6,9 +6,10 @@ ghost use Rattle.cddl_check.specs.Text.{IsTabledText, IsUnreadText};
 ghost use Rattle.seq_run.specs.Judge.{judge_of};
 ghost use Rattle.seq_run.specs.Report.{IsShown};
 ghost use Rattle.seq_run.specs.Running.{change_of};
-ghost use Rattle.cddl_tool.specs.Acting.{mode_of, report_mode_of, rewrite_mode_of, specification_of, status_for, IsAccepted, IsAnswered, IsBroken, IsCutOff, IsRefusedText, IsTold};
+ghost use Rattle.cddl_tool.specs.Acting.{limits_of, mode_of, report_mode_of, rewrite_mode_of, specification_of, status_for, IsAccepted, IsAnswered, IsBroken, IsCutOff, IsRefusedText, IsTold};
 
 use cbor_item::{Counted, Sound, write_bytes};
+use cbor_read::Limits;
 use cddl_check::{Unread, read_specification};
 use cddl_token::Refusal;
 use command_line::{BROKEN, FAILED, Options, REFUSED, Task, say};
@@ -123,15 +124,8 @@ pub fn act<R: Read, W: Write, E: Write>(
         (change_of R.remaining input.old input.new) (change_of W.contents out.old out.new) }
 {
     let mode = mode_for(options);
-    match run(
-        alloc,
-        table,
-        options.limits,
-        options.steps,
-        mode,
-        input,
-        out,
-    ) {
+    let limits = limits_for(options);
+    match run(alloc, table, limits, options.steps, mode, input, out) {
         Ok((end, rejected)) => {
             let status = tell_end(alloc, options.task, &end, rejected.as_ref(), err);
             drop(rejected);
@@ -141,6 +135,16 @@ pub fn act<R: Read, W: Write, E: Write>(
             say_fault(alloc, fault, err);
             BROKEN
         }
+    }
+}
+
+// The limits of items. The numbers of the options are in their ranges.
+fn limits_for(options: &Options) -> Limits
+    ensures { result ≡ limits_of options.now }
+{
+    match Limits::try_new(options.depth, options.item_bytes) {
+        Some(limits) => limits,
+        None => unreachable!(),
     }
 }
 

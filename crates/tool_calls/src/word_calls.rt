@@ -40,8 +40,8 @@ fn push_name(text: &str, name: &Option<String>, out: &mut String) -> Result<(), 
 }
 
 fn push_numbers(alloc: Global, options: &Options, out: &mut String) -> Result<(), AllocError> {
-    let depth = options.limits.depth();
-    let item_bytes = options.limits.item_bytes();
+    let depth = options.depth;
+    let item_bytes = options.item_bytes;
     let steps = options.steps;
     out.push_str(format!(in alloc; ", limits {depth} {item_bytes} {steps}")?.as_str())?;
     if options.quiet {
