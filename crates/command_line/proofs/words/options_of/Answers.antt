@@ -9,10 +9,10 @@ pub returns-in_default-clause-misuse : goal.returns-in_default-clause-misuse
 returns-in_default-clause-misuse c =
     unread _ _ c.range_error.result (λ o r. c.in_default.ensures.none o.depth (rw (one_text-rows (found_of c.args.given.now) (codes "depth")) r.depth))
 
-pub returns-in_default-stream_number-2-clause-misuse :
-    goal.returns-in_default-stream_number-2-clause-misuse
-returns-in_default-stream_number-2-clause-misuse c =
-    unread _ _ c.range_error-in_default-stream_number-2.result (λ o r. c.in_default-stream_number-2.ensures.none o.item_bytes (rw (one_text-rows (found_of c.args.given.now) (codes "item-bytes")) r.item_bytes))
+pub returns-in_default-stream_number-clause-misuse :
+    goal.returns-in_default-stream_number-clause-misuse
+returns-in_default-stream_number-clause-misuse c =
+    unread _ _ c.range_error-in_default-stream_number.result (λ o r. c.in_default-stream_number.ensures.none o.item_bytes (rw (one_text-rows (found_of c.args.given.now) (codes "item-bytes")) r.item_bytes))
 
 pub returns-in_default-task_steps-clause-misuse :
     goal.returns-in_default-task_steps-clause-misuse
@@ -27,7 +27,7 @@ returns-clause-read c = record {
   file = c.in_ok-file.ensures ∙ first_value-rows (found_of c.args.given.now) (codes "file");
   steps = rw (one_text-rows (found_of c.args.given.now) (codes "steps")) at c.in-Some-task_steps.ensures.some;
   depth = rw (one_text-rows (found_of c.args.given.now) (codes "depth")) at c.in-Some.ensures.some;
-  item_bytes = rw (one_text-rows (found_of c.args.given.now) (codes "item-bytes")) at c.in-Some-stream_number-2.ensures.some;
+  item_bytes = rw (one_text-rows (found_of c.args.given.now) (codes "item-bytes")) at c.in-Some-stream_number.ensures.some;
   quiet = c.is_given.ensures ∙ ap is_set (first_value-rows (found_of c.args.given.now) (codes "quiet"));
   deterministic = c.is_given-2.ensures ∙ ap is_set (first_value-rows (found_of c.args.given.now) (codes "deterministic"));
 }
