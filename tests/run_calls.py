@@ -95,7 +95,6 @@ A row whose call begins with '@' stands for many:
 """
 import argparse
 import glob
-import json
 import os
 import re
 import subprocess
@@ -598,12 +597,26 @@ def cuts_case(row, spec, stream, words, answer):
     return Case(row, lines, lambda answers: first_fault(unlike(it, answer) for it in answers))
 
 
+ACTED = re.compile(r'(\d) ("(?:[^"\\]|\\.)*") (.*)')
+
+
+def written_of(shown):
+    """The bytes that an answer shows, as text in quotes or in hex."""
+    return unescaped(shown[1:-1]) if shown.startswith('"') else bytes.fromhex(shown.replace("none", ""))
+
+
+def cut_fault(answer, written):
+    """What is wrong with the answer where the device took these bytes and failed then."""
+    told, line = ACTED.fullmatch(answer), f'"write failed after {len(written)} bytes\\n"'
+    return None if told and told[1] == "3" and told[2] == line and written_of(told[3]) == written else shown(answer)
+
+
 def rooms_case(row, spec, stream, words, answer):
     """A device that has room for all but some bytes of the output."""
-    written = json.loads(answer.split(" ", 2)[2])
+    written = written_of(ACTED.fullmatch(answer)[3])
+    taken = [written[:room] for room in range(len(written)) for _ in ("fails", "stops")]
     lines = [f"tool.act cut:1 {room}:{end} {spec} {stream} {words}" for room in range(len(written)) for end in ("fails", "stops")]
-    wanted = [f'3 "write failed after {at // 2} bytes\\n" {json.dumps(written[:at // 2])}' for at in range(len(lines))]
-    return Case(row, lines, lambda answers: first_fault(map(unlike, answers, wanted)))
+    return Case(row, lines, lambda answers: first_fault(map(cut_fault, answers, taken)))
 
 
 def said_case(row, words, answer):

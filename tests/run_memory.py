@@ -19,7 +19,7 @@ import sys
 import tempfile
 from concurrent.futures import ThreadPoolExecutor
 
-from run_calls import parts_of_refusals, programs, unescaped
+from run_calls import ACTED, parts_of_refusals, programs, written_of
 
 HERE = os.path.dirname(os.path.abspath(__file__))
 TOP = os.path.dirname(HERE)
@@ -97,14 +97,6 @@ def is_lost_run(want, it):
     if items:
         return it[1:] == (want[1:int(items[1]) + 1] or ["none"])
     return it[0].startswith("no memory for a line;") and it[1:] == want[1:]
-
-
-ACTED = re.compile(r'(\d) ("(?:[^"\\]|\\.)*") (.*)')
-
-
-def written_of(shown):
-    """The bytes that an answer shows, as text in quotes or in hex."""
-    return unescaped(shown[1:-1]) if shown.startswith('"') else bytes.fromhex(shown.replace("none", ""))
 
 
 def is_lost_act(want, it):
