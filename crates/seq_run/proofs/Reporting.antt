@@ -3,7 +3,7 @@ use Rattle.std.proofs.Common.{◌≡◌, ℕ, suc, ◌+◌, ◌-◌, ◌<◌, �
 use Rattle.std.specs.declared.alloc.AllocError.{AllocError}
 use Rattle.std.proofs.lemmas.List.{take-append-drop, length-drop, append_cancel_left}
 use Rattle.std.proofs.Math.Seq.{take-length}
-use Rattle.cbor_data.specs.Value.{Value, uint, place_count}
+use Rattle.cbor_data.specs.Value.{Value, place_count}
 use Rattle.cbor_data.specs.Sequence as sequence
 use Rattle.cbor_data.specs.Sequence.{Found, EndsBy, cleanly, at_fault, at_mismatch, at_spent}
 use Rattle.cbor_data.specs.Faults.{Bounds}
@@ -16,20 +16,24 @@ use Rattle.seq_run.specs.declared.session.Advance.TheVariants as advance
 use Rattle.seq_run.specs.Ends.{Accepts, Misses, Overruns, Ends}
 use Rattle.seq_run.specs.Progress.{Progress}
 use Rattle.seq_run.specs.Parts.{IsNext, IsRejected}
-use Rattle.seq_run.specs.Answers.{items_of, Appends, IsOpen, IsEnded, IsFedOne, IsItemFed, IsSmallFed, IsAdvance, IsLent}
+use Rattle.seq_run.specs.Answers.{items_of, Appends, IsOpen, IsEnded, IsFedOne, IsItemFed, AreSmallsFed, IsAdvance, IsLent}
 use Rattle.seq_run.specs.declared.output.Mode.{Mode}
 use Rattle.seq_run.specs.Report.{IsShown}
 use Rattle.seq_run.specs.Output.{item_output, items_output}
 use Rattle.seq_run.specs.Running.{Adds, IsSettled}
+use Rattle.seq_run.specs.Smalls.{smalls_from}
 use Rattle.seq_run.proofs.Runs.{same_front, same_takes}
 use Rattle.seq_run.proofs.Verdicts.{ShowsInside}
 
--- one item more
+-- items, and more of them
+pub items_output_append : (mode : Mode) (n : ℕ) (fs gs : List Found) → items_output mode n (fs ++ gs) ≡ items_output mode n fs ++ items_output mode (n + length fs) gs
+items_output_append mode n [] gs = ap (λ (m : ℕ). items_output mode m gs) (let e : n ≡ n + 0 = omega arith in e)
+items_output_append mode n (f ∷ fs) gs =
+    let number : suc n + length fs ≡ n + suc (length fs) = omega arith in
+    ap (λ (b : List ℕ). item_output mode n f ++ b) (items_output_append mode (suc n) fs gs ∙ ap (λ (m : ℕ). items_output mode (suc n) fs ++ items_output mode m gs) number) ∙ sym (append_assoc (item_output mode n f) (items_output mode (suc n) fs) (items_output mode (n + suc (length fs)) gs))
+
 pub items_output_more : (mode : Mode) (n : ℕ) (fs : List Found) (f : Found) → items_output mode n (fs ++ f ∷ []) ≡ items_output mode n fs ++ item_output mode (n + length fs) f
-items_output_more mode n [] f = append-nil (item_output mode n f) ∙ ap (λ (m : ℕ). item_output mode m f) (let e : n ≡ n + 0 = omega arith in e)
-items_output_more mode n (g ∷ gs) f =
-    let number : suc n + length gs ≡ n + suc (length gs) = omega arith in
-    ap (λ (b : List ℕ). item_output mode n g ++ b) (items_output_more mode (suc n) gs f ∙ ap (λ (m : ℕ). items_output mode (suc n) gs ++ item_output mode m f) number) ∙ sym (append_assoc (item_output mode n g) (items_output mode (suc n) gs) (item_output mode (n + suc (length gs)) f))
+items_output_more mode n fs f = items_output_append mode n fs (f ∷ []) ∙ ap (λ (b : List ℕ). items_output mode n fs ++ b) (append-nil (item_output mode (n + length fs) f))
 
 -- `rest` of the piece is left, and the lines are those of the items so far
 pub record IsReporting (mode : Mode) (old : Progress) (piece lines : List ℕ) (now : Progress) (rest lines_now : List ℕ) : Type 0 where
@@ -100,10 +104,22 @@ module _ (mode : Mode) (old : Progress) (piece lines : List ℕ) (now : Progress
       let s : IsItemFed now rest used number offset new = step_of (Ok (advance.Item used number offset)) a in
       reported_fed used number offset y lines_new s (item ∙ ap (λ (xs : List Value). get_or xs 0 y) (just_item used number offset out_new s appends)) written
 
-  pub reported_small : (n number offset : ℕ) (lines_new : List ℕ) → IsSmallFed now rest n offset new → number ≡ length new.taken → lines_new ≡ lines_now ++ item_output mode number (record { offset = offset; item = uint n }) →
-      IsReporting mode old piece lines new (drop 1 rest) lines_new × (0 < 1) × (1 ≤ length rest)
-  reported_small n number offset lines_new s count written =
-      reported_fed 1 (length new.taken) offset (uint n) lines_new s.fed (sym s.is) (written ∙ ap (λ (m : ℕ). lines_now ++ item_output mode m (record { offset = offset; item = uint n })) count)
+  pub reported_smalls : (k before offset : ℕ) (lines_new : List ℕ) → AreSmallsFed now (take k rest) offset new → before ≡ length now.taken →
+      lines_new ≡ lines_now ++ items_output mode (suc before) (smalls_from offset (take k rest)) → IsReporting mode old piece lines new (drop k rest) lines_new
+  reported_smalls k before offset lines_new s count written =
+      let more = smalls_from offset (take k rest) in
+      let number : suc before ≡ suc (length old.taken) + length r.added = omega (arith, count, ap length r.taken, length-append old.taken r.added) in
+      let same : items_output mode (suc before) more ≡ items_output mode (suc (length old.taken) + length r.added) more = ap (λ (n : ℕ). items_output mode n more) number in
+      record {
+        fed = ap (λ (p : Progress). p.fed ++ drop k rest) s.next ∙ (append_assoc now.fed (take k rest) (drop k rest) ∙ (ap (λ (xs : List ℕ). now.fed ++ xs) (take-append-drop k rest) ∙ r.fed));
+        going = ap (λ (p : Progress). p.stopped) s.next ∙ r.going;
+        added = r.added ++ more;
+        taken = ap (λ (p : Progress). p.taken) s.next ∙ (ap (λ (fs : List Found). fs ++ more) r.taken ∙ append_assoc old.taken r.added more);
+        written = written ∙ (ap₂ (λ (a b : List ℕ). a ++ b) r.written same ∙ (append_assoc lines (items_output mode (suc (length old.taken)) r.added) (items_output mode (suc (length old.taken) + length r.added) more)
+            ∙ ap (λ (b : List ℕ). lines ++ b) (sym (items_output_append mode (suc (length old.taken)) r.added more))));
+        judge = ap (λ (p : Progress). p.judge) s.next ∙ r.judge;
+        limits = ap (λ (p : Progress). p.limits) s.next ∙ r.limits;
+      }
 
 -- the item after the run is one
 pub same_next : (judge : Judge) (l : Bounds) (stream : List ℕ) (found : List Found) (x y : Value) → IsNext judge l stream found x → IsNext judge l stream found y → x ≡ y

@@ -1,12 +1,12 @@
 -- The steps of a session, from the answers of its reader.
 use Rattle.std.proofs.Common.{◌≡◌, ◌≢◌, ℕ, ◌+◌, ◌^◌, ◌<◌, List, [], ◌∷◌, ◌++◌, length, take, map, Option, Some, None, Result, Ok, Err, is_ok, is_err, true, false, if◌then◌else◌, refl, sym, ap, ◌∙◌, subst, arith, append-nil}
 use Rattle.std.specs.declared.alloc.AllocError.{AllocError}
-use Rattle.cbor_data.specs.Value.{Value, uint}
+use Rattle.cbor_data.specs.Value.{Value}
 use Rattle.cbor_data.specs.Faults.{Bounds, IsFaultOf}
 use Rattle.cbor_data.specs.Sequence.{Found}
 use Rattle.cbor_read.specs.Reading.{Reading}
 use Rattle.cbor_read.specs.Answers as reader
-use Rattle.cbor_read.specs.Answers.{IsGoingOn, IsTaken, IsSmallTaken}
+use Rattle.cbor_read.specs.Answers.{IsGoingOn, IsTaken}
 use Rattle.cbor_read.specs.declared.fault.Fault as declared
 use Rattle.cbor_read.specs.declared.fault.Stop.{Stop}
 use Rattle.cbor_read.specs.declared.fault.Stop.TheVariants as stop
@@ -25,7 +25,7 @@ use Rattle.seq_run.specs.Judged.{IsFailing}
 use Rattle.seq_run.specs.FoundItem.{found_of}
 use Rattle.seq_run.specs.Progress.{Progress}
 use Rattle.seq_run.specs.Parts.{IsRejected, IsRunning, AreParts, parts_of}
-use Rattle.seq_run.specs.Answers.{Appends, IsOpen, IsEnded, IsCutShort, IsFedOne, IsItemFed, IsSmallFed, IsAdvance, IsStep, IsFinish}
+use Rattle.seq_run.specs.Answers.{Appends, IsOpen, IsEnded, IsCutShort, IsFedOne, IsItemFed, IsAdvance, IsStep, IsFinish}
 use Rattle.seq_run.proofs.Ending.{clean_end, fault_end}
 use Rattle.seq_run.proofs.Verdicts.{OneAnswer}
 use Rattle.seq_run.proofs.Transitions.{grows, going_on, opened, took, missed, overrun, faulted, cut_short, counts_below}
@@ -141,27 +141,6 @@ module _ (judge : Judge) (fed : List ℕ) (taken : List Found) (r : Reading) (it
         record { added = record { offset = offset; item = s.item } ∷ []; taken = ap (λ (p : Progress). p.taken) s.next; out = o ∙ ap (λ (v : Value). out ++ v ∷ []) (sym both.1); judge = ap (λ (p : Progress). p.judge) s.next; limits = ap (λ (p : Progress). p.limits) s.next },
         s,
       )
-
-  -- an unsigned integer of one byte was accepted
-  module _ (piece : List ℕ) (m n : ℕ) (new : Reading) (t : IsSmallTaken r piece n new) (is_n : m ≡ n) (accepts : Accepts judge (uint m) []) where
-    accepts_n : Accepts judge (uint n) []
-    accepts_n = subst (λ k. Accepts judge (uint k) []) is_n accepts
-
-    pub small_fits : items + 1 < 2 ^ 64
-    small_fits = (item_fits piece 1 (uint n) new t.taken accepts_n).0
-
-    pub small_kept : (fed' : List ℕ) (taken' : List Found) → fed' ≡ fed ++ take 1 piece → taken' ≡ taken ++ record { offset = offset; item = uint n } ∷ [] → AreParts stopped judge new.limits fed' taken' (parts_of new (items + 1) (bytes + 1) (bytes + 1) rejected)
-    small_kept fed' taken' e f = item_kept piece 1 (uint n) new fed' taken' e f t.taken accepts_n
-
-    pub small_fed : (now : Progress) → old ≡ now → (fed' : List ℕ) (taken' : List Found) → fed' ≡ fed ++ take 1 piece → taken' ≡ taken ++ record { offset = offset; item = uint n } ∷ [] → IsSmallFed now piece n offset (After new fed' taken')
-    small_fed now same fed' taken' e f =
-        let both = item_fed now same piece 1 (uint n) new fed' taken' e f t.taken accepts_n in
-        let s = both.0 in
-        record {
-          small = t.small;
-          fed = record { some = s.some; within = s.within; item = s.item; next = s.next; number_is = refl; ends = subst (λ m. Ends judge new.limits fed' taken' (Clean m (length fed'))) s.number_is s.ends; short = s.short };
-          is = both.1;
-        }
 
   -- what comes fails, whatever follows
   failing : OneAnswer → (piece : List ℕ) (cause : Cause) (left : Option Value) (new : Reading) (more : List ℕ) → IsFailing judge r piece cause left new →

@@ -1,7 +1,7 @@
 -- What the answers of a session's calls say.
-use Rattle.std.specs.Prelude.{◌≡◌, ℕ, ◌<◌, ◌≤◌, List, [], ◌∷◌, ◌++◌, length, take, map, Option, Some, None, Result, Ok, Err, alloc_error}
+use Rattle.std.specs.Prelude.{◌≡◌, ℕ, ◌+◌, ◌<◌, ◌≤◌, List, [], ◌∷◌, ◌++◌, All, length, take, map, Option, Some, None, Result, Ok, Err, alloc_error}
 use Rattle.std.specs.declared.alloc.AllocError.{AllocError}
-use Rattle.cbor_data.specs.Value.{Value, uint}
+use Rattle.cbor_data.specs.Value.{Value}
 use Rattle.cbor_data.specs.Faults.{last_offset}
 use Rattle.cbor_data.specs.Sequence.{Found}
 use Rattle.cbor_data.specs.declared.FaultKind.{FaultKind}
@@ -18,6 +18,7 @@ use Rattle.seq_run.specs.declared.session.Advance.TheVariants as advance
 use Rattle.seq_run.specs.Ends.{BeginsWith, Ends}
 use Rattle.seq_run.specs.Parts.{IsRejected}
 use Rattle.seq_run.specs.Progress.{Progress}
+use Rattle.seq_run.specs.Smalls.{smalls_from}
 
 abbrev pub items_of : List Found → List Value
 items_of found = map (λ f. f.item) found
@@ -99,11 +100,14 @@ pub record IsItemFed (old : Progress) (piece : List ℕ) (used number offset : �
   pub ends : Ends new.judge new.limits new.fed new.taken (Clean number (length new.fed))
   pub short : length new.fed ≤ last_offset
 
--- The unsigned integer n, below 24 and of one byte, was accepted.
-pub record IsSmallFed (old : Progress) (piece : List ℕ) (n offset : ℕ) (new : Progress) : Type 0 where
-  pub small : n < 24
-  pub fed : IsItemFed old piece 1 (length new.taken) offset new
-  pub is : fed.item ≡ uint n
+-- These unsigned integers below 24, each of one byte, were accepted, the first one at this offset. The bytes fed are just the
+-- items taken, if there are any such integers.
+pub record AreSmallsFed (old : Progress) (numbers : List ℕ) (offset : ℕ) (new : Progress) : Type 0 where
+  pub small : All (λ n. n < 24) numbers
+  pub next : new ≡ record old { fed = old.fed ++ numbers; taken = old.taken ++ smalls_from offset numbers }
+  pub ends : 0 < length numbers → Ends new.judge new.limits new.fed new.taken (Clean (length new.taken) (length new.fed))
+  pub count : length old.taken ≤ offset
+  pub short : offset + length numbers ≤ last_offset
 
 -- what `feed_one` answers of a session that has not stopped
 abbrev pub IsFedOne : Progress → List ℕ → Result Advance AllocError → Progress → Type 0

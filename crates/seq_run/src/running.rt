@@ -13,7 +13,7 @@ ghost use Rattle.seq_run.specs.Written.{IsReadBack, IsWrittenStream};
 use crate::end::{End, State};
 use crate::head::Head;
 use crate::laws::{decisive_end, written_is_read_back};
-use crate::output::{Mode, push_end, push_item, push_small};
+use crate::output::{Mode, push_end, push_item, push_smalls};
 use crate::session::{Advance, Session};
 use cbor_item::{Counted, Sound, write_bytes};
 use cbor_read::Limits;
@@ -154,9 +154,11 @@ fn feed_items(
     let mut items = Vec::new(alloc);
     let mut head = Head::new();
     'steps: loop {
-        if let Some((n, offset)) = session.take_small(rest) {
-            push_small(mode, &mut head, bytes, session.items(), offset, n)?;
-            rest = &rest[1..];
+        let before = session.items();
+        let (count, offset) = session.take_smalls(rest);
+        if count > 0 {
+            push_smalls(mode, &mut head, bytes, before, offset, &rest[..count])?;
+            rest = &rest[count..];
             continue;
         }
         match session.feed_one(rest, &mut items)? {

@@ -1,8 +1,10 @@
 //! A session: the run of a stream that comes in pieces.
 
-ghost use Rattle.std.specs.Prelude.{◌≡◌, ◌+◌, ◌<◌, ◌^◌, [], length, None, option_copied, IfNone, IfSome, IsTrue};
+ghost use Rattle.std.specs.Prelude.{◌≡◌, ◌+◌, ◌<◌, ◌≤◌, ◌++◌, ◌^◌, [], length, map, take, None, option_copied, IfNone, IfSome, IsTrue};
 ghost use Rattle.cbor_data.specs.Value.{uint};
-ghost use Rattle.seq_run.specs.Answers.{Appends, IsAdvance, IsAnswer, IsFinish, IsLent, IsSmallFed, IsStep};
+ghost use Rattle.seq_run.specs.Answers.{Appends, IsAdvance, IsAnswer, IsFinish, IsLent, IsStep, AreSmallsFed};
+ghost use Rattle.seq_run.specs.FoundItem.{found_of};
+ghost use Rattle.seq_run.specs.Smalls.{smalls_from};
 ghost use Rattle.seq_run.specs.Ends.{Accepts};
 ghost use Rattle.seq_run.specs.Judge.{judge_of};
 ghost use Rattle.seq_run.specs.Judged.{IsJudged};
@@ -55,6 +57,18 @@ impl Count {
         }
     }
 
+    // Counts items of one byte each.
+    fn add_smalls(&mut self, count: usize)
+        requires items { self.old.items + count < 2 ^ 64 }
+        requires offset { self.old.offset + count < 2 ^ 64 }
+        requires bytes { self.old.bytes + count < 2 ^ 64 }
+        ensures { self.new ≡ record { items = self.old.items + count; offset = self.old.offset + count; bytes = self.old.bytes + count } }
+    {
+        self.items += count as u64;
+        self.offset += count as u64;
+        self.bytes += count as u64;
+    }
+
     // Counts one more item, which ends with byte `used` of a piece.
     fn add_item(&mut self, used: usize) -> Advance
         requires items { self.old.items + 1 < 2 ^ 64 }
@@ -71,6 +85,19 @@ impl Count {
             number: self.items,
             offset,
         }
+    }
+}
+
+// Notes the unsigned integers that the bytes are, the first one at the offset.
+fn note_smalls(taken: &mut History<FoundItem>, offset: u64, numbers: &[u8])
+    requires { offset + length numbers.now < 2 ^ 64 }
+    ensures { map found_of taken.new ≡ map found_of taken.old ++ smalls_from offset numbers.now }
+{
+    for at in 0..numbers.len() {
+        taken.push(&FoundItem::Small {
+            offset: offset + at as u64,
+            n: numbers[at],
+        });
     }
 }
 
@@ -243,26 +270,23 @@ impl<'t> Session<'t> {
         self.rejected
     }
 
-    // Takes the unsigned integer below 24 at the front of the piece, where it is the next item and is accepted, and answers
-    // it with its offset. `None` says that nothing was taken, and nothing is changed.
-    #[inline]
-    pub(crate) fn take_small(&mut self, piece: &[u8]) -> Option<(u8, u64)>
+    // Takes the unsigned integers below 24 at the front of the piece that are the next items and are known to be accepted, and
+    // answers how many, and the offset of the first. The specification is asked about the first one, if it is not known.
+    pub(crate) fn take_smalls(&mut self, piece: &[u8]) -> (usize, u64)
         requires { self.old.stopped ≡ None }
-        ensures taken { IfSome result (λ r. IsSmallFed self.old piece.now r.0 r.1 self.new) }
-        ensures kept { IfNone result (self.new ≡ self.old) }
+        ensures within { result.0 ≤ length piece.now }
+        ensures taken { AreSmallsFed self.old (take result.0 piece.now) result.1 self.new }
     {
-        if piece.is_empty() || piece[0] >= 24 {
-            return None;
-        }
-        if !self.examiner.accepts(self.alloc, piece[0]) {
-            return None;
-        }
-        let n = self.reader.take_small(piece)?;
         let offset = self.count.offset;
-        self.taken.push(&FoundItem::Small { offset, n });
-        self.fed.extend(&piece[..1]);
-        self.count.add_item(1);
-        Some((n, offset))
+        if piece.is_empty() || piece[0] >= 24 {
+            return (0, offset);
+        }
+        self.examiner.ask(self.alloc, piece[0]);
+        let count = self.examiner.take_marked(&mut self.reader, piece);
+        note_smalls(&mut self.taken, offset, &piece[..count]);
+        self.fed.extend(&piece[..count]);
+        self.count.add_smalls(count);
+        (count, offset)
     }
 
     // `feed_one` for a session that has not stopped.
