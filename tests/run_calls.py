@@ -51,9 +51,10 @@ has nothing in it. A refusal is the name of its kind, with 'at' its place. Reade
 
   match.verdict ROOT STEPS HEX what the type says of an item; match.turns ROOT STEPS ROOM HEX says so by turns
   session.feed ROOT STEPS DEPTH BYTES PIECE..
-                               what a session answers to each piece with its items, its end and the item that it rejected, with
-                               '|' between them; session.feed_one takes items one by one, session.validate_pieces all at once;
-                               a piece '-' is empty
+                               what a session answers to each piece with its items, its end, the item that it rejected, and how
+                               many items and bytes it has taken, with '|' between them; session.feed_one takes items one by
+                               one, session.validate_pieces all at once, and answers no more than the items and the end; a piece
+                               '-' is empty
   run.report ROOT STEPS DEPTH BYTES SIZE HEX
                                the line of the end, or why there is none; how many bytes were read of a device that gives at most
                                SIZE at once, and how many were asked for at once; and what was written, each line after ' / '.
@@ -513,9 +514,16 @@ def end_of(told):
     return next((it.sub(short, told) for it, short in SHORT_ENDS if it.fullmatch(told)), told)
 
 
+def count_of(end):
+    """What a session says that it has taken, by its end in short: so many items, and the bytes before the next one."""
+    return "taken {1}, {2}".format(*end.split())
+
+
 def fed_fault(pieces, answer, items, end, given):
     """What is wrong with the answer of a session that was fed these pieces; the end is known after so many bytes."""
-    *parts, last, _ = answer.split(" | ")
+    *parts, last, _, count = answer.split(" | ")
+    if count != count_of(end):
+        return f"{count}, wanted {count_of(end)}"
     came, at = [], 0
     for number, (piece, part) in enumerate(zip(pieces, parts)):
         *more, state = part.split("; ")
@@ -528,7 +536,9 @@ def fed_fault(pieces, answer, items, end, given):
 
 def taken_fault(pieces, answer, items, end):
     """The same of a session whose items were taken one by one."""
-    *parts, last, _ = answer.split(" | ")
+    *parts, last, _, count = answer.split(" | ")
+    if count != count_of(end):
+        return f"{count}, wanted {count_of(end)}"
     came, taken, following = [], 0, 0
     for piece, part in zip(pieces, parts):
         *more, state = part.split("; ")

@@ -80,13 +80,17 @@ def lines_in(out):
 
 
 def is_lost_session(want, it):
-    """Whether a session answers as it should up to want of memory, and keeps to that."""
+    """Whether a session answers as it should up to want of memory, keeps to that, and has taken the items that it handed out."""
     lost = next((at for at, (a, b) in enumerate(zip(want, it)) if a != b), None)
     if lost is None or len(want) != len(it) or not it[lost].endswith("no memory"):
         return False
     if not want[lost].startswith(it[lost].removesuffix("no memory")):
         return False
-    return len(it) == 1 or it[-1] == "none" and all(part == "no memory" for part in it[lost + 1:-1])
+    if len(it) == 1:
+        return True
+    *parts, rejected, count = it
+    handed_out = sum(part.count("; ") for part in parts)
+    return rejected == "none" and all(part == "no memory" for part in parts[lost + 1:]) and count.startswith(f"taken {handed_out}, ")
 
 
 def is_lost_run(want, it):

@@ -1,6 +1,6 @@
 -- Unsigned integers below 24 that are taken one after the other.
-use Rattle.std.proofs.Common.{◌≡◌, ℕ, zero, suc, ◌+◌, ◌<◌, ◌≤◌, ◌^◌, List, [], ◌∷◌, ◌++◌, length, take, drop, get_or, slice_index_or, Bool, Option, Some, None, refl, sym, ap, ap₂, ◌∙◌, subst, arith, append-nil, append_assoc, length-append}
-use Rattle.std.specs.Prelude.{All}
+use Rattle.std.proofs.Common.{◌≡◌, ℕ, zero, suc, ◌+◌, ◌<◌, ◌≤◌, ◌^◌, List, [], ◌∷◌, ◌++◌, length, take, drop, get_or, slice_index_or, Bool, Option, Some, None, Result, Ok, Err, is_ok, if◌then◌else◌, refl, sym, ap, ap₂, ◌∙◌, subst, arith, append-nil, append_assoc, length-append}
+use Rattle.std.specs.Prelude.{All, OnOk}
 use Rattle.std.proofs.Math.Seq.{take-suc}
 use Rattle.std.proofs.lemmas.List.{length-take-le}
 use Rattle.std.proofs.lemmas.List.Elements.{All-nil, All-append}
@@ -10,13 +10,13 @@ use Rattle.cbor_data.specs.Sequence.{Found}
 use Rattle.cbor_data.specs.Deterministic.{deterministic}
 use Rattle.cbor_data.specs.Preferred.{preferred}
 use Rattle.cbor_read.specs.Reading.{Reading}
-use Rattle.cbor_read.specs.Answers.{IsSmallTaken}
+use Rattle.cbor_read.specs.Answers.{IsSmallNext, IsSmallTaken}
 use Rattle.seq_run.specs.declared.end.End.TheVariants.{Clean}
 use Rattle.seq_run.specs.declared.end.Stopped.{Stopped}
 use Rattle.seq_run.specs.declared.output.Mode.{Mode}
 use Rattle.seq_run.specs.declared.output.Mode.TheVariants as mode
 use Rattle.seq_run.specs.Accepted.{AreAccepted}
-use Rattle.seq_run.specs.Answers.{AreSmallsFed}
+use Rattle.seq_run.specs.Answers.{AreSmallsFed, IsCount}
 use Rattle.seq_run.specs.Ends.{Accepts, BeginsWith, Ends}
 use Rattle.seq_run.specs.Judge.{Judge}
 use Rattle.seq_run.specs.Output.{item_output, items_output}
@@ -25,9 +25,8 @@ use Rattle.seq_run.specs.Progress.{Progress}
 use Rattle.seq_run.specs.Smalls.{smalls_from, AreSmallsTaken, none, more, IsMarked}
 use Rattle.seq_run.proofs.Ending.{clean_end}
 use Rattle.seq_run.proofs.Reporting.{items_output_more}
-use Rattle.seq_run.proofs.Runs.{takes_count}
 use Rattle.seq_run.proofs.Small.{small_preferred}
-use Rattle.seq_run.proofs.Transitions.{took, counts_below}
+use Rattle.seq_run.proofs.Transitions.{took, counted_now, counts_below}
 
 -- ---- lists of them
 
@@ -51,6 +50,19 @@ front_more ns k within = let next : k + 1 ≡ suc k = omega arith in ap (λ j. t
 pub front_count : (ns : List ℕ) (k : ℕ) → k < length ns → length (take k ns) ≡ k
 front_count ns k within = length-take-le k ns (omega arith)
 
+pub smalls_found_more : (o : ℕ) (ns : List ℕ) (k : ℕ) → k < length ns → smalls_from o (take (k + 1) ns) ≡ smalls_from o (take k ns) ++ record { offset = o + k; item = uint (slice_index_or ns k 0) } ∷ []
+smalls_found_more o ns k within =
+    let front = take k ns in
+    let n = slice_index_or ns k 0 in
+    ap (smalls_from o) (front_more ns k within) ∙ (smalls_more o front n ∙ ap (λ (j : ℕ). smalls_from o front ++ small_at (o + j) n ∷ []) (front_count ns k within))
+
+-- they were noted one by one
+pub notes_more : (o : ℕ) (ns : List ℕ) (k : ℕ) → k < length ns → (out now new : List Found) → now ≡ out ++ smalls_from o (take k ns) → new ≡ now ++ record { offset = o + k; item = uint (slice_index_or ns k 0) } ∷ [] →
+    new ≡ out ++ smalls_from o (take (k + 1) ns)
+notes_more o ns k within out now new so_far one =
+    let last = small_at (o + k) (slice_index_or ns k 0) in
+    one ∙ (ap (λ (fs : List Found). fs ++ last ∷ []) so_far ∙ (append_assoc out (smalls_from o (take k ns)) (last ∷ []) ∙ ap (λ (fs : List Found). out ++ fs) (sym (smalls_found_more o ns k within))))
+
 -- ---- what is written of them
 
 pub small_lines_more : (m : Mode) (before offset : ℕ) (ns : List ℕ) (k : ℕ) → k < length ns → (out now new : List ℕ) → now ≡ out ++ items_output m (suc before) (smalls_from offset (take k ns)) →
@@ -59,8 +71,7 @@ small_lines_more m before offset ns k within out now new so_far line =
     let front = take k ns in
     let n = slice_index_or ns k 0 in
     let count : length front ≡ k = front_count ns k within in
-    let found : smalls_from offset (take (k + 1) ns) ≡ smalls_from offset front ++ small_at (offset + k) n ∷ [] =
-    ap (smalls_from offset) (front_more ns k within) ∙ (smalls_more offset front n ∙ ap (λ (j : ℕ). smalls_from offset front ++ small_at (offset + j) n ∷ []) count) in
+    let found = smalls_found_more offset ns k within in
     let number : suc before + length (smalls_from offset front) ≡ before + 1 + k = omega (arith, smalls_count offset front, count) in
     let all : items_output m (suc before) (smalls_from offset (take (k + 1) ns)) ≡ items_output m (suc before) (smalls_from offset front) ++ item_output m (before + 1 + k) (small_at (offset + k) n) =
     ap (items_output m (suc before)) found ∙ (items_output_more m (suc before) (smalls_from offset front) (small_at (offset + k) n)
@@ -82,7 +93,25 @@ smalls_ordered number o [] small = refl
 smalls_ordered number o (n ∷ ns) small =
     ap₂ (λ (a b : List ℕ). a ++ b) (small_preferred n (small 0 0 (omega arith))) (smalls_ordered (suc number) (suc o) ns (λ k d h. small (suc k) d (omega arith)))
 
+pub appended_or_not : {T E : Type 0} (result : Result T E) (new old added all : List ℕ) → new ≡ (if is_ok result then old ++ added else old) → all ≡ added → OnOk result (new ≡ old ++ all)
+appended_or_not (Ok x) new old added all e same = e ∙ ap (λ (b : List ℕ). old ++ b) (sym same)
+appended_or_not (Err x) new old added all e same = tt
+
 -- ---- the reader
+
+first_at : (ns : List ℕ) (k n : ℕ) → take 1 (drop k ns) ≡ n ∷ [] → slice_index_or ns k 0 ≡ n
+first_at [] zero n e = absurd (cc)
+first_at [] (suc k) n e = absurd (cc)
+first_at (m ∷ ms) zero n e = cc
+first_at (m ∷ ms) (suc k) n e = first_at ms k n e
+
+-- the next one of a piece was taken
+pub front_taken : {P : ℕ → Type 0} {old between new : Reading} (ns : List ℕ) (k n : ℕ) (rest : List ℕ) → k < length ns → rest ≡ drop k ns → AreSmallsTaken P old (take k ns) between → P (slice_index_or ns k 0) →
+    IsSmallNext between rest → IsSmallTaken between rest n new → AreSmallsTaken P old (take (k + 1) ns) new
+front_taken {P} {old} {between} {new} ns k n rest within is t p next taken =
+    let first : slice_index_or ns k 0 ≡ n = first_at ns k n (ap (take 1) (sym is) ∙ taken.first) in
+    let front : take (k + 1) ns ≡ take k ns ++ n ∷ [] = front_more ns k within ∙ ap (λ (m : ℕ). take k ns ++ m ∷ []) first in
+    subst (λ (xs : List ℕ). AreSmallsTaken P old xs new) (sym front) (more rest n t (subst P first p) next.between taken)
 
 pub smalls_taken_if : {P Q : ℕ → Type 0} {old new : Reading} {ns : List ℕ} → ((n : ℕ) → P n → Q n) → AreSmallsTaken P old ns new → AreSmallsTaken Q old ns new
 smalls_taken_if f none = none
@@ -151,14 +180,12 @@ module _ (judge : Judge) (fed : List ℕ) (taken : List Found) (r : Reading) (it
 
   pub smalls_kept : (fed' : List ℕ) (taken' : List Found) → fed' ≡ fed ++ numbers → taken' ≡ taken ++ smalls_from offset numbers →
       AreParts stopped judge new.limits fed' taken' (parts_of new (items + count) (offset + count) (bytes + count) rejected)
-  smalls_kept fed' taken' e f = rw (is, e, f, smalls_limits t) after
-
-  -- the items taken are no more than the bytes before the next one
-  items_below : length taken ≤ offset
-  items_below = omega (arith, takes_count r.limits (Accepts judge) running.takes, running.reaches, running.bytes_is)
+  smalls_kept fed' taken' e f =
+      let there = subst (λ l. IsRunning judge l (fed ++ numbers) (taken ++ smalls_from offset numbers) (parts_of new (items + count) (offset + count) (bytes + count) rejected)) (sym (smalls_limits t)) after in
+      rw (is, e, f) there
 
   pub smalls_fed : (now : Progress) → record { judge = judge; limits = r.limits; fed = fed; taken = taken; stopped = stopped } ≡ now → (fed' : List ℕ) (taken' : List Found) → fed' ≡ fed ++ numbers → taken' ≡ taken ++ smalls_from offset numbers →
-      AreSmallsFed now numbers offset (record { judge = judge; limits = new.limits; fed = fed'; taken = taken'; stopped = stopped })
+      AreSmallsFed now numbers (record { judge = judge; limits = new.limits; fed = fed'; taken = taken'; stopped = stopped })
   smalls_fed now same fed' taken' e f =
       let old : Progress = record { judge = judge; limits = r.limits; fed = fed; taken = taken; stopped = stopped } in
       let next : Progress = record { judge = judge; limits = new.limits; fed = fed'; taken = taken'; stopped = stopped } in
@@ -166,10 +193,21 @@ module _ (judge : Judge) (fed : List ℕ) (taken : List Found) (r : Reading) (it
       let moved_now : next ≡ record now { fed = now.fed ++ numbers; taken = now.taken ++ smalls_from offset numbers } =
       subst (λ (p : Progress). next ≡ record p { fed = p.fed ++ numbers; taken = p.taken ++ smalls_from offset numbers }) same moved in
       let begins : 0 < length numbers → BeginsWith judge new.limits fed' taken' [] = λ some. rw (smalls_limits t, e, f) (subst (λ (b : List ℕ). BeginsWith judge r.limits (fed ++ numbers) (taken ++ smalls_from offset numbers) b) (smalls_between t some) after.takes) in
+      let count_now : IsCount old items offset = counted_now judge r.limits fed taken r items offset bytes rejected running in
+      let before : IsCount now (length now.taken) offset = let c = subst (λ (p : Progress). IsCount p items offset) same count_now in subst (λ n. IsCount now n offset) c.items_is c in
       record {
         small = smalls_small t;
+        offset = offset;
+        place = before;
         next = moved_now;
         ends = λ some. clean_end judge new.limits fed' taken' (begins some);
-        count = subst (λ (p : Progress). length p.taken ≤ offset) same items_below;
         short = omega (arith, count_is, reaches, after.short);
       }
+
+-- where none was taken, nothing is changed
+pub none_taken : (now : Progress) (rest : List ℕ) (k : ℕ) (new : Progress) → k ≤ 0 → AreSmallsFed now (take k rest) new → new ≡ now
+none_taken now rest k new few s =
+    let zero_is : k ≡ 0 = omega arith in
+    let nothing : take k rest ≡ [] = ap (λ (j : ℕ). take j rest) zero_is in
+    let kept : record now { fed = now.fed ++ []; taken = now.taken ++ [] } ≡ now = rw (append-nil now.fed, append-nil now.taken) refl in
+    s.next ∙ (ap (λ (ns : List ℕ). record now { fed = now.fed ++ ns; taken = now.taken ++ smalls_from s.offset ns }) nothing ∙ kept)

@@ -1,7 +1,8 @@
 //! What says of items whether they are accepted.
 
-ghost use Rattle.std.specs.Prelude.{◌≡◌, ◌<◌, ℕ, [], IfSome, IsTrue};
+ghost use Rattle.std.specs.Prelude.{◌≡◌, ◌<◌, ◌≤◌, ◌↔◌, ℕ, [], length, take, IfSome, IsTrue};
 ghost use Rattle.cbor_data.specs.Value.{uint};
+ghost use Rattle.seq_run.specs.Smalls.{AreSmallsTaken, IsLongestFront, IsMarked};
 
 use cbor_item::{Item, Sound};
 use cbor_read::ItemReader;
@@ -67,18 +68,18 @@ impl<'t> Examiner<'t> {
         matches!(self.verdict(alloc, item), Ok(Verdict::Yes))
     }
 
-    // Marks the number n where the item is accepted.
+    // Marks the number below 24 that the piece begins with, if it begins with one, where that is accepted.
     #[inline]
-    pub(crate) fn ask(&mut self, alloc: Global, n: u8)
-        requires { n < 24 }
+    pub(crate) fn ask(&mut self, alloc: Global, piece: &[u8])
         ensures { self.new ≡ self.old }
     {
-        if !self.accepted[usize::from(n)] {
-            self.ask_now(alloc, n);
+        if piece.is_empty() || piece[0] >= 24 || self.accepted[usize::from(piece[0])] {
+            return;
         }
+        self.ask_now(alloc, piece[0]);
     }
 
-    // The same where the number is not marked.
+    // The same of the number n, which is not marked.
     fn ask_now(&mut self, alloc: Global, n: u8)
         requires { n < 24 }
         ensures { self.new ≡ self.old }

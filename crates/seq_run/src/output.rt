@@ -67,7 +67,8 @@ pub(crate) fn push_smalls(
     match mode {
         Mode::Report => push_small_lines(head, bytes, before, offset, numbers),
         Mode::EndLine => Ok(()),
-        Mode::Rewrite | Mode::Deterministic => bytes.extend_from_slice(numbers),
+        Mode::Rewrite => bytes.extend_from_slice(numbers),
+        Mode::Deterministic => bytes.extend_from_slice(numbers),
     }
 }
 
