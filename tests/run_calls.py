@@ -18,7 +18,7 @@ what the program printed. A call is named 'ROOM.NAME', mostly by the name of the
                 cddl_literal::operators, names of check_names, prelude of check_reading, graph of graphs, parts of alternatives
   check_calls   text and root: what the rooms of cddl_check tell of a text, and of what its root leads to; lesser and too_many
   seq_calls     match of table_nodes and cddl_match, session and run of seq_run
-  tool_calls    tool of command_line and cddl_tool
+  tool_calls    tool of command_line, cddl_tool and cddl
 
 These are the words:
 

@@ -1,10 +1,11 @@
-//! Answers calls of `command_line` and `cddl_tool`.
+//! Answers calls of `command_line`, `cddl_tool` and `cddl`.
 #![tactic(auto)]
 
 mod act_calls;
 mod devices;
 mod say_calls;
 mod shown;
+mod validate_calls;
 mod word_calls;
 
 use call_lines::{all_lines, first, status_of};
@@ -40,6 +41,7 @@ fn answer(alloc: Global, line: &str, out: &mut String) -> Result<(), AllocError>
         "tool.act" => act_calls::push_acted(alloc, words, out),
         "tool.read_specification" => act_calls::push_read(alloc, words, out),
         "tool.read_text" => say_calls::push_read_text(alloc, words, out),
+        "tool.validate" => validate_calls::push_validated(alloc, words, out),
         "tool.say" => say_calls::push_said(alloc, words, out),
         "tool.say_failed" => say_calls::push_failed(alloc, words, out),
         "tool.say_no_memory" => say_calls::push_no_memory_said(alloc, words, out),
