@@ -9,7 +9,7 @@ ghost use Rattle.table_nodes.specs.declared.nodes.GroupId.{GroupId};
 ghost use Rattle.table_nodes.specs.declared.nodes.TypeId.{TypeId};
 ghost use Rattle.table_nodes.specs.Nodes.{content_view, test_view};
 
-use crate::questions::{Move, Pending, PendingType, Question, Reading, Reply, Subject, asks};
+use crate::questions::{Move, Pending, PendingType, Question, Reading, Reply, Subject};
 use crate::tested::passes_test;
 use item_nodes::Item;
 use table_nodes::{Content, Test, TypeId};
@@ -24,19 +24,16 @@ pub(crate) fn both_move<'t, 'i>(
 ) -> Move<'t, 'i>
     ensures { move_view result (pending_view pending.new) ≡ type_move (Both left right) place (subject_view subject.entry) }
 {
-    asks(
-        Pending::Type(PendingType::Left {
-            node: right,
-            place,
-            subject,
-        }),
-        Question::OfType {
-            node: left,
-            place,
-            subject,
-        },
-        pending,
-    )
+    *pending = Pending::Type(PendingType::Left {
+        node: right,
+        place,
+        subject,
+    });
+    Move::Asks(Question::OfType {
+        node: left,
+        place,
+        subject,
+    })
 }
 
 // The type is asked before its test.
@@ -49,19 +46,16 @@ pub(crate) fn such_move<'t, 'i>(
 ) -> Move<'t, 'i>
     ensures { move_view result (pending_view pending.new) ≡ type_move (Such node (test_view test.now)) place (subject_view subject.entry) }
 {
-    asks(
-        Pending::Type(PendingType::Such {
-            test,
-            place,
-            subject,
-        }),
-        Question::OfType {
-            node,
-            place,
-            subject,
-        },
-        pending,
-    )
+    *pending = Pending::Type(PendingType::Such {
+        test,
+        place,
+        subject,
+    });
+    Move::Asks(Question::OfType {
+        node,
+        place,
+        subject,
+    })
 }
 
 // A byte string's own type is asked before what the string holds.
@@ -75,20 +69,17 @@ pub(crate) fn holding_move<'t, 'i>(
 ) -> Move<'t, 'i>
     ensures { move_view result (pending_view pending.new) ≡ type_move (Holding of (content_view content) node) place (subject_view subject.entry) }
 {
-    asks(
-        Pending::Type(PendingType::Holder {
-            content,
-            node,
-            place,
-            subject,
-        }),
-        Question::OfType {
-            node: of,
-            place,
-            subject,
-        },
-        pending,
-    )
+    *pending = Pending::Type(PendingType::Holder {
+        content,
+        node,
+        place,
+        subject,
+    });
+    Move::Asks(Question::OfType {
+        node: of,
+        place,
+        subject,
+    })
 }
 
 // The left one of two types has said yes, and the right one is asked of the same item; or it has said no, for both.
@@ -103,15 +94,12 @@ pub(crate) fn next_in_left<'t, 'i>(
 {
     match reply {
         Reply::Takes { .. } => {
-            asks(
-                Pending::Ref,
-                Question::OfType {
-                    node,
-                    place,
-                    subject,
-                },
-                pending,
-            )
+            *pending = Pending::Ref;
+            Move::Asks(Question::OfType {
+                node,
+                place,
+                subject,
+            })
         }
         Reply::Fails { far } => Move::Answered(Reply::Fails { far }),
     }

@@ -44,7 +44,7 @@ use crate::controls::{
 };
 use crate::places::{place_after, plus};
 use crate::questions::{
-    Move, Parts, Pending, PendingGroup, PendingType, Question, Reply, Round, Rounds, Subject, asks,
+    Move, Parts, Pending, PendingGroup, PendingType, Question, Reply, Round, Rounds, Subject,
 };
 use crate::sorting::{map_move, next_of_map};
 use crate::tested::passes_test;
@@ -99,20 +99,17 @@ fn next_member<'t, 'i>(
     match members {
         [] => Move::Answered(Reply::Fails { far }),
         [member, others @ ..] => {
-            asks(
-                Pending::Type(PendingType::Choice {
-                    members: others,
-                    place,
-                    subject,
-                    far,
-                }),
-                Question::OfType {
-                    node: *member,
-                    place,
-                    subject,
-                },
-                pending,
-            )
+            *pending = Pending::Type(PendingType::Choice {
+                members: others,
+                place,
+                subject,
+                far,
+            });
+            Move::Asks(Question::OfType {
+                node: *member,
+                place,
+                subject,
+            })
         }
     }
 }
@@ -135,16 +132,13 @@ fn another_part<'t, 'i>(left: Parts<'t, 'i>, pending: &mut Pending<'t, 'i>) -> M
             far,
         }),
         [part, parts @ ..] => {
-            asks(
-                Pending::Group(PendingGroup::Sequence { parts, base, far }),
-                Question::OfGroup {
-                    group: *part,
-                    base,
-                    place,
-                    items,
-                },
-                pending,
-            )
+            *pending = Pending::Group(PendingGroup::Sequence { parts, base, far });
+            Move::Asks(Question::OfGroup {
+                group: *part,
+                base,
+                place,
+                items,
+            })
         }
     }
 }
@@ -163,22 +157,19 @@ fn next_alternative<'t, 'i>(
     match parts {
         [] => Move::Answered(Reply::Fails { far }),
         [part, others @ ..] => {
-            asks(
-                Pending::Group(PendingGroup::Alternatives {
-                    parts: others,
-                    base,
-                    place,
-                    items,
-                    far,
-                }),
-                Question::OfGroup {
-                    group: *part,
-                    base,
-                    place,
-                    items,
-                },
-                pending,
-            )
+            *pending = Pending::Group(PendingGroup::Alternatives {
+                parts: others,
+                base,
+                place,
+                items,
+                far,
+            });
+            Move::Asks(Question::OfGroup {
+                group: *part,
+                base,
+                place,
+                items,
+            })
         }
     }
 }
@@ -218,16 +209,13 @@ fn another_round<'t, 'i>(rounds: Rounds<'i>, pending: &mut Pending<'t, 'i>) -> M
             far: rounds.far,
         });
     }
-    asks(
-        Pending::Group(PendingGroup::Repeat(rounds)),
-        Question::OfGroup {
-            group,
-            base,
-            place,
-            items,
-        },
-        pending,
-    )
+    *pending = Pending::Group(PendingGroup::Repeat(rounds));
+    Move::Asks(Question::OfGroup {
+        group,
+        base,
+        place,
+        items,
+    })
 }
 
 // An array asks its group of all of its items, the first of them at the place after its own.
@@ -242,16 +230,13 @@ fn array_move<'t, 'i>(
 {
     match subject {
         Subject::Item(Item::Array(items)) => {
-            asks(
-                Pending::Type(PendingType::Array),
-                Question::OfGroup {
-                    group,
-                    base: place,
-                    place: plus(place, 1),
-                    items,
-                },
-                pending,
-            )
+            *pending = Pending::Type(PendingType::Array);
+            Move::Asks(Question::OfGroup {
+                group,
+                base: place,
+                place: plus(place, 1),
+                items,
+            })
         }
         _ => Move::Answered(Reply::Fails { far: place }),
     }
@@ -268,15 +253,12 @@ fn content_move<'t, 'i>(
 {
     let place = plus(place, 1);
     let subject = Subject::Item(content);
-    asks(
-        Pending::Ref,
-        Question::OfType {
-            node,
-            place,
-            subject,
-        },
-        pending,
-    )
+    *pending = Pending::Ref;
+    Move::Asks(Question::OfType {
+        node,
+        place,
+        subject,
+    })
 }
 
 // A tag asks about its content if its number is meant, and else fails.
@@ -315,19 +297,16 @@ fn tag_move<'t, 'i>(
             return content_move_if(wanted == found, node, place, content, pending)
         }
         TagNumber::SuchAs(head) => {
-            return asks(
-                Pending::Type(PendingType::Head {
-                    node,
-                    place,
-                    content,
-                }),
-                Question::OfType {
-                    node: head,
-                    place,
-                    subject: Subject::Number(found),
-                },
-                pending,
-            );
+            *pending = Pending::Type(PendingType::Head {
+                node,
+                place,
+                content,
+            });
+            return Move::Asks(Question::OfType {
+                node: head,
+                place,
+                subject: Subject::Number(found),
+            });
         }
     }
 }
@@ -343,15 +322,12 @@ fn simple_move<'t, 'i>(
 {
     match subject {
         Subject::Item(Item::Simple(number)) => {
-            asks(
-                Pending::Type(PendingType::Simple { place }),
-                Question::OfType {
-                    node,
-                    place,
-                    subject: Subject::Number(u64::from(*number)),
-                },
-                pending,
-            )
+            *pending = Pending::Type(PendingType::Simple { place });
+            Move::Asks(Question::OfType {
+                node,
+                place,
+                subject: Subject::Number(u64::from(*number)),
+            })
         }
         _ => Move::Answered(Reply::Fails { far: place }),
     }
@@ -371,15 +347,12 @@ fn type_move<'t, 'i>(
             return Move::Answered(said_reply(place, subject, passes_test(test, subject)))
         }
         Node::Ref(to) => {
-            return asks(
-                Pending::Ref,
-                Question::OfType {
-                    node: *to,
-                    place,
-                    subject,
-                },
-                pending,
-            );
+            *pending = Pending::Ref;
+            return Move::Asks(Question::OfType {
+                node: *to,
+                place,
+                subject,
+            });
         }
         Node::Choice(members) => return next_member(members, place, subject, place, pending),
         Node::ArrayOf(group) => return array_move(*group, place, subject, pending),
@@ -407,15 +380,12 @@ fn entry_move<'t, 'i>(
     match items {
         [] => Move::Answered(Reply::Fails { far: base }),
         [item, rest @ ..] => {
-            asks(
-                Pending::Group(PendingGroup::Entry { base, rest }),
-                Question::OfType {
-                    node,
-                    place,
-                    subject: Subject::Item(item),
-                },
-                pending,
-            )
+            *pending = Pending::Group(PendingGroup::Entry { base, rest });
+            Move::Asks(Question::OfType {
+                node,
+                place,
+                subject: Subject::Item(item),
+            })
         }
     }
 }
@@ -433,16 +403,13 @@ fn group_move<'t, 'i>(
     match group {
         Group::Entry(node) => return entry_move(*node, base, place, items, pending),
         Group::Ref(to) => {
-            return asks(
-                Pending::Ref,
-                Question::OfGroup {
-                    group: *to,
-                    base,
-                    place,
-                    items,
-                },
-                pending,
-            );
+            *pending = Pending::Ref;
+            return Move::Asks(Question::OfGroup {
+                group: *to,
+                base,
+                place,
+                items,
+            });
         }
         Group::Sequence(parts) => {
             return another_part(Parts::new(parts, base, place, items), pending)

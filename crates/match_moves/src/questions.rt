@@ -1,9 +1,5 @@
 //! Questions, the replies to them, and what waits for a reply.
 
-ghost use Rattle.std.specs.Prelude.{◌≡◌};
-ghost use Rattle.cddl_meaning.specs.Moves as M;
-ghost use Rattle.match_moves.specs.Views.{move_view, pending_view, question_view};
-
 use crate::counts::Counts;
 use item_nodes::Item;
 use table_nodes::{Content, GroupId, MapEntry, Most, Test, TypeId};
@@ -382,17 +378,4 @@ pub enum Move<'t, 'i> {
     Tries(Sorting<'t, 'i>),
     /// A type is asked of what a byte string holds.
     Reads(Reading<'i>),
-}
-
-// Asks a question, for whose reply this waits in the place of what has waited.
-#[inline(always)]
-pub(crate) fn asks<'t, 'i>(
-    waits: Pending<'t, 'i>,
-    question: Question<'t, 'i>,
-    pending: &mut Pending<'t, 'i>,
-) -> Move<'t, 'i>
-    ensures { move_view result (pending_view pending.new) ≡ M.Asks (question_view question.entry) (pending_view waits.entry) }
-{
-    *pending = waits;
-    Move::Asks(question)
 }

@@ -36,9 +36,7 @@ ghost use Rattle.table_nodes.specs.Nodes.{alternatives_view, entries_view, entry
 
 use crate::counts::Counts;
 use crate::places::{place_after, plus};
-use crate::questions::{
-    Fate, Move, Pending, PendingMap, Question, Reply, Sorting, Subject, Tally, asks,
-};
+use crate::questions::{Fate, Move, Pending, PendingMap, Question, Reply, Sorting, Subject, Tally};
 use item_nodes::Item;
 use std::alloc::{AllocError, Global};
 use table_nodes::{MapEntry, Most};
@@ -285,19 +283,16 @@ pub fn next_entry<'t, 'i>(
         [] => sorted(sorting, Fate::Stray { place }),
         [entry, others @ ..] => {
             let pair = sorting.pair;
-            asks(
-                Pending::Map(PendingMap::Key {
-                    entry,
-                    others,
-                    sorting,
-                }),
-                Question::OfType {
-                    node: entry.key_type,
-                    place,
-                    subject: Subject::Item(&pair.0),
-                },
-                pending,
-            )
+            *pending = Pending::Map(PendingMap::Key {
+                entry,
+                others,
+                sorting,
+            });
+            Move::Asks(Question::OfType {
+                node: entry.key_type,
+                place,
+                subject: Subject::Item(&pair.0),
+            })
         }
     }
 }
@@ -316,19 +311,16 @@ fn next_in_key<'t, 'i>(
         Reply::Takes { .. } => {
             let place = value_place(&sorting);
             let pair = sorting.pair;
-            asks(
-                Pending::Map(PendingMap::Value {
-                    entry,
-                    others,
-                    sorting,
-                }),
-                Question::OfType {
-                    node: entry.value_type,
-                    place,
-                    subject: Subject::Item(&pair.1),
-                },
-                pending,
-            )
+            *pending = Pending::Map(PendingMap::Value {
+                entry,
+                others,
+                sorting,
+            });
+            Move::Asks(Question::OfType {
+                node: entry.value_type,
+                place,
+                subject: Subject::Item(&pair.1),
+            })
         }
         Reply::Fails { .. } => next_entry(others, sorting, pending),
     }
@@ -365,20 +357,17 @@ fn next_way<'t, 'i>(
     match alternatives {
         [] => Move::Answered(sofar),
         [entries, alternatives @ ..] => {
-            asks(
-                Pending::Map(PendingMap::Ways {
-                    alternatives,
-                    base,
-                    pairs,
-                    sofar,
-                }),
-                Question::OfAlternative {
-                    entries,
-                    base,
-                    pairs,
-                },
-                pending,
-            )
+            *pending = Pending::Map(PendingMap::Ways {
+                alternatives,
+                base,
+                pairs,
+                sofar,
+            });
+            Move::Asks(Question::OfAlternative {
+                entries,
+                base,
+                pairs,
+            })
         }
     }
 }
