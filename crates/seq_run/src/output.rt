@@ -72,7 +72,8 @@ pub(crate) fn push_smalls(
     }
 }
 
-// Their lines.
+// Their lines. In the loop of its caller it would find too few registers free.
+#[inline(never)]
 fn push_small_lines(
     head: &mut Head,
     lines: &mut Vec<u8>,
