@@ -1,0 +1,3 @@
+pub mod Decoding
+pub mod Judging
+pub mod Writing
