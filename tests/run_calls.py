@@ -89,6 +89,9 @@ A row whose call begins with '@' stands for many:
   @report ROOT TIMES           the report of many small numbers
   @cuts SPEC STREAM WORD..     tool.act for a stream in two pieces cut at each byte
   @rooms SPEC STREAM WORD..    the same for a device that fails or stops at each byte of this output
+  @reads CALLS SPEC STREAM ENDS WORD..
+                               the output, and its beginnings where the read of a byte fails: where each of so many reads does;
+                               the items of the output end at these bytes, and '-' says that it has none
   @said ROOM TEXT NAME         what a device takes of what is said, however often it is asked
   @fill PARAMETERS ARGUMENTS   what '[t, ~u, ]' is with these names as arguments
   @shared TIMES                how many rows are added where a body that has 't' in 2 to so many places is filled
@@ -615,9 +618,9 @@ def written_of(shown):
     return unescaped(shown[1:-1]) if shown.startswith('"') else bytes.fromhex(shown.replace("none", ""))
 
 
-def cut_fault(answer, written):
-    """What is wrong with the answer where the device took these bytes and failed then."""
-    told, line = ACTED.fullmatch(answer), f'"write failed after {len(written)} bytes\\n"'
+def cut_fault(answer, written, failed=None):
+    """What is wrong with the answer where this had been written when a device failed."""
+    told, line = ACTED.fullmatch(answer), f'"{failed or f"write failed after {len(written)} bytes"}\\n"'
     return None if told and told[1] == "3" and told[2] == line and written_of(told[3]) == written else shown(answer)
 
 
@@ -627,6 +630,15 @@ def rooms_case(row, spec, stream, words, answer):
     taken = [written[:room] for room in range(len(written)) for _ in ("fails", "stops")]
     lines = [f"tool.act cut:1 {room}:{end} {spec} {stream} {words}" for room in range(len(written)) for end in ("fails", "stops")]
     return Case(row, lines, lambda answers: first_fault(map(cut_fault, answers, taken)))
+
+
+def reads_case(row, calls, spec, stream, ends, words, answer):
+    """A device that gives one byte a read and fails at one of its reads, and then one that never fails."""
+    lines = [f"tool.act Other:{read} 1000:fails {spec} {stream} {words}" for read in range(int(calls) + 1)]
+    report = written_of(ACTED.fullmatch(answer)[3]).splitlines(True)
+    counts = [sum(int(end) <= read for end in ends.split(",") if end != "-") for read in range(int(calls))]
+    faults = [(b"".join(report[:count]), f"read failed after {count} items") for count in counts]
+    return Case(row, lines, lambda answers: first_fault([*map(cut_fault, answers, *zip(*faults)), unlike(answers[-1], answer)]))
 
 
 def said_case(row, words, answer):
@@ -660,6 +672,7 @@ FAMILIES = {
     "@report": lambda row, words, answer, before: [report_case(row, *words)],
     "@cuts": lambda row, words, answer, before: [cuts_case(row, *words[:2], " ".join(words[2:]), answer)],
     "@rooms": lambda row, words, answer, before: [rooms_case(row, *words[:2], " ".join(words[2:]), answer)],
+    "@reads": lambda row, words, answer, before: [reads_case(row, *words[:4], " ".join(words[4:]), answer)],
     "@said": lambda row, words, answer, before: [said_case(row, " ".join(words), answer)],
     "@fill": lambda row, words, answer, before: [fill_case(row, *words, answer)],
     "@shared": lambda row, words, answer, before: [shared_case(row, *words, answer)],

@@ -37,6 +37,8 @@ pieces of 1,021 bytes); 'file', as a file that is named as the last word. These 
   tells_at_once         true: also 'open', where the pipe is left open after the stream; the program has to end by itself
   each_write_fails      true: also with a standard output that takes only its first k bytes, for each k below the
                         length of what has to come: exactly these k bytes come, and 'write failed after k bytes'
+  each_beginning        true: the stream is one item, and each beginning of it is run too: of no bytes it is clean, and of k
+                        bytes it is 'truncated at byte k'
   after_stream          'reset': standard input is a socket, whose read fails once the stream is taken
                         'directory': standard input is a directory, whose first read fails
   stdout_to, stderr_to  'full': a device that takes nothing; 'broken': a pipe that nobody reads; 'closed': no open file
@@ -287,17 +289,26 @@ def ways_of(row, stream):
     return ways + (["open"] if row.get("tells_at_once") else [])
 
 
-def faults_of(program, row):
-    """Runs the row in each of its ways, and returns what was wrong, a line each."""
-    stream, output, errors = stream_of(row), output_of(row), errors_of(row)
-    cases = [(way, None, output, errors, row.get("status", 0)) for way in ways_of(row, stream)]
+def cases_of(row):
+    """What is run for a row: how it is called, the way, the stream, how many bytes may go out (None: all), and what has to come."""
+    stream, output, errors, status = stream_of(row), output_of(row), errors_of(row), row.get("status", 0)
+    cases = [(way, way, stream, None, output, errors, status) for way in ways_of(row, stream)]
     if row.get("each_write_fails"):
         for size in range(len(output)):
             text = f"write failed after {size} bytes\n".encode()
-            cases.append(("whole", size, output[:size], [text], 3))
+            cases.append((f"whole, {size} bytes may go out", "whole", stream, size, output[:size], [text], 3))
+    if row.get("each_beginning"):
+        for size in range(len(stream)):
+            end = f"failed: 0 items, offset 0: truncated at byte {size}\n" if size else "clean: 0 items, 0 bytes\n"
+            told = (b"", [end.encode()]) if row["words"][0] == "rewrite" else (end.encode(), [b""])
+            cases.append((f"its first {size} bytes", "whole", stream[:size], None, *told, 1 if size else 0))
+    return cases
+
+
+def faults_of(program, row):
+    """Runs the row in each of its ways, and returns what was wrong, a line each."""
     wrong = []
-    for way, size, output, errors, status in cases:
-        label = way if size is None else f"{way}, {size} bytes may go out"
+    for label, way, stream, size, output, errors, status in cases_of(row):
         with tempfile.TemporaryDirectory() as folder:
             spec = spec_of(row)
             if spec is not None:
