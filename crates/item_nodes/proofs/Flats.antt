@@ -1,6 +1,7 @@
 -- A loop that pushes the image of one front after the other.
 use Rattle.std.proofs.Common.{◌≡◌, ℕ, ◌+◌, ◌/◌, ◌%◌, List, [], ◌∷◌, ◌++◌, take, drop, refl, sym, ap, ◌∙◌, append_assoc}
 use Rattle.std.proofs.Math.Seq.{take-add}
+use Rattle.std.proofs.lemmas.List.{take-append-drop}
 use Rattle.std.specs.Prelude.{slice_index}
 use Rattle.hex.specs.Hex.{encode_with, encode_lower, lower_digits}
 
@@ -11,6 +12,14 @@ pub pushed_more : (image : List ℕ → List ℕ) → ((xs ys : List ℕ) → im
 pushed_more image splits bs before at n e f =
     f ∙ ap (λ m. m ++ image (take n (drop at bs))) e ∙ append_assoc before (image (take at bs)) (image (take n (drop at bs)))
     ∙ ap (λ r. before ++ r) (sym (splits (take at bs) (take n (drop at bs)))) ∙ ap (λ r. before ++ image r) (sym (take-add at n bs))
+
+-- the last part
+pub pushed_rest : (image : List ℕ → List ℕ) → ((xs ys : List ℕ) → image (xs ++ ys) ≡ image xs ++ image ys) →
+    (bs before : List ℕ) {mid new : List ℕ} (at : ℕ) → mid ≡ before ++ image (take at bs) →
+    new ≡ mid ++ image (drop at bs) → new ≡ before ++ image bs
+pushed_rest image splits bs before at e f =
+    f ∙ ap (λ m. m ++ image (drop at bs)) e ∙ append_assoc before (image (take at bs)) (image (drop at bs))
+    ∙ ap (λ r. before ++ r) (sym (splits (take at bs) (drop at bs))) ∙ ap (λ r. before ++ image r) (take-append-drop at bs)
 
 pub encode_lower-nil : encode_lower [] ≡ []
 unfolding encode_with

@@ -156,23 +156,29 @@ fn push_bytes(out: &mut Vec<u8>, bytes: &[u8]) -> Result<(), AllocError>
     out.extend_from_slice(b"'")
 }
 
-// So many bytes are turned into digits at once, on the stack.
-const RUN: usize = 64;
+// So many bytes are turned into digits at once.
+const RUN: usize = 16;
 
 fn push_hex(out: &mut Vec<u8>, bytes: &[u8]) -> Result<(), AllocError>
     ensures { OnOk result (out.new.items ≡ out.old.items ++ encode_lower bytes.now) }
 {
     let mut at = 0;
-    while at < bytes.len() {
-        let run = RUN.min(bytes.len() - at);
-        push_hex_run(out, &bytes[at..at + run])?;
-        at += run;
+    while bytes.len() - at >= RUN {
+        push_hex_run(out, &bytes[at..at + RUN])?;
+        at += RUN;
     }
-    Ok(())
+    if at < bytes.len() {
+        push_hex_run(out, &bytes[at..])
+    } else {
+        Ok(())
+    }
 }
 
+// It is to stand in its callers: where they know how many bytes there are, all digits are worked out without a loop, and appended
+// without a call.
+#[inline(always)]
 fn push_hex_run(out: &mut Vec<u8>, run: &[u8]) -> Result<(), AllocError>
-    requires { length run.now ≤ 64 }
+    requires { length run.now ≤ 16 }
     ensures { OnOk result (out.new.items ≡ out.old.items ++ encode_lower run.now) }
 {
     let mut buffer = [0u8; 2 * RUN];
