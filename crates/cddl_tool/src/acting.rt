@@ -2,14 +2,15 @@
 
 ghost use Rattle.std.specs.Prelude.{◌≡◌, ◌≢◌, ◌⊎◌, ℕ, List, Option, IfOk, IfErr, IfSome, option_copied, option_map, string_bytes};
 ghost use Rattle.item_nodes.specs.Counted.{device_of};
-ghost use Rattle.cddl_check.specs.Text.{IsTabledText, IsUnreadText};
+ghost use Rattle.cddl_check.specs.Text.{IsUnreadText};
+ghost use Rattle.cddl_table.specs.Text.{IsTabledText};
 ghost use Rattle.seq_run.specs.Judge.{judge_of};
 ghost use Rattle.seq_run.specs.Report.{IsShown};
 ghost use Rattle.seq_run.specs.Running.{change_of};
 ghost use Rattle.cddl_tool.specs.Acting.{mode_of, report_mode_of, rewrite_mode_of, specification_of, status_for, IsAccepted, IsAnswered, IsBroken, IsCutOff, IsRefusedText, IsTold};
 
 use cbor_item::{Counted, Sound, write_bytes};
-use cddl_check::{Unread, read_specification};
+use cddl_table::read_specification;
 use cddl_token::Refusal;
 use command_line::{BROKEN, FAILED, Options, REFUSED, Task, say};
 use seq_run::{End, Mode, RunFault, end_line, run};
@@ -53,7 +54,7 @@ fn root_of(options: &Options) -> Option<&str>
 }
 
 // Says why a text has no table, and answers the status.
-fn say_unread<E: Write>(alloc: Global, why: Unread, err: &mut Counted<E>) -> u8
+fn say_unread<E: Write>(alloc: Global, why: Refusal, err: &mut Counted<E>) -> u8
     ensures { (text : List ℕ) (root : Option (List ℕ)) → IsUnreadText text root why → ((result ≡ REFUSED) × IsRefusedText text root) ⊎ (result ≡ BROKEN) }
 {
     match line_of(alloc, why) {
@@ -69,15 +70,12 @@ fn say_unread<E: Write>(alloc: Global, why: Unread, err: &mut Counted<E>) -> u8
 }
 
 // The line of a refusal, if there is memory for it.
-fn line_of(alloc: Global, why: Unread) -> Option<String>
+fn line_of(alloc: Global, why: Refusal) -> Option<String>
     ensures { IfSome result (λ _. (text : List ℕ) (root : Option (List ℕ)) → IsUnreadText text root why → IsRefusedText text root) }
 {
     match why {
-        Unread::Refused(fault) => {
-            let refusal = Refusal::At(fault.code, fault.at);
-            format!(in alloc; "{refusal}\n").ok()
-        }
-        Unread::Memory => None,
+        Refusal::At(..) => format!(in alloc; "{why}\n").ok(),
+        Refusal::Memory => None,
     }
 }
 
