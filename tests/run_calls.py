@@ -19,7 +19,7 @@ what the program printed. A call is named 'ROOM.NAME', mostly by the name of the
   check_calls   text and root: what the rooms of cddl_check tell of a text, and of what its root leads to; lesser and too_many;
                 spec of cddl_check, and table of cddl_table
   seq_calls     match of table_nodes and cddl_match, session and run of seq_run
-  tool_calls    tool of command_line and cddl_tool
+  tool_calls    tool of command_line, cddl_tool and cddl
 
 These are the words:
 
@@ -52,9 +52,10 @@ has nothing in it. A refusal is the name of its kind, with 'at' its place. Reade
 
   match.verdict ROOT STEPS HEX what the type says of an item; match.turns ROOT STEPS ROOM HEX says so by turns
   session.feed ROOT STEPS DEPTH BYTES PIECE..
-                               what a session answers to each piece with its items, its end and the item that it rejected, with
-                               '|' between them; session.feed_one takes items one by one, session.validate_pieces all at once;
-                               a piece '-' is empty
+                               what a session answers to each piece with its items, its end, the item that it rejected, and how
+                               many items and bytes it has taken, with '|' between them; session.feed_one takes items one by
+                               one, session.validate_pieces all at once, and answers no more than the items and the end; a piece
+                               '-' is empty
   run.report ROOT STEPS DEPTH BYTES SIZE HEX
                                the line of the end, or why there is none; how many bytes were read of a device that gives at most
                                SIZE at once, and how many were asked for at once; and what was written, each line after ' / '.
@@ -96,7 +97,6 @@ A row whose call begins with '@' stands for many:
 """
 import argparse
 import glob
-import json
 import os
 import re
 import subprocess
@@ -515,9 +515,16 @@ def end_of(told):
     return next((it.sub(short, told) for it, short in SHORT_ENDS if it.fullmatch(told)), told)
 
 
+def count_of(end):
+    """What a session says that it has taken, by its end in short: so many items, and the bytes before the next one."""
+    return "taken {1}, {2}".format(*end.split())
+
+
 def fed_fault(pieces, answer, items, end, given):
     """What is wrong with the answer of a session that was fed these pieces; the end is known after so many bytes."""
-    *parts, last, _ = answer.split(" | ")
+    *parts, last, _, count = answer.split(" | ")
+    if count != count_of(end):
+        return f"{count}, wanted {count_of(end)}"
     came, at = [], 0
     for number, (piece, part) in enumerate(zip(pieces, parts)):
         *more, state = part.split("; ")
@@ -530,7 +537,9 @@ def fed_fault(pieces, answer, items, end, given):
 
 def taken_fault(pieces, answer, items, end):
     """The same of a session whose items were taken one by one."""
-    *parts, last, _ = answer.split(" | ")
+    *parts, last, _, count = answer.split(" | ")
+    if count != count_of(end):
+        return f"{count}, wanted {count_of(end)}"
     came, taken, following = [], 0, 0
     for piece, part in zip(pieces, parts):
         *more, state = part.split("; ")
@@ -599,12 +608,26 @@ def cuts_case(row, spec, stream, words, answer):
     return Case(row, lines, lambda answers: first_fault(unlike(it, answer) for it in answers))
 
 
+ACTED = re.compile(r'(\d) ("(?:[^"\\]|\\.)*") (.*)')
+
+
+def written_of(shown):
+    """The bytes that an answer shows, as text in quotes or in hex."""
+    return unescaped(shown[1:-1]) if shown.startswith('"') else bytes.fromhex(shown.replace("none", ""))
+
+
+def cut_fault(answer, written):
+    """What is wrong with the answer where the device took these bytes and failed then."""
+    told, line = ACTED.fullmatch(answer), f'"write failed after {len(written)} bytes\\n"'
+    return None if told and told[1] == "3" and told[2] == line and written_of(told[3]) == written else shown(answer)
+
+
 def rooms_case(row, spec, stream, words, answer):
     """A device that has room for all but some bytes of the output."""
-    written = json.loads(answer.split(" ", 2)[2])
+    written = written_of(ACTED.fullmatch(answer)[3])
+    taken = [written[:room] for room in range(len(written)) for _ in ("fails", "stops")]
     lines = [f"tool.act cut:1 {room}:{end} {spec} {stream} {words}" for room in range(len(written)) for end in ("fails", "stops")]
-    wanted = [f'3 "write failed after {at // 2} bytes\\n" {json.dumps(written[:at // 2])}' for at in range(len(lines))]
-    return Case(row, lines, lambda answers: first_fault(map(unlike, answers, wanted)))
+    return Case(row, lines, lambda answers: first_fault(map(cut_fault, answers, taken)))
 
 
 def said_case(row, words, answer):

@@ -19,7 +19,7 @@ import sys
 import tempfile
 from concurrent.futures import ThreadPoolExecutor
 
-from run_calls import parts_of_refusals, programs, unescaped
+from run_calls import ACTED, parts_of_refusals, programs, written_of
 
 HERE = os.path.dirname(os.path.abspath(__file__))
 TOP = os.path.dirname(HERE)
@@ -80,13 +80,17 @@ def lines_in(out):
 
 
 def is_lost_session(want, it):
-    """Whether a session answers as it should up to want of memory, and keeps to that."""
+    """Whether a session answers as it should up to want of memory, keeps to that, and has taken the items that it handed out."""
     lost = next((at for at, (a, b) in enumerate(zip(want, it)) if a != b), None)
     if lost is None or len(want) != len(it) or not it[lost].endswith("no memory"):
         return False
     if not want[lost].startswith(it[lost].removesuffix("no memory")):
         return False
-    return len(it) == 1 or it[-1] == "none" and all(part == "no memory" for part in it[lost + 1:-1])
+    if len(it) == 1:
+        return True
+    *parts, rejected, count = it
+    handed_out = sum(part.count("; ") for part in parts)
+    return rejected == "none" and all(part == "no memory" for part in parts[lost + 1:]) and count.startswith(f"taken {handed_out}, ")
 
 
 def is_lost_run(want, it):
@@ -97,14 +101,6 @@ def is_lost_run(want, it):
     if items:
         return it[1:] == (want[1:int(items[1]) + 1] or ["none"])
     return it[0].startswith("no memory for a line;") and it[1:] == want[1:]
-
-
-ACTED = re.compile(r'(\d) ("(?:[^"\\]|\\.)*") (.*)')
-
-
-def written_of(shown):
-    """The bytes that an answer shows, as text in quotes or in hex."""
-    return unescaped(shown[1:-1]) if shown.startswith('"') else bytes.fromhex(shown.replace("none", ""))
 
 
 def is_lost_act(want, it):

@@ -13,12 +13,12 @@ use Rattle.cddl_meaning.specs.Moves as M
 use Rattle.cddl_meaning.specs.Moves.{OfType}
 use Rattle.cddl_match.specs.Ahead.{ComesTo}
 use Rattle.cddl_match.specs.Tellings.{Becomes, BelongsBy, HandsOn, Sorts, sorting_of}
-use Rattle.cddl_match.specs.Views.{fate_view}
+use Rattle.match_moves.specs.Views.{fate_view}
 use Rattle.cddl_match.specs.Within.{Replied, Stopped, Says}
-use Rattle.cddl_match.specs.declared.questions.Fate.{Fate}
-use Rattle.cddl_match.specs.declared.questions.Fate.TheVariants as T
-use Rattle.cddl_match.specs.declared.questions.Stop.{Stop}
-use Rattle.cddl_match.specs.declared.questions.Stop.TheVariants.{Spent, NoMemory}
+use Rattle.match_moves.specs.declared.questions.Fate.{Fate}
+use Rattle.match_moves.specs.declared.questions.Fate.TheVariants as T
+use Rattle.cddl_match.specs.declared.calls.Stop.{Stop}
+use Rattle.cddl_match.specs.declared.calls.Stop.TheVariants.{Spent, NoMemory}
 use Rattle.cddl_match.proofs.Outcomes.{asks_stopped, begins}
 use Rattle.cddl_match.proofs.Sayings.{ends_so, goes_on, key_yes, pair_taken, pair_kept, pair_handed_on}
 

@@ -1,4 +1,3 @@
-mod Lists
 mod Held
 mod Turns
 mod Decides

@@ -22,12 +22,12 @@ use Rattle.table_nodes.specs.declared.table.Table.{Table}
 use Rattle.cddl_match.specs.Machine.{IsStep, IsTurn, IsVerdict, LastNeedsRoom, NeedsMore, asked_in, next_in, noted, root_question}
 use Rattle.cddl_match.specs.Open.{AreOpen, nothing}
 use Rattle.cddl_match.specs.Progress.{GoesOnFor, IsMachine, Progress, no_turn, one_more}
-use Rattle.cddl_match.specs.Views.{verdict_of}
+use Rattle.cddl_match.specs.Machine.{verdict_of}
 use Rattle.cddl_match.specs.Within.{Replied, Stopped, Says}
 use Rattle.cddl_match.specs.declared.answers.Verdict.{Verdict}
 use Rattle.cddl_match.specs.declared.answers.End.{End}
 use Rattle.cddl_match.specs.declared.answers.End.TheVariants.{Said, NoMemory}
-use Rattle.cddl_match.specs.declared.questions.Stop.TheVariants as S
+use Rattle.cddl_match.specs.declared.calls.Stop.TheVariants as S
 use Rattle.cddl_match.specs.declared.stack.Run.{Run}
 use Rattle.cddl_match.proofs.Open.{as_many, open_reached}
 use Rattle.cddl_match.proofs.Room.{room}

@@ -7,8 +7,8 @@ use Rattle.cddl_meaning.specs.Forms.{TagNumber, any_number, exactly, such_as, Ma
 use Rattle.cddl_meaning.specs.Judges.{Reply, Takes, Fails, is_over}
 use Rattle.cddl_meaning.specs.Moves.{Question, OfType, OfGroup, OfAlternative, Pending, InRef, InChoice, InArray, InHead, InSimple, InEntry, InSequence, InAlternatives, InRepeat, InMap, InKey, InValue, InLeft, InSuch, InHolder, InHeld, Sorting, Tally, Move, Answered, Asks, Tries, Reads, next_member, next_part, next_alternative, next_round, after_round, end_of_rounds, array_move, content_move, tag_move, simple_move, next_pair, next_entry, after_value, type_move, entry_move, group_move, first_move, next_move}
 use Rattle.cddl_match.specs.Machine.{NeedsMore, asked_in, is_alternative, last_of, next_in, pending_in}
-use Rattle.cddl_match.specs.Views.{move_view}
-use Rattle.cddl_match.specs.declared.questions.Move as C
+use Rattle.match_moves.specs.Views.{move_view}
+use Rattle.match_moves.specs.declared.questions.Move as C
 use Rattle.cddl_match.specs.declared.stack.Run.{Run}
 use Rattle.table_nodes.specs.declared.nodes.GroupId.{GroupId}
 use Rattle.table_nodes.specs.declared.nodes.TypeId.{TypeId}

@@ -6,8 +6,8 @@ use Rattle.cddl_meaning.specs.Moves as M
 use Rattle.cddl_meaning.specs.Moves.{Question, InRef, Move, Answered, Asks, Replies, LeadsTo, at_once, after, next_move}
 use Rattle.cddl_match.specs.Ahead.{ComesTo, Opens}
 use Rattle.cddl_match.specs.Within.{Outcome, Replied, Stopped, Says, Ends}
-use Rattle.cddl_match.specs.declared.questions.Stop.{Stop}
-use Rattle.cddl_match.specs.declared.questions.Stop.TheVariants.{Spent, NoMemory}
+use Rattle.cddl_match.specs.declared.calls.Stop.{Stop}
+use Rattle.cddl_match.specs.declared.calls.Stop.TheVariants.{Spent, NoMemory}
 use Rattle.cddl_match.proofs.Ways.{and_on, then_comes, answers, stays}
 
 module _ {N G : Type 0} (l : Language N G) where

@@ -12,10 +12,10 @@ use Rattle.cddl_match.specs.Ahead.{Opens}
 use Rattle.cddl_match.specs.Machine.{Finds, FindsAt, IsAt, IsRun, IsStep, IsTurn, WaitsAt, asked_in, asks_in, below, last_of, next_in, noted, pending_in}
 use Rattle.cddl_match.specs.Open.{AreOpenWith, nothing, further}
 use Rattle.cddl_match.specs.Unwinding.{IsOnTheWay, Unwinds}
-use Rattle.cddl_match.specs.Views.{move_view, pending_view}
+use Rattle.match_moves.specs.Views.{move_view, pending_view}
 use Rattle.cddl_match.specs.Within.{Outcome, Replied, Stopped, Says}
-use Rattle.cddl_match.specs.declared.questions.Move as C
-use Rattle.cddl_match.specs.declared.questions.Stop.TheVariants as S
+use Rattle.match_moves.specs.declared.questions.Move as C
+use Rattle.cddl_match.specs.declared.calls.Stop.TheVariants as S
 use Rattle.cddl_match.specs.declared.stack.Run.{Run}
 use Rattle.cddl_match.specs.declared.stack.Waiting.{Waiting}
 use Rattle.table_nodes.specs.declared.nodes.GroupId.{GroupId}

@@ -10,10 +10,10 @@ use Rattle.cddl_meaning.specs.Moves as M
 use Rattle.cddl_meaning.specs.Moves.{Question, OfType, OfGroup, OfAlternative, Move, Answered, Asks, at_once, next_move, type_move, group_move}
 use Rattle.cddl_match.specs.Ahead.{ComesTo, Opens, IsTypeOf, IsGroupOf}
 use Rattle.cddl_match.specs.Within.{Outcome, Replied, Stopped, Says, Ends, said_view, array_outcome, entry_outcome, simple_outcome, such_outcome, held_outcome}
-use Rattle.cddl_match.specs.declared.questions.Said.{Said}
-use Rattle.cddl_match.specs.declared.questions.Said.TheVariants as S
-use Rattle.cddl_match.specs.declared.questions.Stop.{Stop}
-use Rattle.cddl_match.specs.declared.questions.Stop.TheVariants.{Spent, NoMemory}
+use Rattle.cddl_match.specs.declared.calls.Said.{Said}
+use Rattle.cddl_match.specs.declared.calls.Said.TheVariants as S
+use Rattle.cddl_match.specs.declared.calls.Stop.{Stop}
+use Rattle.cddl_match.specs.declared.calls.Stop.TheVariants.{Spent, NoMemory}
 use Rattle.cddl_match.proofs.Held.{reads_on, reads_none}
 use Rattle.cddl_match.proofs.Outcomes.{says_on, ends_on, answered, few, asks, asks_stopped}
 use Rattle.cddl_match.proofs.Shapes.{IsTypeReply, says_yes, type_shape}

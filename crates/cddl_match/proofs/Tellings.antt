@@ -2,7 +2,7 @@
 use Rattle.std.proofs.Common.{◌≡◌, ◌≢◌, ℕ, suc, ◌+◌, ◌-◌, ◌*◌, ◌<◌, ◌≤◌, ◌++◌, max, length, take, drop, List, [], ◌∷◌, Bool, true, false, nat_eq, refl, sym, ap, subst, ◌∙◌, append_assoc, arith}
 use Rattle.std.specs.Prelude.{Option, Some, None, IfSome, Ok, Err}
 use Rattle.std.proofs.lemmas.Bool.Decides.{nat_tests}
-use Rattle.std.proofs.lemmas.List.{length-append, length-take-le, take-append-drop, take-map, take_at}
+use Rattle.std.proofs.lemmas.List.{length-append, length-map, length-take-le, take-append-drop, take-map, take_at}
 use Rattle.cbor_data.specs.Value.{Pairs, no_pairs, pair, pairs_len}
 use Rattle.item_nodes.specs.View.{pairs_view, view}
 use Rattle.item_nodes.specs.declared.item.Item.{Item}
@@ -12,20 +12,20 @@ use Rattle.cddl_meaning.specs.Judges as J
 use Rattle.cddl_meaning.specs.Moves as M
 use Rattle.cddl_meaning.specs.Moves.{counted, no_counts}
 use Rattle.cddl_match.specs.Ahead.{ComesTo, Opens}
-use Rattle.cddl_match.specs.Tellings.{AreTold, Becomes, BeginAlike, BelongsBy, Sorts, Tallies, counted_again, sorting_of, told_with, widened}
-use Rattle.cddl_match.specs.Views.{fate_view}
+use Rattle.match_moves.specs.Tallies.{counted_again, widened}
+use Rattle.cddl_match.specs.Tellings.{AreTold, Becomes, BeginAlike, BelongsBy, Sorts, Tallies, sorting_of, told_with}
+use Rattle.match_moves.specs.Views.{fate_view}
 use Rattle.cddl_match.specs.Within.{Replied, Says, Stopped}
-use Rattle.cddl_match.specs.declared.questions.Fate.{Fate}
-use Rattle.cddl_match.specs.declared.questions.Fate.TheVariants as T
-use Rattle.cddl_match.specs.declared.questions.Stop.{Stop}
-use Rattle.cddl_match.specs.declared.questions.Stop.TheVariants.{Spent, NoMemory}
+use Rattle.match_moves.specs.declared.questions.Fate.{Fate}
+use Rattle.match_moves.specs.declared.questions.Fate.TheVariants as T
+use Rattle.cddl_match.specs.declared.calls.Stop.{Stop}
+use Rattle.cddl_match.specs.declared.calls.Stop.TheVariants.{Spent, NoMemory}
 use Rattle.cddl_match.specs.declared.tallied.Tallied.{Tallied}
 use Rattle.table_nodes.specs.Nodes.{entries_view, entry_view}
 use Rattle.table_nodes.specs.declared.nodes.GroupId.{GroupId}
 use Rattle.table_nodes.specs.declared.nodes.MapEntry.{MapEntry}
 use Rattle.table_nodes.specs.declared.nodes.TypeId.{TypeId}
 use Rattle.cddl_match.proofs.Handing.{becomes_so}
-use Rattle.cddl_match.proofs.Lists.{as_many_entries}
 use Rattle.cddl_match.proofs.Outcomes.{answered, ends_on, says_on}
 use Rattle.cddl_match.proofs.Sayings.{ends_so}
 use Rattle.cddl_match.proofs.Ways.{and_on, opens, stays, then_comes, tries_on}
@@ -78,6 +78,9 @@ counted_in_front m k (c ∷ cs) ds h e = by (nat_eq m (length cs)) refl (λ i. c
     by : (b : Bool) → nat_eq m (length cs) ≡ b → (m < length cs → counted k (cs ++ ds) ≡ counted m cs ++ ds) → counted k (c ∷ (cs ++ ds)) ≡ counted m (c ∷ cs) ++ ds
     by true f i = rw (same, f) refl
     by false f i = rw (same, f) (ap (λ ns. c ∷ ns) (i (below f)))
+
+pub as_many_entries : (es : List MapEntry) → length (entries_view es) ≡ length es
+as_many_entries es = length-map es entry_view
 
 module _ {N G : Type 0} (l : Language N G) where
   -- No pair was tried yet, so no entry is needed.

@@ -7,7 +7,7 @@ use Rattle.cddl_meaning.specs.Judges.{Answer, Yes, No, Reply, Takes, Fails, Says
 use Rattle.cddl_meaning.specs.Moves.{OfType, Replies, reply_of}
 use Rattle.cddl_meaning.proofs.Lemmas.{Fits, means}
 use Rattle.cddl_match.specs.declared.answers.Verdict.TheVariants as V
-use Rattle.cddl_match.specs.Views.{verdict_of}
+use Rattle.cddl_match.specs.Machine.{verdict_of}
 
 module _ {N G : Type 0} (l : Language N G) where
   pub said_yes : {n : N} {p w : ℕ} {x : Value} (r : Reply) → Fits p (size x) → verdict_of r ≡ V.Yes → Replies l (OfType n p x) r w → Says l (l.type_at n) p x Yes w

@@ -1,5 +1,6 @@
 -- Names, choices of one and groups of one group reply as what is behind them.
 use Rattle.std.proofs.Common.{◌≡◌, ℕ, suc, ◌+◌, ◌≤◌, ◌<◌, length, List, [], ◌∷◌, Option, Some, None, IfSome, Bool, true, false, refl, ap, sym, subst, ◌∙◌, arith}
+use Rattle.std.specs.Prelude.{IfNone, MatchOption}
 use Rattle.cbor_data.specs.Value.{Value}
 use Rattle.cddl_meaning.specs.Forms.{Language, Test, passes, Node, Plain, Ref, Choice, Entry, GroupRef, Sequence, Alternatives, Most}
 use Rattle.cddl_meaning.specs.Judges.{Reply, Takes, Fails, is_over}
@@ -171,3 +172,8 @@ module _ {N G : Type 0} (l : Language N G) where
 pub only_type : {N G : Type 0} (f : Node N G) (ms : List N) (o : Option N) → f ≡ Choice ms → IfSome o (λ m. ms ≡ m ∷ []) → IfSome o (λ next. (l : Language N G) (n : N) → l.type_at n ≡ f → IsTypeOf l n next 1)
 only_type f ms None e h = tt
 only_type f ms (Some m) e h = λ l n i. by_choice l (i ∙ e ∙ ap Choice h)
+
+-- what is known where something is not there, and where it is
+pub there_or_not : {A : Type 0} (P : Type 0) (Q : A → Type 0) (o : Option A) → IfNone o P → IfSome o Q → MatchOption o P Q
+there_or_not P Q None p q = p
+there_or_not P Q (Some x) p q = q

@@ -1,4 +1,3 @@
-pub mod Views
 pub mod Unwinding
 pub mod Ahead
 pub mod Within

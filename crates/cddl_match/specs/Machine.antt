@@ -2,6 +2,7 @@
 use Rattle.std.specs.Prelude.{◌≡◌, ℕ, ◌+◌, ◌-◌, ◌<◌, ◌≤◌, ◌⊎◌, List, [], ◌∷◌, ◌++◌, Bool, true, false, length, map, reverse}
 use Rattle.cbor_data.specs.Value.{Value, no_pairs}
 use Rattle.cddl_meaning.specs.Forms.{Language}
+use Rattle.cddl_meaning.specs.Judges as J
 use Rattle.cddl_meaning.specs.Judges.{Answer, Yes, No}
 use Rattle.cddl_meaning.specs.Moves as M
 use Rattle.cddl_meaning.specs.Moves.{Question, OfType, Pending, Move}
@@ -11,14 +12,14 @@ use Rattle.table_nodes.specs.declared.nodes.TypeId.{TypeId}
 use Rattle.table_nodes.specs.declared.table.Table.{Table}
 use Rattle.cddl_match.specs.Open.{AreOpenWith, NeedsRoom}
 use Rattle.cddl_match.specs.Unwinding.{IsOnTheWay}
-use Rattle.cddl_match.specs.Views.{move_view, pending_view, question_view, reply_view}
+use Rattle.match_moves.specs.Views.{move_view, pending_view, question_view, reply_view}
 use Rattle.cddl_match.specs.Within.{Outcome, Replied, Stopped, Says}
 use Rattle.cddl_match.specs.declared.answers.Verdict.{Verdict}
 use Rattle.cddl_match.specs.declared.answers.Verdict.TheVariants as V
-use Rattle.cddl_match.specs.declared.questions.Move as C
-use Rattle.cddl_match.specs.declared.questions.Move.TheVariants as D
-use Rattle.cddl_match.specs.declared.questions.Question as Q
-use Rattle.cddl_match.specs.declared.questions.Stop.TheVariants as S
+use Rattle.match_moves.specs.declared.questions.Move as C
+use Rattle.match_moves.specs.declared.questions.Move.TheVariants as D
+use Rattle.match_moves.specs.declared.questions.Question as Q
+use Rattle.cddl_match.specs.declared.calls.Stop.TheVariants as S
 use Rattle.cddl_match.specs.declared.stack.Turned.{Turned}
 use Rattle.cddl_match.specs.declared.stack.Turned.TheVariants as T
 use Rattle.cddl_match.specs.declared.stack.Run.{Run}
@@ -77,6 +78,11 @@ next_in r = move_view r.next (last_of (pending_in r.waiting.items))
 pub record IsRun (l : Language TypeId GroupId) (first : M.Question TypeId GroupId) (r : Run) : Type 0 where
   pub at : WaitsAt l first (r.taken + r.owed) r.waiting.items (next_in r)
   pub owes : 0 < r.owed → 0 < length (asked_in r.waiting.items)
+
+-- what a type's reply says
+abbrev pub verdict_of : J.Reply → Verdict
+verdict_of (J.Takes left next far) = V.Yes
+verdict_of (J.Fails far) = V.No far
 
 -- what is found where a turn ends so, with the next move
 abbrev pub found_in : Turned → C.Move → Outcome

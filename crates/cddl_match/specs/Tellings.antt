@@ -12,12 +12,13 @@ use Rattle.table_nodes.specs.Nodes.{entries_view}
 use Rattle.table_nodes.specs.declared.nodes.GroupId.{GroupId}
 use Rattle.table_nodes.specs.declared.nodes.MapEntry.{MapEntry}
 use Rattle.table_nodes.specs.declared.nodes.TypeId.{TypeId}
+use Rattle.match_moves.specs.Tallies.{widened}
 use Rattle.cddl_match.specs.Ahead.{ComesTo}
-use Rattle.cddl_match.specs.Views.{tally_view}
-use Rattle.cddl_match.specs.declared.questions.Fate.{Fate}
-use Rattle.cddl_match.specs.declared.questions.Fate.TheVariants as T
-use Rattle.cddl_match.specs.declared.questions.Stop.{Stop}
-use Rattle.cddl_match.specs.declared.questions.Stop.TheVariants.{Spent, NoMemory}
+use Rattle.match_moves.specs.Views.{tally_view}
+use Rattle.match_moves.specs.declared.questions.Fate.{Fate}
+use Rattle.match_moves.specs.declared.questions.Fate.TheVariants as T
+use Rattle.cddl_match.specs.declared.calls.Stop.{Stop}
+use Rattle.cddl_match.specs.declared.calls.Stop.TheVariants.{Spent, NoMemory}
 use Rattle.cddl_match.specs.declared.tallied.Tallied.{Tallied}
 
 -- A pair of a map, its key at a place, that is sorted to the entries of an alternative.
@@ -44,13 +45,6 @@ told_with (Some told) (T.Matches after) entries = Some (max told (entries - afte
 told_with (Some told) (T.Fails after far) entries = Some (max told (entries - after))
 told_with (Some told) (T.Stray place) entries = None
 told_with None fate entries = None
-
--- the tally of pairs that belong to some of the first entries, for others behind these
-abbrev pub widened : {N : Type 0} → List ℕ → List (F.MapEntry N) → M.Tally → M.Tally
-widened counts others t = record { counts = counts ++ M.no_counts others; stray = t.stray; failing = t.failing }
-
-abbrev pub counted_again : {N : Type 0} → ℕ → List (F.MapEntry N) → M.Tally → M.Tally
-counted_again told es t = widened (take told t.counts) (drop told es) t
 
 module _ {N G : Type 0} (l : Language N G) where
   -- The first entries have handed a pair on to those that are left, and so they do to any others, in so many questions.

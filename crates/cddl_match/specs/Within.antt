@@ -6,12 +6,12 @@ use Rattle.cddl_meaning.specs.Judges as J
 use Rattle.cddl_meaning.specs.Moves as M
 use Rattle.cddl_meaning.specs.Moves.{Question, Move, Answered, Replies, LeadsTo}
 use Rattle.cddl_match.specs.Ahead.{ComesTo, Opens}
-use Rattle.cddl_match.specs.Views.{reply_view}
-use Rattle.cddl_match.specs.declared.questions.Reply.{Reply}
-use Rattle.cddl_match.specs.declared.questions.Said.{Said}
-use Rattle.cddl_match.specs.declared.questions.Said.TheVariants as S
-use Rattle.cddl_match.specs.declared.questions.Stop.{Stop}
-use Rattle.cddl_match.specs.declared.questions.Stop.TheVariants.{Spent, NoMemory}
+use Rattle.match_moves.specs.Views.{reply_view}
+use Rattle.match_moves.specs.declared.questions.Reply.{Reply}
+use Rattle.cddl_match.specs.declared.calls.Said.{Said}
+use Rattle.cddl_match.specs.declared.calls.Said.TheVariants as S
+use Rattle.cddl_match.specs.declared.calls.Stop.{Stop}
+use Rattle.cddl_match.specs.declared.calls.Stop.TheVariants.{Spent, NoMemory}
 
 -- a reply, or why there is none
 pub data Outcome : Type 0 where

@@ -4,15 +4,16 @@
 ghost use Rattle.std.specs.Prelude.{◌≡◌, Ok};
 ghost use Rattle.item_nodes.specs.View.{view};
 ghost use Rattle.cddl_meaning.specs.Moves as M;
-ghost use Rattle.cddl_match.specs.Views.{question_view};
+ghost use Rattle.match_moves.specs.Views.{question_view};
 ghost use Rattle.cddl_match.specs.Within.{Says, done_view, said_view};
-ghost use Rattle.cddl_match.specs.declared.questions.Reply as R;
+ghost use Rattle.match_moves.specs.declared.questions.Reply as R;
 ghost use Rattle.table_nodes.specs.Language.{language_of};
 
+use crate::calls::{Said, Stop};
 use crate::means::Means;
-use crate::questions::{Move, Question, Reply, Said, Stop, Subject};
 use crate::stack::{Run, Turned, step};
 use cbor_item::Item;
+use match_moves::{Move, Question, Reply, Subject};
 use table_nodes::{Table, TypeId};
 
 // The reply that the first question of a run has.

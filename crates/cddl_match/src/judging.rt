@@ -6,8 +6,8 @@ ghost use Rattle.cddl_meaning.specs.Ranks.Decided.{IsDecided};
 ghost use Rattle.table_nodes.specs.Language.{RootSays, language_of, root_form};
 
 use crate::answers::Verdict;
+use crate::calls::Said;
 use crate::means::Means;
-use crate::questions::Said;
 use crate::saying::type_says;
 use crate::shelf::{Cells, Shelf};
 use cbor_item::Sound;

@@ -3,26 +3,20 @@
 
 mod answers;
 mod behind;
-mod controls;
-mod counts;
+mod calls;
 mod deeper;
 mod judging;
 mod laws;
 mod looking;
 mod machine;
 mod means;
-mod moves;
-mod places;
-mod questions;
 mod reading;
 mod replies;
 mod saying;
 mod shelf;
-mod sorting;
 mod stack;
 mod tallied;
 mod telling;
-mod tested;
 
 pub use crate::answers::{End, Verdict};
 pub use crate::judging::verdict;

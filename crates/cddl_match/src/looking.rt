@@ -3,16 +3,15 @@
 ghost use Rattle.std.specs.Prelude.{◌≡◌, ◌≤◌, IfSome};
 ghost use Rattle.cddl_meaning.specs.Moves as M;
 ghost use Rattle.cddl_match.specs.Ahead.{ComesTo, IsEntered, Opens};
-ghost use Rattle.cddl_match.specs.Views.{reply_view, round_move, rounds_move, values};
+ghost use Rattle.match_moves.specs.Views.{reply_view, round_move, rounds_move, values};
 ghost use Rattle.table_nodes.specs.Language.{language_of};
 ghost use Rattle.table_nodes.specs.Nodes.{type_view};
 ghost use Rattle.table_nodes.specs.declared.nodes.GroupId.{GroupId};
 
 use crate::behind::{group_behind, type_behind};
-use crate::moves::{after_round, entry_reply, is_over, said_reply};
-use crate::questions::{Reply, Round, Rounds, Subject};
 use crate::telling::{DEEPEST, form_tells};
 use cbor_item::Item;
+use match_moves::{Reply, Round, Rounds, Subject, after_round, entry_reply, is_over, said_reply};
 use table_nodes::{Group, GroupId, Node, Table};
 
 /// The entry that a group leads to.

@@ -1,4 +1,4 @@
-//! What follows at once from what was asked, and what is in an item.
+//! What follows at once from what was asked.
 
 ghost use Rattle.std.specs.Prelude.{◌≡◌, Some, None, MatchOption};
 ghost use Rattle.item_nodes.specs.View.{pairs_view, view};
@@ -6,60 +6,17 @@ ghost use Rattle.cddl_meaning.specs.Forms as F;
 ghost use Rattle.cddl_meaning.specs.Forms.{Language, bytes_in, members_in, pairs_in, passes, simple_in};
 ghost use Rattle.cddl_meaning.specs.Judges as J;
 ghost use Rattle.cddl_meaning.specs.Moves as M;
-ghost use Rattle.cddl_match.specs.Views.{values};
+ghost use Rattle.match_moves.specs.Views.{values};
 ghost use Rattle.cddl_match.specs.Within.{Replied, Says, array_outcome, done_view, entry_outcome, held_outcome, said_view, simple_outcome, such_outcome};
 ghost use Rattle.table_nodes.specs.Nodes.{test_view};
 ghost use Rattle.table_nodes.specs.declared.nodes.GroupId.{GroupId};
 ghost use Rattle.table_nodes.specs.declared.nodes.TypeId.{TypeId};
 
+use crate::calls::{Said, Stop};
 use crate::means::Means;
-use crate::places::{place_after, plus};
-use crate::questions::{Reply, Said, Stop};
-use crate::tested::passes;
 use cbor_item::Item;
+use match_moves::{Reply, passes, place_after, plus};
 use table_nodes::Test;
-
-// The members of an array.
-#[tactic(auto, using(crate::proofs::Lists::members_of_values, crate::proofs::Lists::members_of_array))]
-pub(crate) fn items_of(item: &Item) -> Option<&[Item]>
-    ensures { MatchOption result (members_in (view item.now) ≡ None) (λ items. members_in (view item.now) ≡ Some (values items.now)) }
-{
-    match item {
-        Item::Array(items) => Some(items.as_slice()),
-        _ => None,
-    }
-}
-
-// The pairs of a map.
-#[tactic(auto, using(crate::proofs::Lists::pairs_of_map))]
-pub(crate) fn pairs_of(item: &Item) -> Option<&[(Item, Item)]>
-    ensures { MatchOption result (pairs_in (view item.now) ≡ None) (λ pairs. pairs_in (view item.now) ≡ Some (pairs_view pairs.now)) }
-{
-    match item {
-        Item::Map(pairs) => Some(pairs.as_slice()),
-        _ => None,
-    }
-}
-
-// The bytes of a byte string.
-pub(crate) fn bytes_of(item: &Item) -> Option<&[u8]>
-    ensures { MatchOption result (bytes_in (view item.now) ≡ None) (λ bytes. bytes_in (view item.now) ≡ Some bytes.now) }
-{
-    match item {
-        Item::Bytes(bytes) => Some(bytes.as_slice()),
-        _ => None,
-    }
-}
-
-// The number of a simple value.
-pub(crate) fn simple_of(item: &Item) -> Option<u64>
-    ensures { MatchOption result (simple_in (view item.now) ≡ None) (λ number. simple_in (view item.now) ≡ Some number) }
-{
-    match item {
-        Item::Simple(number) => Some(u64::from(*number)),
-        _ => None,
-    }
-}
 
 // What a test says.
 #[inline(always)]

@@ -4,10 +4,10 @@ ghost use Rattle.std.specs.Prelude.{ℕ, List, Some};
 ghost use Rattle.cbor_data.specs.Value.{Pairs};
 ghost use Rattle.item_nodes.specs.View.{pairs_view, view};
 ghost use Rattle.cddl_meaning.specs.Forms as F;
-ghost use Rattle.cddl_meaning.specs.Forms.{bytes_in};
+ghost use Rattle.cddl_meaning.specs.Forms.{bytes_in, members_in, simple_in};
 ghost use Rattle.cddl_meaning.specs.Judges as J;
 ghost use Rattle.cddl_meaning.specs.Moves as M;
-ghost use Rattle.cddl_match.specs.Views.{parts_move, rounds_move, values};
+ghost use Rattle.match_moves.specs.Views.{parts_move, rounds_move, values};
 ghost use Rattle.cddl_match.specs.Tellings.{IsTallied, Sorts, Tallies};
 ghost use Rattle.cddl_match.specs.Within.{Ends, Says, done_view, said_view};
 ghost use Rattle.table_nodes.specs.Language.{language_of};
@@ -15,22 +15,22 @@ ghost use Rattle.table_nodes.specs.Nodes.{alternatives_view, content_view, entri
 ghost use Rattle.table_nodes.specs.declared.nodes.TypeId.{TypeId};
 
 use crate::behind::{group_behind, type_behind};
+use crate::calls::{Said, Stop};
 use crate::deeper::{replied_by_turns, type_by_turns};
 use crate::looking::rounds_told;
 use crate::means::Means;
-use crate::moves::{after_round, is_over};
-use crate::places::{place_after, plus};
-use crate::questions::{Fate, Parts, Question, Reply, Round, Rounds, Said, Stop};
 use crate::reading::held_in;
 use crate::replies::{
-    array_said, bytes_of, either_said, entry_done, held_said, items_of, pairs_of, simple_of,
-    simple_said, such_said, test_says, tested,
+    array_said, either_said, entry_done, held_said, simple_said, such_said, test_says, tested,
 };
 use crate::shelf::{Cells, Shelf};
-use crate::sorting::{begin_tally, first_are_enough, tally_pair};
 use crate::tallied::{Tallied, nothing_tallied, told_with};
-use crate::tested::passes;
 use cbor_item::Item;
+use match_moves::{
+    Fate, Parts, Question, Reply, Round, Rounds, after_round, begin_tally, bytes_of,
+    first_are_enough, is_over, items_of, pairs_of, passes, place_after, plus, simple_of,
+    tally_pair,
+};
 use table_nodes::{Content, Group, GroupId, MapEntry, Node, Table, TagNumber, TypeId};
 
 // What a type says of an item. Tests are asked where this is called, since most types that are asked in a loop are tests, or
@@ -101,31 +101,14 @@ fn form_says<'i>(
         Node::Plain(test) => tested(test, place, item),
         Node::Ref(to) => type_says(table, means, *to, place, item, depth),
         Node::Choice(members) => choice_says(table, means, members, place, item, depth),
-        Node::ArrayOf(group) => match items_of(item) {
-            Some(items) => array_said(group_does(
-                table,
-                means,
-                *group,
-                place,
-                plus(place, 1),
-                items,
-                depth,
-            )),
-            None => Said::No { far: place },
-        },
+        Node::ArrayOf(group) => array_says(table, means, *group, place, item, depth),
         Node::TagOf(number, node) => match item {
             Item::Tag(found, content) => {
                 tag_says(table, means, *number, *node, place, *found, content, depth)
             }
             _ => Said::No { far: place },
         },
-        Node::SimpleBy(head) => match simple_of(item) {
-            Some(number) => {
-                let number = Item::Uint(number);
-                simple_said(place, apart_says(table, means, *head, place, number, depth))
-            }
-            None => Said::No { far: place },
-        },
+        Node::SimpleBy(head) => simple_says(table, means, *head, place, item, depth),
         Node::MapOf(alternatives) => match pairs_of(item) {
             Some(pairs) => map_says(table, means, alternatives, place, pairs, depth),
             None => Said::No { far: place },
@@ -139,12 +122,7 @@ fn form_says<'i>(
             such_said(place, said, passes(test, item))
         }
         Node::Holding(of, content, node) => {
-            match type_says(table, means, *of, place, item, depth) {
-                Said::Yes { next } => {
-                    held_says(table, means, *content, *node, place, next, item, depth)
-                }
-                said => said,
-            }
+            holding_says(table, means, *of, *content, *node, place, item, depth)
         }
     }
 }
@@ -172,6 +150,49 @@ fn choice_says<'i>(
         left = others;
     }
     Said::No { far }
+}
+
+// What an array says by what its group does with all of its items.
+#[inline]
+#[cycle(saying)]
+fn array_says<'i>(
+    table: &Table,
+    means: &mut Means<'i>,
+    group: GroupId,
+    place: usize,
+    item: &'i Item,
+    depth: u8,
+) -> Said
+    ensures { Ends (language_of table.now) (M.array_move group place (members_in (view item.now))) means.old.left means.new.left (said_view result) }
+{
+    match items_of(item) {
+        Some(items) => {
+            let first = plus(place, 1);
+            array_said(group_does(table, means, group, place, first, items, depth))
+        }
+        None => Said::No { far: place },
+    }
+}
+
+// What a simple value says by what is said of its number.
+#[cycle(saying)]
+fn simple_says(
+    table: &Table,
+    means: &mut Means<'_>,
+    head: TypeId,
+    place: usize,
+    item: &Item,
+    depth: u8,
+) -> Said
+    ensures { Ends (language_of table.now) (M.simple_move head place (simple_in (view item.now))) means.old.left means.new.left (said_view result) }
+{
+    match simple_of(item) {
+        Some(number) => {
+            let number = Item::Uint(number);
+            simple_said(place, apart_says(table, means, head, place, number, depth))
+        }
+        None => Said::No { far: place },
+    }
 }
 
 // A tag, whose number was found, is asked about that first, then about its content.
@@ -203,6 +224,27 @@ fn tag_says<'i>(
                 said => said,
             }
         }
+    }
+}
+
+// A byte string's own type is asked first, then what the string holds.
+#[inline]
+#[cycle(saying)]
+fn holding_says<'i>(
+    table: &Table,
+    means: &mut Means<'i>,
+    of: TypeId,
+    content: Content,
+    node: TypeId,
+    place: usize,
+    item: &'i Item,
+    depth: u8,
+) -> Said
+    ensures { Ends (language_of table.now) (M.type_move (F.Holding of (content_view content) node) place (view item.now)) means.old.left means.new.left (said_view result) }
+{
+    match type_says(table, means, of, place, item, depth) {
+        Said::Yes { next } => held_says(table, means, content, node, place, next, item, depth),
+        said => said,
     }
 }
 
@@ -493,35 +535,16 @@ fn group_form_does<'i>(
     match form {
         Group::Entry(node) => entry_does(table, means, *node, base, place, items, depth),
         Group::Ref(to) => group_does(table, means, *to, base, place, items, depth),
-        Group::Sequence(parts) => parts_do(
-            table,
-            means,
-            Parts {
-                parts,
-                base,
-                place,
-                items,
-                far: base,
-            },
-            depth,
-        ),
+        Group::Sequence(parts) => {
+            parts_do(table, means, Parts::new(parts, base, place, items), depth)
+        }
         Group::Alternatives(parts) => {
             alternatives_do(table, means, parts, base, place, items, depth)
         }
-        Group::Repeat { least, most, group } => rounds_do(
-            table,
-            means,
-            Rounds {
-                least: *least,
-                most: *most,
-                group: *group,
-                base,
-                place,
-                items,
-                far: base,
-            },
-            depth,
-        ),
+        Group::Repeat { least, most, group } => {
+            let rounds = Rounds::new(*least, *most, *group, base, place, items);
+            rounds_do(table, means, rounds, depth)
+        }
     }
 }
 

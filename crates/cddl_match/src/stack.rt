@@ -7,21 +7,22 @@ ghost use Rattle.cddl_meaning.specs.Forms.{Language};
 ghost use Rattle.cddl_meaning.specs.Held.{Holds};
 ghost use Rattle.cddl_meaning.specs.Moves as M;
 ghost use Rattle.cddl_match.specs.Machine.{Finds, FindsAt, Goes, GoesFrom, IsKept, NeedsMore, asked_in, asks_in, found_in, is_alternative, next_in};
-ghost use Rattle.cddl_match.specs.Views.{move_view, pending_view, question_view, reading_move, reply_view, sorting_view};
-ghost use Rattle.cddl_match.specs.declared.questions.Reply as R;
-ghost use Rattle.cddl_match.specs.declared.questions.Sorting as C;
+ghost use Rattle.match_moves.specs.Views.{move_view, pending_view, question_view, reading_move, reply_view, sorting_view};
+ghost use Rattle.match_moves.specs.declared.questions.Reply as R;
+ghost use Rattle.match_moves.specs.declared.questions.Sorting as C;
 ghost use Rattle.table_nodes.specs.Language.{language_of};
 ghost use Rattle.table_nodes.specs.Nodes.{content_view};
 ghost use Rattle.table_nodes.specs.declared.nodes.GroupId.{GroupId};
 ghost use Rattle.table_nodes.specs.declared.nodes.TypeId.{TypeId};
 
-use crate::moves::{first_of_group, first_of_type, next_move};
-use crate::questions::{Move, Pending, Question, Reading, Reply, Subject};
 use crate::reading::held_in;
 use crate::shelf::Shelf;
-use crate::sorting::{alternative_move, next_entry};
 use cbor_item::Item;
 use history::History;
+use match_moves::{
+    Move, Pending, PendingType, Question, Reading, Reply, Subject, alternative_move,
+    first_of_group, first_of_type, next_entry, next_move,
+};
 use std::alloc::{AllocError, Global};
 use std::mem;
 use table_nodes::Table;
@@ -57,7 +58,7 @@ pub(crate) struct Run<'t, 'i> {
 
 impl<'t, 'i> Waiting<'t, 'i> {
     ghost use Rattle.cddl_match.specs.Machine.{noted};
-    ghost use Rattle.cddl_match.specs.Views.{question_view};
+    ghost use Rattle.match_moves.specs.Views.{question_view};
 
     // The question, which has asked nothing yet.
     #[inline]
@@ -257,7 +258,7 @@ fn read<'t, 'i>(
         return Turned::Spent;
     }
     let last = &mut run.waiting[count - 1];
-    last.pending = Pending::Held { place, next };
+    last.pending = Pending::Type(PendingType::Held { place, next });
     let question = Question::OfType {
         node,
         place: 0,

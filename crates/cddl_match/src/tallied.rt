@@ -6,15 +6,15 @@ ghost use Rattle.cddl_meaning.specs.Judges as J;
 ghost use Rattle.cddl_meaning.specs.Moves as M;
 ghost use Rattle.cddl_meaning.specs.Moves.{answer_reply, tally_says};
 ghost use Rattle.cddl_match.specs.Tellings.{BeginAlike, IsTallied, told_with};
-ghost use Rattle.cddl_match.specs.Views.{tally_view};
+ghost use Rattle.match_moves.specs.Views.{tally_view};
 ghost use Rattle.cddl_match.specs.Within.{Replied, Says, said_view};
 ghost use Rattle.table_nodes.specs.Language.{language_of};
 ghost use Rattle.table_nodes.specs.Nodes.{entries_view};
 
+use crate::calls::Said;
 use crate::means::Means;
-use crate::questions::{Fate, Said, Tally};
-use crate::sorting::{no_tally, shown_by_first, shown_by_tally};
 use cbor_item::Item;
+use match_moves::{Fate, Tally, no_tally, shown_by_first, shown_by_tally};
 use std::alloc::Global;
 use table_nodes::{MapEntry, Table};
 

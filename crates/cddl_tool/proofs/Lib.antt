@@ -1,3 +1,4 @@
+mod Ranges
 pub mod Refusing
 pub mod Telling
 mod Fronts

@@ -1,28 +1,26 @@
--- What becomes of a text that has no table.
-use Rattle.std.specs.Prelude.{IfSome}
-use Rattle.std.proofs.Common.{◌≡◌, ℕ, List, ◌⊎◌, Option, Some, None, subst}
-use Rattle.cddl_check.specs.Text.{IsUnreadText}
-use Rattle.cddl_token.specs.declared.Code.{Code}
+-- What is told of a text that has no table.
+use Rattle.std.proofs.Common.{◌≡◌, ℕ, List, ◌⊎◌, inl, inr, Option, subst, sym}
+use Rattle.cddl_check.specs.Text.{IsUnreadText, IsWrongText}
 use Rattle.cddl_token.specs.declared.Refusal.{Refusal}
-use Rattle.cddl_token.specs.declared.Refusal.TheVariants.{At}
+use Rattle.cddl_token.specs.declared.Refusal.TheVariants as RefusalV
+use Rattle.check_text.specs.declared.fault.Fault.{Fault}
+use Rattle.seq_run.specs.Running.{Change}
+use Rattle.command_line.specs.Lines.{memory_line}
 use Rattle.command_line.specs.declared.status.TheConstants.{REFUSED, BROKEN}
-use Rattle.cddl_tool.specs.Acting.{IsRefusedText}
+use Rattle.cddl_tool.specs.Acting.{refusal_line, IsSaid, IsTurnedDown, refused, no_memory}
 
--- the status says that the text is refused, or that something broke
-abbrev pub Tells : List ℕ → Option (List ℕ) → ℕ → Type 0
-Tells text root status = ((status ≡ REFUSED) × IsRefusedText text root) ⊎ (status ≡ BROKEN)
+-- the text that was read is the one that was meant, under the name that was meant
+pub turned_down : (text wanted : List ℕ) (given root : Option (List ℕ)) (why : Refusal) (error : Change) (status : ℕ) → text ≡ wanted → given ≡ root →
+    ((t : List ℕ) (r : Option (List ℕ)) → IsUnreadText t r why → IsTurnedDown t r error status) → IsUnreadText text given why → IsTurnedDown wanted root error status
+turned_down text wanted given root why error status e f told h = told wanted root (subst (λ r. IsUnreadText wanted r why) f (subst (λ t. IsUnreadText t given why) e h))
 
-pub refused_so : (text wanted : List ℕ) (given root : Option (List ℕ)) (why : Refusal) (status : ℕ) → text ≡ wanted → given ≡ root → ((t : List ℕ) (r : Option (List ℕ)) → IsUnreadText t r why → Tells t r status) → IsUnreadText text given why → Tells wanted root status
-refused_so text wanted given root why status e f told h = told wanted root (subst (λ r. IsUnreadText wanted r why) f (subst (λ t. IsUnreadText t given why) e h))
+-- the reason was told, whatever the text is
+abbrev pub Tells : Refusal → Change → ℕ → Type 0
+Tells why error status = (text : List ℕ) (root : Option (List ℕ)) → IsUnreadText text root why → IsTurnedDown text root error status
 
--- what holds anyway holds where there is a line
-pub anyway : {A : Type 0} (P : Type 0) (o : Option A) → P → IfSome o (λ (a : A). P)
-anyway P None h = tt
-anyway P (Some a) h = h
+pub tells_fault : (f : Fault) (error : Change) (status : ℕ) → ((status ≡ REFUSED) × IsSaid error (refusal_line f)) ⊎ ((status ≡ BROKEN) × IsSaid error memory_line) → Tells (RefusalV.At f.code f.at) error status
+tells_fault f error status (inl h) = λ text root wrong. subst (λ n. IsTurnedDown text root error n) (sym h.0) (refused f wrong h.1)
+tells_fault f error status (inr h) = λ text root wrong. subst (λ n. IsTurnedDown text root error n) (sym h.0) (no_memory h.1)
 
--- the reason tells that a text is refused
-abbrev pub Refuses : Refusal → Type 0
-Refuses why = (text : List ℕ) (root : Option (List ℕ)) → IsUnreadText text root why → IsRefusedText text root
-
-pub for_what_is_wrong : (code : Code) (at : ℕ) → Refuses (At code at)
-for_what_is_wrong code at text root h = (record { code = code; at = at }, h)
+pub tells_memory : (error : Change) (status : ℕ) → status ≡ BROKEN → IsSaid error memory_line → Tells RefusalV.Memory error status
+tells_memory error status e said = λ text root h. subst (λ n. IsTurnedDown text root error n) (sym e) (no_memory said)

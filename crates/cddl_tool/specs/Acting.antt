@@ -1,6 +1,7 @@
 -- What the program's status says.
-use Rattle.std.specs.Prelude.{◌≡◌, ℕ, ◌<◌, ◌-◌, ◌^◌, Bool, true, false, List, [], length, take, Option, IfSome, codes}
+use Rattle.std.specs.Prelude.{◌≡◌, ℕ, ◌<◌, ◌-◌, ◌^◌, Bool, true, false, List, [], ◌++◌, length, take, Option, IfSome, codes}
 use Rattle.std.specs.Io.KnownBytes as bytes
+use Rattle.cbor_data.specs.Faults.{Bounds}
 use Rattle.cbor_data.specs.Value.{Value}
 use Rattle.seq_run.specs.declared.end.End.{End}
 use Rattle.seq_run.specs.declared.end.End.TheVariants.{Clean, Failed}
@@ -8,14 +9,18 @@ use Rattle.seq_run.specs.Judge.{Judge}
 use Rattle.seq_run.specs.declared.output.Mode.{Mode}
 use Rattle.seq_run.specs.declared.output.Mode.TheVariants as mode
 use Rattle.seq_run.specs.declared.running.RunFault.{RunFault}
+use Rattle.seq_run.specs.declared.running.RunFault.TheVariants.{ReadFailed, WriteFailed, Memory}
 use Rattle.seq_run.specs.Report.{end_line}
 use Rattle.seq_run.specs.Running.{Change, HasFailed, HasNotFailed, IsFault, WritesAll}
+use Rattle.cddl_token.specs.Messages.{refusal_text}
+use Rattle.cddl_token.specs.declared.Refusal.TheVariants.{At}
 use Rattle.cddl_check.specs.Text.{IsWrongText}
 use Rattle.check_text.specs.declared.fault.Fault.{Fault}
 use Rattle.command_line.specs.declared.choice.Options.{Options}
 use Rattle.command_line.specs.declared.choice.Task.{Task}
 use Rattle.command_line.specs.declared.choice.Task.TheVariants.{Check, Validate, Rewrite, Show}
-use Rattle.command_line.specs.declared.status.TheConstants.{BROKEN}
+use Rattle.command_line.specs.declared.status.TheConstants.{REFUSED, BROKEN}
+use Rattle.command_line.specs.Lines.{memory_line, read_failed_line, write_failed_line}
 
 -- the specification of a task: to show a stream, that of any item
 abbrev pub specification_of : Task → List ℕ → List ℕ
@@ -24,25 +29,37 @@ specification_of Validate spec = spec
 specification_of Rewrite spec = spec
 specification_of Show spec = codes "a = any"
 
--- Something is wrong with the text, with this name as its root.
-abbrev pub IsRefusedText : List ℕ → Option (List ℕ) → Type 0
-IsRefusedText text root = (f : Fault) × IsWrongText text root f
+-- The text went out whole, unless the device failed.
+abbrev pub IsSaid : Change → List ℕ → Type 0
+IsSaid device text = HasNotFailed device → device.failures_before < 2 ^ 64 - 1 → bytes.Appends device.before device.after text
+
+-- the line that tells what is wrong with a text
+abbrev pub refusal_line : Fault → List ℕ
+refusal_line f = refusal_text (At f.code f.at) ++ codes "\n"
+
+-- The text has no table with this name as its root: what is wrong with it was told, and the status says so; or want of memory was.
+pub data IsTurnedDown (text : List ℕ) (root : Option (List ℕ)) (error : Change) : ℕ → Type 0 where
+  refused : (f : Fault) → IsWrongText text root f → IsSaid error (refusal_line f) → IsTurnedDown text root error REFUSED
+  no_memory : IsSaid error memory_line → IsTurnedDown text root error BROKEN
 
 -- the line that says that a specification is accepted
 abbrev pub accepted_line : List ℕ
 accepted_line = codes "accepted\n"
 
--- The whole line went out, and the status is 0.
-pub record IsAccepted (output : Change) (status : ℕ) : Type 0 where
-  pub whole : bytes.Appends output.before output.after accepted_line
-  pub is : status ≡ 0
-
 -- The device failed, and exactly the first k bytes of the line went out.
-pub record IsCutOff (output : Change) : Type 0 where
+pub record IsCutOff (output : Change) (k : ℕ) : Type 0 where
   pub failed : HasFailed output
-  pub k : ℕ
   pub short : k < length accepted_line
   pub part : bytes.Appends output.before output.after (take k accepted_line)
+
+-- It was told that the specification is accepted, and the status is 0; or it was told where the line was cut off.
+pub data IsAcceptance (output error : Change) : ℕ → Type 0 where
+  whole : HasNotFailed output → bytes.Appends output.before output.after accepted_line → IsAcceptance output error 0
+  cut : (k : ℕ) → IsCutOff output k → IsSaid error (write_failed_line k) → IsAcceptance output error BROKEN
+
+-- the limits of items that the options give
+abbrev pub limits_of : Options → Bounds
+limits_of o = record { depth = o.depth; item_bytes = o.item_bytes }
 
 abbrev pub status_for : End → ℕ
 status_for (Clean items bytes) = 0
@@ -66,24 +83,28 @@ abbrev pub told_of : Task → End → Option Value → List ℕ
 told_of Rewrite end rejected = end_line end rejected
 told_of task end rejected = []
 
--- The text went out whole, unless the device failed.
-abbrev pub IsSaid : Change → List ℕ → Type 0
-IsSaid device text = HasNotFailed device → device.failures_before < 2 ^ 64 - 1 → bytes.Appends device.before device.after text
+-- the line that says why a run stopped
+abbrev pub fault_line : RunFault → List ℕ
+fault_line (ReadFailed items) = read_failed_line items
+fault_line (WriteFailed bytes) = write_failed_line bytes
+fault_line (Memory items) = memory_line
 
--- The end was told, and the status is its own; or there was no memory for its line.
+-- The end was told, and the status is its own; or there was no memory for its line, and that was told.
 pub data IsTold (task : Task) (end : End) (rejected : Option Value) (error : Change) : ℕ → Type 0 where
   told : IsSaid error (told_of task end rejected) → IsTold task end rejected error (status_for end)
-  no_memory : task ≡ Rewrite → IsTold task end rejected error BROKEN
+  no_line : task ≡ Rewrite → IsSaid error memory_line → IsTold task end rejected error BROKEN
 
 -- The whole output of the stream went out, its end was told, and the status is that of its end.
 pub record IsAnswered (o : Options) (judge : Judge) (stream : List ℕ) (output error : Change) (status : ℕ) : Type 0 where
   pub end : End
   pub rejected : Option Value
-  pub written : WritesAll (mode_of o.task o.quiet o.deterministic) judge o.limits stream output end rejected
+  pub written : WritesAll (mode_of o.task o.quiet o.deterministic) judge (limits_of o) stream output end rejected
   pub told : IsSaid error (told_of o.task end rejected)
   pub is : status ≡ status_for end
 
--- Why there is no such status: the run stopped early, or it is whole and there was no memory for the line of its end.
-pub data IsBroken (o : Options) (judge : Judge) (input output : Change) : Type 0 where
-  stopped : (fault : RunFault) → IsFault (mode_of o.task o.quiet o.deterministic) judge o.limits input output fault → IsBroken o judge input output
-  untold : o.task ≡ Rewrite → IfSome input.before (λ stream. (end : End) × (rejected : Option Value) × WritesAll (mode_of o.task o.quiet o.deterministic) judge o.limits stream output end rejected) → IsBroken o judge input output
+-- Why there is no such status, and the line that was told: the run stopped early, or it is whole and there was no memory for
+-- the line of its end.
+pub data IsBroken (o : Options) (judge : Judge) (input output error : Change) : Type 0 where
+  stopped : (fault : RunFault) → IsFault (mode_of o.task o.quiet o.deterministic) judge (limits_of o) input output fault → IsSaid error (fault_line fault) → IsBroken o judge input output error
+  untold : o.task ≡ Rewrite → IfSome input.before (λ stream. (end : End) × (rejected : Option Value) × WritesAll (mode_of o.task o.quiet o.deterministic) judge (limits_of o) stream output end rejected) →
+      IsSaid error memory_line → IsBroken o judge input output error

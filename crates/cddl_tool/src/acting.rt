@@ -1,20 +1,25 @@
 //! What the program does with a specification and a stream.
 
-ghost use Rattle.std.specs.Prelude.{◌≡◌, ◌≢◌, ◌⊎◌, ℕ, List, Option, IfOk, IfErr, IfSome, option_copied, option_map, string_bytes};
+ghost use Rattle.std.specs.Prelude.{◌≡◌, ◌≢◌, ◌⊎◌, ℕ, List, Option, IfOk, IfErr, IfSome, OnOk, option_copied, option_map, string_bytes};
 ghost use Rattle.item_nodes.specs.Counted.{device_of};
 ghost use Rattle.cddl_check.specs.Text.{IsUnreadText};
 ghost use Rattle.cddl_table.specs.Text.{IsTabledText};
 ghost use Rattle.seq_run.specs.Judge.{judge_of};
 ghost use Rattle.seq_run.specs.Report.{IsShown};
 ghost use Rattle.seq_run.specs.Running.{change_of};
-ghost use Rattle.cddl_tool.specs.Acting.{mode_of, report_mode_of, rewrite_mode_of, specification_of, status_for, IsAccepted, IsAnswered, IsBroken, IsCutOff, IsRefusedText, IsTold};
+ghost use Rattle.command_line.specs.Lines.{memory_line};
+ghost use Rattle.cddl_tool.specs.Acting.{fault_line, limits_of, mode_of, refusal_line, report_mode_of, rewrite_mode_of, specification_of, status_for, IsAcceptance, IsAnswered, IsBroken, IsSaid, IsTold, IsTurnedDown};
 
 use cbor_item::{Counted, Sound, write_bytes};
+use cbor_read::Limits;
 use cddl_table::read_specification;
 use cddl_token::Refusal;
-use command_line::{BROKEN, FAILED, Options, REFUSED, Task, say};
+use check_text::Fault;
+use command_line::{
+    BROKEN, FAILED, Options, REFUSED, Task, say, say_no_memory, say_read_failed, say_write_failed,
+};
 use seq_run::{End, Mode, RunFault, end_line, run};
-use std::alloc::Global;
+use std::alloc::{AllocError, Global};
 use std::io::{Read, Write};
 use table_nodes::Table;
 
@@ -23,8 +28,8 @@ use table_nodes::Table;
 ///
 /// # Errors
 ///
-/// The exit status, with a line on `err`: [`REFUSED`] where the text is no specification, or one that this version does not
-/// take; [`BROKEN`] where an allocation was refused.
+/// The exit status, with a line on `err`: [`REFUSED`], with the line `refused: CODE NAME at byte OFFSET`, where the text is no
+/// specification, or one that this version does not take; [`BROKEN`] where an allocation was refused.
 pub fn ready<E: Write>(
     alloc: Global,
     options: &Options,
@@ -32,9 +37,9 @@ pub fn ready<E: Write>(
     err: &mut Counted<E>,
 ) -> Result<Table, u8>
     ensures found { IfOk result (IsTabledText (specification_of options.now.task spec.now) (option_map (λ s. string_bytes s) options.now.root)) }
-    ensures refused { IfErr result (λ status.
-        ((status ≡ REFUSED) × IsRefusedText (specification_of options.now.task spec.now) (option_map (λ s. string_bytes s) options.now.root))
-        ⊎ (status ≡ BROKEN)) }
+    ensures quiet { OnOk result (err.new ≡ err.old) }
+    ensures refused { IfErr result
+        (IsTurnedDown (specification_of options.now.task spec.now) (option_map (λ s. string_bytes s) options.now.root) (change_of E.contents err.old err.new)) }
 {
     let text = specification_for(options.task, spec);
     match read_specification(alloc, text, root_of(options)) {
@@ -55,28 +60,34 @@ fn root_of(options: &Options) -> Option<&str>
 
 // Says why a text has no table, and answers the status.
 fn say_unread<E: Write>(alloc: Global, why: Refusal, err: &mut Counted<E>) -> u8
-    ensures { (text : List ℕ) (root : Option (List ℕ)) → IsUnreadText text root why → ((result ≡ REFUSED) × IsRefusedText text root) ⊎ (result ≡ BROKEN) }
+    ensures { (text : List ℕ) (root : Option (List ℕ)) → IsUnreadText text root why → IsTurnedDown text root (change_of E.contents err.old err.new) result }
 {
-    match line_of(alloc, why) {
-        Some(line) => {
-            say(line.as_str().as_bytes(), err);
-            REFUSED
-        }
-        None => {
-            say(b"out of memory\n", err);
-            BROKEN
-        }
+    match why {
+        Refusal::At(code, at) => say_refused(alloc, Fault { code, at }, err),
+        Refusal::Memory => say_no_memory(err),
     }
 }
 
-// The line of a refusal, if there is memory for it.
-fn line_of(alloc: Global, why: Refusal) -> Option<String>
-    ensures { IfSome result (λ _. (text : List ℕ) (root : Option (List ℕ)) → IsUnreadText text root why → IsRefusedText text root) }
+// Says what is wrong with a text, and answers the status.
+fn say_refused<E: Write>(alloc: Global, fault: Fault, err: &mut Counted<E>) -> u8
+    ensures { ((result ≡ REFUSED) × IsSaid (change_of E.contents err.old err.new) (refusal_line fault))
+        ⊎ ((result ≡ BROKEN) × IsSaid (change_of E.contents err.old err.new) memory_line) }
 {
-    match why {
-        Refusal::At(..) => format!(in alloc; "{why}\n").ok(),
-        Refusal::Memory => None,
+    match line_of(alloc, fault) {
+        Ok(line) => {
+            say(line.as_str().as_bytes(), err);
+            REFUSED
+        }
+        Err(_) => say_no_memory(err),
     }
+}
+
+// The line that tells what is wrong with a text.
+fn line_of(alloc: Global, fault: Fault) -> Result<String, AllocError>
+    ensures { IfOk result (λ line. string_bytes line ≡ refusal_line fault) }
+{
+    let refusal = Refusal::At(fault.code, fault.at);
+    format!(in alloc; "{refusal}\n")
 }
 
 // The text of a task's specification.
@@ -89,25 +100,52 @@ fn specification_for(task: Task, spec: &[u8]) -> &[u8]
     }
 }
 
-/// Writes to `out` that the specification is accepted, and answers the status: 0, or [`BROKEN`], with a line on `err`, where
-/// a write failed.
-pub fn accept<W: Write, E: Write>(alloc: Global, out: &mut Counted<W>, err: &mut Counted<E>) -> u8
-    ensures accepted { result ≢ BROKEN → IsAccepted (change_of W.contents out.old out.new) result }
-    ensures broken { result ≡ BROKEN → IsCutOff (change_of W.contents out.old out.new) }
+/// Does what the task asks for, over the table of the specification, and answers the status.
+///
+/// - [`Task::Check`]: writes the line `accepted` to `out`, and reads nothing. The status is 0.
+/// - [`Task::Validate`] and [`Task::Show`]: validates the stream of `input`, and writes its report to `out`, or only the line of
+///   the end where the options are quiet. The status is 0 where the stream is clean, and [`FAILED`] where it failed.
+/// - [`Task::Rewrite`]: writes the items that match to `out`, encoded as the options say, and the line of the end to `err`. The
+///   status is as before.
+///
+/// Where a read, a write or an allocation fails the status is [`BROKEN`], with a line on `err`.
+pub fn act<R: Read, W: Write, E: Write>(
+    alloc: Global,
+    options: &Options,
+    table: &Table,
+    input: &mut Counted<R>,
+    out: &mut Counted<W>,
+    err: &mut Counted<E>,
+) -> u8
+    ensures accepted { options.now.task ≡ Task.Check → IsAcceptance (change_of W.contents out.old out.new) (change_of E.contents err.old err.new) result }
+    ensures unread { options.now.task ≡ Task.Check → input.new ≡ input.old }
+    ensures answered { options.now.task ≢ Task.Check → result ≢ BROKEN → IfSome (R.remaining (device_of input.old)) (λ stream.
+        IsAnswered options.now (judge_of table.now options.now.steps) stream (change_of W.contents out.old out.new) (change_of E.contents err.old err.new) result) }
+    ensures quiet { options.now.task ≢ Task.Rewrite → result ≢ BROKEN → err.new ≡ err.old }
+    ensures broken { options.now.task ≢ Task.Check → result ≡ BROKEN → IsBroken options.now (judge_of table.now options.now.steps)
+        (change_of R.remaining input.old input.new) (change_of W.contents out.old out.new) (change_of E.contents err.old err.new) }
 {
-    match write_bytes(b"accepted\n", out) {
-        Ok(()) => 0,
-        Err(fault) => {
-            say_fault(alloc, RunFault::WriteFailed(fault.written), err);
-            BROKEN
+    match options.task {
+        Task::Check => accept(out, err),
+        Task::Validate | Task::Rewrite | Task::Show => {
+            go_through(alloc, options, table, input, out, err)
         }
     }
 }
 
-/// Validates the stream of `input`, writes to `out` what the task asks for, and answers the status: 0 where the stream is
-/// clean, [`FAILED`] where it failed, and else [`BROKEN`], with a line on `err`. Where items are rewritten, the line of the end
-/// goes to `err` too.
-pub fn act<R: Read, W: Write, E: Write>(
+// Writes that the specification is accepted, and answers the status.
+fn accept<W: Write, E: Write>(out: &mut Counted<W>, err: &mut Counted<E>) -> u8
+    ensures accepted { IsAcceptance (change_of W.contents out.old out.new) (change_of E.contents err.old err.new) result }
+    ensures quiet { result ≢ BROKEN → err.new ≡ err.old }
+{
+    match write_bytes(b"accepted\n", out) {
+        Ok(()) => 0,
+        Err(fault) => say_write_failed(fault.written, err),
+    }
+}
+
+// Goes through the stream, writes what the task asks for, and answers the status.
+fn go_through<R: Read, W: Write, E: Write>(
     alloc: Global,
     options: &Options,
     table: &Table,
@@ -117,28 +155,29 @@ pub fn act<R: Read, W: Write, E: Write>(
 ) -> u8
     ensures answered { result ≢ BROKEN → IfSome (R.remaining (device_of input.old)) (λ stream.
         IsAnswered options.now (judge_of table.now options.now.steps) stream (change_of W.contents out.old out.new) (change_of E.contents err.old err.new) result) }
+    ensures quiet { options.now.task ≢ Task.Rewrite → result ≢ BROKEN → err.new ≡ err.old }
     ensures broken { result ≡ BROKEN → IsBroken options.now (judge_of table.now options.now.steps)
-        (change_of R.remaining input.old input.new) (change_of W.contents out.old out.new) }
+        (change_of R.remaining input.old input.new) (change_of W.contents out.old out.new) (change_of E.contents err.old err.new) }
 {
     let mode = mode_for(options);
-    match run(
-        alloc,
-        table,
-        options.limits,
-        options.steps,
-        mode,
-        input,
-        out,
-    ) {
+    let limits = limits_for(options);
+    match run(alloc, table, limits, options.steps, mode, input, out) {
         Ok((end, rejected)) => {
             let status = tell_end(alloc, options.task, &end, rejected.as_ref(), err);
             drop(rejected);
             status
         }
-        Err(fault) => {
-            say_fault(alloc, fault, err);
-            BROKEN
-        }
+        Err(fault) => say_fault(fault, err),
+    }
+}
+
+// The limits of items. The numbers of the options are in their ranges.
+fn limits_for(options: &Options) -> Limits
+    ensures { result ≡ limits_of options.now }
+{
+    match Limits::try_new(options.depth, options.item_bytes) {
+        Some(limits) => limits,
+        None => unreachable!(),
     }
 }
 
@@ -177,7 +216,8 @@ fn tell_end<E: Write>(
     err: &mut Counted<E>,
 ) -> u8
     requires { IsShown end.now (option_copied rejected) }
-    ensures { IsTold task end.now (option_copied rejected.entry) (change_of E.contents err.old err.new) result }
+    ensures told { IsTold task end.now (option_copied rejected.entry) (change_of E.contents err.old err.new) result }
+    ensures quiet { task ≢ Task.Rewrite → err.new ≡ err.old }
 {
     match task {
         Task::Rewrite => tell_line(alloc, end, rejected, err),
@@ -200,10 +240,7 @@ fn tell_line<E: Write>(
             say(line.as_slice(), err);
             status_of(end)
         }
-        Err(_) => {
-            say(b"out of memory\n", err);
-            BROKEN
-        }
+        Err(_) => say_no_memory(err),
     }
 }
 
@@ -216,9 +253,14 @@ fn status_of(end: &End) -> u8
     }
 }
 
-fn say_fault<E: Write>(alloc: Global, fault: RunFault, err: &mut Counted<E>) {
-    match format!(in alloc; "{fault}\n") {
-        Ok(line) => say(line.as_str().as_bytes(), err),
-        Err(_) => say(b"out of memory\n", err),
+// Says why a run stopped, and answers the status.
+fn say_fault<E: Write>(fault: RunFault, err: &mut Counted<E>) -> u8
+    ensures status { result ≡ BROKEN }
+    ensures line { IsSaid (change_of E.contents err.old err.new) (fault_line fault) }
+{
+    match fault {
+        RunFault::ReadFailed(items) => say_read_failed(items, err),
+        RunFault::WriteFailed(bytes) => say_write_failed(bytes, err),
+        RunFault::Memory(_) => say_no_memory(err),
     }
 }

@@ -4,11 +4,12 @@
 mod acting;
 mod laws;
 
-pub use crate::acting::{accept, act, ready};
+pub use crate::acting::{act, ready};
 pub use crate::laws::front_tells;
 pub use cddl_table::read_specification;
 pub use cddl_token::Refusal;
 pub use command_line::{
     BROKEN, FAILED, Options, REFUSED, STEPS, Task, Use, VERSION, options, options_of_arguments,
-    read_text, say, say_no_memory, say_no_text, say_of_file, say_words, stream_name,
+    read_text, say, say_no_memory, say_no_text, say_read_failed, say_unopened, say_words,
+    say_write_failed, stream_name,
 };

@@ -4,8 +4,8 @@
 
 use cbor_item::Counted;
 use cddl_tool::{
-    Options, Task, Use, accept, act, options_of_arguments, read_text, ready, say_no_memory,
-    say_no_text, say_of_file, say_words, stream_name,
+    Options, Use, act, options_of_arguments, read_text, ready, say_no_memory, say_no_text,
+    say_unopened, say_words, stream_name,
 };
 use std::io::{self, ErrorKind, Read, Write};
 use std::process::ExitCode;
@@ -38,25 +38,16 @@ fn program<E: Write>(rt: &HostRuntime, words: &[String], err: &mut Counted<E>) -
     }
 }
 
-// Reads the specification, if there is one to read, and then the stream, if there is one.
+// Reads the specification, if there is one to read, and then does what is asked for.
 fn perform<E: Write>(rt: &HostRuntime, options: &Options, err: &mut Counted<E>) -> u8 {
     let text = match text_of(rt, options, err) {
         Ok(text) => text,
         Err(status) => return status,
     };
     match ready(rt.alloc(), options, text.as_slice(), err) {
-        Ok(table) => match options.task {
-            Task::Check => check(rt, err),
-            Task::Validate | Task::Rewrite | Task::Show => go_through(rt, options, &table, err),
-        },
+        Ok(table) => act_on_stream(rt, options, &table, err),
         Err(status) => status,
     }
-}
-
-// Says on standard output that the specification is accepted.
-fn check<E: Write>(rt: &HostRuntime, err: &mut Counted<E>) -> u8 {
-    let mut output = Counted::new(rt.stdout());
-    accept(rt.alloc(), &mut output, err)
 }
 
 // The text of the specification: none where the task has none.
@@ -70,27 +61,27 @@ fn text_of<E: Write>(
     };
     match fs::open(rt, name.as_str()) {
         Ok(mut file) => read_text(rt.alloc(), &mut file, name.as_str(), err),
-        Err(_) => Err(say_of_file(rt.alloc(), "cannot open ", name.as_str(), err)),
+        Err(_) => Err(say_unopened(rt.alloc(), name.as_str(), err)),
     }
 }
 
-// Goes through the stream of the file that is named, or of standard input.
-fn go_through<E: Write>(
+// Acts on the stream of the file that is named, or of standard input: to check a specification none of it is read.
+fn act_on_stream<E: Write>(
     rt: &HostRuntime,
     options: &Options,
     table: &Table,
     err: &mut Counted<E>,
 ) -> u8 {
     let Some(name) = stream_name(options) else {
-        return go_through_device(rt, options, table, rt.stdin(), err);
+        return act_on_device(rt, options, table, rt.stdin(), err);
     };
     match fs::open(rt, name) {
-        Ok(file) => go_through_device(rt, options, table, file, err),
-        Err(_) => say_of_file(rt.alloc(), "cannot open ", name, err),
+        Ok(file) => act_on_device(rt, options, table, file, err),
+        Err(_) => say_unopened(rt.alloc(), name, err),
     }
 }
 
-fn go_through_device<R: Read + Drop, E: Write>(
+fn act_on_device<R: Read + Drop, E: Write>(
     rt: &HostRuntime,
     options: &Options,
     table: &Table,

@@ -2,4 +2,3 @@ mod OfCauses
 mod OfChoosing
 mod OfEmpty
 mod OfSplices
-mod Rows

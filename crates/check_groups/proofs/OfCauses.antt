@@ -1,3 +1,4 @@
 pub mod Following
 pub mod Parts
 pub mod Reaching
+pub mod Rows

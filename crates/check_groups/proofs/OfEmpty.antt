@@ -1,3 +1,3 @@
+pub mod Causes
 pub mod Emptiness
-pub mod Rows
 pub mod Texts

@@ -1,2 +1,4 @@
-pub mod Groups
+pub mod Flags
+pub mod Resolved
+pub mod Rows
 pub mod Rules

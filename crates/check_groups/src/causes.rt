@@ -1,5 +1,5 @@
-//! What the passes over groups share: of which rows something follows for a row, this as implications, and the rows of the
-//! groups that types name or open.
+//! What the modules for groups share: what stands at each row, and at which rows a property holds, by what follows from what.
 pub(crate) mod cause;
-pub(crate) mod groups;
+pub(crate) mod flags;
+pub(crate) mod rows;
 pub(crate) mod rules;

@@ -4,4 +4,5 @@ mod choosing;
 pub mod laws;
 mod occurrences;
 
+pub(crate) use crate::choosing::causes::cause_of;
 pub use crate::choosing::choosing::choosable;

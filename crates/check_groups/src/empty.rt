@@ -3,4 +3,5 @@ mod causes;
 mod empty;
 mod occurrences;
 
+pub(crate) use crate::empty::causes::cause_of;
 pub use crate::empty::empty::may_be_empty;

@@ -1,5 +1,5 @@
-//! What the groups of a specification say, by rows of its terms: from which `&` can choose, which may be empty, and what those
-//! in maps stand for.
+//! Groups, by the rows at which they stand: from which `&` can choose, which may be empty, and which alternatives the group of
+//! a map has.
 #![tactic(auto)]
 
 mod causes;

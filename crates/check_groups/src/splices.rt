@@ -1,4 +1,4 @@
-//! What the groups in maps of a specification say: parts for `alternatives`, by rows of a table.
+//! What each row adds to the group of a map, as parts for the crate `alternatives`.
 mod bounds;
 pub mod laws;
 mod parts;

@@ -1,5 +1,4 @@
 pub mod Commands
 pub mod Devices
 pub mod Meeting
-pub mod Limiting
 pub mod Taking

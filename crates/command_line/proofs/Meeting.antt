@@ -64,8 +64,9 @@ chosen_of words task rows o taken met read = record {
   spec = read.spec ∙ sym (ap (option_and_then (λ (p : Text × List Row). first_of (codes "spec") p.1)) met.found);
   root = read.root ∙ sym (ap (option_and_then (λ (p : Text × List Row). first_of (codes "root") p.1)) met.found);
   file = read.file ∙ sym (ap (option_and_then (λ (p : Text × List Row). first_of (codes "file") p.1)) met.found);
-  limits = rw (met.found, read.task_is) read.limits;
   steps = rw (met.found, read.task_is) read.steps;
+  depth = rw (met.found, read.task_is) read.depth;
+  item_bytes = rw (met.found, read.task_is) read.item_bytes;
   quiet = read.quiet ∙ ap is_set (sym (ap (option_and_then (λ (p : Text × List Row). first_of (codes "quiet") p.1)) met.found));
   deterministic = read.deterministic ∙ ap is_set (sym (ap (option_and_then (λ (p : Text × List Row). first_of (codes "deterministic") p.1)) met.found));
 }
@@ -98,8 +99,9 @@ read_of words task rows o met c =
       spec = c.spec ∙ ap (option_and_then (λ (p : Text × List Row). first_of (codes "spec") p.1)) met.found;
       root = c.root ∙ ap (option_and_then (λ (p : Text × List Row). first_of (codes "root") p.1)) met.found;
       file = c.file ∙ ap (option_and_then (λ (p : Text × List Row). first_of (codes "file") p.1)) met.found;
-      limits = rw (met.found, same) at c.limits;
       steps = rw (met.found, same) at c.steps;
+      depth = rw (met.found, same) at c.depth;
+      item_bytes = rw (met.found, same) at c.item_bytes;
       quiet = c.quiet ∙ ap is_set (ap (option_and_then (λ (p : Text × List Row). first_of (codes "quiet") p.1)) met.found);
       deterministic = c.deterministic ∙ ap is_set (ap (option_and_then (λ (p : Text × List Row). first_of (codes "deterministic") p.1)) met.found);
     }

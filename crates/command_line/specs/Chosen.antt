@@ -2,7 +2,6 @@
 use Rattle.std.specs.Prelude.{◌≡◌, ℕ, ◌-◌, ◌^◌, ◌≤◌, pos, Bool, true, false, List, [], ◌∷◌, codes, if◌then◌else◌, Option, Some, None, option_and_then, option_map, string_bytes}
 use Rattle.std.specs.Str.{bytes_eq}
 use Rattle.std.specs.Str.Parse.{IsNumeral, digits_value, without_leading_plus}
-use Rattle.cbor_data.specs.Faults.{Bounds}
 use Rattle.cbor_read.specs.declared.limits.TheConstants.{MOST_DEPTH, MOST_ITEM_BYTES}
 use Rattle.clap.specs.declared.builder.action.ArgAction.TheVariants.{SetTrue}
 use Rattle.clap.specs.Words.{App, Row, Rule, Text, fault_of, new_app, new_rule, with_rule, with_subcommand, subcommand_of, first_of, one_of}
@@ -118,17 +117,12 @@ abbrev pub IsNumber : ℕ → Option Text → ℕ → Type 0
 IsNumber most None n = ⊥
 IsNumber most (Some text) n = IsNumeral 10 (without_leading_plus text) × (n ≡ digits_value 10 (without_leading_plus text)) × (1 ≤ n) × (n ≤ most)
 
--- These texts are the two numbers of the limits.
-pub record AreLimits (depth_text item_bytes_text : Option Text) (limits : Bounds) : Type 0 where
-  pub depth : IsNumber MOST_DEPTH depth_text limits.depth
-  pub item_bytes : IsNumber MOST_ITEM_BYTES item_bytes_text limits.item_bytes
-
--- the limits of a task: those of its options, and the greatest ones where it has none
-abbrev pub AreTaskLimits : Task → Option Text → Option Text → Bounds → Type 0
-AreTaskLimits Check depth_text item_bytes_text limits = limits ≡ record { depth = MOST_DEPTH; item_bytes = MOST_ITEM_BYTES }
-AreTaskLimits Validate depth_text item_bytes_text limits = AreLimits depth_text item_bytes_text limits
-AreTaskLimits Rewrite depth_text item_bytes_text limits = AreLimits depth_text item_bytes_text limits
-AreTaskLimits Show depth_text item_bytes_text limits = AreLimits depth_text item_bytes_text limits
+-- the number of an option of a stream: that of its text, and the greatest one where the task has no stream
+abbrev pub IsStreamNumber : Task → ℕ → Option Text → ℕ → Type 0
+IsStreamNumber Check most text n = n ≡ most
+IsStreamNumber Validate most text n = IsNumber most text n
+IsStreamNumber Rewrite most text n = IsNumber most text n
+IsStreamNumber Show most text n = IsNumber most text n
 
 -- the steps of a task: those of its option, and the default where it has none
 abbrev pub AreTaskSteps : Task → Option Text → ℕ → Type 0
@@ -148,8 +142,9 @@ pub record AreRead (task : Task) (rows : List Row) (o : Options) : Type 0 where
   pub spec : option_map (λ s. string_bytes s) o.spec ≡ first_of (codes "spec") rows
   pub root : option_map (λ s. string_bytes s) o.root ≡ first_of (codes "root") rows
   pub file : option_map (λ s. string_bytes s) o.file ≡ first_of (codes "file") rows
-  pub limits : AreTaskLimits task (one_of (codes "depth") rows) (one_of (codes "item-bytes") rows) o.limits
   pub steps : AreTaskSteps task (one_of (codes "steps") rows) o.steps
+  pub depth : IsStreamNumber task MOST_DEPTH (one_of (codes "depth") rows) o.depth
+  pub item_bytes : IsStreamNumber task MOST_ITEM_BYTES (one_of (codes "item-bytes") rows) o.item_bytes
   pub quiet : o.quiet ≡ is_set (first_of (codes "quiet") rows)
   pub deterministic : o.deterministic ≡ is_set (first_of (codes "deterministic") rows)
 
@@ -164,8 +159,9 @@ pub record AreChosen (o : Options) (words : List Text) : Type 0 where
   pub spec : option_map (λ s. string_bytes s) o.spec ≡ given_text (codes "spec") words
   pub root : option_map (λ s. string_bytes s) o.root ≡ given_text (codes "root") words
   pub file : option_map (λ s. string_bytes s) o.file ≡ given_text (codes "file") words
-  pub limits : AreTaskLimits o.task (given_number (codes "depth") words) (given_number (codes "item-bytes") words) o.limits
   pub steps : AreTaskSteps o.task (given_number (codes "steps") words) o.steps
+  pub depth : IsStreamNumber o.task MOST_DEPTH (given_number (codes "depth") words) o.depth
+  pub item_bytes : IsStreamNumber o.task MOST_ITEM_BYTES (given_number (codes "item-bytes") words) o.item_bytes
   pub quiet : o.quiet ≡ is_set (given_text (codes "quiet") words)
   pub deterministic : o.deterministic ≡ is_set (given_text (codes "deterministic") words)
 

@@ -1,4 +1,5 @@
 pub mod Chosen
 pub mod Errors
+pub mod Lines
 pub mod Reading
 pub mod Shown

@@ -12,10 +12,3 @@ shown_char c = if is_control c then escaped c else encode_utf8 c
 -- a word: its characters as they are, but for control characters
 abbrev pub shown : List ℕ → List ℕ
 shown word = flat_map shown_char (chars word)
-
--- the line that says of the file of this name that it cannot be used
-abbrev pub file_line : List ℕ → List ℕ → List ℕ
-file_line text name = text ++ shown name ++ codes "\n"
-
-abbrev pub memory_line : List ℕ
-memory_line = codes "out of memory\n"

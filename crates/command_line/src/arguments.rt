@@ -1,10 +1,11 @@
 //! The words of the command line as the system hands them on.
 
-ghost use Rattle.std.specs.Prelude.{◌≡◌, map, IfErr, IfOk, string_bytes};
+ghost use Rattle.std.specs.Prelude.{◌≡◌, ◌⊎◌, ℕ, map, IfErr, IfOk, string_bytes};
 ghost use Rattle.command_line.specs.Chosen.{AreChosen, IsMisuse};
+ghost use Rattle.command_line.specs.Lines.{argument_line, memory_line, IsPut};
 
 use crate::choice::{Options, Use};
-use crate::lines::{say, say_no_memory};
+use crate::lines::{say_no_memory, say_number};
 use crate::status::BROKEN;
 use crate::words::options;
 use cbor_item::Counted;
@@ -40,19 +41,15 @@ const MOST_ARGUMENT: usize = 131_072;
 /// Says which argument is the first that is not UTF-8, by its number: the program's own name has the number 0. It answers
 /// the status. One that is longer than 131,072 bytes counts as such an argument.
 pub fn say_no_text<R: Env, E: Write>(alloc: Global, env: &R, err: &mut Counted<E>) -> u8
-    ensures { result ≡ BROKEN }
+    ensures status { result ≡ BROKEN }
+    ensures line { ((number : ℕ) × IsPut E.contents err.old err.new (argument_line number)) ⊎ IsPut E.contents err.old err.new memory_line }
 {
-    let Ok(line) = line_of_no_text(alloc, env) else {
+    let Ok(mut buffer) = zeros(alloc, MOST_ARGUMENT) else {
         return say_no_memory(err);
     };
-    say(line.as_str().as_bytes(), err);
-    BROKEN
-}
-
-fn line_of_no_text<R: Env>(alloc: Global, env: &R) -> Result<String, AllocError> {
-    let mut buffer = zeros(alloc, MOST_ARGUMENT)?;
     let number = number_of_no_text(env, buffer.as_mut_slice());
-    format!(in alloc; "argument {number} is not UTF-8\n")
+    say_number("argument ", number as u128, " is not UTF-8\n", err);
+    BROKEN
 }
 
 fn zeros(alloc: Global, len: usize) -> Result<Vec<u8>, AllocError> {

@@ -1,11 +1,9 @@
 //! What the words of the command line say.
 
-ghost use Rattle.std.specs.Prelude.{◌≡◌, Some, option_map, string_bytes};
-ghost use Rattle.command_line.specs.Chosen.{named_stream};
+ghost use Rattle.std.specs.Prelude.{◌≡◌, ◌≤◌};
 ghost use Rattle.command_line.specs.Errors.{IsUseOf};
 ghost use Rattle.command_line.specs.declared.choice.Use.TheVariants.{Memory as OutOfMemory};
 
-use cbor_read::Limits;
 use clap::Error;
 use clap::error::ErrorKind;
 use std::alloc::AllocError;
@@ -26,41 +24,29 @@ pub enum Task {
     Show,
 }
 
-/// What the words say.
+/// What the words say. What a command does not have is `None`, or the default.
 #[derive(Debug, Drop)]
 pub struct Options {
     /// What to do.
     pub task: Task,
     /// The name of the file with the specification, if the task has one.
     pub spec: Option<String>,
-    /// The name of the rule that is the root. Without it the first rule of the specification is.
-    pub root: Option<String>,
     /// The name of the file with the stream. Without it standard input is read.
     pub file: Option<String>,
-    /// The greatest depth of an item, and the most bytes of one.
-    pub limits: Limits,
+    /// The name of the rule that is the root. Without it the first rule of the specification is.
+    pub root: Option<String>,
     /// How many questions the specification may ask of one item.
     pub steps: u64,
+    /// The greatest depth of an item, from 1 to 256.
+    pub depth: u32,
+    /// The most bytes of an item, from 1 to 16,777,216.
+    pub item_bytes: u32,
     /// Whether a stream is validated without a line for each item.
     pub quiet: bool,
     /// Whether items are rewritten in deterministic encoding (RFC 8949 section 4.2.1), and not in preferred encoding.
     pub deterministic: bool,
-}
-
-/// The name of the file with the stream. Without one, and where it is `-`, standard input is read.
-pub fn stream_name(options: &Options) -> Option<&str>
-    ensures { option_map (λ n. n.now) result ≡ named_stream (option_map (λ s. string_bytes s) options.now.file) }
-{
-    match &options.file {
-        Some(name) => unless_dash(name.as_str()),
-        None => None,
-    }
-}
-
-fn unless_dash(name: &str) -> Option<&str>
-    ensures { option_map (λ n. n.now) result ≡ named_stream (Some name.now) }
-{
-    if name == "-" { None } else { Some(name) }
+    pub ghost depth_in_range: { (1 ≤ depth) × (depth ≤ 256) },
+    pub ghost item_bytes_in_range: { (1 ≤ item_bytes) × (item_bytes ≤ 16777216) },
 }
 
 /// Why the words say nothing.

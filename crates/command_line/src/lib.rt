@@ -6,12 +6,16 @@ mod choice;
 mod lines;
 mod shown;
 mod status;
+mod stream;
 mod text;
 mod words;
 
 pub use crate::arguments::{options_of_arguments, say_no_text};
-pub use crate::choice::{Options, STEPS, Task, Use, stream_name};
-pub use crate::lines::{say, say_no_memory, say_of_file, say_words};
+pub use crate::choice::{Options, STEPS, Task, Use};
+pub use crate::lines::{
+    say, say_no_memory, say_read_failed, say_unopened, say_words, say_write_failed,
+};
 pub use crate::status::{BROKEN, FAILED, REFUSED};
+pub use crate::stream::stream_name;
 pub use crate::text::read_text;
 pub use crate::words::{VERSION, options};

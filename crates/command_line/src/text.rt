@@ -1,9 +1,9 @@
 //! The text of a specification's file.
 
-ghost use Rattle.std.specs.Prelude.{◌≡◌, ◌≤◌, ◌<◌, ◌-◌, ◌^◌, ◌⊎◌, codes, drop, length, take, IfErr, IfOk, IfSome, OnOk, Some, vec_items};
+ghost use Rattle.std.specs.Prelude.{◌≡◌, ◌≤◌, ◌<◌, ◌-◌, ◌^◌, ◌⊎◌, drop, length, take, IfErr, IfOk, IfSome, OnOk, Some, vec_items};
 ghost use Rattle.std.specs.Io.KnownBytes.{Appends};
 ghost use Rattle.item_nodes.specs.Counted.{device_of, failures_of};
-ghost use Rattle.command_line.specs.Shown.{file_line, memory_line};
+ghost use Rattle.command_line.specs.Lines.{memory_line, unread_line};
 ghost use Rattle.command_line.specs.Reading.{most_read, IsReadWithin};
 ghost use Rattle.command_line.specs.declared.status.TheConstants.{BROKEN};
 
@@ -37,7 +37,7 @@ pub fn read_text<R: Read, E: Write>(
     ensures quiet { OnOk result (err.new ≡ err.old) }
     ensures broken { IfErr result (λ status. status ≡ BROKEN) }
     ensures told { IfErr result (λ status. failures_of err.new ≡ failures_of err.old → failures_of err.old < 2 ^ 64 - 1 →
-        Appends (E.contents (device_of err.old)) (E.contents (device_of err.new)) (file_line (codes "cannot read ") name.now)
+        Appends (E.contents (device_of err.old)) (E.contents (device_of err.new)) (unread_line name.now)
         ⊎ Appends (E.contents (device_of err.old)) (E.contents (device_of err.new)) memory_line) }
 {
     match read_front(alloc, file) {

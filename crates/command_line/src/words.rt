@@ -1,14 +1,13 @@
 //! The words of the command line.
 
-ghost use Rattle.std.specs.Prelude.{◌≡◌, ℕ, codes, false, map, IfOk, IfErr, IfSome, IfNone, option_map, string_bytes};
-ghost use Rattle.cbor_data.specs.Faults.{Bounds};
+ghost use Rattle.std.specs.Prelude.{◌≡◌, ℕ, ◌≤◌, codes, false, map, IfOk, IfErr, IfSome, IfNone, option_map, string_bytes};
 ghost use Rattle.clap.specs.Words.{app_of, first_value, found_of, one_text, rows_of, rule_of};
 ghost use Rattle.clap.specs.declared.builder.command.Command.TheViews.{out-Command};
-ghost use Rattle.command_line.specs.Chosen.{check_app, file_rule, flag_rule, is_set, judging_app, most_steps, number_rule, program_app, rewrite_app, root_rule, show_app, spec_app, spec_rule, steps_rule, stream_app, top_app, validate_app, AreChosen, AreLimits, AreRead, AreTaskLimits, AreTaskSteps, AreUnread, IsMisuse, IsNumber, IsToldOf};
+ghost use Rattle.command_line.specs.Chosen.{check_app, file_rule, flag_rule, is_set, judging_app, most_steps, number_rule, program_app, rewrite_app, root_rule, show_app, spec_app, spec_rule, steps_rule, stream_app, top_app, validate_app, AreChosen, AreRead, AreTaskSteps, AreUnread, IsMisuse, IsNumber, IsStreamNumber, IsToldOf};
 
 use crate::choice::{Options, STEPS, Task, Use};
 use crate::shown::push_shown;
-use cbor_read::{Limits, MOST_DEPTH, MOST_ITEM_BYTES};
+use cbor_read::{MOST_DEPTH, MOST_ITEM_BYTES};
 use clap::builder::ValueParser;
 use clap::error::ErrorKind;
 use clap::{Arg, ArgAction, ArgMatches, Command, Error};
@@ -147,9 +146,12 @@ fn options_of(alloc: Global, task: Task, given: &ArgMatches<'_>) -> Result<Optio
     ensures misuse { IfErr result (AreUnread task (rows_of (found_of given.now))) }
 {
     let spec = value(alloc, given, "spec")?;
-    let root = value(alloc, given, "root")?;
     let file = value(alloc, given, "file")?;
-    let Some(limits) = task_limits(task, given) else {
+    let root = value(alloc, given, "root")?;
+    let Some(depth) = stream_number(task, given, "depth", MOST_DEPTH) else {
+        return Err(range_error(alloc));
+    };
+    let Some(item_bytes) = stream_number(task, given, "item-bytes", MOST_ITEM_BYTES) else {
         return Err(range_error(alloc));
     };
     let Some(steps) = task_steps(task, given) else {
@@ -158,25 +160,28 @@ fn options_of(alloc: Global, task: Task, given: &ArgMatches<'_>) -> Result<Optio
     Ok(Options {
         task,
         spec,
-        root,
         file,
-        limits,
+        root,
         steps,
+        depth,
+        item_bytes,
         quiet: is_given(given, "quiet"),
         deterministic: is_given(given, "deterministic"),
     })
 }
 
-// The limits of a task: those of its options, and the greatest ones where it has none.
-fn task_limits(task: Task, given: &ArgMatches<'_>) -> Option<Limits>
-    ensures some { IfSome result (AreTaskLimits task (one_text (found_of given.now) (codes "depth")) (one_text (found_of given.now) (codes "item-bytes"))) }
-    ensures none { IfNone result ((limits : Bounds) → AreTaskLimits task (one_text (found_of given.now) (codes "depth")) (one_text (found_of given.now) (codes "item-bytes")) limits → ⊥) }
+// The number of an option of a stream, if it is one from 1 to `most`. Where the task has no stream it is `most`.
+fn stream_number(task: Task, given: &ArgMatches<'_>, name: &str, most: u32) -> Option<u32>
+    requires { 1 ≤ most }
+    ensures some { IfSome result (IsStreamNumber task most (one_text (found_of given.now) name.now)) }
+    ensures range { IfSome result (λ n. (1 ≤ n) × (n ≤ most)) }
+    ensures none { IfNone result ((n : ℕ) → IsStreamNumber task most (one_text (found_of given.now) name.now) n → ⊥) }
 {
     match task {
-        Task::Check => Some(greatest_limits()),
-        Task::Validate => limits_of(given),
-        Task::Rewrite => limits_of(given),
-        Task::Show => limits_of(given),
+        Task::Check => Some(most),
+        Task::Validate => number(given, name, most),
+        Task::Rewrite => number(given, name, most),
+        Task::Show => number(given, name, most),
     }
 }
 
@@ -200,26 +205,6 @@ fn steps_of(given: &ArgMatches<'_>) -> Option<u64>
 {
     let n = given.get_one::<u64>("steps")?;
     if n >= 1 { Some(n) } else { None }
-}
-
-fn greatest_limits() -> Limits
-    ensures { result ≡ record { depth = MOST_DEPTH; item_bytes = MOST_ITEM_BYTES } }
-{
-    match Limits::try_new(MOST_DEPTH, MOST_ITEM_BYTES) {
-        Some(limits) => limits,
-        // Both numbers are in their ranges.
-        None => unreachable!(),
-    }
-}
-
-// The limits that the options with a number give, if each number is in its range.
-fn limits_of(given: &ArgMatches<'_>) -> Option<Limits>
-    ensures some { IfSome result (AreLimits (one_text (found_of given.now) (codes "depth")) (one_text (found_of given.now) (codes "item-bytes"))) }
-    ensures none { IfNone result ((limits : Bounds) → AreLimits (one_text (found_of given.now) (codes "depth")) (one_text (found_of given.now) (codes "item-bytes")) limits → ⊥) }
-{
-    let depth = number(given, "depth", MOST_DEPTH)?;
-    let item_bytes = number(given, "item-bytes", MOST_ITEM_BYTES)?;
-    Limits::try_new(depth, item_bytes)
 }
 
 fn range_error(alloc: Global) -> Use {
@@ -431,6 +416,7 @@ fn value(alloc: Global, given: &ArgMatches<'_>, name: &str) -> Result<Option<Str
 // The number of an option, if it is one from 1 to `most`.
 fn number(given: &ArgMatches<'_>, name: &str, most: u32) -> Option<u32>
     ensures some { IfSome result (IsNumber most (one_text (found_of given.now) name.now)) }
+    ensures range { IfSome result (λ n. (1 ≤ n) × (n ≤ most)) }
     ensures none { IfNone result ((n : ℕ) → IsNumber most (one_text (found_of given.now) name.now) n → ⊥) }
 {
     let n = given.get_one::<u32>(name)?;

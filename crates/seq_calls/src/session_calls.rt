@@ -2,7 +2,7 @@
 use call_lines::{bytes, first, limit, number, push_no_memory, push_text};
 use cbor_item::{Sound, diag};
 use cbor_read::Limits;
-use seq_run::{Advance, End, Session, State, validate_pieces};
+use seq_run::{End, Session, State, Step, validate_pieces};
 use std::alloc::{AllocError, Global};
 use table_nodes::Table;
 
@@ -75,7 +75,8 @@ fn push_end(alloc: Global, end: End, out: &mut String) -> Result<(), AllocError>
     out.push_str(format!(in alloc; "{end:?}")?.as_str())
 }
 
-// What a session answers to each piece, with the items that it adds; then the end, and the item that was rejected.
+// What a session answers to each piece, with the items that it adds; then the end, the item that was rejected, and how much was
+// taken.
 fn push_session(
     alloc: Global,
     session: &mut Session<'_>,
@@ -96,7 +97,8 @@ fn push_session(
         Ok(end) => push_end(alloc, end, out)?,
         Err(_) => push_no_memory(out)?,
     }
-    push_rejected(alloc, session.rejected(), out)
+    push_rejected(alloc, session.rejected(), out)?;
+    push_count(alloc, session.taken(), out)
 }
 
 fn push_rejected(
@@ -134,37 +136,39 @@ fn push_taken(
     piece: &[u8],
     out: &mut String,
 ) -> Result<(), AllocError> {
-    let mut items = Vec::new(alloc);
     let mut rest = piece;
     for _ in 0..=piece.len() {
-        match session.feed_one(rest, &mut items) {
-            Ok(
-                Advance::Item {
-                    used,
-                    number,
-                    offset,
-                },
-            ) => {
+        let before = session.taken();
+        match session.feed_one(rest) {
+            Ok(Step::Item { used, item }) => {
                 rest = rest.get(used..).unwrap_or(&[]);
-                push_advance(alloc, used, number, offset, out)?;
-                push_items(alloc, &items, out)?;
-                items.clear();
+                push_step(alloc, before, used, &item, out)?;
             }
-            Ok(Advance::More) => return out.push_str("More"),
-            Ok(Advance::Ended(end)) => return push_end(alloc, end, out),
+            Ok(Step::More) => return out.push_str("More"),
+            Ok(Step::Ended(end)) => return push_end(alloc, end, out),
             Err(_) => return push_no_memory(out),
         }
     }
     out.push_str("more items than bytes")
 }
 
-// How many bytes of the piece end an item, its number and its offset.
-fn push_advance(
+// The item's number and its offset, by how many items and bytes were taken before it, how many bytes of the piece end it, and
+// the item.
+fn push_step(
     alloc: Global,
+    before: (u64, u64),
     used: usize,
-    number: u64,
-    offset: u64,
+    item: &Sound,
     out: &mut String,
 ) -> Result<(), AllocError> {
-    out.push_str(format!(in alloc; "{number} at {offset} used {used}: ")?.as_str())
+    let (number, offset) = (before.0.saturating_add(1), before.1);
+    out.push_str(format!(in alloc; "{number} at {offset} used {used}: ")?.as_str())?;
+    push_text(&diag(alloc, item.item())?, out)?;
+    out.push_str("; ")
+}
+
+// How many items were taken, and how many bytes they have.
+fn push_count(alloc: Global, count: (u64, u64), out: &mut String) -> Result<(), AllocError> {
+    let (items, bytes) = count;
+    out.push_str(format!(in alloc; " | taken {items}, {bytes}")?.as_str())
 }

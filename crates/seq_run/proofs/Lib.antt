@@ -12,6 +12,7 @@ pub mod RunLoop
 pub mod Appending
 pub mod Heads
 pub mod Small
+pub mod Smalls
 pub mod Accepting
 pub mod Rereading
 pub mod InOrder

@@ -1,9 +1,9 @@
 -- The output of a piece.
-use Rattle.std.proofs.Common.{◌≡◌, ℕ, suc, ◌+◌, ◌-◌, ◌<◌, ◌≤◌, List, [], ◌∷◌, ◌++◌, length, take, drop, get_or, Option, Some, None, Result, Ok, refl, sym, ap, ap₂, ◌∙◌, subst, arith, append-nil, append_assoc, length-append}
+use Rattle.std.proofs.Common.{◌≡◌, ℕ, suc, ◌+◌, ◌-◌, ◌<◌, ◌≤◌, ◌^◌, List, [], ◌∷◌, ◌++◌, length, take, drop, Option, Some, None, Result, Ok, refl, sym, ap, ap₂, ◌∙◌, subst, arith, append-nil, append_assoc, length-append}
 use Rattle.std.specs.declared.alloc.AllocError.{AllocError}
-use Rattle.std.proofs.lemmas.List.{take-append-drop, length-drop, append_cancel_left}
+use Rattle.std.proofs.lemmas.List.{take-append-drop, length-drop, length-take-le}
 use Rattle.std.proofs.Math.Seq.{take-length}
-use Rattle.cbor_data.specs.Value.{Value, uint, place_count}
+use Rattle.cbor_data.specs.Value.{Value, place_count}
 use Rattle.cbor_data.specs.Sequence as sequence
 use Rattle.cbor_data.specs.Sequence.{Found, EndsBy, cleanly, at_fault, at_mismatch, at_spent}
 use Rattle.cbor_data.specs.Faults.{Bounds}
@@ -11,25 +11,35 @@ use Rattle.seq_run.specs.Judge.{Judge}
 use Rattle.seq_run.specs.declared.end.Cause.TheVariants.{Fault, Mismatch, Spent}
 use Rattle.seq_run.specs.declared.end.End.{End}
 use Rattle.seq_run.specs.declared.end.End.TheVariants.{Clean, Failed}
-use Rattle.seq_run.specs.declared.session.Advance.{Advance}
-use Rattle.seq_run.specs.declared.session.Advance.TheVariants as advance
+use Rattle.seq_run.specs.declared.session.Step.{Step}
+use Rattle.seq_run.specs.declared.session.Step.TheVariants as step
 use Rattle.seq_run.specs.Ends.{Accepts, Misses, Overruns, Ends}
 use Rattle.seq_run.specs.Progress.{Progress}
 use Rattle.seq_run.specs.Parts.{IsNext, IsRejected}
-use Rattle.seq_run.specs.Answers.{items_of, Appends, IsOpen, IsEnded, IsFedOne, IsItemFed, IsSmallFed, IsAdvance, IsLent}
+use Rattle.seq_run.specs.Answers.{AreSmallsFed, IsCount, IsOpen, IsEnded, IsFedOne, IsItemFed, IsStep, IsLent}
 use Rattle.seq_run.specs.declared.output.Mode.{Mode}
 use Rattle.seq_run.specs.Report.{IsShown}
 use Rattle.seq_run.specs.Output.{item_output, items_output}
 use Rattle.seq_run.specs.Running.{Adds, IsSettled}
-use Rattle.seq_run.proofs.Runs.{same_front, same_takes}
+use Rattle.seq_run.specs.Smalls.{smalls_from}
+use Rattle.seq_run.proofs.Runs.{same_front, same_takes, takes_count}
 use Rattle.seq_run.proofs.Verdicts.{ShowsInside}
 
--- one item more
+-- items, and more of them
+pub items_output_append : (mode : Mode) (n : ℕ) (fs gs : List Found) → items_output mode n (fs ++ gs) ≡ items_output mode n fs ++ items_output mode (n + length fs) gs
+items_output_append mode n [] gs = ap (λ (m : ℕ). items_output mode m gs) (let e : n ≡ n + 0 = omega arith in e)
+items_output_append mode n (f ∷ fs) gs =
+    let number : suc n + length fs ≡ n + suc (length fs) = omega arith in
+    ap (λ (b : List ℕ). item_output mode n f ++ b) (items_output_append mode (suc n) fs gs ∙ ap (λ (m : ℕ). items_output mode (suc n) fs ++ items_output mode m gs) number) ∙ sym (append_assoc (item_output mode n f) (items_output mode (suc n) fs) (items_output mode (n + suc (length fs)) gs))
+
 pub items_output_more : (mode : Mode) (n : ℕ) (fs : List Found) (f : Found) → items_output mode n (fs ++ f ∷ []) ≡ items_output mode n fs ++ item_output mode (n + length fs) f
-items_output_more mode n [] f = append-nil (item_output mode n f) ∙ ap (λ (m : ℕ). item_output mode m f) (let e : n ≡ n + 0 = omega arith in e)
-items_output_more mode n (g ∷ gs) f =
-    let number : suc n + length gs ≡ n + suc (length gs) = omega arith in
-    ap (λ (b : List ℕ). item_output mode n g ++ b) (items_output_more mode (suc n) gs f ∙ ap (λ (m : ℕ). items_output mode (suc n) gs ++ item_output mode m f) number) ∙ sym (append_assoc (item_output mode n g) (items_output mode (suc n) gs) (item_output mode (n + suc (length gs)) f))
+items_output_more mode n fs f = items_output_append mode n fs (f ∷ []) ∙ ap (λ (b : List ℕ). items_output mode n fs ++ b) (append-nil (item_output mode (n + length fs) f))
+
+-- the bytes of the items taken are so many
+pub same_count : (p : Progress) (i j b c : ℕ) → IsCount p i b → IsCount p j c → b ≡ c
+same_count p i j b c x y =
+    let rests = same_takes p.limits (Accepts p.judge) x.begins y.begins refl in
+    omega (arith, x.bytes_is, y.bytes_is, ap length rests.1)
 
 -- `rest` of the piece is left, and the lines are those of the items so far
 pub record IsReporting (mode : Mode) (old : Progress) (piece lines : List ℕ) (now : Progress) (rest lines_now : List ℕ) : Type 0 where
@@ -45,65 +55,69 @@ pub begin_reporting : (mode : Mode) (old : Progress) (piece lines : List ℕ) �
 begin_reporting mode old piece lines e = record { fed = refl; going = e; added = []; taken = sym (append-nil old.taken); written = sym (append-nil lines); judge = refl; limits = refl }
 
 module _ (mode : Mode) (old : Progress) (piece lines : List ℕ) (now : Progress) (rest lines_now : List ℕ) (r : IsReporting mode old piece lines now rest lines_now) (new : Progress) where
-  step_of : (result : Result Advance AllocError) → IsAdvance now.stopped now rest result new → IsFedOne now rest result new
-  step_of result s = subst (λ v. IsAdvance v now rest result new) r.going s
+  step_of : (result : Result Step AllocError) → IsStep now.stopped now rest result new → IsFedOne now rest result new
+  step_of result s = subst (λ v. IsStep v now rest result new) r.going s
 
   adds : new.fed ≡ now.fed ++ rest → new.taken ≡ now.taken → new.judge ≡ now.judge → new.limits ≡ now.limits → Adds mode old piece lines new lines_now
   adds f t u v = record { fed = f ∙ r.fed; added = r.added; taken = t ∙ r.taken; written = r.written; judge = u ∙ r.judge; limits = v ∙ r.limits }
 
-  pub reported_more : IsAdvance now.stopped now rest (Ok advance.More) new → Adds mode old piece lines new lines_now × IsOpen new
+  pub reported_more : IsStep now.stopped now rest (Ok step.More) new → Adds mode old piece lines new lines_now × IsOpen new
   reported_more a =
-      let s : IsFedOne now rest (Ok advance.More) new = step_of (Ok advance.More) a in
+      let s : IsFedOne now rest (Ok step.More) new = step_of (Ok step.More) a in
       (adds (ap (λ (p : Progress). p.fed) s.0) (ap (λ (p : Progress). p.taken) s.0) (ap (λ (p : Progress). p.judge) s.0) (ap (λ (p : Progress). p.limits) s.0), s.1)
 
-  pub reported_ended : (end : End) → IsAdvance now.stopped now rest (Ok (advance.Ended end)) new → Adds mode old piece lines new lines_now × IsEnded new end
+  pub reported_ended : (end : End) → IsStep now.stopped now rest (Ok (step.Ended end)) new → Adds mode old piece lines new lines_now × IsEnded new end
   reported_ended end a =
-      let s : IsFedOne now rest (Ok (advance.Ended end)) new = step_of (Ok (advance.Ended end)) a in
+      let s : IsFedOne now rest (Ok (step.Ended end)) new = step_of (Ok (step.Ended end)) a in
       (adds (ap (λ (p : Progress). p.fed) s.0) (ap (λ (p : Progress). p.taken) s.0) (ap (λ (p : Progress). p.judge) s.0) (ap (λ (p : Progress). p.limits) s.0), s.1)
 
-  -- the list has just the item that was accepted
-  just_item : (used number offset : ℕ) (out_new : List Value) (s : IsItemFed now rest used number offset new) → Appends now new [] out_new → out_new ≡ s.item ∷ []
-  just_item used number offset out_new s a =
-      let more : Found = record { offset = offset; item = s.item } in
-      let added : a.added ≡ more ∷ [] = append_cancel_left now.taken a.added (more ∷ []) (sym a.taken ∙ ap (λ (p : Progress). p.taken) s.next) in
-      a.out ∙ ap items_of added
+  -- the output of items was appended, which are all of these bytes of the rest
+  reported_taken : (used : ℕ) (more : List Found) (before : ℕ) (lines_new : List ℕ) → new ≡ record now { fed = now.fed ++ take used rest; taken = now.taken ++ more } → before ≡ length now.taken →
+      lines_new ≡ lines_now ++ items_output mode (suc before) more → IsReporting mode old piece lines new (drop used rest) lines_new
+  reported_taken used more before lines_new next count written =
+      let number : suc before ≡ suc (length old.taken) + length r.added = omega (arith, count, ap length r.taken, length-append old.taken r.added) in
+      let same : items_output mode (suc before) more ≡ items_output mode (suc (length old.taken) + length r.added) more = ap (λ (n : ℕ). items_output mode n more) number in
+      record {
+        fed = ap (λ (p : Progress). p.fed ++ drop used rest) next ∙ (append_assoc now.fed (take used rest) (drop used rest) ∙ (ap (λ (xs : List ℕ). now.fed ++ xs) (take-append-drop used rest) ∙ r.fed));
+        going = ap (λ (p : Progress). p.stopped) next ∙ r.going;
+        added = r.added ++ more;
+        taken = ap (λ (p : Progress). p.taken) next ∙ (ap (λ (fs : List Found). fs ++ more) r.taken ∙ append_assoc old.taken r.added more);
+        written = written ∙ (ap₂ (λ (a b : List ℕ). a ++ b) r.written same ∙ (append_assoc lines (items_output mode (suc (length old.taken)) r.added) (items_output mode (suc (length old.taken) + length r.added) more)
+            ∙ ap (λ (b : List ℕ). lines ++ b) (sym (items_output_append mode (suc (length old.taken)) r.added more))));
+        judge = ap (λ (p : Progress). p.judge) next ∙ r.judge;
+        limits = ap (λ (p : Progress). p.limits) next ∙ r.limits;
+      }
 
-  pub item_there : (used number offset : ℕ) (out_new : List Value) → Appends now new [] out_new → IsAdvance now.stopped now rest (Ok (advance.Item used number offset)) new → length out_new ≡ 1
-  item_there used number offset out_new appends a = ap length (just_item used number offset out_new (step_of (Ok (advance.Item used number offset)) a) appends)
+  module _ (before offset : ℕ) (count : IsCount now before offset) where
+    pub count_below : before ≤ offset
+    count_below = omega (arith, takes_count now.limits (Accepts now.judge) count.begins, count.items_is, count.bytes_is)
 
-  -- the output of an item was appended
-  pub reported_fed : (used number offset : ℕ) (y : Value) (lines_new : List ℕ) (s : IsItemFed now rest used number offset new) → y ≡ s.item →
-      lines_new ≡ lines_now ++ item_output mode number (record { offset = offset; item = y }) → IsReporting mode old piece lines new (drop used rest) lines_new × (0 < used) × (used ≤ length rest)
-  reported_fed used number offset y lines_new s same written =
-      let more : Found = record { offset = offset; item = s.item } in
-      let taken : new.taken ≡ old.taken ++ (r.added ++ more ∷ []) = ap (λ (p : Progress). p.taken) s.next ∙ (ap (λ (fs : List Found). fs ++ more ∷ []) r.taken ∙ append_assoc old.taken r.added (more ∷ [])) in
-      let count : number ≡ suc (length old.taken) + length r.added = omega (arith, s.number_is, ap length taken, length-append old.taken (r.added ++ more ∷ []), length-append r.added (more ∷ [])) in
-      let line : item_output mode number (record { offset = offset; item = y }) ≡ item_output mode (suc (length old.taken) + length r.added) more =
-      ap₂ (λ (n : ℕ) (v : Value). item_output mode n (record { offset = offset; item = v })) count same in (
-        record {
-          fed = ap (λ (p : Progress). p.fed ++ drop used rest) s.next ∙ (append_assoc now.fed (take used rest) (drop used rest) ∙ (ap (λ (xs : List ℕ). now.fed ++ xs) (take-append-drop used rest) ∙ r.fed));
-          going = ap (λ (p : Progress). p.stopped) s.next ∙ r.going;
-          added = r.added ++ more ∷ [];
-          taken = taken;
-          written = written ∙ (ap₂ (λ (a b : List ℕ). a ++ b) r.written line ∙ (append_assoc lines (items_output mode (suc (length old.taken)) r.added) (item_output mode (suc (length old.taken) + length r.added) more)
-              ∙ ap (λ (b : List ℕ). lines ++ b) (sym (items_output_more mode (suc (length old.taken)) r.added more))));
-          judge = ap (λ (p : Progress). p.judge) s.next ∙ r.judge;
-          limits = ap (λ (p : Progress). p.limits) s.next ∙ r.limits;
-        },
-        s.some,
-        s.within,
-      )
+    pub reported_item : (used : ℕ) (item : Value) (lines_new : List ℕ) → IsStep now.stopped now rest (Ok (step.Item used item)) new →
+        lines_new ≡ lines_now ++ item_output mode (before + 1) (record { offset = offset; item = item }) → IsReporting mode old piece lines new (drop used rest) lines_new × (0 < used) × (used ≤ length rest)
+    reported_item used item lines_new a written =
+        let s : IsItemFed now rest used item new = step_of (Ok (step.Item used item)) a in
+        let more : Found = record { offset = s.offset; item = item } in
+        let at : offset ≡ s.offset = same_count now before (length now.taken) offset s.offset count s.place in
+        let next : before + 1 ≡ suc before = omega arith in
+        let line : item_output mode (before + 1) (record { offset = offset; item = item }) ≡ items_output mode (suc before) (more ∷ []) =
+        ap₂ (λ (n o : ℕ). item_output mode n (record { offset = o; item = item })) next at ∙ sym (append-nil (item_output mode (suc before) more)) in
+        (reported_taken used (more ∷ []) before lines_new s.next count.items_is (written ∙ ap (λ (b : List ℕ). lines_now ++ b) line), s.some, s.within)
 
-  pub reported_item : (used number offset : ℕ) (out_new : List Value) (y : Value) (lines_new : List ℕ) → Appends now new [] out_new → IsAdvance now.stopped now rest (Ok (advance.Item used number offset)) new → y ≡ get_or out_new 0 y →
-      lines_new ≡ lines_now ++ item_output mode number (record { offset = offset; item = y }) → IsReporting mode old piece lines new (drop used rest) lines_new × (0 < used) × (used ≤ length rest)
-  reported_item used number offset out_new y lines_new appends a item written =
-      let s : IsItemFed now rest used number offset new = step_of (Ok (advance.Item used number offset)) a in
-      reported_fed used number offset y lines_new s (item ∙ ap (λ (xs : List Value). get_or xs 0 y) (just_item used number offset out_new s appends)) written
+    pub item_fits : (used : ℕ) (item : Value) → IsStep now.stopped now rest (Ok (step.Item used item)) new → before + 1 < 2 ^ 64
+    item_fits used item a =
+        let s : IsItemFed now rest used item new = step_of (Ok (step.Item used item)) a in
+        omega (arith, count_below, s.short, ap (λ (p : Progress). length p.fed) s.next, length-append now.fed (take used rest), length-take-le used rest s.within, s.some, count.bytes_is)
 
-  pub reported_small : (n number offset : ℕ) (lines_new : List ℕ) → IsSmallFed now rest n offset new → number ≡ length new.taken → lines_new ≡ lines_now ++ item_output mode number (record { offset = offset; item = uint n }) →
-      IsReporting mode old piece lines new (drop 1 rest) lines_new × (0 < 1) × (1 ≤ length rest)
-  reported_small n number offset lines_new s count written =
-      reported_fed 1 (length new.taken) offset (uint n) lines_new s.fed (sym s.is) (written ∙ ap (λ (m : ℕ). lines_now ++ item_output mode m (record { offset = offset; item = uint n })) count)
+    pub reported_smalls : (k : ℕ) (lines_new : List ℕ) → AreSmallsFed now (take k rest) new → lines_new ≡ lines_now ++ items_output mode (suc before) (smalls_from offset (take k rest)) →
+        IsReporting mode old piece lines new (drop k rest) lines_new
+    reported_smalls k lines_new s written =
+        let at : offset ≡ s.offset = same_count now before (length now.taken) offset s.offset count s.place in
+        reported_taken k (smalls_from s.offset (take k rest)) before lines_new s.next count.items_is (written ∙ ap (λ (o : ℕ). lines_now ++ items_output mode (suc before) (smalls_from o (take k rest))) at)
+
+    pub smalls_short : (numbers : List ℕ) → AreSmallsFed now numbers new → offset + length numbers < 2 ^ 64
+    smalls_short numbers s =
+        let at : offset ≡ s.offset = same_count now before (length now.taken) offset s.offset count s.place in
+        omega (arith, at, s.short)
 
 -- the item after the run is one
 pub same_next : (judge : Judge) (l : Bounds) (stream : List ℕ) (found : List Found) (x y : Value) → IsNext judge l stream found x → IsNext judge l stream found y → x ≡ y

@@ -1,5 +1,5 @@
 -- Unsigned integers below 24, which are one byte.
-use Rattle.std.proofs.Common.{◌≡◌, ℕ, ◌+◌, ◌*◌, ◌<◌, List, [], ◌∷◌, take, slice_index_or, nat_lt, true, refl, sym, ap, subst, rules, arith}
+use Rattle.std.proofs.Common.{◌≡◌, ℕ, ◌+◌, ◌*◌, ◌<◌, [], ◌∷◌, nat_lt, true, refl, sym, ap, subst, rules, arith}
 use Rattle.std.proofs.lemmas.Bool.Decides.{nat_tests}
 use Rattle.cbor_data.specs.Forms.{inside, uint_form}
 use Rattle.cbor_data.specs.Preferred.{preferred}
@@ -29,8 +29,3 @@ pub small_preferred : (n : ℕ) → n < 24 → preferred (uint n) ≡ n ∷ []
 small_preferred n h =
     let t : nat_lt n 24 ≡ true = grind (arith, nat_tests) in
     rw t (ap (λ (m : ℕ). m ∷ []) (sym (initial_is n)))
-
--- the first of a list, by its front
-pub first_is : (xs : List ℕ) (n : ℕ) → take 1 xs ≡ n ∷ [] → slice_index_or xs 0 0 ≡ n
-first_is [] n e = absurd (cc)
-first_is (x ∷ xs) n e = cc

@@ -1,12 +1,12 @@
 -- The steps of a session, from the answers of its reader.
 use Rattle.std.proofs.Common.{◌≡◌, ◌≢◌, ℕ, ◌+◌, ◌^◌, ◌<◌, List, [], ◌∷◌, ◌++◌, length, take, map, Option, Some, None, Result, Ok, Err, is_ok, is_err, true, false, if◌then◌else◌, refl, sym, ap, ◌∙◌, subst, arith, append-nil}
 use Rattle.std.specs.declared.alloc.AllocError.{AllocError}
-use Rattle.cbor_data.specs.Value.{Value, uint}
+use Rattle.cbor_data.specs.Value.{Value}
 use Rattle.cbor_data.specs.Faults.{Bounds, IsFaultOf}
 use Rattle.cbor_data.specs.Sequence.{Found}
 use Rattle.cbor_read.specs.Reading.{Reading}
 use Rattle.cbor_read.specs.Answers as reader
-use Rattle.cbor_read.specs.Answers.{IsGoingOn, IsTaken, IsSmallTaken}
+use Rattle.cbor_read.specs.Answers.{IsGoingOn, IsTaken}
 use Rattle.cbor_read.specs.declared.fault.Fault as declared
 use Rattle.cbor_read.specs.declared.fault.Stop.{Stop}
 use Rattle.cbor_read.specs.declared.fault.Stop.TheVariants as stop
@@ -18,39 +18,32 @@ use Rattle.seq_run.specs.declared.end.End.TheVariants.{Clean, Failed}
 use Rattle.seq_run.specs.declared.end.Stopped.{Stopped}
 use Rattle.seq_run.specs.declared.end.Stopped.TheVariants.{Ended, Memory}
 use Rattle.seq_run.specs.declared.session.FoundItem.{FoundItem}
-use Rattle.seq_run.specs.declared.session.Advance.{Advance}
-use Rattle.seq_run.specs.declared.session.Advance.TheVariants as advance
+use Rattle.seq_run.specs.declared.session.Step.{Step}
+use Rattle.seq_run.specs.declared.session.Step.TheVariants as step
 use Rattle.seq_run.specs.Ends.{Accepts, BeginsWith, Ends}
 use Rattle.seq_run.specs.Judged.{IsFailing}
 use Rattle.seq_run.specs.FoundItem.{found_of}
 use Rattle.seq_run.specs.Progress.{Progress}
-use Rattle.seq_run.specs.Parts.{IsRejected, IsRunning, AreParts, parts_of}
-use Rattle.seq_run.specs.Answers.{Appends, IsOpen, IsEnded, IsCutShort, IsFedOne, IsItemFed, IsSmallFed, IsAdvance, IsStep, IsFinish}
+use Rattle.seq_run.specs.Parts.{IsCounted, IsRejected, IsRunning, AreParts, parts_of}
+use Rattle.seq_run.specs.Answers.{IsOpen, IsEnded, IsCutShort, IsCount, IsFedOne, IsStep, IsFinish}
 use Rattle.seq_run.proofs.Ending.{clean_end, fault_end}
 use Rattle.seq_run.proofs.Verdicts.{OneAnswer}
-use Rattle.seq_run.proofs.Transitions.{grows, going_on, opened, took, missed, overrun, faulted, cut_short, counts_below}
+use Rattle.seq_run.proofs.Transitions.{grows, going_on, opened, took, missed, overrun, faulted, cut_short, counted, counted_now, counts_below}
 
 -- an item more is noted
 pub noted : (taken : List FoundItem) (p : FoundItem) (after : List FoundItem) → after ≡ taken ++ p ∷ [] → map found_of after ≡ map found_of taken ++ found_of p ∷ []
 noted [] p after e = ap (map found_of) e
 noted (q ∷ qs) p after e = ap (map found_of) e ∙ ap (λ (fs : List Found). found_of q ∷ fs) (noted qs p (qs ++ p ∷ []) refl)
 
--- a push that failed keeps the items
-pub kept_items : {T E : Type 0} (result : Result T E) (new longer old : List Value) → new ≡ (if is_ok result then longer else old) → is_err result ≡ true → new ≡ old
-kept_items (Ok x) new longer old e f = absurd (cc)
-kept_items (Err x) new longer old e f = e
+pub answered : (now : Progress) (piece : List ℕ) (result : Result Step AllocError) (new : Progress) → now.stopped ≡ None → IsFedOne now piece result new → IsStep now.stopped now piece result new
+answered now piece result new e s = subst (λ v. IsStep v now piece result new) (sym e) s
 
--- a push that did not fail
-pub pushed_items : {T E : Type 0} (result : Result T E) (new longer old : List Value) → new ≡ (if is_ok result then longer else old) → is_err result ≡ false → new ≡ longer
-pushed_items (Ok x) new longer old e f = e
-pushed_items (Err x) new longer old e f = absurd (cc)
-
-pub answered : (now : Progress) (piece : List ℕ) (result : Result Advance AllocError) (new : Progress) → now.stopped ≡ None → IsFedOne now piece result new → IsAdvance now.stopped now piece result new
-answered now piece result new e s = subst (λ v. IsAdvance v now piece result new) (sym e) s
-
--- no item came
-none_added : (now after : Progress) (out out_new : List Value) → after.taken ≡ now.taken → after.judge ≡ now.judge → after.limits ≡ now.limits → out_new ≡ out → Appends now after out out_new
-none_added now after out out_new t u v o = record { added = []; taken = t ∙ sym (append-nil now.taken); out = o ∙ sym (append-nil out); judge = u; limits = v }
+-- what was taken, whether a session has stopped or not
+pub count_of : (judge : Judge) (fed : List ℕ) (taken : List Found) (r : Reading) (items offset bytes : ℕ) (rejected : Option Value) (stopped : Option Stopped) →
+    AreParts stopped judge r.limits fed taken (parts_of r items offset bytes rejected) → IsCounted judge r.limits fed taken items offset
+count_of judge fed taken r items offset bytes rejected None parts = counted_now judge r.limits fed taken r items offset bytes rejected parts
+count_of judge fed taken r items offset bytes rejected (Some Memory) parts = parts.0
+count_of judge fed taken r items offset bytes rejected (Some (Ended end)) parts = parts.0
 
 module _ (judge : Judge) (fed : List ℕ) (taken : List Found) (r : Reading) (items offset bytes : ℕ) (stopped : Option Stopped) (rejected : Option Value)
     (is : stopped ≡ None) (parts : AreParts stopped judge r.limits fed taken (parts_of r items offset bytes rejected)) where
@@ -75,27 +68,27 @@ module _ (judge : Judge) (fed : List ℕ) (taken : List Found) (r : Reading) (it
   pub more_kept : (piece : List ℕ) (new : Reading) (fed' : List ℕ) → fed' ≡ fed ++ piece → IsGoingOn r piece new → AreParts stopped judge new.limits fed' taken (parts_of new items offset (bytes + length piece) rejected)
   more_kept piece new fed' e g = subst (λ v. AreParts v judge new.limits fed' taken (parts_of new items offset (bytes + length piece) rejected)) (sym is) (more_running piece new fed' e g)
 
-  pub more_step : (now : Progress) → old ≡ now → (piece : List ℕ) (out : List Value) (new : Reading) (fed' : List ℕ) → fed' ≡ fed ++ piece → IsGoingOn r piece new →
-      IsStep now piece out (Ok advance.More) (record { judge = judge; limits = new.limits; fed = fed'; taken = taken; stopped = stopped }) out
-  more_step now same piece out new fed' e g =
+  pub more_step : (now : Progress) → old ≡ now → (piece : List ℕ) (new : Reading) (fed' : List ℕ) → fed' ≡ fed ++ piece → IsGoingOn r piece new →
+      IsFedOne now piece (Ok step.More) (record { judge = judge; limits = new.limits; fed = fed'; taken = taken; stopped = stopped })
+  more_step now same piece new fed' e g =
       let limits : new.limits ≡ r.limits = ap (λ (v : Reading). v.limits) g.next in
       let next = more_running piece new fed' e g in
       let after : Progress = record { judge = judge; limits = new.limits; fed = fed'; taken = taken; stopped = stopped } in
       let open_now : IsOpen after = opened judge new.limits fed' taken new items offset (bytes + length piece) rejected next stopped is in
       let moved : after ≡ record old { fed = fed ++ piece } = rw (limits, e) refl in
       let moved_now : after ≡ record now { fed = now.fed ++ piece } = subst (λ (p : Progress). after ≡ record p { fed = p.fed ++ piece }) same moved in
-      (none_added now after out out (ap (λ (p : Progress). p.taken) moved_now) (ap (λ (p : Progress). p.judge) moved_now) (ap (λ (p : Progress). p.limits) moved_now) refl, (moved_now, open_now))
+      (moved_now, open_now)
 
   -- whatever follows the piece, the stream has this end
-  ended_step : (now : Progress) → old ≡ now → (piece : List ℕ) (out : List Value) (end : End) (limits : Bounds) (fed' : List ℕ) → limits ≡ r.limits → fed' ≡ fed ++ piece →
+  ended_step : (now : Progress) → old ≡ now → (piece : List ℕ) (end : End) (limits : Bounds) (fed' : List ℕ) → limits ≡ r.limits → fed' ≡ fed ++ piece →
       ((more : List ℕ) → Ends judge r.limits ((fed ++ piece) ++ more) taken end) →
-      IsStep now piece out (Ok (advance.Ended end)) (record { judge = judge; limits = limits; fed = fed'; taken = taken; stopped = Some (Ended end) }) out
-  ended_step now same piece out end limits fed' bounds e ends =
+      IsFedOne now piece (Ok (step.Ended end)) (record { judge = judge; limits = limits; fed = fed'; taken = taken; stopped = Some (Ended end) })
+  ended_step now same piece end limits fed' bounds e ends =
       let after : Progress = record { judge = judge; limits = limits; fed = fed'; taken = taken; stopped = Some (Ended end) } in
       let ended : IsEnded after end = record { ends = λ more. rw (bounds, e) (ends more); stopped = refl } in
       let moved : after ≡ record old { fed = fed ++ piece; stopped = Some (Ended end) } = rw (bounds, e) refl in
       let moved_now : after ≡ record now { fed = now.fed ++ piece; stopped = Some (Ended end) } = subst (λ (p : Progress). after ≡ record p { fed = p.fed ++ piece; stopped = Some (Ended end) }) same moved in
-      (none_added now after out out (ap (λ (p : Progress). p.taken) moved_now) (ap (λ (p : Progress). p.judge) moved_now) (ap (λ (p : Progress). p.limits) moved_now) refl, (moved_now, ended))
+      (moved_now, ended)
 
   -- an item was accepted
   pub item_fits : (piece : List ℕ) (used : ℕ) (x : Value) (new : Reading) → IsTaken r piece used x new → Accepts judge x [] → (items + 1 < 2 ^ 64) × (bytes + used < 2 ^ 64)
@@ -118,50 +111,23 @@ module _ (judge : Judge) (fed : List ℕ) (taken : List Found) (r : Reading) (it
   abbrev After : Reading → List ℕ → List Found → Progress
   After new fed' taken' = record { judge = judge; limits = new.limits; fed = fed'; taken = taken'; stopped = stopped }
 
-  pub item_fed : (now : Progress) → old ≡ now → (piece : List ℕ) (used : ℕ) (x : Value) (new : Reading) (fed' : List ℕ) (taken' : List Found) → fed' ≡ fed ++ take used piece →
-      taken' ≡ taken ++ record { offset = offset; item = x } ∷ [] → IsTaken r piece used x new → Accepts judge x [] → (s : IsItemFed now piece used (items + 1) offset (After new fed' taken')) × (s.item ≡ x)
-  item_fed now same piece used x new fed' taken' e f t accepts =
+  -- the count of what was taken before
+  pub counted_before : (now : Progress) → old ≡ now → IsCount now items offset
+  counted_before now same = subst (λ (p : Progress). IsCount p items offset) same (counted_now judge r.limits fed taken r items offset bytes rejected running)
+
+  pub item_step : (now : Progress) → old ≡ now → (piece : List ℕ) (used : ℕ) (x : Value) (new : Reading) (fed' : List ℕ) (taken' : List Found) → fed' ≡ fed ++ take used piece →
+      taken' ≡ taken ++ record { offset = offset; item = x } ∷ [] → IsTaken r piece used x new → Accepts judge x [] → IsFedOne now piece (Ok (step.Item used x)) (After new fed' taken')
+  item_step now same piece used x new fed' taken' e f t accepts =
       let limits : new.limits ≡ r.limits = ap (λ (v : Reading). v.limits) t.next in
       let more : Found = record { offset = offset; item = x } in
       let running_now : IsRunning judge new.limits fed' taken' (parts_of new (items + 1) (bytes + used) (bytes + used) rejected) =
       subst (λ v. AreParts v judge new.limits fed' taken' (parts_of new (items + 1) (bytes + used) (bytes + used) rejected)) is (item_kept piece used x new fed' taken' e f t accepts) in
       let nothing : new.fed ≡ [] = ap (λ (v : Reading). v.fed) t.next in
       let begins : BeginsWith judge new.limits fed' taken' [] = subst (λ (b : List ℕ). BeginsWith judge new.limits fed' taken' b) nothing running_now.takes in
-      let ends : Ends judge new.limits fed' taken' (Clean (items + 1) (length fed')) = rw running_now.items_is (clean_end judge new.limits fed' taken' begins) in
       let moved : After new fed' taken' ≡ record old { fed = fed ++ take used piece; taken = taken ++ more ∷ [] } = rw (limits, e, f) refl in
       let moved_now : After new fed' taken' ≡ record now { fed = now.fed ++ take used piece; taken = now.taken ++ more ∷ [] } = subst (λ (p : Progress). After new fed' taken' ≡ record p { fed = p.fed ++ take used piece; taken = p.taken ++ more ∷ [] }) same moved in
-      (record { some = t.some; within = t.within; item = x; next = moved_now; number_is = running_now.items_is; ends = ends; short = omega (arith, running_now.bytes_is, running_now.short) }, refl)
-
-  pub item_step : (now : Progress) → old ≡ now → (piece : List ℕ) (out out_new : List Value) (used : ℕ) (x : Value) (new : Reading) (fed' : List ℕ) (taken' : List Found) → fed' ≡ fed ++ take used piece →
-      taken' ≡ taken ++ record { offset = offset; item = x } ∷ [] → out_new ≡ out ++ x ∷ [] → IsTaken r piece used x new → Accepts judge x [] →
-      IsStep now piece out (Ok (advance.Item used (items + 1) offset)) (After new fed' taken') out_new
-  item_step now same piece out out_new used x new fed' taken' e f o t accepts =
-      let both = item_fed now same piece used x new fed' taken' e f t accepts in
-      let s = both.0 in (
-        record { added = record { offset = offset; item = s.item } ∷ []; taken = ap (λ (p : Progress). p.taken) s.next; out = o ∙ ap (λ (v : Value). out ++ v ∷ []) (sym both.1); judge = ap (λ (p : Progress). p.judge) s.next; limits = ap (λ (p : Progress). p.limits) s.next },
-        s,
-      )
-
-  -- an unsigned integer of one byte was accepted
-  module _ (piece : List ℕ) (m n : ℕ) (new : Reading) (t : IsSmallTaken r piece n new) (is_n : m ≡ n) (accepts : Accepts judge (uint m) []) where
-    accepts_n : Accepts judge (uint n) []
-    accepts_n = subst (λ k. Accepts judge (uint k) []) is_n accepts
-
-    pub small_fits : items + 1 < 2 ^ 64
-    small_fits = (item_fits piece 1 (uint n) new t.taken accepts_n).0
-
-    pub small_kept : (fed' : List ℕ) (taken' : List Found) → fed' ≡ fed ++ take 1 piece → taken' ≡ taken ++ record { offset = offset; item = uint n } ∷ [] → AreParts stopped judge new.limits fed' taken' (parts_of new (items + 1) (bytes + 1) (bytes + 1) rejected)
-    small_kept fed' taken' e f = item_kept piece 1 (uint n) new fed' taken' e f t.taken accepts_n
-
-    pub small_fed : (now : Progress) → old ≡ now → (fed' : List ℕ) (taken' : List Found) → fed' ≡ fed ++ take 1 piece → taken' ≡ taken ++ record { offset = offset; item = uint n } ∷ [] → IsSmallFed now piece n offset (After new fed' taken')
-    small_fed now same fed' taken' e f =
-        let both = item_fed now same piece 1 (uint n) new fed' taken' e f t.taken accepts_n in
-        let s = both.0 in
-        record {
-          small = t.small;
-          fed = record { some = s.some; within = s.within; item = s.item; next = s.next; number_is = refl; ends = subst (λ m. Ends judge new.limits fed' taken' (Clean m (length fed'))) s.number_is s.ends; short = s.short };
-          is = both.1;
-        }
+      let before : IsCount now (length now.taken) offset = let c = counted_before now same in subst (λ n. IsCount now n offset) c.items_is c in
+      record { some = t.some; within = t.within; offset = offset; place = before; next = moved_now; ends = clean_end judge new.limits fed' taken' begins; short = omega (arith, running_now.bytes_is, running_now.short) }
 
   -- what comes fails, whatever follows
   failing : OneAnswer → (piece : List ℕ) (cause : Cause) (left : Option Value) (new : Reading) (more : List ℕ) → IsFailing judge r piece cause left new →
@@ -178,31 +144,41 @@ module _ (judge : Judge) (fed : List ℕ) (taken : List Found) (r : Reading) (it
   failing_limits piece Spent left new (used, x, t, over, none) = ap (λ (v : Reading). v.limits) t.next
 
   pub stopped_kept : OneAnswer → (piece : List ℕ) (cause : Cause) (left : Option Value) (new : Reading) (fed' : List ℕ) → fed' ≡ fed ++ piece → IsFailing judge r piece cause left new →
-      Ends judge new.limits fed' taken (Failed items offset cause) × IsRejected judge new.limits fed' taken (Failed items offset cause) left
+      IsCounted judge new.limits fed' taken items offset × Ends judge new.limits fed' taken (Failed items offset cause) × IsRejected judge new.limits fed' taken (Failed items offset cause) left
   stopped_kept one piece cause left new fed' e f =
       let whole : fed' ≡ (fed ++ piece) ++ [] = e ∙ sym (append-nil (fed ++ piece)) in
       let end = Failed items offset cause in
-      subst (λ (l : Bounds). Ends judge l fed' taken end × IsRejected judge l fed' taken end left) (sym (failing_limits piece cause left new f))
-      (subst (λ (b : List ℕ). Ends judge r.limits b taken end × IsRejected judge r.limits b taken end left) (sym whole) (failing one piece cause left new [] f))
+      let count : IsCounted judge new.limits fed' taken items offset = rw (failing_limits piece cause left new f, e) (counted judge r.limits fed taken r items offset bytes rejected running piece) in
+      let both = subst (λ (l : Bounds). Ends judge l fed' taken end × IsRejected judge l fed' taken end left) (sym (failing_limits piece cause left new f))
+      (subst (λ (b : List ℕ). Ends judge r.limits b taken end × IsRejected judge r.limits b taken end left) (sym whole) (failing one piece cause left new [] f)) in
+      (count, both.0, both.1)
 
-  pub stopped_step : OneAnswer → (now : Progress) → old ≡ now → (piece : List ℕ) (out : List Value) (cause : Cause) (left : Option Value) (new : Reading) (fed' : List ℕ) → fed' ≡ fed ++ piece → IsFailing judge r piece cause left new →
-      IsStep now piece out (Ok (advance.Ended (Failed items offset cause))) (record { judge = judge; limits = new.limits; fed = fed'; taken = taken; stopped = Some (Ended (Failed items offset cause)) }) out
-  stopped_step one now same piece out cause left new fed' e f =
-      ended_step now same piece out (Failed items offset cause) new.limits fed' (failing_limits piece cause left new f) e (λ more. (failing one piece cause left new more f).0)
+  pub stopped_step : OneAnswer → (now : Progress) → old ≡ now → (piece : List ℕ) (cause : Cause) (left : Option Value) (new : Reading) (fed' : List ℕ) → fed' ≡ fed ++ piece → IsFailing judge r piece cause left new →
+      IsFedOne now piece (Ok (step.Ended (Failed items offset cause))) (record { judge = judge; limits = new.limits; fed = fed'; taken = taken; stopped = Some (Ended (Failed items offset cause)) })
+  stopped_step one now same piece cause left new fed' e f =
+      ended_step now same piece (Failed items offset cause) new.limits fed' (failing_limits piece cause left new f) e (λ more. (failing one piece cause left new more f).0)
 
   -- there was no memory
-  pub cut_step : (now : Progress) → old ≡ now → (piece : List ℕ) (out out_new : List Value) (error : AllocError) (limits : Bounds) (fed' : List ℕ) → limits ≡ r.limits → fed' ≡ fed ++ piece → out_new ≡ out →
-      IsStep now piece out (Err error) (record { judge = judge; limits = limits; fed = fed'; taken = taken; stopped = Some Memory }) out_new
-  cut_step now same piece out out_new error limits fed' bounds e kept =
+  pub cut_kept : (piece : List ℕ) (limits : Bounds) (fed' : List ℕ) → limits ≡ r.limits → fed' ≡ fed ++ piece → IsCounted judge limits fed' taken items offset × (rejected ≡ None)
+  cut_kept piece limits fed' bounds e =
+      let count : IsCounted judge limits fed' taken items offset = rw (bounds, e) (counted judge r.limits fed taken r items offset bytes rejected running piece) in
+      (count, running.none)
+
+  pub cut_step : (now : Progress) → old ≡ now → (piece : List ℕ) (error : AllocError) (limits : Bounds) (fed' : List ℕ) → limits ≡ r.limits → fed' ≡ fed ++ piece →
+      IsFedOne now piece (Err error) (record { judge = judge; limits = limits; fed = fed'; taken = taken; stopped = Some Memory })
+  cut_step now same piece error limits fed' bounds e =
       let after : Progress = record { judge = judge; limits = limits; fed = fed'; taken = taken; stopped = Some Memory } in
       let short : IsCutShort after = rw (bounds, e) (cut_short judge r.limits fed taken r items offset bytes rejected running piece) in
       let moved : after ≡ record old { fed = fed ++ piece; stopped = Some Memory } = rw (bounds, e) refl in
       let moved_now : after ≡ record now { fed = now.fed ++ piece; stopped = Some Memory } = subst (λ (p : Progress). after ≡ record p { fed = p.fed ++ piece; stopped = Some Memory }) same moved in
-      (none_added now after out out_new (ap (λ (p : Progress). p.taken) moved_now) (ap (λ (p : Progress). p.judge) moved_now) (ap (λ (p : Progress). p.limits) moved_now) kept, (moved_now, short))
+      (moved_now, short)
 
   -- the end of the bytes fed
   abbrev pub Kept : End → Type 0
-  Kept end = Ends judge r.limits fed taken end × IsRejected judge r.limits fed taken end rejected
+  Kept end = IsCounted judge r.limits fed taken items offset × Ends judge r.limits fed taken end × IsRejected judge r.limits fed taken end rejected
+
+  count_now : IsCounted judge r.limits fed taken items offset
+  count_now = counted_now judge r.limits fed taken r items offset bytes rejected running
 
   end_told : (result : Result (Unit {0}) Stop) → reader.IsEnd r.stopped r result → reader.IsEnd None r result
   end_told result a = subst (λ v. reader.IsEnd v r result) running.going a
@@ -212,7 +188,7 @@ module _ (judge : Judge) (fed : List ℕ) (taken : List Found) (r : Reading) (it
       let nothing : r.fed ≡ [] = subst (λ v. reader.IsEnd None r v) ok (end_told result a) in
       let begins : BeginsWith judge r.limits fed taken [] = subst (λ (b : List ℕ). BeginsWith judge r.limits fed taken b) nothing running.takes in
       let clean : Ends judge r.limits fed taken (Clean items bytes) = rw (running.items_is, running.bytes_is) (clean_end judge r.limits fed taken begins) in
-      rw e (clean, running.none)
+      rw e (count_now, clean, running.none)
 
   pub failed_kept : (end : End) (result : Result (Unit {0}) Stop) (fault : declared.Fault) → reader.IsEnd r.stopped r result → result ≡ Err (stop.Fault fault) → end ≡ Failed items offset (Fault fault) → Kept end
   failed_kept end result fault a err e =
@@ -220,12 +196,12 @@ module _ (judge : Judge) (fed : List ℕ) (taken : List Found) (r : Reading) (it
       let at : IsFaultOf r.limits offset r.fed fault.kind fault.at = subst (λ n. IsFaultOf r.limits n r.fed fault.kind fault.at) (sym running.offset_is) told.1 in
       let placed : offset + length r.fed ≡ length fed = running.reaches ∙ running.bytes_is in
       let failed : Ends judge r.limits fed taken (Failed items offset (Fault fault)) = rw running.items_is (fault_end judge r.limits fed taken r.fed offset fault.kind fault.at running.takes placed told.0 at) in
-      rw e (failed, running.none)
+      rw e (count_now, failed, running.none)
 
   pub finished : (now : Progress) → old ≡ now → (end : End) → Kept end →
       IsFinish now.stopped now (Ok end) (record { judge = judge; limits = r.limits; fed = fed; taken = taken; stopped = Some (Ended end) })
   finished now same end kept =
       let after : Progress = record { judge = judge; limits = r.limits; fed = fed; taken = taken; stopped = Some (Ended end) } in
       let told : (p : Progress) → old ≡ p → Ends p.judge p.limits p.fed p.taken end × (after ≡ record p { stopped = Some (Ended end) }) =
-      λ p h. subst (λ (q : Progress). Ends q.judge q.limits q.fed q.taken end × (after ≡ record q { stopped = Some (Ended end) })) h (kept.0, refl) in
+      λ p h. subst (λ (q : Progress). Ends q.judge q.limits q.fed q.taken end × (after ≡ record q { stopped = Some (Ended end) })) h (kept.1, refl) in
       subst (λ v. IsFinish v now (Ok end) after) (sym (ap (λ (p : Progress). p.stopped) (sym same) ∙ is)) (told now same)

@@ -17,7 +17,7 @@ use Rattle.seq_run.specs.declared.end.Stopped.TheVariants.{Memory}
 use Rattle.seq_run.specs.declared.session.FoundItem.{FoundItem}
 use Rattle.seq_run.specs.Ends.{Accepts, Misses, Overruns, BeginsWith, Ends}
 use Rattle.seq_run.specs.FoundItem.{found_of}
-use Rattle.seq_run.specs.Parts.{IsClearRest, IsNext, IsRunning, parts_of}
+use Rattle.seq_run.specs.Parts.{IsClearRest, IsCounted, IsNext, IsRunning, parts_of}
 use Rattle.seq_run.specs.Answers.{IsOpen, IsCutShort}
 use Rattle.seq_run.proofs.Fronts.{clear_placed}
 use Rattle.seq_run.proofs.Runs.{takes_extend, takes_snoc, takes_count, formed_some}
@@ -174,6 +174,13 @@ module _ (judge : Judge) (l : Bounds) (fed : List ℕ) (taken : List Found) (rea
       let some : rest ≢ [] = λ e. refused_some piece used fault.kind fault.at r.within r.place (empty_front (reader.fed ++ piece) more e) in
       subst (λ n. Ends judge l ((fed ++ piece) ++ more) taken (Failed n offset (Fault fault))) (sym s.items_is)
       (fault_end judge l ((fed ++ piece) ++ more) taken rest offset fault.kind fault.at (rest_of piece more) (rest_placed piece more) some told)
+
+  -- what was taken of the bytes fed, and of more
+  pub counted : (piece : List ℕ) → IsCounted judge l (fed ++ piece) taken items offset
+  counted piece = record { items_is = s.items_is; rest = reader.fed ++ piece; begins = extended piece; bytes_is = omega (arith, placed_at piece, s.offset_is) }
+
+  pub counted_now : IsCounted judge l fed taken items offset
+  counted_now = record { items_is = s.items_is; rest = reader.fed; begins = s.takes; bytes_is = omega (arith, s.reaches, s.bytes_is) }
 
   -- where the session gives up
   pub cut_short : (piece : List ℕ) → IsCutShort (record { judge = judge; limits = l; fed = fed ++ piece; taken = taken; stopped = Some Memory })

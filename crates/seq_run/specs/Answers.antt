@@ -1,7 +1,7 @@
 -- What the answers of a session's calls say.
-use Rattle.std.specs.Prelude.{◌≡◌, ℕ, ◌<◌, ◌≤◌, List, [], ◌∷◌, ◌++◌, length, take, map, Option, Some, None, Result, Ok, Err, alloc_error}
+use Rattle.std.specs.Prelude.{◌≡◌, ℕ, ◌+◌, ◌<◌, ◌≤◌, List, [], ◌∷◌, ◌++◌, All, length, take, map, Option, Some, None, Result, Ok, Err, alloc_error}
 use Rattle.std.specs.declared.alloc.AllocError.{AllocError}
-use Rattle.cbor_data.specs.Value.{Value, uint}
+use Rattle.cbor_data.specs.Value.{Value}
 use Rattle.cbor_data.specs.Faults.{last_offset}
 use Rattle.cbor_data.specs.Sequence.{Found}
 use Rattle.cbor_data.specs.declared.FaultKind.{FaultKind}
@@ -13,11 +13,12 @@ use Rattle.seq_run.specs.declared.end.State.{State}
 use Rattle.seq_run.specs.declared.end.State.TheVariants as state
 use Rattle.seq_run.specs.declared.end.Stopped.{Stopped}
 use Rattle.seq_run.specs.declared.end.Stopped.TheVariants.{Ended, Memory}
-use Rattle.seq_run.specs.declared.session.Advance.{Advance}
-use Rattle.seq_run.specs.declared.session.Advance.TheVariants as advance
+use Rattle.seq_run.specs.declared.session.Step.{Step}
+use Rattle.seq_run.specs.declared.session.Step.TheVariants as step
 use Rattle.seq_run.specs.Ends.{BeginsWith, Ends}
-use Rattle.seq_run.specs.Parts.{IsRejected}
+use Rattle.seq_run.specs.Parts.{IsCounted, IsRejected}
 use Rattle.seq_run.specs.Progress.{Progress}
+use Rattle.seq_run.specs.Smalls.{smalls_from}
 
 abbrev pub items_of : List Found → List Value
 items_of found = map (λ f. f.item) found
@@ -88,36 +89,40 @@ abbrev pub IsLent : Option Stopped → Progress → Option Value → Type 0
 IsLent (Some (Ended end)) p rejected = IsRejected p.judge p.limits p.fed p.taken end rejected
 IsLent _ p rejected = rejected ≡ None
 
--- The item was accepted that ends with byte `used` of the piece: it has this number, and its first byte this offset. The bytes
--- fed are just the items taken.
-pub record IsItemFed (old : Progress) (piece : List ℕ) (used number offset : ℕ) (new : Progress) : Type 0 where
+-- So many items were taken, and so many bytes are theirs.
+abbrev pub IsCount : Progress → ℕ → ℕ → Type 0
+IsCount p items bytes = IsCounted p.judge p.limits p.fed p.taken items bytes
+
+-- The item was accepted that ends with byte `used` of the piece, and begins where those before it end. The bytes fed are just the
+-- items taken.
+pub record IsItemFed (old : Progress) (piece : List ℕ) (used : ℕ) (item : Value) (new : Progress) : Type 0 where
   pub some : 0 < used
   pub within : used ≤ length piece
-  pub item : Value
+  pub offset : ℕ
+  pub place : IsCount old (length old.taken) offset
   pub next : new ≡ record old { fed = old.fed ++ take used piece; taken = old.taken ++ record { offset = offset; item = item } ∷ [] }
-  pub number_is : number ≡ length new.taken
-  pub ends : Ends new.judge new.limits new.fed new.taken (Clean number (length new.fed))
+  pub ends : Ends new.judge new.limits new.fed new.taken (Clean (length new.taken) (length new.fed))
   pub short : length new.fed ≤ last_offset
 
--- The unsigned integer n, below 24 and of one byte, was accepted.
-pub record IsSmallFed (old : Progress) (piece : List ℕ) (n offset : ℕ) (new : Progress) : Type 0 where
-  pub small : n < 24
-  pub fed : IsItemFed old piece 1 (length new.taken) offset new
-  pub is : fed.item ≡ uint n
+-- These unsigned integers below 24, each of one byte, were accepted, and the first one begins where the items before it end. The
+-- bytes fed are just the items taken, if there are any such integers.
+pub record AreSmallsFed (old : Progress) (numbers : List ℕ) (new : Progress) : Type 0 where
+  pub small : All (λ n. n < 24) numbers
+  pub offset : ℕ
+  pub place : IsCount old (length old.taken) offset
+  pub next : new ≡ record old { fed = old.fed ++ numbers; taken = old.taken ++ smalls_from offset numbers }
+  pub ends : 0 < length numbers → Ends new.judge new.limits new.fed new.taken (Clean (length new.taken) (length new.fed))
+  pub short : offset + length numbers ≤ last_offset
 
 -- what `feed_one` answers of a session that has not stopped
-abbrev pub IsFedOne : Progress → List ℕ → Result Advance AllocError → Progress → Type 0
-IsFedOne old piece (Ok advance.More) new = (new ≡ record old { fed = old.fed ++ piece }) × IsOpen new
-IsFedOne old piece (Ok (advance.Item used number offset)) new = IsItemFed old piece used number offset new
-IsFedOne old piece (Ok (advance.Ended end)) new = (new ≡ record old { fed = old.fed ++ piece; stopped = Some (Ended end) }) × IsEnded new end
+abbrev pub IsFedOne : Progress → List ℕ → Result Step AllocError → Progress → Type 0
+IsFedOne old piece (Ok step.More) new = (new ≡ record old { fed = old.fed ++ piece }) × IsOpen new
+IsFedOne old piece (Ok (step.Item used item)) new = IsItemFed old piece used item new
+IsFedOne old piece (Ok (step.Ended end)) new = (new ≡ record old { fed = old.fed ++ piece; stopped = Some (Ended end) }) × IsEnded new end
 IsFedOne old piece (Err e) new = (new ≡ record old { fed = old.fed ++ piece; stopped = Some Memory }) × IsCutShort new
 
--- the same, with the list to which the item is appended
-abbrev pub IsStep : Progress → List ℕ → List Value → Result Advance AllocError → Progress → List Value → Type 0
-IsStep old piece out_old result new out_new = Appends old new out_old out_new × IsFedOne old piece result new
-
 -- what `feed_one` answers
-abbrev pub IsAdvance : Option Stopped → Progress → List ℕ → Result Advance AllocError → Progress → Type 0
-IsAdvance None old piece result new = IsFedOne old piece result new
-IsAdvance (Some (Ended end)) old piece result new = (result ≡ Ok (advance.Ended end)) × (new ≡ old)
-IsAdvance (Some Memory) old piece result new = (result ≡ Err alloc_error) × (new ≡ old)
+abbrev pub IsStep : Option Stopped → Progress → List ℕ → Result Step AllocError → Progress → Type 0
+IsStep None old piece result new = IsFedOne old piece result new
+IsStep (Some (Ended end)) old piece result new = (result ≡ Ok (step.Ended end)) × (new ≡ old)
+IsStep (Some Memory) old piece result new = (result ≡ Err alloc_error) × (new ≡ old)

@@ -1,5 +1,6 @@
 pub mod Judge
 pub mod Ends
+pub mod Smalls
 pub mod Accepted
 pub mod Judged
 pub mod Progress

@@ -34,6 +34,13 @@ IsRejected judge l stream found (Failed items offset (Mismatch place)) (Some x) 
 IsRejected judge l stream found (Failed items offset (Mismatch place)) None = ⊥
 IsRejected judge l stream found _ rejected = rejected ≡ None
 
+-- So many items were taken, and so many bytes are theirs: the bytes fed begin with them, and then comes the rest.
+pub record IsCounted (judge : Judge) (l : Bounds) (fed : List ℕ) (taken : List Found) (items bytes : ℕ) : Type 0 where
+  pub items_is : items ≡ length taken
+  pub rest : List ℕ
+  pub begins : BeginsWith judge l fed taken rest
+  pub bytes_is : bytes + length rest ≡ length fed
+
 -- what a session keeps beside what callers see: its reader, how many items it has accepted, the offset of the next one,
 -- how many bytes it has taken, and the item that does not match
 pub record Parts : Type 0 where
@@ -62,5 +69,6 @@ pub record IsRunning (judge : Judge) (l : Bounds) (fed : List ℕ) (taken : List
 -- what holds of a session's parts, by why it has stopped, if it has
 abbrev pub AreParts : Option Stopped → Judge → Bounds → List ℕ → List Found → Parts → Type 0
 AreParts None judge l fed taken parts = IsRunning judge l fed taken parts
-AreParts (Some Memory) judge l fed taken parts = parts.rejected ≡ None
-AreParts (Some (Ended end)) judge l fed taken parts = Ends judge l fed taken end × IsRejected judge l fed taken end parts.rejected
+AreParts (Some Memory) judge l fed taken parts = IsCounted judge l fed taken parts.items parts.offset × (parts.rejected ≡ None)
+AreParts (Some (Ended end)) judge l fed taken parts =
+    IsCounted judge l fed taken parts.items parts.offset × Ends judge l fed taken end × IsRejected judge l fed taken end parts.rejected

@@ -1,9 +1,11 @@
 //! What says of items whether they are accepted.
 
-ghost use Rattle.std.specs.Prelude.{◌≡◌, ◌<◌, ℕ, [], IfSome, IsTrue};
+ghost use Rattle.std.specs.Prelude.{◌≡◌, ◌<◌, ◌≤◌, ◌↔◌, ℕ, [], length, take, IfSome, IsTrue};
 ghost use Rattle.cbor_data.specs.Value.{uint};
+ghost use Rattle.seq_run.specs.Smalls.{AreSmallsTaken, IsLongestFront, IsMarked};
 
 use cbor_item::{Item, Sound};
+use cbor_read::ItemReader;
 use cddl_match::{Verdict, verdict};
 use std::alloc::{AllocError, Global};
 use std::marker::Model;
@@ -66,31 +68,64 @@ impl<'t> Examiner<'t> {
         matches!(self.verdict(alloc, item), Ok(Verdict::Yes))
     }
 
-    // The same of the number n.
+    // Marks the number below 24 that the piece begins with, if it begins with one, where that is accepted.
     #[inline]
-    pub(crate) fn accepts(&mut self, alloc: Global, n: u8) -> bool
-        requires { n < 24 }
-        ensures accepted { IsTrue result → Accepts self.old (uint n) [] }
-        ensures kept { self.new ≡ self.old }
+    pub(crate) fn ask(&mut self, alloc: Global, piece: &[u8])
+        ensures { self.new ≡ self.old }
     {
-        self.accepted[usize::from(n)] || self.accepts_now(alloc, n)
+        if piece.is_empty() || piece[0] >= 24 || self.accepted[usize::from(piece[0])] {
+            return;
+        }
+        self.ask_now(alloc, piece[0]);
     }
 
-    // The same where the number was not accepted before.
-    fn accepts_now(&mut self, alloc: Global, n: u8) -> bool
+    // The same of the number n, which is not marked.
+    fn ask_now(&mut self, alloc: Global, n: u8)
         requires { n < 24 }
-        ensures accepted { IsTrue result → Accepts self.old (uint n) [] }
-        ensures kept { self.new ≡ self.old }
+        ensures { self.new ≡ self.old }
     {
         let Some(item) = small_item(alloc, n) else {
-            return false;
+            return;
         };
-        if !self.accepts_item(alloc, &item) {
-            return false;
+        if self.accepts_item(alloc, &item) {
+            self.accepted[usize::from(n)] = true;
         }
-        self.accepted[usize::from(n)] = true;
-        true
     }
+
+    // Takes the numbers at the front of the piece that are the next items and are marked, and answers how many.
+    #[inline]
+    pub(crate) fn take_marked(&self, reader: &mut ItemReader, piece: &[u8]) -> usize
+        ensures within { result ≤ length piece.now }
+        ensures taken { AreSmallsTaken (λ n. Accepts self.now (uint n) []) reader.old (take result piece.now) reader.new }
+    {
+        take_front(&self.accepted, reader, piece)
+    }
+}
+
+// Takes the numbers at the front of the piece that are the next items and are marked, as many as there are, and answers how
+// many.
+#[inline]
+fn take_front(marks: &[bool], reader: &mut ItemReader, piece: &[u8]) -> usize
+    ensures front { IsLongestFront marks.now piece.now result reader.new }
+    ensures taken { AreSmallsTaken (IsMarked marks.now) reader.old (take result piece.now) reader.new }
+{
+    for count in 0..piece.len() {
+        if !is_marked(marks, piece[count]) {
+            return count;
+        }
+        let Some(_) = reader.take_small(&piece[count..]) else {
+            return count;
+        };
+    }
+    piece.len()
+}
+
+#[inline]
+fn is_marked(marks: &[bool], n: u8) -> bool
+    ensures { IsTrue result ↔ IsMarked marks.now n }
+{
+    let n = usize::from(n);
+    n < marks.len() && marks[n]
 }
 
 // The item that a byte below 24 is.

@@ -18,4 +18,4 @@ pub use crate::lines::end_line;
 pub use crate::output::Mode;
 pub use crate::pieces::validate_pieces;
 pub use crate::running::{RunFault, run};
-pub use crate::session::{Advance, Session};
+pub use crate::session::{Session, Step};

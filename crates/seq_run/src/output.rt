@@ -1,11 +1,13 @@
 //! What a run writes.
 
-ghost use Rattle.std.specs.Prelude.{◌≡◌, ◌<◌, ◌++◌, OnOk, option_copied};
+ghost use Rattle.std.specs.Prelude.{◌≡◌, ◌+◌, ◌<◌, ◌≤◌, ◌++◌, ◌^◌, All, length, suc, OnOk, option_copied};
 ghost use Rattle.cbor_data.specs.Deterministic.{deterministic};
 ghost use Rattle.cbor_data.specs.Preferred.{preferred};
 ghost use Rattle.cbor_data.specs.Value.{uint};
-ghost use Rattle.seq_run.specs.Output.{end_output, item_output};
+ghost use Rattle.seq_run.specs.Output.{end_output, item_output, items_output};
 ghost use Rattle.seq_run.specs.Report.{IsShown};
+ghost use Rattle.seq_run.specs.Smalls.{smalls_from};
+ghost use Rattle.seq_run.specs.declared.output.Mode.TheVariants.{Report};
 
 use crate::end::End;
 use crate::head::Head;
@@ -47,27 +49,64 @@ pub(crate) fn push_item(
     }
 }
 
-// The same of the unsigned integer n, which is below 24.
-#[inline]
-pub(crate) fn push_small(
+// The same of unsigned integers below 24, each of which is one byte: so many items come before them, and the first one has this
+// offset.
+pub(crate) fn push_smalls(
     mode: Mode,
     head: &mut Head,
     bytes: &mut Vec<u8>,
+    before: u64,
+    offset: u64,
+    numbers: &[u8],
+) -> Result<(), AllocError>
+    requires small { All (λ n. n < 24) numbers.now }
+    requires count { before ≤ offset }
+    requires short { offset + length numbers.now < 2 ^ 64 }
+    ensures { OnOk result (bytes.new.items ≡ bytes.old.items ++ items_output mode (suc before) (smalls_from offset numbers.now)) }
+{
+    match mode {
+        Mode::Report => push_small_lines(head, bytes, before, offset, numbers),
+        Mode::EndLine => Ok(()),
+        Mode::Rewrite => bytes.extend_from_slice(numbers),
+        Mode::Deterministic => bytes.extend_from_slice(numbers),
+    }
+}
+
+// Their lines. In the loop of its caller it would find too few registers free.
+#[inline(never)]
+fn push_small_lines(
+    head: &mut Head,
+    lines: &mut Vec<u8>,
+    before: u64,
+    offset: u64,
+    numbers: &[u8],
+) -> Result<(), AllocError>
+    requires small { All (λ n. n < 24) numbers.now }
+    requires count { before ≤ offset }
+    requires short { offset + length numbers.now < 2 ^ 64 }
+    ensures { OnOk result (lines.new.items ≡ lines.old.items ++ items_output Report (suc before) (smalls_from offset numbers.now)) }
+{
+    for at in 0..numbers.len() {
+        let number = before + 1 + at as u64;
+        push_small_line(head, lines, number, offset + at as u64, numbers[at])?;
+    }
+    Ok(())
+}
+
+// The line of one of them.
+#[inline]
+fn push_small_line(
+    head: &mut Head,
+    lines: &mut Vec<u8>,
     number: u64,
     offset: u64,
     n: u8,
 ) -> Result<(), AllocError>
     requires { n < 24 }
-    ensures { OnOk result (bytes.new.items ≡ bytes.old.items ++ item_output mode number (record { offset = offset; item = uint n })) }
+    ensures { OnOk result (lines.new.items ≡ lines.old.items ++ item_output Report number (record { offset = offset; item = uint n })) }
 {
-    match mode {
-        Mode::Report => {
-            head.set(number, offset);
-            head.push_number(bytes, n)
-        }
-        Mode::EndLine => Ok(()),
-        Mode::Rewrite | Mode::Deterministic => Ok(bytes.push(n)?),
-    }
+    head.set(number, offset);
+    head.push_number(lines, n)
 }
 
 // Appends the item's preferred bytes.

@@ -13,8 +13,8 @@ ghost use Rattle.seq_run.specs.Written.{IsReadBack, IsWrittenStream};
 use crate::end::{End, State};
 use crate::head::Head;
 use crate::laws::{decisive_end, written_is_read_back};
-use crate::output::{Mode, push_end, push_item, push_small};
-use crate::session::{Advance, Session};
+use crate::output::{Mode, push_end, push_item, push_smalls};
+use crate::session::{Session, Step};
 use cbor_item::{Counted, Sound, write_bytes};
 use cbor_read::Limits;
 use cddl_match::shows_inside;
@@ -92,7 +92,7 @@ pub fn run<R: Read, W: Write>(
             decisive_end();
             return Ok((end, session.into_rejected()));
         }
-        reported = session.items();
+        reported = session.taken().0;
     }
 }
 
@@ -151,24 +151,21 @@ fn feed_items(
     ensures answer { OnOk result (IsFed result session.new) }
 {
     let mut rest = piece;
-    let mut items = Vec::new(alloc);
     let mut head = Head::new();
     'steps: loop {
-        if let Some((n, offset)) = session.take_small(rest) {
-            push_small(mode, &mut head, bytes, session.items(), offset, n)?;
-            rest = &rest[1..];
+        let (before, offset) = session.taken();
+        let count = session.take_smalls(rest);
+        if count > 0 {
+            push_smalls(mode, &mut head, bytes, before, offset, &rest[..count])?;
+            rest = &rest[count..];
             continue;
         }
-        match session.feed_one(rest, &mut items)? {
-            Advance::More => return Ok(State::Open),
-            Advance::Ended(end) => return Ok(State::Ended(end)),
-            Advance::Item {
-                used,
-                number,
-                offset,
-            } => {
-                push_item(alloc, mode, &mut head, bytes, number, offset, &items[0])?;
-                items.clear();
+        match session.feed_one(rest)? {
+            Step::More => return Ok(State::Open),
+            Step::Ended(end) => return Ok(State::Ended(end)),
+            Step::Item { used, item } => {
+                push_item(alloc, mode, &mut head, bytes, before + 1, offset, &item)?;
+                drop(item);
                 rest = &rest[used..];
             }
         }

@@ -1,9 +1,9 @@
 //! A session: the run of a stream that comes in pieces.
 
-ghost use Rattle.std.specs.Prelude.{◌≡◌, ◌+◌, ◌<◌, ◌^◌, [], length, None, option_copied, IfNone, IfSome, IsTrue};
-ghost use Rattle.cbor_data.specs.Value.{uint};
-ghost use Rattle.seq_run.specs.Answers.{Appends, IsAdvance, IsAnswer, IsFinish, IsLent, IsSmallFed, IsStep};
-ghost use Rattle.seq_run.specs.Ends.{Accepts};
+ghost use Rattle.std.specs.Prelude.{◌≡◌, ◌+◌, ◌<◌, ◌≤◌, ◌++◌, ◌^◌, [], length, map, take, None, Err, alloc_error, option_copied, vec_capacity, vec_len, OnOk};
+ghost use Rattle.seq_run.specs.Answers.{Appends, IsAnswer, IsFinish, IsLent, IsCount, IsFedOne, IsStep, AreSmallsFed};
+ghost use Rattle.seq_run.specs.FoundItem.{found_of};
+ghost use Rattle.seq_run.specs.Smalls.{smalls_from};
 ghost use Rattle.seq_run.specs.Judge.{judge_of};
 ghost use Rattle.seq_run.specs.Judged.{IsJudged};
 
@@ -55,37 +55,61 @@ impl Count {
         }
     }
 
+    // Counts items of one byte each.
+    fn add_smalls(&mut self, count: usize)
+        requires items { self.old.items + count < 2 ^ 64 }
+        requires offset { self.old.offset + count < 2 ^ 64 }
+        requires bytes { self.old.bytes + count < 2 ^ 64 }
+        ensures { self.new ≡ record { items = self.old.items + count; offset = self.old.offset + count; bytes = self.old.bytes + count } }
+    {
+        self.items += count as u64;
+        self.offset += count as u64;
+        self.bytes += count as u64;
+    }
+
     // Counts one more item, which ends with byte `used` of a piece.
-    fn add_item(&mut self, used: usize) -> Advance
+    fn add_item(&mut self, used: usize)
         requires items { self.old.items + 1 < 2 ^ 64 }
         requires bytes { self.old.bytes + used < 2 ^ 64 }
-        ensures count { self.new ≡ record { items = self.old.items + 1; offset = self.old.bytes + used; bytes = self.old.bytes + used } }
-        ensures advance { result ≡ Advance.Item used (self.old.items + 1) self.old.offset }
+        ensures { self.new ≡ record { items = self.old.items + 1; offset = self.old.bytes + used; bytes = self.old.bytes + used } }
     {
-        let offset = self.offset;
         self.items += 1;
         self.bytes += used as u64;
         self.offset = self.bytes;
-        Advance::Item {
-            used,
-            number: self.items,
-            offset,
-        }
     }
 }
 
+// Notes the unsigned integers that the bytes are, the first one at the offset.
+fn note_smalls(taken: &mut History<FoundItem>, offset: u64, numbers: &[u8])
+    requires { offset + length numbers.now < 2 ^ 64 }
+    ensures { map found_of taken.new ≡ map found_of taken.old ++ smalls_from offset numbers.now }
+{
+    for at in 0..numbers.len() {
+        taken.push(&FoundItem::Small {
+            offset: offset + at as u64,
+            n: numbers[at],
+        });
+    }
+}
+
+// Makes room for one more item, where the piece may have one.
+fn make_room(out: &mut Vec<Sound>, piece: &[u8]) -> Result<(), AllocError>
+    ensures items { out.new.items ≡ out.old.items }
+    ensures room { OnOk result (0 < length piece.now → vec_len out.new < vec_capacity out.new) }
+{
+    if piece.is_empty() {
+        return Ok(());
+    }
+    out.reserve(1)
+}
+
 /// How far one call of [`Session::feed_one`] takes a session.
-#[derive(Clone, Copy, Debug, PartialEq, Eq)]
-pub enum Advance {
+#[derive(Drop)]
+pub enum Step {
     /// The whole piece was used, and the item, if one has begun, goes on.
     More,
-    /// An item was accepted, which ends with byte `used` of the piece: its number, from 1, and the offset of its first byte
-    /// in the stream. What comes after it in the piece is for the next call.
-    Item {
-        used: usize,
-        number: u64,
-        offset: u64,
-    },
+    /// The item was accepted, which ends with byte `used` of the piece. What comes after it in the piece is for the next call.
+    Item { used: usize, item: Sound },
     /// The stream has this end, whatever bytes follow.
     Ended(End),
 }
@@ -172,31 +196,45 @@ impl<'t> Session<'t> {
         ensures appends { Appends self.old self.new out.old.items out.new.items }
         ensures answer { IsAnswer self.old.stopped self.old piece.now result self.new }
     {
+        match self.stopped {
+            Some(Stopped::Ended(end)) => return Ok(State::Ended(end)),
+            Some(Stopped::Memory) => return Err(AllocError),
+            None => {}
+        }
         let mut rest = piece;
         'steps: loop {
-            match self.feed_one(rest, out)? {
-                Advance::More => return Ok(State::Open),
-                Advance::Ended(end) => return Ok(State::Ended(end)),
-                Advance::Item { used, .. } => rest = &rest[used..],
+            // An item that is taken has to be appended, so its room comes first.
+            if make_room(out, rest).is_err() {
+                self.give_up(rest);
+                return Err(AllocError);
+            }
+            match self.take_next(rest)? {
+                Step::More => return Ok(State::Open),
+                Step::Ended(end) => return Ok(State::Ended(end)),
+                Step::Item { used, item } => {
+                    if out.push(item).is_err() {
+                        unreachable!();
+                    }
+                    rest = &rest[used..];
+                }
             }
         }
     }
 
-    /// Takes the next piece of the stream up to the end of an item that it completes, and appends that one. What comes after
-    /// it in the piece was not looked at, and is to be given again. Where it completes none, the whole piece is used, and
-    /// the answer is that of [`feed`](Session::feed).
+    /// Takes the next piece of the stream up to the end of an item that it completes, and answers that one. What comes after it
+    /// in the piece was not looked at, and is to be given again. Where it completes none, the whole piece is used, and the
+    /// answer is that of [`feed`](Session::feed).
     ///
     /// # Errors
     ///
     /// [`AllocError`] where an allocation was refused. From then on each call answers so.
-    pub fn feed_one(&mut self, piece: &[u8], out: &mut Vec<Sound>) -> Result<Advance, AllocError>
-        ensures appends { Appends self.old self.new out.old.items out.new.items }
-        ensures answer { IsAdvance self.old.stopped self.old piece.now result self.new }
+    pub fn feed_one(&mut self, piece: &[u8]) -> Result<Step, AllocError>
+        ensures { IsStep self.old.stopped self.old piece.now result self.new }
     {
         match self.stopped {
-            Some(Stopped::Ended(end)) => Ok(Advance::Ended(end)),
+            Some(Stopped::Ended(end)) => Ok(Step::Ended(end)),
             Some(Stopped::Memory) => Err(AllocError),
-            None => self.take_next(piece, out),
+            None => self.take_next(piece),
         }
     }
 
@@ -229,11 +267,12 @@ impl<'t> Session<'t> {
         self.rejected.as_ref()
     }
 
-    // How many items were taken of a stream that has not ended.
-    pub(crate) fn items(&self) -> u64
-        ensures { self.now.stopped ≡ None → result ≡ length self.now.taken }
+    /// How many items were taken so far, and how many bytes they have in the stream: also after an end, and after want of
+    /// memory. The bytes after them have no item that was handed out. Takes no memory.
+    pub fn taken(&self) -> (u64, u64)
+        ensures { IsCount self.now result.0 result.1 }
     {
-        self.count.items
+        (self.count.items, self.count.offset)
     }
 
     // The item that does not match, exactly where the session has ended by that.
@@ -243,64 +282,61 @@ impl<'t> Session<'t> {
         self.rejected
     }
 
-    // Takes the unsigned integer below 24 at the front of the piece, where it is the next item and is accepted, and answers
-    // it with its offset. `None` says that nothing was taken, and nothing is changed.
-    #[inline]
-    pub(crate) fn take_small(&mut self, piece: &[u8]) -> Option<(u8, u64)>
+    // Takes the unsigned integers below 24 at the front of the piece that are the next items and are known to be accepted, and
+    // answers how many. The specification is asked about the first one, if that is not known.
+    pub(crate) fn take_smalls(&mut self, piece: &[u8]) -> usize
         requires { self.old.stopped ≡ None }
-        ensures taken { IfSome result (λ r. IsSmallFed self.old piece.now r.0 r.1 self.new) }
-        ensures kept { IfNone result (self.new ≡ self.old) }
+        ensures within { result ≤ length piece.now }
+        ensures taken { AreSmallsFed self.old (take result piece.now) self.new }
     {
-        if piece.is_empty() || piece[0] >= 24 {
-            return None;
-        }
-        if !self.examiner.accepts(self.alloc, piece[0]) {
-            return None;
-        }
-        let n = self.reader.take_small(piece)?;
-        let offset = self.count.offset;
-        self.taken.push(&FoundItem::Small { offset, n });
-        self.fed.extend(&piece[..1]);
-        self.count.add_item(1);
-        Some((n, offset))
+        self.examiner.ask(self.alloc, piece);
+        let count = self.examiner.take_marked(&mut self.reader, piece);
+        note_smalls(&mut self.taken, self.count.offset, &piece[..count]);
+        self.fed.extend(&piece[..count]);
+        self.count.add_smalls(count);
+        count
+    }
+
+    // What is done where an item of the piece would have no room.
+    fn give_up(&mut self, piece: &[u8])
+        requires { self.old.stopped ≡ None }
+        ensures { IsFedOne self.old piece.now (Err alloc_error) self.new }
+    {
+        self.fed.extend(piece);
+        self.stopped = Some(Stopped::Memory);
     }
 
     // `feed_one` for a session that has not stopped.
-    fn take_next(&mut self, piece: &[u8], out: &mut Vec<Sound>) -> Result<Advance, AllocError>
+    fn take_next(&mut self, piece: &[u8]) -> Result<Step, AllocError>
         requires { self.old.stopped ≡ None }
-        ensures { IsStep self.old piece.now out.old.items result self.new out.new.items }
+        ensures { IsFedOne self.old piece.now result self.new }
     {
         one_answer();
         match judge_next(self.alloc, &self.examiner, &mut self.reader, piece) {
             Ok(Judged::More) => {
                 self.fed.extend(piece);
                 self.count.bytes += piece.len() as u64;
-                Ok(Advance::More)
+                Ok(Step::More)
             }
             Ok(Judged::Accepted { used, item }) => {
                 let found = FoundItem::Other {
                     offset: self.count.offset,
                     item,
                 };
-                let taken = self.taken.with(&found);
+                self.taken.push(&found);
                 let FoundItem::Other { item, .. } = found else {
                     unreachable!()
                 };
-                if out.push(item).is_err() {
-                    self.fed.extend(piece);
-                    self.stopped = Some(Stopped::Memory);
-                    return Err(AllocError);
-                }
-                self.taken = taken;
                 self.fed.extend(&piece[..used]);
-                Ok(self.count.add_item(used))
+                self.count.add_item(used);
+                Ok(Step::Item { used, item })
             }
             Ok(Judged::Failed { cause, rejected }) => {
                 let end = self.count.failed_end(cause);
                 self.fed.extend(piece);
                 self.rejected = rejected;
                 self.stopped = Some(Stopped::Ended(end));
-                Ok(Advance::Ended(end))
+                Ok(Step::Ended(end))
             }
             Err(error) => {
                 self.fed.extend(piece);

@@ -4,7 +4,7 @@ use crate::shown::push_written;
 use crate::word_calls::options_of;
 use call_lines::{bytes, first, push_no_memory, push_number};
 use cbor_item::Counted;
-use cddl_tool::{Options, Refusal, Task, accept, act, read_specification, ready};
+use cddl_tool::{Options, Refusal, act, read_specification, ready};
 use std::alloc::{AllocError, Global};
 
 // The source, the sink, the specification, the stream, and the words of the command line.
@@ -50,7 +50,6 @@ fn status_of(
     errors: &mut Counted<Sink>,
 ) -> u8 {
     match ready(alloc, options, spec, errors) {
-        Ok(_) if options.task == Task::Check => accept(alloc, output, errors),
         Ok(table) => act(alloc, options, &table, input, output, errors),
         Err(status) => status,
     }

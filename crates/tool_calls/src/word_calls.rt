@@ -1,6 +1,6 @@
-//! Calls of `options` of `command_line`.
+//! Calls of `command_line` that say what words ask for.
 use call_lines::push_no_memory;
-use cddl_tool::{Options, Use, options};
+use cddl_tool::{Options, Use, options, options_of_arguments, stream_name};
 use std::alloc::{AllocError, Global};
 
 // The options of words with a space between them.
@@ -12,12 +12,46 @@ pub(crate) fn options_of(alloc: Global, words: &str) -> Result<Result<Options, U
     Ok(options(alloc, &list))
 }
 
+// The same of words that are owned, as a program has its arguments.
+fn options_of_owned(alloc: Global, words: &str) -> Result<Result<Options, Use>, AllocError> {
+    let mut list = Vec::new(alloc);
+    for word in words.split(' ') {
+        list.push(String::from_str(alloc, word)?)?;
+    }
+    Ok(options_of_arguments(alloc, &list))
+}
+
 pub(crate) fn push_options(alloc: Global, words: &str, out: &mut String) -> Result<(), AllocError> {
-    match options_of(alloc, words)? {
+    push_told(alloc, &options_of(alloc, words)?, out)
+}
+
+pub(crate) fn push_owned(alloc: Global, words: &str, out: &mut String) -> Result<(), AllocError> {
+    push_told(alloc, &options_of_owned(alloc, words)?, out)
+}
+
+fn push_told(
+    alloc: Global,
+    told: &Result<Options, Use>,
+    out: &mut String,
+) -> Result<(), AllocError> {
+    match told {
         Ok(options) => {
-            push_names(alloc, &options, out)?;
-            push_numbers(alloc, &options, out)
+            push_names(alloc, options, out)?;
+            push_numbers(alloc, options, out)
         }
+        Err(Use::Words(_)) => out.push_str("Words"),
+        Err(Use::Memory) => push_no_memory(out),
+    }
+}
+
+// The name of the file with the stream that the words give.
+pub(crate) fn push_stream_name(
+    alloc: Global,
+    words: &str,
+    out: &mut String,
+) -> Result<(), AllocError> {
+    match options_of(alloc, words)? {
+        Ok(options) => out.push_str(stream_name(&options).unwrap_or("standard input")),
         Err(Use::Words(_)) => out.push_str("Words"),
         Err(Use::Memory) => push_no_memory(out),
     }
@@ -40,8 +74,8 @@ fn push_name(text: &str, name: &Option<String>, out: &mut String) -> Result<(), 
 }
 
 fn push_numbers(alloc: Global, options: &Options, out: &mut String) -> Result<(), AllocError> {
-    let depth = options.limits.depth();
-    let item_bytes = options.limits.item_bytes();
+    let depth = options.depth;
+    let item_bytes = options.item_bytes;
     let steps = options.steps;
     out.push_str(format!(in alloc; ", limits {depth} {item_bytes} {steps}")?.as_str())?;
     if options.quiet {

@@ -4,12 +4,12 @@ use Rattle.std.proofs.Math.Nat.{zero-add}
 use Rattle.lists.proofs.Lemmas.{IsIn, from_get, in_cases, in_left, in_right, to_get, within}
 use Rattle.graphs.specs.declared.implications.Implication.{Implication}
 use Rattle.graphs.specs.Implications.Implications.{Follows, concludes}
-use Rattle.check_groups.specs.declared.causes.cause.Cause.{Cause}
-use Rattle.check_groups.specs.declared.causes.cause.Cause.TheVariants as CauseV
+use Rattle.check_groups.specs.declared.causes.cause.RowCause.{RowCause}
+use Rattle.check_groups.specs.declared.causes.cause.RowCause.TheVariants as CauseV
 use Rattle.check_groups.specs.Causes.Rules.{all_rules, rule, rules_by}
 
 -- what follows of causes: the least set
-pub data Stands (causes : List Cause) : ℕ → Type 0 where
+pub data Stands (causes : List RowCause) : ℕ → Type 0 where
   always : {n : ℕ} → slice_get causes n ≡ Some CauseV.Always → Stands causes n
   of_one : {n a : ℕ} → slice_get causes n ≡ Some (CauseV.One a) → Stands causes a → Stands causes n
   of_first : {n a b : ℕ} → slice_get causes n ≡ Some (CauseV.Either a b) → Stands causes a → Stands causes n
@@ -18,14 +18,14 @@ pub data Stands (causes : List Cause) : ℕ → Type 0 where
 
 -- the implications of a row
 
-data IsRule (n : ℕ) : Cause → Implication → Type 0 where
+data IsRule (n : ℕ) : RowCause → Implication → Type 0 where
   by_nothing : IsRule n CauseV.Always (rule n None None)
   by_one : {a : ℕ} → IsRule n (CauseV.One a) (rule n (Some a) None)
   by_first : {a b : ℕ} → IsRule n (CauseV.Either a b) (rule n (Some a) None)
   by_second : {a b : ℕ} → IsRule n (CauseV.Either a b) (rule n (Some b) None)
   by_both : {a b : ℕ} → IsRule n (CauseV.Both a b) (rule n (Some a) (Some b))
 
-is_rule : (n : ℕ) (c : Cause) (i : Implication) → IsIn i (rules_by n c) → IsRule n c i
+is_rule : (n : ℕ) (c : RowCause) (i : Implication) → IsIn i (rules_by n c) → IsRule n c i
 is_rule n CauseV.Never i h = absurd h
 is_rule n CauseV.Always i (inl e) = subst (IsRule n CauseV.Always) (sym e) by_nothing
 is_rule n CauseV.Always i (inr h) = absurd h
@@ -39,7 +39,7 @@ is_rule n (CauseV.Both a b) i (inr h) = absurd h
 
 -- those of all rows
 
-rule_in : (n : ℕ) (causes : List Cause) (i : Implication) → IsIn i (all_rules n causes) → (k : ℕ) × (c : Cause) × (slice_get causes k ≡ Some c) × IsIn i (rules_by (n + k) c)
+rule_in : (n : ℕ) (causes : List RowCause) (i : Implication) → IsIn i (all_rules n causes) → (k : ℕ) × (c : RowCause) × (slice_get causes k ≡ Some c) × IsIn i (rules_by (n + k) c)
 rule_in n [] i h = absurd h
 rule_in n (c ∷ causes) i h = by (in_cases (rules_by n c) (all_rules (n + 1) causes) i h) (rule_in (n + 1) causes i)
   where
@@ -49,11 +49,11 @@ rule_in n (c ∷ causes) i h = by (in_cases (rules_by n c) (all_rules (n + 1) ca
     later : (k : ℕ) → (n + 1) + k ≡ n + suc k
     later k = omega arith
 
-    by : IsIn i (rules_by n c) ⊎ IsIn i (all_rules (n + 1) causes) → (IsIn i (all_rules (n + 1) causes) → (k : ℕ) × (d : Cause) × (slice_get causes k ≡ Some d) × IsIn i (rules_by ((n + 1) + k) d)) → (k : ℕ) × (d : Cause) × (slice_get (c ∷ causes) k ≡ Some d) × IsIn i (rules_by (n + k) d)
+    by : IsIn i (rules_by n c) ⊎ IsIn i (all_rules (n + 1) causes) → (IsIn i (all_rules (n + 1) causes) → (k : ℕ) × (d : RowCause) × (slice_get causes k ≡ Some d) × IsIn i (rules_by ((n + 1) + k) d)) → (k : ℕ) × (d : RowCause) × (slice_get (c ∷ causes) k ≡ Some d) × IsIn i (rules_by (n + k) d)
     by (inl g) r = (0, c, refl, subst (λ m. IsIn i (rules_by m c)) first g)
     by (inr g) r = let q = r g in (suc q.0, q.1, q.2, subst (λ m. IsIn i (rules_by m q.1)) (later q.0) q.3)
 
-in_rules : (n : ℕ) (causes : List Cause) (k : ℕ) (c : Cause) (i : Implication) → slice_get causes k ≡ Some c → IsIn i (rules_by (n + k) c) → IsIn i (all_rules n causes)
+in_rules : (n : ℕ) (causes : List RowCause) (k : ℕ) (c : RowCause) (i : Implication) → slice_get causes k ≡ Some c → IsIn i (rules_by (n + k) c) → IsIn i (all_rules n causes)
 in_rules n [] k c i e h = cc
 in_rules n (d ∷ causes) zero c i e h = in_left (rules_by n d) (all_rules (n + 1) causes) i (subst (λ b. IsIn i (rules_by n b)) same (subst (λ m. IsIn i (rules_by m c)) first h))
   where
@@ -69,19 +69,19 @@ in_rules n (d ∷ causes) (suc k) c i e h = in_right (rules_by n d) (all_rules (
 
 -- Both least sets are one.
 
-by_rule : (causes : List Cause) (n : ℕ) (c : Cause) (i : Implication) → slice_get causes n ≡ Some c → IsRule n c i → ((p : ℕ) → i.first ≡ Some p → Stands causes p) → ((p : ℕ) → i.second ≡ Some p → Stands causes p) → Stands causes i.then
+by_rule : (causes : List RowCause) (n : ℕ) (c : RowCause) (i : Implication) → slice_get causes n ≡ Some c → IsRule n c i → ((p : ℕ) → i.first ≡ Some p → Stands causes p) → ((p : ℕ) → i.second ≡ Some p → Stands causes p) → Stands causes i.then
 by_rule causes n c i e by_nothing f s = always e
 by_rule causes n c i e (by_one {a = a}) f s = of_one e (f a refl)
 by_rule causes n c i e (by_first {a = a}) f s = of_first e (f a refl)
 by_rule causes n c i e (by_second {b = b}) f s = of_second e (f b refl)
 by_rule causes n c i e (by_both {a = a} {b = b}) f s = of_both e (f a refl) (s b refl)
 
-pub stands : (causes : List Cause) (facts : ℕ) (n : ℕ) → Follows facts (all_rules 0 causes) n → Stands causes n
+pub stands : (causes : List RowCause) (facts : ℕ) (n : ℕ) → Follows facts (all_rules 0 causes) n → Stands causes n
 stands causes facts n (concludes place i at l first second) =
     let r = rule_in 0 causes i (from_get (all_rules 0 causes) place i at) in
     by_rule causes r.0 r.1 i r.2 (is_rule r.0 r.1 i (subst (λ m. IsIn i (rules_by m r.1)) (zero-add r.0) r.3)) (λ p e. stands causes facts p (first p e)) (λ p e. stands causes facts p (second p e))
 
-module _ (causes : List Cause) where
+module _ (causes : List RowCause) where
   nothing_needed : (p : ℕ) → None ≡ Some p → Follows (length causes) (all_rules 0 causes) p
   nothing_needed p e = cc
 
@@ -91,7 +91,7 @@ module _ (causes : List Cause) where
       same : a ≡ p
       same = cc
 
-  concluded : (n : ℕ) (c : Cause) (a b : Option ℕ) → slice_get causes n ≡ Some c → IsIn (rule n a b) (rules_by n c) → ((p : ℕ) → a ≡ Some p → Follows (length causes) (all_rules 0 causes) p) → ((p : ℕ) → b ≡ Some p → Follows (length causes) (all_rules 0 causes) p) → Follows (length causes) (all_rules 0 causes) n
+  concluded : (n : ℕ) (c : RowCause) (a b : Option ℕ) → slice_get causes n ≡ Some c → IsIn (rule n a b) (rules_by n c) → ((p : ℕ) → a ≡ Some p → Follows (length causes) (all_rules 0 causes) p) → ((p : ℕ) → b ≡ Some p → Follows (length causes) (all_rules 0 causes) p) → Follows (length causes) (all_rules 0 causes) n
   concluded n c a b e h f s =
       let place = to_get (all_rules 0 causes) (rule n a b) (in_rules 0 causes n c (rule n a b) e (subst (λ m. IsIn (rule n a b) (rules_by m c)) (sym (zero-add n)) h)) in
       concludes place.0 (rule n a b) place.1 (within causes n c e) f s

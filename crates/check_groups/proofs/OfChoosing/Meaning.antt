@@ -12,14 +12,16 @@ use Rattle.check_terms.specs.Table.{Table, Tree, Holds, part}
 use Rattle.check_terms.specs.Trees.{IsGroup, IsEntries, IsEntry, group_tree, entries_tree, entry_tree}
 use Rattle.check_instances.specs.Closed.Closed.{AreReached}
 use Rattle.graphs.specs.Implications.Implications.{AreFollowing}
-use Rattle.check_groups.specs.declared.causes.cause.Cause.{Cause}
-use Rattle.check_groups.specs.declared.causes.cause.Cause.TheVariants as CauseV
-use Rattle.check_groups.specs.Choosing.Causes.{IsCauseOfGroup, of_sole, of_orelse, IsCauseOfEntries, of_none, of_more, IsCauseOfEntry, not_once, of_type, of_named, of_keyed, of_grouped, AreCauses}
-use Rattle.check_groups.specs.Causes.Groups.{alternatives_at}
+use Rattle.check_groups.specs.declared.causes.cause.RowCause.{RowCause}
+use Rattle.check_groups.specs.declared.causes.cause.RowCause.TheVariants as CauseV
+use Rattle.check_groups.specs.declared.causes.cause.GroupProperty.TheVariants as PropertyV
+use Rattle.check_groups.specs.Causes.Flags.{AreCauses}
+use Rattle.check_groups.specs.Causes.Rows.{alternatives_at}
 use Rattle.check_groups.specs.Choosing.Choosing.{AreChoosable}
 use Rattle.check_groups.specs.Causes.Rules.{all_rules}
 use Rattle.check_groups.specs.Choosing.Signs.{HaveEntries}
 use Rattle.check_groups.proofs.OfCauses.Following.{Stands, always, of_one, of_first, of_second, of_both, stands, follows}
+use Rattle.check_groups.proofs.OfChoosing.Causes.{IsCauseOfGroup, of_sole, of_orelse, IsCauseOfEntries, of_none, of_more, IsCauseOfEntry, not_once, of_type, of_named, of_keyed, of_grouped, IsCause, cause_at}
 use Rattle.check_groups.proofs.OfChoosing.Joining.{IsThere, both_there, first_there, second_there, from_each, to_each}
 use Rattle.check_groups.proofs.OfCauses.Reaching.{left_reached, right_reached}
 use Rattle.check_groups.proofs.OfChoosing.Through.{Carries, enough, in_is, named_part, names_in, opened_by_part}
@@ -43,7 +45,10 @@ there_if : (b : Bool) (o : Option (List Term)) → b ≡ true → IsThere o → 
 there_if true o i e = e
 there_if false o i e = absurd (nothing i)
 
-module _ (xs : List Definition) (root : Text) (t : Table) (causes : List Cause) (are : AreCauses xs root t causes) where
+module _ (xs : List Definition) (root : Text) (t : Table) (causes : List RowCause) (are : AreCauses PropertyV.CanChoose xs root t causes) where
+  each : (n : ℕ) (c : RowCause) → slice_get causes n ≡ Some c → IsCause xs root t n c
+  each n c e = cause_at xs root t causes are n c e
+
   -- From what follows is chosen, where one name more adds nothing.
   module _ (m : ℕ) (back : Carries xs root (names_in xs root (suc m)) (names_in xs root m)) where
     abbrev next : List Entries → Option (List Term)
@@ -109,23 +114,23 @@ module _ (xs : List Definition) (root : Text) (t : Table) (causes : List Cause) 
 
     never_either : (n a b : ℕ) → slice_get causes n ≡ Some (CauseV.Either a b) → ChosenRow n
     never_either n a b e = record {
-      group = λ g h r. absurd (no_group_either g a b ((are.each n (CauseV.Either a b) e).group g h));
-      entries = λ es h r. absurd (no_entries_either es a b ((are.each n (CauseV.Either a b) e).entries es h));
-      entry = λ x h r. absurd (no_entry_either x a b ((are.each n (CauseV.Either a b) e).entry x h r));
+      group = λ g h r. absurd (no_group_either g a b ((each n (CauseV.Either a b) e).group g h));
+      entries = λ es h r. absurd (no_entries_either es a b ((each n (CauseV.Either a b) e).entries es h));
+      entry = λ x h r. absurd (no_entry_either x a b ((each n (CauseV.Either a b) e).entry x h r));
     }
 
     sound : (n : ℕ) → Stands causes n → ChosenRow n
     sound n (always e) = record {
-      group = λ g h r. absurd (no_group g ((are.each n CauseV.Always e).group g h));
-      entries = λ es h r. entries_always es ((are.each n CauseV.Always e).entries es h);
-      entry = λ x h r. entry_always x ((are.each n CauseV.Always e).entry x h r) r;
+      group = λ g h r. absurd (no_group g ((each n CauseV.Always e).group g h));
+      entries = λ es h r. entries_always es ((each n CauseV.Always e).entries es h);
+      entry = λ x h r. entry_always x ((each n CauseV.Always e).entry x h r) r;
     }
     sound n (of_one {a = a} e s) =
         let m = sound a s in
         record {
-          group = λ g h r. group_one g a ((are.each n (CauseV.One a) e).group g h) m r;
-          entries = λ es h r. absurd (no_entries_one es a ((are.each n (CauseV.One a) e).entries es h));
-          entry = λ x h r. entry_one x a ((are.each n (CauseV.One a) e).entry x h r) m r;
+          group = λ g h r. group_one g a ((each n (CauseV.One a) e).group g h) m r;
+          entries = λ es h r. absurd (no_entries_one es a ((each n (CauseV.One a) e).entries es h));
+          entry = λ x h r. entry_one x a ((each n (CauseV.One a) e).entry x h r) m r;
         }
     sound n (of_first {a = a} {b = b} e s) = never_either n a b e
     sound n (of_second {a = a} {b = b} e s) = never_either n a b e
@@ -133,9 +138,9 @@ module _ (xs : List Definition) (root : Text) (t : Table) (causes : List Cause) 
         let m = sound a s in
         let k = sound b u in
         record {
-          group = λ g h r. group_both g a b ((are.each n (CauseV.Both a b) e).group g h) m k r;
-          entries = λ es h r. entries_both es a b ((are.each n (CauseV.Both a b) e).entries es h) m k r;
-          entry = λ x h r. absurd (no_entry_both x a b ((are.each n (CauseV.Both a b) e).entry x h r));
+          group = λ g h r. group_both g a b ((each n (CauseV.Both a b) e).group g h) m k r;
+          entries = λ es h r. entries_both es a b ((each n (CauseV.Both a b) e).entries es h) m k r;
+          entry = λ x h r. absurd (no_entry_both x a b ((each n (CauseV.Both a b) e).entry x h r));
         }
 
     pub group_chosen : (n : ℕ) (g : Group) → Stands causes n → IsGroup t n g → AreReached xs root (group_points g) → IsThere (chosen_in xs m (alternatives g))
@@ -143,7 +148,7 @@ module _ (xs : List Definition) (root : Text) (t : Table) (causes : List Cause) 
 
   -- What is chosen from follows.
 
-  cause_there : (n : ℕ) (x : Tree) → Holds t (Some n) x → (c : Cause) × (slice_get causes n ≡ Some c)
+  cause_there : (n : ℕ) (x : Tree) → Holds t (Some n) x → (c : RowCause) × (slice_get causes n ≡ Some c)
   cause_there n x (part e h a b) = there causes n (subst (λ l. n < l) (sym are.all) (within t.rows n _ e))
 
   module _ (next : List Entries → Option (List Term)) (again : (n : ℕ) (g : Group) → IsGroup t n g → AreReached xs root (group_points g) → IsThere (next (alternatives g)) → Stands causes n) where
@@ -154,40 +159,40 @@ module _ (xs : List Definition) (root : Text) (t : Table) (causes : List Cause) 
 
     mutual
       group_stands : (n : ℕ) (g : Group) → IsGroup t n g → AreReached xs root (group_points g) → IsThere (chosen_group xs next g) → Stands causes n
-      group_stands n (sole es) h r e = let c = cause_there n (group_tree (sole es)) h in by (λ m k. entries_stands m es k r e) c.0 c.1 ((are.each n c.0 c.1).group (sole es) h)
+      group_stands n (sole es) h r e = let c = cause_there n (group_tree (sole es)) h in by (λ m k. entries_stands m es k r e) c.0 c.1 ((each n c.0 c.1).group (sole es) h)
         where
-          by : ((m : ℕ) → IsEntries t m es → Stands causes m) → (c : Cause) → slice_get causes n ≡ Some c → IsCauseOfGroup t (sole es) c → Stands causes n
+          by : ((m : ℕ) → IsEntries t m es → Stands causes m) → (c : RowCause) → slice_get causes n ≡ Some c → IsCauseOfGroup t (sole es) c → Stands causes n
           by f c i (of_sole {n = m} k) = of_one i (f m k)
-      group_stands n (orelse g es) h r e = let c = cause_there n (group_tree (orelse g es)) h in by (λ m k. group_stands m g k (left_reached xs root (group_points g) (entries_points es) r) (first_there (chosen_group xs next g) (chosen_entries xs next es) e)) (λ m k. entries_stands m es k (right_reached xs root (group_points g) (entries_points es) r) (second_there (chosen_group xs next g) (chosen_entries xs next es) e)) c.0 c.1 ((are.each n c.0 c.1).group (orelse g es) h)
+      group_stands n (orelse g es) h r e = let c = cause_there n (group_tree (orelse g es)) h in by (λ m k. group_stands m g k (left_reached xs root (group_points g) (entries_points es) r) (first_there (chosen_group xs next g) (chosen_entries xs next es) e)) (λ m k. entries_stands m es k (right_reached xs root (group_points g) (entries_points es) r) (second_there (chosen_group xs next g) (chosen_entries xs next es) e)) c.0 c.1 ((each n c.0 c.1).group (orelse g es) h)
         where
-          by : ((m : ℕ) → IsGroup t m g → Stands causes m) → ((m : ℕ) → IsEntries t m es → Stands causes m) → (c : Cause) → slice_get causes n ≡ Some c → IsCauseOfGroup t (orelse g es) c → Stands causes n
+          by : ((m : ℕ) → IsGroup t m g → Stands causes m) → ((m : ℕ) → IsEntries t m es → Stands causes m) → (c : RowCause) → slice_get causes n ≡ Some c → IsCauseOfGroup t (orelse g es) c → Stands causes n
           by f q c i (of_orelse {n = a} {m = b} k l) = of_both i (f a k) (q b l)
 
       entries_stands : (n : ℕ) (es : Entries) → IsEntries t n es → AreReached xs root (entries_points es) → IsThere (chosen_entries xs next es) → Stands causes n
-      entries_stands n no_entries h r e = let c = cause_there n (entries_tree no_entries) h in by c.0 c.1 ((are.each n c.0 c.1).entries no_entries h)
+      entries_stands n no_entries h r e = let c = cause_there n (entries_tree no_entries) h in by c.0 c.1 ((each n c.0 c.1).entries no_entries h)
         where
-          by : (c : Cause) → slice_get causes n ≡ Some c → IsCauseOfEntries t no_entries c → Stands causes n
+          by : (c : RowCause) → slice_get causes n ≡ Some c → IsCauseOfEntries t no_entries c → Stands causes n
           by c i of_none = always i
-      entries_stands n (entries es x d) h r e = let c = cause_there n (entries_tree (entries es x d)) h in by (λ m k. entries_stands m es k (left_reached xs root (entries_points es) (entry_points x) r) (first_there (chosen_entries xs next es) (chosen_entry xs next x) e)) (λ m k. entry_stands m x k (right_reached xs root (entries_points es) (entry_points x) r) (second_there (chosen_entries xs next es) (chosen_entry xs next x) e)) c.0 c.1 ((are.each n c.0 c.1).entries (entries es x d) h)
+      entries_stands n (entries es x d) h r e = let c = cause_there n (entries_tree (entries es x d)) h in by (λ m k. entries_stands m es k (left_reached xs root (entries_points es) (entry_points x) r) (first_there (chosen_entries xs next es) (chosen_entry xs next x) e)) (λ m k. entry_stands m x k (right_reached xs root (entries_points es) (entry_points x) r) (second_there (chosen_entries xs next es) (chosen_entry xs next x) e)) c.0 c.1 ((each n c.0 c.1).entries (entries es x d) h)
         where
-          by : ((m : ℕ) → IsEntries t m es → Stands causes m) → ((m : ℕ) → IsEntry t m x → Stands causes m) → (c : Cause) → slice_get causes n ≡ Some c → IsCauseOfEntries t (entries es x d) c → Stands causes n
+          by : ((m : ℕ) → IsEntries t m es → Stands causes m) → ((m : ℕ) → IsEntry t m x → Stands causes m) → (c : RowCause) → slice_get causes n ≡ Some c → IsCauseOfEntries t (entries es x d) c → Stands causes n
           by f q c i (of_more {n = a} {m = b} k l) = of_both i (f a k) (q b l)
 
       entry_stands : (n : ℕ) (x : Entry) → IsEntry t n x → AreReached xs root (entry_points x) → IsThere (chosen_entry xs next x) → Stands causes n
-      entry_stands n (typed o x) h r e = let c = cause_there n (entry_tree (typed o x)) h in by (if_there (occurs_once o) (chosen_part xs next x (part_of xs x)) e) c.0 c.1 ((are.each n c.0 c.1).entry (typed o x) h r)
+      entry_stands n (typed o x) h r e = let c = cause_there n (entry_tree (typed o x)) h in by (if_there (occurs_once o) (chosen_part xs next x (part_of xs x)) e) c.0 c.1 ((each n c.0 c.1).entry (typed o x) h r)
         where
-          by : (occurs_once o ≡ true) × IsThere (chosen_part xs next x (part_of xs x)) → (c : Cause) → slice_get causes n ≡ Some c → IsCauseOfEntry xs root t (typed o x) c → Stands causes n
+          by : (occurs_once o ≡ true) × IsThere (chosen_part xs next x (part_of xs x)) → (c : RowCause) → slice_get causes n ≡ Some c → IsCauseOfEntry xs root t (typed o x) c → Stands causes n
           by f c i (not_once k) = absurd (nothing (sym k ∙ f.0))
           by f c i (of_type k l) = always i
           by f c i (of_named {n = m} g k l p q) = of_one i (named_stands m x g p q (part_of xs x) l f.1)
-      entry_stands n (keyed o q x) h r e = let c = cause_there n (entry_tree (keyed o q x)) h in by (if_there (occurs_once o) (Some (x ∷ [])) e) c.0 c.1 ((are.each n c.0 c.1).entry (keyed o q x) h r)
+      entry_stands n (keyed o q x) h r e = let c = cause_there n (entry_tree (keyed o q x)) h in by (if_there (occurs_once o) (Some (x ∷ [])) e) c.0 c.1 ((each n c.0 c.1).entry (keyed o q x) h r)
         where
-          by : (occurs_once o ≡ true) × IsThere (Some (x ∷ [])) → (c : Cause) → slice_get causes n ≡ Some c → IsCauseOfEntry xs root t (keyed o q x) c → Stands causes n
+          by : (occurs_once o ≡ true) × IsThere (Some (x ∷ [])) → (c : RowCause) → slice_get causes n ≡ Some c → IsCauseOfEntry xs root t (keyed o q x) c → Stands causes n
           by f c i (not_once k) = absurd (nothing (sym k ∙ f.0))
           by f c i (of_keyed k) = always i
-      entry_stands n (grouped o g) h r e = let c = cause_there n (entry_tree (grouped o g)) h in let f = if_there (occurs_once o) (chosen_group xs next g) e in by f.0 (λ m k. group_stands m g k r f.1) c.0 c.1 ((are.each n c.0 c.1).entry (grouped o g) h r)
+      entry_stands n (grouped o g) h r e = let c = cause_there n (entry_tree (grouped o g)) h in let f = if_there (occurs_once o) (chosen_group xs next g) e in by f.0 (λ m k. group_stands m g k r f.1) c.0 c.1 ((each n c.0 c.1).entry (grouped o g) h r)
         where
-          by : occurs_once o ≡ true → ((m : ℕ) → IsGroup t m g → Stands causes m) → (c : Cause) → slice_get causes n ≡ Some c → IsCauseOfEntry xs root t (grouped o g) c → Stands causes n
+          by : occurs_once o ≡ true → ((m : ℕ) → IsGroup t m g → Stands causes m) → (c : RowCause) → slice_get causes n ≡ Some c → IsCauseOfEntry xs root t (grouped o g) c → Stands causes n
           by f q c i (not_once k) = absurd (nothing (sym k ∙ f))
           by f q c i (of_grouped {n = m} k l) = of_one i (q m l)
 
@@ -205,8 +210,5 @@ module _ (xs : List Definition) (root : Text) (t : Table) (causes : List Cause) 
       (λ e. (f.each n).1 (follows causes n (chosen_stands m n g h r e))),
     )
 
-    pub are_choosable : length refs ≤ most_instances → (facts : ℕ) (flags : List Bool) → facts ≡ length causes → AreFollowing facts (all_rules 0 causes) flags → AreChoosable xs root t flags
-    are_choosable few facts flags c found = by (subst (λ n. AreFollowing n (all_rules 0 causes) flags) c found)
-      where
-        by : AreFollowing (length causes) (all_rules 0 causes) flags → AreChoosable xs root t flags
-        by f = record { all = f.all ∙ are.all; groups = told most_instances few flags f }
+    pub are_choosable : length refs ≤ most_instances → (flags : List Bool) → AreFollowing (length causes) (all_rules 0 causes) flags → AreChoosable xs root t flags
+    are_choosable few flags f = record { all = f.all ∙ are.all; groups = told most_instances few flags f }

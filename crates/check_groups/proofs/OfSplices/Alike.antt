@@ -29,13 +29,13 @@ module _ (t : Table) where
   abbrev Same : List M.Member → List Member → Type 0
   Same ms ns = AlikeAll (IsMember t) ms ns
 
-  behind : {ms : List M.Member} {ns : List Member} {mss : M.Alternatives} {nss : S.Alternatives} → Same ms ns → AreAlternatives t mss nss → AreAlternatives t (map (λ us. ms ++ us) mss) (S.behind ns nss)
-  behind h A.none = A.none
-  behind h (A.both k ks) = A.both (appended h k) (behind h ks)
+  put_after : {ms : List M.Member} {ns : List Member} {mss : M.Alternatives} {nss : S.Alternatives} → Same ms ns → AreAlternatives t mss nss → AreAlternatives t (map (λ us. ms ++ us) mss) (S.behind ns nss)
+  put_after h A.none = A.none
+  put_after h (A.both k ks) = A.both (appended h k) (put_after h ks)
 
   pub ways : {mss pss : M.Alternatives} {nss qss : S.Alternatives} → AreAlternatives t mss nss → AreAlternatives t pss qss → AreAlternatives t (M.ways mss pss) (S.ways nss qss)
   ways A.none k = A.none
-  ways (A.both h hs) k = appended (behind h k) (ways hs k)
+  ways (A.both h hs) k = appended (put_after h k) (ways hs k)
 
   members : {mss : M.Alternatives} {nss : S.Alternatives} → AreAlternatives t mss nss → Same (M.members mss) (S.members nss)
   members A.none = A.none

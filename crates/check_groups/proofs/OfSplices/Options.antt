@@ -72,12 +72,12 @@ module _ (ds : List Definition) (next : List Entries → Option Alternatives) wh
 
 -- An entry by itself has what it has.
 
-same_behind : (nss : Alternatives) → map (λ (ns : List Member). [] ++ ns) nss ≡ nss
-same_behind [] = refl
-same_behind (ns ∷ nss) = ap (λ mss. ns ∷ mss) (same_behind nss)
+same_after : (nss : Alternatives) → map (λ (ns : List Member). [] ++ ns) nss ≡ nss
+same_after [] = refl
+same_after (ns ∷ nss) = ap (λ mss. ns ∷ mss) (same_after nss)
 
 by_itself : (o : Option Alternatives) → joined (combined (Some ([] ∷ [])) o) (Some []) ≡ o
-by_itself (Some nss) = ap Some (append-nil (ways ([] ∷ []) nss) ∙ append-nil (map (λ (ns : List Member). [] ++ ns) nss) ∙ same_behind nss)
+by_itself (Some nss) = ap Some (append-nil (ways ([] ∷ []) nss) ∙ append-nil (map (λ (ns : List Member). [] ++ ns) nss) ∙ same_after nss)
 by_itself None = refl
 
 pub lone_has : (ds : List Definition) (next : List Entries → Option Alternatives) (x : Entry) → in_each ds next (lone x ∷ []) ≡ in_entry ds next x

@@ -2,7 +2,7 @@
 use Rattle.std.proofs.Common.{◌≡◌, ℕ, zero, suc, ◌≤◌, Bool, true, false, if◌then◌else◌, List, [], ◌∷◌, ◌++◌, length, Option, Some, None, is_some, refl, sym, ap, subst, ◌∙◌, arith, slice_get}
 use Rattle.std.specs.Prelude.{Contains}
 use Rattle.std.proofs.lemmas.List.Elements.{Contains-append_left, Contains-append_right}
-use Rattle.lists.proofs.Lemmas.{beyond_all, no_some, place_of as to_place}
+use Rattle.lists.proofs.Lemmas.{beyond_all, contains_at, no_some, place_of as to_place}
 use Rattle.cddl_language.specs.Terms.{Text, Term, named, unwrapped, Ref, Group, sole, orelse, Entries, no_entries, entries, Entry, typed, keyed, grouped, Definition, alternatives, name_of, stripped}
 use Rattle.cddl_language.specs.Substitution.{group_choices}
 use Rattle.cddl_language.specs.Kinds.{Opened, opens_group, opens_type, opened, is_group, Part, asks_type, names_group, opens, opened_part, stripped_part, part_of}
@@ -10,7 +10,6 @@ use Rattle.cddl_language.specs.Reach.{Point, Reaches, points, group_points, entr
 use Rattle.cddl_language.specs.StandsFor.{AreInstances}
 use Rattle.cddl_language.specs.Maps.{Alternatives, in_part, in_group, in_entries, in_entry, in_each, alternatives_in}
 use Rattle.check_instances.specs.Closed.Closed.{AreReached}
-use Rattle.check_groups.proofs.OfSplices.Lists.{at_place}
 use Rattle.check_groups.proofs.OfSplices.Options.{Follows, combined_follows, group_each, joined_follows, narrowed, occurring_follows}
 
 module _ (ds : List Definition) where
@@ -131,8 +130,8 @@ module _ (ds : List Definition) (root : Text) where
         never : false ≡ true → ⊥
         never e = cc
 
-        none_behind : (k i : ℕ) → length refs ≤ i → have k i ≡ true → ⊥
-        none_behind k i h e = never (sym (ap (way_of k) (beyond_all refs i h)) ∙ e)
+        none_after : (k i : ℕ) → length refs ≤ i → have k i ≡ true → ⊥
+        none_after k i h e = never (sym (ap (way_of k) (beyond_all refs i h)) ∙ e)
 
         is_there : (o q : Option Alternatives) → Follows o q → is_some o ≡ true → is_some q ≡ true
         is_there (Some ms) q f e = ap is_some (f ms refl)
@@ -149,7 +148,7 @@ module _ (ds : List Definition) (root : Text) where
 
             at : (o : Option Ref) → o ≡ slice_get refs i → way_of j o ≡ true → way_of k o ≡ true
             at None s e = e
-            at (Some r) s e = by r (instances.only r (at_place refs i r (sym s))) (is_group ds (name_of r)) refl (opened ds r) refl e
+            at (Some r) s e = by r (instances.only r (contains_at refs i r (sym s))) (is_group ds (name_of r)) refl (opened ds r) refl e
 
         -- back from one name more
         from_sets : (k : ℕ) → ((i : ℕ) → have (suc k) i ≡ true → have k i ≡ true) → Carries (names_in ds (suc k)) (names_in ds k)
@@ -169,4 +168,4 @@ module _ (ds : List Definition) (root : Text) where
 
         -- After as many names as there are instances nothing new comes.
         pub enough : ((p : ℕ → ℕ → Bool) (count : ℕ) → ((k i : ℕ) → count ≤ i → p k i ≡ true → ⊥) → ((k i : ℕ) → p k i ≡ true → p (suc k) i ≡ true) → ((k : ℕ) → ((i : ℕ) → p (suc k) i ≡ true → p k i ≡ true) → (i : ℕ) → p (suc (suc k)) i ≡ true → p (suc k) i ≡ true) → (m : ℕ) → count ≤ m → (k i : ℕ) → p k i ≡ true → p m i ≡ true) → (m : ℕ) → length refs ≤ m → Carries (names_in ds (suc m)) (names_in ds m)
-        enough settle m h = from_sets m (λ i e. settle have (length refs) none_behind (λ k i e. to_sets k (suc k) (record { of_name = λ r h i. further k (group_choices ds r); of_opened = λ r g h i. further k (alternatives g) }) i e) (λ k s i e. to_sets (suc (suc k)) (suc k) (one_further (suc k) k (from_sets k s)) i e) m h (suc m) i e)
+        enough settle m h = from_sets m (λ i e. settle have (length refs) none_after (λ k i e. to_sets k (suc k) (record { of_name = λ r h i. further k (group_choices ds r); of_opened = λ r g h i. further k (alternatives g) }) i e) (λ k s i e. to_sets (suc (suc k)) (suc k) (one_further (suc k) k (from_sets k s)) i e) m h (suc m) i e)

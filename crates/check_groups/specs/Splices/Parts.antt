@@ -23,10 +23,6 @@ pub data IsOf (xs : List Definition) (root : Text) (t : Table) : List Entries �
   no_choices : IsOf xs root t [] (length t.rows)
   choices_of : {n : ℕ} (g : Group) → IsGroup t n g → AreReached xs root (group_points g) → IsOf xs root t (alternatives g) n
 
-pub data IsNamed (xs : List Definition) (root : Text) (t : Table) : Option (List Entries) → Option ℕ → Type 0 where
-  no_group : IsNamed xs root t None None
-  a_group : {ess : List Entries} {n : ℕ} → IsOf xs root t ess n → IsNamed xs root t (Some ess) (Some n)
-
 -- Of a group, of entries, and of an entry.
 
 pub data IsPartOfGroup (t : Table) : Group → Part → Type 0 where

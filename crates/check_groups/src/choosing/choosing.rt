@@ -1,4 +1,4 @@
-//! For each row of the table whether `&` can choose from the group that it stands for.
+//! For each row whether `&` can choose from the group that stands there.
 
 ghost use Rattle.std.specs.Prelude.{IfOk, List};
 ghost use Rattle.cddl_language.specs.Terms as L;
@@ -9,14 +9,13 @@ ghost use Rattle.check_instances.specs.Openings.Openings.{AreOpenings};
 ghost use Rattle.check_groups.specs.Choosing.Choosing.{AreChoosable};
 ghost use Rattle.check_groups.specs.Choosing.Signs.{HaveEntries};
 
-use crate::causes::rules::rules_of;
-use crate::choosing::causes::causes_of;
+use crate::causes::cause::GroupProperty;
+use crate::causes::flags::flags_of;
 use check_instances::closed::Closed;
 use check_instances::openings::Opening;
 use check_instances::openings::laws::opened_is_reached;
 use check_names::kinds::Kinds;
 use check_terms::Terms;
-use graphs::implications::following;
 use std::alloc::{AllocError, Global};
 
 /// For each row of the table whether `&` can choose from what it stands for, where that is a group: whether each entry occurs
@@ -38,7 +37,12 @@ pub fn choosable(
     ensures { IfOk result (λ v. (xs : List L.Definition) (root : Text) (refs : List Ref) → HaveEntries xs → IsClosed xs root refs terms.now closed.now → AreKinds terms.now.texts xs kinds.now → AreOpenings xs terms.now refs openings.now → AreChoosable xs root terms.now v.items) }
 {
     opened_is_reached();
-    let causes = causes_of(alloc, terms, closed, kinds, openings)?;
-    let rules = rules_of(alloc, &causes)?;
-    following(alloc, causes.len(), &rules)
+    flags_of(
+        alloc,
+        terms,
+        closed,
+        kinds,
+        openings,
+        GroupProperty::CanChoose,
+    )
 }

@@ -1,103 +1,45 @@
-//! Of what it follows that what a row stands for may be empty.
+//! From which rows it follows that what stands at a row may be empty.
 
-ghost use Rattle.std.specs.Prelude.{◌≡◌, IfOk, List, Some};
-ghost use Rattle.cddl_language.specs.Reach.{entry_points};
-ghost use Rattle.cddl_language.specs.Terms as L;
-ghost use Rattle.cddl_language.specs.Terms.{Entry, Ref, Text};
-ghost use Rattle.check_terms.specs.Trees.{entry_tree};
-ghost use Rattle.check_names.specs.Kinds.Heads.{HoldsRow};
-ghost use Rattle.check_names.specs.Kinds.Kinds.{AreKinds};
-ghost use Rattle.check_instances.specs.Closed.Closed.{AreReached, IsClosed};
-ghost use Rattle.check_instances.specs.Openings.Openings.{AreOpenings};
-ghost use Rattle.check_terms.specs.Entries.{is_entry};
-ghost use Rattle.check_groups.specs.Empty.Causes.{AreCauses, IsCause, IsCauseOfEntry, cause_from, cause_in};
+ghost use Rattle.std.specs.Prelude.{◌≡◌};
+ghost use Rattle.check_groups.specs.Causes.Rows.{occurrence_at};
+ghost use Rattle.check_groups.specs.Empty.Causes.{cause_from, cause_in, empty_cause};
 
-use crate::causes::cause::Cause;
-use crate::causes::groups::group_of;
+use crate::causes::cause::RowCause;
+use crate::causes::rows::{GroupRow, occurrence_at};
 use crate::empty::occurrences::is_optional;
-use check_instances::closed::Closed;
-use check_instances::openings::Opening;
-use check_names::kinds::Kinds;
-use check_terms::{Form, Row, Terms};
-use std::alloc::{AllocError, Global};
+use check_terms::Terms;
 
-// The cause of each row.
-pub(crate) fn causes_of(
-    alloc: Global,
-    terms: &Terms<'_>,
-    closed: &Closed,
-    kinds: &Kinds,
-    openings: &[Opening],
-) -> Result<Vec<Cause>, AllocError>
-    ensures { IfOk result (λ v. (xs : List L.Definition) (root : Text) (refs : List Ref) → IsClosed xs root refs terms.now closed.now → AreKinds terms.now.texts xs kinds.now → AreOpenings xs terms.now refs openings.now → AreCauses xs root terms.now v.items) }
+// The cause of a row, where an entry that may stand no time may be empty whatever it is.
+pub(crate) fn cause_of(terms: &Terms<'_>, row: GroupRow) -> RowCause
+    ensures { result ≡ empty_cause terms.now.texts row }
 {
-    let count = terms.row_count()?;
-    let mut causes = Vec::new(alloc);
-    for number in 0..count {
-        causes.push(cause_of(terms, closed, kinds, openings, number))?;
-    }
-    Ok(causes)
-}
-
-fn cause_of(
-    terms: &Terms<'_>,
-    closed: &Closed,
-    kinds: &Kinds,
-    openings: &[Opening],
-    number: u32,
-) -> Cause
-    ensures { (xs : List L.Definition) (root : Text) (refs : List Ref) → IsClosed xs root refs terms.now closed.now → AreKinds terms.now.texts xs kinds.now → AreOpenings xs terms.now refs openings.now → IsCause xs root terms.now number result }
-{
-    let Some(row) = terms.row(number) else {
-        return Cause::Never;
-    };
-    if row.form.is_entry() {
-        cause_of_entry(terms, closed, kinds, openings, row)
+    if is_optional(terms, occurrence_at(row)) {
+        RowCause::Always
     } else {
-        cause_in(row.form, row.first, row.second)
+        cause_in(row)
     }
 }
 
-// The cause of a row of a group or of entries.
-fn cause_in(form: Form, first: Option<u32>, second: Option<u32>) -> Cause
-    ensures { result ≡ cause_in form first second }
+// The same, whatever the occurrence: one alternative may be empty, all entries may be, and an entry is a group that may be.
+fn cause_in(row: GroupRow) -> RowCause
+    ensures { result ≡ cause_in row }
 {
-    match (form, first, second) {
-        (Form::Sole, first, _) => cause_from(first),
-        (Form::OrElse, Some(first), Some(second)) => Cause::Either(first as usize, second as usize),
-        (Form::NoEntries, _, _) => Cause::Always,
-        (Form::Entries | Form::EntriesComma, Some(first), Some(second)) => {
-            Cause::Both(first as usize, second as usize)
-        }
-        _ => Cause::Never,
+    match row {
+        GroupRow::Other => RowCause::Never,
+        GroupRow::Sole(entries) => RowCause::One(entries as usize),
+        GroupRow::OrElse(group, entries) => RowCause::Either(group as usize, entries as usize),
+        GroupRow::NoEntries => RowCause::Always,
+        GroupRow::Entries(entries, entry) => RowCause::Both(entries as usize, entry as usize),
+        GroupRow::Type(_) | GroupRow::Pair(_) => RowCause::Never,
+        GroupRow::Group(_, group) => cause_from(group),
     }
 }
 
-fn cause_from(part: Option<u32>) -> Cause
-    ensures { result ≡ cause_from part }
+fn cause_from(group: Option<u32>) -> RowCause
+    ensures { result ≡ cause_from group }
 {
-    match part {
-        Some(part) => Cause::One(part as usize),
-        None => Cause::Never,
-    }
-}
-
-// The cause of a row of an entry: it may stand no time, or its group may be empty.
-fn cause_of_entry(
-    terms: &Terms<'_>,
-    closed: &Closed,
-    kinds: &Kinds,
-    openings: &[Opening],
-    row: Row,
-) -> Cause
-    ensures { (xs : List L.Definition) (root : Text) (refs : List Ref) → IsClosed xs root refs terms.now closed.now → AreKinds terms.now.texts xs kinds.now → AreOpenings xs terms.now refs openings.now → (e : Entry) → HoldsRow terms.now row (entry_tree e) → AreReached xs root (entry_points e) → IsCauseOfEntry xs root terms.now e result }
-{
-    if is_optional(terms, row.text) {
-        return Cause::Always;
-    }
-    match row.form {
-        Form::Typed => cause_from(group_of(terms, closed, kinds, openings, row.first)),
-        Form::Grouped => cause_from(row.first),
-        _ => Cause::Never,
+    match group {
+        Some(group) => RowCause::One(group as usize),
+        None => RowCause::Never,
     }
 }

@@ -1,4 +1,4 @@
-//! For each row of the table whether the group, the entries or the entry that it stands for may be empty.
+//! For each row whether the group, the entries or the entry that stands there may be empty.
 
 ghost use Rattle.std.specs.Prelude.{IfOk, List};
 ghost use Rattle.cddl_language.specs.Terms as L;
@@ -8,13 +8,12 @@ ghost use Rattle.check_instances.specs.Closed.Closed.{IsClosed};
 ghost use Rattle.check_instances.specs.Openings.Openings.{AreOpenings};
 ghost use Rattle.check_groups.specs.Empty.Empty.{AreEmpty};
 
-use crate::causes::rules::rules_of;
-use crate::empty::causes::causes_of;
+use crate::causes::cause::GroupProperty;
+use crate::causes::flags::flags_of;
 use check_instances::closed::Closed;
 use check_instances::openings::Opening;
 use check_names::kinds::Kinds;
 use check_terms::Terms;
-use graphs::implications::following;
 use std::alloc::{AllocError, Global};
 
 /// For each row of the table whether what it stands for may be empty, where that is a group, the entries of an alternative or
@@ -35,7 +34,12 @@ pub fn may_be_empty(
 ) -> Result<Vec<bool>, AllocError>
     ensures { IfOk result (λ v. (xs : List L.Definition) (root : Text) (refs : List Ref) → IsClosed xs root refs terms.now closed.now → AreKinds terms.now.texts xs kinds.now → AreOpenings xs terms.now refs openings.now → AreEmpty xs root terms.now v.items) }
 {
-    let causes = causes_of(alloc, terms, closed, kinds, openings)?;
-    let rules = rules_of(alloc, &causes)?;
-    following(alloc, causes.len(), &rules)
+    flags_of(
+        alloc,
+        terms,
+        closed,
+        kinds,
+        openings,
+        GroupProperty::MayBeEmpty,
+    )
 }

@@ -6,6 +6,7 @@ use Rattle.cddl_check.specs.Outcome.{IsChecked, IsFaulty, specification}
 use Rattle.cddl_check.specs.Spec.{AreFindings, IsSpec, definitions_of}
 use Rattle.cddl_check.specs.Stages.{IsGiven}
 use Rattle.cddl_check.specs.Told.{refusal_of}
+use Rattle.cddl_check.specs.declared.findings.Findings.{Findings}
 use Rattle.cddl_check.proofs.Faulty.{faulty, same_root}
 use Rattle.cddl_check.proofs.Handing.{handed}
 use Rattle.cddl_check.proofs.findings.findings_of.Goals as goal
@@ -20,6 +21,8 @@ returns-clause-found c =
     let some = c.one_table_of_values.ensures.some x c.requires in
     let first = c.in_ok-reading.ensures.read s some.0 (given some.0 some.1) in
     let root = first.0 in
+    let reading = c.in_ok-reading.reading in
+    let found : Findings = record { terms = c.read_tree.new.terms; root = reading.instanced.root; kinds = reading.questions.naming.kinds; meant = reading.meant; splices = reading.splices; ranks = c.in_ok-ranks.ranks } in
     let checked : IsChecked x n root = record {
       rooted = first.2.rooted.rooted;
       accepted = λ worth right.
@@ -36,7 +39,7 @@ returns-clause-found c =
         found = λ worth right.
             let r = c.in_ok-reading.ensures.read s worth (given worth right) in (
               r.1,
-              subst (λ m. AreFindings (definitions_of x) worth m r.1 _) (same_root r.0 root (sym r.2.rooted.rooted ∙ first.2.rooted.rooted)) (record {
+              subst (λ m. AreFindings (definitions_of x) worth m r.1 found) (same_root r.0 root (sym r.2.rooted.rooted ∙ first.2.rooted.rooted)) (record {
                 is_type = c.root_is_type.ensures.is_type s worth r.0 r.2.rooted.rooted r.2.right.no_fault;
                 kinds = r.2.asking.named.kinds;
                 meant = r.2.meant;

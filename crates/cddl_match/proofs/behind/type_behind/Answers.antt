@@ -1,7 +1,6 @@
 use Rattle.std.proofs.Common.{refl}
 use Rattle.table_nodes.specs.Language.{language_of}
-use Rattle.cddl_match.proofs.Lists.{there_or_not}
-use Rattle.cddl_match.proofs.Ways.{further, itself}
+use Rattle.cddl_match.proofs.Ways.{further, itself, there_or_not}
 use Rattle.cddl_match.proofs.behind.type_behind.Goals as goal
 
 pub loop-behind-init : goal.loop-behind-init

@@ -1,6 +1,6 @@
 use Rattle.std.proofs.Common.{refl, arith}
 use Rattle.table_nodes.specs.Language.{language_of}
-use Rattle.cddl_match.specs.Views.{question_view}
+use Rattle.match_moves.specs.Views.{question_view}
 use Rattle.cddl_match.proofs.Running.{at_begin, turns_left}
 use Rattle.cddl_match.proofs.deeper.replied_by_turns.Goals as goal
 

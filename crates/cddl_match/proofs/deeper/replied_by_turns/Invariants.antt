@@ -1,7 +1,7 @@
 use Rattle.std.proofs.Common.{◌≤◌, ◌-◌, ◌+◌, ◌*◌, length}
 use Rattle.table_nodes.specs.Language.{language_of}
 use Rattle.cddl_match.specs.Machine.{IsRun, asked_in}
-use Rattle.cddl_match.specs.Views.{question_view}
+use Rattle.match_moves.specs.Views.{question_view}
 use Rattle.cddl_match.proofs.deeper.replied_by_turns.Given as goal
 
 -- The run began at the question. A turn takes a step, and asks one question more at most, or takes one off.

@@ -1,7 +1,7 @@
 use Rattle.std.proofs.Common.{arith}
 use Rattle.item_nodes.specs.View.{view}
 use Rattle.table_nodes.specs.Language.{language_of}
-use Rattle.cddl_match.specs.Views.{values}
+use Rattle.match_moves.specs.Views.{values}
 use Rattle.cddl_match.proofs.Sayings.{type_yes}
 use Rattle.cddl_match.proofs.deeper.type_by_turns.Goals as goal
 

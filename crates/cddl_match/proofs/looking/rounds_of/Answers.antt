@@ -2,7 +2,7 @@ use Rattle.std.proofs.Common.{refl, sym, subst, ◌∙◌, arith}
 use Rattle.table_nodes.specs.Language.{language_of}
 use Rattle.table_nodes.specs.Nodes.{most_view, type_view}
 use Rattle.cddl_match.specs.Ahead.{IsEntered}
-use Rattle.cddl_match.specs.Views.{values}
+use Rattle.match_moves.specs.Views.{values}
 use Rattle.cddl_match.proofs.Ways.{and_on, stays, a_round}
 use Rattle.cddl_match.proofs.looking.rounds_of.Goals as goal
 

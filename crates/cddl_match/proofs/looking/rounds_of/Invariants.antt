@@ -2,7 +2,7 @@ use Rattle.std.proofs.Common.{◌≡◌, ◌≤◌, ◌-◌}
 use Rattle.table_nodes.specs.Language.{language_of}
 use Rattle.table_nodes.specs.Nodes.{type_view}
 use Rattle.cddl_match.specs.Ahead.{ComesTo, IsEntered}
-use Rattle.cddl_match.specs.Views.{rounds_move}
+use Rattle.match_moves.specs.Views.{rounds_move}
 use Rattle.cddl_match.proofs.looking.rounds_of.Given as goal
 
 -- the rounds that are left are of the same group, and the first ones come to them

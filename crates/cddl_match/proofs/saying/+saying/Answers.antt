@@ -12,14 +12,14 @@ use Rattle.table_nodes.specs.Nodes.{alternatives_view, content_view, entries_vie
 use Rattle.table_nodes.specs.declared.nodes.GroupId.{GroupId}
 use Rattle.cddl_match.specs.Ahead.{ComesTo}
 use Rattle.cddl_match.specs.Tellings.{sorting_of}
-use Rattle.cddl_match.specs.Views.{reply_view, rounds_move, tally_view, values}
-use Rattle.cddl_match.specs.declared.questions.Stop.TheVariants.{Spent}
+use Rattle.match_moves.specs.Views.{reply_view, rounds_move, tally_view, values}
+use Rattle.cddl_match.specs.declared.calls.Stop.TheVariants.{Spent}
 use Rattle.cddl_match.specs.Within.{Replied, Stopped, Says, done_view, said_view}
-use Rattle.cddl_match.proofs.Lists.{as_many_entries, view-Uint}
+use Rattle.item_nodes.proofs.Lemmas.{view-Uint}
 use Rattle.cddl_match.proofs.Outcomes.{answered, begins, ends_on, passes_on, says_on, took, asks}
 use Rattle.cddl_match.proofs.Sayings.{has_said, type_on, type_few, group_on, group_few, no_passes, yes_passes, array_ends, simple_ends, such_ends, meant_ends, held_ends, nothing_held, entry_ends, goes_on, ends_so, stops, round_stops}
 use Rattle.cddl_match.proofs.Handing.{none_tried, other_key_next, other_value_next, its_value, kept, key_stops, value_stops}
-use Rattle.cddl_match.proofs.Tellings.{all_told, no_pair_told, pair_sorted, pair_stops, pair_told, told_and}
+use Rattle.cddl_match.proofs.Tellings.{all_told, as_many_entries, no_pair_told, pair_sorted, pair_stops, pair_told, told_and}
 use Rattle.cddl_match.proofs.Ways.{and_on, a_round, itself, more_than, opens}
 use Rattle.cddl_match.proofs.saying.+saying.Goals as goal
 
@@ -55,11 +55,11 @@ group_does-returns-in-None t c = group_on (language_of c.args.table.now) c.args.
 pub form_says-returns-in-Ref : goal.form_says-returns-in-Ref
 form_says-returns-in-Ref t c = rw c.in-Ref.is (passes_on (language_of c.args.table.now) (M.OfType c.in-Ref.to c.args.place (view c.args.item.now)) c.args.means.now.left c.type_says.new.means.left (said_view c.type_says.result) c.type_says.ensures)
 
-pub form_says-returns-in-Some : goal.form_says-returns-in-Some
-form_says-returns-in-Some t c = rw (c.in-ArrayOf.is, c.in-Some.ensures, c.array_said.ensures) (array_ends (language_of c.args.table.now) c.in-ArrayOf.group c.args.place (values c.in-Some.items.now) c.args.means.now.left c.group_does.new.means.left _ (rw c.plus.ensures at c.group_does.ensures))
+pub array_says-returns-in-Some : goal.array_says-returns-in-Some
+array_says-returns-in-Some t c = rw (c.in-Some.ensures, c.array_said.ensures) (array_ends (language_of c.args.table.now) c.args.group c.args.place (values c.in-Some.items.now) c.args.means.now.left c.group_does.new.means.left _ (rw c.plus-first.ensures at c.group_does.ensures))
 
-pub form_says-returns-in-Some-simple_of : goal.form_says-returns-in-Some-simple_of
-form_says-returns-in-Some-simple_of t c = rw (c.in-SimpleBy.is, c.in-Some-simple_of.ensures, c.simple_said.ensures) (simple_ends (language_of c.args.table.now) c.in-SimpleBy.head c.args.place c.in-Some-simple_of.number c.args.means.now.left c.apart_says.new.means.left _ (rw (view-Uint c.in-Some-simple_of.number) at c.apart_says.ensures))
+pub simple_says-returns-in-Some : goal.simple_says-returns-in-Some
+simple_says-returns-in-Some t c = rw (c.in-Some.ensures, c.simple_said.ensures) (simple_ends (language_of c.args.table.now) c.args.head c.args.place c.in-Some.number c.args.means.now.left c.apart_says.new.means.left _ (rw (view-Uint c.in-Some.number) at c.apart_says.ensures))
 
 pub form_says-returns-in-Yes : goal.form_says-returns-in-Yes
 form_says-returns-in-Yes t c =
@@ -73,11 +73,11 @@ form_says-returns-in_default-type_says t c = rw c.in-Both.is (no_passes (languag
 pub form_says-returns-in-Such : goal.form_says-returns-in-Such
 form_says-returns-in-Such t c = rw (c.in-Such.is, c.such_said.ensures, c.passes.ensures) (such_ends (language_of c.args.table.now) c.in-Such.of (test_view c.in-Such.test) c.args.place (view c.args.item.now) c.args.means.now.left c.type_says-said.new.means.left _ c.type_says-said.ensures)
 
-pub form_says-returns-in-Yes-type_says : goal.form_says-returns-in-Yes-type_says
-form_says-returns-in-Yes-type_says t c = rw c.in-Holding.is (asks (language_of c.args.table.now) c.args.means.now.left c.type_says-in-Holding.new.means.left c.held_says.new.means.left (M.InHolder (content_view c.in-Holding.content) c.in-Holding.node c.args.place (view c.args.item.now)) (said_view c.held_says.result) c.in-Yes-type_says.ensures c.held_says.ensures)
+pub holding_says-returns-in-Yes : goal.holding_says-returns-in-Yes
+holding_says-returns-in-Yes t c = asks (language_of c.args.table.now) c.args.means.now.left c.type_says.new.means.left c.held_says.new.means.left (M.InHolder (content_view c.args.content) c.args.node c.args.place (view c.args.item.now)) (said_view c.held_says.result) c.in-Yes.ensures c.held_says.ensures
 
-pub form_says-returns-in_default-type_says-2 : goal.form_says-returns-in_default-type_says-2
-form_says-returns-in_default-type_says-2 t c = rw c.in-Holding.is (no_passes (language_of c.args.table.now) (M.OfType c.in-Holding.of c.args.place (view c.args.item.now)) c.args.means.now.left c.type_says-in-Holding.new.means.left (M.InHolder (content_view c.in-Holding.content) c.in-Holding.node c.args.place (view c.args.item.now)) c.type_says-in-Holding.result (λ far. refl) c.in_default-type_says-2.not-Yes c.type_says-in-Holding.ensures)
+pub holding_says-returns-in_default : goal.holding_says-returns-in_default
+holding_says-returns-in_default t c = no_passes (language_of c.args.table.now) (M.OfType c.args.of c.args.place (view c.args.item.now)) c.args.means.now.left c.type_says.new.means.left (M.InHolder (content_view c.args.content) c.args.node c.args.place (view c.args.item.now)) c.type_says.result (λ far. refl) c.in_default.not-Yes c.type_says.ensures
 
 pub choice_says-returns-in_default-type_says_here : goal.choice_says-returns-in_default-type_says_here
 choice_says-returns-in_default-type_says_here t c =

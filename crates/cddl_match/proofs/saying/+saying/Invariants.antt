@@ -8,7 +8,7 @@ use Rattle.table_nodes.specs.Language.{language_of}
 use Rattle.table_nodes.specs.Nodes.{alternatives_view, entries_view}
 use Rattle.cddl_match.specs.Ahead.{ComesTo}
 use Rattle.cddl_match.specs.Tellings.{AreTold, HandsOn, IsTallied}
-use Rattle.cddl_match.specs.Views.{parts_move, rounds_move, tally_view, values}
+use Rattle.match_moves.specs.Views.{parts_move, rounds_move, tally_view, values}
 use Rattle.cddl_match.specs.Within.{Replied, said_view}
 use Rattle.cddl_match.proofs.saying.+saying.Given as goal
 
@@ -106,6 +106,15 @@ decreases-group_form_does l = 8 * l.depth + 7
 
 abbrev pub decreases-choice_says : goal.decreases-choice_says
 decreases-choice_says l = 8 * l.depth + 2
+
+abbrev pub decreases-array_says : goal.decreases-array_says
+decreases-array_says l = 8 * l.depth + 3
+
+abbrev pub decreases-simple_says : goal.decreases-simple_says
+decreases-simple_says l = 8 * l.depth + 3
+
+abbrev pub decreases-holding_says : goal.decreases-holding_says
+decreases-holding_says l = 8 * l.depth + 4
 
 abbrev pub decreases-tag_says : goal.decreases-tag_says
 decreases-tag_says l = 8 * l.depth + 3

@@ -1,7 +1,7 @@
 use Rattle.std.proofs.Common.{◌≡◌, length, refl, ap, ◌∙◌, arith}
 use Rattle.table_nodes.specs.Language.{language_of}
 use Rattle.cddl_match.specs.Machine.{noted}
-use Rattle.cddl_match.specs.Views.{question_view}
+use Rattle.match_moves.specs.Views.{question_view}
 use Rattle.cddl_match.specs.declared.stack.Waiting.{Waiting}
 use Rattle.cddl_match.proofs.Running.{at_ask_over, ask_step, pushed_there, pushed_written}
 use Rattle.cddl_match.proofs.stack.ask.Goals as goal

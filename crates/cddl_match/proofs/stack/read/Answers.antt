@@ -4,8 +4,9 @@ use Rattle.item_nodes.specs.View.{view}
 use Rattle.cddl_meaning.specs.Judges.{Fails}
 use Rattle.cddl_meaning.specs.Moves as M
 use Rattle.cddl_match.specs.Machine.{asked_in, asks_in, found_in}
-use Rattle.cddl_match.specs.Views.{reading_move}
-use Rattle.cddl_match.specs.declared.questions.Pending.TheVariants as P
+use Rattle.match_moves.specs.Views.{reading_move}
+use Rattle.match_moves.specs.declared.questions.Pending.TheVariants as P
+use Rattle.match_moves.specs.declared.questions.PendingType.TheVariants as T
 use Rattle.cddl_match.specs.declared.stack.Run.{Run}
 use Rattle.cddl_match.specs.declared.stack.Waiting.{Waiting}
 use Rattle.table_nodes.specs.Language.{language_of}
@@ -31,7 +32,7 @@ returns-clause-goes c = λ e first at within.
     let xs = c.args.run.now.waiting.items in
     let k = c.len-count.result - 1 in
     let v = c.index_mut-last.result.now in
-    let u : Waiting = record { asked = v.asked; pending = P.Held r.place r.next } in
+    let u : Waiting = record { asked = v.asked; pending = P.Type (T.Held r.place r.next) } in
     let many : k + 1 ≡ length xs = omega (arith, c.len-count.ensures, c.if-count-eq0.false) in
     let held = rw c.in-Ok-Some.field-0-is at c.in-Ok-Some.ensures in
     let there = last_there xs k v many c.index_mut-last.ensures.value in
@@ -46,7 +47,7 @@ returns-clause-finds c =
     let xs = c.args.run.now.waiting.items in
     let k = c.len-count.result - 1 in
     let v = c.index_mut-last.result.now in
-    let u : Waiting = record { asked = v.asked; pending = P.Held r.place r.next } in
+    let u : Waiting = record { asked = v.asked; pending = P.Type (T.Held r.place r.next) } in
     let many : k + 1 ≡ length xs = omega (arith, c.len-count.ensures, c.if-count-eq0.false) in
     let held = rw c.in-Ok-Some.field-0-is at c.in-Ok-Some.ensures in
     let there = last_there xs k v many c.index_mut-last.ensures.value in
@@ -59,7 +60,7 @@ returns-clause-kept c = λ e.
     let xs = c.args.run.now.waiting.items in
     let k = c.len-count.result - 1 in
     let v = c.index_mut-last.result.now in
-    let u : Waiting = record { asked = v.asked; pending = P.Held c.args.reading.place c.args.reading.next } in
+    let u : Waiting = record { asked = v.asked; pending = P.Type (T.Held c.args.reading.place c.args.reading.next) } in
     let many : k + 1 ≡ length xs = omega (arith, c.len-count.ensures, c.if-count-eq0.false) in
     let there = last_there xs k v many c.index_mut-last.ensures.value in
     inl ((c.ask.ensures.kept e).asked ∙ ap asked_in (last_written xs k u many) ∙ same_asked (take k xs) v u refl ∙ sym (ap asked_in there))
@@ -69,7 +70,7 @@ returns-clause-left c = λ e.
     let xs = c.args.run.now.waiting.items in
     let k = c.len-count.result - 1 in
     let v = c.index_mut-last.result.now in
-    let u : Waiting = record { asked = v.asked; pending = P.Held c.args.reading.place c.args.reading.next } in
+    let u : Waiting = record { asked = v.asked; pending = P.Type (T.Held c.args.reading.place c.args.reading.next) } in
     let many : k + 1 ≡ length xs = omega (arith, c.len-count.ensures, c.if-count-eq0.false) in
     let there = last_there xs k v many c.index_mut-last.ensures.value in
     let kept = c.ask.ensures.kept (λ on. cc (e, on)) in

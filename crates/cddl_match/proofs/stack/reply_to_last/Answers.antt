@@ -1,5 +1,5 @@
 use Rattle.std.proofs.Common.{◌≡◌, ◌+◌, ◌-◌, ◌∷◌, [], ◌++◌, length, refl, take, ap, ◌∙◌, arith}
-use Rattle.cddl_match.specs.Views.{reply_view}
+use Rattle.match_moves.specs.Views.{reply_view}
 use Rattle.cddl_match.specs.declared.stack.Waiting.{Waiting}
 use Rattle.cddl_match.proofs.Running.{end_or_none, last_there, last_written, reply_step, some_last}
 use Rattle.cddl_match.proofs.stack.reply_to_last.Goals as goal

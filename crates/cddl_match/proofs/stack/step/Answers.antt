@@ -1,8 +1,8 @@
 use Rattle.std.proofs.Common.{inr, refl, arith}
 use Rattle.table_nodes.specs.Language.{language_of}
 use Rattle.cddl_match.specs.Machine.{found_in, last_of, pending_in}
-use Rattle.cddl_match.specs.Views.{question_view, reply_view}
-use Rattle.cddl_match.specs.declared.questions.Move.TheVariants as C
+use Rattle.match_moves.specs.Views.{question_view, reply_view}
+use Rattle.match_moves.specs.declared.questions.Move.TheVariants as C
 use Rattle.cddl_meaning.specs.Moves as M
 use Rattle.cddl_match.proofs.Needs.{or_so, or_true, room_needed}
 use Rattle.cddl_match.proofs.Running.{finds_from, next_at, step_of}

@@ -1,10 +1,10 @@
 use Rattle.std.proofs.Common.{◌≡◌, ◌-◌, refl, subst, take, arith}
 use Rattle.cddl_meaning.specs.Moves as M
 use Rattle.cddl_match.specs.Machine.{WaitsAt}
-use Rattle.cddl_match.specs.Views.{sorting_view}
+use Rattle.match_moves.specs.Views.{sorting_view}
 use Rattle.cddl_match.specs.declared.stack.Waiting.{Waiting}
-use Rattle.cddl_match.proofs.Lists.{as_many_entries}
 use Rattle.cddl_match.proofs.Running.{at_pair_over, last_there, last_written, try_step}
+use Rattle.cddl_match.proofs.Tellings.{as_many_entries}
 use Rattle.cddl_match.proofs.stack.try_pair.Goals as goal
 
 pub returns-then-run-steps-clause-finds : goal.returns-then-run-steps-clause-finds

@@ -1,22 +1,14 @@
-use Rattle.std.proofs.Common.{option_copied}
-use Rattle.seq_run.specs.Judge.{judge_of}
-use Rattle.seq_run.specs.Running.{change_of}
-use Rattle.cddl_tool.proofs.Telling.{answered, broken, fault_told}
+use Rattle.cddl_tool.proofs.Telling.{not_check}
 use Rattle.cddl_tool.proofs.acting.act.Goals as goal
 
-pub returns-in-Ok-clause-answered :
-    goal.returns-in-Ok-clause-answered
-returns-in-Ok-clause-answered g c = λ h.
-    answered c.args.options.now (judge_of c.args.table.now c.args.options.now.steps) (change_of g.R.Read.remaining c.args.input.now c.run.new.input) (change_of g.W.Write.contents c.args.out.now c.run.new.output) (change_of g.E.Write.contents c.args.err.now c.tell_end-status.new.err)
-    c.mode_for-mode.result c.mode_for-mode.ensures c.in-Ok.end c.in-Ok.rejected (option_copied c.as_ref.result) c.as_ref.ensures.value c.tell_end-status.result c.in-Ok.ensures.reported c.tell_end-status.ensures h
+pub returns-in-Check-clause-answered : goal.returns-in-Check-clause-answered
+returns-in-Check-clause-answered g c = λ other. absurd (other c.in-Check.is)
 
-pub returns-in-Ok-clause-broken : goal.returns-in-Ok-clause-broken
-returns-in-Ok-clause-broken g c = λ h.
-    broken c.args.options.now (judge_of c.args.table.now c.args.options.now.steps) (change_of g.R.Read.remaining c.args.input.now c.run.new.input) (change_of g.W.Write.contents c.args.out.now c.run.new.output) (change_of g.E.Write.contents c.args.err.now c.tell_end-status.new.err)
-    c.mode_for-mode.result c.mode_for-mode.ensures c.in-Ok.end c.in-Ok.rejected (option_copied c.as_ref.result) c.as_ref.ensures.value c.tell_end-status.result c.in-Ok.ensures.reported c.tell_end-status.ensures h
+pub returns-in-Check-clause-broken : goal.returns-in-Check-clause-broken
+returns-in-Check-clause-broken g c = λ other. absurd (other c.in-Check.is)
 
-pub returns-in-Err-clause-broken :
-    goal.returns-in-Err-clause-broken
-returns-in-Err-clause-broken g c = λ h.
-    fault_told c.args.options.now (judge_of c.args.table.now c.args.options.now.steps) (change_of g.R.Read.remaining c.args.input.now c.run.new.input) (change_of g.W.Write.contents c.args.out.now c.run.new.output) (change_of g.E.Write.contents c.args.err.now c.say_fault.new.err)
-    c.mode_for-mode.result c.mode_for-mode.ensures c.in-Err.fault c.in-Err.ensures.fault
+pub returns-in-Validate-clause-accepted : goal.returns-in-Validate-clause-accepted
+returns-in-Validate-clause-accepted g c = λ check. absurd (not_check _ c.in-Validate.is check)
+
+pub returns-in-Validate-clause-unread : goal.returns-in-Validate-clause-unread
+returns-in-Validate-clause-unread g c = λ check. absurd (not_check _ c.in-Validate.is check)

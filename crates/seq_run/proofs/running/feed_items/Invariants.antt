@@ -1,12 +1,9 @@
-use Rattle.std.proofs.Common.{◌≡◌, [], length}
+use Rattle.std.proofs.Common.{length}
 use Rattle.seq_run.proofs.Reporting.{IsReporting}
 use Rattle.seq_run.proofs.running.feed_items.Given as goal
 
 abbrev pub invariant-steps : goal.invariant-steps
-invariant-steps l = record {
-  reporting : IsReporting l.fn.mode l.initial.session l.piece l.initial.bytes.items l.session l.rest l.bytes.items;
-  empty : l.items.items ≡ [];
-}
+invariant-steps l = IsReporting l.fn.mode l.initial.session l.piece l.initial.bytes.items l.session l.rest l.bytes.items
 
 abbrev pub decreases-steps : goal.decreases-steps
 decreases-steps l = length l.rest

@@ -59,7 +59,7 @@ pieces-preserved g c =
     (λ e. c.in-Ok.ensures.bytes.1 (no_bytes c.in-Ok.count c.read.new.buf (take c.in-Ok.count c.read.new.buf) c.in-Ok.ensures.bound.0 refl e) (omega arith))
     c.in-Ok-take_piece.end c.take_piece.new.session c.take_piece.new.bytes.items c.in-Ok-take_piece.ensures
     (g.W.Write.contents (device_of c.write_bytes.new.out)) (failures_of c.read.new.self) (failures_of c.write_bytes.new.out) c.in-Ok.ensures.count none (rw c.as_slice.ensures.value at c.in_default-write_bytes.ensures.all) c.in_default-write_bytes.ensures.count
-    c.len.result (c.len.ensures ∙ c.take_piece.new.bytes.ok.0) c.len.type_inv c.items-reported.result c.items-reported.ensures in
+    c.len.result (c.len.ensures ∙ c.take_piece.new.bytes.ok.0) c.len.type_inv c.taken-reported.result.0 (λ e. c.taken-reported.ensures.items_is) in
     next.1
 
 pub returns-in_default-clause-reads : goal.returns-in_default-clause-reads

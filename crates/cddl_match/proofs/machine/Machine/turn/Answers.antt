@@ -4,7 +4,8 @@ use Rattle.cddl_match.specs.declared.answers.End.TheVariants.{Said}
 use Rattle.cddl_match.specs.declared.answers.Verdict.TheVariants as V
 use Rattle.cddl_match.proofs.Decides.{decides}
 use Rattle.cddl_match.specs.Machine.{IsVerdict, root_question}
-use Rattle.cddl_match.specs.Views.{reply_view, verdict_of}
+use Rattle.match_moves.specs.Views.{reply_view}
+use Rattle.cddl_match.specs.Machine.{verdict_of}
 use Rattle.cddl_match.proofs.Machines.{goes, is_spent_verdict, is_verdict, says, wants_room}
 use Rattle.cddl_match.proofs.Room.{room}
 use Rattle.cddl_match.proofs.machine.Machine.turn.Goals as goal

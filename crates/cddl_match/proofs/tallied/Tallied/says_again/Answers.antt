@@ -1,8 +1,8 @@
 use Rattle.std.proofs.Common.{◌+◌, ◌*◌, suc, length, refl, arith}
 use Rattle.item_nodes.specs.View.{pairs_view}
 use Rattle.cddl_meaning.specs.Moves as M
-use Rattle.cddl_match.specs.Tellings.{counted_again}
-use Rattle.cddl_match.specs.Views.{tally_view}
+use Rattle.match_moves.specs.Tallies.{counted_again}
+use Rattle.match_moves.specs.Views.{tally_view}
 use Rattle.table_nodes.specs.Language.{language_of}
 use Rattle.table_nodes.specs.Nodes.{entries_view}
 use Rattle.cddl_match.proofs.Outcomes.{few}

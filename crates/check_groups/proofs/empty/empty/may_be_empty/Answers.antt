@@ -1,13 +1,6 @@
-use Rattle.std.proofs.Common.{rules, ◌≡◌, ◌∙◌, ap, length, subst}
 use Rattle.std.proofs.lemmas.Result.{IfOk-weaker}
-use Rattle.graphs.specs.Implications.Implications.{AreFollowing}
-use Rattle.check_groups.specs.Causes.Rules.{all_rules}
 use Rattle.check_groups.proofs.OfEmpty.Emptiness.{are_empty}
 use Rattle.check_groups.proofs.empty.empty.may_be_empty.Goals as goal
 
 pub returns : goal.returns
-returns c =
-    let causes = c.in_ok-causes.causes.items in
-    let implications = c.deref-2.ensures.value ∙ c.in_ok-rules.ensures ∙ ap (all_rules 0) c.deref.ensures.value in
-    let facts : c.len.result ≡ length causes = search rules in
-    IfOk-weaker c.following.result _ _ (λ v f xs root refs k a o. are_empty xs root c.args.terms.now causes (c.in_ok-causes.ensures xs root refs k a o) c.len.result v.items facts (subst (λ is. AreFollowing c.len.result is v.items) implications f)) c.following.ensures
+returns c = IfOk-weaker c.flags_of.result _ _ (λ v f xs root refs k a o. let found = f xs root refs (record { closed = k; kinds = a; openings = o }) in are_empty xs root c.args.terms.now found.0 found.1 v.items found.2) c.flags_of.ensures

@@ -7,4 +7,4 @@ pub returns : goal.returns
 returns c xs root refs k a o =
     let t = c.args.terms.now in
     let whole : length c.loop-number.parts.items ≡ length t.rows = search rules in
-    subst (AreParts xs root t) (sym c.in_ok-push-2.ensures.items) (are_parts xs root t c.loop-number.parts.items whole (λ n p e. c.loop-number.invariant.each xs root refs k a o n p e))
+    subst (AreParts xs root t) (sym c.in_ok-push-2.ensures.items) (are_parts xs root t c.loop-number.parts.items whole (λ n p e. c.loop-number.invariant.each xs root refs (record { closed = k; kinds = a; openings = o }) n p e))

@@ -3,7 +3,7 @@ use Rattle.cbor_read.specs.Reading.{Reading}
 use Rattle.seq_run.specs.FoundItem.{found_of}
 use Rattle.seq_run.specs.declared.session.FoundItem.TheVariants.{Other}
 use Rattle.seq_run.specs.Progress.{Progress}
-use Rattle.seq_run.proofs.Steps.{going_reader, more_fits, more_kept, more_step, item_fits, item_kept, item_step, stopped_kept, stopped_step, cut_step, noted, kept_items, pushed_items}
+use Rattle.seq_run.proofs.Steps.{going_reader, more_fits, more_kept, more_step, item_fits, item_kept, item_step, stopped_kept, stopped_step, cut_kept, cut_step, noted}
 use Rattle.seq_run.proofs.session.Session.take_next.Goals as goal
 
 pub judge_next-requires : goal.judge_next-requires
@@ -24,15 +24,7 @@ invariant_of-self c =
 pub returns-in-Ok-More : goal.returns-in-Ok-More
 returns-in-Ok-More c =
     let s = c.self.inside in
-    more_step s.examiner s.fed (map found_of s.taken) s.reader s.count.items s.count.offset s.count.bytes s.stopped s.rejected (ap (λ (p : Progress). p.stopped) c.self.view_is ∙ c.requires) c.self.invariant c.args.self.now c.self.view_is c.args.piece.now c.args.out.now.items c.judge_next.new.reader c.extend.new.self c.extend.ensures (rw c.in-Ok-More.field-0-is at c.in-Ok-More.ensures)
-
-pub returns-then-is_err : goal.returns-then-is_err
-returns-then-is_err c =
-    let s = c.self.inside in
-    let accepted = rw c.in-Ok-Accepted.field-0-is at c.in-Ok-Accepted.ensures in
-    cut_step s.examiner s.fed (map found_of s.taken) s.reader s.count.items s.count.offset s.count.bytes s.stopped s.rejected (ap (λ (p : Progress). p.stopped) c.self.view_is ∙ c.requires) c.self.invariant c.args.self.now c.self.view_is c.args.piece.now c.args.out.now.items c.push.new.self.items
-    (record {}) c.judge_next.new.reader.limits c.extend-then-is_err.new.self (ap (λ (v : Reading). v.limits) accepted.0.next)
-    c.extend-then-is_err.ensures (kept_items c.push.result c.push.new.self.items (c.args.out.now.items ++ c.in-Other.item ∷ []) c.args.out.now.items c.push.ensures.items (sym c.is_err.ensures.value ∙ c.if-is_err.true))
+    more_step s.examiner s.fed (map found_of s.taken) s.reader s.count.items s.count.offset s.count.bytes s.stopped s.rejected (ap (λ (p : Progress). p.stopped) c.self.view_is ∙ c.requires) c.self.invariant c.args.self.now c.self.view_is c.args.piece.now c.judge_next.new.reader c.extend.new.self c.extend.ensures (rw c.in-Ok-More.field-0-is at c.in-Ok-More.ensures)
 
 pub add_item-requires-clause-items : goal.add_item-requires-clause-items
 add_item-requires-clause-items c =
@@ -50,17 +42,17 @@ pub invariant_of-self-in-Ok-Accepted : goal.invariant_of-self-in-Ok-Accepted
 invariant_of-self-in-Ok-Accepted c =
     let s = c.self.inside in
     let accepted = rw c.in-Ok-Accepted.field-0-is at c.in-Ok-Accepted.ensures in
-    rw c.add_item.ensures.count (item_kept s.examiner s.fed (map found_of s.taken) s.reader s.count.items s.count.offset s.count.bytes s.stopped s.rejected (ap (λ (p : Progress). p.stopped) c.self.view_is ∙ c.requires) c.self.invariant c.args.piece.now c.in-Ok-Accepted.used c.in-Ok-Accepted.item c.judge_next.new.reader
-    c.extend-in-Ok-Accepted.new.self (map found_of c.with-taken.result) (grind (arith, c.extend-in-Ok-Accepted.ensures)) (noted s.taken (Other s.count.offset c.in-Ok-Accepted.item) c.with-taken.result c.with-taken.ensures) accepted.0 accepted.1)
+    rw c.add_item.ensures (item_kept s.examiner s.fed (map found_of s.taken) s.reader s.count.items s.count.offset s.count.bytes s.stopped s.rejected (ap (λ (p : Progress). p.stopped) c.self.view_is ∙ c.requires) c.self.invariant c.args.piece.now c.in-Ok-Accepted.used c.in-Ok-Accepted.item c.judge_next.new.reader
+    c.extend-in-Ok-Accepted.new.self (map found_of c.push.new.self) (grind (arith, c.extend-in-Ok-Accepted.ensures)) (noted s.taken (Other s.count.offset c.in-Ok-Accepted.item) c.push.new.self c.push.ensures) accepted.0 accepted.1)
 
-pub returns-else-is_err : goal.returns-else-is_err
-returns-else-is_err c =
+pub returns-in-Other : goal.returns-in-Other
+returns-in-Other c =
     let s = c.self.inside in
     let accepted = rw c.in-Ok-Accepted.field-0-is at c.in-Ok-Accepted.ensures in
     let same : c.in-Other.item ≡ c.in-Ok-Accepted.item = cc in
-    rw c.add_item.ensures.advance (item_step s.examiner s.fed (map found_of s.taken) s.reader s.count.items s.count.offset s.count.bytes s.stopped s.rejected (ap (λ (p : Progress). p.stopped) c.self.view_is ∙ c.requires) c.self.invariant c.args.self.now c.self.view_is c.args.piece.now c.args.out.now.items c.push.new.self.items
-    c.in-Ok-Accepted.used c.in-Ok-Accepted.item c.judge_next.new.reader c.extend-in-Ok-Accepted.new.self (map found_of c.with-taken.result) (grind (arith, c.extend-in-Ok-Accepted.ensures)) (noted s.taken (Other s.count.offset c.in-Ok-Accepted.item) c.with-taken.result c.with-taken.ensures)
-    (pushed_items c.push.result c.push.new.self.items (c.args.out.now.items ++ c.in-Other.item ∷ []) c.args.out.now.items c.push.ensures.items (sym c.is_err.ensures.value ∙ c.if-is_err.false) ∙ ap (λ x. c.args.out.now.items ++ x ∷ []) same) accepted.0 accepted.1)
+    rw same (item_step s.examiner s.fed (map found_of s.taken) s.reader s.count.items s.count.offset s.count.bytes s.stopped s.rejected (ap (λ (p : Progress). p.stopped) c.self.view_is ∙ c.requires) c.self.invariant c.args.self.now c.self.view_is c.args.piece.now
+    c.in-Ok-Accepted.used c.in-Ok-Accepted.item c.judge_next.new.reader c.extend-in-Ok-Accepted.new.self (map found_of c.push.new.self) (grind (arith, c.extend-in-Ok-Accepted.ensures)) (noted s.taken (Other s.count.offset c.in-Ok-Accepted.item) c.push.new.self c.push.ensures)
+    accepted.0 accepted.1)
 
 pub invariant_of-self-in-Ok-Failed : goal.invariant_of-self-in-Ok-Failed
 invariant_of-self-in-Ok-Failed c =
@@ -70,10 +62,15 @@ invariant_of-self-in-Ok-Failed c =
 pub returns-in-Ok-Failed : goal.returns-in-Ok-Failed
 returns-in-Ok-Failed c =
     let s = c.self.inside in
-    rw c.failed_end-end.ensures (stopped_step s.examiner s.fed (map found_of s.taken) s.reader s.count.items s.count.offset s.count.bytes s.stopped s.rejected (ap (λ (p : Progress). p.stopped) c.self.view_is ∙ c.requires) c.self.invariant c.one_answer.ensures.table c.args.self.now c.self.view_is c.args.piece.now c.args.out.now.items c.in-Ok-Failed.cause c.in-Ok-Failed.rejected c.judge_next.new.reader c.extend-in-Ok-Failed.new.self c.extend-in-Ok-Failed.ensures (rw c.in-Ok-Failed.field-0-is at c.in-Ok-Failed.ensures))
+    rw c.failed_end-end.ensures (stopped_step s.examiner s.fed (map found_of s.taken) s.reader s.count.items s.count.offset s.count.bytes s.stopped s.rejected (ap (λ (p : Progress). p.stopped) c.self.view_is ∙ c.requires) c.self.invariant c.one_answer.ensures.table c.args.self.now c.self.view_is c.args.piece.now c.in-Ok-Failed.cause c.in-Ok-Failed.rejected c.judge_next.new.reader c.extend-in-Ok-Failed.new.self c.extend-in-Ok-Failed.ensures (rw c.in-Ok-Failed.field-0-is at c.in-Ok-Failed.ensures))
+
+pub invariant_of-self-in-Err : goal.invariant_of-self-in-Err
+invariant_of-self-in-Err c =
+    let s = c.self.inside in
+    cut_kept s.examiner s.fed (map found_of s.taken) s.reader s.count.items s.count.offset s.count.bytes s.stopped s.rejected (ap (λ (p : Progress). p.stopped) c.self.view_is ∙ c.requires) c.self.invariant c.args.piece.now c.judge_next.new.reader.limits c.extend-in-Err.new.self c.in-Err.ensures c.extend-in-Err.ensures
 
 pub returns-in-Err : goal.returns-in-Err
 returns-in-Err c =
     let s = c.self.inside in
-    cut_step s.examiner s.fed (map found_of s.taken) s.reader s.count.items s.count.offset s.count.bytes s.stopped s.rejected (ap (λ (p : Progress). p.stopped) c.self.view_is ∙ c.requires) c.self.invariant c.args.self.now c.self.view_is c.args.piece.now c.args.out.now.items c.args.out.now.items
-    c.in-Err.error c.judge_next.new.reader.limits c.extend-in-Err.new.self c.in-Err.ensures c.extend-in-Err.ensures refl
+    cut_step s.examiner s.fed (map found_of s.taken) s.reader s.count.items s.count.offset s.count.bytes s.stopped s.rejected (ap (λ (p : Progress). p.stopped) c.self.view_is ∙ c.requires) c.self.invariant c.args.self.now c.self.view_is c.args.piece.now
+    c.in-Err.error c.judge_next.new.reader.limits c.extend-in-Err.new.self c.in-Err.ensures c.extend-in-Err.ensures

@@ -1,0 +1,5 @@
+pub mod ByTable
+pub mod Handing
+pub mod Leaves
+pub mod Rereading
+pub mod Telling

@@ -1,6 +1,0 @@
-use Rattle.std.proofs.Common.{None, ap, ◌∙◌}
-use Rattle.cddl_match.proofs.Lists.{none_counted}
-use Rattle.cddl_match.proofs.sorting.begin_tally.Goals as goal
-
-pub returns : goal.returns
-returns c = ap (λ ns. record { counts = ns; stray = None; failing = None }) (c.in_ok-begin.ensures ∙ none_counted c.args.entries.now)

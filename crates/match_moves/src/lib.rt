@@ -1,0 +1,28 @@
+//! What types and groups ask first of what they are asked of, what they ask next once that has its reply, and what they reply:
+//! one small function for each form. Whoever asks keeps what waits.
+#![tactic(auto)]
+
+mod contents;
+mod controls;
+mod counts;
+mod moves;
+mod places;
+mod questions;
+mod sorting;
+mod tested;
+
+pub use crate::contents::{bytes_of, items_of, pairs_of, simple_of};
+pub use crate::counts::Counts;
+pub use crate::moves::{
+    after_round, entry_reply, first_of_group, first_of_type, is_over, next_move, said_reply,
+};
+pub use crate::places::{place_after, plus};
+pub use crate::questions::{
+    Fate, Move, Parts, Pending, PendingGroup, PendingMap, PendingType, Question, Reading, Reply,
+    Round, Rounds, Sorting, Subject, Tally,
+};
+pub use crate::sorting::{
+    alternative_move, begin_tally, first_are_enough, next_entry, no_tally, shown_by_first,
+    shown_by_tally, tally_pair,
+};
+pub use crate::tested::{passes, passes_test};
