@@ -7,13 +7,13 @@ pub returns-in-Ok-clause-stands : goal.returns-in-Ok-clause-stands
 returns-in-Ok-clause-stands c = λ worth right.
     let x = view c.args.spec.now.tree in
     let root = c.args.spec.now.root in
-    let found = c.findings.ensures.found worth right in
-    c.in-Ok.ensures.stands (sense x worth root found.0) (c.source_of.ensures x worth root found.0 right found.1) c.findings.ensures.number found.1.is_type found.1.ranked
+    let found = c.findings-findings.ensures.found worth right in
+    c.in-Ok.ensures.stands (sense x worth root found.0) (c.source_of-source.ensures x worth root found.0 right found.1) c.findings-findings.ensures.number found.1.is_type found.1.ranked
 
 pub unreachable-requires : goal.unreachable-requires
 unreachable-requires c =
     let x = view c.args.spec.now.tree in
     let root = c.args.spec.now.root in
-    let some = c.one_table_of_values.ensures.some x c.findings.ensures.tokens in
-    let found = c.findings.ensures.found some.0 some.1 in
-    c.in-Err.ensures.ranked refl (sense x some.0 root found.0) (c.source_of.ensures x some.0 root found.0 some.1 found.1) c.findings.ensures.number found.1.is_type found.1.ranked
+    let some = c.one_table_of_values.ensures.some x c.findings-findings.ensures.tokens in
+    let found = c.findings-findings.ensures.found some.0 some.1 in
+    c.in-Err.ensures.ranked refl (sense x some.0 root found.0) (c.source_of-source.ensures x some.0 root found.0 some.1 found.1) c.findings-findings.ensures.number found.1.is_type found.1.ranked
