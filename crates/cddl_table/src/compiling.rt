@@ -24,7 +24,7 @@ use table_nodes::Table;
 ///
 /// Memory was refused, or a number does not fit. Nothing else is refused of what was checked.
 pub fn compile(alloc: Global, spec: &Spec<'_>) -> Result<Table, AllocError>
-    ensures stands { IfOk result (IsTableOf spec.now) }
+    ensures { IfOk result (IsTableOf spec.now) }
 {
     one_table_of_values();
     let findings = spec.findings();
