@@ -4,9 +4,11 @@ use Rattle.std.specs.Prelude.{◌↔◌, IfSome}
 use Rattle.cbor_data.specs.Faults.{Bounds, last_offset}
 use Rattle.cbor_data.specs.Sequence.{Found}
 use Rattle.cbor_data.specs.Value.{AreBytes, Value}
-use Rattle.cddl_check.specs.Text.{IsTabledText, IsUnreadText, specification}
-use Rattle.cddl_check.specs.declared.unread.Unread.{Unread}
-use Rattle.cddl_check.specs.declared.unread.Unread.TheVariants as why
+use Rattle.cddl_check.specs.Outcome.{specification}
+use Rattle.cddl_check.specs.Text.{IsUnreadText}
+use Rattle.cddl_table.specs.Text.{IsTabledText}
+use Rattle.cddl_token.specs.declared.Refusal.{Refusal}
+use Rattle.cddl_token.specs.declared.Refusal.TheVariants as why
 use Rattle.cddl_language.specs.Faults.{definitions}
 use Rattle.cddl_language.specs.Literals.{AreRight, AreTokens, Values}
 use Rattle.cddl_language.specs.StandsFor.{StandsFor}
@@ -113,10 +115,10 @@ stopped laws text named table l steps mode input output fault tabled f read =
     let x = laws.roots text named table tabled in
     in_midst x.0 x.1 (cut x.0 table x.2 steps l mode input output fault f) (pieces x.0 table x.2 steps l input read)
 
-pub unread : (text : List ℕ) (named : Option Text) (l : Bounds) (steps : ℕ) (mode : Mode) (input output : Change) (e : Unread) → IsUnreadText text named e → IsUntouched input → IsUntouched output → IsFailed text named l steps mode input output (failure_of e)
-unread text named l steps mode input output (why.Refused f) h i o = (h, i, o)
+pub unread : (text : List ℕ) (named : Option Text) (l : Bounds) (steps : ℕ) (mode : Mode) (input output : Change) (e : Refusal) → IsUnreadText text named e → IsUntouched input → IsUntouched output → IsFailed text named l steps mode input output (failure_of e)
+unread text named l steps mode input output (why.At code at) h i o = (h, i, o)
 unread text named l steps mode input output why.Memory h i o = at_first refl i o
 
-pub devices_left : {R W : Type 0} (input : Counted R) (output : Counted W) (e : Unread) → LeavesDevices input input output output (failure_of e)
-devices_left input output (why.Refused f) = (refl, refl)
+pub devices_left : {R W : Type 0} (input : Counted R) (output : Counted W) (e : Refusal) → LeavesDevices input input output output (failure_of e)
+devices_left input output (why.At code at) = (refl, refl)
 devices_left input output why.Memory = tt

@@ -3,7 +3,8 @@ use Rattle.std.specs.Prelude.{◌≡◌, ℕ, ◌+◌, List, ◌++◌, length, O
 use Rattle.cbor_data.specs.Faults.{Bounds, IsItem}
 use Rattle.cbor_data.specs.Sequence.{Found, IsRunOf, Takes}
 use Rattle.cbor_data.specs.Value.{Value}
-use Rattle.cddl_check.specs.Text.{IsTreeOfText, specification}
+use Rattle.cddl_check.specs.Outcome.{specification}
+use Rattle.cddl_check.specs.Text.{IsTreeOfText}
 use Rattle.cddl_language.specs.Faults.{IsAccepted, definitions, root_of}
 use Rattle.cddl_language.specs.Literals.{AreRight, Values}
 use Rattle.cddl_language.specs.Terms.{Definition, Text}

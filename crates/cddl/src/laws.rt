@@ -1,7 +1,7 @@
 //! What a table that was made of a text says, the text's root rule says.
 
 ghost use Rattle.std.specs.Prelude.{List, ℕ, Option};
-ghost use Rattle.cddl_check.specs.Text.{IsTabledText};
+ghost use Rattle.cddl_table.specs.Text.{IsTabledText};
 ghost use Rattle.cddl_language.specs.Terms.{Text};
 ghost use Rattle.table_nodes.specs.declared.table.Table.{Table};
 ghost use Rattle.cddl.specs.Rules.{HasRoot, Rule};

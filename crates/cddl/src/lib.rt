@@ -17,8 +17,9 @@ pub use cbor_read::{
     Fault, FaultKind, Fed, Front, ItemReader, Limits, MOST_DEPTH, MOST_ITEM_BYTES, Stop, embedded,
     embedded_item, read_front,
 };
-pub use cddl_check::{Unread, read_specification};
+pub use cddl_check::{Spec, check, trees_are_of_tokens};
 pub use cddl_match::{Cells, Machine, Verdict, verdict};
+pub use cddl_table::{compile, read_specification};
 pub use cddl_token::{Code, Kind, Literal, Refusal, Token, tokens, value};
 pub use cddl_tree::{NESTING_LIMIT, Tree, discard, parse};
 pub use seq_run::{

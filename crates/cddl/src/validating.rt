@@ -9,8 +9,8 @@ ghost use Rattle.cddl.specs.declared.validating.Failure.TheVariants as Why;
 use crate::laws::table_has_root;
 use cbor_item::{Counted, Sound};
 use cbor_read::Limits;
-use cddl_check::{Unread, read_specification};
-use cddl_token::Code;
+use cddl_table::read_specification;
+use cddl_token::{Code, Refusal};
 use seq_run::meaning::one_end_by_text;
 use seq_run::{End, Mode, RunFault, run};
 use std::alloc::Global;
@@ -29,16 +29,13 @@ pub enum Failure {
     Stopped(RunFault),
 }
 
-impl From<Unread> for Failure {
+impl From<Refusal> for Failure {
     ghost from_gives = { λ why failure. failure ≡ failure_of why };
 
-    fn from(why: Unread) -> Failure {
+    fn from(why: Refusal) -> Failure {
         match why {
-            Unread::Refused(fault) => Failure::Refused {
-                code: fault.code,
-                at: fault.at,
-            },
-            Unread::Memory => Failure::Stopped(RunFault::Memory(0)),
+            Refusal::At(code, at) => Failure::Refused { code, at },
+            Refusal::Memory => Failure::Stopped(RunFault::Memory(0)),
         }
     }
 }

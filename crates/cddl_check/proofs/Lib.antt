@@ -1,5 +1,5 @@
+pub mod Faulty
 pub mod Handing
 pub mod Leaves
 pub mod Lengths
 pub mod Roots
-pub mod Telling

@@ -1,4 +1,5 @@
 pub mod Outcome
+pub mod Spec
 pub mod Stages
 pub mod Text
 pub mod Told

@@ -1,25 +1,28 @@
 -- What is told of a specification.
-use Rattle.std.specs.Prelude.{◌≡◌, Some}
+use Rattle.std.specs.Prelude.{◌≡◌, Option, Some}
+use Rattle.cddl_token.specs.declared.Refusal.{Refusal}
+use Rattle.cddl_token.specs.declared.Refusal.TheVariants as RefusalV
+use Rattle.tree_nodes.specs.Syntax.Syntax.{Cddl}
 use Rattle.cddl_language.specs.Terms.{Text}
-use Rattle.cddl_language.specs.Faults.{IsAccepted, IsRefused, Specification, definitions, root_of}
-use Rattle.cddl_language.specs.Literals.{Values}
-use Rattle.cddl_language.specs.StandsFor.{StandsFor}
-use Rattle.table_nodes.specs.declared.table.Table.{Table}
-use Rattle.table_nodes.specs.Language.{language_of, rank_of, ranks_of, root_of as top_of}
-use Rattle.cddl_check.specs.declared.outcome.Outcome.{Outcome}
-use Rattle.cddl_check.specs.declared.outcome.Outcome.TheVariants as OutcomeV
-use Rattle.cddl_check.specs.declared.unread.Unread.{Unread}
-use Rattle.cddl_check.specs.declared.unread.Unread.TheVariants as UnreadV
+use Rattle.cddl_language.specs.Faults.{IsAccepted, IsRefused, Specification, root_of}
+use Rattle.cddl_language.specs.Literals.{AreRight, Values}
+use Rattle.cddl_check.specs.declared.stopped.Stopped.{Stopped}
+use Rattle.cddl_check.specs.declared.stopped.Stopped.TheVariants as StoppedV
 
--- accepted, and the table stands for it
-abbrev pub IsTabled : Specification → Values → Table → Type 0
-IsTabled s worth table = IsAccepted s worth × (root : Text) × (root_of s ≡ Some root) × StandsFor worth (definitions s) root (language_of table) (top_of table) (rank_of table) (ranks_of table)
+abbrev pub specification : Cddl → Option Text → Specification
+specification x given = record { tree = x; given = given }
 
-abbrev pub IsOutcome : Specification → Values → Outcome → Type 0
-IsOutcome s worth (OutcomeV.Refused f) = IsRefused s worth f.code f.at
-IsOutcome s worth (OutcomeV.Accepted table) = IsTabled s worth table
+-- The specification of this tree, with this name given as its root or none, has no fault, and this is its root.
+pub record IsChecked (x : Cddl) (given : Option Text) (root : Text) : Type 0 where
+  pub rooted : root_of (specification x given) ≡ Some root
+  pub accepted : (worth : Values) → AreRight x worth → IsAccepted (specification x given) worth
 
--- why there is no table; where memory is refused nothing is told
-abbrev pub IsStopped : Specification → Values → Unread → Type 0
-IsStopped s worth (UnreadV.Refused f) = IsRefused s worth f.code f.at
-IsStopped s worth UnreadV.Memory = Unit {0}
+-- Why it is refused; where memory was refused nothing is told.
+abbrev pub IsFaulty : Cddl → Option Text → Refusal → Type 0
+IsFaulty x given (RefusalV.At code at) = (worth : Values) → AreRight x worth → IsRefused (specification x given) worth code at
+IsFaulty x given RefusalV.Memory = Unit {0}
+
+-- The same, as the stages tell one another.
+abbrev pub IsStopped : Specification → Values → Stopped → Type 0
+IsStopped s worth (StoppedV.Refused f) = IsRefused s worth f.code f.at
+IsStopped s worth StoppedV.Memory = Unit {0}

@@ -1,6 +1,6 @@
 -- What each stage has found.
 use Rattle.std.specs.Prelude.{◌≡◌, ◌≤◌, List, length, Option, Some, None, slice_get}
-use Rattle.cddl_language.specs.Terms.{Text, Ref}
+use Rattle.cddl_language.specs.Terms.{Definition, Ref, Text}
 use Rattle.cddl_language.specs.Faults.{HasBadController, HasBadRange, HasNotLiteral, HasTooManyInstances, IsFaultAt, Specification, definitions, root_of, rules}
 use Rattle.cddl_language.specs.Literals.{AreRight, AreTokens, Values}
 use Rattle.cddl_language.specs.Prelude.{prelude}
@@ -80,17 +80,17 @@ pub record IsAsking (s : Specification) (root : Text) (t : Table) (v : Survey) (
   pub opens : IsLeast (OpensWrongly s root) x.opens
 
 -- What the instances mean and open, which literals and sizes types are, and what may be chosen from.
-pub record IsMeant (s : Specification) (worth : Values) (root : Text) (refs : List Ref) (t : Table) (x : Meant) : Type 0 where
-  pub closed : IsClosed (definitions s) root refs t x.closed
-  pub openings : AreOpenings (definitions s) t refs x.openings.items
-  pub literals : AreLiterals (definitions s) root worth t x.literals
-  pub sizable : AreSizable (definitions s) root worth t x.sizable.items
-  pub sizes : AreSizes (definitions s) root worth t x.sizes
-  pub choosable : AreChoosable (definitions s) root t x.choosable.items
+pub record IsMeant (ds : List Definition) (worth : Values) (root : Text) (refs : List Ref) (t : Table) (x : Meant) : Type 0 where
+  pub closed : IsClosed ds root refs t x.closed
+  pub openings : AreOpenings ds t refs x.openings.items
+  pub literals : AreLiterals ds root worth t x.literals
+  pub sizable : AreSizable ds root worth t x.sizable.items
+  pub sizes : AreSizes ds root worth t x.sizes
+  pub choosable : AreChoosable ds root t x.choosable.items
 
 -- What the groups in maps stand for.
-pub record AreSplices (s : Specification) (root : Text) (t : Table) (x : Splices) : Type 0 where
-  pub parts : AreParts (definitions s) root t x.parts.items
+pub record AreSplices (ds : List Definition) (root : Text) (t : Table) (x : Splices) : Type 0 where
+  pub parts : AreParts ds root t x.parts.items
   pub summaries : AreSummaries x.parts.items x.summaries.items
 
 -- Nothing is wrong with literals and numbers.
@@ -117,5 +117,5 @@ pub record IsReading (s : Specification) (worth : Values) (root : Text) (refs : 
   pub rooted : IsRooted s root refs tree x.instanced
   pub number : slice_get t.texts x.instanced.root ≡ Some root
   pub asking : IsAsking s root t x.survey x.questions
-  pub meant : IsMeant s worth root refs t x.meant
-  pub splices : AreSplices s root t x.splices
+  pub meant : IsMeant (definitions s) worth root refs t x.meant
+  pub splices : AreSplices (definitions s) root t x.splices

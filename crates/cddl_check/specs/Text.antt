@@ -1,17 +1,16 @@
 -- What is told of a text.
 use Rattle.std.specs.Prelude.{ℕ, List, map, All, Option}
+use Rattle.cddl_token.specs.declared.Refusal.{Refusal}
+use Rattle.cddl_token.specs.declared.Refusal.TheVariants as RefusalV
 use Rattle.cddl_token.specs.declared.Token.{Token}
 use Rattle.cddl_token.specs.Answers.{IsReadFrom, IsTokenized, IsRefused as IsRefusedText, span}
 use Rattle.tree_nodes.specs.Syntax.Syntax.{Cddl}
 use Rattle.tree_nodes.specs.Syntax.Answers.{IsTreeOf, IsRefused as IsRefusedTokens}
 use Rattle.cddl_language.specs.Terms.{Text}
-use Rattle.cddl_language.specs.Faults.{IsRefused, Specification}
+use Rattle.cddl_language.specs.Faults.{IsRefused}
 use Rattle.cddl_language.specs.Literals.{AreRight, Values}
 use Rattle.check_text.specs.declared.fault.Fault.{Fault}
-use Rattle.table_nodes.specs.declared.table.Table.{Table}
-use Rattle.cddl_check.specs.Outcome.{IsTabled}
-use Rattle.cddl_check.specs.declared.unread.Unread.{Unread}
-use Rattle.cddl_check.specs.declared.unread.Unread.TheVariants as UnreadV
+use Rattle.cddl_check.specs.Outcome.{specification}
 
 -- These are the tokens of the text, each with its part of it.
 pub record AreTokensOf (ts : List Token) (text : List ℕ) : Type 0 where
@@ -24,15 +23,6 @@ pub record IsTreeOfText (x : Cddl) (text : List ℕ) : Type 0 where
   pub are_tokens : AreTokensOf tokens text
   pub is_tree : IsTreeOf x tokens
 
-abbrev pub specification : Cddl → Option Text → Specification
-specification x n = record { tree = x; given = n }
-
--- The table stands for the accepted specification of the text, with this name as its root.
-pub record IsTabledText (text : List ℕ) (n : Option Text) (table : Table) : Type 0 where
-  pub tree : Cddl
-  pub is_tree : IsTreeOfText tree text
-  pub is_tabled : (worth : Values) → AreRight tree worth → IsTabled (specification tree n) worth table
-
 -- Why the text is refused: it has no tokens, or they have no tree, or the specification is refused.
 pub data IsWrongText (text : List ℕ) (n : Option Text) (f : Fault) : Type 0 where
   no_tokens : IsRefusedText text f.code f.at → IsWrongText text n f
@@ -40,6 +30,6 @@ pub data IsWrongText (text : List ℕ) (n : Option Text) (f : Fault) : Type 0 wh
   has_fault : {x : Cddl} → IsTreeOfText x text → ((worth : Values) → AreRight x worth → IsRefused (specification x n) worth f.code f.at) → IsWrongText text n f
 
 -- where memory is refused nothing is told
-abbrev pub IsUnreadText : List ℕ → Option Text → Unread → Type 0
-IsUnreadText text n (UnreadV.Refused f) = IsWrongText text n f
-IsUnreadText text n UnreadV.Memory = Unit {0}
+abbrev pub IsUnreadText : List ℕ → Option Text → Refusal → Type 0
+IsUnreadText text n (RefusalV.At code at) = IsWrongText text n (record { code = code; at = at })
+IsUnreadText text n RefusalV.Memory = Unit {0}

@@ -12,9 +12,9 @@ ghost use Rattle.cddl_language.specs.StandsFor.{AreInstances};
 ghost use Rattle.cddl_language.specs.Terms.{Ref, Text};
 ghost use Rattle.check_terms.specs.Table.{Grows};
 ghost use Rattle.cddl_check.specs.Stages.{IsMeant};
-ghost use Rattle.cddl_check.specs.declared.unread.Unread.TheVariants as Why;
+ghost use Rattle.cddl_check.specs.declared.stopped.Stopped.TheVariants as Why;
 
-use crate::unread::Unread;
+use crate::stopped::Stopped;
 use check_groups::choosing::choosable;
 use check_groups::choosing::laws::texts_have_entries;
 use check_instances::Instance;
@@ -28,7 +28,7 @@ use std::alloc::Global;
 
 /// What the instances mean, by the rows of a table.
 #[derive(Drop)]
-pub(crate) struct Meant {
+pub struct Meant {
     pub closed: Closed,
     /// What `~` of each instance opens.
     pub openings: Vec<Opening>,
@@ -50,10 +50,10 @@ pub(crate) fn close_instances(
     found: &[Instance],
     kinds: &Kinds,
     most: usize,
-) -> Result<Meant, Unread>
+) -> Result<Meant, Stopped>
     ensures grows { Grows terms.old terms.new }
     ensures texts { terms.new.texts ≡ terms.old.texts }
-    ensures meant { IfOk result (λ m. (s : Specification) (worth : Values) (root : Text) (refs : List Ref) → AreRight s.tree worth → AreInstances (definitions s) root refs → length refs ≤ most_instances → AreFound (definitions s) terms.old found.now refs → AreKinds terms.old.texts (definitions s) kinds.now → most ≡ most_names (definitions s) → IsMeant s worth root refs terms.new m) }
+    ensures meant { IfOk result (λ m. (s : Specification) (worth : Values) (root : Text) (refs : List Ref) → AreRight s.tree worth → AreInstances (definitions s) root refs → length refs ≤ most_instances → AreFound (definitions s) terms.old found.now refs → AreKinds terms.old.texts (definitions s) kinds.now → most ≡ most_names (definitions s) → IsMeant (definitions s) worth root refs terms.new m) }
     ensures memory { IfErr result (λ e. e ≡ Why.Memory) }
 {
     texts_have_entries();

@@ -11,11 +11,11 @@ ghost use Rattle.tree_nodes.specs.View.{view};
 ghost use Rattle.tree_nodes.specs.declared.tree.Tree.{Tree as Trees};
 ghost use Rattle.cddl_check.specs.Outcome.{IsStopped};
 ghost use Rattle.cddl_check.specs.Stages.{AreFlat, AreValued, IsReading};
-ghost use Rattle.cddl_check.specs.declared.unread.Unread.TheVariants as Why;
+ghost use Rattle.cddl_check.specs.declared.stopped.Stopped.TheVariants as Why;
 
 use crate::mapping::faults_of_maps;
 use crate::reading::Reading;
-use crate::unread::{Unread, refused};
+use crate::stopped::{Stopped, refused};
 use cddl_token::Code;
 use check_groups::empty::may_be_empty;
 use check_recursion::{Order, Ranks, find_order};
@@ -34,7 +34,7 @@ pub(crate) fn ranks_of(
     terms: &Terms<'_>,
     tree: &Tree<'_>,
     reading: &Reading<'_>,
-) -> Result<Ranks, Unread>
+) -> Result<Ranks, Stopped>
     ensures accepted { IfOk result (λ r. (s : Specification) (worth : Values) (root : Text) (refs : List Ref) → s.tree ≡ view tree.now → AreTokens s.tree → AreRight s.tree worth → IsReading s worth root refs terms.now tree.now reading.now → IsAccepted s worth) }
     ensures ranked { IfOk result (λ r. (s : Specification) (worth : Values) (root : Text) (refs : List Ref) → s.tree ≡ view tree.now → AreTokens s.tree → AreRight s.tree worth → IsReading s worth root refs terms.now tree.now reading.now → AreRanked (definitions s) root refs terms.now r) }
     ensures stopped { IfErr result (λ e. (s : Specification) (worth : Values) (root : Text) (refs : List Ref) → s.tree ≡ view tree.now → AreTokens s.tree → AreRight s.tree worth → IsReading s worth root refs terms.now tree.now reading.now → IsStopped s worth e) }
@@ -54,7 +54,7 @@ pub(crate) fn ranks_of(
 }
 
 // Nothing, where nothing is wrong with literals and numbers; or the first fault there, where none of a lower code stands.
-fn check_values(terms: &Terms<'_>, tree: &Tree<'_>, reading: &Reading<'_>) -> Result<(), Unread>
+fn check_values(terms: &Terms<'_>, tree: &Tree<'_>, reading: &Reading<'_>) -> Result<(), Stopped>
     ensures valued { OnOk result ((s : Specification) (worth : Values) (root : Text) (refs : List Ref) → s.tree ≡ view tree.now → AreTokens s.tree → AreRight s.tree worth → IsReading s worth root refs terms.now tree.now reading.now → AreValued s worth root) }
     ensures stopped { IfErr result (λ e. (s : Specification) (worth : Values) (root : Text) (refs : List Ref) → s.tree ≡ view tree.now → AreTokens s.tree → AreRight s.tree worth → IsReading s worth root refs terms.now tree.now reading.now → IsLeast (HasNotUnwrappable s root) None → IsLeast (HasRecursion s root) None → IsStopped s worth e) }
 {
@@ -72,7 +72,7 @@ fn check_values(terms: &Terms<'_>, tree: &Tree<'_>, reading: &Reading<'_>) -> Re
 }
 
 // Nothing, where nothing is wrong in the groups of maps; or the first fault there, where none of a lower code stands.
-fn splice_maps(alloc: Global, terms: &Terms<'_>, reading: &Reading<'_>) -> Result<(), Unread>
+fn splice_maps(alloc: Global, terms: &Terms<'_>, reading: &Reading<'_>) -> Result<(), Stopped>
     ensures flat { OnOk result ((s : Specification) (worth : Values) (tree : Trees) (root : Text) (refs : List Ref) → IsReading s worth root refs terms.now tree reading.now → AreFlat s root) }
     ensures stopped { IfErr result (λ e. (s : Specification) (worth : Values) (tree : Trees) (root : Text) (refs : List Ref) → IsReading s worth root refs terms.now tree reading.now → IsLeast (HasNotUnwrappable s root) None → IsLeast (HasRecursion s root) None → AreValued s worth root → IsStopped s worth e) }
 {
@@ -91,7 +91,7 @@ fn splice_maps(alloc: Global, terms: &Terms<'_>, reading: &Reading<'_>) -> Resul
 }
 
 // The ranks of an order in which nothing comes back to itself.
-fn ranks_in(order: Order) -> Result<Ranks, Unread>
+fn ranks_in(order: Order) -> Result<Ranks, Stopped>
     ensures ranked { IfOk result (λ r. order ≡ Orders.Ranks r) }
     ensures cycles { IfErr result (λ e. e ≡ Why.Memory) }
 {
@@ -99,7 +99,7 @@ fn ranks_in(order: Order) -> Result<Ranks, Unread>
         Order::Ranks(ranks) => Ok(ranks),
         Order::Cycles(flags) => {
             drop(flags);
-            Err(Unread::Memory)
+            Err(Stopped::Memory)
         }
     }
 }
@@ -115,7 +115,7 @@ fn unwrapping(terms: &Terms<'_>, reading: &Reading<'_>) -> Option<usize>
 }
 
 // Ranks of what the instances ask, or what comes back to itself.
-fn order_of(alloc: Global, terms: &Terms<'_>, reading: &Reading<'_>) -> Result<Order, Unread>
+fn order_of(alloc: Global, terms: &Terms<'_>, reading: &Reading<'_>) -> Result<Order, Stopped>
     ensures order { IfOk result (λ o. (s : Specification) (worth : Values) (tree : Trees) (root : Text) (refs : List Ref) → IsReading s worth root refs terms.now tree reading.now → IsOrder (definitions s) root refs terms.now o) }
     ensures memory { IfErr result (λ e. e ≡ Why.Memory) }
 {

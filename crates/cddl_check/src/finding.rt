@@ -14,7 +14,7 @@ ghost use Rattle.cddl_check.specs.Outcome.{IsStopped};
 ghost use Rattle.cddl_check.specs.Stages.{IsGiven, IsInstanced, IsRight};
 ghost use Rattle.cddl_check.specs.Told.{IsTold};
 
-use crate::unread::{Unread, refused};
+use crate::stopped::{Stopped, refused};
 use cddl_token::Code;
 use check_instances::{Found, Instance, instances};
 use check_reached::live_sites::live_sites;
@@ -47,7 +47,7 @@ pub(crate) fn find_instances<'t>(
     tree: &'t Tree<'_>,
     survey: &Survey<'t>,
     given: Option<&str>,
-) -> Result<Instanced<'t>, Unread>
+) -> Result<Instanced<'t>, Stopped>
     ensures found { IfOk result (λ x. (s : Specification) (worth : Values) → IsGiven s worth tree.now (option_map (λ t. t.now) given.entry) → IsSurvey terms.old tree.now survey.now → IsRight s worth → (root : Text) × (refs : List Ref) × IsInstanced s root refs terms.new tree.now survey.now x) }
     ensures stopped { IfErr result (λ e. (s : Specification) (worth : Values) → IsGiven s worth tree.now (option_map (λ t. t.now) given.entry) → IsSurvey terms.old tree.now survey.now → IsRight s worth → IsStopped s worth e) }
 {
@@ -75,7 +75,7 @@ pub(crate) fn find_instances<'t>(
 }
 
 // The number of the root's name, which a text has in which nothing is wrong.
-fn root_number(terms: &Terms<'_>, survey: &Survey<'_>, given: Option<&str>) -> Result<u32, Unread>
+fn root_number(terms: &Terms<'_>, survey: &Survey<'_>, given: Option<&str>) -> Result<u32, Stopped>
     ensures root { IfOk result (λ n. (s : Specification) (worth : Values) (tree : Trees) → IsGiven s worth tree (option_map (λ t. t.now) given.entry) → IsSurvey terms.now tree survey.now → (root : Text) × (root_in s ≡ Some root) × (slice_get terms.now.texts n ≡ Some root)) }
     ensures stopped { IfErr result (λ e. (s : Specification) (worth : Values) (tree : Trees) → IsGiven s worth tree (option_map (λ t. t.now) given.entry) → IsSurvey terms.now tree survey.now → IsRight s worth → IsStopped s worth e) }
 {
@@ -86,7 +86,7 @@ fn root_number(terms: &Terms<'_>, survey: &Survey<'_>, given: Option<&str>) -> R
 }
 
 // The instances, where there are no more than may be.
-fn few(found: Found) -> Result<Vec<Instance>, Unread>
+fn few(found: Found) -> Result<Vec<Instance>, Stopped>
     ensures found { IfOk result (λ v. (s : Specification) (root : Text) (t : Table) → IsFound (definitions s) root t found → HasFound (definitions s) root t v.items) }
     ensures few { IfOk result (λ v. (s : Specification) (root : Text) (t : Table) → IsFound (definitions s) root t found → IsLeast (HasTooManyInstances s root) None) }
     ensures many { IfErr result (λ e. (s : Specification) (root : Text) (t : Table) → IsFound (definitions s) root t found → IsTold (HasTooManyInstances s root) TooManyInstances e) }

@@ -1,19 +1,24 @@
-//! Reads a specification in CDDL (RFC 8610): its text, its tree, and all stages from the tree to a table, or what is wrong.
+//! Checks a specification in CDDL (RFC 8610): all stages from its tree to what a table is made of, or what is wrong with it.
 #![tactic(auto)]
 
+mod checking;
 mod closing;
 mod faults;
 mod finding;
+mod findings;
+mod laws;
 mod mapping;
-mod outcome;
 mod questioning;
 mod reading;
-mod specification;
+mod spec;
 mod splicing;
-mod tabling;
+mod stopped;
 mod text;
-mod unread;
 
-pub use crate::outcome::{Outcome, compile};
-pub use crate::specification::read_specification;
-pub use crate::unread::Unread;
+pub use crate::checking::check;
+pub use crate::closing::Meant;
+pub use crate::findings::Findings;
+pub use crate::laws::trees_are_of_tokens;
+pub use crate::spec::Spec;
+pub use crate::splicing::Splices;
+pub use cddl_token::{Code, Refusal};

@@ -7,10 +7,10 @@ ghost use Rattle.cddl_language.specs.Literals.{Values};
 ghost use Rattle.cddl_language.specs.Terms.{Ref, Text};
 ghost use Rattle.tree_nodes.specs.declared.tree.Tree.{Tree as Trees};
 ghost use Rattle.cddl_check.specs.Stages.{AreMapFaults, IsReading};
-ghost use Rattle.cddl_check.specs.declared.unread.Unread.TheVariants as Why;
+ghost use Rattle.cddl_check.specs.declared.stopped.Stopped.TheVariants as Why;
 
 use crate::reading::Reading;
-use crate::unread::Unread;
+use crate::stopped::Stopped;
 use check_groups::choosing::laws::texts_have_entries;
 use check_instances::openings::endings_of;
 use check_maps::map_cycles::coming_back;
@@ -36,7 +36,7 @@ pub(crate) fn faults_of_maps(
     alloc: Global,
     terms: &Terms<'_>,
     reading: &Reading<'_>,
-) -> Result<MapFaults, Unread>
+) -> Result<MapFaults, Stopped>
     ensures found { IfOk result (λ x. (s : Specification) (worth : Values) (tree : Trees) (root : Text) (refs : List Ref) → IsReading s worth root refs terms.now tree reading.now → AreMapFaults s root x) }
     ensures memory { IfErr result (λ e. e ≡ Why.Memory) }
 {

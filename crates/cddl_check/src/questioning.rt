@@ -9,10 +9,10 @@ ghost use Rattle.check_terms.specs.Definitions.{AreDefinitions};
 ghost use Rattle.check_terms.specs.Table.{Grows};
 ghost use Rattle.tree_nodes.specs.View.{view};
 ghost use Rattle.cddl_check.specs.Stages.{IsAsking, IsInstanced, IsNamed, IsRight};
-ghost use Rattle.cddl_check.specs.declared.unread.Unread.TheVariants as Why;
+ghost use Rattle.cddl_check.specs.declared.stopped.Stopped.TheVariants as Why;
 
 use crate::finding::Instanced;
-use crate::unread::Unread;
+use crate::stopped::Stopped;
 use check_names::environment::{Name, names};
 use check_names::kinds::{Kinds, kinds_of};
 use check_reached::laws::{instances_grow, questions_grow};
@@ -51,7 +51,7 @@ pub(crate) fn ask<'s>(
     tree: &Tree<'s>,
     survey: &Survey<'_>,
     instanced: &Instanced<'_>,
-) -> Result<Questions, Unread>
+) -> Result<Questions, Stopped>
     ensures grows { Grows terms.old terms.new }
     ensures asking { IfOk result (λ x. (s : Specification) (worth : Values) (root : Text) (refs : List Ref) → s.tree ≡ view tree.now → IsRight s worth → IsInstanced s root refs terms.old tree.now survey.now instanced.now → IsAsking s root terms.new survey.now x) }
     ensures memory { IfErr result (λ e. e ≡ Why.Memory) }
@@ -86,7 +86,7 @@ pub(crate) fn ask<'s>(
 }
 
 // The names of the table as it is now.
-fn naming_of(alloc: Global, terms: &Terms<'_>, survey: &Survey<'_>) -> Result<Naming, Unread>
+fn naming_of(alloc: Global, terms: &Terms<'_>, survey: &Survey<'_>) -> Result<Naming, Stopped>
     ensures named { IfOk result (λ x. (s : Specification) → AreDefinitions terms.now survey.now.known.items prelude → AreDefinitions terms.now survey.now.definitions.items (definitions s) → IsNamed s terms.now survey.now x) }
     ensures memory { IfErr result (λ e. e ≡ Why.Memory) }
 {

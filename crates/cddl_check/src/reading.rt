@@ -13,8 +13,8 @@ use crate::closing::{Meant, close_instances};
 use crate::finding::{Instanced, find_instances};
 use crate::questioning::{Questions, ask};
 use crate::splicing::{Splices, splices_of};
+use crate::stopped::Stopped;
 use crate::text::clear_text;
-use crate::unread::Unread;
 use check_reached::laws::{entry_questions_grow, instances_grow, questions_grow};
 use check_reading::survey::Survey;
 use check_terms::Terms;
@@ -38,7 +38,7 @@ pub(crate) fn read_tree<'s, 't>(
     terms: &mut Terms<'s>,
     tree: &'t Tree<'s>,
     given: Option<&str>,
-) -> Result<Reading<'t>, Unread>
+) -> Result<Reading<'t>, Stopped>
     ensures read { IfOk result (λ x. (s : Specification) (worth : Values) → IsGiven s worth tree.now (option_map (λ t. t.now) given.entry) → (root : Text) × (refs : List Ref) × IsReading s worth root refs terms.new tree.now x) }
     ensures stopped { IfErr result (λ e. (s : Specification) (worth : Values) → IsGiven s worth tree.now (option_map (λ t. t.now) given.entry) → IsStopped s worth e) }
 {

@@ -6,10 +6,10 @@ ghost use Rattle.cddl_language.specs.Faults.{Specification, definitions};
 ghost use Rattle.cddl_language.specs.Literals.{Values};
 ghost use Rattle.cddl_language.specs.Terms.{Ref, Text};
 ghost use Rattle.cddl_check.specs.Stages.{AreSplices, IsMeant};
-ghost use Rattle.cddl_check.specs.declared.unread.Unread.TheVariants as Why;
+ghost use Rattle.cddl_check.specs.declared.stopped.Stopped.TheVariants as Why;
 
 use crate::closing::Meant;
-use crate::unread::Unread;
+use crate::stopped::Stopped;
 use alternatives::{Part, Summary, summaries};
 use check_groups::splices::parts_of;
 use check_names::kinds::Kinds;
@@ -18,7 +18,7 @@ use std::alloc::Global;
 
 /// What groups in maps stand for: a part for each row of a table, and one after them.
 #[derive(Drop)]
-pub(crate) struct Splices {
+pub struct Splices {
     pub parts: Vec<Part>,
     /// How many alternatives each part has, and of which sorts.
     pub summaries: Vec<Option<Summary>>,
@@ -30,8 +30,8 @@ pub(crate) fn splices_of(
     terms: &Terms<'_>,
     kinds: &Kinds,
     meant: &Meant,
-) -> Result<Splices, Unread>
-    ensures found { IfOk result (λ x. (s : Specification) (worth : Values) (root : Text) (refs : List Ref) → AreKinds terms.now.texts (definitions s) kinds.now → IsMeant s worth root refs terms.now meant.now → AreSplices s root terms.now x) }
+) -> Result<Splices, Stopped>
+    ensures found { IfOk result (λ x. (s : Specification) (worth : Values) (root : Text) (refs : List Ref) → AreKinds terms.now.texts (definitions s) kinds.now → IsMeant (definitions s) worth root refs terms.now meant.now → AreSplices (definitions s) root terms.now x) }
     ensures memory { IfErr result (λ e. e ≡ Why.Memory) }
 {
     let parts = parts_of(alloc, terms, &meant.closed, kinds, &meant.openings)?;

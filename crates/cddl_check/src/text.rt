@@ -7,7 +7,7 @@ ghost use Rattle.check_reading.specs.Survey.Survey.{IsSurvey};
 ghost use Rattle.cddl_check.specs.Outcome.{IsStopped};
 ghost use Rattle.cddl_check.specs.Stages.{IsGiven, IsRight};
 
-use crate::unread::Unread;
+use crate::stopped::Stopped;
 use check_reading::survey::{Survey, survey_of};
 use check_terms::Terms;
 use check_text::laws::{text_fault_is_told, text_is_clear};
@@ -21,7 +21,7 @@ pub(crate) fn clear_text<'s, 't>(
     terms: &mut Terms<'s>,
     tree: &'t Tree<'s>,
     given: Option<&str>,
-) -> Result<Survey<'t>, Unread>
+) -> Result<Survey<'t>, Stopped>
     ensures survey { IfOk result (λ v. IsSurvey terms.new tree.now v) }
     ensures right { IfOk result (λ v. (s : Specification) (worth : Values) → IsGiven s worth tree.now (option_map (λ t. t.now) given.entry) → IsRight s worth) }
     ensures stopped { IfErr result (λ e. (s : Specification) (worth : Values) → IsGiven s worth tree.now (option_map (λ t. t.now) given.entry) → IsStopped s worth e) }
@@ -30,7 +30,7 @@ pub(crate) fn clear_text<'s, 't>(
     let survey = survey_of(alloc, terms, tree)?;
     text_is_clear(terms);
     match text_fault(alloc, terms, tree, &survey, given)? {
-        Some(fault) => Err(Unread::Refused(fault)),
+        Some(fault) => Err(Stopped::Refused(fault)),
         None => Ok(survey),
     }
 }

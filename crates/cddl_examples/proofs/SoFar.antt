@@ -6,7 +6,7 @@ use Rattle.cbor_data.specs.Faults.{Bounds}
 use Rattle.cbor_data.specs.Sequence.{Found}
 use Rattle.cbor_data.specs.Value.{Value}
 use Rattle.cddl_language.specs.Terms.{Text}
-use Rattle.cddl_check.specs.Text.{IsTabledText}
+use Rattle.cddl_table.specs.Text.{IsTabledText}
 use Rattle.table_nodes.specs.declared.table.Table.{Table}
 use Rattle.seq_run.specs.Answers.{Appends, IsAnswer, IsFinish, items_of}
 use Rattle.seq_run.specs.Ends as by_table

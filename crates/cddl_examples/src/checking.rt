@@ -5,7 +5,7 @@ ghost use Rattle.cddl_token.specs.Messages.{refusal_text};
 ghost use Rattle.seq_run.specs.Running.{change_of};
 ghost use Rattle.cddl_examples.specs.Checking.{IsLine, IsPrinted};
 
-use cddl::{Counted, Refusal, Unread, read_specification, table_has_root, write_bytes};
+use cddl::{Counted, Refusal, read_specification, table_has_root, write_bytes};
 use std::alloc::{AllocError, Global};
 use std::io::Write;
 
@@ -24,12 +24,12 @@ pub fn print_check<W: Write>(
     ensures silent { IfErr result (λ _. out.new ≡ out.old) }
 {
     table_has_root();
-    let fault = match read_specification(alloc, text, None) {
+    let refusal = match read_specification(alloc, text, None) {
         Ok(_) => return Ok(print_line(b"accepted\n", out)),
-        Err(Unread::Refused(fault)) => fault,
-        Err(Unread::Memory) => return Err(AllocError),
+        Err(Refusal::At(code, at)) => Refusal::At(code, at),
+        Err(Refusal::Memory) => return Err(AllocError),
     };
-    let line = line_of(alloc, Refusal::At(fault.code, fault.at))?;
+    let line = line_of(alloc, refusal)?;
     Ok(print_line(line.as_bytes(), out))
 }
 

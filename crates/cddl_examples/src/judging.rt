@@ -5,24 +5,24 @@ ghost use Rattle.item_nodes.specs.View.{view};
 ghost use Rattle.cddl_examples.specs.Judging.{IsJudged, IsUnjudged};
 ghost use Rattle.cddl_examples.specs.declared.judging.Unjudged.TheVariants as Why;
 
-use cddl::{Item, Sound, Unread, Unsound, Verdict, read_specification, table_has_root, verdict};
+use cddl::{Item, Refusal, Sound, Unsound, Verdict, read_specification, table_has_root, verdict};
 use std::alloc::{AllocError, Global};
 
 /// Why nothing is said of an item.
 #[derive(Clone, Copy, Debug, PartialEq, Eq)]
 pub enum Unjudged {
     /// The text has no table.
-    Text(Unread),
+    Text(Refusal),
     /// The item cannot be written.
     Item(Unsound),
     /// An allocation was refused.
     Memory,
 }
 
-impl From<Unread> for Unjudged {
+impl From<Refusal> for Unjudged {
     ghost from_gives = { λ why e. e ≡ Why.Text why };
 
-    fn from(why: Unread) -> Unjudged {
+    fn from(why: Refusal) -> Unjudged {
         Unjudged::Text(why)
     }
 }

@@ -4,7 +4,7 @@ ghost use Rattle.std.specs.Prelude.{◌≡◌, IfErr, IfOk, flat_map};
 ghost use Rattle.cddl_examples.specs.Receiving.{IsReceived};
 ghost use Rattle.cddl_check.specs.Text.{IsUnreadText};
 
-use cddl::{End, Limits, Session, Sound, State, Unread, read_specification, table_has_root};
+use cddl::{End, Limits, Refusal, Session, Sound, State, read_specification, table_has_root};
 use std::alloc::Global;
 
 /// The items that the first rule of the text accepts, and how the stream ends, whose pieces come as a socket gives them, empty ones
@@ -15,7 +15,7 @@ pub fn receive(
     limits: Limits,
     steps: u64,
     pieces: &[Vec<u8>],
-) -> Result<(Vec<Sound>, End), Unread>
+) -> Result<(Vec<Sound>, End), Refusal>
     ensures received { IfOk result (λ r. IsReceived text.now limits steps (flat_map (λ piece. piece.items) pieces.now) r.0.items r.1) }
     ensures unread { IfErr result (IsUnreadText text.now None) }
 {

@@ -9,3 +9,5 @@ mod Groups
 mod Ranked
 mod Finding
 mod Standing
+mod Handing
+mod Telling

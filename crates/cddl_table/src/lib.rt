@@ -1,12 +1,16 @@
 //! The table of a specification: its types and groups, with ranks.
 #![tactic(auto)]
 
+mod compiling;
 mod ranks;
 mod root;
+mod specification;
 mod table;
 
-pub use crate::table::{Unmade, table_of};
+pub use crate::compiling::compile;
+pub use crate::specification::read_specification;
 pub use table_nodes::{
+    // A table comes with its calls: `root`, `ranks`, `node` and `group`.
     Content, Group, GroupId, MapEntry, Most, Node, NotRanked, Ranks, SizeRange, SizeSet, Table,
     TagNumber, Test, TypeId, Whole,
 };

@@ -27,9 +27,9 @@ use table_making::{Nodes, Source, nodes_of};
 use table_nodes::flags::flags_of;
 use table_nodes::{Ranks as NodeRanks, Table};
 
-/// Why there is no table.
+// Why there is no table.
 #[derive(Clone, Copy, Debug, PartialEq, Eq)]
-pub enum Unmade {
+pub(crate) enum Unmade {
     /// Memory was refused, or a number does not fit.
     NoRoom,
     /// The ranks do not go down, or the root has no place: this never comes of a specification's own instances and ranks.
@@ -52,19 +52,13 @@ impl From<AllocError> for Unmade {
     }
 }
 
-/// The table of a specification (RFC 8610 sections 2 and 3): a type or a group for each of its instances and for what their
-/// parts ask for, each with a rank that is above those of what it asks of the same item.
-///
-/// It is given the table of terms, what is known of the instances and of the rows, ranks of what they ask, and the number of the
-/// root's name.
-///
-/// It takes time and memory in proportion to the forms that are made. Nothing recurses.
-///
-/// # Errors
-///
-/// [`Unmade::NoRoom`] where memory is refused or a number does not fit. [`Unmade::NotRanked`] never comes where what is given
-/// is of one specification, and the root is a name of a type.
-pub fn table_of(
+// The table of a specification (RFC 8610 sections 2 and 3): a type or a group for each of its instances and for what their
+// parts ask for, each with a rank that is above those of what it asks of the same item.
+//
+// It is given the table of terms, what is known of the instances and of the rows, ranks of what they ask, and the number of the
+// root's name. NoRoom is told where memory is refused or a number does not fit. NotRanked never comes where what is given is of
+// one specification, and the root is a name of a type.
+pub(crate) fn table_of(
     alloc: Global,
     terms: &Terms<'_>,
     source: &Source<'_>,

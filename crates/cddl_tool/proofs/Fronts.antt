@@ -3,9 +3,10 @@ use Rattle.std.proofs.Common.{◌≡◌, ℕ, ◌<◌, ◌≤◌, inl, inr, ◌�
 use Rattle.std.proofs.lemmas.Bool.{cases_lt}
 use Rattle.std.proofs.lemmas.List.{length-take-le, take_all}
 use Rattle.check_text.specs.declared.fault.Fault.{Fault}
-use Rattle.cddl_check.specs.Text.{AreTokensOf, IsTabledText, IsTreeOfText, IsUnreadText, IsWrongText, no_tokens, no_tree, has_fault}
-use Rattle.cddl_check.specs.declared.unread.Unread.{Unread}
-use Rattle.cddl_check.specs.declared.unread.Unread.TheVariants as UnreadV
+use Rattle.cddl_check.specs.Text.{AreTokensOf, IsTreeOfText, IsUnreadText, IsWrongText, no_tokens, no_tree, has_fault}
+use Rattle.cddl_table.specs.Text.{IsTabledText}
+use Rattle.cddl_token.specs.declared.Refusal.{Refusal}
+use Rattle.cddl_token.specs.declared.Refusal.TheVariants as RefusalV
 use Rattle.tree_nodes.specs.Syntax.Syntax.{Cddl}
 use Rattle.table_nodes.specs.declared.table.Table.{Table}
 use Rattle.cddl_token.specs.Answers.{IsRefused}
@@ -27,9 +28,9 @@ wrong_long text front root f long over (no_tokens h) = no_tokens (refused_long t
 wrong_long text front root f long over (no_tree t h) = absurd (omega (arith, over, t.tokenized.0.0))
 wrong_long text front root f long over (has_fault t h) = absurd (omega (arith, over, short t))
 
-unread_long : (text front : List ℕ) (root : Option (List ℕ)) (why : Unread) → 1048576 < length text → 1048576 < length front → IsUnreadText front root why → IsUnreadText text root why
-unread_long text front root (UnreadV.Refused f) long over h = wrong_long text front root f long over h
-unread_long text front root UnreadV.Memory long over h = tt
+unread_long : (text front : List ℕ) (root : Option (List ℕ)) (why : Refusal) → 1048576 < length text → 1048576 < length front → IsUnreadText front root why → IsUnreadText text root why
+unread_long text front root (RefusalV.At code at) long over h = wrong_long text front root (record { code = code; at = at }) long over h
+unread_long text front root RefusalV.Memory long over h = tt
 
 tabled_long : (text front : List ℕ) (root : Option (List ℕ)) (table : Table) → 1048576 < length front → IsTabledText front root table → IsTabledText text root table
 tabled_long text front root table over h = absurd (omega (arith, over, short h.is_tree))
@@ -44,7 +45,7 @@ tabled_front text root table h = elim (cases_lt 1048576 (length text)) [
   | inr few ↦ subst (λ t. IsTabledText t root table) (take_all most_read text (omega (arith, few))) h
 ]
 
-pub unread_front : (text : List ℕ) (root : Option (List ℕ)) (why : Unread) → IsUnreadText (take most_read text) root why → IsUnreadText text root why
+pub unread_front : (text : List ℕ) (root : Option (List ℕ)) (why : Refusal) → IsUnreadText (take most_read text) root why → IsUnreadText text root why
 unread_front text root why h = elim (cases_lt 1048576 (length text)) [
   | inl long ↦ unread_long text (take most_read text) root why long (over_long text long) h
   | inr few ↦ subst (λ t. IsUnreadText t root why) (take_all most_read text (omega (arith, few))) h

@@ -2,7 +2,8 @@
 
 ghost use Rattle.std.specs.Prelude.{◌≡◌, ◌≢◌, ◌⊎◌, ℕ, List, Option, IfOk, IfErr, IfSome, OnOk, option_copied, option_map, string_bytes};
 ghost use Rattle.item_nodes.specs.Counted.{device_of};
-ghost use Rattle.cddl_check.specs.Text.{IsTabledText, IsUnreadText};
+ghost use Rattle.cddl_check.specs.Text.{IsUnreadText};
+ghost use Rattle.cddl_table.specs.Text.{IsTabledText};
 ghost use Rattle.seq_run.specs.Judge.{judge_of};
 ghost use Rattle.seq_run.specs.Report.{IsShown};
 ghost use Rattle.seq_run.specs.Running.{change_of};
@@ -11,7 +12,7 @@ ghost use Rattle.cddl_tool.specs.Acting.{fault_line, limits_of, mode_of, refusal
 
 use cbor_item::{Counted, Sound, write_bytes};
 use cbor_read::Limits;
-use cddl_check::{Unread, read_specification};
+use cddl_table::read_specification;
 use cddl_token::Refusal;
 use check_text::Fault;
 use command_line::{
@@ -58,12 +59,12 @@ fn root_of(options: &Options) -> Option<&str>
 }
 
 // Says why a text has no table, and answers the status.
-fn say_unread<E: Write>(alloc: Global, why: Unread, err: &mut Counted<E>) -> u8
+fn say_unread<E: Write>(alloc: Global, why: Refusal, err: &mut Counted<E>) -> u8
     ensures { (text : List ℕ) (root : Option (List ℕ)) → IsUnreadText text root why → IsTurnedDown text root (change_of E.contents err.old err.new) result }
 {
     match why {
-        Unread::Refused(fault) => say_refused(alloc, fault, err),
-        Unread::Memory => say_no_memory(err),
+        Refusal::At(code, at) => say_refused(alloc, Fault { code, at }, err),
+        Refusal::Memory => say_no_memory(err),
     }
 }
 

@@ -1,8 +1,9 @@
 //! What is read of a long text tells what all of it does.
 
 ghost use Rattle.std.specs.Prelude.{ℕ, List, Option, take};
-ghost use Rattle.cddl_check.specs.Text.{IsTabledText, IsUnreadText};
-ghost use Rattle.cddl_check.specs.declared.unread.Unread.{Unread};
+ghost use Rattle.cddl_check.specs.Text.{IsUnreadText};
+ghost use Rattle.cddl_table.specs.Text.{IsTabledText};
+ghost use Rattle.cddl_token.specs.declared.Refusal.{Refusal};
 ghost use Rattle.table_nodes.specs.declared.table.Table.{Table};
 ghost use Rattle.command_line.specs.Reading.{most_read};
 
@@ -10,5 +11,5 @@ ghost use Rattle.command_line.specs.Reading.{most_read};
 /// too long. It does nothing.
 pub fn front_tells()
     ensures tabled { (text : List ℕ) (root : Option (List ℕ)) (table : Table) → IsTabledText (take most_read text) root table → IsTabledText text root table }
-    ensures unread { (text : List ℕ) (root : Option (List ℕ)) (why : Unread) → IsUnreadText (take most_read text) root why → IsUnreadText text root why }
+    ensures unread { (text : List ℕ) (root : Option (List ℕ)) (why : Refusal) → IsUnreadText (take most_read text) root why → IsUnreadText text root why }
 {}

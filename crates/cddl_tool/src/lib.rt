@@ -6,7 +6,8 @@ mod laws;
 
 pub use crate::acting::{act, ready};
 pub use crate::laws::front_tells;
-pub use cddl_check::{Unread, read_specification};
+pub use cddl_table::read_specification;
+pub use cddl_token::Refusal;
 pub use command_line::{
     BROKEN, FAILED, Options, REFUSED, STEPS, Task, Use, VERSION, options, options_of_arguments,
     read_text, say, say_no_memory, say_no_text, say_read_failed, say_unopened, say_words,

@@ -3,7 +3,8 @@ use Rattle.std.specs.Prelude.{◌≡◌, ◌≢◌, ℕ, ◌+◌, ◌<◌, ◌�
 use Rattle.cbor_data.specs.Value.{Value}
 use Rattle.cbor_data.specs.Faults.{Bounds}
 use Rattle.cbor_data.specs.Sequence.{Found}
-use Rattle.cddl_check.specs.Text.{IsTabledText, IsWrongText}
+use Rattle.cddl_check.specs.Text.{IsWrongText}
+use Rattle.cddl_table.specs.Text.{IsTabledText}
 use Rattle.table_nodes.specs.declared.table.Table.{Table}
 use Rattle.seq_run.specs.Ends.{Ends}
 use Rattle.seq_run.specs.Judge.{Judge, judge_of}

@@ -1,14 +1,16 @@
 //! A specification is read, and made ready for streams.
 
 ghost use Rattle.std.specs.Prelude.{◌≡◌, IfErr, IfNone, IfOk, IfSome, option_map};
-ghost use Rattle.cddl_check.specs.Text.{IsTabledText};
+ghost use Rattle.cddl_table.specs.Text.{IsTabledText};
 ghost use Rattle.cddlseq_c.specs.Answers.{AreOutside, IsReady, IsStop, IsUnread, IsUntabled, root_name};
 ghost use Rattle.cddlseq_c.specs.Told.{bounds_of};
 
 use crate::stop::Stop;
 use crate::told::CddlseqLimits;
 use cbor_read::Limits;
-use cddl_check::{Unread, read_specification};
+use cddl_table::read_specification;
+use cddl_token::Refusal;
+use check_text::Fault;
 use std::alloc::Global;
 use std::str;
 use table_nodes::Table;
@@ -41,8 +43,8 @@ fn read(alloc: Global, text: &[u8], root: Option<&str>) -> Result<Table, Stop>
 {
     match read_specification(alloc, text, root) {
         Ok(table) => Ok(table),
-        Err(Unread::Refused(fault)) => Err(Stop::Refused(fault)),
-        Err(Unread::Memory) => Err(Stop::Memory),
+        Err(Refusal::At(code, at)) => Err(Stop::Refused(Fault { code, at })),
+        Err(Refusal::Memory) => Err(Stop::Memory),
     }
 }
 

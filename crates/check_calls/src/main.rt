@@ -1,4 +1,5 @@
-//! Answers what the rooms of `cddl_check` tell of the text of a specification: what it has, and what its root leads to.
+//! Answers what the rooms of `cddl_check` tell of the text of a specification: what it has, and what its root leads to; and what
+//! `cddl_check` and `cddl_table` make of it.
 #![tactic(auto)]
 
 mod chain;
@@ -12,6 +13,7 @@ mod sites;
 mod survey;
 mod text_faults;
 mod texts_told;
+mod whole;
 
 use call_lines::{all_lines, bytes, count, first, push_none, status_of};
 use check_instances::Found;
@@ -45,6 +47,7 @@ fn answer(alloc: Global, line: &str, out: &mut String) -> Result<(), AllocError>
     let (room, what) = call.split_once('.').unwrap_or((call, ""));
     match room {
         "text" | "root" => push_told(alloc, room, what, words, out),
+        "spec" | "table" => whole::push_whole(alloc, room, words, out),
         "too_many" => push_offset(alloc, too_many(&found_of(alloc, words)), out),
         "lesser" => {
             let (one, other) = first(words);

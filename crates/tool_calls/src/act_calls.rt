@@ -4,7 +4,7 @@ use crate::shown::push_written;
 use crate::word_calls::options_of;
 use call_lines::{bytes, first, push_no_memory, push_number};
 use cbor_item::Counted;
-use cddl_tool::{Options, Unread, act, read_specification, ready};
+use cddl_tool::{Options, Refusal, act, read_specification, ready};
 use std::alloc::{AllocError, Global};
 
 // The source, the sink, the specification, the stream, and the words of the command line.
@@ -62,10 +62,8 @@ pub(crate) fn push_read(alloc: Global, words: &str, out: &mut String) -> Result<
     let root = if root == "-" { None } else { Some(root) };
     match read_specification(alloc, &spec, root) {
         Ok(_) => out.push_str("read"),
-        Err(Unread::Memory) => push_no_memory(out),
-        Err(Unread::Refused(fault)) => {
-            let code = fault.code;
-            let at = fault.at;
+        Err(Refusal::Memory) => push_no_memory(out),
+        Err(Refusal::At(code, at)) => {
             out.push_str(format!(in alloc; "{code} at {at}")?.as_str())
         }
     }

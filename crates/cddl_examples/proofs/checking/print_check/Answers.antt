@@ -8,5 +8,5 @@ returns-in-Ok-clause-printed g c = printed c.table_has_root.ensures c.args.text.
 
 pub returns-clause-printed : goal.returns-clause-printed
 returns-clause-printed g c =
-    denied c.args.text.now c.in-Err-Refused.field-0 c.in-Err-Refused.fault (change_of g.W.Write.contents c.args.out.now c.print_line-2.new.out) c.print_line-2.result c.as_bytes.result.now
-    c.in-Err-Refused.field-0-is c.in-Err-Refused.ensures.unread (c.as_bytes.ensures.value ∙ c.in_ok-line.ensures) c.print_line-2.ensures
+    denied c.args.text.now c.in-Err-At.field-0 c.in-Err-At.code c.in-Err-At.at (change_of g.W.Write.contents c.args.out.now c.print_line-2.new.out) c.print_line-2.result c.as_bytes.result.now
+    c.in-Err-At.field-0-is c.in-Err-At.ensures.unread (c.as_bytes.ensures.value ∙ c.in_ok-line.ensures) c.print_line-2.ensures

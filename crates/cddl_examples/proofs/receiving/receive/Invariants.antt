@@ -1,5 +1,5 @@
 use Rattle.std.proofs.Common.{None, take, flat_map}
-use Rattle.cddl_check.specs.Text.{IsTabledText}
+use Rattle.cddl_table.specs.Text.{IsTabledText}
 use Rattle.table_nodes.specs.declared.table.Table.{Table}
 use Rattle.seq_run.specs.Judge.{judge_of}
 use Rattle.cddl_examples.proofs.SoFar.{IsSoFar}

@@ -3,10 +3,10 @@ use Rattle.seq_run.specs.Running.{change_of}
 use Rattle.cddl_tool.proofs.Refusing.{Tells, tells_fault, tells_memory}
 use Rattle.cddl_tool.proofs.acting.say_unread.Goals as goal
 
-pub returns-in-Refused : goal.returns-in-Refused
-returns-in-Refused g c =
-    subst (λ w. Tells w (change_of g.E.Write.contents c.args.err.now c.say_refused.new.err) c.say_refused.result) (sym c.in-Refused.is)
-    (tells_fault c.in-Refused.fault (change_of g.E.Write.contents c.args.err.now c.say_refused.new.err) c.say_refused.result c.say_refused.ensures)
+pub returns-in-At : goal.returns-in-At
+returns-in-At g c =
+    subst (λ w. Tells w (change_of g.E.Write.contents c.args.err.now c.say_refused.new.err) c.say_refused.result) (sym c.in-At.is)
+    (tells_fault (record { code = c.in-At.code; at = c.in-At.at }) (change_of g.E.Write.contents c.args.err.now c.say_refused.new.err) c.say_refused.result c.say_refused.ensures)
 
 pub returns-in-Memory : goal.returns-in-Memory
 returns-in-Memory g c =

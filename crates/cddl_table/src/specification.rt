@@ -2,16 +2,15 @@
 
 ghost use Rattle.std.specs.Prelude.{◌≡◌, ℕ, IfErr, IfOk, List, option_map};
 ghost use Rattle.cddl_tree.specs.States.{EndsInEnd};
-ghost use Rattle.cddl_check.specs.Text.{AreTokensOf, IsTabledText, IsUnreadText};
+ghost use Rattle.cddl_check.specs.Text.{AreTokensOf, IsUnreadText};
+ghost use Rattle.cddl_table.specs.Text.{IsTabledText};
 
-use crate::tabling::table_of_tree;
-use crate::unread::Unread;
-use cddl_language::one_table_of_values;
-use cddl_token::{Token, tokens};
+use crate::compiling::compile;
+use cddl_check::{check, trees_are_of_tokens};
+use cddl_token::{Refusal, Token, tokens};
 use cddl_tree::{parse, tokens_end};
 use std::alloc::Global;
 use table_nodes::Table;
-use tree_nodes::discard;
 
 /// The table of the specification that the text is (RFC 8610). Its root is the given name, or that of the first rule.
 ///
@@ -21,10 +20,10 @@ use tree_nodes::discard;
 ///
 /// # Errors
 ///
-/// [`Unread::Refused`] with what is wrong, and the byte where it shows: of the text's first token that cannot be read, or else
-/// of the first that fits no specification, or else of the lowest code that stands anywhere in the tree the least offset.
-/// [`Unread::Memory`] where memory was refused, or each number of 32 bits was taken.
-pub fn read_specification(alloc: Global, text: &[u8], root: Option<&str>) -> Result<Table, Unread>
+/// [`Refusal::At`] with what is wrong, and the byte where it shows: of the text's first token that cannot be read, or else of
+/// the first that fits no specification, or else of the lowest code that stands anywhere in the tree the least offset.
+/// [`Refusal::Memory`] where memory was refused, or each number of 32 bits was taken.
+pub fn read_specification(alloc: Global, text: &[u8], root: Option<&str>) -> Result<Table, Refusal>
     ensures tabled { IfOk result (λ table. IsTabledText text.now (option_map (λ t. t.now) root.entry) table) }
     ensures unread { IfErr result (λ e. IsUnreadText text.now (option_map (λ t. t.now) root.entry) e) }
 {
@@ -39,14 +38,15 @@ fn read_tokens<'s>(
     alloc: Global,
     tokens: &'s [Token<'s>],
     root: Option<&str>,
-) -> Result<Table, Unread>
-    requires { EndsInEnd tokens.now }
+) -> Result<Table, Refusal>
+    requires ends { EndsInEnd tokens.now }
+    requires read { (text : List ℕ) × AreTokensOf tokens.now text }
     ensures tabled { IfOk result (λ table. (text : List ℕ) → AreTokensOf tokens.now text → IsTabledText text (option_map (λ t. t.now) root.entry) table) }
     ensures unread { IfErr result (λ e. (text : List ℕ) → AreTokensOf tokens.now text → IsUnreadText text (option_map (λ t. t.now) root.entry) e) }
 {
-    one_table_of_values();
+    trees_are_of_tokens();
     let tree = parse(alloc, tokens)?;
-    let told = table_of_tree(alloc, &tree, root);
-    discard(tree);
-    told
+    let spec = check(alloc, tree, root)?;
+    let table = compile(alloc, &spec)?;
+    Ok(table)
 }

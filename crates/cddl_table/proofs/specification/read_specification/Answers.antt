@@ -1,7 +1,10 @@
 use Rattle.std.proofs.Common.{sym, subst}
 use Rattle.cddl_check.specs.Text.{AreTokensOf}
-use Rattle.cddl_check.proofs.Handing.{handed}
-use Rattle.cddl_check.proofs.specification.read_specification.Goals as goal
+use Rattle.cddl_table.proofs.Handing.{handed}
+use Rattle.cddl_table.proofs.specification.read_specification.Goals as goal
+
+pub read_tokens-requires-clause-read : goal.read_tokens-requires-clause-read
+read_tokens-requires-clause-read c = (c.args.text.now, subst (λ ts. AreTokensOf ts c.args.text.now) (sym c.deref.ensures.value) (record { tokenized = c.in_ok-found.ensures.found; read = c.in_ok-found.ensures.each }))
 
 pub returns-in_err-table-clause-unread : goal.returns-in_err-table-clause-unread
 returns-in_err-table-clause-unread c =
