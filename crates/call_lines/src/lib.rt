@@ -8,7 +8,7 @@
 mod lines;
 mod words;
 
-pub use crate::lines::{all_lines, status_of};
+pub use crate::lines::{Answers, run, say_no_memory};
 pub use crate::words::{
     bytes, count, first, limit, number, push_bytes, push_hex, push_is, push_no_memory, push_none,
     push_number, push_space, push_text,

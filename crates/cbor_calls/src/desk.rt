@@ -2,7 +2,7 @@
 use crate::form_calls::Forming;
 use crate::read_calls::Reading;
 use crate::{item_calls, write_calls};
-use call_lines::first;
+use call_lines::{Answers, first};
 use std::alloc::{AllocError, Global};
 
 /// Readers that go on with the next line.
@@ -21,9 +21,10 @@ impl Desk {
             reading: Box::new(alloc, Reading::new(alloc))?,
         })
     }
+}
 
-    // Adds the answer to a line.
-    pub(crate) fn answer(&mut self, line: &str, out: &mut String) -> Result<(), AllocError> {
+impl Answers for Desk {
+    fn answer(&mut self, line: &str, out: &mut String) -> Result<(), AllocError> {
         let (call, words) = first(line);
         let (room, name) = call.split_once('.').unwrap_or((call, ""));
         match room {

@@ -10,25 +10,13 @@ mod read_calls;
 mod write_calls;
 
 use crate::desk::Desk;
-use call_lines::{all_lines, status_of};
-use std::io;
+use call_lines::{run, say_no_memory};
 use std::process::ExitCode;
 
 fn main(rt: HostRuntime) -> ExitCode {
-    status_of(&rt, &answer_lines(&rt))
-}
-
-fn answer_lines(rt: &HostRuntime) -> io::Result<()> {
-    let text = all_lines(rt)?;
-    let mut desk = Desk::new(rt.alloc())?;
-    for line in text.as_str().lines() {
-        print_answer(rt, &mut desk, line)?;
+    let (mut input, mut out, mut err) = (rt.stdin(), rt.stdout(), rt.stderr());
+    match Desk::new(rt.alloc()) {
+        Ok(mut desk) => run(rt.alloc(), &mut desk, &mut input, &mut out, &mut err),
+        Err(_) => say_no_memory(&mut err),
     }
-    Ok(())
-}
-
-fn print_answer(rt: &HostRuntime, desk: &mut Desk, line: &str) -> io::Result<()> {
-    let mut out = String::new(rt.alloc());
-    desk.answer(line, &mut out)?;
-    println!(rt; "{out}")
 }

@@ -15,45 +15,40 @@ mod text_faults;
 mod texts_told;
 mod whole;
 
-use call_lines::{all_lines, bytes, count, first, push_none, status_of};
+use call_lines::{Answers, bytes, count, first, push_none, run};
 use check_instances::Found;
 use check_root::root_faults::too_many;
 use lists::lesser;
 use std::alloc::{AllocError, Global};
-use std::io;
 use std::process::ExitCode;
 
 fn main(rt: HostRuntime) -> ExitCode {
-    status_of(&rt, &answer_lines(&rt))
+    let (mut input, mut out, mut err) = (rt.stdin(), rt.stdout(), rt.stderr());
+    let mut rooms = Rooms { alloc: rt.alloc() };
+    run(rt.alloc(), &mut rooms, &mut input, &mut out, &mut err)
 }
 
-fn answer_lines(rt: &HostRuntime) -> io::Result<()> {
-    let text = all_lines(rt)?;
-    for line in text.as_str().lines() {
-        print_answer(rt, line)?;
-    }
-    Ok(())
+// The calls by their rooms.
+#[derive(Drop)]
+struct Rooms {
+    alloc: Global,
 }
 
-fn print_answer(rt: &HostRuntime, line: &str) -> io::Result<()> {
-    let mut out = String::new(rt.alloc());
-    answer(rt.alloc(), line, &mut out)?;
-    println!(rt; "{out}")
-}
-
-// Adds the answer to a line.
-fn answer(alloc: Global, line: &str, out: &mut String) -> Result<(), AllocError> {
-    let (call, words) = first(line);
-    let (room, what) = call.split_once('.').unwrap_or((call, ""));
-    match room {
-        "text" | "root" => push_told(alloc, room, what, words, out),
-        "spec" | "table" => whole::push_whole(alloc, room, words, out),
-        "too_many" => push_offset(alloc, too_many(&found_of(alloc, words)), out),
-        "lesser" => {
-            let (one, other) = first(words);
-            push_offset(alloc, lesser(offset(one), offset(other)), out)
+impl Answers for Rooms {
+    fn answer(&mut self, line: &str, out: &mut String) -> Result<(), AllocError> {
+        let alloc = self.alloc;
+        let (call, words) = first(line);
+        let (room, what) = call.split_once('.').unwrap_or((call, ""));
+        match room {
+            "text" | "root" => push_told(alloc, room, what, words, out),
+            "spec" | "table" => whole::push_whole(alloc, room, words, out),
+            "too_many" => push_offset(alloc, too_many(&found_of(alloc, words)), out),
+            "lesser" => {
+                let (one, other) = first(words);
+                push_offset(alloc, lesser(offset(one), offset(other)), out)
+            }
+            _ => out.push_str("no such call"),
         }
-        _ => out.push_str("no such call"),
     }
 }
 

@@ -1,7 +1,7 @@
 //! The words of a table, which are kept from line to line, and the calls with it.
 use crate::tables::{groups_of, ranks_of, type_id, types_of};
 use crate::{match_calls, run_calls, session_calls};
-use call_lines::first;
+use call_lines::{Answers, first};
 use std::alloc::{AllocError, Global};
 use table_nodes::Table;
 
@@ -21,16 +21,6 @@ impl Desk {
             types: String::new(alloc),
             groups: String::new(alloc),
             ranks: String::new(alloc),
-        }
-    }
-
-    // Adds the answer to a line.
-    pub(crate) fn answer(&mut self, line: &str, out: &mut String) -> Result<(), AllocError> {
-        let (call, words) = first(line);
-        match call {
-            "match.flags" => match_calls::push_flags(self.alloc, words, out),
-            "match.types" | "match.groups" | "match.ranks" => self.keep(call, words, out),
-            _ => self.ask(call, words, out),
         }
     }
 
@@ -67,6 +57,17 @@ impl Desk {
             "session" => session_calls::answer(self.alloc, &table, name, words, out),
             "run" => run_calls::answer(self.alloc, &table, name, words, out),
             _ => out.push_str("no such call"),
+        }
+    }
+}
+
+impl Answers for Desk {
+    fn answer(&mut self, line: &str, out: &mut String) -> Result<(), AllocError> {
+        let (call, words) = first(line);
+        match call {
+            "match.flags" => match_calls::push_flags(self.alloc, words, out),
+            "match.types" | "match.groups" | "match.ranks" => self.keep(call, words, out),
+            _ => self.ask(call, words, out),
         }
     }
 }
