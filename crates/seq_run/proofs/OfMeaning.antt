@@ -1,2 +1,3 @@
+pub mod OneEnd
 pub mod Streams
 pub mod Texts
