@@ -1,5 +1,5 @@
 -- By a text a stream has one end at most, whether a table stands for the text or not.
-use Rattle.std.proofs.Common.{◌≡◌, ℕ, ◌<◌, ◌≤◌, ◌^◌, List, length, arith}
+use Rattle.std.proofs.Common.{◌≡◌, ℕ, ◌+◌, ◌<◌, ◌≤◌, ◌^◌, List, length, arith}
 use Rattle.cbor_data.specs.Faults.{Bounds, IsItem, last_offset}
 use Rattle.cbor_data.specs.Forms.{Spells}
 use Rattle.cbor_data.specs.Preferred.{preferred}
@@ -20,7 +20,7 @@ use Rattle.seq_run.proofs.Rereading.{written_by}
 use Rattle.seq_run.proofs.Verdicts.{item_room}
 
 pub text_once : (worth : Values) (ds : List Definition) (root : Text) (x : Value) (a b : Answer) (v w : ℕ) → size x < 2 ^ 64 → TextSays worth ds root x a v → TextSays worth ds root x b w → (b ≡ a) × (w ≡ v)
-text_once worth ds root x a b v w few d e = one_saying (language worth ds) few d e
+text_once worth ds root x a b v w few d e = let fits : 0 + size x < 2 ^ 64 = omega (arith, few) in one_saying (language worth ds) fits d e
 
 module _ (worth : Values) (ds : List Definition) (root : Text) (steps : ℕ) where
   one_place : {l : Bounds} {o p q : ℕ} {x : Value} {b : List ℕ} → IsItem l o x b → TextMisses worth ds root steps x b p → TextMisses worth ds root steps x b q → p ≡ q
