@@ -21,7 +21,7 @@ ghost use Rattle.seq_run.specs.Written.{AreWritable, clean_end, found_from, writ
 ghost use Rattle.seq_run.specs.declared.end.End.{End};
 
 use cbor_data::preferred_spells;
-use cbor_read::one_fault;
+use cbor_read::{one_fault, some_front};
 use cddl_language::same_by_text;
 use cddl_match::decided;
 use table_nodes::{GroupId, TypeId};
@@ -46,6 +46,13 @@ pub fn one_end_by_text()
 {
     one_fault();
     preferred_spells();
+}
+
+/// By a text that says exactly one thing of each item whose size is below 2^64 a stream has an end, whatever its bytes are.
+pub fn some_end_by_text()
+    ensures { (worth : Values) (ds : List Definition) (root : Text) → ((x : Value) → size x < 2 ^ 64 → IsDecided (language worth ds) (type_node worth ds (reference (call root no_terms))) 0 x) → (steps : ℕ) (l : Bounds) (stream : List ℕ) → AreBytes stream → (found : List Found) × (end : End) × EndsByText worth ds root steps l stream found end }
+{
+    some_front();
 }
 
 /// A text for which a table stands says exactly one thing of an item whose size is below 2^64, and in one number of
