@@ -149,9 +149,11 @@ pub fn one_fault()
     ensures apart { (s : Specification) (worth : Values) (c : Code) (p : ℕ) → IsAccepted s worth → IsRefused s worth c p → ⊥ }
 {}
 
-/// An accepted specification has no cycle of free references through a name of its text.
+/// An accepted specification has no cycle of free references: nothing that an instance asks before an item is taken or gone into
+/// leads back to itself, by names of the text or of the prelude.
 pub fn accepted_has_no_cycle()
-    ensures { (s : Specification) (worth : Values) (root : Text) (p : Point) (r : Rule) → IsAccepted s worth → root_of s ≡ Some root → Contains (rules s) r → name_in r ≡ name_of (ref_at p) → IsOnCycle (definitions s) root p → ⊥ }
+    ensures cycle { (s : Specification) (worth : Values) (root : Text) (p : Point) → IsAccepted s worth → root_of s ≡ Some root → IsOnCycle (definitions s) root p → ⊥ }
+    ensures back { (s : Specification) (worth : Values) (root : Text) (p : Point) → IsAccepted s worth → root_of s ≡ Some root → LeadsBack (definitions s) root p → ⊥ }
 {}
 
 /// Where anything that an instance asks leads back to itself, the fault is told of something: where no reference leads back, of a
