@@ -14,6 +14,7 @@ pub mod MapsFaulty
 pub mod MapsFlat
 pub mod MapsNone
 pub mod MapsStand
+pub mod MoreNames
 pub mod Members
 pub mod NoCycle
 pub mod NoReference

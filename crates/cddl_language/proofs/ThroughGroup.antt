@@ -211,7 +211,7 @@ unfolding prelude
 told worth = F.at_rule (record { point = at_name t; cycle = record { back = t_leads_back; counts = inl refl }; first = refl }) refl
 
 pub not_told : (worth : Values) → IsFaultAt T.chosen_through worth C.Recursion 9 → ⊥
-not_told worth (F.without_rule c none e) = differ 0 9 (omega arith) (sym e)
+not_told worth (F.without_rule c none e) = differ 0 9 (omega arith) e
 not_told worth (F.at_rule f e) = by (reached (ref_at f.point) f.cycle.back.instance)
   where
     by : IsKnown (ref_at f.point) → ⊥

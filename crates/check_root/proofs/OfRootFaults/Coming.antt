@@ -9,7 +9,8 @@ use Rattle.tree_nodes.specs.Syntax.Syntax as S
 use Rattle.cddl_language.specs.Terms.{Ref, Text, call, name_of}
 use Rattle.cddl_language.specs.Environment.{is_same}
 use Rattle.cddl_language.specs.Faults.{HasRecursion, IsRuleOnCycle, Specification, at_rule, definitions, first_rule, rules, without_rule}
-use Rattle.cddl_language.specs.Reach.{Reaches, ref_at}
+use Rattle.cddl_language.specs.Free.{LeadsBack}
+use Rattle.cddl_language.specs.Reach.{Point, Reaches, ref_at}
 use Rattle.cddl_language.specs.Reading.{definitions_in, name_at, name_in, rule_list, rules_of}
 use Rattle.tree_nodes.specs.declared.tree.Leaf.{Leaf}
 use Rattle.tree_nodes.specs.declared.tree.Rule.{Rule}
@@ -138,3 +139,7 @@ module _ (t : Table) (tree : Tree) (names : List Name) (closed : Closed) (s : Sp
 
     pub least_recursion : IsLeast (HasRecursion s root) (Some (unwrap_or (least_start t tree names closed flags) 0))
     least_recursion = told (least_start t tree names closed flags) least_rule
+
+pub none_comes : (s : Specification) (root : Text) → ((p : Point) → LeadsBack (definitions s) root p → ⊥) → (at : ℕ) → HasRecursion s root at → ⊥
+none_comes s root no at (at_rule h e) = no h.point h.cycle.back
+none_comes s root no at (without_rule {p = p} c none e) = no p c.back
