@@ -21,6 +21,7 @@ pub mod NoReference
 pub mod Numbers
 pub mod OneFault
 pub mod PlainLiterals
+pub mod Rooted
 pub mod Saying
 pub mod Sized
 pub mod Tables

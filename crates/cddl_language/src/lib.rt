@@ -11,7 +11,7 @@ ghost use Rattle.cddl_language.specs.Sites.{IsReached, a_map};
 ghost use Rattle.cddl_language.specs.Substitution.{fill_group};
 ghost use Rattle.cddl_language.specs.Faults.{IsAccepted, IsRefused, Specification, definitions, root_of, rules};
 ghost use Rattle.cddl_language.specs.Free.{IsOnCycle, LeadsBack};
-ghost use Rattle.cddl_language.specs.Kinds.{Opened, is_group_in, opened_in};
+ghost use Rattle.cddl_language.specs.Kinds.{Opened, is_group, is_group_in, opened_in};
 ghost use Rattle.cbor_data.specs.Embedded.{Embeds, EmbedsAll};
 ghost use Rattle.cbor_data.specs.Equivalence.{IsSame};
 ghost use Rattle.cbor_data.specs.Value as V;
@@ -159,6 +159,11 @@ pub fn one_fault()
 pub fn accepted_has_no_cycle()
     ensures cycle { (s : Specification) (worth : Values) (root : Text) (p : Point) → IsAccepted s worth → root_of s ≡ Some root → IsOnCycle (definitions s) root p → ⊥ }
     ensures back { (s : Specification) (worth : Values) (root : Text) (p : Point) → IsAccepted s worth → root_of s ≡ Some root → LeadsBack (definitions s) root p → ⊥ }
+{}
+
+/// The root of an accepted specification is a type.
+pub fn accepted_root_is_type()
+    ensures { (s : Specification) (worth : Values) (root : Text) → IsAccepted s worth → root_of s ≡ Some root → is_group (definitions s) root ≡ false }
 {}
 
 /// Where anything that an instance asks leads back to itself, the fault is told of something: where no reference leads back, of a

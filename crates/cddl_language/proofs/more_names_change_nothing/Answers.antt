@@ -13,10 +13,10 @@ pub returns-clause-alternatives : goal.returns-clause-alternatives
 returns-clause-alternatives c = more_names
 
 pub returns-clause-chosen : goal.returns-clause-chosen
-returns-clause-chosen c = λ _start ds k n h ess ts e. more_choices ds k n h ess ts e
+returns-clause-chosen c = more_choices
 
 pub returns-clause-literal : goal.returns-clause-literal
-returns-clause-literal c = λ _start worth ds k n h t m e. more_literals worth ds k n h t m e
+returns-clause-literal c = more_literals
 
 pub returns-clause-sizes : goal.returns-clause-sizes
-returns-clause-sizes c = λ _start worth ds k n h t rs e. more_sizes worth ds k n h t rs e
+returns-clause-sizes c = more_sizes
