@@ -141,5 +141,5 @@ module _ (t : Table) (tree : Tree) (names : List Name) (closed : Closed) (s : Sp
     least_recursion = told (least_start t tree names closed flags) least_rule
 
 pub none_comes : (s : Specification) (root : Text) → ((p : Point) → LeadsBack (definitions s) root p → ⊥) → (at : ℕ) → HasRecursion s root at → ⊥
-none_comes s root no at (at_rule h e) = no h.point h.cycle.back
-none_comes s root no at (without_rule {p = p} c none e) = no p c.back
+none_comes s root none at (at_rule h e) = none h.point h.cycle.back
+none_comes s root none at (without_rule {p = p} c rules e) = none p c.back
