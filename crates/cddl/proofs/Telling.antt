@@ -50,10 +50,10 @@ abbrev pub EndsTheSame : Type 0
 EndsTheSame = (worth : Values) (ds : List Definition) (root : Text) (table : Table) → StandsFor worth ds root (language_of table) (root_of table) (rank_of table) (ranks_of table) → (steps : ℕ) (l : Bounds) (stream : List ℕ) (found : List Found) (end : End) → E.Ends (judge_of table steps) l stream found end ↔ EndsByText worth ds root steps l stream found end
 
 abbrev pub HaveOneEnd : Type 0
-HaveOneEnd = (worth : Values) (ds : List Definition) (root : Text) (table : Table) → StandsFor worth ds root (language_of table) (root_of table) (rank_of table) (ranks_of table) → (steps : ℕ) (l : Bounds) (stream : List ℕ) (found others : List Found) (end other : End) → AreBytes stream → EndsByText worth ds root steps l stream found end → EndsByText worth ds root steps l stream others other → (found ≡ others) × (end ≡ other)
+HaveOneEnd = (worth : Values) (ds : List Definition) (root : Text) (steps : ℕ) (l : Bounds) (stream : List ℕ) (found others : List Found) (end other : End) → AreBytes stream → EndsByText worth ds root steps l stream found end → EndsByText worth ds root steps l stream others other → (found ≡ others) × (end ≡ other)
 
 abbrev pub AreReadBack : Type 0
-AreReadBack = (worth : Values) (ds : List Definition) (root : Text) (table : Table) → StandsFor worth ds root (language_of table) (root_of table) (rank_of table) (ranks_of table) → (steps : ℕ) (l : Bounds) (items : List Value) → AreWritable (TextAccepts worth ds root steps) l items → length (written_bytes items) ≤ last_offset → EndsByText worth ds root steps l (written_bytes items) (found_from 0 items) (clean_end items)
+AreReadBack = (worth : Values) (ds : List Definition) (root : Text) (steps : ℕ) (l : Bounds) (items : List Value) → AreWritable (TextAccepts worth ds root steps) l items → length (written_bytes items) ≤ last_offset → EndsByText worth ds root steps l (written_bytes items) (found_from 0 items) (clean_end items)
 
 abbrev pub HaveRoots : Type 0
 HaveRoots = (text : List ℕ) (named : Option Text) (table : Table) → IsTabledText text named table → (rule : Rule) × HasRoot text named rule × SpeaksFor rule table
@@ -83,7 +83,7 @@ module _ (laws : Laws) (rule : Rule) (table : Table) (speaks : SpeaksFor rule ta
         rest = r.0;
         run = r.1;
         ends = by;
-        one = λ bytes others other e. laws.one rule.values rule.definitions rule.name table speaks.stands steps l stream w.found others end other bytes by e;
+        one = λ bytes others other e. laws.one rule.values rule.definitions rule.name steps l stream w.found others end other bytes by e;
         rejects = rejected rule table speaks steps l stream w.found end v w.rejects;
         out = stream_output mode w.found end v;
         out_is = refl;
@@ -91,7 +91,7 @@ module _ (laws : Laws) (rule : Rule) (table : Table) (speaks : SpeaksFor rule ta
         read_back = λ e short fits.
             let same : stream_output mode w.found end v ≡ written_bytes (items_of w.found) = rewritten mode w.found end v e in
             subst (λ b. Ends rule steps l b (found_from 0 (items_of w.found)) (clean_end (items_of w.found))) (sym same)
-            (laws.back rule.values rule.definitions rule.name table speaks.stands steps l (items_of w.found) (writable l few (Accepts rule steps) (λ x b c a. a) r.1.takes short) (subst (λ b. length b ≤ last_offset) same fits));
+            (laws.back rule.values rule.definitions rule.name steps l (items_of w.found) (writable l few (Accepts rule steps) (λ x b c a. a) r.1.takes short) (subst (λ b. length b ≤ last_offset) same fits));
       }
 
 pub validated : Laws → (text : List ℕ) (named : Option Text) (table : Table) (l : Bounds) (steps : ℕ) (mode : Mode) (input output : Change) (end : End) (v : Option Value) →
@@ -106,7 +106,7 @@ validated laws text named table l steps mode input output end v tabled few all s
       shown = shown;
       reads = (none.0, pieces x.0 table x.2 steps l input read);
       writes = none.1;
-      reads_back = λ items w fits. laws.back (x.0).values (x.0).definitions (x.0).name table (x.2).stands steps l items w fits;
+      reads_back = λ items w fits. laws.back (x.0).values (x.0).definitions (x.0).name steps l items w fits;
     }
 
 pub stopped : Laws → (text : List ℕ) (named : Option Text) (table : Table) (l : Bounds) (steps : ℕ) (mode : Mode) (input output : Change) (fault : RunFault) →

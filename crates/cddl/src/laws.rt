@@ -1,14 +1,21 @@
-//! What a table that was made of a text says, the text's root rule says.
+//! What a table that was made of a text says, the text's root rule says; and that rule says one thing of each item.
 
-ghost use Rattle.std.specs.Prelude.{List, ℕ, Option};
+ghost use Rattle.std.specs.Prelude.{List, ◌≡◌, ℕ, ◌<◌, ◌^◌, Option};
+ghost use Rattle.cbor_data.specs.Faults.{Bounds};
+ghost use Rattle.cbor_data.specs.Sequence.{Found};
+ghost use Rattle.cbor_data.specs.Value.{AreBytes, Value};
+ghost use Rattle.cddl_meaning.specs.Judges.{Answer};
+ghost use Rattle.cddl_meaning.specs.Size.{size};
+ghost use Rattle.seq_run.specs.declared.end.End.{End};
 ghost use Rattle.cddl_table.specs.Text.{IsTabledText};
 ghost use Rattle.cddl_language.specs.Terms.{Text};
 ghost use Rattle.table_nodes.specs.declared.table.Table.{Table};
-ghost use Rattle.cddl.specs.Rules.{HasRoot, Rule};
+ghost use Rattle.cddl.specs.Rules.{Ends, HasRoot, Rule, Says};
 ghost use Rattle.cddl.specs.Tables.{SpeaksFor};
 
+use cddl_decided::accepted_is_decided;
 use cddl_language::one_table_of_values;
-use seq_run::meaning::table_stands_for_text;
+use seq_run::meaning::{one_end_by_text, some_end_by_text, table_stands_for_text};
 
 /// A table that [`read_specification`](crate::read_specification) makes of a text says of each item what the text's root rule
 /// says, in as many judgements, and by both a stream has the same items and the same end. So what a contract says of the table it
@@ -18,4 +25,17 @@ pub fn table_has_root()
 {
     one_table_of_values();
     table_stands_for_text();
+}
+
+/// The root rule of an accepted text says exactly one thing of each item whose size is below 2^64, at one place where it is a no,
+/// and in one number of judgements; and by it a stream has exactly one list of items and one end. No table is named: it is so
+/// whether memory for one was there or not. It does nothing.
+pub fn text_decides()
+    ensures item { (text : List ℕ) (named : Option Text) (rule : Rule) → HasRoot text named rule → (x : Value) → size x < 2 ^ 64 → (a : Answer) × (w : ℕ) × Says rule x a w × ((b : Answer) (v : ℕ) → Says rule x b v → (b ≡ a) × (v ≡ w)) }
+    ensures some { (text : List ℕ) (named : Option Text) (rule : Rule) → HasRoot text named rule → (steps : ℕ) (l : Bounds) (stream : List ℕ) → AreBytes stream → (items : List Found) × (end : End) × Ends rule steps l stream items end }
+    ensures one { (rule : Rule) (steps : ℕ) (l : Bounds) (stream : List ℕ) (items others : List Found) (end other : End) → AreBytes stream → Ends rule steps l stream items end → Ends rule steps l stream others other → (items ≡ others) × (end ≡ other) }
+{
+    accepted_is_decided();
+    some_end_by_text();
+    one_end_by_text();
 }

@@ -23,7 +23,7 @@ use Rattle.cddl_language.specs.Kinds.{asks_type, opens_group, opened, part_of, i
 use Rattle.cddl_language.specs.Reach.{Reaches, at_root, onward, Point, ref_at, at_name, at_choice, at_opened_choice, points_in}
 use Rattle.cddl_language.specs.Literals.{Values}
 use Rattle.cddl_language.specs.Free as R
-use Rattle.cddl_language.specs.Free.{IsFree, IsFreeInSome, IsFreeInChoice, LeadsTo, LeadsOn}
+use Rattle.cddl_language.specs.Free.{IsFree, IsFreeInSome, IsFreeInChoice, LeadsTo, IsOnCycle, LeadsOn}
 use Rattle.cddl_language.specs.Sites.{Site, a_name, an_unwrapping, a_choice_of, a_choice_of_name, a_hash, an_operation, an_entry, a_map, sites, outer_sites, ref_at_site, ref_name, arguments, IsReached, in_body, in_argument, IsUsed, used}
 use Rattle.cddl_language.specs.MapFaults.{HasMapShape, HasNoKey, HasTooManyAlternatives, IsSpliced, comes_back, occurs_badly, of_map, of_name, of_opened, of_parens}
 use Rattle.cddl_language.specs.Faults as F
@@ -243,8 +243,12 @@ module _ (worth : Values) (at : ℕ) where
   no_unwrapping (F.chooses_from_none {r = r} {xs = xs} {t = u} {g = g} p h e) = places_reached r xs (a_choice_of u g) p
   no_unwrapping (F.chooses_from_no_name {r = r} {xs = xs} {t = u} {f = f} p h e) = places_reached r xs (a_choice_of_name u f) p
 
+  no_cycle : (p : Point) → IsOnCycle ds (codes "t") p → ⊥
+  no_cycle p c = no_way_back p p (reached (ref_at p) c.back.instance) c.back.way refl
+
   no_recursion : F.HasRecursion T.lists (codes "t") at → ⊥
-  no_recursion f = no_way_back f.point f.point (reached (ref_at f.point) f.cycle.back.instance) f.cycle.back.way refl
+  no_recursion (F.at_rule f e) = no_cycle f.point f.cycle
+  no_recursion (F.without_rule {p = p} c none e) = no_cycle p c
 
   within_bounds : (e : S.GrpEnt) (o : Token) → e ≡ starred → F.occur_token e ≡ Some o → F.IsOver (least_of (occurrence (Some o))) (most_of (occurrence (Some o))) → ⊥
   within_bounds e o h f g = subst (λ z. F.IsOver (least_of (occurrence z)) (most_of (occurrence z))) (sym f ∙ ap F.occur_token h) g

@@ -79,15 +79,15 @@ choice_of_maybe worth = F.chooses_from_none (in_body (record { reached = at_root
 
 pub first_itself : (worth : Values) → IsFaultAt T.first_itself worth C.Recursion 0
 unfolding prelude
-first_itself worth = record { point = at_name (call (codes "t") no_terms); cycle = record { back = record { instance = at_root; way = at_once (by_type refl (0, omega arith, refl) (name refl)) }; counts = inl refl }; rule = _; first = refl; offset = refl }
+first_itself worth = F.at_rule (record { point = at_name (call (codes "t") no_terms); cycle = record { back = record { instance = at_root; way = at_once (by_type refl (0, omega arith, refl) (name refl)) }; counts = inl refl }; first = refl }) refl
 
 pub chosen_by_name : (worth : Values) → IsFaultAt T.chosen_by_name worth C.Recursion 7
 unfolding prelude
-chosen_by_name worth = record { point = at_choice (call (codes "b") no_terms); cycle = record { back = record { instance = onward at_root (0, omega arith, refl) refl; way = onwards (by_choice refl) (onwards (by_chosen_name refl (of_this (of_last (of_keyed (name refl))))) (at_once (by_type refl (0, omega arith, refl) (choice_by_name refl)))) }; counts = inl refl }; rule = _; first = refl; offset = refl }
+chosen_by_name worth = F.at_rule (record { point = at_choice (call (codes "b") no_terms); cycle = record { back = record { instance = onward at_root (0, omega arith, refl) refl; way = onwards (by_choice refl) (onwards (by_chosen_name refl (of_this (of_last (of_keyed (name refl))))) (at_once (by_type refl (0, omega arith, refl) (choice_by_name refl)))) }; counts = inl refl }; first = refl }) refl
 
 pub group_first_itself : (worth : Values) → IsFaultAt (T.two_rules T.r_of_g T.maybe_int_then_g) worth C.Recursion 8
 unfolding prelude
-group_first_itself worth = record { point = at_name (call (codes "g") no_terms); cycle = record { back = record { instance = onward at_root (0, omega arith, refl) refl; way = at_once (by_group refl (in_this (in_last (all_may none_left (no_time refl)) (group_name refl refl)))) }; counts = inl refl }; rule = _; first = refl; offset = refl }
+group_first_itself worth = F.at_rule (record { point = at_name (call (codes "g") no_terms); cycle = record { back = record { instance = onward at_root (0, omega arith, refl) refl; way = at_once (by_group refl (in_this (in_last (all_may none_left (no_time refl)) (group_name refl refl)))) }; counts = inl refl }; first = refl }) refl
 
 pub to_text : (worth : Values) → IsFaultAt T.to_text worth C.BadRange 7
 unfolding prelude

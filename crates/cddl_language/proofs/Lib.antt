@@ -14,12 +14,14 @@ pub mod MapsFaulty
 pub mod MapsFlat
 pub mod MapsNone
 pub mod MapsStand
+pub mod MoreNames
 pub mod Members
 pub mod NoCycle
 pub mod NoReference
 pub mod Numbers
 pub mod OneFault
 pub mod PlainLiterals
+pub mod Rooted
 pub mod Saying
 pub mod Sized
 pub mod Tables

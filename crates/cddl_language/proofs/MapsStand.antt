@@ -129,7 +129,7 @@ no_socket (b ∷ bs) h = by (nat_eq b 36) refl
     by false e = refl
     by true e = absurd (true≢false (sym h ∙ ap has_any (subst (λ x. named_so (x ∷ bs) prelude ≡ []) (sym (is_dollar b e)) (no_dollar bs))))
 
-known_type : (k : ℕ) (ds : List Definition) (n : Text) → is_in_prelude n ≡ true → is_group_in k ds n ≡ false
+pub known_type : (k : ℕ) (ds : List Definition) (n : Text) → is_in_prelude n ≡ true → is_group_in k ds n ≡ false
 known_type zero ds n h = refl
 known_type (suc k) ds n h = by (is_socket n) (is_in_prelude n) (no_socket n h) h (is_group_socket n) (first_defines_group (λ m. is_group_in k ds m) ds (named_so n ds))
   where

@@ -14,6 +14,7 @@ use Rattle.cddl_language.specs.Reach.{Reaches, at_root, onward, Point, ref_at, i
 use Rattle.cddl_language.specs.Literals.{Values}
 use Rattle.cddl_language.specs.Free as R
 use Rattle.cddl_language.specs.Free.{IsFreeInSome, IsFreeInEach, IsFreeInEntry, LeadsOn}
+use Rattle.cddl_language.specs.Faults as F
 use Rattle.cddl_language.specs.Faults.{IsFaultAt, definitions}
 use Rattle.cddl_language.specs.Texts as T
 
@@ -68,4 +69,4 @@ no_reference q k b = A.no_reference_back ds t inside no_group means_it opens_it 
 
 pub chosen_itself : (worth : Values) → IsFaultAt T.chosen_itself worth C.Recursion 0
 unfolding prelude
-chosen_itself worth = record { point = at_opened_choice t; cycle = record { back = record { instance = at_root; way = R.at_once (R.by_opened_choice refl refl (R.of_this (R.of_last (R.of_keyed (R.in_choice (R.of_this (R.of_last (R.of_opened refl refl)))))))) }; counts = inr no_reference }; rule = _; first = refl; offset = refl }
+chosen_itself worth = F.at_rule (record { point = at_opened_choice t; cycle = record { back = record { instance = at_root; way = R.at_once (R.by_opened_choice refl refl (R.of_this (R.of_last (R.of_keyed (R.in_choice (R.of_this (R.of_last (R.of_opened refl refl)))))))) }; counts = inr no_reference }; first = refl }) refl

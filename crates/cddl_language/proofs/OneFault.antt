@@ -1,6 +1,7 @@
 -- A specification has one fault at most that is told.
-use Rattle.std.specs.Prelude.{◌≡◌, ℕ, ◌≤◌, nat_eq, if◌then◌else◌}
-use Rattle.std.proofs.Common.{refl, sym, ap, ◌∙◌, subst, arith}
+use Rattle.std.specs.Prelude.{◌≡◌, ℕ, zero, suc, ◌<◌, ◌≤◌, nat_eq, if◌then◌else◌}
+use Rattle.std.proofs.Common.{refl, sym, ap, ◌∙◌, subst, arith, inl, inr}
+use Rattle.std.proofs.lemmas.Bool.{cases_lt}
 use Rattle.cddl_token.specs.declared.Code.{Code}
 use Rattle.cddl_token.specs.declared.Code.TheVariants.{Duplicate, KindClash, Undefined, Arity, NoRoot, BadRoot, GroupAsType, HashForm, UnknownControl, TooManyInstances, NotUnwrappable, Recursion, NotLiteral, BadRange, BadController, NoKey, MapShape, TooManyAlternatives}
 use Rattle.cddl_language.specs.Literals.{Values}
@@ -46,3 +47,27 @@ one_fault s worth c d p q f g = let e : d ≡ c = one_code s worth c d p q f g i
 
 pub apart : (s : Specification) (worth : Values) (c : Code) (p : ℕ) → IsAccepted s worth → IsRefused s worth c p → ⊥
 apart s worth c p accepted f = accepted c p f.present
+
+-- Where no fault is told, none stands: the lowest code of which one does would be told, at the least byte.
+module _ (s : Specification) (worth : Values) (none : (c : Code) (p : ℕ) → IsRefused s worth c p → ⊥) where
+  -- no fault of a code below this number stands
+  abbrev AreNone : ℕ → Type 0
+  AreNone n = (d : Code) (q : ℕ) → IsFaultAt s worth d q → number_of d < n → ⊥
+
+  none_lower : (c d : Code) (q : ℕ) → AreNone (number_of c) → IsFaultAt s worth d q → number_of c ≤ number_of d
+  none_lower c d q lower f = elim (cases_lt (number_of d) (number_of c)) [ inl h ↦ absurd (lower d q f h) | inr h ↦ h ]
+
+  none_before : (c : Code) → AreNone (number_of c) → (n q : ℕ) → q < n → IsFaultAt s worth c q → ⊥
+  none_before c lower zero q h f = absurd (omega (arith, h))
+  none_before c lower (suc n) q h f = none c q (record {
+    present = f;
+    lowest = λ d p g. none_lower c d p lower g;
+    least = λ p g. elim (cases_lt p q) [ inl i ↦ absurd (none_before c lower n p (omega (arith, h, i)) g) | inr i ↦ i ];
+  })
+
+  none_below : (n : ℕ) → AreNone n
+  none_below zero d q f h = absurd (omega (arith, h))
+  none_below (suc n) d q f h = none_before d (λ c p g i. none_below n c p g (omega (arith, h, i))) (suc q) q (omega arith) f
+
+  pub some : IsAccepted s worth
+  some c p f = none_below (suc (number_of c)) c p f (omega arith)

@@ -16,6 +16,7 @@ use Rattle.cddl_language.specs.Reach.{Reaches, at_root, onward, Point, ref_at, i
 use Rattle.cddl_language.specs.Literals.{Values}
 use Rattle.cddl_language.specs.Free as R
 use Rattle.cddl_language.specs.Free.{IsFree, IsFreeInSome, IsFreeInEntry, IsFreeInChoice, LeadsTo, LeadsOn, LeadsBack, IsOnCycle}
+use Rattle.cddl_language.specs.Faults as F
 use Rattle.cddl_language.specs.Faults.{IsFaultAt, definitions, first_rule, rules}
 use Rattle.cddl_language.specs.Texts as T
 
@@ -207,11 +208,12 @@ not_counted p (inr e) f c = by c.counts
 
 pub told : (worth : Values) → IsFaultAt T.chosen_through worth C.Recursion 0
 unfolding prelude
-told worth = record { point = at_name t; cycle = record { back = t_leads_back; counts = inl refl }; rule = _; first = refl; offset = refl }
+told worth = F.at_rule (record { point = at_name t; cycle = record { back = t_leads_back; counts = inl refl }; first = refl }) refl
 
 pub not_told : (worth : Values) → IsFaultAt T.chosen_through worth C.Recursion 9 → ⊥
-not_told worth f = by (reached (ref_at f.point) f.cycle.back.instance)
+not_told worth (F.without_rule c none e) = differ 0 9 (omega arith) e
+not_told worth (F.at_rule f e) = by (reached (ref_at f.point) f.cycle.back.instance)
   where
     by : IsKnown (ref_at f.point) → ⊥
-    by (inl e) = differ 0 9 (omega arith) (sym (same_some (sym t_begins ∙ ap (λ r. begins (first_rule (rules T.chosen_through) (name_of r))) (sym e) ∙ ap begins f.first ∙ ap Some (sym f.offset))))
-    by (inr e) = not_counted f.point (ends_inside f.point f.point e f.cycle.back.way) e f.cycle
+    by (inl g) = differ 0 9 (omega arith) (sym (same_some (sym t_begins ∙ ap (λ r. begins (first_rule (rules T.chosen_through) (name_of r))) (sym g) ∙ ap begins f.first ∙ ap Some (sym e))))
+    by (inr g) = not_counted f.point (ends_inside f.point f.point g f.cycle.back.way) g f.cycle

@@ -175,13 +175,17 @@ pub data HasNotUnwrappable (s : Specification) (root : Text) (at : ℕ) : Type 0
   chooses_from_none : {r : S.Rule} {xs : List Term} {t : Token} {g : S.Group} → IsReached (rules s) root r xs (a_choice_of t g) → chosen (definitions s) (fill_group (parameters_in r) xs (group_of g)) ≡ None → at ≡ t.start → HasNotUnwrappable s root at
   chooses_from_no_name : {r : S.Rule} {xs : List Term} {t : Token} {f : S.Ref} → IsReached (rules s) root r xs (a_choice_of_name t f) → chosen_by_name (definitions s) (fill_ref (parameters_in r) xs (ref_of f)) ≡ None → at ≡ t.start → HasNotUnwrappable s root at
 
--- C12: a free reference that comes back to itself. It is told at the first definition of a name on the cycle.
-pub record HasRecursion (s : Specification) (root : Text) (at : ℕ) : Type 0 where
+-- the first rule of a name on a cycle of free references
+pub record IsRuleOnCycle (s : Specification) (root : Text) (rule : S.Rule) : Type 0 where
   pub point : Point
   pub cycle : IsOnCycle (definitions s) root point
-  pub rule : S.Rule
   pub first : first_rule (rules s) (name_of (ref_at point)) ≡ Some rule
-  pub offset : at ≡ name_at rule
+
+-- C12: a free reference that comes back to itself. It is told at the first definition of a name on the cycle. Where the text has
+-- none of any such name, as of `bytes` in `bstr = [~bytes]`, it is told at the first byte.
+pub data HasRecursion (s : Specification) (root : Text) (at : ℕ) : Type 0 where
+  at_rule : {r : S.Rule} → IsRuleOnCycle s root r → at ≡ name_at r → HasRecursion s root at
+  without_rule : {p : Point} → IsOnCycle (definitions s) root p → ((r : S.Rule) → IsRuleOnCycle s root r → ⊥) → at ≡ 0 → HasRecursion s root at
 
 -- the offset of the first token of an operand
 abbrev pub first_at : List S.Lexeme → ℕ

@@ -11,7 +11,7 @@ ghost use Rattle.cddl_language.specs.Sites.{IsReached, a_map};
 ghost use Rattle.cddl_language.specs.Substitution.{fill_group};
 ghost use Rattle.cddl_language.specs.Faults.{IsAccepted, IsRefused, Specification, definitions, root_of, rules};
 ghost use Rattle.cddl_language.specs.Free.{IsOnCycle, LeadsBack};
-ghost use Rattle.cddl_language.specs.Kinds.{Opened, is_group_in, opened_in};
+ghost use Rattle.cddl_language.specs.Kinds.{Opened, is_group, is_group_in, opened_in};
 ghost use Rattle.cbor_data.specs.Embedded.{Embeds, EmbedsAll};
 ghost use Rattle.cbor_data.specs.Equivalence.{IsSame};
 ghost use Rattle.cbor_data.specs.Value as V;
@@ -19,7 +19,7 @@ ghost use Rattle.cbor_data.specs.Value.{Value, array, bytes, text, uint};
 ghost use Rattle.cddl_meaning.specs.Forms.{Choice, Language, any_number_of, at_most, exactly, has_size, is_below, is_up_to, passes};
 ghost use Rattle.cddl_meaning.specs.Judges.{Answer, No, Says, Yes};
 ghost use Rattle.cddl_meaning.specs.Literals.{HasPlainLiterals};
-ghost use Rattle.cddl_language.specs.Choices.{chosen, chosen_by_name};
+ghost use Rattle.cddl_language.specs.Choices.{chosen, chosen_by_name, chosen_in};
 ghost use Rattle.cddl_language.specs.Controls.{Comparison, Computation, comparison_in, computation_in, control_of, is_ordering};
 ghost use Rattle.cddl_language.specs.MapFaults.{ComesBack, GoesThrough, HasMapShape, HasNoKey, IsSpliced, IsSplicedInto, LacksKey, LeadsTo, OccursBadly, closed_entry, point_in};
 ghost use Rattle.cddl_language.specs.Maps.{Alternatives, alternatives_in, map_alternatives};
@@ -29,8 +29,8 @@ ghost use Rattle.cddl_meaning.specs.Ranks.Ranked.{Name};
 ghost use Rattle.cddl_literal.specs.Numbers.{IsUint, Meaning, number_after};
 ghost use Rattle.cddl_token.specs.Numbers.{IsHashNumber, IsStar, IsTagNumberOpen};
 ghost use Rattle.cddl_language.specs.Numbers.{hash_form, least_in, most_in, numbered, tag_number, uint_in};
-ghost use Rattle.cddl_language.specs.Literals.{AreRight, AreTokens, Holds, Values, answer_of, computed_literal, item_of, literal_of, whole};
-ghost use Rattle.cddl_language.specs.Sizes.{Sizes, sizes_of};
+ghost use Rattle.cddl_language.specs.Literals.{AreRight, AreTokens, Holds, Values, answer_of, computed_literal, item_of, literal_in, literal_of, whole};
+ghost use Rattle.cddl_language.specs.Sizes.{Sizes, sizes_in, sizes_of};
 ghost use Rattle.cddl_literal.specs.declared.operators.Joining.TheVariants.{AsTheyAre, Dedented};
 ghost use Rattle.cddl_literal.specs.Operators.Joins.{joined};
 ghost use Rattle.cddl_literal.specs.Operators.Sums.{plus};
@@ -135,23 +135,35 @@ pub fn maps_without_alternatives()
     ensures { (ds : List Definition) (g : Group) → map_alternatives ds g ≡ None → ((e : Entry) × IsSplicedInto ds e (alternatives g) × (LacksKey ds e ⊎ OccursBadly ds e)) ⊎ GoesThrough ds (suc most_instances) (alternatives g) }
 {}
 
-/// Once `~` has opened something, a name is a group's, or a group in a map has alternatives, ways through more names change
-/// nothing.
+/// Once `~` has opened something, a name is a group's, a group in a map has alternatives, `&` chooses from a group, or a type is a
+/// literal or has the members of a `.size`, ways through more names change nothing.
 pub fn more_names_change_nothing()
     ensures opened { (ds : List Definition) (k : ℕ) (r : Ref) (o : Opened) → opened_in k ds r ≡ Some o → opened_in (suc k) ds r ≡ Some o }
     ensures group { (ds : List Definition) (k : ℕ) (n : Text) → is_group_in k ds n ≡ true → is_group_in (suc k) ds n ≡ true }
     ensures alternatives { (ds : List Definition) (k n : ℕ) → k ≤ n → (ess : List Entries) (mss : Alternatives) → alternatives_in ds k ess ≡ Some mss → alternatives_in ds n ess ≡ Some mss }
+    ensures chosen { (ds : List Definition) (k n : ℕ) → k ≤ n → (ess : List Entries) (ts : List Term) → chosen_in ds k ess ≡ Some ts → chosen_in ds n ess ≡ Some ts }
+    ensures literal { (worth : Values) (ds : List Definition) (k n : ℕ) → k ≤ n → (t : Term) (m : Meaning) → literal_in worth ds k t ≡ Some m → literal_in worth ds n t ≡ Some m }
+    ensures sizes { (worth : Values) (ds : List Definition) (k n : ℕ) → k ≤ n → (t : Term) (rs : Sizes) → sizes_in worth ds k t ≡ Some rs → sizes_in worth ds n t ≡ Some rs }
 {}
 
-/// One fault is told at most, of one code at one byte, and none of an accepted specification.
+/// A specification is accepted or refused: of an accepted one no fault is told, of any other one, of one code at one byte. That one
+/// is told is said so: where none is, the specification is accepted.
 pub fn one_fault()
     ensures same { (s : Specification) (worth : Values) (c d : Code) (p q : ℕ) → IsRefused s worth c p → IsRefused s worth d q → (d ≡ c) × (q ≡ p) }
     ensures apart { (s : Specification) (worth : Values) (c : Code) (p : ℕ) → IsAccepted s worth → IsRefused s worth c p → ⊥ }
+    ensures some { (s : Specification) (worth : Values) → ((c : Code) (p : ℕ) → IsRefused s worth c p → ⊥) → IsAccepted s worth }
 {}
 
-/// An accepted specification has no cycle of free references through a name of its text.
+/// An accepted specification has no cycle of free references: nothing that an instance asks before an item is taken or gone into
+/// leads back to itself, by names of the text or of the prelude.
 pub fn accepted_has_no_cycle()
-    ensures { (s : Specification) (worth : Values) (root : Text) (p : Point) (r : Rule) → IsAccepted s worth → root_of s ≡ Some root → Contains (rules s) r → name_in r ≡ name_of (ref_at p) → IsOnCycle (definitions s) root p → ⊥ }
+    ensures cycle { (s : Specification) (worth : Values) (root : Text) (p : Point) → IsAccepted s worth → root_of s ≡ Some root → IsOnCycle (definitions s) root p → ⊥ }
+    ensures back { (s : Specification) (worth : Values) (root : Text) (p : Point) → IsAccepted s worth → root_of s ≡ Some root → LeadsBack (definitions s) root p → ⊥ }
+{}
+
+/// The root of an accepted specification is a type.
+pub fn accepted_root_is_type()
+    ensures { (s : Specification) (worth : Values) (root : Text) → IsAccepted s worth → root_of s ≡ Some root → is_group (definitions s) root ≡ false }
 {}
 
 /// Where anything that an instance asks leads back to itself, the fault is told of something: where no reference leads back, of a

@@ -5,6 +5,8 @@ pub mod ByForm
 pub mod Down
 pub mod Total
 pub mod Well
+pub mod Founded
+pub mod Saying
 pub mod Some
 pub mod Frames
 pub mod Bytes

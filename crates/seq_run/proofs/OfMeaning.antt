@@ -1,2 +1,4 @@
+pub mod OneEnd
+pub mod SomeEnd
 pub mod Streams
 pub mod Texts

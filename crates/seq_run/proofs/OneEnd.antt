@@ -88,7 +88,7 @@ module _ (one_fault : OneFault) (l : Bounds) (accepts : Value → List ℕ → T
       let one = same_item o p x y a r b s rest left e f same i j in
       apart.not_both x m a (subst (λ v. overruns v a) (sym one.2) (subst (λ c. overruns y c) (sym one.0) k)) h
 
-  one_way : (b : List ℕ) {found others : List Found} {e f : sequence.End FaultKind} → AreBytes b → EndsAs b found e → EndsAs b others f → (found ≡ others) × (e ≡ f)
+  pub one_way : (b : List ℕ) {found others : List Found} {e f : sequence.End FaultKind} → AreBytes b → EndsAs b found e → EndsAs b others f → (found ≡ others) × (e ≡ f)
   one_way b are (cleanly run) u = let same = one_clean u run in (sym same.0, sym same.1)
   one_way b are (at_fault rest run some placed told) (cleanly other) = one_clean {misses = misses} {overruns = overruns} {told = IsFaultOf l} (at_fault rest run some placed told) other
   one_way b {found} {others} are (at_fault {o = o} {k = j} rest run some placed told) (at_fault {o = p} {k = k} left other any put tell) =
@@ -147,7 +147,7 @@ end_again : (e : End) → end_as (end_of e) ≡ e
 end_again (Clean items bytes) = refl
 end_again (Failed items offset cause) = ap (Failed items offset) (cause_again cause)
 
-same_end : (end other : End) → end_of end ≡ end_of other → end ≡ other
+pub same_end : (end other : End) → end_of end ≡ end_of other → end ≡ other
 same_end end other e = sym (end_again end) ∙ (ap end_as e ∙ end_again other)
 
 module _ (one_fault : OneFault) (one_answer : OneAnswer) where

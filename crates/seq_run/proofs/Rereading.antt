@@ -44,7 +44,7 @@ module _ (spells : (x : Value) → IsSound x → Spells x (preferred x)) where
   written_run accepts l items w h = clean_run l accepts (written_bytes items) (found_from 0 items) (takes_written accepts l 0 items w (omega (arith, h)))
 
   -- their run is these items, and nothing is left
-  written_by : (accepts : Value → List ℕ → Type 0) {told : ℕ → List ℕ → FaultKind → ℕ → Type 0} {misses : Value → List ℕ → ℕ → Type 0} {overruns : Value → List ℕ → Type 0} (l : Bounds) (items : List Value) →
+  pub written_by : (accepts : Value → List ℕ → Type 0) {told : ℕ → List ℕ → FaultKind → ℕ → Type 0} {misses : Value → List ℕ → ℕ → Type 0} {overruns : Value → List ℕ → Type 0} (l : Bounds) (items : List Value) →
       AreWritable accepts l items → length (written_bytes items) ≤ last_offset → EndsBy l accepts told misses overruns (written_bytes items) (found_from 0 items) (sequence.clean (length items) (length (written_bytes items)))
   written_by accepts {told} {misses} {overruns} l items w h =
       subst (λ n. EndsBy l accepts told misses overruns (written_bytes items) (found_from 0 items) (sequence.clean n (length (written_bytes items)))) (found_len 0 items) (cleanly (written_run accepts l items w h))

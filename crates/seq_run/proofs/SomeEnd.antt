@@ -32,17 +32,17 @@ abbrev pub Decided : Type 0
 Decided = (table : Table) (x : Value) → size x < 2 ^ 64 → IsDecided (language_of table) (root_form table) 0 x
 
 -- What is said of an item: it is accepted, or it is not, and this says why.
-data IsJudged (accepts : Value → List ℕ → Type 0) (misses : Value → List ℕ → ℕ → Type 0) (overruns : Value → List ℕ → Type 0) (x : Value) (b : List ℕ) : Type 0 where
+pub data IsJudged (accepts : Value → List ℕ → Type 0) (misses : Value → List ℕ → ℕ → Type 0) (overruns : Value → List ℕ → Type 0) (x : Value) (b : List ℕ) : Type 0 where
   accepted : accepts x b → IsJudged accepts misses overruns x b
   missed : (place : ℕ) → misses x b place → ((c : List ℕ) → accepts x c → ⊥) → IsJudged accepts misses overruns x b
   overrun : overruns x b → ((c : List ℕ) → accepts x c → ⊥) → IsJudged accepts misses overruns x b
 
 module _ (some_front : SomeFront) (l : Bounds) (accepts : Value → List ℕ → Type 0) (misses : Value → List ℕ → ℕ → Type 0) (overruns : Value → List ℕ → Type 0)
     (judged : (o : ℕ) (x : Value) (b : List ℕ) → IsItem l o x b → IsJudged accepts misses overruns x b) (stream : List ℕ) where
-  record SomeEnd : Type 0 where
-    found : List Found
-    end : sequence.End FaultKind
-    ends : EndsBy l accepts (IsFaultOf l) misses overruns stream found end
+  pub record SomeEnd : Type 0 where
+    pub found : List Found
+    pub end : sequence.End FaultKind
+    pub ends : EndsBy l accepts (IsFaultOf l) misses overruns stream found end
 
   -- what is left once these items are taken, at this offset
   record IsLeft (found : List Found) (o : ℕ) (rest : List ℕ) : Type 0 where
@@ -89,11 +89,11 @@ module _ (some_front : SomeFront) (l : Bounds) (accepts : Value → List ℕ →
       let next = some_front l o (y ∷ ys) left.are left.inside in
       at_front found o y ys left (λ f p b fewer k. some_end_from n f p b (omega (arith, few, fewer)) k) next.0 next.1
 
-  some_end_of : AreBytes stream → SomeEnd
+  pub some_end_of : AreBytes stream → SomeEnd
   some_end_of are = some_end_from (length stream) [] 0 stream (omega arith) (record { takes = none; placed = omega arith; inside = omega arith; are = are })
 
 -- an end of the definition is one of the code
-end_back : (e : sequence.End FaultKind) → end_of (end_as e) ≡ e
+pub end_back : (e : sequence.End FaultKind) → end_of (end_as e) ≡ e
 end_back (sequence.clean items bytes) = refl
 end_back (failed items offset (fault kind at)) = refl
 end_back (failed items offset (mismatch place)) = refl

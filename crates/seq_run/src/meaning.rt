@@ -20,7 +20,8 @@ ghost use Rattle.seq_run.specs.Judge.{judge_of};
 ghost use Rattle.seq_run.specs.Written.{AreWritable, clean_end, found_from, written_bytes};
 ghost use Rattle.seq_run.specs.declared.end.End.{End};
 
-use crate::{one_end, written_is_read_back};
+use cbor_data::preferred_spells;
+use cbor_read::{one_fault, some_front};
 use cddl_language::same_by_text;
 use cddl_match::decided;
 use table_nodes::{GroupId, TypeId};
@@ -32,14 +33,26 @@ pub fn table_stands_for_text()
     ensures stream { (worth : Values) (ds : List Definition) (root : Text) (table : Table) → StandsFor worth ds root (language_of table) (root_of table) (rank_of table) (ranks_of table) → (steps : ℕ) (l : Bounds) (stream : List ℕ) (found : List Found) (end : End) → Ends (judge_of table steps) l stream found end ↔ EndsByText worth ds root steps l stream found end }
 {}
 
-/// By a text for which a table stands a stream has one end and one list of items, and any sound items that it accepts and that
-/// are within the limits are, written out, read back as these items with a clean end.
+/// A text says at most one thing of an item whose size is below 2^64, and in one number of judgements.
+pub fn text_says_once()
+    ensures { (worth : Values) (ds : List Definition) (root : Text) (x : Value) (a b : Answer) (v w : ℕ) → size x < 2 ^ 64 → TextSays worth ds root x a v → TextSays worth ds root x b w → (b ≡ a) × (w ≡ v) }
+{}
+
+/// By a text a stream has one end and one list of items at most, and any sound items that it accepts and that are within the
+/// limits are, written out, read back as these items with a clean end.
 pub fn one_end_by_text()
-    ensures one { (worth : Values) (ds : List Definition) (root : Text) (table : Table) → StandsFor worth ds root (language_of table) (root_of table) (rank_of table) (ranks_of table) → (steps : ℕ) (l : Bounds) (stream : List ℕ) (found others : List Found) (end other : End) → AreBytes stream → EndsByText worth ds root steps l stream found end → EndsByText worth ds root steps l stream others other → (found ≡ others) × (end ≡ other) }
-    ensures read_back { (worth : Values) (ds : List Definition) (root : Text) (table : Table) → StandsFor worth ds root (language_of table) (root_of table) (rank_of table) (ranks_of table) → (steps : ℕ) (l : Bounds) (items : List Value) → AreWritable (TextAccepts worth ds root steps) l items → length (written_bytes items) ≤ last_offset → EndsByText worth ds root steps l (written_bytes items) (found_from 0 items) (clean_end items) }
+    ensures one { (worth : Values) (ds : List Definition) (root : Text) (steps : ℕ) (l : Bounds) (stream : List ℕ) (found others : List Found) (end other : End) → AreBytes stream → EndsByText worth ds root steps l stream found end → EndsByText worth ds root steps l stream others other → (found ≡ others) × (end ≡ other) }
+    ensures read_back { (worth : Values) (ds : List Definition) (root : Text) (steps : ℕ) (l : Bounds) (items : List Value) → AreWritable (TextAccepts worth ds root steps) l items → length (written_bytes items) ≤ last_offset → EndsByText worth ds root steps l (written_bytes items) (found_from 0 items) (clean_end items) }
 {
-    one_end();
-    written_is_read_back();
+    one_fault();
+    preferred_spells();
+}
+
+/// By a text that says exactly one thing of each item whose size is below 2^64 a stream has an end, whatever its bytes are.
+pub fn some_end_by_text()
+    ensures { (worth : Values) (ds : List Definition) (root : Text) → ((x : Value) → size x < 2 ^ 64 → IsDecided (language worth ds) (type_node worth ds (reference (call root no_terms))) 0 x) → (steps : ℕ) (l : Bounds) (stream : List ℕ) → AreBytes stream → (found : List Found) × (end : End) × EndsByText worth ds root steps l stream found end }
+{
+    some_front();
 }
 
 /// A text for which a table stands says exactly one thing of an item whose size is below 2^64, and in one number of

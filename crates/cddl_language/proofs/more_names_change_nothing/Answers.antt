@@ -1,5 +1,6 @@
 use Rattle.cddl_language.proofs.Further.{opened_further, group_further}
 use Rattle.cddl_language.proofs.MapsFlat.{more_names}
+use Rattle.cddl_language.proofs.MoreNames.{more_choices, more_literals, more_sizes}
 use Rattle.cddl_language.proofs.more_names_change_nothing.Goals as goal
 
 pub returns-clause-opened : goal.returns-clause-opened
@@ -10,3 +11,12 @@ returns-clause-group c = group_further
 
 pub returns-clause-alternatives : goal.returns-clause-alternatives
 returns-clause-alternatives c = more_names
+
+pub returns-clause-chosen : goal.returns-clause-chosen
+returns-clause-chosen c = more_choices
+
+pub returns-clause-literal : goal.returns-clause-literal
+returns-clause-literal c = more_literals
+
+pub returns-clause-sizes : goal.returns-clause-sizes
+returns-clause-sizes c = more_sizes

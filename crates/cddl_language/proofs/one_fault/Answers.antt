@@ -1,4 +1,4 @@
-use Rattle.cddl_language.proofs.OneFault.{one_fault, apart}
+use Rattle.cddl_language.proofs.OneFault.{one_fault, apart, some}
 use Rattle.cddl_language.proofs.one_fault.Goals as goal
 
 pub returns-clause-same : goal.returns-clause-same
@@ -6,3 +6,6 @@ returns-clause-same c = one_fault
 
 pub returns-clause-apart : goal.returns-clause-apart
 returns-clause-apart c = apart
+
+pub returns-clause-some : goal.returns-clause-some
+returns-clause-some c = some

@@ -1,325 +1,132 @@
--- Each type says something of each item, and each group does something with each list.
-use Rattle.std.proofs.Common.{◌≡◌, ℕ, zero, suc, ◌+◌, ◌-◌, ◌^◌, ◌<◌, ◌≤◌, ◌⊎◌, inl, inr, max, length, List, [], ◌∷◌, Option, Some, None, Bool, true, false, nat_eq, refl, subst, ap, arith}
-use Rattle.lists.proofs.Lemmas.{is_equal, is_unequal}
-use Rattle.cbor_data.specs.Value.{Value, uint, place_count, Pairs, no_pairs, pair}
-use Rattle.cddl_meaning.specs.Forms.{Test, passes, members_in, pairs_in, bytes_in, tag_in, simple_in, TagNumber, any_number, exactly, such_as, Content, one_item, sequence_of_items, MapEntry, Node, Plain, Ref, Choice, ArrayOf, TagOf, SimpleBy, MapOf, Both, Such, Holding, Most, Group, Entry, GroupRef, Sequence, Alternatives, Repeat, Language}
-use Rattle.cddl_meaning.specs.Judges.{Answer, Yes, No, Reply, Takes, Fails, whole, over, failed, is_over, one_less, Says, passed, missed, ref, choice, no_array, array, no_tag, tagged, other_tag, no_simple, simple_such, other_simple, no_map, map, left_no, left_yes, none_such, such_passed, such_missed, holder_no, no_string, holds_nothing, held_yes, held_no, Fate, BelongsTo, Stray, alternative_says, either, Maps, no_alternative, alternative, Sorts, all_sorted, sort, Belongs, nowhere, other_key, here, cut_here, handed_on, Numbers, whichever, this_number, other_number, by_head, Chooses, no_more, this_one, not_this, Does, missing, matches, differs, group_ref, sequence, alternatives, repeat, DoesEach, all_done, one_fails, and_then, DoesFirst, all_fail, one_takes, or_else, Repeats, full, too_few, enough, empty_round, round}
-use Rattle.cddl_meaning.proofs.Lemmas.{one_saying}
+-- Each type says something of each item, and each group does something with each list, where what is asked ends.
+use Rattle.std.proofs.Common.{ℕ, zero, suc, ◌+◌, ◌^◌, ◌<◌, ◌≤◌, ◌⊎◌, inl, inr, List, [], ◌∷◌, arith}
+use Rattle.cbor_data.specs.Value.{Value}
+use Rattle.cddl_meaning.specs.Forms.{TagNumber, any_number, exactly, such_as, MapEntry, Node, Plain, Ref, Choice, ArrayOf, TagOf, SimpleBy, MapOf, Both, Such, Holding, Group, Entry, GroupRef, Sequence, Alternatives, Repeat, Language}
+use Rattle.cddl_meaning.specs.Size.{size, list_size}
 use Rattle.cddl_meaning.specs.Ranks.Decided.{IsDecided}
-use Rattle.cddl_meaning.specs.Size.{size, pairs_size, list_size}
-use Rattle.cddl_meaning.specs.Ranks.Ranked.{MayBeEmpty, Name, IsRanked}
-use Rattle.cddl_meaning.specs.Ranks.Flags.{AreBelow, IsTypeRanked}
-use Rattle.cddl_meaning.proofs.OfRanks.ByForm.{LeadsDown, IsGroupRanked, IsRankedByForm, types_by, groups_by, by_form}
-use Rattle.cddl_meaning.proofs.Lemmas.{size_some, all_some, array_size, tag_size, map_size, string_size, size_spelled, held_size, key_less, value_less}
-use Rattle.cddl_meaning.specs.Held.{Holds, item}
-use Rattle.cddl_meaning.proofs.OfRanks.Readable.{Told, told}
-use Rattle.cddl_meaning.proofs.OfRanks.Takes.{IsBehind}
-use Rattle.cddl_meaning.proofs.OfRanks.Induction.{IsLess, for_types, for_groups}
-use Rattle.cddl_meaning.proofs.OfRanks.Well.{does_well}
+use Rattle.cddl_meaning.proofs.OfRanks.Founded.{AreAll, AreFounded, HasEntry, HasGroupParts, HasNumber, HasTypeParts, IsFounded, founded}
+use Rattle.cddl_meaning.specs.Ranks.Ranked.{Name, a_group, a_type, in_group, in_type, IsRanked}
+use Rattle.cddl_meaning.proofs.Lemmas.{one_saying}
+use Rattle.cddl_meaning.proofs.OfRanks.Saying.{DoesSome, SaysSome, group_founded, group_some, type_founded, type_some}
 
-module _ {N G : Type 0} (l : Language N G) (type_rank : N → ℕ) (group_rank : G → ℕ) where
-  pub record SaysSome (f : Node N G) (p : ℕ) (x : Value) : Type 0 where
-    pub answer : Answer
-    pub weight : ℕ
-    pub says : Says l f p x answer weight
+module _ {N G : Type 0} (l : Language N G) (P : N → Type 0) (Q : G → Type 0) (are : AreFounded l P Q) where
+  -- all of a smaller size
+  record AllUnder (S : ℕ) : Type 0 where
+    of_types : (m : N) (p : ℕ) (y : Value) → P m → size y < S → SaysSome l (l.type_at m) p y
+    of_groups : (g : G) (p q : ℕ) (ys : List Value) → Q g → list_size ys < S → DoesSome l (l.group_at g) p q ys
 
-  pub record DoesSome (f : Group N G) (p q : ℕ) (xs : List Value) : Type 0 where
-    pub reply : Reply
-    pub weight : ℕ
-    pub does : Does l f p q xs reply weight
+  -- one that is no larger, of a type or a group of which what it asks ends
 
-  record ChoosesSome (ms : List N) (p : ℕ) (x : Value) (far : ℕ) : Type 0 where
-    answer : Answer
-    weight : ℕ
-    chooses : Chooses l ms p x far answer weight
+  abbrev Says : ℕ → N → Type 0
+  Says S m = (p : ℕ) (y : Value) → size y ≤ S → SaysSome l (l.type_at m) p y
 
-  record BelongsSome (es : List (MapEntry N)) (q : ℕ) (k x : Value) : Type 0 where
-    fate : Fate
-    weight : ℕ
-    belongs : Belongs l es q k x fate weight
+  abbrev Does : ℕ → G → Type 0
+  Does S g = (p q : ℕ) (ys : List Value) → list_size ys ≤ S → DoesSome l (l.group_at g) p q ys
 
-  record SortsSome (es : List (MapEntry N)) (q : ℕ) (ps : Pairs) : Type 0 where
-    fates : List Fate
-    weight : ℕ
-    sorts : Sorts l es q ps fates weight
+  abbrev Result : ℕ → Name N G → Type 0
+  Result S (a_type m) = P m → Says S m
+  Result S (a_group g) = Q g → Does S g
 
-  record MapsSome (ess : List (List (MapEntry N))) (p : ℕ) (ps : Pairs) (sofar : Answer) : Type 0 where
-    answer : Answer
-    weight : ℕ
-    maps : Maps l ess p ps sofar answer weight
+  module _ (S : ℕ) (under : AllUnder S) where
+    types : (m : N) (p : ℕ) (y : Value) → (P m × (size y < S)) ⊎ (Says S m × (size y ≤ S)) → SaysSome l (l.type_at m) p y
+    types m p y (inl (k, h)) = under.of_types m p y k h
+    types m p y (inr (s, h)) = s p y h
 
-  record EachSome (gs : List G) (p q : ℕ) (xs : List Value) (far : ℕ) : Type 0 where
-    reply : Reply
-    weight : ℕ
-    does : DoesEach l gs p q xs far reply weight
+    groups : (g : G) (p q : ℕ) (ys : List Value) → (Q g × (list_size ys < S)) ⊎ (Does S g × (list_size ys ≤ S)) → DoesSome l (l.group_at g) p q ys
+    groups g p q ys (inl (k, h)) = under.of_groups g p q ys k h
+    groups g p q ys (inr (s, h)) = s p q ys h
 
-  record FirstSome (gs : List G) (p q : ℕ) (xs : List Value) (far : ℕ) : Type 0 where
-    reply : Reply
-    weight : ℕ
-    does : DoesFirst l gs p q xs far reply weight
+    result : (a : Name N G) → IsFounded l a → Result S a
+    result (a_type m) (founded f) = λ k p y h. type_some l S P (Says S) Q (Does S) types groups (l.type_at m) p y h
+        (type_founded l P (Says S) Q (Does S) (l.type_at m) (are.types m k) (λ n free. result (a_type n) (f (a_type n) (in_type free))) (λ g free. result (a_group g) (f (a_group g) (in_type free))))
+    result (a_group g) (founded f) = λ k p q ys h. group_some l S P (Says S) Q (Does S) types groups (l.group_at g) p q ys h
+        (group_founded l P (Says S) Q (Does S) (l.group_at g) (are.groups g k) (λ i free. result (a_group i) (f (a_group i) (in_group free))))
 
-  record RepeatsSome (least : ℕ) (most : Most) (g : G) (p q : ℕ) (xs : List Value) (far : ℕ) : Type 0 where
-    reply : Reply
-    weight : ℕ
-    does : Repeats l least most g p q xs far reply weight
+  by_size : (S : ℕ) → AllUnder S
+  by_size zero = record { of_types = λ m p y k h. absurd (omega (arith, h)); of_groups = λ g p q ys k h. absurd (omega (arith, h)) }
+  by_size (suc S) =
+      let u = by_size S in
+      record {
+        of_types = λ m p y k h. result S u (a_type m) (are.type_ends m k) k p y (omega (arith, h));
+        of_groups = λ g p q ys k h. result S u (a_group g) (are.group_ends g k) k p q ys (omega (arith, h));
+      }
 
-  abbrev TypesSay : ℕ → ℕ → Type 0
-  TypesSay S R = (m : N) (p : ℕ) (y : Value) → IsLess (size y) (type_rank m) S R → SaysSome (l.type_at m) p y
+  pub named_type : (m : N) → P m → (p : ℕ) (y : Value) → SaysSome l (l.type_at m) p y
+  named_type m k p y = (by_size (suc (size y))).of_types m p y k (omega arith)
 
-  abbrev GroupsDo : ℕ → ℕ → Type 0
-  GroupsDo S R = (g : G) (p q : ℕ) (ys : List Value) → IsLess (list_size ys) (group_rank g) S R → DoesSome (l.group_at g) p q ys
+  pub named_group : (g : G) → Q g → (p q : ℕ) (ys : List Value) → DoesSome l (l.group_at g) p q ys
+  named_group g k p q ys = (by_size (suc (list_size ys))).of_groups g p q ys k (omega arith)
 
-  choose_next : (m : N) (ms : List N) (p : ℕ) (x : Value) (far : ℕ) (a : Answer) (w : ℕ) → Says l (l.type_at m) p x a w → ((far : ℕ) → ChoosesSome ms p x far) → ChoosesSome (m ∷ ms) p x far
-  choose_next m ms p x far Yes w d rest = record { answer = Yes; weight = w; chooses = this_one d }
-  choose_next m ms p x far (No later) w d rest = let e = rest (max far later) in record { answer = e.answer; weight = w + e.weight; chooses = not_this d e.chooses }
+  pub founded_decided : (m : N) → P m → (p : ℕ) (x : Value) → p + size x < 2 ^ 64 → IsDecided l (l.type_at m) p x
+  founded_decided m k p x h =
+      let d = named_type m k p x in
+      record { answer = d.answer; weight = d.weight; says = d.says; only = λ a w e. one_saying l h d.says e }
 
-  array_next : (g : G) (p : ℕ) (x : Value) (xs : List Value) (r : Reply) (w : ℕ) → members_in x ≡ Some xs → Does l (l.group_at g) p (suc p) xs r w → SaysSome (ArrayOf g) p x
-  array_next g p x xs (Takes [] b far) w e d = record { answer = Yes; weight = suc w; says = array e d whole }
-  array_next g p x xs (Takes (y ∷ ys) b far) w e d = record { answer = No (max far b); weight = suc w; says = array e d over }
-  array_next g p x xs (Fails far) w e d = record { answer = No far; weight = suc w; says = array e d failed }
+-- Where there are ranks, all names are such.
 
-  tag_next : (t : TagNumber N) (m : N) (p n : ℕ) (x y : Value) (a : Answer) (w : ℕ) → tag_in x ≡ Some (n, y) → Numbers l t p n a w → SaysSome (l.type_at m) (suc p) y → SaysSome (TagOf t m) p x
-  tag_next t m p n x y Yes w e k d = record { answer = d.answer; weight = suc (w + d.weight); says = tagged e k d.says }
-  tag_next t m p n x y (No far) w e k d = record { answer = No p; weight = suc w; says = other_tag e k }
+abbrev One : {A : Type 0} → A → Type 0
+One a = Unit {0}
 
-  exact_some : (k p n : ℕ) (c : Bool) → nat_eq k n ≡ c → (a : Answer) × (w : ℕ) × Numbers l (exactly k) p n a w
-  exact_some k p n true e = (Yes, 0, subst (λ n. Numbers l (exactly k) p n Yes 0) (is_equal k n e) this_number)
-  exact_some k p n false e = (No p, 0, other_number (is_unequal k n e))
+each_one : {A : Type 0} (names : List A) → AreAll One names
+each_one [] = tt
+each_one (a ∷ more) = (tt, each_one more)
 
-  simple_next : (m : N) (p n : ℕ) (x : Value) (a : Answer) (w : ℕ) → simple_in x ≡ Some n → Says l (l.type_at m) p (uint n) a w → SaysSome (SimpleBy m) p x
-  simple_next m p n x Yes w e d = record { answer = Yes; weight = suc w; says = simple_such e d }
-  simple_next m p n x (No far) w e d = record { answer = No p; weight = suc w; says = other_simple e d }
+entries_one : {N : Type 0} (es : List (MapEntry N)) → AreAll (HasEntry One) es
+entries_one [] = tt
+entries_one (e ∷ es) = ((tt, tt), entries_one es)
 
-  cut_next : (e : MapEntry N) (es : List (MapEntry N)) (q : ℕ) (k x : Value) (far v w : ℕ) (c : Bool) → e.cuts ≡ c → Says l (l.type_at e.key_type) q k Yes v → Says l (l.type_at e.value_type) (q + place_count k) x (No far) w → BelongsSome es q k x → BelongsSome (e ∷ es) q k x
-  cut_next e es q k x far v w true c d b others = record { fate = BelongsTo (length es) (No far); weight = v + w; belongs = cut_here c d b }
-  cut_next e es q k x far v w false c d b others = record { fate = others.fate; weight = v + (w + others.weight); belongs = handed_on c d b others.belongs }
+alternatives_one : {N : Type 0} (ess : List (List (MapEntry N))) → AreAll (AreAll (HasEntry One)) ess
+alternatives_one [] = tt
+alternatives_one (es ∷ ess) = (entries_one es, alternatives_one ess)
 
-  value_next : (e : MapEntry N) (es : List (MapEntry N)) (q : ℕ) (k x : Value) (v : ℕ) (a : Answer) (w : ℕ) → Says l (l.type_at e.key_type) q k Yes v → Says l (l.type_at e.value_type) (q + place_count k) x a w → BelongsSome es q k x → BelongsSome (e ∷ es) q k x
-  value_next e es q k x v Yes w d b others = record { fate = BelongsTo (length es) Yes; weight = v + w; belongs = here d b }
-  value_next e es q k x v (No far) w d b others = cut_next e es q k x far v w e.cuts refl d b others
+number_one : {N : Type 0} (t : TagNumber N) → HasNumber One t
+number_one any_number = tt
+number_one (exactly n) = tt
+number_one (such_as m) = tt
 
-  key_next : (e : MapEntry N) (es : List (MapEntry N)) (q : ℕ) (k x : Value) (a : Answer) (v : ℕ) → Says l (l.type_at e.key_type) q k a v → SaysSome (l.type_at e.value_type) (q + place_count k) x → BelongsSome es q k x → BelongsSome (e ∷ es) q k x
-  key_next e es q k x Yes v d b others = value_next e es q k x v b.answer b.weight d b.says others
-  key_next e es q k x (No far) v d b others = record { fate = others.fate; weight = v + others.weight; belongs = other_key d others.belongs }
+type_one : {N G : Type 0} (f : Node N G) → HasTypeParts One One f
+type_one (Plain t) = tt
+type_one (Ref m) = tt
+type_one (Choice ms) = each_one ms
+type_one (ArrayOf g) = tt
+type_one (TagOf t m) = (number_one t, tt)
+type_one (SimpleBy m) = tt
+type_one (MapOf ess) = alternatives_one ess
+type_one (Both m n) = (tt, tt)
+type_one (Such m t) = tt
+type_one (Holding m c n) = (tt, tt)
 
-  plain_some : (t : Test) (p : ℕ) (x : Value) (c : Bool) → passes t x ≡ c → SaysSome (Plain t) p x
-  plain_some t p x true e = record { answer = Yes; weight = 1; says = passed e }
-  plain_some t p x false e = record { answer = No p; weight = 1; says = missed e }
-
-  entry_next : (m : N) (p q : ℕ) (x : Value) (xs : List Value) (a : Answer) (w : ℕ) → Says l (l.type_at m) q x a w → DoesSome (Entry m) p q (x ∷ xs)
-  entry_next m p q x xs Yes w d = record { reply = Takes xs (q + place_count x) p; weight = suc w; does = matches d }
-  entry_next m p q x xs (No far) w d = record { reply = Fails (max p far); weight = suc w; does = differs d }
-
-  first_next : (g : G) (gs : List G) (p q : ℕ) (xs : List Value) (far : ℕ) (r : Reply) (w : ℕ) → Does l (l.group_at g) p q xs r w → ((far : ℕ) → FirstSome gs p q xs far) → FirstSome (g ∷ gs) p q xs far
-  first_next g gs p q xs far (Takes left b later) w d rest = record { reply = Takes left b (max far later); weight = w; does = one_takes d }
-  first_next g gs p q xs far (Fails later) w d rest = let e = rest (max far later) in record { reply = e.reply; weight = w + e.weight; does = or_else d e.does }
-
-  each_next : (g : G) (gs : List G) (p q : ℕ) (xs : List Value) (far : ℕ) (r : Reply) (w : ℕ) → Does l (l.group_at g) p q xs r w → ((left : List Value) (q far : ℕ) → IsBehind (MayBeEmpty l (l.group_at g)) left xs → EachSome gs p q left far) → EachSome (g ∷ gs) p q xs far
-  each_next g gs p q xs far (Takes left b later) w d rest = let e = rest left b (max far later) (does_well l d) in record { reply = e.reply; weight = w + e.weight; does = and_then d e.does }
-  each_next g gs p q xs far (Fails later) w d rest = record { reply = Fails (max far later); weight = w; does = one_fails d }
-
-  behind_round : (least : ℕ) (most : Most) (g : G) (p q : ℕ) (xs : List Value) (far : ℕ) (left : List Value) (b later w : ℕ) → is_over most ≡ false → Does l (l.group_at g) p q xs (Takes left b later) w → (c : Bool) → nat_eq (length left) (length xs) ≡ c → IsBehind (MayBeEmpty l (l.group_at g)) left xs → ((left : List Value) (q far : ℕ) → length left < length xs → list_size left ≤ list_size xs → RepeatsSome (least - 1) (one_less most) g p q left far) → RepeatsSome least most g p q xs far
-  behind_round least most g p q xs far left b later w i d true c h rest = record { reply = Takes xs q (max far later); weight = w; does = empty_round i d (is_equal (length left) (length xs) c) }
-  behind_round least most g p q xs far left b later w i d false c (inl h) rest = absurd (is_unequal (length left) (length xs) c (ap (λ zs. length zs) h.1))
-  behind_round least most g p q xs far left b later w i d false c (inr h) rest =
-      let e = rest left b (max far later) h.1 (omega (arith, h.0)) in
-      record { reply = e.reply; weight = w + e.weight; does = round i d (is_unequal (length left) (length xs) c) e.does }
-
-  round_next : (least : ℕ) (most : Most) (g : G) (p q : ℕ) (xs : List Value) (far : ℕ) (r : Reply) (w : ℕ) → is_over most ≡ false → Does l (l.group_at g) p q xs r w → ((left : List Value) (q far : ℕ) → length left < length xs → list_size left ≤ list_size xs → RepeatsSome (least - 1) (one_less most) g p q left far) → RepeatsSome least most g p q xs far
-  round_next least most g p q xs far (Takes left b later) w i d rest = behind_round least most g p q xs far left b later w i d (nat_eq (length left) (length xs)) refl (does_well l d) rest
-  round_next zero most g p q xs far (Fails later) w i d rest = record { reply = Takes xs q (max far later); weight = w; does = enough i d }
-  round_next (suc least) most g p q xs far (Fails later) w i d rest = record { reply = Fails (max far later); weight = w; does = too_few i d }
-
-  module _ (S R : ℕ) (types : TypesSay S R) (groups : GroupsDo S R) where
-    choose_some : (ms : List N) (p : ℕ) (x : Value) (far : ℕ) → size x ≤ S → AreBelow type_rank R ms → ChoosesSome ms p x far
-    choose_some [] p x far h b = record { answer = No far; weight = 0; chooses = no_more }
-    choose_some (m ∷ ms) p x far h b = let d = types m p x (inr (h, b.0)) in choose_next m ms p x far d.answer d.weight d.says (λ far. choose_some ms p x far h b.1)
-
-    array_some : (g : G) (p : ℕ) (x : Value) → size x ≤ S → group_rank g < R → (o : Option (List Value)) → members_in x ≡ o → SaysSome (ArrayOf g) p x
-    array_some g p x h u None e = record { answer = No p; weight = 1; says = no_array e }
-    array_some g p x h u (Some xs) e = let d = groups g p (suc p) xs (inr (omega (arith, h, array_size x xs e), u)) in array_next g p x xs d.reply d.weight e d.does
-
-    number_some : (t : TagNumber N) (p n : ℕ) → 1 < S → (a : Answer) × (w : ℕ) × Numbers l t p n a w
-    number_some any_number p n h = (Yes, 0, whichever)
-    number_some (exactly k) p n h = exact_some k p n (nat_eq k n) refl
-    number_some (such_as t) p n h = let d = types t p (uint n) (inl h) in (d.answer, d.weight, by_head d.says)
-
-    tag_some : (t : TagNumber N) (m : N) (p : ℕ) (x : Value) → size x ≤ S → (o : Option (ℕ × Value)) → tag_in x ≡ o → SaysSome (TagOf t m) p x
-    tag_some t m p x h None e = record { answer = No p; weight = 1; says = no_tag e }
-    tag_some t m p x h (Some (n, y)) e =
-        let k = number_some t p n (omega (arith, h, tag_size x y n e, size_some y)) in
-        tag_next t m p n x y k.0 k.1 e k.2 (types m (suc p) y (inl (omega (arith, h, tag_size x y n e))))
-
-    simple_some : (m : N) (p : ℕ) (x : Value) → 1 ≤ S → type_rank m < R → (o : Option ℕ) → simple_in x ≡ o → SaysSome (SimpleBy m) p x
-    simple_some m p x h u None e = record { answer = No p; weight = 1; says = no_simple e }
-    simple_some m p x h u (Some n) e = let d = types m p (uint n) (inr (omega (arith, h), u)) in simple_next m p n x d.answer d.weight e d.says
-
-    belongs_some : (es : List (MapEntry N)) (q : ℕ) (k x : Value) → size k < S → size x < S → BelongsSome es q k x
-    belongs_some [] q k x h j = record { fate = Stray q; weight = 0; belongs = nowhere }
-    belongs_some (e ∷ es) q k x h j =
-        let d = types e.key_type q k (inl h) in
-        key_next e es q k x d.answer d.weight d.says (types e.value_type (q + place_count k) x (inl j)) (belongs_some es q k x h j)
-
-    sorts_some : (es : List (MapEntry N)) (q : ℕ) (ps : Pairs) → pairs_size ps < S → SortsSome es q ps
-    sorts_some es q no_pairs h = record { fates = []; weight = 0; sorts = all_sorted }
-    sorts_some es q (pair k x ps) h =
-        let d = belongs_some es q k x (omega (arith, h, key_less k x ps)) (omega (arith, h, value_less k x ps)) in
-        let e = sorts_some es (q + place_count k + place_count x) ps (omega (arith, h)) in
-        record { fates = d.fate ∷ e.fates; weight = suc (length es) + d.weight + e.weight; sorts = sort d.belongs e.sorts }
-
-    maps_some : (ess : List (List (MapEntry N))) (p : ℕ) (ps : Pairs) (sofar : Answer) → pairs_size ps < S → MapsSome ess p ps sofar
-    maps_some [] p ps sofar h = record { answer = sofar; weight = 0; maps = no_alternative }
-    maps_some (es ∷ ess) p ps sofar h =
-        let d = sorts_some es (suc p) ps h in
-        let e = maps_some ess p ps (either sofar (alternative_says es p d.fates)) h in
-        record { answer = e.answer; weight = suc d.weight + e.weight; maps = alternative d.sorts e.maps }
-
-    map_some : (ess : List (List (MapEntry N))) (p : ℕ) (x : Value) → size x ≤ S → (o : Option Pairs) → pairs_in x ≡ o → SaysSome (MapOf ess) p x
-    map_some ess p x h None e = record { answer = No p; weight = 1; says = no_map e }
-    map_some ess p x h (Some ps) e =
-        let d = maps_some ess p ps (No p) (omega (arith, h, map_size x ps e)) in
-        record { answer = d.answer; weight = suc d.weight; says = map e d.maps }
-
-    both_some : (m n : N) (p : ℕ) (x : Value) (a : Answer) (w : ℕ) → Says l (l.type_at m) p x a w → SaysSome (l.type_at n) p x → SaysSome (Both m n) p x
-    both_some m n p x Yes w d e = record { answer = e.answer; weight = suc (w + e.weight); says = left_yes d e.says }
-    both_some m n p x (No far) w d e = record { answer = No far; weight = suc w; says = left_no d }
-
-    tested_some : (m : N) (t : Test) (p : ℕ) (x : Value) (w : ℕ) → Says l (l.type_at m) p x Yes w → (b : Bool) → passes t x ≡ b → SaysSome (Such m t) p x
-    tested_some m t p x w d true e = record { answer = Yes; weight = suc w; says = such_passed d e }
-    tested_some m t p x w d false e = record { answer = No p; weight = suc w; says = such_missed d e }
-
-    such_some : (m : N) (t : Test) (p : ℕ) (x : Value) (a : Answer) (w : ℕ) → Says l (l.type_at m) p x a w → SaysSome (Such m t) p x
-    such_some m t p x Yes w d = tested_some m t p x w d (passes t x) refl
-    such_some m t p x (No far) w d = record { answer = No far; weight = suc w; says = none_such d }
-
-    held_some : (m n : N) (c : Content) (p : ℕ) (x y : Value) (b : List ℕ) (w : ℕ) → Says l (l.type_at m) p x Yes w → bytes_in x ≡ Some b → Holds c b y → (a : Answer) (v : ℕ) → Says l (l.type_at n) 0 y a v → SaysSome (Holding m c n) p x
-    held_some m n c p x y b w d e k Yes v f = record { answer = Yes; weight = suc (w + v); says = held_yes d e k f }
-    held_some m n c p x y b w d e k (No far) v f = record { answer = No p; weight = suc (w + v); says = held_no d e k f }
-
-    told_some : (m n : N) (c : Content) (p : ℕ) (x : Value) (b : List ℕ) (w : ℕ) → Says l (l.type_at m) p x Yes w → bytes_in x ≡ Some b → ((y : Value) → Holds c b y → IsLess (size y) (type_rank n) S R) → Told c b → SaysSome (Holding m c n) p x
-    told_some m n c p x b w d e i (inl t) = let f = types n 0 t.0 (i t.0 t.1) in held_some m n c p x t.0 b w d e t.1 f.answer f.weight f.says
-    told_some m n c p x b w d e i (inr k) = record { answer = No p; weight = suc w; says = holds_nothing d e k }
-
-    read_some : (m n : N) (c : Content) (p : ℕ) (x : Value) (w : ℕ) → Says l (l.type_at m) p x Yes w → ((b : List ℕ) (y : Value) → bytes_in x ≡ Some b → Holds c b y → IsLess (size y) (type_rank n) S R) → (o : Option (List ℕ)) → bytes_in x ≡ o → SaysSome (Holding m c n) p x
-    read_some m n c p x w d i None e = record { answer = No p; weight = suc w; says = no_string d e }
-    read_some m n c p x w d i (Some b) e = told_some m n c p x b w d e (λ y k. i b y e k) (told c b)
-
-    holding_some : (m n : N) (c : Content) (p : ℕ) (x : Value) (a : Answer) (w : ℕ) → Says l (l.type_at m) p x a w → ((b : List ℕ) (y : Value) → bytes_in x ≡ Some b → Holds c b y → IsLess (size y) (type_rank n) S R) → SaysSome (Holding m c n) p x
-    holding_some m n c p x Yes w d i = read_some m n c p x w d i (bytes_in x) refl
-    holding_some m n c p x (No far) w d i = record { answer = No far; weight = suc w; says = holder_no d }
-
-    -- what a byte string holds is smaller, or the array of a sequence and of lower rank
-    item_less : (n : N) (x : Value) → size x ≤ S → (b : List ℕ) (y : Value) → bytes_in x ≡ Some b → Holds one_item b y → IsLess (size y) (type_rank n) S R
-    item_less n x h b y e (item k) = inl (omega (arith, h, string_size x b e, size_spelled y b k.spells))
-
-    items_less : (n : N) (x : Value) → size x ≤ S → type_rank n < R → (b : List ℕ) (y : Value) → bytes_in x ≡ Some b → Holds sequence_of_items b y → IsLess (size y) (type_rank n) S R
-    items_less n x h u b y e k = inr (omega (arith, h, string_size x b e, held_size k), u)
-
-    pub type_some : (t : Node N G) (p : ℕ) (x : Value) → size x ≤ S → IsTypeRanked type_rank group_rank R t → SaysSome t p x
-    type_some (Plain t) p x h k = plain_some t p x (passes t x) refl
-    type_some (Ref m) p x h k = let d = types m p x (inr (h, k)) in record { answer = d.answer; weight = suc d.weight; says = ref d.says }
-    type_some (Choice ms) p x h k = let d = choose_some ms p x p h k in record { answer = d.answer; weight = suc d.weight; says = choice d.chooses }
-    type_some (ArrayOf g) p x h k = array_some g p x h k (members_in x) refl
-    type_some (TagOf t m) p x h k = tag_some t m p x h (tag_in x) refl
-    type_some (SimpleBy m) p x h k = simple_some m p x (omega (arith, h, size_some x)) k (simple_in x) refl
-    type_some (MapOf ess) p x h k = map_some ess p x h (pairs_in x) refl
-    type_some (Both m n) p x h k = let d = types m p x (inr (h, k.0)) in both_some m n p x d.answer d.weight d.says (types n p x (inr (h, k.1)))
-    type_some (Such m t) p x h k = let d = types m p x (inr (h, k)) in such_some m t p x d.answer d.weight d.says
-    type_some (Holding m one_item n) p x h k = let d = types m p x (inr (h, k)) in holding_some m n one_item p x d.answer d.weight d.says (item_less n x h)
-    type_some (Holding m sequence_of_items n) p x h k = let d = types m p x (inr (h, k.0)) in holding_some m n sequence_of_items p x d.answer d.weight d.says (items_less n x h k.1)
-
-    first_some : (gs : List G) (p q : ℕ) (xs : List Value) (far : ℕ) → list_size xs ≤ S → AreBelow group_rank R gs → FirstSome gs p q xs far
-    first_some [] p q xs far h b = record { reply = Fails far; weight = 0; does = all_fail }
-    first_some (g ∷ gs) p q xs far h b = let d = groups g p q xs (inr (h, b.0)) in first_next g gs p q xs far d.reply d.weight d.does (λ far. first_some gs p q xs far h b.1)
-
-    -- the further parts of a sequence are asked of a smaller list, or go down
-    abbrev GoesDown : List G → List Value → Type 0
-    GoesDown gs xs = (list_size xs < S) ⊎ ((list_size xs ≤ S) × LeadsDown l group_rank R gs)
-
-    part_less : (g : G) (gs : List G) (xs : List Value) → GoesDown (g ∷ gs) xs → IsLess (list_size xs) (group_rank g) S R
-    part_less g gs xs (inl h) = inl h
-    part_less g gs xs (inr h) = inr (h.0, h.1.0)
-
-    rest_less : (g : G) (gs : List G) (xs left : List Value) → IsBehind (MayBeEmpty l (l.group_at g)) left xs → GoesDown (g ∷ gs) xs → GoesDown gs left
-    rest_less g gs xs left (inl i) (inl h) = inl (omega (arith, h, ap list_size i.1))
-    rest_less g gs xs left (inl i) (inr h) = inr (omega (arith, h.0, ap list_size i.1), h.1.1 i.0)
-    rest_less g gs xs left (inr i) (inl h) = inl (omega (arith, h, i.0))
-    rest_less g gs xs left (inr i) (inr h) = inl (omega (arith, h.0, i.0))
-
-    each_some : (gs : List G) (p q : ℕ) (xs : List Value) (far : ℕ) → GoesDown gs xs → EachSome gs p q xs far
-    each_some [] p q xs far h = record { reply = Takes xs q far; weight = 0; does = all_done }
-    each_some (g ∷ gs) p q xs far h =
-        let d = groups g p q xs (part_less g gs xs h) in
-        each_next g gs p q xs far d.reply d.weight d.does (λ left q far i. each_some gs p q left far (rest_less g gs xs left i h))
-
-    rounds_some : (j least : ℕ) (most : Most) (g : G) (p q : ℕ) (xs : List Value) (far : ℕ) → length xs < j → list_size xs ≤ S → group_rank g < R → (c : Bool) → is_over most ≡ c → RepeatsSome least most g p q xs far
-    rounds_some zero least most g p q xs far n h u c e = absurd (omega (arith, n))
-    rounds_some (suc j) least most g p q xs far n h u true e = record { reply = Takes xs q far; weight = 0; does = full e }
-    rounds_some (suc j) least most g p q xs far n h u false e =
-        let d = groups g p q xs (inr (h, u)) in
-        round_next least most g p q xs far d.reply d.weight e d.does (λ left q far i k. rounds_some j (least - 1) (one_less most) g p q left far (omega (arith, n, i)) (omega (arith, h, k)) u (is_over (one_less most)) refl)
-
-    entry_some : (m : N) (p q : ℕ) (xs : List Value) → list_size xs ≤ S → DoesSome (Entry m) p q xs
-    entry_some m p q [] h = record { reply = Fails p; weight = 1; does = missing }
-    entry_some m p q (x ∷ xs) h = let d = types m q x (inl (omega (arith, h, all_some xs))) in entry_next m p q x xs d.answer d.weight d.says
-
-    pub group_some : (t : Group N G) (p q : ℕ) (xs : List Value) → list_size xs ≤ S → IsGroupRanked l group_rank R t → DoesSome t p q xs
-    group_some (Entry m) p q xs h k = entry_some m p q xs h
-    group_some (GroupRef g) p q xs h k = let d = groups g p q xs (inr (h, k)) in record { reply = d.reply; weight = suc d.weight; does = group_ref d.does }
-    group_some (Sequence gs) p q xs h k = let d = each_some gs p q xs p (inr (h, k)) in record { reply = d.reply; weight = suc d.weight; does = sequence d.does }
-    group_some (Alternatives gs) p q xs h k = let d = first_some gs p q xs p h k in record { reply = d.reply; weight = suc d.weight; does = alternatives d.does }
-    group_some (Repeat least most g) p q xs h k = let d = rounds_some (suc (length xs)) least most g p q xs p (omega arith) h k (is_over most) refl in record { reply = d.reply; weight = suc d.weight; does = repeat d.does }
-
-  all_below : {A : Type 0} (rank : A → ℕ) (bound : ℕ) → ((a : A) → rank a ≤ bound) → (ms : List A) → AreBelow rank (suc bound) ms
-  all_below rank bound h [] = tt
-  all_below rank bound h (m ∷ ms) = (omega (arith, h m), all_below rank bound h ms)
-
-  all_down : (bound : ℕ) → ((g : G) → group_rank g ≤ bound) → (gs : List G) → LeadsDown l group_rank (suc bound) gs
-  all_down bound h [] = tt
-  all_down bound h (g ∷ gs) = (omega (arith, h g), λ e. all_down bound h gs)
-
-  module _ (bound : ℕ) (ranked : IsRankedByForm l type_rank group_rank bound) where
-    type_step : (m : N) (p : ℕ) (y : Value) → TypesSay (size y) (type_rank m) → GroupsDo (size y) (type_rank m) → SaysSome (l.type_at m) p y
-    type_step m p y types groups = type_some (size y) (type_rank m) types groups (l.type_at m) p y (omega arith) (ranked.types m)
-
-    group_step : (g : G) (p q : ℕ) (ys : List Value) → TypesSay (list_size ys) (group_rank g) → GroupsDo (list_size ys) (group_rank g) → DoesSome (l.group_at g) p q ys
-    group_step g p q ys types groups = group_some (list_size ys) (group_rank g) types groups (l.group_at g) p q ys (omega arith) (ranked.groups g)
-
-    pub named_type : (m : N) (p : ℕ) (y : Value) → SaysSome (l.type_at m) p y
-    named_type = for_types type_rank group_rank (λ m p y. SaysSome (l.type_at m) p y) (λ g p q ys. DoesSome (l.group_at g) p q ys) type_step group_step
-
-    pub named_group : (g : G) (p q : ℕ) (ys : List Value) → DoesSome (l.group_at g) p q ys
-    named_group = for_groups type_rank group_rank (λ m p y. SaysSome (l.type_at m) p y) (λ g p q ys. DoesSome (l.group_at g) p q ys) type_step group_step
-
-    -- what names name is ranked, so every form over names is, one rank higher
-    any_type_ranked : (t : Node N G) → IsTypeRanked type_rank group_rank (suc bound) t
-    any_type_ranked (Plain t) = tt
-    any_type_ranked (Ref m) = omega (arith, ranked.type_bound m)
-    any_type_ranked (Choice ms) = all_below type_rank bound ranked.type_bound ms
-    any_type_ranked (ArrayOf g) = omega (arith, ranked.group_bound g)
-    any_type_ranked (TagOf t m) = tt
-    any_type_ranked (SimpleBy m) = omega (arith, ranked.type_bound m)
-    any_type_ranked (MapOf ess) = tt
-    any_type_ranked (Both m n) = (omega (arith, ranked.type_bound m), omega (arith, ranked.type_bound n))
-    any_type_ranked (Such m t) = omega (arith, ranked.type_bound m)
-    any_type_ranked (Holding m one_item n) = omega (arith, ranked.type_bound m)
-    any_type_ranked (Holding m sequence_of_items n) = (omega (arith, ranked.type_bound m), omega (arith, ranked.type_bound n))
-
-    any_group_ranked : (t : Group N G) → IsGroupRanked l group_rank (suc bound) t
-    any_group_ranked (Entry m) = tt
-    any_group_ranked (GroupRef g) = omega (arith, ranked.group_bound g)
-    any_group_ranked (Sequence gs) = all_down bound ranked.group_bound gs
-    any_group_ranked (Alternatives gs) = all_below group_rank bound ranked.group_bound gs
-    any_group_ranked (Repeat least most g) = omega (arith, ranked.group_bound g)
-
-    pub any_type : (t : Node N G) (p : ℕ) (x : Value) → SaysSome t p x
-    any_type t p x = type_some (size x) (suc bound) (λ m p y i. named_type m p y) (λ g p q ys i. named_group g p q ys) t p x (omega arith) (any_type_ranked t)
-
-    pub any_group : (t : Group N G) (p q : ℕ) (xs : List Value) → DoesSome t p q xs
-    any_group t p q xs = group_some (list_size xs) (suc bound) (λ m p y i. named_type m p y) (λ g p q ys i. named_group g p q ys) t p q xs (omega arith) (any_group_ranked t)
+group_one : {N G : Type 0} (f : Group N G) → HasGroupParts One One f
+group_one (Entry m) = tt
+group_one (GroupRef g) = tt
+group_one (Sequence gs) = each_one gs
+group_one (Alternatives gs) = each_one gs
+group_one (Repeat least most g) = tt
 
 module _ {N G : Type 0} (l : Language N G) (rank : Name N G → ℕ) (bound : ℕ) (ranked : IsRanked l rank bound) where
+  ends_under : (n : ℕ) (a : Name N G) → rank a < n → IsFounded l a
+  ends_under zero a h = absurd (omega (arith, h))
+  ends_under (suc n) a h = founded (λ b f. ends_under n b (omega (arith, h, ranked.down a b f)))
+
+  ends : (a : Name N G) → IsFounded l a
+  ends a = ends_under (suc (rank a)) a (omega arith)
+
+  all_founded : AreFounded l One One
+  all_founded = record { types = λ n k. type_one (l.type_at n); groups = λ g k. group_one (l.group_at g); type_ends = λ n k. ends (a_type n); group_ends = λ g k. ends (a_group g) }
+
+  types_say : (S : ℕ) (m : N) (p : ℕ) (y : Value) → (Unit {0} × (size y < S)) ⊎ (Unit {0} × (size y ≤ S)) → SaysSome l (l.type_at m) p y
+  types_say S m p y i = named_type l One One all_founded m tt p y
+
+  groups_do : (S : ℕ) (g : G) (p q : ℕ) (ys : List Value) → (Unit {0} × (list_size ys < S)) ⊎ (Unit {0} × (list_size ys ≤ S)) → DoesSome l (l.group_at g) p q ys
+  groups_do S g p q ys i = named_group l One One all_founded g tt p q ys
+
+  pub any_type : (t : Node N G) (p : ℕ) (x : Value) → SaysSome l t p x
+  any_type t p x = type_some l (size x) One One One One (types_say (size x)) (groups_do (size x)) t p x (omega arith) (type_founded l One One One One t (type_one t) (λ m f k. tt) (λ g f k. tt))
+
+  pub any_group : (t : Group N G) (p q : ℕ) (xs : List Value) → DoesSome l t p q xs
+  any_group t p q xs = group_some l (list_size xs) One One One One (types_say (list_size xs)) (groups_do (list_size xs)) t p q xs (omega arith) (group_founded l One One One One t (group_one t) (λ g f k. tt))
+
   pub is_decided : (t : Node N G) (p : ℕ) (x : Value) → p + size x < 2 ^ 64 → IsDecided l t p x
   is_decided t p x h =
-      let d = any_type l (types_by l rank) (groups_by l rank) bound (by_form l rank ranked) t p x in
+      let d = any_type t p x in
       record { answer = d.answer; weight = d.weight; says = d.says; only = λ a w e. one_saying l h d.says e }

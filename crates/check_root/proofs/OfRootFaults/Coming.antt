@@ -1,15 +1,16 @@
 -- What flags tell of the names of instances is where a name comes back to itself.
-use Rattle.std.proofs.Common.{◌≡◌, ℕ, zero, suc, ◌+◌, ◌<◌, Bool, true, false, if◌then◌else◌, List, [], ◌∷◌, ◌++◌, length, map, Option, Some, None, slice_get, refl, sym, ap, subst, ◌∙◌, append_assoc, arith}
+use Rattle.std.proofs.Common.{◌≡◌, ℕ, zero, suc, ◌+◌, ◌<◌, ◌≤◌, Bool, true, false, if◌then◌else◌, List, [], ◌∷◌, ◌++◌, length, map, Option, Some, None, slice_get, refl, sym, ap, subst, ◌∙◌, append_assoc, arith}
 use Rattle.std.specs.List.{Contains}
-use Rattle.std.specs.Option.{option_map}
+use Rattle.std.specs.Option.{option_map, unwrap_or}
 use Rattle.std.proofs.lemmas.List.{append-nil}
 use Rattle.std.proofs.lemmas.Option.{same_Some, slice_get-map, slice_get_read, slice_get_within}
 use Rattle.cddl_token.specs.declared.Token.{Token}
 use Rattle.tree_nodes.specs.Syntax.Syntax as S
 use Rattle.cddl_language.specs.Terms.{Ref, Text, call, name_of}
 use Rattle.cddl_language.specs.Environment.{is_same}
-use Rattle.cddl_language.specs.Faults.{HasRecursion, Specification, definitions, first_rule, rules}
-use Rattle.cddl_language.specs.Reach.{Reaches, ref_at}
+use Rattle.cddl_language.specs.Faults.{HasRecursion, IsRuleOnCycle, Specification, at_rule, definitions, first_rule, rules, without_rule}
+use Rattle.cddl_language.specs.Free.{LeadsBack}
+use Rattle.cddl_language.specs.Reach.{Point, Reaches, ref_at}
 use Rattle.cddl_language.specs.Reading.{definitions_in, name_at, name_in, rule_list, rules_of}
 use Rattle.tree_nodes.specs.declared.tree.Leaf.{Leaf}
 use Rattle.tree_nodes.specs.declared.tree.Rule.{Rule}
@@ -105,20 +106,40 @@ module _ (t : Table) (tree : Tree) (names : List Name) (closed : Closed) (s : Sp
     one_start None at e = cc
     one_start (Some r) at e = (r, refl, sym (same_Some (name_at r) at e))
 
-    sound : (k : ℕ) (b : Bool) (at : ℕ) → slice_get flags k ≡ Some b → start_if t tree names closed k b ≡ Some at → HasRecursion s root at
+    -- the rule of a name on a cycle begins there
+    abbrev IsToldAt : ℕ → Type 0
+    IsToldAt at = (r : S.Rule) × IsRuleOnCycle s root r × (at ≡ name_at r)
+
+    sound : (k : ℕ) (b : Bool) (at : ℕ) → slice_get flags k ≡ Some b → start_if t tree names closed k b ≡ Some at → IsToldAt at
     sound k false at e f = cc
     sound k true at e f =
         let r = there_is refs k (subst (λ (n : ℕ). k < n) cycles.all (slice_get_within flags k true e)) in
         let p = (cycles.each k r.0 r.1).0 e in
         let q = one_start (first_rule (rules s) (name_of r.0)) at (sym (start_there k r.0 r.1) ∙ f) in
-        record { point = p.0; cycle = p.2; rule = q.0; first = ap (λ z. first_rule (rules s) (name_of z)) p.1 ∙ q.1; offset = q.2 }
+        (q.0, record { point = p.0; cycle = p.2; first = ap (λ z. first_rule (rules s) (name_of z)) p.1 ∙ q.1 }, q.2)
 
-    complete : (at : ℕ) → HasRecursion s root at → (k : ℕ) × (b : Bool) × (slice_get flags k ≡ Some b) × (start_if t tree names closed k b ≡ Some at)
-    complete at h =
+    complete : (at : ℕ) → IsToldAt at → (k : ℕ) × (b : Bool) × (slice_get flags k ≡ Some b) × (start_if t tree names closed k b ≡ Some at)
+    complete at (rule, h, begin) =
         let r = ref_at h.point in
         let c = whole r h.cycle.back.instance in
         let there = slice_get_read refs (length refs) c.0 r refl c.1 (sym c.2) in
-        (c.0, true, (cycles.each c.0 r there).1 (h.point, refl, h.cycle), start_there c.0 r there ∙ ap begins h.first ∙ ap Some (sym h.offset))
+        (c.0, true, (cycles.each c.0 r there).1 (h.point, refl, h.cycle), start_there c.0 r there ∙ ap begins h.first ∙ ap Some (sym begin))
 
-    pub least_recursion : IsLeast (HasRecursion s root) (least_start t tree names closed flags)
-    least_recursion = least_at_places (start_if t tree names closed) (HasRecursion s root) flags sound complete
+    least_rule : IsLeast IsToldAt (least_start t tree names closed flags)
+    least_rule = least_at_places (start_if t tree names closed) IsToldAt flags sound complete
+
+    -- Where no rule is told, something is on a cycle all the same.
+    told : (o : Option ℕ) → IsLeast IsToldAt o → IsLeast (HasRecursion s root) (Some (unwrap_or o 0))
+    told (Some at) h = (at_rule (h.0.1) (h.0.2), after)
+      where
+        after : (p : ℕ) → HasRecursion s root p → at ≤ p
+        after p (at_rule {r = r} on e) = h.1 p (r, on, e)
+        after p (without_rule c none e) = absurd (none h.0.0 h.0.1)
+    told None h = (without_rule cycles.one.1 (λ r on. h (name_at r) (r, on, refl)) refl, λ p k. omega arith)
+
+    pub least_recursion : IsLeast (HasRecursion s root) (Some (unwrap_or (least_start t tree names closed flags) 0))
+    least_recursion = told (least_start t tree names closed flags) least_rule
+
+pub none_comes : (s : Specification) (root : Text) → ((p : Point) → LeadsBack (definitions s) root p → ⊥) → (at : ℕ) → HasRecursion s root at → ⊥
+none_comes s root none at (at_rule h e) = none h.point h.cycle.back
+none_comes s root none at (without_rule {p = p} c rules e) = none p c.back

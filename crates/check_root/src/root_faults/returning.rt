@@ -26,7 +26,7 @@ use tree_nodes::{Rule, Tree};
 
 /// The least offset of the first rule of a name whose instance comes back to itself (C12): by itself, after `~` or after `&` it
 /// asks itself before an item is taken or gone into, which RFC 8610 does not say the meaning of. A name that the prelude alone
-/// defines has no rule, and tells nothing.
+/// defines has no rule; where no name that comes back has one, it is told at the first byte.
 ///
 /// The rows and the numbers of names are of this table. It takes a time in proportion to the instances.
 pub fn recursion(
@@ -42,7 +42,10 @@ pub fn recursion(
     meaning_at();
     match order {
         Order::Ranks(_) => None,
-        Order::Cycles(flags) => least_start(terms, tree, names, closed, flags),
+        Order::Cycles(flags) => {
+            let first = least_start(terms, tree, names, closed, flags);
+            Some(first.unwrap_or(0))
+        }
     }
 }
 

@@ -1,7 +1,6 @@
 -- A table that stands for a text says what the text says.
-use Rattle.std.specs.Prelude.{ℕ, List, [], ◌∷◌}
+use Rattle.std.specs.Prelude.{ℕ, List}
 use Rattle.cbor_data.specs.Faults.{Bounds, IsFaultOf}
-use Rattle.cbor_data.specs.Preferred.{preferred}
 use Rattle.cbor_data.specs.Sequence.{Found}
 use Rattle.cbor_data.specs.Value.{Value}
 use Rattle.cddl_language.specs.Language.{language, reference, type_node}
@@ -17,7 +16,6 @@ use Rattle.seq_run.proofs.OfMeaning.Streams.{ends}
 use Rattle.seq_run.specs.Meaning.Text.{EndsByText, TextAccepts, TextMisses, TextOverruns, TextSays}
 use Rattle.seq_run.specs.Ends.{Accepts, Ends, Misses, Overruns, end_of}
 use Rattle.seq_run.specs.Judge.{judge_of}
-use Rattle.seq_run.specs.Written.{AreWritable}
 use Rattle.seq_run.specs.declared.end.End.{End}
 
 module _ (worth : Values) (ds : List Definition) (root : Text) (table : Table) (stands : StandsFor worth ds root (language_of table) (root_of table) (rank_of table) (ranks_of table)) where
@@ -45,10 +43,6 @@ module _ (worth : Values) (ds : List Definition) (root : Text) (table : Table) (
 
     overruns : (x : Value) (b : List ℕ) → TextOverruns worth ds root steps x b → Overruns (judge_of table steps) x b
     overruns x b f = λ a w h. f a w (said x a w h)
-
-    pub writable : (l : Bounds) (items : List Value) → AreWritable (TextAccepts worth ds root steps) l items → AreWritable (Accepts (judge_of table steps)) l items
-    writable l [] h = tt
-    writable l (x ∷ xs) (h, hs) = (record { sound = h.sound; accepted = accepts x (preferred x) h.accepted; shallow = h.shallow; short = h.short }, writable l xs hs)
 
     pub by_text : (l : Bounds) (stream : List ℕ) (found : List Found) (end : End) → Ends (judge_of table steps) l stream found end → EndsByText worth ds root steps l stream found end
     by_text l stream found end h = ends l (Accepts (judge_of table steps)) (TextAccepts worth ds root steps) (IsFaultOf l) (Misses (judge_of table steps)) (TextMisses worth ds root steps) (Overruns (judge_of table steps)) (TextOverruns worth ds root steps) accepted accepts missed overrun stream found (end_of end) h
