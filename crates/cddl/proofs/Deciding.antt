@@ -1,7 +1,7 @@
 -- By the root rule of an accepted text each item has one result, and a stream one end.
 use Rattle.std.proofs.Common.{◌≡◌, ℕ, ◌<◌, ◌^◌, List, Some, sym, subst}
 use Rattle.cbor_data.specs.Value.{Value}
-use Rattle.cddl_check.specs.Text.{specification}
+use Rattle.cddl_check.specs.Outcome.{specification}
 use Rattle.cddl_language.specs.Faults.{IsAccepted, Specification, definitions, root_of}
 use Rattle.cddl_language.specs.Language.{language, reference, type_node}
 use Rattle.cddl_language.specs.Literals.{Values}
