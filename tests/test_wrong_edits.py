@@ -177,6 +177,9 @@ EDITS = {
     # two edits of one function, whose name another module has too
     "left_is_two": ("src/left.rt", "    1", "    2", "refused, as it must be"),
     "left_is_nought": ("src/left.rt", "    1", "    0", "refused, as it must be"),
+    # the first is made in the function, which is right with it, and the second in a copy of it
+    "right_as_it_was": ("src/right.rt", "    2", "    1 + 1", "NOT REFUSED"),
+    "right_is_five": ("src/right.rt", "    2", "    5", "refused, as it must be"),
     # of definitions, in copies of their laws
     "least_is_nine": ("specs/Bounds.antt", "least = 1", "least = 9", "refused, as it must be", "least_is_below"),
     "least_stays_below": ("specs/Bounds.antt", "least = 1", "least = 8", "NOT REFUSED", "least_is_below"),

@@ -276,7 +276,8 @@ class Trial:
             is_again = bool(by_law) or left != [placed, beside]
             return self.try_over_bare(*left, [], kept) if any(left) and is_again else {}
         found = [(of, "not proved" if of and self.is_refused_itself(of, words) else "proved", why) for of, words, why in found]
-        whys = {of.group(): why for of, words, why in found if words != "proved"}
+        beside_them = {copy for _, _, copy in copies}
+        whys = {of.group(): why for of, words, why in found if words != "proved" and of not in beside_them}
         in_place = {it: whys[it.function.group()] for it in placed if it.function.group() in whys}
         return {**in_place, **refused_beside(copies, found)}
 
