@@ -58,6 +58,9 @@ class Cause(enum.IntEnum):
     STEP_LIMIT = 12
 
 
+MISMATCH = Cause.MISMATCH.value
+
+
 class Refused(ValueError):
     """A text is no specification: what is wrong, by its code (as 'C3') and name (as 'Undefined'), and the byte where it shows."""
 
@@ -78,11 +81,11 @@ class End:
     place    the byte of the stream where a fault shows; of a mismatch, and of a key that is there twice, the place in the item
     """
 
-    def __init__(self, told: _library.End, shown: Callable[[int], bytes]):
-        self.items: int = told.items
-        self.offset: int = told.offset
-        self.cause: Cause | None = Cause(told.cause) if told.cause else None
-        self.place: int = told.place
+    def __init__(self, items: int, offset: int, cause: int, place: int, shown: Callable[[int], bytes] | None = None):
+        self.items = items
+        self.offset = offset
+        self.cause = Cause(cause) if cause else None
+        self.place = place
         self._shown = shown
 
     @property
@@ -101,7 +104,7 @@ class End:
         return self._show(_library.NOTATION)
 
     def _show(self, wanted: int) -> str | None:
-        return self._shown(wanted).decode() if self.cause is Cause.MISMATCH else None
+        return self._shown(wanted).decode() if self._shown else None
 
     def __repr__(self) -> str:
         cause = "None" if self.cause is None else f"Cause.{self.cause.name}"
@@ -200,7 +203,7 @@ class Specification:
             *passed(self._text), *passed(self._root), *passed(b"".join(parts)), offsets, len(bounds), self._limits, refusal, ends,
             len(parts), done)
         _stop(status, refusal)
-        return [self._end(end, part) for end, part in zip(ends, parts)]
+        return [self._end(*told, part) for told, part in zip(_library.END.iter_unpack(ends), parts)]
 
     def session(self) -> Session:
         """Begins a stream that comes in pieces."""
@@ -248,7 +251,7 @@ class Specification:
             status = library.cddlseq_validate(
                 *passed(self._text), *passed(self._root), *passed(stream), self._limits, refusal, end)
         _stop(status, refusal)
-        return self._end(end, stream)
+        return self._end(*_library.END.unpack(end), stream)
 
     def _write(self, stream: bytes, wanted: int) -> tuple[bytes, End]:
         """What is wanted of the stream, and its end."""
@@ -262,12 +265,15 @@ class Specification:
             return _stop(library.cddlseq_write(
                 *passed(self._text), *passed(self._root), *passed(stream), self._limits, wanted, refusal, end, buffer, room, needed), refusal)
 
-        return _written(write, len(stream) + 256), self._end(end, stream)
+        data = _written(write, len(stream) + 256)
+        return data, self._end(*_library.END.unpack(end), stream)
 
-    def _end(self, told: _library.End, stream: bytes) -> End:
+    def _end(self, items: int, offset: int, cause: int, place: int, stream: bytes) -> End:
+        if cause != MISMATCH:
+            return End(items, offset, cause, place)
         # The item that fails, with what may come after it.
-        rest = stream[told.offset:told.offset + self._limits.item_bytes] if told.cause == Cause.MISMATCH else b""
-        return End(told, lambda wanted: self._write(rest, wanted)[0])
+        rest = stream[offset:offset + self._limits.item_bytes]
+        return End(items, offset, cause, place, lambda wanted: self._write(rest, wanted)[0])
 
 
 class Session:
@@ -340,10 +346,10 @@ class Session:
         self._told, self._pending, self.end = _library.End(), bytearray(), None
 
     def _ended(self) -> None:
-        texts = {}
-        if self._told.cause == Cause.MISMATCH:
-            texts = {wanted: self._show(wanted) for wanted in (_library.PATH, _library.NOTATION)}
-        self.end = End(_library.End.from_buffer_copy(self._told), texts.__getitem__)
+        shown = None
+        if self._told.cause == MISMATCH:
+            shown = {wanted: self._show(wanted) for wanted in (_library.PATH, _library.NOTATION)}.__getitem__
+        self.end = End(*_library.END.unpack(self._told), shown)
 
     def _show(self, wanted: int) -> bytes:
         return _written(

@@ -3,6 +3,7 @@ from __future__ import annotations
 
 import ctypes
 import os
+import struct
 from ctypes import POINTER, c_char_p, c_size_t, c_uint32, c_uint64, c_void_p
 
 OK, FAILED, REFUSED, NO_MEMORY, BAD_ROOT, BAD_LIMITS, BAD_WANTED, BAD_OFFSETS, NO_ROOM, ITEM, ENDED = range(11)
@@ -25,6 +26,10 @@ class Refusal(ctypes.Structure):
 
 class End(ctypes.Structure):
     _fields_ = [("items", c_uint64), ("offset", c_uint64), ("cause", c_uint32), ("place", c_uint64)]
+
+
+# The fields of an End.
+END = struct.Struct("@QQIQ")
 
 
 class Limits(ctypes.Structure):
