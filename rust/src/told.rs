@@ -196,3 +196,57 @@ pub enum Step {
     /// The stream has this end, whatever bytes follow.
     Ended(End),
 }
+
+#[cfg(test)]
+mod tests {
+    use super::{CODES, FAULTS};
+    use crate::calls;
+
+    const HEADER: &str = include_str!("../../include/cddlseq.h");
+
+    /// A name in capitals, with low lines between its words.
+    fn spelled(name: &str) -> String {
+        let mut text = String::new();
+        let mut before = None::<char>;
+        for it in name.chars() {
+            if it.is_ascii_uppercase() && before.is_some_and(|it| it.is_ascii_lowercase() || it.is_ascii_digit()) {
+                text.push('_');
+            }
+            text.push(it.to_ascii_uppercase());
+            before = Some(it);
+        }
+        text
+    }
+
+    fn is_in_header(name: &str, number: u32) -> bool {
+        let line = format!("CDDLSEQ_{name} = {number}");
+        HEADER.lines().any(|it| it.trim().trim_end_matches(',') == line)
+    }
+
+    #[test]
+    fn numbers_are_those_of_the_header() {
+        for (number, (code, name)) in (1..).zip(CODES) {
+            assert!(
+                is_in_header(&format!("{code}_{}", spelled(name)), number),
+                "{code} {name}"
+            );
+        }
+        for (number, fault) in (1..).zip(FAULTS) {
+            assert!(is_in_header(&spelled(&format!("{fault:?}")), number), "{fault:?}");
+        }
+        for (name, number) in [
+            ("OK", calls::OK),
+            ("FAILED", calls::FAILED),
+            ("REFUSED", calls::REFUSED),
+            ("NO_MEMORY", calls::NO_MEMORY),
+            ("BAD_LIMITS", calls::BAD_LIMITS),
+            ("NO_ROOM", calls::NO_ROOM),
+            ("ITEM", calls::ITEM),
+            ("ENDED", calls::ENDED),
+            ("MISMATCH", 11),
+            ("STEP_LIMIT", 12),
+        ] {
+            assert!(is_in_header(name, number), "{name}");
+        }
+    }
+}
