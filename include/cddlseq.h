@@ -225,7 +225,7 @@ uint32_t cddlseq_write_by(
 void cddlseq_close(struct cddlseq_handle handle);
 
 /* A stream that comes in pieces, with its specification. cddlseq_begin makes it. Of it holds what is said of a struct cddlseq_handle;
-   cddlseq_discard frees it. It keeps no byte of the pieces but those of the item in work.
+   cddlseq_discard frees it. It keeps nothing of the pieces but what it has read of the item in work.
 
        while ((length = read(device, piece, sizeof piece)) > 0) {
            for (size_t at = 0; at < length; at += used) {
