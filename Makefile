@@ -48,13 +48,14 @@ quick: needs needs-ar
 edits: needs
 	@$(PYTHON) tests/edits.py --rt "$(RT)" $(ARGS)
 
-bench: build
+bench: build lib
 	@$(PYTHON) bench/run.py build/cddlseq
 	@$(PYTHON) bench/rewrites.py build/cddlseq
 	@$(PYTHON) bench/decoders.py build/cddlseq
 	cd crates/cddl_outline && $(RT) run < /dev/null > /dev/null
 	@$(PYTHON) bench/tokens.py crates/cddl_outline/out/cddl_outline
 	@$(PYTHON) bench/specifications.py build/cddlseq
+	@$(PYTHON) bench/package.py build/cddlseq build
 
 # The program and the libraries; each also by itself.
 install: needs needs-ar install-program install-lib

@@ -1,9 +1,10 @@
-/* cddlseq for programs in C: a stream of CBOR items (RFC 8742) in a buffer is validated against a specification in CDDL
+/* cddlseq for programs in C: a stream of CBOR items (RFC 8742), in a buffer or in pieces, is validated against a specification in CDDL
    (RFC 8610), reported, and rewritten.
 
    A call that is given a text reads it anew; a handle has read one before. No call keeps a pointer of the caller's, prints, or ends
    the process. Calls may be made from any thread, and from many at once, but not from a signal handler, nor from a forked child of a
-   process with threads. They take memory by malloc, realloc and free, and give back all of it but what a handle holds.
+   process with threads. A handle stays on the thread that made it. They take memory by malloc, realloc and free, and give back all
+   of it but what a handle holds. A call may need 256 KiB of stack.
 
    Whoever calls has to see to this, which nothing checks: no pointer is null, also where the length is 0; each points to as much
    as its length says, or to one struct; and what a call writes overlaps nothing else that it is given. */
@@ -36,7 +37,11 @@ enum cddlseq_status {
     /* The offsets of the streams fall, or go beyond the bytes, or are not one more than the streams. */
     CDDLSEQ_BAD_OFFSETS = 7,
     /* The buffer has no room for what is wanted. */
-    CDDLSEQ_NO_ROOM = 8
+    CDDLSEQ_NO_ROOM = 8,
+    /* An item of a stream that comes in pieces matches. */
+    CDDLSEQ_ITEM = 9,
+    /* A stream that comes in pieces has ended before, and was clean. */
+    CDDLSEQ_ENDED = 10
 };
 
 /* What is wrong with a text. */
@@ -218,6 +223,74 @@ uint32_t cddlseq_write_by(
     void **back);
 
 void cddlseq_close(struct cddlseq_handle handle);
+
+/* A stream that comes in pieces, with its specification. cddlseq_begin makes it. Of it holds what is said of a struct cddlseq_handle;
+   cddlseq_discard frees it. It keeps nothing of the pieces but what it has read of the item in work.
+
+       while ((length = read(device, piece, sizeof piece)) > 0) {
+           for (size_t at = 0; at < length; at += used) {
+               status = cddlseq_feed(session, piece + at, length - at, &used, &end, &session.at);
+               if (status != CDDLSEQ_ITEM && status != CDDLSEQ_OK) {
+                   return status;
+               }
+           }
+       }
+       return cddlseq_finish(session, &end, &session.at); */
+struct cddlseq_session {
+    void *at;
+};
+
+/* Reads a text, and writes what a session leads to, at the first byte of a stream. It answers what cddlseq_open does. */
+uint32_t cddlseq_begin(
+    const uint8_t *text, size_t text_length,
+    const uint8_t *root, size_t root_length,
+    const struct cddlseq_limits *limits,
+    struct cddlseq_refusal *refusal,
+    void **at);
+
+/* Takes the next piece of the stream, up to the end of an item that it completes; 'used' says how many bytes of the piece are done
+   with, and those behind them are for the next call. The session comes back by its last argument.
+
+   CDDLSEQ_ITEM: an item matches, whose last byte is the last one used. CDDLSEQ_OK: the whole piece is used, and completes none. The
+   end has how many items match so far, and how many bytes these have, and no cause: so an item begins where the end before had its
+   offset, and ends where the next one has it.
+   CDDLSEQ_FAILED: the stream has failed, whatever follows, and the end is told. CDDLSEQ_ENDED: it was finished before, and was clean.
+   CDDLSEQ_NO_MEMORY: nothing is told, and each later call answers so, too. */
+uint32_t cddlseq_feed(
+    struct cddlseq_session session,
+    const uint8_t *piece, size_t piece_length,
+    size_t *used,
+    struct cddlseq_end *end,
+    void **back);
+
+/* Takes the next piece of the stream whole: CDDLSEQ_OK, _FAILED, _ENDED or _NO_MEMORY, with the end as above. It holds all items of
+   the piece at once. */
+uint32_t cddlseq_feed_all(
+    struct cddlseq_session session,
+    const uint8_t *piece, size_t piece_length,
+    struct cddlseq_end *end,
+    void **back);
+
+/* Ends the stream, and tells its end: CDDLSEQ_OK or _FAILED, and again the same when it is asked again; or CDDLSEQ_NO_MEMORY, where a
+   call answered so before. Takes no memory. */
+uint32_t cddlseq_finish(
+    struct cddlseq_session session,
+    struct cddlseq_end *end,
+    void **back);
+
+/* Writes the CDDLSEQ_PATH or the CDDLSEQ_NOTATION of the mismatch by which the stream has failed to the front of the buffer, and
+   nothing of another stream: CDDLSEQ_OK, _NO_ROOM, _BAD_WANTED or _NO_MEMORY, with 'needed' as cddlseq_write has it. */
+uint32_t cddlseq_show(
+    struct cddlseq_session session,
+    uint32_t wanted,
+    uint8_t *buffer, size_t buffer_length,
+    size_t *needed,
+    void **back);
+
+/* Begins another stream by the same specification, whatever has come of the one before. Takes no memory. */
+void cddlseq_restart(struct cddlseq_session session, void **back);
+
+void cddlseq_discard(struct cddlseq_session session);
 
 #ifdef __cplusplus
 }

@@ -3,8 +3,9 @@
 
     library.py [--rt COMMAND] FOLDER
 
-Into the folder come libcddlseq.a, libcddlseq.so.1 and libcddlseq.so, which leads to it. Both have what the Rattle toolchain made
-and its few functions over malloc, realloc and free, linked by the system's C compiler, and show nothing but the calls.
+Into the folder come libcddlseq.a, libcddlseq.so.1 and libcddlseq.so, which leads to it: a line for the linker, since 'rt ci' takes no
+link in a folder. Both have what the Rattle toolchain made and its few functions over malloc, realloc and free, linked by the system's C
+compiler, and show nothing but the calls.
 
 'rt ci' proves the crates below, as scripts/build.py says. What it proves of a static library it does not build, so 'rt lib' proves
 and builds the calls themselves.
@@ -114,7 +115,8 @@ def link(rt, archive, folder):
                 os.remove(made)
         subprocess.run(["ar", "rcsD", static, whole], check=True)
         subprocess.run([compiler, *SHARED, f"-Wl,--version-script={shown}", "-o", shared, whole], check=True)
-        os.symlink(SONAME, leading)
+        with open(leading, "w", encoding="ascii") as file:
+            file.write(f"INPUT(-l:{SONAME})\n")
     print(f"libcddlseq.a and libcddlseq.so are in {folder}")
 
 

@@ -1,5 +1,6 @@
 // The commands check, validate and rewrite over the calls of include/cddlseq.h, so that the rows and the tests of the program can
-// be run on the library. It says what the program says, but for misuse, and reads a stream whole before it writes.
+// be run on the library. It says what the program says, but for misuse, and reads a stream whole before it writes. What validate says
+// of a stream has to be what a session says of it, however it is cut into pieces.
 #include "cddlseq.h"
 #include <errno.h>
 #include <fcntl.h>
@@ -9,7 +10,7 @@
 #include <string.h>
 #include <unistd.h>
 
-enum { BROKEN = 3, LONGEST_TEXT = 1048577 };
+enum { BROKEN = 3, LONGEST_TEXT = 1048577, LONGEST_IN_PIECES = 1 << 17 };
 
 struct bytes {
     uint8_t *at;
@@ -157,8 +158,75 @@ static uint32_t ask_by(struct cddlseq_handle *handle, const struct bytes *stream
     return status;
 }
 
-static int validate(const struct options *options, const struct bytes *text, const struct bytes *stream, struct bytes *told) {
+// Feeds the stream in pieces of this size, each item by item or whole, and ends it.
+static uint32_t feed_pieces(
+    struct cddlseq_session *session, const struct bytes *stream, size_t size, int is_whole, struct cddlseq_end *end) {
+    for (size_t at = 0; at < stream->length; at += size) {
+        size_t length = stream->length - at < size ? stream->length - at : size;
+        for (size_t used = 0, from = 0; from < length; from += used) {
+            struct cddlseq_end before = *end;
+            uint32_t status;
+            if (is_whole) {
+                used = length;
+                status = cddlseq_feed_all(*session, stream->at + at, length, end, &session->at);
+            } else {
+                status = cddlseq_feed(*session, stream->at + at + from, length - from, &used, end, &session->at);
+            }
+            int is_item = status == CDDLSEQ_ITEM && end->items == before.items + 1 && end->offset == at + from + used;
+            if (status != CDDLSEQ_OK && !is_item) {
+                return status;
+            }
+        }
+    }
+    return cddlseq_finish(*session, end, &session->at);
+}
+
+// Whether a session shows this of the place of its mismatch.
+static int shows(struct cddlseq_session *session, uint32_t wanted, const struct bytes *told) {
+    uint8_t *shown = malloc(told->length + 1);
+    size_t needed = 0;
+    uint32_t status = shown ? cddlseq_show(*session, wanted, shown, told->length, &needed, &session->at) : CDDLSEQ_NO_MEMORY;
+    int is_same = status == CDDLSEQ_OK && needed == told->length && !memcmp(shown, told->at, needed);
+    free(shown);
+    return is_same;
+}
+
+// Whether a session says of the stream, byte by byte and in longer pieces, what is said of it whole.
+static int is_same_in_pieces(
+    const struct options *options, const struct bytes *text, const struct bytes *stream, struct bytes *path, struct bytes *notation) {
+    const uint8_t *root = (const uint8_t *)(options->root ? options->root : "");
     struct cddlseq_refusal refusal;
+    struct cddlseq_session session;
+    struct cddlseq_end end, wanted = {0};
+    uint32_t status = cddlseq_validate(
+        text->at, text->length, root, strlen((const char *)root), stream->at, stream->length, &options->limits, &refusal, &wanted);
+    if (status > CDDLSEQ_FAILED || ask(options, text, stream, CDDLSEQ_PATH, &refusal, path) != status ||
+        ask(options, text, stream, CDDLSEQ_NOTATION, &refusal, notation) != status) {
+        return status > CDDLSEQ_FAILED;
+    }
+    if (cddlseq_begin(text->at, text->length, root, strlen((const char *)root), &options->limits, &refusal, &session.at) != CDDLSEQ_OK) {
+        return 0;
+    }
+    int is_same = 1;
+    for (int is_whole = 0; is_whole < 2 && is_same; is_whole++) {
+        end = (struct cddlseq_end){0};
+        uint32_t told = feed_pieces(&session, stream, is_whole ? 1021 : 1, is_whole, &end);
+        is_same = told == status && end.items == wanted.items && end.offset == wanted.offset && end.cause == wanted.cause &&
+                  end.place == wanted.place && shows(&session, CDDLSEQ_PATH, path) && shows(&session, CDDLSEQ_NOTATION, notation);
+        cddlseq_restart(session, &session.at);
+    }
+    cddlseq_discard(session);
+    return is_same;
+}
+
+static int validate(
+    const struct options *options, const struct bytes *text, const struct bytes *stream, struct bytes *told, struct bytes *more) {
+    struct cddlseq_refusal refusal;
+    // Of a stream that comes byte by byte there is a call for each, so a long one is left out.
+    if (stream->length < LONGEST_IN_PIECES && !is_same_in_pieces(options, text, stream, told, more)) {
+        say("a session says something else\n");
+        return BROKEN;
+    }
     uint32_t status = ask(options, text, stream, options->quiet ? CDDLSEQ_END_LINE : CDDLSEQ_REPORT, &refusal, told);
     if (status > CDDLSEQ_FAILED) {
         return refused(status, &refusal);
@@ -211,7 +279,7 @@ static int perform(const struct options *options, struct bytes *text, struct byt
     if (status) {
         return status;
     }
-    return strcmp(options->command, "rewrite") ? validate(options, text, stream, told)
+    return strcmp(options->command, "rewrite") ? validate(options, text, stream, told, line)
                                                : rewrite(options, text, stream, told, line);
 }
 

@@ -190,6 +190,107 @@ static void handles(void) {
     cddlseq_close(handle);
 }
 
+static void sessions(void) {
+    struct cddlseq_refusal refusal = {9, 9};
+    struct cddlseq_end end = untold;
+    struct cddlseq_session session = {buffer_of_no_handle};
+    uint8_t buffer[16];
+    size_t used = 99, needed = 99;
+    const struct cddlseq_limits bad = {0, 1, 1};
+    EXPECT(cddlseq_begin(TEXT("a = b\n"), TEXT(""), &limits, &refusal, &session.at) == CDDLSEQ_REFUSED && refusal.offset == 4);
+    EXPECT(cddlseq_begin(TEXT(map), TEXT("\xff"), &limits, &refusal, &session.at) == CDDLSEQ_BAD_ROOT && refusal.code == 0);
+    EXPECT(cddlseq_begin(TEXT(map), TEXT(""), &bad, &refusal, &session.at) == CDDLSEQ_BAD_LIMITS && session.at == buffer_of_no_handle);
+    EXPECT(cddlseq_begin(TEXT("a = [* uint]\n"), TEXT(""), &limits, &refusal, &session.at) == CDDLSEQ_OK && refusal.code == 0);
+    void *at = session.at;
+    EXPECT(at && at != buffer_of_no_handle);
+    for (int time = 0; time < 2; time++) {
+        EXPECT(cddlseq_feed(session, BYTES(""), &used, &end, &session.at) == CDDLSEQ_OK && used == 0 && is_end(&end, 0, 0, 0, 0));
+        EXPECT(cddlseq_feed(session, BYTES("\x80\x81"), &used, &end, &session.at) == CDDLSEQ_ITEM && used == 1 && is_end(&end, 1, 1, 0, 0));
+        EXPECT(cddlseq_feed(session, BYTES("\x81"), &used, &end, &session.at) == CDDLSEQ_OK && used == 1 && is_end(&end, 1, 1, 0, 0));
+        EXPECT(cddlseq_show(session, CDDLSEQ_PATH, buffer, 16, &needed, &session.at) == CDDLSEQ_OK && needed == 0);
+        EXPECT(cddlseq_feed(session, BYTES("\x18\x20\x80"), &used, &end, &session.at) == CDDLSEQ_ITEM && used == 2 && is_end(&end, 2, 4, 0, 0));
+        EXPECT(cddlseq_feed_all(session, BYTES("\x80\x80\x82\x01"), &end, &session.at) == CDDLSEQ_OK && is_end(&end, 4, 6, 0, 0));
+        EXPECT(cddlseq_feed(session, BYTES("\x60\x80"), &used, &end, &session.at) == CDDLSEQ_FAILED && used == 2);
+        EXPECT(is_end(&end, 4, 6, CDDLSEQ_MISMATCH, 2) && session.at == at);
+        end = untold;
+        EXPECT(cddlseq_feed(session, BYTES("\x80"), &used, &end, &session.at) == CDDLSEQ_FAILED && is_end(&end, 4, 6, CDDLSEQ_MISMATCH, 2));
+        end = untold;
+        EXPECT(cddlseq_finish(session, &end, &session.at) == CDDLSEQ_FAILED && is_end(&end, 4, 6, CDDLSEQ_MISMATCH, 2));
+        memset(buffer, 0xee, sizeof buffer);
+        EXPECT(cddlseq_show(session, CDDLSEQ_PATH, buffer, 16, &needed, &session.at) == CDDLSEQ_OK && needed == 4 && !memcmp(buffer, "$[1]\xee", 5));
+        EXPECT(cddlseq_show(session, CDDLSEQ_NOTATION, buffer, 1, &needed, &session.at) == CDDLSEQ_NO_ROOM && needed == 2 && buffer[0] == '$');
+        EXPECT(cddlseq_show(session, CDDLSEQ_NOTATION, buffer, 2, &needed, &session.at) == CDDLSEQ_OK && !memcmp(buffer, "\"\"1]", 4));
+        EXPECT(cddlseq_show(session, CDDLSEQ_REPORT, buffer, 16, &needed, &session.at) == CDDLSEQ_BAD_WANTED && needed == 0);
+        cddlseq_restart(session, &session.at);
+        EXPECT(session.at == at);
+    }
+    EXPECT(cddlseq_feed_all(session, BYTES("\x80\x82\x01"), &end, &session.at) == CDDLSEQ_OK && is_end(&end, 1, 1, 0, 0));
+    EXPECT(cddlseq_finish(session, &end, &session.at) == CDDLSEQ_FAILED && is_end(&end, 1, 1, CDDLSEQ_TRUNCATED, 3));
+    EXPECT(cddlseq_show(session, CDDLSEQ_PATH, buffer, 16, &needed, &session.at) == CDDLSEQ_OK && needed == 0);
+    cddlseq_restart(session, &session.at);
+    EXPECT(cddlseq_feed_all(session, BYTES("\x80"), &end, &session.at) == CDDLSEQ_OK && is_end(&end, 1, 1, 0, 0));
+    for (int time = 0; time < 2; time++) {
+        EXPECT(cddlseq_finish(session, &end, &session.at) == CDDLSEQ_OK && is_end(&end, 1, 1, 0, 0));
+        EXPECT(cddlseq_feed(session, BYTES("\x80"), &used, &end, &session.at) == CDDLSEQ_ENDED && is_end(&end, 1, 1, 0, 0));
+        EXPECT(cddlseq_feed_all(session, BYTES("\x80"), &end, &session.at) == CDDLSEQ_ENDED && is_end(&end, 1, 1, 0, 0));
+    }
+    cddlseq_discard(session);
+}
+
+// With the request for memory refused that comes after so many: whether a session is begun, fed and freed, or says so from then on.
+static int is_session_told_without_memory(long number) {
+    static const char stream[] = "\xa2\x61\x61\x82\x01\x02\x61\x62\x41\x05\xa2\x61\x62\x41\x05\x61\x61\x81\x60";
+    struct cddlseq_refusal refusal;
+    struct cddlseq_end end = untold;
+    struct cddlseq_session session = {buffer_of_no_handle};
+    size_t used = 0;
+    before_refusal = number, was_refused = 0;
+    uint32_t status = cddlseq_begin(TEXT(map), TEXT(""), &limits, &refusal, &session.at);
+    int any = was_refused;
+    before_refusal = -1;
+    EXPECT(status == (any ? CDDLSEQ_NO_MEMORY : CDDLSEQ_OK) && (session.at == buffer_of_no_handle) == any);
+    if (any) {
+        return 1;
+    }
+    for (long later = 0; later == 0 || was_refused; later++) {
+        status = CDDLSEQ_ITEM;
+        before_refusal = later, was_refused = 0;
+        for (size_t at = 0; at < sizeof stream - 1 && status <= CDDLSEQ_ITEM && status != CDDLSEQ_FAILED && status != CDDLSEQ_NO_MEMORY; at += used) {
+            end = untold;
+            size_t left = sizeof stream - 1 - at;
+            status = cddlseq_feed(session, (const uint8_t *)stream + at, left < 3 ? left : 3, &used, &end, &session.at);
+        }
+        before_refusal = -1;
+        if (was_refused) {
+            EXPECT(status == CDDLSEQ_NO_MEMORY && used == 0 && is_untold(&end));
+            EXPECT(cddlseq_feed(session, BYTES("\xa0"), &used, &end, &session.at) == CDDLSEQ_NO_MEMORY && is_untold(&end));
+            EXPECT(cddlseq_feed_all(session, BYTES("\xa0"), &end, &session.at) == CDDLSEQ_NO_MEMORY && is_untold(&end));
+            EXPECT(cddlseq_finish(session, &end, &session.at) == CDDLSEQ_NO_MEMORY && is_untold(&end));
+        } else {
+            EXPECT(status == CDDLSEQ_FAILED && is_end(&end, 1, 10, CDDLSEQ_MISMATCH, 5));
+        }
+        cddlseq_restart(session, &session.at);
+    }
+    for (long later = 0; later == 0 || was_refused; later++) {
+        before_refusal = later, was_refused = 0;
+        status = cddlseq_feed_all(session, BYTES(stream), &end, &session.at);
+        EXPECT(status == (was_refused ? CDDLSEQ_NO_MEMORY : CDDLSEQ_FAILED));
+        if (!was_refused) {
+            uint8_t buffer[64];
+            size_t needed = 99;
+            for (long last = 0; last == 0 || was_refused; last++) {
+                before_refusal = last, was_refused = 0;
+                status = cddlseq_show(session, CDDLSEQ_PATH, buffer, sizeof buffer, &needed, &session.at);
+                EXPECT(status == (was_refused ? CDDLSEQ_NO_MEMORY : CDDLSEQ_OK) && needed == (was_refused ? 0 : 9));
+            }
+        }
+        before_refusal = -1;
+        cddlseq_restart(session, &session.at);
+    }
+    cddlseq_discard(session);
+    return 0;
+}
+
 // With the request for memory refused that comes after so many: whether a handle is opened, used and freed, or nothing is told.
 static int is_handle_told_without_memory(long number) {
     struct cddlseq_refusal refusal;
@@ -267,11 +368,14 @@ static void refuse_memory(void) {
     for (number = 0; is_handle_told_without_memory(number); number += step) {
         refusals++;
     }
+    for (number = 0; is_session_told_without_memory(number); number += step) {
+        refusals++;
+    }
     printf("calls with %ld requests for memory refused in turn\n", refusals);
 }
 
 int main(int count, char **words) {
-    void (*const tests[])(void) = {check, validate, write_wanted, validate_many, handles, refuse_memory};
+    void (*const tests[])(void) = {check, validate, write_wanted, validate_many, handles, sessions, refuse_memory};
     int number = sizeof tests / sizeof *tests, passed = 0;
     if (count > 1) {
         step = atol(words[1]);

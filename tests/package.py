@@ -14,9 +14,10 @@ import os
 import re
 import sys
 import tempfile
+from concurrent.futures import ThreadPoolExecutor
 
 import cddlseq
-from cddlseq import Cause, Refused, Specification, _library
+from cddlseq import Cause, Failed, Item, Refused, Specification, _library
 from cddlseq.__main__ import main as command
 from run_rows import differences, errors_of, output_of, spec_of, stream_of
 from rows_of_library import needs_devices, rows_of_commands
@@ -72,6 +73,45 @@ def streams_are_alike():
     return all((it.items, it.offset, it.cause, it.place, it.path, it.notation) == (2, 4, Cause.MISMATCH, 2, "$[1]", "true") for it in ends)
 
 
+def fed(session, stream, size):
+    """The items of a stream that comes in pieces of this size, and its end."""
+    items = [it for at in range(0, len(stream), size) for it in session.feed(stream[at:at + size])]
+    return items, session.finish()
+
+
+def items_are_alike():
+    """Whether a session gives the same items, with their bytes, and the same end for pieces of each size, also after another stream."""
+    session = Specification("a = [* uint] / tstr\n").session()
+    stream, wanted = bytes.fromhex("8101616282190100026163" + "8200f5"), [(0, 2), (2, 4), (4, 9), (9, 11)]
+    for size in range(1, len(stream) + 1):
+        items, end = fed(session, stream, size)
+        if [(it.offset, it.end) for it in items] != wanted or b"".join(it.data for it in items) != stream[:11]:
+            return False
+        if (end.items, end.offset, end.cause, end.path, end.notation, session.end) != (4, 11, Cause.MISMATCH, "$[1]", "true", end):
+            return False
+        session.restart()
+    return session.items == session.offset == 0 and session.end is None
+
+
+def items_of(stream):
+    """What a specification of numbers says of a stream, item by item, and the end that it raises."""
+    found = []
+    try:
+        for item in Specification("a = uint\n").items(stream):
+            found.append(item)
+    except Failed as failed:
+        return found, str(failed)
+    return found, None
+
+
+def threads_are_alike():
+    """Whether many threads may use a specification at once."""
+    specification = Specification("a = [* uint]\n")
+    streams = [bytes([0x80 + it % 20]) + bytes(it % 20) for it in range(200)]
+    with ThreadPoolExecutor(4) as pool:
+        return all(it.is_clean and it.items == 1 for it in pool.map(specification.validate, streams))
+
+
 def checks_of(header):
     """What is tested, and whether it holds."""
     specification = Specification("m = {* tstr => uint}\n")
@@ -89,6 +129,11 @@ def checks_of(header):
         "limits": all(is_value_error(lambda: Specification("a = int\n", **it)) for it in bad_limits),
         "an end without a cause": clean.is_clean and clean.cause is None and clean.path is None and clean.notation is None,
         "a stream in each form": streams_are_alike(),
+        "items in pieces": items_are_alike(),
+        "items of a file": items_of(io.BytesIO(b"\x01\x18\x20")) == ([Item(0, 1, b"\x01"), Item(1, 3, b"\x18\x20")], None),
+        "items, and one that fails": items_of(b"\x01\x20\x01") == ([Item(0, 1, b"\x01")], "item 2 at 1 fails: MISMATCH at $: -1"),
+        "items, and one that is cut": items_of([b"\x01\x19", b"\x01"]) == ([Item(0, 1, b"\x01")], "item 2 at 1 fails: TRUNCATED"),
+        "threads": threads_are_alike(),
         "no streams": specification.validate_many([]) == [],
         "many streams": [it.items for it in Specification("a = uint\n").validate_many(many)] == list(range(300)),
         "preferred bytes": specification.rewrite(stream).data == stream,

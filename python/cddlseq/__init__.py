@@ -7,6 +7,9 @@
     (2, 6, 'MISMATCH', '$[1]', '""')
     >>> specification.rewrite(bytes.fromhex("9f1801 03ff")).data.hex()
     '820103'
+    >>> pieces = [bytes.fromhex("8201"), bytes.fromhex("038202"), bytes.fromhex("0a")]
+    >>> [(item.offset, item.end, item.data.hex()) for item in specification.items(pieces)]
+    [(0, 3, '820103'), (3, 6, '82020a')]
     >>> try:
     ...     Specification("a = b")
     ... except Refused as refused:
@@ -14,22 +17,26 @@
     refused: C3 Undefined at byte 4
 
 The library libcddlseq does the work. It is the one that the environment's CDDLSEQ_LIBRARY names, or the one that the system finds.
-Each call reads the text of the specification anew, in a tenth of a millisecond for a short one: use validate_many for many small
-streams. The calls may be made from many threads.
+Many threads may use one specification, but the one that made it has it at hand, and for others its text is read anew in each call. A
+session is for the thread that began it.
 """
 from __future__ import annotations
 
 import ctypes
 import enum
 import itertools
+import threading
 from collections.abc import Iterable
 from functools import cached_property
-from typing import BinaryIO, NamedTuple, Union
+from typing import BinaryIO, Callable, Iterator, NamedTuple, Union
 
 from . import _library
 from ._library import CODES, library, passed
 
-__all__ = ["Cause", "End", "Refused", "Rewritten", "Specification"]
+__all__ = ["Cause", "End", "Failed", "Item", "Refused", "Rewritten", "Session", "Specification"]
+
+# How many bytes of a file are read at once.
+PIECE = 65536
 
 Stream = Union[bytes, bytearray, memoryview, BinaryIO, Iterable[bytes]]
 
@@ -49,6 +56,9 @@ class Cause(enum.IntEnum):
     DUPLICATE_KEY = 10
     MISMATCH = 11
     STEP_LIMIT = 12
+
+
+MISMATCH = Cause.MISMATCH.value
 
 
 class Refused(ValueError):
@@ -71,15 +81,12 @@ class End:
     place    the byte of the stream where a fault shows; of a mismatch, and of a key that is there twice, the place in the item
     """
 
-    def __init__(self, specification: "Specification", told: _library.End, stream: bytes):
-        self.items: int = told.items
-        self.offset: int = told.offset
-        self.cause: Cause | None = Cause(told.cause) if told.cause else None
-        self.place: int = told.place
-        self._specification = specification
-        # The item that fails, with what may come after it.
-        most = told.offset + specification._limits.item_bytes
-        self._rest = stream[told.offset:most] if self.cause is Cause.MISMATCH else b""
+    def __init__(self, items: int, offset: int, cause: int, place: int, shown: Callable[[int], bytes] | None = None):
+        self.items = items
+        self.offset = offset
+        self.cause = Cause(cause) if cause else None
+        self.place = place
+        self._shown = shown
 
     @property
     def is_clean(self) -> bool:
@@ -89,21 +96,39 @@ class End:
     @cached_property
     def path(self) -> str | None:
         """The path of the place of a mismatch, as '$[1]'; None for another end."""
-        return self._of_rest(_library.PATH)
+        return self._show(_library.PATH)
 
     @cached_property
     def notation(self) -> str | None:
         """What is at the place of a mismatch, in diagnostic notation; None for another end."""
-        return self._of_rest(_library.NOTATION)
+        return self._show(_library.NOTATION)
 
-    def _of_rest(self, wanted: int) -> str | None:
-        if self.cause is not Cause.MISMATCH:
-            return None
-        return self._specification._write(self._rest, wanted)[0].decode()
+    def _show(self, wanted: int) -> str | None:
+        return self._shown(wanted).decode() if self._shown else None
 
     def __repr__(self) -> str:
         cause = "None" if self.cause is None else f"Cause.{self.cause.name}"
         return f"End(items={self.items}, offset={self.offset}, cause={cause}, place={self.place})"
+
+
+class Failed(ValueError):
+    """A stream has failed, and this is its end."""
+
+    def __init__(self, end: End):
+        super().__init__(end)
+        self.end = end
+
+    def __str__(self) -> str:
+        at = "" if self.end.path is None else f" at {self.end.path}: {self.end.notation}"
+        return f"item {self.end.items + 1} at {self.end.offset} fails: {self.end.cause.name}{at}"
+
+
+class Item(NamedTuple):
+    """An item that matches: the offset in the stream of its first byte, and of the byte behind its last; and its bytes."""
+
+    offset: int
+    end: int
+    data: bytes
 
 
 class Rewritten(NamedTuple):
@@ -111,6 +136,28 @@ class Rewritten(NamedTuple):
 
     data: bytes
     end: End
+
+
+class _Held:
+    """A handle of the library, which is used and freed on the thread that made it. One that another thread drops is freed when its own
+    thread makes the next."""
+
+    left: dict[int, list[tuple[Callable[[_library.Handle], None], _library.Handle]]] = {}
+
+    def __init__(self, made: _library.Handle, free: Callable[[_library.Handle], None]):
+        self.handle, self.free, self.thread = made, free, threading.get_ident()
+        for free_left, handle in self.left.pop(self.thread, ()):
+            free_left(handle)
+
+    @property
+    def is_mine(self) -> bool:
+        return self.thread == threading.get_ident()
+
+    def __del__(self) -> None:
+        if self.is_mine:
+            self.free(self.handle)
+        else:
+            self.left.setdefault(self.thread, []).append((self.free, self.handle))
 
 
 class Specification:
@@ -132,15 +179,22 @@ class Specification:
         # The library takes no bytes for no root. No rule has a name of no letters, nor one of a space.
         self._root = b"" if root is None else root.encode() or b" "
         self._limits = _library.Limits(depth, item_bytes, steps)
-        refusal = _library.Refusal()
-        self._raise(library.cddlseq_check(*passed(self._text), *passed(self._root), refusal), refusal)
+        self._held = _Held(self._made(library.cddlseq_open), library.cddlseq_close)
 
     def validate(self, stream: Stream) -> End:
-        """Says how a stream ends: bytes, a binary file, or pieces of any size. It is read whole before."""
-        return self._validate(_bytes_of(stream))
+        """Says how a stream ends: bytes, a binary file, or pieces of any size. Of a file, and of pieces, no more is read than shows
+        the end."""
+        if isinstance(stream, (bytes, bytearray, memoryview)):
+            return self._validate(bytes(stream))
+        session = self.session()
+        for piece in _pieces(stream):
+            end = session.feed_all(piece)
+            if end:
+                return end
+        return session.finish()
 
     def validate_many(self, streams: Iterable[bytes]) -> list[End]:
-        """Says how each of many streams ends. The text is read once for all of them."""
+        """Says how each of many streams ends, by one call."""
         parts = [bytes(it) for it in streams]
         bounds = [0, *itertools.accumulate(len(it) for it in parts)]
         offsets, ends = (ctypes.c_size_t * len(bounds))(*bounds), (_library.End * len(parts))()
@@ -148,12 +202,29 @@ class Specification:
         status = library.cddlseq_validate_many(
             *passed(self._text), *passed(self._root), *passed(b"".join(parts)), offsets, len(bounds), self._limits, refusal, ends,
             len(parts), done)
-        self._raise(status, refusal)
-        return [End(self, end, part) for end, part in zip(ends, parts)]
+        _stop(status, refusal)
+        return [self._end(*told, part) for told, part in zip(_library.END.iter_unpack(ends), parts)]
+
+    def session(self) -> Session:
+        """Begins a stream that comes in pieces."""
+        return Session(self)
+
+    def items(self, stream: Stream) -> Iterator[Item]:
+        """The items of a stream that match, each as soon as its last byte is there. Where the stream fails it raises Failed after
+        them."""
+        pieces = [stream] if isinstance(stream, (bytes, bytearray, memoryview)) else _pieces(stream)
+        session = self.session()
+        for piece in pieces:
+            yield from session.feed(piece)
+            if session.end:
+                break
+        end = session.finish()
+        if not end.is_clean:
+            raise Failed(end)
 
     def rewrite(self, stream: Stream, deterministic: bool = False) -> Rewritten:
         """The items that match, up to the first that does not, in preferred encoding (RFC 8949, section 4.1), or in deterministic
-        encoding (section 4.2.1)."""
+        encoding (section 4.2.1). A file is read whole before."""
         return Rewritten(*self._write(_bytes_of(stream), _library.DETERMINISTIC if deterministic else _library.PREFERRED))
 
     def report(self, stream: Stream) -> str:
@@ -164,34 +235,148 @@ class Specification:
         """The line for the end alone."""
         return self._write(_bytes_of(stream), _library.END_LINE)[0].decode()
 
+    def _made(self, call: Callable[..., int]) -> _library.Handle:
+        """The handle that a call makes of the text."""
+        handle, refusal = _library.Handle(), _library.Refusal()
+        _stop(call(*passed(self._text), *passed(self._root), self._limits, refusal, handle.back), refusal)
+        return handle
+
     def _validate(self, stream: bytes) -> End:
-        refusal, end = _library.Refusal(), _library.End()
-        status = library.cddlseq_validate(
-            *passed(self._text), *passed(self._root), *passed(stream), self._limits, refusal, end)
-        self._raise(status, refusal)
-        return End(self, end, stream)
+        end, refusal = _library.End(), _library.Refusal()
+        if self._held.is_mine:
+            handle = self._held.handle
+            status = library.cddlseq_validate_by(handle, *passed(stream), end, handle.back)
+        else:
+            # The text is read anew.
+            status = library.cddlseq_validate(
+                *passed(self._text), *passed(self._root), *passed(stream), self._limits, refusal, end)
+        _stop(status, refusal)
+        return self._end(*_library.END.unpack(end), stream)
 
     def _write(self, stream: bytes, wanted: int) -> tuple[bytes, End]:
         """What is wanted of the stream, and its end."""
-        refusal, end, needed = _library.Refusal(), _library.End(), ctypes.c_size_t(len(stream) + 256)
-        status = _library.NO_ROOM
-        while status == _library.NO_ROOM:
-            room = needed.value
-            buffer = ctypes.create_string_buffer(room)
-            status = library.cddlseq_write(
-                *passed(self._text), *passed(self._root), *passed(stream), self._limits, wanted, refusal, end, buffer, room, needed)
-        self._raise(status, refusal)
-        return buffer.raw[:needed.value], End(self, end, stream)
+        end, refusal = _library.End(), _library.Refusal()
 
-    @staticmethod
-    def _raise(status: int, refusal: _library.Refusal) -> None:
-        """Raises what a status without an end says."""
-        if status == _library.REFUSED:
-            raise Refused(*CODES[refusal.code - 1], refusal.offset)
-        if status == _library.NO_MEMORY:
-            raise MemoryError("libcddlseq was refused memory")
-        if status > _library.FAILED:
-            raise ValueError(f"libcddlseq answers {status}")
+        def write(buffer: ctypes.Array, room: int, needed: ctypes.c_size_t) -> int:
+            if self._held.is_mine:
+                handle = self._held.handle
+                return _stop(library.cddlseq_write_by(
+                    handle, *passed(stream), wanted, end, buffer, room, needed, handle.back))
+            return _stop(library.cddlseq_write(
+                *passed(self._text), *passed(self._root), *passed(stream), self._limits, wanted, refusal, end, buffer, room, needed), refusal)
+
+        data = _written(write, len(stream) + 256)
+        return data, self._end(*_library.END.unpack(end), stream)
+
+    def _end(self, items: int, offset: int, cause: int, place: int, stream: bytes) -> End:
+        if cause != MISMATCH:
+            return End(items, offset, cause, place)
+        # The item that fails, with what may come after it.
+        rest = stream[offset:offset + self._limits.item_bytes]
+        return End(items, offset, cause, place, lambda wanted: self._write(rest, wanted)[0])
+
+
+class Session:
+    """A stream that comes in pieces, by a specification. It is for the thread that began it.
+
+    end   how the stream ends, once that is known
+    """
+
+    def __init__(self, specification: Specification):
+        self._told = _library.End()
+        self._used = ctypes.c_size_t()
+        self._pending = bytearray()
+        self.end: End | None = None
+        self._held = _Held(specification._made(library.cddlseq_begin), library.cddlseq_discard)
+
+    @property
+    def _handle(self) -> _library.Handle:
+        if not self._held.is_mine:
+            raise RuntimeError("a session is for the thread that began it")
+        return self._held.handle
+
+    @property
+    def items(self) -> int:
+        """How many items match so far."""
+        return self._told.items
+
+    @property
+    def offset(self) -> int:
+        """How many bytes these have in the stream."""
+        return self._told.offset
+
+    def feed(self, piece: bytes | bytearray | memoryview) -> list[Item]:
+        """Takes the next piece, and answers the items that match and that it completes. Once one fails 'end' says so, and what follows
+        it is not looked at."""
+        data, found = bytes(piece), []
+        start = ctypes.cast(ctypes.c_char_p(data), ctypes.c_void_p).value or 0
+        at, handle, told, used = 0, self._handle, self._told, self._used
+        while at < len(data) and not self.end:
+            before = told.offset
+            status = _stop(library.cddlseq_feed(handle, start + at, len(data) - at, used, told, handle.back))
+            if status == _library.ITEM:
+                found.append(Item(before, told.offset, bytes(self._pending) + data[at:at + used.value]))
+                self._pending.clear()
+            elif status == _library.OK:
+                self._pending += data[at:]
+            else:
+                self._ended()
+            at += used.value
+        return found
+
+    def feed_all(self, piece: bytes | bytearray | memoryview) -> End | None:
+        """Takes the next piece, and answers how the stream ends, if that is known now. It keeps no items."""
+        data = bytes(piece)
+        if not self.end and data:
+            status = _stop(library.cddlseq_feed_all(self._handle, *passed(data), self._told, self._handle.back))
+            if status != _library.OK:
+                self._ended()
+        return self.end
+
+    def finish(self) -> End:
+        """Ends the stream, and says how it ends."""
+        if not self.end:
+            _stop(library.cddlseq_finish(self._handle, self._told, self._handle.back))
+            self._ended()
+        return self.end
+
+    def restart(self) -> None:
+        """Begins another stream by the same specification, whatever has come of the one before."""
+        library.cddlseq_restart(self._handle, self._handle.back)
+        self._told, self._pending, self.end = _library.End(), bytearray(), None
+
+    def _ended(self) -> None:
+        shown = None
+        if self._told.cause == MISMATCH:
+            shown = {wanted: self._show(wanted) for wanted in (_library.PATH, _library.NOTATION)}.__getitem__
+        self.end = End(*_library.END.unpack(self._told), shown)
+
+    def _show(self, wanted: int) -> bytes:
+        return _written(
+            lambda buffer, room, needed: _stop(
+                library.cddlseq_show(self._handle, wanted, buffer, room, needed, self._handle.back)), 256)
+
+
+def _written(call: Callable[..., int], room: int) -> bytes:
+    """What a call writes, in a buffer that is made larger where it has to be."""
+    needed = ctypes.c_size_t(room)
+    status = _library.NO_ROOM
+    while status == _library.NO_ROOM:
+        room = needed.value
+        buffer = ctypes.create_string_buffer(room)
+        status = call(buffer, room, needed)
+    return buffer.raw[:needed.value]
+
+
+def _stop(status: int, refusal: _library.Refusal | None = None) -> int:
+    """Raises what a status says of a text that is refused, or of memory, and passes others on."""
+    if status == _library.REFUSED and refusal:
+        raise Refused(*CODES[refusal.code - 1], refusal.offset)
+    if status == _library.NO_MEMORY:
+        raise MemoryError("libcddlseq was refused memory")
+    if status in (_library.BAD_ROOT, _library.BAD_LIMITS, _library.BAD_WANTED, _library.BAD_OFFSETS):
+        raise ValueError(f"libcddlseq answers {status}")
+    return status
 
 
 def _bytes_of(stream: Stream) -> bytes:
@@ -199,3 +384,9 @@ def _bytes_of(stream: Stream) -> bytes:
     if isinstance(stream, (bytes, bytearray, memoryview)):
         return bytes(stream)
     return stream.read() if hasattr(stream, "read") else b"".join(stream)
+
+
+def _pieces(stream: BinaryIO | Iterable[bytes]) -> Iterable[bytes]:
+    """The pieces of a file, each as soon as it is there, or of a stream that comes in pieces."""
+    read = getattr(stream, "read1", None) or getattr(stream, "read", None)
+    return iter(lambda: read(PIECE), b"") if read else stream

@@ -3,9 +3,10 @@ from __future__ import annotations
 
 import ctypes
 import os
-from ctypes import POINTER, c_char_p, c_size_t, c_uint32, c_uint64
+import struct
+from ctypes import POINTER, c_char_p, c_size_t, c_uint32, c_uint64, c_void_p
 
-OK, FAILED, REFUSED, NO_MEMORY, BAD_ROOT, BAD_LIMITS, BAD_WANTED, BAD_OFFSETS, NO_ROOM = range(9)
+OK, FAILED, REFUSED, NO_MEMORY, BAD_ROOT, BAD_LIMITS, BAD_WANTED, BAD_OFFSETS, NO_ROOM, ITEM, ENDED = range(11)
 REPORT, END_LINE, PREFERRED, DETERMINISTIC, PATH, NOTATION = range(6)
 
 # The codes of what is wrong with a text, with their names. The number of each is its place, from 1.
@@ -27,11 +28,26 @@ class End(ctypes.Structure):
     _fields_ = [("items", c_uint64), ("offset", c_uint64), ("cause", c_uint32), ("place", c_uint64)]
 
 
+# The fields of an End.
+END = struct.Struct("@QQIQ")
+
+
 class Limits(ctypes.Structure):
     _fields_ = [("depth", c_uint32), ("item_bytes", c_uint32), ("steps", c_uint64)]
 
 
+class Handle(ctypes.Structure):
+    """A handle of a specification, or of a stream that comes in pieces. Its pointer goes to a call, which writes it back."""
+
+    _fields_ = [("at", c_void_p)]
+
+    @property
+    def back(self):
+        return ctypes.cast(ctypes.byref(self), POINTER(c_void_p))
+
+
 _BYTES = (c_char_p, c_size_t)
+_BACK = POINTER(c_void_p)
 _CALLS = {
     "cddlseq_check": (*_BYTES, *_BYTES, POINTER(Refusal)),
     "cddlseq_validate": (*_BYTES, *_BYTES, *_BYTES, POINTER(Limits), POINTER(Refusal), POINTER(End)),
@@ -40,7 +56,20 @@ _CALLS = {
     "cddlseq_validate_many": (
         *_BYTES, *_BYTES, *_BYTES, POINTER(c_size_t), c_size_t, POINTER(Limits), POINTER(Refusal), POINTER(End), c_size_t,
         POINTER(c_size_t)),
+    "cddlseq_open": (*_BYTES, *_BYTES, POINTER(Limits), POINTER(Refusal), _BACK),
+    "cddlseq_validate_by": (Handle, *_BYTES, POINTER(End), _BACK),
+    "cddlseq_write_by": (Handle, *_BYTES, c_uint32, POINTER(End), *_BYTES, POINTER(c_size_t), _BACK),
+    "cddlseq_close": (Handle,),
+    "cddlseq_begin": (*_BYTES, *_BYTES, POINTER(Limits), POINTER(Refusal), _BACK),
+    # A piece is told by its address, so that what is behind an item in it is passed on without a copy.
+    "cddlseq_feed": (Handle, c_void_p, c_size_t, POINTER(c_size_t), POINTER(End), _BACK),
+    "cddlseq_feed_all": (Handle, *_BYTES, POINTER(End), _BACK),
+    "cddlseq_finish": (Handle, POINTER(End), _BACK),
+    "cddlseq_show": (Handle, c_uint32, *_BYTES, POINTER(c_size_t), _BACK),
+    "cddlseq_restart": (Handle, _BACK),
+    "cddlseq_discard": (Handle,),
 }
+_TELL_NOTHING = ("cddlseq_close", "cddlseq_restart", "cddlseq_discard")
 
 
 def _load() -> ctypes.CDLL:
@@ -48,7 +77,7 @@ def _load() -> ctypes.CDLL:
     library = ctypes.CDLL(os.environ.get("CDDLSEQ_LIBRARY", "libcddlseq.so.1"))
     for name, kinds in _CALLS.items():
         call = getattr(library, name)
-        call.argtypes, call.restype = kinds, c_uint32
+        call.argtypes, call.restype = kinds, None if name in _TELL_NOTHING else c_uint32
     return library
 
 

@@ -23,6 +23,7 @@ pub use cddl_table::{compile, read_specification};
 pub use cddl_token::{Code, Kind, Literal, Refusal, Token, tokens, value};
 pub use cddl_tree::{NESTING_LIMIT, Tree, discard, parse};
 pub use seq_run::{
-    Cause, End, Mode, RunFault, Session, State, Step, Stopped, end_line, run, validate_pieces,
+    Cause, End, Mode, OwnedSession, RunFault, Session, State, Step, Stopped, end_line, run,
+    validate_pieces,
 };
 pub use table_nodes::Table;

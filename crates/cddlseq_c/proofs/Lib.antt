@@ -1,3 +1,6 @@
 pub mod Telling
 pub mod Streams
+pub mod Steps
+pub mod Showing
 mod Values
+mod SessionValues

@@ -38,7 +38,7 @@ abbrev pub Handle : RattleType
 Handle = handle.the_row
 
 -- how a block of the allocator is freed
-abbrev al : Al
+abbrev pub al : Al
 al = record { row = Z; laws = heap_laws.the_row_laws; g = ghosts; d = impl [] tnil dnil; drops = impl [] tnil dnil }
 
 -- a handle's value fits its type, whatever the pointer is

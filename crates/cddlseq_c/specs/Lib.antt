@@ -1,3 +1,4 @@
 pub mod Told
 pub mod Wanted
 pub mod Answers
+pub mod Pieces

@@ -4,24 +4,30 @@
 
 ghost use Rattle.seq_run.specs.Judge.{judge_of};
 ghost use Rattle.cddlseq_c.specs.Answers.{AreValidated, IsChecked, IsOpened, IsToldEnd, IsValidated, IsWritten, IsWrittenBy};
+ghost use Rattle.cddlseq_c.specs.Pieces.{IsFedAll, IsFedTo, IsFinished, IsShownBy};
 
+mod feeding;
 mod handle;
 mod many;
 mod ready;
 mod running;
+mod session;
 mod stop;
 mod told;
 mod wanted;
 
+use crate::feeding::{feed, feed_all, finish, show};
 use crate::handle::CddlseqHandle;
 use crate::many::{fits, tell_many};
 use crate::ready::{prepare, table_of};
 use crate::running::{tell_by_number, tell_end, tell_wanted};
+use crate::session::CddlseqSession;
 use crate::told::{
     BAD_OFFSETS, BAD_WANTED, CddlseqEnd, CddlseqLimits, CddlseqRefusal, NO_MEMORY, NO_REFUSAL, OK,
     tell_stop,
 };
 use crate::wanted::wanted_by;
+use seq_run::OwnedSession;
 use std::alloc::Global;
 
 /// Says whether a text is a specification, with the root of this name, or where it has no bytes the first rule.
@@ -188,4 +194,115 @@ pub extern "C" fn cddlseq_write_by(
 #[unsafe(no_mangle)]
 pub extern "C" fn cddlseq_close(handle: CddlseqHandle) {
     drop(Box::into_inner(handle.into_box()));
+}
+
+/// Reads a text, and makes a handle of a stream that comes in pieces, which [`cddlseq_discard`] frees.
+#[unsafe(no_mangle)]
+pub extern "C" fn cddlseq_begin(
+    alloc: Global,
+    text: &[u8],
+    root: &[u8],
+    limits: &CddlseqLimits,
+    refusal: &mut CddlseqRefusal,
+    session: &mut *mut u8,
+) -> u32
+    ensures { IsOpened text.now root.now limits.now refusal.new result }
+{
+    *refusal = NO_REFUSAL;
+    match prepare(alloc, text, root, limits) {
+        Ok(ready) => {
+            let begun = OwnedSession::new(alloc, ready.table, ready.limits, ready.steps);
+            match Box::new(alloc, begun) {
+                Ok(held) => {
+                    *session = Box::into_raw(held) as *mut u8;
+                    OK
+                }
+                Err(_) => NO_MEMORY,
+            }
+        }
+        Err(why) => tell_stop(why, refusal),
+    }
+}
+
+/// Takes the next piece of a stream up to the end of an item that it completes. What comes after it in the piece is for the next
+/// call. The handle is used up, and comes back.
+#[unsafe(no_mangle)]
+pub extern "C" fn cddlseq_feed(
+    session: CddlseqSession,
+    piece: &[u8],
+    used: &mut usize,
+    end: &mut CddlseqEnd,
+    back: &mut *mut u8,
+) -> u32
+    ensures { IsFedTo session.value piece.now used.new end.old end.new result }
+{
+    let mut held = session.into_box();
+    let status = feed(&mut held, piece, used, end);
+    *back = Box::into_raw(held) as *mut u8;
+    status
+}
+
+/// Takes the next piece of a stream whole. The handle is used up, and comes back.
+#[unsafe(no_mangle)]
+pub extern "C" fn cddlseq_feed_all(
+    alloc: Global,
+    session: CddlseqSession,
+    piece: &[u8],
+    end: &mut CddlseqEnd,
+    back: &mut *mut u8,
+) -> u32
+    ensures { IsFedAll session.value piece.now end.old end.new result }
+{
+    let mut held = session.into_box();
+    let status = feed_all(alloc, &mut held, piece, end);
+    *back = Box::into_raw(held) as *mut u8;
+    status
+}
+
+/// Ends a stream that comes in pieces, and says how it ends. The handle is used up, and comes back.
+#[unsafe(no_mangle)]
+pub extern "C" fn cddlseq_finish(
+    session: CddlseqSession,
+    end: &mut CddlseqEnd,
+    back: &mut *mut u8,
+) -> u32
+    ensures { IsFinished session.value end.old end.new result }
+{
+    let mut held = session.into_box();
+    let status = finish(&mut held, end);
+    *back = Box::into_raw(held) as *mut u8;
+    status
+}
+
+/// Writes what a number asks for of the mismatch by which a stream has ended: the path of its place, or what is there. The handle is
+/// used up, and comes back.
+#[unsafe(no_mangle)]
+pub extern "C" fn cddlseq_show(
+    alloc: Global,
+    session: CddlseqSession,
+    wanted: u32,
+    out: &mut [u8],
+    needed: &mut usize,
+    back: &mut *mut u8,
+) -> u32
+    ensures { IsShownBy wanted session.value out.old out.new needed.new result }
+{
+    let held = session.into_box();
+    let status = show(alloc, &held, wanted, out, needed);
+    *back = Box::into_raw(held) as *mut u8;
+    status
+}
+
+/// Begins another stream by the same specification. The handle is used up, and comes back.
+#[unsafe(no_mangle)]
+pub extern "C" fn cddlseq_restart(session: CddlseqSession, back: &mut *mut u8) {
+    let mut held = session.into_box();
+    held.restart();
+    *back = Box::into_raw(held) as *mut u8;
+}
+
+/// Frees what the handle of a stream holds.
+#[unsafe(no_mangle)]
+pub extern "C" fn cddlseq_discard(session: CddlseqSession) {
+    drop(Box::into_inner(session.into_box()));
 }

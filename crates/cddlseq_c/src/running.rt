@@ -143,7 +143,7 @@ fn run_buffer(alloc: Global, ready: &Ready, mode: Mode, stream: &[u8]) -> Result
 }
 
 // Writes the bytes to the front of the buffer, if there is room for them.
-fn put(bytes: &[u8], out: &mut [u8]) -> bool
+pub(crate) fn put(bytes: &[u8], out: &mut [u8]) -> bool
     ensures { IsPut result bytes.now out.old out.new }
 {
     if bytes.len() > out.len() {

@@ -36,6 +36,12 @@ pub const BAD_OFFSETS: u32 = 7;
 /// The buffer has no room for what is wanted.
 pub const NO_ROOM: u32 = 8;
 
+/// An item of a stream that comes in pieces matches.
+pub const ITEM: u32 = 9;
+
+/// A stream that comes in pieces has ended before, and was clean.
+pub const ENDED: u32 = 10;
+
 /// What is told of a text.
 #[repr(C)]
 #[derive(Clone, Copy)]

@@ -6,6 +6,7 @@ pub mod Judged
 pub mod Progress
 pub mod FoundItem
 pub mod Parts
+pub mod Rest
 pub mod Answers
 pub mod Report
 pub mod Heads

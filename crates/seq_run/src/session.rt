@@ -3,6 +3,7 @@
 ghost use Rattle.std.specs.Prelude.{◌≡◌, ◌+◌, ◌<◌, ◌≤◌, ◌++◌, ◌^◌, [], length, map, take, None, Err, alloc_error, option_copied, vec_capacity, vec_len, OnOk};
 ghost use Rattle.seq_run.specs.Answers.{Appends, IsAnswer, IsFinish, IsLent, IsCount, IsFedOne, IsStep, AreSmallsFed};
 ghost use Rattle.seq_run.specs.FoundItem.{found_of};
+ghost use Rattle.seq_run.specs.Rest.{AreRest, progress_of};
 ghost use Rattle.seq_run.specs.Smalls.{smalls_from};
 ghost use Rattle.seq_run.specs.Judge.{judge_of};
 ghost use Rattle.seq_run.specs.Judged.{IsJudged};
@@ -19,7 +20,7 @@ use table_nodes::Table;
 
 // An item that was taken, and the offset of its first byte, for contracts alone.
 #[derive(Drop)]
-enum FoundItem {
+pub(crate) enum FoundItem {
     // An unsigned integer below 24.
     Small { offset: u64, n: u8 },
     Other { offset: u64, item: Sound },
@@ -27,10 +28,10 @@ enum FoundItem {
 
 // How far a session has come: how many items it has accepted, the offset of the next one, and how many bytes it has taken.
 #[derive(Drop)]
-struct Count {
-    items: u64,
-    offset: u64,
-    bytes: u64,
+pub(crate) struct Count {
+    pub items: u64,
+    pub offset: u64,
+    pub bytes: u64,
 }
 
 impl Count {
@@ -129,6 +130,17 @@ enum Judged {
         cause: Cause,
         rejected: Option<Sound>,
     },
+}
+
+// What a session keeps beside its specification.
+#[derive(Drop)]
+pub(crate) struct Rest {
+    pub reader: ItemReader,
+    pub count: Count,
+    pub stopped: Option<Stopped>,
+    pub rejected: Option<Sound>,
+    pub fed: History<u8>,
+    pub taken: History<FoundItem>,
 }
 
 /// Takes the items of a stream (RFC 8742) that match a specification, up to the first that does not.
@@ -280,6 +292,38 @@ impl<'t> Session<'t> {
         ensures { IsLent self.entry.stopped self.entry result }
     {
         self.rejected
+    }
+
+    // The session that has kept this.
+    pub(crate) fn resumed(alloc: Global, table: &'t Table, steps: u64, rest: Rest) -> Session<'t>
+        requires { AreRest (judge_of table.now steps) rest }
+        ensures { result ≡ progress_of (judge_of table.now steps) rest }
+    {
+        Session {
+            alloc,
+            examiner: Examiner::new(table, steps),
+            reader: rest.reader,
+            count: rest.count,
+            stopped: rest.stopped,
+            rejected: rest.rejected,
+            fed: rest.fed,
+            taken: rest.taken,
+        }
+    }
+
+    // What it keeps beside its specification.
+    pub(crate) fn into_rest(self) -> Rest
+        ensures parts { AreRest self.entry.judge result }
+        ensures same { self.entry ≡ progress_of self.entry.judge result }
+    {
+        Rest {
+            reader: self.reader,
+            count: self.count,
+            stopped: self.stopped,
+            rejected: self.rejected,
+            fed: self.fed,
+            taken: self.taken,
+        }
     }
 
     // Takes the unsigned integers below 24 at the front of the piece that are the next items and are known to be accepted, and

@@ -1,0 +1,100 @@
+-- What the calls answer of a stream that comes in pieces.
+use Rattle.std.specs.Prelude.{◌≡◌, ◌≢◌, ℕ, List, [], length, Bool, true, false, Option, Some, None, Result, Ok, Err}
+use Rattle.std.specs.declared.alloc.AllocError.{AllocError}
+use Rattle.cbor_data.specs.Value.{Value}
+use Rattle.seq_run.specs.Answers.{IsAnswer, IsCount, IsFinish, IsLent, IsStep}
+use Rattle.seq_run.specs.Progress.{Progress}
+use Rattle.seq_run.specs.declared.end.End.{End}
+use Rattle.seq_run.specs.declared.end.End.TheVariants.{Clean, Failed}
+use Rattle.seq_run.specs.declared.end.State.{State}
+use Rattle.seq_run.specs.declared.end.State.TheVariants as state
+use Rattle.seq_run.specs.declared.end.Stopped.{Stopped}
+use Rattle.seq_run.specs.declared.end.Stopped.TheVariants.{Ended, Memory}
+use Rattle.seq_run.specs.declared.session.Step.{Step}
+use Rattle.seq_run.specs.declared.session.Step.TheVariants as step
+use Rattle.cddlseq_c.specs.Answers.{IsPut}
+use Rattle.cddlseq_c.specs.Told.{status_of, told_end}
+use Rattle.cddlseq_c.specs.Wanted.{mismatch_of, notation_at, path_to}
+use Rattle.cddlseq_c.specs.declared.feeding.Shown.{Shown}
+use Rattle.cddlseq_c.specs.declared.feeding.Shown.TheVariants as shown
+use Rattle.cddlseq_c.specs.declared.told.CddlseqEnd.{CddlseqEnd}
+use Rattle.cddlseq_c.specs.declared.told.TheConstants.{OK, FAILED, NO_MEMORY, BAD_WANTED, NO_ROOM, ITEM, ENDED}
+
+-- How many items were taken so far, and how many bytes they have; and no cause.
+pub record IsSoFar (p : Progress) (told : CddlseqEnd) : Type 0 where
+  pub count : IsCount p told.items told.offset
+  pub no_cause : told.cause ≡ 0
+  pub no_place : told.place ≡ 0
+
+-- the status of a stream that takes nothing more
+abbrev pub status_after : End → ℕ
+status_after (Clean items bytes) = ENDED
+status_after (Failed items offset why) = FAILED
+
+-- What is told of a step, which leaves the session so: how many bytes of the piece are done with, and what was taken so far, or the
+-- end. Where memory was refused nothing is told.
+abbrev pub IsStepTold : Result Step AllocError → Progress → List ℕ → ℕ → CddlseqEnd → CddlseqEnd → ℕ → Type 0
+IsStepTold (Ok step.More) now piece used old told status = (status ≡ OK) × (used ≡ length piece) × IsSoFar now told
+IsStepTold (Ok (step.Item n x)) now piece used old told status = (status ≡ ITEM) × (used ≡ n) × IsSoFar now told
+IsStepTold (Ok (step.Ended end)) now piece used old told status = (status ≡ status_after end) × (used ≡ length piece) × (told ≡ told_end end)
+IsStepTold (Err e) now piece used old told status = (status ≡ NO_MEMORY) × (used ≡ 0) × (told ≡ old)
+
+-- What `cddlseq_feed` answers: the session takes a step by the piece, and it is told.
+pub record IsFedTo (before : Progress) (piece : List ℕ) (used : ℕ) (old told : CddlseqEnd) (status : ℕ) : Type 0 where
+  pub answer : Result Step AllocError
+  pub now : Progress
+  pub step : IsStep before.stopped before piece answer now
+  pub is_told : IsStepTold answer now piece used old told status
+
+-- what is told of a piece that was fed whole
+abbrev pub IsStateTold : Result State AllocError → Progress → CddlseqEnd → CddlseqEnd → ℕ → Type 0
+IsStateTold (Ok state.Open) now old told status = (status ≡ OK) × IsSoFar now told
+IsStateTold (Ok (state.Ended end)) now old told status = (status ≡ status_after end) × (told ≡ told_end end)
+IsStateTold (Err e) now old told status = (status ≡ NO_MEMORY) × (told ≡ old)
+
+-- What `cddlseq_feed_all` answers: the session takes the whole piece, and this is told.
+pub record IsFedAll (before : Progress) (piece : List ℕ) (old told : CddlseqEnd) (status : ℕ) : Type 0 where
+  pub answer : Result State AllocError
+  pub now : Progress
+  pub fed : IsAnswer before.stopped before piece answer now
+  pub is_told : IsStateTold answer now old told status
+
+abbrev pub IsFinishTold : Result End AllocError → CddlseqEnd → CddlseqEnd → ℕ → Type 0
+IsFinishTold (Ok end) old told status = (status ≡ status_of end) × (told ≡ told_end end)
+IsFinishTold (Err e) old told status = (status ≡ NO_MEMORY) × (told ≡ old)
+
+-- What `cddlseq_finish` answers: the stream ends, and its end is told; or memory was refused before, and nothing is told.
+pub record IsFinished (before : Progress) (old told : CddlseqEnd) (status : ℕ) : Type 0 where
+  pub answer : Result End AllocError
+  pub now : Progress
+  pub finish : IsFinish before.stopped before answer now
+  pub is_told : IsFinishTold answer old told status
+
+-- the numbers that these have among all that may be wanted
+abbrev pub number_of_shown : Shown → ℕ
+number_of_shown shown.Path = 4
+number_of_shown shown.Notation = 5
+
+-- the place of the mismatch by which a session has ended, if it has
+abbrev pub mismatch_at : Option Stopped → Option ℕ
+mismatch_at (Some (Ended end)) = mismatch_of end
+mismatch_at (Some Memory) = None
+mismatch_at None = None
+
+abbrev pub place_text : Shown → Option ℕ → Option Value → List ℕ
+place_text shown.Path place rejected = path_to place rejected
+place_text shown.Notation place rejected = notation_at place rejected
+
+-- These bytes show the place of the mismatch by which the session has ended, and they are none where it has not.
+pub record IsShownPlace (shown : Shown) (p : Progress) (bytes : List ℕ) : Type 0 where
+  pub rejected : Option Value
+  pub lent : IsLent p.stopped p rejected
+  pub are : bytes ≡ place_text shown (mismatch_at p.stopped) rejected
+
+-- What `cddlseq_show` answers: what is to be shown by the number is written, where there is room for it; or nothing is to be shown
+-- by it; or memory was refused.
+pub data IsShownBy (number : ℕ) (p : Progress) (out_old out_new : List ℕ) (needed : ℕ) : ℕ → Type 0 where
+  shown_put : (shown : Shown) (bytes : List ℕ) → number ≡ number_of_shown shown → IsShownPlace shown p bytes → needed ≡ length bytes → IsPut true bytes out_old out_new → IsShownBy number p out_old out_new needed OK
+  shown_too_long : (shown : Shown) (bytes : List ℕ) → number ≡ number_of_shown shown → IsShownPlace shown p bytes → needed ≡ length bytes → IsPut false bytes out_old out_new → IsShownBy number p out_old out_new needed NO_ROOM
+  none_shown : ((shown : Shown) → number ≢ number_of_shown shown) → needed ≡ 0 → out_new ≡ out_old → IsShownBy number p out_old out_new needed BAD_WANTED
+  not_shown : needed ≡ 0 → out_new ≡ out_old → IsShownBy number p out_old out_new needed NO_MEMORY

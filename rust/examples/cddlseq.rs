@@ -1,0 +1,170 @@
+//! The commands check, validate and rewrite of the program, over the crate. It says what the program says, but for help and misuse,
+//! and reads a stream whole before it writes.
+//!
+//!     cargo run --example cddlseq -- validate SPEC [FILE]
+use cddlseq::{End, Limits, NoMemory, Session, Specification, Step, Unread, Wanted};
+use std::fs::File;
+use std::io::{self, Read, Write};
+use std::process::exit;
+
+const BROKEN: i32 = 3;
+
+/// A longer text is refused. One byte more is read, which tells that.
+const LONGEST_TEXT: u64 = 1_048_577;
+
+/// How many bytes of a stream are fed to a session at once.
+const PIECE: usize = 4096;
+
+struct Words {
+    command: String,
+    names: Vec<String>,
+    root: Option<String>,
+    is_quiet: bool,
+    is_deterministic: bool,
+    limits: Limits,
+}
+
+/// The program ends with this line on standard error, and this status.
+struct Stop(String, i32);
+
+impl From<NoMemory> for Stop {
+    fn from(_: NoMemory) -> Stop {
+        Stop("out of memory\n".to_string(), BROKEN)
+    }
+}
+
+impl From<Unread> for Stop {
+    fn from(why: Unread) -> Stop {
+        let status = if matches!(why, Unread::Refused { .. }) {
+            2
+        } else {
+            BROKEN
+        };
+        Stop(format!("{why}\n"), status)
+    }
+}
+
+fn misuse() -> Stop {
+    Stop(
+        "usage: cddlseq check|validate|rewrite [OPTION..] SPEC [FILE]\n".to_string(),
+        BROKEN,
+    )
+}
+
+fn words_of(mut words: impl Iterator<Item = String>) -> Result<Words, Stop> {
+    let mut into = Words {
+        command: words.next().ok_or_else(misuse)?,
+        names: Vec::new(),
+        root: None,
+        is_quiet: false,
+        is_deterministic: false,
+        limits: Limits::default(),
+    };
+    let mut all_are_names = false;
+    while let Some(word) = words.next() {
+        if all_are_names || word == "-" || !word.starts_with('-') {
+            into.names.push(word);
+            continue;
+        }
+        let (option, value) = match word.split_once('=') {
+            Some((option, value)) => (option.to_string(), Some(value.to_string())),
+            None => (word, None),
+        };
+        match option.as_str() {
+            "--" => all_are_names = true,
+            "--quiet" => into.is_quiet = true,
+            "--deterministic" => into.is_deterministic = true,
+            _ => {
+                let value = value.or_else(|| words.next()).ok_or_else(misuse)?;
+                set_option(&mut into, &option, value)?;
+            }
+        }
+    }
+    Ok(into)
+}
+
+fn set_option(into: &mut Words, option: &str, value: String) -> Result<(), Stop> {
+    match option {
+        "--root" => into.root = Some(value),
+        "--depth" => into.limits.depth = value.parse().map_err(|_| misuse())?,
+        "--item-bytes" => into.limits.item_bytes = value.parse().map_err(|_| misuse())?,
+        "--steps" => into.limits.steps = value.parse().map_err(|_| misuse())?,
+        _ => return Err(misuse()),
+    }
+    Ok(())
+}
+
+/// A name with its control characters as their numbers.
+fn shown(name: &str) -> String {
+    let number = |it: char| format!("\\u{:04x}", it as u32);
+    name.chars()
+        .map(|it| if it.is_control() { number(it) } else { it.to_string() })
+        .collect()
+}
+
+fn read(name: &str, most: u64) -> Result<Vec<u8>, Stop> {
+    let mut bytes = Vec::new();
+    let read = if name == "-" {
+        io::stdin().take(most).read_to_end(&mut bytes)
+    } else {
+        let file = File::open(name);
+        let file = file.map_err(|_| Stop(format!("cannot open {}\n", shown(name)), BROKEN))?;
+        file.take(most).read_to_end(&mut bytes)
+    };
+    match read {
+        Ok(_) => Ok(bytes),
+        Err(_) => Err(Stop(format!("cannot read {}\n", shown(name)), BROKEN)),
+    }
+}
+
+/// Feeds the stream in pieces, item by item.
+fn in_pieces(words: &Words, text: &[u8], stream: &[u8]) -> Result<End, Stop> {
+    let mut session = Session::new(text, words.root.as_deref(), words.limits)?;
+    for piece in stream.chunks(PIECE) {
+        let mut rest = piece;
+        while !rest.is_empty() {
+            match session.feed(rest)? {
+                Step::More => break,
+                Step::Item { used } => rest = &rest[used..],
+                Step::Ended(end) => return Ok(end),
+            }
+        }
+    }
+    Ok(session.finish()?)
+}
+
+fn perform(words: &Words) -> Result<i32, Stop> {
+    let spec = words.names.first().ok_or_else(misuse)?;
+    let text = read(spec, LONGEST_TEXT)?;
+    let mut specification = Specification::new(&text, words.root.as_deref(), words.limits)?;
+    if words.command == "check" {
+        println!("accepted");
+        return Ok(0);
+    }
+    let name = words.names.get(1).map_or("-", |it| it.as_str());
+    let stream = read(name, u64::MAX)?;
+    let wanted = match (words.command.as_str(), words.is_quiet, words.is_deterministic) {
+        ("validate", true, _) => Wanted::EndLine,
+        ("validate", false, _) => Wanted::Report,
+        ("rewrite", _, true) => Wanted::Deterministic,
+        ("rewrite", _, false) => Wanted::Preferred,
+        _ => return Err(misuse()),
+    };
+    let (bytes, end) = specification.write(&stream, wanted)?;
+    if in_pieces(words, &text, &stream)? != end {
+        return Err(Stop("a session says something else\n".to_string(), BROKEN));
+    }
+    let _ = io::stdout().write_all(&bytes).and_then(|()| io::stdout().flush());
+    if words.command == "rewrite" {
+        let _ = io::stderr().write_all(&specification.write(&stream, Wanted::EndLine)?.0);
+    }
+    Ok(i32::from(!end.is_clean()))
+}
+
+fn main() {
+    let told = words_of(std::env::args().skip(1)).and_then(|words| perform(&words));
+    exit(told.unwrap_or_else(|Stop(line, status)| {
+        let _ = io::stderr().write_all(line.as_bytes());
+        status
+    }))
+}

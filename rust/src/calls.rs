@@ -1,0 +1,137 @@
+//! The calls of `include/cddlseq.h`.
+use std::os::raw::c_void;
+
+pub const OK: u32 = 0;
+pub const FAILED: u32 = 1;
+pub const REFUSED: u32 = 2;
+pub const NO_MEMORY: u32 = 3;
+pub const BAD_LIMITS: u32 = 5;
+pub const NO_ROOM: u32 = 8;
+pub const ITEM: u32 = 9;
+pub const ENDED: u32 = 10;
+
+#[repr(C)]
+#[derive(Default)]
+pub struct Refusal {
+    pub code: u32,
+    pub offset: usize,
+}
+
+#[repr(C)]
+#[derive(Clone, Copy, Default)]
+pub struct End {
+    pub items: u64,
+    pub offset: u64,
+    pub cause: u32,
+    pub place: u64,
+}
+
+/// What an item may have.
+#[repr(C)]
+#[derive(Clone, Copy, Debug, PartialEq, Eq)]
+pub struct Limits {
+    /// How many containers may be round a place of it, from 1 to 256.
+    pub depth: u32,
+    /// How many bytes, from 1 to 16,777,216.
+    pub item_bytes: u32,
+    /// How many questions may be asked about it.
+    pub steps: u64,
+}
+
+#[repr(C)]
+#[derive(Clone, Copy)]
+pub struct Handle {
+    pub at: *mut c_void,
+}
+
+type Maker =
+    unsafe extern "C" fn(*const u8, usize, *const u8, usize, *const Limits, *mut Refusal, *mut *mut c_void) -> u32;
+
+/// What a call that makes a handle writes: the handle, or what it answers.
+pub fn make(call: Maker, text: &[u8], root: &str, limits: &Limits) -> Result<Handle, (u32, Refusal)> {
+    let mut refusal = Refusal::default();
+    let mut at = std::ptr::null_mut();
+    // SAFETY: each slice is as long as is said, and what is written to is this function's own.
+    let status = unsafe {
+        call(
+            text.as_ptr(),
+            text.len(),
+            root.as_ptr(),
+            root.len(),
+            limits,
+            &mut refusal,
+            &mut at,
+        )
+    };
+    if status == OK {
+        Ok(Handle { at })
+    } else {
+        Err((status, refusal))
+    }
+}
+
+extern "C" {
+    pub fn cddlseq_open(
+        text: *const u8,
+        text_length: usize,
+        root: *const u8,
+        root_length: usize,
+        limits: *const Limits,
+        refusal: *mut Refusal,
+        at: *mut *mut c_void,
+    ) -> u32;
+    pub fn cddlseq_validate_by(
+        handle: Handle,
+        stream: *const u8,
+        stream_length: usize,
+        end: *mut End,
+        back: *mut *mut c_void,
+    ) -> u32;
+    pub fn cddlseq_write_by(
+        handle: Handle,
+        stream: *const u8,
+        stream_length: usize,
+        wanted: u32,
+        end: *mut End,
+        buffer: *mut u8,
+        buffer_length: usize,
+        needed: *mut usize,
+        back: *mut *mut c_void,
+    ) -> u32;
+    pub fn cddlseq_close(handle: Handle);
+    pub fn cddlseq_begin(
+        text: *const u8,
+        text_length: usize,
+        root: *const u8,
+        root_length: usize,
+        limits: *const Limits,
+        refusal: *mut Refusal,
+        at: *mut *mut c_void,
+    ) -> u32;
+    pub fn cddlseq_feed(
+        session: Handle,
+        piece: *const u8,
+        piece_length: usize,
+        used: *mut usize,
+        end: *mut End,
+        back: *mut *mut c_void,
+    ) -> u32;
+    pub fn cddlseq_feed_all(
+        session: Handle,
+        piece: *const u8,
+        piece_length: usize,
+        end: *mut End,
+        back: *mut *mut c_void,
+    ) -> u32;
+    pub fn cddlseq_finish(session: Handle, end: *mut End, back: *mut *mut c_void) -> u32;
+    pub fn cddlseq_show(
+        session: Handle,
+        wanted: u32,
+        buffer: *mut u8,
+        buffer_length: usize,
+        needed: *mut usize,
+        back: *mut *mut c_void,
+    ) -> u32;
+    pub fn cddlseq_restart(session: Handle, back: *mut *mut c_void);
+    pub fn cddlseq_discard(session: Handle);
+}

@@ -1,0 +1,46 @@
+//! Validates sequences of CBOR items (RFC 8742) against specifications in CDDL (RFC 8610), by the library libcddlseq, whose calls are
+//! proved. These bindings are not: they are tested.
+//!
+//! ```
+//! use cddlseq::{Cause, Limits, Specification, Step, Session};
+//!
+//! let text = "reading = [time: uint, value: int]";
+//! let mut specification = Specification::new(text, None, Limits::default())?;
+//! let end = specification.validate(&[0x82, 0x01, 0x03, 0x82, 0x02, 0x60])?;
+//! assert_eq!((end.items, end.offset, end.cause), (1, 3, Some(Cause::Mismatch(2))));
+//! assert_eq!(specification.rewrite(&[0x9f, 0x18, 0x01, 0x03, 0xff])?.0, [0x82, 0x01, 0x03]);
+//!
+//! let mut session = Session::new(text, None, Limits::default())?;
+//! assert_eq!(session.feed(&[0x82, 0x01])?, Step::More);
+//! assert_eq!(session.feed(&[0x03, 0x82])?, Step::Item { used: 1 });
+//! # Ok::<(), Box<dyn std::error::Error>>(())
+//! ```
+mod calls;
+mod session;
+mod specification;
+mod told;
+
+pub use crate::calls::Limits;
+pub use crate::session::Session;
+pub use crate::specification::Specification;
+pub use crate::told::{Cause, End, Fault, NoMemory, Step, Unread, Wanted};
+
+impl Default for Limits {
+    /// Those of the program.
+    fn default() -> Limits {
+        Limits {
+            depth: 256,
+            item_bytes: 16_777_216,
+            steps: 10_000_000,
+        }
+    }
+}
+
+/// The library takes no bytes for no root. No rule has a name of no letters, nor one of a space.
+fn root_of(root: Option<&str>) -> &str {
+    match root {
+        None => "",
+        Some("") => " ",
+        Some(name) => name,
+    }
+}

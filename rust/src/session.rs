@@ -1,0 +1,137 @@
+//! A stream that comes in pieces.
+use crate::calls::{self, Handle};
+use crate::root_of;
+use crate::told::{End, NoMemory, Step, Unread, Wanted};
+use crate::Limits;
+
+/// A stream that comes in pieces, with its specification. It stays on the thread that began it.
+pub struct Session {
+    handle: Handle,
+    told: calls::End,
+}
+
+impl Session {
+    /// Reads a text, whose root is the rule of this name, or else the first one, and begins a stream.
+    pub fn new(text: impl AsRef<[u8]>, root: Option<&str>, limits: Limits) -> Result<Session, Unread> {
+        match calls::make(calls::cddlseq_begin, text.as_ref(), root_of(root), &limits) {
+            Ok(handle) => Ok(Session {
+                handle,
+                told: calls::End::default(),
+            }),
+            Err((status, refusal)) => Err(Unread::of(status, &refusal)),
+        }
+    }
+
+    /// Takes the next piece of the stream, up to the end of an item that it completes.
+    pub fn feed(&mut self, piece: &[u8]) -> Result<Step, NoMemory> {
+        let mut used = 0;
+        // SAFETY: the handle is one that came back from the last call, and `&mut self` gives it to one call at a time.
+        let status = unsafe {
+            calls::cddlseq_feed(
+                self.handle,
+                piece.as_ptr(),
+                piece.len(),
+                &mut used,
+                &mut self.told,
+                &mut self.handle.at,
+            )
+        };
+        match status {
+            calls::OK => Ok(Step::More),
+            calls::ITEM => Ok(Step::Item { used }),
+            _ => self.ended(status).map(Step::Ended),
+        }
+    }
+
+    /// Takes the next piece whole, and says how the stream ends, if that is known now.
+    pub fn feed_all(&mut self, piece: &[u8]) -> Result<Option<End>, NoMemory> {
+        // SAFETY: as in `feed`.
+        let status = unsafe {
+            calls::cddlseq_feed_all(
+                self.handle,
+                piece.as_ptr(),
+                piece.len(),
+                &mut self.told,
+                &mut self.handle.at,
+            )
+        };
+        match status {
+            calls::OK => Ok(None),
+            _ => self.ended(status).map(Some),
+        }
+    }
+
+    /// Ends the stream, and says how it ends.
+    pub fn finish(&mut self) -> Result<End, NoMemory> {
+        // SAFETY: as in `feed`.
+        let status = unsafe { calls::cddlseq_finish(self.handle, &mut self.told, &mut self.handle.at) };
+        match status {
+            calls::OK => Ok(End::of(&self.told)),
+            _ => self.ended(status),
+        }
+    }
+
+    /// How many items match so far, and how many bytes these have in the stream.
+    pub fn taken(&self) -> (u64, u64) {
+        (self.told.items, self.told.offset)
+    }
+
+    /// The path of the place of the mismatch by which the stream has failed; nothing of another stream.
+    pub fn path(&mut self) -> Result<String, NoMemory> {
+        self.show(Wanted::Path)
+    }
+
+    /// What is there, in diagnostic notation.
+    pub fn notation(&mut self) -> Result<String, NoMemory> {
+        self.show(Wanted::Notation)
+    }
+
+    /// Begins another stream by the same specification, whatever has come of the one before.
+    pub fn restart(&mut self) {
+        self.told = calls::End::default();
+        // SAFETY: as in `feed`.
+        unsafe { calls::cddlseq_restart(self.handle, &mut self.handle.at) }
+    }
+
+    fn show(&mut self, wanted: Wanted) -> Result<String, NoMemory> {
+        let mut buffer = vec![0; 256];
+        loop {
+            let mut needed = 0;
+            // SAFETY: as in `feed`; and the buffer is as long as is said.
+            let status = unsafe {
+                calls::cddlseq_show(
+                    self.handle,
+                    wanted as u32,
+                    buffer.as_mut_ptr(),
+                    buffer.len(),
+                    &mut needed,
+                    &mut self.handle.at,
+                )
+            };
+            match status {
+                calls::OK => {
+                    buffer.truncate(needed);
+                    return Ok(String::from_utf8(buffer).expect("paths and notations are text"));
+                }
+                calls::NO_ROOM => buffer.resize(needed, 0),
+                _ => return Err(NoMemory),
+            }
+        }
+    }
+
+    /// What a status without an item says.
+    fn ended(&self, status: u32) -> Result<End, NoMemory> {
+        match status {
+            calls::FAILED | calls::ENDED => Ok(End::of(&self.told)),
+            calls::NO_MEMORY => Err(NoMemory),
+            _ => unreachable!("libcddlseq answers {status}"),
+        }
+    }
+}
+
+impl Drop for Session {
+    fn drop(&mut self) {
+        // SAFETY: the handle is one that came back from the last call, and goes to no other.
+        unsafe { calls::cddlseq_discard(self.handle) }
+    }
+}
