@@ -1,15 +1,19 @@
 //! What byte strings hold.
 
-ghost use Rattle.std.specs.Prelude.{◌≡◌, IfOk, List, [], ◌∷◌, map, MatchOption};
-ghost use Rattle.cbor_data.specs.Value.{Value};
+ghost use Rattle.std.specs.Prelude.{◌≡◌, IfOk, IfSome, List, [], ◌∷◌, map, MatchOption};
+ghost use Rattle.cbor_data.specs.Value.{Value, bytes as bytes_value};
 ghost use Rattle.item_nodes.specs.View.{view};
 ghost use Rattle.cddl_meaning.specs.Held.{Holds};
 ghost use Rattle.table_nodes.specs.Nodes.{content_view};
 
 use cbor_item::{Item, Sound};
 use cbor_read::{embedded, embedded_item};
+use read_items::whole::argument_at;
 use std::alloc::{AllocError, Global};
 use table_nodes::Content;
+
+// The major type of byte strings (RFC 8949 section 3.1).
+const BYTES: u8 = 2;
 
 // The same items.
 fn plain_items(alloc: Global, items: Vec<Sound>) -> Result<Vec<Item>, AllocError>
@@ -44,4 +48,22 @@ pub(crate) fn held_in(
             Ok(Some(Item::Array(plain_items(alloc, items)?)))
         }
     }
+}
+
+// The bytes of the byte string that is all that a byte string of these bytes holds, if its length stands in its head. They
+// are there already, and take no memory.
+pub(crate) fn string_in(content: Content, bytes: &[u8]) -> Option<&[u8]>
+    ensures { IfSome result (λ string. Holds (content_view content) bytes.now (bytes_value string.now)) }
+{
+    let Content::OneItem = content else {
+        return None;
+    };
+    if bytes.is_empty() || bytes[0] / 32 != BYTES {
+        return None;
+    }
+    let (length, start) = argument_at(bytes, 0);
+    if start == 0 || length != (bytes.len() - start) as u64 {
+        return None;
+    }
+    Some(&bytes[start..])
 }

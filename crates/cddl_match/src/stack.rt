@@ -2,12 +2,11 @@
 
 ghost use Rattle.std.specs.Prelude.{◌≡◌, ◌⊎◌, ◌<◌, ◌≤◌, ℕ, [], true, IfOk, OnErr, MatchOption, vec_capacity, vec_len};
 ghost use Rattle.cbor_data.specs.Value.{Value};
-ghost use Rattle.item_nodes.specs.View.{view};
 ghost use Rattle.cddl_meaning.specs.Forms.{Language};
 ghost use Rattle.cddl_meaning.specs.Held.{Holds};
 ghost use Rattle.cddl_meaning.specs.Moves as M;
 ghost use Rattle.cddl_match.specs.Machine.{Finds, FindsAt, Goes, GoesFrom, IsKept, NeedsMore, asked_in, asks_in, found_in, is_alternative, next_in};
-ghost use Rattle.match_moves.specs.Views.{move_view, pending_view, question_view, reading_move, reply_view, sorting_view};
+ghost use Rattle.match_moves.specs.Views.{move_view, pending_view, question_view, reading_move, reply_view, sorting_view, subject_view};
 ghost use Rattle.match_moves.specs.declared.questions.Reply as R;
 ghost use Rattle.match_moves.specs.declared.questions.Sorting as C;
 ghost use Rattle.table_nodes.specs.Language.{language_of};
@@ -15,9 +14,8 @@ ghost use Rattle.table_nodes.specs.Nodes.{content_view};
 ghost use Rattle.table_nodes.specs.declared.nodes.GroupId.{GroupId};
 ghost use Rattle.table_nodes.specs.declared.nodes.TypeId.{TypeId};
 
-use crate::reading::held_in;
+use crate::reading::{held_in, string_in};
 use crate::shelf::Shelf;
-use cbor_item::Item;
 use history::History;
 use match_moves::{
     Move, Pending, PendingType, Question, Reading, Reply, Subject, alternative_move,
@@ -208,18 +206,25 @@ fn ask<'t, 'i>(
     Turned::GoesOn
 }
 
-// What a byte string holds, put on the shelf, if it holds something.
+// What a byte string holds, if it holds something. A string that is all it holds stays where it is, and else that is put on
+// the shelf.
 //
 // # Errors
 //
 // `AllocError` where there is no memory for it.
-fn held_on<'i>(shelf: &mut Shelf<'i>, reading: Reading<'i>) -> Result<Option<&'i Item>, AllocError>
-    ensures { IfOk result (λ held. MatchOption held ((y : Value) → Holds (content_view reading.entry.content) reading.entry.bytes.now y → ⊥) (λ item. Holds (content_view reading.entry.content) reading.entry.bytes.now (view item.now))) }
+fn held_on<'i>(
+    shelf: &mut Shelf<'i>,
+    reading: Reading<'i>,
+) -> Result<Option<Subject<'i>>, AllocError>
+    ensures { IfOk result (λ held. MatchOption held ((y : Value) → Holds (content_view reading.entry.content) reading.entry.bytes.now y → ⊥) (λ subject. Holds (content_view reading.entry.content) reading.entry.bytes.now (subject_view subject))) }
 {
+    if let Some(string) = string_in(reading.content, reading.bytes) {
+        return Ok(Some(Subject::Bytes(string)));
+    }
     let Some(item) = held_in(shelf.alloc, reading.content, reading.bytes)? else {
         return Ok(None);
     };
-    Ok(Some(shelf.keep(item)?))
+    Ok(Some(Subject::Item(shelf.keep(item)?)))
 }
 
 // A byte string is read, and a type is asked of what it holds; if it holds nothing, that is the last question's reply. There
@@ -247,8 +252,8 @@ fn read<'t, 'i>(
         next,
         ..
     } = reading;
-    let item = match held_on(shelf, reading) {
-        Ok(Some(item)) => item,
+    let subject = match held_on(shelf, reading) {
+        Ok(Some(subject)) => subject,
         Ok(None) => return reply_to_last(run, Reply::Fails { far: place }),
         Err(_) => return Turned::NoMemory,
     };
@@ -262,7 +267,7 @@ fn read<'t, 'i>(
     let question = Question::OfType {
         node,
         place: 0,
-        subject: Subject::Item(item),
+        subject,
     };
     ask(shelf.alloc, table, run, question, steps)
 }

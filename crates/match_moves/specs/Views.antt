@@ -1,6 +1,6 @@
 -- What the code's questions, replies and frames stand for.
 use Rattle.std.specs.Prelude.{ℕ, List, map, take, nat_le, if◌then◌else◌}
-use Rattle.cbor_data.specs.Value.{Value, uint, place_count}
+use Rattle.cbor_data.specs.Value.{Value, uint, bytes, place_count}
 use Rattle.item_nodes.specs.View.{pairs_view, view}
 use Rattle.item_nodes.specs.declared.item.Item.{Item}
 use Rattle.cddl_meaning.specs.Judges as J
@@ -39,10 +39,11 @@ use Rattle.match_moves.specs.declared.questions.Move.TheVariants.{Answered, Asks
 abbrev pub values : List Item → List Value
 values xs = map view xs
 
--- The number of a tag or of a simple value is asked about as an unsigned item.
+-- The number of a tag or of a simple value is asked about as an unsigned item, and bytes in a byte string as a string.
 abbrev pub subject_view : Subject → Value
 subject_view (S.Item i) = view i.now
 subject_view (S.Number n) = uint n
+subject_view (S.Bytes b) = bytes b.now
 
 -- counts, those of few entries and those of more
 abbrev pub counts_view : Counts → List ℕ

@@ -135,16 +135,18 @@ fn read_move<'t, 'i>(
 ) -> Move<'t, 'i>
     ensures { (o : M.Pending TypeId GroupId) → move_view result o ≡ read_move (content_view content) node place next (bytes_in (subject_view subject.entry)) }
 {
-    match subject {
-        Subject::Item(Item::Bytes(bytes)) => Move::Reads(Reading {
-            content,
-            bytes,
-            node,
-            place,
-            next,
-        }),
-        _ => Move::Answered(Reply::Fails { far: place }),
-    }
+    let bytes = match subject {
+        Subject::Item(Item::Bytes(bytes)) => bytes.as_slice(),
+        Subject::Bytes(bytes) => bytes,
+        _ => return Move::Answered(Reply::Fails { far: place }),
+    };
+    Move::Reads(Reading {
+        content,
+        bytes,
+        node,
+        place,
+        next,
+    })
 }
 
 // A byte string's own type has said yes, and what the string holds is asked about; or it has said no.

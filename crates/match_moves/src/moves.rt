@@ -52,14 +52,14 @@ use item_nodes::Item;
 use std::mem;
 use table_nodes::{Group, GroupId, Most, Node, Table, TagNumber, Test, TypeId};
 
-// The place after an item, or after one whose number is asked about.
+// The place after an item, after one whose number is asked about, or after a byte string.
 #[inline]
 pub(crate) fn place_behind(place: usize, subject: Subject<'_>) -> usize
     ensures { result ≡ M.plus place (place_count (subject_view subject.entry)) }
 {
     match subject {
         Subject::Item(item) => place_after(item, place),
-        Subject::Number(_) => plus(place, 1),
+        Subject::Number(_) | Subject::Bytes(_) => plus(place, 1),
     }
 }
 

@@ -1,7 +1,8 @@
 //! Tests of an item by itself.
 
 ghost use Rattle.std.specs.Prelude.{◌≡◌};
-ghost use Rattle.cbor_data.specs.Same.{same_value};
+ghost use Rattle.cbor_data.specs.Same.{same_list, same_value};
+ghost use Rattle.cbor_data.specs.Value.{bytes as bytes_value};
 ghost use Rattle.item_nodes.specs.View.{view};
 ghost use Rattle.cddl_meaning.specs.Forms.{has_size, is_below, is_float, is_simple, is_up_to, major_of, passes};
 ghost use Rattle.match_moves.specs.Views.{subject_view};
@@ -126,6 +127,23 @@ fn is_equal(item: &Item, literal: &Item) -> bool
     }
 }
 
+// Whether these are the same bytes.
+fn are_same(some: &[u8], others: &[u8]) -> bool
+    ensures { result ≡ same_list some.now others.now }
+{
+    some == others
+}
+
+// Whether a literal is the byte string of these bytes.
+fn is_string(literal: &Item, bytes: &[u8]) -> bool
+    ensures { result ≡ same_value (bytes_value bytes.now) (view literal.now) }
+{
+    match literal {
+        Item::Bytes(string) => are_same(bytes, string.as_slice()),
+        _ => false,
+    }
+}
+
 /// Whether an item passes a test. The common ones are asked where this is called.
 #[inline(always)]
 pub fn passes(test: &Test, item: &Item) -> bool
@@ -156,7 +174,28 @@ pub fn passes(test: &Test, item: &Item) -> bool
     }
 }
 
-/// Whether an item, or a number as an unsigned item, passes a test.
+// Whether a byte string of these bytes passes a test.
+#[inline(never)]
+fn string_passes(test: &Test, bytes: &[u8]) -> bool
+    ensures { result ≡ passes (test_view test.now) (bytes_value bytes.now) }
+{
+    match test {
+        Test::Anything => true,
+        Test::Major(major) => *major == 2,
+        Test::Equals(literal) => is_string(literal, bytes),
+        Test::Differs(literal) => !is_string(literal, bytes),
+        Test::Sized(sizes) => sizes.has(bytes.len() as u64),
+        Test::Simple(_)
+        | Test::Float(_)
+        | Test::Between { .. }
+        | Test::Less(_)
+        | Test::AtMost(_)
+        | Test::Greater(_)
+        | Test::AtLeast(_) => false,
+    }
+}
+
+/// Whether an item, a number as an unsigned item, or a byte string of these bytes passes a test.
 #[inline]
 pub fn passes_test(test: &Test, subject: Subject<'_>) -> bool
     ensures { result ≡ passes (test_view test.now) (subject_view subject.entry) }
@@ -164,5 +203,6 @@ pub fn passes_test(test: &Test, subject: Subject<'_>) -> bool
     match subject {
         Subject::Item(item) => passes(test, item),
         Subject::Number(number) => passes(test, &Item::Uint(number)),
+        Subject::Bytes(bytes) => string_passes(test, bytes),
     }
 }

@@ -1,10 +1,9 @@
 use Rattle.std.proofs.Common.{◌≡◌, ◌+◌, ◌-◌, inl, length, refl, take, sym, ap, ◌∙◌, arith}
 use Rattle.std.specs.Vec.{with_item}
-use Rattle.item_nodes.specs.View.{view}
 use Rattle.cddl_meaning.specs.Judges.{Fails}
 use Rattle.cddl_meaning.specs.Moves as M
 use Rattle.cddl_match.specs.Machine.{asked_in, asks_in, found_in}
-use Rattle.match_moves.specs.Views.{reading_move}
+use Rattle.match_moves.specs.Views.{reading_move, subject_view}
 use Rattle.match_moves.specs.declared.questions.Pending.TheVariants as P
 use Rattle.match_moves.specs.declared.questions.PendingType.TheVariants as T
 use Rattle.cddl_match.specs.declared.stack.Run.{Run}
@@ -37,7 +36,7 @@ returns-clause-goes c = λ e first at within.
     let held = rw c.in-Ok-Some.field-0-is at c.in-Ok-Some.ensures in
     let there = last_there xs k v many c.index_mut-last.ensures.value in
     let written = last_written xs k u many in
-    let now = read_on l first c.args.run.now.taken xs _ (take k xs) v u (content_view r.content) r.bytes.now r.node r.place r.next (view c.in-Ok-Some.item.now) held there written refl refl at in
+    let now = read_on l first c.args.run.now.taken xs _ (take k xs) v u (content_view r.content) r.bytes.now r.node r.place r.next (subject_view c.in-Ok-Some.subject) held there written refl refl at in
     step_of l first c.args.steps _ _ _ refl (ap asked_in written ∙ same_asked (take k xs) v u refl ∙ sym (ap asked_in there)) (c.ask.ensures.goes e first now within)
 
 pub returns-clause-finds : goal.returns-clause-finds
@@ -53,7 +52,7 @@ returns-clause-finds c =
     let there = last_there xs k v many c.index_mut-last.ensures.value in
     let written = last_written xs k u many in
     let mid : Run = record { waiting = with_item c.args.run.now.waiting k u; next = c.args.run.now.next; taken = c.args.run.now.taken; owed = c.args.run.now.owed } in
-    found_from l c.args.steps c.args.run.now mid (asks_in mid (M.OfType r.node 0 (view c.in-Ok-Some.item.now))) (reading_move r) (found_in c.ask.result c.ask.new.run.next) refl (λ first at. read_on l first c.args.run.now.taken xs _ (take k xs) v u (content_view r.content) r.bytes.now r.node r.place r.next (view c.in-Ok-Some.item.now) held there written refl refl at) c.ask.ensures.finds
+    found_from l c.args.steps c.args.run.now mid (asks_in mid (M.OfType r.node 0 (subject_view c.in-Ok-Some.subject))) (reading_move r) (found_in c.ask.result c.ask.new.run.next) refl (λ first at. read_on l first c.args.run.now.taken xs _ (take k xs) v u (content_view r.content) r.bytes.now r.node r.place r.next (subject_view c.in-Ok-Some.subject) held there written refl refl at) c.ask.ensures.finds
 
 pub returns-clause-kept : goal.returns-clause-kept
 returns-clause-kept c = λ e.
