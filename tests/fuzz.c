@@ -1,6 +1,7 @@
 // For libFuzzer: of a text and a stream the library has to answer what the program prints, and a session what is said of the stream whole.
 // An input is the text, a byte 0, and the stream. CDDLSEQ_PROGRAM names the program, and CDDLSEQ_WORK a folder for files.
 #include "cddlseq.h"
+#include <errno.h>
 #include <fcntl.h>
 #include <spawn.h>
 #include <stdio.h>
@@ -71,8 +72,17 @@ static int run_program(uint8_t **printed, size_t *length) {
     posix_spawn_file_actions_init(&actions);
     posix_spawn_file_actions_addopen(&actions, 1, out_file, O_WRONLY | O_CREAT | O_TRUNC, 0600);
     posix_spawn_file_actions_adddup2(&actions, 1, 2);
-    if (posix_spawn(&child, program, &actions, NULL, words, environ) || waitpid(child, &status, 0) < 0 || !WIFEXITED(status)) {
-        stop("the program does not run to its end");
+    if (posix_spawn(&child, program, &actions, NULL, words, environ)) {
+        stop("the program does not start");
+    }
+    // libFuzzer's own timer may break a wait off.
+    while (waitpid(child, &status, 0) < 0) {
+        if (errno != EINTR) {
+            stop("the program is lost");
+        }
+    }
+    if (!WIFEXITED(status)) {
+        stop("the program is ended by a signal");
     }
     posix_spawn_file_actions_destroy(&actions);
     FILE *file = fopen(out_file, "rb");
