@@ -5,7 +5,7 @@ use Rattle.alternatives.specs.declared.Bounds.{Bounds}
 use Rattle.alternatives.specs.declared.Part.{Part}
 use Rattle.alternatives.specs.declared.Part.TheVariants.{Refused, Entry, Empty, Nothing, Same, Both, Either, Occurs}
 use Rattle.alternatives.specs.declared.summary.Summary.{Summary}
-use Rattle.alternatives.specs.Splices.{Alternatives, occurring, StandsFor, stands}
+use Rattle.alternatives.specs.Splices.{Alternatives, occurring, HasAlternatives, stands}
 use Rattle.alternatives.specs.Summaries.{Describes, IsSummary, AreSummaries, AreTooMany, OccursBadly, never, not_so}
 use Rattle.alternatives.specs.Search.{at, bad, no_summary, occurring_summary, refuses}
 use Rattle.alternatives.proofs.Once.{same_some, once}
@@ -44,7 +44,7 @@ module _ (parts : List Part) (ss : List (Option Summary)) (are : AreSummaries pa
     | inr l ↦ subst (IsSummary parts a) (sym (read_past ss a None l)) (past a l)
   ]
     where
-      past : (a : ℕ) → length ss ≤ a → (mss : Alternatives) → StandsFor parts a mss → ⊥
+      past : (a : ℕ) → length ss ≤ a → (mss : Alternatives) → HasAlternatives parts a mss → ⊥
       past a l mss (stands {p = p} e d) = let k = within parts a p e in let all = are.all in omega (arith, l, k, all)
 
   module _ (n : ℕ) (b : Bounds) (a : ℕ) (there : slice_get parts n ≡ Some (Occurs b a)) where
@@ -64,16 +64,16 @@ module _ (parts : List Part) (ss : List (Option Summary)) (are : AreSummaries pa
     refused (Some s) h (not_so c d mss e k f) =
         let c_is : c ≡ b = cc (one_occurs c d e) in
         let d_is : d ≡ a = cc (one_occurs c d e) in
-        let same : mss ≡ h.alternatives = once parts (subst (λ m. StandsFor parts m mss) d_is k) h.stands_for in
+        let same : mss ≡ h.alternatives = once parts (subst (λ m. HasAlternatives parts m mss) d_is k) h.stands_for in
         none_for h.alternatives s h.described (subst (λ ks. occurring b.least b.most ks ≡ None) same (subst (λ (k : Bounds). occurring k.least k.most mss ≡ None) c_is f))
     refused None h (not_so c d mss e k f) =
         let d_is : d ≡ a = cc (one_occurs c d e) in
-        absurd (h mss (subst (λ m. StandsFor parts m mss) d_is k))
+        absurd (h mss (subst (λ m. HasAlternatives parts m mss) d_is k))
 
     pub is_refused : (refuses b (at ss a) ≡ true) ↔ OccursBadly parts n
     is_refused = (badly (at ss a) (at_is a), refused (at ss a) (at_is a))
 
-  pub described : (n : ℕ) (mss : Alternatives) → StandsFor parts n mss → (s : Summary) × (slice_get ss n ≡ Some (Some s)) × Describes mss s
+  pub described : (n : ℕ) (mss : Alternatives) → HasAlternatives parts n mss → (s : Summary) × (slice_get ss n ≡ Some (Some s)) × Describes mss s
   described n mss (stands {p = p} e d) =
       let all = are.all in
       let o = there_is ss n (let l = within parts n p e in omega (arith, l, all)) in

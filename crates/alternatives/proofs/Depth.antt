@@ -2,7 +2,7 @@
 use Rattle.std.proofs.Common.{◌≡◌, ◌⊎◌, ℕ, zero, suc, ◌+◌, ◌<◌, ◌≤◌, List, [], ◌∷◌, length, set, replicate, Bool, true, false, inl, inr, slice_index_or, refl, sym, ap, subst, ◌∙◌, arith}
 use Rattle.lists.proofs.Lemmas.{replicate_length, there as there_is, within}
 use Rattle.alternatives.specs.declared.Part.{Part}
-use Rattle.alternatives.specs.Splices.{Alternatives, StandsFor, stands, Splices, entry, empty, nothing, same, both, either, occurs, LeadsTo, Has, has_same, has_first, has_second, has_one, has_other, has_group}
+use Rattle.alternatives.specs.Splices.{Alternatives, HasAlternatives, stands, Splices, entry, empty, nothing, same, both, either, occurs, LeadsTo, Has, has_same, has_first, has_second, has_one, has_other, has_group}
 use Rattle.alternatives.specs.Search.{LeadsOn, leads, count_unseen}
 use Rattle.alternatives.specs.Building.{Ends}
 use Rattle.alternatives.proofs.Once.{splices_at, join_to, no_round}
@@ -52,7 +52,7 @@ few limit xs h = let k = counted limit xs h in omega (arith, k)
 module _ (parts : List Part) where
   pub record Stands (n : ℕ) : Type 0 where
     pub alternatives : Alternatives
-    pub stands_for : StandsFor parts n alternatives
+    pub stands_for : HasAlternatives parts n alternatives
 
   inner : {n : ℕ} {p : Part} {mss : Alternatives} → Splices parts n p mss → (c : ℕ) → Has p c → Stands c
   inner entry c h = elim h [ ]
@@ -71,7 +71,7 @@ module _ (parts : List Part) where
   is_within : (n : ℕ) → Stands n → n < length parts
   is_within n s = by s.stands_for
     where
-      by : {mss : Alternatives} → StandsFor parts n mss → n < length parts
+      by : {mss : Alternatives} → HasAlternatives parts n mss → n < length parts
       by (stands {p = p} e d) = within parts n p e
 
   ends : (k n : ℕ) (above : List ℕ) → Stands n → AreApart (length parts) (n ∷ above) → ((a : ℕ) → In above a → LeadsOn parts a n) → length parts ≤ length above + k → Ends parts k n
@@ -82,7 +82,7 @@ module _ (parts : List Part) where
       comes_to c t a (inl e) = leads (subst (λ m. LeadsTo parts m c) e t)
       comes_to c t a (inr i) = join_to parts (f a i) t
 
-  pub all_end : (n : ℕ) (mss : Alternatives) → StandsFor parts n mss → Ends parts (length parts) n
+  pub all_end : (n : ℕ) (mss : Alternatives) → HasAlternatives parts n mss → Ends parts (length parts) n
   all_end n mss d =
       let s : Stands n = record { alternatives = mss; stands_for = d } in
       ends (length parts) n [] s (is_within n s, (λ i. i), tt) (λ a i. absurd i) (omega arith)

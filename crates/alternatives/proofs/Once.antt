@@ -1,7 +1,7 @@
 -- A part stands for one list of alternatives at most, and for none where it comes back to itself.
 use Rattle.std.proofs.Common.{◌≡◌, ℕ, List, ◌++◌, Some, refl, sym, ap, subst, ◌∙◌, slice_get}
 use Rattle.alternatives.specs.declared.Part.{Part}
-use Rattle.alternatives.specs.Splices.{Alternatives, ways, occurring, StandsFor, stands, Splices, entry, empty, nothing, same, both, either, occurs, Has, has_same, has_first, has_second, has_one, has_other, has_group, LeadsTo}
+use Rattle.alternatives.specs.Splices.{Alternatives, ways, occurring, HasAlternatives, stands, Splices, entry, empty, nothing, same, both, either, occurs, Has, has_same, has_first, has_second, has_one, has_other, has_group, LeadsTo}
 use Rattle.alternatives.specs.Search.{LeadsOn, leads, leads_on}
 
 pub same_some : {A : Type 0} (x y : A) → Some x ≡ Some y → x ≡ y
@@ -12,7 +12,7 @@ same_both f e g = cc
 
 module _ (parts : List Part) where
   mutual
-    pub once : {n : ℕ} {mss nss : Alternatives} → StandsFor parts n mss → StandsFor parts n nss → mss ≡ nss
+    pub once : {n : ℕ} {mss nss : Alternatives} → HasAlternatives parts n mss → HasAlternatives parts n nss → mss ≡ nss
     once {n = n} {nss = nss} (stands {p = p} e d) (stands {p = q} f g) = once_part d (subst (λ r. Splices parts n r nss) (same_some q p (sym f ∙ e)) g)
 
     once_part : {n : ℕ} {p : Part} {mss nss : Alternatives} → Splices parts n p mss → Splices parts n p nss → mss ≡ nss
@@ -24,7 +24,7 @@ module _ (parts : List Part) where
     once_part (either d f) (either e g) = same_both (λ u v. u ++ v) (once d e) (once f g)
     once_part (occurs {b = b} {mss = mss} {nss = nss} d h) (occurs {nss = kss} e i) = same_some nss kss (sym h ∙ (ap (occurring b.least b.most) (once d e) ∙ i))
 
-  pub splices_at : {n : ℕ} {mss : Alternatives} (p : Part) → StandsFor parts n mss → slice_get parts n ≡ Some p → Splices parts n p mss
+  pub splices_at : {n : ℕ} {mss : Alternatives} (p : Part) → HasAlternatives parts n mss → slice_get parts n ≡ Some p → Splices parts n p mss
   splices_at {n = n} {mss = mss} p (stands {p = q} e d) f = subst (λ r. Splices parts n r mss) (same_some q p (sym e ∙ f)) d
 
   pub join_to : {x y z : ℕ} → LeadsOn parts x y → LeadsTo parts y z → LeadsOn parts x z
@@ -42,7 +42,7 @@ module _ (parts : List Part) where
   goes_round p e (leads_on {y = y} t k) = record { next = y; has = subst (λ r. Has r y) (same_some t.part p (sym t.there ∙ e)) t.has; round = join_to k t }
 
   mutual
-    pub no_round : {n : ℕ} {mss : Alternatives} → StandsFor parts n mss → LeadsOn parts n n → ⊥
+    pub no_round : {n : ℕ} {mss : Alternatives} → HasAlternatives parts n mss → LeadsOn parts n n → ⊥
     no_round (stands {p = p} e d) l = let g = goes_round p e l in no_round_part d g.next g.has g.round
 
     no_round_part : {n : ℕ} {p : Part} {mss : Alternatives} → Splices parts n p mss → (c : ℕ) → Has p c → LeadsOn parts c c → ⊥

@@ -6,7 +6,7 @@ use Rattle.alternatives.specs.declared.Bounds.{Bounds}
 use Rattle.alternatives.specs.declared.Part.{Part}
 use Rattle.alternatives.specs.declared.Part.TheVariants.{Refused, Entry, Empty, Nothing, Same, Both, Either, Occurs}
 use Rattle.alternatives.specs.declared.summary.Summary.{Summary}
-use Rattle.alternatives.specs.Splices.{Alternatives, ways, occurring, StandsFor, stands, Splices, entry, empty, nothing, same, both, either, occurs, Has, has_same, has_first, has_second, has_one, has_other, has_group, LeadsTo}
+use Rattle.alternatives.specs.Splices.{Alternatives, ways, occurring, HasAlternatives, stands, Splices, entry, empty, nothing, same, both, either, occurs, Has, has_same, has_first, has_second, has_one, has_other, has_group, LeadsTo}
 use Rattle.alternatives.specs.Summaries.{IsSummary, AreSummaries}
 use Rattle.alternatives.specs.Search.{State, LeadsOn, leads, leads_on, IsOnPath, IsKept, IsEnded, Keeps, unseen, or_else, next_of, entered, left, at, value, joining, occurring_so, both_summary, either_summary, gap}
 use Rattle.alternatives.proofs.Once.{same_some, splices_at, join_to, no_round, once}
@@ -69,42 +69,42 @@ all_seen seen (Occurs o a) e c has_group = is_seen seen a e
 -- the summary of a part by those of the parts that it has
 
 module _ (parts : List Part) (n : ℕ) where
-  no_part : {a : ℕ} {p : Part} → slice_get parts n ≡ Some p → ((mss : Alternatives) → StandsFor parts a mss → ⊥) → ((mss : Alternatives) → Splices parts n p mss → (kss : Alternatives) × StandsFor parts a kss) → IsSummary parts n None
+  no_part : {a : ℕ} {p : Part} → slice_get parts n ≡ Some p → ((mss : Alternatives) → HasAlternatives parts a mss → ⊥) → ((mss : Alternatives) → Splices parts n p mss → (kss : Alternatives) × HasAlternatives parts a kss) → IsSummary parts n None
   no_part {p = p} e h f = λ mss d. let k = f mss (splices_at parts p d e) in h k.0 k.1
 
   of_same : (a : ℕ) → slice_get parts n ≡ Some (Same a) → (o : Option Summary) → IsSummary parts a o → IsSummary parts n o
   of_same a e (Some s) h = record { alternatives = h.alternatives; stands_for = stands e (same h.stands_for); described = h.described }
   of_same a e None h = no_part e h inner
     where
-      inner : (mss : Alternatives) → Splices parts n (Same a) mss → (kss : Alternatives) × StandsFor parts a kss
+      inner : (mss : Alternatives) → Splices parts n (Same a) mss → (kss : Alternatives) × HasAlternatives parts a kss
       inner mss (same d) = (_, d)
 
   of_two : (a b : ℕ) → slice_get parts n ≡ Some (Both a b) → (o p : Option Summary) → IsSummary parts a o → IsSummary parts b p → IsSummary parts n (joining both_summary o p)
   of_two a b e (Some s) (Some t) h k = record { alternatives = ways h.alternatives k.alternatives; stands_for = stands e (both h.stands_for k.stands_for); described = of_both _ _ s t h.described k.described }
   of_two a b e None p h k = no_part e h inner
     where
-      inner : (mss : Alternatives) → Splices parts n (Both a b) mss → (kss : Alternatives) × StandsFor parts a kss
+      inner : (mss : Alternatives) → Splices parts n (Both a b) mss → (kss : Alternatives) × HasAlternatives parts a kss
       inner mss (both d f) = (_, d)
   of_two a b e (Some s) None h k = no_part e k inner
     where
-      inner : (mss : Alternatives) → Splices parts n (Both a b) mss → (kss : Alternatives) × StandsFor parts b kss
+      inner : (mss : Alternatives) → Splices parts n (Both a b) mss → (kss : Alternatives) × HasAlternatives parts b kss
       inner mss (both d f) = (_, f)
 
   of_choice : (a b : ℕ) → slice_get parts n ≡ Some (Either a b) → (o p : Option Summary) → IsSummary parts a o → IsSummary parts b p → IsSummary parts n (joining either_summary o p)
   of_choice a b e (Some s) (Some t) h k = record { alternatives = h.alternatives ++ k.alternatives; stands_for = stands e (either h.stands_for k.stands_for); described = of_either _ _ s t h.described k.described }
   of_choice a b e None p h k = no_part e h inner
     where
-      inner : (mss : Alternatives) → Splices parts n (Either a b) mss → (kss : Alternatives) × StandsFor parts a kss
+      inner : (mss : Alternatives) → Splices parts n (Either a b) mss → (kss : Alternatives) × HasAlternatives parts a kss
       inner mss (either d f) = (_, d)
   of_choice a b e (Some s) None h k = no_part e k inner
     where
-      inner : (mss : Alternatives) → Splices parts n (Either a b) mss → (kss : Alternatives) × StandsFor parts b kss
+      inner : (mss : Alternatives) → Splices parts n (Either a b) mss → (kss : Alternatives) × HasAlternatives parts b kss
       inner mss (either d f) = (_, f)
 
   of_group : (b : Bounds) (a : ℕ) → slice_get parts n ≡ Some (Occurs b a) → (o : Option Summary) → IsSummary parts a o → IsSummary parts n (occurring_so b o)
   of_group b a e None h = no_part e h inner
     where
-      inner : (mss : Alternatives) → Splices parts n (Occurs b a) mss → (kss : Alternatives) × StandsFor parts a kss
+      inner : (mss : Alternatives) → Splices parts n (Occurs b a) mss → (kss : Alternatives) × HasAlternatives parts a kss
       inner mss (occurs d f) = (_, d)
   of_group b a e (Some s) h = agreed _ _ refl (of_occurring b.least b.most h.alternatives s h.described)
     where
@@ -181,7 +181,7 @@ module _ (parts : List Part) (s : State) (kept : IsKept parts s) where
       child_past : (c : ℕ) → length parts ≤ c → IsSummary parts c (at s.summaries c)
       child_past c l = let all = kept.all in subst (IsSummary parts c) (sym (read_past s.summaries c None (omega (arith, l, all)))) none
         where
-          none : (mss : Alternatives) → StandsFor parts c mss → ⊥
+          none : (mss : Alternatives) → HasAlternatives parts c mss → ⊥
           none mss (stands {p = q} e d) = let k = within parts c q e in omega (arith, l, k)
 
       pub top_value : next_of s.seen p ≡ None → IsSummary parts n (value s.summaries p)

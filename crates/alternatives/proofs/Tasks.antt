@@ -8,7 +8,7 @@ use Rattle.alternatives.specs.declared.Part.TheVariants.{Refused, Entry, Empty, 
 use Rattle.alternatives.specs.declared.summary.Summary.{Summary}
 use Rattle.alternatives.specs.declared.build.Task.{Task}
 use Rattle.alternatives.specs.declared.build.Task.TheVariants.{Make, Beside, After, Occur}
-use Rattle.alternatives.specs.Splices.{Alternatives, members, StandsFor, stands, Splices, entry, empty, nothing, same, both, either, occurs, LeadsTo, Has, has_same, has_first, has_second, has_one, has_other, has_group}
+use Rattle.alternatives.specs.Splices.{Alternatives, members, HasAlternatives, stands, Splices, entry, empty, nothing, same, both, either, occurs, LeadsTo, Has, has_same, has_first, has_second, has_one, has_other, has_group}
 use Rattle.alternatives.specs.Summaries.{Describes, IsSummary, AreSummaries, AreTooMany, itself, inside, IsSmall}
 use Rattle.alternatives.specs.Search.{at}
 use Rattle.alternatives.specs.Building.{Build, is_large, split, made_deep, made, result_is, IsDone, Yields, weight, task_weight, load, IsReady, AreReady}
@@ -102,11 +102,11 @@ module _ (parts : List Part) where
   split_yields n k p mss old new all (either {mss = kss} {nss = lss} d f) e y = subst (λ (b : Build). Yields parts b.tasks b.lists all) (same_some _ new e) (kss, d, (lss, f, y))
   split_yields n k p mss old new all (occurs {mss = kss} d f) e y = subst (λ (b : Build). Yields parts b.tasks b.lists all) (same_some _ new e) (kss, d, (mss, f, y))
 
-  deep_yields : (s : Summary) (n k : ℕ) (mss : Alternatives) (old new : Build) (all : Alternatives) → StandsFor parts n mss → made_deep s (slice_get parts n) n k old ≡ Some new → Yields parts old.tasks (mss ∷ old.lists) all → Yields parts new.tasks new.lists all
+  deep_yields : (s : Summary) (n k : ℕ) (mss : Alternatives) (old new : Build) (all : Alternatives) → HasAlternatives parts n mss → made_deep s (slice_get parts n) n k old ≡ Some new → Yields parts old.tasks (mss ∷ old.lists) all → Yields parts new.tasks new.lists all
   deep_yields s n zero mss old new all d e y = absurd (never_some new e)
   deep_yields s n (suc k) mss old new all (stands {p = p} f d) e y = split_yields n k p mss old new all d (ap (λ o. split o n k old) (sym f) ∙ e) y
 
-  made_yields : (o : Option Summary) (n k : ℕ) (mss : Alternatives) (old new : Build) (all : Alternatives) → IsSummary parts n o → StandsFor parts n mss → made o (slice_get parts n) n k old ≡ Some new → Yields parts old.tasks (mss ∷ old.lists) all → Yields parts new.tasks new.lists all
+  made_yields : (o : Option Summary) (n k : ℕ) (mss : Alternatives) (old new : Build) (all : Alternatives) → IsSummary parts n o → HasAlternatives parts n mss → made o (slice_get parts n) n k old ≡ Some new → Yields parts old.tasks (mss ∷ old.lists) all → Yields parts new.tasks new.lists all
   made_yields None n k mss old new all h d e y = absurd (never_some new e)
   made_yields (Some s) n k mss old new all h d e y = by (is_large s) (nat_eq s.members 0) refl refl e
     where
@@ -163,7 +163,7 @@ no_members : (mss : Alternatives) (s : Summary) → Describes mss s → length (
 no_members mss s d e = ap (λ n. nat_eq n 0) (d.members ∙ ap (λ n. min n 16385) e)
 
 module _ (parts : List Part) where
-  split_ready : (n k : ℕ) (p : Part) (mss : Alternatives) (old new : Build) (goes : Bool) → Splices parts n p mss → (length (members mss) ≡ 0 → ⊥) → ((c : ℕ) (kss : Alternatives) → Has p c → StandsFor parts c kss → IsReady parts c k) → split (Some p) n k old ≡ result_is goes new → AreReady parts old.tasks → (goes ≡ true) × AreReady parts new.tasks
+  split_ready : (n k : ℕ) (p : Part) (mss : Alternatives) (old new : Build) (goes : Bool) → Splices parts n p mss → (length (members mss) ≡ 0 → ⊥) → ((c : ℕ) (kss : Alternatives) → Has p c → HasAlternatives parts c kss → IsReady parts c k) → split (Some p) n k old ≡ result_is goes new → AreReady parts old.tasks → (goes ≡ true) × AreReady parts new.tasks
   split_ready n k p mss old new goes entry z h e r = let o = result_of _ new goes e in (o.0, subst (λ (b : Build). AreReady parts b.tasks) o.1 r)
   split_ready n k p mss old new goes empty z h e r = absurd (z refl)
   split_ready n k p mss old new goes nothing z h e r = absurd (z refl)
@@ -172,18 +172,18 @@ module _ (parts : List Part) where
   split_ready n k p mss old new goes (either {a = a} {b = c} d f) z h e r = let o = result_of _ new goes e in (o.0, subst (λ (b : Build). AreReady parts b.tasks) o.1 (h a _ has_one d, (h c _ has_other f, r)))
   split_ready n k p mss old new goes (occurs {a = a} d f) z h e r = let o = result_of _ new goes e in (o.0, subst (λ (b : Build). AreReady parts b.tasks) o.1 (h a _ has_group d, r))
 
-  inner_small : (n c : ℕ) (mss kss : Alternatives) → StandsFor parts n mss → (length (members mss) ≡ 0 → ⊥) → IsSmall parts n → LeadsTo parts n c → StandsFor parts c kss → IsSmall parts c
+  inner_small : (n c : ℕ) (mss kss : Alternatives) → HasAlternatives parts n mss → (length (members mss) ≡ 0 → ⊥) → IsSmall parts n → LeadsTo parts n c → HasAlternatives parts c kss → IsSmall parts c
   inner_small n c [] kss d z h t e = absurd (z refl)
   inner_small n c (ms ∷ mss) kss d z h t e = record { alternatives = kss; stands_for = e; small = λ x xss i f many. h.small x xss (inside d t i) f many }
 
-  deep_ready : (s : Summary) (n k : ℕ) (mss : Alternatives) (old new : Build) (goes : Bool) → StandsFor parts n mss → (length (members mss) ≡ 0 → ⊥) → IsReady parts n k → made_deep s (slice_get parts n) n k old ≡ result_is goes new → AreReady parts old.tasks → (goes ≡ true) × AreReady parts new.tasks
+  deep_ready : (s : Summary) (n k : ℕ) (mss : Alternatives) (old new : Build) (goes : Bool) → HasAlternatives parts n mss → (length (members mss) ≡ 0 → ⊥) → IsReady parts n k → made_deep s (slice_get parts n) n k old ≡ result_is goes new → AreReady parts old.tasks → (goes ≡ true) × AreReady parts new.tasks
   deep_ready s n zero mss old new goes d z h e r = absurd h.ends
   deep_ready s n (suc k) mss old new goes (stands {p = p} f d) z h e r = split_ready n k p mss old new goes d z inner (ap (λ o. split o n k old) (sym f) ∙ e) r
     where
-      inner : (c : ℕ) (kss : Alternatives) → Has p c → StandsFor parts c kss → IsReady parts c k
+      inner : (c : ℕ) (kss : Alternatives) → Has p c → HasAlternatives parts c kss → IsReady parts c k
       inner c kss i g = let t : LeadsTo parts n c = record { part = p; there = f; has = i } in record { small = inner_small n c mss kss (stands f d) z h.small t g; ends = h.ends c t }
 
-  made_ready : (o : Option Summary) (n k : ℕ) (mss : Alternatives) (old new : Build) (goes : Bool) → IsSummary parts n o → StandsFor parts n mss → IsReady parts n k → made o (slice_get parts n) n k old ≡ result_is goes new → AreReady parts old.tasks → (goes ≡ true) × AreReady parts new.tasks
+  made_ready : (o : Option Summary) (n k : ℕ) (mss : Alternatives) (old new : Build) (goes : Bool) → IsSummary parts n o → HasAlternatives parts n mss → IsReady parts n k → made o (slice_get parts n) n k old ≡ result_is goes new → AreReady parts old.tasks → (goes ≡ true) × AreReady parts new.tasks
   made_ready None n k mss old new goes i d h e r = absurd (i mss d)
   made_ready (Some s) n k mss old new goes i d h e r = by (is_large s) (nat_eq s.members 0) refl refl e
     where

@@ -6,7 +6,7 @@ use Rattle.alternatives.specs.declared.summary.Summary.{Summary}
 use Rattle.alternatives.specs.declared.build.Task.{Task}
 use Rattle.alternatives.specs.declared.build.Task.TheVariants.{Make, Beside, After, Occur}
 use Rattle.alternatives.specs.declared.build.Builder.{Builder}
-use Rattle.alternatives.specs.Splices.{Alternatives, ways, occurring, entry_of, StandsFor, LeadsTo}
+use Rattle.alternatives.specs.Splices.{Alternatives, ways, occurring, entry_of, HasAlternatives, LeadsTo}
 use Rattle.alternatives.specs.Summaries.{IsSmall}
 use Rattle.alternatives.specs.Search.{at}
 
@@ -53,7 +53,7 @@ IsDone parts ss (Occur o) old goes new = (new.tasks ≡ old.tasks) × ((vs : Lis
 -- the tasks make the list alone of these
 abbrev pub Yields : List Part → List Task → List Alternatives → Alternatives → Type 0
 Yields parts [] vs all = vs ≡ all ∷ []
-Yields parts (Make n k ∷ ts) vs all = (mss : Alternatives) × StandsFor parts n mss × Yields parts ts (mss ∷ vs) all
+Yields parts (Make n k ∷ ts) vs all = (mss : Alternatives) × HasAlternatives parts n mss × Yields parts ts (mss ∷ vs) all
 Yields parts (Beside ∷ ts) (nss ∷ mss ∷ vs) all = Yields parts ts (ways mss nss ∷ vs) all
 Yields parts (Beside ∷ ts) vs all = ⊥
 Yields parts (After ∷ ts) (nss ∷ mss ∷ vs) all = Yields parts ts ((mss ++ nss) ∷ vs) all

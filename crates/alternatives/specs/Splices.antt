@@ -69,17 +69,17 @@ entry_of n b = (record { entry = n; bounds = b } ∷ []) ∷ []
 
 -- What the part of a number stands for. What comes back to itself stands for nothing, since a derivation is finite.
 mutual
-  pub data StandsFor (parts : List Part) : ℕ → Alternatives → Type 0 where
-    stands : {n : ℕ} {p : Part} {mss : Alternatives} → slice_get parts n ≡ Some p → Splices parts n p mss → StandsFor parts n mss
+  pub data HasAlternatives (parts : List Part) : ℕ → Alternatives → Type 0 where
+    stands : {n : ℕ} {p : Part} {mss : Alternatives} → slice_get parts n ≡ Some p → Splices parts n p mss → HasAlternatives parts n mss
 
   pub data Splices (parts : List Part) : ℕ → Part → Alternatives → Type 0 where
     entry : {n : ℕ} {b : Bounds} → Splices parts n (Entry b) (entry_of n b)
     empty : {n : ℕ} → Splices parts n Empty ([] ∷ [])
     nothing : {n : ℕ} → Splices parts n Nothing []
-    same : {n a : ℕ} {mss : Alternatives} → StandsFor parts a mss → Splices parts n (Same a) mss
-    both : {n a b : ℕ} {mss nss : Alternatives} → StandsFor parts a mss → StandsFor parts b nss → Splices parts n (Both a b) (ways mss nss)
-    either : {n a b : ℕ} {mss nss : Alternatives} → StandsFor parts a mss → StandsFor parts b nss → Splices parts n (Either a b) (mss ++ nss)
-    occurs : {n a : ℕ} {b : Bounds} {mss nss : Alternatives} → StandsFor parts a mss → occurring b.least b.most mss ≡ Some nss → Splices parts n (Occurs b a) nss
+    same : {n a : ℕ} {mss : Alternatives} → HasAlternatives parts a mss → Splices parts n (Same a) mss
+    both : {n a b : ℕ} {mss nss : Alternatives} → HasAlternatives parts a mss → HasAlternatives parts b nss → Splices parts n (Both a b) (ways mss nss)
+    either : {n a b : ℕ} {mss nss : Alternatives} → HasAlternatives parts a mss → HasAlternatives parts b nss → Splices parts n (Either a b) (mss ++ nss)
+    occurs : {n a : ℕ} {b : Bounds} {mss nss : Alternatives} → HasAlternatives parts a mss → occurring b.least b.most mss ≡ Some nss → Splices parts n (Occurs b a) nss
 
 -- the one part has the other
 pub data Has : Part → ℕ → Type 0 where

@@ -10,7 +10,7 @@ mod summary;
 
 ghost use Rattle.std.specs.Prelude.{◌≡◌, ◌↔◌, true, IfOk, IfSome, IsSome, map, vec_items};
 ghost use Rattle.alternatives.specs.Search.{bad};
-ghost use Rattle.alternatives.specs.Splices.{Alternatives, StandsFor};
+ghost use Rattle.alternatives.specs.Splices.{Alternatives, HasAlternatives};
 ghost use Rattle.alternatives.specs.Summaries.{AreSummaries, AreTooMany, Describes, IsSmall, OccursBadly};
 
 use crate::build::builder_of;
@@ -102,7 +102,7 @@ pub fn alternatives(
     summaries: &[Option<Summary>],
     number: usize,
 ) -> Result<Option<Vec<Vec<Member>>>, AllocError>
-    ensures right { AreSummaries parts.now summaries.now → IfOk result (λ o. IfSome o (λ v. StandsFor parts.now number (map vec_items v.items))) }
+    ensures right { AreSummaries parts.now summaries.now → IfOk result (λ o. IfSome o (λ v. HasAlternatives parts.now number (map vec_items v.items))) }
     ensures all { AreSummaries parts.now summaries.now → IsSmall parts.now number → IfOk result IsSome }
 {
     if summary_at(summaries, number).is_none() {

@@ -13,7 +13,7 @@ use Rattle.cddl_language.specs.Reading.{definition_of, definitions_in, name_in}
 use Rattle.check_terms.specs.declared.definition.Definition.{Definition}
 use Rattle.check_terms.specs.Definitions.{AreDefinitions, no_definitions, further_definition}
 use Rattle.check_terms.specs.Table.{Table}
-use Rattle.check_text.specs.RuleFaults.Root.{either_number, first_number, is_text, number_in, root_number}
+use Rattle.check_text.specs.RuleFaults.Root.{either_number, first_number, is_text, number_of_name, root_number}
 
 -- The number of a name among definitions.
 
@@ -21,11 +21,11 @@ abbrev IsNamed : List Text → Text → List L.Definition → Option ℕ → Typ
 IsNamed texts n ys None = named_so n ys ≡ []
 IsNamed texts n ys (Some k) = slice_get texts k ≡ Some n
 
-named_number : (t : Table) (n : Text) (ds : List Definition) (ys : List L.Definition) → AreDefinitions t ds ys → IsNamed t.texts n ys (number_in t.texts n ds)
+named_number : (t : Table) (n : Text) (ds : List Definition) (ys : List L.Definition) → AreDefinitions t ds ys → IsNamed t.texts n ys (number_of_name t.texts n ds)
 named_number t n [] [] no_definitions = refl
 named_number t n [] (y ∷ ys) h = elim h [ ]
 named_number t n (d ∷ ds) [] h = elim h [ ]
-named_number t n (d ∷ ds) (y ∷ ys) (further_definition h hs) = subst (λ o. IsNamed t.texts n (y ∷ ys) (if is_text n o then Some d.name else number_in t.texts n ds)) (sym h.name) (by (is_same y.name n) refl (number_in t.texts n ds) (named_number t n ds ys hs))
+named_number t n (d ∷ ds) (y ∷ ys) (further_definition h hs) = subst (λ o. IsNamed t.texts n (y ∷ ys) (if is_text n o then Some d.name else number_of_name t.texts n ds)) (sym h.name) (by (is_same y.name n) refl (number_of_name t.texts n ds) (named_number t n ds ys hs))
   where
     cons : (b : Bool) → is_same y.name n ≡ b → (if b then y ∷ named_so n ys else named_so n ys) ≡ named_so n (y ∷ ys)
     cons b e = ap (λ c. if c then y ∷ named_so n ys else named_so n ys) (sym e)
@@ -44,8 +44,8 @@ IsRoot t z None = HasNoRoot z 0
 IsRoot t z (Some k) = (n : Text) × (root_of z ≡ Some n) × (slice_get t.texts k ≡ Some n)
 
 module _ (t : Table) (known own : List Definition) (z : Specification) (prelude_read : AreDefinitions t known prelude) (text_read : AreDefinitions t own (definitions z)) where
-  given_root : (n : Text) → z.given ≡ Some n → IsRoot t z (either_number (number_in t.texts n own) (number_in t.texts n known))
-  given_root n e = by (number_in t.texts n own) (number_in t.texts n known) (named_number t n own (definitions z) text_read) (named_number t n known prelude prelude_read)
+  given_root : (n : Text) → z.given ≡ Some n → IsRoot t z (either_number (number_of_name t.texts n own) (number_of_name t.texts n known))
+  given_root n e = by (number_of_name t.texts n own) (number_of_name t.texts n known) (named_number t n own (definitions z) text_read) (named_number t n known prelude prelude_read)
     where
       rooted : root_of z ≡ Some n
       rooted = ap (λ g. root_or g (rules z)) e

@@ -15,7 +15,7 @@ use Rattle.cddl_language.specs.Substitution.{group_choices, type_choices}
 use Rattle.cddl_language.specs.Kinds.{Opened, opens_group, opens_type, opened, is_group, Part, asks_type, names_group, opens, part_of}
 use Rattle.cddl_language.specs.Reach.{Point, ref_at, at_name, at_unwrapping, at_choice, at_chosen_name, at_opened_choice, Reaches, entries_points, entry_points, group_points, key_points, most_instances, points}
 use Rattle.cddl_language.specs.Free as F
-use Rattle.cddl_language.specs.Free.{IsFreeInSome, IsFreeInEach, IsFreeInEntry, IsFreeInChoice, IsFreeInChosen, IsFreeInChosenEntry, LeadsTo}
+use Rattle.cddl_language.specs.Free.{IsFreeInSome, IsFreeInEach, IsFreeInEntry, IsFreeInChoice, IsFreeInChosen, IsFreeInChosenEntry, IsFreeInMeaning}
 use Rattle.cddl_language.specs.Literals.{Values, computed_literal, literal_of, whole_of}
 use Rattle.cddl_language.specs.Sizes.{Sizes, sizes_of}
 use Rattle.cddl_language.specs.Choices.{can_choose, chosen, chosen_by_name, chosen_in}

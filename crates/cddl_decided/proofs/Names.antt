@@ -37,34 +37,34 @@ all_mapped P f (x ∷ xs) h = (h.0, all_mapped P f xs h.1)
 
 -- Options of lists of types.
 
-two : (o q : Option (List Term)) (vs : List Term) → Ch.joined o q ≡ Some vs → (ts : List Term) × (us : List Term) × (o ≡ Some ts) × (q ≡ Some us)
+two : (o q : Option (List Term)) (vs : List Term) → Ch.types_of_both o q ≡ Some vs → (ts : List Term) × (us : List Term) × (o ≡ Some ts) × (q ≡ Some us)
 two (Some ts) (Some us) vs e = (ts, us, refl, refl)
 two (Some ts) None vs e = cc
 two None q vs e = cc
 
-joined_nothing : (o : Option (List Term)) → o ≡ Ch.joined o (Some [])
+joined_nothing : (o : Option (List Term)) → o ≡ Ch.types_of_both o (Some [])
 joined_nothing (Some ts) = ap Some (sym (append-nil ts))
 joined_nothing None = refl
 
-nothing_joined : (o : Option (List Term)) → Ch.joined o (Some []) ≡ Ch.joined (Some []) o
+nothing_joined : (o : Option (List Term)) → Ch.types_of_both o (Some []) ≡ Ch.types_of_both (Some []) o
 nothing_joined (Some ts) = ap Some (append-nil ts)
 nothing_joined None = refl
 
-joined_further : (o q p : Option (List Term)) → Ch.joined o (Ch.joined q p) ≡ Ch.joined (Ch.joined o q) p
+joined_further : (o q p : Option (List Term)) → Ch.types_of_both o (Ch.types_of_both q p) ≡ Ch.types_of_both (Ch.types_of_both o q) p
 joined_further (Some a) (Some b) (Some c) = ap Some (sym (append_assoc a b c))
 joined_further (Some a) (Some b) None = refl
 joined_further (Some a) None p = refl
 joined_further None q p = refl
 
 module _ (ds : List Definition) (next : List Entries → Option (List Term)) where
-  each_more : (ess : List Entries) (es : Entries) → Ch.joined (chosen_each ds next ess) (chosen_entries ds next es) ≡ chosen_each ds next (ess ++ es ∷ [])
+  each_more : (ess : List Entries) (es : Entries) → Ch.types_of_both (chosen_each ds next ess) (chosen_entries ds next es) ≡ chosen_each ds next (ess ++ es ∷ [])
   each_more [] es = sym (nothing_joined (chosen_entries ds next es))
-  each_more (fs ∷ ess) es = sym (joined_further (chosen_entries ds next fs) (chosen_each ds next ess) (chosen_entries ds next es)) ∙ ap (λ o. Ch.joined (chosen_entries ds next fs) o) (each_more ess es)
+  each_more (fs ∷ ess) es = sym (joined_further (chosen_entries ds next fs) (chosen_each ds next ess) (chosen_entries ds next es)) ∙ ap (λ o. Ch.types_of_both (chosen_entries ds next fs) o) (each_more ess es)
 
   -- `&` chooses from a group what it chooses from its alternatives
   group_each : (g : Group) → chosen_group ds next g ≡ chosen_each ds next (alternatives g)
   group_each (sole es) = joined_nothing (chosen_entries ds next es)
-  group_each (orelse g es) = ap (λ o. Ch.joined o (chosen_entries ds next es)) (group_each g) ∙ each_more (alternatives g) es
+  group_each (orelse g es) = ap (λ o. Ch.types_of_both o (chosen_entries ds next es)) (group_each g) ∙ each_more (alternatives g) es
 
 abbrev pub MoreChoices : List Definition → Type 0
 MoreChoices ds = (k n : ℕ) → k ≤ n → (ess : List Entries) (ts : List Term) → chosen_in ds k ess ≡ Some ts → chosen_in ds n ess ≡ Some ts
@@ -196,7 +196,7 @@ module _ (worth : Values) (ds : List Definition) (root : Text) where
       so_often o (Some mss) h nss e = occurring_has (least_of o) (most_of o) mss nss (h mss refl) e
       so_often o None h nss e = cc
 
-      both_joined : (o q : Option Alternatives) → ((mss : Alternatives) → o ≡ Some mss → All mss) → ((mss : Alternatives) → q ≡ Some mss → All mss) → (nss : Alternatives) → M.joined o q ≡ Some nss → All nss
+      both_joined : (o q : Option Alternatives) → ((mss : Alternatives) → o ≡ Some mss → All mss) → ((mss : Alternatives) → q ≡ Some mss → All mss) → (nss : Alternatives) → M.alternatives_of_both o q ≡ Some nss → All nss
       both_joined (Some ms) (Some ns) h k nss e = only_some (ms ++ ns) nss (all_both (AreAll HasMember) ms ns (h ms refl) (k ns refl)) e
       both_joined (Some ms) None h k nss e = cc
       both_joined None q h k nss e = cc

@@ -7,7 +7,7 @@ use Rattle.cddl_language.specs.Substitution.{group_choices, type_choices}
 use Rattle.cddl_language.specs.Kinds.{opens_group, opens_type, opened, names_group, opens, part_of}
 use Rattle.cddl_language.specs.Reach.{Point, Reaches, at_choice, at_chosen_name, at_name, at_opened_choice, at_unwrapping, entries_points, entry_points, group_points, key_points, points, ref_at}
 use Rattle.cddl_language.specs.Free as F
-use Rattle.cddl_language.specs.Free.{IsFree, IsFreeInSome, IsFreeInEach, IsFreeInEntry, IsFreeInChoice, IsFreeInChosen, IsFreeInChosenEntry, LeadsTo}
+use Rattle.cddl_language.specs.Free.{IsFree, IsFreeInSome, IsFreeInEach, IsFreeInEntry, IsFreeInChoice, IsFreeInChosen, IsFreeInChosenEntry, IsFreeInMeaning}
 use Rattle.check_instances.specs.Closed.Closed.{AreReached}
 
 -- the points of all these alternatives
@@ -110,7 +110,7 @@ module _ (ds : List Definition) (root : Text) where
       chosen_entry p x (F.of_keyed {k = key} {t = t} k) h = free p t k (right (key_points key) (points t) h)
       chosen_entry p x (F.of_group {g = g} k) h = choice p (alternatives g) k (of_group g h)
 
-    pub goes_on : (p q : Point) → LeadsTo ds q p → Reaches ds root (ref_at p) → Reaches ds root (ref_at q)
+    pub goes_on : (p q : Point) → IsFreeInMeaning ds q p → Reaches ds root (ref_at p) → Reaches ds root (ref_at q)
     goes_on p q (F.by_type {r = r} {t = t} e c k) h = free q t k (on.types r t h c)
     goes_on p q (F.by_group {r = r} e k) h = some q (group_choices ds r) k (of_all (group_choices ds r) (λ es c. on.group r es h c))
     goes_on p q (F.by_opened_group {r = r} {g = g} e k) h = some q (alternatives g) k (of_group g (on.opened_group r g h e))

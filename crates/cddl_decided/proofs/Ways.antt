@@ -4,7 +4,7 @@ use Rattle.std.specs.Prelude.{AllPairs, Contains}
 use Rattle.lists.proofs.Lemmas.{IsIn, from_contains}
 use Rattle.cddl_language.specs.Terms.{Text, Ref, Definition}
 use Rattle.cddl_language.specs.Reach.{Point, at_name, at_unwrapping, at_choice, at_chosen_name, at_opened_choice, ref_at, Reaches}
-use Rattle.cddl_language.specs.Free.{LeadsBack, LeadsOn, LeadsTo, at_once, onwards}
+use Rattle.cddl_language.specs.Free.{LeadsBack, LeadsOn, IsFreeInMeaning, at_once, onwards}
 use Rattle.cddl_decided.specs.Ways.{WaysEnd, ends}
 
 -- no element twice
@@ -97,7 +97,7 @@ all_counted (at_chosen_name r ∷ ps) = let h = all_counted ps in omega (arith, 
 all_counted (at_opened_choice r ∷ ps) = let h = all_counted ps in omega (arith, h)
 
 module _ (ds : List Definition) (root : Text) (most : ℕ) (few : (rs : List Ref) → ((r : Ref) → Contains rs r → Reaches ds root r) → AllPairs (λ (q r : Ref). q ≢ r) rs → length rs ≤ most)
-    (no_way_back : (p : Point) → LeadsBack ds root p → ⊥) (goes_on : (p q : Point) → LeadsTo ds q p → Reaches ds root (ref_at p) → Reaches ds root (ref_at q)) where
+    (no_way_back : (p : Point) → LeadsBack ds root p → ⊥) (goes_on : (p q : Point) → IsFreeInMeaning ds q p → Reaches ds root (ref_at p) → Reaches ds root (ref_at q)) where
   abbrev AllReach : List Point → Type 0
   AllReach ps = (p : Point) → IsIn p ps → Reaches ds root (ref_at p)
 
@@ -117,7 +117,7 @@ module _ (ds : List Definition) (root : Text) (most : ℕ) (few : (rs : List Ref
   few_points : (ps : List Point) → AllReach ps → AreApart ps → length ps ≤ most + most + most + most + most
   few_points ps all h = omega (arith, all_counted ps, few_of_sort by_name ps all h, few_of_sort by_unwrapping ps all h, few_of_sort by_choice ps all h, few_of_sort by_chosen_name ps all h, few_of_sort by_opened_choice ps all h)
 
-  further : (b p q : Point) → LeadsOn ds b p → LeadsTo ds q p → LeadsOn ds b q
+  further : (b p q : Point) → LeadsOn ds b p → IsFreeInMeaning ds q p → LeadsOn ds b q
   further b p q (at_once h) k = onwards h (at_once k)
   further b p q (onwards {q = s} h w) k = onwards h (further s p q w k)
 
@@ -133,7 +133,7 @@ module _ (ds : List Definition) (root : Text) (most : ℕ) (few : (rs : List Ref
       reached b (inl e) = subst (λ z. Reaches ds root (ref_at z)) (sym e) here
       reached b (inr i) = all b i
 
-      leads : (q : Point) → LeadsTo ds q p → (b : Point) → IsIn b (p ∷ before) → LeadsOn ds b q
+      leads : (q : Point) → IsFreeInMeaning ds q p → (b : Point) → IsIn b (p ∷ before) → LeadsOn ds b q
       leads q free b (inl e) = subst (λ z. LeadsOn ds z q) (sym e) (at_once free)
       leads q free b (inr i) = further b p q (lead b i) free
 

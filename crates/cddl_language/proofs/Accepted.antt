@@ -23,7 +23,7 @@ use Rattle.cddl_language.specs.Kinds.{asks_type, opens_group, opened, part_of, i
 use Rattle.cddl_language.specs.Reach.{Reaches, at_root, onward, Point, ref_at, at_name, at_choice, at_opened_choice, points_in}
 use Rattle.cddl_language.specs.Literals.{Values}
 use Rattle.cddl_language.specs.Free as R
-use Rattle.cddl_language.specs.Free.{IsFree, IsFreeInSome, IsFreeInChoice, LeadsTo, IsOnCycle, LeadsOn}
+use Rattle.cddl_language.specs.Free.{IsFree, IsFreeInSome, IsFreeInChoice, IsFreeInMeaning, IsOnCycle, LeadsOn}
 use Rattle.cddl_language.specs.Sites.{Site, a_name, an_unwrapping, a_choice_of, a_choice_of_name, a_hash, an_operation, an_entry, a_map, sites, outer_sites, ref_at_site, ref_name, arguments, IsReached, in_body, in_argument, IsUsed, used}
 use Rattle.cddl_language.specs.MapFaults.{HasMapShape, HasNoKey, HasTooManyAlternatives, IsSpliced, comes_back, occurs_badly, of_map, of_name, of_opened, of_parens}
 use Rattle.cddl_language.specs.Faults as F
@@ -169,17 +169,17 @@ inside_chosen p h = by (in_type ds p (Some (codes "*")) (named t) is_type h)
 abbrev OnlyTo : Point → Point → Type 0
 OnlyTo q p = A.OnlyTo ds t inside no_group means_lists opens_lists chooses_lists is_array inside_free q p
 
-leads_only : (p q : Point) → ref_at q ≡ t → LeadsTo ds p q → OnlyTo q p
+leads_only : (p q : Point) → ref_at q ≡ t → IsFreeInMeaning ds p q → OnlyTo q p
 leads_only p q e h = A.leads_only ds t inside no_group means_lists opens_lists chooses_lists is_array inside_free p q e h
 
 -- Where the first step leads, no other begins: that is the name, by itself or after `&`.
-one_step : (p s u : Point) → OnlyTo p s → LeadsTo ds u s → ⊥
+one_step : (p s u : Point) → OnlyTo p s → IsFreeInMeaning ds u s → ⊥
 one_step (at_choice r) s u e h = A.name_ends ds t inside no_group means_lists opens_lists chooses_lists is_array inside_free u s e h
 one_step (at_opened_choice r) s u e h = let f = inside_chosen s e in subst (λ z. OnlyTo z u) f (leads_only u s (ap ref_at f) h)
 one_step _ s u e h = absurd e
 
 no_way_back : (p q : Point) → ref_at p ≡ t → LeadsOn ds p q → p ≡ q → ⊥
-no_way_back p q e (R.at_once h) f = one_step p q q (leads_only q p e h) (subst (λ z. LeadsTo ds q z) f h)
+no_way_back p q e (R.at_once h) f = one_step p q q (leads_only q p e h) (subst (λ z. IsFreeInMeaning ds q z) f h)
 no_way_back p q e (R.onwards {q = s} h (R.at_once k)) f = one_step p s q (leads_only s p e h) k
 no_way_back p q e (R.onwards {q = s} h (R.onwards {q = u} k l)) f = one_step p s u (leads_only s p e h) k
 

@@ -7,7 +7,7 @@ use Rattle.cddl_language.specs.Terms.{Text, Term, typed, Entry, Entries, no_entr
 use Rattle.cddl_language.specs.Reading.{definitions_in}
 use Rattle.cddl_language.specs.Kinds.{Part, asks_type, names_group, opens, part_of}
 use Rattle.cddl_language.specs.Reach.{Point, at_name}
-use Rattle.cddl_language.specs.Free.{EntryMayBeEmpty, no_time, by_name, by_opening, MayBeEmpty, all_may, IsFreeInSome, in_this, in_later, IsFreeInEach, in_last, in_earlier, IsFreeInEntry, group_name, group_opened, LeadsTo, by_type, by_group}
+use Rattle.cddl_language.specs.Free.{EntryMayBeEmpty, no_time, by_name, by_opening, MayBeEmpty, all_may, IsFreeInSome, in_this, in_later, IsFreeInEach, in_last, in_earlier, IsFreeInEntry, group_name, group_opened, IsFreeInMeaning, by_type, by_group}
 use Rattle.cddl_language.specs.Prelude.{plain, prelude}
 use Rattle.cddl_language.specs.Examples as E
 use Rattle.cddl_language.specs.Texts as T
@@ -55,7 +55,7 @@ abbrev int_then_g : List Definition
 int_then_g = definitions_in (T.r_of_g ∷ T.int_then_maybe_g ∷ [])
 
 -- in `r = [g]`, `g = (int, ? g)` nothing is free in what `g` means
-pub leads_nowhere : (p : Point) → LeadsTo int_then_g p (at_name (call (codes "g") no_terms)) → ⊥
+pub leads_nowhere : (p : Point) → IsFreeInMeaning int_then_g p (at_name (call (codes "g") no_terms)) → ⊥
 unfolding prelude
 leads_nowhere p (by_type e c h) = false≢true (sym e)
 leads_nowhere p (by_group e h) = behind_first int_then_g p None E.int true false (typed (Some (codes "?")) (plain (codes "g"))) refl refl (in_one int_then_g p _ h)

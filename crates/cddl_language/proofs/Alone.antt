@@ -9,7 +9,7 @@ use Rattle.cddl_language.specs.Substitution.{type_choices, group_choices}
 use Rattle.cddl_language.specs.Kinds.{asks_type, names_group, opens, opens_group, opens_type, opened, part_of, is_group}
 use Rattle.cddl_language.specs.Reach.{Point, ref_at, is_reference, at_choice, at_chosen_name, at_opened_choice}
 use Rattle.cddl_language.specs.Free as R
-use Rattle.cddl_language.specs.Free.{IsFree, IsFreeInSome, IsFreeInChoice, LeadsTo, LeadsOn}
+use Rattle.cddl_language.specs.Free.{IsFree, IsFreeInSome, IsFreeInChoice, IsFreeInMeaning, LeadsOn}
 
 module _ (ds : List Definition) where
   -- what is free in the choice from one entry of a type
@@ -39,7 +39,7 @@ module _ (ds : List Definition) where
     group_at : (r : Ref) (h : Group) → r ≡ t → opened ds r ≡ Some (opens_group h) → h ≡ g
     group_at r h e f = same_group h (sym opens_it ∙ subst (λ z. opened ds z ≡ Some (opens_group h)) e f)
 
-    pub leads_only : (p q : Point) → ref_at q ≡ t → LeadsTo ds p q → OnlyTo q p
+    pub leads_only : (p q : Point) → ref_at q ≡ t → IsFreeInMeaning ds p q → OnlyTo q p
     leads_only p q e (R.by_type {r = r} {t = u} h c f) = array_free p (subst (λ z. IsFree ds p z) (only (subst (λ ts. Contains ts u) means (subst (λ z. Contains (type_choices ds z) u) e c))) f)
     leads_only p q e (R.by_group {r = r} h f) = false≢true (sym no_group ∙ subst (λ z. is_group ds (name_of z) ≡ true) e h)
     leads_only p q e (R.by_opened_group {r = r} {g = h} k f) = nothing p (subst (λ z. IsFreeInSome ds p (alternatives z)) (group_at r h e k) f)
@@ -49,7 +49,7 @@ module _ (ds : List Definition) where
     leads_only p q e (R.by_opened_choice {r = r} {g = h} k w f) = subst (λ z. IsFreeInChoice ds p (alternatives z)) (group_at r h e k) f
 
     -- from where a choice by name leads nothing leads on
-    pub name_ends : (p q : Point) → q ≡ at_chosen_name t → LeadsTo ds p q → ⊥
+    pub name_ends : (p q : Point) → q ≡ at_chosen_name t → IsFreeInMeaning ds p q → ⊥
     name_ends p q e h = subst (λ z. OnlyTo z p) e (leads_only p q (ap ref_at e) h)
 
     pub name_leads_on : (p q : Point) → p ≡ at_chosen_name t → LeadsOn ds p q → ⊥
@@ -62,5 +62,5 @@ module _ (ds : List Definition) where
     to_name _ s k e = absurd e
 
     pub no_reference_back : (p q : Point) → is_reference p ≡ true → ref_at p ≡ t → LeadsOn ds p q → p ≡ q → ⊥
-    no_reference_back p q k e (R.at_once h) f = name_ends q q (to_name p q k (leads_only q p e h)) (subst (λ z. LeadsTo ds q z) f h)
+    no_reference_back p q k e (R.at_once h) f = name_ends q q (to_name p q k (leads_only q p e h)) (subst (λ z. IsFreeInMeaning ds q z) f h)
     no_reference_back p q k e (R.onwards {q = s} h w) f = name_leads_on s q (to_name p s k (leads_only s p e h)) w

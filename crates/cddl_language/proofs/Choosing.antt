@@ -10,7 +10,7 @@ use Rattle.cddl_language.specs.Substitution.{group_choices}
 use Rattle.cddl_language.specs.Kinds.{Part, asks_type, names_group, opens, part_of}
 use Rattle.cddl_language.specs.Reach.{most_instances}
 use Rattle.cddl_language.specs.Literals.{Values}
-use Rattle.cddl_language.specs.Choices.{chosen, chosen_by_name, chosen_each, chosen_entries, chosen_entry, chosen_group, chosen_in, chosen_part, joined}
+use Rattle.cddl_language.specs.Choices.{chosen, chosen_by_name, chosen_each, chosen_entries, chosen_entry, chosen_group, chosen_in, chosen_part, types_of_both}
 use Rattle.cddl_language.specs.Language as L
 use Rattle.cddl_language.specs.Language.{TypeName, GroupName, type, chosen_of, Saying, chosen_name, chosen_names, chosen_part_name, language, type_node}
 
@@ -157,7 +157,7 @@ module _ (worth : Values) (ds : List Definition) (p : ℕ) (x : Value) where
   names_all [] es = none (map (chosen_name worth ds) (entry_list es))
   names_all (fs ∷ ess) es = one_more (map (chosen_name worth ds) (entry_list fs)) (chosen_names worth ds ess) (map (chosen_name worth ds) (entry_list es)) ∙ ap (λ ns. map (chosen_name worth ds) (entry_list fs) ++ ns) (names_all ess es)
 
-  two : (o q : Option (List Term)) (vs : List Term) → joined o q ≡ Some vs → (ts : List Term) × (us : List Term) × (o ≡ Some ts) × (q ≡ Some us) × (vs ≡ ts ++ us)
+  two : (o q : Option (List Term)) (vs : List Term) → types_of_both o q ≡ Some vs → (ts : List Term) × (us : List Term) × (o ≡ Some ts) × (q ≡ Some us) × (vs ≡ ts ++ us)
   two (Some ts) (Some us) vs e = (ts, us, refl, refl, same (ts ++ us) vs e)
     where
       same : (ws vs : List Term) → Some ws ≡ Some vs → vs ≡ ws

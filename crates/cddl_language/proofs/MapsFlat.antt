@@ -11,12 +11,12 @@ use Rattle.cddl_language.specs.Terms.{Text, Term, named, unwrapped, Group, sole,
 use Rattle.cddl_language.specs.Substitution.{group_choices}
 use Rattle.cddl_language.specs.Kinds.{Opened, opens_group, opens_type, opened, is_group, Part, asks_type, names_group, opens, opened_part, stripped_part, part_of}
 use Rattle.cddl_language.specs.Reach.{Point, at_name, at_unwrapping, at_choice, at_chosen_name, at_opened_choice, most_instances}
-use Rattle.cddl_language.specs.Maps.{Alternatives, joined, combined, occurring, occurs, occurring_so, in_part, in_group, in_entries, in_entry, in_each, alternatives_in, map_alternatives}
-use Rattle.cddl_language.specs.MapFaults.{entries_of, group_of_part, group_in, point_of_part, point_in, IsSplicedInto, its_own, further, LeadsTo, by_itself, by_group, LacksKey, asks, OccursBadly, never, with_these, ComesBack}
+use Rattle.cddl_language.specs.Maps.{Alternatives, alternatives_of_both, combined, occurring, occurs, occurring_so, in_part, in_group, in_entries, in_entry, in_each, alternatives_in, map_alternatives}
+use Rattle.cddl_language.specs.MapFaults.{all_entries, group_of_part, group_in, point_of_part, point_in, IsSplicedInto, its_own, further, IsLedToBy, by_itself, by_group, LacksKey, asks, OccursBadly, never, with_these, ComesBack}
 
 -- Options of alternatives.
 
-both_joined : (o q : Option Alternatives) (mss : Alternatives) → joined o q ≡ Some mss → (ms : Alternatives) × (ns : Alternatives) × (o ≡ Some ms) × (q ≡ Some ns)
+both_joined : (o q : Option Alternatives) (mss : Alternatives) → alternatives_of_both o q ≡ Some mss → (ms : Alternatives) × (ns : Alternatives) × (o ≡ Some ms) × (q ≡ Some ns)
 both_joined (Some ms) (Some ns) mss e = (ms, ns, refl, refl)
 both_joined (Some ms) None mss e = absurd (none_is_some e)
 both_joined None q mss e = absurd (none_is_some e)
@@ -34,8 +34,8 @@ occurring_some o None mss e = absurd (none_is_some e)
 abbrev Follows : Option Alternatives → Option Alternatives → Type 0
 Follows o q = (mss : Alternatives) → o ≡ Some mss → q ≡ Some mss
 
-joined_follows : (o q p s : Option Alternatives) → Follows o p → Follows q s → Follows (joined o q) (joined p s)
-joined_follows (Some ms) (Some ns) p s h k mss e = subst (λ x. joined x s ≡ Some mss) (sym (h ms refl)) (subst (λ y. joined (Some ms) y ≡ Some mss) (sym (k ns refl)) e)
+joined_follows : (o q p s : Option Alternatives) → Follows o p → Follows q s → Follows (alternatives_of_both o q) (alternatives_of_both p s)
+joined_follows (Some ms) (Some ns) p s h k mss e = subst (λ x. alternatives_of_both x s ≡ Some mss) (sym (h ms refl)) (subst (λ y. alternatives_of_both (Some ms) y ≡ Some mss) (sym (k ns refl)) e)
 joined_follows (Some ms) None p s h k mss e = absurd (none_is_some e)
 joined_follows None q p s h k mss e = absurd (none_is_some e)
 
@@ -48,15 +48,15 @@ occurring_follows : (o : Option Text) (q p : Option Alternatives) → Follows q 
 occurring_follows o (Some nss) p h mss e = subst (λ x. occurring_so o x ≡ Some mss) (sym (h nss refl)) e
 occurring_follows o None p h mss e = absurd (none_is_some e)
 
-joined_nothing : (o : Option Alternatives) → o ≡ joined o (Some [])
+joined_nothing : (o : Option Alternatives) → o ≡ alternatives_of_both o (Some [])
 joined_nothing (Some mss) = ap Some (sym (append-nil mss))
 joined_nothing None = refl
 
-nothing_joined : (o : Option Alternatives) → joined o (Some []) ≡ joined (Some []) o
+nothing_joined : (o : Option Alternatives) → alternatives_of_both o (Some []) ≡ alternatives_of_both (Some []) o
 nothing_joined (Some mss) = ap Some (append-nil mss)
 nothing_joined None = refl
 
-joined_further : (o q p : Option Alternatives) → joined o (joined q p) ≡ joined (joined o q) p
+joined_further : (o q p : Option Alternatives) → alternatives_of_both o (alternatives_of_both q p) ≡ alternatives_of_both (alternatives_of_both o q) p
 joined_further (Some a) (Some b) (Some c) = ap Some (sym (append_assoc a b c))
 joined_further (Some a) (Some b) None = refl
 joined_further (Some a) None p = refl
@@ -88,22 +88,22 @@ module _ (ds : List Definition) where
         by earlier last (inl i) = earlier i
         by earlier last (inr i) = subst Has (sym (only i)) last
 
-    each_has : (ess : List Entries) (mss : Alternatives) → in_each ds next ess ≡ Some mss → (e : Entry) → Contains (entries_of ess) e → Has e
+    each_has : (ess : List Entries) (mss : Alternatives) → in_each ds next ess ≡ Some mss → (e : Entry) → Contains (all_entries ess) e → Has e
     each_has [] mss h e c = absurd (none_in c)
-    each_has (es ∷ ess) mss h e c = let k = both_joined (in_entries ds next es) (in_each ds next ess) mss h in by (entry_has es k.0 k.2 e) (each_has ess k.1 k.3 e) (Contains-append_cases (entry_list es) (entries_of ess) e c)
+    each_has (es ∷ ess) mss h e c = let k = both_joined (in_entries ds next es) (in_each ds next ess) mss h in by (entry_has es k.0 k.2 e) (each_has ess k.1 k.3 e) (Contains-append_cases (entry_list es) (all_entries ess) e c)
       where
-        by : (Contains (entry_list es) e → Has e) → (Contains (entries_of ess) e → Has e) → Contains (entry_list es) e ⊎ Contains (entries_of ess) e → Has e
+        by : (Contains (entry_list es) e → Has e) → (Contains (all_entries ess) e → Has e) → Contains (entry_list es) e ⊎ Contains (all_entries ess) e → Has e
         by here there (inl i) = here i
         by here there (inr i) = there i
 
-    each_more : (ess : List Entries) (es : Entries) → joined (in_each ds next ess) (in_entries ds next es) ≡ in_each ds next (ess ++ es ∷ [])
+    each_more : (ess : List Entries) (es : Entries) → alternatives_of_both (in_each ds next ess) (in_entries ds next es) ≡ in_each ds next (ess ++ es ∷ [])
     each_more [] es = sym (nothing_joined (in_entries ds next es))
-    each_more (fs ∷ ess) es = sym (joined_further (in_entries ds next fs) (in_each ds next ess) (in_entries ds next es)) ∙ ap (λ o. joined (in_entries ds next fs) o) (each_more ess es)
+    each_more (fs ∷ ess) es = sym (joined_further (in_entries ds next fs) (in_each ds next ess) (in_entries ds next es)) ∙ ap (λ o. alternatives_of_both (in_entries ds next fs) o) (each_more ess es)
 
     -- a group has what its choices have
     pub group_each : (g : Group) → in_group ds next g ≡ in_each ds next (alternatives g)
     group_each (sole es) = joined_nothing (in_entries ds next es)
-    group_each (orelse g es) = ap (λ o. joined o (in_entries ds next es)) (group_each g) ∙ each_more (alternatives g) es
+    group_each (orelse g es) = ap (λ o. alternatives_of_both o (in_entries ds next es)) (group_each g) ∙ each_more (alternatives g) es
 
   -- Ways through more names change nothing.
 
@@ -255,7 +255,7 @@ module _ (ds : List Definition) where
     has : alternatives_in ds names ess ≡ Some own
     less : names < k
 
-  fewer_round : (k : ℕ) (p : Point) (d e : Entry) (ess : List Entries) (mss : Alternatives) → point_in ds d ≡ Some p → group_in ds d ≡ Some ess → alternatives_in ds k ess ≡ Some mss → IsSplicedInto ds e ess → LeadsTo ds p e → Fewer k ess
+  fewer_round : (k : ℕ) (p : Point) (d e : Entry) (ess : List Entries) (mss : Alternatives) → point_in ds d ≡ Some p → group_in ds d ≡ Some ess → alternatives_in ds k ess ≡ Some mss → IsSplicedInto ds e ess → IsLedToBy ds p e → Fewer k ess
   fewer_round k p d e ess mss point group has inside back = by back
     where
       f : Found k e
@@ -267,14 +267,14 @@ module _ (ds : List Definition) where
           let l = j.fewer p i in
           record { names = j.names; own = j.own; has = j.has; less = omega (arith, l, w.no_more) }
 
-      by : LeadsTo ds p e → Fewer k ess
+      by : IsLedToBy ds p e → Fewer k ess
       by (by_itself i) = again e f i
       by (by_group {d = c} {fss = fss} i s q) =
           let j = down f.names e fss f.so f.has i in
           let w = found s j.names j.own j.has in
           again c (record { names = w.names; so = w.so; has = w.has; no_more = omega (arith, w.no_more, j.no_more, f.no_more) }) q
 
-  no_round : (n k : ℕ) (p : Point) (d e : Entry) (ess : List Entries) (mss : Alternatives) → k ≤ n → point_in ds d ≡ Some p → group_in ds d ≡ Some ess → alternatives_in ds k ess ≡ Some mss → IsSplicedInto ds e ess → LeadsTo ds p e → ⊥
+  no_round : (n k : ℕ) (p : Point) (d e : Entry) (ess : List Entries) (mss : Alternatives) → k ≤ n → point_in ds d ≡ Some p → group_in ds d ≡ Some ess → alternatives_in ds k ess ≡ Some mss → IsSplicedInto ds e ess → IsLedToBy ds p e → ⊥
   no_round zero k p d e ess mss h point group has inside back = let w = fewer_round k p d e ess mss point group has inside back in omega (arith, h, w.less)
   no_round (suc n) k p d e ess mss h point group has inside back = let w = fewer_round k p d e ess mss point group has inside back in no_round n w.names p d e ess w.own (omega (arith, h, w.less)) point group w.has inside back
 

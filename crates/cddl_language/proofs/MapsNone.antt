@@ -9,10 +9,10 @@ use Rattle.cddl_language.specs.Terms.{Text, Term, Group, sole, orelse, Entries, 
 use Rattle.cddl_language.specs.Substitution.{group_choices}
 use Rattle.cddl_language.specs.Kinds.{Part, asks_type, names_group, opens, part_of}
 use Rattle.cddl_language.specs.Reach.{Point, at_name, at_unwrapping, most_instances}
-use Rattle.cddl_language.specs.Maps.{Alternatives, joined, combined, occurring_so, in_part, in_group, in_entries, in_entry, in_each, alternatives_in, alternatives_of, map_alternatives}
-use Rattle.cddl_language.specs.MapFaults.{entries_of, group_of_part, group_in, point_of_part, point_in, IsSplicedInto, its_own, further, LacksKey, asks, OccursBadly, with_these, GoesThrough, nowhere, onward}
+use Rattle.cddl_language.specs.Maps.{Alternatives, alternatives_of_both, combined, occurring_so, in_part, in_group, in_entries, in_entry, in_each, alternatives_in, alternatives_of, map_alternatives}
+use Rattle.cddl_language.specs.MapFaults.{all_entries, group_of_part, group_in, point_of_part, point_in, IsSplicedInto, its_own, further, LacksKey, asks, OccursBadly, with_these, GoesThrough, nowhere, onward}
 
-one_none : (o q : Option Alternatives) → joined o q ≡ None → (o ≡ None) ⊎ (q ≡ None)
+one_none : (o q : Option Alternatives) → alternatives_of_both o q ≡ None → (o ≡ None) ⊎ (q ≡ None)
 one_none (Some ms) (Some ns) e = absurd (some_is_none e)
 one_none (Some ms) None e = inr refl
 one_none None q e = inl refl
@@ -23,17 +23,17 @@ one_none_combined (Some ms) None e = inr refl
 one_none_combined None q e = inl refl
 
 -- an entry of the first choices, or of the last
-in_first : (ess fss : List Entries) (e : Entry) → Contains (entries_of ess) e → Contains (entries_of (ess ++ fss)) e
+in_first : (ess fss : List Entries) (e : Entry) → Contains (all_entries ess) e → Contains (all_entries (ess ++ fss)) e
 in_first [] fss e c = absurd (none_in c)
-in_first (es ∷ ess) fss e c = by (in_first ess fss e) (Contains-append_cases (entry_list es) (entries_of ess) e c)
+in_first (es ∷ ess) fss e c = by (in_first ess fss e) (Contains-append_cases (entry_list es) (all_entries ess) e c)
   where
-    by : (Contains (entries_of ess) e → Contains (entries_of (ess ++ fss)) e) → Contains (entry_list es) e ⊎ Contains (entries_of ess) e → Contains (entry_list es ++ entries_of (ess ++ fss)) e
-    by more (inl i) = Contains-append_left (entry_list es) (entries_of (ess ++ fss)) e i
-    by more (inr i) = Contains-append_right (entry_list es) (entries_of (ess ++ fss)) e (more i)
+    by : (Contains (all_entries ess) e → Contains (all_entries (ess ++ fss)) e) → Contains (entry_list es) e ⊎ Contains (all_entries ess) e → Contains (entry_list es ++ all_entries (ess ++ fss)) e
+    by more (inl i) = Contains-append_left (entry_list es) (all_entries (ess ++ fss)) e i
+    by more (inr i) = Contains-append_right (entry_list es) (all_entries (ess ++ fss)) e (more i)
 
-in_last : (ess : List Entries) (es : Entries) (e : Entry) → Contains (entry_list es) e → Contains (entries_of (ess ++ es ∷ [])) e
+in_last : (ess : List Entries) (es : Entries) (e : Entry) → Contains (entry_list es) e → Contains (all_entries (ess ++ es ∷ [])) e
 in_last [] es e c = Contains-append_left (entry_list es) [] e c
-in_last (fs ∷ ess) es e c = Contains-append_right (entry_list fs) (entries_of (ess ++ es ∷ [])) e (in_last ess es e c)
+in_last (fs ∷ ess) es e c = Contains-append_right (entry_list fs) (all_entries (ess ++ es ∷ [])) e (in_last ess es e c)
 
 module _ (ds : List Definition) where
   abbrev IsBad : Entry → Type 0
@@ -49,7 +49,7 @@ module _ (ds : List Definition) where
     by_name : {fss : List Entries} {p : Point} → group_in ds e ≡ Some fss → point_in ds e ≡ Some p → Wrong k fss → IsWrong k e
     in_parens : {fss : List Entries} → group_in ds e ≡ Some fss → Wrong (suc k) fss → IsWrong k e
 
-  wrong : (k : ℕ) (ess : List Entries) (e : Entry) → Contains (entries_of ess) e → IsWrong k e → Wrong (suc k) ess
+  wrong : (k : ℕ) (ess : List Entries) (e : Entry) → Contains (all_entries ess) e → IsWrong k e → Wrong (suc k) ess
   wrong k ess e c (bad b) = inl (e, its_own c, b)
   wrong k ess e c (by_name g p (inl b)) = inl (b.0, further c g b.1, b.2)
   wrong k ess e c (by_name g p (inr w)) = inr (onward (its_own c) p g w)
@@ -74,11 +74,11 @@ module _ (ds : List Definition) where
     SomeWrong es = (e : Entry) × Contains es e × IsWrong k e
 
     mutual
-      group_wrong : (g : Group) → in_group ds next g ≡ None → SomeWrong (entries_of (alternatives g))
+      group_wrong : (g : Group) → in_group ds next g ≡ None → SomeWrong (all_entries (alternatives g))
       group_wrong (sole es) h = let w = entries_wrong es h in (w.0, Contains-append_left (entry_list es) [] w.0 w.1, w.2)
       group_wrong (orelse g es) h = by (group_wrong g) (entries_wrong es) (one_none (in_group ds next g) (in_entries ds next es) h)
         where
-          by : (in_group ds next g ≡ None → SomeWrong (entries_of (alternatives g))) → (in_entries ds next es ≡ None → SomeWrong (entry_list es)) → (in_group ds next g ≡ None) ⊎ (in_entries ds next es ≡ None) → SomeWrong (entries_of (alternatives g ++ es ∷ []))
+          by : (in_group ds next g ≡ None → SomeWrong (all_entries (alternatives g))) → (in_entries ds next es ≡ None → SomeWrong (entry_list es)) → (in_group ds next g ≡ None) ⊎ (in_entries ds next es ≡ None) → SomeWrong (all_entries (alternatives g ++ es ∷ []))
           by first last (inl i) = let w = first i in (w.0, in_first (alternatives g) (es ∷ []) w.0 w.1, w.2)
           by first last (inr i) = let w = last i in (w.0, in_last (alternatives g) es w.0 w.1, w.2)
 
@@ -95,17 +95,17 @@ module _ (ds : List Definition) where
       entry_wrong (keyed o w t) h = absurd (some_is_none h)
       entry_wrong (grouped o g) h = by (group_wrong g) (in_group ds next g) refl h
         where
-          by : (in_group ds next g ≡ None → SomeWrong (entries_of (alternatives g))) → (x : Option Alternatives) → in_group ds next g ≡ x → occurring_so o x ≡ None → IsWrong k (grouped o g)
+          by : (in_group ds next g ≡ None → SomeWrong (all_entries (alternatives g))) → (x : Option Alternatives) → in_group ds next g ≡ x → occurring_so o x ≡ None → IsWrong k (grouped o g)
           by inside (Some nss) i h = bad (inr (with_these refl (some_group g nss i) h))
           by inside None i h = let w = inside i in in_parens refl (wrong k (alternatives g) w.0 w.1 w.2)
 
-    each_wrong : (ess : List Entries) → in_each ds next ess ≡ None → SomeWrong (entries_of ess)
+    each_wrong : (ess : List Entries) → in_each ds next ess ≡ None → SomeWrong (all_entries ess)
     each_wrong [] h = absurd (some_is_none h)
     each_wrong (es ∷ ess) h = by (each_wrong ess) (one_none (in_entries ds next es) (in_each ds next ess) h)
       where
-        by : (in_each ds next ess ≡ None → SomeWrong (entries_of ess)) → (in_entries ds next es ≡ None) ⊎ (in_each ds next ess ≡ None) → SomeWrong (entry_list es ++ entries_of ess)
-        by more (inl i) = let w = entries_wrong es i in (w.0, Contains-append_left (entry_list es) (entries_of ess) w.0 w.1, w.2)
-        by more (inr i) = let w = more i in (w.0, Contains-append_right (entry_list es) (entries_of ess) w.0 w.1, w.2)
+        by : (in_each ds next ess ≡ None → SomeWrong (all_entries ess)) → (in_entries ds next es ≡ None) ⊎ (in_each ds next ess ≡ None) → SomeWrong (entry_list es ++ all_entries ess)
+        by more (inl i) = let w = entries_wrong es i in (w.0, Contains-append_left (entry_list es) (all_entries ess) w.0 w.1, w.2)
+        by more (inr i) = let w = more i in (w.0, Contains-append_right (entry_list es) (all_entries ess) w.0 w.1, w.2)
 
   none_wrong : (k : ℕ) → k ≤ most_instances → (ess : List Entries) → alternatives_in ds k ess ≡ None → Wrong (suc k) ess
   none_wrong zero h ess e =

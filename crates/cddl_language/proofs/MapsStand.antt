@@ -18,7 +18,7 @@ use Rattle.cddl_language.specs.Kinds.{Opened, opens_group, opens_type, opened_te
 use Rattle.cddl_language.specs.Reach.{Point, at_name, at_unwrapping}
 use Rattle.cddl_language.specs.Sites.{a_map, IsReached}
 use Rattle.cddl_language.specs.MapFaults as F
-use Rattle.cddl_language.specs.MapFaults.{group_of_part, group_in, point_of_part, point_in, IsSplicedInto, its_own, further, LeadsTo, by_itself, by_group, LacksKey, OccursBadly, ComesBack, choice_entries, group_entries, rule_entries, entry_at, closed_entry, IsBare, itself, in_parens, group_between, StandsAt, at_once, through, IsSpliced, of_map, of_parens, of_name, of_opened, HasNoKey, HasMapShape, comes_back, occurs_badly}
+use Rattle.cddl_language.specs.MapFaults.{group_of_part, group_in, point_of_part, point_in, IsSplicedInto, its_own, further, IsLedToBy, by_itself, by_group, LacksKey, OccursBadly, ComesBack, choice_entries, group_entries, rule_entries, entry_at, closed_entry, IsBare, itself, in_parens, group_between, StandsAt, at_once, through, IsSpliced, of_map, of_parens, of_name, of_opened, HasNoKey, HasMapShape, comes_back, occurs_badly}
 
 -- Lists.
 
@@ -30,20 +30,20 @@ first_or_later x xs y c = by (Contains-append_cases (x ∷ []) xs y c)
     by (inr h) = inr h
 
 -- an entry of the first choices, or of the last
-either : (ess fss : List Entries) (e : Entry) → Contains (F.entries_of (ess ++ fss)) e → Contains (F.entries_of ess) e ⊎ Contains (F.entries_of fss) e
+either : (ess fss : List Entries) (e : Entry) → Contains (F.all_entries (ess ++ fss)) e → Contains (F.all_entries ess) e ⊎ Contains (F.all_entries fss) e
 either [] fss e c = inr c
-either (es ∷ ess) fss e c = by (either ess fss e) (Contains-append_cases (entry_list es) (F.entries_of (ess ++ fss)) e c)
+either (es ∷ ess) fss e c = by (either ess fss e) (Contains-append_cases (entry_list es) (F.all_entries (ess ++ fss)) e c)
   where
-    by : (Contains (F.entries_of (ess ++ fss)) e → Contains (F.entries_of ess) e ⊎ Contains (F.entries_of fss) e) → Contains (entry_list es) e ⊎ Contains (F.entries_of (ess ++ fss)) e → Contains (entry_list es ++ F.entries_of ess) e ⊎ Contains (F.entries_of fss) e
-    by more (inl h) = inl (Contains-append_left (entry_list es) (F.entries_of ess) e h)
+    by : (Contains (F.all_entries (ess ++ fss)) e → Contains (F.all_entries ess) e ⊎ Contains (F.all_entries fss) e) → Contains (entry_list es) e ⊎ Contains (F.all_entries (ess ++ fss)) e → Contains (entry_list es ++ F.all_entries ess) e ⊎ Contains (F.all_entries fss) e
+    by more (inl h) = inl (Contains-append_left (entry_list es) (F.all_entries ess) e h)
     by more (inr h) = on (more h)
       where
-        on : Contains (F.entries_of ess) e ⊎ Contains (F.entries_of fss) e → Contains (entry_list es ++ F.entries_of ess) e ⊎ Contains (F.entries_of fss) e
-        on (inl i) = inl (Contains-append_right (entry_list es) (F.entries_of ess) e i)
+        on : Contains (F.all_entries ess) e ⊎ Contains (F.all_entries fss) e → Contains (entry_list es ++ F.all_entries ess) e ⊎ Contains (F.all_entries fss) e
+        on (inl i) = inl (Contains-append_right (entry_list es) (F.all_entries ess) e i)
         on (inr i) = inr i
 
 -- of one choice alone
-of_one : (es : Entries) (e : Entry) → Contains (F.entries_of (es ∷ [])) e → Contains (entry_list es) e
+of_one : (es : Entries) (e : Entry) → Contains (F.all_entries (es ∷ [])) e → Contains (entry_list es) e
 of_one es e c = by (Contains-append_cases (entry_list es) [] e c)
   where
     by : Contains (entry_list es) e ⊎ Contains [] e → Contains (entry_list es) e
@@ -180,18 +180,18 @@ module _ (r : S.Rule) (xs : List Term) where
       by more (inl h) = let k = more h in (k.0, Contains-append_left (choice_entries es) (d ∷ []) k.0 k.1, k.2)
       by more (inr h) = (d, Contains-push (choice_entries es) d, sym (only h))
 
-  group_is : (g : S.Group) (e : Entry) → Contains (F.entries_of (alternatives (fill_group ps xs (group_of g)))) e → OneIs (group_entries g) e
+  group_is : (g : S.Group) (e : Entry) → Contains (F.all_entries (alternatives (fill_group ps xs (group_of g)))) e → OneIs (group_entries g) e
   group_is (S.sole es) e c = choice_is es e (of_one (fill_entries ps xs (entries_of es)) e c)
   group_is (S.orelse g t es) e c = by (group_is g e) (either (alternatives (fill_group ps xs (group_of g))) (fill_entries ps xs (entries_of es) ∷ []) e c)
     where
-      by : (Contains (F.entries_of (alternatives (fill_group ps xs (group_of g)))) e → OneIs (group_entries g) e) → Contains (F.entries_of (alternatives (fill_group ps xs (group_of g)))) e ⊎ Contains (F.entries_of (fill_entries ps xs (entries_of es) ∷ [])) e → OneIs (group_entries g ++ choice_entries es) e
+      by : (Contains (F.all_entries (alternatives (fill_group ps xs (group_of g)))) e → OneIs (group_entries g) e) → Contains (F.all_entries (alternatives (fill_group ps xs (group_of g)))) e ⊎ Contains (F.all_entries (fill_entries ps xs (entries_of es) ∷ [])) e → OneIs (group_entries g ++ choice_entries es) e
       by more (inl h) = let k = more h in (k.0, Contains-append_left (group_entries g) (choice_entries es) k.0 k.1, k.2)
       by more (inr h) = let k = choice_is es e (of_one (fill_entries ps xs (entries_of es)) e h) in (k.0, Contains-append_right (group_entries g) (choice_entries es) k.0 k.1, k.2)
 
-lone_is : (r : S.Rule) (xs : List Term) (d : S.GrpEnt) (e : Entry) → Contains (F.entries_of (lone (closed_entry r xs d) ∷ [])) e → OneIs r xs (d ∷ []) e
+lone_is : (r : S.Rule) (xs : List Term) (d : S.GrpEnt) (e : Entry) → Contains (F.all_entries (lone (closed_entry r xs d) ∷ [])) e → OneIs r xs (d ∷ []) e
 lone_is r xs d e c = (d, (0, omega arith, refl), sym (only (of_one (lone (closed_entry r xs d)) e c)))
 
-body_is : (r : S.Rule) (xs : List Term) (e : Entry) → Contains (F.entries_of (body_alternatives (fill_body (parameters_in r) xs (body_of r)))) e → OneIs r xs (rule_entries r) e
+body_is : (r : S.Rule) (xs : List Term) (e : Entry) → Contains (F.all_entries (body_alternatives (fill_body (parameters_in r) xs (body_of r)))) e → OneIs r xs (rule_entries r) e
 body_is (S.type_rule n a t) xs e c = lone_is (S.type_rule n a t) xs (S.typed None t) e c
 body_is (S.group_rule n a (S.grouped None p g k)) xs e c = group_is (S.group_rule n a (S.grouped None p g k)) xs g e c
 body_is (S.group_rule n a (S.grouped (Some o) p g k)) xs e c = lone_is (S.group_rule n a (S.grouped (Some o) p g k)) xs (S.grouped (Some o) p g k) e c
@@ -199,11 +199,11 @@ body_is (S.group_rule n a (S.typed o t)) xs e c = lone_is (S.group_rule n a (S.t
 body_is (S.group_rule n a (S.keyed o k t)) xs e c = lone_is (S.group_rule n a (S.keyed o k t)) xs (S.keyed o k t) e c
 
 -- an entry of what these definitions have is of one of them
-of_some : (xs : List Term) (ds : List Definition) (e : Entry) → Contains (F.entries_of (flat_map body_alternatives (map (λ (d : Definition). fill_body d.parameters xs d.body) ds))) e → (d : Definition) × Contains ds d × Contains (F.entries_of (body_alternatives (fill_body d.parameters xs d.body))) e
+of_some : (xs : List Term) (ds : List Definition) (e : Entry) → Contains (F.all_entries (flat_map body_alternatives (map (λ (d : Definition). fill_body d.parameters xs d.body) ds))) e → (d : Definition) × Contains ds d × Contains (F.all_entries (body_alternatives (fill_body d.parameters xs d.body))) e
 of_some xs [] e c = absurd (none_in c)
 of_some xs (d ∷ ds) e c = by (of_some xs ds e) (either (body_alternatives (fill_body d.parameters xs d.body)) (flat_map body_alternatives (map (λ (x : Definition). fill_body x.parameters xs x.body) ds)) e c)
   where
-    by : (Contains (F.entries_of (flat_map body_alternatives (map (λ (x : Definition). fill_body x.parameters xs x.body) ds))) e → (x : Definition) × Contains ds x × Contains (F.entries_of (body_alternatives (fill_body x.parameters xs x.body))) e) → Contains (F.entries_of (body_alternatives (fill_body d.parameters xs d.body))) e ⊎ Contains (F.entries_of (flat_map body_alternatives (map (λ (x : Definition). fill_body x.parameters xs x.body) ds))) e → (x : Definition) × Contains (d ∷ ds) x × Contains (F.entries_of (body_alternatives (fill_body x.parameters xs x.body))) e
+    by : (Contains (F.all_entries (flat_map body_alternatives (map (λ (x : Definition). fill_body x.parameters xs x.body) ds))) e → (x : Definition) × Contains ds x × Contains (F.all_entries (body_alternatives (fill_body x.parameters xs x.body))) e) → Contains (F.all_entries (body_alternatives (fill_body d.parameters xs d.body))) e ⊎ Contains (F.all_entries (flat_map body_alternatives (map (λ (x : Definition). fill_body x.parameters xs x.body) ds))) e → (x : Definition) × Contains (d ∷ ds) x × Contains (F.all_entries (body_alternatives (fill_body x.parameters xs x.body))) e
     by more (inl h) = (d, (0, omega arith, refl), h)
     by more (inr h) = let k = more h in (k.0, later d ds k.0 k.1, k.2)
 
@@ -218,17 +218,17 @@ module _ (rs : List S.Rule) where
   ds = definitions_in rs
 
   -- an entry of what a name means as a group
-  named_is : (f : Ref) (e : Entry) → is_group ds (name_of f) ≡ true → Contains (F.entries_of (group_choices ds f)) e → (r : S.Rule) × Contains rs r × (name_in r ≡ name_of f) × OneIs r (arguments_of f) (rule_entries r) e
+  named_is : (f : Ref) (e : Entry) → is_group ds (name_of f) ≡ true → Contains (F.all_entries (group_choices ds f)) e → (r : S.Rule) × Contains rs r × (name_in r ≡ name_of f) × OneIs r (arguments_of f) (rule_entries r) e
   named_is (call n ts) e g c = by (of_some (term_list ts) (definitions_of ds n) e c)
     where
-      by : (d : Definition) × Contains (definitions_of ds n) d × Contains (F.entries_of (body_alternatives (fill_body d.parameters (term_list ts) d.body))) e → (r : S.Rule) × Contains rs r × (name_in r ≡ n) × OneIs r (term_list ts) (rule_entries r) e
+      by : (d : Definition) × Contains (definitions_of ds n) d × Contains (F.all_entries (body_alternatives (fill_body d.parameters (term_list ts) d.body))) e → (r : S.Rule) × Contains rs r × (name_in r ≡ n) × OneIs r (term_list ts) (rule_entries r) e
       by h = on (of_prelude_or_text ds n h.0 h.1)
         where
           on : Contains prelude (h.0) × (is_in_prelude n ≡ true) ⊎ Contains ds (h.0) × ((h.0).name ≡ n) → (r : S.Rule) × Contains rs r × (name_in r ≡ n) × OneIs r (term_list ts) (rule_entries r) e
           on (inl k) = absurd (true≢false (sym g ∙ known_type (most_names ds) ds n k.1))
           on (inr k) =
               let m = made rs h.0 k.0 in
-              (m.0, m.1, sym (ap (λ (x : Definition). x.name) m.2) ∙ k.1, body_is m.0 (term_list ts) e (subst (λ (x : Definition). Contains (F.entries_of (body_alternatives (fill_body x.parameters (term_list ts) x.body))) e) m.2 h.2))
+              (m.0, m.1, sym (ap (λ (x : Definition). x.name) m.2) ∙ k.1, body_is m.0 (term_list ts) e (subst (λ (x : Definition). Contains (F.all_entries (body_alternatives (fill_body x.parameters (term_list ts) x.body))) e) m.2 h.2))
 
   -- The group that `~` opens.
 
@@ -346,33 +346,33 @@ module _ (rs : List S.Rule) where
     abbrev StandsSomewhere : Entry → Type 0
     StandsSomewhere e = (q : Option Point) × Stands q e
 
-    part_stands : (r : S.Rule) (xs : List Term) (q : Option Point) (o : Option Token) (t : S.Types) → IsSpliced rs root r xs q (S.typed o t) → (p : Part) → part_of ds (fill (parameters_in r) xs (term_of t)) ≡ p → Said p → (fss : List Entries) → group_of_part ds p ≡ Some fss → (e : Entry) → Contains (F.entries_of fss) e → (w : Point) × (point_of_part ds p ≡ Some w) × Stands (Some w) e
+    part_stands : (r : S.Rule) (xs : List Term) (q : Option Point) (o : Option Token) (t : S.Types) → IsSpliced rs root r xs q (S.typed o t) → (p : Part) → part_of ds (fill (parameters_in r) xs (term_of t)) ≡ p → Said p → (fss : List Entries) → group_of_part ds p ≡ Some fss → (e : Entry) → Contains (F.all_entries fss) e → (w : Point) × (point_of_part ds p ≡ Some w) × Stands (Some w) e
     part_stands r xs q o t s asks_type i h fss g e c = absurd (none_is_some g)
     part_stands r xs q o t s (names_group f) i h fss g e c =
-        let k = named_is f e h (subst (λ us. Contains (F.entries_of us) e) (sym (same_some g)) c) in
+        let k = named_is f e h (subst (λ us. Contains (F.all_entries us) e) (sym (same_some g)) c) in
         (at_name f, refl, record { rule = k.0; arguments = arguments_of f; entry = (k.3).0; spliced = of_name s (ap (point_of_part ds) i) k.1 k.2 (k.3).1; same = (k.3).2 })
     part_stands r xs q o t s (opens f g') i h fss g e c =
         let w = place_in (most_names ds) f g' h in
-        let k = group_is w.rule w.arguments w.group e (subst (λ x. Contains (F.entries_of (alternatives x)) e) w.same (subst (λ us. Contains (F.entries_of us) e) (sym (same_some g)) c)) in
+        let k = group_is w.rule w.arguments w.group e (subst (λ x. Contains (F.all_entries (alternatives x)) e) w.same (subst (λ us. Contains (F.all_entries us) e) (sym (same_some g)) c)) in
         (at_unwrapping f, refl, record { rule = w.rule; arguments = w.arguments; entry = k.0; spliced = of_opened s (ap (point_of_part ds) i) w.stands k.1; same = k.2 })
 
     -- what stands in the group of an entry that stands in the text, stands there by the entry's reference, if it has one
     abbrev StandsBy : Entry → Entry → Type 0
     StandsBy d e = (q : Option Point) × Stands q e × ((p : Point) → point_in ds d ≡ Some p → q ≡ Some p)
 
-    entry_stands : (r : S.Rule) (xs : List Term) (q : Option Point) (d : S.GrpEnt) → IsSpliced rs root r xs q d → (fss : List Entries) → group_in ds (closed_entry r xs d) ≡ Some fss → (e : Entry) → Contains (F.entries_of fss) e → StandsBy (closed_entry r xs d) e
+    entry_stands : (r : S.Rule) (xs : List Term) (q : Option Point) (d : S.GrpEnt) → IsSpliced rs root r xs q d → (fss : List Entries) → group_in ds (closed_entry r xs d) ≡ Some fss → (e : Entry) → Contains (F.all_entries fss) e → StandsBy (closed_entry r xs d) e
     entry_stands r xs q (S.typed o t) s fss g e c =
         let w = part_stands r xs q o t s (part_of ds (fill (parameters_in r) xs (term_of t))) refl (said (stripped (fill (parameters_in r) xs (term_of t)))) fss g e c in
         (Some (w.0), w.2, λ p i. sym w.1 ∙ i)
     entry_stands r xs q (S.keyed o k t) s fss g e c = absurd (none_is_some g)
     entry_stands r xs q (S.grouped o p g' k) s fss g e c =
-        let w = group_is r xs g' e (subst (λ us. Contains (F.entries_of us) e) (sym (same_some g)) c) in
+        let w = group_is r xs g' e (subst (λ us. Contains (F.all_entries us) e) (sym (same_some g)) c) in
         (q, record { rule = r; arguments = xs; entry = w.0; spliced = of_parens s w.1; same = w.2 }, λ p' i. absurd (none_is_some i))
 
-    group_stands : (q : Option Point) (d : Entry) → Stands q d → (fss : List Entries) → group_in ds d ≡ Some fss → (e : Entry) → Contains (F.entries_of fss) e → StandsBy d e
+    group_stands : (q : Option Point) (d : Entry) → Stands q d → (fss : List Entries) → group_in ds d ≡ Some fss → (e : Entry) → Contains (F.all_entries fss) e → StandsBy d e
     group_stands q d s fss g e c = subst (λ x. StandsBy x e) s.same (entry_stands s.rule s.arguments q s.entry s.spliced fss (ap (group_in ds) s.same ∙ g) e c)
 
-    spliced_stands : {e : Entry} {ess : List Entries} → IsSplicedInto ds e ess → ((d : Entry) → Contains (F.entries_of ess) d → StandsSomewhere d) → StandsSomewhere e
+    spliced_stands : {e : Entry} {ess : List Entries} → IsSplicedInto ds e ess → ((d : Entry) → Contains (F.all_entries ess) d → StandsSomewhere d) → StandsSomewhere e
     spliced_stands {e = e} (its_own c) h = h e c
     spliced_stands (further {fss = fss} {d = d} c g s) h = spliced_stands s (λ e k. let w = h d c in let u = group_stands w.0 d w.1 fss g e k in (u.0, u.1))
 
@@ -383,7 +383,7 @@ module _ (rs : List S.Rule) where
     reference_of : (p : Point) (e : Entry) → StandsSomewhere e → point_in ds e ≡ Some p → HasReference p
     reference_of p e w i = ((w.1).rule, (w.1).arguments, w.0, (w.1).entry, (w.1).spliced, ap (point_in ds) (w.1).same ∙ i)
 
-    pub reference_stands : (r : S.Rule) (xs : List Term) (q : Option Point) (e : S.GrpEnt) (p : Point) → IsSpliced rs root r xs q e → LeadsTo ds p (closed_entry r xs e) → HasReference p
+    pub reference_stands : (r : S.Rule) (xs : List Term) (q : Option Point) (e : S.GrpEnt) (p : Point) → IsSpliced rs root r xs q e → IsLedToBy ds p (closed_entry r xs e) → HasReference p
     reference_stands r xs q e p s (by_itself i) = (r, xs, q, e, s, i)
     reference_stands r xs q e p s (by_group {d = d} {fss = fss} g i j) = reference_of p d (spliced_stands i (λ x c. let w = entry_stands r xs q e s fss g x c in (w.0, w.1))) j
 
@@ -391,7 +391,7 @@ module _ (rs : List S.Rule) where
       abbrev own : List Entries
       own = alternatives (fill_group (parameters_in r) xs (group_of g))
 
-      map_stands : (e : Entry) → Contains (F.entries_of own) e → StandsSomewhere e
+      map_stands : (e : Entry) → Contains (F.all_entries own) e → StandsSomewhere e
       map_stands e c = let w = group_is r xs g e c in (None, record { rule = r; arguments = xs; entry = w.0; spliced = of_map reached w.1; same = w.2 })
 
       pub no_key_stands : (e : Entry) → IsSplicedInto ds e own → LacksKey ds e → (at : ℕ) × HasNoKey rs root at
@@ -410,19 +410,19 @@ module _ (rs : List S.Rule) where
       deeper (further c k s) h i = further c k (deeper s h i)
 
       -- the entry of the reference's own that leads to it
-      own_leads : {p : Point} {e : Entry} {ess : List Entries} → IsSplicedInto ds e ess → LeadsTo ds p e → (d : Entry) × Contains (F.entries_of ess) d × LeadsTo ds p d
+      own_leads : {p : Point} {e : Entry} {ess : List Entries} → IsSplicedInto ds e ess → IsLedToBy ds p e → (d : Entry) × Contains (F.all_entries ess) d × IsLedToBy ds p d
       own_leads {e = e} (its_own c) l = (e, c, l)
       own_leads {p = p} {e = e} (further {fss = fss} {d = d} c k s) l = (d, c, by l)
         where
-          by : LeadsTo ds p e → LeadsTo ds p d
+          by : IsLedToBy ds p e → IsLedToBy ds p d
           by (by_itself i) = by_group k s i
           by (by_group i u j) = by_group k (deeper s i u) j
 
       by_reference : (p : Point) (d e : Entry) → point_in ds d ≡ Some p → StandsBy d e → Stands (Some p) e
       by_reference p d e i w = subst (λ q. Stands q e) (w.2 p i) w.1
 
-      told : (p : Point) (e : Entry) → Stands (Some p) e → LeadsTo ds p e → (at : ℕ) × HasMapShape rs root at
-      told p e s l = (entry_at s.entry, comes_back s.spliced (subst (LeadsTo ds p) (sym s.same) l) refl)
+      told : (p : Point) (e : Entry) → Stands (Some p) e → IsLedToBy ds p e → (at : ℕ) × HasMapShape rs root at
+      told p e s l = (entry_at s.entry, comes_back s.spliced (subst (IsLedToBy ds p) (sym s.same) l) refl)
 
       pub way_back_stands : (e : Entry) → ComesBack ds own e → (at : ℕ) × HasMapShape rs root at
       way_back_stands e b =

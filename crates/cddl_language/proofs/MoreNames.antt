@@ -7,7 +7,7 @@ use Rattle.cddl_language.specs.Terms.{Term, literal, named, parens, range, contr
 use Rattle.cddl_language.specs.Substitution.{group_choices, type_choices}
 use Rattle.cddl_language.specs.Kinds.{Part, asks_type, names_group, opens, is_group, part_of}
 use Rattle.cddl_language.specs.Controls.{Computation, Control, left_alone, left_and_right, held_item, held_sequence, compared, sized, computed, control_of}
-use Rattle.cddl_language.specs.Choices.{chosen_each, chosen_entries, chosen_entry, chosen_group, chosen_in, chosen_part, joined}
+use Rattle.cddl_language.specs.Choices.{chosen_each, chosen_entries, chosen_entry, chosen_group, chosen_in, chosen_part, types_of_both}
 use Rattle.cddl_language.specs.Literals.{Values, computed_literal, controlled_literal, literal_by, literal_in, only_choice}
 use Rattle.cddl_language.specs.Sizes.{Sizes, all_sizes, both_sizes, sizes_by, sizes_in}
 
@@ -25,8 +25,8 @@ if_type false o q h = h
 
 -- what `&` chooses
 
-joined_follows : (o q p s : Option (List Term)) → Follows o p → Follows q s → Follows (joined o q) (joined p s)
-joined_follows (Some ts) (Some us) p s h k vs e = subst (λ x. joined x s ≡ Some vs) (sym (h ts refl)) (subst (λ y. joined (Some ts) y ≡ Some vs) (sym (k us refl)) e)
+joined_follows : (o q p s : Option (List Term)) → Follows o p → Follows q s → Follows (types_of_both o q) (types_of_both p s)
+joined_follows (Some ts) (Some us) p s h k vs e = subst (λ x. types_of_both x s ≡ Some vs) (sym (h ts refl)) (subst (λ y. types_of_both (Some ts) y ≡ Some vs) (sym (k us refl)) e)
 joined_follows (Some ts) None p s h k vs e = absurd (none_is_some e)
 joined_follows None q p s h k vs e = absurd (none_is_some e)
 

@@ -15,7 +15,7 @@ use Rattle.cddl_language.specs.Kinds.{Opened, Part, asks_type, names_group, open
 use Rattle.cddl_language.specs.Reach.{Reaches, at_root, onward, Point, ref_at, is_reference, at_name, at_choice, at_chosen_name, points_in}
 use Rattle.cddl_language.specs.Literals.{Values}
 use Rattle.cddl_language.specs.Free as R
-use Rattle.cddl_language.specs.Free.{IsFree, IsFreeInSome, IsFreeInEntry, IsFreeInChoice, LeadsTo, LeadsOn, LeadsBack, IsOnCycle}
+use Rattle.cddl_language.specs.Free.{IsFree, IsFreeInSome, IsFreeInEntry, IsFreeInChoice, IsFreeInMeaning, LeadsOn, LeadsBack, IsOnCycle}
 use Rattle.cddl_language.specs.Faults as F
 use Rattle.cddl_language.specs.Faults.{IsFaultAt, definitions, first_rule, rules}
 use Rattle.cddl_language.specs.Texts as T
@@ -142,7 +142,7 @@ abbrev FromName : Point → Point → Type 0
 FromName (at_name r) p = p ≡ at_chosen_name b
 FromName _ p = Unit {0}
 
-from_t : (p q : Point) → ref_at q ≡ t → LeadsTo ds p q → FromName q p
+from_t : (p q : Point) → ref_at q ≡ t → IsFreeInMeaning ds p q → FromName q p
 from_t p q e (R.by_type {r = r} {t = u} h c f) = in_choice p (subst (λ z. IsFree ds p z) (only (subst (λ ts. Contains ts u) t_means (subst (λ z. Contains (type_choices ds z) u) e c))) f)
 from_t p q e (R.by_group {r = r} h f) = absurd (false≢true (sym t_is_type ∙ subst (λ z. is_group ds (name_of z) ≡ true) e h))
 from_t p q e (R.by_opened_group h f) = tt
@@ -156,7 +156,7 @@ FromB (at_choice r) p = p ≡ at_chosen_name b
 FromB (at_chosen_name r) p = p ≡ at_name t
 FromB _ p = ⊥
 
-from_b : (p q : Point) → ref_at q ≡ b → LeadsTo ds p q → FromB q p
+from_b : (p q : Point) → ref_at q ≡ b → IsFreeInMeaning ds p q → FromB q p
 from_b p q e (R.by_type {r = r} h c f) = absurd (false≢true (sym (subst (λ z. is_group ds (name_of z) ≡ false) e h) ∙ b_is_group))
 from_b p q e (R.by_group {r = r} h f) = nothing p (subst (λ ess. IsFreeInSome ds p ess) b_means (subst (λ z. IsFreeInSome ds p (group_choices ds z)) e f))
 from_b p q e (R.by_opened_group {r = r} {g = g} h f) = opens_nothing r (opens_group g) e h
@@ -169,7 +169,7 @@ from_b p q e (R.by_opened_choice {r = r} {g = g} h w f) = opens_nothing r (opens
 abbrev IsInside : Point → Type 0
 IsInside p = (p ≡ at_name t) ⊎ (p ≡ at_chosen_name b)
 
-stays : (p q : Point) → IsInside p → LeadsTo ds q p → IsInside q
+stays : (p q : Point) → IsInside p → IsFreeInMeaning ds q p → IsInside q
 stays p q (inl e) h = inr (subst (λ z. FromName z q) e (from_t q p (ap ref_at e) h))
 stays p q (inr e) h = inl (subst (λ z. FromB z q) e (from_b q p (ap ref_at e) h))
 

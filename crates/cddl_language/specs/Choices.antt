@@ -6,9 +6,9 @@ use Rattle.cddl_language.specs.Substitution.{group_choices}
 use Rattle.cddl_language.specs.Kinds.{Part, asks_type, names_group, opens, part_of}
 use Rattle.cddl_language.specs.Reach.{most_instances}
 
-abbrev pub joined : Option (List Term) → Option (List Term) → Option (List Term)
-joined (Some ts) (Some us) = Some (ts ++ us)
-joined _ _ = None
+abbrev pub types_of_both : Option (List Term) → Option (List Term) → Option (List Term)
+types_of_both (Some ts) (Some us) = Some (ts ++ us)
+types_of_both _ _ = None
 
 -- They are those of the group's entries in order, through `//` and nested groups; none where an entry occurs other than
 -- once, or where a group comes back to itself (RFC 8610 leaves this open).
@@ -23,11 +23,11 @@ module _ (ds : List Definition) where
     abbrev mutual
       pub chosen_group : Group → Option (List Term)
       chosen_group (sole es) = chosen_entries es
-      chosen_group (orelse g es) = joined (chosen_group g) (chosen_entries es)
+      chosen_group (orelse g es) = types_of_both (chosen_group g) (chosen_entries es)
 
       pub chosen_entries : Entries → Option (List Term)
       chosen_entries no_entries = Some []
-      chosen_entries (entries es e c) = joined (chosen_entries es) (chosen_entry e)
+      chosen_entries (entries es e c) = types_of_both (chosen_entries es) (chosen_entry e)
 
       pub chosen_entry : Entry → Option (List Term)
       chosen_entry (typed o t) = if occurs_once o then chosen_part t (part_of ds t) else None
@@ -36,7 +36,7 @@ module _ (ds : List Definition) where
 
     abbrev pub chosen_each : List Entries → Option (List Term)
     chosen_each [] = Some []
-    chosen_each (es ∷ ess) = joined (chosen_entries es) (chosen_each ess)
+    chosen_each (es ∷ ess) = types_of_both (chosen_entries es) (chosen_each ess)
 
   -- through so many names at most
   abbrev pub chosen_in : ℕ → List Entries → Option (List Term)

@@ -9,11 +9,11 @@ use Rattle.cddl_meaning.specs.Forms.{Most, at_most, any_number_of}
 use Rattle.cddl_language.specs.Numbers as N
 use Rattle.cddl_language.specs.Numbers.{hash_form, least_of, most_of}
 use Rattle.cddl_language.specs.Terms.{Text, Term, Ref, Group, Definition, name_of}
-use Rattle.cddl_language.specs.Reading.{text_of, control_name, occurrence, term_of2, ref_of, group_of, rule_head, name_in, name_at, parameters_in, parameter_tokens, sign_of, definition_of, rules_of, definitions_in}
+use Rattle.cddl_language.specs.Reading.{text_of, first_start, control_name, occurrence, term_of2, ref_of, group_of, rule_head, name_in, name_at, parameters_in, parameter_tokens, sign_of, definition_of, rules_of, definitions_in}
 use Rattle.cddl_literal.specs.Numbers.{Meaning}
 use Rattle.cddl_literal.specs.declared.operators.Fault.TheVariants.{OutOfRange, NotUtf8}
 use Rattle.cddl_literal.specs.Operators.Joins.{string_of}
-use Rattle.cddl_literal.specs.Operators.Sums.{number_of as number_in}
+use Rattle.cddl_literal.specs.Operators.Sums.{number_of as summand}
 use Rattle.cddl_language.specs.Controls.{Comparison, is_ordering, control_of, comparison_in, Computation, sum, join, computation_in, is_sized}
 use Rattle.cddl_language.specs.Environment.{is_same, is_equals, named_so, definitions_of, is_in_prelude, is_socket}
 use Rattle.cddl_language.specs.Substitution.{fill, fill_ref, fill_group}
@@ -188,12 +188,8 @@ pub data HasRecursion (s : Specification) (root : Text) (at : ℕ) : Type 0 wher
   without_rule : {p : Point} → IsOnCycle (definitions s) root p → ((r : S.Rule) → IsRuleOnCycle s root r → ⊥) → at ≡ 0 → HasRecursion s root at
 
 -- the offset of the first token of an operand
-abbrev pub first_at : List S.Lexeme → ℕ
-first_at [] = 0
-first_at (l ∷ ls) = (l.1).start
-
 abbrev pub operand_at : S.Type2 → ℕ
-operand_at x = first_at (S.flat_type2 x)
+operand_at x = first_start (S.flat_type2 x)
 
 -- the operand of a site in the rule r is no whole number, where its instance has the arguments xs
 abbrev pub IsNotWhole : Specification → Values → S.Rule → List Term → S.Type2 → Type 0
@@ -220,7 +216,7 @@ asks_size _ = false
 
 -- a literal that a computation takes: a whole number for a sum, a string for a join (RFC 9165 section 2)
 abbrev pub is_operand : Computation → Option Meaning → Bool
-is_operand sum (Some v) = is_some (number_in v)
+is_operand sum (Some v) = is_some (summand v)
 is_operand (join j) (Some v) = is_some (string_of v)
 is_operand c None = false
 
@@ -234,14 +230,18 @@ pub data HasNotLiteral (s : Specification) (worth : Values) (root : Text) (at : 
   comparand : {r : S.Rule} {xs : List Term} {x y : S.Type2} {o : S.Operator} {c : Comparison} → IsReached (rules s) root r xs (an_operation x o y) → comparison_of o ≡ Some c → literal_there s worth r xs y ≡ None → at ≡ operand_at y → HasNotLiteral s worth root at
   left_operand : {r : S.Rule} {xs : List Term} {x y : S.Type2} {o : S.Operator} {c : Computation} → IsReached (rules s) root r xs (an_operation x o y) → computation_of o ≡ Some c → is_operand c (literal_there s worth r xs x) ≡ false → at ≡ operand_at x → HasNotLiteral s worth root at
   right_operand : {r : S.Rule} {xs : List Term} {x y : S.Type2} {o : S.Operator} {c : Computation} → IsReached (rules s) root r xs (an_operation x o y) → computation_of o ≡ Some c → is_operand c (literal_there s worth r xs y) ≡ false → at ≡ operand_at y → HasNotLiteral s worth root at
-  out_of_range : {r : S.Rule} {xs : List Term} {x y : S.Type2} {o : S.Operator} {c : Computation} {u v : Meaning} → IsReached (rules s) root r xs (an_operation x o y) → computation_of o ≡ Some c → literal_there s worth r xs x ≡ Some u → literal_there s worth r xs y ≡ Some v → computed_from c u v ≡ Err OutOfRange → at ≡ operand_at y → HasNotLiteral s worth root at
+  out_of_range : {r : S.Rule} {xs : List Term} {x y : S.Type2} {o : S.Operator} {c : Computation} {u v : Meaning} →
+      IsReached (rules s) root r xs (an_operation x o y) → computation_of o ≡ Some c →
+      literal_there s worth r xs x ≡ Some u → literal_there s worth r xs y ≡ Some v → computed_from c u v ≡ Err OutOfRange → at ≡ operand_at y → HasNotLiteral s worth root at
 
 -- C15: a controller that is a literal and no whole number, where the control asks for the order of numbers (section 3.8.6); one
 -- of `.size` that has no members as they have to be (section 3.8.1); a joined text that is not UTF-8 (RFC 9165 section 2.2).
 pub data HasBadController (s : Specification) (worth : Values) (root : Text) (at : ℕ) : Type 0 where
   no_number : {r : S.Rule} {xs : List Term} {x y : S.Type2} {o : S.Operator} {c : Comparison} {v : Meaning} → IsReached (rules s) root r xs (an_operation x o y) → comparison_of o ≡ Some c → is_ordering c ≡ true → literal_there s worth r xs y ≡ Some v → whole (Some v) ≡ None → at ≡ operand_at y → HasBadController s worth root at
   no_sizes : {r : S.Rule} {xs : List Term} {x y : S.Type2} {o : S.Operator} → IsReached (rules s) root r xs (an_operation x o y) → asks_size o ≡ true → sizes_there s worth r xs y ≡ None → at ≡ operand_at y → HasBadController s worth root at
-  not_utf8 : {r : S.Rule} {xs : List Term} {x y : S.Type2} {o : S.Operator} {c : Computation} {u v : Meaning} → IsReached (rules s) root r xs (an_operation x o y) → computation_of o ≡ Some c → literal_there s worth r xs x ≡ Some u → literal_there s worth r xs y ≡ Some v → computed_from c u v ≡ Err NotUtf8 → at ≡ operand_at y → HasBadController s worth root at
+  not_utf8 : {r : S.Rule} {xs : List Term} {x y : S.Type2} {o : S.Operator} {c : Computation} {u v : Meaning} →
+      IsReached (rules s) root r xs (an_operation x o y) → computation_of o ≡ Some c →
+      literal_there s worth r xs x ≡ Some u → literal_there s worth r xs y ≡ Some v → computed_from c u v ≡ Err NotUtf8 → at ≡ operand_at y → HasBadController s worth root at
 
 abbrev pub is_range_sign : S.Operator → Bool
 is_range_sign (S.range t) = true

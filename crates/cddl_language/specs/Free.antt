@@ -76,19 +76,19 @@ module _ (ds : List Definition) where
 
   -- p is free in what q means. The choice from a group means something only where `&` can choose from it: a group that comes
   -- back to itself is no choice, and where nothing chooses from it that is no fault.
-  pub data LeadsTo (p : Point) : Point → Type 0 where
-    by_type : {r : Ref} {t : Term} → is_group ds (name_of r) ≡ false → Contains (type_choices ds r) t → IsFree p t → LeadsTo p (at_name r)
-    by_group : {r : Ref} → is_group ds (name_of r) ≡ true → IsFreeInSome p (group_choices ds r) → LeadsTo p (at_name r)
-    by_opened_group : {r : Ref} {g : Group} → opened ds r ≡ Some (opens_group g) → IsFreeInSome p (alternatives g) → LeadsTo p (at_unwrapping r)
-    by_content : {r : Ref} {t : Term} → opened ds r ≡ Some (opens_type t) → IsFree p t → LeadsTo p (at_unwrapping r)
-    by_choice : {r : Ref} → p ≡ at_chosen_name r → LeadsTo p (at_choice r)
-    by_chosen_name : {r : Ref} → can_choose ds (group_choices ds r) ≡ true → IsFreeInChoice p (group_choices ds r) → LeadsTo p (at_chosen_name r)
-    by_opened_choice : {r : Ref} {g : Group} → opened ds r ≡ Some (opens_group g) → can_choose ds (alternatives g) ≡ true → IsFreeInChoice p (alternatives g) → LeadsTo p (at_opened_choice r)
+  pub data IsFreeInMeaning (p : Point) : Point → Type 0 where
+    by_type : {r : Ref} {t : Term} → is_group ds (name_of r) ≡ false → Contains (type_choices ds r) t → IsFree p t → IsFreeInMeaning p (at_name r)
+    by_group : {r : Ref} → is_group ds (name_of r) ≡ true → IsFreeInSome p (group_choices ds r) → IsFreeInMeaning p (at_name r)
+    by_opened_group : {r : Ref} {g : Group} → opened ds r ≡ Some (opens_group g) → IsFreeInSome p (alternatives g) → IsFreeInMeaning p (at_unwrapping r)
+    by_content : {r : Ref} {t : Term} → opened ds r ≡ Some (opens_type t) → IsFree p t → IsFreeInMeaning p (at_unwrapping r)
+    by_choice : {r : Ref} → p ≡ at_chosen_name r → IsFreeInMeaning p (at_choice r)
+    by_chosen_name : {r : Ref} → can_choose ds (group_choices ds r) ≡ true → IsFreeInChoice p (group_choices ds r) → IsFreeInMeaning p (at_chosen_name r)
+    by_opened_choice : {r : Ref} {g : Group} → opened ds r ≡ Some (opens_group g) → can_choose ds (alternatives g) ≡ true → IsFreeInChoice p (alternatives g) → IsFreeInMeaning p (at_opened_choice r)
 
   -- from p over one step or more to q
   pub data LeadsOn : Point → Point → Type 0 where
-    at_once : {p q : Point} → LeadsTo q p → LeadsOn p q
-    onwards : {p q s : Point} → LeadsTo q p → LeadsOn q s → LeadsOn p s
+    at_once : {p q : Point} → IsFreeInMeaning q p → LeadsOn p q
+    onwards : {p q s : Point} → IsFreeInMeaning q p → LeadsOn q s → LeadsOn p s
 
   -- from a point of an instance back to itself
   pub record LeadsBack (root : Text) (p : Point) : Type 0 where

@@ -4,7 +4,7 @@ use Rattle.cddl_token.specs.declared.Token.{Token}
 use Rattle.tree_nodes.specs.Syntax.Syntax as S
 use Rattle.cddl_language.specs.Terms.{Text, Term, named, Ref, Entries, Entry, typed, keyed, grouped, of_types, Definition, alternatives, entry_list, stripped, occurrence_of, name_of, arguments_of, lone}
 use Rattle.cddl_language.specs.Environment.{is_in, definitions_of}
-use Rattle.cddl_language.specs.Reading.{group_of, entry_of, rule_name, name_in, parameters_in, definitions_in}
+use Rattle.cddl_language.specs.Reading.{first_start, group_of, entry_of, rule_name, name_in, parameters_in, definitions_in}
 use Rattle.cddl_language.specs.Substitution.{fill_ref, fill_group, fill_entry, group_choices}
 use Rattle.cddl_language.specs.Kinds.{Part, asks_type, names_group, opens, part_of}
 use Rattle.cddl_language.specs.Reach.{Point, at_name, at_unwrapping}
@@ -23,8 +23,8 @@ most_members = 16384
 abbrev pub AreTooMany : Alternatives → Type 0
 AreTooMany mss = (most_alternatives < length mss) ⊎ (most_members < length (members mss))
 
-abbrev pub entries_of : List Entries → List Entry
-entries_of ess = flat_map entry_list ess
+abbrev pub all_entries : List Entries → List Entry
+all_entries ess = flat_map entry_list ess
 
 module _ (ds : List Definition) where
   -- The choices of the group that an entry names, opens or has in parentheses, and the reference by which it does so.
@@ -51,13 +51,13 @@ module _ (ds : List Definition) where
 
   -- The entries that are spliced into a group: its own, and those of the group that one of them has.
   pub data IsSplicedInto (e : Entry) : List Entries → Type 0 where
-    its_own : {ess : List Entries} → Contains (entries_of ess) e → IsSplicedInto e ess
-    further : {ess fss : List Entries} {d : Entry} → Contains (entries_of ess) d → group_in d ≡ Some fss → IsSplicedInto e fss → IsSplicedInto e ess
+    its_own : {ess : List Entries} → Contains (all_entries ess) e → IsSplicedInto e ess
+    further : {ess fss : List Entries} {d : Entry} → Contains (all_entries ess) d → group_in d ≡ Some fss → IsSplicedInto e fss → IsSplicedInto e ess
 
   -- an entry leads to a reference: by itself, or by an entry that is spliced into its group
-  pub data LeadsTo (p : Point) (e : Entry) : Type 0 where
-    by_itself : point_in e ≡ Some p → LeadsTo p e
-    by_group : {d : Entry} {fss : List Entries} → group_in e ≡ Some fss → IsSplicedInto d fss → point_in d ≡ Some p → LeadsTo p e
+  pub data IsLedToBy (p : Point) (e : Entry) : Type 0 where
+    by_itself : point_in e ≡ Some p → IsLedToBy p e
+    by_group : {d : Entry} {fss : List Entries} → group_in e ≡ Some fss → IsSplicedInto d fss → point_in d ≡ Some p → IsLedToBy p e
 
   -- an entry without a key that asks a type
   pub data LacksKey : Entry → Type 0 where
@@ -77,7 +77,7 @@ module _ (ds : List Definition) where
     pub named : point_in entry ≡ Some reference
     pub has : group_in entry ≡ Some group
     pub inside : IsSplicedInto e group
-    pub back : LeadsTo reference e
+    pub back : IsLedToBy reference e
 
   -- a way into these choices through so many names, each in the group of the one before
   pub data GoesThrough : ℕ → List Entries → Type 0 where
@@ -114,10 +114,6 @@ rule_entries (S.group_rule n a (S.grouped None p g c)) = group_entries g
 rule_entries (S.group_rule n a e) = e ∷ []
 
 -- the offset of an entry's first token
-abbrev pub first_start : List S.Lexeme → ℕ
-first_start [] = 0
-first_start (l ∷ ls) = (l.1).start
-
 abbrev pub entry_at : S.GrpEnt → ℕ
 entry_at e = first_start (S.flat_entry e)
 
@@ -164,7 +160,7 @@ module _ (rs : List S.Rule) where
 
     -- C17: an entry of a map that leads back to the reference in whose group it stands; a group that may not occur so.
     pub data HasMapShape (at : ℕ) : Type 0 where
-      comes_back : {r : S.Rule} {xs : List Term} {p : Point} {e : S.GrpEnt} → IsSpliced r xs (Some p) e → LeadsTo (definitions_in rs) p (closed_entry r xs e) → at ≡ entry_at e → HasMapShape at
+      comes_back : {r : S.Rule} {xs : List Term} {p : Point} {e : S.GrpEnt} → IsSpliced r xs (Some p) e → IsLedToBy (definitions_in rs) p (closed_entry r xs e) → at ≡ entry_at e → HasMapShape at
       occurs_badly : {r : S.Rule} {xs : List Term} {q : Option Point} {e : S.GrpEnt} → IsSpliced r xs q e → OccursBadly (definitions_in rs) (closed_entry r xs e) → at ≡ entry_at e → HasMapShape at
 
     -- C18: a map whose group, or a part of it, has more alternatives than may be, or more entries in them.

@@ -78,9 +78,9 @@ occurs o mss = occurring (least_of o) (most_of o) mss
 
 -- Where something is refused, all is.
 
-abbrev pub joined : Option Alternatives → Option Alternatives → Option Alternatives
-joined (Some mss) (Some nss) = Some (mss ++ nss)
-joined _ _ = None
+abbrev pub alternatives_of_both : Option Alternatives → Option Alternatives → Option Alternatives
+alternatives_of_both (Some mss) (Some nss) = Some (mss ++ nss)
+alternatives_of_both _ _ = None
 
 abbrev pub combined : Option Alternatives → Option Alternatives → Option Alternatives
 combined (Some mss) (Some nss) = Some (ways mss nss)
@@ -103,7 +103,7 @@ module _ (ds : List Definition) where
     abbrev mutual
       pub in_group : Group → Option Alternatives
       in_group (sole es) = in_entries es
-      in_group (orelse g es) = joined (in_group g) (in_entries es)
+      in_group (orelse g es) = alternatives_of_both (in_group g) (in_entries es)
 
       pub in_entries : Entries → Option Alternatives
       in_entries no_entries = Some ([] ∷ [])
@@ -116,7 +116,7 @@ module _ (ds : List Definition) where
 
     abbrev pub in_each : List Entries → Option Alternatives
     in_each [] = Some []
-    in_each (es ∷ ess) = joined (in_entries es) (in_each ess)
+    in_each (es ∷ ess) = alternatives_of_both (in_entries es) (in_each ess)
 
   -- through so many names at most
   abbrev pub alternatives_in : ℕ → List Entries → Option Alternatives

@@ -8,6 +8,11 @@ use Rattle.cddl_language.specs.Terms.{Text, Literal, number, text, bytes, Term, 
 abbrev pub text_of : Token → Text
 text_of t = t.text.now
 
+-- the offset of the first of these tokens
+abbrev pub first_start : List S.Lexeme → ℕ
+first_start [] = 0
+first_start (l ∷ ls) = (l.1).start
+
 -- the name before `<`
 abbrev pub opened_name : Token → Text
 opened_name t = before 60 (text_of t)

@@ -17,7 +17,7 @@ ghost use Rattle.cddl_language.specs.Maps.{map_alternatives};
 ghost use Rattle.cddl_language.specs.Numbers.{hash_form, least_in, most_in, numbered, tag_number, uint_in};
 ghost use Rattle.cddl_language.specs.Prelude.{definition, plain};
 ghost use Rattle.cddl_language.specs.Reach.{Point, at_name, points_in};
-ghost use Rattle.cddl_language.specs.Free.{LeadsTo};
+ghost use Rattle.cddl_language.specs.Free.{IsFreeInMeaning};
 ghost use Rattle.cddl_language.specs.Reading.{definitions_in, rules_of};
 ghost use Rattle.cddl_language.specs.Sizes.{sizes_of};
 ghost use Rattle.cddl_language.specs.StandsFor.{StandsFor};
@@ -200,5 +200,5 @@ pub fn table()
 
 /// In `r = [g]`, `g = (int, ? g)` no reference is free in what `g` means.
 pub fn behind_an_item()
-    ensures { (p : Point) → LeadsTo (definitions_in (T.r_of_g ∷ T.int_then_maybe_g ∷ [])) p (at_name (call (codes "g") no_terms)) → ⊥ }
+    ensures { (p : Point) → IsFreeInMeaning (definitions_in (T.r_of_g ∷ T.int_then_maybe_g ∷ [])) p (at_name (call (codes "g") no_terms)) → ⊥ }
 {}

@@ -21,7 +21,7 @@ ghost use Rattle.cddl_meaning.specs.Judges.{Answer, No, Says, Yes};
 ghost use Rattle.cddl_meaning.specs.Literals.{HasPlainLiterals};
 ghost use Rattle.cddl_language.specs.Choices.{chosen, chosen_by_name, chosen_in};
 ghost use Rattle.cddl_language.specs.Controls.{Comparison, Computation, comparison_in, computation_in, control_of, is_ordering};
-ghost use Rattle.cddl_language.specs.MapFaults.{ComesBack, GoesThrough, HasMapShape, HasNoKey, IsSpliced, IsSplicedInto, LacksKey, LeadsTo, OccursBadly, closed_entry, point_in};
+ghost use Rattle.cddl_language.specs.MapFaults.{ComesBack, GoesThrough, HasMapShape, HasNoKey, IsSpliced, IsSplicedInto, LacksKey, IsLedToBy, OccursBadly, closed_entry, point_in};
 ghost use Rattle.cddl_language.specs.Maps.{Alternatives, alternatives_in, map_alternatives};
 ghost use Rattle.cddl_language.specs.Language.{Saying, TermSays, comparand, compared_test, language, type, reference, type_node};
 ghost use Rattle.cddl_language.specs.StandsFor.{StandsFor};
@@ -126,7 +126,7 @@ pub fn map_faults_stand()
     ensures keys { (rs : List Rule) (root : Text) (r : Rule) (xs : List Term) (t : Token) (g : S.Group) → IsReached rs root r xs (a_map t g) → (e : Entry) → IsSplicedInto (definitions_in rs) e (alternatives (fill_group (parameters_in r) xs (group_of g))) → LacksKey (definitions_in rs) e → (at : ℕ) × HasNoKey rs root at }
     ensures occurrences { (rs : List Rule) (root : Text) (r : Rule) (xs : List Term) (t : Token) (g : S.Group) → IsReached rs root r xs (a_map t g) → (e : Entry) → IsSplicedInto (definitions_in rs) e (alternatives (fill_group (parameters_in r) xs (group_of g))) → OccursBadly (definitions_in rs) e → (at : ℕ) × HasMapShape rs root at }
     ensures ways { (rs : List Rule) (root : Text) (r : Rule) (xs : List Term) (t : Token) (g : S.Group) → IsReached rs root r xs (a_map t g) → (e : Entry) → ComesBack (definitions_in rs) (alternatives (fill_group (parameters_in r) xs (group_of g))) e → (at : ℕ) × HasMapShape rs root at }
-    ensures leads { (rs : List Rule) (root : Text) (r : Rule) (xs : List Term) (q : Option Point) (e : S.GrpEnt) (p : Point) → IsSpliced rs root r xs q e → LeadsTo (definitions_in rs) p (closed_entry r xs e) → (s : Rule) × (ys : List Term) × (u : Option Point) × (d : S.GrpEnt) × IsSpliced rs root s ys u d × (point_in (definitions_in rs) (closed_entry s ys d) ≡ Some p) }
+    ensures leads { (rs : List Rule) (root : Text) (r : Rule) (xs : List Term) (q : Option Point) (e : S.GrpEnt) (p : Point) → IsSpliced rs root r xs q e → IsLedToBy (definitions_in rs) p (closed_entry r xs e) → (s : Rule) × (ys : List Term) × (u : Option Point) × (d : S.GrpEnt) × IsSpliced rs root s ys u d × (point_in (definitions_in rs) (closed_entry s ys d) ≡ Some p) }
 {}
 
 /// Where the group of a map has no alternatives, an entry that is spliced into it has neither a key nor a group, or is a group

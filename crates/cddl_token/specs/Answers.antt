@@ -60,11 +60,11 @@ StopsScan s (At code at) = Refused s 0 code at
 StopsScan s Memory = Unit {0}
 
 -- What a token of s stands for: a number, a text, bytes, or nothing.
-abbrev pub StandsForKind : Kind → List ℕ → ℕ → ℕ → Option Literal → Type 0
-StandsForKind Number s a b o = (m : Meaning) → IsNumber s a b m → option_map view o ≡ Some m
-StandsForKind Text s a b o = (v : List ℕ) → IsText s a b v → option_map view o ≡ Some (TextOf v)
-StandsForKind Bytes s a b o = (v : List ℕ) → IsBytes s a b v → option_map view o ≡ Some (BytesOf v)
-StandsForKind _ s a b o = o ≡ None
+abbrev pub IsReadAsOf : Kind → List ℕ → ℕ → ℕ → Option Literal → Type 0
+IsReadAsOf Number s a b o = (m : Meaning) → IsNumber s a b m → option_map view o ≡ Some m
+IsReadAsOf Text s a b o = (v : List ℕ) → IsText s a b v → option_map view o ≡ Some (TextOf v)
+IsReadAsOf Bytes s a b o = (v : List ℕ) → IsBytes s a b v → option_map view o ≡ Some (BytesOf v)
+IsReadAsOf _ s a b o = o ≡ None
 
-abbrev pub StandsFor : List ℕ → Token → Option Literal → Type 0
-StandsFor s t o = StandsForKind t.kind s t.start t.end o
+abbrev pub IsReadAs : List ℕ → Token → Option Literal → Type 0
+IsReadAs s t o = IsReadAsOf t.kind s t.start t.end o

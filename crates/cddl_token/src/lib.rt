@@ -6,7 +6,7 @@
 
 ghost use Rattle.std.specs.Prelude.{◌≡◌, ◌≢◌, ℕ, ◌<◌, ◌≤◌, ◌↔◌, ◌⊎◌, List, map, length, All, IsUtf8, IfOk, IfErr, IsOk, MatchResult, Some};
 ghost use Rattle.std.specs.Str.Lossy.{utf8_valid_len};
-ghost use Rattle.cddl_token.specs.Answers.{span, IsAnswered, IsReadFrom, InOrder, IsTokenized, IsRefused, Refuses, StandsFor};
+ghost use Rattle.cddl_token.specs.Answers.{span, IsAnswered, IsReadFrom, InOrder, IsTokenized, IsRefused, Refuses, IsReadAs};
 ghost use Rattle.cddl_token.specs.Messages.{code_text, refusal_text};
 ghost use Rattle.cddl_token.specs.Spelling.{IsId, IsGrammarId};
 ghost use Rattle.cddl_token.specs.Tokens.{Spanned, Tokenized, Refused};
@@ -317,7 +317,7 @@ pub fn tokens<'s>(alloc: Global, source: &'s [u8]) -> Result<Vec<Token<'s>>, Ref
 pub fn value(alloc: Global, token: &Token<'_>) -> Result<Option<Literal>, AllocError>
     requires { IsAnswered token.now }
     // Of whatever source it is a token, that is what it stands for there.
-    ensures stands { (s : List ℕ) → IsReadFrom s token.now → IfOk result (λ o. StandsFor s token.now o) }
+    ensures stands { (s : List ℕ) → IsReadFrom s token.now → IfOk result (λ o. IsReadAs s token.now o) }
     // Only the values of texts and of byte strings take memory.
     ensures no_memory { token.now.kind ≢ Kind.Text → token.now.kind ≢ Kind.Bytes → IsOk result }
 {

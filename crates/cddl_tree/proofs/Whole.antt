@@ -17,7 +17,7 @@ use Rattle.cddl_tree.specs.declared.frames.Stop.TheVariants as Stops
 use Rattle.cddl_token.specs.declared.Code.TheVariants.{Unexpected, TooNested}
 use Rattle.tree_nodes.specs.Syntax.Syntax.{Lexeme, Cddl, cddl, flat, flat_rules, nesting}
 use Rattle.tree_nodes.specs.Syntax.Machine as M
-use Rattle.tree_nodes.specs.Syntax.Answers.{lexeme, lexemes, Prints, Begins, nesting_limit, opened, open_after, deepest, IsTreeOf, Reaches, IsUnexpected, IsTooNested, IsRefused}
+use Rattle.tree_nodes.specs.Syntax.Answers.{lexeme, lexemes, Prints, Begins, nesting_limit, opened_after, open_after, deepest, IsTreeOf, Reaches, IsUnexpected, IsTooNested, IsRefused}
 use Rattle.tree_nodes.specs.declared.tree.Rule.{Rule}
 use Rattle.cddl_tree.specs.declared.frames.Now.{Now}
 use Rattle.cddl_tree.specs.declared.frames.Now.TheVariants as N
@@ -33,18 +33,18 @@ run-push : (s : M.State) (ts : List Token) (t : Token) → M.run s (lexemes (ts 
 run-push s [] t = refl
 run-push s (x ∷ ts) t = run-push (M.step s x.kind x) ts t
 
-open-push : (n : ℕ) (ts : List Token) (t : Token) → open_after n (lexemes (ts ++ t ∷ [])) ≡ opened t.kind (open_after n (lexemes ts))
+open-push : (n : ℕ) (ts : List Token) (t : Token) → open_after n (lexemes (ts ++ t ∷ [])) ≡ opened_after t.kind (open_after n (lexemes ts))
 open-push n [] t = refl
-open-push n (x ∷ ts) t = open-push (opened x.kind n) ts t
+open-push n (x ∷ ts) t = open-push (opened_after x.kind n) ts t
 
-deepest-push : (n : ℕ) (ts : List Token) (t : Token) → deepest n (lexemes (ts ++ t ∷ [])) ≡ max (deepest n (lexemes ts)) (opened t.kind (open_after n (lexemes ts)))
+deepest-push : (n : ℕ) (ts : List Token) (t : Token) → deepest n (lexemes (ts ++ t ∷ [])) ≡ max (deepest n (lexemes ts)) (opened_after t.kind (open_after n (lexemes ts)))
 deepest-push n [] t = refl
-deepest-push n (x ∷ ts) t = let e = deepest-push (opened x.kind n) ts t in omega arith
+deepest-push n (x ∷ ts) t = let e = deepest-push (opened_after x.kind n) ts t in omega arith
 
 open_within : (n : ℕ) (a b : List Token) → open_after n (lexemes a) ≤ deepest n (lexemes (a ++ b))
 open_within n [] [] = omega arith
 open_within n [] (y ∷ b) = omega arith
-open_within n (x ∷ a) b = let i = open_within (opened x.kind n) a b in omega arith
+open_within n (x ∷ a) b = let i = open_within (opened_after x.kind n) a b in omega arith
 
 -- A state of the parser is never stuck.
 
@@ -95,9 +95,9 @@ told read t s r i h = subst (λ (k : Kind). on (view_state read s.value) (λ m. 
 stepped : (read : Leaf → Token) (p : Progress) (ts : List Token) (t : Token) (r : Result (Box State Global) Stop) → Stands read p ts → Stepped read p.state t r → GivesState read t.start r (M.step (M.run M.begin (lexemes ts)) t.kind t)
 stepped read p ts t r h g = at_position (view_state read p.state.value) (M.run M.begin (lexemes ts)) (λ m. GivesState read t.start r (M.step m t.kind t)) h.position g
 
-pub stands_next : (read : Leaf → Token) (p : Progress) (s : Box State Global) (n : ℕ) (ts : List Token) (t : Token) → Stands read p ts → Stepped read p.state t (Ok s) → n ≡ opened t.kind p.count → n ≤ nesting_limit → Stands read (record { state = s; count = n }) (ts ++ t ∷ [])
+pub stands_next : (read : Leaf → Token) (p : Progress) (s : Box State Global) (n : ℕ) (ts : List Token) (t : Token) → Stands read p ts → Stepped read p.state t (Ok s) → n ≡ opened_after t.kind p.count → n ≤ nesting_limit → Stands read (record { state = s; count = n }) (ts ++ t ∷ [])
 stands_next read p s n ts t h g e w =
-    let c : n ≡ opened t.kind (open_after 0 (lexemes ts)) = e ∙ ap (opened t.kind) h.count in
+    let c : n ≡ opened_after t.kind (open_after 0 (lexemes ts)) = e ∙ ap (opened_after t.kind) h.count in
     let d = deepest-push 0 ts t in
     let i = h.within in
     record {
@@ -153,10 +153,10 @@ right read go stop p front back t (Stops.Unexpected n) h g = unexpected read go 
 pub refused : (read : Leaf → Token) → Going → Stuck → (p : Progress) (ts : List Token) (t : Token) (e : Stop) (r : Refusal) → Stands read p ts → Stepped read p.state t (Err e) → r ≡ refusal_of e → (back : List Token) → Refuses (ts ++ t ∷ back) r
 refused read go stop p ts t e r h g f back = rw f (right read go stop p ts back t e h (stepped read p ts t (Err e) h g))
 
-pub too_nested : (read : Leaf → Token) → Going → (p : Progress) (s : Box State Global) (n : ℕ) (ts : List Token) (t : Token) → Stands read p ts → Stepped read p.state t (Ok s) → n ≡ opened t.kind p.count → nesting_limit < n → (back : List Token) → IsTooNested (ts ++ t ∷ back) t.start
+pub too_nested : (read : Leaf → Token) → Going → (p : Progress) (s : Box State Global) (n : ℕ) (ts : List Token) (t : Token) → Stands read p ts → Stepped read p.state t (Ok s) → n ≡ opened_after t.kind p.count → nesting_limit < n → (back : List Token) → IsTooNested (ts ++ t ∷ back) t.start
 too_nested read go p s n ts t h g e w back =
     let i = stepped read p ts t (Ok s) h g ∙ ap Some (sym (run-push M.begin ts t)) in
-    let c : n ≡ open_after 0 (lexemes (ts ++ t ∷ [])) = e ∙ ap (opened t.kind) h.count ∙ sym (open-push 0 ts t) in
+    let c : n ≡ open_after 0 (lexemes (ts ++ t ∷ [])) = e ∙ ap (opened_after t.kind) h.count ∙ sym (open-push 0 ts t) in
     record {
       front = ts;
       token = t;

@@ -3,7 +3,7 @@ ghost use Rattle.std.specs.Prelude.{◌≡◌, ℕ, ◌<◌, ◌⊎◌, List, ma
 ghost use Rattle.cddl_token.specs.declared.Code.{Code};
 ghost use Rattle.cddl_token.specs.declared.Token.{Token};
 ghost use Rattle.cddl_token.specs.Answers.{span, IsTokenized};
-ghost use Rattle.tree_nodes.specs.Syntax.Answers.{opened as opened_after, IsTreeOf, IsRefused};
+ghost use Rattle.tree_nodes.specs.Syntax.Answers.{opened_after, IsTreeOf, IsRefused};
 ghost use Rattle.tree_nodes.specs.Syntax.Syntax.{Cddl};
 ghost use Rattle.tree_nodes.specs.declared.tree.Leaf.{Leaf};
 ghost use Rattle.tree_nodes.specs.View.{view};

@@ -13,14 +13,14 @@ use Rattle.check_terms.specs.Trees.{IsRef, ref_tree, terms_tree}
 use Rattle.check_terms.specs.Fill.Templates.{AreTrees, no_trees, further_tree}
 use Rattle.check_instances.specs.declared.found.Instance.{Instance}
 use Rattle.check_instances.specs.Found.{AreFound, none_found, further_found}
-use Rattle.check_reached.specs.Calls.{calls_named, has_number, name_number, number_in, refs_named}
+use Rattle.check_reached.specs.Calls.{calls_named, has_number, name_number, number_in_row, refs_named}
 use Rattle.check_reached.proofs.Lists.{one_of}
 
 text_number : (xs : List Text) (m : Option ℕ) (n : Text) → HoldsText xs m (Some n) → (k : ℕ) × (m ≡ Some k) × (slice_get xs k ≡ Some n)
 text_number xs m n (some_text {n = k} e) = (k, refl, e)
 
 number_of : (t : Table) (k : ℕ) (r : Ref) → IsRef t k r → (j : ℕ) × (name_number t.rows k ≡ Some j) × (slice_get t.texts j ≡ Some (name_of r))
-number_of t k (call n ts) (part {m = m} {i = i} {j = j} h d p q) = let w = text_number t.texts m n d in (w.0, ap number_in h ∙ w.1, w.2)
+number_of t k (call n ts) (part {m = m} {i = i} {j = j} h d p q) = let w = text_number t.texts m n d in (w.0, ap number_in_row h ∙ w.1, w.2)
 
 module _ (t : Table) (is : IsTable t) (k : ℕ) (n : Text) (named : slice_get t.texts k ≡ Some n) where
   -- a number is that of the name exactly where its text is the name's

@@ -9,12 +9,12 @@ use Rattle.check_instances.specs.declared.found.Instance.{Instance}
 use Rattle.check_sites.specs.declared.sites.site.Found.{Found}
 
 -- the number of the name's text, of the reference of this row
-abbrev pub number_in : Option Row → Option ℕ
-number_in None = None
-number_in (Some r) = r.text
+abbrev pub number_in_row : Option Row → Option ℕ
+number_in_row None = None
+number_in_row (Some r) = r.text
 
 abbrev pub name_number : List Row → ℕ → Option ℕ
-name_number rows call = number_in (slice_get rows call)
+name_number rows call = number_in_row (slice_get rows call)
 
 -- the row is added to those of its name
 

@@ -6,7 +6,7 @@ use Rattle.cddl_language.specs.Substitution.{group_choices}
 use Rattle.cddl_language.specs.Choices.{can_choose}
 use Rattle.cddl_language.specs.Reach.{Point, at_name, at_unwrapping, at_choice, at_chosen_name, at_opened_choice}
 use Rattle.cddl_language.specs.Free as F
-use Rattle.cddl_language.specs.Free.{IsFree, IsFreeInSome, IsFreeInEach, IsFreeInEntry, IsFreeInChoice, IsFreeInChosen, IsFreeInChosenEntry, LeadsTo, LeadsOn}
+use Rattle.cddl_language.specs.Free.{IsFree, IsFreeInSome, IsFreeInEach, IsFreeInEntry, IsFreeInChoice, IsFreeInChosen, IsFreeInChosenEntry, IsFreeInMeaning, LeadsOn}
 use Rattle.check_recursion.specs.Asking as A
 use Rattle.check_recursion.specs.Asking.{Asked, a_type, a_group, some_entries, an_entry, chosen_group, chosen_entries, chosen_entry, a_point, Asks, AsksOn}
 
@@ -149,7 +149,7 @@ module _ (ds : List Definition) where
   group_of us [] es e i = absurd i
   group_of us (fs ∷ ess) es e i = let g = group_with fs ess in (g.0, g.1 ∙ sym e)
 
-  point_asks : (p q : Point) → LeadsTo ds q p → AsksOn ds (a_point p) (a_point q)
+  point_asks : (p q : Point) → IsFreeInMeaning ds q p → AsksOn ds (a_point p) (a_point q)
   point_asks p q (F.by_type {t = t} e c h) = A.onwards (A.means_type e c) (free_asks q t h)
   point_asks p q (F.by_group {r = r} e h) =
       let s = some_asks q (group_choices ds r) h in
@@ -188,7 +188,7 @@ module _ (ds : List Definition) where
   Before (chosen_group g) q = Free (chosen_group g) q
   Before (chosen_entries es) q = Free (chosen_entries es) q
   Before (chosen_entry x) q = Free (chosen_entry x) q
-  Before (a_point p) q = LeadsTo ds q p
+  Before (a_point p) q = IsFreeInMeaning ds q p
 
   some_front : (q : Point) (xs ys : List Entries) → IsFreeInSome ds q xs → IsFreeInSome ds q (xs ++ ys)
   some_front q xs ys (F.in_this h) = F.in_this h
@@ -259,7 +259,7 @@ module _ (ds : List Definition) where
   Result (chosen_entry x) q = Onward (chosen_entry x) q
   Result (a_point p) q = LeadsOn ds p q
 
-  ends : (p s q : Point) → LeadsTo ds s p → (s ≡ q) ⊎ LeadsOn ds s q → LeadsOn ds p q
+  ends : (p s q : Point) → IsFreeInMeaning ds s p → (s ≡ q) ⊎ LeadsOn ds s q → LeadsOn ds p q
   ends p s q h (inl e) = subst (λ x. LeadsOn ds p x) e (F.at_once h)
   ends p s q h (inr l) = F.onwards h l
 

@@ -246,7 +246,12 @@ module _ (rows places : ℕ) where
 
     abbrev pub place_edges : ℕ → Option Meaning → List Edge
     place_edges k None = []
-    place_edges k (Some w) = name_edges k w (is_group_call b w.call) ++ (edge_to (N.Unwrapping k) (row_node (opened_row (slice_get b.openings k))) ++ (edge_to (N.Choice k) (Some (N.ChosenName k)) ++ (edge_to (N.ChosenName k) (chosen_node (flagged b.choosable w.group)) ++ edge_to (N.OpenedChoice k) (chosen_node (flagged b.choosable (opened_group (slice_get b.openings k)))))))
+    place_edges k (Some w) =
+        name_edges k w (is_group_call b w.call)
+        ++ (edge_to (N.Unwrapping k) (row_node (opened_row (slice_get b.openings k)))
+        ++ (edge_to (N.Choice k) (Some (N.ChosenName k))
+        ++ (edge_to (N.ChosenName k) (chosen_node (flagged b.choosable w.group))
+        ++ edge_to (N.OpenedChoice k) (chosen_node (flagged b.choosable (opened_group (slice_get b.openings k)))))))
 
     -- of the places below the number
     abbrev pub places_edges : ℕ → List Edge

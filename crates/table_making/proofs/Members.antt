@@ -5,7 +5,7 @@ use Rattle.std.specs.List.{list_all}
 use Rattle.lists.proofs.Lemmas.{same_some as some_same}
 use Rattle.cddl_meaning.specs.Forms.{Most, at_most, any_number_of}
 use Rattle.cddl_language.specs.Kinds as K
-use Rattle.cddl_language.specs.Maps.{Alternatives, Member, alternatives_in, combined, each_needed, from, in_each, in_entries, in_entry, in_group, in_part, is_needed, joined, may_repeat, members, occurring, occurring_so, ways}
+use Rattle.cddl_language.specs.Maps.{Alternatives, Member, alternatives_in, combined, each_needed, from, in_each, in_entries, in_entry, in_group, in_part, is_needed, alternatives_of_both, may_repeat, members, occurring, occurring_so, ways}
 use Rattle.cddl_language.specs.Numbers.{least_of, most_of}
 use Rattle.cddl_language.specs.Reach.{points, key_points, group_points, entries_points, entry_points}
 use Rattle.cddl_language.specs.Substitution.{group_choices}
@@ -79,7 +79,7 @@ module _ (s : Sense) where
   so_known o None f mss e = cc
   so_known o (Some nss) f mss e = occurring_known (least_of o) (most_of o) nss mss (f nss refl) e
 
-  joined_known : (o p : Option Alternatives) → KnownIn o → KnownIn p → KnownIn (joined o p)
+  joined_known : (o p : Option Alternatives) → KnownIn o → KnownIn p → KnownIn (alternatives_of_both o p)
   joined_known None p f g mss e = cc
   joined_known (Some ms) None f g mss e = cc
   joined_known (Some ms) (Some ns) f g mss e = subst (AreKnownAlternatives s) (some_same e) (all_joined ms ns (f ms refl) (g ns refl))

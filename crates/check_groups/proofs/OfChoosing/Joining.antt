@@ -1,21 +1,21 @@
 -- Whether there is something to choose from, of wholes and of their parts.
 use Rattle.std.proofs.Common.{◌≡◌, true, List, [], ◌∷◌, ◌++◌, Option, Some, None, is_some, refl}
 use Rattle.cddl_language.specs.Terms.{Term, Group, sole, orelse, Entries, Definition, alternatives}
-use Rattle.cddl_language.specs.Choices.{chosen_each, chosen_entries, chosen_group, joined}
+use Rattle.cddl_language.specs.Choices.{chosen_each, chosen_entries, chosen_group, types_of_both}
 
 abbrev pub IsThere : Option (List Term) → Type 0
 IsThere o = is_some o ≡ true
 
-pub both_there : (o q : Option (List Term)) → IsThere o → IsThere q → IsThere (joined o q)
+pub both_there : (o q : Option (List Term)) → IsThere o → IsThere q → IsThere (types_of_both o q)
 both_there (Some ts) (Some us) e f = refl
 both_there (Some ts) None e f = cc
 both_there None q e f = cc
 
-pub first_there : (o q : Option (List Term)) → IsThere (joined o q) → IsThere o
+pub first_there : (o q : Option (List Term)) → IsThere (types_of_both o q) → IsThere o
 first_there (Some ts) q e = refl
 first_there None q e = cc
 
-pub second_there : (o q : Option (List Term)) → IsThere (joined o q) → IsThere q
+pub second_there : (o q : Option (List Term)) → IsThere (types_of_both o q) → IsThere q
 second_there o (Some us) e = refl
 second_there (Some ts) None e = cc
 second_there None None e = cc

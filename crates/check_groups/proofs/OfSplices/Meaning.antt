@@ -6,7 +6,7 @@ use Rattle.cddl_meaning.specs.Alike as A
 use Rattle.cddl_language.specs.Terms.{Text, Term, Ref, Group, sole, orelse, Entries, no_entries, entries, Entry, typed, keyed, grouped, Definition, alternatives, lone}
 use Rattle.cddl_language.specs.Kinds.{Part, asks_type, names_group, opens, part_of}
 use Rattle.cddl_language.specs.Maps as M
-use Rattle.cddl_language.specs.Maps.{joined, combined, occurring_so, in_part, in_group, in_entries, in_entry, alternatives_in}
+use Rattle.cddl_language.specs.Maps.{alternatives_of_both, combined, occurring_so, in_part, in_group, in_entries, in_entry, alternatives_in}
 use Rattle.cddl_language.specs.MapFaults.{group_of_part}
 use Rattle.cddl_language.specs.Reach.{Point, Reaches, points, group_points, entries_points, entry_points}
 use Rattle.check_terms.specs.Table.{Table, Tree, Holds, part}
@@ -16,7 +16,7 @@ use Rattle.alternatives.specs.declared.Bounds.{Bounds}
 use Rattle.alternatives.specs.declared.Part as P
 use Rattle.alternatives.specs.declared.Part.TheVariants as PartV
 use Rattle.alternatives.specs.Splices as S
-use Rattle.alternatives.specs.Splices.{StandsFor, stands}
+use Rattle.alternatives.specs.Splices.{HasAlternatives, stands}
 use Rattle.check_groups.specs.Splices.Parts.{HasBounds, IsOf, no_choices, choices_of, IsPartOfGroup, of_sole, of_orelse, IsPartOfEntries, of_none, of_more, IsPartOfEntry, of_type, of_named, of_keyed, of_grouped, AreParts}
 use Rattle.check_groups.specs.Splices.Maps.{AreAlternatives}
 use Rattle.check_groups.proofs.OfSplices.Alike.{Alike, nones, somes, appended, occurs, ways}
@@ -45,7 +45,7 @@ module _ (xs : List Definition) (root : Text) (t : Table) (parts : List P.Part) 
   -- The part stands for these alternatives.
   record StandsSo (n : ℕ) (mss : M.Alternatives) : Type 0 where
     own : S.Alternatives
-    stands_for : StandsFor parts n own
+    stands_for : HasAlternatives parts n own
     alike : AreAlternatives t mss own
 
   part_there : (n : ℕ) (x : Tree) → Holds t (Some n) x → (p : P.Part) × (slice_get parts n ≡ Some p)
@@ -121,7 +121,7 @@ module _ (xs : List Definition) (root : Text) (t : Table) (parts : List P.Part) 
   complete (suc zero) n g h r mss e = group_stands (names_in xs (suc zero)) (λ ms i. sym (same_some i)) (λ m f a b ms i. complete zero m f a b ms (sym (group_is xs zero f) ∙ i)) n g h r mss e
   complete (suc (suc k)) n g h r mss e = group_stands (names_in xs (suc (suc k))) (λ ms i. sym (same_some i)) (λ m f a b ms i. complete (suc k) m f a b ms (sym (group_is xs (suc k) f) ∙ i)) n g h r mss e
 
-  pub choices_stand_so : (k n : ℕ) (ess : List Entries) → IsOf xs root t ess n → (mss : M.Alternatives) → alternatives_in xs k ess ≡ Some mss → (nss : S.Alternatives) × StandsFor parts n nss × AreAlternatives t mss nss
+  pub choices_stand_so : (k n : ℕ) (ess : List Entries) → IsOf xs root t ess n → (mss : M.Alternatives) → alternatives_in xs k ess ≡ Some mss → (nss : S.Alternatives) × HasAlternatives parts n nss × AreAlternatives t mss nss
   choices_stand_so k n _ no_choices mss e = ([], stands are.nothing S.nothing, subst (λ ns. AreAlternatives t ns []) (same_some (sym (in_is xs k []) ∙ e)) A.none)
   choices_stand_so k n _ (choices_of g h r) mss e = let s = complete k n g h r mss (sym (group_is xs k g) ∙ e) in (s.own, s.stands_for, s.alike)
 
@@ -133,7 +133,7 @@ module _ (xs : List Definition) (root : Text) (t : Table) (parts : List P.Part) 
   lone_is : (k : ℕ) (x : Entry) → alternatives_in xs k (lone x ∷ []) ≡ in_entry xs (names_in xs k) x
   lone_is k x = in_is xs k (lone x ∷ []) ∙ lone_has xs (names_in xs k) x
 
-  pub entry_stands_so : (k n : ℕ) (x : Entry) → IsEntry t n x → AreReached xs root (entry_points x) → (mss : M.Alternatives) → alternatives_in xs k (lone x ∷ []) ≡ Some mss → (nss : S.Alternatives) × StandsFor parts n nss × AreAlternatives t mss nss
+  pub entry_stands_so : (k n : ℕ) (x : Entry) → IsEntry t n x → AreReached xs root (entry_points x) → (mss : M.Alternatives) → alternatives_in xs k (lone x ∷ []) ≡ Some mss → (nss : S.Alternatives) × HasAlternatives parts n nss × AreAlternatives t mss nss
   entry_stands_so k n x h r mss e = let s = complete_entry k n x h r mss (sym (lone_is k x) ∙ e) in (s.own, s.stands_for, s.alike)
 
   -- What a part stands for, maps have, where one name more adds nothing.
@@ -146,8 +146,8 @@ module _ (xs : List Definition) (root : Text) (t : Table) (parts : List P.Part) 
       is : o ≡ Some own
       alike : AreAlternatives t own nss
 
-    joined_has : {o q : Option M.Alternatives} {nss oss : S.Alternatives} → Has o nss → Has q oss → Has (joined o q) (nss ++ oss)
-    joined_has {o = o} {q = q} h k = record { own = h.own ++ k.own; is = ap (λ p. joined p q) h.is ∙ ap (joined (Some h.own)) k.is; alike = appended h.alike k.alike }
+    joined_has : {o q : Option M.Alternatives} {nss oss : S.Alternatives} → Has o nss → Has q oss → Has (alternatives_of_both o q) (nss ++ oss)
+    joined_has {o = o} {q = q} h k = record { own = h.own ++ k.own; is = ap (λ p. alternatives_of_both p q) h.is ∙ ap (alternatives_of_both (Some h.own)) k.is; alike = appended h.alike k.alike }
 
     combined_has : {o q : Option M.Alternatives} {nss oss : S.Alternatives} → Has o nss → Has q oss → Has (combined o q) (S.ways nss oss)
     combined_has {o = o} {q = q} h k = record { own = M.ways h.own k.own; is = ap (λ p. combined p q) h.is ∙ ap (combined (Some h.own)) k.is; alike = ways t h.alike k.alike }
@@ -168,10 +168,10 @@ module _ (xs : List Definition) (root : Text) (t : Table) (parts : List P.Part) 
     only_nothing (S.either s u) e = cc
     only_nothing (S.occurs s i) e = cc
 
-    is_nothing : {n : ℕ} {nss : S.Alternatives} → StandsFor parts n nss → slice_get parts n ≡ Some PartV.Nothing → nss ≡ []
+    is_nothing : {n : ℕ} {nss : S.Alternatives} → HasAlternatives parts n nss → slice_get parts n ≡ Some PartV.Nothing → nss ≡ []
     is_nothing (stands e s) i = only_nothing s (same_some (sym e ∙ i))
 
-    choices_have : {n : ℕ} {nss : S.Alternatives} → StandsFor parts n nss → ((g : Group) → IsGroup t n g → AreReached xs root (group_points g) → Has (in_group xs next g) nss) → (ess : List Entries) → IsOf xs root t ess n → Has (alternatives_in xs m ess) nss
+    choices_have : {n : ℕ} {nss : S.Alternatives} → HasAlternatives parts n nss → ((g : Group) → IsGroup t n g → AreReached xs root (group_points g) → Has (in_group xs next g) nss) → (ess : List Entries) → IsOf xs root t ess n → Has (alternatives_in xs m ess) nss
     choices_have {nss = nss} s told _ no_choices = record { own = []; is = in_is xs m []; alike = subst (AreAlternatives t []) (sym (is_nothing s are.nothing)) A.none }
     choices_have s told _ (choices_of g h r) = let k = told g h r in record { own = k.own; is = group_is xs m g ∙ k.is; alike = k.alike }
 
@@ -179,21 +179,21 @@ module _ (xs : List Definition) (root : Text) (t : Table) (parts : List P.Part) 
     named_has x ess nss r i k = record { own = k.own; is = carried_part xs root part_reached opening_reached (names_in xs (suc m)) next back x (part_of xs x) refl r k.own (part_next xs (names_in xs (suc m)) (part_of xs x) ess i ∙ k.is); alike = k.alike }
 
     mutual
-      group_told : {n : ℕ} {nss : S.Alternatives} → StandsFor parts n nss → (g : Group) → IsGroup t n g → AreReached xs root (group_points g) → Has (in_group xs next g) nss
+      group_told : {n : ℕ} {nss : S.Alternatives} → HasAlternatives parts n nss → (g : Group) → IsGroup t n g → AreReached xs root (group_points g) → Has (in_group xs next g) nss
       group_told {n = n} (stands {p = p} e s) g h r = group_by g ((are.each n p e).group g h) s r
 
       group_by : {n : ℕ} {p : P.Part} {nss : S.Alternatives} → (g : Group) → IsPartOfGroup t g p → S.Splices parts n p nss → AreReached xs root (group_points g) → Has (in_group xs next g) nss
       group_by (sole es) (of_sole k) (S.same s) r = entries_told s es k r
       group_by (orelse g es) (of_orelse k l) (S.either s u) r = joined_has (group_told s g k (left xs root (group_points g) (entries_points es) r)) (entries_told u es l (right xs root (group_points g) (entries_points es) r))
 
-      entries_told : {n : ℕ} {nss : S.Alternatives} → StandsFor parts n nss → (es : Entries) → IsEntries t n es → AreReached xs root (entries_points es) → Has (in_entries xs next es) nss
+      entries_told : {n : ℕ} {nss : S.Alternatives} → HasAlternatives parts n nss → (es : Entries) → IsEntries t n es → AreReached xs root (entries_points es) → Has (in_entries xs next es) nss
       entries_told {n = n} (stands {p = p} e s) es h r = entries_by es ((are.each n p e).entries es h) s r
 
       entries_by : {n : ℕ} {p : P.Part} {nss : S.Alternatives} → (es : Entries) → IsPartOfEntries t es p → S.Splices parts n p nss → AreReached xs root (entries_points es) → Has (in_entries xs next es) nss
       entries_by no_entries of_none S.empty r = record { own = [] ∷ []; is = refl; alike = A.both A.none A.none }
       entries_by (entries es x c) (of_more k l) (S.both s u) r = combined_has (entries_told s es k (left xs root (entries_points es) (entry_points x) r)) (entry_told u x l (right xs root (entries_points es) (entry_points x) r))
 
-      entry_told : {n : ℕ} {nss : S.Alternatives} → StandsFor parts n nss → (x : Entry) → IsEntry t n x → AreReached xs root (entry_points x) → Has (in_entry xs next x) nss
+      entry_told : {n : ℕ} {nss : S.Alternatives} → HasAlternatives parts n nss → (x : Entry) → IsEntry t n x → AreReached xs root (entry_points x) → Has (in_entry xs next x) nss
       entry_told {n = n} (stands {p = p} e s) x h r = entry_by x h ((are.each n p e).entry x h r) s r
 
       entry_by : {n : ℕ} {p : P.Part} {nss : S.Alternatives} → (x : Entry) → IsEntry t n x → IsPartOfEntry xs root t x p → S.Splices parts n p nss → AreReached xs root (entry_points x) → Has (in_entry xs next x) nss
@@ -202,8 +202,8 @@ module _ (xs : List Definition) (root : Text) (t : Table) (parts : List P.Part) 
       entry_by (keyed o q x) h (of_keyed k) S.entry r = record { own = _; is = refl; alike = A.both (A.both (record { least = k.least; most = k.most; entry = (o, h) }) A.none) A.none }
       entry_by (grouped o g) h (of_grouped {b = b} k a) (S.occurs s i) r = occurs_has o b k (group_told s g a r) i
 
-    pub choices_told : (n : ℕ) (ess : List Entries) → IsOf xs root t ess n → (nss : S.Alternatives) → StandsFor parts n nss → (mss : M.Alternatives) × (alternatives_in xs m ess ≡ Some mss) × AreAlternatives t mss nss
+    pub choices_told : (n : ℕ) (ess : List Entries) → IsOf xs root t ess n → (nss : S.Alternatives) → HasAlternatives parts n nss → (mss : M.Alternatives) × (alternatives_in xs m ess ≡ Some mss) × AreAlternatives t mss nss
     choices_told n ess a nss s = let k = choices_have s (λ g h r. group_told s g h r) ess a in (k.own, k.is, k.alike)
 
-    pub lone_told : (n : ℕ) (x : Entry) → IsEntry t n x → AreReached xs root (entry_points x) → (nss : S.Alternatives) → StandsFor parts n nss → (mss : M.Alternatives) × (alternatives_in xs m (lone x ∷ []) ≡ Some mss) × AreAlternatives t mss nss
+    pub lone_told : (n : ℕ) (x : Entry) → IsEntry t n x → AreReached xs root (entry_points x) → (nss : S.Alternatives) → HasAlternatives parts n nss → (mss : M.Alternatives) × (alternatives_in xs m (lone x ∷ []) ≡ Some mss) × AreAlternatives t mss nss
     lone_told n x h r nss s = let k = entry_told s x h r in (k.own, lone_is m x ∙ k.is, k.alike)

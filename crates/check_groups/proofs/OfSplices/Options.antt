@@ -3,9 +3,9 @@ use Rattle.std.proofs.Common.{◌≡◌, true, false, List, [], ◌∷◌, ◌++
 use Rattle.std.proofs.lemmas.List.{append-nil, append_assoc}
 use Rattle.lists.proofs.Lemmas.{no_some, same_some}
 use Rattle.cddl_language.specs.Terms.{Text, Group, sole, orelse, Entries, Entry, Definition, alternatives, lone}
-use Rattle.cddl_language.specs.Maps.{Alternatives, Member, ways, joined, combined, occurs, occurring_so, in_group, in_entries, in_entry, in_each}
+use Rattle.cddl_language.specs.Maps.{Alternatives, Member, ways, alternatives_of_both, combined, occurs, occurring_so, in_group, in_entries, in_entry, in_each}
 
-pub both_joined : (o q : Option Alternatives) (mss : Alternatives) → joined o q ≡ Some mss → (ms : Alternatives) × (ns : Alternatives) × (o ≡ Some ms) × (q ≡ Some ns) × (ms ++ ns ≡ mss)
+pub both_joined : (o q : Option Alternatives) (mss : Alternatives) → alternatives_of_both o q ≡ Some mss → (ms : Alternatives) × (ns : Alternatives) × (o ≡ Some ms) × (q ≡ Some ns) × (ms ++ ns ≡ mss)
 both_joined (Some ms) (Some ns) mss e = (ms, ns, refl, refl, same_some e)
 both_joined (Some ms) None mss e = absurd (no_some e)
 both_joined None q mss e = absurd (no_some e)
@@ -23,8 +23,8 @@ occurring_some o None mss e = absurd (no_some e)
 abbrev pub Follows : Option Alternatives → Option Alternatives → Type 0
 Follows o q = (mss : Alternatives) → o ≡ Some mss → q ≡ Some mss
 
-pub joined_follows : (o q p s : Option Alternatives) → Follows o p → Follows q s → Follows (joined o q) (joined p s)
-joined_follows (Some ms) (Some ns) p s h k mss e = ap (λ x. joined x s) (h ms refl) ∙ (ap (λ y. joined (Some ms) y) (k ns refl) ∙ e)
+pub joined_follows : (o q p s : Option Alternatives) → Follows o p → Follows q s → Follows (alternatives_of_both o q) (alternatives_of_both p s)
+joined_follows (Some ms) (Some ns) p s h k mss e = ap (λ x. alternatives_of_both x s) (h ms refl) ∙ (ap (λ y. alternatives_of_both (Some ms) y) (k ns refl) ∙ e)
 joined_follows (Some ms) None p s h k mss e = absurd (no_some e)
 joined_follows None q p s h k mss e = absurd (no_some e)
 
@@ -47,28 +47,28 @@ narrowed o None f s mss e = absurd (never (s (ap is_some e)))
 
 -- A group has what its choices have.
 
-joined_nothing : (o : Option Alternatives) → o ≡ joined o (Some [])
+joined_nothing : (o : Option Alternatives) → o ≡ alternatives_of_both o (Some [])
 joined_nothing (Some mss) = ap Some (sym (append-nil mss))
 joined_nothing None = refl
 
-nothing_joined : (o : Option Alternatives) → joined (Some []) o ≡ o
+nothing_joined : (o : Option Alternatives) → alternatives_of_both (Some []) o ≡ o
 nothing_joined (Some mss) = refl
 nothing_joined None = refl
 
-joined_further : (o q p : Option Alternatives) → joined o (joined q p) ≡ joined (joined o q) p
+joined_further : (o q p : Option Alternatives) → alternatives_of_both o (alternatives_of_both q p) ≡ alternatives_of_both (alternatives_of_both o q) p
 joined_further (Some a) (Some b) (Some c) = ap Some (sym (append_assoc a b c))
 joined_further (Some a) (Some b) None = refl
 joined_further (Some a) None p = refl
 joined_further None q p = refl
 
 module _ (ds : List Definition) (next : List Entries → Option Alternatives) where
-  each_more : (ess : List Entries) (es : Entries) → joined (in_each ds next ess) (in_entries ds next es) ≡ in_each ds next (ess ++ es ∷ [])
+  each_more : (ess : List Entries) (es : Entries) → alternatives_of_both (in_each ds next ess) (in_entries ds next es) ≡ in_each ds next (ess ++ es ∷ [])
   each_more [] es = nothing_joined (in_entries ds next es) ∙ joined_nothing (in_entries ds next es)
-  each_more (fs ∷ ess) es = sym (joined_further (in_entries ds next fs) (in_each ds next ess) (in_entries ds next es)) ∙ ap (λ o. joined (in_entries ds next fs) o) (each_more ess es)
+  each_more (fs ∷ ess) es = sym (joined_further (in_entries ds next fs) (in_each ds next ess) (in_entries ds next es)) ∙ ap (λ o. alternatives_of_both (in_entries ds next fs) o) (each_more ess es)
 
   pub group_each : (g : Group) → in_group ds next g ≡ in_each ds next (alternatives g)
   group_each (sole es) = joined_nothing (in_entries ds next es)
-  group_each (orelse g es) = ap (λ o. joined o (in_entries ds next es)) (group_each g) ∙ each_more (alternatives g) es
+  group_each (orelse g es) = ap (λ o. alternatives_of_both o (in_entries ds next es)) (group_each g) ∙ each_more (alternatives g) es
 
 -- An entry by itself has what it has.
 
@@ -76,7 +76,7 @@ same_after : (nss : Alternatives) → map (λ (ns : List Member). [] ++ ns) nss 
 same_after [] = refl
 same_after (ns ∷ nss) = ap (λ mss. ns ∷ mss) (same_after nss)
 
-by_itself : (o : Option Alternatives) → joined (combined (Some ([] ∷ [])) o) (Some []) ≡ o
+by_itself : (o : Option Alternatives) → alternatives_of_both (combined (Some ([] ∷ [])) o) (Some []) ≡ o
 by_itself (Some nss) = ap Some (append-nil (ways ([] ∷ []) nss) ∙ append-nil (map (λ (ns : List Member). [] ++ ns) nss) ∙ same_after nss)
 by_itself None = refl
 

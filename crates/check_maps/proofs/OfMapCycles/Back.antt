@@ -5,7 +5,7 @@ use Rattle.lists.proofs.Lemmas.{same_some, within}
 use Rattle.graphs.specs.Cycles.Graph.{LeadsOn}
 use Rattle.cddl_language.specs.Terms.{Text, Ref, Group, sole, orelse, Entries, no_entries, entries, Entry, Definition, alternatives, lone}
 use Rattle.cddl_language.specs.Kinds.{Opened, opened_in}
-use Rattle.cddl_language.specs.MapFaults.{entries_of, group_in, point_in, IsSplicedInto, its_own, LeadsTo, by_itself, by_group}
+use Rattle.cddl_language.specs.MapFaults.{all_entries, group_in, point_in, IsSplicedInto, its_own, IsLedToBy, by_itself, by_group}
 use Rattle.cddl_language.specs.Reach.{Point, group_points, entries_points, entry_points}
 use Rattle.check_terms.specs.Table.{Table, Tree, Holds}
 use Rattle.check_terms.specs.Trees.{IsGroup, IsEntries, IsEntry, group_tree, entries_tree, entry_tree}
@@ -51,7 +51,7 @@ module _ (xs : List Definition) (root : Text) (t : Table) (refs : List Ref) (mor
       into : IsSplicedInto xs entry ess
       point : point_in xs entry ≡ Some reference
 
-    wider_inside : (w : Owner) (ess fss : List Entries) → ((e : Entry) → Contains (entries_of ess) e → Contains (entries_of fss) e) → Inside w ess → Inside w fss
+    wider_inside : (w : Owner) (ess fss : List Entries) → ((e : Entry) → Contains (all_entries ess) e → Contains (all_entries fss) e) → Inside w ess → Inside w fss
     wider_inside w ess fss f i = record { reference = i.reference; entry = i.entry; owns = i.owns; into = wider xs ess fss f i.entry i.into; point = i.point }
 
     back_inside : (w : Owner) (e : Entry) (fss : List Entries) → group_in xs e ≡ Some fss → Inside w fss → LeadsBack xs refs w e
@@ -60,7 +60,7 @@ module _ (xs : List Definition) (root : Text) (t : Table) (refs : List Ref) (mor
     inside_back : (w : Owner) (e : Entry) (ess : List Entries) → IsSplicedInto xs e ess → LeadsBack xs refs w e → Inside w ess
     inside_back w e ess s b = by b.reference b.owns b.back
       where
-        by : (p : Point) → IsOwner xs refs w (Some p) → LeadsTo xs p e → Inside w ess
+        by : (p : Point) → IsOwner xs refs w (Some p) → IsLedToBy xs p e → Inside w ess
         by p o (by_itself i) = record { reference = p; entry = e; owns = o; into = s; point = i }
         by p o (by_group {d = d} g u i) = record { reference = p; entry = d; owns = o; into = deeper xs s g u; point = i }
 
@@ -264,7 +264,7 @@ module _ (xs : List Definition) (root : Text) (t : Table) (refs : List Ref) (mor
         let same = one_owner xs refs once u.0 w p u.2 own in
         record { step = to_owner there c.2 (target_at (slice_get targets n) x.0 u.0 w x.1 u.1 same) k; begins = node_within xs root t parts are l all targets spliced n low; ends = small }
 
-    back_way : (w : Owner) (p : Point) (o n : ℕ) (e : Entry) → IsOwner xs refs w (Some p) → owner_node l w ≡ Some o → o < nodes l → IsEntry t n e → AreReached xs root (entry_points e) → LeadsTo xs p e → On n o
+    back_way : (w : Owner) (p : Point) (o n : ℕ) (e : Entry) → IsOwner xs refs w (Some p) → owner_node l w ≡ Some o → o < nodes l → IsEntry t n e → AreReached xs root (entry_points e) → IsLedToBy xs p e → On n o
     back_way w p o n e own k small h r (by_itself i) = onward (point_link w p o n e own k small h r i) arrived
     back_way w p o n e own k small h r (by_group {d = d} {fss = fss} g s i) =
         let c = group_there xs root t parts are n e h r fss g in

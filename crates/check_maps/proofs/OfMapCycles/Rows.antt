@@ -4,7 +4,7 @@ use Rattle.std.specs.Prelude.{Bool, Contains}
 use Rattle.std.proofs.lemmas.List.Elements.{Contains-append_left, Contains-append_right}
 use Rattle.lists.proofs.Lemmas.{IsIn, from_contains, from_flat, in_cases, in_left, in_right, same_some, there, to_contains, to_flat, within}
 use Rattle.cddl_language.specs.Terms.{Text, Group, sole, orelse, Entries, no_entries, entries, Entry, typed, keyed, grouped, Definition, alternatives, lone, entry_list}
-use Rattle.cddl_language.specs.MapFaults.{group_in, entries_of, IsSplicedInto, its_own, further}
+use Rattle.cddl_language.specs.MapFaults.{group_in, all_entries, IsSplicedInto, its_own, further}
 use Rattle.cddl_language.specs.Reach.{Point, group_points, entries_points, entry_points}
 use Rattle.check_terms.specs.Table.{Table, Tree, Holds, part}
 use Rattle.check_terms.specs.Trees.{IsGroup, IsEntries, IsEntry, group_tree, entries_tree, entry_tree}
@@ -29,7 +29,7 @@ module _ (xs : List Definition) where
   deeper (its_own c) h i = further c h i
   deeper (further c k s) h i = further c k (deeper s h i)
 
-  pub wider : (ess fss : List Entries) → ((e : Entry) → Contains (entries_of ess) e → Contains (entries_of fss) e) → (e : Entry) → IsSplicedInto xs e ess → IsSplicedInto xs e fss
+  pub wider : (ess fss : List Entries) → ((e : Entry) → Contains (all_entries ess) e → Contains (all_entries fss) e) → (e : Entry) → IsSplicedInto xs e ess → IsSplicedInto xs e fss
   wider ess fss f e (its_own c) = its_own (f e c)
   wider ess fss f e (further {d = d} c g s) = further (f d c) g s
 
@@ -107,7 +107,7 @@ module _ (xs : List Definition) (root : Text) (t : Table) (parts : List P.Part) 
         by p g (of_more {n = a} {m = b} k l) (inr (inl j)) f = further_up n b e p g has_second (row_inside b (entry_tree x) l) (last b l j)
         by p g (of_more {n = a} {m = b} k l) (inr (inr j)) f = absurd j
 
-    group_row : (n : ℕ) (g : Group) (e : Entry) → IsGroup t n g → AreReached xs root (group_points g) → Contains (entries_of (alternatives g)) e → RowBelow n e
+    group_row : (n : ℕ) (g : Group) (e : Entry) → IsGroup t n g → AreReached xs root (group_points g) → Contains (all_entries (alternatives g)) e → RowBelow n e
     group_row n (sole es) e h r c = let p = part_there n (group_tree (sole es)) h in by p.0 p.1 ((are.each n p.0 p.1).group (sole es) h)
       where
         by : (p : P.Part) → slice_get parts n ≡ Some p → IsPartOfGroup t (sole es) p → RowBelow n e
@@ -116,11 +116,11 @@ module _ (xs : List Definition) (root : Text) (t : Table) (parts : List P.Part) 
         let p = part_there n (group_tree (orelse g es)) h in
         by p.0 p.1 ((are.each n p.0 p.1).group (orelse g es) h) (of_choices (alternatives g) es e c) (λ m k j. group_row m g e k (left (group_points g) (entries_points es) r) j)
       where
-        by : (p : P.Part) → slice_get parts n ≡ Some p → IsPartOfGroup t (orelse g es) p → Contains (entries_of (alternatives g)) e ⊎ IsIn e (entry_list es) → ((m : ℕ) → IsGroup t m g → Contains (entries_of (alternatives g)) e → RowBelow m e) → RowBelow n e
+        by : (p : P.Part) → slice_get parts n ≡ Some p → IsPartOfGroup t (orelse g es) p → Contains (all_entries (alternatives g)) e ⊎ IsIn e (entry_list es) → ((m : ℕ) → IsGroup t m g → Contains (all_entries (alternatives g)) e → RowBelow m e) → RowBelow n e
         by p i (of_orelse {n = a} {m = b} k l) (inl j) f = further_up n a e p i has_one (row_inside a (group_tree g) k) (f a k j)
         by p i (of_orelse {n = a} {m = b} k l) (inr j) f = further_up n b e p i has_other (row_inside b (entries_tree es) l) (entries_row b es e l (right (group_points g) (entries_points es) r) j)
 
-    choices_row : (n : ℕ) (ess : List Entries) (e : Entry) → IsOf xs root t ess n → Contains (entries_of ess) e → RowBelow n e
+    choices_row : (n : ℕ) (ess : List Entries) (e : Entry) → IsOf xs root t ess n → Contains (all_entries ess) e → RowBelow n e
     choices_row n _ e no_choices (k, l, i) = absurd (omega (arith, l))
     choices_row n _ e (choices_of g h r) c = group_row n g e h r c
 

@@ -7,7 +7,7 @@ use Rattle.tree_nodes.specs.Syntax.Syntax as S
 use Rattle.cddl_language.specs.Environment.{definitions_of, most_names}
 use Rattle.cddl_language.specs.Kinds.{Opened, opens_group, opened, opened_in, opened_term}
 use Rattle.cddl_language.specs.MapFaults as M
-use Rattle.cddl_language.specs.MapFaults.{IsBare, itself, in_parens, IsSpliced, of_map, of_parens, of_name, of_opened, IsSplicedInto, its_own, StandsAt, choice_entries, closed_entry, entries_of, group_between, group_entries, point_in, rule_entries}
+use Rattle.cddl_language.specs.MapFaults.{IsBare, itself, in_parens, IsSpliced, of_map, of_parens, of_name, of_opened, IsSplicedInto, its_own, StandsAt, choice_entries, closed_entry, all_entries, group_between, group_entries, point_in, rule_entries}
 use Rattle.cddl_language.specs.Reach.{Point, at_name, at_unwrapping}
 use Rattle.cddl_language.specs.Reading as R
 use Rattle.cddl_language.specs.Reading.{body_of, definition_of, definitions_in, entry_of, group_of, name_in, parameters_in, rule_name, term_of, term_of2}
@@ -35,7 +35,7 @@ module _ (ps : List Text) (ts : List Term) where
       by (inr (inl g)) f = in_right before (fill_entry ps ts (entry_of d) ∷ []) (fill_entry ps ts (entry_of e)) (inl (ap (λ z. fill_entry ps ts (entry_of z)) g))
       by (inr (inr g)) f = absurd g
 
-  in_group : (g : S.Group) (e : S.GrpEnt) → IsIn e (group_entries g) → Contains (entries_of (alternatives (fill_group ps ts (group_of g)))) (fill_entry ps ts (entry_of e))
+  in_group : (g : S.Group) (e : S.GrpEnt) → IsIn e (group_entries g) → Contains (all_entries (alternatives (fill_group ps ts (group_of g)))) (fill_entry ps ts (entry_of e))
   in_group (S.sole es) e h = to_one (fill_entries ps ts (R.entries_of es)) (fill_entry ps ts (entry_of e)) (in_entries es e h)
   in_group (S.orelse g s es) e h = by (in_cases (group_entries g) (choice_entries es) e h) (in_group g e)
     where
@@ -45,21 +45,21 @@ module _ (ps : List Text) (ts : List Term) where
       last : Entries
       last = fill_entries ps ts (R.entries_of es)
 
-      by : IsIn e (group_entries g) ⊎ IsIn e (choice_entries es) → (IsIn e (group_entries g) → Contains (entries_of first) (fill_entry ps ts (entry_of e))) → Contains (entries_of (first ++ last ∷ [])) (fill_entry ps ts (entry_of e))
+      by : IsIn e (group_entries g) ⊎ IsIn e (choice_entries es) → (IsIn e (group_entries g) → Contains (all_entries first) (fill_entry ps ts (entry_of e))) → Contains (all_entries (first ++ last ∷ [])) (fill_entry ps ts (entry_of e))
       by (inl i) f = in_choices first last (fill_entry ps ts (entry_of e)) (f i)
       by (inr i) f = in_last_choice first last (fill_entry ps ts (entry_of e)) (to_one last (fill_entry ps ts (entry_of e)) (in_entries es e i))
 
 -- the closed entries of a group
-pub group_has : (r : S.Rule) (ts : List Term) (g : S.Group) (e : S.GrpEnt) → Contains (group_entries g) e → Contains (entries_of (alternatives (fill_group (parameters_in r) ts (group_of g)))) (closed_entry r ts e)
+pub group_has : (r : S.Rule) (ts : List Term) (g : S.Group) (e : S.GrpEnt) → Contains (group_entries g) e → Contains (all_entries (alternatives (fill_group (parameters_in r) ts (group_of g)))) (closed_entry r ts e)
 group_has r ts g e c = in_group (parameters_in r) ts g e (from_contains (group_entries g) e c)
 
 -- The entries of a rule are those of what it says as a group.
 
-lone_has : (r : S.Rule) (ts : List Term) (d e : S.GrpEnt) → IsIn e (d ∷ []) → Contains (entries_of (lone (closed_entry r ts d) ∷ [])) (closed_entry r ts e)
+lone_has : (r : S.Rule) (ts : List Term) (d e : S.GrpEnt) → IsIn e (d ∷ []) → Contains (all_entries (lone (closed_entry r ts d) ∷ [])) (closed_entry r ts e)
 lone_has r ts d e (inl h) = to_one (lone (closed_entry r ts d)) (closed_entry r ts e) (inl (ap (closed_entry r ts) h))
 lone_has r ts d e (inr h) = absurd h
 
-body_has : (r : S.Rule) (ts : List Term) (e : S.GrpEnt) → Contains (rule_entries r) e → Contains (entries_of (body_alternatives (fill_body (parameters_in r) ts (body_of r)))) (closed_entry r ts e)
+body_has : (r : S.Rule) (ts : List Term) (e : S.GrpEnt) → Contains (rule_entries r) e → Contains (all_entries (body_alternatives (fill_body (parameters_in r) ts (body_of r)))) (closed_entry r ts e)
 body_has (S.type_rule n a t) ts e c = lone_has (S.type_rule n a t) ts (S.typed None t) e (from_contains (rule_entries (S.type_rule n a t)) e c)
 body_has (S.group_rule n a (S.typed o t)) ts e c = lone_has (S.group_rule n a (S.typed o t)) ts (S.typed o t) e (from_contains (rule_entries (S.group_rule n a (S.typed o t))) e c)
 body_has (S.group_rule n a (S.keyed o k t)) ts e c = lone_has (S.group_rule n a (S.keyed o k t)) ts (S.keyed o k t) e (from_contains (rule_entries (S.group_rule n a (S.keyed o k t))) e c)
@@ -71,26 +71,26 @@ in_map f [] x h = absurd h
 in_map f (y ∷ xs) x (inl e) = inl (ap f e)
 in_map f (y ∷ xs) x (inr h) = inr (in_map f xs x h)
 
-in_apart : (e : Entry) (ess fss : List Entries) → IsIn e (entries_of ess) ⊎ IsIn e (entries_of fss) → IsIn e (entries_of (ess ++ fss))
+in_apart : (e : Entry) (ess fss : List Entries) → IsIn e (all_entries ess) ⊎ IsIn e (all_entries fss) → IsIn e (all_entries (ess ++ fss))
 in_apart e [] fss (inl i) = absurd i
 in_apart e [] fss (inr i) = i
-in_apart e (es ∷ ess) fss (inl i) = by (in_cases (entry_list es) (entries_of ess) e i) (λ j. in_apart e ess fss (inl j))
+in_apart e (es ∷ ess) fss (inl i) = by (in_cases (entry_list es) (all_entries ess) e i) (λ j. in_apart e ess fss (inl j))
   where
-    by : IsIn e (entry_list es) ⊎ IsIn e (entries_of ess) → (IsIn e (entries_of ess) → IsIn e (entries_of (ess ++ fss))) → IsIn e (entries_of ((es ∷ ess) ++ fss))
-    by (inl j) more = in_left (entry_list es) (entries_of (ess ++ fss)) e j
-    by (inr j) more = in_right (entry_list es) (entries_of (ess ++ fss)) e (more j)
-in_apart e (es ∷ ess) fss (inr i) = in_right (entry_list es) (entries_of (ess ++ fss)) e (in_apart e ess fss (inr i))
+    by : IsIn e (entry_list es) ⊎ IsIn e (all_entries ess) → (IsIn e (all_entries ess) → IsIn e (all_entries (ess ++ fss))) → IsIn e (all_entries ((es ∷ ess) ++ fss))
+    by (inl j) more = in_left (entry_list es) (all_entries (ess ++ fss)) e j
+    by (inr j) more = in_right (entry_list es) (all_entries (ess ++ fss)) e (more j)
+in_apart e (es ∷ ess) fss (inr i) = in_right (entry_list es) (all_entries (ess ++ fss)) e (in_apart e ess fss (inr i))
 
 -- an entry of one of these lists of choices is one of all of them
-of_flat : {A : Type 0} (f : A → List Entries) (xs : List A) (x : A) (e : Entry) → IsIn x xs → Contains (entries_of (f x)) e → Contains (entries_of (flat_map f xs)) e
+of_flat : {A : Type 0} (f : A → List Entries) (xs : List A) (x : A) (e : Entry) → IsIn x xs → Contains (all_entries (f x)) e → Contains (all_entries (flat_map f xs)) e
 of_flat f [] x e h c = absurd h
-of_flat f (y ∷ xs) x e h c = to_contains (entries_of (flat_map f (y ∷ xs))) e (by h (λ i. of_flat f xs x e i c))
+of_flat f (y ∷ xs) x e h c = to_contains (all_entries (flat_map f (y ∷ xs))) e (by h (λ i. of_flat f xs x e i c))
   where
-    by : (x ≡ y) ⊎ IsIn x xs → (IsIn x xs → Contains (entries_of (flat_map f xs)) e) → IsIn e (entries_of (f y ++ flat_map f xs))
-    by (inl i) more = in_apart e (f y) (flat_map f xs) (inl (subst (λ z. IsIn e (entries_of (f z))) i (from_contains (entries_of (f x)) e c)))
-    by (inr i) more = in_apart e (f y) (flat_map f xs) (inr (from_contains (entries_of (flat_map f xs)) e (more i)))
+    by : (x ≡ y) ⊎ IsIn x xs → (IsIn x xs → Contains (all_entries (flat_map f xs)) e) → IsIn e (all_entries (f y ++ flat_map f xs))
+    by (inl i) more = in_apart e (f y) (flat_map f xs) (inl (subst (λ z. IsIn e (all_entries (f z))) i (from_contains (all_entries (f x)) e c)))
+    by (inr i) more = in_apart e (f y) (flat_map f xs) (inr (from_contains (all_entries (flat_map f xs)) e (more i)))
 
-choices_have : (ds : List Definition) (f : Ref) (d : Definition) (e : Entry) → Contains (definitions_of ds (name_of f)) d → Contains (entries_of (body_alternatives (fill_body d.parameters (arguments_of f) d.body))) e → Contains (entries_of (group_choices ds f)) e
+choices_have : (ds : List Definition) (f : Ref) (d : Definition) (e : Entry) → Contains (definitions_of ds (name_of f)) d → Contains (all_entries (body_alternatives (fill_body d.parameters (arguments_of f) d.body))) e → Contains (all_entries (group_choices ds f)) e
 choices_have ds (call n ts) d e c h =
     let fill : Definition → Body = λ x. fill_body x.parameters (term_list ts) x.body in
     of_flat body_alternatives (map fill (definitions_of ds n)) (fill d) e (in_map fill (definitions_of ds n) d (from_contains (definitions_of ds n) d c)) h
@@ -185,7 +185,7 @@ module _ (rs : List S.Rule) (defined : (r : S.Rule) → Contains rs r → Contai
         record {
           group = alternatives o.0;
           has = has_opened o.1;
-          into = its_own (subst (λ z. Contains (entries_of (alternatives z)) (closed_entry s ys e)) (sym same) (group_has s ys g e c));
+          into = its_own (subst (λ z. Contains (all_entries (alternatives z)) (closed_entry s ys e)) (sym same) (group_has s ys g e c));
         }
 
     deeper_group : (r : S.Rule) (ts : List Term) (p : Point) (o : Option Token) (b z : Token) (g : S.Group) (e : S.GrpEnt) → InGroup p (closed_entry r ts (S.grouped o b g z)) → Contains (group_entries g) e → InGroup p (closed_entry r ts e)

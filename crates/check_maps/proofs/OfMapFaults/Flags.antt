@@ -3,20 +3,20 @@ use Rattle.std.proofs.Common.{◌≡◌, ◌↔◌, ◌⊎◌, inl, inr, ◌<◌
 use Rattle.lists.proofs.Lemmas.{after_push, there, within}
 use Rattle.alternatives.specs.declared.Part.{Part}
 use Rattle.alternatives.specs.declared.summary.Summary.{Summary}
-use Rattle.alternatives.specs.Splices.{Alternatives, StandsFor, stands}
+use Rattle.alternatives.specs.Splices.{Alternatives, HasAlternatives, stands}
 use Rattle.alternatives.specs.Summaries.{AreTooMany, Describes, HasSummary}
 use Rattle.check_maps.specs.MapFaults.Large.{AreFlags, IsLarge}
 use Rattle.check_maps.proofs.OfMapFaults.Lists.{from_set, to_set}
 use Rattle.check_maps.specs.MapFaults.Rules.{is_set}
 
-pub has_part : (parts : List Part) (n : ℕ) (mss : Alternatives) → StandsFor parts n mss → n < length parts
+pub has_part : (parts : List Part) (n : ℕ) (mss : Alternatives) → HasAlternatives parts n mss → n < length parts
 has_part parts n mss (stands {p = p} e s) = within parts n p e
 
 pub large_within : (parts : List Part) (n : ℕ) → IsLarge parts n → n < length parts
 large_within parts n h = has_part parts n h.alternatives h.stands_for
 
 -- by a summary of the part
-pub is_large_by : (parts : List Part) (n : ℕ) (s : Summary) (b : Bool) → ((mss nss : Alternatives) → StandsFor parts n mss → StandsFor parts n nss → mss ≡ nss) → ((mss : Alternatives) → Describes mss s → (b ≡ true) ↔ AreTooMany mss) → HasSummary parts n s → (b ≡ true) ↔ IsLarge parts n
+pub is_large_by : (parts : List Part) (n : ℕ) (s : Summary) (b : Bool) → ((mss nss : Alternatives) → HasAlternatives parts n mss → HasAlternatives parts n nss → mss ≡ nss) → ((mss : Alternatives) → Describes mss s → (b ≡ true) ↔ AreTooMany mss) → HasSummary parts n s → (b ≡ true) ↔ IsLarge parts n
 is_large_by parts n s b one large h = (
   (λ e. record { alternatives = h.alternatives; stands_for = h.stands_for; too_many = (large h.alternatives h.described).0 e }),
   (λ (k : IsLarge parts n). (large h.alternatives h.described).1 (subst AreTooMany (one k.alternatives h.alternatives k.stands_for h.stands_for) k.too_many)),

@@ -14,16 +14,16 @@ use Rattle.alternatives.specs.declared.Bounds.{Bounds}
 use Rattle.alternatives.specs.declared.Part as P
 use Rattle.alternatives.specs.declared.Part.TheVariants as PartV
 use Rattle.alternatives.specs.Splices as S
-use Rattle.alternatives.specs.Splices.{StandsFor}
+use Rattle.alternatives.specs.Splices.{HasAlternatives}
 use Rattle.check_groups.specs.Splices.Parts.{HasBounds, IsOf, choices_of, IsPartOfEntry, of_type, of_named, of_keyed, of_grouped, AreParts}
 use Rattle.check_groups.specs.Splices.Maps.{AreAlternatives}
 
 -- A group, or an entry by itself, has alternatives just where the part of its row stands for the same.
 pub record StandAlike (xs : List Definition) (root : Text) (t : Table) (parts : List P.Part) : Type 0 where
-  pub group_some : (n : ℕ) (ess : List Entries) → IsOf xs root t ess n → (mss : M.Alternatives) → alternatives_of xs ess ≡ Some mss → (nss : S.Alternatives) × StandsFor parts n nss × AreAlternatives t mss nss
-  pub group_only : (n : ℕ) (ess : List Entries) → IsOf xs root t ess n → (nss : S.Alternatives) → StandsFor parts n nss → (mss : M.Alternatives) × (alternatives_of xs ess ≡ Some mss) × AreAlternatives t mss nss
-  pub entry_some : (n : ℕ) (e : Entry) → IsEntry t n e → AreReached xs root (entry_points e) → (mss : M.Alternatives) → alternatives_of xs (lone e ∷ []) ≡ Some mss → (nss : S.Alternatives) × StandsFor parts n nss × AreAlternatives t mss nss
-  pub entry_only : (n : ℕ) (e : Entry) → IsEntry t n e → AreReached xs root (entry_points e) → (nss : S.Alternatives) → StandsFor parts n nss → (mss : M.Alternatives) × (alternatives_of xs (lone e ∷ []) ≡ Some mss) × AreAlternatives t mss nss
+  pub group_some : (n : ℕ) (ess : List Entries) → IsOf xs root t ess n → (mss : M.Alternatives) → alternatives_of xs ess ≡ Some mss → (nss : S.Alternatives) × HasAlternatives parts n nss × AreAlternatives t mss nss
+  pub group_only : (n : ℕ) (ess : List Entries) → IsOf xs root t ess n → (nss : S.Alternatives) → HasAlternatives parts n nss → (mss : M.Alternatives) × (alternatives_of xs ess ≡ Some mss) × AreAlternatives t mss nss
+  pub entry_some : (n : ℕ) (e : Entry) → IsEntry t n e → AreReached xs root (entry_points e) → (mss : M.Alternatives) → alternatives_of xs (lone e ∷ []) ≡ Some mss → (nss : S.Alternatives) × HasAlternatives parts n nss × AreAlternatives t mss nss
+  pub entry_only : (n : ℕ) (e : Entry) → IsEntry t n e → AreReached xs root (entry_points e) → (nss : S.Alternatives) → HasAlternatives parts n nss → (mss : M.Alternatives) × (alternatives_of xs (lone e ∷ []) ≡ Some mss) × AreAlternatives t mss nss
 
 -- Groups of the same alternatives may occur alike.
 abbrev pub OccurAlike : Table → Type 0

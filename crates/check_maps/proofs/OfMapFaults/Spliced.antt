@@ -6,7 +6,7 @@ use Rattle.cddl_language.specs.Terms.{Text, Group, sole, orelse, Entries, no_ent
 use Rattle.cddl_language.specs.Maps as M
 use Rattle.cddl_language.specs.Maps.{alternatives_of}
 use Rattle.cddl_language.specs.MapFaults as F
-use Rattle.cddl_language.specs.MapFaults.{group_in, entries_of, IsSplicedInto, its_own, further, HasTooMany, whole, an_entry, its_group}
+use Rattle.cddl_language.specs.MapFaults.{group_in, all_entries, IsSplicedInto, its_own, further, HasTooMany, whole, an_entry, its_group}
 use Rattle.cddl_language.specs.Reach.{group_points, entries_points, entry_points}
 use Rattle.check_terms.specs.Table.{Table}
 use Rattle.check_terms.specs.Trees.{IsGroup, IsEntries, IsEntry, group_tree, entries_tree}
@@ -16,7 +16,7 @@ use Rattle.alternatives.specs.declared.Part as P
 use Rattle.alternatives.specs.declared.Part.TheVariants as PartV
 use Rattle.alternatives.specs.Splices.{Has, has_same, has_first, has_second, has_one, has_other, has_group}
 use Rattle.alternatives.specs.Splices as S
-use Rattle.alternatives.specs.Splices.{StandsFor, stands}
+use Rattle.alternatives.specs.Splices.{HasAlternatives, stands}
 use Rattle.alternatives.specs.Summaries as Y
 use Rattle.check_groups.specs.Splices.Parts.{IsOf, no_choices, choices_of, IsPartOfGroup, of_sole, of_orelse, IsPartOfEntries, of_none, of_more, AreParts}
 use Rattle.check_maps.specs.MapFaults.Large as L
@@ -37,15 +37,15 @@ data HasMany (xs : List Definition) (ess : List Entries) : Type 0 where
   group_many : {e : Entry} {fss : List Entries} → IsSplicedInto xs e ess → group_in xs e ≡ Some fss → IsMany xs fss → HasMany xs ess
 
 module _ (xs : List Definition) where
-  wider_entry : (ess fss : List Entries) → ((e : Entry) → Contains (entries_of ess) e → Contains (entries_of fss) e) → (e : Entry) → IsSplicedInto xs e ess → IsSplicedInto xs e fss
+  wider_entry : (ess fss : List Entries) → ((e : Entry) → Contains (all_entries ess) e → Contains (all_entries fss) e) → (e : Entry) → IsSplicedInto xs e ess → IsSplicedInto xs e fss
   wider_entry ess fss f e (its_own c) = its_own (f e c)
   wider_entry ess fss f e (further {d = d} c g s) = further (f d c) g s
 
-  wider : (ess fss : List Entries) → ((e : Entry) → Contains (entries_of ess) e → Contains (entries_of fss) e) → HasMany xs ess → HasMany xs fss
+  wider : (ess fss : List Entries) → ((e : Entry) → Contains (all_entries ess) e → Contains (all_entries fss) e) → HasMany xs ess → HasMany xs fss
   wider ess fss f (entry_many {e = e} s m) = entry_many (wider_entry ess fss f e s) m
   wider ess fss f (group_many {e = e} s g m) = group_many (wider_entry ess fss f e s) g m
 
-  inside : (ess fss : List Entries) (d : Entry) → Contains (entries_of fss) d → group_in xs d ≡ Some ess → HasMany xs ess → HasMany xs fss
+  inside : (ess fss : List Entries) (d : Entry) → Contains (all_entries fss) d → group_in xs d ≡ Some ess → HasMany xs ess → HasMany xs fss
   inside ess fss d c g (entry_many s m) = entry_many (further c g s) m
   inside ess fss d c g (group_many s h m) = group_many (further c g s) h m
 
@@ -172,7 +172,7 @@ module _ (xs : List Definition) (root : Text) (t : Table) (parts : List P.Part) 
         by p g (of_more {n = a} {m = b} k l) (inr (inl j)) f = further_up n b e p g has_second (last b l j)
         by p g (of_more {n = a} {m = b} k l) (inr (inr j)) f = absurd j
 
-    group_row : (n : ℕ) (g : Group) (e : Entry) → IsGroup t n g → AreReached xs root (group_points g) → Contains (entries_of (alternatives g)) e → RowBelow n e
+    group_row : (n : ℕ) (g : Group) (e : Entry) → IsGroup t n g → AreReached xs root (group_points g) → Contains (all_entries (alternatives g)) e → RowBelow n e
     group_row n (sole es) e h r c = let p = part_there xs root t parts are n (group_tree (sole es)) h in by p.0 p.1 ((are.each n p.0 p.1).group (sole es) h)
       where
         by : (p : P.Part) → slice_get parts n ≡ Some p → IsPartOfGroup t (sole es) p → RowBelow n e
@@ -181,11 +181,11 @@ module _ (xs : List Definition) (root : Text) (t : Table) (parts : List P.Part) 
         let p = part_there xs root t parts are n (group_tree (orelse g es)) h in
         by p.0 p.1 ((are.each n p.0 p.1).group (orelse g es) h) (of_choices (alternatives g) es e c) (λ m k j. group_row m g e k (left xs root t parts are (group_points g) (entries_points es) r) j)
       where
-        by : (p : P.Part) → slice_get parts n ≡ Some p → IsPartOfGroup t (orelse g es) p → Contains (entries_of (alternatives g)) e ⊎ IsIn e (entry_list es) → ((m : ℕ) → IsGroup t m g → Contains (entries_of (alternatives g)) e → RowBelow m e) → RowBelow n e
+        by : (p : P.Part) → slice_get parts n ≡ Some p → IsPartOfGroup t (orelse g es) p → Contains (all_entries (alternatives g)) e ⊎ IsIn e (entry_list es) → ((m : ℕ) → IsGroup t m g → Contains (all_entries (alternatives g)) e → RowBelow m e) → RowBelow n e
         by p i (of_orelse {n = a} {m = b} k l) (inl j) f = further_up n a e p i has_one (f a k j)
         by p i (of_orelse {n = a} {m = b} k l) (inr j) f = further_up n b e p i has_other (entries_row b es e l (right xs root t parts are (group_points g) (entries_points es) r) j)
 
-    choices_row : (n : ℕ) (ess : List Entries) (e : Entry) → IsOf xs root t ess n → Contains (entries_of ess) e → RowBelow n e
+    choices_row : (n : ℕ) (ess : List Entries) (e : Entry) → IsOf xs root t ess n → Contains (all_entries ess) e → RowBelow n e
     choices_row n _ e no_choices (k, l, i) = absurd (omega (arith, l))
     choices_row n _ e (choices_of g h r) c = group_row n g e h r c
 
@@ -204,7 +204,7 @@ module _ (xs : List Definition) (root : Text) (t : Table) (parts : List P.Part) 
     refused_is_not_large : (n : ℕ) (mss : S.Alternatives) → S.Splices parts n PartV.Refused mss → ⊥
     refused_is_not_large n mss s = elim s [ ]
 
-    splices_so : (n : ℕ) (p : P.Part) (mss : S.Alternatives) → slice_get parts n ≡ Some p → StandsFor parts n mss → S.Splices parts n p mss
+    splices_so : (n : ℕ) (p : P.Part) (mss : S.Alternatives) → slice_get parts n ≡ Some p → HasAlternatives parts n mss → S.Splices parts n p mss
     splices_so n p mss e (stands {p = q} g s) = subst (λ o. S.Splices parts n o mss) (same_some (sym g ∙ e)) s
 
     entry_large : (n : ℕ) (e : Entry) (p : P.Part) → slice_get parts n ≡ Some p → IsGroupAt xs root t parts are e p → IsLarge parts n → HasLarge parts n

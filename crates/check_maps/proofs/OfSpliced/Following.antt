@@ -32,7 +32,7 @@ use Rattle.check_maps.specs.declared.spliced.owners.Owner.{Owner}
 use Rattle.check_maps.specs.declared.spliced.owners.Owner.TheVariants as OwnerV
 use Rattle.check_maps.specs.declared.spliced.owners.Way.{Way}
 use Rattle.check_maps.specs.Spliced.Spliced.{AreSpliced, AreWays, IsOwner, IsSplicedEntry, IsSplicedOwner, IsTarget, IsWay, WasSpliced, a_map, a_name, an_opening, of_map, of_point, somewhere}
-use Rattle.check_maps.specs.Spliced.Steps.{asked_by, edges_of, fact_of, flagged, is_flagged, named as named_owner, opened as opened_owner, owner_of, place_of}
+use Rattle.check_maps.specs.Spliced.Steps.{asked_by, edges_of, fact_of, flagged, is_flagged, named as named_owner, opened_owner, owner_of, place_of}
 use Rattle.check_maps.proofs.OfSpliced.Telling.{edge_in, edge_made, edge_parts, fact_same, flag_true, flagged_from, flagged_in, flagged_made, flagged_parts, in_edges, one_place}
 use Rattle.check_maps.proofs.OfSpliced.Inside.{none_in, place_in, points_bare, points_group, points_rule}
 use Rattle.check_maps.proofs.OfSpliced.Leading.{placed}

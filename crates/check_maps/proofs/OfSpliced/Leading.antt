@@ -15,7 +15,7 @@ use Rattle.check_instances.specs.declared.openings.openings.Part.{Part}
 use Rattle.check_instances.specs.Openings.Endings.{AreEndings}
 use Rattle.check_instances.specs.Openings.Openings.{IsPart, a_group, a_type, an_opened_group}
 use Rattle.check_maps.specs.Spliced.Spliced.{IsTarget, a_name, an_opening, nowhere, somewhere}
-use Rattle.check_maps.specs.Spliced.Steps.{led_to, opened as opened_place, opened_at, place_of, there, typed_in}
+use Rattle.check_maps.specs.Spliced.Steps.{led_to, opened_owner as opened_place, opened_at, place_of, there, typed_in}
 
 is_node : Tree → Bool
 is_node nothing = false

@@ -4,7 +4,7 @@ use Rattle.graphs.specs.declared.cycles.Edge.{Edge}
 use Rattle.graphs.specs.Cycles.Graph.{LeadsOn}
 use Rattle.cddl_language.specs.Terms.{Text, Ref, Entry, Definition}
 use Rattle.cddl_language.specs.Reach.{Point, entry_points}
-use Rattle.cddl_language.specs.MapFaults.{LeadsTo, point_in}
+use Rattle.cddl_language.specs.MapFaults.{IsLedToBy, point_in}
 use Rattle.check_terms.specs.Table.{Table}
 use Rattle.check_terms.specs.Trees.{IsEntry}
 use Rattle.check_instances.specs.Closed.Closed.{AreReached}
@@ -18,7 +18,7 @@ use Rattle.check_maps.specs.MapCycles.Edges.{entry_node, nodes}
 pub record LeadsBack (ds : List Definition) (refs : List Ref) (w : Owner) (e : Entry) : Type 0 where
   pub reference : Point
   pub owns : IsOwner ds refs w (Some reference)
-  pub back : LeadsTo ds reference e
+  pub back : IsLedToBy ds reference e
 
 -- for each entry of the list, where all references that stand in it are instances, whether it does
 pub record AreComingBack (ds : List Definition) (root : Text) (t : Table) (refs : List Ref) (spliced : List Spliced) (flags : List Bool) : Type 0 where

@@ -4,13 +4,13 @@ use Rattle.alternatives.specs.declared.Bounds.{Bounds}
 use Rattle.alternatives.specs.declared.Part.{Part}
 use Rattle.alternatives.specs.declared.Part.TheVariants.{Refused, Occurs}
 use Rattle.alternatives.specs.Splices.{LeadsTo}
-use Rattle.alternatives.specs.Splices.{Alternatives, StandsFor}
+use Rattle.alternatives.specs.Splices.{Alternatives, HasAlternatives}
 use Rattle.alternatives.specs.Summaries.{AreTooMany, OccursBadly}
 use Rattle.check_maps.specs.declared.map_faults.MapFaults.{MapFaults}
 
 pub record IsLarge (parts : List Part) (n : ℕ) : Type 0 where
   pub alternatives : Alternatives
-  pub stands_for : StandsFor parts n alternatives
+  pub stands_for : HasAlternatives parts n alternatives
   pub too_many : AreTooMany alternatives
 
 -- The part is a group with an occurrence that is too large, with it or without, or it has such a part. What only begins a

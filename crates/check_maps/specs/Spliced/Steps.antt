@@ -28,14 +28,14 @@ abbrev pub named : Option ℕ → Option Owner
 named None = None
 named (Some k) = Some (OwnerV.Named k)
 
-abbrev pub opened : Option ℕ → Option Owner
-opened None = None
-opened (Some k) = Some (OwnerV.Opened k)
+abbrev pub opened_owner : Option ℕ → Option Owner
+opened_owner None = None
+opened_owner (Some k) = Some (OwnerV.Opened k)
 
 abbrev pub held_by : Holder → Option ℕ → Option Owner
 held_by HolderV.Map place = Some OwnerV.Map
 held_by HolderV.Rule place = named place
-held_by HolderV.Opened place = opened place
+held_by HolderV.Opened place = opened_owner place
 
 abbrev pub asked_by : Question → Option ℕ → Option Owner
 asked_by (QuestionV.Entry h) place = held_by h place
@@ -58,7 +58,7 @@ typed_in (Some r) = typed_by r.form r.first
 
 abbrev pub opened_at : List (Option ℕ) → Option ℕ → Option Owner
 opened_at places None = None
-opened_at places (Some call) = opened (place_of places call)
+opened_at places (Some call) = opened_owner (place_of places call)
 
 abbrev pub led_to : List (Option ℕ) → List (Option ℕ) → Part → Option Owner
 led_to places endings PartV.AsksType = None

@@ -69,7 +69,7 @@ fn named(place: Option<u32>) -> Option<Owner>
 }
 
 fn opened(place: Option<u32>) -> Option<Owner>
-    ensures { result ≡ by.opened place }
+    ensures { result ≡ by.opened_owner place }
 {
     match place {
         Some(place) => Some(Owner::Opened(place)),

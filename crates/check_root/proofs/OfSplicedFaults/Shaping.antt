@@ -3,7 +3,7 @@ use Rattle.std.proofs.Common.{◌≡◌, ℕ, Bool, true, false, ◌||◌, List,
 use Rattle.lists.proofs.Lemmas.{contains_at, or_true}
 use Rattle.tree_nodes.specs.Syntax.Syntax as S
 use Rattle.cddl_language.specs.Faults.{Specification, definitions, rules}
-use Rattle.cddl_language.specs.MapFaults.{HasMapShape, IsSpliced, LeadsTo, closed_entry, comes_back, occurs_badly, point_in}
+use Rattle.cddl_language.specs.MapFaults.{HasMapShape, IsSpliced, IsLedToBy, closed_entry, comes_back, occurs_badly, point_in}
 use Rattle.cddl_language.specs.Reach.{Point}
 use Rattle.cddl_language.specs.Reading.{definitions_in}
 use Rattle.cddl_language.specs.Terms.{Ref, Term, Text}
@@ -27,7 +27,7 @@ set_true (Some b) e = ap Some e
 
 -- where an entry that stands in a map leads to a reference, one that stands in a map has it
 abbrev pub HaveReferences : List S.Rule → Text → Type 0
-HaveReferences rs root = (r : S.Rule) (xs : List Term) (q : Option Point) (e : S.GrpEnt) (p : Point) → IsSpliced rs root r xs q e → LeadsTo (definitions_in rs) p (closed_entry r xs e) → (v : S.Rule) × (ys : List Term) × (u : Option Point) × (d : S.GrpEnt) × IsSpliced rs root v ys u d × (point_in (definitions_in rs) (closed_entry v ys d) ≡ Some p)
+HaveReferences rs root = (r : S.Rule) (xs : List Term) (q : Option Point) (e : S.GrpEnt) (p : Point) → IsSpliced rs root r xs q e → IsLedToBy (definitions_in rs) p (closed_entry r xs e) → (v : S.Rule) × (ys : List Term) × (u : Option Point) × (d : S.GrpEnt) × IsSpliced rs root v ys u d × (point_in (definitions_in rs) (closed_entry v ys d) ≡ Some p)
 
 module _ (s : Specification) (root : Text) (have : HaveReferences (rules s) root) (t : Table) (refs : List Ref) (spliced : List Spliced) (faults : List MapFaults) (coming : List Bool) (are : AreSpliced (rules s) root t refs spliced) (wrong : AreFaults (definitions s) root t faults) (back : AreComingBack (definitions s) root t refs spliced coming) where
   by_flag : (x : Spliced) (at : ℕ) (it : IsSplicedEntry (rules s) root t refs x) → x.at ≡ at → LeadsBack (definitions s) refs x.owner (closed_entry it.rule it.arguments it.entry) → HasMapShape (rules s) root at

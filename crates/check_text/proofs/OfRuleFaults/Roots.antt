@@ -25,7 +25,7 @@ use Rattle.check_names.specs.Kinds.Kinds.{is_group_there}
 use Rattle.check_reading.specs.declared.survey.survey.Survey.{Survey}
 use Rattle.lists.specs.Least.{IsLeast}
 use Rattle.check_reading.specs.Survey.Survey.{IsSurvey}
-use Rattle.check_text.specs.RuleFaults.Root.{bad_at, bad_by, bad_first, either_number, first_number, has_some, is_text, number_in, root_number}
+use Rattle.check_text.specs.RuleFaults.Root.{bad_at, bad_by, bad_first, either_number, first_number, has_some, is_text, number_of_name, root_number}
 use Rattle.check_text.proofs.OfRuleFaults.Arities.{name_there}
 use Rattle.check_text.proofs.OfRuleFaults.Rules.{IsRest, as_many, definition_at, rest_first, rest_further, rules_view, whole}
 
@@ -38,11 +38,11 @@ IsNamed texts n ys (Some k) = (slice_get texts k ≡ Some n) × (named_so n ys �
 some_left : {A : Type 0} (x : A) (xs : List A) → x ∷ xs ≢ []
 some_left x xs e = cc
 
-named_number : (t : Table) (n : Text) (ds : List Definition) (ys : List L.Definition) → AreDefinitions t ds ys → IsNamed t.texts n ys (number_in t.texts n ds)
+named_number : (t : Table) (n : Text) (ds : List Definition) (ys : List L.Definition) → AreDefinitions t ds ys → IsNamed t.texts n ys (number_of_name t.texts n ds)
 named_number t n [] [] no_definitions = refl
 named_number t n [] (y ∷ ys) h = elim h [ ]
 named_number t n (d ∷ ds) [] h = elim h [ ]
-named_number t n (d ∷ ds) (y ∷ ys) (further_definition h hs) = subst (λ o. IsNamed t.texts n (y ∷ ys) (if is_text n o then Some d.name else number_in t.texts n ds)) (sym h.name) (by (is_same y.name n) refl (number_in t.texts n ds) (named_number t n ds ys hs))
+named_number t n (d ∷ ds) (y ∷ ys) (further_definition h hs) = subst (λ o. IsNamed t.texts n (y ∷ ys) (if is_text n o then Some d.name else number_of_name t.texts n ds)) (sym h.name) (by (is_same y.name n) refl (number_of_name t.texts n ds) (named_number t n ds ys hs))
   where
     cons : (b : Bool) → is_same y.name n ≡ b → (if b then y ∷ named_so n ys else named_so n ys) ≡ named_so n (y ∷ ys)
     cons b e = ap (λ c. if c then y ∷ named_so n ys else named_so n ys) (sym e)
@@ -82,8 +82,8 @@ module _ (t : Table) (tree : Tree) (s : Survey) (is : IsSurvey t tree s) (z : Sp
   text_read : AreDefinitions t s.definitions.items (definitions z)
   text_read = subst (λ x. AreDefinitions t s.definitions.items (definitions_in (rules_of x))) (sym of) is.text_read
 
-  given_root : (n : Text) → z.given ≡ Some n → IsRoot t z (either_number (number_in t.texts n s.definitions.items) (number_in t.texts n s.known.items))
-  given_root n e = by (number_in t.texts n s.definitions.items) (number_in t.texts n s.known.items) (named_number t n s.definitions.items (definitions z) text_read) (named_number t n s.known.items prelude is.prelude_read)
+  given_root : (n : Text) → z.given ≡ Some n → IsRoot t z (either_number (number_of_name t.texts n s.definitions.items) (number_of_name t.texts n s.known.items))
+  given_root n e = by (number_of_name t.texts n s.definitions.items) (number_of_name t.texts n s.known.items) (named_number t n s.definitions.items (definitions z) text_read) (named_number t n s.known.items prelude is.prelude_read)
     where
       rooted : root_of z ≡ Some n
       rooted = ap (λ g. root_or g (rules z)) e

@@ -16,9 +16,9 @@ abbrev pub is_text : Text → Option Text → Bool
 is_text n None = false
 is_text n (Some t) = is_same t n
 
-abbrev pub number_in : List Text → Text → List Definition → Option ℕ
-number_in texts n [] = None
-number_in texts n (d ∷ ds) = if is_text n (slice_get texts d.name) then Some d.name else number_in texts n ds
+abbrev pub number_of_name : List Text → Text → List Definition → Option ℕ
+number_of_name texts n [] = None
+number_of_name texts n (d ∷ ds) = if is_text n (slice_get texts d.name) then Some d.name else number_of_name texts n ds
 
 abbrev pub first_number : List Definition → Option ℕ
 first_number [] = None
@@ -29,7 +29,7 @@ either_number (Some k) o = Some k
 either_number None o = o
 
 abbrev pub root_number : List Text → List Definition → List Definition → Option Text → Option ℕ
-root_number texts known own (Some n) = either_number (number_in texts n own) (number_in texts n known)
+root_number texts known own (Some n) = either_number (number_of_name texts n own) (number_of_name texts n known)
 root_number texts known own None = first_number own
 
 abbrev pub has_some : List ℕ → Bool

@@ -2,7 +2,7 @@
 
 ghost use Rattle.std.specs.Prelude.{◌≡◌, Some, option_map, slice_get};
 ghost use Rattle.cddl_language.specs.Faults.{HasBadRoot, HasNoRoot, Specification};
-ghost use Rattle.check_text.specs.RuleFaults.Root.{bad_at, bad_by, has_some, is_text, number_in, root_number};
+ghost use Rattle.check_text.specs.RuleFaults.Root.{bad_at, bad_by, has_some, is_text, number_of_name, root_number};
 ghost use Rattle.lists.specs.Least.{IsLeast};
 ghost use Rattle.check_reading.specs.Survey.Survey.{IsSurvey};
 ghost use Rattle.tree_nodes.specs.View.{token_of, view};
@@ -29,7 +29,7 @@ pub fn root_of(terms: &Terms<'_>, survey: &Survey<'_>, given: Option<&str>) -> O
 
 // The number of the name, if one of these definitions is of it.
 fn number_in(terms: &Terms<'_>, definitions: &[Definition], name: &str) -> Option<u32>
-    ensures { result ≡ number_in terms.now.texts name.now definitions.now }
+    ensures { result ≡ number_of_name terms.now.texts name.now definitions.now }
 {
     for definition in definitions {
         if is_text(terms, definition.name, name) {

@@ -4,7 +4,7 @@ use Rattle.cddl_token.specs.declared.Token.{Token}
 use Rattle.cddl_token.specs.declared.Kind.{Kind}
 use Rattle.cddl_token.specs.declared.Kind.TheVariants.{Name, NameOpen, Control, Number, Occur, Text, Bytes, Hash, TagOpen, TagHeadOpen, SimpleHeadOpen, Assign, TypeAssign, GroupAssign, Slash, DoubleSlash, Range, RangeBelow, Arrow, Cut, Colon, Comma, ParenOpen, ParenClose, BracketOpen, BracketClose, BraceOpen, BraceClose, AngleClose, Tilde, Ampersand, End}
 use Rattle.tree_nodes.specs.Syntax.Syntax.{Lexeme, Value, number, text, bytes, Operator, range, range_below, control, Types, only, or, Type1, one, operation, Type2, literal, typename, parens, map_of, array_of, unwrapped, choice_of, choice_of_name, tagged, tagged_by, simple_by, hash, Ref, name, applied, GenericArg, argument, arguments, Group, sole, orelse, GrpChoice, no_entries, entries, GrpEnt, typed, keyed, grouped, MemberKey, type_key, bareword, value_key, GenericParm, parameter, parameters, RuleName, plain, generic, AssignT, type_is, type_or, AssignG, group_is, group_or, Rule, type_rule, group_rule, Rules, no_rules, rules, Cddl, cddl, optional, flat_value, flat_operator, flat_types, flat_type1, flat_type2, flat_ref, flat_arg, flat_group, flat_choice, flat_entry, flat_key, flat_parm, flat_name, flat_assignt, flat_assigng, flat_rule, flat_rules, flat, nesting_types, nesting_type1, nesting_type2, nesting_ref, nesting_arg, nesting_group, nesting_choice, nesting_entry, nesting_key, nesting_name, nesting_rule, nesting_rules, nesting}
-use Rattle.tree_nodes.specs.Syntax.Answers.{opened, open_after, deepest}
+use Rattle.tree_nodes.specs.Syntax.Answers.{opened_after, open_after, deepest}
 
 -- After the tokens as many are open as before them, and at most m more on the way.
 abbrev Nests : List Lexeme → ℕ → Type 0
@@ -12,7 +12,7 @@ Nests ts m = (n : ℕ) → (open_after n ts ≡ n) × (deepest n ts ≡ n + m)
 
 pub open_after-append : (n : ℕ) (a b : List Lexeme) → open_after n (a ++ b) ≡ open_after (open_after n a) b
 open_after-append n [] b = refl
-open_after-append n (t ∷ a) b = open_after-append (opened t.0 n) a b
+open_after-append n (t ∷ a) b = open_after-append (opened_after t.0 n) a b
 
 pub le-deepest : (n : ℕ) (ts : List Lexeme) → n ≤ deepest n ts
 le-deepest n [] = omega arith
@@ -20,7 +20,7 @@ le-deepest n (t ∷ ts) = omega arith
 
 pub deepest-append : (n : ℕ) (a b : List Lexeme) → deepest n (a ++ b) ≡ max (deepest n a) (deepest (open_after n a) b)
 deepest-append n [] b = let h = le-deepest n b in omega arith
-deepest-append n (t ∷ a) b = let h = deepest-append (opened t.0 n) a b in omega arith
+deepest-append n (t ∷ a) b = let h = deepest-append (opened_after t.0 n) a b in omega arith
 
 pub open-le-deepest : (n : ℕ) (a b : List Lexeme) → open_after n a ≤ deepest n (a ++ b)
 open-le-deepest n a b = let h = deepest-append n a b in let i = le-deepest (open_after n a) b in omega arith
@@ -29,7 +29,7 @@ nests_none : Nests [] 0
 nests_none n = (refl, omega arith)
 
 -- a token that neither opens nor closes
-nests_more : (q : Kind) (t : Token) (ts : List Lexeme) (m : ℕ) → ((n : ℕ) → opened q n ≡ n) → Nests ts m → Nests ((q, t) ∷ ts) m
+nests_more : (q : Kind) (t : Token) (ts : List Lexeme) (m : ℕ) → ((n : ℕ) → opened_after q n ≡ n) → Nests ts m → Nests ((q, t) ∷ ts) m
 nests_more q t ts m h b n = (
   ap (λ k. open_after k ts) (h n) ∙ (b n).0,
   ap (λ k. max n (deepest k ts)) (h n) ∙ (let e = (b n).1 in omega arith),
@@ -44,15 +44,15 @@ nests_append a b m k h i n = (
 nests_after : (a b : List Lexeme) (m : ℕ) → Nests a m → Nests b 0 → Nests (a ++ b) m
 nests_after a b m h i = subst (Nests (a ++ b)) (let e : max m 0 ≡ m = omega arith in e) (nests_append a b m 0 h i)
 
-nests_inside : (q r : Kind) (o c : Token) (ts : List Lexeme) (m : ℕ) → ((n : ℕ) → opened q n ≡ suc n) → ((n : ℕ) → opened r (suc n) ≡ n) → Nests ts m → Nests ((q, o) ∷ (ts ++ (r, c) ∷ [])) (suc m)
+nests_inside : (q r : Kind) (o c : Token) (ts : List Lexeme) (m : ℕ) → ((n : ℕ) → opened_after q n ≡ suc n) → ((n : ℕ) → opened_after r (suc n) ≡ n) → Nests ts m → Nests ((q, o) ∷ (ts ++ (r, c) ∷ [])) (suc m)
 nests_inside q r o c ts m h i b n = (
-  ap (λ k. open_after k (ts ++ (r, c) ∷ [])) (h n) ∙ open_after-append (suc n) ts ((r, c) ∷ []) ∙ ap (λ k. opened r k) (b (suc n)).0 ∙ i n,
+  ap (λ k. open_after k (ts ++ (r, c) ∷ [])) (h n) ∙ open_after-append (suc n) ts ((r, c) ∷ []) ∙ ap (λ k. opened_after r k) (b (suc n)).0 ∙ i n,
   ap (λ k. max n (deepest k (ts ++ (r, c) ∷ []))) (h n)
-      ∙ ap (λ k. max n k) (deepest-append (suc n) ts ((r, c) ∷ []) ∙ ap (λ k. max (deepest (suc n) ts) (max k (opened r k))) (b (suc n)).0)
+      ∙ ap (λ k. max n k) (deepest-append (suc n) ts ((r, c) ∷ []) ∙ ap (λ k. max (deepest (suc n) ts) (max k (opened_after r k))) (b (suc n)).0)
       ∙ (let d = (b (suc n)).1 in let e = i n in omega arith),
 )
 
-nests_optional : (q : Kind) (o : Option Token) (ts : List Lexeme) (m : ℕ) → ((n : ℕ) → opened q n ≡ n) → Nests ts m → Nests (optional q o ++ ts) m
+nests_optional : (q : Kind) (o : Option Token) (ts : List Lexeme) (m : ℕ) → ((n : ℕ) → opened_after q n ≡ n) → Nests ts m → Nests (optional q o ++ ts) m
 nests_optional q None ts m h b = b
 nests_optional q (Some t) ts m h b = nests_more q t ts m h b
 

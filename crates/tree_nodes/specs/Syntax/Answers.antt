@@ -28,29 +28,29 @@ abbrev pub nesting_limit : ℕ
 nesting_limit = 128
 
 -- How many are open after a token of this kind, where n were open before it.
-abbrev pub opened : Kind → ℕ → ℕ
-opened ParenOpen n = suc n
-opened BracketOpen n = suc n
-opened BraceOpen n = suc n
-opened NameOpen n = suc n
-opened TagOpen n = suc n
-opened TagHeadOpen n = suc n
-opened SimpleHeadOpen n = suc n
-opened ParenClose (suc n) = n
-opened BracketClose (suc n) = n
-opened BraceClose (suc n) = n
-opened AngleClose (suc n) = n
-opened _ n = n
+abbrev pub opened_after : Kind → ℕ → ℕ
+opened_after ParenOpen n = suc n
+opened_after BracketOpen n = suc n
+opened_after BraceOpen n = suc n
+opened_after NameOpen n = suc n
+opened_after TagOpen n = suc n
+opened_after TagHeadOpen n = suc n
+opened_after SimpleHeadOpen n = suc n
+opened_after ParenClose (suc n) = n
+opened_after BracketClose (suc n) = n
+opened_after BraceClose (suc n) = n
+opened_after AngleClose (suc n) = n
+opened_after _ n = n
 
 -- How many are open after the tokens, where n were open before them.
 abbrev pub open_after : ℕ → List Lexeme → ℕ
 open_after n [] = n
-open_after n (t ∷ ts) = open_after (opened t.0 n) ts
+open_after n (t ∷ ts) = open_after (opened_after t.0 n) ts
 
 -- How many are open at once, at most.
 abbrev pub deepest : ℕ → List Lexeme → ℕ
 deepest n [] = n
-deepest n (t ∷ ts) = max n (deepest (opened t.0 n) ts)
+deepest n (t ∷ ts) = max n (deepest (opened_after t.0 n) ts)
 
 -- The tokens are a specification, with this tree.
 pub record IsTreeOf (x : Cddl) (ts : List Token) : Type 0 where
