@@ -7,6 +7,7 @@ mod Parts
 mod Types
 mod Groups
 mod Ranked
+mod Places
 mod Finding
 mod Standing
 mod Handing
