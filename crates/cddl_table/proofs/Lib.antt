@@ -1,7 +1,6 @@
 mod Lists
 mod Rows
 mod Freedom
-mod Emptiness
 mod Down
 mod Parts
 mod Types

@@ -18,6 +18,7 @@ ghost use Rattle.cddl_table.specs.declared.table.Unmade.TheVariants as Why;
 use crate::order::{places, used_ranks};
 use crate::ranks::{group_ranks, type_ranks};
 use crate::root::root_place;
+use cddl_decided::empty_by_form;
 use check_instances::closed::laws::{meaning_at, meanings_are_reached};
 use check_instances::openings::laws::part_is_reached;
 use check_recursion::Ranks;
@@ -74,6 +75,7 @@ pub(crate) fn table_of(
     meaning_at();
     meanings_are_reached();
     part_is_reached();
+    empty_by_form();
     let Some(place) = root_place(terms, source.closed, root) else {
         return Err(Unmade::NotRanked);
     };

@@ -22,6 +22,7 @@ returns-clause-ranked c = err_with c.ranked_table.result _ _ c.ranked_table.ensu
       group_reached = λ q g h e. c.meanings_are_reached.ensures.group s.definitions s.root q g h e;
       part_named = λ x q h e. c.part_is_reached.ensures.named s.definitions s.root x q h e;
       part_opened = λ x q g h e. c.part_is_reached.ensures.opened s.definitions s.root x q g h e;
+      empty = λ es h. c.empty_by_form.ensures s.worth s.definitions es h;
     } in
     let place = root_found c.args.terms.now s.definitions s.root s.refs c.args.source.now.closed.now c.args.root c.equal_numbers.ensures.table basis.closed text c.in-Some.place (sym c.in-Some.ensures) in
     let by_rows = are_ranked s c.args.terms.now c.args.ranks.now (given s c.args.terms.now c.args.source.now.closed.now basis.closed c.args.ranks.now ranked laws) c.in_ok-nodes.nodes (c.in_ok-nodes.ensures s basis place group) in
