@@ -2,7 +2,7 @@
 
 _cddlseq() {
     local current=${COMP_WORDS[COMP_CWORD]} command=${COMP_WORDS[1]} options files=0
-    local -a commands=(check validate rewrite show help)
+    local -a commands=(check validate rewrite show explain help)
     COMPREPLY=()
     if ((COMP_CWORD == 1)); then
         mapfile -t COMPREPLY < <(compgen -W "${commands[*]} -h --help -V --version" -- "$current")
@@ -13,6 +13,7 @@ _cddlseq() {
         validate) options='--root --depth --item-bytes --steps --quiet' files=2 ;;
         rewrite) options='--root --depth --item-bytes --steps --deterministic' files=2 ;;
         show) options='--depth --item-bytes' files=1 ;;
+        explain) options='' files=0 ;;
         help)
             ((COMP_CWORD == 2)) && mapfile -t COMPREPLY < <(compgen -W "${commands[*]}" -- "$current")
             return

@@ -31,6 +31,7 @@ from run_library import run_library
 from run_memory import run_memory
 from run_rows import TOP, run_rows
 from test_completions import are_completions_right
+from test_explain import are_explanations_right
 from test_imports import are_imports_clean
 from test_man import is_page_right
 
@@ -133,6 +134,7 @@ def rows(rt):
         ("commands and calls with each request for memory refused", lambda: run_memory(PROGRAM)),
         ("comparisons of the man page with the program's help", lambda: (1, 0) if is_page_right(PROGRAM) else (0, 1)),
         ("comparisons of the completions with the program's help", lambda: (1, 0) if are_completions_right(PROGRAM) else (0, 1)),
+        ("comparisons of explanations with the documents", lambda: (1, 0) if are_explanations_right(PROGRAM) else (0, 1)),
         ("rows of the grammar", lambda: run_grammar(OUTLINE)),
         ("comparisons with a plain recognizer", lambda: recognizer.compare(OUTLINE)),
     ):

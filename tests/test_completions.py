@@ -25,7 +25,7 @@ FILES = {
     ("check", ""): True, ("check", "a", ""): False, ("validate", "a", ""): True, ("validate", "a", "b", ""): False,
     ("rewrite", "--root", "a", "b", ""): True, ("rewrite", "--root=a", "b", "c", ""): False, ("show", ""): True,
     ("rewrite", "--deterministic", "a", ""): True, ("rewrite", "a", "--deterministic", "b", ""): False,
-    ("show", "a", ""): False, ("show", "--", ""): True, ("show", "--depth", ""): False, ("help", ""): False,
+    ("show", "a", ""): False, ("show", "--", ""): True, ("show", "--depth", ""): False, ("help", ""): False, ("explain", ""): False,
 }
 
 IN_BASH = r"""

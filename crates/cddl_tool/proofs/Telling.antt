@@ -7,15 +7,17 @@ use Rattle.seq_run.specs.declared.end.End.{End}
 use Rattle.seq_run.specs.declared.end.End.TheVariants.{Clean, Failed}
 use Rattle.seq_run.specs.Judge.{Judge}
 use Rattle.seq_run.specs.Report.{end_line}
-use Rattle.seq_run.specs.Running.{Change, HasFailed, WritesAll, IsFault}
+use Rattle.seq_run.specs.Running.{Change, HasFailed, HasNotFailed, WritesAll, IsFault}
 use Rattle.seq_run.specs.declared.running.RunFault.{RunFault}
 use Rattle.command_line.specs.declared.choice.Task.{Task}
-use Rattle.command_line.specs.declared.choice.Task.TheVariants.{Check, Validate, Rewrite, Show}
+use Rattle.command_line.specs.declared.choice.Task.TheVariants.{Check, Validate, Rewrite, Show, Explain}
 use Rattle.seq_run.specs.declared.output.Mode.{Mode}
 use Rattle.command_line.specs.declared.choice.Options.{Options}
 use Rattle.command_line.specs.declared.status.TheConstants.{BROKEN}
-use Rattle.command_line.specs.Lines.{write_failed_line}
-use Rattle.cddl_tool.specs.Acting.{accepted_line, cut, fault_line, limits_of, mode_of, status_for, told_of, IsAcceptance, IsAnswered, IsBroken, stopped, untold, IsSaid, IsTold, told, no_line}
+use Rattle.command_line.specs.Lines.{memory_line, unexplained_line, write_failed_line}
+use Rattle.cddl_explain.specs.declared.subjects.Subject.{Subject}
+use Rattle.cddl_explain.specs.Subjects.{explanation_of, IsNameOf}
+use Rattle.cddl_tool.specs.Acting.{accepted_line, cut, fault_line, limits_of, mode_of, status_for, told_of, HasNoStream, IsCutIn, IsExplained, explained, cut_short, unknown, no_text, IsAcceptance, IsAnswered, IsBroken, stopped, untold, IsSaid, IsTold, told, no_line}
 
 never_broken : (end : End) → status_for end ≡ BROKEN → ⊥
 never_broken (Clean items bytes) e = absurd (cc)
@@ -35,16 +37,18 @@ pub line_told : (error : Change) (end : End) (rejected : Option Value) (text : L
 line_told error end rejected text status said same is =
     subst (λ n. IsTold Rewrite end rejected error n) (sym is) (told (λ kept few. subst (λ (b : List ℕ). bytes.Appends error.before error.after b) same (said kept few)))
 
-tells_nothing : (task : Task) (end : End) (rejected : Option Value) → (task ≡ Check) ⊎ ((task ≡ Validate) ⊎ (task ≡ Show)) → told_of task end rejected ≡ []
+tells_nothing : (task : Task) (end : End) (rejected : Option Value) → (task ≡ Check) ⊎ ((task ≡ Validate) ⊎ ((task ≡ Show) ⊎ (task ≡ Explain))) → told_of task end rejected ≡ []
 tells_nothing Check end rejected h = refl
 tells_nothing Validate end rejected h = refl
 tells_nothing Rewrite end rejected (inl e) = absurd (cc)
 tells_nothing Rewrite end rejected (inr (inl e)) = absurd (cc)
-tells_nothing Rewrite end rejected (inr (inr e)) = absurd (cc)
+tells_nothing Rewrite end rejected (inr (inr (inl e))) = absurd (cc)
+tells_nothing Rewrite end rejected (inr (inr (inr e))) = absurd (cc)
 tells_nothing Show end rejected h = refl
+tells_nothing Explain end rejected h = refl
 
 -- where no line is to be told none was
-pub nothing_told : (task : Task) (a : Option (List ℕ)) (failures : ℕ) (end : End) (rejected : Option Value) (status : ℕ) → (task ≡ Check) ⊎ ((task ≡ Validate) ⊎ (task ≡ Show)) → status ≡ status_for end →
+pub nothing_told : (task : Task) (a : Option (List ℕ)) (failures : ℕ) (end : End) (rejected : Option Value) (status : ℕ) → (task ≡ Check) ⊎ ((task ≡ Validate) ⊎ ((task ≡ Show) ⊎ (task ≡ Explain))) → status ≡ status_for end →
     IsTold task end rejected (record { before = a; after = a; failures_before = failures; failures_after = failures }) status
 nothing_told task a failures end rejected status other is =
     subst (λ n. IsTold task end rejected (record { before = a; after = a; failures_before = failures; failures_after = failures }) n) (sym is)
@@ -85,8 +89,30 @@ module _ (o : Options) (judge : Judge) (input output error : Change) (m : Mode) 
     pub broken : status ≡ BROKEN → IsBroken o judge input output error
     broken e = broken_by status is_told e
 
--- a task with a stream is no check
-pub not_check : (task : Task) → (task ≡ Validate) ⊎ ((task ≡ Rewrite) ⊎ (task ≡ Show)) → task ≡ Check → ⊥
-not_check task (inl e) f = let h : Check ≡ Validate = sym f ∙ e in absurd (cc)
-not_check task (inr (inl e)) f = let h : Check ≡ Rewrite = sym f ∙ e in absurd (cc)
-not_check task (inr (inr e)) f = let h : Check ≡ Show = sym f ∙ e in absurd (cc)
+-- a task with a stream
+pub with_stream : (task : Task) → (task ≡ Validate) ⊎ ((task ≡ Rewrite) ⊎ (task ≡ Show)) → HasNoStream task → ⊥
+with_stream task (inl e) (inl f) = let h : Check ≡ Validate = sym f ∙ e in absurd (cc)
+with_stream task (inr (inl e)) (inl f) = let h : Check ≡ Rewrite = sym f ∙ e in absurd (cc)
+with_stream task (inr (inr e)) (inl f) = let h : Check ≡ Show = sym f ∙ e in absurd (cc)
+with_stream task (inl e) (inr f) = let h : Explain ≡ Validate = sym f ∙ e in absurd (cc)
+with_stream task (inr (inl e)) (inr f) = let h : Explain ≡ Rewrite = sym f ∙ e in absurd (cc)
+with_stream task (inr (inr e)) (inr f) = let h : Explain ≡ Show = sym f ∙ e in absurd (cc)
+
+pub is_not_other : (task : Task) → task ≡ Check → task ≡ Explain → ⊥
+is_not_other task e f = let h : Check ≡ Explain = sym e ∙ f in absurd (cc)
+
+-- what is told of what is explained
+pub written_out : (word text : List ℕ) (s : Subject) (output error : Change) → IsNameOf s word → text ≡ explanation_of s → HasNotFailed output → bytes.Appends output.before output.after text → IsExplained word output error 0
+written_out word text s output error named same kept appends = explained s named kept (subst (λ (b : List ℕ). bytes.Appends output.before output.after b) same appends)
+
+pub cut_in : (word text : List ℕ) (s : Subject) (output error : Change) (k status : ℕ) → IsNameOf s word → text ≡ explanation_of s → HasFailed output → k < length text → bytes.Appends output.before output.after (take k text) → status ≡ BROKEN → IsSaid error (write_failed_line k) →
+    IsExplained word output error status
+cut_in word text s output error k status named same failed short part is said =
+    subst (λ n. IsExplained word output error n) (sym is) (cut_short s named k (subst (λ (b : List ℕ). IsCutIn b output k) same (record { failed = failed; short = short; part = part })) said)
+
+pub no_subject : (word : List ℕ) (output error : Change) (status : ℕ) → ((s : Subject) → IsNameOf s word → ⊥) → status ≡ BROKEN → IsSaid error (unexplained_line word) ⊎ IsSaid error memory_line → IsExplained word output error status
+no_subject word output error status none is (inl said) = subst (λ n. IsExplained word output error n) (sym is) (unknown none said)
+no_subject word output error status none is (inr said) = subst (λ n. IsExplained word output error n) (sym is) (no_text said)
+
+pub untold_text : (word : List ℕ) (output error : Change) (status : ℕ) → status ≡ BROKEN → IsSaid error memory_line → IsExplained word output error status
+untold_text word output error status is said = subst (λ n. IsExplained word output error n) (sym is) (no_text said)

@@ -1,5 +1,5 @@
 -- What the program's status says.
-use Rattle.std.specs.Prelude.{◌≡◌, ℕ, ◌<◌, ◌-◌, ◌^◌, Bool, true, false, List, [], ◌++◌, length, take, Option, IfSome, codes}
+use Rattle.std.specs.Prelude.{◌≡◌, ℕ, ◌<◌, ◌-◌, ◌^◌, Bool, true, false, List, [], ◌++◌, length, take, Option, Some, None, IfSome, codes, ◌⊎◌, string_bytes, option_map}
 use Rattle.std.specs.Io.KnownBytes as bytes
 use Rattle.cbor_data.specs.Faults.{Bounds}
 use Rattle.cbor_data.specs.Value.{Value}
@@ -18,16 +18,19 @@ use Rattle.cddl_check.specs.Text.{IsWrongText}
 use Rattle.check_text.specs.declared.fault.Fault.{Fault}
 use Rattle.command_line.specs.declared.choice.Options.{Options}
 use Rattle.command_line.specs.declared.choice.Task.{Task}
-use Rattle.command_line.specs.declared.choice.Task.TheVariants.{Check, Validate, Rewrite, Show}
+use Rattle.command_line.specs.declared.choice.Task.TheVariants.{Check, Validate, Rewrite, Show, Explain}
 use Rattle.command_line.specs.declared.status.TheConstants.{REFUSED, BROKEN}
-use Rattle.command_line.specs.Lines.{memory_line, read_failed_line, write_failed_line}
+use Rattle.command_line.specs.Lines.{memory_line, read_failed_line, unexplained_line, write_failed_line}
+use Rattle.cddl_explain.specs.declared.subjects.Subject.{Subject}
+use Rattle.cddl_explain.specs.Subjects.{explanation_of, IsNameOf}
 
--- the specification of a task: to show a stream, that of any item
+-- the specification of a task: to show a stream or to explain a code, that of any item
 abbrev pub specification_of : Task → List ℕ → List ℕ
 specification_of Check spec = spec
 specification_of Validate spec = spec
 specification_of Rewrite spec = spec
 specification_of Show spec = codes "a = any"
+specification_of Explain spec = codes "a = any"
 
 -- The text went out whole, unless the device failed.
 abbrev pub IsSaid : Change → List ℕ → Type 0
@@ -56,6 +59,31 @@ pub record IsCutOff (output : Change) (k : ℕ) : Type 0 where
 pub data IsAcceptance (output error : Change) : ℕ → Type 0 where
   whole : HasNotFailed output → bytes.Appends output.before output.after accepted_line → IsAcceptance output error 0
   cut : (k : ℕ) → IsCutOff output k → IsSaid error (write_failed_line k) → IsAcceptance output error BROKEN
+
+-- a task that reads no stream
+abbrev pub HasNoStream : Task → Type 0
+HasNoStream task = (task ≡ Check) ⊎ (task ≡ Explain)
+
+-- what is to be explained
+abbrev pub word_in : Option (List ℕ) → List ℕ
+word_in None = []
+word_in (Some word) = word
+
+abbrev pub wanted_word : Options → List ℕ
+wanted_word o = word_in (option_map (λ s. string_bytes s) o.code)
+
+-- The device failed, and exactly the first k bytes of the text went out.
+pub record IsCutIn (text : List ℕ) (output : Change) (k : ℕ) : Type 0 where
+  pub failed : HasFailed output
+  pub short : k < length text
+  pub part : bytes.Appends output.before output.after (take k text)
+
+-- What the word names was explained; or it was told where the text was cut off, that nothing has this name, or want of memory.
+pub data IsExplained (word : List ℕ) (output error : Change) : ℕ → Type 0 where
+  explained : (s : Subject) → IsNameOf s word → HasNotFailed output → bytes.Appends output.before output.after (explanation_of s) → IsExplained word output error 0
+  cut_short : (s : Subject) → IsNameOf s word → (k : ℕ) → IsCutIn (explanation_of s) output k → IsSaid error (write_failed_line k) → IsExplained word output error BROKEN
+  unknown : ((s : Subject) → IsNameOf s word → ⊥) → IsSaid error (unexplained_line word) → IsExplained word output error BROKEN
+  no_text : IsSaid error memory_line → IsExplained word output error BROKEN
 
 -- the limits of items that the options give
 abbrev pub limits_of : Options → Bounds

@@ -8,22 +8,24 @@ ghost use Rattle.seq_run.specs.Judge.{judge_of};
 ghost use Rattle.seq_run.specs.Report.{IsShown};
 ghost use Rattle.seq_run.specs.Running.{change_of};
 ghost use Rattle.command_line.specs.Lines.{memory_line};
-ghost use Rattle.cddl_tool.specs.Acting.{fault_line, limits_of, mode_of, refusal_line, report_mode_of, rewrite_mode_of, specification_of, status_for, IsAcceptance, IsAnswered, IsBroken, IsSaid, IsTold, IsTurnedDown};
+ghost use Rattle.cddl_tool.specs.Acting.{fault_line, limits_of, mode_of, refusal_line, report_mode_of, rewrite_mode_of, specification_of, status_for, wanted_word, HasNoStream, IsAcceptance, IsAnswered, IsBroken, IsExplained, IsSaid, IsTold, IsTurnedDown};
 
 use cbor_item::{Counted, Sound, write_bytes};
 use cbor_read::Limits;
+use cddl_explain::{explanation, subject_of};
 use cddl_table::read_specification;
 use cddl_token::Refusal;
 use check_text::Fault;
 use command_line::{
-    BROKEN, FAILED, Options, REFUSED, Task, say, say_no_memory, say_read_failed, say_write_failed,
+    BROKEN, FAILED, Options, REFUSED, Task, say, say_no_memory, say_read_failed, say_unexplained,
+    say_write_failed,
 };
 use seq_run::{End, Mode, RunFault, end_line, run};
 use std::alloc::{AllocError, Global};
 use std::io::{Read, Write};
 use table_nodes::Table;
 
-/// Reads the specification: `spec`, or to show a stream `a = any`. The root is the name that the options give, or the first
+/// Reads the specification: `spec`, or to show a stream or to explain a code `a = any`. The root is the name that the options give, or the first
 /// rule.
 ///
 /// # Errors
@@ -96,7 +98,7 @@ fn specification_for(task: Task, spec: &[u8]) -> &[u8]
 {
     match task {
         Task::Check | Task::Validate | Task::Rewrite => spec,
-        Task::Show => b"a = any",
+        Task::Show | Task::Explain => b"a = any",
     }
 }
 
@@ -108,6 +110,9 @@ fn specification_for(task: Task, spec: &[u8]) -> &[u8]
 /// - [`Task::Rewrite`]: writes the items that match to `out`, encoded as the options say, and the line of the end to `err`. The
 ///   status is as before.
 ///
+/// - [`Task::Explain`]: writes what the code or the cause means to `out`, and reads nothing. The status is 0, and [`BROKEN`]
+///   where there is no such code or cause, with a line on `err`.
+///
 /// Where a read, a write or an allocation fails the status is [`BROKEN`], with a line on `err`.
 pub fn act<R: Read, W: Write, E: Write>(
     alloc: Global,
@@ -118,15 +123,17 @@ pub fn act<R: Read, W: Write, E: Write>(
     err: &mut Counted<E>,
 ) -> u8
     ensures accepted { options.now.task ≡ Task.Check → IsAcceptance (change_of W.contents out.old out.new) (change_of E.contents err.old err.new) result }
-    ensures unread { options.now.task ≡ Task.Check → input.new ≡ input.old }
-    ensures answered { options.now.task ≢ Task.Check → result ≢ BROKEN → IfSome (R.remaining (device_of input.old)) (λ stream.
+    ensures explained { options.now.task ≡ Task.Explain → IsExplained (wanted_word options.now) (change_of W.contents out.old out.new) (change_of E.contents err.old err.new) result }
+    ensures unread { HasNoStream options.now.task → input.new ≡ input.old }
+    ensures answered { (HasNoStream options.now.task → ⊥) → result ≢ BROKEN → IfSome (R.remaining (device_of input.old)) (λ stream.
         IsAnswered options.now (judge_of table.now options.now.steps) stream (change_of W.contents out.old out.new) (change_of E.contents err.old err.new) result) }
     ensures quiet { options.now.task ≢ Task.Rewrite → result ≢ BROKEN → err.new ≡ err.old }
-    ensures broken { options.now.task ≢ Task.Check → result ≡ BROKEN → IsBroken options.now (judge_of table.now options.now.steps)
+    ensures broken { (HasNoStream options.now.task → ⊥) → result ≡ BROKEN → IsBroken options.now (judge_of table.now options.now.steps)
         (change_of R.remaining input.old input.new) (change_of W.contents out.old out.new) (change_of E.contents err.old err.new) }
 {
     match options.task {
         Task::Check => accept(out, err),
+        Task::Explain => explain(alloc, word_of(options), out, err),
         Task::Validate | Task::Rewrite | Task::Show => {
             go_through(alloc, options, table, input, out, err)
         }
@@ -139,6 +146,38 @@ fn accept<W: Write, E: Write>(out: &mut Counted<W>, err: &mut Counted<E>) -> u8
     ensures quiet { result ≢ BROKEN → err.new ≡ err.old }
 {
     match write_bytes(b"accepted\n", out) {
+        Ok(()) => 0,
+        Err(fault) => say_write_failed(fault.written, err),
+    }
+}
+
+// What is to be explained: without a word, the empty one.
+fn word_of(options: &Options) -> &str
+    ensures { result.now ≡ wanted_word options.now }
+{
+    match &options.code {
+        Some(word) => word.as_str(),
+        None => "",
+    }
+}
+
+// Writes what a code or a cause means, and answers the status.
+fn explain<W: Write, E: Write>(
+    alloc: Global,
+    word: &str,
+    out: &mut Counted<W>,
+    err: &mut Counted<E>,
+) -> u8
+    ensures explained { IsExplained word.now (change_of W.contents out.old out.new) (change_of E.contents err.old err.new) result }
+    ensures quiet { result ≢ BROKEN → err.new ≡ err.old }
+{
+    let Some(subject) = subject_of(word) else {
+        return say_unexplained(alloc, word, err);
+    };
+    let Ok(text) = explanation(alloc, subject) else {
+        return say_no_memory(err);
+    };
+    match write_bytes(text.as_str().as_bytes(), out) {
         Ok(()) => 0,
         Err(fault) => say_write_failed(fault.written, err),
     }
@@ -187,7 +226,7 @@ fn mode_for(options: &Options) -> Mode
 {
     match options.task {
         Task::Rewrite => rewrite_mode(options.deterministic),
-        Task::Check | Task::Validate | Task::Show => report_mode(options.quiet),
+        Task::Check | Task::Validate | Task::Show | Task::Explain => report_mode(options.quiet),
     }
 }
 
@@ -221,7 +260,7 @@ fn tell_end<E: Write>(
 {
     match task {
         Task::Rewrite => tell_line(alloc, end, rejected, err),
-        Task::Check | Task::Validate | Task::Show => status_of(end),
+        Task::Check | Task::Validate | Task::Show | Task::Explain => status_of(end),
     }
 }
 

@@ -10,6 +10,6 @@ pub use cddl_table::read_specification;
 pub use cddl_token::Refusal;
 pub use command_line::{
     BROKEN, FAILED, Options, REFUSED, STEPS, Task, Use, VERSION, options, options_of_arguments,
-    read_text, say, say_no_memory, say_no_text, say_read_failed, say_unopened, say_words,
-    say_write_failed, stream_name,
+    read_text, say, say_no_memory, say_no_text, say_read_failed, say_unexplained, say_unopened,
+    say_words, say_write_failed, stream_name,
 };

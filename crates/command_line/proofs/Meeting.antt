@@ -1,5 +1,5 @@
 -- What clap's clauses say of the words.
-use Rattle.std.proofs.Common.{◌≡◌, List, [], ◌∷◌, true, codes, Option, Some, None, option_map, option_and_then, inl, inr, refl, sym, ap, ◌∙◌}
+use Rattle.std.proofs.Common.{◌≡◌, ℕ, arith, List, [], ◌∷◌, true, codes, Option, Some, None, option_map, option_and_then, inl, inr, refl, sym, ap, ◌∙◌}
 use Rattle.std.specs.Prelude.{Result, Ok, Err, Box, IfErr, IfOk}
 use Rattle.std.specs.Result.{IsErrAnd}
 use Rattle.std.specs.Box.{box_value}
@@ -13,7 +13,7 @@ use Rattle.clap.specs.declared.parser.matches.SubCommand.{SubCommand}
 use Rattle.clap.proofs.OnLiterals.{clap_on_literals}
 use Rattle.command_line.specs.declared.choice.Options.{Options}
 use Rattle.command_line.specs.declared.choice.Task.{Task}
-use Rattle.command_line.specs.declared.choice.Task.TheVariants.{Check, Validate, Rewrite, Show}
+use Rattle.command_line.specs.declared.choice.Task.TheVariants.{Check, Validate, Rewrite, Show, Explain}
 use Rattle.command_line.specs.declared.choice.Use.{Use}
 use Rattle.command_line.specs.declared.choice.Use.TheVariants.{Words, Memory}
 use Rattle.command_line.specs.Errors.{IsUseOf}
@@ -61,6 +61,7 @@ unfolding named_command given_text given_number
 chosen_of words task rows o taken met read = record {
   taken = taken;
   task = ap (option_map (λ (p : Text × List Row). p.0)) met.found ∙ ap (λ (t : Task). Some (task_name t)) (sym read.task_is);
+  code = read.code ∙ sym (ap (option_and_then (λ (p : Text × List Row). first_of (codes "code") p.1)) met.found);
   spec = read.spec ∙ sym (ap (option_and_then (λ (p : Text × List Row). first_of (codes "spec") p.1)) met.found);
   root = read.root ∙ sym (ap (option_and_then (λ (p : Text × List Row). first_of (codes "root") p.1)) met.found);
   file = read.file ∙ sym (ap (option_and_then (λ (p : Text × List Row). first_of (codes "file") p.1)) met.found);
@@ -71,23 +72,37 @@ chosen_of words task rows o taken met read = record {
   deterministic = read.deterministic ∙ ap is_set (sym (ap (option_and_then (λ (p : Text × List Row). first_of (codes "deterministic") p.1)) met.found));
 }
 
+first_code : Text → ℕ
+first_code [] = 0
+first_code (x ∷ xs) = x
+
 same_name : (s t : Task) → task_name s ≡ task_name t → s ≡ t
+unfolding first_code
 same_name Check Check e = refl
 same_name Check Validate e = absurd (cc)
 same_name Check Rewrite e = absurd (cc)
 same_name Check Show e = absurd (cc)
+same_name Check Explain e = absurd (cc)
 same_name Validate Check e = absurd (cc)
 same_name Validate Validate e = refl
 same_name Validate Rewrite e = absurd (cc)
 same_name Validate Show e = absurd (cc)
+same_name Validate Explain e = absurd (cc)
 same_name Rewrite Check e = absurd (cc)
 same_name Rewrite Validate e = absurd (cc)
 same_name Rewrite Rewrite e = refl
 same_name Rewrite Show e = absurd (cc)
+same_name Rewrite Explain e = let h : 114 ≡ 101 = ap first_code e in absurd (omega (arith, h))
 same_name Show Check e = absurd (cc)
 same_name Show Validate e = absurd (cc)
 same_name Show Rewrite e = absurd (cc)
 same_name Show Show e = refl
+same_name Show Explain e = absurd (cc)
+same_name Explain Check e = absurd (cc)
+same_name Explain Validate e = absurd (cc)
+same_name Explain Rewrite e = let h : 101 ≡ 114 = ap first_code e in absurd (omega (arith, h))
+same_name Explain Show e = absurd (cc)
+same_name Explain Explain e = refl
 
 pub read_of : (words : List Text) (task : Task) (rows : List Row) (o : Options) → IsMet words (task_name task) rows → AreChosen o words → AreRead task rows o
 unfolding named_command given_text given_number
@@ -96,6 +111,7 @@ read_of words task rows o met c =
     let same : o.task ≡ task = same_name o.task task (let e : task_name o.task ≡ task_name task = cc in e) in
     record {
       task_is = same;
+      code = c.code ∙ ap (option_and_then (λ (p : Text × List Row). first_of (codes "code") p.1)) met.found;
       spec = c.spec ∙ ap (option_and_then (λ (p : Text × List Row). first_of (codes "spec") p.1)) met.found;
       root = c.root ∙ ap (option_and_then (λ (p : Text × List Row). first_of (codes "root") p.1)) met.found;
       file = c.file ∙ ap (option_and_then (λ (p : Text × List Row). first_of (codes "file") p.1)) met.found;
@@ -145,12 +161,13 @@ unfolding named_command
 named_met words m name sub is = sym (names_same (out-ArgMatches m).subcommand) ∙ (ap (option_map (λ (p : Text × List Row). p.0)) sub ∙ is)
 
 -- where no command was met the words give no options
-pub none_met : (words : List Text) (m : ArgMatches) → subcommand_rows_of m ≡ subcommand_of program_app words → (subcommand_name_of m ≡ Some (codes "check") → ⊥) → (subcommand_name_of m ≡ Some (codes "validate") → ⊥) → (subcommand_name_of m ≡ Some (codes "rewrite") → ⊥) → (subcommand_name_of m ≡ Some (codes "show") → ⊥) →
+pub none_met : (words : List Text) (m : ArgMatches) → subcommand_rows_of m ≡ subcommand_of program_app words → (subcommand_name_of m ≡ Some (codes "check") → ⊥) → (subcommand_name_of m ≡ Some (codes "validate") → ⊥) → (subcommand_name_of m ≡ Some (codes "rewrite") → ⊥) → (subcommand_name_of m ≡ Some (codes "show") → ⊥) → (subcommand_name_of m ≡ Some (codes "explain") → ⊥) →
     (o : Options) → AreChosen o words → ⊥
-none_met words m sub not_check not_validate not_rewrite not_show o c = none o.task refl
+none_met words m sub not_check not_validate not_rewrite not_show not_explain o c = none o.task refl
   where
     none : (t : Task) → o.task ≡ t → ⊥
     none Check e = not_check (named_met words m (codes "check") sub (c.task ∙ ap (λ (s : Task). Some (task_name s)) e))
     none Validate e = not_validate (named_met words m (codes "validate") sub (c.task ∙ ap (λ (s : Task). Some (task_name s)) e))
     none Rewrite e = not_rewrite (named_met words m (codes "rewrite") sub (c.task ∙ ap (λ (s : Task). Some (task_name s)) e))
     none Show e = not_show (named_met words m (codes "show") sub (c.task ∙ ap (λ (s : Task). Some (task_name s)) e))
+    none Explain e = not_explain (named_met words m (codes "explain") sub (c.task ∙ ap (λ (s : Task). Some (task_name s)) e))

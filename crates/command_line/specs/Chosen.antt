@@ -8,13 +8,17 @@ use Rattle.clap.specs.Words.{App, Row, Rule, Text, fault_of, new_app, new_rule, 
 use Rattle.clap.specs.declared.builder.value_parser.ValueParser.TheVariants.{Signed, Unsigned}
 use Rattle.command_line.specs.declared.choice.Options.{Options}
 use Rattle.command_line.specs.declared.choice.Task.{Task}
-use Rattle.command_line.specs.declared.choice.Task.TheVariants.{Check, Validate, Rewrite, Show}
+use Rattle.command_line.specs.declared.choice.Task.TheVariants.{Check, Validate, Rewrite, Show, Explain}
 use Rattle.command_line.specs.declared.choice.TheConstants.{STEPS}
 use Rattle.command_line.specs.declared.choice.Use.{Use}
 use Rattle.command_line.specs.declared.choice.Use.TheVariants.{Words, Memory}
 
 abbrev pub spec_rule : Rule
 spec_rule = record (new_rule (codes "spec")) { value_names = 1; required = true }
+
+-- `CODE`
+abbrev pub code_rule : Rule
+code_rule = record (new_rule (codes "code")) { value_names = 1; required = true }
 
 -- `--root NAME`
 abbrev pub root_rule : Rule
@@ -82,18 +86,24 @@ rewrite_app = with_rule (judging_app (new_app (codes "rewrite"))) deterministic_
 abbrev pub show_app : App
 show_app = stream_app (new_app (codes "show"))
 
+-- `explain CODE`
+abbrev pub explain_app : App
+explain_app = with_rule (new_app (codes "explain")) code_rule
+
 -- the program's command, which has a version, and of which a subcommand is required
 abbrev pub top_app : App
 top_app = record { top = record ((new_app (codes "cddlseq")).top) { has_version = true; subcommand_required = true }; subs = [] }
 
 abbrev pub program_app : App
-program_app = with_subcommand (with_subcommand (with_subcommand (with_subcommand top_app check_app.top) validate_app.top) rewrite_app.top) show_app.top
+program_app =
+    with_subcommand (with_subcommand (with_subcommand (with_subcommand (with_subcommand top_app check_app.top) validate_app.top) rewrite_app.top) show_app.top) explain_app.top
 
 abbrev pub task_name : Task → Text
 task_name Check = codes "check"
 task_name Validate = codes "validate"
 task_name Rewrite = codes "rewrite"
 task_name Show = codes "show"
+task_name Explain = codes "explain"
 
 -- the subcommand that the words name, by clap's rules
 unfoldable pub named_command : List Text → Option Text
@@ -123,6 +133,7 @@ IsStreamNumber Check most text n = n ≡ most
 IsStreamNumber Validate most text n = IsNumber most text n
 IsStreamNumber Rewrite most text n = IsNumber most text n
 IsStreamNumber Show most text n = IsNumber most text n
+IsStreamNumber Explain most text n = n ≡ most
 
 -- the steps of a task: those of its option, and the default where it has none
 abbrev pub AreTaskSteps : Task → Option Text → ℕ → Type 0
@@ -130,6 +141,7 @@ AreTaskSteps Check text steps = steps ≡ STEPS
 AreTaskSteps Validate text steps = IsNumber most_steps text steps
 AreTaskSteps Rewrite text steps = IsNumber most_steps text steps
 AreTaskSteps Show text steps = steps ≡ STEPS
+AreTaskSteps Explain text steps = steps ≡ STEPS
 
 -- whether an option without a value is given
 abbrev pub is_set : Option Text → Bool
@@ -139,6 +151,7 @@ is_set (Some text) = bytes_eq text (codes "true")
 -- what the rows of a subcommand's matches give
 pub record AreRead (task : Task) (rows : List Row) (o : Options) : Type 0 where
   pub task_is : o.task ≡ task
+  pub code : option_map (λ s. string_bytes s) o.code ≡ first_of (codes "code") rows
   pub spec : option_map (λ s. string_bytes s) o.spec ≡ first_of (codes "spec") rows
   pub root : option_map (λ s. string_bytes s) o.root ≡ first_of (codes "root") rows
   pub file : option_map (λ s. string_bytes s) o.file ≡ first_of (codes "file") rows
@@ -156,6 +169,7 @@ AreUnread task rows Memory = Unit {0}
 pub record AreChosen (o : Options) (words : List Text) : Type 0 where
   pub taken : fault_of program_app words ≡ []
   pub task : named_command words ≡ Some (task_name o.task)
+  pub code : option_map (λ s. string_bytes s) o.code ≡ given_text (codes "code") words
   pub spec : option_map (λ s. string_bytes s) o.spec ≡ given_text (codes "spec") words
   pub root : option_map (λ s. string_bytes s) o.root ≡ given_text (codes "root") words
   pub file : option_map (λ s. string_bytes s) o.file ≡ given_text (codes "file") words

@@ -15,6 +15,10 @@ unopened_line name = file_line (codes "cannot open ") name
 abbrev pub unread_line : List ℕ → List ℕ
 unread_line name = file_line (codes "cannot read ") name
 
+-- the line that says of a word that it names nothing that can be explained
+abbrev pub unexplained_line : List ℕ → List ℕ
+unexplained_line word = file_line (codes "no such code or cause (cddlseq explain --help lists them): ") word
+
 abbrev pub memory_line : List ℕ
 memory_line = codes "out of memory\n"
 

@@ -22,6 +22,8 @@ pub enum Task {
     Rewrite,
     /// To show the items of a stream, whatever they are.
     Show,
+    /// To say what a code or a cause means.
+    Explain,
 }
 
 /// What the words say. What a command does not have is `None`, or the default.
@@ -29,6 +31,8 @@ pub enum Task {
 pub struct Options {
     /// What to do.
     pub task: Task,
+    /// The code or the cause that is to be explained, if the task is that.
+    pub code: Option<String>,
     /// The name of the file with the specification, if the task has one.
     pub spec: Option<String>,
     /// The name of the file with the stream. Without it standard input is read.

@@ -13,7 +13,7 @@ mod words;
 pub use crate::arguments::{options_of_arguments, say_no_text};
 pub use crate::choice::{Options, STEPS, Task, Use};
 pub use crate::lines::{
-    say, say_no_memory, say_read_failed, say_unopened, say_words, say_write_failed,
+    say, say_no_memory, say_read_failed, say_unexplained, say_unopened, say_words, say_write_failed,
 };
 pub use crate::status::{BROKEN, FAILED, REFUSED};
 pub use crate::stream::stream_name;

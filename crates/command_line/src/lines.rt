@@ -5,7 +5,7 @@ ghost use Rattle.std.specs.Io.KnownBytes.{Appends};
 ghost use Rattle.item_nodes.specs.Counted.{device_of, failures_of, HasRisen};
 ghost use Rattle.clap.specs.Words.{kind_of};
 ghost use Rattle.command_line.specs.Errors.{IsAskedFor};
-ghost use Rattle.command_line.specs.Lines.{file_line, memory_line, read_failed_line, unopened_line, write_failed_line, IsCutAfter, IsPut};
+ghost use Rattle.command_line.specs.Lines.{file_line, memory_line, read_failed_line, unexplained_line, unopened_line, write_failed_line, IsCutAfter, IsPut};
 
 use crate::shown::push_shown;
 use crate::status::BROKEN;
@@ -31,6 +31,20 @@ pub fn say_unopened<E: Write>(alloc: Global, name: &str, err: &mut Counted<E>) -
     ensures line { IsPut E.contents err.old err.new (unopened_line name.now) ⊎ IsPut E.contents err.old err.new memory_line }
 {
     say_of_file(alloc, "cannot open ", name, err)
+}
+
+/// Says that a word names no code and no cause, in one line, with what is shown of the word as of a file's name. It answers the
+/// status.
+pub fn say_unexplained<E: Write>(alloc: Global, word: &str, err: &mut Counted<E>) -> u8
+    ensures status { result ≡ BROKEN }
+    ensures line { IsPut E.contents err.old err.new (unexplained_line word.now) ⊎ IsPut E.contents err.old err.new memory_line }
+{
+    say_of_file(
+        alloc,
+        "no such code or cause (cddlseq explain --help lists them): ",
+        word,
+        err,
+    )
 }
 
 // Says that a file cannot be used, in one line: `text`, what is shown of the file's name, and a line end. It answers the status.

@@ -1,9 +1,9 @@
 //! The words of the command line.
 
 ghost use Rattle.std.specs.Prelude.{◌≡◌, ℕ, ◌≤◌, codes, false, map, IfOk, IfErr, IfSome, IfNone, option_map, string_bytes};
-ghost use Rattle.clap.specs.Words.{app_of, first_value, found_of, one_text, rows_of, rule_of};
+ghost use Rattle.clap.specs.Words.{app_of, first_value, found_of, one_text, rows_of, rule_of, with_rule};
 ghost use Rattle.clap.specs.declared.builder.command.Command.TheViews.{out-Command};
-ghost use Rattle.command_line.specs.Chosen.{check_app, file_rule, flag_rule, is_set, judging_app, most_steps, number_rule, program_app, rewrite_app, root_rule, show_app, spec_app, spec_rule, steps_rule, stream_app, top_app, validate_app, AreChosen, AreRead, AreTaskSteps, AreUnread, IsMisuse, IsNumber, IsStreamNumber, IsToldOf};
+ghost use Rattle.command_line.specs.Chosen.{check_app, code_rule, explain_app, file_rule, flag_rule, is_set, judging_app, most_steps, number_rule, program_app, rewrite_app, root_rule, show_app, spec_app, spec_rule, steps_rule, stream_app, top_app, validate_app, AreChosen, AreRead, AreTaskSteps, AreUnread, IsMisuse, IsNumber, IsStreamNumber, IsToldOf};
 
 use crate::choice::{Options, STEPS, Task, Use};
 use crate::shown::push_shown;
@@ -51,6 +51,27 @@ Exit status:
   3  The command line, a file, a device or memory failed
 ";
 
+const EXPLAIN_HELP: &str = "\
+Codes, by number or by name:
+  S1 NotUtf8, S2 BadCharacter, S3 Unclosed, S4 BadEscape, S5 BadNumber, S6 FloatLiteral, S7 NumberTooLarge,
+  S8 BadBytes, S9 SourceTooLong, S10 Unexpected, S11 TooNested,
+  C1 Duplicate, C2 KindClash, C3 Undefined, C4 Arity, C5 NoRoot, C6 BadRoot, C7 GroupAsType, C8 HashForm,
+  C9 UnknownControl, C10 TooManyInstances, C11 NotUnwrappable, C12 Recursion, C13 NotLiteral, C14 BadRange,
+  C15 BadController, C16 NoKey, C17 MapShape, C18 TooManyAlternatives
+
+Causes of failing items, each one word of the command line, in quotes:
+  'reserved additional information', 'indefinite length not allowed', 'break not allowed', 'bad chunk',
+  'bad simple value', 'too deep', 'item too long', 'truncated', 'text is not UTF-8', 'duplicate key',
+  'mismatch', 'step limit reached'
+
+Example:
+  cddlseq explain C3
+
+Exit status:
+  0  It is explained
+  3  There is no such code or cause, or the command line, a device or memory failed
+";
+
 const SHOW_HELP: &str = "\
 Example:
   cddlseq show messages.cborseq
@@ -62,7 +83,7 @@ Exit status:
 ";
 
 /// Reads the words of the command line, the program's name first: `check SPEC`, `validate SPEC [FILE]`,
-/// `rewrite SPEC [FILE]` or `show [FILE]`; where there is a SPEC with `--root NAME`; where there is a stream with
+/// `rewrite SPEC [FILE]`, `show [FILE]` or `explain CODE`; where there is a SPEC with `--root NAME`; where there is a stream with
 /// `--depth N`, from 1 to [`MOST_DEPTH`], and `--item-bytes N`, from 1 to [`MOST_ITEM_BYTES`]; where there are both with
 /// `--steps N`, from 1; `validate` with `--quiet`, and `rewrite` with `--deterministic`. The greatest number is the default of
 /// the limits, and [`STEPS`] that of the steps; so are they where a command has no such option.
@@ -137,6 +158,9 @@ fn chosen(alloc: Global, words: &[&str]) -> Result<Options, Use>
     if let Some(given) = matches.subcommand_matches("show") {
         return options_of(alloc, Task::Show, given);
     }
+    if let Some(given) = matches.subcommand_matches("explain") {
+        return options_of(alloc, Task::Explain, given);
+    }
     Err(misuse(alloc, ErrorKind::MissingSubcommand, "no command is given"))
 }
 
@@ -145,6 +169,7 @@ fn options_of(alloc: Global, task: Task, given: &ArgMatches<'_>) -> Result<Optio
     ensures read { IfOk result (AreRead task (rows_of (found_of given.now))) }
     ensures misuse { IfErr result (AreUnread task (rows_of (found_of given.now))) }
 {
+    let code = value(alloc, given, "code")?;
     let spec = value(alloc, given, "spec")?;
     let file = value(alloc, given, "file")?;
     let root = value(alloc, given, "root")?;
@@ -159,6 +184,7 @@ fn options_of(alloc: Global, task: Task, given: &ArgMatches<'_>) -> Result<Optio
     };
     Ok(Options {
         task,
+        code,
         spec,
         file,
         root,
@@ -182,6 +208,7 @@ fn stream_number(task: Task, given: &ArgMatches<'_>, name: &str, most: u32) -> O
         Task::Validate => number(given, name, most),
         Task::Rewrite => number(given, name, most),
         Task::Show => number(given, name, most),
+        Task::Explain => Some(most),
     }
 }
 
@@ -194,7 +221,7 @@ fn task_steps(task: Task, given: &ArgMatches<'_>) -> Option<u64>
         Task::Check => Some(STEPS),
         Task::Validate => steps_of(given),
         Task::Rewrite => steps_of(given),
-        Task::Show => Some(STEPS),
+        Task::Show | Task::Explain => Some(STEPS),
     }
 }
 
@@ -230,7 +257,8 @@ fn command<'a>(alloc: Global) -> Result<Command<'a>, AllocError>
         .subcommand(check_command(alloc)?)?
         .subcommand(validate_command(alloc)?)?
         .subcommand(rewrite_command(alloc)?)?
-        .subcommand(show_command(alloc)?)
+        .subcommand(show_command(alloc)?)?
+        .subcommand(explain_command(alloc)?)
 }
 
 // The program's command, before it has subcommands.
@@ -292,6 +320,25 @@ fn show_command<'a>(alloc: Global) -> Result<Command<'a>, AllocError>
     with_stream(alloc, command)
 }
 
+fn explain_command<'a>(alloc: Global) -> Result<Command<'a>, AllocError>
+    ensures app { IfOk result (λ c. app_of c ≡ explain_app) }
+    ensures local { IfOk result (λ c. (out-Command c).has_globals ≡ false) }
+{
+    let command = Command::new(alloc, "explain")
+        .about("Says what a code or a cause means, with an example")
+        .after_help(EXPLAIN_HELP);
+    with_code(alloc, command)
+}
+
+// The command with the code or the cause that is to be explained.
+fn with_code<'a>(alloc: Global, command: Command<'a>) -> Result<Command<'a>, AllocError>
+    requires { (out-Command command).has_globals ≡ false }
+    ensures app { IfOk result (λ c. app_of c ≡ with_rule (app_of command.entry) code_rule) }
+    ensures local { IfOk result (λ c. (out-Command c).has_globals ≡ false) }
+{
+    command.arg(code_arg(alloc))
+}
+
 // The command with what is taken with a specification and a stream, and the steps.
 fn with_judgement<'a>(alloc: Global, command: Command<'a>) -> Result<Command<'a>, AllocError>
     requires { (out-Command command).has_globals ≡ false }
@@ -332,6 +379,16 @@ fn with_stream<'a>(alloc: Global, command: Command<'a>) -> Result<Command<'a>, A
             MOST_ITEM_BYTES,
             "16777216",
         ))
+}
+
+fn code_arg<'a>(alloc: Global) -> Arg<'a>
+    ensures rule { rule_of result ≡ code_rule }
+    ensures own { result.global ≡ false }
+{
+    Arg::new(alloc, "code")
+        .value_name("CODE")
+        .help("A code, by its number or its name, or the words of a cause")
+        .required(true)
 }
 
 fn spec_arg<'a>(alloc: Global) -> Arg<'a>

@@ -22,6 +22,7 @@ returns-in_default-task_steps-clause-misuse c =
 pub returns-clause-read : goal.returns-clause-read
 returns-clause-read c = record {
   task_is = refl;
+  code = c.in_ok-code.ensures ∙ first_value-rows (found_of c.args.given.now) (codes "code");
   spec = c.in_ok-spec.ensures ∙ first_value-rows (found_of c.args.given.now) (codes "spec");
   root = c.in_ok-root.ensures ∙ first_value-rows (found_of c.args.given.now) (codes "root");
   file = c.in_ok-file.ensures ∙ first_value-rows (found_of c.args.given.now) (codes "file");

@@ -1,0 +1,6 @@
+pub mod Causes
+pub mod Examples
+pub mod Names
+pub mod Places
+pub mod Sentences
+pub mod Subjects

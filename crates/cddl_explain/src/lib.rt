@@ -1,0 +1,16 @@
+//! What codes of refused specifications and causes of failing items mean, with an example each.
+#![tactic(auto)]
+
+mod causes;
+mod examples;
+mod names;
+mod places;
+mod sentences;
+mod subjects;
+
+pub use crate::causes::{Cause, meaning, words};
+pub use crate::examples::example;
+pub use crate::names::{example_at, name, number};
+pub use crate::places::place;
+pub use crate::sentences::sentence;
+pub use crate::subjects::{Subject, explanation, subject_of};
