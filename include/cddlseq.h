@@ -224,6 +224,14 @@ uint32_t cddlseq_write_by(
 
 void cddlseq_close(struct cddlseq_handle handle);
 
+/* Makes another handle of the same specification, which is not read anew: CDDLSEQ_OK, or _NO_MEMORY, and then nothing is written. Each
+   handle is closed once; the specification is freed with the last handle or session that has it. All of them stay on the thread that
+   opened the first. */
+uint32_t cddlseq_share(
+    struct cddlseq_handle handle,
+    void **other,
+    void **back);
+
 /* A stream that comes in pieces, with its specification. cddlseq_begin makes it. Of it holds what is said of a struct cddlseq_handle;
    cddlseq_discard frees it. It keeps nothing of the pieces but what it has read of the item in work.
 
@@ -247,6 +255,13 @@ uint32_t cddlseq_begin(
     const struct cddlseq_limits *limits,
     struct cddlseq_refusal *refusal,
     void **at);
+
+/* Begins a session by a specification that a handle holds, which is not read anew; there may be many over one handle. It answers what
+   cddlseq_share does. The session may be used after the handle is closed; it stays on the thread of the handle. */
+uint32_t cddlseq_begin_by(
+    struct cddlseq_handle handle,
+    void **at,
+    void **back);
 
 /* Takes the next piece of the stream, up to the end of an item that it completes; 'used' says how many bytes of the piece are done
    with, and those behind them are for the next call. The session comes back by its last argument.

@@ -12,6 +12,7 @@ mod many;
 mod ready;
 mod running;
 mod session;
+mod sharing;
 mod stop;
 mod told;
 mod wanted;
@@ -27,7 +28,6 @@ use crate::told::{
     tell_stop,
 };
 use crate::wanted::wanted_by;
-use seq_run::OwnedSession;
 use std::alloc::Global;
 
 /// Says whether a text is a specification, with the root of this name, or where it has no bytes the first rule.
@@ -211,7 +211,7 @@ pub extern "C" fn cddlseq_begin(
     *refusal = NO_REFUSAL;
     match prepare(alloc, text, root, limits) {
         Ok(ready) => {
-            let begun = OwnedSession::new(alloc, ready.table, ready.limits, ready.steps);
+            let begun = ready.into_session(alloc);
             match Box::new(alloc, begun) {
                 Ok(held) => {
                     *session = Box::into_raw(held) as *mut u8;
