@@ -119,6 +119,14 @@ struct cddlseq_refusal {
     size_t offset;
 };
 
+/* Where an offset of a text is, for a reader. */
+struct cddlseq_position {
+    /* The line, from 1. */
+    size_t line;
+    /* The column, from 1, in characters. */
+    size_t column;
+};
+
 /* What is told of a stream. */
 struct cddlseq_end {
     /* How many items match. */
@@ -151,6 +159,14 @@ uint32_t cddlseq_check(
     const uint8_t *text, size_t text_length,
     const uint8_t *root, size_t root_length,
     struct cddlseq_refusal *refusal);
+
+/* Tells the position of an offset of a text, as that of a refusal. A line ends with a line feed. An offset past the end of the text
+   has the position of the end, and one inside of a character that of the next. Of bytes that are not UTF-8 each begins a character but
+   those from 0x80 to 0xBF. Takes no memory. */
+void cddlseq_position(
+    const uint8_t *text, size_t text_length,
+    size_t offset,
+    struct cddlseq_position *position);
 
 /* Says how a stream ends by a text: CDDLSEQ_OK or _FAILED, and then the end is told; or what cddlseq_check says, or _BAD_LIMITS,
    and then the end is left as it was. */

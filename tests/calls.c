@@ -69,6 +69,22 @@ static void check(void) {
     EXPECT(refusal.code == CDDLSEQ_NOT_REFUSED && refusal.offset == 0);
 }
 
+static int is_position(const char *text, size_t length, size_t offset, size_t line, size_t column) {
+    struct cddlseq_position position = {9, 9};
+    cddlseq_position((const uint8_t *)text, length, offset, &position);
+    return position.line == line && position.column == column;
+}
+
+static void position(void) {
+    const char text[] = "a = \"\xc3\xa9\" / b\r\n\xe2\x82\xac\n";
+    EXPECT(is_position("", 0, 0, 1, 1) && is_position("", 0, 5, 1, 1));
+    EXPECT(is_position(text, 17, 0, 1, 1) && is_position(text, 17, 5, 1, 6) && is_position(text, 17, 7, 1, 7));
+    EXPECT(is_position(text, 17, 6, 1, 7));
+    EXPECT(is_position(text, 17, 12, 1, 12) && is_position(text, 17, 13, 1, 13) && is_position(text, 17, 14, 2, 1));
+    EXPECT(is_position(text, 17, 17, 2, 2) && is_position(text, 18, 18, 3, 1) && is_position(text, 18, (size_t)-1, 3, 1));
+    EXPECT(is_position("\n\x80\xff", 3, 1, 2, 1) && is_position("\n\x80\xff", 3, 2, 2, 1) && is_position("\n\x80\xff", 3, 3, 2, 2));
+}
+
 static void validate(void) {
     struct cddlseq_refusal refusal = {9, 9};
     struct cddlseq_end end = untold;
@@ -375,7 +391,7 @@ static void refuse_memory(void) {
 }
 
 int main(int count, char **words) {
-    void (*const tests[])(void) = {check, validate, write_wanted, validate_many, handles, sessions, refuse_memory};
+    void (*const tests[])(void) = {check, position, validate, write_wanted, validate_many, handles, sessions, refuse_memory};
     int number = sizeof tests / sizeof *tests, passed = 0;
     if (count > 1) {
         step = atol(words[1]);

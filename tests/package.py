@@ -47,7 +47,7 @@ def refusal_of(text, root=None):
     try:
         Specification(text, root)
     except Refused as refused:
-        return refused.code, refused.name, refused.offset
+        return refused.code, refused.name, refused.offset, refused.line, refused.column
     return None
 
 
@@ -122,7 +122,11 @@ def checks_of(header):
     return {
         "the examples of the documentation": doctest.testmod(cddlseq).failed == 0,
         "the numbers of the header": names_are_right(header),
-        "a refusal": refusal_of("a = b\n") == ("C3", "Undefined", 4),
+        "a refusal": refusal_of("a = b\n") == ("C3", "Undefined", 4, 1, 5),
+        "a refusal in a later line": refusal_of('a = "\u00e9" / int\r\n;\u20ac\n\U0001f600') == ("S2", "BadCharacter", 21, 3, 1),
+        "a column in characters": refusal_of('a = "\u00e9\u20ac\U0001f600" / b\n') == ("C3", "Undefined", 18, 1, 13),
+        "a text that is no UTF-8": refusal_of(b"a = int\n;\xc3\xa9\x80\n") == ("S1", "NotUtf8", 11, 2, 3),
+        "a text that is too long": refusal_of("a = int\n" + " " * 2**20) == ("S9", "SourceTooLong", 2**20, 2, 2**20 - 7),
         "a refusal for its root": refusal_of("a = int\n", "b")[0] == "C5",
         "a root of no letters": refusal_of("a = int\n", "")[0] == "C5",
         "a root": refusal_of("a = int\nb = uint\n", "b") is None,

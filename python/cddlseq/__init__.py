@@ -14,7 +14,9 @@
     ...     Specification("a = b")
     ... except Refused as refused:
     ...     print(refused)
+    ...     refused.line, refused.column
     refused: C3 Undefined at byte 4
+    (1, 5)
 
 The library libcddlseq does the work. It is the one that the environment's CDDLSEQ_LIBRARY names, or the one that the system finds.
 Many threads may use one specification, but the one that made it has it at hand, and for others its text is read anew in each call. A
@@ -62,11 +64,12 @@ MISMATCH = Cause.MISMATCH.value
 
 
 class Refused(ValueError):
-    """A text is no specification: what is wrong, by its code (as 'C3') and name (as 'Undefined'), and the byte where it shows."""
+    """A text is no specification: what is wrong, by its code (as 'C3') and name (as 'Undefined'), and where it shows: the byte, from 0,
+    and the line and the column, from 1. A line ends with a line feed, and a column is a character."""
 
-    def __init__(self, code: str, name: str, offset: int):
-        super().__init__(code, name, offset)
-        self.code, self.name, self.offset = code, name, offset
+    def __init__(self, code: str, name: str, offset: int, line: int, column: int):
+        super().__init__(code, name, offset, line, column)
+        self.code, self.name, self.offset, self.line, self.column = code, name, offset, line, column
 
     def __str__(self) -> str:
         return f"refused: {self.code} {self.name} at byte {self.offset}"
@@ -202,7 +205,7 @@ class Specification:
         status = library.cddlseq_validate_many(
             *passed(self._text), *passed(self._root), *passed(b"".join(parts)), offsets, len(bounds), self._limits, refusal, ends,
             len(parts), done)
-        _stop(status, refusal)
+        self._stop(status, refusal)
         return [self._end(*told, part) for told, part in zip(_library.END.iter_unpack(ends), parts)]
 
     def session(self) -> Session:
@@ -238,8 +241,16 @@ class Specification:
     def _made(self, call: Callable[..., int]) -> _library.Handle:
         """The handle that a call makes of the text."""
         handle, refusal = _library.Handle(), _library.Refusal()
-        _stop(call(*passed(self._text), *passed(self._root), self._limits, refusal, handle.back), refusal)
+        self._stop(call(*passed(self._text), *passed(self._root), self._limits, refusal, handle.back), refusal)
         return handle
+
+    def _stop(self, status: int, refusal: _library.Refusal) -> int:
+        """Raises what a status says, as _stop does, or of the text."""
+        if status == _library.REFUSED:
+            position = _library.Position()
+            library.cddlseq_position(*passed(self._text), refusal.offset, position)
+            raise Refused(*CODES[refusal.code - 1], refusal.offset, position.line, position.column)
+        return _stop(status)
 
     def _validate(self, stream: bytes) -> End:
         end, refusal = _library.End(), _library.Refusal()
@@ -250,7 +261,7 @@ class Specification:
             # The text is read anew.
             status = library.cddlseq_validate(
                 *passed(self._text), *passed(self._root), *passed(stream), self._limits, refusal, end)
-        _stop(status, refusal)
+        self._stop(status, refusal)
         return self._end(*_library.END.unpack(end), stream)
 
     def _write(self, stream: bytes, wanted: int) -> tuple[bytes, End]:
@@ -262,7 +273,7 @@ class Specification:
                 handle = self._held.handle
                 return _stop(library.cddlseq_write_by(
                     handle, *passed(stream), wanted, end, buffer, room, needed, handle.back))
-            return _stop(library.cddlseq_write(
+            return self._stop(library.cddlseq_write(
                 *passed(self._text), *passed(self._root), *passed(stream), self._limits, wanted, refusal, end, buffer, room, needed), refusal)
 
         data = _written(write, len(stream) + 256)
@@ -368,10 +379,8 @@ def _written(call: Callable[..., int], room: int) -> bytes:
     return buffer.raw[:needed.value]
 
 
-def _stop(status: int, refusal: _library.Refusal | None = None) -> int:
-    """Raises what a status says of a text that is refused, or of memory, and passes others on."""
-    if status == _library.REFUSED and refusal:
-        raise Refused(*CODES[refusal.code - 1], refusal.offset)
+def _stop(status: int) -> int:
+    """Raises what a status says of memory, or of what was passed, and passes others on."""
     if status == _library.NO_MEMORY:
         raise MemoryError("libcddlseq was refused memory")
     if status in (_library.BAD_ROOT, _library.BAD_LIMITS, _library.BAD_WANTED, _library.BAD_OFFSETS):

@@ -24,6 +24,10 @@ class Refusal(ctypes.Structure):
     _fields_ = [("code", c_uint32), ("offset", c_size_t)]
 
 
+class Position(ctypes.Structure):
+    _fields_ = [("line", c_size_t), ("column", c_size_t)]
+
+
 class End(ctypes.Structure):
     _fields_ = [("items", c_uint64), ("offset", c_uint64), ("cause", c_uint32), ("place", c_uint64)]
 
@@ -50,6 +54,7 @@ _BYTES = (c_char_p, c_size_t)
 _BACK = POINTER(c_void_p)
 _CALLS = {
     "cddlseq_check": (*_BYTES, *_BYTES, POINTER(Refusal)),
+    "cddlseq_position": (*_BYTES, c_size_t, POINTER(Position)),
     "cddlseq_validate": (*_BYTES, *_BYTES, *_BYTES, POINTER(Limits), POINTER(Refusal), POINTER(End)),
     "cddlseq_write": (
         *_BYTES, *_BYTES, *_BYTES, POINTER(Limits), c_uint32, POINTER(Refusal), POINTER(End), *_BYTES, POINTER(c_size_t)),
@@ -69,7 +74,7 @@ _CALLS = {
     "cddlseq_restart": (Handle, _BACK),
     "cddlseq_discard": (Handle,),
 }
-_TELL_NOTHING = ("cddlseq_close", "cddlseq_restart", "cddlseq_discard")
+_TELL_NOTHING = ("cddlseq_position", "cddlseq_close", "cddlseq_restart", "cddlseq_discard")
 
 
 def _load() -> ctypes.CDLL:

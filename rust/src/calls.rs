@@ -18,6 +18,13 @@ pub struct Refusal {
 }
 
 #[repr(C)]
+#[derive(Default)]
+pub struct Position {
+    pub line: usize,
+    pub column: usize,
+}
+
+#[repr(C)]
 #[derive(Clone, Copy, Default)]
 pub struct End {
     pub items: u64,
@@ -70,7 +77,16 @@ pub fn make(call: Maker, text: &[u8], root: &str, limits: &Limits) -> Result<Han
     }
 }
 
+/// Where an offset of a text is.
+pub fn position(text: &[u8], offset: usize) -> Position {
+    let mut position = Position::default();
+    // SAFETY: the slice is as long as is said, and what is written to is this function's own.
+    unsafe { cddlseq_position(text.as_ptr(), text.len(), offset, &mut position) };
+    position
+}
+
 extern "C" {
+    pub fn cddlseq_position(text: *const u8, text_length: usize, offset: usize, position: *mut Position);
     pub fn cddlseq_open(
         text: *const u8,
         text_length: usize,

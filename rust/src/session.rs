@@ -18,7 +18,7 @@ impl Session {
                 handle,
                 told: calls::End::default(),
             }),
-            Err((status, refusal)) => Err(Unread::of(status, &refusal)),
+            Err((status, refusal)) => Err(Unread::of(text.as_ref(), status, &refusal)),
         }
     }
 

@@ -14,7 +14,7 @@ impl Specification {
     pub fn new(text: impl AsRef<[u8]>, root: Option<&str>, limits: Limits) -> Result<Specification, Unread> {
         match calls::make(calls::cddlseq_open, text.as_ref(), root_of(root), &limits) {
             Ok(handle) => Ok(Specification { handle }),
-            Err((status, refusal)) => Err(Unread::of(status, &refusal)),
+            Err((status, refusal)) => Err(Unread::of(text.as_ref(), status, &refusal)),
         }
     }
 

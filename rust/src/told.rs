@@ -40,11 +40,14 @@ const CODES: [(&str, &str); 29] = [
 /// Why there is no specification.
 #[derive(Clone, Copy, Debug, PartialEq, Eq)]
 pub enum Unread {
-    /// The text is refused: by this code (as `C3`), which has this name (as `Undefined`), at this byte.
+    /// The text is refused: by this code (as `C3`), which has this name (as `Undefined`), at this byte, from 0, which is in this line
+    /// and at this column, from 1. A line ends with a line feed, and a column is a character.
     Refused {
         code: &'static str,
         name: &'static str,
         offset: usize,
+        line: usize,
+        column: usize,
     },
     /// A limit is 0, or over the greatest.
     BadLimits,
@@ -53,14 +56,18 @@ pub enum Unread {
 }
 
 impl Unread {
-    pub(crate) fn of(status: u32, refusal: &calls::Refusal) -> Unread {
+    /// What is told of this text.
+    pub(crate) fn of(text: &[u8], status: u32, refusal: &calls::Refusal) -> Unread {
         match status {
             calls::REFUSED => {
                 let (code, name) = CODES[refusal.code as usize - 1];
+                let position = calls::position(text, refusal.offset);
                 Unread::Refused {
                     code,
                     name,
                     offset: refusal.offset,
+                    line: position.line,
+                    column: position.column,
                 }
             }
             calls::NO_MEMORY => Unread::NoMemory,
@@ -74,7 +81,7 @@ impl Unread {
 impl fmt::Display for Unread {
     fn fmt(&self, f: &mut fmt::Formatter<'_>) -> fmt::Result {
         match self {
-            Unread::Refused { code, name, offset } => {
+            Unread::Refused { code, name, offset, .. } => {
                 write!(f, "refused: {code} {name} at byte {offset}")
             }
             Unread::BadLimits => f.write_str("a limit is 0, or over the greatest"),
@@ -199,7 +206,7 @@ pub enum Step {
 
 #[cfg(test)]
 mod tests {
-    use super::{CODES, FAULTS};
+    use super::{Unread, CODES, FAULTS};
     use crate::calls;
 
     const HEADER: &str = include_str!("../../include/cddlseq.h");
@@ -221,6 +228,19 @@ mod tests {
     fn is_in_header(name: &str, number: u32) -> bool {
         let line = format!("CDDLSEQ_{name} = {number}");
         HEADER.lines().any(|it| it.trim().trim_end_matches(',') == line)
+    }
+
+    #[test]
+    fn refusals_have_lines_and_columns() {
+        let read = crate::Specification::new("a = \"\u{20ac}\"\nb = '\u{e9}' / c\n", None, crate::Limits::default());
+        let wanted = Unread::Refused {
+            code: "C3",
+            name: "Undefined",
+            offset: 21,
+            line: 2,
+            column: 11,
+        };
+        assert_eq!(read.err(), Some(wanted));
     }
 
     #[test]

@@ -1,6 +1,5 @@
 pub mod ByTable
 pub mod Deciding
 pub mod Handing
-pub mod Leaves
 pub mod Rereading
 pub mod Telling

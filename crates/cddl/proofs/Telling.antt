@@ -5,10 +5,11 @@ use Rattle.cbor_data.specs.Faults.{Bounds, last_offset}
 use Rattle.cbor_data.specs.Sequence.{Found}
 use Rattle.cbor_data.specs.Value.{AreBytes, Value}
 use Rattle.cddl_check.specs.Outcome.{specification}
-use Rattle.cddl_check.specs.Text.{IsUnreadText}
+use Rattle.cddl_check.specs.Text.{AreTokensOf, IsUnreadText}
 use Rattle.cddl_table.specs.Text.{IsTabledText}
 use Rattle.cddl_token.specs.declared.Refusal.{Refusal}
 use Rattle.cddl_token.specs.declared.Refusal.TheVariants as why
+use Rattle.cddl_token.specs.declared.Token.{Token}
 use Rattle.cddl_language.specs.Faults.{definitions}
 use Rattle.cddl_language.specs.Literals.{AreRight, AreTokens, Values}
 use Rattle.cddl_language.specs.StandsFor.{StandsFor}
@@ -18,6 +19,7 @@ use Rattle.cddl_meaning.specs.Judges.{Answer}
 use Rattle.table_nodes.specs.Language.{RootSays, language_of, rank_of, ranks_of, root_of}
 use Rattle.table_nodes.specs.declared.table.Table.{Table}
 use Rattle.tree_nodes.specs.Syntax.Syntax.{Cddl}
+use Rattle.tree_nodes.specs.Syntax.Answers.{IsTreeOf}
 use Rattle.seq_run.specs.Answers.{items_of}
 use Rattle.seq_run.specs.Judge.{judge_of}
 use Rattle.seq_run.specs.Ends as E
@@ -36,12 +38,14 @@ use Rattle.cddl.specs.Rules.{Accepts, Ends, HasRoot, Rule}
 use Rattle.cddl.specs.Tables.{SpeaksFor}
 use Rattle.cddl.specs.Validated.{IsFailed, IsStopped, IsTold, IsUntouched, IsValidated, LeavesDevices, at_first, in_midst}
 use Rattle.cddl.proofs.ByTable.{cut, ended, if_some, pieces, rejected}
-use Rattle.cddl.proofs.Leaves.{leaves}
 use Rattle.cddl.proofs.Rereading.{rewritten, run_of, writable}
 
 -- the laws from which this follows
 abbrev pub HaveValues : Type 0
 HaveValues = (x : Cddl) → AreTokens x → (worth : Values) × AreRight x worth
+
+abbrev pub HaveTokens : Type 0
+HaveTokens = (text : List ℕ) (ts : List Token) (x : Cddl) → AreTokensOf ts text → IsTreeOf x ts → AreTokens x
 
 abbrev pub SaysTheSame : Type 0
 SaysTheSame = (worth : Values) (ds : List Definition) (root : Text) (table : Table) → StandsFor worth ds root (language_of table) (root_of table) (rank_of table) (ranks_of table) → (x : Value) (a : Answer) (w : ℕ) → RootSays table x a w ↔ TextSays worth ds root x a w
@@ -58,9 +62,9 @@ AreReadBack = (worth : Values) (ds : List Definition) (root : Text) (steps : ℕ
 abbrev pub HaveRoots : Type 0
 HaveRoots = (text : List ℕ) (named : Option Text) (table : Table) → IsTabledText text named table → (rule : Rule) × HasRoot text named rule × SpeaksFor rule table
 
-pub rooted : HaveValues → SaysTheSame → EndsTheSame → HaveRoots
-rooted values item stream text named table t =
-    let right : (worth : Values) × AreRight t.tree worth = values t.tree (leaves t.tree text t.is_tree) in
+pub rooted : HaveTokens → HaveValues → SaysTheSame → EndsTheSame → HaveRoots
+rooted tokens values item stream text named table t =
+    let right : (worth : Values) × AreRight t.tree worth = values t.tree (tokens text t.is_tree.tokens t.tree t.is_tree.are_tokens t.is_tree.is_tree) in
     let is = t.is_tabled right.0 right.1 in
     let ds : List Definition = definitions (specification t.tree named) in (
       record { name = is.1; definitions = ds; values = right.0 },

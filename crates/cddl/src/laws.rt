@@ -13,6 +13,7 @@ ghost use Rattle.table_nodes.specs.declared.table.Table.{Table};
 ghost use Rattle.cddl.specs.Rules.{Ends, HasRoot, Rule, Says};
 ghost use Rattle.cddl.specs.Tables.{SpeaksFor};
 
+use cddl_check::trees_are_of_tokens;
 use cddl_decided::accepted_is_decided;
 use cddl_language::one_table_of_values;
 use seq_run::meaning::{one_end_by_text, some_end_by_text, table_stands_for_text};
@@ -23,6 +24,7 @@ use seq_run::meaning::{one_end_by_text, some_end_by_text, table_stands_for_text}
 pub fn table_has_root()
     ensures { (text : List ℕ) (named : Option Text) (table : Table) → IsTabledText text named table → (rule : Rule) × HasRoot text named rule × SpeaksFor rule table }
 {
+    trees_are_of_tokens();
     one_table_of_values();
     table_stands_for_text();
 }

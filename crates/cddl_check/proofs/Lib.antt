@@ -1,3 +1,4 @@
+pub mod Cycling
 pub mod Faulty
 pub mod Handing
 pub mod Leaves

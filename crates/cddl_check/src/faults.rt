@@ -11,6 +11,7 @@ ghost use Rattle.tree_nodes.specs.View.{view};
 ghost use Rattle.tree_nodes.specs.declared.tree.Tree.{Tree as Trees};
 ghost use Rattle.cddl_check.specs.Outcome.{IsStopped};
 ghost use Rattle.cddl_check.specs.Stages.{AreFlat, AreValued, IsReading};
+ghost use Rattle.cddl_check.specs.Told.{IsTold};
 ghost use Rattle.cddl_check.specs.declared.stopped.Stopped.TheVariants as Why;
 
 use crate::mapping::faults_of_maps;
@@ -44,12 +45,9 @@ pub(crate) fn ranks_of(
         return Err(refused(Code::NotUnwrappable, at));
     }
     let order = order_of(alloc, terms, reading)?;
-    if let Some(at) = recursion_of(terms, tree, reading, &order) {
-        return Err(refused(Code::Recursion, at));
-    }
+    let ranks = ranks_in(terms, tree, reading, order)?;
     check_values(terms, tree, reading)?;
     splice_maps(alloc, terms, reading)?;
-    let ranks = ranks_in(order)?;
     Ok(ranks)
 }
 
@@ -90,16 +88,24 @@ fn splice_maps(alloc: Global, terms: &Terms<'_>, reading: &Reading<'_>) -> Resul
     Ok(())
 }
 
-// The ranks of an order in which nothing comes back to itself.
-fn ranks_in(order: Order) -> Result<Ranks, Stopped>
+// The ranks of an order in which nothing comes back to itself; or the least offset of what does.
+fn ranks_in(
+    terms: &Terms<'_>,
+    tree: &Tree<'_>,
+    reading: &Reading<'_>,
+    order: Order,
+) -> Result<Ranks, Stopped>
     ensures ranked { IfOk result (λ r. order ≡ Orders.Ranks r) }
-    ensures cycles { IfErr result (λ e. e ≡ Why.Memory) }
+    ensures clear { OnOk result ((s : Specification) (worth : Values) (root : Text) (refs : List Ref) → s.tree ≡ view tree.now → IsReading s worth root refs terms.now tree.now reading.now → IsOrder (definitions s) root refs terms.now order → IsLeast (HasRecursion s root) None) }
+    ensures told { IfErr result (λ e. (s : Specification) (worth : Values) (root : Text) (refs : List Ref) → s.tree ≡ view tree.now → IsReading s worth root refs terms.now tree.now reading.now → IsOrder (definitions s) root refs terms.now order → IsTold (HasRecursion s root) Code.Recursion e) }
 {
+    let first = recursion_of(terms, tree, reading, &order);
     match order {
         Order::Ranks(ranks) => Ok(ranks),
+        // Where something is on a cycle, a fault is told of it.
         Order::Cycles(flags) => {
             drop(flags);
-            Err(Stopped::Memory)
+            Err(refused(Code::Recursion, first.unwrap_or(0)))
         }
     }
 }

@@ -2,20 +2,27 @@
 //! named. The functions here do nothing: their contracts are the laws.
 #![tactic(auto)]
 
-ghost use Rattle.std.specs.Prelude.{◌≡◌, ◌<◌, ◌^◌, ℕ, Some};
+ghost use Rattle.std.specs.Prelude.{◌≡◌, ◌<◌, ◌^◌, ℕ, List, Some, map};
 ghost use Rattle.cbor_data.specs.Value.{Value};
 ghost use Rattle.cddl_decided.specs.Ways.{WaysEnd};
 ghost use Rattle.cddl_language.specs.Faults.{IsAccepted, Specification, definitions, root_of};
-ghost use Rattle.cddl_language.specs.Language.{language, reference, type_node};
+ghost use Rattle.cddl_language.specs.Free.{MayBeEmpty};
+ghost use Rattle.cddl_language.specs.Language.{entry, language, reference, type_node};
 ghost use Rattle.cddl_language.specs.Literals.{Values};
 ghost use Rattle.cddl_language.specs.Reach.{Point, Reaches, ref_at};
-ghost use Rattle.cddl_language.specs.Terms.{Text, call, no_terms};
+ghost use Rattle.cddl_language.specs.Terms.{Definition, Entries, Text, call, entry_list, no_terms};
 ghost use Rattle.cddl_meaning.specs.Ranks.Decided.{IsDecided};
+ghost use Rattle.cddl_meaning.specs.Ranks.Ranked.{AllMayBeEmpty};
 ghost use Rattle.cddl_meaning.specs.Size.{size};
 
 use cddl_language::{accepted_has_no_cycle, accepted_root_is_type, more_names_change_nothing};
 use check_instances::closed::laws::meanings_are_reached;
 use check_instances::openings::laws::{opened_is_reached, part_is_reached};
+
+/// Entries may be empty, as free references are told, where each of them may take no item by its form. It is so of any definitions.
+pub fn empty_by_form()
+    ensures { (worth : Values) (ds : List Definition) (es : Entries) → AllMayBeEmpty (language worth ds) (map entry (entry_list es)) → MayBeEmpty ds es }
+{}
 
 /// In an accepted specification each way ends that begins at a reference of an instance, by references that are each free in
 /// what the one before means. So whatever is asked of an item, the item is taken or gone into after so many references.

@@ -1,11 +1,13 @@
 -- Ranks go down from what is asked to what it asks: steps, and what numbers are of.
-use Rattle.std.proofs.Common.{◌≡◌, ℕ, ◌+◌, ◌*◌, ◌<◌, ◌⊎◌, inl, inr, true, false, List, [], ◌∷◌, ◌++◌, Option, Some, slice_get, refl, sym, subst, arith}
+use Rattle.std.proofs.Common.{◌≡◌, ℕ, ◌+◌, ◌*◌, ◌<◌, ◌⊎◌, inl, inr, true, false, List, [], ◌∷◌, ◌++◌, map, Option, Some, slice_get, refl, sym, subst, arith}
 use Rattle.lists.proofs.Lemmas.{IsIn, from_contains, in_cases, in_left, in_right, to_contains}
-use Rattle.cddl_language.specs.Terms.{Term, Ref, Group, sole, orelse, Entries, Entry, alternatives, name_of}
+use Rattle.cddl_meaning.specs.Ranks.Ranked.{AllMayBeEmpty}
+use Rattle.cddl_language.specs.Terms.{Term, Ref, Group, sole, orelse, Entries, Entry, alternatives, entry_list, name_of}
+use Rattle.cddl_language.specs.Free.{MayBeEmpty}
 use Rattle.cddl_language.specs.Substitution.{group_choices}
 use Rattle.cddl_language.specs.Choices.{can_choose}
 use Rattle.cddl_language.specs.Kinds.{is_group, names_group, opens, part_of}
-use Rattle.cddl_language.specs.Language.{type, reference, chosen_of, first_of, each_of, entry}
+use Rattle.cddl_language.specs.Language.{type, reference, chosen_of, first_of, each_of, entry, language}
 use Rattle.cddl_language.specs.Reach.{Point, Reaches, ref_at, points, group_points, entries_points}
 use Rattle.check_terms.specs.Table.{Table, Tree, Holds}
 use Rattle.check_terms.specs.Trees.{IsTerm, IsGroup, IsEntries, IsEntry}
@@ -56,6 +58,7 @@ pub record Given (s : Sense) (t : Table) (r : Ranks) : Type 0 where
   pub group_reached : (q : Ref) (g : Group) → Reaches s.definitions s.root q → alternatives g ≡ group_choices s.definitions q → AreReached s.definitions s.root (group_points g)
   pub part_named : (x : Term) (q : Ref) → AreReached s.definitions s.root (points x) → part_of s.definitions x ≡ names_group q → Reaches s.definitions s.root q
   pub part_opened : (x : Term) (q : Ref) (g : Group) → AreReached s.definitions s.root (points x) → part_of s.definitions x ≡ opens q g → Reaches s.definitions s.root q
+  pub empty : (es : Entries) → AllMayBeEmpty (language s.worth s.definitions) (map entry (entry_list es)) → MayBeEmpty s.definitions es
 
 module _ (s : Sense) where
   pub left_reached : (ps qs : List Point) → AreReached s.definitions s.root (ps ++ qs) → AreReached s.definitions s.root ps

@@ -26,7 +26,6 @@ use Rattle.cddl_table.specs.Ranks.{group_rank}
 use Rattle.cddl_table.proofs.Lists.{in_map}
 use Rattle.cddl_table.proofs.Rows.{other_part, earlier_part}
 use Rattle.cddl_table.proofs.Freedom.{FreeGroup}
-use Rattle.cddl_table.proofs.Emptiness.{empty_entries}
 use Rattle.cddl_table.proofs.Parts.{named_group, opened_group}
 use Rattle.cddl_table.proofs.Down.{Given, through, above_none, lifted, under_one, one_more, left_reached, group_points_reached, one_reached, step, below_alternatives, below_group, below_sequence, below_entry}
 
@@ -78,7 +77,7 @@ module _ (s : Sense) (t : Table) (r : Ranks) (given : Given s t r) where
 
       by : IsFreePart (language s.worth s.definitions) (map entry (entry_list es)) g ⊎ (AllMayBeEmpty (language s.worth s.definitions) (map entry (entry_list es)) × IsFreePart (language s.worth s.definitions) (entry e ∷ []) g) → (IsFreePart (language s.worth s.definitions) (map entry (entry_list es)) g → group_rank r p < 2 * rank r (N.Row before.0)) → group_rank r p < 2 * rank r (N.Row n)
       by (inl k) go = lifted (group_rank r p) (rank r (N.Row before.0)) (rank r (N.Row n)) (step s t r given.ranked (N.Row n) (N.Row before.0) (some_entries (entries es e d)) (some_entries es) (entries_row h) (entries_row before.1) c A.earlier_entries) (go k)
-      by (inr k) go = below_entry s t r e p (subst (λ (z : GroupName). IsGroupOrigin s t z p) (lone_part e g k.1) u) (rank r (N.Row n)) (λ m i. step s t r given.ranked (N.Row n) (N.Row m) (some_entries (entries es e d)) (an_entry e) (entries_row h) (entry_row i) c (A.last_entry (empty_entries s.worth s.definitions es k.0)))
+      by (inr k) go = below_entry s t r e p (subst (λ (z : GroupName). IsGroupOrigin s t z p) (lone_part e g k.1) u) (rank r (N.Row n)) (λ m i. step s t r given.ranked (N.Row n) (N.Row m) (some_entries (entries es e d)) (an_entry e) (entries_row h) (entry_row i) c (A.last_entry (given.empty es k.0)))
 
   -- What one round of an entry asks.
 

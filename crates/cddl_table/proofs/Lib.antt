@@ -1,12 +1,12 @@
 mod Lists
 mod Rows
 mod Freedom
-mod Emptiness
 mod Down
 mod Parts
 mod Types
 mod Groups
 mod Ranked
+mod Places
 mod Finding
 mod Standing
 mod Handing

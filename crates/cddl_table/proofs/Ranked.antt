@@ -132,8 +132,5 @@ module _ (s : Sense) (t : Table) (r : Ranks) (given : Given s t r) (v : Nodes) (
   most (a_type i) = within (type_rank r) (2 * bound r + 1) type_most v.type_origins.items i.number
   most (a_group i) = within (group_rank r) (2 * bound r + 1) group_most v.group_origins.items i.number
 
-  are_ranked : IsRanked (language_in v.types.items v.groups.items) (rank_in (map (type_rank r) v.type_origins.items) (map (group_rank r) v.group_origins.items)) (2 * bound r + 1)
+  pub are_ranked : IsRanked (language_in v.types.items v.groups.items) (rank_in (map (type_rank r) v.type_origins.items) (map (group_rank r) v.group_origins.items)) (2 * bound r + 1)
   are_ranked = record { down = down; most = most }
-
-  pub ranked_by : (by_types by_groups : List ℕ) → by_types ≡ map (type_rank r) v.type_origins.items → by_groups ≡ map (group_rank r) v.group_origins.items → IsRanked (language_in v.types.items v.groups.items) (rank_in by_types by_groups) (2 * bound r + 1)
-  ranked_by by_types by_groups e f = subst (λ (x : List ℕ). IsRanked (language_in v.types.items v.groups.items) (rank_in x by_groups) (2 * bound r + 1)) (sym e) (subst (λ (x : List ℕ). IsRanked (language_in v.types.items v.groups.items) (rank_in (map (type_rank r) v.type_origins.items) x) (2 * bound r + 1)) (sym f) are_ranked)

@@ -1,10 +1,12 @@
 -- The table stands for the specification.
-use Rattle.std.proofs.Common.{◌≡◌, ℕ, Option, Some, Result, Ok, Err, IfOk, IfErr, Contains, slice_get, sym, subst}
+use Rattle.std.proofs.Common.{◌≡◌, ℕ, Option, Some, Result, Ok, Err, IfOk, IfErr, Contains, map, slice_get, sym, subst}
 use Rattle.lists.proofs.Lemmas.{from_contains, from_get, to_contains, to_get}
 use Rattle.cddl_meaning.specs.Alike.{AreAlike}
 use Rattle.cddl_meaning.specs.Forms.{Language}
-use Rattle.cddl_language.specs.Language.{GroupName, TypeName, language, reference}
-use Rattle.cddl_language.specs.Terms.{Term, Ref, Group, alternatives, call, no_terms}
+use Rattle.cddl_meaning.specs.Ranks.Ranked.{AllMayBeEmpty, IsRanked}
+use Rattle.cddl_language.specs.Language.{GroupName, TypeName, entry, language, reference}
+use Rattle.cddl_language.specs.Terms.{Term, Ref, Group, Entries, alternatives, call, entry_list, no_terms}
+use Rattle.cddl_language.specs.Free.{MayBeEmpty}
 use Rattle.cddl_language.specs.Substitution.{group_choices}
 use Rattle.cddl_language.specs.Kinds.{names_group, opens, part_of}
 use Rattle.cddl_language.specs.Reach.{Reaches, points, group_points}
@@ -15,7 +17,6 @@ use Rattle.check_instances.specs.declared.closed.closed.Meaning.{Meaning}
 use Rattle.check_instances.specs.Closed.Closed.{AreReached, IsClosed, IsMeaning}
 use Rattle.check_recursion.specs.declared.graph.Ranks.{Ranks}
 use Rattle.check_recursion.specs.Order.{AreRanked}
-use Rattle.cddl_meaning.specs.Ranks.Ranked.{IsRanked}
 use Rattle.table_nodes.specs.declared.nodes.GroupId.{GroupId}
 use Rattle.table_nodes.specs.declared.nodes.TypeId.{TypeId}
 use Rattle.table_nodes.specs.declared.table.Table.{Table as Made}
@@ -41,6 +42,7 @@ pub record Laws (s : Sense) (t : Table) (c : Closed) : Type 0 where
   pub group_reached : (q : Ref) (g : Group) → Reaches s.definitions s.root q → alternatives g ≡ group_choices s.definitions q → AreReached s.definitions s.root (group_points g)
   pub part_named : (x : Term) (q : Ref) → AreReached s.definitions s.root (points x) → part_of s.definitions x ≡ names_group q → Reaches s.definitions s.root q
   pub part_opened : (x : Term) (q : Ref) (g : Group) → AreReached s.definitions s.root (points x) → part_of s.definitions x ≡ opens q g → Reaches s.definitions s.root q
+  pub empty : (es : Entries) → AllMayBeEmpty (language s.worth s.definitions) (map entry (entry_list es)) → MayBeEmpty s.definitions es
 
 module _ (s : Sense) (t : Table) (c : Closed) (closed : IsClosed s.definitions s.root s.refs t c) where
   pub given : (r : Ranks) → AreRanked s.definitions s.root s.refs t r → Laws s t c → Given s t r
@@ -53,6 +55,7 @@ module _ (s : Sense) (t : Table) (c : Closed) (closed : IsClosed s.definitions s
     group_reached = laws.group_reached;
     part_named = laws.part_named;
     part_opened = laws.part_opened;
+    empty = laws.empty;
   }
     where
       same : (n m : ℕ) → Some n ≡ Some m → n ≡ m

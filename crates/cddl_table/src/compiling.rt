@@ -6,6 +6,7 @@ ghost use Rattle.cddl_language.specs.Literals.{AreRight, Values};
 ghost use Rattle.cddl_language.specs.Terms.{Ref, Text};
 ghost use Rattle.cddl_check.specs.Spec.{AreFindings, definitions_of};
 ghost use Rattle.table_making.specs.Basis.{IsSource};
+ghost use Rattle.cddl_table.specs.Ranks.{LeavesNoRankOut};
 ghost use Rattle.cddl_table.specs.Text.{IsTableOf, sense};
 
 use crate::table::{Unmade, table_of};
@@ -18,13 +19,17 @@ use table_nodes::Table;
 /// The table of a specification (RFC 8610 sections 2 and 3): a type or a group for each of its instances and for what their
 /// parts ask for, each with a rank that is above those of what it asks of the same item.
 ///
-/// It takes time and memory in proportion to the forms that are made. Nothing recurses.
+/// The ranks are numbered by their order, without gaps, so the greatest is at most the number of the table's types and groups.
+///
+/// It takes memory in proportion to the forms that are made, and time too, but for the ranks, which are sorted: n log n for n
+/// types and groups. Nothing recurses.
 ///
 /// # Errors
 ///
 /// Memory was refused, or a number does not fit. Nothing else is refused of what was checked.
 pub fn compile(alloc: Global, spec: &Spec<'_>) -> Result<Table, AllocError>
-    ensures { IfOk result (IsTableOf spec.now) }
+    ensures stands { IfOk result (IsTableOf spec.now) }
+    ensures ranks { IfOk result LeavesNoRankOut }
 {
     one_table_of_values();
     let findings = spec.findings();

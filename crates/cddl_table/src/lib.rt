@@ -2,6 +2,7 @@
 #![tactic(auto)]
 
 mod compiling;
+mod order;
 mod ranks;
 mod root;
 mod specification;

@@ -3,6 +3,7 @@
 ghost use Rattle.std.specs.Prelude.{◌≡◌, ℕ, IfErr, IfOk, List, option_map};
 ghost use Rattle.cddl_tree.specs.States.{EndsInEnd};
 ghost use Rattle.cddl_check.specs.Text.{AreTokensOf, IsUnreadText};
+ghost use Rattle.cddl_table.specs.Ranks.{LeavesNoRankOut};
 ghost use Rattle.cddl_table.specs.Text.{IsTabledText};
 
 use crate::compiling::compile;
@@ -15,7 +16,7 @@ use table_nodes::Table;
 /// The table of the specification that the text is (RFC 8610). Its root is the given name, or that of the first rule.
 ///
 /// The time and the memory are those of the stages together: n log n for a text of n bytes until the instances are known, of
-/// which there may be 1,024; then in proportion to the rows of these and to the forms of the table. The text has at most
+/// which there may be 1,024; then in proportion to the rows of these and to the forms of the table, whose ranks are sorted. The text has at most
 /// 1,048,576 bytes.
 ///
 /// # Errors
@@ -25,6 +26,7 @@ use table_nodes::Table;
 /// [`Refusal::Memory`] where memory was refused, or each number of 32 bits was taken.
 pub fn read_specification(alloc: Global, text: &[u8], root: Option<&str>) -> Result<Table, Refusal>
     ensures tabled { IfOk result (λ table. IsTabledText text.now (option_map (λ t. t.now) root.entry) table) }
+    ensures ranks { IfOk result LeavesNoRankOut }
     ensures unread { IfErr result (λ e. IsUnreadText text.now (option_map (λ t. t.now) root.entry) e) }
 {
     tokens_end();
@@ -42,6 +44,7 @@ fn read_tokens<'s>(
     requires ends { EndsInEnd tokens.now }
     requires read { (text : List ℕ) × AreTokensOf tokens.now text }
     ensures tabled { IfOk result (λ table. (text : List ℕ) → AreTokensOf tokens.now text → IsTabledText text (option_map (λ t. t.now) root.entry) table) }
+    ensures ranks { IfOk result LeavesNoRankOut }
     ensures unread { IfErr result (λ e. (text : List ℕ) → AreTokensOf tokens.now text → IsUnreadText text (option_map (λ t. t.now) root.entry) e) }
 {
     trees_are_of_tokens();

@@ -3,7 +3,7 @@
 ghost use Rattle.std.specs.Prelude.{◌≡◌, ℕ, IfErr, IfOk, List, Some, false, map, slice_get};
 ghost use Rattle.cddl_language.specs.Kinds.{is_group};
 ghost use Rattle.cddl_language.specs.StandsFor.{StandsFor};
-ghost use Rattle.cddl_table.specs.Ranks.{group_rank, type_rank};
+ghost use Rattle.cddl_table.specs.Ranks.{ArePlaces, LeavesNoRankOut, group_rank, type_rank};
 ghost use Rattle.table_making.specs.Basis.{IsSource, Sense};
 ghost use Rattle.check_recursion.specs.Order.{AreRanked};
 ghost use Rattle.cddl_meaning.specs.Ranks.Flags.{AreFlags};
@@ -15,8 +15,10 @@ ghost use Rattle.table_nodes.specs.Language.{language_of, rank_of, ranks_of, roo
 ghost use Rattle.cddl_table.specs.declared.table.Unmade.{Unmade as Unmades};
 ghost use Rattle.cddl_table.specs.declared.table.Unmade.TheVariants as Why;
 
+use crate::order::{places, used_ranks};
 use crate::ranks::{group_ranks, type_ranks};
 use crate::root::root_place;
+use cddl_decided::empty_by_form;
 use check_instances::closed::laws::{meaning_at, meanings_are_reached};
 use check_instances::openings::laws::part_is_reached;
 use check_recursion::Ranks;
@@ -66,12 +68,14 @@ pub(crate) fn table_of(
     root: u32,
 ) -> Result<Table, Unmade>
     ensures stands { IfOk result (λ table. (s : Sense) → IsSource s terms.now source.now → slice_get terms.now.texts root ≡ Some s.root → is_group s.definitions s.root ≡ false → AreRanked s.definitions s.root s.refs terms.now ranks.now → StandsFor s.worth s.definitions s.root (language_of table) (root_of table) (rank_of table) (ranks_of table)) }
+    ensures ranks { IfOk result LeavesNoRankOut }
     ensures ranked { IfErr result (λ why. why ≡ Why.NotRanked → (s : Sense) → IsSource s terms.now source.now → slice_get terms.now.texts root ≡ Some s.root → is_group s.definitions s.root ≡ false → AreRanked s.definitions s.root s.refs terms.now ranks.now → ⊥) }
 {
     equal_numbers(terms);
     meaning_at();
     meanings_are_reached();
     part_is_reached();
+    empty_by_form();
     let Some(place) = root_place(terms, source.closed, root) else {
         return Err(Unmade::NotRanked);
     };
@@ -80,15 +84,18 @@ pub(crate) fn table_of(
     ranked_table(nodes, ranks)
 }
 
-// Ranks of the types and groups, and which groups may take no item.
+// Ranks of the types and groups, numbered by the order of those that are used, and which groups may take no item.
 fn ranks_of(alloc: Global, ranks: &Ranks, nodes: &Nodes) -> Result<NodeRanks, Unmade>
-    ensures ranks { IfOk result (λ v. (v.types.items ≡ map (type_rank ranks.now) nodes.now.type_origins.items) × (v.groups.items ≡ map (group_rank ranks.now) nodes.now.group_origins.items)) }
+    ensures ranks { IfOk result (λ v. ArePlaces (map (type_rank ranks.now) nodes.now.type_origins.items) (map (group_rank ranks.now) nodes.now.group_origins.items) v.types.items v.groups.items) }
     ensures flags { IfOk result (λ v. (types : List Node) → AreFlags (language_in types nodes.now.groups.items) (flag_in v.may_be_empty.items)) }
     ensures none { IfErr result (λ why. why ≡ Why.NoRoom) }
 {
+    let types = type_ranks(alloc, ranks, &nodes.type_origins)?;
+    let groups = group_ranks(alloc, ranks, &nodes.group_origins)?;
+    let used = used_ranks(alloc, &types, &groups)?;
     Ok(NodeRanks {
-        types: type_ranks(alloc, ranks, &nodes.type_origins)?,
-        groups: group_ranks(alloc, ranks, &nodes.group_origins)?,
+        types: places(alloc, &used, &types)?,
+        groups: places(alloc, &used, &groups)?,
         may_be_empty: flags_of(alloc, &nodes.groups)?,
     })
 }
@@ -97,6 +104,7 @@ fn ranks_of(alloc: Global, ranks: &Ranks, nodes: &Nodes) -> Result<NodeRanks, Un
 fn ranked_table(nodes: Nodes, ranks: NodeRanks) -> Result<Table, Unmade>
     ensures language { IfOk result (λ table. language_of table ≡ language_in nodes.types.items nodes.groups.items) }
     ensures root { IfOk result (λ table. root_of table ≡ nodes.root) }
+    ensures ranks { IfOk result (λ table. rank_of table ≡ rank_in ranks.types.items ranks.groups.items) }
     ensures ranked { IfOk result (λ table. IsRanked (language_of table) (rank_of table) (ranks_of table)) }
     ensures refused { IfErr result (λ _. AreFlags (language_in nodes.types.items nodes.groups.items) (flag_in ranks.may_be_empty.items) → (bound : ℕ) → IsRanked (language_in nodes.types.items nodes.groups.items) (rank_in ranks.types.items ranks.groups.items) bound → ⊥) }
 {

@@ -2,6 +2,8 @@
 //! handle of a text that was read before. `include/cddlseq.h` declares them.
 #![tactic(auto)]
 
+ghost use Rattle.std.specs.Prelude.{take};
+ghost use Rattle.text_position.specs.Positions.{IsAt};
 ghost use Rattle.seq_run.specs.Judge.{judge_of};
 ghost use Rattle.cddlseq_c.specs.Answers.{AreValidated, IsChecked, IsOpened, IsToldEnd, IsValidated, IsWritten, IsWrittenBy};
 ghost use Rattle.cddlseq_c.specs.Pieces.{IsFedAll, IsFedTo, IsFinished, IsShownBy};
@@ -9,6 +11,7 @@ ghost use Rattle.cddlseq_c.specs.Pieces.{IsFedAll, IsFedTo, IsFinished, IsShownB
 mod feeding;
 mod handle;
 mod many;
+mod position;
 mod ready;
 mod running;
 mod session;
@@ -20,6 +23,7 @@ mod wanted;
 use crate::feeding::{feed, feed_all, finish, show};
 use crate::handle::CddlseqHandle;
 use crate::many::{fits, tell_many};
+use crate::position::CddlseqPosition;
 use crate::ready::{prepare, table_of};
 use crate::running::{tell_by_number, tell_end, tell_wanted};
 use crate::session::CddlseqSession;
@@ -29,6 +33,7 @@ use crate::told::{
 };
 use crate::wanted::wanted_by;
 use std::alloc::Global;
+use text_position::position_of;
 
 /// Says whether a text is a specification, with the root of this name, or where it has no bytes the first rule.
 #[unsafe(no_mangle)]
@@ -48,6 +53,18 @@ pub extern "C" fn cddlseq_check(
         }
         Err(why) => tell_stop(why, refusal),
     }
+}
+
+/// Tells the line and the column of an offset of a text, as that of a refusal.
+#[unsafe(no_mangle)]
+pub extern "C" fn cddlseq_position(text: &[u8], offset: usize, position: &mut CddlseqPosition)
+    ensures { IsAt (take offset text.now) position.new.line position.new.column }
+{
+    let found = position_of(text, offset);
+    *position = CddlseqPosition {
+        line: found.line,
+        column: found.column,
+    };
 }
 
 /// Says how a stream ends by a text.

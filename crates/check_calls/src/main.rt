@@ -41,7 +41,7 @@ impl Answers for Rooms {
         let (room, what) = call.split_once('.').unwrap_or((call, ""));
         match room {
             "text" | "root" => push_told(alloc, room, what, words, out),
-            "spec" | "table" => whole::push_whole(alloc, room, words, out),
+            "spec" | "table" | "ranks" => whole::push_whole(alloc, room, words, out),
             "too_many" => push_offset(alloc, too_many(&found_of(alloc, words)), out),
             "lesser" => {
                 let (one, other) = first(words);

@@ -14,7 +14,7 @@ use std::alloc::{AllocError, Global};
 // How many types are gone through, each of which says what another says.
 const MOST_NAMES: usize = 64;
 
-// The name of the root, or `-`, and the text: what is told of its specification or of its table, or why it is refused.
+// The name of the root, or `-`, and the text: what is told of its specification, of its table or of the ranks in this, or why it is refused.
 pub(crate) fn push_whole(
     alloc: Global,
     room: &str,
@@ -56,6 +56,7 @@ fn told_of_tokens(
     let spec = check(alloc, tree, root)?;
     let told = match room {
         "spec" => shown_spec(alloc, &spec)?,
+        "ranks" => shown_ranks(alloc, &compile(alloc, &spec)?)?,
         _ => shown_table(alloc, &compile(alloc, &spec)?)?,
     };
     Ok(told)
@@ -66,6 +67,12 @@ fn shown_spec(alloc: Global, spec: &Spec<'_>) -> Result<String, AllocError> {
     let root = spec.root();
     let rules = spec.tree().rules.len();
     format!(in alloc; "root {root}, rules {rules}")
+}
+
+// The greatest rank.
+fn shown_ranks(alloc: Global, table: &Table) -> Result<String, AllocError> {
+    let ranks = table.ranks();
+    format!(in alloc; "{ranks}")
 }
 
 // What the root is, and of how many parts.

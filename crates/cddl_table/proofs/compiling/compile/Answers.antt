@@ -2,8 +2,8 @@ use Rattle.tree_nodes.specs.View.{view}
 use Rattle.cddl_table.specs.Text.{sense}
 use Rattle.cddl_table.proofs.compiling.compile.Goals as goal
 
-pub returns-in-Ok : goal.returns-in-Ok
-returns-in-Ok c = λ worth right.
+pub returns-in-Ok-clause-stands : goal.returns-in-Ok-clause-stands
+returns-in-Ok-clause-stands c = λ worth right.
     let x = view c.args.spec.now.tree in
     let root = c.args.spec.now.root in
     let found = c.findings-findings.ensures.found worth right in

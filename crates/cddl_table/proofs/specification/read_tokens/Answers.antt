@@ -12,7 +12,7 @@ check-requires c = c.trees_are_of_tokens.ensures c.requires.read.0 c.args.tokens
 pub returns-clause-tabled : goal.returns-clause-tabled
 returns-clause-tabled c =
     let n : Option (List ℕ) = option_map (λ (t : Bor (List ℕ)). t.now) c.args.root in λ text are.
-    tabled c.in_ok-tree.tree n text c.in_ok-spec.spec c.in_ok-table.table (record { tokens = c.args.tokens.now; are_tokens = are; is_tree = c.in_ok-tree.ensures.tree }) c.in_ok-spec.ensures.kept c.in_ok-spec.ensures.accepted c.in_ok-table.ensures
+    tabled c.in_ok-tree.tree n text c.in_ok-spec.spec c.in_ok-table.table (record { tokens = c.args.tokens.now; are_tokens = are; is_tree = c.in_ok-tree.ensures.tree }) c.in_ok-spec.ensures.kept c.in_ok-spec.ensures.accepted c.in_ok-table.ensures.stands
 
 pub returns-in_err-spec-clause-unread : goal.returns-in_err-spec-clause-unread
 returns-in_err-spec-clause-unread c =
