@@ -3,8 +3,8 @@
 
    A call that is given a text reads it anew; a handle has read one before. No call keeps a pointer of the caller's, prints, or ends
    the process. Calls may be made from any thread, and from many at once, but not from a signal handler, nor from a forked child of a
-   process with threads. A handle stays on the thread that made it. They take memory by malloc, realloc and free, and give back all
-   of it but what a handle holds. A call may need 256 KiB of stack.
+   process with threads. A handle stays on the thread that made it, and with it all handles and sessions that share its specification.
+   They take memory by malloc, realloc and free, and give back all of it but what a handle holds. A call may need 256 KiB of stack.
 
    Whoever calls has to see to this, which nothing checks: no pointer is null, also where the length is 0; each points to as much
    as its length says, or to one struct; and what a call writes overlaps nothing else that it is given. */
@@ -205,9 +205,9 @@ uint32_t cddlseq_validate_many(
     struct cddlseq_end *ends, size_t ends_length,
     size_t *done);
 
-/* A specification that was read once, with the limits of items. cddlseq_open makes it. A call takes it and gives it back, so that one
-   call has it at a time, and cddlseq_close frees it, once. It stays on the thread that opened it. Nothing checks this, nor that it is
-   one that cddlseq_open or another call wrote. */
+/* A specification that was read once, with the limits of items. cddlseq_open makes it, or cddlseq_share. A call takes
+   it and gives it back, so that one call has it at a time, and cddlseq_close frees it, once. It stays on the thread that opened it.
+   Nothing checks this, nor that it is one that cddlseq_open or another call wrote. */
 struct cddlseq_handle {
     void *at;
 };
@@ -240,8 +240,16 @@ uint32_t cddlseq_write_by(
 
 void cddlseq_close(struct cddlseq_handle handle);
 
-/* A stream that comes in pieces, with its specification. cddlseq_begin makes it. Of it holds what is said of a struct cddlseq_handle;
-   cddlseq_discard frees it. It keeps nothing of the pieces but what it has read of the item in work.
+/* Makes another handle of the same specification, which is not read anew: CDDLSEQ_OK, or _NO_MEMORY, and then nothing is written. Each
+   handle is closed once; the specification is freed with the last handle or session that has it. All of them stay on the thread that
+   opened the first. */
+uint32_t cddlseq_share(
+    struct cddlseq_handle handle,
+    void **other,
+    void **back);
+
+/* A stream that comes in pieces, with its specification. cddlseq_begin makes it, or cddlseq_begin_by. Of it holds what is
+   said of a struct cddlseq_handle; cddlseq_discard frees it. It keeps nothing of the pieces but what it has read of the item in work.
 
        while ((length = read(device, piece, sizeof piece)) > 0) {
            for (size_t at = 0; at < length; at += used) {
@@ -263,6 +271,13 @@ uint32_t cddlseq_begin(
     const struct cddlseq_limits *limits,
     struct cddlseq_refusal *refusal,
     void **at);
+
+/* Begins a session by a specification that a handle holds, which is not read anew; there may be many over one handle. It answers what
+   cddlseq_share does. The session may be used after the handle is closed; it stays on the thread of the handle. */
+uint32_t cddlseq_begin_by(
+    struct cddlseq_handle handle,
+    void **at,
+    void **back);
 
 /* Takes the next piece of the stream, up to the end of an item that it completes; 'used' says how many bytes of the piece are done
    with, and those behind them are for the next call. The session comes back by its last argument.

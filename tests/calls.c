@@ -253,6 +253,72 @@ static void sessions(void) {
     cddlseq_discard(session);
 }
 
+// Sessions over one handle, fed by turns and used after the handles are closed.
+static void shared(void) {
+    struct cddlseq_refusal refusal;
+    struct cddlseq_end end = untold;
+    struct cddlseq_handle handle, other = {buffer_of_no_handle};
+    struct cddlseq_session one = {buffer_of_no_handle}, two = {buffer_of_no_handle};
+    const struct cddlseq_limits shallow = {2, 16, 1000};
+    size_t used = 99;
+    EXPECT(cddlseq_open(TEXT("a = [* uint] / tstr\n"), TEXT(""), &shallow, &refusal, &handle.at) == CDDLSEQ_OK);
+    void *at = handle.at;
+    EXPECT(cddlseq_begin_by(handle, &one.at, &handle.at) == CDDLSEQ_OK && handle.at == at && one.at != buffer_of_no_handle);
+    EXPECT(cddlseq_share(handle, &other.at, &handle.at) == CDDLSEQ_OK && handle.at == at && other.at != buffer_of_no_handle && other.at != at);
+    EXPECT(cddlseq_feed(one, BYTES("\x80\x82"), &used, &end, &one.at) == CDDLSEQ_ITEM && used == 1 && is_end(&end, 1, 1, 0, 0));
+    cddlseq_close(handle);
+    at = other.at;
+    EXPECT(cddlseq_validate_by(other, BYTES("\x60\x81\x05"), &end, &other.at) == CDDLSEQ_OK && other.at == at && is_end(&end, 2, 3, 0, 0));
+    EXPECT(cddlseq_begin_by(other, &two.at, &other.at) == CDDLSEQ_OK && other.at == at && two.at != one.at);
+    EXPECT(cddlseq_feed_all(two, BYTES("\x60\x61"), &end, &two.at) == CDDLSEQ_OK && is_end(&end, 1, 1, 0, 0));
+    cddlseq_close(other);
+    EXPECT(cddlseq_feed(one, BYTES("\x82\x01"), &used, &end, &one.at) == CDDLSEQ_OK && used == 2 && is_end(&end, 1, 1, 0, 0));
+    EXPECT(cddlseq_feed(two, BYTES("\x62\x20"), &used, &end, &two.at) == CDDLSEQ_ITEM && used == 1 && is_end(&end, 2, 3, 0, 0));
+    EXPECT(cddlseq_feed(one, BYTES("\x02\x80"), &used, &end, &one.at) == CDDLSEQ_ITEM && used == 1 && is_end(&end, 2, 4, 0, 0));
+    EXPECT(cddlseq_feed(two, BYTES("\x20"), &used, &end, &two.at) == CDDLSEQ_FAILED && is_end(&end, 2, 3, CDDLSEQ_MISMATCH, 0));
+    EXPECT(cddlseq_feed(one, BYTES("\x81\x81\x81"), &used, &end, &one.at) == CDDLSEQ_FAILED && is_end(&end, 2, 4, CDDLSEQ_TOO_DEEP, 6));
+    cddlseq_restart(two, &two.at);
+    EXPECT(cddlseq_feed_all(two, BYTES("\x60\x80"), &end, &two.at) == CDDLSEQ_OK && is_end(&end, 2, 2, 0, 0));
+    cddlseq_restart(one, &one.at);
+    EXPECT(cddlseq_finish(two, &end, &two.at) == CDDLSEQ_OK && is_end(&end, 2, 2, 0, 0));
+    cddlseq_discard(two);
+    EXPECT(cddlseq_feed_all(one, BYTES("\x81\x18\x20\x81"), &end, &one.at) == CDDLSEQ_OK && is_end(&end, 1, 3, 0, 0));
+    EXPECT(cddlseq_finish(one, &end, &one.at) == CDDLSEQ_FAILED && is_end(&end, 1, 3, CDDLSEQ_TRUNCATED, 4));
+    cddlseq_discard(one);
+}
+
+// With the request for memory refused that comes after so many: whether a handle and a session are made of one that is open, or nothing
+// is. The one that is open is of use after that.
+static int is_shared_without_memory(long number) {
+    struct cddlseq_refusal refusal;
+    struct cddlseq_end end = untold;
+    struct cddlseq_handle handle, other = {buffer_of_no_handle};
+    struct cddlseq_session session = {buffer_of_no_handle};
+    EXPECT(cddlseq_open(TEXT(map), TEXT("n"), &limits, &refusal, &handle.at) == CDDLSEQ_OK);
+    void *at = handle.at;
+    before_refusal = number, was_refused = 0;
+    uint32_t status = cddlseq_share(handle, &other.at, &handle.at);
+    int any = was_refused;
+    before_refusal = -1;
+    EXPECT(status == (any ? CDDLSEQ_NO_MEMORY : CDDLSEQ_OK) && (other.at == buffer_of_no_handle) == any && handle.at == at);
+    before_refusal = number, was_refused = 0;
+    status = cddlseq_begin_by(handle, &session.at, &handle.at);
+    int no_session = was_refused;
+    before_refusal = -1;
+    EXPECT(status == (no_session ? CDDLSEQ_NO_MEMORY : CDDLSEQ_OK) && (session.at == buffer_of_no_handle) == no_session && handle.at == at);
+    EXPECT(cddlseq_validate_by(handle, BYTES("\x01"), &end, &handle.at) == CDDLSEQ_OK && is_end(&end, 1, 1, 0, 0));
+    cddlseq_close(handle);
+    if (!any) {
+        EXPECT(cddlseq_validate_by(other, BYTES("\x02\x03"), &end, &other.at) == CDDLSEQ_OK && is_end(&end, 2, 2, 0, 0));
+        cddlseq_close(other);
+    }
+    if (!no_session) {
+        EXPECT(cddlseq_feed_all(session, BYTES("\x04"), &end, &session.at) == CDDLSEQ_OK && is_end(&end, 1, 1, 0, 0));
+        cddlseq_discard(session);
+    }
+    return any || no_session;
+}
+
 // With the request for memory refused that comes after so many: whether a session is begun, fed and freed, or says so from then on.
 static int is_session_told_without_memory(long number) {
     static const char stream[] = "\xa2\x61\x61\x82\x01\x02\x61\x62\x41\x05\xa2\x61\x62\x41\x05\x61\x61\x81\x60";
@@ -387,11 +453,14 @@ static void refuse_memory(void) {
     for (number = 0; is_session_told_without_memory(number); number += step) {
         refusals++;
     }
+    for (number = 0; is_shared_without_memory(number); number++) {
+        refusals++;
+    }
     printf("calls with %ld requests for memory refused in turn\n", refusals);
 }
 
 int main(int count, char **words) {
-    void (*const tests[])(void) = {check, position, validate, write_wanted, validate_many, handles, sessions, refuse_memory};
+    void (*const tests[])(void) = {check, position, validate, write_wanted, validate_many, handles, sessions, shared, refuse_memory};
     int number = sizeof tests / sizeof *tests, passed = 0;
     if (count > 1) {
         step = atol(words[1]);

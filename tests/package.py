@@ -93,6 +93,28 @@ def items_are_alike():
     return session.items == session.offset == 0 and session.end is None
 
 
+def sessions_share():
+    """Whether sessions of one specification, fed by turns, know nothing of each other, and outlive it."""
+    specification = Specification("a = [* uint] / tstr\n", depth=2)
+    streams = bytes.fromhex("820102"), bytes.fromhex("626162"), bytes.fromhex("818181")
+    sessions = [specification.session() for _ in streams]
+    del specification
+    for bytes_now in zip(*streams):
+        for session, byte in zip(sessions, bytes_now):
+            session.feed(bytes([byte]))
+    ends = [session.finish() for session in sessions]
+    sessions[0].restart()
+    told = [(it.items, it.offset, it.cause, it.place) for it in ends]
+    return told == [(1, 3, None, 0), (1, 3, None, 0), (0, 0, Cause.TOO_DEEP, 2)] and len(sessions[0].feed(b"\x80\x81")) == 1
+
+
+def session_in_thread():
+    """Whether a thread may begin a session by a specification that another one made."""
+    specification = Specification("a = uint\n")
+    with ThreadPoolExecutor(1) as pool:
+        return pool.submit(lambda: [it.offset for it in specification.session().feed(b"\x01\x02")]).result() == [0, 1]
+
+
 def items_of(stream):
     """What a specification of numbers says of a stream, item by item, and the end that it raises."""
     found = []
@@ -134,6 +156,8 @@ def checks_of(header):
         "an end without a cause": clean.is_clean and clean.cause is None and clean.path is None and clean.notation is None,
         "a stream in each form": streams_are_alike(),
         "items in pieces": items_are_alike(),
+        "sessions of one specification": sessions_share(),
+        "a session in another thread": session_in_thread(),
         "items of a file": items_of(io.BytesIO(b"\x01\x18\x20")) == ([Item(0, 1, b"\x01"), Item(1, 3, b"\x18\x20")], None),
         "items, and one that fails": items_of(b"\x01\x20\x01") == ([Item(0, 1, b"\x01")], "item 2 at 1 fails: MISMATCH at $: -1"),
         "items, and one that is cut": items_of([b"\x01\x19", b"\x01"]) == ([Item(0, 1, b"\x01")], "item 2 at 1 fails: TRUNCATED"),

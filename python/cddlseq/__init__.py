@@ -244,6 +244,14 @@ class Specification:
         self._stop(call(*passed(self._text), *passed(self._root), self._limits, refusal, handle.back), refusal)
         return handle
 
+    def _begun(self) -> _library.Handle:
+        """The handle of a session. On another thread than the specification's own the text is read anew."""
+        if not self._held.is_mine:
+            return self._made(library.cddlseq_begin)
+        held, begun = self._held.handle, _library.Handle()
+        _stop(library.cddlseq_begin_by(held, begun.back, held.back))
+        return begun
+
     def _stop(self, status: int, refusal: _library.Refusal) -> int:
         """Raises what a status says, as _stop does, or of the text."""
         if status == _library.REFUSED:
@@ -298,7 +306,7 @@ class Session:
         self._used = ctypes.c_size_t()
         self._pending = bytearray()
         self.end: End | None = None
-        self._held = _Held(specification._made(library.cddlseq_begin), library.cddlseq_discard)
+        self._held = _Held(specification._begun(), library.cddlseq_discard)
 
     @property
     def _handle(self) -> _library.Handle:

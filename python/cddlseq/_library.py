@@ -66,6 +66,7 @@ _CALLS = {
     "cddlseq_write_by": (Handle, *_BYTES, c_uint32, POINTER(End), *_BYTES, POINTER(c_size_t), _BACK),
     "cddlseq_close": (Handle,),
     "cddlseq_begin": (*_BYTES, *_BYTES, POINTER(Limits), POINTER(Refusal), _BACK),
+    "cddlseq_begin_by": (Handle, _BACK, _BACK),
     # A piece is told by its address, so that what is behind an item in it is passed on without a copy.
     "cddlseq_feed": (Handle, c_void_p, c_size_t, POINTER(c_size_t), POINTER(End), _BACK),
     "cddlseq_feed_all": (Handle, *_BYTES, POINTER(End), _BACK),

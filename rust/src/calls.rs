@@ -124,6 +124,7 @@ extern "C" {
         refusal: *mut Refusal,
         at: *mut *mut c_void,
     ) -> u32;
+    pub fn cddlseq_begin_by(handle: Handle, at: *mut *mut c_void, back: *mut *mut c_void) -> u32;
     pub fn cddlseq_feed(
         session: Handle,
         piece: *const u8,

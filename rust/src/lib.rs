@@ -13,6 +13,11 @@
 //! let mut session = Session::new(text, None, Limits::default())?;
 //! assert_eq!(session.feed(&[0x82, 0x01])?, Step::More);
 //! assert_eq!(session.feed(&[0x03, 0x82])?, Step::Item { used: 1 });
+//!
+//! let (mut one, mut two) = (specification.session()?, specification.session()?);
+//! drop(specification);
+//! assert_eq!((one.feed(&[0x82, 0x01])?, two.feed(&[0x82])?), (Step::More, Step::More));
+//! assert_eq!((one.feed(&[0x03])?, two.feed(&[0x05, 0x20])?), (Step::Item { used: 1 }, Step::Item { used: 2 }));
 //! # Ok::<(), Box<dyn std::error::Error>>(())
 //! ```
 mod calls;

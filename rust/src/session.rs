@@ -14,11 +14,16 @@ impl Session {
     /// Reads a text, whose root is the rule of this name, or else the first one, and begins a stream.
     pub fn new(text: impl AsRef<[u8]>, root: Option<&str>, limits: Limits) -> Result<Session, Unread> {
         match calls::make(calls::cddlseq_begin, text.as_ref(), root_of(root), &limits) {
-            Ok(handle) => Ok(Session {
-                handle,
-                told: calls::End::default(),
-            }),
+            Ok(handle) => Ok(Session::of(handle)),
             Err((status, refusal)) => Err(Unread::of(text.as_ref(), status, &refusal)),
+        }
+    }
+
+    /// The session of a handle that a call made for it.
+    pub(crate) fn of(handle: Handle) -> Session {
+        Session {
+            handle,
+            told: calls::End::default(),
         }
     }
 

@@ -1,6 +1,7 @@
 //! A specification that was read.
 use crate::calls::{self, Handle};
 use crate::root_of;
+use crate::session::Session;
 use crate::told::{End, NoMemory, Unread, Wanted};
 use crate::Limits;
 
@@ -32,6 +33,17 @@ impl Specification {
             )
         };
         told(status, &end)
+    }
+
+    /// Begins a stream that comes in pieces. Its session shares the specification, which is not read anew, and may outlive this one.
+    pub fn session(&mut self) -> Result<Session, NoMemory> {
+        let mut at = std::ptr::null_mut();
+        // SAFETY: as in `validate`.
+        let status = unsafe { calls::cddlseq_begin_by(self.handle, &mut at, &mut self.handle.at) };
+        match status {
+            calls::OK => Ok(Session::of(Handle { at })),
+            _ => Err(NoMemory),
+        }
     }
 
     /// Writes what is wanted of a stream, and says how it ends.

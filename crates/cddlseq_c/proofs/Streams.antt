@@ -8,7 +8,7 @@ use Rattle.seq_run.specs.Judge.{Judge, judge_of}
 use Rattle.seq_run.specs.declared.end.End.{End}
 use Rattle.cddlseq_c.specs.Answers.{AreTold, AreValidated, HasEnd, IsReady, IsStop, IsStream, IsToldAt, IsToldMany, all_validated, none_validated}
 use Rattle.cddlseq_c.specs.Told.{no_refusal, refusal_of, status_of_stop, told_end}
-use Rattle.cddlseq_c.specs.declared.ready.Ready.{Ready}
+use Rattle.cddlseq_c.specs.Held.{Held}
 use Rattle.cddlseq_c.specs.declared.stop.Stop.{Stop}
 use Rattle.cddlseq_c.specs.declared.told.CddlseqEnd.{CddlseqEnd}
 use Rattle.cddlseq_c.specs.declared.told.CddlseqLimits.{CddlseqLimits}
@@ -35,7 +35,7 @@ module _ (judge : Judge) (l : Bounds) (bytes offsets : List ℕ) where
       }
 
 module _ (text root bytes offsets : List ℕ) (limits : CddlseqLimits) (refusal : CddlseqRefusal) where
-  pub all_by : (r : Ready) (old new : List CddlseqEnd) (n status : ℕ) → IsReady text root limits r → length offsets ≡ length old + 1 → refusal ≡ no_refusal → IsToldMany (judge_of r.table r.steps) r.limits bytes offsets old new n status → AreValidated text root bytes offsets limits refusal old new n status
+  pub all_by : (r : Held) (old new : List CddlseqEnd) (n status : ℕ) → IsReady text root limits r → length offsets ≡ length old + 1 → refusal ≡ no_refusal → IsToldMany (judge_of r.table r.steps) r.limits bytes offsets old new n status → AreValidated text root bytes offsets limits refusal old new n status
   all_by r old new n status is fits clear told =
       all_validated r.table fits is.tabled clear status
       (subst (λ l. IsToldMany (judge_of r.table limits.steps) l bytes offsets old new n status) is.limits_are (subst (λ steps. IsToldMany (judge_of r.table steps) r.limits bytes offsets old new n status) is.steps_are told))

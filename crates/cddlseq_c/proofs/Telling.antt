@@ -6,7 +6,7 @@ use Rattle.seq_run.specs.declared.end.End.{End}
 use Rattle.cddlseq_c.specs.Answers.{HasEnd, IsChecked, IsOpened, IsPut, IsReady, IsStop, IsToldEnd, IsToldWanted, IsUntabled, IsValidated, IsWanted, IsWritten, unchecked, end_told, unopened, validated, unvalidated, put, no_room, written, unwritten}
 use Rattle.cddlseq_c.specs.Told.{bounds_of, no_refusal, refusal_of, status_of, status_of_stop, told_end}
 use Rattle.cddlseq_c.specs.Wanted.{number_of_wanted}
-use Rattle.cddlseq_c.specs.declared.ready.Ready.{Ready}
+use Rattle.cddlseq_c.specs.Held.{Held}
 use Rattle.cddlseq_c.specs.declared.stop.Stop.{Stop}
 use Rattle.cddlseq_c.specs.declared.told.CddlseqEnd.{CddlseqEnd}
 use Rattle.cddlseq_c.specs.declared.told.CddlseqLimits.{CddlseqLimits}
@@ -30,11 +30,11 @@ pub without_room : (wanted : Wanted) (judge : Judge) (l : Bounds) (stream : List
 without_room wanted judge l stream old new out_old out_new bytes end needed is told n is_put p short = no_room bytes end is told n (subst (λ b. IsPut b bytes out_old out_new) short p)
 
 -- what holds of the table, the limits and the steps that are ready, holds of the text's table and the caller's limits
-by_limits : (text root : List ℕ) (limits : CddlseqLimits) (r : Ready) (P : Judge → Bounds → Type 0) → IsReady text root limits r → P (judge_of r.table r.steps) r.limits → P (judge_of r.table limits.steps) (bounds_of limits)
+by_limits : (text root : List ℕ) (limits : CddlseqLimits) (r : Held) (P : Judge → Bounds → Type 0) → IsReady text root limits r → P (judge_of r.table r.steps) r.limits → P (judge_of r.table limits.steps) (bounds_of limits)
 by_limits text root limits r P is h = subst (λ l. P (judge_of r.table limits.steps) l) is.limits_are (subst (λ steps. P (judge_of r.table steps) r.limits) is.steps_are h)
 
 module _ (text root : List ℕ) (limits : CddlseqLimits) (refusal : CddlseqRefusal) where
-  module _ (r : Ready) (is : IsReady text root limits r) (clear : refusal ≡ no_refusal) where
+  module _ (r : Held) (is : IsReady text root limits r) (clear : refusal ≡ no_refusal) where
     pub by_ready : (stream : List ℕ) (old new : CddlseqEnd) (status : ℕ) → IsToldEnd (judge_of r.table r.steps) r.limits stream old new status → IsValidated text root stream limits refusal old new status
     by_ready stream old new status told = validated r.table is.tabled clear status (by_limits text root limits r (λ judge l. IsToldEnd judge l stream old new status) is told)
 

@@ -12,7 +12,6 @@ use Rattle.seq_run.specs.Output.{stream_output}
 use Rattle.seq_run.specs.Parts.{IsRejected}
 use Rattle.seq_run.specs.declared.end.End.{End}
 use Rattle.seq_run.specs.declared.output.Mode.{Mode}
-use Rattle.cddlseq_c.specs.declared.ready.Ready.{Ready}
 use Rattle.cddlseq_c.specs.declared.stop.Stop.{Stop}
 use Rattle.cddlseq_c.specs.declared.stop.Stop.TheVariants as stop
 use Rattle.cddlseq_c.specs.declared.told.CddlseqEnd.{CddlseqEnd}
@@ -20,6 +19,7 @@ use Rattle.cddlseq_c.specs.declared.told.CddlseqLimits.{CddlseqLimits}
 use Rattle.cddlseq_c.specs.declared.told.CddlseqRefusal.{CddlseqRefusal}
 use Rattle.cddlseq_c.specs.declared.told.TheConstants.{OK, NO_MEMORY, BAD_WANTED, BAD_OFFSETS, NO_ROOM}
 use Rattle.cddlseq_c.specs.declared.wanted.Wanted.{Wanted}
+use Rattle.cddlseq_c.specs.Held.{Held}
 use Rattle.cddlseq_c.specs.Told.{bounds_of, no_refusal, refusal_of, status_of, status_of_stop, told_end}
 use Rattle.cddlseq_c.specs.Wanted.{bytes_of, number_of_wanted}
 
@@ -54,7 +54,7 @@ IsStop limits text root stop.BadRoot = ¬ (IsUtf8 root)
 IsStop limits text root stop.BadLimits = AreOutside limits
 
 -- The table stands for the text, and the limits and the steps are these.
-pub record IsReady (text root : List ℕ) (limits : CddlseqLimits) (r : Ready) : Type 0 where
+pub record IsReady (text root : List ℕ) (limits : CddlseqLimits) (r : Held) : Type 0 where
   pub tabled : IsTabledText text (root_name root) r.table
   pub limits_are : r.limits ≡ bounds_of limits
   pub steps_are : r.steps ≡ limits.steps
@@ -122,7 +122,7 @@ pub data IsWritten (text root stream : List ℕ) (limits : CddlseqLimits) (numbe
 
 -- What `cddlseq_open` answers: the text is ready, as above, with these limits; or this is why it is not.
 pub data IsOpened (text root : List ℕ) (limits : CddlseqLimits) (refusal : CddlseqRefusal) : ℕ → Type 0 where
-  opened : (ready : Ready) → IsReady text root limits ready → refusal ≡ no_refusal → IsOpened text root limits refusal OK
+  opened : (ready : Held) → IsReady text root limits ready → refusal ≡ no_refusal → IsOpened text root limits refusal OK
   unopened : (why : Stop) → IsStop limits text root why → refusal ≡ refusal_of why → IsOpened text root limits refusal (status_of_stop why)
 
 -- What `cddlseq_write_by` answers: this is told of the stream, and what is wanted by the number is written; or nothing is wanted by
@@ -163,3 +163,7 @@ pub data AreValidated (text root bytes offsets : List ℕ) (limits : CddlseqLimi
       IsToldMany (judge_of table limits.steps) (bounds_of limits) bytes offsets old new n status → AreValidated text root bytes offsets limits refusal old new n status
   bad_number : length offsets ≢ length old + 1 → refusal ≡ no_refusal → new ≡ old → n ≡ 0 → AreValidated text root bytes offsets limits refusal old new n BAD_OFFSETS
   none_validated : (why : Stop) → IsStop limits text root why → refusal ≡ refusal_of why → new ≡ old → n ≡ 0 → AreValidated text root bytes offsets limits refusal old new n (status_of_stop why)
+
+-- What `cddlseq_share` and `cddlseq_begin_by` answer: what they make is made, or memory was refused.
+abbrev pub IsMade : ℕ → Type 0
+IsMade status = (status ≡ OK) ⊎ (status ≡ NO_MEMORY)

@@ -1,4 +1,5 @@
 pub mod Told
+pub mod Held
 pub mod Wanted
 pub mod Answers
 pub mod Pieces

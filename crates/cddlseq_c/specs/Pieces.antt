@@ -3,6 +3,7 @@ use Rattle.std.specs.Prelude.{◌≡◌, ◌≢◌, ℕ, List, [], length, Bool,
 use Rattle.std.specs.declared.alloc.AllocError.{AllocError}
 use Rattle.cbor_data.specs.Value.{Value}
 use Rattle.seq_run.specs.Answers.{IsAnswer, IsCount, IsFinish, IsLent, IsStep}
+use Rattle.seq_run.specs.Judge.{judge_of}
 use Rattle.seq_run.specs.Progress.{Progress}
 use Rattle.seq_run.specs.declared.end.End.{End}
 use Rattle.seq_run.specs.declared.end.End.TheVariants.{Clean, Failed}
@@ -13,6 +14,7 @@ use Rattle.seq_run.specs.declared.end.Stopped.TheVariants.{Ended, Memory}
 use Rattle.seq_run.specs.declared.session.Step.{Step}
 use Rattle.seq_run.specs.declared.session.Step.TheVariants as step
 use Rattle.cddlseq_c.specs.Answers.{IsPut}
+use Rattle.cddlseq_c.specs.Held.{Held}
 use Rattle.cddlseq_c.specs.Told.{status_of, told_end}
 use Rattle.cddlseq_c.specs.Wanted.{mismatch_of, notation_at, path_to}
 use Rattle.cddlseq_c.specs.declared.feeding.Shown.{Shown}
@@ -98,3 +100,7 @@ pub data IsShownBy (number : ℕ) (p : Progress) (out_old out_new : List ℕ) (n
   shown_too_long : (shown : Shown) (bytes : List ℕ) → number ≡ number_of_shown shown → IsShownPlace shown p bytes → needed ≡ length bytes → IsPut false bytes out_old out_new → IsShownBy number p out_old out_new needed NO_ROOM
   none_shown : ((shown : Shown) → number ≢ number_of_shown shown) → needed ≡ 0 → out_new ≡ out_old → IsShownBy number p out_old out_new needed BAD_WANTED
   not_shown : needed ≡ 0 → out_new ≡ out_old → IsShownBy number p out_old out_new needed NO_MEMORY
+
+-- a session at the first byte of a stream, by what a handle holds
+abbrev pub begun_by : Held → Progress
+begun_by h = record { judge = judge_of h.table h.steps; limits = h.limits; fed = []; taken = []; stopped = None }

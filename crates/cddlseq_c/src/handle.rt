@@ -1,7 +1,6 @@
 //! A specification that is ready, as a handle for C.
 ghost use Rattle.std.specs.Prelude.{◌≡◌};
-ghost use Rattle.cddlseq_c.specs.declared.ready.Ready.{Ready as AnyReady};
-ghost use Rattle.cddlseq_c.specs.contracts.ready.Ready.{the_row};
+ghost use Rattle.cddlseq_c.specs.Held.{Held, coded_held};
 
 use crate::ready::Ready;
 use std::alloc::Global;
@@ -12,7 +11,7 @@ use std::marker::Model;
 pub struct CddlseqHandle {
     pub(crate) at: *mut u8,
     pub(crate) alloc: Global,
-    pub(crate) ghost value: { AnyReady } by { the_row.coded },
+    pub(crate) ghost value: { Held } by { coded_held },
 }
 
 impl Model for CddlseqHandle {

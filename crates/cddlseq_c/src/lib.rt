@@ -15,6 +15,7 @@ mod position;
 mod ready;
 mod running;
 mod session;
+mod sharing;
 mod stop;
 mod told;
 mod wanted;
@@ -31,7 +32,6 @@ use crate::told::{
     tell_stop,
 };
 use crate::wanted::wanted_by;
-use seq_run::OwnedSession;
 use std::alloc::Global;
 use text_position::position_of;
 
@@ -228,7 +228,7 @@ pub extern "C" fn cddlseq_begin(
     *refusal = NO_REFUSAL;
     match prepare(alloc, text, root, limits) {
         Ok(ready) => {
-            let begun = OwnedSession::new(alloc, ready.table, ready.limits, ready.steps);
+            let begun = ready.into_session(alloc);
             match Box::new(alloc, begun) {
                 Ok(held) => {
                     *session = Box::into_raw(held) as *mut u8;

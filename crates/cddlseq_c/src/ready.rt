@@ -1,8 +1,10 @@
 //! A specification is read, and made ready for streams.
 
 ghost use Rattle.std.specs.Prelude.{◌≡◌, IfErr, IfNone, IfOk, IfSome, option_map};
+ghost use Rattle.std.specs.Arc.{arc_value};
 ghost use Rattle.cddl_table.specs.Text.{IsTabledText};
 ghost use Rattle.cddlseq_c.specs.Answers.{AreOutside, IsReady, IsStop, IsUnread, IsUntabled, root_name};
+ghost use Rattle.cddlseq_c.specs.Pieces.{begun_by};
 ghost use Rattle.cddlseq_c.specs.Told.{bounds_of};
 
 use crate::stop::Stop;
@@ -11,16 +13,75 @@ use cbor_read::Limits;
 use cddl_table::read_specification;
 use cddl_token::Refusal;
 use check_text::Fault;
-use std::alloc::Global;
+use seq_run::OwnedSession;
+use std::alloc::{AllocError, Global};
+use std::marker::Model;
 use std::str;
+use std::sync::Arc;
 use table_nodes::Table;
 
-// The table of a text, and what an item may have.
+// The table of a text, which others may own too, and what an item may have. Contracts see the table, and not where it is.
 #[derive(Drop)]
 pub(crate) struct Ready {
-    pub table: Table,
-    pub limits: Limits,
-    pub steps: u64,
+    table: Arc<Table>,
+    limits: Limits,
+    steps: u64,
+}
+
+impl Model for Ready {
+    ghost use Rattle.std.specs.Arc.{arc_value};
+    ghost use Rattle.cddlseq_c.specs.Held.{Held, coded_held};
+
+    ghost Value = { Held };
+
+    ghost coded = { coded_held };
+
+    ghost view = { λ r. record { table = arc_value r.table; limits = r.limits; steps = r.steps } };
+}
+
+impl Ready {
+    fn new(table: Arc<Table>, limits: Limits, steps: u64) -> Ready
+        ensures { result ≡ record { table = arc_value table; limits = limits; steps = steps } }
+    {
+        Ready {
+            table,
+            limits,
+            steps,
+        }
+    }
+
+    pub(crate) fn table(&self) -> &Table
+        ensures { result.now ≡ self.now.table }
+    {
+        &self.table
+    }
+
+    pub(crate) fn limits(&self) -> Limits
+        ensures { result ≡ self.now.limits }
+    {
+        self.limits
+    }
+
+    pub(crate) fn steps(&self) -> u64
+        ensures { result ≡ self.now.steps }
+    {
+        self.steps
+    }
+
+    // The same table once more, which is freed with its last owner.
+    pub(crate) fn another(&self) -> Result<Ready, AllocError>
+        ensures { IfOk result (λ r. r ≡ self.now) }
+    {
+        let table = Arc::try_clone(&self.table)?;
+        Ok(Ready::new(table, self.limits, self.steps))
+    }
+
+    // A session at the first byte of a stream.
+    pub(crate) fn into_session(self, alloc: Global) -> OwnedSession
+        ensures { result ≡ begun_by self }
+    {
+        OwnedSession::new(alloc, self.table, self.limits, self.steps)
+    }
 }
 
 // Reads the text. A root of no bytes is none.
@@ -62,11 +123,10 @@ pub(crate) fn prepare(
         return Err(Stop::BadLimits);
     };
     match table_of(alloc, text, root) {
-        Ok(table) => Ok(Ready {
-            table,
-            limits: within,
-            steps: limits.steps,
-        }),
+        Ok(table) => match Arc::new(alloc, table) {
+            Ok(table) => Ok(Ready::new(table, within, limits.steps)),
+            Err(_) => Err(Stop::Memory),
+        },
         Err(why) => Err(why),
     }
 }

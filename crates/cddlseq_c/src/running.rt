@@ -125,9 +125,9 @@ fn run_buffer(alloc: Global, ready: &Ready, mode: Mode, stream: &[u8]) -> Result
     let mut output = Counted::new(Vec::new(alloc));
     match run(
         alloc,
-        &ready.table,
-        ready.limits,
-        ready.steps,
+        ready.table(),
+        ready.limits(),
+        ready.steps(),
         mode,
         &mut input,
         &mut output,

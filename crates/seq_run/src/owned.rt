@@ -1,6 +1,7 @@
-//! A session that owns the table of its specification.
+//! A session that shares the table of its specification with others.
 
 ghost use Rattle.std.specs.Prelude.{◌≡◌, [], None, option_copied};
+ghost use Rattle.std.specs.Arc.{arc_value};
 ghost use Rattle.seq_run.specs.Answers.{Appends, IsAnswer, IsCount, IsFinish, IsLent, IsStep};
 ghost use Rattle.seq_run.specs.Judge.{judge_of};
 ghost use Rattle.seq_run.specs.Rest.{AreRest, progress_of};
@@ -12,14 +13,16 @@ use cbor_read::Limits;
 use std::alloc::{AllocError, Global};
 use std::marker::Model;
 use std::mem;
+use std::sync::Arc;
 use table_nodes::Table;
 
-/// A [`Session`] that owns the table of its specification, and so borrows nothing: it can be kept beside other things, or handed
-/// to a caller in another language. Contracts see of it what they see of a session.
+/// A [`Session`] that is one of the owners of the table of its specification, and so borrows nothing: it can be kept beside other
+/// things, moved to another thread, or handed to a caller in another language, and many may share one table. Contracts see of it
+/// what they see of a session.
 #[derive(Drop)]
 pub struct OwnedSession {
     alloc: Global,
-    table: Table,
+    table: Arc<Table>,
     limits: Limits,
     steps: u64,
     rest: Rest,
@@ -27,6 +30,7 @@ pub struct OwnedSession {
 
 impl Model for OwnedSession {
     ghost use Rattle.std.specs.Prelude.{◌≡◌};
+    ghost use Rattle.std.specs.Arc.{arc_value};
     ghost use Rattle.seq_run.specs.Judge.{judge_of};
     ghost use Rattle.seq_run.specs.Progress.{Progress, coded_progress};
     ghost use Rattle.seq_run.specs.Rest.{AreRest, progress_of};
@@ -35,16 +39,16 @@ impl Model for OwnedSession {
 
     ghost coded = { coded_progress };
 
-    ghost view = { λ s. progress_of (judge_of s.table s.steps) s.rest };
+    ghost view = { λ s. progress_of (judge_of (arc_value s.table) s.steps) s.rest };
 
-    ghost invariant = { λ s. AreRest (judge_of s.table s.steps) s.rest × (s.rest.reader.limits ≡ s.limits) };
+    ghost invariant = { λ s. AreRest (judge_of (arc_value s.table) s.steps) s.rest × (s.rest.reader.limits ≡ s.limits) };
 }
 
 impl OwnedSession {
     /// A session at the first byte of a stream. Of each item the specification may ask so many questions, its steps.
     /// Takes no memory.
-    pub fn new(alloc: Global, table: Table, limits: Limits, steps: u64) -> OwnedSession
-        ensures { result ≡ record { judge = judge_of table steps; limits = limits; fed = []; taken = []; stopped = None } }
+    pub fn new(alloc: Global, table: Arc<Table>, limits: Limits, steps: u64) -> OwnedSession
+        ensures { result ≡ record { judge = judge_of (arc_value table) steps; limits = limits; fed = []; taken = []; stopped = None } }
     {
         let rest = Session::new(alloc, &table, limits, steps).into_rest();
         OwnedSession {

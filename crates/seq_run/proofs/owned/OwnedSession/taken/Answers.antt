@@ -10,4 +10,4 @@ pub returns : goal.returns
 returns c =
     let s = c.self.inside in
     let r = s.rest in
-    subst (λ (p : Progress). IsCount p r.count.items r.count.offset) c.self.view_is (count_of (judge_of s.table s.steps) r.fed (map found_of r.taken) r.reader r.count.items r.count.offset r.count.bytes r.rejected r.stopped c.self.invariant.0)
+    subst (λ (p : Progress). IsCount p r.count.items r.count.offset) c.self.view_is (count_of (judge_of s.table.value s.steps) r.fed (map found_of r.taken) r.reader r.count.items r.count.offset r.count.bytes r.rejected r.stopped c.self.invariant.0)
