@@ -64,7 +64,7 @@ pub(crate) const BAD_SIMPLE: &str =
     "a byte below 32 follows f8: these simple values have a spelling of one byte, or none\nExample, by the specification a = any and the bytes f8 10:\n\nfailed: 0 items, offset 0: bad simple value at byte 1";
 
 pub(crate) const TOO_DEEP: &str =
-    "more containers are round a place than --depth allows, which is 256 unless it is given\nExample, by the specification a = any, with --depth 1 and the bytes 81 81 00:\n\nfailed: 0 items, offset 0: too deep at byte 2";
+    "more containers are round a place than --depth allows, which is 256 unless it is given\nExample, by the specification a = any, with --depth 1 and the bytes 81 81 00:\n\nfailed: 0 items, offset 0: too deep at byte 1";
 
 pub(crate) const TOO_LONG: &str =
     "the item has more bytes than --item-bytes allows, which is 16777216 unless it is given\nExample, by the specification a = any, with --item-bytes 1 and the bytes 18 18:\n\nfailed: 0 items, offset 0: item too long at byte 1";
