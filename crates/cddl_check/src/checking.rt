@@ -16,7 +16,7 @@ use tree_nodes::{Tree, discard};
 /// rule. A refusal drops the tree.
 ///
 /// The time and the memory are those of the stages together: n log n for a text of n bytes until the instances are known, of
-/// which there may be 1,024; then in proportion to the rows of these. Nothing recurses.
+/// which there may be 4,096; then in proportion to the rows of these. Nothing recurses.
 ///
 /// # Errors
 ///

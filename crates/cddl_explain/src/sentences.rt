@@ -58,7 +58,7 @@ pub(crate) const HASH_FORM: &str =
 
 pub(crate) const UNKNOWN_CONTROL: &str = "a control is not one of those above";
 
-pub(crate) const TOO_MANY_INSTANCES: &str = "there are more than 1,024 instances";
+pub(crate) const TOO_MANY_INSTANCES: &str = "there are more than 4,096 instances";
 
 pub(crate) const NOT_UNWRAPPABLE: &str =
     "~ opens nothing, or a group where a type has to stand; or & cannot choose: an entry may occur other than once, or a group comes back to itself";

@@ -20,7 +20,7 @@ use Rattle.cddl_language.specs.Reading.{definition_of, occurrence, name_in, para
 use Rattle.cddl_language.specs.Environment.{definitions_of}
 use Rattle.cddl_language.specs.Substitution.{type_choices, group_choices}
 use Rattle.cddl_language.specs.Kinds.{asks_type, opens_group, opened, part_of, is_group, is_group_definition}
-use Rattle.cddl_language.specs.Reach.{Reaches, at_root, onward, Point, ref_at, at_name, at_choice, at_opened_choice, points_in}
+use Rattle.cddl_language.specs.Reach.{Reaches, at_root, onward, Point, ref_at, at_name, at_choice, at_opened_choice, most_instances, points_in}
 use Rattle.cddl_language.specs.Literals.{Values}
 use Rattle.cddl_language.specs.Free as R
 use Rattle.cddl_language.specs.Free.{IsFree, IsFreeInSome, IsFreeInChoice, IsFreeInMeaning, IsOnCycle, LeadsOn}
@@ -228,10 +228,10 @@ module _ (worth : Values) (at : ℕ) where
   few_instances : F.HasTooManyInstances T.lists (codes "t") at → ⊥
   few_instances f = f.distinct 0 1 t (omega arith) (two f.many) (one 0 (some f.many) ∙ sym (one 1 (two f.many)))
     where
-      two : 1024 < length f.instances → 1 < length f.instances
+      two : most_instances < length f.instances → 1 < length f.instances
       two h = omega arith
 
-      some : 1024 < length f.instances → 0 < length f.instances
+      some : most_instances < length f.instances → 0 < length f.instances
       some h = omega arith
 
       one : (i : ℕ) → i < length f.instances → slice_index_or f.instances i t ≡ t

@@ -5,7 +5,7 @@ use Rattle.lists.proofs.Lemmas.{beyond_zero as below_zero}
 use Rattle.cddl_token.specs.declared.Code.TheVariants as C
 use Rattle.cddl_language.specs.Terms.{Term, array_of, Ref, call, no_terms, term, sole, entries, no_entries, typed}
 use Rattle.cddl_language.specs.Prelude.{prelude}
-use Rattle.cddl_language.specs.Reach.{Point, Reaches, at_root, onward, at_name, points, points_in}
+use Rattle.cddl_language.specs.Reach.{Point, Reaches, at_root, onward, at_name, most_instances, points, points_in}
 use Rattle.cddl_language.specs.Literals.{Values}
 use Rattle.cddl_language.specs.Examples as E
 use Rattle.cddl_language.specs.Faults.{IsFaultAt, definitions}
@@ -82,4 +82,4 @@ distinct n i j d h k e = other (n) i j _ _ h (subst (λ m. j < m) (as_long n) k)
     other n i j a b h k e f g = omega arith
 
 pub too_many : (worth : Values) → IsFaultAt T.endless worth C.TooManyInstances 0
-too_many worth = record { instances = down 1025; reached = all_reached 1025; distinct = distinct 1025; many = subst (λ n. 1024 < n) (sym (as_long 1025)) (omega arith); offset = refl }
+too_many worth = record { instances = down 4097; reached = all_reached 4097; distinct = distinct 4097; many = subst (λ n. most_instances < n) (sym (as_long 4097)) (omega arith); offset = refl }

@@ -84,4 +84,4 @@ pub data IsPresent (ds : List Definition) (root : Text) : Point → Type 0 where
 
 -- how many instances there may be: a limit of this program
 abbrev pub most_instances : ℕ
-most_instances = 1024
+most_instances = 4096

@@ -16,7 +16,7 @@ use table_nodes::Table;
 /// The table of the specification that the text is (RFC 8610). Its root is the given name, or that of the first rule.
 ///
 /// The time and the memory are those of the stages together: n log n for a text of n bytes until the instances are known, of
-/// which there may be 1,024; then in proportion to the rows of these and to the forms of the table, whose ranks are sorted. The text has at most
+/// which there may be 4,096; then in proportion to the rows of these and to the forms of the table, whose ranks are sorted. The text has at most
 /// 1,048,576 bytes.
 ///
 /// # Errors

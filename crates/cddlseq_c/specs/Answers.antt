@@ -17,6 +17,7 @@ use Rattle.cddlseq_c.specs.declared.stop.Stop.TheVariants as stop
 use Rattle.cddlseq_c.specs.declared.told.CddlseqEnd.{CddlseqEnd}
 use Rattle.cddlseq_c.specs.declared.told.CddlseqLimits.{CddlseqLimits}
 use Rattle.cddlseq_c.specs.declared.told.CddlseqRefusal.{CddlseqRefusal}
+use Rattle.cbor_read.specs.declared.limits.TheConstants.{MOST_ITEM_BYTES}
 use Rattle.cddlseq_c.specs.declared.told.TheConstants.{OK, NO_MEMORY, BAD_WANTED, BAD_OFFSETS, NO_ROOM}
 use Rattle.cddlseq_c.specs.declared.wanted.Wanted.{Wanted}
 use Rattle.cddlseq_c.specs.Held.{Held}
@@ -30,7 +31,7 @@ root_name (b ∷ bs) = Some (b ∷ bs)
 
 -- A limit is 0, or over the greatest.
 abbrev pub AreOutside : CddlseqLimits → Type 0
-AreOutside limits = ((limits.depth ≡ 0) ⊎ (256 < limits.depth)) ⊎ ((limits.item_bytes ≡ 0) ⊎ (16777216 < limits.item_bytes))
+AreOutside limits = ((limits.depth ≡ 0) ⊎ (256 < limits.depth)) ⊎ ((limits.item_bytes ≡ 0) ⊎ (MOST_ITEM_BYTES < limits.item_bytes))
 
 -- Why the text has no table, where its root is no name or has this one.
 abbrev pub IsUnread : List ℕ → Option (List ℕ) → Stop → Type 0

@@ -24,7 +24,7 @@ use check_terms::{Body, Definition, Form, NoRoom, Row, Terms, push};
 use std::alloc::Global;
 
 /// How many instances there may be.
-pub const MOST_INSTANCES: usize = 1024;
+pub const MOST_INSTANCES: usize = 4096;
 
 /// A closed reference that the root leads to, and what it means.
 #[derive(Drop)]

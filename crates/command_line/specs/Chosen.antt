@@ -9,7 +9,7 @@ use Rattle.clap.specs.declared.builder.value_parser.ValueParser.TheVariants.{Sig
 use Rattle.command_line.specs.declared.choice.Options.{Options}
 use Rattle.command_line.specs.declared.choice.Task.{Task}
 use Rattle.command_line.specs.declared.choice.Task.TheVariants.{Check, Validate, Rewrite, Show, Explain}
-use Rattle.command_line.specs.declared.choice.TheConstants.{STEPS}
+use Rattle.command_line.specs.declared.choice.TheConstants.{ITEM_BYTES, STEPS}
 use Rattle.command_line.specs.declared.choice.Use.{Use}
 use Rattle.command_line.specs.declared.choice.Use.TheVariants.{Words, Memory}
 
@@ -127,13 +127,13 @@ abbrev pub IsNumber : ℕ → Option Text → ℕ → Type 0
 IsNumber most None n = ⊥
 IsNumber most (Some text) n = IsNumeral 10 (without_leading_plus text) × (n ≡ digits_value 10 (without_leading_plus text)) × (1 ≤ n) × (n ≤ most)
 
--- the number of an option of a stream: that of its text, and the greatest one where the task has no stream
-abbrev pub IsStreamNumber : Task → ℕ → Option Text → ℕ → Type 0
-IsStreamNumber Check most text n = n ≡ most
-IsStreamNumber Validate most text n = IsNumber most text n
-IsStreamNumber Rewrite most text n = IsNumber most text n
-IsStreamNumber Show most text n = IsNumber most text n
-IsStreamNumber Explain most text n = n ≡ most
+-- the number of an option of a stream: that of its text, and the default where the task has no stream
+abbrev pub IsStreamNumber : Task → (default most : ℕ) → Option Text → ℕ → Type 0
+IsStreamNumber Check default most text n = n ≡ default
+IsStreamNumber Validate default most text n = IsNumber most text n
+IsStreamNumber Rewrite default most text n = IsNumber most text n
+IsStreamNumber Show default most text n = IsNumber most text n
+IsStreamNumber Explain default most text n = n ≡ default
 
 -- the steps of a task: those of its option, and the default where it has none
 abbrev pub AreTaskSteps : Task → Option Text → ℕ → Type 0
@@ -156,8 +156,8 @@ pub record AreRead (task : Task) (rows : List Row) (o : Options) : Type 0 where
   pub root : option_map (λ s. string_bytes s) o.root ≡ first_of (codes "root") rows
   pub file : option_map (λ s. string_bytes s) o.file ≡ first_of (codes "file") rows
   pub steps : AreTaskSteps task (one_of (codes "steps") rows) o.steps
-  pub depth : IsStreamNumber task MOST_DEPTH (one_of (codes "depth") rows) o.depth
-  pub item_bytes : IsStreamNumber task MOST_ITEM_BYTES (one_of (codes "item-bytes") rows) o.item_bytes
+  pub depth : IsStreamNumber task MOST_DEPTH MOST_DEPTH (one_of (codes "depth") rows) o.depth
+  pub item_bytes : IsStreamNumber task ITEM_BYTES MOST_ITEM_BYTES (one_of (codes "item-bytes") rows) o.item_bytes
   pub quiet : o.quiet ≡ is_set (first_of (codes "quiet") rows)
   pub deterministic : o.deterministic ≡ is_set (first_of (codes "deterministic") rows)
 
@@ -174,8 +174,8 @@ pub record AreChosen (o : Options) (words : List Text) : Type 0 where
   pub root : option_map (λ s. string_bytes s) o.root ≡ given_text (codes "root") words
   pub file : option_map (λ s. string_bytes s) o.file ≡ given_text (codes "file") words
   pub steps : AreTaskSteps o.task (given_number (codes "steps") words) o.steps
-  pub depth : IsStreamNumber o.task MOST_DEPTH (given_number (codes "depth") words) o.depth
-  pub item_bytes : IsStreamNumber o.task MOST_ITEM_BYTES (given_number (codes "item-bytes") words) o.item_bytes
+  pub depth : IsStreamNumber o.task MOST_DEPTH MOST_DEPTH (given_number (codes "depth") words) o.depth
+  pub item_bytes : IsStreamNumber o.task ITEM_BYTES MOST_ITEM_BYTES (given_number (codes "item-bytes") words) o.item_bytes
   pub quiet : o.quiet ≡ is_set (given_text (codes "quiet") words)
   pub deterministic : o.deterministic ≡ is_set (given_text (codes "deterministic") words)
 

@@ -1,6 +1,7 @@
 //! What the words of the command line say.
 
 ghost use Rattle.std.specs.Prelude.{◌≡◌, ◌≤◌};
+ghost use Rattle.cbor_read.specs.declared.limits.TheConstants.{MOST_ITEM_BYTES};
 ghost use Rattle.command_line.specs.Errors.{IsUseOf};
 ghost use Rattle.command_line.specs.declared.choice.Use.TheVariants.{Memory as OutOfMemory};
 
@@ -10,6 +11,9 @@ use std::alloc::AllocError;
 
 /// How many questions a specification may ask of one item, where no option says it.
 pub const STEPS: u64 = 10_000_000;
+
+/// The most bytes of an item, where no other number is given.
+pub const ITEM_BYTES: u32 = 16_777_216;
 
 /// What the program is asked to do.
 #[derive(Clone, Copy, Debug, PartialEq, Eq)]
@@ -43,14 +47,14 @@ pub struct Options {
     pub steps: u64,
     /// The greatest depth of an item, from 1 to 256.
     pub depth: u32,
-    /// The most bytes of an item, from 1 to 16,777,216.
+    /// The most bytes of an item, from 1 to 67,108,864.
     pub item_bytes: u32,
     /// Whether a stream is validated without a line for each item.
     pub quiet: bool,
     /// Whether items are rewritten in deterministic encoding (RFC 8949 section 4.2.1), and not in preferred encoding.
     pub deterministic: bool,
     pub ghost depth_in_range: { (1 ≤ depth) × (depth ≤ 256) },
-    pub ghost item_bytes_in_range: { (1 ≤ item_bytes) × (item_bytes ≤ 16777216) },
+    pub ghost item_bytes_in_range: { (1 ≤ item_bytes) × (item_bytes ≤ MOST_ITEM_BYTES) },
 }
 
 /// Why the words say nothing.

@@ -11,7 +11,7 @@ mod text;
 mod words;
 
 pub use crate::arguments::{options_of_arguments, say_no_text};
-pub use crate::choice::{Options, STEPS, Task, Use};
+pub use crate::choice::{ITEM_BYTES, Options, STEPS, Task, Use};
 pub use crate::lines::{
     say, say_no_memory, say_read_failed, say_unexplained, say_unopened, say_words, say_write_failed,
 };

@@ -5,7 +5,7 @@ ghost use Rattle.clap.specs.Words.{app_of, first_value, found_of, one_text, rows
 ghost use Rattle.clap.specs.declared.builder.command.Command.TheViews.{out-Command};
 ghost use Rattle.command_line.specs.Chosen.{check_app, code_rule, explain_app, file_rule, flag_rule, is_set, judging_app, most_steps, number_rule, program_app, rewrite_app, root_rule, show_app, spec_app, spec_rule, steps_rule, stream_app, top_app, validate_app, AreChosen, AreRead, AreTaskSteps, AreUnread, IsMisuse, IsNumber, IsStreamNumber, IsToldOf};
 
-use crate::choice::{Options, STEPS, Task, Use};
+use crate::choice::{ITEM_BYTES, Options, STEPS, Task, Use};
 use crate::shown::push_shown;
 use cbor_read::{MOST_DEPTH, MOST_ITEM_BYTES};
 use clap::builder::ValueParser;
@@ -85,8 +85,8 @@ Exit status:
 /// Reads the words of the command line, the program's name first: `check SPEC`, `validate SPEC [FILE]`,
 /// `rewrite SPEC [FILE]`, `show [FILE]` or `explain CODE`; where there is a SPEC with `--root NAME`; where there is a stream with
 /// `--depth N`, from 1 to [`MOST_DEPTH`], and `--item-bytes N`, from 1 to [`MOST_ITEM_BYTES`]; where there are both with
-/// `--steps N`, from 1; `validate` with `--quiet`, and `rewrite` with `--deterministic`. The greatest number is the default of
-/// the limits, and [`STEPS`] that of the steps; so are they where a command has no such option.
+/// `--steps N`, from 1; `validate` with `--quiet`, and `rewrite` with `--deterministic`. The defaults are [`MOST_DEPTH`],
+/// [`ITEM_BYTES`] and [`STEPS`], also where a command has no such option.
 ///
 /// # Errors
 ///
@@ -173,10 +173,12 @@ fn options_of(alloc: Global, task: Task, given: &ArgMatches<'_>) -> Result<Optio
     let spec = value(alloc, given, "spec")?;
     let file = value(alloc, given, "file")?;
     let root = value(alloc, given, "root")?;
-    let Some(depth) = stream_number(task, given, "depth", MOST_DEPTH) else {
+    let Some(depth) = stream_number(task, given, "depth", MOST_DEPTH, MOST_DEPTH) else {
         return Err(range_error(alloc));
     };
-    let Some(item_bytes) = stream_number(task, given, "item-bytes", MOST_ITEM_BYTES) else {
+    let Some(item_bytes) =
+        stream_number(task, given, "item-bytes", ITEM_BYTES, MOST_ITEM_BYTES)
+    else {
         return Err(range_error(alloc));
     };
     let Some(steps) = task_steps(task, given) else {
@@ -196,19 +198,25 @@ fn options_of(alloc: Global, task: Task, given: &ArgMatches<'_>) -> Result<Optio
     })
 }
 
-// The number of an option of a stream, if it is one from 1 to `most`. Where the task has no stream it is `most`.
-fn stream_number(task: Task, given: &ArgMatches<'_>, name: &str, most: u32) -> Option<u32>
-    requires { 1 ≤ most }
-    ensures some { IfSome result (IsStreamNumber task most (one_text (found_of given.now) name.now)) }
+// The number of an option of a stream, if it is one from 1 to `most`. Where the task has no stream it is the default.
+fn stream_number(
+    task: Task,
+    given: &ArgMatches<'_>,
+    name: &str,
+    default: u32,
+    most: u32,
+) -> Option<u32>
+    requires { (1 ≤ default) × (default ≤ most) }
+    ensures some { IfSome result (IsStreamNumber task default most (one_text (found_of given.now) name.now)) }
     ensures range { IfSome result (λ n. (1 ≤ n) × (n ≤ most)) }
-    ensures none { IfNone result ((n : ℕ) → IsStreamNumber task most (one_text (found_of given.now) name.now) n → ⊥) }
+    ensures none { IfNone result ((n : ℕ) → IsStreamNumber task default most (one_text (found_of given.now) name.now) n → ⊥) }
 {
     match task {
-        Task::Check => Some(most),
+        Task::Check => Some(default),
         Task::Validate => number(given, name, most),
         Task::Rewrite => number(given, name, most),
         Task::Show => number(given, name, most),
-        Task::Explain => Some(most),
+        Task::Explain => Some(default),
     }
 }
 
@@ -375,7 +383,7 @@ fn with_stream<'a>(alloc: Global, command: Command<'a>) -> Result<Command<'a>, A
         .arg(number_arg(
             alloc,
             "item-bytes",
-            "The most bytes of an item, 1 to 16777216",
+            "The most bytes of an item, 1 to 67108864",
             MOST_ITEM_BYTES,
             "16777216",
         ))

@@ -2,13 +2,13 @@
 
 ghost use Rattle.std.specs.Prelude.{◌≡◌, ◌+◌, ◌^◌, ◌≤◌, ◌||◌, ◌++◌, ℕ, [], ◌∷◌, IfOk, max, nat_lt, slice_get};
 ghost use Rattle.std.specs.List.Sorted.{IsNonDecreasingBy};
-ghost use Rattle.std.specs.Rc.{rc_slice_items};
+ghost use Rattle.std.specs.Arc.{arc_slice_items};
 ghost use Rattle.cddl_meaning.specs.Alike.{SameTest};
 ghost use Rattle.cddl_meaning.specs.Forms.{fits_in, is_member, sized};
 ghost use Rattle.table_nodes.specs.Sizes.{AreInOrder, BeginBy, are_in_order_once, begins_by, size_view, sizes_view};
 
 use std::alloc::{AllocError, Global};
-use std::rc::RcSlice;
+use std::sync::ArcSlice;
 
 /// Numbers of bytes, from the first to the last. There is none in it where the last is below the first.
 #[derive(Clone, Copy, Debug, PartialEq, Eq)]
@@ -23,8 +23,8 @@ pub struct SizeRange {
 #[derive(Drop)]
 pub struct SizeSet {
     /// No range is empty, and each is after a gap.
-    ranges: RcSlice<SizeRange>,
-    pub ghost in_order: { AreInOrder (rc_slice_items ranges) } by { are_in_order_once (rc_slice_items ranges) },
+    ranges: ArcSlice<SizeRange>,
+    pub ghost in_order: { AreInOrder (arc_slice_items ranges) } by { are_in_order_once (arc_slice_items ranges) },
 }
 
 impl SizeSet {
@@ -44,7 +44,7 @@ impl SizeSet {
         let mut ranges = ranges;
         sort(&mut ranges);
         let merged = merged(alloc, &ranges)?;
-        let ranges = RcSlice::from_slice(alloc, &merged)?;
+        let ranges = ArcSlice::from_slice(alloc, &merged)?;
         Ok(SizeSet { ranges })
     }
 

@@ -8,7 +8,7 @@ use check_terms::{Form, Terms};
 use graphs::chains::Link;
 use std::alloc::{AllocError, Global};
 
-/// The number of no link: there are no more than 1,024.
+/// The number of no link: there are no more than 4,096.
 const NOWHERE: usize = 0xffff_ffff;
 
 // For each instance how `~` of it leads on: from one choice that is a name to the instance of that name, and from one other

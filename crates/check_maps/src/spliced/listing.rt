@@ -26,8 +26,8 @@ use check_terms::laws::equal_numbers;
 use graphs::implications::following;
 use std::alloc::{AllocError, Global};
 
-/// How many facts there may be: two for each of 1,024 instances.
-const FACTS: usize = 2_048;
+/// How many facts there may be: two for each of 4,096 instances.
+const FACTS: usize = 8_192;
 
 /// An entry of the text that is spliced into a map.
 #[derive(Clone, Copy)]

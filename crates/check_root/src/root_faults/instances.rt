@@ -8,7 +8,7 @@ ghost use Rattle.check_terms.specs.Table.{Table};
 
 use check_instances::Found;
 
-/// 0, where the root leads to more instances than may be (C10), of which there are 1,024 at most; else None.
+/// 0, where the root leads to more instances than may be (C10), of which there are 4,096 at most; else None.
 pub fn too_many(found: &Found) -> Option<usize>
     ensures { (s : Specification) (root : Text) (t : Table) → IsFound (definitions s) root t found.now → IsLeast (HasTooManyInstances s root) result }
 {

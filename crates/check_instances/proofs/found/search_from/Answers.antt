@@ -1,6 +1,7 @@
 use Rattle.std.proofs.Common.{◌≡◌, ◌<◌, ◌≤◌, Some, None, length, slice_get, refl, sym, subst, ap, ◌∙◌, arith}
 use Rattle.std.proofs.lemmas.Option.{slice_get_within}
 use Rattle.lists.proofs.Lemmas.{length_push}
+use Rattle.cddl_language.specs.Reach.{most_instances}
 use Rattle.check_instances.proofs.Ending.{IsGoing, going_begun, going_ended, going_on, too_many}
 use Rattle.check_instances.proofs.Meaning.{meanings_kept}
 use Rattle.check_instances.proofs.found.search_from.Goals as goal
@@ -22,7 +23,7 @@ pub loop-call-smaller : goal.loop-call-smaller
 loop-call-smaller c =
     let within = slice_get_within c.loop-call.search.refs.items c.len.result c.in-Some.call (sym c.reference.ensures ∙ c.in-Some.is) in
     let more = ap length c.in_ok-push.ensures ∙ length_push c.loop-call.found.items c.in_ok-instance.instance in
-    let few : length c.loop-call.search.refs.items ≤ 1024 = omega (arith, c.if-len-gt-MOST_INSTANCES.false, c.len-in-Some.ensures, c.loop-call.search.refs.ok.0) in
+    let few : length c.loop-call.search.refs.items ≤ most_instances = omega (arith, c.if-len-gt-MOST_INSTANCES.false, c.len-in-Some.ensures, c.loop-call.search.refs.ok.0) in
     omega (arith, within, more, few, c.len.ensures, c.loop-call.found.ok.0)
 
 pub loop-call-preserved : goal.loop-call-preserved
@@ -41,7 +42,7 @@ loop-call-preserved c =
     let next = subst (λ j. slice_get s.refs.items j ≡ Some c.in-Some.call) (c.len.ensures ∙ c.loop-call.found.ok.0) there in
     let within = slice_get_within s.refs.items (length found) c.in-Some.call next in
     let more = ap length c.in_ok-push.ensures ∙ length_push found one in
-    let all_few : length s.refs.items ≤ 1024 = omega (arith, c.if-len-gt-MOST_INSTANCES.false, c.len-in-Some.ensures, c.loop-call.search.refs.ok.0) in
+    let all_few : length s.refs.items ≤ most_instances = omega (arith, c.if-len-gt-MOST_INSTANCES.false, c.len-in-Some.ensures, c.loop-call.search.refs.ok.0) in
     record {
       grown = keeps.further start old new inv.grown follows.grows;
       texts = follows.texts ∙ inv.texts;
@@ -56,7 +57,7 @@ pub returns-then-len-gt-MOST_INSTANCES-clause-found : goal.returns-then-len-gt-M
 returns-then-len-gt-MOST_INSTANCES-clause-found c = λ xs n means h.
     let s = c.loop-call.search in
     let so = c.loop-call.invariant.going xs n means h in
-    let many : 1024 < length s.refs.items = omega (arith, c.if-len-gt-MOST_INSTANCES.true, c.len-in-Some.ensures, c.loop-call.search.refs.ok.0) in
+    let many : most_instances < length s.refs.items = omega (arith, c.if-len-gt-MOST_INSTANCES.true, c.len-in-Some.ensures, c.loop-call.search.refs.ok.0) in
     too_many xs n c.loop-call.terms c.equal_numbers.ensures.reference so.from _ s.marks.items s.waiting.items s.refs.items so.search many
 
 pub returns-clause-found : goal.returns-clause-found
