@@ -144,7 +144,7 @@ struct cddlseq_end {
 struct cddlseq_limits {
     /* How many containers may be round a place of it, from 1 to 256. */
     uint32_t depth;
-    /* How many bytes, from 1 to 16777216. */
+    /* How many bytes, from 1 to 67108864. */
     uint32_t item_bytes;
     /* How many questions may be asked about it. */
     uint64_t steps;

@@ -91,7 +91,7 @@ static void validate(void) {
     EXPECT(cddlseq_validate(TEXT("a = b\n"), TEXT(""), BYTES("\x01"), &limits, &refusal, &end) == CDDLSEQ_REFUSED && is_untold(&end));
     EXPECT(cddlseq_validate(TEXT(map), TEXT("\x80"), BYTES("\x01"), &limits, &refusal, &end) == CDDLSEQ_BAD_ROOT && is_untold(&end));
     for (int number = 0; number < 4; number++) {
-        const struct cddlseq_limits bad[] = {{0, 1, 1}, {257, 1, 1}, {1, 0, 1}, {1, 16777217, 1}};
+        const struct cddlseq_limits bad[] = {{0, 1, 1}, {257, 1, 1}, {1, 0, 1}, {1, 67108865, 1}};
         EXPECT(cddlseq_validate(TEXT(map), TEXT(""), BYTES("\x01"), &bad[number], &refusal, &end) == CDDLSEQ_BAD_LIMITS);
         EXPECT(is_untold(&end) && refusal.code == CDDLSEQ_NOT_REFUSED);
     }

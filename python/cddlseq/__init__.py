@@ -167,7 +167,7 @@ class Specification:
     """A specification: a text in CDDL, the name of its root, or None for the first rule, and what an item may have.
 
     depth        how many containers may be round a place of an item, from 1 to 256
-    item_bytes   how many bytes an item may have, from 1 to 16,777,216
+    item_bytes   how many bytes an item may have, from 1 to 67,108,864
     steps        how many questions may be asked about an item
     """
 
@@ -175,7 +175,7 @@ class Specification:
         self, text: str | bytes, root: str | None = None, *, depth: int = 256, item_bytes: int = 16_777_216, steps: int = 10_000_000,
     ):
         """Raises Refused where the text is no specification, and ValueError where the root or a limit is none."""
-        for limit, most in (depth, 256), (item_bytes, 16_777_216), (steps, 2**64 - 1):
+        for limit, most in (depth, 256), (item_bytes, 67_108_864), (steps, 2**64 - 1):
             if not 0 < limit <= most:
                 raise ValueError(f"a limit of {limit} is not from 1 to {most}")
         self._text = text.encode() if isinstance(text, str) else bytes(text)

@@ -27,7 +27,7 @@ COMMANDS = {
     "rewrite": {"--root", "--depth", "--item-bytes", "--steps", "--deterministic"},
 }
 FLAGS = {"--quiet", "--deterministic"}
-MOST = {"--depth": 256, "--item-bytes": 16_777_216, "--steps": 2**64 - 1}
+MOST = {"--depth": 256, "--item-bytes": 67_108_864, "--steps": 2**64 - 1}
 
 
 class Stop(Exception):

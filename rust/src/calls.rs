@@ -39,7 +39,7 @@ pub struct End {
 pub struct Limits {
     /// How many containers may be round a place of it, from 1 to 256.
     pub depth: u32,
-    /// How many bytes, from 1 to 16,777,216.
+    /// How many bytes, from 1 to 67,108,864.
     pub item_bytes: u32,
     /// How many questions may be asked about it.
     pub steps: u64,
