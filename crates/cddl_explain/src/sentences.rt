@@ -73,7 +73,7 @@ pub(crate) const BAD_RANGE: &str =
     "an end of a range is no whole number; or the minimum of an occurrence is over its maximum";
 
 pub(crate) const BAD_CONTROLLER: &str =
-    "what stands on the right of .lt, .le, .gt or .ge is a literal and no whole number; what stands on the right of .size is no choice of unsigned numbers and ranges of them; a joined text is not UTF-8";
+    "what stands on the right of .lt, .le, .gt or .ge is a literal and no whole number; what stands on the right of .size or .bits is no choice of unsigned numbers and ranges of them; a joined text is not UTF-8";
 
 pub(crate) const NO_KEY: &str = "an entry of a map has no key and is no group";
 
