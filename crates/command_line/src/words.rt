@@ -176,8 +176,7 @@ fn options_of(alloc: Global, task: Task, given: &ArgMatches<'_>) -> Result<Optio
     let Some(depth) = stream_number(task, given, "depth", MOST_DEPTH, MOST_DEPTH) else {
         return Err(range_error(alloc));
     };
-    let Some(item_bytes) =
-        stream_number(task, given, "item-bytes", ITEM_BYTES, MOST_ITEM_BYTES)
+    let Some(item_bytes) = stream_number(task, given, "item-bytes", ITEM_BYTES, MOST_ITEM_BYTES)
     else {
         return Err(range_error(alloc));
     };
