@@ -4,7 +4,7 @@
 -- names of types, S those of groups.
 use Rattle.std.specs.Prelude.{◌≡◌, ℕ, List, [], ◌∷◌}
 use Rattle.cbor_data.specs.Value.{Value}
-use Rattle.cddl_meaning.specs.Forms.{Test, passes, TagNumber, any_number, exactly, such_as, Content, MapEntry, Node, Plain, Ref, Choice, ArrayOf, TagOf, SimpleBy, MapOf, Both, Such, Holding, Most, Group, Entry, GroupRef, Sequence, Alternatives, Repeat, Language}
+use Rattle.cddl_meaning.specs.Forms.{Test, passes, bits_asked, TagNumber, any_number, exactly, such_as, Content, MapEntry, Node, Plain, Ref, Choice, ArrayOf, TagOf, SimpleBy, MapOf, Both, Such, Holding, Most, Group, Entry, GroupRef, Sequence, Alternatives, Repeat, Language}
 
 -- as many names, related one by one in their order
 pub data AlikeAll {N M : Type 0} (R : N → M → Type 0) : List N → List M → Type 0 where
@@ -31,6 +31,10 @@ pub data AlikeMaps {N M : Type 0} (R : N → M → Type 0) : List (List (MapEntr
 abbrev pub SameTest : Test → Test → Type 0
 SameTest t u = (x : Value) → passes t x ≡ passes u x
 
+-- about as many bits of each item
+abbrev pub SameBits : Test → Test → Type 0
+SameBits t u = (x : Value) → bits_asked t x ≡ bits_asked u x
+
 -- the same form of type, of related parts
 pub data AlikeTypes {N G M H : Type 0} (R : N → M → Type 0) (S : G → H → Type 0) : Node N G → Node M H → Type 0 where
   plain : {t : Test} → AlikeTypes R S (Plain t) (Plain t)
@@ -41,7 +45,7 @@ pub data AlikeTypes {N G M H : Type 0} (R : N → M → Type 0) (S : G → H →
   simples : {n : N} {m : M} → R n m → AlikeTypes R S (SimpleBy n) (SimpleBy m)
   maps : {dss : List (List (MapEntry N))} {ess : List (List (MapEntry M))} → AlikeMaps R dss ess → AlikeTypes R S (MapOf dss) (MapOf ess)
   boths : {n o : N} {m q : M} → R n m → R o q → AlikeTypes R S (Both n o) (Both m q)
-  suches : {n : N} {m : M} {t u : Test} → R n m → SameTest t u → AlikeTypes R S (Such n t) (Such m u)
+  suches : {n : N} {m : M} {t u : Test} → R n m → SameTest t u → SameBits t u → AlikeTypes R S (Such n t) (Such m u)
   holdings : {n o : N} {m q : M} {c : Content} → R n m → R o q → AlikeTypes R S (Holding n c o) (Holding m c q)
 
 -- the same form of group, of related parts, and as often

@@ -1,13 +1,13 @@
 -- Forms of types and groups (RFC 8610 sections 2 and 3), whose parts are named in some way: by numbers of a table, or by
 -- the trees of a specification themselves.
-use Rattle.std.specs.Prelude.{ℕ, ◌^◌, length, List, [], ◌∷◌, Option, Some, None, Bool, true, false, nat_lt, nat_le, nat_eq, ◌&&◌, ◌||◌, not}
+use Rattle.std.specs.Prelude.{ℕ, zero, suc, ◌*◌, ◌/◌, ◌%◌, ◌^◌, length, List, [], ◌∷◌, filter, get_or, Option, Some, None, Bool, true, false, nat_lt, nat_le, nat_eq, ◌&&◌, ◌||◌, not, bit_and}
 use Rattle.cbor_data.specs.declared.Width.{Width}
 use Rattle.cbor_data.specs.Same.{same_value, same_width}
 use Rattle.cbor_data.specs.Value.{Value, uint, nint, bytes, text, array, pairs, tag, simple, float, Values, no_values, value, Pairs}
 
 -- What is asked of an item by itself (RFC 8610 sections 2.2.1, 2.2.2.1 and 2.2.3): `any` and `#`, a major type, a simple
--- value, a float of one width, a value, or a range; and what the controls `.ne`, `.lt`, `.le`, `.gt`, `.ge` and `.size`
--- ask (section 3.8; `.eq` asks for a value).
+-- value, a float of one width, a value, or a range; and what the controls `.ne`, `.lt`, `.le`, `.gt`, `.ge`, `.size` and
+-- `.bits` ask (section 3.8; `.eq` asks for a value).
 pub data Test : Type 0 where
   anything : Test
   of_major : ℕ → Test
@@ -24,6 +24,8 @@ pub data Test : Type 0 where
   at_least_number : Value → Test
   -- as many bytes as a member of these ranges says, each a first and a last number
   sized : List (ℕ × ℕ) → Test
+  -- each bit that is set has a number that is a member of these ranges; it stands only as the test of a control
+  bits_among : List (ℕ × ℕ) → Test
 
 -- the major type (RFC 8949 section 3.1)
 abbrev pub major_of : Value → ℕ
@@ -78,6 +80,30 @@ has_size rs (bytes b) = is_member (length b) rs
 has_size rs (text b) = is_member (length b) rs
 has_size rs _ = false
 
+-- the bit of value 2^k is set in the number n
+abbrev pub has_bit : (n k : ℕ) → Bool
+has_bit n k = not (nat_eq (bit_and n (2 ^ k)) 0)
+
+abbrev pub numbers_below : ℕ → List ℕ
+numbers_below zero = []
+numbers_below (suc n) = n ∷ numbers_below n
+
+-- The numbers of the bits that are set (section 3.8.2): of an unsigned number bit k is the one of value 2^k; bit k of a byte
+-- string s is set where `s[k >> 3] & (1 << (k & 7))` is not 0, so bit 0 is the lowest of the first byte. Items of other kinds
+-- have no bits.
+unfoldable pub bits_set : Value → Option (List ℕ)
+bits_set (uint n) = Some (filter (has_bit n) (numbers_below 64))
+bits_set (bytes s) = Some (filter (λ k. has_bit (get_or s (k / 8) 0) (k % 8)) (numbers_below (8 * length s)))
+bits_set _ = None
+
+abbrev pub are_members : List ℕ → List (ℕ × ℕ) → Bool
+are_members [] rs = true
+are_members (n ∷ ns) rs = is_member n rs && are_members ns rs
+
+abbrev pub are_bits_among : List (ℕ × ℕ) → Option (List ℕ) → Bool
+are_bits_among rs (Some ns) = are_members ns rs
+are_bits_among rs None = false
+
 -- An item passes a test. A value is matched by the same value alone: numbers of other kinds, and floats of other widths,
 -- differ.
 abbrev pub passes : Test → Value → Bool
@@ -94,6 +120,16 @@ passes (at_most_number v) x = is_up_to x v
 passes (greater_than v) x = is_below v x
 passes (at_least_number v) x = is_up_to v x
 passes (sized rs) x = has_size rs x
+passes (bits_among rs) x = are_bits_among rs (bits_set x)
+
+abbrev pub bit_count : Option (List ℕ) → ℕ
+bit_count (Some ns) = length ns
+bit_count None = 0
+
+-- how many bits of an item a test is about: those that are set, members or not
+abbrev pub bits_asked : Test → Value → ℕ
+bits_asked (bits_among rs) x = bit_count (bits_set x)
+bits_asked _ x = 0
 
 -- the members as a list
 abbrev pub list_of : Values → List Value

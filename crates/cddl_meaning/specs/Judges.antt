@@ -17,11 +17,12 @@
 --
 -- Each derivation has a weight, the number of its judgements: a type said something of an item, or a group did something
 -- with a list; and in a map one for each alternative, one for each pair in each alternative, and one for each pair with
--- each entry of the alternative, tried or not. A place is an item's number in preorder, a key before its value.
+-- each entry of the alternative, tried or not; and in a test of bits after a type that has said yes one for each bit that is
+-- set. A place is an item's number in preorder, a key before its value.
 use Rattle.std.specs.Prelude.{◌≡◌, ◌≢◌, ℕ, zero, suc, ◌+◌, ◌-◌, max, length, List, [], ◌∷◌, Option, Some, None, Bool, true, false, nat_le, nat_eq, ◌&&◌, if◌then◌else◌}
 use Rattle.cbor_data.specs.Value.{Value, uint, place_count, Pairs, no_pairs, pair}
 use Rattle.cddl_meaning.specs.Held.{Holds}
-use Rattle.cddl_meaning.specs.Forms.{Test, passes, members_in, pairs_in, bytes_in, tag_in, simple_in, TagNumber, any_number, exactly, such_as, Content, MapEntry, Node, Plain, Ref, Choice, ArrayOf, TagOf, SimpleBy, MapOf, Both, Such, Holding, Most, at_most, any_number_of, Group, Entry, GroupRef, Sequence, Alternatives, Repeat, Language}
+use Rattle.cddl_meaning.specs.Forms.{Test, passes, bits_asked, members_in, pairs_in, bytes_in, tag_in, simple_in, TagNumber, any_number, exactly, such_as, Content, MapEntry, Node, Plain, Ref, Choice, ArrayOf, TagOf, SimpleBy, MapOf, Both, Such, Holding, Most, at_most, any_number_of, Group, Entry, GroupRef, Sequence, Alternatives, Repeat, Language}
 
 -- What a type says: yes; or no, with the place where it shows. That is the greatest place of all trials that failed, but for
 -- those of types that then said yes.
@@ -129,8 +130,8 @@ mutual
     left_no : {m n : N} {p far w : ℕ} {x : Value} → Says l (l.type_at m) p x (No far) w → Says l (Both m n) p x (No far) (suc w)
     left_yes : {m n : N} {p v w : ℕ} {x : Value} {a : Answer} → Says l (l.type_at m) p x Yes v → Says l (l.type_at n) p x a w → Says l (Both m n) p x a (suc (v + w))
     none_such : {m : N} {t : Test} {p far w : ℕ} {x : Value} → Says l (l.type_at m) p x (No far) w → Says l (Such m t) p x (No far) (suc w)
-    such_passed : {m : N} {t : Test} {p w : ℕ} {x : Value} → Says l (l.type_at m) p x Yes w → passes t x ≡ true → Says l (Such m t) p x Yes (suc w)
-    such_missed : {m : N} {t : Test} {p w : ℕ} {x : Value} → Says l (l.type_at m) p x Yes w → passes t x ≡ false → Says l (Such m t) p x (No p) (suc w)
+    such_passed : {m : N} {t : Test} {p w : ℕ} {x : Value} → Says l (l.type_at m) p x Yes w → passes t x ≡ true → Says l (Such m t) p x Yes (suc (w + bits_asked t x))
+    such_missed : {m : N} {t : Test} {p w : ℕ} {x : Value} → Says l (l.type_at m) p x Yes w → passes t x ≡ false → Says l (Such m t) p x (No p) (suc (w + bits_asked t x))
     holder_no : {m n : N} {c : Content} {p far w : ℕ} {x : Value} → Says l (l.type_at m) p x (No far) w → Says l (Holding m c n) p x (No far) (suc w)
     no_string : {m n : N} {c : Content} {p w : ℕ} {x : Value} → Says l (l.type_at m) p x Yes w → bytes_in x ≡ None → Says l (Holding m c n) p x (No p) (suc w)
     holds_nothing : {m n : N} {c : Content} {p w : ℕ} {x : Value} {b : List ℕ} → Says l (l.type_at m) p x Yes w → bytes_in x ≡ Some b → ((y : Value) → Holds c b y → ⊥) → Says l (Holding m c n) p x (No p) (suc w)

@@ -12,6 +12,6 @@ pub use crate::compiling::compile;
 pub use crate::specification::read_specification;
 pub use table_nodes::{
     // A table comes with its calls: `root`, `ranks`, `node` and `group`.
-    Content, Group, GroupId, MapEntry, Most, Node, NotRanked, Ranks, SizeRange, SizeSet, Table,
+    Content, Group, GroupId, MapEntry, Most, Node, NotRanked, Ranks, NumberRange, NumberSet, Table,
     TagNumber, Test, TypeId, Whole,
 };

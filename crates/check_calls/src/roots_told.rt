@@ -19,7 +19,7 @@ use check_sites::entries::Holder;
 use check_terms::Terms;
 use std::alloc::Global;
 use table_making::{Nodes, Source, nodes_of};
-use table_nodes::SizeSet;
+use table_nodes::NumberSet;
 
 // What is told of the instances of a text, by the name of the call that tells it. They stand in the order in which they are
 // found, with the root first.
@@ -210,7 +210,7 @@ fn fault_word(alloc: Global, fault: Option<Fault>) -> Option<String> {
     }
 }
 
-fn sizes_at<'m>(terms: &Terms<'_>, sizes: &'m Sizes, meaning: &Meaning) -> Option<&'m SizeSet> {
+fn sizes_at<'m>(terms: &Terms<'_>, sizes: &'m Sizes, meaning: &Meaning) -> Option<&'m NumberSet> {
     let controller = terms.row(*meaning.types.first()?)?.second?;
     sizes.get(controller)
 }

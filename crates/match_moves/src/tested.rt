@@ -12,7 +12,7 @@ ghost use Rattle.table_nodes.specs.SizeSets.{set_view};
 use crate::questions::Subject;
 use cbor_data::Width;
 use item_nodes::Item;
-use table_nodes::{SizeSet, Test, Whole};
+use table_nodes::{NumberSet, Test, Whole};
 
 // The major type of an item (RFC 8949 section 3.1).
 fn major_of(item: &Item) -> u8
@@ -105,7 +105,7 @@ fn is_above(least: Whole, item: &Item) -> bool
 
 // Whether an item has such a size. That of a text is the number of its bytes.
 #[inline(never)]
-fn has_size(sizes: &SizeSet, item: &Item) -> bool
+fn has_size(sizes: &NumberSet, item: &Item) -> bool
     ensures { result ≡ has_size (set_view sizes.now) (view item.now) }
 {
     match item {

@@ -4,7 +4,7 @@ use call_lines::{count, number};
 use cbor_item::Item;
 use std::alloc::{AllocError, Global};
 use table_nodes::{
-    Content, Group, GroupId, MapEntry, Most, Node, Ranks, SizeRange, SizeSet, TagNumber, Test,
+    Content, Group, GroupId, MapEntry, Most, Node, Ranks, NumberRange, NumberSet, TagNumber, Test,
     TypeId, Whole,
 };
 
@@ -125,16 +125,16 @@ fn between(told: &str, closed: bool) -> Test {
 }
 
 // Ranges, each as `first..last`, with commas between them.
-fn sizes_of(alloc: Global, told: &str) -> Result<SizeSet, AllocError> {
+fn sizes_of(alloc: Global, told: &str) -> Result<NumberSet, AllocError> {
     let mut ranges = Vec::new(alloc);
     for range in told.split(',') {
         let (least, last) = range.split_once("..").unwrap_or((range, range));
-        ranges.push(SizeRange {
+        ranges.push(NumberRange {
             least: number(least),
             last: number(last),
         })?;
     }
-    SizeSet::new(alloc, ranges)
+    NumberSet::new(alloc, ranges)
 }
 
 // Alternatives with `/` between them; none where there is no text.

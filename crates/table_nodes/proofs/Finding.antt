@@ -6,11 +6,11 @@ use Rattle.std.proofs.Math.Nat.{pow-le-pow_right}
 use Rattle.std.proofs.lemmas.Bool.Decides.{nat_tests}
 use Rattle.lists.proofs.Lemmas.{test_at_most as is_le, test_greater as not_le}
 use Rattle.cddl_meaning.specs.Forms.{fits_in, is_member}
-use Rattle.table_nodes.specs.declared.sizes.SizeRange.{SizeRange}
+use Rattle.table_nodes.specs.declared.sizes.NumberRange.{NumberRange}
 use Rattle.table_nodes.specs.Sizes.{AreInOrder, IsGap, begins_by, sizes_view}
 
 -- a number before all ranges
-before_all : (n m : ℕ) (rs : List SizeRange) → n ≤ m → IsGap m rs → AreInOrder rs → is_member n (sizes_view rs) ≡ false
+before_all : (n m : ℕ) (rs : List NumberRange) → n ≤ m → IsGap m rs → AreInOrder rs → is_member n (sizes_view rs) ≡ false
 before_all n m [] l g h = refl
 before_all n m (r ∷ rs) l g h =
     let far : n < r.least = omega (arith, l, g) in
@@ -20,7 +20,7 @@ before_all n m (r ∷ rs) l g h =
 
 -- the last numbers rise
 
-last_above : (m : ℕ) (rs : List SizeRange) → IsGap m rs → AreInOrder rs → (k : ℕ) (d : SizeRange) → k < length rs → m ≤ (slice_index_or rs k d).last
+last_above : (m : ℕ) (rs : List NumberRange) → IsGap m rs → AreInOrder rs → (k : ℕ) (d : NumberRange) → k < length rs → m ≤ (slice_index_or rs k d).last
 last_above m [] g h k d l = absurd (omega (arith, l))
 last_above m (r ∷ rs) g h zero d l = (let some = h.0 in omega (arith, g, some))
 last_above m (r ∷ rs) g h (suc k) d l =
@@ -28,7 +28,7 @@ last_above m (r ∷ rs) g h (suc k) d l =
     let next : r.last ≤ (slice_index_or rs k d).last = last_above r.last rs h.1.0 h.1.1 k d (omega (arith, l)) in
     omega (arith, g, some, next)
 
-pub last_rise : (rs : List SizeRange) → AreInOrder rs → IsNonDecreasingBy (λ (r : SizeRange). r.last) rs
+pub last_rise : (rs : List NumberRange) → AreInOrder rs → IsNonDecreasingBy (λ (r : NumberRange). r.last) rs
 last_rise [] h i j d l w = absurd (omega (arith, w))
 last_rise (r ∷ rs) h zero zero d l w = omega arith
 last_rise (r ∷ rs) h zero (suc j) d l w = last_above r.last rs h.1.0 h.1.1 j d (omega (arith, w))
@@ -36,7 +36,7 @@ last_rise (r ∷ rs) h (suc i) zero d l w = absurd (omega (arith, l))
 last_rise (r ∷ rs) h (suc i) (suc j) d l w = last_rise rs h.1.1 i j d (omega (arith, l)) (omega (arith, w))
 
 -- Only the first range that does not end before a number may have it.
-pub found : (n : ℕ) (rs : List SizeRange) (i : ℕ) → AreInOrder rs → ((k : ℕ) (d : SizeRange) → k < i → (slice_index_or rs k d).last < n) → ((k : ℕ) (d : SizeRange) → i ≤ k → k < length rs → n ≤ (slice_index_or rs k d).last) → is_member n (sizes_view rs) ≡ begins_by n (slice_get rs i)
+pub found : (n : ℕ) (rs : List NumberRange) (i : ℕ) → AreInOrder rs → ((k : ℕ) (d : NumberRange) → k < i → (slice_index_or rs k d).last < n) → ((k : ℕ) (d : NumberRange) → i ≤ k → k < length rs → n ≤ (slice_index_or rs k d).last) → is_member n (sizes_view rs) ≡ begins_by n (slice_get rs i)
 found n [] zero h a b = refl
 found n [] (suc i) h a b = refl
 found n (r ∷ rs) zero h a b =
@@ -53,7 +53,7 @@ found n (r ∷ rs) (suc i) h a b = ap (λ (t : Bool). (nat_le r.least n && t) ||
     gone false u = refl
 
 -- whether so many bytes as the range ends with can hold a number
-abbrev pub held_by : ℕ → Option SizeRange → Bool
+abbrev pub held_by : ℕ → Option NumberRange → Bool
 held_by n None = false
 held_by n (Some r) = nat_lt n (256 ^ r.last)
 
@@ -64,7 +64,7 @@ more_hold n a b l h = above n (256 ^ a) (256 ^ b) (pow-le-pow_right {n = 256} (o
     above n x y l h = grind (arith, nat_tests)
 
 -- The last range holds whatever one of them can hold.
-pub held : (n : ℕ) (rs : List SizeRange) (i : ℕ) → AreInOrder rs → length rs ≡ suc i → fits_in n (sizes_view rs) ≡ held_by n (slice_get rs i)
+pub held : (n : ℕ) (rs : List NumberRange) (i : ℕ) → AreInOrder rs → length rs ≡ suc i → fits_in n (sizes_view rs) ≡ held_by n (slice_get rs i)
 held n [] i h e = absurd (omega (arith, e))
 held n (r ∷ []) zero h e = ap (λ (t : Bool). (t && nat_lt n (256 ^ r.last)) || false) (is_le r.least r.last h.0) ∙ alone (nat_lt n (256 ^ r.last))
   where

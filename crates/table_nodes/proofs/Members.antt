@@ -8,13 +8,13 @@ use Rattle.lists.proofs.Lemmas.{from_true as same_bools, or_right}
 use Rattle.cbor_data.specs.Value as V
 use Rattle.cddl_meaning.specs.Alike.{SameTest}
 use Rattle.cddl_meaning.specs.Forms.{fits_in, is_member, sized}
-use Rattle.table_nodes.specs.declared.sizes.SizeRange.{SizeRange}
+use Rattle.table_nodes.specs.declared.sizes.NumberRange.{NumberRange}
 use Rattle.table_nodes.specs.Sizes.{sizes_view}
 
-abbrev pub has : ℕ → SizeRange → Bool
+abbrev pub has : ℕ → NumberRange → Bool
 has n r = nat_le r.least n && nat_le n r.last
 
-pub any_has : (n : ℕ) (rs : List SizeRange) → is_member n (sizes_view rs) ≡ list_any (has n) rs
+pub any_has : (n : ℕ) (rs : List NumberRange) → is_member n (sizes_view rs) ≡ list_any (has n) rs
 any_has n [] = refl
 any_has n (r ∷ rs) = ap (λ (b : Bool). has n r || b) (any_has n rs)
 

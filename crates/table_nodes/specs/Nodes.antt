@@ -44,6 +44,7 @@ test_view (T.AtMost n) = F.at_most_number (whole_view n)
 test_view (T.Greater n) = F.greater_than (whole_view n)
 test_view (T.AtLeast n) = F.at_least_number (whole_view n)
 test_view (T.Sized z) = F.sized (set_view z)
+test_view (T.Bits z) = F.bits_among (set_view z)
 
 -- which tag numbers are meant
 abbrev pub tag_number_view : TagNumber → F.TagNumber TypeId

@@ -11,5 +11,5 @@ pub use crate::nodes::{
     Content, Group, GroupId, MapEntry, Most, Node, TagNumber, Test, TypeId, Whole,
 };
 pub use crate::ranks::{NotRanked, Ranks};
-pub use crate::sizes::{SizeRange, SizeSet};
+pub use crate::sizes::{NumberRange, NumberSet};
 pub use crate::table::Table;

@@ -1,6 +1,6 @@
 //! Types and groups, each known by its number.
 
-use crate::sizes::SizeSet;
+use crate::sizes::NumberSet;
 use cbor_data::Width;
 use item_nodes::Item;
 
@@ -55,7 +55,9 @@ pub enum Test {
     /// Whole numbers from this one on.
     AtLeast(Whole),
     /// Strings of such a number of bytes, and unsigned numbers that so many bytes can hold (RFC 8610 section 3.8.1).
-    Sized(SizeSet),
+    Sized(NumberSet),
+    /// Byte strings and unsigned numbers of which each bit that is set has such a number (RFC 8610 section 3.8.2).
+    Bits(NumberSet),
 }
 
 /// Which tag numbers are meant.

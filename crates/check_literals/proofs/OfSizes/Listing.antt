@@ -1,7 +1,7 @@
 -- The lists of controllers, one added after the other.
 use Rattle.std.proofs.Common.{◌≡◌, ◌⊎◌, inl, inr, ℕ, zero, suc, ◌+◌, ◌<◌, List, [], ◌∷◌, ◌++◌, length, set, Bool, true, false, Option, Some, None, slice_get, refl, sym, ap, subst, ◌∙◌, arith}
 use Rattle.lists.proofs.Lemmas.{after_set, false_true as not_true, push_before as before_push, push_there as at_push, same_or_not, set_length, set_other as beside_set, set_there as at_set}
-use Rattle.table_nodes.specs.declared.sizes.SizeSet.{SizeSet}
+use Rattle.table_nodes.specs.declared.sizes.NumberSet.{NumberSet}
 use Rattle.check_terms.specs.Table.{Table}
 use Rattle.check_literals.specs.declared.sizes.known.Sizes.{Sizes}
 use Rattle.check_literals.specs.declared.sizes.sources.Source.{Source}
@@ -30,17 +30,17 @@ place_there (o ∷ rows) (suc n) e l = place_there rows n e (omega (arith, l))
 pub listed_before : (flags : List Bool) (n : ℕ) (z : Sizes) → is_wanted (flag_at flags n) (slice_get z.rows.items n) ≡ false → HasList flags n z
 listed_before flags n z e = record { place = λ f l. place_there z.rows.items n (sym (ap (λ (b : Bool). is_wanted b (slice_get z.rows.items n)) f) ∙ e) l }
 
-module _ (ss : List Source) (flags : List Bool) (old new : Sizes) (row : ℕ) (list : SizeSet) (is : IsWanted (flag_at flags row) (slice_get old.rows.items row)) (rows : new.rows.items ≡ set old.rows.items row (Some (length old.lists.items))) (lists : new.lists.items ≡ old.lists.items ++ list ∷ []) where
+module _ (ss : List Source) (flags : List Bool) (old new : Sizes) (row : ℕ) (list : NumberSet) (is : IsWanted (flag_at flags row) (slice_get old.rows.items row)) (rows : new.rows.items ≡ set old.rows.items row (Some (length old.lists.items))) (lists : new.lists.items ≡ old.lists.items ++ list ∷ []) where
   there : (n i : ℕ) → slice_get new.rows.items n ≡ Some (Some i) → ((row ≡ n) × (Some (length old.lists.items) ≡ Some i)) ⊎ ((row ≡ n → ⊥) × (slice_get old.rows.items n ≡ Some (Some i)))
   there n i e = after_set old.rows.items row n (Some (length old.lists.items)) (Some i) (ap (λ (os : List (Option ℕ)). slice_get os n) (sym rows) ∙ e)
 
   still_listed : (n i : ℕ) → IsListed ss n i old.lists.items → IsListed ss n i new.lists.items
-  still_listed n i h = record { list = h.list; there = ap (λ (vs : List SizeSet). slice_get vs i) lists ∙ before_push old.lists.items list i h.list h.there; is_list = h.is_list }
+  still_listed n i h = record { list = h.list; there = ap (λ (vs : List NumberSet). slice_get vs i) lists ∙ before_push old.lists.items list i h.list h.there; is_list = h.is_list }
 
   now_listed : (n i : ℕ) → IsList ss row list → row ≡ n → Some (length old.lists.items) ≡ Some i → IsListed ss n i new.lists.items
   now_listed n i g e f = record {
     list = list;
-    there = ap (λ (vs : List SizeSet). slice_get vs i) lists ∙ subst (λ j. slice_get (old.lists.items ++ list ∷ []) j ≡ Some list) (same_some (length old.lists.items) i f) (at_push old.lists.items list);
+    there = ap (λ (vs : List NumberSet). slice_get vs i) lists ∙ subst (λ j. slice_get (old.lists.items ++ list ∷ []) j ≡ Some list) (same_some (length old.lists.items) i f) (at_push old.lists.items list);
     is_list = subst (λ m. IsList ss m list) e g;
   }
 

@@ -16,7 +16,7 @@ use Rattle.check_instances.specs.declared.closed.closed.Closed.{Closed}
 use Rattle.check_literals.specs.declared.known.Literals.{Literals}
 use Rattle.check_literals.specs.Literals.{IsKnown}
 use Rattle.table_nodes.specs.SizeSets.{set_view}
-use Rattle.table_nodes.specs.declared.sizes.SizeSet.{SizeSet}
+use Rattle.table_nodes.specs.declared.sizes.NumberSet.{NumberSet}
 use Rattle.check_literals.specs.declared.sizes.known.Sizes.{Sizes}
 use Rattle.check_literals.specs.declared.sizes.sources.Source.{Source}
 use Rattle.check_literals.specs.Sizes.Sizes.{AreSizable, AreSizes, SameSizes, flag_at, list_at, sizes_at}
@@ -49,7 +49,7 @@ module _ (xs : List Definition) (root : Text) (worth : Values) (refs : List Ref)
   no_list n (Some None) e f = refl
   no_list n (Some (Some i)) e f = absurd (not_both (flag_at flags n) (listed.flagged n i e) f)
 
-  list_there : (n i : ℕ) → slice_get z.rows.items n ≡ Some (Some i) → (v : SizeSet) → slice_get z.lists.items i ≡ Some v → sizes_at z n ≡ Some (set_view v)
+  list_there : (n i : ℕ) → slice_get z.rows.items n ≡ Some (Some i) → (v : NumberSet) → slice_get z.lists.items i ≡ Some v → sizes_at z n ≡ Some (set_view v)
   list_there n i e v g = ap (list_at z.lists.items) e ∙ ap (option_map set_view) g
 
   same_list : (n i : ℕ) (x : Term) → IsTerm t n x → IsKnown xs root worth x → is_some (sizes_of worth xs x) ≡ true → slice_get z.rows.items n ≡ Some (Some i) → IsListed ss n i z.lists.items → SameSizes (sizes_of worth xs x) (sizes_at z n)

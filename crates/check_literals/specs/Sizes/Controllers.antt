@@ -9,7 +9,7 @@ use Rattle.check_terms.specs.declared.row.Form.TheVariants as F
 use Rattle.check_terms.specs.declared.row.Row.{Row}
 use Rattle.check_terms.specs.Table.{Table}
 use Rattle.table_nodes.specs.SizeSets.{set_view}
-use Rattle.table_nodes.specs.declared.sizes.SizeSet.{SizeSet}
+use Rattle.table_nodes.specs.declared.sizes.NumberSet.{NumberSet}
 use Rattle.check_literals.specs.declared.sizes.known.Sizes.{Sizes}
 use Rattle.check_literals.specs.declared.sizes.reach.Search.{Search}
 use Rattle.check_literals.specs.declared.sizes.sources.Source.{Source}
@@ -47,13 +47,13 @@ is_wanted true o = is_free o
 is_wanted false o = false
 
 -- the numbers of all rows to which this one leads
-pub record IsList (ss : List Source) (n : ℕ) (z : SizeSet) : Type 0 where
+pub record IsList (ss : List Source) (n : ℕ) (z : NumberSet) : Type 0 where
   pub reached : List ℕ
   pub are_reached : IsReached ss n reached
   pub same : SameTest (T.sized (ranges_of ss reached)) (T.sized (set_view z))
 
-pub record IsListed (ss : List Source) (n i : ℕ) (lists : List SizeSet) : Type 0 where
-  pub list : SizeSet
+pub record IsListed (ss : List Source) (n i : ℕ) (lists : List NumberSet) : Type 0 where
+  pub list : NumberSet
   pub there : slice_get lists i ≡ Some list
   pub is_list : IsList ss n list
 

@@ -10,13 +10,13 @@ use Rattle.cddl_language.specs.Terms.{Definition, Term, Text, control}
 use Rattle.check_terms.specs.Table.{Table}
 use Rattle.check_terms.specs.Trees.{IsTerm}
 use Rattle.table_nodes.specs.SizeSets.{set_view}
-use Rattle.table_nodes.specs.declared.sizes.SizeSet.{SizeSet}
+use Rattle.table_nodes.specs.declared.sizes.NumberSet.{NumberSet}
 use Rattle.check_literals.specs.Literals.{IsKnown}
 use Rattle.check_literals.specs.declared.sizes.known.Sizes.{Sizes}
 
 -- the members of the row of this number
 
-abbrev pub list_at : List SizeSet → Option (Option ℕ) → Option L.Sizes
+abbrev pub list_at : List NumberSet → Option (Option ℕ) → Option L.Sizes
 list_at zs (Some (Some i)) = option_map set_view (slice_get zs i)
 list_at zs _ = None
 

@@ -25,7 +25,7 @@ use check_terms::laws::equal_numbers;
 use check_terms::texts::{Control, control_of};
 use check_terms::{Form, Row, Terms};
 use std::alloc::{AllocError, Global};
-use table_nodes::SizeSet;
+use table_nodes::NumberSet;
 
 /// The members of the types that are controllers of `.size` (RFC 8610 section 3.8.1), where `sizable` tells which rows may be
 /// such. Each row to which a controller leads is looked at once for it, however many ways lead there.
@@ -169,7 +169,7 @@ fn add_list(
     put_list(sizes, row, list)
 }
 
-fn put_list(sizes: &mut Sizes, row: u32, list: SizeSet) -> Result<(), AllocError>
+fn put_list(sizes: &mut Sizes, row: u32, list: NumberSet) -> Result<(), AllocError>
     ensures rows { IfOk result (λ _. sizes.new.rows.items ≡ set sizes.old.rows.items row (Some (length sizes.old.lists.items))) }
     ensures lists { IfOk result (λ _. sizes.new.lists.items ≡ sizes.old.lists.items ++ list ∷ []) }
 {

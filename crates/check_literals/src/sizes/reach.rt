@@ -11,7 +11,7 @@ ghost use Rattle.check_literals.specs.Sizes.Sources.{parts_in, view_at};
 
 use crate::sizes::sources::{Source, parts};
 use std::alloc::{AllocError, Global};
-use table_nodes::{SizeRange, SizeSet};
+use table_nodes::{NumberRange, NumberSet};
 
 /// The rows that searches have reached.
 #[derive(Drop)]
@@ -100,15 +100,15 @@ fn parts_at(sources: &[Source], row: u32) -> &[u32]
 }
 
 // The numbers of all these rows, as a set.
-pub(crate) fn set_of(alloc: Global, sources: &[Source], rows: &[u32]) -> Result<SizeSet, AllocError>
+pub(crate) fn set_of(alloc: Global, sources: &[Source], rows: &[u32]) -> Result<NumberSet, AllocError>
     ensures { IfOk result (λ z. SameTest (sized (ranges_of sources.now rows.now)) (sized (set_view z))) }
 {
     let ranges = ranges_of(alloc, sources, rows)?;
-    SizeSet::new(alloc, ranges)
+    NumberSet::new(alloc, ranges)
 }
 
 // The numbers of all these rows.
-fn ranges_of(alloc: Global, sources: &[Source], rows: &[u32]) -> Result<Vec<SizeRange>, AllocError>
+fn ranges_of(alloc: Global, sources: &[Source], rows: &[u32]) -> Result<Vec<NumberRange>, AllocError>
     ensures { IfOk result (λ v. sizes_view v.items ≡ ranges_of sources.now rows.now) }
 {
     let mut ranges = Vec::new(alloc);
@@ -121,7 +121,7 @@ fn ranges_of(alloc: Global, sources: &[Source], rows: &[u32]) -> Result<Vec<Size
 }
 
 // The numbers of the row itself, if it has some.
-fn range_at(sources: &[Source], row: u32) -> Option<SizeRange>
+fn range_at(sources: &[Source], row: u32) -> Option<NumberRange>
     ensures { option_map size_view result ≡ range_in (view_at sources.now row) }
 {
     match sources.get(row as usize)? {

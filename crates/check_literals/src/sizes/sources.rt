@@ -11,7 +11,7 @@ use check_instances::closed::Closed;
 use check_names::kinds::Kinds;
 use check_terms::{Form, Row, Terms};
 use std::alloc::{AllocError, Global};
-use table_nodes::SizeRange;
+use table_nodes::NumberRange;
 
 /// Of what the members of a row's type are.
 #[derive(Drop)]
@@ -19,7 +19,7 @@ pub(crate) enum Source {
     /// It has none, as a text has none.
     Nothing,
     /// These numbers.
-    Numbers(SizeRange),
+    Numbers(NumberRange),
     /// The members of all of these rows.
     Rows(Vec<u32>),
     /// The members of all of these rows, the choices of a name.
@@ -93,7 +93,7 @@ fn one_number(number: Option<u64>) -> Source
     ensures { source_view result ≡ one_number number }
 {
     match number {
-        Some(number) => Source::Numbers(SizeRange {
+        Some(number) => Source::Numbers(NumberRange {
             least: number,
             last: number,
         }),
@@ -111,16 +111,16 @@ fn numbers_between(closed: bool, least: Option<u64>, last: Option<u64>) -> Sourc
 }
 
 // From the first number to the last, with the last one where the range is closed.
-fn range_to(closed: bool, least: u64, last: u64) -> SizeRange
+fn range_to(closed: bool, least: u64, last: u64) -> NumberRange
     ensures { size_view result ≡ range_to closed least last }
 {
     if closed {
-        return SizeRange { least, last };
+        return NumberRange { least, last };
     }
     if last == 0 {
-        return SizeRange { least: 1, last: 0 };
+        return NumberRange { least: 1, last: 0 };
     }
-    SizeRange {
+    NumberRange {
         least,
         last: last - 1,
     }

@@ -1,10 +1,10 @@
 use Rattle.std.proofs.Common.{◌≡◌, ◌-◌, ◌∙◌, suc, List, [], ◌∷◌, Some, sym, ap, rules, arith, slice_get, length}
-use Rattle.table_nodes.specs.declared.sizes.SizeRange.{SizeRange}
+use Rattle.table_nodes.specs.declared.sizes.NumberRange.{NumberRange}
 use Rattle.table_nodes.proofs.Finding.{held, held_by}
 use Rattle.table_nodes.proofs.sizes.fits_last.Goals as goal
 
 -- where there is a last range there are some
-some_there : (rs : List SizeRange) (r : SizeRange) → slice_get rs (length rs - 1) ≡ Some r → length rs ≡ suc (length rs - 1)
+some_there : (rs : List NumberRange) (r : NumberRange) → slice_get rs (length rs - 1) ≡ Some r → length rs ≡ suc (length rs - 1)
 some_there [] r e = cc
 some_there (x ∷ xs) r e = omega arith
 

@@ -1,12 +1,12 @@
 use Rattle.std.proofs.Common.{◌∙◌, List, ap, sym}
 use Rattle.std.specs.Arc.{arc_slice_items}
 use Rattle.cddl_meaning.specs.Forms.{is_member}
-use Rattle.table_nodes.specs.declared.sizes.SizeRange.{SizeRange}
+use Rattle.table_nodes.specs.declared.sizes.NumberRange.{NumberRange}
 use Rattle.table_nodes.specs.Sizes.{sizes_view}
 use Rattle.table_nodes.proofs.Members.{same_test}
-use Rattle.table_nodes.proofs.sizes.SizeSet.new.Goals as goal
+use Rattle.table_nodes.proofs.sizes.NumberSet.new.Goals as goal
 
 pub returns : goal.returns
 returns c = same_test (sizes_view c.args.ranges.items) (sizes_view (arc_slice_items c.in_ok-ranges.ranges)) (λ n.
-    let among = λ (rs : List SizeRange). is_member n (sizes_view rs) in
+    let among = λ (rs : List NumberRange). is_member n (sizes_view rs) in
     sym (ap among (c.in_ok-ranges.ensures.ok ∙ c.deref-2.ensures.value) ∙ (c.in_ok-merged.ensures.members n ∙ (ap among c.deref.ensures.value ∙ c.sort.ensures.members n))))
