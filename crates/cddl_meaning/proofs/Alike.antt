@@ -1,7 +1,7 @@
 -- Languages that are alike say the same of each item, at the same place, with the same weight.
 use Rattle.std.proofs.Common.{[], ◌∷◌, ◌≡◌, ℕ, suc, ◌+◌, length, List, ◌∷◌, nat_le, ◌&&◌, refl, sym, subst, ap, ◌∙◌}
 use Rattle.cbor_data.specs.Value.{Value, Pairs, pair}
-use Rattle.cddl_meaning.specs.Forms.{TagNumber, MapEntry, Node, Most, Group, Language}
+use Rattle.cddl_meaning.specs.Forms.{TagNumber, MapEntry, Node, Such, Most, Group, Language}
 use Rattle.cddl_meaning.specs.Judges.{Answer, Yes, No, Reply, Says, passed, missed, ref, choice, no_array, array, no_tag, tagged, other_tag, no_simple, simple_such, other_simple, no_map, map, left_no, left_yes, none_such, such_passed, such_missed, holder_no, no_string, holds_nothing, held_yes, held_no, Fate, BelongsTo, count_of, is_up_to_most, are_enough, first_stray, first_failing, by_counts, shown_by, alternative_says, either, Maps, no_alternative, alternative, Sorts, all_sorted, sort, Belongs, nowhere, other_key, here, cut_here, handed_on, Numbers, whichever, this_number, other_number, by_head, Chooses, no_more, this_one, not_this, Does, missing, matches, differs, group_ref, sequence, alternatives, repeat, DoesEach, all_done, one_fails, and_then, DoesFirst, all_fail, one_takes, or_else, Repeats, full, too_few, enough, empty_round, round}
 use Rattle.cddl_meaning.specs.Alike as A
 use Rattle.cddl_meaning.specs.Alike.{flipped, AlikeAll, none, both, AlikeNumbers, any_numbers, same_number, heads, AlikeEntries, no_entries, entry, AlikeMaps, no_alternatives, AlikeTypes, plain, refs, choices, arrays, tags, simples, maps, boths, suches, holdings, AlikeGroups, entries, group_refs, sequences, alternates, repeats, AreAlike}
@@ -37,9 +37,9 @@ module _ {N G M H : Type 0} (l : Language N G) (k : Language M H) (R : N → M �
     says_too (map e d) (maps r) = map e (maps_too d r)
     says_too (left_no {m = n} d) (boths {m = m} r s) = left_no (says_too d (i.types n m r))
     says_too (left_yes {m = n} {n = o} d e) (boths {m = m} {q = q} r s) = left_yes (says_too d (i.types n m r)) (says_too e (i.types o q s))
-    says_too (none_such {m = n} d) (suches {m = m} r e) = none_such (says_too d (i.types n m r))
-    says_too (such_passed {m = n} d h) (suches {m = m} r e) = such_passed (says_too d (i.types n m r)) (sym (e _) ∙ h)
-    says_too (such_missed {m = n} d h) (suches {m = m} r e) = such_missed (says_too d (i.types n m r)) (sym (e _) ∙ h)
+    says_too (none_such {m = n} d) (suches {m = m} r e b) = none_such (says_too d (i.types n m r))
+    says_too (such_passed {m = n} {p = p} {w = w} {x = x} d h) (suches {m = m} {u = u} r e b) = subst (λ c. Says k (Such m u) p x Yes (suc (w + c))) (sym (b x)) (such_passed (says_too d (i.types n m r)) (sym (e x) ∙ h))
+    says_too (such_missed {m = n} {p = p} {w = w} {x = x} d h) (suches {m = m} {u = u} r e b) = subst (λ c. Says k (Such m u) p x (No p) (suc (w + c))) (sym (b x)) (such_missed (says_too d (i.types n m r)) (sym (e x) ∙ h))
     says_too (holder_no {m = n} d) (holdings {m = m} r s) = holder_no (says_too d (i.types n m r))
     says_too (no_string {m = n} d h) (holdings {m = m} r s) = no_string (says_too d (i.types n m r)) h
     says_too (holds_nothing {m = n} d h j) (holdings {m = m} r s) = holds_nothing (says_too d (i.types n m r)) h j
@@ -130,7 +130,7 @@ flip_types R S (tags t r) = tags (flip_numbers R t) r
 flip_types R S (simples r) = simples r
 flip_types R S (maps r) = maps (flip_maps R r)
 flip_types R S (boths r s) = boths r s
-flip_types R S (suches r e) = suches r (λ x. sym (e x))
+flip_types R S (suches r e b) = suches r (λ x. sym (e x)) (λ x. sym (b x))
 flip_types R S (holdings r s) = holdings r s
 
 flip_groups : {N G M H : Type 0} (R : N → M → Type 0) (S : G → H → Type 0) {f : Group N G} {e : Group M H} → AlikeGroups R S f e → AlikeGroups (flipped R) (flipped S) e f

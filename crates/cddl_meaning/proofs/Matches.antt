@@ -1,11 +1,11 @@
 -- What the definition says, the moves reply.
-use Rattle.std.proofs.Common.{◌≡◌, ℕ, suc, ◌+◌, ◌-◌, ◌<◌, ◌≤◌, ◌^◌, max, length, List, [], ◌∷◌, Some, false, nat_eq, refl, subst, sym, ap, ◌∙◌, arith}
+use Rattle.std.proofs.Common.{◌≡◌, ℕ, suc, ◌+◌, ◌-◌, ◌<◌, ◌≤◌, ◌^◌, max, length, List, [], ◌∷◌, Some, Bool, false, nat_eq, refl, subst, sym, ap, ◌∙◌, arith}
 use Rattle.lists.proofs.Lemmas.{test_equal as same_number, test_same as equal_number, unequal_number}
 use Rattle.cbor_data.specs.Value.{Value, place_count, Pairs, no_pairs, pair, pairs_place_count}
-use Rattle.cddl_meaning.specs.Forms.{members_in, pairs_in, tag_in, simple_in, TagNumber, MapEntry, Node, Most, Group, Language}
+use Rattle.cddl_meaning.specs.Forms.{Test, bits_among, passes, bits_asked, members_in, pairs_in, tag_in, simple_in, TagNumber, MapEntry, Node, Most, Group, Language}
 use Rattle.cddl_meaning.specs.Size.{size, pairs_size, list_size}
 use Rattle.cddl_meaning.specs.Judges.{Answer, Yes, No, Reply, Takes, Fails, ArraySays, whole, over, failed, one_less, Says, passed, missed, ref, choice, no_array, array, no_tag, tagged, other_tag, no_simple, simple_such, other_simple, no_map, map, left_no, left_yes, none_such, such_passed, such_missed, holder_no, no_string, holds_nothing, held_yes, held_no, Fate, alternative_says, either, Maps, no_alternative, alternative, Sorts, all_sorted, sort, Belongs, nowhere, other_key, here, cut_here, handed_on, Numbers, whichever, this_number, other_number, by_head, Chooses, no_more, this_one, not_this, Does, missing, matches, differs, group_ref, sequence, alternatives, repeat, DoesEach, all_done, one_fails, and_then, DoesFirst, all_fail, one_takes, or_else, Repeats, full, too_few, enough, empty_round, round}
-use Rattle.cddl_meaning.specs.Moves.{Question, OfType, OfGroup, Tally, tallied, Sorting, Pending, InRef, InRepeat, InValue, Move, Answered, Asks, Tries, plus, yes_reply, reply_of, test_reply, such_reply, answer_reply, either_reply, fresh, tally_says, next_member, next_part, next_alternative, read_move, next_way, next_pair, sorted, next_entry, repetition, after_round, tag_move, type_move, group_move, first_move, array_reply, next_move, Replies, replies, LeadsTo, at_once, after, tries, reads, reads_nothing}
+use Rattle.cddl_meaning.specs.Moves.{Question, OfType, OfGroup, Tally, tallied, Sorting, Pending, InRef, InRepeat, InValue, Move, Answered, Asks, Tries, plus, yes_reply, reply_of, test_reply, such_reply, answer_reply, either_reply, fresh, tally_says, next_member, next_part, next_alternative, read_move, tested_move, next_way, next_pair, sorted, next_entry, repetition, after_round, tag_move, type_move, group_move, first_move, array_reply, next_move, Replies, replies, LeadsTo, at_once, after, tries, weighs, reads, reads_nothing}
 use Rattle.cddl_meaning.proofs.Once.{ends_once}
 use Rattle.cddl_meaning.proofs.Covers.{covers, leaves, any_places, array_places, map_places, tag_places, simple_places}
 use Rattle.cddl_meaning.proofs.Sizes.{size_some, all_some, array_size, tag_size, map_size, string_size, few_places, pairs_few_places, held_size}
@@ -78,6 +78,13 @@ module _ {N G : Type 0} (l : Language N G) where
   at_end : {r s : Reply} → r ≡ s → LeadsBy (Answered r) s 1
   at_end {r = r} e = record { weight = 0; one_more = refl; ends = subst (λ x. LeadsTo l (Answered r) x 0) e at_once }
 
+  test_ends : (t : Test) (p next : ℕ) (x : Value) → LeadsTo l (tested_move t p next x) (such_reply p next (passes t x)) (bits_asked t x)
+  test_ends (bits_among rs) p next x = weighs
+  test_ends t p next x = at_once
+
+  tested_ends : (t : Test) (p next : ℕ) (x : Value) {c : Bool} → passes t x ≡ c → LeadsTo l (tested_move t p next x) (such_reply p next c) (bits_asked t x)
+  tested_ends t p next x e = subst (λ c. LeadsTo l (tested_move t p next x) (such_reply p next c) (bits_asked t x)) e (test_ends t p next x)
+
   less : {m : Move N G} {r : Reply} {w : ℕ} → LeadsTo l m r w → LeadsTo l m r (0 + w)
   less {m = m} {r = r} {w = w} d = subst (λ n. LeadsTo l m r n) (omega arith) d
 
@@ -114,8 +121,8 @@ module _ {N G : Type 0} (l : Language N G) where
     says_ends h (left_no d) = record { weight = _; one_more = refl; ends = after_that (ask_by (says_ends h d)) refl }
     says_ends h (left_yes d e) = record { weight = _; one_more = refl; ends = after (ask_by (says_ends h d)) (after_that (ask_by (says_ends h e)) refl) }
     says_ends h (none_such d) = record { weight = _; one_more = refl; ends = after_that (ask_by (says_ends h d)) refl }
-    says_ends h (such_passed {p = p} {x = x} d i) = record { weight = _; one_more = refl; ends = after_that (ask_by (says_ends h d)) (ap (λ b. Answered (such_reply p (plus p (place_count x)) b)) i) }
-    says_ends h (such_missed {p = p} {x = x} d i) = record { weight = _; one_more = refl; ends = after_that (ask_by (says_ends h d)) (ap (λ b. Answered (such_reply p (plus p (place_count x)) b)) i) }
+    says_ends h (such_passed {t = t} {p = p} {x = x} d i) = record { weight = _; one_more = refl; ends = after (ask_by (says_ends h d)) (tested_ends t p (plus p (place_count x)) x i) }
+    says_ends h (such_missed {t = t} {p = p} {x = x} d i) = record { weight = _; one_more = refl; ends = after (ask_by (says_ends h d)) (tested_ends t p (plus p (place_count x)) x i) }
     says_ends h (holder_no d) = record { weight = _; one_more = refl; ends = after_that (ask_by (says_ends h d)) refl }
     says_ends h (no_string {n = n} {c = c} {p = p} {x = x} d i) = record { weight = _; one_more = refl; ends = after_that (ask_by (says_ends h d)) (ap (read_move c n p (plus p (place_count x))) i) }
     says_ends h (holds_nothing {w = w} d i k) = record { weight = w + 0; one_more = omega arith; ends = after (ask_by (says_ends h d)) (rw i (reads_nothing k)) }

@@ -3,14 +3,14 @@ use Rattle.std.proofs.Common.{◌≡◌, ◌≢◌, ℕ, zero, suc, ◌+◌, ◌
 use Rattle.std.proofs.lemmas.Bool.Decides.{nat_tests}
 use Rattle.lists.proofs.Lemmas.{is_equal}
 use Rattle.cbor_data.specs.Value.{Value, place_count, Pairs, no_pairs, pair, pairs_place_count}
-use Rattle.cddl_meaning.specs.Forms.{Test, passes, members_in, pairs_in, bytes_in, tag_in, simple_in, TagNumber, any_number, exactly, such_as, Content, MapEntry, Node, Plain, Ref, Choice, ArrayOf, TagOf, SimpleBy, MapOf, Both, Such, Holding, Most, Group, Entry, GroupRef, Sequence, Alternatives, Repeat, Language}
+use Rattle.cddl_meaning.specs.Forms.{Test, bits_among, passes, bits_asked, members_in, pairs_in, bytes_in, tag_in, simple_in, TagNumber, any_number, exactly, such_as, Content, MapEntry, Node, Plain, Ref, Choice, ArrayOf, TagOf, SimpleBy, MapOf, Both, Such, Holding, Most, Group, Entry, GroupRef, Sequence, Alternatives, Repeat, Language}
 use Rattle.cddl_meaning.specs.Size.{size, pairs_size}
 use Rattle.cddl_meaning.specs.Judges.{Answer, Yes, No, Reply, Takes, Fails, whole, over, failed, is_over, one_less, Says, passed, missed, ref, choice, no_array, array, no_tag, tagged, other_tag, no_simple, simple_such, other_simple, no_map, map, left_no, left_yes, none_such, such_passed, such_missed, holder_no, no_string, holds_nothing, held_yes, held_no, Fate, BelongsTo, Stray, alternative_says, either, Maps, no_alternative, alternative, Sorts, all_sorted, sort, Belongs, nowhere, other_key, here, cut_here, handed_on, Numbers, whichever, this_number, other_number, by_head, Chooses, no_more, this_one, not_this, Does, missing, matches, differs, group_ref, sequence, alternatives, repeat, DoesEach, all_done, one_fails, and_then, DoesFirst, all_fail, one_takes, or_else, Repeats, full, too_few, enough, empty_round, round}
 use Rattle.cddl_meaning.proofs.Sizes.{size_some, all_some, array_size, tag_size, map_size, string_size, few_places, pairs_few_places, held_size}
 use Rattle.cddl_meaning.proofs.Covers.{leaves}
 use Rattle.cddl_meaning.proofs.Matches.{Fits, AllFit, plus_is, next_place, below, array_covers, tag_reply, simple_reply, map_reply, either_is, as_many}
 use Rattle.cddl_meaning.proofs.Tallies.{all_tallied, tally_is}
-use Rattle.cddl_meaning.specs.Moves.{Question, OfType, OfGroup, OfAlternative, Tally, tallied, fresh, tally_says, Sorting, InRef, Answered, Asks, plus, reply_of, test_reply, such_reply, answer_reply, either_reply, next_member, next_part, next_alternative, next_round, repetition, after_round, end_of_rounds, array_move, content_move, tag_move, simple_move, read_move, next_way, map_move, next_pair, sorted, next_entry, after_value, type_move, group_move, Replies, replies, LeadsTo, at_once, after, tries, reads, reads_nothing}
+use Rattle.cddl_meaning.specs.Moves.{Question, OfType, OfGroup, OfAlternative, Tally, tallied, fresh, tally_says, Sorting, InRef, Answered, Asks, Weighs, plus, reply_of, test_reply, such_reply, answer_reply, either_reply, next_member, next_part, next_alternative, next_round, repetition, after_round, end_of_rounds, array_move, content_move, tag_move, simple_move, read_move, tested_move, next_way, map_move, next_pair, sorted, next_entry, after_value, type_move, group_move, Replies, replies, LeadsTo, at_once, after, tries, weighs, reads, reads_nothing}
 
 is_unequal : (m n : ℕ) → nat_eq m n ≡ false → m ≢ n
 is_unequal m n h = λ e. absurd (clash m n h e)
@@ -65,6 +65,13 @@ module _ {N G : Type 0} (l : Language N G) where
   ended : {s r : Reply} {w : ℕ} → LeadsTo l (Answered s) r w → (r ≡ s) × (w ≡ 0)
   ended at_once = (refl, refl)
 
+  all_weighed : {n : ℕ} {s r : Reply} {w : ℕ} → LeadsTo l (Weighs n s) r w → (r ≡ s) × (w ≡ n)
+  all_weighed weighs = (refl, refl)
+
+  test_ended : (t : Test) (p next : ℕ) (x : Value) {r : Reply} {w : ℕ} → LeadsTo l (tested_move t p next x) r w → (r ≡ such_reply p next (passes t x)) × (w ≡ bits_asked t x)
+  test_ended (bits_among rs) p next x e = all_weighed e
+  test_ended t p next x e = ended e
+
   positive : {q : Question N G} {r : Reply} {w : ℕ} → Replies l q r w → 1 ≤ w
   positive (replies e) = omega arith
 
@@ -114,9 +121,9 @@ module _ {N G : Type 0} (l : Language N G) where
     belongs : Belongs l es s.key_place s.key s.held fate before
     goes_on : LeadsTo l (sorted s fate) r after_it
 
-  such_says : {m : N} {t : Test} {p b far v : ℕ} {x : Value} {left : List Value} (c : Bool) → passes t x ≡ c → SaysIt (l.type_at m) p x (Takes left b far) v → SaysIt (Such m t) p x (such_reply p b c) (suc (v + 0))
-  such_says {m = m} {t = t} {p = p} {x = x} true e s = record { answer = Yes; is = ap (λ b. Takes [] b 0) (next_of s); says = subst (λ w. Says l (Such m t) p x Yes w) (omega arith) (such_passed (yes_of s) e) }
-  such_says {m = m} {t = t} {p = p} {x = x} false e s = record { answer = No p; is = refl; says = subst (λ w. Says l (Such m t) p x (No p) w) (omega arith) (such_missed (yes_of s) e) }
+  such_says : {m : N} {t : Test} {p b far v : ℕ} {x : Value} {left : List Value} (c : Bool) → passes t x ≡ c → SaysIt (l.type_at m) p x (Takes left b far) v → SaysIt (Such m t) p x (such_reply p b c) (suc (v + bits_asked t x))
+  such_says {m = m} {t = t} {p = p} {x = x} true e s = record { answer = Yes; is = ap (λ b. Takes [] b 0) (next_of s); says = such_passed (yes_of s) e }
+  such_says {m = m} {t = t} {p = p} {x = x} false e s = record { answer = No p; is = refl; says = such_missed (yes_of s) e }
 
   -- the questions of weight k at most have the definition's replies
   record Known (k : ℕ) : Type 0 where
@@ -255,7 +262,9 @@ module _ {N G : Type 0} (l : Language N G) where
         record { answer = t.answer; is = t.is; says = subst (λ w. Says l (Both m n) p x t.answer w) (omega arith) (left_yes (yes_of s) t.says) }
     form_from (Both m n) {p = p} {x = x} f h (after {s = Fails later} d at_once) =
         record { answer = No later; is = refl; says = subst (λ w. Says l (Both m n) p x (No later) w) (omega arith) (left_no (no_of (known.types f (omega (arith, h)) d))) }
-    form_from (Such m t) {x = x} f h (after {s = Takes left b later} d at_once) = such_says (passes t x) refl (known.types f (omega (arith, h)) d)
+    form_from (Such m t) {p = p} {x = x} f h (after {s = Takes left b later} {v = v} {w = u} d e) =
+        let z = test_ended t p b x e in
+        subst (λ r. SaysIt (Such m t) p x r (suc (v + u))) (sym z.0) (subst (λ n. SaysIt (Such m t) p x (such_reply p b (passes t x)) (suc (v + n))) (sym z.1) (such_says (passes t x) refl (known.types f (omega (arith, h)) d)))
     form_from (Such m t) {p = p} {x = x} f h (after {s = Fails later} d at_once) =
         record { answer = No later; is = refl; says = subst (λ w. Says l (Such m t) p x (No later) w) (omega arith) (none_such (no_of (known.types f (omega (arith, h)) d))) }
     form_from (Holding m c n) {x = x} f h (after {s = Takes left b later} d e) = read_from (bytes_in x) refl f (omega (arith, h)) (known.types f (omega (arith, h)) d) e

@@ -2,7 +2,7 @@
 use Rattle.std.proofs.Common.{◌≡◌, ℕ, suc, ◌+◌, length, refl, ap, sym, subst}
 use Rattle.cddl_meaning.specs.Forms.{Language}
 use Rattle.cddl_meaning.specs.Judges.{Reply}
-use Rattle.cddl_meaning.specs.Moves.{Question, OfType, InHeld, Move, Asks, Replies, replies, LeadsTo, at_once, after, tries, reads, reads_nothing, next_move}
+use Rattle.cddl_meaning.specs.Moves.{Question, OfType, InHeld, Move, Asks, Replies, replies, LeadsTo, at_once, after, tries, weighs, reads, reads_nothing, next_move}
 use Rattle.cddl_meaning.proofs.Held.{held_once}
 
 pub record Same {A : Type 0} (a b : A) (w v : ℕ) : Type 0 where
@@ -23,6 +23,7 @@ module _ {N G : Type 0} (l : Language N G) where
     ends_once (tries {s = s} d) (tries e) =
         let h = ends_once d e in
         record { result = h.result; weight = ap (λ w. suc (length s.entries) + w) h.weight }
+    ends_once weighs weighs = record { result = refl; weight = refl }
     ends_once (reads {n = n} {p = p} {next = b} h d) (reads {w = v} {r = s} i e) = ends_once d (subst (λ y. LeadsTo l (Asks (OfType n 0 y) (InHeld p b)) s v) (held_once h i) e)
     ends_once (reads {y = y} h d) (reads_nothing i) = absurd (i y h)
     ends_once (reads_nothing i) (reads {y = y} h d) = absurd (i y h)

@@ -7,7 +7,7 @@ use Rattle.cbor_data.specs.declared.Width.TheVariants.{W16}
 use Rattle.cbor_data.specs.Same.{same_value}
 use Rattle.cbor_data.specs.Value.{Value, uint, nint, array, pairs, tag, Values, Pairs}
 use Rattle.cbor_data.specs.Equivalence.{IsSame, same_uint, same_nint, same_bytes, same_text, same_array, same_map, same_tag, same_simple, same_float, AreSame, no_members, member, ArePairsSame}
-use Rattle.cddl_meaning.specs.Forms.{Test, anything, of_major, simple_value, float_of, equals, between, differs_from, less_than, at_most_number, greater_than, at_least_number, sized, passes, major_of, is_below, is_up_to, is_simple, is_float, has_size, list_of, members_in, pairs_in, bytes_in, tag_in, simple_in}
+use Rattle.cddl_meaning.specs.Forms.{Test, anything, of_major, simple_value, float_of, equals, between, differs_from, less_than, at_most_number, greater_than, at_least_number, sized, bits_among, passes, bits_set, are_bits_among, major_of, is_below, is_up_to, is_simple, is_float, has_size, list_of, members_in, pairs_in, bytes_in, tag_in, simple_in}
 use Rattle.cddl_meaning.specs.Literals.{HasNoParts, IsPlainTest}
 
 -- as many items, the same one by one
@@ -77,6 +77,18 @@ leaf_same n w rs (same_tag d) = (refl, refl, refl)
 leaf_same n w rs same_simple = (refl, refl, refl)
 leaf_same n w rs same_float = (refl, refl, refl)
 
+bits_same : {x y : Value} → IsSame x y → bits_set x ≡ bits_set y
+unfolding bits_set
+bits_same same_uint = refl
+bits_same same_nint = refl
+bits_same same_bytes = refl
+bits_same same_text = refl
+bits_same (same_array d) = refl
+bits_same (same_map d) = refl
+bits_same (same_tag d) = refl
+bits_same same_simple = refl
+bits_same same_float = refl
+
 pub test_same : (t : Test) {x y : Value} → IsPlainTest t → IsSame x y → passes t x ≡ passes t y
 test_same anything h d = refl
 test_same (of_major m) h d = ap (λ n. nat_eq n m) (major_same d)
@@ -91,6 +103,7 @@ test_same (at_most_number v) h d = (up_to_same v d).1
 test_same (greater_than v) h d = (up_to_same v d).3
 test_same (at_least_number v) h d = (up_to_same v d).0
 test_same (sized rs) h d = (leaf_same 0 W16 rs d).2
+test_same (bits_among rs) h d = ap (are_bits_among rs) (bits_same d)
 
 -- what an item has, the other has too
 pub record HasMembers (xs : List Value) (y : Value) : Type 0 where

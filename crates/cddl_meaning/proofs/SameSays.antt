@@ -129,8 +129,8 @@ module _ {N G : Type 0} (l : Language N G) (h : HasPlainLiterals l) where
         let t = said_of_same (h.plain m) d s q in
         lift (λ b v g. record { weight = suc (t.weight + v); holds = left_yes t.says g }) a (said_of_same (h.plain n) e s q)
     said_of_same i (none_such {m = m} d) s q = let t = said_of_same (h.plain m) d s q in record { far = t.far; weight = suc t.weight; says = none_such t.says }
-    said_of_same i (such_passed {m = m} {t = t} d e) s q = let g = said_of_same (h.plain m) d s q in record { weight = suc g.weight; says = such_passed g.says (sym (test_same t i s) ∙ e) }
-    said_of_same i (such_missed {m = m} {t = t} d e) s q = let g = said_of_same (h.plain m) d s q in record { far = q; weight = suc g.weight; says = such_missed g.says (sym (test_same t i s) ∙ e) }
+    said_of_same i (such_passed {m = m} {t = t} d e) s q = let g = said_of_same (h.plain m) d s q in record { weight = _; says = such_passed g.says (sym (test_same t i s) ∙ e) }
+    said_of_same i (such_missed {m = m} {t = t} d e) s q = let g = said_of_same (h.plain m) d s q in record { far = q; weight = _; says = such_missed g.says (sym (test_same t i s) ∙ e) }
     said_of_same i (holder_no {m = m} d) s q = let t = said_of_same (h.plain m) d s q in record { far = t.far; weight = suc t.weight; says = holder_no t.says }
     said_of_same i (no_string {m = m} d e) s q = let t = said_of_same (h.plain m) d s q in record { far = q; weight = suc t.weight; says = no_string t.says (sym (bytes_same s) ∙ e) }
     said_of_same i (holds_nothing {m = m} d e j) s q = let t = said_of_same (h.plain m) d s q in record { far = q; weight = suc t.weight; says = holds_nothing t.says (sym (bytes_same s) ∙ e) j }

@@ -2,7 +2,7 @@
 -- the definition says, wherever places have numbers below 2^64.
 use Rattle.std.specs.Prelude.{ℕ, zero, suc, ◌+◌, ◌-◌, ◌^◌, min, max, length, List, [], ◌∷◌, Option, Some, None, Bool, true, false, nat_eq, nat_le, ◌&&◌, if◌then◌else◌}
 use Rattle.cbor_data.specs.Value.{Value, uint, place_count, Pairs, no_pairs, pair}
-use Rattle.cddl_meaning.specs.Forms.{Test, passes, bits_asked, members_in, pairs_in, bytes_in, tag_in, simple_in, TagNumber, any_number, exactly, such_as, Content, MapEntry, Node, Plain, Ref, Choice, ArrayOf, TagOf, SimpleBy, MapOf, Both, Such, Holding, Most, Group, Entry, GroupRef, Sequence, Alternatives, Repeat, Language}
+use Rattle.cddl_meaning.specs.Forms.{Test, bits_among, passes, bits_asked, members_in, pairs_in, bytes_in, tag_in, simple_in, TagNumber, any_number, exactly, such_as, Content, MapEntry, Node, Plain, Ref, Choice, ArrayOf, TagOf, SimpleBy, MapOf, Both, Such, Holding, Most, Group, Entry, GroupRef, Sequence, Alternatives, Repeat, Language}
 use Rattle.cddl_meaning.specs.Held.{Holds}
 use Rattle.cddl_meaning.specs.Judges.{Answer, Yes, No, Reply, Takes, Fails, is_over, one_less, is_up_to_most, Fate, BelongsTo, Stray, by_counts, shown_by}
 
@@ -69,13 +69,13 @@ pub data Pending (N G : Type 0) : Type 0 where
   InHeld : (place next : ℕ) → Pending N G
 
 -- Either the reply, or what is asked first; or a pair is tried with the entries of its alternative; or a byte string at a
--- place is read, and a type asked of what it holds; or so many bits are looked at, which gives the reply.
+-- place is read, and a type asked of what it holds; or so many bits are weighed, and then this is the reply.
 pub data Move (N G : Type 0) : Type 0 where
   Answered : Reply → Move N G
   Asks : Question N G → Pending N G → Move N G
   Tries : Sorting N → Move N G
   Reads : Content → List ℕ → N → (place next : ℕ) → Move N G
-  Looks : (bits : ℕ) → Reply → Move N G
+  Weighs : (bits : ℕ) → Reply → Move N G
 
 -- a sum that stays at the greatest number; a sound item has fewer places
 abbrev pub plus : ℕ → ℕ → ℕ
@@ -212,10 +212,10 @@ module _ {N G : Type 0} where
   read_move c n p next None = Answered (Fails p)
   read_move c n p next (Some b) = Reads c b n p next
 
-  -- A test of no bits replies at once.
-  abbrev pub bits_move : ℕ → Reply → Move N G
-  bits_move zero r = Answered r
-  bits_move (suc n) r = Looks (suc n) r
+  -- A test of bits weighs those that are set, and has its reply then. Any other replies at once.
+  abbrev pub tested_move : Test → (place next : ℕ) → Value → Move N G
+  tested_move (bits_among rs) p next x = Weighs (bits_asked (bits_among rs) x) (such_reply p next (passes (bits_among rs) x))
+  tested_move t p next x = Answered (such_reply p next (passes t x))
 
   -- the next alternative of a map
   abbrev pub next_way : List (List (MapEntry N)) → ℕ → Pairs → Reply → Move N G
@@ -302,7 +302,7 @@ module _ {N G : Type 0} where
   next_move (InValue e es s) (Fails later) = after_value e.cuts es s later
   next_move (InLeft n p x) (Takes left next later) = Asks (OfType n p x) InRef
   next_move (InLeft n p x) (Fails later) = Answered (Fails later)
-  next_move (InSuch t p x) (Takes left next later) = bits_move (bits_asked t x) (such_reply p next (passes t x))
+  next_move (InSuch t p x) (Takes left next later) = tested_move t p next x
   next_move (InSuch t p x) (Fails later) = Answered (Fails later)
   next_move (InHolder c n p x) (Takes left next later) = read_move c n p next (bytes_in x)
   next_move (InHolder c n p x) (Fails later) = Answered (Fails later)
@@ -310,7 +310,7 @@ module _ {N G : Type 0} where
   next_move (InHeld p next) (Fails later) = Answered (Fails p)
 
   -- A question's reply by the moves, with the number of questions that are asked on the way, and one more for each pair that
-  -- is tried, for each entry of its alternative, and for each bit that is looked at. What is read has places of its own, and
+  -- is tried, for each entry of its alternative, and for each bit that is weighed. What is read has places of its own, and
   -- reading counts nothing.
   mutual
     pub data Replies (l : Language N G) : Question N G → Reply → ℕ → Type 0 where
@@ -321,6 +321,6 @@ module _ {N G : Type 0} where
       at_once : {r : Reply} → LeadsTo l (Answered r) r 0
       after : {q : Question N G} {o : Pending N G} {s r : Reply} {v w : ℕ} → Replies l q s v → LeadsTo l (next_move o s) r w → LeadsTo l (Asks q o) r (v + w)
       tries : {s : Sorting N} {r : Reply} {w : ℕ} → LeadsTo l (next_entry s.entries s) r w → LeadsTo l (Tries s) r (suc (length s.entries) + w)
-      looks : {n : ℕ} {r : Reply} → LeadsTo l (Looks n r) r n
+      weighs : {n : ℕ} {r : Reply} → LeadsTo l (Weighs n r) r n
       reads : {c : Content} {b : List ℕ} {n : N} {p next w : ℕ} {y : Value} {r : Reply} → Holds c b y → LeadsTo l (Asks (OfType n 0 y) (InHeld p next)) r w → LeadsTo l (Reads c b n p next) r w
       reads_nothing : {c : Content} {b : List ℕ} {n : N} {p next : ℕ} → ((y : Value) → Holds c b y → ⊥) → LeadsTo l (Reads c b n p next) (Fails p) 0

@@ -4,10 +4,10 @@
 
 pub mod ranks;
 
-ghost use Rattle.std.specs.Prelude.{◌≡◌, ℕ};
-ghost use Rattle.cbor_data.specs.Value.{Value};
+ghost use Rattle.std.specs.Prelude.{◌≡◌, ◌^◌, ℕ, Some, None, [], ◌∷◌};
+ghost use Rattle.cbor_data.specs.Value.{Value, bytes, nint, uint};
 ghost use Rattle.cbor_data.specs.Equivalence.{IsSame};
-ghost use Rattle.cddl_meaning.specs.Forms.{Test, passes, Language};
+ghost use Rattle.cddl_meaning.specs.Forms.{Test, Language, bits_among, bits_asked, bits_set, passes};
 ghost use Rattle.cddl_meaning.specs.Judges.{Yes, No, Says};
 ghost use Rattle.cddl_meaning.specs.Literals.{IsPlainTest, HasPlainLiterals};
 
@@ -21,4 +21,14 @@ pub fn same_test()
 pub fn same_answer<N, G>()
     ensures yes { (l : Language N G) → HasPlainLiterals l → (n : N) (p q w : ℕ) (x y : Value) → IsSame x y → Says l (l.type_at n) p x Yes w → (v : ℕ) × Says l (l.type_at n) q y Yes v }
     ensures no { (l : Language N G) → HasPlainLiterals l → (n : N) (p q far w : ℕ) (x y : Value) → IsSame x y → Says l (l.type_at n) p x (No far) w → (near v : ℕ) × Says l (l.type_at n) q y (No near) v }
+{}
+
+/// Which bits of an item are set: the bits 0 and 9 of `h'0102'`, the bits 0, 2 and 3 of 13, and bit 63 alone of the
+/// greatest power of two. Negative numbers have none. Those that are no members weigh, too.
+pub fn example_bits()
+    ensures string { bits_set (bytes (1 ∷ 2 ∷ [])) ≡ Some (9 ∷ 0 ∷ []) }
+    ensures number { bits_set (uint 13) ≡ Some (3 ∷ 2 ∷ 0 ∷ []) }
+    ensures last { bits_set (uint (2 ^ 63)) ≡ Some (63 ∷ []) }
+    ensures negative { bits_set (nint 0) ≡ None }
+    ensures weight { bits_asked (bits_among []) (uint 13) ≡ 3 }
 {}

@@ -5,14 +5,14 @@ use Rattle.cbor_data.specs.Value.{Value, no_pairs, pair}
 use Rattle.cddl_meaning.specs.Forms.{Content, Language}
 use Rattle.cddl_meaning.specs.Held.{Holds}
 use Rattle.cddl_meaning.specs.Judges.{Reply, Fails}
-use Rattle.cddl_meaning.specs.Moves.{Question, OfType, OfGroup, OfAlternative, Sorting, Pending, InRef, InMap, InHeld, Move, Answered, Asks, Tries, Reads, Replies, first_move, next_move, next_entry}
+use Rattle.cddl_meaning.specs.Moves.{Question, OfType, OfGroup, OfAlternative, Sorting, Pending, InRef, InMap, InHeld, Move, Answered, Asks, Tries, Reads, Weighs, Replies, first_move, next_move, next_entry}
 use Rattle.cddl_meaning.specs.Ranks.Ranked.{Name, IsRanked}
 use Rattle.cddl_meaning.specs.Size.{size, pairs_size, list_size, size_of}
 use Rattle.cddl_meaning.proofs.OfRanks.ByForm.{IsRankedByForm, types_by, groups_by, by_form}
-use Rattle.cddl_meaning.specs.Ranks.Reached.{IsReached, begun, asked, tried, read, read_nothing, answered, one_for_empty_map}
+use Rattle.cddl_meaning.specs.Ranks.Reached.{IsReached, begun, asked, tried, read, read_nothing, weighed, answered, one_for_empty_map}
 use Rattle.cddl_meaning.proofs.OfRanks.Induction.{IsLess}
 use Rattle.cddl_meaning.proofs.Lemmas.{size_some, all_some, key_less}
-use Rattle.cddl_meaning.proofs.OfRanks.Down.{height_of, rank_of, IsMapOf, IsBelow, plain_replies, RepliesDown, replies, EndsDown, at_once, after, tries, reads, reads_nothing}
+use Rattle.cddl_meaning.proofs.OfRanks.Down.{height_of, rank_of, IsMapOf, IsBelow, plain_replies, RepliesDown, replies, EndsDown, at_once, after, tries, weighs, reads, reads_nothing}
 use Rattle.cddl_meaning.proofs.Lemmas.{held_once}
 use Rattle.cddl_meaning.proofs.OfRanks.Total.{type_replies, group_replies, alternative_replies}
 
@@ -42,6 +42,9 @@ module _ {N G : Type 0} (l : Language N G) (type_rank : N → ℕ) (group_rank :
   goes_unread k (within w (reads {y = y} h e)) = absurd (k y h)
   goes_unread k (within w (reads_nothing n)) = within w at_once
 
+  goes_weighed : {n : ℕ} {r : Reply} {os : List (Pending N G)} → GoesDown os (Weighs n r) → GoesDown os (Answered r)
+  goes_weighed (within w weighs) = within w at_once
+
   goes_answered : {s : Reply} {o : Pending N G} {os : List (Pending N G)} → GoesDown (o ∷ os) (Answered s) → GoesDown os (next_move o s)
   goes_answered (within bottom at_once) = replied
   goes_answered (within (upon i w e) at_once) = within w e
@@ -52,6 +55,7 @@ module _ {N G : Type 0} (l : Language N G) (type_rank : N → ℕ) (group_rank :
   reached_down d (tried h) = goes_tried (reached_down d h)
   reached_down d (read k h) = goes_read k (reached_down d h)
   reached_down d (read_nothing k h) = goes_unread k (reached_down d h)
+  reached_down d (weighed h) = goes_weighed (reached_down d h)
   reached_down d (answered h) = goes_answered (reached_down d h)
 
   module _ (bound : ℕ) (ranks : (q : Question N G) → rank_of type_rank group_rank q ≤ bound) where

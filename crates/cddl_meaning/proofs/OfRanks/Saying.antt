@@ -1,12 +1,12 @@
 -- A type says something of an item, and a group does something with a list, where those do that they ask.
-use Rattle.std.proofs.Common.{◌≡◌, ℕ, zero, suc, ◌+◌, ◌-◌, ◌^◌, ◌<◌, ◌≤◌, ◌⊎◌, inl, inr, max, length, List, [], ◌∷◌, Option, Some, None, Bool, true, false, nat_eq, refl, subst, ap, arith, Contains}
+use Rattle.std.proofs.Common.{◌≡◌, ℕ, zero, suc, ◌+◌, ◌-◌, ◌<◌, ◌≤◌, ◌⊎◌, inl, inr, max, length, List, [], ◌∷◌, Option, Some, None, Bool, true, false, nat_eq, refl, subst, ap, arith, Contains}
 use Rattle.lists.proofs.Lemmas.{is_equal, is_unequal}
 use Rattle.cbor_data.specs.Value.{Value, uint, place_count, Pairs, no_pairs, pair}
 use Rattle.cddl_meaning.specs.Forms.{Test, passes, members_in, pairs_in, bytes_in, tag_in, simple_in, TagNumber, any_number, exactly, such_as, Content, one_item, sequence_of_items, MapEntry, Node, Plain, Ref, Choice, ArrayOf, TagOf, SimpleBy, MapOf, Both, Such, Holding, Most, Group, Entry, GroupRef, Sequence, Alternatives, Repeat, Language}
 use Rattle.cddl_meaning.specs.Judges.{Answer, Yes, No, Reply, Takes, Fails, whole, over, failed, is_over, one_less, Says, passed, missed, ref, choice, no_array, array, no_tag, tagged, other_tag, no_simple, simple_such, other_simple, no_map, map, left_no, left_yes, none_such, such_passed, such_missed, holder_no, no_string, holds_nothing, held_yes, held_no, Fate, BelongsTo, Stray, alternative_says, either, Maps, no_alternative, alternative, Sorts, all_sorted, sort, Belongs, nowhere, other_key, here, cut_here, handed_on, Numbers, whichever, this_number, other_number, by_head, Chooses, no_more, this_one, not_this, Does, missing, matches, differs, group_ref, sequence, alternatives, repeat, DoesEach, all_done, one_fails, and_then, DoesFirst, all_fail, one_takes, or_else, Repeats, full, too_few, enough, empty_round, round}
 use Rattle.cddl_meaning.specs.Size.{size, pairs_size, list_size}
 use Rattle.cddl_meaning.proofs.OfRanks.Founded.{AreAll, HasEntry, HasGroupParts, HasNumber, HasTypeParts}
-use Rattle.cddl_meaning.specs.Ranks.Ranked.{IsFreeInGroup, IsFreeInType, IsFreePart, MayBeEmpty, Name, a_group, a_round, a_type, all_items, alternative as free_alternative, front, holder, its_number, left_side, member as free_member, part, past_empty, right_side, same_item, same_list, sequence_held, tested}
+use Rattle.cddl_meaning.specs.Ranks.Ranked.{IsFreeInGroup, IsFreeInType, IsFreePart, MayBeEmpty, a_group, a_round, a_type, all_items, alternative as free_alternative, front, holder, its_number, left_side, member as free_member, part, past_empty, right_side, same_item, same_list, sequence_held, tested}
 use Rattle.cddl_meaning.proofs.Lemmas.{size_some, all_some, array_size, tag_size, map_size, string_size, size_spelled, held_size, key_less, value_less}
 use Rattle.cddl_meaning.specs.Held.{Holds, item}
 use Rattle.cddl_meaning.proofs.OfRanks.Readable.{Told, told}
@@ -233,8 +233,8 @@ module _ {N G : Type 0} (l : Language N G) where
     both_some m n p x (No far) w d e = record { answer = No far; weight = suc w; says = left_no d }
 
     tested_some : (m : N) (t : Test) (p : ℕ) (x : Value) (w : ℕ) → Says l (l.type_at m) p x Yes w → (b : Bool) → passes t x ≡ b → SaysSome (Such m t) p x
-    tested_some m t p x w d true e = record { answer = Yes; weight = suc w; says = such_passed d e }
-    tested_some m t p x w d false e = record { answer = No p; weight = suc w; says = such_missed d e }
+    tested_some m t p x w d true e = record { answer = Yes; weight = _; says = such_passed d e }
+    tested_some m t p x w d false e = record { answer = No p; weight = _; says = such_missed d e }
 
     such_some : (m : N) (t : Test) (p : ℕ) (x : Value) (a : Answer) (w : ℕ) → Says l (l.type_at m) p x a w → SaysSome (Such m t) p x
     such_some m t p x Yes w d = tested_some m t p x w d (passes t x) refl

@@ -2,14 +2,14 @@
 use Rattle.std.proofs.Common.{◌≡◌, ℕ, zero, suc, ◌+◌, ◌-◌, ◌<◌, ◌≤◌, ◌⊎◌, inl, inr, max, length, List, [], ◌∷◌, Option, Some, None, Bool, true, false, nat_eq, refl, ap, arith}
 use Rattle.lists.proofs.Lemmas.{is_equal, is_unequal}
 use Rattle.cbor_data.specs.Value.{Value, uint, place_count, Pairs, no_pairs, pair}
-use Rattle.cddl_meaning.specs.Forms.{Test, passes, members_in, pairs_in, bytes_in, tag_in, simple_in, TagNumber, any_number, exactly, such_as, Content, one_item, sequence_of_items, MapEntry, Node, Plain, Ref, Choice, ArrayOf, TagOf, SimpleBy, MapOf, Both, Such, Holding, Most, Group, Entry, GroupRef, Sequence, Alternatives, Repeat, Language}
+use Rattle.cddl_meaning.specs.Forms.{Test, bits_among, passes, bits_asked, members_in, pairs_in, bytes_in, tag_in, simple_in, TagNumber, any_number, exactly, such_as, Content, one_item, sequence_of_items, MapEntry, Node, Plain, Ref, Choice, ArrayOf, TagOf, SimpleBy, MapOf, Both, Such, Holding, Most, Group, Entry, GroupRef, Sequence, Alternatives, Repeat, Language}
 use Rattle.cddl_meaning.specs.Judges.{Yes, No, Reply, Takes, Fails, is_over, one_less, Fate, BelongsTo, Stray}
-use Rattle.cddl_meaning.specs.Moves.{Question, OfType, OfGroup, OfAlternative, Tally, Sorting, Pending, InChoice, InHead, InSimple, InEntry, InSequence, InAlternatives, InRepeat, InKey, InValue, InLeft, InSuch, InHolder, InHeld, Move, Answered, Asks, plus, test_reply, such_reply, array_reply, next_member, next_part, next_alternative, next_round, repetition, after_round, end_of_rounds, array_move, content_move, tag_move, simple_move, read_move, either_reply, answer_reply, fresh, tallied, tally_says, next_way, map_move, next_pair, sorted, next_entry, after_value, type_move, entry_move, group_move, next_move}
+use Rattle.cddl_meaning.specs.Moves.{Question, OfType, OfGroup, OfAlternative, Tally, Sorting, Pending, InChoice, InHead, InSimple, InEntry, InSequence, InAlternatives, InRepeat, InKey, InValue, InLeft, InSuch, InHolder, InHeld, Move, Answered, Asks, plus, test_reply, such_reply, array_reply, next_member, next_part, next_alternative, next_round, repetition, after_round, end_of_rounds, array_move, content_move, tag_move, simple_move, read_move, tested_move, either_reply, answer_reply, fresh, tallied, tally_says, next_way, map_move, next_pair, sorted, next_entry, after_value, type_move, entry_move, group_move, next_move}
 use Rattle.cddl_meaning.specs.Size.{size, pairs_size, list_size}
 use Rattle.cddl_meaning.specs.Ranks.Ranked.{MayBeEmpty, named, every_part, one_of_them, no_minimum, no_round, an_empty_round, AllMayBeEmpty, no_part, this_part, OneMayBeEmpty, this_one, another}
 use Rattle.cddl_meaning.specs.Ranks.Flags.{AreBelow, IsTypeRanked}
 use Rattle.cddl_meaning.proofs.OfRanks.ByForm.{LeadsDown, IsGroupRanked, IsRankedByForm}
-use Rattle.cddl_meaning.proofs.OfRanks.Down.{IsBelow, RepliesDown, replies, EndsDown, at_once, after, tries, reads, reads_nothing}
+use Rattle.cddl_meaning.proofs.OfRanks.Down.{IsBelow, RepliesDown, replies, EndsDown, at_once, after, tries, weighs, reads, reads_nothing}
 use Rattle.cddl_meaning.proofs.Lemmas.{size_some, all_some, array_size, tag_size, map_size, string_size, size_spelled, held_size, key_less, value_less}
 use Rattle.cddl_meaning.specs.Held.{Holds, item}
 use Rattle.cddl_meaning.proofs.OfRanks.Readable.{Told, told}
@@ -45,6 +45,10 @@ module _ {N G : Type 0} (l : Language N G) (type_rank : N → ℕ) (group_rank :
 
   then : {S R : ℕ} {q : Question N G} {o : Pending N G} {s : Reply} {w : ℕ} {IsGood : Reply → Type 0} → IsBelow type_rank group_rank q o S R → RepliesDown l type_rank group_rank q s w → Ending S R (next_move o s) IsGood → Ending S R (Asks q o) IsGood
   then {w = w} i d e = record { reply = e.reply; weight = w + e.weight; ends = after i d e.ends; good = e.good }
+
+  tested_total : {S R : ℕ} (t : Test) (p next : ℕ) (x : Value) → Ending S R (tested_move t p next x) AnyReply
+  tested_total (bits_among rs) p next x = record { reply = such_reply p next (passes (bits_among rs) x); weight = bits_asked (bits_among rs) x; ends = weighs; good = tt }
+  tested_total t p next x = at_end (such_reply p next (passes t x)) AnyReply tt
 
   -- The keys and values of an alternative are of a size below S.
   module _ (S R : ℕ) (types : TypesReply S R) where
@@ -146,7 +150,7 @@ module _ {N G : Type 0} (l : Language N G) (type_rank : N → ℕ) (group_rank :
     left_next n p x (Fails later) i = at_end (Fails later) AnyReply tt
 
     such_next : (t : Test) (p : ℕ) (x : Value) (s : Reply) → Ending S R (next_move (InSuch t p x) s) AnyReply
-    such_next t p x (Takes left b later) = at_end (such_reply p b (passes t x)) AnyReply tt
+    such_next t p x (Takes left b later) = tested_total t p b x
     such_next t p x (Fails later) = at_end (Fails later) AnyReply tt
 
     held_next : (p next : ℕ) (s : Reply) → Ending S R (next_move (InHeld p next) s) AnyReply

@@ -58,7 +58,7 @@ module _ {N G : Type 0} (l : Language N G) where
   takes_nothing {f = f} {xs = xs} {left = left} d n = nothing {E = MayBeEmpty l f} {xs = xs} {left = left} n (does_well d)
 
   -- by the weight, which goes down for ever
-  turns : (n : N) → l.type_at n ≡ Ref n → (k : ℕ) {f : Node N G} {p w : ℕ} {x : Value} {a : Answer} → w < k → f ≡ Ref n → Says l f p x a w → ⊥
+  turns : (n : N) → l.type_at n ≡ Ref n → (k : ℕ) {f : Node N G} {p : ℕ} {x : Value} {w : ℕ} {a : Answer} → w < k → f ≡ Ref n → Says l f p x a w → ⊥
   turns n e zero h i d = absurd (omega (arith, h))
   turns n e (suc k) h i (ref {m = m} d) = let j : m ≡ n = ap (named_or n) i in turns n e k (omega (arith, h)) (ap l.type_at j ∙ e) d
   turns n e (suc k) h i _ = cc

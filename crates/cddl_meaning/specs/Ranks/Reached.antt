@@ -4,7 +4,7 @@ use Rattle.cbor_data.specs.Value.{Value, no_pairs}
 use Rattle.cddl_meaning.specs.Forms.{Content, Language}
 use Rattle.cddl_meaning.specs.Held.{Holds}
 use Rattle.cddl_meaning.specs.Judges.{Reply, Fails}
-use Rattle.cddl_meaning.specs.Moves.{Question, OfType, Pending, InRef, InMap, InHeld, Sorting, Move, Answered, Asks, Tries, Reads, first_move, next_move, next_entry}
+use Rattle.cddl_meaning.specs.Moves.{Question, OfType, Pending, InRef, InMap, InHeld, Sorting, Move, Answered, Asks, Tries, Reads, Weighs, first_move, next_move, next_entry}
 
 -- What waits for the reply to each open question, the last question's first; and the next move.
 pub data IsReached {N G : Type 0} (l : Language N G) (first : Question N G) : List (Pending N G) → Move N G → Type 0 where
@@ -17,6 +17,8 @@ pub data IsReached {N G : Type 0} (l : Language N G) (first : Question N G) : Li
   -- a byte string is read, and a type is to be asked of what it holds, or it holds nothing
   read : {c : Content} {b : List ℕ} {n : N} {p next : ℕ} {y : Value} {os : List (Pending N G)} → Holds c b y → IsReached l first os (Reads c b n p next) → IsReached l first os (Asks (OfType n 0 y) (InHeld p next))
   read_nothing : {c : Content} {b : List ℕ} {n : N} {p next : ℕ} {os : List (Pending N G)} → ((y : Value) → Holds c b y → ⊥) → IsReached l first os (Reads c b n p next) → IsReached l first os (Answered (Fails p))
+  -- the bits of an item are weighed
+  weighed : {n : ℕ} {r : Reply} {os : List (Pending N G)} → IsReached l first os (Weighs n r) → IsReached l first os (Answered r)
   -- the last open question has its reply, and the one that asked it goes on
   answered : {s : Reply} {o : Pending N G} {os : List (Pending N G)} → IsReached l first (o ∷ os) (Answered s) → IsReached l first os (next_move o s)
 
