@@ -24,7 +24,7 @@ use Rattle.check_reached.specs.Reached.{AreReachedSites}
 use Rattle.check_instances.specs.Closed.Closed.{IsClosed}
 use Rattle.check_instances.specs.Openings.Openings.{AreOpenings}
 use Rattle.check_literals.specs.Literals.{AreLiterals}
-use Rattle.check_literals.specs.Sizes.Sizes.{AreSizable, AreSizes}
+use Rattle.check_literals.specs.Sizes.Sizes.{AreControllers, AreMembers}
 use Rattle.check_groups.specs.Choosing.Choosing.{AreChoosable}
 use Rattle.cddl_language.specs.MapFaults.{HasMapShape, HasNoKey, HasTooManyAlternatives}
 use Rattle.alternatives.specs.Summaries.{AreSummaries}
@@ -79,13 +79,13 @@ pub record IsAsking (s : Specification) (root : Text) (t : Table) (v : Survey) (
   pub entries : AreEntriesAsked (rules s) root t x.entries.items
   pub opens : IsLeast (OpensWrongly s root) x.opens
 
--- What the instances mean and open, which literals and sizes types are, and what may be chosen from.
+-- What the instances mean and open, which literals and controllers types are, and what may be chosen from.
 pub record IsMeant (ds : List Definition) (worth : Values) (root : Text) (refs : List Ref) (t : Table) (x : Meant) : Type 0 where
   pub closed : IsClosed ds root refs t x.closed
   pub openings : AreOpenings ds t refs x.openings.items
   pub literals : AreLiterals ds root worth t x.literals
-  pub sizable : AreSizable ds root worth t x.sizable.items
-  pub sizes : AreSizes ds root worth t x.sizes
+  pub controllers : AreControllers ds root worth t x.controllers
+  pub members : AreMembers ds root worth t x.members
   pub choosable : AreChoosable ds root t x.choosable.items
 
 -- What the groups in maps stand for.

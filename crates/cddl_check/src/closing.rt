@@ -20,7 +20,7 @@ use check_groups::choosing::laws::texts_have_entries;
 use check_instances::Instance;
 use check_instances::closed::{Closed, close};
 use check_instances::openings::{Opening, openings_of};
-use check_literals::sizes::{Sizes, sizable, sizes};
+use check_literals::sizes::{Controllers, Members, controllers, members};
 use check_literals::{Literals, literals};
 use check_names::kinds::Kinds;
 use check_terms::Terms;
@@ -34,16 +34,16 @@ pub struct Meant {
     pub openings: Vec<Opening>,
     /// The literals that types are.
     pub literals: Literals,
-    /// For each row whether it may be a controller of `.size`.
-    pub sizable: Vec<bool>,
+    /// For each row whether it may be a controller of `.size`, and of `.bits`.
+    pub controllers: Controllers,
     /// The members of each such controller.
-    pub sizes: Sizes,
+    pub members: Members,
     /// For each row whether `&` can choose from it.
     pub choosable: Vec<bool>,
 }
 
-// What the instances mean and open, which literals and sizes types are, and from which groups `&` can choose. The table grows by rows. There are so many
-// definitions in the prelude and the text together.
+// What the instances mean and open, which literals and controllers types are, and from which groups `&` can choose. The table
+// grows by rows. There are so many definitions in the prelude and the text together.
 pub(crate) fn close_instances(
     alloc: Global,
     terms: &mut Terms<'_>,
@@ -60,15 +60,15 @@ pub(crate) fn close_instances(
     let closed = close(alloc, terms, found)?;
     let openings = openings_of(alloc, terms, &closed, kinds, most)?;
     let literals = literals(alloc, terms, &closed, kinds)?;
-    let sizable = sizable(alloc, terms, &closed, kinds, &literals)?;
-    let sizes = sizes(alloc, terms, &closed, kinds, &literals, &sizable)?;
+    let controllers = controllers(alloc, terms, &closed, kinds, &literals)?;
+    let members = members(alloc, terms, &closed, kinds, &literals, &controllers)?;
     let choosable = choosable(alloc, terms, &closed, kinds, &openings)?;
     Ok(Meant {
         closed,
         openings,
         literals,
-        sizable,
-        sizes,
+        controllers,
+        members,
         choosable,
     })
 }

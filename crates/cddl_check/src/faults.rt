@@ -161,7 +161,7 @@ fn controller_of(terms: &Terms<'_>, reading: &Reading<'_>) -> Option<usize>
 {
     let meant = &reading.meant;
     let asked = &reading.questions.asked;
-    bad_controller(terms, &meant.literals, &meant.sizable, asked)
+    bad_controller(terms, &meant.literals, &meant.controllers, asked)
 }
 
 // The least offset of a range or of an occurrence with bad ends.

@@ -17,11 +17,11 @@ use Rattle.cddl_language.specs.Reach.{Point, ref_at, at_name, at_unwrapping, at_
 use Rattle.cddl_language.specs.Free as F
 use Rattle.cddl_language.specs.Free.{IsFreeInSome, IsFreeInEach, IsFreeInEntry, IsFreeInChoice, IsFreeInChosen, IsFreeInChosenEntry, IsFreeInMeaning}
 use Rattle.cddl_language.specs.Literals.{Values, computed_literal, literal_of, whole_of}
-use Rattle.cddl_language.specs.Sizes.{Sizes, sizes_of}
+use Rattle.cddl_language.specs.Sizes.{Sizes, members_of}
 use Rattle.cddl_language.specs.Choices.{can_choose, chosen, chosen_by_name, chosen_in}
 use Rattle.cddl_language.specs.Maps.{Alternatives, map_alternatives}
 use Rattle.cddl_language.specs.Language as L
-use Rattle.cddl_language.specs.Language.{TypeName, type, reference, chosen_of, word, GroupName, first_of, each_of, entry, round, between, choice, chosen_name, chosen_names, comparand, content, control_node, equal_to, group_form, language, map_node, part_form, round_form, rounds_form, such_as_compares, such_as_sized, term_node, type_node}
+use Rattle.cddl_language.specs.Language.{TypeName, type, reference, chosen_of, word, GroupName, first_of, each_of, entry, round, between, choice, chosen_name, chosen_names, comparand, content, control_node, equal_to, group_form, language, map_node, part_form, round_form, rounds_form, such_as_compares, such_as_member, term_node, type_node}
 use Rattle.check_instances.specs.Closed.Closed.{AreReached}
 use Rattle.cddl_decided.specs.Ways.{WaysEnd, ends}
 use Rattle.cddl_meaning.proofs.OfRanks.Lemmas.{AreAll, IsFounded, founded}
@@ -93,9 +93,9 @@ module _ (worth : Values) (ds : List Definition) (root : Text) (on : AreInstance
   compares_free c (Some v) a h b R.tested = h
   compares_free c None a h b f = absurd (no_choice f)
 
-  sized_free : (o : Option Sizes) (a : Term) → EndingType (type a) → (b : Name TypeName GroupName) → IsFreeInType (such_as_sized o a) b → Ending b
-  sized_free (Some rs) a h b R.tested = h
-  sized_free None a h b f = absurd (no_choice f)
+  member_free : (m : C.Membership) (o : Option Sizes) (a : Term) → EndingType (type a) → (b : Name TypeName GroupName) → IsFreeInType (such_as_member m o a) b → Ending b
+  member_free m (Some rs) a h b R.tested = h
+  member_free m None a h b f = absurd (no_choice f)
 
   equal_free : (o : Option Meaning) (b : Name TypeName GroupName) → IsFreeInType (equal_to o) b → Ending b
   equal_free (Some m) b f = elim f [ ]
@@ -109,7 +109,7 @@ module _ (worth : Values) (ds : List Definition) (root : Text) (on : AreInstance
   control_free (Some C.held_sequence) t u h k b R.holder = h
   control_free (Some C.held_sequence) t u h k b R.sequence_held = k refl
   control_free (Some (C.compared c)) t u h k b f = compares_free c (comparand (C.is_ordering c) (literal_of worth ds u)) t h b f
-  control_free (Some C.sized) t u h k b f = sized_free (sizes_of worth ds u) t h b f
+  control_free (Some (C.member m)) t u h k b f = member_free m (members_of worth ds m u) t h b f
   control_free (Some (C.computed c)) t u h k b f = equal_free (computed_literal c (literal_of worth ds t) (literal_of worth ds u)) b f
   control_free None t u h k b f = absurd (no_choice f)
 

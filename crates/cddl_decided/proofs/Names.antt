@@ -17,12 +17,12 @@ use Rattle.cddl_language.specs.Substitution.{group_choices, type_choices}
 use Rattle.cddl_language.specs.Kinds.{Opened, opens_group, opens_type, opened, is_group, Part, asks_type, names_group, opens, part_of}
 use Rattle.cddl_language.specs.Reach.{Reaches, at_choice, at_name, at_unwrapping, entries_points, entry_points, group_points, key_points, most_instances, points}
 use Rattle.cddl_language.specs.Literals.{Values, computed_literal, literal_of, whole_of}
-use Rattle.cddl_language.specs.Sizes.{Sizes, sizes_of}
+use Rattle.cddl_language.specs.Sizes.{Sizes, members_of}
 use Rattle.cddl_language.specs.Choices as Ch
 use Rattle.cddl_language.specs.Choices.{can_choose, chosen, chosen_by_name, chosen_each, chosen_entries, chosen_entry, chosen_group, chosen_in, chosen_part}
 use Rattle.cddl_language.specs.Maps as M
 use Rattle.cddl_language.specs.Maps.{Alternatives, Member, alternatives_in, combined, each_needed, from, in_each, in_entries, in_entry, in_group, in_part, is_needed, map_alternatives, may_repeat, members, occurring, occurring_so, occurs, ways}
-use Rattle.cddl_language.specs.Language.{TypeName, type, reference, chosen_of, word, GroupName, first_of, each_of, entry, round, between, choice, chosen_name, chosen_names, chosen_part_name, comparand, content, control_node, entry_form, equal_to, group_form, key_name, language, map_entry, map_node, part_form, round_form, rounds_form, such_as_compares, such_as_sized, term_node, type_node}
+use Rattle.cddl_language.specs.Language.{TypeName, type, reference, chosen_of, word, GroupName, first_of, each_of, entry, round, between, choice, chosen_name, chosen_names, chosen_part_name, comparand, content, control_node, entry_form, equal_to, group_form, key_name, language, map_entry, map_node, part_form, round_form, rounds_form, such_as_compares, such_as_member, term_node, type_node}
 use Rattle.cddl_meaning.proofs.OfRanks.Lemmas.{AreAll, HasEntry, HasGroupParts, HasNumber, HasTypeParts}
 use Rattle.cddl_decided.proofs.Reached.{AreInstancesOn, all_points, both, left, nothing, of_all, of_group, one, right}
 use Rattle.check_instances.specs.Closed.Closed.{AreReached}
@@ -283,9 +283,9 @@ module _ (worth : Values) (ds : List Definition) (root : Text) where
     compares_has c (Some v) a h = h
     compares_has c None a h = tt
 
-    sized_has : (o : Option Sizes) (a : Term) → AreReached ds root (points a) → HasTypeParts IsType IsGroup (such_as_sized o a)
-    sized_has (Some rs) a h = h
-    sized_has None a h = tt
+    member_has : (m : C.Membership) (o : Option Sizes) (a : Term) → AreReached ds root (points a) → HasTypeParts IsType IsGroup (such_as_member m o a)
+    member_has m (Some rs) a h = h
+    member_has m None a h = tt
 
     equal_has : (o : Option Meaning) → HasTypeParts IsType IsGroup (equal_to o)
     equal_has (Some m) = tt
@@ -297,7 +297,7 @@ module _ (worth : Values) (ds : List Definition) (root : Text) where
     control_has (Some C.held_item) a b h k = (h, k)
     control_has (Some C.held_sequence) a b h k = (h, k)
     control_has (Some (C.compared c)) a b h k = compares_has c (comparand (C.is_ordering c) (literal_of worth ds b)) a h
-    control_has (Some C.sized) a b h k = sized_has (sizes_of worth ds b) a h
+    control_has (Some (C.member m)) a b h k = member_has m (members_of worth ds m b) a h
     control_has (Some (C.computed c)) a b h k = equal_has (computed_literal c (literal_of worth ds a) (literal_of worth ds b))
     control_has None a b h k = tt
 

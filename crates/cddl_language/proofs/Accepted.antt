@@ -261,7 +261,7 @@ module _ (worth : Values) (at : ℕ) where
 
   good_controllers : F.HasBadController T.lists worth (codes "t") at → ⊥
   good_controllers (F.no_number {r = r} {xs = xs} {x = x} {y = y} {o = o} p c g l h e) = places_reached r xs (an_operation x o y) p
-  good_controllers (F.no_sizes {r = r} {xs = xs} {x = x} {y = y} {o = o} p c h e) = places_reached r xs (an_operation x o y) p
+  good_controllers (F.no_members {r = r} {xs = xs} {x = x} {y = y} {o = o} p c h e) = places_reached r xs (an_operation x o y) p
   good_controllers (F.not_utf8 {r = r} {xs = xs} {x = x} {y = y} {o = o} p c g h k e) = places_reached r xs (an_operation x o y) p
 
   good_ranges : F.HasBadRange T.lists worth (codes "t") at → ⊥

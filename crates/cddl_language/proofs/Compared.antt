@@ -9,7 +9,7 @@ use Rattle.cbor_data.proofs.Lemmas.{same_value-laws}
 use Rattle.cddl_literal.specs.Numbers.{Meaning, UintOf, NintOf, TextOf, BytesOf}
 use Rattle.cddl_meaning.specs.Judges.{Answer, Yes, No, none_such, such_passed, such_missed}
 use Rattle.cddl_meaning.specs.Forms.{passes}
-use Rattle.cddl_language.specs.Controls.{Comparison, is_ordering, Control, left_alone, left_and_right, held_item, held_sequence, compared, sized, computed, comparison_in, control_of}
+use Rattle.cddl_language.specs.Controls.{Comparison, is_ordering, Control, left_alone, left_and_right, held_item, held_sequence, compared, member, computed, comparison_in, control_of}
 use Rattle.cddl_language.specs.Language.{Saying, TermSays, comparand, compared_test, control_node, language, such_as_compares}
 use Rattle.cddl_language.specs.Literals.{Values, item_of, literal_of}
 use Rattle.cddl_language.specs.Terms.{Definition, Term, Text, control}
@@ -75,13 +75,13 @@ module _ (worth : Values) (ds : List Definition) (a : Term) (p : ℕ) (x : Value
       onwards (w, such_passed {w = u} h g) = ((u, h), q.0 g)
 
       back : TermSays worth ds a p x Yes × Q → Saying (language worth ds) (such_as_compares c (Some v) a) p x Yes
-      back ((u, h), g) = (suc u, such_passed h (q.1 g))
+      back ((u, h), g) = (_, such_passed h (q.1 g))
 
   pub left_says_no : (o : Option Value) (v : Value) (far : ℕ) → o ≡ Some v → TermSays worth ds a p x (No far) → Saying (language worth ds) (such_as_compares c o a) p x (No far)
   left_says_no o v far e k = with_value (λ o. Saying (language worth ds) (such_as_compares c o a) p x (No far)) o v e (suc k.0, none_such k.1)
 
   pub test_says_no : (o : Option Value) (v : Value) → o ≡ Some v → TermSays worth ds a p x Yes → passes (compared_test c v) x ≡ false → Saying (language worth ds) (such_as_compares c o a) p x (No p)
-  test_says_no o v e k g = with_value (λ o. Saying (language worth ds) (such_as_compares c o a) p x (No p)) o v e (suc k.0, such_missed k.1 g)
+  test_says_no o v e k g = with_value (λ o. Saying (language worth ds) (such_as_compares c o a) p x (No p)) o v e (_, such_missed k.1 g)
 
 compares : (o : Option Control) (c : Comparison) → comparison_in o ≡ Some c → o ≡ Some (compared c)
 compares None c e = cc
@@ -93,7 +93,7 @@ compares (Some (compared d)) c e = ap Some (ap compared same)
   where
     same : d ≡ c
     same = cc
-compares (Some sized) c e = cc
+compares (Some (member m)) c e = cc
 compares (Some (computed d)) c e = cc
 
 module _ (worth : Values) (ds : List Definition) (a b : Term) (n : Text) (c : Comparison) (v : Value) (p : ℕ) (x : Value) (e : comparison_in (control_of n) ≡ Some c) (g : comparand (is_ordering c) (literal_of worth ds b) ≡ Some v) where

@@ -2,6 +2,7 @@ pub mod Accepted
 pub mod After
 pub mod Alone
 pub mod Basics
+pub mod Bits
 pub mod Choosing
 pub mod Circles
 pub mod Compared

@@ -30,7 +30,7 @@ from_within a b n l m = grind (arith, nat_tests)
 
 -- the number is a member
 
-abbrev IsOneOf : List (ℕ × ℕ) → ℕ → Type 0
+abbrev pub IsOneOf : List (ℕ × ℕ) → ℕ → Type 0
 IsOneOf rs n = (r : ℕ × ℕ) × Contains rs r × (r.0 ≤ n) × (n ≤ r.1)
 
 member : (n : ℕ) (rs : List (ℕ × ℕ)) → is_member n rs ≡ true → IsOneOf rs n

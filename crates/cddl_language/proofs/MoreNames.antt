@@ -1,12 +1,12 @@
 -- What `&` chooses, literals and sizes: what is found through so many names is found through more.
-use Rattle.std.proofs.Common.{◌≡◌, ℕ, zero, suc, ◌≤◌, Bool, true, false, if◌then◌else◌, List, [], ◌∷◌, ◌++◌, Option, Some, None, refl, sym, subst, arith}
+use Rattle.std.proofs.Common.{◌≡◌, ℕ, zero, suc, ◌≤◌, Bool, true, false, if◌then◌else◌, List, [], ◌∷◌, Option, Some, None, refl, sym, subst, arith}
 use Rattle.lists.proofs.Lemmas.{no_some as none_is_some}
 use Rattle.cddl_literal.specs.Numbers.{Meaning}
 use Rattle.cddl_language.specs.Numbers.{occurs_once}
-use Rattle.cddl_language.specs.Terms.{Term, literal, named, parens, range, control, or, Group, sole, orelse, Entries, no_entries, entries, Entry, typed, keyed, grouped, Definition, alternatives, name_of}
+use Rattle.cddl_language.specs.Terms.{Term, named, parens, control, or, Group, sole, orelse, Entries, no_entries, entries, Entry, typed, keyed, grouped, Definition, alternatives, name_of}
 use Rattle.cddl_language.specs.Substitution.{group_choices, type_choices}
 use Rattle.cddl_language.specs.Kinds.{Part, asks_type, names_group, opens, is_group, part_of}
-use Rattle.cddl_language.specs.Controls.{Computation, Control, left_alone, left_and_right, held_item, held_sequence, compared, sized, computed, control_of}
+use Rattle.cddl_language.specs.Controls.{Computation, Control, left_alone, left_and_right, held_item, held_sequence, compared, member, computed, control_of}
 use Rattle.cddl_language.specs.Choices.{chosen_each, chosen_entries, chosen_entry, chosen_group, chosen_in, chosen_part, types_of_both}
 use Rattle.cddl_language.specs.Literals.{Values, computed_literal, controlled_literal, literal_by, literal_in, only_choice}
 use Rattle.cddl_language.specs.Sizes.{Sizes, all_sizes, both_sizes, sizes_by, sizes_in}
@@ -75,7 +75,7 @@ control_follows (Some left_and_right) o q p s h k m e = absurd (none_is_some e)
 control_follows (Some held_item) o q p s h k m e = absurd (none_is_some e)
 control_follows (Some held_sequence) o q p s h k m e = absurd (none_is_some e)
 control_follows (Some (compared c)) o q p s h k m e = absurd (none_is_some e)
-control_follows (Some sized) o q p s h k m e = absurd (none_is_some e)
+control_follows (Some (member r)) o q p s h k m e = absurd (none_is_some e)
 control_follows None o q p s h k m e = absurd (none_is_some e)
 
 both_follow : (o q p s : Option Sizes) → Follows o p → Follows q s → Follows (both_sizes o q) (both_sizes p s)

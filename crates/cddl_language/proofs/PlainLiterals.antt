@@ -5,15 +5,15 @@ use Rattle.cbor_data.specs.Value.{Value}
 use Rattle.cddl_meaning.specs.Forms as F
 use Rattle.cddl_meaning.specs.Forms.{Node}
 use Rattle.cddl_literal.specs.Numbers.{Meaning, UintOf, NintOf, TextOf, BytesOf}
-use Rattle.cddl_language.specs.Controls.{Comparison, equal, different, less, at_most, greater, at_least, is_ordering, Control, left_alone, left_and_right, held_item, held_sequence, compared, sized, computed, control_of}
+use Rattle.cddl_language.specs.Controls.{Comparison, equal, different, less, at_most, greater, at_least, is_ordering, Control, left_alone, left_and_right, held_item, held_sequence, compared, Membership, of_size, of_bits, member, computed, control_of}
 use Rattle.cddl_language.specs.Numbers.{HashForm, any_item, major, numbered, hash_form, hash_test}
 use Rattle.cddl_language.specs.Terms.{Term, literal, named, parens, map_of, array_of, unwrapped, choice_of, choice_of_name, tagged, tagged_by, simple_by, hash, range, control, or, Definition, name_of}
 use Rattle.cddl_language.specs.Kinds.{Opened, opens_type, opens_group, opened, is_group}
 use Rattle.cddl_language.specs.Literals.{Values, item_of, whole, whole_of, computed_literal, literal_of}
-use Rattle.cddl_language.specs.Sizes.{Sizes, sizes_of}
+use Rattle.cddl_language.specs.Sizes.{Sizes, members_of}
 use Rattle.cddl_language.specs.Choices.{chosen, chosen_by_name}
 use Rattle.cddl_language.specs.Maps.{Alternatives, map_alternatives}
-use Rattle.cddl_language.specs.Language.{TypeName, type, reference, chosen_of, word, GroupName, nothing, choice, content, between, map_node, comparand, such_as_compares, such_as_sized, equal_to, control_node, term_node, type_node}
+use Rattle.cddl_language.specs.Language.{TypeName, type, reference, chosen_of, word, GroupName, nothing, choice, content, between, map_node, comparand, such_as_compares, such_as_member, equal_to, control_node, term_node, type_node}
 use Rattle.cddl_meaning.specs.Literals.{HasNoParts, IsPlainTest, IsPlainNode}
 
 item_plain : (m : Meaning) → HasNoParts (item_of m)
@@ -81,9 +81,10 @@ compares_plain at_least m a = ordered (whole m)
     ordered (Some v) = tt
     ordered None = tt
 
-sized_plain : (o : Option Sizes) (a : Term) → IsPlainNode (such_as_sized o a)
-sized_plain (Some rs) a = tt
-sized_plain None a = tt
+member_plain : (m : Membership) (o : Option Sizes) (a : Term) → IsPlainNode (such_as_member m o a)
+member_plain of_size (Some rs) a = tt
+member_plain of_bits (Some rs) a = tt
+member_plain m None a = tt
 
 equal_plain : (o : Option Meaning) → IsPlainNode (equal_to o)
 equal_plain (Some m) = item_plain m
@@ -96,7 +97,7 @@ module _ (worth : Values) (ds : List Definition) where
   control_plain (Some held_item) a b = tt
   control_plain (Some held_sequence) a b = tt
   control_plain (Some (compared c)) a b = compares_plain c (literal_of worth ds b) a
-  control_plain (Some sized) a b = sized_plain (sizes_of worth ds b) a
+  control_plain (Some (member m)) a b = member_plain m (members_of worth ds m b) a
   control_plain (Some (computed c)) a b = equal_plain (computed_literal c (literal_of worth ds a) (literal_of worth ds b))
   control_plain None a b = tt
 

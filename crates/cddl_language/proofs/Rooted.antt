@@ -1,16 +1,15 @@
 -- The root of an accepted specification is a type.
-use Rattle.std.proofs.Common.{◌≡◌, ◌≢◌, ℕ, Bool, true, false, if◌then◌else◌, List, [], ◌∷◌, ◌++◌, Option, Some, None, inl, refl, sym, ap, ◌∙◌, subst}
-use Rattle.std.proofs.lemmas.Bool.{true≢false}
+use Rattle.std.proofs.Common.{◌≡◌, ◌≢◌, Bool, true, false, if◌then◌else◌, List, [], ◌∷◌, ◌++◌, Option, Some, None, inl, refl, sym, ap, subst}
 use Rattle.cddl_token.specs.declared.Code.TheVariants.{BadRoot, NoRoot}
 use Rattle.tree_nodes.specs.Syntax.Syntax as S
-use Rattle.cddl_language.specs.Environment.{counting, definitions_of, from_prelude, has_any, has_equals, is_in_prelude, is_same, named_so}
-use Rattle.cddl_language.specs.Faults.{HasBadRoot, HasNoRoot, IsAccepted, Specification, definitions, first_rule, no_such, root_of, rules}
+use Rattle.cddl_language.specs.Environment.{counting, definitions_of, has_any, has_equals, is_in_prelude, is_same, named_so}
+use Rattle.cddl_language.specs.Faults.{IsAccepted, Specification, definitions, first_rule, no_such, root_of, rules}
 use Rattle.cddl_language.specs.Kinds.{is_group}
 use Rattle.cddl_language.specs.Literals.{Values}
 use Rattle.cddl_language.specs.Prelude.{prelude}
 use Rattle.cddl_language.specs.Reading.{definition_of, definitions_in, name_at, name_in}
 use Rattle.cddl_language.specs.Terms.{Definition, Text}
-use Rattle.cddl_language.specs.Environment.{is_group_socket, is_socket, most_names}
+use Rattle.cddl_language.specs.Environment.{most_names}
 use Rattle.cddl_language.proofs.MapsStand.{known_type}
 
 none_named : (n : Text) (rs : List S.Rule) → first_rule rs n ≡ None → named_so n (definitions_in rs) ≡ []

@@ -1,33 +1,33 @@
--- What controls by a size say, and controls that compute a literal.
+-- What controls by members say, and controls that compute a literal.
 use Rattle.std.specs.Prelude.{◌↔◌, ◌≢◌}
 use Rattle.std.proofs.Common.{◌≡◌, ◌∙◌, ℕ, suc, Bool, true, false, List, Option, Some, None, refl, sym, ap, subst}
 use Rattle.cbor_data.specs.Same.{same_value}
 use Rattle.cbor_data.specs.Value.{Value}
 use Rattle.cddl_literal.specs.Numbers.{Meaning}
 use Rattle.cddl_meaning.specs.Judges.{Answer, Yes, No, none_such, passed, missed, such_passed, such_missed}
-use Rattle.cddl_meaning.specs.Forms.{has_size}
-use Rattle.cddl_language.specs.Controls.{Computation, Control, left_alone, left_and_right, held_item, held_sequence, compared, sized, computed, computation_in, control_of}
-use Rattle.cddl_language.specs.Language.{Saying, TermSays, control_node, equal_to, language, such_as_sized}
+use Rattle.cddl_meaning.specs.Forms.{passes}
+use Rattle.cddl_language.specs.Controls.{Computation, Control, left_alone, left_and_right, held_item, held_sequence, compared, Membership, member, computed, computation_in, control_of}
+use Rattle.cddl_language.specs.Language.{Saying, TermSays, control_node, equal_to, language, membership_test, such_as_member}
 use Rattle.cddl_language.specs.Literals.{Values, computed_literal, controlled_literal, item_of, literal_of}
 use Rattle.cddl_language.specs.Sizes.{Sizes}
 use Rattle.cddl_language.specs.Terms.{Definition, Term, Text, control}
 use Rattle.cddl_language.proofs.Compared.{equals_so}
 
-module _ (worth : Values) (ds : List Definition) (a : Term) (p : ℕ) (x : Value) (o : Option Sizes) (rs : Sizes) (e : o ≡ Some rs) where
-  pub size_says : Saying (language worth ds) (such_as_sized o a) p x Yes ↔ (TermSays worth ds a p x Yes × (has_size rs x ≡ true))
-  size_says = subst (λ u. Saying (language worth ds) (such_as_sized u a) p x Yes ↔ (TermSays worth ds a p x Yes × (has_size rs x ≡ true))) (sym e) (onwards, back)
+module _ (worth : Values) (ds : List Definition) (a : Term) (p : ℕ) (x : Value) (m : Membership) (o : Option Sizes) (rs : Sizes) (e : o ≡ Some rs) where
+  pub member_says : Saying (language worth ds) (such_as_member m o a) p x Yes ↔ (TermSays worth ds a p x Yes × (passes (membership_test m rs) x ≡ true))
+  member_says = subst (λ u. Saying (language worth ds) (such_as_member m u a) p x Yes ↔ (TermSays worth ds a p x Yes × (passes (membership_test m rs) x ≡ true))) (sym e) (onwards, back)
     where
-      onwards : Saying (language worth ds) (such_as_sized (Some rs) a) p x Yes → TermSays worth ds a p x Yes × (has_size rs x ≡ true)
+      onwards : Saying (language worth ds) (such_as_member m (Some rs) a) p x Yes → TermSays worth ds a p x Yes × (passes (membership_test m rs) x ≡ true)
       onwards (w, such_passed {w = u} h g) = ((u, h), g)
 
-      back : TermSays worth ds a p x Yes × (has_size rs x ≡ true) → Saying (language worth ds) (such_as_sized (Some rs) a) p x Yes
-      back ((u, h), g) = (suc u, such_passed h g)
+      back : TermSays worth ds a p x Yes × (passes (membership_test m rs) x ≡ true) → Saying (language worth ds) (such_as_member m (Some rs) a) p x Yes
+      back ((u, h), g) = (_, such_passed h g)
 
-  pub left_says_no : (far : ℕ) → TermSays worth ds a p x (No far) → Saying (language worth ds) (such_as_sized o a) p x (No far)
-  left_says_no far k = subst (λ u. Saying (language worth ds) (such_as_sized u a) p x (No far)) (sym e) (suc k.0, none_such k.1)
+  pub left_says_no : (far : ℕ) → TermSays worth ds a p x (No far) → Saying (language worth ds) (such_as_member m o a) p x (No far)
+  left_says_no far k = subst (λ u. Saying (language worth ds) (such_as_member m u a) p x (No far)) (sym e) (suc k.0, none_such k.1)
 
-  pub size_says_no : TermSays worth ds a p x Yes → has_size rs x ≡ false → Saying (language worth ds) (such_as_sized o a) p x (No p)
-  size_says_no k g = subst (λ u. Saying (language worth ds) (such_as_sized u a) p x (No p)) (sym e) (suc k.0, such_missed k.1 g)
+  pub member_says_no : TermSays worth ds a p x Yes → passes (membership_test m rs) x ≡ false → Saying (language worth ds) (such_as_member m o a) p x (No p)
+  member_says_no k g = subst (λ u. Saying (language worth ds) (such_as_member m u a) p x (No p)) (sym e) (_, such_missed k.1 g)
 
 computes : (o : Option Control) (c : Computation) → computation_in o ≡ Some c → o ≡ Some (computed c)
 computes None c e = cc
@@ -36,7 +36,7 @@ computes (Some left_and_right) c e = cc
 computes (Some held_item) c e = cc
 computes (Some held_sequence) c e = cc
 computes (Some (compared d)) c e = cc
-computes (Some sized) c e = cc
+computes (Some (member m)) c e = cc
 computes (Some (computed d)) c e = ap Some (ap computed same)
   where
     same : d ≡ c

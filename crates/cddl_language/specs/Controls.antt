@@ -26,6 +26,12 @@ pub data Computation : Type 0 where
   sum : Computation
   join : Joining → Computation
 
+-- which numbers of an item have to be members of the controller: its size (section 3.8.1), or the number of each bit that is
+-- set in it (section 3.8.2)
+pub data Membership : Type 0 where
+  of_size : Membership
+  of_bits : Membership
+
 pub data Control : Type 0 where
   -- the controller is not asked (section 3.8.6)
   left_alone : Control
@@ -36,8 +42,8 @@ pub data Control : Type 0 where
   held_sequence : Control
   -- the item is compared with the controller, a literal
   compared : Comparison → Control
-  -- the size of the item is a member of the controller (section 3.8.1)
-  sized : Control
+  -- numbers of the item are members of the controller
+  member : Membership → Control
   -- the item is the literal that is computed from both sides
   computed : Computation → Control
 
@@ -45,7 +51,7 @@ abbrev pub controls_that_compute : List (List Text × Control)
 controls_that_compute = (codes "plus" ∷ [], computed sum) ∷ (codes "cat" ∷ [], computed (join AsTheyAre)) ∷ (codes "det" ∷ [], computed (join Dedented)) ∷ []
 
 abbrev pub controls_by_values : List (List Text × Control)
-controls_by_values = (codes "eq" ∷ [], compared equal) ∷ (codes "ne" ∷ [], compared different) ∷ (codes "lt" ∷ [], compared less) ∷ (codes "le" ∷ [], compared at_most) ∷ (codes "gt" ∷ [], compared greater) ∷ (codes "ge" ∷ [], compared at_least) ∷ (codes "size" ∷ [], sized) ∷ controls_that_compute
+controls_by_values = (codes "eq" ∷ [], compared equal) ∷ (codes "ne" ∷ [], compared different) ∷ (codes "lt" ∷ [], compared less) ∷ (codes "le" ∷ [], compared at_most) ∷ (codes "gt" ∷ [], compared greater) ∷ (codes "ge" ∷ [], compared at_least) ∷ (codes "size" ∷ [], member of_size) ∷ (codes "bits" ∷ [], member of_bits) ∷ controls_that_compute
 
 abbrev pub controls : List (List Text × Control)
 controls = (codes "default" ∷ [], left_alone) ∷ (codes "and" ∷ codes "within" ∷ [], left_and_right) ∷ (codes "cbor" ∷ [], held_item) ∷ (codes "cborseq" ∷ [], held_sequence) ∷ controls_by_values
@@ -63,10 +69,10 @@ abbrev pub comparison_in : Option Control → Option Comparison
 comparison_in (Some (compared c)) = Some c
 comparison_in _ = None
 
--- whether it asks for the size of an item
-abbrev pub is_sized : Option Control → Bool
-is_sized (Some sized) = true
-is_sized _ = false
+-- of which numbers it asks whether they are members, if it does
+abbrev pub membership_in : Option Control → Option Membership
+membership_in (Some (member m)) = Some m
+membership_in _ = None
 
 -- how it computes a literal, if it does
 abbrev pub computation_in : Option Control → Option Computation

@@ -14,13 +14,13 @@ use Rattle.cddl_literal.specs.Numbers.{Meaning}
 use Rattle.cddl_literal.specs.declared.operators.Fault.TheVariants.{OutOfRange, NotUtf8}
 use Rattle.cddl_literal.specs.Operators.Joins.{string_of}
 use Rattle.cddl_literal.specs.Operators.Sums.{number_of as summand}
-use Rattle.cddl_language.specs.Controls.{Comparison, is_ordering, control_of, comparison_in, Computation, sum, join, computation_in, is_sized}
+use Rattle.cddl_language.specs.Controls.{Comparison, is_ordering, control_of, comparison_in, Computation, sum, join, computation_in, Membership, membership_in}
 use Rattle.cddl_language.specs.Environment.{is_same, is_equals, named_so, definitions_of, is_in_prelude, is_socket}
 use Rattle.cddl_language.specs.Substitution.{fill, fill_ref, fill_group}
 use Rattle.cddl_language.specs.Kinds.{Opened, opens_group, opened, is_group, is_group_definition}
 use Rattle.cddl_language.specs.Reach.{Reaches, Point, ref_at, most_instances}
 use Rattle.cddl_language.specs.Literals.{Values, whole, whole_of, computed_from, literal_of}
-use Rattle.cddl_language.specs.Sizes.{Sizes, sizes_of}
+use Rattle.cddl_language.specs.Sizes.{Sizes, members_of}
 use Rattle.cddl_language.specs.Choices.{chosen, chosen_by_name}
 use Rattle.cddl_language.specs.Free.{IsOnCycle}
 use Rattle.cddl_language.specs.MapFaults.{HasNoKey, HasMapShape, HasTooManyAlternatives}
@@ -209,10 +209,10 @@ abbrev pub computation_of : S.Operator → Option Computation
 computation_of (S.control t) = computation_in (control_of (control_name t))
 computation_of _ = None
 
--- whether it asks for the size of an item
-abbrev pub asks_size : S.Operator → Bool
-asks_size (S.control t) = is_sized (control_of (control_name t))
-asks_size _ = false
+-- of which numbers of an item it asks whether they are members, if it does
+abbrev pub membership_of : S.Operator → Option Membership
+membership_of (S.control t) = membership_in (control_of (control_name t))
+membership_of _ = None
 
 -- a literal that a computation takes: a whole number for a sum, a string for a join (RFC 9165 section 2)
 abbrev pub is_operand : Computation → Option Meaning → Bool
@@ -220,9 +220,9 @@ is_operand sum (Some v) = is_some (summand v)
 is_operand (join j) (Some v) = is_some (string_of v)
 is_operand c None = false
 
--- the members that a controller of `.size` has, if it is one
-abbrev pub sizes_there : Specification → Values → S.Rule → List Term → S.Type2 → Option Sizes
-sizes_there s worth r xs y = sizes_of worth (definitions s) (fill (parameters_in r) xs (term_of2 y))
+-- the members that a controller of `.size` or `.bits` has, if it is one
+abbrev pub members_there : Specification → Values → S.Rule → List Term → Membership → S.Type2 → Option Sizes
+members_there s worth r xs m y = members_of worth (definitions s) m (fill (parameters_in r) xs (term_of2 y))
 
 -- C13: a controller with which an item is compared and that is no literal (section 3.8.6); an operand that a computation does
 -- not take; a sum out of range, or a join that is too long (RFC 9165 section 2).
@@ -235,10 +235,11 @@ pub data HasNotLiteral (s : Specification) (worth : Values) (root : Text) (at : 
       literal_there s worth r xs x ≡ Some u → literal_there s worth r xs y ≡ Some v → computed_from c u v ≡ Err OutOfRange → at ≡ operand_at y → HasNotLiteral s worth root at
 
 -- C15: a controller that is a literal and no whole number, where the control asks for the order of numbers (section 3.8.6); one
--- of `.size` that has no members as they have to be (section 3.8.1); a joined text that is not UTF-8 (RFC 9165 section 2.2).
+-- of `.size` or `.bits` that has no members as they have to be (sections 3.8.1 and 3.8.2); a joined text that is not UTF-8
+-- (RFC 9165 section 2.2).
 pub data HasBadController (s : Specification) (worth : Values) (root : Text) (at : ℕ) : Type 0 where
   no_number : {r : S.Rule} {xs : List Term} {x y : S.Type2} {o : S.Operator} {c : Comparison} {v : Meaning} → IsReached (rules s) root r xs (an_operation x o y) → comparison_of o ≡ Some c → is_ordering c ≡ true → literal_there s worth r xs y ≡ Some v → whole (Some v) ≡ None → at ≡ operand_at y → HasBadController s worth root at
-  no_sizes : {r : S.Rule} {xs : List Term} {x y : S.Type2} {o : S.Operator} → IsReached (rules s) root r xs (an_operation x o y) → asks_size o ≡ true → sizes_there s worth r xs y ≡ None → at ≡ operand_at y → HasBadController s worth root at
+  no_members : {r : S.Rule} {xs : List Term} {x y : S.Type2} {o : S.Operator} {m : Membership} → IsReached (rules s) root r xs (an_operation x o y) → membership_of o ≡ Some m → members_there s worth r xs m y ≡ None → at ≡ operand_at y → HasBadController s worth root at
   not_utf8 : {r : S.Rule} {xs : List Term} {x y : S.Type2} {o : S.Operator} {c : Computation} {u v : Meaning} →
       IsReached (rules s) root r xs (an_operation x o y) → computation_of o ≡ Some c →
       literal_there s worth r xs x ≡ Some u → literal_there s worth r xs y ≡ Some v → computed_from c u v ≡ Err NotUtf8 → at ≡ operand_at y → HasBadController s worth root at

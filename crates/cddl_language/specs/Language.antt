@@ -6,14 +6,14 @@ use Rattle.cbor_data.specs.Value.{Value}
 use Rattle.cddl_meaning.specs.Forms as F
 use Rattle.cddl_meaning.specs.Forms.{Node, Language}
 use Rattle.cddl_meaning.specs.Judges.{Answer, Says}
-use Rattle.cddl_language.specs.Controls.{Comparison, equal, different, less, at_most, greater, at_least, is_ordering, Control, left_alone, left_and_right, held_item, held_sequence, compared, sized, computed, control_of}
+use Rattle.cddl_language.specs.Controls.{Comparison, equal, different, less, at_most, greater, at_least, is_ordering, Control, left_alone, left_and_right, held_item, held_sequence, compared, Membership, of_size, of_bits, member, computed, control_of}
 use Rattle.cddl_language.specs.Numbers.{least_of, most_of, occurs_once, tag_number, hash_form, hash_test}
 use Rattle.cddl_language.specs.Terms.{Text, Term, literal, named, parens, map_of, array_of, unwrapped, choice_of, choice_of_name, tagged, tagged_by, simple_by, hash, range, control, or, Ref, Entries, Entry, typed, keyed, grouped, Key, of_type, bareword, of_value, Definition, choices, alternatives, entry_list, occurrence_of, name_of}
 use Rattle.cddl_language.specs.Substitution.{type_choices, group_choices}
 use Rattle.cddl_language.specs.Kinds.{Opened, opens_type, opened, is_group, Part, asks_type, names_group, opens, part_of}
 use Rattle.cddl_literal.specs.Numbers.{Meaning}
 use Rattle.cddl_language.specs.Literals.{Values, item_of, whole, whole_of, computed_literal, literal_of}
-use Rattle.cddl_language.specs.Sizes.{Sizes, sizes_of}
+use Rattle.cddl_language.specs.Sizes.{Sizes, members_of}
 use Rattle.cddl_language.specs.Choices.{chosen, chosen_by_name}
 use Rattle.cddl_language.specs.Maps.{Alternatives, Member, cuts, map_alternatives}
 
@@ -83,10 +83,15 @@ abbrev pub such_as_compares : Comparison → Option Value → Term → Node Type
 such_as_compares c (Some v) a = F.Such (type a) (compared_test c v)
 such_as_compares c None a = nothing
 
--- the items to which the type on the left says yes, and whose size is such a member
-abbrev pub such_as_sized : Option Sizes → Term → Node TypeName GroupName
-such_as_sized (Some rs) a = F.Such (type a) (F.sized rs)
-such_as_sized None a = nothing
+-- what is asked of an item, numbers of which have to be such members
+abbrev pub membership_test : Membership → Sizes → F.Test
+membership_test of_size rs = F.sized rs
+membership_test of_bits rs = F.bits_among rs
+
+-- the items to which the type on the left says yes, and of which these numbers are such members
+abbrev pub such_as_member : Membership → Option Sizes → Term → Node TypeName GroupName
+such_as_member m (Some rs) a = F.Such (type a) (membership_test m rs)
+such_as_member m None a = nothing
 
 -- the literal alone
 abbrev pub equal_to : Option Meaning → Node TypeName GroupName
@@ -118,7 +123,7 @@ module _ (worth : Values) (ds : List Definition) where
   control_node (Some held_item) a b = F.Holding (type a) F.one_item (type b)
   control_node (Some held_sequence) a b = F.Holding (type a) F.sequence_of_items (type b)
   control_node (Some (compared c)) a b = such_as_compares c (comparand (is_ordering c) (literal_of worth ds b)) a
-  control_node (Some sized) a b = such_as_sized (sizes_of worth ds b) a
+  control_node (Some (member m)) a b = such_as_member m (members_of worth ds m b) a
   control_node (Some (computed c)) a b = equal_to (computed_literal c (literal_of worth ds a) (literal_of worth ds b))
   control_node None a b = nothing
 

@@ -1,7 +1,8 @@
--- The members of the controller of `.size`: a literal, a range, or a choice of these, of unsigned numbers, through names and
--- parentheses (RFC 8610 section 3.8.1).
+-- The members of the controllers of `.size` and `.bits`: a literal, a range, or a choice of these, of unsigned numbers, through
+-- names and parentheses (RFC 8610 sections 3.8.1 and 3.8.2).
 use Rattle.std.specs.Prelude.{ℕ, zero, suc, Bool, true, false, if◌then◌else◌, List, [], ◌∷◌, ◌++◌, Option, Some, None}
 use Rattle.cddl_literal.specs.Numbers.{Meaning, UintOf}
+use Rattle.cddl_language.specs.Controls.{Membership}
 use Rattle.cddl_language.specs.Terms.{Term, literal, named, parens, range, control, or, Definition, name_of}
 use Rattle.cddl_language.specs.Substitution.{type_choices}
 use Rattle.cddl_language.specs.Kinds.{is_group}
@@ -54,3 +55,6 @@ module _ (worth : Values) (ds : List Definition) where
   -- Of a closed type. A way through more names than there may be instances comes back to one: what needs itself has none.
   abbrev pub sizes_of : Term → Option Sizes
   sizes_of t = sizes_in most_instances t
+
+  abbrev pub members_of : Membership → Term → Option Sizes
+  members_of m t = sizes_of t

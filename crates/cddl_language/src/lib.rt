@@ -2,7 +2,7 @@
 //! here do nothing: their contracts are laws, and examples.
 #![tactic(auto)]
 
-ghost use Rattle.std.specs.Prelude.{◌+◌, ◌^◌, ◌≢◌, ◌↔◌, ◌<◌, ◌≤◌, ◌⊎◌, map, length, slice_index, [], ◌∷◌, ◌≡◌, ℕ, suc, Contains, Bool, List, Option, true, false, Some, None, codes};
+ghost use Rattle.std.specs.Prelude.{◌+◌, ◌*◌, ◌/◌, ◌%◌, ◌^◌, get_or, ◌≢◌, ◌↔◌, ◌<◌, ◌≤◌, ◌⊎◌, map, length, slice_index, [], ◌∷◌, ◌≡◌, ℕ, suc, Contains, Bool, List, Option, true, false, Some, None, codes};
 ghost use Rattle.cddl_token.specs.declared.Code.{Code};
 ghost use Rattle.cddl_token.specs.declared.Token.{Token};
 ghost use Rattle.tree_nodes.specs.Syntax.Syntax as S;
@@ -16,11 +16,11 @@ ghost use Rattle.cbor_data.specs.Embedded.{Embeds, EmbedsAll};
 ghost use Rattle.cbor_data.specs.Equivalence.{IsSame};
 ghost use Rattle.cbor_data.specs.Value as V;
 ghost use Rattle.cbor_data.specs.Value.{Value, array, bytes, text, uint};
-ghost use Rattle.cddl_meaning.specs.Forms.{Choice, Language, any_number_of, at_most, exactly, has_size, is_below, is_up_to, passes};
+ghost use Rattle.cddl_meaning.specs.Forms.{Choice, Language, any_number_of, at_most, exactly, bits_among, bits_set, has_bit, has_size, is_below, is_up_to, passes};
 ghost use Rattle.cddl_meaning.specs.Judges.{Answer, No, Says, Yes};
 ghost use Rattle.cddl_meaning.specs.Literals.{HasPlainLiterals};
 ghost use Rattle.cddl_language.specs.Choices.{chosen, chosen_by_name, chosen_in};
-ghost use Rattle.cddl_language.specs.Controls.{Comparison, Computation, comparison_in, computation_in, control_of, is_ordering};
+ghost use Rattle.cddl_language.specs.Controls.{Comparison, Computation, comparison_in, computation_in, control_of, is_ordering, of_bits};
 ghost use Rattle.cddl_language.specs.MapFaults.{ComesBack, GoesThrough, HasMapShape, HasNoKey, IsSpliced, IsSplicedInto, LacksKey, IsLedToBy, OccursBadly, closed_entry, point_in};
 ghost use Rattle.cddl_language.specs.Maps.{Alternatives, alternatives_in, map_alternatives};
 ghost use Rattle.cddl_language.specs.Language.{Saying, TermSays, comparand, compared_test, language, type, reference, type_node};
@@ -30,7 +30,7 @@ ghost use Rattle.cddl_literal.specs.Numbers.{IsUint, Meaning, number_after};
 ghost use Rattle.cddl_token.specs.Numbers.{IsHashNumber, IsStar, IsTagNumberOpen};
 ghost use Rattle.cddl_language.specs.Numbers.{hash_form, least_in, most_in, numbered, tag_number, uint_in};
 ghost use Rattle.cddl_language.specs.Literals.{AreRight, AreTokens, Holds, Values, answer_of, computed_literal, item_of, literal_in, literal_of, whole};
-ghost use Rattle.cddl_language.specs.Sizes.{Sizes, sizes_in, sizes_of};
+ghost use Rattle.cddl_language.specs.Sizes.{Sizes, members_of, sizes_in, sizes_of};
 ghost use Rattle.cddl_literal.specs.declared.operators.Joining.TheVariants.{AsTheyAre, Dedented};
 ghost use Rattle.cddl_literal.specs.Operators.Joins.{joined};
 ghost use Rattle.cddl_literal.specs.Operators.Sums.{plus};
@@ -97,6 +97,19 @@ pub fn sizes_say()
     ensures bytes { (rs : Sizes) (s : List ℕ) → (has_size rs (bytes s) ≡ true) ↔ ((r : ℕ × ℕ) × Contains rs r × (r.0 ≤ length s) × (length s ≤ r.1)) }
     ensures text { (rs : Sizes) (s : List ℕ) → (has_size rs (text s) ≡ true) ↔ ((r : ℕ × ℕ) × Contains rs r × (r.0 ≤ length s) × (length s ≤ r.1)) }
     ensures number { (rs : Sizes) (n : ℕ) → (has_size rs (uint n) ≡ true) ↔ ((r : ℕ × ℕ) × (m : ℕ) × Contains rs r × (r.0 ≤ m) × (m ≤ r.1) × (n < 256 ^ m)) }
+{}
+
+/// A control by `.bits`, where its controller has members, says yes where the type on its left does, the item is a byte string or
+/// an unsigned number, and the number of each bit that is set in it is one of them. The type on its left is asked first and shows
+/// its no where it shows it; that of the bits shows at the item. Bit k of a byte string is that of value 2^(k mod 8) in byte k / 8,
+/// and bit k of a number the one of value 2^k.
+pub fn bits_say()
+    ensures yes { (worth : Values) (ds : List Definition) (a b : Term) (rs : Sizes) (p : ℕ) (x : Value) → members_of worth ds of_bits b ≡ Some rs → TermSays worth ds (control a (codes "bits") b) p x Yes ↔ (TermSays worth ds a p x Yes × (passes (bits_among rs) x ≡ true)) }
+    ensures left { (worth : Values) (ds : List Definition) (a b : Term) (rs : Sizes) (p : ℕ) (x : Value) (far : ℕ) → members_of worth ds of_bits b ≡ Some rs → TermSays worth ds a p x (No far) → TermSays worth ds (control a (codes "bits") b) p x (No far) }
+    ensures missed { (worth : Values) (ds : List Definition) (a b : Term) (rs : Sizes) (p : ℕ) (x : Value) → members_of worth ds of_bits b ≡ Some rs → TermSays worth ds a p x Yes → passes (bits_among rs) x ≡ false → TermSays worth ds (control a (codes "bits") b) p x (No p) }
+    ensures bytes { (rs : Sizes) (s : List ℕ) → (passes (bits_among rs) (bytes s) ≡ true) ↔ ((k : ℕ) → k < 8 * length s → has_bit (get_or s (k / 8) 0) (k % 8) ≡ true → (r : ℕ × ℕ) × Contains rs r × (r.0 ≤ k) × (k ≤ r.1)) }
+    ensures number { (rs : Sizes) (n : ℕ) → (passes (bits_among rs) (uint n) ≡ true) ↔ ((k : ℕ) → k < 64 → has_bit n k ≡ true → (r : ℕ × ℕ) × Contains rs r × (r.0 ≤ k) × (k ≤ r.1)) }
+    ensures others { (rs : Sizes) (x : Value) → bits_set x ≡ None → passes (bits_among rs) x ≡ false }
 {}
 
 /// A control by `.plus`, `.cat` or `.det` is the literal that is computed from those that its sides are, the left one's first: their

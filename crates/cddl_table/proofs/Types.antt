@@ -4,15 +4,15 @@ use Rattle.lists.proofs.Lemmas.{IsIn, in_cases, in_left, in_right, to_contains}
 use Rattle.cbor_data.specs.Value.{Value}
 use Rattle.cddl_meaning.specs.Forms as F
 use Rattle.cddl_language.specs.Terms.{Text, Term, literal, named, parens, map_of, array_of, unwrapped, choice_of, choice_of_name, tagged, tagged_by, simple_by, hash, range, control, or, Ref, Group, sole, orelse, Entries, no_entries, entries, Entry, typed, keyed, grouped, alternatives, choices, entry_list, Definition, name_of}
-use Rattle.cddl_language.specs.Controls.{Comparison, is_ordering, Control, left_alone, left_and_right, held_item, held_sequence, compared, sized, computed, control_of, is_asked_here}
+use Rattle.cddl_language.specs.Controls.{Comparison, is_ordering, Control, left_alone, left_and_right, held_item, held_sequence, compared, Membership, member, computed, control_of, is_asked_here}
 use Rattle.cddl_literal.specs.Numbers.{Meaning}
 use Rattle.cddl_language.specs.Literals.{Values, computed_literal, literal_of, whole_of}
-use Rattle.cddl_language.specs.Sizes.{Sizes, sizes_of}
+use Rattle.cddl_language.specs.Sizes.{Sizes, members_of}
 use Rattle.cddl_language.specs.Substitution.{type_choices, group_choices}
 use Rattle.cddl_language.specs.Kinds.{Opened, opens_group, opens_type, opened, is_group, Part, asks_type, names_group, opens, part_of}
 use Rattle.cddl_language.specs.Choices.{can_choose, chosen, chosen_by_name}
 use Rattle.cddl_language.specs.Maps.{Alternatives, map_alternatives}
-use Rattle.cddl_language.specs.Language.{TypeName, type, reference, GroupName, nothing, choice, content, between, map_node, comparand, such_as_compares, such_as_sized, equal_to, control_node, chosen_part_name, chosen_name, chosen_names, term_node, type_node}
+use Rattle.cddl_language.specs.Language.{TypeName, type, reference, GroupName, nothing, choice, content, between, map_node, comparand, such_as_compares, such_as_member, equal_to, control_node, chosen_part_name, chosen_name, chosen_names, term_node, type_node}
 use Rattle.cddl_language.specs.Reach.{Reaches, at_name, at_unwrapping, at_choice, at_chosen_name, at_opened_choice, points, group_points, entries_points, entry_points}
 use Rattle.check_terms.specs.Table.{Table}
 use Rattle.check_terms.specs.Trees.{IsTerm, IsGroup, IsEntries, IsEntry}
@@ -89,13 +89,13 @@ compared_items : (c : Comparison) (v : Option Value) (a : Term) (g : GroupName) 
 compared_items c (Some v) a g h = h
 compared_items c None a g h = h
 
-sized_free : (o : Option Sizes) (a : Term) (m : TypeName) → FreeType {G = GroupName} (such_as_sized o a) m → m ≡ type a
-sized_free (Some rs) a m h = h
-sized_free None a m h = absurd h
+member_free : (k : Membership) (o : Option Sizes) (a : Term) (m : TypeName) → FreeType {G = GroupName} (such_as_member k o a) m → m ≡ type a
+member_free k (Some rs) a m h = h
+member_free k None a m h = absurd h
 
-sized_items : (o : Option Sizes) (a : Term) (g : GroupName) → FreeItems {N = TypeName} (such_as_sized o a) g → ⊥
-sized_items (Some rs) a g h = h
-sized_items None a g h = h
+member_items : (k : Membership) (o : Option Sizes) (a : Term) (g : GroupName) → FreeItems {N = TypeName} (such_as_member k o a) g → ⊥
+member_items k (Some rs) a g h = h
+member_items k None a g h = h
 
 equal_free : (o : Option Meaning) (m : TypeName) → FreeType {G = GroupName} (equal_to o) m → ⊥
 equal_free (Some v) m h = h
@@ -114,7 +114,7 @@ control_free worth ds (Some held_item) a b m h = inl h
 control_free worth ds (Some held_sequence) a b m (inl e) = inl e
 control_free worth ds (Some held_sequence) a b m (inr e) = inr (e, refl)
 control_free worth ds (Some (compared c)) a b m h = inl (compared_free c (comparand (is_ordering c) (literal_of worth ds b)) a m h)
-control_free worth ds (Some sized) a b m h = inl (sized_free (sizes_of worth ds b) a m h)
+control_free worth ds (Some (member k)) a b m h = inl (member_free k (members_of worth ds k b) a m h)
 control_free worth ds (Some (computed c)) a b m h = absurd (equal_free (computed_literal c (literal_of worth ds a) (literal_of worth ds b)) m h)
 
 control_items : (worth : Values) (ds : List Definition) (o : Option Control) (a b : Term) (g : GroupName) → FreeItems {N = TypeName} (control_node worth ds o a b) g → ⊥
@@ -124,7 +124,7 @@ control_items worth ds (Some left_and_right) a b g h = h
 control_items worth ds (Some held_item) a b g h = h
 control_items worth ds (Some held_sequence) a b g h = h
 control_items worth ds (Some (compared c)) a b g h = compared_items c (comparand (is_ordering c) (literal_of worth ds b)) a g h
-control_items worth ds (Some sized) a b g h = sized_items (sizes_of worth ds b) a g h
+control_items worth ds (Some (member k)) a b g h = member_items k (members_of worth ds k b) a g h
 control_items worth ds (Some (computed c)) a b g h = equal_items (computed_literal c (literal_of worth ds a) (literal_of worth ds b)) g h
 
 module _ (s : Sense) (t : Table) (r : Ranks) (given : Given s t r) where

@@ -58,7 +58,7 @@ fn source_of<'f>(findings: &'f Findings<'_>) -> Source<'f>
         kinds: &findings.kinds,
         openings: &meant.openings,
         literals: &meant.literals,
-        sizes: &meant.sizes,
+        members: &meant.members,
         choosable: &meant.choosable,
         parts: &splices.parts,
         summaries: &splices.summaries,

@@ -13,7 +13,7 @@ use check_groups::splices::parts_of;
 use check_instances::closed::{Closed, close};
 use check_instances::openings::{Opening, endings_of, openings_of};
 use check_instances::{Found, Instance, instances};
-use check_literals::sizes::{Sizes, sizable, sizes};
+use check_literals::sizes::{Controllers, Members, controllers, members};
 use check_literals::{Literals, literals};
 use check_maps::map_faults::{MapFaults, map_faults};
 use check_maps::spliced::{Spliced, spliced_entries};
@@ -55,8 +55,8 @@ pub(crate) struct Opened {
 #[derive(Drop)]
 pub(crate) struct Valued {
     pub literals: Literals,
-    pub sizable: Vec<bool>,
-    pub sizes: Sizes,
+    pub controllers: Controllers,
+    pub members: Members,
 }
 
 /// What is known of the groups.
@@ -197,14 +197,14 @@ fn valued_in(alloc: Global, terms: &Terms<'_>, opened: &Opened) -> Option<Valued
     let Ok(literals) = literals(alloc, terms, closed, kinds) else {
         return None;
     };
-    let Ok(sizable) = sizable(alloc, terms, closed, kinds, &literals) else {
+    let Ok(controllers) = controllers(alloc, terms, closed, kinds, &literals) else {
         return None;
     };
-    match sizes(alloc, terms, closed, kinds, &literals, &sizable) {
-        Ok(sizes) => Some(Valued {
+    match members(alloc, terms, closed, kinds, &literals, &controllers) {
+        Ok(members) => Some(Valued {
             literals,
-            sizable,
-            sizes,
+            controllers,
+            members,
         }),
         Err(_) => None,
     }

@@ -55,7 +55,7 @@ fn of_controller(terms: &Terms<'_>, meant: &Meant<'_>, what: &str) -> Option<usi
     let literals = &meant.valued.literals;
     match what {
         "literal" => not_literal(terms, literals, asked),
-        _ => bad_controller(terms, literals, &meant.valued.sizable, asked),
+        _ => bad_controller(terms, literals, &meant.valued.controllers, asked),
     }
 }
 

@@ -1,4 +1,4 @@
-//! The members of the controllers of `.size` (RFC 8610 section 3.8.1), by rows of a table.
+//! The members of the controllers of `.size` and `.bits` (RFC 8610 sections 3.8.1 and 3.8.2), by rows of a table.
 mod controllers;
 mod depths;
 mod known;
@@ -6,6 +6,6 @@ mod members;
 mod reach;
 mod sources;
 
-pub use crate::sizes::controllers::sizable;
-pub use crate::sizes::known::Sizes;
-pub use crate::sizes::members::sizes;
+pub use crate::sizes::controllers::controllers;
+pub use crate::sizes::known::{Controllers, Members, Sizes};
+pub use crate::sizes::members::members;

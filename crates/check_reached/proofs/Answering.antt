@@ -4,8 +4,8 @@ use Rattle.std.proofs.lemmas.Option.{same_Some}
 use Rattle.cddl_token.specs.declared.Token.{Token}
 use Rattle.tree_nodes.specs.Syntax.Syntax as S
 use Rattle.tree_nodes.specs.declared.tree.Leaf.{Leaf}
-use Rattle.cddl_language.specs.Controls.{Comparison, Computation, Control, compared, comparison_in, computation_in, computed, control_of, held_item, held_sequence, is_sized, left_alone, left_and_right, sized}
-use Rattle.cddl_language.specs.Faults.{Specification, asks_size, comparison_of, computation_of, definitions, is_range_sign, rules}
+use Rattle.cddl_language.specs.Controls.{Comparison, Computation, Control, compared, comparison_in, computation_in, computed, control_of, held_item, held_sequence, left_alone, left_and_right, Membership, member, membership_in}
+use Rattle.cddl_language.specs.Faults.{Specification, comparison_of, computation_of, definitions, is_range_sign, membership_of, rules}
 use Rattle.cddl_language.specs.Reading.{control_name, group_of, name_in, operation, parameters_in, ref_of, term_of2}
 use Rattle.cddl_language.specs.Sites.{IsReached, Site, a_name, an_unwrapping, a_choice_of, a_choice_of_name, a_hash, an_operation, an_entry, a_map}
 use Rattle.cddl_language.specs.StandsFor.{AreInstances}
@@ -21,7 +21,7 @@ use Rattle.check_reached.specs.Calls.{refs_named}
 use Rattle.check_reached.specs.Reached.{AreReachedSites}
 use Rattle.check_reached.specs.declared.asked.Asked.{Asked}
 use Rattle.check_reached.specs.declared.asked.Question.TheVariants as QuestionV
-use Rattle.check_reached.specs.Asked.{AreAnswers, no_answers, further_answer, AreAsked, IsAnswer, IsAsked, choosing, choosing_by_name, computation, controller, first_end, last_end, left_operand, of_map, size_controller, Wanted, WasAsked, comparand_question, computation_wanted, controller_wanted, end_of, first_part, last_part, operand_question, operand_wanted, question_of_operand, wanted_all, wanted_at, wanted_by, wanted_each, wanted_in, wanted_some, wanted_there}
+use Rattle.check_reached.specs.Asked.{AreAnswers, no_answers, further_answer, AreAsked, IsAnswer, IsAsked, choosing, choosing_by_name, computation, controller, first_end, last_end, left_operand, of_map, members_controller, Wanted, WasAsked, comparand_question, computation_wanted, controller_wanted, end_of, first_part, last_part, members_question, operand_question, operand_wanted, question_of_operand, wanted_all, wanted_at, wanted_by, wanted_each, wanted_in, wanted_some, wanted_there}
 use Rattle.check_reached.proofs.Lists.{IsIn, contained_place, contains, in_either, in_first, in_second, is_in}
 use Rattle.check_reached.proofs.Reaching.{Laws, instance_of, ref_of_instance}
 
@@ -117,9 +117,9 @@ module _ (trees : Trees) (rs : List S.Rule) (root : Text) (t : Table) (r : S.Rul
   right_asked x y u (Some (compared c)) g reach a w m k =
       let e = in_each (parameters_in r) w (operand_wanted y (comparand_question c)) refs m in
       controller {x = x} {y = y} {o = S.control u} {c = c} (reach e.0 e.1.0) (ap comparison_in g) (subst (Holds t (Some a.row)) (ap (λ (v : Wanted). v.tree) e.1.1 ∙ trees.term (parameters_in r) (arguments_of e.0) (term_of2 y)) k.holds) (k.at ∙ ap (λ (v : Wanted). v.at) e.1.1) (k.question ∙ ap (λ (v : Wanted). v.question) e.1.1)
-  right_asked x y u (Some sized) g reach a w m k =
-      let e = in_each (parameters_in r) w (operand_wanted y QuestionV.HasSizes) refs m in
-      size_controller {x = x} {y = y} {o = S.control u} (reach e.0 e.1.0) (ap is_sized g) (subst (Holds t (Some a.row)) (ap (λ (v : Wanted). v.tree) e.1.1 ∙ trees.term (parameters_in r) (arguments_of e.0) (term_of2 y)) k.holds) (k.at ∙ ap (λ (v : Wanted). v.at) e.1.1) (k.question ∙ ap (λ (v : Wanted). v.question) e.1.1)
+  right_asked x y u (Some (member d)) g reach a w m k =
+      let e = in_each (parameters_in r) w (operand_wanted y (members_question d)) refs m in
+      members_controller {x = x} {y = y} {o = S.control u} {m = d} (reach e.0 e.1.0) (ap membership_in g) (subst (Holds t (Some a.row)) (ap (λ (v : Wanted). v.tree) e.1.1 ∙ trees.term (parameters_in r) (arguments_of e.0) (term_of2 y)) k.holds) (k.at ∙ ap (λ (v : Wanted). v.at) e.1.1) (k.question ∙ ap (λ (v : Wanted). v.question) e.1.1)
   right_asked x y u (Some (computed c)) g reach a w m k =
       let e = in_each (parameters_in r) w (computation_wanted x (S.control u) y) refs m in
       computation {x = x} {y = y} {o = S.control u} {c = c} (reach e.0 e.1.0) (ap computation_in g) (subst (Holds t (Some a.row)) (ap (λ (v : Wanted). v.tree) e.1.1 ∙ trees.term (parameters_in r) (arguments_of e.0) (operation (term_of2 x) (S.control u) (term_of2 y))) k.holds) (k.at ∙ ap (λ (v : Wanted). v.at) e.1.1) (k.question ∙ ap (λ (v : Wanted). v.question) e.1.1)
@@ -170,23 +170,23 @@ right_of_comparison x y (S.control t) c e = by (control_of (control_name t)) e
     by (Some held_item) g = cc
     by (Some held_sequence) g = cc
     by (Some (compared d)) g = ap (λ k. Some (operand_wanted y (comparand_question k))) (same_Some d c g)
-    by (Some sized) g = cc
+    by (Some (member m)) g = cc
     by (Some (computed d)) g = cc
 
-right_of_size : (x y : S.Type2) (o : S.Operator) → asks_size o ≡ true → last_part (an_operation x o y) ≡ Some (operand_wanted y QuestionV.HasSizes)
-right_of_size x y (S.range t) e = absurd (true≢false (sym e))
-right_of_size x y (S.range_below t) e = absurd (true≢false (sym e))
-right_of_size x y (S.control t) e = by (control_of (control_name t)) e
+right_of_members : (x y : S.Type2) (o : S.Operator) (m : Membership) → membership_of o ≡ Some m → last_part (an_operation x o y) ≡ Some (operand_wanted y (members_question m))
+right_of_members x y (S.range t) m e = cc
+right_of_members x y (S.range_below t) m e = cc
+right_of_members x y (S.control t) m e = by (control_of (control_name t)) e
   where
-    by : (o : Option Control) → is_sized o ≡ true → controller_wanted x (S.control t) y o ≡ Some (operand_wanted y QuestionV.HasSizes)
-    by None g = absurd (true≢false (sym g))
-    by (Some left_alone) g = absurd (true≢false (sym g))
-    by (Some left_and_right) g = absurd (true≢false (sym g))
-    by (Some held_item) g = absurd (true≢false (sym g))
-    by (Some held_sequence) g = absurd (true≢false (sym g))
-    by (Some (compared d)) g = absurd (true≢false (sym g))
-    by (Some sized) g = refl
-    by (Some (computed d)) g = absurd (true≢false (sym g))
+    by : (o : Option Control) → membership_in o ≡ Some m → controller_wanted x (S.control t) y o ≡ Some (operand_wanted y (members_question m))
+    by None g = cc
+    by (Some left_alone) g = cc
+    by (Some left_and_right) g = cc
+    by (Some held_item) g = cc
+    by (Some held_sequence) g = cc
+    by (Some (compared d)) g = cc
+    by (Some (member d)) g = ap (λ k. Some (operand_wanted y (members_question k))) (same_Some d m g)
+    by (Some (computed d)) g = cc
 
 whole_computation : (x y : S.Type2) (o : S.Operator) (c : Computation) → computation_of o ≡ Some c → last_part (an_operation x o y) ≡ Some (computation_wanted x o y)
 whole_computation x y (S.range t) c e = cc
@@ -200,7 +200,7 @@ whole_computation x y (S.control t) c e = by (control_of (control_name t)) e
     by (Some held_item) g = cc
     by (Some held_sequence) g = cc
     by (Some (compared d)) g = cc
-    by (Some sized) g = cc
+    by (Some (member m)) g = cc
     by (Some (computed d)) g = refl
 
 module _ (laws : Laws) (trees : Trees) (s : Specification) (root : Text) (clear : IsClear s) (refs : List Ref) (are : AreInstances (definitions s) root refs) (read : Leaf → Token) (fs : List Found) (reached : AreReachedSites (rules s) root read fs) (t : Table) (answers : List Asked) (all : AreAnswers t answers (wanted_all read (rules s) refs fs)) where
@@ -239,7 +239,7 @@ module _ (laws : Laws) (trees : Trees) (s : Specification) (root : Text) (clear 
     first_ends = λ r xs x y o h e. was_asked r xs (an_operation x o y) (end_of x) (term_tree (fill (parameters_in r) xs (term_of2 x))) h (inl (first_of_range x y o e)) (trees.term (parameters_in r) xs (term_of2 x));
     last_ends = λ r xs x y o h e. was_asked r xs (an_operation x o y) (end_of y) (term_tree (fill (parameters_in r) xs (term_of2 y))) h (inr (last_of_range x y o e)) (trees.term (parameters_in r) xs (term_of2 y));
     controllers = λ r xs x y o c h e. was_asked r xs (an_operation x o y) (operand_wanted y (comparand_question c)) (term_tree (fill (parameters_in r) xs (term_of2 y))) h (inr (right_of_comparison x y o c e)) (trees.term (parameters_in r) xs (term_of2 y));
-    size_controllers = λ r xs x y o h e. was_asked r xs (an_operation x o y) (operand_wanted y QuestionV.HasSizes) (term_tree (fill (parameters_in r) xs (term_of2 y))) h (inr (right_of_size x y o e)) (trees.term (parameters_in r) xs (term_of2 y));
+    members_controllers = λ r xs x y o m h e. was_asked r xs (an_operation x o y) (operand_wanted y (members_question m)) (term_tree (fill (parameters_in r) xs (term_of2 y))) h (inr (right_of_members x y o m e)) (trees.term (parameters_in r) xs (term_of2 y));
     left_operands = λ r xs x y o c h e. was_asked r xs (an_operation x o y) (operand_wanted x (operand_question c)) (term_tree (fill (parameters_in r) xs (term_of2 x))) h (inl (left_of_computation x y o c e)) (trees.term (parameters_in r) xs (term_of2 x));
     computations = λ r xs x y o c h e. was_asked r xs (an_operation x o y) (computation_wanted x o y) (term_tree (fill (parameters_in r) xs (operation (term_of2 x) o (term_of2 y)))) h (inr (whole_computation x y o c e)) (trees.term (parameters_in r) xs (operation (term_of2 x) o (term_of2 y)));
     maps = λ r xs u g h. was_asked r xs (a_map u g) (record { at = u.start; question = QuestionV.MapGroup; tree = group_tree (group_of g); call = nothing }) (group_tree (fill_group (parameters_in r) xs (group_of g))) h (inl refl) (trees.group (parameters_in r) xs (group_of g));

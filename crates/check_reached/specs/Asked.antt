@@ -4,8 +4,8 @@ use Rattle.cddl_token.specs.declared.Token.{Token}
 use Rattle.tree_nodes.specs.Syntax.Syntax as S
 use Rattle.tree_nodes.specs.declared.tree.Leaf.{Leaf}
 use Rattle.tree_nodes.specs.View.{view_group, view_operator, view_ref, view_type2}
-use Rattle.cddl_language.specs.Controls.{Comparison, Computation, Control, compared, computation_in, computed, control_of, is_ordering, join, sized, sum}
-use Rattle.cddl_language.specs.Faults.{asks_size, comparison_of, computation_of, is_range_sign, operand_at}
+use Rattle.cddl_language.specs.Controls.{Comparison, Computation, Control, compared, computation_in, computed, control_of, is_ordering, join, Membership, of_size, of_bits, member, sum}
+use Rattle.cddl_language.specs.Faults.{comparison_of, computation_of, membership_of, is_range_sign, operand_at}
 use Rattle.cddl_language.specs.MapFaults.{closed_entry, entry_at}
 use Rattle.cddl_language.specs.Reading.{control_name, entry_of, group_of, name_in, operation, parameters_in, ref_of, term_of2}
 use Rattle.cddl_language.specs.Sites.{IsInstance, IsReached, Site, a_choice_of, a_choice_of_name, a_map, an_operation}
@@ -51,6 +51,11 @@ end_of x = operand_wanted x QuestionV.IsWhole
 abbrev pub comparand_question : Comparison → Question
 comparand_question c = if is_ordering c then QuestionV.IsNumber else QuestionV.IsLiteral
 
+-- of a controller with members
+abbrev pub members_question : Membership → Question
+members_question of_size = QuestionV.HasSizes
+members_question of_bits = QuestionV.HasBits
+
 -- of an operand of a computation
 abbrev pub operand_question : Computation → Question
 operand_question sum = QuestionV.IsAddend
@@ -74,7 +79,7 @@ computation_wanted x o y = record { at = operand_at y; question = QuestionV.Comp
 
 abbrev pub controller_wanted : S.Type2 → S.Operator → S.Type2 → Option Control → Option Wanted
 controller_wanted x o y (Some (compared c)) = Some (operand_wanted y (comparand_question c))
-controller_wanted x o y (Some sized) = Some (operand_wanted y QuestionV.HasSizes)
+controller_wanted x o y (Some (member m)) = Some (operand_wanted y (members_question m))
 controller_wanted x o y (Some (computed c)) = Some (computation_wanted x o y)
 controller_wanted x o y _ = None
 
@@ -183,7 +188,7 @@ module _ (rs : List S.Rule) (root : Text) (t : Table) where
     first_end : {r : S.Rule} {xs : List Term} {x y : S.Type2} {o : S.Operator} → IsReached rs root r xs (an_operation x o y) → is_range_sign o ≡ true → IsTerm t a.row (fill (parameters_in r) xs (term_of2 x)) → a.at ≡ operand_at x → a.question ≡ QuestionV.IsWhole → IsAsked a
     last_end : {r : S.Rule} {xs : List Term} {x y : S.Type2} {o : S.Operator} → IsReached rs root r xs (an_operation x o y) → is_range_sign o ≡ true → IsTerm t a.row (fill (parameters_in r) xs (term_of2 y)) → a.at ≡ operand_at y → a.question ≡ QuestionV.IsWhole → IsAsked a
     controller : {r : S.Rule} {xs : List Term} {x y : S.Type2} {o : S.Operator} {c : Comparison} → IsReached rs root r xs (an_operation x o y) → comparison_of o ≡ Some c → IsTerm t a.row (fill (parameters_in r) xs (term_of2 y)) → a.at ≡ operand_at y → a.question ≡ comparand_question c → IsAsked a
-    size_controller : {r : S.Rule} {xs : List Term} {x y : S.Type2} {o : S.Operator} → IsReached rs root r xs (an_operation x o y) → asks_size o ≡ true → IsTerm t a.row (fill (parameters_in r) xs (term_of2 y)) → a.at ≡ operand_at y → a.question ≡ QuestionV.HasSizes → IsAsked a
+    members_controller : {r : S.Rule} {xs : List Term} {x y : S.Type2} {o : S.Operator} {m : Membership} → IsReached rs root r xs (an_operation x o y) → membership_of o ≡ Some m → IsTerm t a.row (fill (parameters_in r) xs (term_of2 y)) → a.at ≡ operand_at y → a.question ≡ members_question m → IsAsked a
     left_operand : {r : S.Rule} {xs : List Term} {x y : S.Type2} {o : S.Operator} {c : Computation} → IsReached rs root r xs (an_operation x o y) → computation_of o ≡ Some c → IsTerm t a.row (fill (parameters_in r) xs (term_of2 x)) → a.at ≡ operand_at x → a.question ≡ operand_question c → IsAsked a
     computation : {r : S.Rule} {xs : List Term} {x y : S.Type2} {o : S.Operator} {c : Computation} → IsReached rs root r xs (an_operation x o y) → computation_of o ≡ Some c → IsTerm t a.row (fill (parameters_in r) xs (operation (term_of2 x) o (term_of2 y))) → a.at ≡ operand_at y → a.question ≡ QuestionV.Computes → IsAsked a
     of_map : {r : S.Rule} {xs : List Term} {u : Token} {g : S.Group} → IsReached rs root r xs (a_map u g) → IsGroup t a.row (fill_group (parameters_in r) xs (group_of g)) → a.at ≡ u.start → a.question ≡ QuestionV.MapGroup → IsAsked a
@@ -203,7 +208,7 @@ module _ (rs : List S.Rule) (root : Text) (t : Table) where
     pub first_ends : (r : S.Rule) (xs : List Term) (x y : S.Type2) (o : S.Operator) → IsReached rs root r xs (an_operation x o y) → is_range_sign o ≡ true → WasAsked answers (operand_at x) QuestionV.IsWhole (term_tree (fill (parameters_in r) xs (term_of2 x)))
     pub last_ends : (r : S.Rule) (xs : List Term) (x y : S.Type2) (o : S.Operator) → IsReached rs root r xs (an_operation x o y) → is_range_sign o ≡ true → WasAsked answers (operand_at y) QuestionV.IsWhole (term_tree (fill (parameters_in r) xs (term_of2 y)))
     pub controllers : (r : S.Rule) (xs : List Term) (x y : S.Type2) (o : S.Operator) (c : Comparison) → IsReached rs root r xs (an_operation x o y) → comparison_of o ≡ Some c → WasAsked answers (operand_at y) (comparand_question c) (term_tree (fill (parameters_in r) xs (term_of2 y)))
-    pub size_controllers : (r : S.Rule) (xs : List Term) (x y : S.Type2) (o : S.Operator) → IsReached rs root r xs (an_operation x o y) → asks_size o ≡ true → WasAsked answers (operand_at y) QuestionV.HasSizes (term_tree (fill (parameters_in r) xs (term_of2 y)))
+    pub members_controllers : (r : S.Rule) (xs : List Term) (x y : S.Type2) (o : S.Operator) (m : Membership) → IsReached rs root r xs (an_operation x o y) → membership_of o ≡ Some m → WasAsked answers (operand_at y) (members_question m) (term_tree (fill (parameters_in r) xs (term_of2 y)))
     pub left_operands : (r : S.Rule) (xs : List Term) (x y : S.Type2) (o : S.Operator) (c : Computation) → IsReached rs root r xs (an_operation x o y) → computation_of o ≡ Some c → WasAsked answers (operand_at x) (operand_question c) (term_tree (fill (parameters_in r) xs (term_of2 x)))
     pub computations : (r : S.Rule) (xs : List Term) (x y : S.Type2) (o : S.Operator) (c : Computation) → IsReached rs root r xs (an_operation x o y) → computation_of o ≡ Some c → WasAsked answers (operand_at y) QuestionV.Computes (term_tree (fill (parameters_in r) xs (operation (term_of2 x) o (term_of2 y))))
     pub maps : (r : S.Rule) (xs : List Term) (u : Token) (g : S.Group) → IsReached rs root r xs (a_map u g) → WasAsked answers u.start QuestionV.MapGroup (group_tree (fill_group (parameters_in r) xs (group_of g)))

@@ -47,6 +47,8 @@ pub enum Question {
     IsNumber,
     /// Whether the type can be a controller of `.size` (section 3.8.1).
     HasSizes,
+    /// Whether the type can be a controller of `.bits` (section 3.8.2).
+    HasBits,
     /// Whether the type is a whole number as a literal, as the left side of `.plus` has to be (RFC 9165 section 2.1).
     IsAddend,
     /// Whether the type is a string as a literal, as the left side of `.cat` and `.det` has to be (RFC 9165 section 2.2).

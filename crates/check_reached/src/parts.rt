@@ -13,7 +13,7 @@ ghost use Rattle.cddl_language.specs.Faults.{operand_at};
 ghost use Rattle.cddl_language.specs.MapFaults.{entry_at};
 ghost use Rattle.cddl_language.specs.Reading.{control_name as name_of_control, entry_of};
 ghost use Rattle.tree_nodes.specs.Syntax.Syntax.{typed};
-ghost use Rattle.check_terms.specs.Texts.Controls.{comparison_view, computation_view, control_view};
+ghost use Rattle.check_terms.specs.Texts.Controls.{comparison_view, computation_view, control_view, membership_view};
 
 use crate::asked::Question;
 use check_reading::reader::{
@@ -21,7 +21,7 @@ use check_reading::reader::{
 };
 use check_sites::entries::{Node as EntryNode, TextEntry};
 use check_sites::sites::Site;
-use check_terms::texts::{Comparison, Computation, Control, control_of};
+use check_terms::texts::{Comparison, Computation, Control, Membership, control_of};
 use check_terms::{NoRoom, Terms, control_name};
 use tree_nodes::{Group, GrpEnt, Leaf, Operator, Ref, Tree, Type2, Types};
 
@@ -164,7 +164,9 @@ fn controller_part<'t>(
         Some(Control::Compared(comparison)) => {
             Some(operand(tree, right, comparand_question(comparison)))
         }
-        Some(Control::Sized) => Some(operand(tree, right, Question::HasSizes)),
+        Some(Control::Member(membership)) => {
+            Some(operand(tree, right, members_question(membership)))
+        }
         Some(Control::Computed(_)) => Some(computation(tree, left, operator, right)),
         _ => None,
     }
@@ -187,6 +189,15 @@ fn computation<'t>(
             operator,
             right,
         },
+    }
+}
+
+fn members_question(membership: Membership) -> Question
+    ensures { result ≡ by.members_question (membership_view membership) }
+{
+    match membership {
+        Membership::Size => Question::HasSizes,
+        Membership::Bits => Question::HasBits,
     }
 }
 

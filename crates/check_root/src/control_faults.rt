@@ -1,5 +1,5 @@
-//! What is wrong with the sides of controls that a root reaches: with what items are compared with, with controllers of `.size`,
-//! and with what literals are computed from.
+//! What is wrong with the sides of controls that a root reaches: with what items are compared with, with controllers of `.size`
+//! and `.bits`, and with what literals are computed from.
 mod computations;
 mod controllers;
 mod operands;
@@ -10,13 +10,14 @@ ghost use Rattle.cddl_language.specs.Terms.{Text};
 ghost use Rattle.check_literals.specs.Literals.{AreLiterals};
 ghost use Rattle.cddl_language.specs.Live.Live.{IsClear};
 ghost use Rattle.check_reached.specs.Asked.{AreAsked};
-ghost use Rattle.check_literals.specs.Sizes.Sizes.{AreSizable};
+ghost use Rattle.check_literals.specs.Sizes.Sizes.{AreControllers};
 ghost use Rattle.lists.specs.Least.{IsLeast};
 
 use crate::control_faults::controllers::{Wrong, least_wrong};
 use cddl_language::live::reached_parts;
 use cddl_language::written::operand_values;
 use check_literals::Literals;
+use check_literals::sizes::Controllers;
 use check_reached::Asked;
 use check_terms::Terms;
 use check_terms::laws::equal_numbers;
@@ -36,21 +37,20 @@ pub fn not_literal(terms: &Terms<'_>, literals: &Literals, asked: &[Asked]) -> O
 }
 
 /// The least offset of a controller that is not as its control asks for: one of `.lt`, `.le`, `.gt` or `.ge` that is a literal
-/// and no whole number (RFC 8610 section 3.8.6); one of `.size` that has no members as they have to be (section 3.8.1); or the
-/// right side of `.cat` or `.det` where the join is to be a text and is not UTF-8 (RFC 9165 section 2.2).
+/// and no whole number (RFC 8610 section 3.8.6); one of `.size` or `.bits` that has no members as they have to be (sections 3.8.1
+/// and 3.8.2); or the right side of `.cat` or `.det` where the join is to be a text and is not UTF-8 (RFC 9165 section 2.2).
 ///
-/// The rows and the flags, which are those of types that may be controllers of `.size`, are of this table. It takes a time in
-/// proportion to what is asked.
+/// The rows and the controllers are of this table. It takes a time in proportion to what is asked.
 pub fn bad_controller(
     terms: &Terms<'_>,
     literals: &Literals,
-    sizable: &[bool],
+    controllers: &Controllers,
     asked: &[Asked],
 ) -> Option<usize>
-    ensures { (s : Specification) (root : Text) (worth : Values) → AreRight s.tree worth → IsClear s → AreLiterals (definitions s) root worth terms.now literals.now → AreSizable (definitions s) root worth terms.now sizable.now → AreAsked (rules s) root terms.now asked.now → IsLeast (HasBadController s worth root) result }
+    ensures { (s : Specification) (root : Text) (worth : Values) → AreRight s.tree worth → IsClear s → AreLiterals (definitions s) root worth terms.now literals.now → AreControllers (definitions s) root worth terms.now controllers.now → AreAsked (rules s) root terms.now asked.now → IsLeast (HasBadController s worth root) result }
 {
     equal_numbers(terms);
     reached_parts();
     operand_values();
-    least_wrong(terms, literals, asked, Wrong::BadController(sizable))
+    least_wrong(terms, literals, asked, Wrong::BadController(controllers))
 }

@@ -10,7 +10,7 @@ mod occurrences;
 mod parts;
 mod tags;
 
-pub use controls::{Comparison, Computation, Control, control_of};
+pub use controls::{Comparison, Computation, Control, Membership, control_of};
 pub use hashes::{HashForm, hash_form, is_bad_hash};
 pub use names::{is_group_socket, is_socket};
 pub use numbers::uint;

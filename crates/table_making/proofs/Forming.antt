@@ -3,9 +3,9 @@ use Rattle.std.proofs.Common.{◌≡◌, ℕ, Bool, true, false, if◌then◌els
 use Rattle.std.specs.Prelude.{is_some, option_map}
 use Rattle.cbor_data.specs.Value.{Value}
 use Rattle.cddl_literal.specs.Numbers.{Meaning}
-use Rattle.cddl_meaning.specs.Alike.{AlikeAll, none, both, AlikeTypes, plain, refs, choices as some_choices, tags, boths, suches, holdings, AlikeNumbers, any_numbers, same_number, AlikeGroups, entries as some_entries, group_refs, sequences, alternates, repeats}
+use Rattle.cddl_meaning.specs.Alike.{SameBits, AlikeAll, none, both, AlikeTypes, plain, refs, choices as some_choices, tags, boths, suches, holdings, AlikeNumbers, any_numbers, same_number, AlikeGroups, entries as some_entries, group_refs, sequences, alternates, repeats}
 use Rattle.cddl_meaning.specs.Forms as F
-use Rattle.cddl_language.specs.Controls.{Comparison, is_ordering, Control, left_alone, left_and_right, held_item, held_sequence, compared, sized, Computation, computed, control_of}
+use Rattle.cddl_language.specs.Controls.{Comparison, is_ordering, Control, left_alone, left_and_right, held_item, held_sequence, compared, Membership, of_size, of_bits, member, Computation, computed, control_of}
 use Rattle.cddl_language.specs.Numbers as N
 use Rattle.cddl_language.specs.Terms.{no_entries, entries, Text, Term, Literal, literal, named, name_of, parens, map_of, array_of, unwrapped, choice_of, choice_of_name, tagged, tagged_by, simple_by, hash, range, control, or, Definition, Ref, Group, Entries, Entry, Key, typed, keyed, grouped, alternatives, entry_list}
 use Rattle.cddl_language.specs.Kinds as K
@@ -16,7 +16,7 @@ use Rattle.cddl_language.specs.Substitution.{group_choices}
 use Rattle.cddl_language.specs.Language as L
 use Rattle.cddl_language.specs.Language.{TypeName, type, GroupName, first_of, each_of, entry, round}
 use Rattle.cddl_language.specs.Literals.{Values, computed_literal, controlled_literal, literal_of, whole, whole_of}
-use Rattle.cddl_language.specs.Sizes.{Sizes, sizes_of}
+use Rattle.cddl_language.specs.Sizes.{Sizes, members_of}
 use Rattle.check_terms.specs.Table.{Table, HoldsText, no_text, some_text}
 use Rattle.check_terms.specs.Trees.{IsTerm, IsRef, IsGroup, IsEntries, IsEntry}
 use Rattle.check_groups.specs.Choosing.Nesting.{AreChosenEntries, IsChosenEach, IsChosenEntry, IsChosenPart}
@@ -26,10 +26,10 @@ use Rattle.check_instances.specs.declared.openings.openings.Opening.{Opening}
 use Rattle.check_instances.specs.declared.openings.openings.Part.TheVariants as PartV
 use Rattle.check_literals.specs.Literals.{AreLiterals, literal_at}
 use Rattle.check_literals.specs.declared.known.Literals.{Literals}
-use Rattle.check_literals.specs.Sizes.Sizes.{AreSizes, SameSizes, sizes_at}
-use Rattle.check_literals.specs.declared.sizes.known.Sizes as S
+use Rattle.check_literals.specs.Sizes.Sizes.{AreMembers, SameSizes, sizes_at, sizes_of}
+use Rattle.check_literals.specs.declared.sizes.known.Members as S
 use Rattle.table_making.specs.Basis.{Sense}
-use Rattle.table_making.specs.Lookups.{between_view, control_form_view, equal_view, is_flagged, is_over, opened_view, sized_view, such_view, test_by}
+use Rattle.table_making.specs.Lookups.{between_view, control_form_view, equal_view, is_flagged, is_over, member_view, opened_view, such_view, test_by}
 use Rattle.table_making.specs.Origins.{AreKnown, AreKnownEntries, IsKnown, IsKnownEntry, IsKnownGroup, IsTypeOrigin, of_row, of_instance, of_chosen, of_word, IsGroupOrigin, of_alternatives, of_sequence, of_entry, of_round, IsAsked, asks_type, asks_named, asks_opened}
 use Rattle.table_making.specs.Shapes.{IsShape, a_literal, a_name, in_parens, an_array, an_unwrapping, a_choice_of, a_choice_of_name, a_tag, a_tag_by, a_simple, a_hash, a_range, a_range_below, a_choice, a_map, a_control, IsEntryShape, a_typed, a_keyed, a_group}
 use Rattle.table_making.specs.declared.asked.Asked.TheVariants as A
@@ -201,17 +201,24 @@ module _ (s : Sense) (t : Table) where
   literal_formed v o f e h = subst (Forms (L.equal_to (Some (s.worth v)))) (sym e) (equal_by (Some (s.worth v)) o (h ∙ literal_written s.worth s.definitions v))
 
   compared_by : (c : Comparison) (o : Option Value) (y : Term) (i : ℕ) → IsTerm t i y → IsKnown s y → Forms (L.such_as_compares c o y) (such_view i (option_map (L.compared_test c) o))
-  compared_by c (Some v) y i g p = suches (of_row g p.0 p.1) (λ x. refl)
+  compared_by c (Some v) y i g p = suches (of_row g p.0 p.1) (λ x. refl) (compared_bits c)
+    where
+      compared_bits : (d : Comparison) → SameBits (L.compared_test d v) (L.compared_test d v)
+      compared_bits d x = refl
   compared_by c None y i g p = some_choices none
 
-  sized_by : (o p : Option Sizes) (y : Term) (i : ℕ) → SameSizes o p → IsTerm t i y → IsKnown s y → Forms (L.such_as_sized o y) (sized_view i p)
-  sized_by (Some rs) (Some ss) y i h g p = suches (of_row g p.0 p.1) h
-  sized_by (Some rs) None y i h g p = absurd h
-  sized_by None (Some ss) y i h g p = absurd h
-  sized_by None None y i h g p = some_choices none
+  same_bits : (k : Membership) (rs ss : Sizes) → SameBits (L.membership_test k rs) (L.membership_test k ss)
+  same_bits of_size rs ss x = refl
+  same_bits of_bits rs ss x = refl
+
+  member_by : (k : Membership) (o p : Option Sizes) (y : Term) (i : ℕ) → SameSizes o p → IsTerm t i y → IsKnown s y → Forms (L.such_as_member k o y) (member_view k i p)
+  member_by k (Some rs) (Some ss) y i h g p = suches (of_row g p.0 p.1) (h k) (same_bits k rs ss)
+  member_by k (Some rs) None y i h g p = absurd h
+  member_by k None (Some ss) y i h g p = absurd h
+  member_by k None None y i h g p = some_choices none
 
   -- What a control is, where the controller and the control are these literals, and the controller has these members.
-  module _ (y z : Term) (n : Text) (i j : ℕ) (g : IsTerm t i y) (h : IsTerm t j z) (p : IsKnown s y) (q : IsKnown s z) (m own : Option Meaning) (rs : Option Sizes) (literals : m ≡ literal_of s.worth s.definitions z) (its : own ≡ literal_of s.worth s.definitions (control y n z)) (members : Some sized ≡ control_of n → SameSizes (sizes_of s.worth s.definitions z) rs) where
+  module _ (y z : Term) (n : Text) (i j : ℕ) (g : IsTerm t i y) (h : IsTerm t j z) (p : IsKnown s y) (q : IsKnown s z) (m own : Option Meaning) (rs : Membership → Option Sizes) (literals : m ≡ literal_of s.worth s.definitions z) (its : own ≡ literal_of s.worth s.definitions (control y n z)) (members : (k : Membership) → Some (member k) ≡ control_of n → SameSizes (members_of s.worth s.definitions k z) (rs k)) where
     computes : (c : Computation) → Some (computed c) ≡ control_of n → own ≡ computed_literal c (literal_of s.worth s.definitions y) (literal_of s.worth s.definitions z)
     computes c e = its ∙ literal_controlled s.worth s.definitions y z n ∙ ap (λ o. controlled_literal o (literal_of s.worth s.definitions y) (literal_of s.worth s.definitions z)) (sym e)
 
@@ -221,14 +228,14 @@ module _ (s : Sense) (t : Table) where
     control_by (Some held_item) e = holdings (of_row g p.0 p.1) (of_row h q.0 q.1)
     control_by (Some held_sequence) e = holdings (of_row g p.0 p.1) (of_row h q.0 q.1)
     control_by (Some (compared c)) e = subst (λ o. Forms (L.control_node s.worth s.definitions (Some (compared c)) y z) (such_view i (test_by c o))) (sym literals) (compared_by c (L.comparand (is_ordering c) (literal_of s.worth s.definitions z)) y i g p)
-    control_by (Some sized) e = sized_by (sizes_of s.worth s.definitions z) rs y i (members e) g p
+    control_by (Some (member k)) e = member_by k (members_of s.worth s.definitions k z) (rs k) y i (members k e) g p
     control_by (Some (computed c)) e = equal_by (computed_literal c (literal_of s.worth s.definitions y) (literal_of s.worth s.definitions z)) own (computes c e)
     control_by None e = some_choices none
 
-  pub control_formed : (ls : Literals) (members : S.Sizes) → AreLiterals s.definitions s.root s.worth t ls → AreSizes s.definitions s.root s.worth t members → (y z : Term) (n : Text) (row i j : ℕ) (k : Option Control) (f : F.Node TypeOrigin GroupOrigin) → k ≡ control_of n → f ≡ control_form_view k i j (literal_at ls j) (literal_at ls row) (sizes_at members j) → IsTerm t row (control y n z) → IsTerm t i y → IsTerm t j z → IsKnown s (control y n z) → Forms (L.term_node s.worth s.definitions (control y n z)) f
+  pub control_formed : (ls : Literals) (members : S.Members) → AreLiterals s.definitions s.root s.worth t ls → AreMembers s.definitions s.root s.worth t members → (y z : Term) (n : Text) (row i j : ℕ) (k : Option Control) (f : F.Node TypeOrigin GroupOrigin) → k ≡ control_of n → f ≡ control_form_view k i j (literal_at ls j) (literal_at ls row) (λ which. sizes_at (sizes_of members which) j) → IsTerm t row (control y n z) → IsTerm t i y → IsTerm t j z → IsKnown s (control y n z) → Forms (L.term_node s.worth s.definitions (control y n z)) f
   control_formed ls members are have y z n row i j k f e d w g h re =
       let right = right_known y z n re in
-      let by = control_by y z n i j g h (left_known y z n re) right (literal_at ls j) (literal_at ls row) (sizes_at members j) (are.values j z h right) (are.values row (control y n z) w re) (λ asks. have j z (record { row = row; left = y; name = n; right = z; there = w; asks = sym asks; controller = h }) h right) k e in
+      let by = control_by y z n i j g h (left_known y z n re) right (literal_at ls j) (literal_at ls row) (λ which. sizes_at (sizes_of members which) j) (are.values j z h right) (are.values row (control y n z) w re) (λ which asks. have which j z (record { row = row; left = y; name = n; right = z; there = w; asks = sym asks; controller = h }) h right) k e in
       subst (λ o. Forms (L.control_node s.worth s.definitions o y z) f) e (subst (Forms (L.control_node s.worth s.definitions k y z)) (sym d) by)
 
   pub chosen_so : (o : Option (List Term)) (ns : List TypeName) (f : F.Node TypeOrigin GroupOrigin) → is_some o ≡ true → Forms (F.Choice ns) f → Forms (L.choice o ns) f

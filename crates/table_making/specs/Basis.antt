@@ -13,8 +13,8 @@ use Rattle.check_instances.specs.declared.openings.openings.Opening.{Opening}
 use Rattle.check_instances.specs.Openings.Openings.{AreOpenings}
 use Rattle.check_literals.specs.Literals.{AreLiterals}
 use Rattle.check_literals.specs.declared.known.Literals.{Literals}
-use Rattle.check_literals.specs.Sizes.Sizes.{AreSizes}
-use Rattle.check_literals.specs.declared.sizes.known.Sizes.{Sizes}
+use Rattle.check_literals.specs.Sizes.Sizes.{AreMembers}
+use Rattle.check_literals.specs.declared.sizes.known.Members.{Members}
 use Rattle.check_groups.specs.Choosing.Choosing.{AreChoosable}
 use Rattle.check_groups.specs.Splices.Parts.{AreParts}
 use Rattle.alternatives.specs.declared.Part.{Part}
@@ -30,12 +30,12 @@ pub record Sense : Type 0 where
   pub root : Text
   pub refs : List Ref
 
-pub record IsBasis (s : Sense) (t : Table) (c : Closed) (kinds : Kinds) (openings : List Opening) (literals : Literals) (sizes : Sizes) (flags : List Bool) (parts : List Part) (summaries : List (Option Summary)) : Type 0 where
+pub record IsBasis (s : Sense) (t : Table) (c : Closed) (kinds : Kinds) (openings : List Opening) (literals : Literals) (members : Members) (flags : List Bool) (parts : List Part) (summaries : List (Option Summary)) : Type 0 where
   pub closed : IsClosed s.definitions s.root s.refs t c
   pub kinds_are : AreKinds t.texts s.definitions kinds
   pub openings_are : AreOpenings s.definitions t s.refs openings
   pub literals_are : AreLiterals s.definitions s.root s.worth t literals
-  pub sizes_are : AreSizes s.definitions s.root s.worth t sizes
+  pub members_are : AreMembers s.definitions s.root s.worth t members
   pub choosable : AreChoosable s.definitions s.root t flags
   pub parts_are : AreParts s.definitions s.root t parts
   pub summaries_are : AreSummaries parts summaries
@@ -43,4 +43,4 @@ pub record IsBasis (s : Sense) (t : Table) (c : Closed) (kinds : Kinds) (opening
   pub right : AreRight s.tree s.worth
 
 abbrev pub IsSource : Sense → Table → Source → Type 0
-IsSource s t src = IsBasis s t src.closed.now src.kinds.now src.openings.now src.literals.now src.sizes.now src.choosable.now src.parts.now src.summaries.now
+IsSource s t src = IsBasis s t src.closed.now src.kinds.now src.openings.now src.literals.now src.members.now src.choosable.now src.parts.now src.summaries.now

@@ -3,8 +3,8 @@ use Rattle.std.specs.Prelude.{ℕ, ltb, Bool, true, false, [], Option, Some, Non
 use Rattle.cbor_data.specs.Value.{Value}
 use Rattle.cddl_meaning.specs.Forms as F
 use Rattle.cddl_literal.specs.Numbers.{Meaning}
-use Rattle.cddl_language.specs.Controls.{Comparison, is_ordering, Control, left_alone, left_and_right, held_item, held_sequence, compared, sized, computed}
-use Rattle.cddl_language.specs.Language.{comparand, compared_test}
+use Rattle.cddl_language.specs.Controls.{Comparison, is_ordering, Control, left_alone, left_and_right, held_item, held_sequence, compared, Membership, member, computed}
+use Rattle.cddl_language.specs.Language.{comparand, compared_test, membership_test}
 use Rattle.cddl_language.specs.Literals.{item_of}
 use Rattle.cddl_language.specs.Sizes.{Sizes}
 use Rattle.check_terms.specs.declared.row.Row.{Row}
@@ -40,9 +40,9 @@ abbrev pub such_view : ℕ → Option F.Test → F.Node TypeOrigin GroupOrigin
 such_view left (Some t) = F.Such (T.Row left) t
 such_view left None = F.Choice []
 
-abbrev pub sized_view : ℕ → Option Sizes → F.Node TypeOrigin GroupOrigin
-sized_view left (Some rs) = F.Such (T.Row left) (F.sized rs)
-sized_view left None = F.Choice []
+abbrev pub member_view : Membership → ℕ → Option Sizes → F.Node TypeOrigin GroupOrigin
+member_view k left (Some rs) = F.Such (T.Row left) (membership_test k rs)
+member_view k left None = F.Choice []
 
 -- a literal and nothing else, where there is one
 abbrev pub equal_view : Option Meaning → F.Node TypeOrigin GroupOrigin
@@ -50,14 +50,14 @@ equal_view (Some m) = F.Plain (F.equals (item_of m))
 equal_view None = F.Choice []
 
 -- What a control makes of the rows of its two types, of the literals that its controller and itself are, if they are some, and of
--- the members of its controller.
-abbrev pub control_form_view : Option Control → (left right : ℕ) → (controller own : Option Meaning) → Option Sizes → F.Node TypeOrigin GroupOrigin
+-- the members of its controller for each control that asks for some.
+abbrev pub control_form_view : Option Control → (left right : ℕ) → (controller own : Option Meaning) → (Membership → Option Sizes) → F.Node TypeOrigin GroupOrigin
 control_form_view (Some left_alone) left right m own rs = F.Ref (T.Row left)
 control_form_view (Some left_and_right) left right m own rs = F.Both (T.Row left) (T.Row right)
 control_form_view (Some held_item) left right m own rs = F.Holding (T.Row left) F.one_item (T.Row right)
 control_form_view (Some held_sequence) left right m own rs = F.Holding (T.Row left) F.sequence_of_items (T.Row right)
 control_form_view (Some (compared c)) left right m own rs = such_view left (test_by c m)
-control_form_view (Some sized) left right m own rs = sized_view left rs
+control_form_view (Some (member k)) left right m own rs = member_view k left (rs k)
 control_form_view (Some (computed c)) left right m own rs = equal_view own
 control_form_view None left right m own rs = F.Choice []
 

@@ -16,7 +16,7 @@ mod origin;
 mod row_origins;
 mod search;
 mod shape;
-mod sizes;
+mod members;
 mod source;
 mod texts;
 mod types;

@@ -4,7 +4,7 @@ use alternatives::{Part, Summary};
 use check_instances::closed::Closed;
 use check_instances::openings::Opening;
 use check_literals::Literals;
-use check_literals::sizes::Sizes;
+use check_literals::sizes::Members;
 use check_names::kinds::Kinds;
 
 /// What is known of the instances of a specification and of the rows of its terms.
@@ -18,8 +18,8 @@ pub struct Source<'a> {
     pub openings: &'a [Opening],
     /// The literals that the rows are, written or computed.
     pub literals: &'a Literals,
-    /// The members of the controllers of `.size`, by their rows.
-    pub sizes: &'a Sizes,
+    /// The members of the controllers of `.size` and `.bits`, by their rows.
+    pub members: &'a Members,
     /// For each row whether `&` can choose from the group that it is.
     pub choosable: &'a [bool],
     /// What each row says in the group of a map.

@@ -9,7 +9,7 @@ ghost use Rattle.cddl_language.specs.Terms as L;
 ghost use Rattle.cddl_language.specs.Terms.{Entries, Group, Ref, Term, Text};
 ghost use Rattle.check_instances.specs.Closed.Closed.{AreAlternatives};
 ghost use Rattle.check_literals.specs.Literals.{literal_at};
-ghost use Rattle.check_literals.specs.Sizes.Sizes.{sizes_at};
+ghost use Rattle.check_literals.specs.Sizes.Sizes.{sizes_at, sizes_of};
 ghost use Rattle.check_terms.specs.Table.{Table};
 ghost use Rattle.table_nodes.specs.Nodes.{content_view};
 ghost use Rattle.check_terms.specs.Texts.Controls.{control_view};
@@ -30,7 +30,7 @@ use crate::maps::{map_form, word_form};
 use crate::origin::{GroupOrigin, TypeOrigin};
 use crate::row_origins::row_origins;
 use crate::shape::{Shape, shape_at};
-use crate::sizes::size_form;
+use crate::members::member_form;
 use crate::source::Source;
 use crate::texts::{control_at, hash_at, tag_at};
 use check_instances::closed::choices;
@@ -252,7 +252,7 @@ fn known_form(
     left: u32,
     right: u32,
 ) -> Result<TypeForm, NoRoom>
-    ensures { IfOk result (λ f. type_form_view f ≡ control_form_view (option_map control_view control) left right (literal_at source.now.literals.now right) (literal_at source.now.literals.now row) (sizes_at source.now.sizes.now right)) }
+    ensures { IfOk result (λ f. type_form_view f ≡ control_form_view (option_map control_view control) left right (literal_at source.now.literals.now right) (literal_at source.now.literals.now row) (λ k. sizes_at (sizes_of source.now.members.now k) right)) }
 {
     match control {
         Some(Control::LeftAlone) => Ok(TypeForm::Ref(TypeOrigin::Row(left))),
@@ -262,7 +262,9 @@ fn known_form(
         Some(Control::Compared(comparison)) => {
             comparison_form(alloc, source, comparison, left, right)
         }
-        Some(Control::Sized) => size_form(alloc, source, left, right),
+        Some(Control::Member(membership)) => {
+            member_form(alloc, source, membership, left, right)
+        }
         Some(Control::Computed(_)) => equal_form(alloc, source, row),
         None => Ok(nothing(alloc)),
     }

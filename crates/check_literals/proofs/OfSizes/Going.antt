@@ -3,6 +3,7 @@ use Rattle.std.proofs.Common.{◌≡◌, inl, inr, ℕ, zero, suc, ◌+◌, ◌<
 use Rattle.std.specs.Prelude.{is_some, nat_le, nat_lt, ◌&&◌}
 use Rattle.lists.proofs.Lemmas.{and_false, and_true, before_or_not, beyond_all as nothing_past, less, not_below as not_less, not_both, test_at_most, test_greater, test_less, test_not_less, tested as is_either}
 use Rattle.cddl_meaning.specs.Alike.{AlikeAll, none, both}
+use Rattle.cddl_language.specs.Controls.{Membership}
 use Rattle.cddl_language.specs.Terms.{Text, Term, Ref, Definition}
 use Rattle.cddl_language.specs.Substitution.{type_choices}
 use Rattle.cddl_language.specs.Reach.{most_instances}
@@ -146,5 +147,5 @@ module _ (xs : List Definition) (root : Text) (worth : Values) (refs : List Ref)
       by false = refl
   flag_of (d ∷ es) (suc n) = flag_of es n
 
-  pub are_sizable : (flags : List Bool) → flags ≡ map is_few ds → AreSizable xs root worth t flags
-  are_sizable flags e n x i k = ap (λ (fs : List Bool). flag_at fs n) e ∙ (flag_of ds n ∙ sym (in_goes most_instances (omega arith) n x i k))
+  pub are_sizable : (flags : List Bool) → flags ≡ map is_few ds → (m : Membership) → AreSizable xs root worth t m flags
+  are_sizable flags e m n x i k = ap (λ (fs : List Bool). flag_at fs n) e ∙ (flag_of ds n ∙ sym (in_goes most_instances (omega arith) n x i k))

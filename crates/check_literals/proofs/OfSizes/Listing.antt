@@ -2,6 +2,7 @@
 use Rattle.std.proofs.Common.{◌≡◌, ◌⊎◌, inl, inr, ℕ, zero, suc, ◌+◌, ◌<◌, List, [], ◌∷◌, ◌++◌, length, set, Bool, true, false, Option, Some, None, slice_get, refl, sym, ap, subst, ◌∙◌, arith}
 use Rattle.lists.proofs.Lemmas.{after_set, false_true as not_true, push_before as before_push, push_there as at_push, same_or_not, set_length, set_other as beside_set, set_there as at_set}
 use Rattle.table_nodes.specs.declared.sizes.NumberSet.{NumberSet}
+use Rattle.cddl_language.specs.Controls.{Membership}
 use Rattle.check_terms.specs.Table.{Table}
 use Rattle.check_literals.specs.declared.sizes.known.Sizes.{Sizes}
 use Rattle.check_literals.specs.declared.sizes.sources.Source.{Source}
@@ -69,9 +70,9 @@ module _ (ss : List Source) (flags : List Bool) (old new : Sizes) (row : ℕ) (l
       not_free : None ≡ Some i → ⊥
       not_free f = cc
 
-pub lists_more : (ss : List Source) (t : Table) (flags : List Bool) (k : ℕ) (old new : Sizes) → AreListed ss flags old → AreListed ss flags new → KeepsLists old new → ((n : ℕ) → controller_at t k ≡ Some n → HasList flags n new) → HaveLists t flags k old → HaveLists t flags (k + 1) new
-lists_more ss t flags k old new a b keep more h j n l e = elim (same_or_not j k) [
-  | inl q ↦ more n (ap (controller_at t) (sym q) ∙ e)
+pub lists_more : (m : Membership) (ss : List Source) (t : Table) (flags : List Bool) (k : ℕ) (old new : Sizes) → AreListed ss flags old → AreListed ss flags new → KeepsLists old new → ((n : ℕ) → controller_at m t k ≡ Some n → HasList flags n new) → HaveLists m t flags k old → HaveLists m t flags (k + 1) new
+lists_more c ss t flags k old new a b keep more h j n l e = elim (same_or_not j k) [
+  | inl q ↦ more n (ap (controller_at c t) (sym q) ∙ e)
   | inr d ↦ record {
     place = λ f w. (
         let all = a.all in

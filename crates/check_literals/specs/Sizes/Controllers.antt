@@ -1,8 +1,8 @@
--- Which rows are controllers of `.size`, and the lists of their numbers.
+-- Which rows are controllers of `.size`, or of `.bits`, and the lists of their numbers.
 use Rattle.std.specs.Prelude.{◌≡◌, ℕ, ◌+◌, ◌<◌, Bool, true, false, if◌then◌else◌, List, length, Option, Some, None, slice_get}
 use Rattle.cddl_meaning.specs.Alike.{SameTest}
 use Rattle.cddl_meaning.specs.Forms as T
-use Rattle.cddl_language.specs.Controls.{control_of, is_sized}
+use Rattle.cddl_language.specs.Controls.{Membership, of_size, of_bits, membership_in, control_of}
 use Rattle.cddl_language.specs.Terms.{Text}
 use Rattle.check_terms.specs.declared.row.Form.{Form}
 use Rattle.check_terms.specs.declared.row.Form.TheVariants as F
@@ -16,25 +16,35 @@ use Rattle.check_literals.specs.declared.sizes.sources.Source.{Source}
 use Rattle.check_literals.specs.Sizes.Reach.{AreBelow, IsReached, ranges_of}
 use Rattle.check_literals.specs.Sizes.Sizes.{flag_at}
 
-abbrev pub is_size_name : Option Text → Bool
-is_size_name None = false
-is_size_name (Some n) = is_sized (control_of n)
+abbrev pub is_same_membership : Membership → Membership → Bool
+is_same_membership of_size of_size = true
+is_same_membership of_bits of_bits = true
+is_same_membership _ _ = false
 
-abbrev pub is_size_text : List Text → Option ℕ → Bool
-is_size_text texts None = false
-is_size_text texts (Some k) = is_size_name (slice_get texts k)
+module _ (m : Membership) where
+  abbrev pub is_one : Option Membership → Bool
+  is_one None = false
+  is_one (Some d) = is_same_membership d m
 
-abbrev pub is_size_form : List Text → Form → Option ℕ → Bool
-is_size_form texts F.Control k = is_size_text texts k
-is_size_form texts _ k = false
+  abbrev pub is_such_name : Option Text → Bool
+  is_such_name None = false
+  is_such_name (Some n) = is_one (membership_in (control_of n))
 
--- the controller, where the row is a `.size`
-abbrev pub controller_in : List Text → Option Row → Option ℕ
-controller_in texts None = None
-controller_in texts (Some r) = if is_size_form texts r.form r.text then r.second else None
+  abbrev pub is_such_text : List Text → Option ℕ → Bool
+  is_such_text texts None = false
+  is_such_text texts (Some k) = is_such_name (slice_get texts k)
 
-abbrev pub controller_at : Table → ℕ → Option ℕ
-controller_at t n = controller_in t.texts (slice_get t.rows n)
+  abbrev pub is_such_form : List Text → Form → Option ℕ → Bool
+  is_such_form texts F.Control k = is_such_text texts k
+  is_such_form texts _ k = false
+
+  -- the controller, where the row is such a control
+  abbrev pub controller_in : List Text → Option Row → Option ℕ
+  controller_in texts None = None
+  controller_in texts (Some r) = if is_such_form texts r.form r.text then r.second else None
+
+  abbrev pub controller_at : Table → ℕ → Option ℕ
+  controller_at t n = controller_in t.texts (slice_get t.rows n)
 
 -- whether there is a row, without a list
 abbrev pub is_free : Option (Option ℕ) → Bool
@@ -77,5 +87,5 @@ abbrev pub KeepsLists : Sizes → Sizes → Type 0
 KeepsLists old new = (n i : ℕ) → slice_get old.rows.items n ≡ Some (Some i) → (j : ℕ) × (slice_get new.rows.items n ≡ Some (Some j))
 
 -- the controllers of the rows before this one have lists
-abbrev pub HaveLists : Table → List Bool → ℕ → Sizes → Type 0
-HaveLists t flags before z = (j n : ℕ) → j < before → controller_at t j ≡ Some n → HasList flags n z
+abbrev pub HaveLists : Membership → Table → List Bool → ℕ → Sizes → Type 0
+HaveLists m t flags before z = (j n : ℕ) → j < before → controller_at m t j ≡ Some n → HasList flags n z

@@ -1,4 +1,4 @@
-//! Which rows' types may be controllers of `.size`.
+//! Which rows' types may be controllers of `.size` and `.bits`.
 
 ghost use Rattle.std.specs.Prelude.{◌≡◌, IfOk, List, map};
 ghost use Rattle.check_instances.specs.Closed.Closed.{IsClosed};
@@ -8,11 +8,13 @@ ghost use Rattle.cddl_language.specs.Reading.{definitions_in, rules_of};
 ghost use Rattle.cddl_language.specs.Terms.{Ref, Text};
 ghost use Rattle.check_literals.specs.Literals.{AreLiterals};
 ghost use Rattle.check_literals.specs.Sizes.Depths.{is_few};
-ghost use Rattle.check_literals.specs.Sizes.Sizes.{AreSizable};
+ghost use Rattle.cddl_language.specs.Controls.{Membership};
+ghost use Rattle.check_literals.specs.Sizes.Sizes.{AreControllers, AreSizable};
 ghost use Rattle.tree_nodes.specs.Syntax.Syntax.{Cddl};
 
 use crate::Literals;
 use crate::sizes::depths::depths_of;
+use crate::sizes::known::Controllers;
 use crate::sizes::sources::sources;
 use cddl_language::written::reached_values;
 use check_instances::MOST_INSTANCES;
@@ -22,20 +24,35 @@ use check_names::kinds::Kinds;
 use check_terms::Terms;
 use std::alloc::{AllocError, Global};
 
-/// For each row of the table whether its type may be the controller of `.size`: an unsigned number, written or computed, a
-/// range of such numbers, or a choice of these, through names of types and parentheses (RFC 8610 section 3.8.1). A name that
-/// needs itself is none.
+/// For each row of the table whether its type may be the controller of `.size`, and of `.bits`: an unsigned number, written or
+/// computed, a range of such numbers, or a choice of these, through names of types and parentheses (RFC 8610 sections 3.8.1 and
+/// 3.8.2). A name that needs itself is none.
 ///
 /// It takes a time of n log n for the rows and the choices of the instances, and memory in proportion to them. An error comes
 /// only where memory is refused, or where the table numbers no further row.
-pub fn sizable(
+pub fn controllers(
+    alloc: Global,
+    terms: &Terms<'_>,
+    closed: &Closed,
+    kinds: &Kinds,
+    literals: &Literals,
+) -> Result<Controllers, AllocError>
+    ensures { IfOk result (λ v. (x : Cddl) (worth : Values) (root : Text) (refs : List Ref) → AreRight x worth → IsClosed (definitions_in (rules_of x)) root refs terms.now closed.now → AreKinds terms.now.texts (definitions_in (rules_of x)) kinds.now → AreLiterals (definitions_in (rules_of x)) root worth terms.now literals.now → AreControllers (definitions_in (rules_of x)) root worth terms.now v) }
+{
+    let sizes = sizable(alloc, terms, closed, kinds, literals)?;
+    let bits = sizable(alloc, terms, closed, kinds, literals)?;
+    Ok(Controllers { sizes, bits })
+}
+
+// For each row whether its type may be such a controller.
+fn sizable(
     alloc: Global,
     terms: &Terms<'_>,
     closed: &Closed,
     kinds: &Kinds,
     literals: &Literals,
 ) -> Result<Vec<bool>, AllocError>
-    ensures { IfOk result (λ v. (x : Cddl) (worth : Values) (root : Text) (refs : List Ref) → AreRight x worth → IsClosed (definitions_in (rules_of x)) root refs terms.now closed.now → AreKinds terms.now.texts (definitions_in (rules_of x)) kinds.now → AreLiterals (definitions_in (rules_of x)) root worth terms.now literals.now → AreSizable (definitions_in (rules_of x)) root worth terms.now v.items) }
+    ensures { IfOk result (λ v. (x : Cddl) (worth : Values) (root : Text) (refs : List Ref) → AreRight x worth → IsClosed (definitions_in (rules_of x)) root refs terms.now closed.now → AreKinds terms.now.texts (definitions_in (rules_of x)) kinds.now → AreLiterals (definitions_in (rules_of x)) root worth terms.now literals.now → (m : Membership) → AreSizable (definitions_in (rules_of x)) root worth terms.now m v.items) }
 {
     place_of(terms);
     meaning_at();

@@ -1,7 +1,7 @@
-//! The members of the controllers of `.size`.
+//! The members of the controllers of `.size` and `.bits`.
 
 ghost use Rattle.std.specs.Prelude.{◌≡◌, ◌++◌, ◌∷◌, [], ℕ, Bool, IfOk, List, Some, length, set, slice_get};
-ghost use Rattle.cddl_language.specs.Controls.{control_of, is_sized};
+ghost use Rattle.cddl_language.specs.Controls.{control_of, membership_in};
 ghost use Rattle.check_literals.specs.declared.sizes.sources.Source.{Source};
 ghost use Rattle.check_instances.specs.Closed.Closed.{IsClosed};
 ghost use Rattle.check_names.specs.Kinds.Kinds.{AreKinds};
@@ -9,12 +9,13 @@ ghost use Rattle.cddl_language.specs.Literals.{AreRight, Values};
 ghost use Rattle.cddl_language.specs.Reading.{definitions_in, rules_of};
 ghost use Rattle.cddl_language.specs.Terms.{Ref, Text};
 ghost use Rattle.check_literals.specs.Literals.{AreLiterals};
-ghost use Rattle.check_literals.specs.Sizes.Controllers.{AreListed, HasList, HaveLists, IsReady, KeepsLists, controller_at, is_free, is_wanted, is_size_form, is_size_text};
-ghost use Rattle.check_literals.specs.Sizes.Sizes.{AreSizable, AreSizes, flag_at};
+ghost use Rattle.check_literals.specs.Sizes.Controllers.{AreListed, HasList, HaveLists, IsReady, KeepsLists, controller_at, is_free, is_one, is_same_membership, is_wanted, is_such_form, is_such_text};
+ghost use Rattle.check_literals.specs.Sizes.Sizes.{AreControllers, AreMembers, AreSizable, AreSizes, flag_at};
+ghost use Rattle.check_terms.specs.Texts.Controls.{membership_view};
 ghost use Rattle.tree_nodes.specs.Syntax.Syntax.{Cddl};
 
 use crate::Literals;
-use crate::sizes::known::Sizes;
+use crate::sizes::known::{Controllers, Members, Sizes};
 use crate::sizes::reach::{Search, no_search, set_of};
 use crate::sizes::sources::{Source, sources};
 use cddl_language::written::reached_values;
@@ -22,26 +23,45 @@ use check_instances::closed::Closed;
 use check_instances::closed::laws::{meaning_at, meanings_are_reached, place_of};
 use check_names::kinds::Kinds;
 use check_terms::laws::equal_numbers;
-use check_terms::texts::{Control, control_of};
+use check_terms::texts::{Control, Membership, control_of};
 use check_terms::{Form, Row, Terms};
 use std::alloc::{AllocError, Global};
 use table_nodes::NumberSet;
 
-/// The members of the types that are controllers of `.size` (RFC 8610 section 3.8.1), where `sizable` tells which rows may be
-/// such. Each row to which a controller leads is looked at once for it, however many ways lead there.
+/// The members of the types that are controllers of `.size` or `.bits` (RFC 8610 sections 3.8.1 and 3.8.2), where `controllers`
+/// tells which rows may be such. Each row to which a controller leads is looked at once for it, however many ways lead there.
 ///
 /// For each controller it takes a time of n log n for the rows to which it leads, and 16 bytes for each of their ranges that is
 /// left when those that overlap or touch are one: a range that belongs to many controllers is kept for each. An error comes only
 /// where memory is refused, or where the table numbers no further row.
-pub fn sizes(
+pub fn members(
     alloc: Global,
     terms: &Terms<'_>,
     closed: &Closed,
     kinds: &Kinds,
     literals: &Literals,
+    controllers: &Controllers,
+) -> Result<Members, AllocError>
+    ensures { IfOk result (λ z. (x : Cddl) (worth : Values) (root : Text) (refs : List Ref) → AreRight x worth → IsClosed (definitions_in (rules_of x)) root refs terms.now closed.now → AreKinds terms.now.texts (definitions_in (rules_of x)) kinds.now → AreLiterals (definitions_in (rules_of x)) root worth terms.now literals.now → AreControllers (definitions_in (rules_of x)) root worth terms.now controllers.now → AreMembers (definitions_in (rules_of x)) root worth terms.now z) }
+{
+    let sizable = controllers.of(Membership::Size);
+    let sizes = sizes(alloc, terms, closed, kinds, literals, Membership::Size, sizable)?;
+    let sizable = controllers.of(Membership::Bits);
+    let bits = sizes(alloc, terms, closed, kinds, literals, Membership::Bits, sizable)?;
+    Ok(Members { sizes, bits })
+}
+
+// The members of the controllers of one of these controls.
+fn sizes(
+    alloc: Global,
+    terms: &Terms<'_>,
+    closed: &Closed,
+    kinds: &Kinds,
+    literals: &Literals,
+    membership: Membership,
     sizable: &[bool],
 ) -> Result<Sizes, AllocError>
-    ensures { IfOk result (λ z. (x : Cddl) (worth : Values) (root : Text) (refs : List Ref) → AreRight x worth → IsClosed (definitions_in (rules_of x)) root refs terms.now closed.now → AreKinds terms.now.texts (definitions_in (rules_of x)) kinds.now → AreLiterals (definitions_in (rules_of x)) root worth terms.now literals.now → AreSizable (definitions_in (rules_of x)) root worth terms.now sizable.now → AreSizes (definitions_in (rules_of x)) root worth terms.now z) }
+    ensures { IfOk result (λ z. (x : Cddl) (worth : Values) (root : Text) (refs : List Ref) → AreRight x worth → IsClosed (definitions_in (rules_of x)) root refs terms.now closed.now → AreKinds terms.now.texts (definitions_in (rules_of x)) kinds.now → AreLiterals (definitions_in (rules_of x)) root worth terms.now literals.now → AreSizable (definitions_in (rules_of x)) root worth terms.now (membership_view membership) sizable.now → AreSizes (definitions_in (rules_of x)) root worth terms.now (membership_view membership) z) }
 {
     equal_numbers(terms);
     place_of(terms);
@@ -49,7 +69,7 @@ pub fn sizes(
     meanings_are_reached();
     reached_values();
     let sources = sources(alloc, terms, closed, kinds, literals)?;
-    listed(alloc, terms, &sources, sizable)
+    listed(alloc, terms, &sources, membership, sizable)
 }
 
 // The lists of all controllers.
@@ -57,17 +77,18 @@ fn listed(
     alloc: Global,
     terms: &Terms<'_>,
     sources: &[Source],
+    membership: Membership,
     sizable: &[bool],
 ) -> Result<Sizes, AllocError>
     requires { length sources.now ≡ length terms.now.rows }
     ensures listed { IfOk result (λ z. AreListed sources.now sizable.now z) }
-    ensures all { IfOk result (λ z. HaveLists terms.now sizable.now (length terms.now.rows) z) }
+    ensures all { IfOk result (λ z. HaveLists (membership_view membership) terms.now sizable.now (length terms.now.rows) z) }
 {
     let count = terms.row_count()?;
     let mut search = no_search(alloc, sources.len())?;
     let mut sizes = no_sizes(alloc, sources.len())?;
     for number in 0..count {
-        let controller = controller_at(terms, number);
+        let controller = controller_at(terms, membership, number);
         add_controller(alloc, sources, sizable, &mut search, &mut sizes, controller)?;
     }
     Ok(sizes)
@@ -84,43 +105,55 @@ fn no_sizes(alloc: Global, rows: usize) -> Result<Sizes, AllocError>
     })
 }
 
-// The controller, where the row is a `.size`.
-fn controller_at(terms: &Terms<'_>, number: u32) -> Option<u32>
-    ensures { result ≡ controller_at terms.now number }
+// The controller, where the row is such a control.
+fn controller_at(terms: &Terms<'_>, membership: Membership, number: u32) -> Option<u32>
+    ensures { result ≡ controller_at (membership_view membership) terms.now number }
 {
     let row = terms.row(number)?;
-    if is_size_form(terms, row) {
+    if is_such_form(terms, membership, row) {
         row.second
     } else {
         None
     }
 }
 
-fn is_size_form(terms: &Terms<'_>, row: Row) -> bool
-    ensures { result ≡ is_size_form terms.now.texts row.form row.text }
+fn is_such_form(terms: &Terms<'_>, membership: Membership, row: Row) -> bool
+    ensures { result ≡ is_such_form (membership_view membership) terms.now.texts row.form row.text }
 {
     match row.form {
-        Form::Control => is_size_text(terms, row.text),
+        Form::Control => is_such_text(terms, membership, row.text),
         _ => false,
     }
 }
 
-fn is_size_text(terms: &Terms<'_>, name: Option<u32>) -> bool
-    ensures { result ≡ is_size_text terms.now.texts name }
+fn is_such_text(terms: &Terms<'_>, membership: Membership, name: Option<u32>) -> bool
+    ensures { result ≡ is_such_text (membership_view membership) terms.now.texts name }
 {
     let Some(name) = name else {
         return false;
     };
     match terms.text(name) {
-        Some(name) => is_size_name(name),
+        Some(name) => is_such_name(membership, name),
         None => false,
     }
 }
 
-fn is_size_name(name: &str) -> bool
-    ensures { result ≡ is_sized (control_of name.now) }
+fn is_such_name(membership: Membership, name: &str) -> bool
+    ensures { result ≡ is_one (membership_view membership) (membership_in (control_of name.now)) }
 {
-    matches!(control_of(name), Some(Control::Sized))
+    match control_of(name) {
+        Some(Control::Member(asked)) => is_same(asked, membership),
+        _ => false,
+    }
+}
+
+fn is_same(first: Membership, second: Membership) -> bool
+    ensures { result ≡ is_same_membership (membership_view first) (membership_view second) }
+{
+    match (first, second) {
+        (Membership::Size, Membership::Size) | (Membership::Bits, Membership::Bits) => true,
+        _ => false,
+    }
 }
 
 // Adds the list of the controller, if there is one.

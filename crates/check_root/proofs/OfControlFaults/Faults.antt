@@ -1,18 +1,19 @@
 -- What is told of the rows that were asked of is told of the sides of the controls that are reached.
 use Rattle.std.proofs.Common.{◌≡◌, ℕ, Bool, true, false, if◌then◌else◌, ◌⊎◌, inl, inr, Option, Some, List, is_some, refl, sym, ap, ◌∙◌, true≢false}
 use Rattle.std.specs.Borrow.{Bor}
+use Rattle.check_literals.specs.declared.sizes.known.Controllers.{Controllers}
 use Rattle.std.specs.List.{Contains}
 use Rattle.std.proofs.lemmas.List.Elements.{Contains-append_cases}
 use Rattle.cddl_literal.specs.declared.operators.Fault.TheVariants.{NotUtf8, OutOfRange}
 use Rattle.tree_nodes.specs.Syntax.Syntax as S
-use Rattle.cddl_language.specs.Controls.{Comparison, Computation, is_ordering, join, sum}
+use Rattle.cddl_language.specs.Controls.{Comparison, Computation, Membership, of_size, of_bits, is_ordering, join, sum}
 use Rattle.cddl_language.specs.Faults as F
-use Rattle.cddl_language.specs.Faults.{HasBadController, HasNotLiteral, Specification, asks_size, comparison_of, computation_of, definitions, is_operand, literal_there, operand_at, rules, sizes_there}
+use Rattle.cddl_language.specs.Faults.{HasBadController, HasNotLiteral, Specification, comparison_of, computation_of, definitions, is_operand, literal_there, members_there, membership_of, operand_at, rules}
 use Rattle.cddl_language.specs.Literals.{Values, literal_of}
 use Rattle.cddl_language.specs.Reach.{Point, Reaches, points, ref_at}
 use Rattle.cddl_language.specs.Reading.{control_name, operation, parameters_in, term_of2}
 use Rattle.cddl_language.specs.Sites.{IsReached, an_operation}
-use Rattle.cddl_language.specs.Sizes.{sizes_of}
+use Rattle.cddl_language.specs.Sizes.{members_of}
 use Rattle.cddl_language.specs.Substitution.{fill}
 use Rattle.cddl_language.specs.Terms.{Term, Text}
 use Rattle.check_terms.specs.Table.{Table}
@@ -23,7 +24,7 @@ use Rattle.check_reached.specs.declared.asked.Asked.{Asked}
 use Rattle.check_reached.specs.declared.asked.Question.{Question}
 use Rattle.check_reached.specs.declared.asked.Question.TheVariants as QuestionV
 use Rattle.check_reached.specs.Asked as A
-use Rattle.check_reached.specs.Asked.{AreAsked, IsAsked, WasAsked, comparand_question, operand_question}
+use Rattle.check_reached.specs.Asked.{AreAsked, IsAsked, WasAsked, comparand_question, members_question, operand_question}
 use Rattle.lists.specs.Least.{IsLeast}
 use Rattle.lists.proofs.Lemmas.{same_least as alike}
 use Rattle.check_root.specs.RangeFaults.Telling.{IsAmong}
@@ -32,7 +33,7 @@ use Rattle.check_root.specs.ControlFaults.Controllers.{AreThere, IsComputed, IsT
 use Rattle.check_root.specs.declared.control_faults.controllers.Wrong.{Wrong}
 use Rattle.check_root.specs.declared.control_faults.controllers.Wrong.TheVariants as WrongV
 use Rattle.check_root.proofs.OfControlFaults.Rows.{other_term}
-use Rattle.check_root.proofs.OfControlFaults.Reasons.{fault_there, no_bad_operand, no_literal, no_number, no_operand, no_size, no_sum, no_text, none_wrong, number_wrong, operand_wrong, right_wrong, size_wrong, sum_wrong, FailsSo}
+use Rattle.check_root.proofs.OfControlFaults.Reasons.{fault_there, members_wrong, no_bad_members, no_bad_operand, no_literal, no_members, no_number, no_operand, no_sum, no_text, none_wrong, number_wrong, operand_wrong, right_wrong, sum_wrong, FailsSo}
 
 -- The laws of what is reached, and of what is written there.
 pub record Laws (s : Specification) (worth : Values) (root : Text) : Type 0 where
@@ -81,6 +82,10 @@ no_whole : (c : Computation) → operand_question c ≡ QuestionV.Computes → �
 no_whole sum e = cc
 no_whole (join j) e = cc
 
+no_members_question : (m : Membership) → members_question m ≡ QuestionV.Computes → ⊥
+no_members_question of_size e = cc
+no_members_question of_bits e = cc
+
 module _ (s : Specification) (worth : Values) (root : Text) (t : Table) (laws : Laws s worth root) where
   other : (a : Asked) (q : Question) → a.question ≡ q → is_asked q ≡ false → is_asked a.question ≡ true → ⊥
   other a q e none asks = true≢false (sym asks ∙ ap is_asked e ∙ none)
@@ -93,10 +98,7 @@ module _ (s : Specification) (worth : Values) (root : Text) (t : Table) (laws : 
   there a (A.last_end h z is e q) asks = absurd (other a QuestionV.IsWhole q refl asks)
   there a (A.of_map h is e q) asks = absurd (other a QuestionV.MapGroup q refl asks)
   there a (A.controller {r = r} {xs = xs} {x = x} {y = y} {o = o} {c = c} h z is e q) asks = record { term = fill (parameters_in r) xs (term_of2 y); row = is; known = known_right s worth root laws r xs x y o h; computed = λ g. absurd (no_computation c (sym q ∙ g)) }
-  there a (A.size_controller {r = r} {xs = xs} {x = x} {y = y} {o = o} h z is e q) asks = record { term = fill (parameters_in r) xs (term_of2 y); row = is; known = known_right s worth root laws r xs x y o h; computed = λ g. absurd (no_size_question (sym q ∙ g)) }
-    where
-      no_size_question : QuestionV.HasSizes ≡ QuestionV.Computes → ⊥
-      no_size_question e = cc
+  there a (A.members_controller {r = r} {xs = xs} {x = x} {y = y} {o = o} {m = m} h z is e q) asks = record { term = fill (parameters_in r) xs (term_of2 y); row = is; known = known_right s worth root laws r xs x y o h; computed = λ g. absurd (no_members_question m (sym q ∙ g)) }
   there a (A.left_operand {r = r} {xs = xs} {x = x} {y = y} {o = o} {c = c} h z is e q) asks = record { term = fill (parameters_in r) xs (term_of2 x); row = is; known = known_left s worth root laws r xs x y o h; computed = λ g. absurd (no_whole c (sym q ∙ g)) }
   there a (A.computation {r = r} {xs = xs} {x = x} {y = y} {o = o} {c = c} h z is e q) asks = record { term = fill (parameters_in r) xs (operation (term_of2 x) o (term_of2 y)); row = is; known = known_operation s worth root laws r xs x y o h; computed = λ g. filled_computation (parameters_in r) xs (term_of2 x) (term_of2 y) o c z }
 
@@ -105,21 +107,25 @@ module _ (s : Specification) (worth : Values) (root : Text) (t : Table) (laws : 
 
 -- A side of a control that is reached, or a whole control, of which it is asked and with which it is wrong.
 pub data IsAt (s : Specification) (worth : Values) (root : Text) (w : Wrong) (at : ℕ) : Type 0 where
-  at_controller : {r : S.Rule} {xs : List Term} {x y : S.Type2} {o : S.Operator} {c : Comparison} → IsReached (rules s) root r xs (an_operation x o y) → comparison_of o ≡ Some c → is_wrong_type w (comparand_question c) (literal_there s worth r xs y) (is_some (sizes_there s worth r xs y)) ≡ true → at ≡ operand_at y → IsAt s worth root w at
-  at_size : {r : S.Rule} {xs : List Term} {x y : S.Type2} {o : S.Operator} → IsReached (rules s) root r xs (an_operation x o y) → asks_size o ≡ true → is_wrong_type w QuestionV.HasSizes (literal_there s worth r xs y) (is_some (sizes_there s worth r xs y)) ≡ true → at ≡ operand_at y → IsAt s worth root w at
-  at_operand : {r : S.Rule} {xs : List Term} {x y : S.Type2} {o : S.Operator} {c : Computation} → IsReached (rules s) root r xs (an_operation x o y) → computation_of o ≡ Some c → is_wrong_type w (operand_question c) (literal_there s worth r xs x) (is_some (sizes_there s worth r xs x)) ≡ true → at ≡ operand_at x → IsAt s worth root w at
+  at_controller : {r : S.Rule} {xs : List Term} {x y : S.Type2} {o : S.Operator} {c : Comparison} → IsReached (rules s) root r xs (an_operation x o y) → comparison_of o ≡ Some c → is_wrong_type w (comparand_question c) (literal_there s worth r xs y) (is_some (members_there s worth r xs of_size y)) ≡ true → at ≡ operand_at y → IsAt s worth root w at
+  at_members : {r : S.Rule} {xs : List Term} {x y : S.Type2} {o : S.Operator} {m : Membership} → IsReached (rules s) root r xs (an_operation x o y) → membership_of o ≡ Some m → is_wrong_type w (members_question m) (literal_there s worth r xs y) (is_some (members_there s worth r xs m y)) ≡ true → at ≡ operand_at y → IsAt s worth root w at
+  at_operand : {r : S.Rule} {xs : List Term} {x y : S.Type2} {o : S.Operator} {c : Computation} → IsReached (rules s) root r xs (an_operation x o y) → computation_of o ≡ Some c → is_wrong_type w (operand_question c) (literal_there s worth r xs x) (is_some (members_there s worth r xs of_size x)) ≡ true → at ≡ operand_at x → IsAt s worth root w at
   at_computation : {r : S.Rule} {xs : List Term} {x y : S.Type2} {o : S.Operator} {c : Computation} → IsReached (rules s) root r xs (an_operation x o y) → computation_of o ≡ Some c → is_wrong_computation w c (literal_there s worth r xs y) (computed_fault c (literal_there s worth r xs x) (literal_there s worth r xs y)) ≡ true → at ≡ operand_at y → IsAt s worth root w at
 
 -- What is wrong by the question, where the question is one of a type.
 module _ (s : Specification) (worth : Values) (w : Wrong) (z : Term) where
-  at_comparand : (c : Comparison) → is_wrong (definitions s) worth w (comparand_question c) z ≡ is_wrong_type w (comparand_question c) (literal_of worth (definitions s) z) (is_some (sizes_of worth (definitions s) z))
+  at_comparand : (c : Comparison) → is_wrong (definitions s) worth w (comparand_question c) z ≡ is_wrong_type w (comparand_question c) (literal_of worth (definitions s) z) (is_some (members_of worth (definitions s) of_size z))
   at_comparand c = by (is_ordering c)
     where
-      by : (b : Bool) → is_wrong (definitions s) worth w (if b then QuestionV.IsNumber else QuestionV.IsLiteral) z ≡ is_wrong_type w (if b then QuestionV.IsNumber else QuestionV.IsLiteral) (literal_of worth (definitions s) z) (is_some (sizes_of worth (definitions s) z))
+      by : (b : Bool) → is_wrong (definitions s) worth w (if b then QuestionV.IsNumber else QuestionV.IsLiteral) z ≡ is_wrong_type w (if b then QuestionV.IsNumber else QuestionV.IsLiteral) (literal_of worth (definitions s) z) (is_some (members_of worth (definitions s) of_size z))
       by true = refl
       by false = refl
 
-  at_side : (c : Computation) → is_wrong (definitions s) worth w (operand_question c) z ≡ is_wrong_type w (operand_question c) (literal_of worth (definitions s) z) (is_some (sizes_of worth (definitions s) z))
+  at_controller_of : (m : Membership) → is_wrong (definitions s) worth w (members_question m) z ≡ is_wrong_type w (members_question m) (literal_of worth (definitions s) z) (is_some (members_of worth (definitions s) m z))
+  at_controller_of of_size = refl
+  at_controller_of of_bits = refl
+
+  at_side : (c : Computation) → is_wrong (definitions s) worth w (operand_question c) z ≡ is_wrong_type w (operand_question c) (literal_of worth (definitions s) z) (is_some (members_of worth (definitions s) of_size z))
   at_side sum = refl
   at_side (join j) = refl
 
@@ -147,7 +153,9 @@ module _ (s : Specification) (worth : Values) (root : Text) (t : Table) (w : Wro
     at_asked a at (A.controller {r = r} {xs = xs} {x = x} {y = y} {o = o} {c = c} h z is e q) bad =
         let v = fill (parameters_in r) xs (term_of2 y) in
         at_controller {r = r} {xs = xs} {x = x} {y = y} {o = o} {c = c} h z (sym (at_comparand s worth w v c) ∙ wrong_there a at (comparand_question c) v q is bad) (bad.offset ∙ e)
-    at_asked a at (A.size_controller {r = r} {xs = xs} {x = x} {y = y} {o = o} h z is e q) bad = at_size {r = r} {xs = xs} {x = x} {y = y} {o = o} h z (wrong_there a at QuestionV.HasSizes (fill (parameters_in r) xs (term_of2 y)) q is bad) (bad.offset ∙ e)
+    at_asked a at (A.members_controller {r = r} {xs = xs} {x = x} {y = y} {o = o} {m = m} h z is e q) bad =
+        let v = fill (parameters_in r) xs (term_of2 y) in
+        at_members {r = r} {xs = xs} {x = x} {y = y} {o = o} {m = m} h z (sym (at_controller_of s worth w v m) ∙ wrong_there a at (members_question m) v q is bad) (bad.offset ∙ e)
     at_asked a at (A.left_operand {r = r} {xs = xs} {x = x} {y = y} {o = o} {c = c} h z is e q) bad =
         let v = fill (parameters_in r) xs (term_of2 x) in
         at_operand {r = r} {xs = xs} {x = x} {y = y} {o = o} {c = c} h z (sym (at_side s worth w v c) ∙ wrong_there a at (operand_question c) v q is bad) (bad.offset ∙ e)
@@ -162,7 +170,7 @@ module _ (s : Specification) (worth : Values) (root : Text) (t : Table) (w : Wro
 
   pub at_told : (at : ℕ) → IsAt s worth root w at → IsAmong (IsWrong (definitions s) worth t w) asked at
   at_told at (at_controller {r = r} {xs = xs} {x = x} {y = y} {o = o} {c = c} h z wrong e) = let v = fill (parameters_in r) xs (term_of2 y) in among at (operand_at y) (comparand_question c) v (are.controllers r xs x y o c h z) (at_comparand s worth w v c ∙ wrong) e
-  at_told at (at_size {r = r} {xs = xs} {x = x} {y = y} {o = o} h z wrong e) = among at (operand_at y) QuestionV.HasSizes (fill (parameters_in r) xs (term_of2 y)) (are.size_controllers r xs x y o h z) wrong e
+  at_told at (at_members {r = r} {xs = xs} {x = x} {y = y} {o = o} {m = m} h z wrong e) = let v = fill (parameters_in r) xs (term_of2 y) in among at (operand_at y) (members_question m) v (are.members_controllers r xs x y o m h z) (at_controller_of s worth w v m ∙ wrong) e
   at_told at (at_operand {r = r} {xs = xs} {x = x} {y = y} {o = o} {c = c} h z wrong e) = let v = fill (parameters_in r) xs (term_of2 x) in among at (operand_at x) (operand_question c) v (are.left_operands r xs x y o c h z) (at_side s worth w v c ∙ wrong) e
   at_told at (at_computation {r = r} {xs = xs} {x = x} {y = y} {o = o} {c = c} h z wrong e) = among at (operand_at y) QuestionV.Computes (fill (parameters_in r) xs (operation (term_of2 x) o (term_of2 y))) (are.computations r xs x y o c h z) (at_whole s worth w (parameters_in r) xs (term_of2 x) (term_of2 y) o c z ∙ wrong) e
 
@@ -171,7 +179,7 @@ module _ (s : Specification) (worth : Values) (root : Text) (t : Table) (w : Wro
 module _ (s : Specification) (worth : Values) (root : Text) where
   not_literal_at : (at : ℕ) → IsAt s worth root WrongV.NotLiteral at → HasNotLiteral s worth root at
   not_literal_at at (at_controller {r = r} {xs = xs} {x = x} {y = y} {o = o} {c = c} h z wrong e) = F.comparand {r = r} {xs = xs} {x = x} {y = y} {o = o} {c = c} h z (no_literal c (literal_there s worth r xs y) wrong) e
-  not_literal_at at (at_size h z wrong e) = absurd (true≢false (sym wrong))
+  not_literal_at at (at_members {r = r} {xs = xs} {y = y} {m = m} h z wrong e) = absurd (no_bad_members m (literal_there s worth r xs y) wrong)
   not_literal_at at (at_operand {r = r} {xs = xs} {x = x} {y = y} {o = o} {c = c} h z wrong e) = F.left_operand {r = r} {xs = xs} {x = x} {y = y} {o = o} {c = c} h z (no_operand c (literal_there s worth r xs x) wrong) e
   not_literal_at at (at_computation {r = r} {xs = xs} {x = x} {y = y} {o = o} {c = c} h z wrong e) = by (no_sum c (literal_there s worth r xs x) (literal_there s worth r xs y) wrong)
     where
@@ -185,20 +193,20 @@ module _ (s : Specification) (worth : Values) (root : Text) where
   at_not_literal at (F.right_operand {r = r} {xs = xs} {x = x} {y = y} {o = o} {c = c} h z none e) = at_computation {r = r} {xs = xs} {x = x} {y = y} {o = o} {c = c} h z (right_wrong c (literal_there s worth r xs x) (literal_there s worth r xs y) none) e
   at_not_literal at (F.out_of_range {r = r} {xs = xs} {x = x} {y = y} {o = o} {c = c} {u = u} {v = v} h z left right fails e) = at_computation {r = r} {xs = xs} {x = x} {y = y} {o = o} {c = c} h z (sum_wrong c (literal_there s worth r xs x) (literal_there s worth r xs y) (fault_there c (literal_there s worth r xs x) (literal_there s worth r xs y) u v OutOfRange left right fails)) e
 
-  module _ (b : Bor (List Bool)) where
+  module _ (b : Bor Controllers) where
     bad_controller_at : (at : ℕ) → IsAt s worth root (WrongV.BadController b) at → HasBadController s worth root at
     bad_controller_at at (at_controller {r = r} {xs = xs} {x = x} {y = y} {o = o} {c = c} h z wrong e) =
-        let v = no_number c (literal_there s worth r xs y) (is_some (sizes_there s worth r xs y)) wrong in
+        let v = no_number c (literal_there s worth r xs y) (is_some (members_there s worth r xs of_size y)) wrong in
         F.no_number {r = r} {xs = xs} {x = x} {y = y} {o = o} {c = c} {v = v.0} h z v.1 v.2 v.3 e
-    bad_controller_at at (at_size {r = r} {xs = xs} {x = x} {y = y} {o = o} h z wrong e) = F.no_sizes {r = r} {xs = xs} {x = x} {y = y} {o = o} h z (no_size (literal_there s worth r xs y) (sizes_there s worth r xs y) wrong) e
-    bad_controller_at at (at_operand {r = r} {xs = xs} {x = x} {y = y} {o = o} {c = c} h z wrong e) = absurd (no_bad_operand c (literal_there s worth r xs x) (is_some (sizes_there s worth r xs x)) wrong)
+    bad_controller_at at (at_members {r = r} {xs = xs} {x = x} {y = y} {o = o} {m = m} h z wrong e) = F.no_members {r = r} {xs = xs} {x = x} {y = y} {o = o} {m = m} h z (no_members m (literal_there s worth r xs y) (members_there s worth r xs m y) wrong) e
+    bad_controller_at at (at_operand {r = r} {xs = xs} {x = x} {y = y} {o = o} {c = c} h z wrong e) = absurd (no_bad_operand c (literal_there s worth r xs x) (is_some (members_there s worth r xs of_size x)) wrong)
     bad_controller_at at (at_computation {r = r} {xs = xs} {x = x} {y = y} {o = o} {c = c} h z wrong e) =
         let g = no_text c (literal_there s worth r xs x) (literal_there s worth r xs y) wrong in
         F.not_utf8 {r = r} {xs = xs} {x = x} {y = y} {o = o} {c = c} {u = g.left} {v = g.right} h z g.is_left g.is_right g.fails e
 
     at_bad_controller : (at : ℕ) → HasBadController s worth root at → IsAt s worth root (WrongV.BadController b) at
-    at_bad_controller at (F.no_number {r = r} {xs = xs} {x = x} {y = y} {o = o} {c = c} {v = v} h z g some none e) = at_controller {r = r} {xs = xs} {x = x} {y = y} {o = o} {c = c} h z (number_wrong c (literal_there s worth r xs y) (is_some (sizes_there s worth r xs y)) v g some none) e
-    at_bad_controller at (F.no_sizes {r = r} {xs = xs} {x = x} {y = y} {o = o} h z none e) = at_size {r = r} {xs = xs} {x = x} {y = y} {o = o} h z (size_wrong (literal_there s worth r xs y) (sizes_there s worth r xs y) none) e
+    at_bad_controller at (F.no_number {r = r} {xs = xs} {x = x} {y = y} {o = o} {c = c} {v = v} h z g some none e) = at_controller {r = r} {xs = xs} {x = x} {y = y} {o = o} {c = c} h z (number_wrong c (literal_there s worth r xs y) (is_some (members_there s worth r xs of_size y)) v g some none) e
+    at_bad_controller at (F.no_members {r = r} {xs = xs} {x = x} {y = y} {o = o} {m = m} h z none e) = at_members {r = r} {xs = xs} {x = x} {y = y} {o = o} {m = m} h z (members_wrong m (literal_there s worth r xs y) (members_there s worth r xs m y) none) e
     at_bad_controller at (F.not_utf8 {r = r} {xs = xs} {x = x} {y = y} {o = o} {c = c} {u = u} {v = v} h z left right fails e) = at_computation {r = r} {xs = xs} {x = x} {y = y} {o = o} {c = c} h z (ap is_not_utf8 (fault_there c (literal_there s worth r xs x) (literal_there s worth r xs y) u v NotUtf8 left right fails)) e
 
 module _ (s : Specification) (worth : Values) (root : Text) (t : Table) (asked : List Asked) (are : AreAsked (rules s) root t asked) (one : OneTerm t) (o : Option ℕ) where
@@ -209,5 +217,5 @@ module _ (s : Specification) (worth : Values) (root : Text) (t : Table) (asked :
   pub least_not_literal : IsLeast (IsAmong (IsWrong (definitions s) worth t WrongV.NotLiteral) asked) o → IsLeast (HasNotLiteral s worth root) o
   least_not_literal h = alike (IsAt s worth root WrongV.NotLiteral) (HasNotLiteral s worth root) (not_literal_at s worth root) (at_not_literal s worth root) o (least_at WrongV.NotLiteral h)
 
-  pub least_bad_controller : (b : Bor (List Bool)) → IsLeast (IsAmong (IsWrong (definitions s) worth t (WrongV.BadController b)) asked) o → IsLeast (HasBadController s worth root) o
+  pub least_bad_controller : (b : Bor Controllers) → IsLeast (IsAmong (IsWrong (definitions s) worth t (WrongV.BadController b)) asked) o → IsLeast (HasBadController s worth root) o
   least_bad_controller b h = alike (IsAt s worth root (WrongV.BadController b)) (HasBadController s worth root) (bad_controller_at s worth root b) (at_bad_controller s worth root b) o (least_at (WrongV.BadController b) h)

@@ -4,12 +4,12 @@ use Rattle.std.specs.Prelude.{not, ◌||◌, Result, Ok, Err}
 use Rattle.cddl_literal.specs.Numbers.{Meaning}
 use Rattle.cddl_literal.specs.declared.operators.Fault.{Fault}
 use Rattle.cddl_literal.specs.declared.operators.Fault.TheVariants.{LeftKind, NotUtf8, OutOfRange, RightKind}
-use Rattle.cddl_language.specs.Controls.{Comparison, Computation, is_ordering, join, sum}
+use Rattle.cddl_language.specs.Controls.{Comparison, Computation, Membership, of_size, of_bits, is_ordering, join, sum}
 use Rattle.cddl_language.specs.Faults.{is_operand}
 use Rattle.cddl_language.specs.Literals.{computed_from, whole}
 use Rattle.check_literals.specs.Literals.{computed_fault, fault_of}
 use Rattle.check_reached.specs.declared.asked.Question.TheVariants as QuestionV
-use Rattle.check_reached.specs.Asked.{comparand_question, operand_question}
+use Rattle.check_reached.specs.Asked.{comparand_question, members_question, operand_question}
 use Rattle.check_root.specs.ControlFaults.Controllers.{is_bad_controller, is_not_utf8, is_out_of_range, is_wrong_literal}
 
 opposite : (b : Bool) → not b ≡ true → b ≡ false
@@ -50,13 +50,19 @@ no_number c m z e = by (is_ordering c) refl e
 pub number_wrong : (c : Comparison) (m : Option Meaning) (z : Bool) (v : Meaning) → is_ordering c ≡ true → m ≡ Some v → whole (Some v) ≡ None → is_bad_controller (comparand_question c) m z ≡ true
 number_wrong c m z v o e h = ap (λ b. is_bad_controller (if b then QuestionV.IsNumber else QuestionV.IsLiteral) m z) o ∙ ap (λ n. is_bad_controller QuestionV.IsNumber n z) e ∙ ap (λ w. not (is_some w)) h
 
--- Controllers of `.size`.
+-- Controllers with members.
 
-pub no_size : (m : Option Meaning) {X : Type 0} (o : Option X) → is_bad_controller QuestionV.HasSizes m (is_some o) ≡ true → o ≡ None
-no_size m o e = none_there o e
+pub no_members : (k : Membership) (m : Option Meaning) {X : Type 0} (o : Option X) → is_bad_controller (members_question k) m (is_some o) ≡ true → o ≡ None
+no_members of_size m o e = none_there o e
+no_members of_bits m o e = none_there o e
 
-pub size_wrong : (m : Option Meaning) {X : Type 0} (o : Option X) → o ≡ None → is_bad_controller QuestionV.HasSizes m (is_some o) ≡ true
-size_wrong m o e = ap (λ p. not (is_some p)) e
+pub members_wrong : (k : Membership) (m : Option Meaning) {X : Type 0} (o : Option X) → o ≡ None → is_bad_controller (members_question k) m (is_some o) ≡ true
+members_wrong of_size m o e = ap (λ p. not (is_some p)) e
+members_wrong of_bits m o e = ap (λ p. not (is_some p)) e
+
+pub no_bad_members : (k : Membership) (m : Option Meaning) → is_wrong_literal (members_question k) m ≡ true → ⊥
+no_bad_members of_size m e = true≢false (sym e)
+no_bad_members of_bits m e = true≢false (sym e)
 
 -- Operands of computations.
 

@@ -2,19 +2,20 @@
 use Rattle.std.proofs.Common.{◌≡◌, ℕ, Bool, true, false, Option, Some, List, is_some, refl, sym, ap, subst, ◌∙◌, arith, true≢false}
 use Rattle.cddl_literal.specs.Numbers.{Meaning}
 use Rattle.cddl_language.specs.Literals.{Values, literal_of}
-use Rattle.cddl_language.specs.Sizes.{sizes_of}
+use Rattle.cddl_language.specs.Controls.{of_size}
+use Rattle.cddl_language.specs.Sizes.{members_of}
 use Rattle.cddl_language.specs.Terms.{Definition, Term, Text}
 use Rattle.check_terms.specs.Table.{Table}
 use Rattle.check_terms.specs.Trees.{IsTerm}
 use Rattle.check_literals.specs.declared.known.Literals.{Literals}
 use Rattle.check_literals.specs.Literals.{AreLiterals, IsKnown, literal_at}
-use Rattle.check_literals.specs.Sizes.Sizes.{flag_at}
+use Rattle.check_literals.specs.Sizes.Sizes.{flag_at, flags_of}
 use Rattle.check_reached.specs.declared.asked.Asked.{Asked}
 use Rattle.check_reached.specs.declared.asked.Question.{Question}
 use Rattle.check_reached.specs.declared.asked.Question.TheVariants as QuestionV
 use Rattle.lists.specs.Least.{IsLeast}
 use Rattle.check_root.proofs.OfRangeFaults.Lemmas.{OneTerm}
-use Rattle.check_root.specs.ControlFaults.Controllers.{AreFlags, IsComputed, IsThere, IsWrong, has_sizes, is_asked, is_bad_controller, is_wrong, is_wrong_computed, is_wrong_literal, is_wrong_row, is_wrong_type}
+use Rattle.check_root.specs.ControlFaults.Controllers.{AreFlags, IsComputed, IsThere, IsWrong, has_members, is_asked, is_bad_controller, is_wrong, is_wrong_computed, is_wrong_literal, is_wrong_row, is_wrong_type, membership_asked}
 use Rattle.check_root.specs.declared.control_faults.controllers.Wrong.{Wrong}
 use Rattle.check_root.specs.declared.control_faults.controllers.Wrong.TheVariants as WrongV
 use Rattle.check_root.proofs.OfControlFaults.Computing.{control_told}
@@ -26,36 +27,38 @@ other_type WrongV.NotLiteral q m z e g = e
 other_type (WrongV.BadController b) q m z e g = g
 
 other_row : (t : Table) (ls : Literals) (w : Wrong) (q : Question) (n : ℕ) → is_asked q ≡ false → is_wrong_row t ls w q n ≡ false
-other_row t ls w QuestionV.ChoosesFrom n e = other_type w QuestionV.ChoosesFrom (literal_at ls n) (has_sizes w n) refl refl
-other_row t ls w QuestionV.ChoosesByName n e = other_type w QuestionV.ChoosesByName (literal_at ls n) (has_sizes w n) refl refl
-other_row t ls w QuestionV.IsWhole n e = other_type w QuestionV.IsWhole (literal_at ls n) (has_sizes w n) refl refl
-other_row t ls w QuestionV.MapGroup n e = other_type w QuestionV.MapGroup (literal_at ls n) (has_sizes w n) refl refl
-other_row t ls w (QuestionV.Entry h) n e = other_type w (QuestionV.Entry h) (literal_at ls n) (has_sizes w n) refl refl
+other_row t ls w QuestionV.ChoosesFrom n e = other_type w QuestionV.ChoosesFrom (literal_at ls n) (has_members w QuestionV.ChoosesFrom n) refl refl
+other_row t ls w QuestionV.ChoosesByName n e = other_type w QuestionV.ChoosesByName (literal_at ls n) (has_members w QuestionV.ChoosesByName n) refl refl
+other_row t ls w QuestionV.IsWhole n e = other_type w QuestionV.IsWhole (literal_at ls n) (has_members w QuestionV.IsWhole n) refl refl
+other_row t ls w QuestionV.MapGroup n e = other_type w QuestionV.MapGroup (literal_at ls n) (has_members w QuestionV.MapGroup n) refl refl
+other_row t ls w (QuestionV.Entry h) n e = other_type w (QuestionV.Entry h) (literal_at ls n) (has_members w (QuestionV.Entry h) n) refl refl
 other_row t ls w QuestionV.IsLiteral n e = absurd (true≢false e)
 other_row t ls w QuestionV.IsNumber n e = absurd (true≢false e)
 other_row t ls w QuestionV.HasSizes n e = absurd (true≢false e)
+other_row t ls w QuestionV.HasBits n e = absurd (true≢false e)
 other_row t ls w QuestionV.IsAddend n e = absurd (true≢false e)
 other_row t ls w QuestionV.IsString n e = absurd (true≢false e)
 other_row t ls w QuestionV.Computes n e = absurd (true≢false e)
 
 module _ (xs : List Definition) (worth : Values) where
   pub other_term : (w : Wrong) (q : Question) (x : Term) → is_asked q ≡ false → is_wrong xs worth w q x ≡ false
-  other_term w QuestionV.ChoosesFrom x e = other_type w QuestionV.ChoosesFrom (literal_of worth xs x) (is_some (sizes_of worth xs x)) refl refl
-  other_term w QuestionV.ChoosesByName x e = other_type w QuestionV.ChoosesByName (literal_of worth xs x) (is_some (sizes_of worth xs x)) refl refl
-  other_term w QuestionV.IsWhole x e = other_type w QuestionV.IsWhole (literal_of worth xs x) (is_some (sizes_of worth xs x)) refl refl
-  other_term w QuestionV.MapGroup x e = other_type w QuestionV.MapGroup (literal_of worth xs x) (is_some (sizes_of worth xs x)) refl refl
-  other_term w (QuestionV.Entry h) x e = other_type w (QuestionV.Entry h) (literal_of worth xs x) (is_some (sizes_of worth xs x)) refl refl
+  other_term w QuestionV.ChoosesFrom x e = other_type w QuestionV.ChoosesFrom (literal_of worth xs x) (is_some (members_of worth xs of_size x)) refl refl
+  other_term w QuestionV.ChoosesByName x e = other_type w QuestionV.ChoosesByName (literal_of worth xs x) (is_some (members_of worth xs of_size x)) refl refl
+  other_term w QuestionV.IsWhole x e = other_type w QuestionV.IsWhole (literal_of worth xs x) (is_some (members_of worth xs of_size x)) refl refl
+  other_term w QuestionV.MapGroup x e = other_type w QuestionV.MapGroup (literal_of worth xs x) (is_some (members_of worth xs of_size x)) refl refl
+  other_term w (QuestionV.Entry h) x e = other_type w (QuestionV.Entry h) (literal_of worth xs x) (is_some (members_of worth xs of_size x)) refl refl
   other_term w QuestionV.IsLiteral x e = absurd (true≢false e)
   other_term w QuestionV.IsNumber x e = absurd (true≢false e)
   other_term w QuestionV.HasSizes x e = absurd (true≢false e)
+  other_term w QuestionV.HasBits x e = absurd (true≢false e)
   other_term w QuestionV.IsAddend x e = absurd (true≢false e)
   other_term w QuestionV.IsString x e = absurd (true≢false e)
   other_term w QuestionV.Computes x e = absurd (true≢false e)
 
 module _ (xs : List Definition) (root : Text) (worth : Values) (t : Table) (ls : Literals) (literals : AreLiterals xs root worth t ls) where
-  same_type : (w : Wrong) → AreFlags xs root worth t w → (q : Question) (n : ℕ) (x : Term) → IsTerm t n x → IsKnown xs root worth x → is_wrong_type w q (literal_at ls n) (has_sizes w n) ≡ is_wrong_type w q (literal_of worth xs x) (is_some (sizes_of worth xs x))
+  same_type : (w : Wrong) → AreFlags xs root worth t w → (q : Question) (n : ℕ) (x : Term) → IsTerm t n x → IsKnown xs root worth x → is_wrong_type w q (literal_at ls n) (has_members w q n) ≡ is_wrong_type w q (literal_of worth xs x) (is_some (members_of worth xs (membership_asked q) x))
   same_type WrongV.NotLiteral flags q n x h k = ap (is_wrong_literal q) (literals.values n x h k)
-  same_type (WrongV.BadController b) flags q n x h k = ap (λ m. is_bad_controller q m (flag_at b.now n)) (literals.values n x h k) ∙ ap (is_bad_controller q (literal_of worth xs x)) (flags n x h k)
+  same_type (WrongV.BadController b) flags q n x h k = ap (λ m. is_bad_controller q m (flag_at (flags_of b.now (membership_asked q)) n)) (literals.values n x h k) ∙ ap (is_bad_controller q (literal_of worth xs x)) (flags (membership_asked q) n x h k)
 
   same_computed : (w : Wrong) (n : ℕ) (x : Term) → IsTerm t n x → IsKnown xs root worth x → IsComputed x → is_wrong_row t ls w QuestionV.Computes n ≡ is_wrong_computed xs worth w x
   same_computed w n x h k c = control_told xs root worth t ls literals w n c.left c.right c.name c.computation (subst (IsTerm t n) c.same h) (subst (IsKnown xs root worth) c.same k) c.computes ∙ ap (is_wrong_computed xs worth w) (sym c.same)
@@ -69,6 +72,7 @@ module _ (xs : List Definition) (root : Text) (worth : Values) (t : Table) (ls :
     same_row QuestionV.IsLiteral n x h k c = same_type w flags QuestionV.IsLiteral n x h k
     same_row QuestionV.IsNumber n x h k c = same_type w flags QuestionV.IsNumber n x h k
     same_row QuestionV.HasSizes n x h k c = same_type w flags QuestionV.HasSizes n x h k
+    same_row QuestionV.HasBits n x h k c = same_type w flags QuestionV.HasBits n x h k
     same_row QuestionV.IsAddend n x h k c = same_type w flags QuestionV.IsAddend n x h k
     same_row QuestionV.IsString n x h k c = same_type w flags QuestionV.IsString n x h k
     same_row QuestionV.Computes n x h k c = same_computed w n x h k (c refl)

@@ -2,7 +2,7 @@
 use Rattle.std.proofs.Common.{◌≡◌, ℕ, Bool, true, false, if◌then◌else◌, List, None, refl, sym, ap, subst, ◌∙◌, true≢false}
 use Rattle.std.specs.List.{Contains}
 use Rattle.tree_nodes.specs.Syntax.Syntax as S
-use Rattle.cddl_language.specs.Controls.{Comparison, Computation, is_ordering, join, sum}
+use Rattle.cddl_language.specs.Controls.{Comparison, Computation, Membership, of_size, of_bits, is_ordering, join, sum}
 use Rattle.cddl_language.specs.Faults.{IsNotWhole, Specification, definitions, is_range_sign, operand_at, rules}
 use Rattle.cddl_language.specs.Literals.{Values, whole_of}
 use Rattle.cddl_language.specs.Reach.{Point, Reaches, points, ref_at}
@@ -50,6 +50,10 @@ no_end c e = by (is_ordering c) e
     by true g = other QuestionV.IsNumber refl g
     by false g = other QuestionV.IsLiteral refl g
 
+no_members : (m : Membership) → A.members_question m ≡ QuestionV.IsWhole → ⊥
+no_members of_size e = other QuestionV.HasSizes refl e
+no_members of_bits e = other QuestionV.HasBits refl e
+
 no_operand : (c : Computation) → A.operand_question c ≡ QuestionV.IsWhole → ⊥
 no_operand sum e = other QuestionV.IsAddend refl e
 no_operand (join j) e = other QuestionV.IsString refl e
@@ -61,7 +65,7 @@ module _ (s : Specification) (worth : Values) (root : Text) (t : Table) (laws : 
   end_there a (A.choosing_by_name h is e q) asks = absurd (other QuestionV.ChoosesByName refl (sym q ∙ asks))
   end_there a (A.of_map h is e q) asks = absurd (other QuestionV.MapGroup refl (sym q ∙ asks))
   end_there a (A.controller {c = c} h o is e q) asks = absurd (no_end c (sym q ∙ asks))
-  end_there a (A.size_controller h o is e q) asks = absurd (other QuestionV.HasSizes refl (sym q ∙ asks))
+  end_there a (A.members_controller {m = m} h o is e q) asks = absurd (no_members m (sym q ∙ asks))
   end_there a (A.left_operand {c = c} h o is e q) asks = absurd (no_operand c (sym q ∙ asks))
   end_there a (A.computation h o is e q) asks = absurd (other QuestionV.Computes refl (sym q ∙ asks))
   end_there a (A.first_end {r = r} {xs = xs} {x = x} {y = y} {o = o} h z is e q) asks = record {
@@ -88,7 +92,7 @@ module _ (s : Specification) (worth : Values) (root : Text) (t : Table) (laws : 
       at_asked a at (A.choosing_by_name h is e q) bad = absurd (other QuestionV.ChoosesByName refl (sym q ∙ bad.asked))
       at_asked a at (A.of_map h is e q) bad = absurd (other QuestionV.MapGroup refl (sym q ∙ bad.asked))
       at_asked a at (A.controller {c = c} h e is at_start q) bad = absurd (no_end c (sym q ∙ bad.asked))
-      at_asked a at (A.size_controller h s is e q) bad = absurd (other QuestionV.HasSizes refl (sym q ∙ bad.asked))
+      at_asked a at (A.members_controller {m = m} h s is e q) bad = absurd (no_members m (sym q ∙ bad.asked))
       at_asked a at (A.left_operand {c = c} h s is e q) bad = absurd (no_operand c (sym q ∙ bad.asked))
       at_asked a at (A.computation h s is e q) bad = absurd (other QuestionV.Computes refl (sym q ∙ bad.asked))
       at_asked a at (A.first_end {r = r} {xs = xs} {x = x} {y = y} {o = o} h z is e q) bad = at_first_end {r = r} {xs = xs} {x = x} {y = y} {o = o} h z (same_whole a.row bad.end (fill (parameters_in r) xs (term_of2 x)) bad.row is bad.not_whole) (bad.offset ∙ e)

@@ -5,7 +5,7 @@ use Rattle.std.proofs.lemmas.Option.{same_Some}
 use Rattle.cddl_token.specs.declared.Token.{Token}
 use Rattle.tree_nodes.specs.Syntax.Syntax as S
 use Rattle.cddl_language.specs.Choices.{chosen, chosen_by_name, chosen_in}
-use Rattle.cddl_language.specs.Controls.{Comparison, is_ordering, Computation, sum, join}
+use Rattle.cddl_language.specs.Controls.{Comparison, is_ordering, Computation, Membership, of_size, of_bits, sum, join}
 use Rattle.cddl_language.specs.Faults.{Specification, definitions, rules}
 use Rattle.cddl_language.specs.Reach.{Point, Reaches, group_points, most_instances, ref_at}
 use Rattle.cddl_language.specs.Reading.{group_of, parameters_in, ref_of}
@@ -22,7 +22,7 @@ use Rattle.check_groups.specs.Choosing.Choosing.{AreChoosable}
 use Rattle.check_reached.specs.declared.asked.Asked.{Asked}
 use Rattle.check_reached.specs.declared.asked.Question.{Question}
 use Rattle.check_reached.specs.declared.asked.Question.TheVariants as QuestionV
-use Rattle.check_reached.specs.Asked.{AreAsked, IsAsked, choosing, choosing_by_name, comparand_question, computation, controller, first_end, last_end, left_operand, of_map, operand_question, size_controller}
+use Rattle.check_reached.specs.Asked.{AreAsked, IsAsked, choosing, choosing_by_name, comparand_question, computation, controller, first_end, last_end, left_operand, members_controller, members_question, of_map, operand_question}
 use Rattle.check_root.specs.ReachedFaults.Choices.{ChoosesFromNone, from_none, from_no_name, chooses, flag_in, from_group, from_meaning, is_choosable_by_name, meaning_in, place_in, unchosen_at, unless}
 use Rattle.check_root.specs.Least.{least_over}
 use Rattle.check_root.proofs.Least.{least_of_members}
@@ -84,6 +84,10 @@ module _ (s : Specification) (root : Text) (refs : List Ref) (t : Table) (c : Cl
       by true = refl
       by false = refl
 
+  no_members : (which : Membership) (row : ℕ) → chooses c flags (members_question which) row ≡ true
+  no_members of_size row = refl
+  no_members of_bits row = refl
+
   no_operand : (how : Computation) (row : ℕ) → chooses c flags (operand_question how) row ≡ true
   no_operand sum row = refl
   no_operand (join j) row = refl
@@ -106,9 +110,9 @@ module _ (s : Specification) (root : Text) (refs : List Ref) (t : Table) (c : Cl
   sound a at (controller {c = how} h o is e q) k =
       let w = unless_at (chooses c flags a.question a.row) a.at at k in
       absurd (true≢false (sym (with_question (comparand_question how) a q ∙ not_asked how a.row) ∙ w.0))
-  sound a at (size_controller h o is e q) k =
+  sound a at (members_controller {m = which} h o is e q) k =
       let w = unless_at (chooses c flags a.question a.row) a.at at k in
-      absurd (true≢false (sym (with_question QuestionV.HasSizes a q) ∙ w.0))
+      absurd (true≢false (sym (with_question (members_question which) a q ∙ no_members which a.row) ∙ w.0))
   sound a at (left_operand {c = how} h o is e q) k =
       let w = unless_at (chooses c flags a.question a.row) a.at at k in
       absurd (true≢false (sym (with_question (operand_question how) a q ∙ no_operand how a.row) ∙ w.0))

@@ -4,24 +4,24 @@ use Rattle.cddl_literal.specs.Numbers.{Meaning}
 use Rattle.cddl_literal.specs.declared.operators.Fault.{Fault}
 use Rattle.cddl_literal.specs.declared.operators.Fault.TheVariants.{NotUtf8, OutOfRange}
 use Rattle.cddl_literal.specs.declared.operators.Joining.TheVariants.{AsTheyAre}
-use Rattle.cddl_language.specs.Controls.{Computation, computation_in, control_of, join, sum}
+use Rattle.cddl_language.specs.Controls.{Computation, Membership, of_size, of_bits, computation_in, control_of, join, sum}
 use Rattle.cddl_language.specs.Faults.{is_operand}
 use Rattle.cddl_language.specs.Literals.{Values, literal_of, whole}
-use Rattle.cddl_language.specs.Sizes.{sizes_of}
+use Rattle.cddl_language.specs.Sizes.{members_of}
 use Rattle.cddl_language.specs.Terms.{Definition, Term, Text, control}
 use Rattle.check_terms.specs.declared.row.Row.{Row}
 use Rattle.check_terms.specs.Table.{Table}
 use Rattle.check_terms.specs.Trees.{IsTerm}
 use Rattle.check_literals.specs.declared.known.Literals.{Literals}
 use Rattle.check_literals.specs.Literals.{IsKnown, computed_fault, fault_at, literal_at}
-use Rattle.check_literals.specs.Sizes.Sizes.{AreSizable, flag_at}
+use Rattle.check_literals.specs.Sizes.Sizes.{AreControllers, flag_at, flags_of}
 use Rattle.check_reached.specs.declared.asked.Asked.{Asked}
 use Rattle.check_reached.specs.declared.asked.Question.{Question}
 use Rattle.check_reached.specs.declared.asked.Question.TheVariants as QuestionV
 use Rattle.check_root.specs.declared.control_faults.controllers.Wrong.{Wrong}
 use Rattle.check_root.specs.declared.control_faults.controllers.Wrong.TheVariants as WrongV
 
--- What is wrong with a type that is this literal, or none, and may be a controller of `.size` or not.
+-- What is wrong with a type that is this literal, or none, and may be a controller with members or not.
 
 abbrev pub is_wrong_literal : Question → Option Meaning → Bool
 is_wrong_literal QuestionV.IsLiteral m = not (is_some m)
@@ -34,6 +34,7 @@ abbrev pub is_bad_controller : Question → Option Meaning → Bool → Bool
 is_bad_controller QuestionV.IsNumber None z = false
 is_bad_controller QuestionV.IsNumber (Some v) z = not (is_some (whole (Some v)))
 is_bad_controller QuestionV.HasSizes m z = not z
+is_bad_controller QuestionV.HasBits m z = not z
 is_bad_controller _ m z = false
 
 abbrev pub is_wrong_type : Wrong → Question → Option Meaning → Bool → Bool
@@ -90,20 +91,26 @@ right_in (Some r) = r.second
 abbrev pub right_at : List Row → ℕ → Option ℕ
 right_at rows n = right_in (slice_get rows n)
 
--- whether the row's flag says that it may be a controller of `.size`, where that is asked
-abbrev pub has_sizes : Wrong → ℕ → Bool
-has_sizes WrongV.NotLiteral n = true
-has_sizes (WrongV.BadController b) n = flag_at b.now n
+-- which members are asked for, where some are
+abbrev pub membership_asked : Question → Membership
+membership_asked QuestionV.HasBits = of_bits
+membership_asked _ = of_size
+
+-- whether the row's flag says that it may be such a controller, where that is asked
+abbrev pub has_members : Wrong → Question → ℕ → Bool
+has_members WrongV.NotLiteral q n = true
+has_members (WrongV.BadController b) q n = flag_at (flags_of b.now (membership_asked q)) n
 
 abbrev pub is_wrong_row : Table → Literals → Wrong → Question → ℕ → Bool
 is_wrong_row t ls w QuestionV.Computes n = is_wrong_control w ls (computation_at t n) (right_at t.rows n) (fault_at ls n)
-is_wrong_row t ls w q n = is_wrong_type w q (literal_at ls n) (has_sizes w n)
+is_wrong_row t ls w q n = is_wrong_type w q (literal_at ls n) (has_members w q n)
 
--- whether it is asked of a literal, of sizes or of a computation
+-- whether it is asked of a literal, of members or of a computation
 abbrev pub is_asked : Question → Bool
 is_asked QuestionV.IsLiteral = true
 is_asked QuestionV.IsNumber = true
 is_asked QuestionV.HasSizes = true
+is_asked QuestionV.HasBits = true
 is_asked QuestionV.IsAddend = true
 is_asked QuestionV.IsString = true
 is_asked QuestionV.Computes = true
@@ -130,10 +137,10 @@ module _ (xs : List Definition) (root : Text) (worth : Values) (t : Table) where
   abbrev pub AreThere : List Asked → Type 0
   AreThere asked = (a : Asked) → Contains asked a → is_asked a.question ≡ true → IsThere a
 
-  -- the flags say which types may be controllers of `.size`, where that is asked
+  -- the flags say which types may be such controllers, where that is asked
   abbrev pub AreFlags : Wrong → Type 0
   AreFlags WrongV.NotLiteral = Unit {0}
-  AreFlags (WrongV.BadController b) = AreSizable xs root worth t b.now
+  AreFlags (WrongV.BadController b) = AreControllers xs root worth t b.now
 
 module _ (xs : List Definition) (worth : Values) where
   -- what is wrong with a type
@@ -148,7 +155,7 @@ module _ (xs : List Definition) (worth : Values) where
 
   abbrev pub is_wrong : Wrong → Question → Term → Bool
   is_wrong w QuestionV.Computes x = is_wrong_computed w x
-  is_wrong w q x = is_wrong_type w q (literal_of worth xs x) (is_some (sizes_of worth xs x))
+  is_wrong w q x = is_wrong_type w q (literal_of worth xs x) (is_some (members_of worth xs (membership_asked q) x))
 
   -- The question asks for it, and it is wrong with the type.
   pub record IsWrong (t : Table) (w : Wrong) (a : Asked) (at : ℕ) : Type 0 where

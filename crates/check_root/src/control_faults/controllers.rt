@@ -3,23 +3,25 @@
 ghost use Rattle.std.specs.Prelude.{◌≡◌, List, Some, true};
 ghost use Rattle.std.specs.Option.{option_map};
 ghost use Rattle.check_root.specs.ControlFaults.Controllers as by;
-ghost use Rattle.check_root.specs.ControlFaults.Controllers.{AreFlags, AreThere, IsThere, IsWrong, has_sizes, is_asked};
+ghost use Rattle.check_root.specs.ControlFaults.Controllers.{AreFlags, AreThere, IsThere, IsWrong, has_members, is_asked, membership_asked};
 ghost use Rattle.cddl_language.specs.Literals.{Values};
 ghost use Rattle.cddl_language.specs.Terms as L;
 ghost use Rattle.cddl_language.specs.Terms.{Text};
 ghost use Rattle.cddl_literal.specs.Literals.{view};
 ghost use Rattle.check_literals.specs.Literals.{AreLiterals};
 ghost use Rattle.check_root.specs.RangeFaults.Telling.{IsAmong};
-ghost use Rattle.check_literals.specs.Sizes.Sizes.{flag_at};
+ghost use Rattle.check_literals.specs.Sizes.Sizes.{flag_at, flags_of};
 ghost use Rattle.lists.specs.Least.{IsLeast};
 
 use crate::control_faults::computations::is_wrong_control;
 use crate::control_faults::operands::{is_number, is_string};
 use cddl_literal::Literal;
 use check_literals::Literals;
+use check_literals::sizes::Controllers;
 use check_reached::{Asked, Question};
 use check_terms::Terms;
 use check_terms::laws::equal_numbers;
+use check_terms::texts::Membership;
 use lists::lesser;
 
 /// What can be wrong with what stands beside a control.
@@ -27,9 +29,9 @@ use lists::lesser;
 pub(crate) enum Wrong<'f> {
     /// It is no literal, or none that the control takes, or both sides make one that is out of range.
     NotLiteral,
-    /// It is a literal and no whole number, where the order of numbers is asked; or it is none of the types with these flags,
-    /// where sizes are asked; or both sides make a text that is not UTF-8.
-    BadController(&'f [bool]),
+    /// It is a literal and no whole number, where the order of numbers is asked; or it is none of these controllers, where
+    /// members are asked; or both sides make a text that is not UTF-8.
+    BadController(&'f Controllers),
 }
 
 // The least offset at which this is wrong.
@@ -71,12 +73,12 @@ fn is_wrong(terms: &Terms<'_>, literals: &Literals, asked: Asked, wrong: Wrong<'
 
 // Whether it is wrong with the type of this row, which is this literal, or none.
 fn is_wrong_type(wrong: Wrong<'_>, question: Question, literal: Option<&Literal>, row: u32) -> bool
-    ensures { result ≡ by.is_wrong_type wrong.entry question (option_map (λ l. view l.now) literal.entry) (has_sizes wrong.entry row) }
+    ensures { result ≡ by.is_wrong_type wrong.entry question (option_map (λ l. view l.now) literal.entry) (has_members wrong.entry question row) }
 {
     match wrong {
         Wrong::NotLiteral => is_wrong_literal(question, literal),
-        Wrong::BadController(sizable) => {
-            is_bad_controller(question, literal, is_flagged(sizable, row))
+        Wrong::BadController(controllers) => {
+            is_bad_controller(question, literal, is_flagged(flags_for(controllers, question), row))
         }
     }
 }
@@ -92,12 +94,22 @@ fn is_wrong_literal(question: Question, literal: Option<&Literal>) -> bool
     }
 }
 
-fn is_bad_controller(question: Question, literal: Option<&Literal>, sizable: bool) -> bool
-    ensures { result ≡ by.is_bad_controller question (option_map (λ l. view l.now) literal.entry) sizable }
+// The flags of the controllers for which it is asked.
+fn flags_for(controllers: &Controllers, question: Question) -> &[bool]
+    ensures { result.now ≡ flags_of controllers.now (membership_asked question) }
+{
+    match question {
+        Question::HasBits => controllers.of(Membership::Bits),
+        _ => controllers.of(Membership::Size),
+    }
+}
+
+fn is_bad_controller(question: Question, literal: Option<&Literal>, has_members: bool) -> bool
+    ensures { result ≡ by.is_bad_controller question (option_map (λ l. view l.now) literal.entry) has_members }
 {
     match question {
         Question::IsNumber => literal.is_some() && !is_number(literal),
-        Question::HasSizes => !sizable,
+        Question::HasSizes | Question::HasBits => !has_members,
         _ => false,
     }
 }

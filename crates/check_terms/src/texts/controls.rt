@@ -21,8 +21,8 @@ pub enum Control {
     HeldSequence,
     /// The item is compared with the controller, a literal: `.eq`, `.ne`, `.lt`, `.le`, `.gt` and `.ge`.
     Compared(Comparison),
-    /// The size of the item is a member of the controller: `.size`.
-    Sized,
+    /// Numbers of the item are members of the controller: `.size` and `.bits`.
+    Member(Membership),
     /// The item is the literal that is computed from both sides: `.plus`, `.cat` and `.det`.
     Computed(Computation),
 }
@@ -36,6 +36,15 @@ pub enum Comparison {
     AtMost,
     Greater,
     AtLeast,
+}
+
+/// Which numbers of an item have to be members of the controller.
+#[derive(Clone, Copy, Debug, PartialEq, Eq)]
+pub enum Membership {
+    /// Its size: `.size` (RFC 8610 section 3.8.1).
+    Size,
+    /// The number of each bit that is set in it: `.bits` (section 3.8.2).
+    Bits,
 }
 
 /// How a literal is computed from two (RFC 9165 section 2).
@@ -67,7 +76,9 @@ const GREATER: [&str; 1] = ["gt"];
 
 const AT_LEAST: [&str; 1] = ["ge"];
 
-const SIZED: [&str; 1] = ["size"];
+const SIZE: [&str; 1] = ["size"];
+
+const BITS: [&str; 1] = ["bits"];
 
 const SUM: [&str; 1] = ["plus"];
 
@@ -108,8 +119,10 @@ fn control_by_value(name: &str) -> Option<Control>
         Some(Control::Compared(Comparison::Greater))
     } else if is_among(&AT_LEAST, name) {
         Some(Control::Compared(Comparison::AtLeast))
-    } else if is_among(&SIZED, name) {
-        Some(Control::Sized)
+    } else if is_among(&SIZE, name) {
+        Some(Control::Member(Membership::Size))
+    } else if is_among(&BITS, name) {
+        Some(Control::Member(Membership::Bits))
     } else {
         control_that_computes(name)
     }

@@ -2,7 +2,6 @@ use Rattle.std.proofs.Common.{sym, subst}
 use Rattle.cddl_language.specs.Faults.{definitions, rules}
 use Rattle.check_names.specs.Kinds.Kinds.{AreKinds}
 use Rattle.check_instances.specs.Openings.Openings.{AreOpenings}
-use Rattle.check_literals.specs.Sizes.Sizes.{AreSizable}
 use Rattle.cddl_check.proofs.closing.close_instances.Goals as goal
 
 pub returns-clause-meant : goal.returns-clause-meant
@@ -11,12 +10,12 @@ returns-clause-meant c s worth root refs right instances few found kinds most =
     let kinds_are = subst (λ ts. AreKinds ts (definitions s) c.args.kinds.now) (sym c.in_ok-closed.ensures.texts) kinds in
     let openings = c.in_ok-openings.ensures (definitions s) root refs closed kinds_are most in
     let literals = c.in_ok-literals.ensures s.tree worth root refs right closed kinds_are in
-    let sizable = c.in_ok-sizable.ensures s.tree worth root refs right closed kinds_are literals in
+    let controllers = c.in_ok-controllers.ensures s.tree worth root refs right closed kinds_are literals in
     record {
       closed = closed;
       openings = openings;
       literals = literals;
-      sizable = sizable;
-      sizes = c.in_ok-sizes.ensures s.tree worth root refs right closed kinds_are literals (subst (AreSizable (definitions s) root worth c.close.new.terms) (sym c.deref.ensures.value) sizable);
-      choosable = c.in_ok-choosable.ensures (definitions s) root refs (c.texts_have_entries.ensures (rules s)) closed kinds_are (subst (AreOpenings (definitions s) c.close.new.terms refs) (sym c.deref-2.ensures.value) openings);
+      controllers = controllers;
+      members = c.in_ok-members.ensures s.tree worth root refs right closed kinds_are literals controllers;
+      choosable = c.in_ok-choosable.ensures (definitions s) root refs (c.texts_have_entries.ensures (rules s)) closed kinds_are (subst (AreOpenings (definitions s) c.close.new.terms refs) (sym c.deref.ensures.value) openings);
     }

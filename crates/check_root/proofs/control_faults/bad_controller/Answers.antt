@@ -4,7 +4,7 @@ use Rattle.check_root.proofs.OfControlFaults.Faults as Faults
 use Rattle.check_root.proofs.control_faults.bad_controller.Goals as goal
 
 pub returns : goal.returns
-returns c s root worth right clear literals sizable asked =
+returns c s root worth right clear literals controllers asked =
     let laws : Faults.Laws s worth root = record {
       first = c.reached_parts.ensures.first s root clear;
       last = c.reached_parts.ensures.last s root clear;
@@ -12,4 +12,4 @@ returns c s root worth right clear literals sizable asked =
       last_values = λ r xs x y o h. c.operand_values.ensures.last s.tree worth right root r xs x y o h;
     } in
     let t = c.args.terms.now in
-    Faults.least_bad_controller s worth root t c.args.asked.now asked (λ n a b h k. (c.equal_numbers.ensures.term n n a b h k).0 refl) c.least_wrong.result c.args.sizable (c.least_wrong.ensures (definitions s) root worth literals sizable (Faults.all_there s worth root t laws c.args.asked.now asked))
+    Faults.least_bad_controller s worth root t c.args.asked.now asked (λ n a b h k. (c.equal_numbers.ensures.term n n a b h k).0 refl) c.least_wrong.result c.args.controllers (c.least_wrong.ensures (definitions s) root worth literals controllers (Faults.all_there s worth root t laws c.args.asked.now asked))

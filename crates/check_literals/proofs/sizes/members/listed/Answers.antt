@@ -1,4 +1,5 @@
 use Rattle.std.proofs.Common.{◌≡◌, ◌+◌, ◌∙◌, ℕ, length, refl, subst, arith}
+use Rattle.check_terms.specs.Texts.Controls.{membership_view}
 use Rattle.check_literals.specs.Sizes.Reach.{AreBelow}
 use Rattle.check_literals.proofs.OfSizes.Listing.{lists_more}
 use Rattle.check_literals.proofs.sizes.members.listed.Goals as goal
@@ -16,5 +17,5 @@ loop-number-preserved c =
     record {
       listed = e.listed;
       ready = e.ready;
-      all = lists_more c.args.sources.now c.args.terms.now c.args.sizable.now c.loop-number.number c.loop-number.sizes c.add_controller.new.sizes c.loop-number.invariant.listed e.listed e.kept (λ n q. e.added n (c.controller_at-controller.ensures ∙ q)) c.loop-number.invariant.all;
+      all = lists_more (membership_view c.args.membership) c.args.sources.now c.args.terms.now c.args.sizable.now c.loop-number.number c.loop-number.sizes c.add_controller.new.sizes c.loop-number.invariant.listed e.listed e.kept (λ n q. e.added n (c.controller_at-controller.ensures ∙ q)) c.loop-number.invariant.all;
     }

@@ -1,5 +1,6 @@
 use Rattle.std.proofs.Common.{List, subst}
 use Rattle.cddl_language.specs.Reading.{definitions_in, rules_of}
+use Rattle.check_terms.specs.Texts.Controls.{membership_view}
 use Rattle.check_literals.specs.declared.sizes.sources.Source.{Source}
 use Rattle.check_literals.specs.Sizes.Controllers.{AreListed}
 use Rattle.check_literals.proofs.OfSizes.Induction.{AreGiven}
@@ -21,4 +22,4 @@ returns c = ok_with c.listed.result _ _ _ (λ z listed all x worth root refs rig
       meanings = λ k r h. c.meaning_at.ensures xs root refs t closed k r is h;
       choices = λ r y reach q. (c.meanings_are_reached.ensures.types xs root r y reach q, c.reached_values.ensures.types x worth right root r reach y q);
     } in
-    are_sizes xs root worth refs t closed c.args.kinds.now c.args.literals.now ss given c.equal_numbers.ensures.tree c.args.sizable.now sizable z (subst (λ us. AreListed us c.args.sizable.now z) c.deref.ensures.value listed) all) c.listed.ensures.listed c.listed.ensures.all
+    are_sizes (membership_view c.args.membership) xs root worth refs t closed c.args.kinds.now c.args.literals.now ss given c.equal_numbers.ensures.tree c.args.sizable.now sizable z (subst (λ us. AreListed us c.args.sizable.now z) c.deref.ensures.value listed) all) c.listed.ensures.listed c.listed.ensures.all
