@@ -58,9 +58,13 @@ quiet_rule = flag_rule (codes "quiet")
 abbrev pub deterministic_rule : Rule
 deterministic_rule = flag_rule (codes "deterministic")
 
--- a command with `SPEC` and `--root NAME`
+-- `--explain`
+abbrev pub explain_rule : Rule
+explain_rule = flag_rule (codes "explain")
+
+-- a command with `SPEC`, `--root NAME` and `--explain`
 abbrev pub spec_app : App → App
-spec_app a = with_rule (with_rule a spec_rule) root_rule
+spec_app a = with_rule (with_rule (with_rule a spec_rule) root_rule) explain_rule
 
 -- a command with `[FILE]`, `--depth N` and `--item-bytes N`
 abbrev pub stream_app : App → App
@@ -70,7 +74,7 @@ stream_app a = with_rule (with_rule (with_rule a file_rule) depth_rule) item_byt
 abbrev pub judging_app : App → App
 judging_app a = with_rule (stream_app (spec_app a)) steps_rule
 
--- `check SPEC`, with `--root`
+-- `check SPEC`, with `--root` and `--explain`
 abbrev pub check_app : App
 check_app = spec_app (new_app (codes "check"))
 
@@ -160,6 +164,7 @@ pub record AreRead (task : Task) (rows : List Row) (o : Options) : Type 0 where
   pub item_bytes : IsStreamNumber task ITEM_BYTES MOST_ITEM_BYTES (one_of (codes "item-bytes") rows) o.item_bytes
   pub quiet : o.quiet ≡ is_set (first_of (codes "quiet") rows)
   pub deterministic : o.deterministic ≡ is_set (first_of (codes "deterministic") rows)
+  pub explain : o.explain ≡ is_set (first_of (codes "explain") rows)
 
 abbrev pub AreUnread : Task → List Row → Use → Type 0
 AreUnread task rows (Words e) = (o : Options) → AreRead task rows o → ⊥
@@ -178,6 +183,7 @@ pub record AreChosen (o : Options) (words : List Text) : Type 0 where
   pub item_bytes : IsStreamNumber o.task ITEM_BYTES MOST_ITEM_BYTES (given_number (codes "item-bytes") words) o.item_bytes
   pub quiet : o.quiet ≡ is_set (given_text (codes "quiet") words)
   pub deterministic : o.deterministic ≡ is_set (given_text (codes "deterministic") words)
+  pub explain : o.explain ≡ is_set (given_text (codes "explain") words)
 
 -- Where the words are refused they give no options.
 abbrev pub IsMisuse : List Text → Use → Type 0

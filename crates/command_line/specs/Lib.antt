@@ -2,4 +2,3 @@ pub mod Chosen
 pub mod Errors
 pub mod Lines
 pub mod Reading
-pub mod Shown

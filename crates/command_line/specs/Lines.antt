@@ -1,9 +1,9 @@
 -- The lines of the program on standard error that know of no specification.
-use Rattle.std.specs.Prelude.{◌≡◌, ℕ, ◌<◌, ◌-◌, ◌^◌, List, ◌++◌, length, Option, codes, decimal}
+use Rattle.std.specs.Prelude.{◌≡◌, ℕ, ◌<◌, ◌-◌, ◌^◌, List, ◌++◌, Option, codes, decimal}
 use Rattle.std.specs.Io.KnownBytes as bytes
 use Rattle.item_nodes.specs.Counted.{device_of, failures_of, HasRisen}
 use Rattle.item_nodes.specs.declared.counted.Counted.{Counted}
-use Rattle.command_line.specs.Shown.{shown}
+use Rattle.text_shown.specs.Shown.{shown}
 
 -- the line that says of the file of this name that it cannot be used
 abbrev pub file_line : List ℕ → List ℕ → List ℕ

@@ -53,6 +53,8 @@ pub struct Options {
     pub quiet: bool,
     /// Whether items are rewritten in deterministic encoding (RFC 8949 section 4.2.1), and not in preferred encoding.
     pub deterministic: bool,
+    /// Whether more is told of a refusal than its line.
+    pub explain: bool,
     pub ghost depth_in_range: { (1 ≤ depth) × (depth ≤ 256) },
     pub ghost item_bytes_in_range: { (1 ≤ item_bytes) × (item_bytes ≤ MOST_ITEM_BYTES) },
 }

@@ -4,7 +4,6 @@
 mod arguments;
 mod choice;
 mod lines;
-mod shown;
 mod status;
 mod stream;
 mod text;

@@ -7,7 +7,6 @@ ghost use Rattle.clap.specs.Words.{kind_of};
 ghost use Rattle.command_line.specs.Errors.{IsAskedFor};
 ghost use Rattle.command_line.specs.Lines.{file_line, memory_line, read_failed_line, unexplained_line, unopened_line, write_failed_line, IsCutAfter, IsPut};
 
-use crate::shown::push_shown;
 use crate::status::BROKEN;
 use arrayvec::ArrayString;
 use cbor_item::{Counted, write_bytes};
@@ -15,6 +14,7 @@ use clap::Error;
 use itoa::Buffer;
 use std::alloc::{AllocError, Global};
 use std::io::Write;
+use text_shown::push_shown;
 
 /// Writes a text to the standard error: all of it, unless the device failed. A failed write is passed over.
 pub fn say<E: Write>(text: &[u8], err: &mut Counted<E>)

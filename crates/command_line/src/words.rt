@@ -6,12 +6,12 @@ ghost use Rattle.clap.specs.declared.builder.command.Command.TheViews.{out-Comma
 ghost use Rattle.command_line.specs.Chosen.{check_app, code_rule, explain_app, file_rule, flag_rule, is_set, judging_app, most_steps, number_rule, program_app, rewrite_app, root_rule, show_app, spec_app, spec_rule, steps_rule, stream_app, top_app, validate_app, AreChosen, AreRead, AreTaskSteps, AreUnread, IsMisuse, IsNumber, IsStreamNumber, IsToldOf};
 
 use crate::choice::{ITEM_BYTES, Options, STEPS, Task, Use};
-use crate::shown::push_shown;
 use cbor_read::{MOST_DEPTH, MOST_ITEM_BYTES};
 use clap::builder::ValueParser;
 use clap::error::ErrorKind;
 use clap::{Arg, ArgAction, ArgMatches, Command, Error};
 use std::alloc::{AllocError, Global};
+use text_shown::push_shown;
 
 /// The version of the program.
 pub const VERSION: &str = "0.1.0";
@@ -83,7 +83,7 @@ Exit status:
 ";
 
 /// Reads the words of the command line, the program's name first: `check SPEC`, `validate SPEC [FILE]`,
-/// `rewrite SPEC [FILE]`, `show [FILE]` or `explain CODE`; where there is a SPEC with `--root NAME`; where there is a stream with
+/// `rewrite SPEC [FILE]`, `show [FILE]` or `explain CODE`; where there is a SPEC with `--root NAME` and `--explain`; where there is a stream with
 /// `--depth N`, from 1 to [`MOST_DEPTH`], and `--item-bytes N`, from 1 to [`MOST_ITEM_BYTES`]; where there are both with
 /// `--steps N`, from 1; `validate` with `--quiet`, and `rewrite` with `--deterministic`. The defaults are [`MOST_DEPTH`],
 /// [`ITEM_BYTES`] and [`STEPS`], also where a command has no such option.
@@ -194,6 +194,7 @@ fn options_of(alloc: Global, task: Task, given: &ArgMatches<'_>) -> Result<Optio
         item_bytes,
         quiet: is_given(given, "quiet"),
         deterministic: is_given(given, "deterministic"),
+        explain: is_given(given, "explain"),
     })
 }
 
@@ -355,13 +356,20 @@ fn with_judgement<'a>(alloc: Global, command: Command<'a>) -> Result<Command<'a>
     with_stream(alloc, with_specification(alloc, command)?)?.arg(steps_arg(alloc))
 }
 
-// The command with what is taken with a specification: its file and the root.
+// The command with what is taken with a specification: its file, the root, and whether a refusal is explained.
 fn with_specification<'a>(alloc: Global, command: Command<'a>) -> Result<Command<'a>, AllocError>
     requires { (out-Command command).has_globals ≡ false }
     ensures app { IfOk result (λ c. app_of c ≡ spec_app (app_of command.entry)) }
     ensures local { IfOk result (λ c. (out-Command c).has_globals ≡ false) }
 {
-    command.arg(spec_arg(alloc))?.arg(root_arg(alloc))
+    command
+        .arg(spec_arg(alloc))?
+        .arg(root_arg(alloc))?
+        .arg(flag_arg(
+            alloc,
+            "explain",
+            "Says where in SPEC and why, where SPEC is refused",
+        ))
 }
 
 // The command with what is taken with a stream: its file and the limits.

@@ -31,4 +31,5 @@ returns-clause-read c = record {
   item_bytes = rw (one_text-rows (found_of c.args.given.now) (codes "item-bytes")) at c.in-Some-stream_number.ensures.some;
   quiet = c.is_given.ensures ∙ ap is_set (first_value-rows (found_of c.args.given.now) (codes "quiet"));
   deterministic = c.is_given-2.ensures ∙ ap is_set (first_value-rows (found_of c.args.given.now) (codes "deterministic"));
+  explain = c.is_given-3.ensures ∙ ap is_set (first_value-rows (found_of c.args.given.now) (codes "explain"));
 }

@@ -1,0 +1,10 @@
+//! How texts of a user's are shown on standard error: words, and a place in a text by its line with a mark under it. What is
+//! here knows nothing of CDDL.
+#![tactic(auto)]
+
+mod lines;
+mod places;
+mod words;
+
+pub use crate::places::pointed_at;
+pub use crate::words::push_shown;
