@@ -6,7 +6,7 @@ ghost use Rattle.check_terms.specs.Definitions.{AreDefinitions, IsDefinition};
 ghost use Rattle.check_instances.specs.Bodies.{ArePatterns, IsPattern};
 ghost use Rattle.check_instances.specs.Steps as by;
 
-use check_terms::fill::Template;
+use check_terms::fill::{Slots, Template};
 use check_terms::{Body, Definition, NoRoom, Terms, push};
 use std::alloc::Global;
 
@@ -37,7 +37,8 @@ fn pattern_of(alloc: Global, terms: &Terms<'_>, definition: &Definition) -> Resu
     ensures { IfOk result (λ p. (x : L.Definition) → IsDefinition terms.now definition.now x → IsPattern terms.now p x) }
 {
     let body = definition.body;
-    let template = Template::new(alloc, terms, &definition.parameters, row_of(body))?;
+    let slots = Slots::new(alloc, &definition.parameters)?;
+    let template = Template::new(alloc, terms, &slots, row_of(body))?;
     Ok(Pattern { body, template })
 }
 

@@ -10,4 +10,5 @@ mod store;
 mod template;
 
 pub use crate::fill::arguments::arguments_of;
+pub use crate::fill::slots::Slots;
 pub use crate::fill::template::Template;

@@ -1,16 +1,17 @@
 //! A template: a body that is filled with the arguments of each of its instances.
 
-ghost use Rattle.std.specs.Prelude.{◌≡◌, List, IfOk, Some};
+ghost use Rattle.std.specs.Prelude.{◌≡◌, ℕ, List, IfOk, Some};
 ghost use Rattle.cddl_language.specs.Terms.{Text};
 ghost use Rattle.check_terms.specs.Definitions.{AreTexts};
 ghost use Rattle.check_terms.specs.Filled.{filled};
 ghost use Rattle.check_terms.specs.Table.{Grows, Holds, Tree};
+ghost use Rattle.check_terms.specs.Fill.Slots.{ArePlacesOf};
 ghost use Rattle.check_terms.specs.Fill.Templates.{AreTrees, IsTemplate};
 
 use crate::fill::filling::{fill_step, part};
 use crate::fill::making::template_of;
 use crate::fill::rows::rows_of;
-use crate::fill::slots::slots_of;
+use crate::fill::slots::Slots;
 use crate::laws::{growing_keeps, is_table};
 use crate::store::push;
 use crate::{NoRoom, Terms};
@@ -39,22 +40,21 @@ pub struct Template {
 }
 
 impl Template {
-    /// The template of the body of this number, with these parameters, numbers of texts of the table.
+    /// The template of the body of this number, with the parameters that have these places, numbers of texts of the table.
     ///
-    /// It costs n log n for the n rows of the body and its parameters, each row once however often it is shared, and nothing for
-    /// the other rows of the table. An error comes only where memory is refused.
+    /// It costs n log n for the n rows of the body, each row once however often it is shared, and nothing for the parameters
+    /// and the other rows of the table. An error comes only where memory is refused.
     pub fn new(
         alloc: Global,
         terms: &Terms<'_>,
-        parameters: &[u32],
+        slots: &Slots,
         body: u32,
     ) -> Result<Template, NoRoom>
-        ensures { IfOk result (λ m. (ps : List Text) (x : Tree) → AreTexts terms.now.texts parameters.now ps → Holds terms.now (Some body) x → IsTemplate terms.now ps m x) }
+        ensures { IfOk result (λ m. (ks : List ℕ) (ps : List Text) (x : Tree) → ArePlacesOf slots.now ks → AreTexts terms.now.texts ks ps → Holds terms.now (Some body) x → IsTemplate terms.now ps m x) }
     {
         is_table(terms);
-        let slots = slots_of(alloc, parameters)?;
         let rows = rows_of(alloc, terms, body)?;
-        template_of(alloc, terms, &slots, rows, body)
+        template_of(alloc, terms, &slots.places, rows, body)
     }
 
     /// The number of the body with the arguments in the place of the parameters (RFC 8610 section 3.10). A parameter without

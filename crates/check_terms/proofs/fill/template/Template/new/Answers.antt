@@ -8,4 +8,4 @@ pub returns : goal.returns
 returns c =
     let t = c.args.terms.now in
     let texts = c.is_table.ensures.texts in
-    IfOk-weaker c.template_of.result _ _ (λ m h ps x are held. h ps x (λ n w e ys. slots_are t.texts texts c.args.parameters.now ps are n w e ys ∙ ap (at_place ys) (sym (c.in_ok-slots.ensures n))) c.in_ok-rows.ensures held) c.template_of.ensures
+    IfOk-weaker c.template_of.result _ _ (λ m h ks ps x places are held. h ps x (λ n w e ys. slots_are t.texts texts ks ps are n w e ys ∙ ap (at_place ys) (sym (places n))) c.in_ok-rows.ensures held) c.template_of.ensures
