@@ -100,7 +100,7 @@ fn first_of<'t, 'i>(
     }
 }
 
-// A step that the pair that is tried takes for one of the entries of its alternative.
+// A step that is owed: by a pair that is tried, for one of the entries of its alternative, or by bits that are set.
 #[inline]
 fn take_owed(run: &mut Run<'_, '_>, steps: u64) -> Turned
     requires owed { 0 < run.old.owed }

@@ -161,7 +161,12 @@ pub(crate) fn next_in_such<'t, 'i>(
 pub fn weighed_reply<'i>(weighing: Weighing<'_, '_>) -> Reply<'i>
     ensures { weighing_move weighing.entry ≡ M.Weighs (bits_asked (test_view weighing.entry.test.now) (subject_view weighing.entry.subject)) (reply_view result) }
 {
-    such_reply(weighing.test, weighing.place, weighing.next, weighing.subject)
+    such_reply(
+        weighing.test,
+        weighing.place,
+        weighing.next,
+        weighing.subject,
+    )
 }
 
 // A byte string is read. Another item holds nothing.

@@ -1,4 +1,4 @@
-use Rattle.std.proofs.Common.{◌≡◌, ◌<◌, ◌∙◌, get_or, length, refl, sym, ap, arith, true}
+use Rattle.std.proofs.Common.{◌≡◌, ◌<◌, ◌∙◌, get_or, length, refl, sym, ap, arith}
 use Rattle.cddl_meaning.specs.Forms.{are_members}
 use Rattle.match_moves.specs.Bits.{bits_in_first}
 use Rattle.match_moves.proofs.OfBits.{no_byte, none_first, one_byte_more}
