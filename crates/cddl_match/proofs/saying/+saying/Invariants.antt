@@ -113,6 +113,9 @@ decreases-array_says l = 8 * l.depth + 3
 abbrev pub decreases-simple_says : goal.decreases-simple_says
 decreases-simple_says l = 8 * l.depth + 3
 
+abbrev pub decreases-such_says : goal.decreases-such_says
+decreases-such_says l = 8 * l.depth + 4
+
 abbrev pub decreases-holding_says : goal.decreases-holding_says
 decreases-holding_says l = 8 * l.depth + 4
 
