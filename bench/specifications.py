@@ -116,12 +116,23 @@ def texts():
         else:
             yield name, answer, lambda size, parts=(front, unit, back): filled(*parts, size)
     yield "arguments that double", ACCEPTED, doubling
+    yield "a rule of many parameters", ACCEPTED, lambda size: generic(size, 1, "")
+    yield "many parameters, not reached", ACCEPTED, lambda size: generic(size, 0, "")
+    yield "sizes by parameters, eight times", ACCEPTED, lambda size: generic(size, 8, "bstr .size ")
 
 
 def repeated(size):
     """1,000 different arguments, again and again."""
     uses = ", ".join(f"p<{n}>" for n in range(1000))
     return "r = [" + ", ".join([uses] * (size // len(uses))) + "]\np<t> = [t]\n"
+
+
+def generic(size, calls, use):
+    """A rule with as many parameters as a size stands for, each of them used once, and so many different calls of it."""
+    count = size // (16 + len(use) + 3 * calls)
+    parameters = [f"a{n}" for n in range(count)]
+    given = "".join(f", p<{call}{', 0' * (count - 1)}>" for call in range(calls))
+    return f"r = [int{given}]\np<{', '.join(parameters)}> = [{', '.join(use + name for name in parameters)}]\n"
 
 
 def spent(words, answer=None):

@@ -4,7 +4,7 @@ ghost use Rattle.std.specs.Prelude.{◌≡◌, None};
 ghost use Rattle.check_terms.specs.Table.{IsPart};
 
 use call_lines::{bytes, count, limit, push_no_memory, push_none, push_number, push_space};
-use check_terms::fill::Template;
+use check_terms::fill::{Slots, Template};
 use check_terms::{Form, NoRoom, Row, Terms, control_name, opened_name};
 use std::alloc::{AllocError, Global};
 
@@ -167,10 +167,21 @@ fn push_filled(
     let body = numbered(given, body).unwrap_or(0);
     let parameters = numbers_of(alloc, given, parameters)?;
     let arguments = numbers_of(alloc, given, arguments)?;
-    match Template::new(alloc, terms, &parameters, body) {
-        Ok(template) => push_given(alloc, template.fill(alloc, terms, &arguments), out),
-        Err(NoRoom) => push_given(alloc, Err(NoRoom), out),
-    }
+    let number = match template_of(alloc, terms, &parameters, body) {
+        Ok(template) => template.fill(alloc, terms, &arguments),
+        Err(NoRoom) => Err(NoRoom),
+    };
+    push_given(alloc, number, out)
+}
+
+fn template_of(
+    alloc: Global,
+    terms: &Terms<'_>,
+    parameters: &[u32],
+    body: u32,
+) -> Result<Template, NoRoom> {
+    let slots = Slots::new(alloc, parameters)?;
+    Template::new(alloc, terms, &slots, body)
 }
 
 // The row of this number, if there is one.

@@ -1,4 +1,5 @@
 pub mod Asked
 pub mod Calls
 pub mod Reached
+pub mod Runs
 pub mod LiveSites

@@ -1,31 +1,32 @@
 //! What is asked of at the sites that a root reaches, in each instance.
 
-ghost use Rattle.std.specs.Prelude.{◌≡◌, ◌++◌, IfOk, List, OnOk, map, option_copied, option_map, slice_get};
+ghost use Rattle.std.specs.Prelude.{◌≡◌, ◌++◌, IfOk, List, OnOk, option_map};
 ghost use Rattle.cddl_language.specs.Faults.{Specification, definitions, rules};
 ghost use Rattle.cddl_language.specs.StandsFor.{AreInstances};
 ghost use Rattle.cddl_language.specs.Terms.{Ref, Text};
 ghost use Rattle.check_names.specs.Environment.Places.{lists};
-ghost use Rattle.check_terms.specs.Fill.Templates.{AreTrees, IsTemplate};
+ghost use Rattle.check_terms.specs.Fill.Templates.{IsTemplate};
 ghost use Rattle.check_instances.specs.Found.{AreFound};
 ghost use Rattle.cddl_language.specs.Live.Live.{IsClear};
-ghost use Rattle.check_reached.specs.Asked.{AreAnswers, AreAsked, AreReady, Wanted, wanted, wanted_all, wanted_at, wanted_each, wanted_some};
+ghost use Rattle.check_reached.specs.Asked as by;
+ghost use Rattle.check_reached.specs.Asked.{AreAnswers, AreAsked, AreReady, Wanted, wanted, wanted_all, wanted_each, wanted_some};
 ghost use Rattle.check_reached.specs.Reached.{AreReachedSites};
+ghost use Rattle.check_reached.specs.Runs.{AreCalls, IsRunOf};
 ghost use Rattle.check_reading.specs.Survey.Survey.{IsSurvey};
+ghost use Rattle.check_sites.specs.Sites.View.{view_site};
 ghost use Rattle.tree_nodes.specs.Syntax.Syntax.{Rule};
-ghost use Rattle.check_terms.specs.Definitions.{AreTexts};
 ghost use Rattle.check_terms.specs.Table.{Grows, Tree as TermTree, nothing};
-ghost use Rattle.check_terms.specs.Trees.{ref_tree};
 ghost use Rattle.tree_nodes.specs.View.{token_of, view};
 
-use crate::arguments::filled_with;
-use crate::calls::{calls_by_name, calls_of};
+use crate::calls::calls_by_name;
 use crate::laws::answers_grow;
 use crate::parts::{Part, first_part, last_part, read_node};
+use crate::runs::{Call, Run, renew, run_of};
 use cddl_language::live::reached_sites as reached_sites_are_live;
 use check_instances::Instance;
 use check_reading::survey::Survey;
 use check_sites::entries::Holder;
-use check_sites::sites::Found;
+use check_sites::sites::{Found, Site};
 use check_terms::fill::Template;
 use check_terms::laws::filled_trees;
 use check_terms::{Definition, NoRoom, Terms, push};
@@ -80,7 +81,9 @@ pub struct Asked {
 /// literal and of the whole control, and of the group of a map.
 ///
 /// It costs the sites times the instances of their rule: for each site the rows of its part are visited once, and then each row
-/// that holds a parameter is hashed once for each instance. Memory is needed for each answer.
+/// that holds a parameter is hashed once for each instance. The parameters of a rule and the arguments of its instances are
+/// listed once for all sites of the rule that follow one another. Memory is needed for each answer, and for the arguments of
+/// all instances of one rule.
 ///
 /// An error comes where memory is refused, or each number of 32 bits is taken; then some rows may have been added. It may come,
 /// too, where a number is not of this table.
@@ -116,8 +119,10 @@ fn ask_all<'s>(
 {
     answers_grow();
     let mut asked = Vec::new(alloc);
+    let mut run = run_of(alloc, terms, definitions, calls, 0)?;
     for site in reached {
-        ask_site(alloc, terms, tree, definitions, calls, *site, &mut asked)?;
+        renew(alloc, terms, definitions, calls, site.rule, &mut run)?;
+        ask_site(alloc, terms, tree, &run, site.site, &mut asked)?;
     }
     Ok(asked)
 }
@@ -127,31 +132,18 @@ fn ask_site<'s>(
     alloc: Global,
     terms: &mut Terms<'s>,
     tree: &Tree<'s>,
-    definitions: &[Definition],
-    calls: &[Vec<u32>],
-    site: Found<'_>,
+    run: &Run,
+    site: Site<'_>,
     asked: &mut Vec<Asked>,
 ) -> Result<(), NoRoom>
     ensures grows { Grows terms.old terms.new }
-    ensures answers { OnOk result ((rs : List Rule) (refs : List Ref) (ws : List Wanted) → AreReady terms.old rs refs (lists calls.now) definitions.now → AreAnswers terms.old asked.old.items ws → AreAnswers terms.new asked.new.items (ws ++ wanted_at (token_of tree.now) rs refs site.entry)) }
+    ensures answers { OnOk result ((ps : List Text) (refs : List Ref) (ws : List Wanted) → IsRunOf terms.old ps refs run.now → AreAnswers terms.old asked.old.items ws → AreAnswers terms.new asked.new.items (ws ++ (wanted_some ps (by.first_part (view_site (token_of tree.now) site.entry)) refs ++ wanted_some ps (by.last_part (view_site (token_of tree.now) site.entry)) refs))) }
 {
     answers_grow();
-    let Some(definition) = definition_at(definitions, site.rule) else {
-        return Ok(());
-    };
-    let Some(calls) = calls_of(calls, definition.name) else {
-        return Ok(());
-    };
-    let first = first_part(tree, site.site);
-    ask(alloc, terms, tree, definition, calls, first, asked)?;
-    let last = last_part(tree, site.site);
-    ask(alloc, terms, tree, definition, calls, last, asked)
-}
-
-pub(crate) fn definition_at(definitions: &[Definition], place: usize) -> Option<&Definition>
-    ensures { option_copied result ≡ slice_get definitions.now place }
-{
-    definitions.get(place)
+    let first = first_part(tree, site);
+    ask(alloc, terms, tree, run, first, asked)?;
+    let last = last_part(tree, site);
+    ask(alloc, terms, tree, run, last, asked)
 }
 
 // Adds what is asked of the part, if there is one.
@@ -159,16 +151,15 @@ fn ask<'s>(
     alloc: Global,
     terms: &mut Terms<'s>,
     tree: &Tree<'s>,
-    definition: &Definition,
-    calls: &[u32],
+    run: &Run,
     part: Option<Part<'_>>,
     asked: &mut Vec<Asked>,
 ) -> Result<(), NoRoom>
     ensures grows { Grows terms.old terms.new }
-    ensures answers { OnOk result ((ps : List Text) (refs : List Ref) (ws : List Wanted) → AreTexts terms.old.texts definition.now.parameters.items ps → AreTrees terms.old calls.now (map ref_tree refs) → AreAnswers terms.old asked.old.items ws → AreAnswers terms.new asked.new.items (ws ++ wanted_some ps (option_map (wanted (token_of tree.now)) part.entry) refs)) }
+    ensures answers { OnOk result ((ps : List Text) (refs : List Ref) (ws : List Wanted) → IsRunOf terms.old ps refs run.now → AreAnswers terms.old asked.old.items ws → AreAnswers terms.new asked.new.items (ws ++ wanted_some ps (option_map (wanted (token_of tree.now)) part.entry) refs)) }
 {
     match part {
-        Some(part) => ask_part(alloc, terms, tree, definition, calls, part, asked),
+        Some(part) => ask_part(alloc, terms, tree, run, part, asked),
         None => Ok(()),
     }
 }
@@ -177,22 +168,21 @@ pub(crate) fn ask_part<'s>(
     alloc: Global,
     terms: &mut Terms<'s>,
     tree: &Tree<'s>,
-    definition: &Definition,
-    calls: &[u32],
+    run: &Run,
     part: Part<'_>,
     asked: &mut Vec<Asked>,
 ) -> Result<(), NoRoom>
     ensures grows { Grows terms.old terms.new }
-    ensures answers { OnOk result ((ps : List Text) (refs : List Ref) (ws : List Wanted) → AreTexts terms.old.texts definition.now.parameters.items ps → AreTrees terms.old calls.now (map ref_tree refs) → AreAnswers terms.old asked.old.items ws → AreAnswers terms.new asked.new.items (ws ++ wanted_each ps (wanted (token_of tree.now) part.entry) refs)) }
+    ensures answers { OnOk result ((ps : List Text) (refs : List Ref) (ws : List Wanted) → IsRunOf terms.old ps refs run.now → AreAnswers terms.old asked.old.items ws → AreAnswers terms.new asked.new.items (ws ++ wanted_each ps (wanted (token_of tree.now) part.entry) refs)) }
 {
     answers_grow();
     let row = read_node(terms, tree, part.node)?;
-    let template = Template::new(alloc, terms, &definition.parameters, row)?;
+    let template = Template::new(alloc, terms, &run.slots, row)?;
     ask_each(
         alloc,
         terms,
         &template,
-        calls,
+        &run.calls,
         part.at,
         part.question,
         asked,
@@ -204,23 +194,23 @@ fn ask_each(
     alloc: Global,
     terms: &mut Terms<'_>,
     template: &Template,
-    calls: &[u32],
+    calls: &[Call],
     at: usize,
     question: Question,
     asked: &mut Vec<Asked>,
 ) -> Result<(), NoRoom>
     ensures grows { Grows terms.old terms.new }
-    ensures answers { OnOk result ((ps : List Text) (x : TermTree) (refs : List Ref) (ws : List Wanted) → IsTemplate terms.old ps template.now x → AreTrees terms.old calls.now (map ref_tree refs) → AreAnswers terms.old asked.old.items ws → AreAnswers terms.new asked.new.items (ws ++ wanted_each ps (record { at = at; question = question; tree = x; call = nothing }) refs)) }
+    ensures answers { OnOk result ((ps : List Text) (x : TermTree) (refs : List Ref) (ws : List Wanted) → IsTemplate terms.old ps template.now x → AreCalls terms.old calls.now refs → AreAnswers terms.old asked.old.items ws → AreAnswers terms.new asked.new.items (ws ++ wanted_each ps (record { at = at; question = question; tree = x; call = nothing }) refs)) }
 {
     answers_grow();
     for call in calls {
-        let row = filled_with(alloc, terms, template, *call)?;
+        let row = template.fill(alloc, terms, &call.arguments)?;
         push(
             asked,
             Asked {
                 at,
                 row,
-                call: *call,
+                call: call.row,
                 question,
             },
         )?;

@@ -1,23 +1,24 @@
 //! What is asked of entries of the text, in each instance.
 
-ghost use Rattle.std.specs.Prelude.{◌≡◌, ◌++◌, IfOk, List, OnOk};
+ghost use Rattle.std.specs.Prelude.{◌≡◌, IfOk, List};
 ghost use Rattle.cddl_language.specs.Faults.{Specification, definitions as definitions_of_text, rules};
 ghost use Rattle.cddl_language.specs.StandsFor.{AreInstances};
 ghost use Rattle.cddl_language.specs.Terms.{Ref, Text};
 ghost use Rattle.check_names.specs.Environment.Places.{lists};
 ghost use Rattle.check_instances.specs.Found.{AreFound};
 ghost use Rattle.cddl_language.specs.Live.Live.{IsClear};
-ghost use Rattle.check_reached.specs.Asked.{AreAnswers, AreEntriesAsked, AreReady, Wanted, wanted_entries, wanted_entry};
+ghost use Rattle.check_reached.specs.Asked.{AreAnswers, AreEntriesAsked, AreReady, wanted_entries};
 ghost use Rattle.check_reached.specs.Reached.{AreReachedSites};
 ghost use Rattle.tree_nodes.specs.Syntax.Syntax.{Rule};
 ghost use Rattle.check_terms.specs.Definitions.{AreDefinitions};
 ghost use Rattle.check_terms.specs.Table.{Grows};
 ghost use Rattle.tree_nodes.specs.View.{token_of, view};
 
-use crate::asked::{Asked, ask_part, definition_at};
-use crate::calls::{calls_by_name, calls_of};
+use crate::asked::{Asked, ask_part};
+use crate::calls::calls_by_name;
 use crate::laws::answers_grow;
 use crate::parts::entry_part;
+use crate::runs::{renew, run_of};
 use cddl_language::live::reached_sites as reached_sites_are_live;
 use check_instances::Instance;
 use check_sites::entries::{TextEntry, entries};
@@ -69,32 +70,11 @@ fn ask_entries<'s>(
 {
     answers_grow();
     let mut asked = Vec::new(alloc);
+    let mut run = run_of(alloc, terms, definitions, calls, 0)?;
     for entry in listed {
-        ask_entry(alloc, terms, tree, definitions, calls, *entry, &mut asked)?;
+        renew(alloc, terms, definitions, calls, entry.rule, &mut run)?;
+        let part = entry_part(tree, *entry);
+        ask_part(alloc, terms, tree, &run, part, &mut asked)?;
     }
     Ok(asked)
-}
-
-// Adds what is asked of the entry.
-fn ask_entry<'s>(
-    alloc: Global,
-    terms: &mut Terms<'s>,
-    tree: &Tree<'s>,
-    definitions: &[Definition],
-    calls: &[Vec<u32>],
-    entry: TextEntry<'_>,
-    asked: &mut Vec<Asked>,
-) -> Result<(), NoRoom>
-    ensures grows { Grows terms.old terms.new }
-    ensures answers { OnOk result ((rs : List Rule) (refs : List Ref) (ws : List Wanted) → AreReady terms.old rs refs (lists calls.now) definitions.now → AreAnswers terms.old asked.old.items ws → AreAnswers terms.new asked.new.items (ws ++ wanted_entry (token_of tree.now) rs refs entry.entry)) }
-{
-    answers_grow();
-    let Some(definition) = definition_at(definitions, entry.rule) else {
-        return Ok(());
-    };
-    let Some(calls) = calls_of(calls, definition.name) else {
-        return Ok(());
-    };
-    let part = entry_part(tree, entry);
-    ask_part(alloc, terms, tree, definition, calls, part, asked)
 }

@@ -11,7 +11,10 @@ ghost use Rattle.check_terms.specs.declared.fill.template.Template.{Template};
 ghost use Rattle.check_instances.specs.Found.{AreFound};
 ghost use Rattle.check_instances.specs.declared.found.Instance.{Instance};
 ghost use Rattle.check_reached.specs.Asked.{AreAnswers, AreAsked, AreEntriesAsked, Wanted};
+ghost use Rattle.check_reached.specs.Runs.{AreCalls, IsRunOf};
 ghost use Rattle.check_reached.specs.declared.asked.Asked.{Asked};
+ghost use Rattle.check_reached.specs.declared.runs.Call.{Call};
+ghost use Rattle.check_reached.specs.declared.runs.Run.{Run};
 
 use check_terms::laws::growing_keeps;
 
@@ -44,6 +47,8 @@ pub(crate) fn answers_grow()
     ensures tree { (old new : Table) → Grows old new → (n : Option ℕ) (x : Tree) → Holds old n x → Holds new n x }
     ensures trees { (old new : Table) → Grows old new → (ns : List ℕ) (xs : List Tree) → AreTrees old ns xs → AreTrees new ns xs }
     ensures template { (old new : Table) → Grows old new → (ps : List Text) (m : Template) (x : Tree) → IsTemplate old ps m x → IsTemplate new ps m x }
+    ensures calls { (old new : Table) → Grows old new → (calls : List Call) (refs : List Ref) → AreCalls old calls refs → AreCalls new calls refs }
+    ensures run { (old new : Table) → Grows old new → (ps : List Text) (refs : List Ref) (run : Run) → IsRunOf old ps refs run → IsRunOf new ps refs run }
     ensures answers { (old new : Table) → Grows old new → (answers : List Asked) (ws : List Wanted) → AreAnswers old answers ws → AreAnswers new answers ws }
 {
     growing_keeps();

@@ -1,4 +1,4 @@
-use Rattle.std.proofs.Common.{List, drop}
+use Rattle.std.proofs.Common.{List, drop, slice_get}
 use Rattle.tree_nodes.specs.Syntax.Syntax.{Rule}
 use Rattle.cddl_language.specs.Terms.{Ref}
 use Rattle.check_names.specs.Environment.Places.{lists}
@@ -6,11 +6,13 @@ use Rattle.check_terms.specs.Table.{Grows}
 use Rattle.tree_nodes.specs.View.{token_of}
 use Rattle.check_sites.specs.declared.entries.entry.TextEntry.{TextEntry}
 use Rattle.check_reached.specs.Asked.{AreReady, wanted_entry}
+use Rattle.check_reached.specs.Runs.{IsRunFor}
 use Rattle.check_reached.proofs.Asking.{IsGoing}
 use Rattle.check_reached.proofs.entries.ask_entries.Given as goal
 
 abbrev pub invariant-loop-entry : goal.invariant-loop-entry
 invariant-loop-entry l = record {
   grown : Grows l.fn.terms l.terms;
+  serves : (rs : List Rule) (refs : List Ref) → AreReady l.fn.terms rs refs (lists l.calls) l.definitions → IsRunFor l.terms refs (slice_get rs l.run.rule) l.run;
   done : (rs : List Rule) (refs : List Ref) → AreReady l.fn.terms rs refs (lists l.calls) l.definitions → IsGoing TextEntry (wanted_entry (token_of l.tree) rs refs) l.listed l.terms (drop l.entry-index l.listed) l.asked.items;
 }
