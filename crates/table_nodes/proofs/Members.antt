@@ -1,5 +1,5 @@
 -- Ranges with the same numbers are the same test, whatever their order.
-use Rattle.std.proofs.Common.{◌≡◌, ℕ, ◌≤◌, List, [], ◌∷◌, length, Bool, true, false, refl, sym, ap, ◌∙◌, arith}
+use Rattle.std.proofs.Common.{◌≡◌, ℕ, ◌≤◌, List, [], ◌∷◌, length, Bool, true, false, Option, Some, None, refl, sym, ap, ap₂, ◌∙◌, arith}
 use Rattle.std.specs.Prelude.{nat_le, nat_lt, ◌^◌, ◌&&◌, ◌||◌}
 use Rattle.std.specs.List.{list_any}
 use Rattle.std.proofs.Math.Nat.{pow-le-pow_right}
@@ -7,7 +7,7 @@ use Rattle.std.proofs.lemmas.Bool.Decides.{nat_tests}
 use Rattle.lists.proofs.Lemmas.{from_true as same_bools, or_right}
 use Rattle.cbor_data.specs.Value as V
 use Rattle.cddl_meaning.specs.Alike.{SameTest}
-use Rattle.cddl_meaning.specs.Forms.{fits_in, is_member, sized}
+use Rattle.cddl_meaning.specs.Forms.{are_bits_among, are_members, bits_among, bits_set, fits_in, is_member, sized}
 use Rattle.table_nodes.specs.declared.sizes.NumberRange.{NumberRange}
 use Rattle.table_nodes.specs.Sizes.{sizes_view}
 
@@ -74,3 +74,14 @@ same_test rs ss h (V.pairs ps) = refl
 same_test rs ss h (V.tag n x) = refl
 same_test rs ss h (V.simple n) = refl
 same_test rs ss h (V.float w n) = refl
+
+members_same : (ns : List ℕ) (rs ss : List (ℕ × ℕ)) → ((n : ℕ) → is_member n rs ≡ is_member n ss) → are_members ns rs ≡ are_members ns ss
+members_same [] rs ss h = refl
+members_same (n ∷ ns) rs ss h = ap₂ (λ a b. a && b) (h n) (members_same ns rs ss h)
+
+bits_same : (o : Option (List ℕ)) (rs ss : List (ℕ × ℕ)) → ((n : ℕ) → is_member n rs ≡ is_member n ss) → are_bits_among rs o ≡ are_bits_among ss o
+bits_same None rs ss h = refl
+bits_same (Some ns) rs ss h = members_same ns rs ss h
+
+pub same_bits_test : (rs ss : List (ℕ × ℕ)) → ((n : ℕ) → is_member n rs ≡ is_member n ss) → SameTest (bits_among rs) (bits_among ss)
+same_bits_test rs ss h x = bits_same (bits_set x) rs ss h

@@ -66,8 +66,9 @@ impl NumberSet {
         self.ranges.as_slice()
     }
 
-    /// Whether the number is in the set. It looks at as many ranges as the number of all of them has binary digits.
-    pub fn has(&self, number: u64) -> bool
+    /// Whether the number is in the set. It looks at as many ranges as the number of all of them has binary digits. Numbers of
+    /// the bits of a byte string may be over 2^64.
+    pub fn has(&self, number: u128) -> bool
         ensures { result ≡ is_member number (set_view self.now) }
     {
         is_in(self.ranges(), number)
@@ -155,20 +156,20 @@ fn joined(first: NumberRange, second: NumberRange) -> NumberRange
 }
 
 // Whether one of the ranges has the number.
-fn is_in(ranges: &[NumberRange], number: u64) -> bool
+fn is_in(ranges: &[NumberRange], number: u128) -> bool
     requires { AreInOrder ranges.now }
     ensures { result ≡ is_member number (sizes_view ranges.now) }
 {
-    let place = ranges.partition_point(|range| range.last < number);
+    let place = ranges.partition_point(|range| u128::from(range.last) < number);
     begins_by(ranges, place, number)
 }
 
 // Whether there is a range at this place, and it begins by the number.
-fn begins_by(ranges: &[NumberRange], place: usize, number: u64) -> bool
+fn begins_by(ranges: &[NumberRange], place: usize, number: u128) -> bool
     ensures { result ≡ begins_by number (slice_get ranges.now place) }
 {
     match ranges.get(place) {
-        Some(range) => range.least <= number,
+        Some(range) => u128::from(range.least) <= number,
         None => false,
     }
 }
