@@ -10,7 +10,7 @@ use Rattle.read_items.specs.Whole.Parts.{IsArgumentAt}
 use Rattle.cddl_meaning.specs.Forms.{Content, one_item, sequence_of_items, Language}
 use Rattle.cddl_meaning.specs.Held.{Holds, item, items}
 use Rattle.cddl_meaning.specs.Judges.{Reply, Fails}
-use Rattle.cddl_meaning.specs.Moves.{OfType, InHeld, Answered, Asks, Reads, Replies, LeadsTo, at_once, after, reads, reads_nothing, next_move}
+use Rattle.cddl_meaning.specs.Moves.{OfType, InHeld, Answered, Asks, Reads, Replies, LeadsTo, at_once, after, reads, reads_nothing, next_move, Weighs, weighs}
 use Rattle.cddl_meaning.proofs.Lemmas.{held_once}
 use Rattle.cddl_match.specs.Ahead.{ComesTo, Opens}
 use Rattle.cddl_match.proofs.Ways.{and_on, answers}
@@ -84,3 +84,13 @@ module _ {N G : Type 0} (l : Language N G) where
   pub heavier_held : (c : Content) (b : List ℕ) (n : N) (p next : ℕ) (y : Value) (k : ℕ) → Holds c b y → ((r : Reply) (w : ℕ) → Replies {N = N} {G = G} l (OfType n 0 y) r w → k < w) → (r : Reply) (w : ℕ) → LeadsTo l (Reads c b n p next) r w → k < w
   heavier_held c b n p next y k h more r w (reads i (after {s = s} {v = v} d e)) = omega (arith, more s v (subst (λ z. Replies l (OfType n 0 z) s v) (held_once h i) d))
   heavier_held c b n p next y k h more r w (reads_nothing i) = absurd (i y h)
+
+  -- Bits are weighed, which is as many steps, and the reply follows.
+  pub weighs_on : (n : ℕ) (r : Reply) → ComesTo {N = N} {G = G} l (Weighs n r) (Answered r) n
+  weighs_on n r = record { leads = leads; comes = comes }
+    where
+      leads : (s : Reply) (w : ℕ) → LeadsTo {N = N} {G = G} l (Answered r) s w → LeadsTo {N = N} {G = G} l (Weighs n r) s (n + w)
+      leads s w at_once = subst (λ k. LeadsTo {N = N} {G = G} l (Weighs n r) r k) (omega arith) weighs
+
+      comes : (s : Reply) (w : ℕ) → LeadsTo {N = N} {G = G} l (Weighs n r) s w → (v : ℕ) × LeadsTo {N = N} {G = G} l (Answered r) s v × (w ≡ n + v)
+      comes s w weighs = (0, at_once, omega arith)

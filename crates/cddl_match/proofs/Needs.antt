@@ -3,16 +3,16 @@ use Rattle.std.proofs.Common.{◌≡◌, ◌⊎◌, inl, inr, ℕ, List, [], ◌
 use Rattle.std.specs.Prelude.{Bool, true, false, ◌||◌, zero, suc, Option, Some, None, nat_eq, length}
 use Rattle.std.proofs.lemmas.List.{reverse-append, reverse-reverse}
 use Rattle.cbor_data.specs.Value.{Value, Pairs, no_pairs, pair}
-use Rattle.cddl_meaning.specs.Forms.{TagNumber, any_number, exactly, such_as, MapEntry, Node, Plain, Ref, Choice, ArrayOf, TagOf, SimpleBy, MapOf, Both, Such, Holding, Most, Group, Entry, GroupRef, Sequence, Alternatives, Repeat, Language, members_in, tag_in, simple_in}
+use Rattle.cddl_meaning.specs.Forms.{TagNumber, any_number, exactly, such_as, MapEntry, Node, Plain, Ref, Choice, ArrayOf, TagOf, SimpleBy, MapOf, Both, Such, Holding, Most, Group, Entry, GroupRef, Sequence, Alternatives, Repeat, Language, members_in, tag_in, simple_in, Test, bits_among}
 use Rattle.cddl_meaning.specs.Judges.{Reply, Takes, Fails, is_over}
-use Rattle.cddl_meaning.specs.Moves.{Question, OfType, OfGroup, OfAlternative, Pending, InRef, InChoice, InArray, InHead, InSimple, InEntry, InSequence, InAlternatives, InRepeat, InMap, InKey, InValue, InLeft, InSuch, InHolder, InHeld, Sorting, Tally, Move, Answered, Asks, Tries, Reads, next_member, next_part, next_alternative, next_round, after_round, end_of_rounds, array_move, content_move, tag_move, simple_move, next_pair, next_entry, after_value, type_move, entry_move, group_move, first_move, next_move}
+use Rattle.cddl_meaning.specs.Moves.{Question, OfType, OfGroup, OfAlternative, Pending, InRef, InChoice, InArray, InHead, InSimple, InEntry, InSequence, InAlternatives, InRepeat, InMap, InKey, InValue, InLeft, InSuch, InHolder, InHeld, Sorting, Tally, Move, Answered, Asks, Tries, Reads, next_member, next_part, next_alternative, next_round, after_round, end_of_rounds, array_move, content_move, tag_move, simple_move, next_pair, next_entry, after_value, type_move, entry_move, group_move, first_move, next_move, Weighs, tested_move}
 use Rattle.cddl_match.specs.Machine.{NeedsMore, asked_in, is_alternative, last_of, next_in, pending_in}
 use Rattle.match_moves.specs.Views.{move_view}
 use Rattle.match_moves.specs.declared.questions.Move as C
 use Rattle.cddl_match.specs.declared.stack.Run.{Run}
 use Rattle.table_nodes.specs.declared.nodes.GroupId.{GroupId}
 use Rattle.table_nodes.specs.declared.nodes.TypeId.{TypeId}
-use Rattle.cddl_match.specs.Open.{ComesUpTo, begins, goes_on, tries, reads, reads_nothing, AreOpenWith, nothing, further, NeedsRoom, of_map, of_alternative, of_held}
+use Rattle.cddl_match.specs.Open.{ComesUpTo, begins, goes_on, tries, reads, reads_nothing, AreOpenWith, nothing, further, NeedsRoom, of_map, of_alternative, of_held, weighs}
 
 module _ {N G : Type 0} where
   -- what is asked of a map, or about a byte string
@@ -26,10 +26,15 @@ module _ {N G : Type 0} where
   takes_room (Asks q o) = needs_more o || is_alternative q
   takes_room (Tries s) = false
   takes_room (Reads c b n p next) = true
+  takes_room (Weighs n r) = false
 
 module _ (N G : Type 0) where
   abbrev Not : Move N G → Type 0
   Not m = takes_room m ≡ true → ⊥
+
+  tested_not : (t : Test) (p next : ℕ) (x : Value) → Not (tested_move t p next x)
+  tested_not (bits_among rs) p next x h = cc
+  tested_not t p next x h = cc
 
   member_not : (ms : List N) (p : ℕ) (x : Value) (far : ℕ) → Not (next_member ms p x far)
   member_not [] p x far h = cc
@@ -121,7 +126,7 @@ module _ (N G : Type 0) where
   next_needs (InValue e es s) p (Fails later) h = absurd (value_not e.cuts es s later h)
   next_needs (InLeft n b x) p (Takes left next later) h = cc
   next_needs (InLeft n b x) p (Fails later) h = cc
-  next_needs (InSuch t b x) p (Takes left next later) h = cc
+  next_needs (InSuch t b x) p (Takes left next later) h = absurd (tested_not t b next x h)
   next_needs (InSuch t b x) p (Fails later) h = cc
   next_needs (InHolder c n b x) p r h = refl
   next_needs (InHeld b next) p (Takes left a later) h = cc
@@ -152,6 +157,7 @@ module _ {N G : Type 0} (l : Language N G) where
   comes_needs (begins {q = q}) h = first_needs q h
   comes_needs (goes_on {q = p} {o = o} {r = r} c d) h = comes_needs c (next_needs N G o p r h)
   comes_needs (tries {s = s} c) h = absurd (next_entry_not N G s.entries s h)
+  comes_needs (weighs c) h = cc
   comes_needs (reads k c) h = cc
   comes_needs (reads_nothing k c) h = cc
 

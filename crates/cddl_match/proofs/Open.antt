@@ -4,11 +4,11 @@ use Rattle.cbor_data.specs.Value.{Value}
 use Rattle.cddl_meaning.specs.Forms.{Content, Language}
 use Rattle.cddl_meaning.specs.Held.{Holds}
 use Rattle.cddl_meaning.specs.Judges.{Reply, Fails}
-use Rattle.cddl_meaning.specs.Moves.{Question, OfType, Pending, InRef, InHeld, Sorting, Move, Answered, Asks, Tries, Reads, Replies, LeadsTo, first_move, next_move, next_entry}
+use Rattle.cddl_meaning.specs.Moves.{Question, OfType, Pending, InRef, InHeld, Sorting, Move, Answered, Asks, Tries, Reads, Replies, LeadsTo, first_move, next_move, next_entry, Weighs}
 use Rattle.cddl_meaning.specs.Moves as M
 use Rattle.cddl_meaning.specs.Ranks.Reached as R
 use Rattle.cddl_meaning.specs.Ranks.Reached.{IsReached}
-use Rattle.cddl_match.specs.Open.{ComesUpTo, begins, goes_on, tries, reads, reads_nothing, AreOpenWith, nothing, further}
+use Rattle.cddl_match.specs.Open.{ComesUpTo, begins, goes_on, tries, reads, reads_nothing, AreOpenWith, nothing, further, weighs}
 
 module _ {N G : Type 0} (l : Language N G) where
   -- what a move comes to by itself is reached
@@ -16,6 +16,7 @@ module _ {N G : Type 0} (l : Language N G) where
   ends_reached M.at_once os h = h
   ends_reached (M.after {o = o} (M.replies d) e) os h = ends_reached e os (R.answered (ends_reached d (o ∷ os) (R.asked h)))
   ends_reached (M.tries e) os h = ends_reached e os (R.tried h)
+  ends_reached M.weighs os h = R.weighed h
   ends_reached (M.reads k e) os h = ends_reached e os (R.read k h)
   ends_reached (M.reads_nothing k) os h = R.read_nothing k h
 
@@ -23,6 +24,7 @@ module _ {N G : Type 0} (l : Language N G) where
   comes_reached h begins = R.asked h
   comes_reached h (goes_on c (M.replies d)) = R.answered (ends_reached d _ (R.asked (comes_reached h c)))
   comes_reached h (tries c) = R.tried (comes_reached h c)
+  comes_reached h (weighs c) = R.weighed (comes_reached h c)
   comes_reached h (reads k c) = R.read k (comes_reached h c)
   comes_reached h (reads_nothing k c) = R.read_nothing k (comes_reached h c)
 
@@ -39,6 +41,7 @@ module _ {N G : Type 0} (l : Language N G) where
   comes_replies begins d = (_, M.replies d)
   comes_replies (goes_on c e) d = comes_replies c (M.after e d)
   comes_replies (tries c) d = comes_replies c (M.tries d)
+  comes_replies (weighs c) M.at_once = comes_replies c M.weighs
   comes_replies (reads k c) d = comes_replies c (M.reads k d)
   comes_replies (reads_nothing k c) M.at_once = comes_replies c (M.reads_nothing k)
 
@@ -53,6 +56,10 @@ module _ {N G : Type 0} (l : Language N G) where
   -- a pair is tried
   pub open_tried : {first : Question N G} {qs : List (Question N G)} {os : List (Pending N G)} {s : Sorting N} → AreOpenWith l first qs os (Tries s) → AreOpenWith l first qs os (next_entry s.entries s)
   open_tried (further h c) = further h (tries c)
+
+  -- bits are weighed
+  pub open_weighed : {first : Question N G} {qs : List (Question N G)} {os : List (Pending N G)} {n : ℕ} {r : Reply} → AreOpenWith l first qs os (Weighs n r) → AreOpenWith l first qs os (Answered r)
+  open_weighed (further h c) = further h (weighs c)
 
   -- a byte string is read
   pub open_read : {first : Question N G} {qs : List (Question N G)} {os : List (Pending N G)} {c : Content} {b : List ℕ} {n : N} {p next : ℕ} {y : Value} → Holds c b y → AreOpenWith l first qs os (Reads c b n p next) → AreOpenWith l first qs os (Asks (OfType n 0 y) (InHeld p next))

@@ -1,27 +1,29 @@
 -- What each turn keeps.
 use Rattle.std.proofs.Common.{◌≡◌, ℕ, zero, suc, ◌+◌, ◌*◌, ◌-◌, ◌<◌, ◌≤◌, List, [], ◌∷◌, ◌++◌, inl, inr, length, map, reverse, slice_index_or, slice_set, take, refl, sym, ap, subst, ◌∙◌, arith}
 use Rattle.std.specs.Prelude.{true, false}
-use Rattle.std.proofs.lemmas.List.{length-append, map-append, reverse-append}
+use Rattle.std.proofs.lemmas.List.{length-append, length-reverse, map-append, reverse-append}
 use Rattle.cbor_data.specs.Value.{Value}
 use Rattle.cddl_meaning.specs.Forms.{Content, Language}
 use Rattle.cddl_meaning.specs.Held.{Holds}
 use Rattle.cddl_meaning.specs.Judges.{Reply, Fails}
-use Rattle.cddl_meaning.specs.Moves.{Question, OfType, Pending, InRef, InHeld, Sorting, Move, Answered, Asks, Tries, Reads, Replies, LeadsTo, first_move, next_move, next_entry}
+use Rattle.cddl_meaning.specs.Moves.{Question, OfType, Pending, InRef, InHeld, Sorting, Move, Answered, Asks, Tries, Reads, Replies, LeadsTo, first_move, next_move, next_entry, Weighs}
 use Rattle.cddl_meaning.specs.Moves as M
 use Rattle.cddl_match.specs.Ahead.{Opens}
 use Rattle.cddl_match.specs.Machine.{Finds, FindsAt, IsAt, IsRun, IsStep, IsTurn, WaitsAt, asked_in, asks_in, below, last_of, next_in, noted, pending_in}
 use Rattle.cddl_match.specs.Open.{AreOpenWith, nothing, further}
 use Rattle.cddl_match.specs.Unwinding.{IsOnTheWay, Unwinds}
-use Rattle.match_moves.specs.Views.{move_view, pending_view}
+use Rattle.match_moves.specs.Views.{move_view, pending_view, reply_view}
 use Rattle.cddl_match.specs.Within.{Outcome, Replied, Stopped, Says}
 use Rattle.match_moves.specs.declared.questions.Move as C
+use Rattle.match_moves.specs.declared.questions.Move.TheVariants as D
+use Rattle.match_moves.specs.declared.questions.Reply as R
 use Rattle.cddl_match.specs.declared.calls.Stop.TheVariants as S
 use Rattle.cddl_match.specs.declared.stack.Run.{Run}
 use Rattle.cddl_match.specs.declared.stack.Waiting.{Waiting}
 use Rattle.table_nodes.specs.declared.nodes.GroupId.{GroupId}
 use Rattle.table_nodes.specs.declared.nodes.TypeId.{TypeId}
-use Rattle.cddl_match.proofs.Held.{reads_none, reads_on}
-use Rattle.cddl_match.proofs.Open.{open_asked, open_answered, open_tried, open_read, open_unread}
+use Rattle.cddl_match.proofs.Held.{reads_none, reads_on, weighs_on}
+use Rattle.cddl_match.proofs.Open.{open_asked, open_answered, open_tried, open_read, open_unread, open_weighed}
 use Rattle.lists.proofs.Lemmas.{none_left}
 use Rattle.cddl_match.proofs.Turns as T
 use Rattle.cddl_match.proofs.Ways as W
@@ -78,6 +80,13 @@ module _ {N G : Type 0} (l : Language N G) where
   pub at_unread : {first : Question N G} {taken : ℕ} {qs : List (Question N G)} {os : List (Pending N G)} {c : Content} {b : List ℕ} {n : N} {p next : ℕ} → ((y : Value) → Holds c b y → ⊥) → IsAt l first taken qs os (Reads c b n p next) → IsAt l first taken qs os (Answered (Fails p))
   at_unread {c = c} {b = b} {n = n} {p = p} {next = next} k h = record { way = T.in_steps (omega arith) (T.gone_on l (reads_none l c b n p next k) h.way); opened = open_unread l k h.opened }
 
+  at_weighed : {first : Question N G} {taken n : ℕ} {qs : List (Question N G)} {os : List (Pending N G)} {r : Reply} → IsAt l first taken qs os (Weighs n r) → IsAt l first (taken + n) qs os (Answered r)
+  at_weighed {n = n} {r = r} h = record { way = T.gone_on l (weighs_on l n r) h.way; opened = open_weighed l h.opened }
+
+  -- none was set
+  pub at_unweighed : {first : Question N G} {taken : ℕ} {qs : List (Question N G)} {os : List (Pending N G)} {r : Reply} (n : ℕ) → n ≡ 0 → IsAt l first taken qs os (Weighs n r) → IsAt l first taken qs os (Answered r)
+  at_unweighed n e h = at_steps (omega (arith, e)) (at_weighed h)
+
   root_only : {first q : Question N G} {o : Pending N G} {m : Move N G} → AreOpenWith l first (q ∷ []) (o ∷ []) m → o ≡ InRef
   root_only (further nothing c) = refl
 
@@ -86,6 +95,9 @@ module _ {N G : Type 0} (l : Language N G) where
 
   pub tried_some : {first : Question N G} {qs : List (Question N G)} {os : List (Pending N G)} {s : Sorting N} → AreOpenWith l first qs os (Tries s) → 0 < length qs
   tried_some (further h c) = omega arith
+
+  weighed_some : {first : Question N G} {qs : List (Question N G)} {os : List (Pending N G)} {n : ℕ} {r : Reply} → AreOpenWith l first qs os (Weighs n r) → 0 < length qs
+  weighed_some (further h c) = omega arith
 
   -- what waits for the first question's reply has that reply
   root_end : {s r : Reply} {u : ℕ} → Unwinds l (InRef ∷ []) (Answered r) s u → LeadsTo {N = N} {G = G} l (Answered r) s u
@@ -118,6 +130,9 @@ module _ {N G : Type 0} (l : Language N G) where
 
   pub at_pair_over : {first : Question N G} {taken : ℕ} {qs : List (Question N G)} {os : List (Pending N G)} {s : Sorting N} → IsAt l first taken qs os (Tries s) → (r : Reply) (w : ℕ) → Replies l first r w → taken < w
   at_pair_over h r w d = omega (arith, at_most (at_tried h) r w d)
+
+  pub at_bits_over : {first : Question N G} {taken n : ℕ} {qs : List (Question N G)} {os : List (Pending N G)} {s : Reply} → IsAt l first taken qs os (Weighs n s) → (r : Reply) (w : ℕ) → Replies l first r w → taken + n ≤ w
+  at_bits_over h r w d = at_most (at_weighed h) r w d
 
 -- one that was put behind all others
 pub pushed_there : {A : Type 0} (xs : List A) (k : ℕ) (x v : A) (ys : List A) → k ≡ length xs → ys ≡ xs ++ x ∷ [] → v ≡ slice_index_or ys k v → v ≡ x
@@ -238,6 +253,20 @@ module _ (l : Language TypeId GroupId) (first : Question TypeId GroupId) (steps 
     turn = inl (taken, inl (rw (items, left) (same_asked ws v u asked)));
     some = rw left (some_left ws u);
   }
+
+  -- bits are weighed: the first of them now, and the others in the turns to come
+  pub weigh_step : (n : ℕ) (r : R.Reply) → 0 < n → after.owed ≡ n - 1 → after.taken ≡ before.taken + 1 → before.taken < steps → WaitsAt l first before.taken before.waiting.items (Weighs n (reply_view r)) → after.waiting.items ≡ before.waiting.items → after.next ≡ D.Answered r → IsStep l first steps before after
+  weigh_step n r some owed taken less h items next =
+      let open_some : 0 < length (asked_in before.waiting.items) = omega (arith, weighed_some l h.opened, length-reverse (asked_in before.waiting.items)) in
+      record {
+        run = record {
+          at = rw (items, next) (at_steps l {m = before.taken + n} (omega (arith, some, owed, taken)) (at_weighed l h));
+          owes = λ more. rw items open_some;
+        };
+        within = omega (arith, taken, less);
+        turn = inl (taken, inl (ap asked_in items));
+        some = rw items open_some;
+      }
 
   -- the last question has its reply
   pub reply_step : (ws : List Waiting) (v u w : Waiting) {r : Reply} → before.owed ≡ 0 → after.owed ≡ before.owed → after.taken ≡ before.taken → before.taken ≤ steps → WaitsAt l first before.taken before.waiting.items (Answered r) → before.waiting.items ≡ (ws ++ v ∷ []) ++ w ∷ [] → after.waiting.items ≡ ws ++ u ∷ [] → noted u.asked ≡ noted v.asked → move_view after.next (pending_view u.pending) ≡ next_move (pending_view v.pending) r → IsStep l first steps before after

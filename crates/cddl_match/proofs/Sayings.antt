@@ -3,18 +3,18 @@ use Rattle.std.proofs.Common.{◌≡◌, ℕ, ◌+◌, ◌-◌, ◌≤◌, ◌<�
 use Rattle.std.proofs.lemmas.Bool.Decides.{nat_tests}
 use Rattle.cbor_data.specs.Value.{Value, uint}
 use Rattle.cddl_meaning.specs.Forms as F
-use Rattle.cddl_meaning.specs.Forms.{Language, Test, passes, Node, Such, Content, Group}
+use Rattle.cddl_meaning.specs.Forms.{Language, Test, bits_among, bits_asked, passes, Node, Content, Group}
 use Rattle.cddl_meaning.specs.Held.{Holds}
 use Rattle.cddl_meaning.specs.Judges.{Reply, Takes, Fails, Yes, No, BelongsTo, is_over}
 use Rattle.cddl_meaning.specs.Moves as M
 use Rattle.cddl_meaning.specs.Moves.{Question, OfType, OfGroup, OfAlternative, Move, Answered, Asks, at_once, next_move, type_move, group_move}
 use Rattle.cddl_match.specs.Ahead.{ComesTo, Opens, IsTypeOf, IsGroupOf}
-use Rattle.cddl_match.specs.Within.{Outcome, Replied, Stopped, Says, Ends, said_view, array_outcome, entry_outcome, simple_outcome, such_outcome, held_outcome}
+use Rattle.cddl_match.specs.Within.{Outcome, Replied, Stopped, Says, Ends, said_view, array_outcome, entry_outcome, simple_outcome, held_outcome}
 use Rattle.cddl_match.specs.declared.calls.Said.{Said}
 use Rattle.cddl_match.specs.declared.calls.Said.TheVariants as S
 use Rattle.cddl_match.specs.declared.calls.Stop.{Stop}
 use Rattle.cddl_match.specs.declared.calls.Stop.TheVariants.{Spent, NoMemory}
-use Rattle.cddl_match.proofs.Held.{reads_on, reads_none}
+use Rattle.cddl_match.proofs.Held.{reads_on, reads_none, weighs_on}
 use Rattle.cddl_match.proofs.Outcomes.{says_on, ends_on, answered, few, asks, asks_stopped}
 use Rattle.cddl_match.proofs.Shapes.{IsTypeReply, says_yes, type_shape}
 use Rattle.cddl_match.proofs.Ways.{and_on, and_opens, opens, answers}
@@ -88,10 +88,17 @@ module _ {N G : Type 0} (l : Language N G) where
   simple_ends m p n steps left (Replied (Fails far)) h = asks l steps left left (M.InSimple p) (Replied (Fails p)) h (answered l left (Fails p))
   simple_ends m p n steps left (Stopped s) h = asks_stopped l (OfType m p (uint n)) steps left (M.InSimple p) s h
 
-  pub such_ends : (m : N) (t : Test) (p : ℕ) (x : Value) (steps left : ℕ) (o : Outcome) → Says l (OfType m p x) steps left o → Ends l (type_move (Such m t) p x) steps left (such_outcome p (passes t x) o)
-  such_ends m t p x steps left (Replied (Takes xs next far)) h = asks l steps left left (M.InSuch t p x) (Replied (M.such_reply p next (passes t x))) h (answered l left (M.such_reply p next (passes t x)))
-  such_ends m t p x steps left (Replied (Fails far)) h = asks l steps left left (M.InSuch t p x) (Replied (Fails far)) h (answered l left (Fails far))
-  such_ends m t p x steps left (Stopped s) h = asks_stopped l (OfType m p x) steps left (M.InSuch t p x) s h
+  -- A test behind a type: the bits that it asks about are weighed, or those are too many.
+  pub tested_ends : (t : Test) (p next : ℕ) (x : Value) (steps left : ℕ) → bits_asked t x + left ≡ steps → Ends l (M.tested_move t p next x) steps left (Replied (M.such_reply p next (passes t x)))
+  tested_ends (bits_among rs) p next x steps left e = ends_on l steps left left (Replied (M.such_reply p next (passes (bits_among rs) x))) (weighs_on l (bits_asked (bits_among rs) x) (M.such_reply p next (passes (bits_among rs) x))) e (answered l left (M.such_reply p next (passes (bits_among rs) x)))
+  tested_ends t p next x steps left e = subst (λ n. Ends l (Answered (M.such_reply p next (passes t x))) n left (Replied (M.such_reply p next (passes t x)))) (omega (arith, e)) (answered l left (M.such_reply p next (passes t x)))
+
+  pub too_many_bits : (t : Test) (p next : ℕ) (x : Value) (steps left : ℕ) → steps < bits_asked t x → Ends l (M.tested_move t p next x) steps left (Stopped Spent)
+  too_many_bits (bits_among rs) p next x steps left h = λ r w d. by h d
+    where
+      by : {n w : ℕ} {s r : Reply} → steps < n → M.LeadsTo {N = N} {G = G} l (M.Weighs n s) r w → steps < w
+      by i M.weighs = i
+  too_many_bits t p next x steps left h = absurd (omega (arith, h))
 
   -- a tag of the number that is meant
   pub meant_ends : (k n : ℕ) (m : N) (p : ℕ) (y : Value) (steps left : ℕ) (o : Outcome) → k ≡ n → Ends l (M.content_move m p y true) steps left o → Ends l (M.tag_move (F.exactly k) m p (Some (n, y))) steps left o

@@ -2,9 +2,9 @@
 -- than the place after the item.
 use Rattle.std.proofs.Common.{ℕ, zero, suc, ◌-◌, ◌≤◌, ◌<◌, ◌^◌, length, List, [], ◌∷◌, Option, Some, None, Bool, true, false, nat_eq, max, arith}
 use Rattle.cbor_data.specs.Value.{Value, Pairs, no_pairs, pair, place_count}
-use Rattle.cddl_meaning.specs.Forms.{members_in, pairs_in, bytes_in, tag_in, simple_in, passes, TagNumber, any_number, exactly, such_as, Content, MapEntry, Node, Plain, Ref, Choice, ArrayOf, TagOf, SimpleBy, MapOf, Both, Such, Holding, Most, Group, Entry, GroupRef, Sequence, Alternatives, Repeat, Language}
+use Rattle.cddl_meaning.specs.Forms.{members_in, pairs_in, bytes_in, tag_in, simple_in, passes, TagNumber, any_number, exactly, such_as, Content, MapEntry, Node, Plain, Ref, Choice, ArrayOf, TagOf, SimpleBy, MapOf, Both, Such, Holding, Most, Group, Entry, GroupRef, Sequence, Alternatives, Repeat, Language, Test, bits_among}
 use Rattle.cddl_meaning.specs.Judges.{Answer, Yes, No, Reply, Takes, Fails, is_over, one_less, Fate, BelongsTo, Stray, by_counts, shown_by}
-use Rattle.cddl_meaning.specs.Moves.{Question, OfType, OfGroup, Tally, tallied, fresh, first_of, enough_of, tally_says, answer_reply, either_reply, Sorting, Answered, Replies, replies, LeadsTo, at_once, after, tries, reads, reads_nothing, read_move, plus, test_reply, such_reply, next_way, map_move, next_pair, sorted, next_entry, after_value, next_member, next_part, next_alternative, next_round, repetition, after_round, end_of_rounds, array_move, content_move, tag_move, simple_move, type_move, entry_move, group_move}
+use Rattle.cddl_meaning.specs.Moves.{Question, OfType, OfGroup, Tally, tallied, fresh, first_of, enough_of, tally_says, answer_reply, either_reply, Sorting, Answered, Replies, replies, LeadsTo, at_once, after, tries, reads, reads_nothing, read_move, plus, test_reply, such_reply, next_way, map_move, next_pair, sorted, next_entry, after_value, next_member, next_part, next_alternative, next_round, repetition, after_round, end_of_rounds, array_move, content_move, tag_move, simple_move, type_move, entry_move, group_move, weighs, Weighs, tested_move}
 
 -- the greatest place that failed
 abbrev pub far_of : Reply → ℕ
@@ -132,6 +132,14 @@ module _ {N G : Type 0} (l : Language N G) where
   such_shape true p next at_once = says_yes
   such_shape false p next at_once = says_no (omega arith)
 
+  weighed_shape : (b : Bool) (p next : ℕ) → {n w : ℕ} {r : Reply} → LeadsTo {N = N} {G = G} l (Weighs n (such_reply p next b)) r w → IsTypeReply p r
+  weighed_shape true p next weighs = says_yes
+  weighed_shape false p next weighs = says_no (omega arith)
+
+  tested_shape : (t : Test) (p next : ℕ) (x : Value) → {w : ℕ} {r : Reply} → LeadsTo {N = N} {G = G} l (tested_move t p next x) r w → IsTypeReply p r
+  tested_shape (bits_among rs) p next x d = weighed_shape (passes (bits_among rs) x) p next d
+  tested_shape t p next x d = such_shape (passes t x) p next d
+
   choice_shape : (ms : List N) (p : ℕ) (x : Value) (far : ℕ) → {w : ℕ} {r : Reply} → p ≤ far → LeadsTo l (next_member ms p x far) r w → IsTypeReply p r
   choice_shape [] p x far e at_once = says_no e
   choice_shape (m ∷ ms) p x far e (after {s = Takes left next later} d f) = kept_reply f says_yes
@@ -212,7 +220,7 @@ module _ {N G : Type 0} (l : Language N G) where
   node_shape n show (MapOf ess) p x h b d = map_shape n show ess p (pairs_in x) h b d
   node_shape n show (Both m o) p x h b (after {s = Takes left next far} d (after {s = s} {v = v} e f)) = kept_reply f (show o p v x s h (omega (arith, b)) e)
   node_shape n show (Both m o) p x h b (after {s = Fails far} {v = v} d f) = kept_reply f (show m p v x (Fails far) h (omega (arith, b)) d)
-  node_shape n show (Such m t) p x h b (after {s = Takes left next far} d f) = such_shape (passes t x) p next f
+  node_shape n show (Such m t) p x h b (after {s = Takes left next far} d f) = tested_shape t p next x f
   node_shape n show (Such m t) p x h b (after {s = Fails far} {v = v} d f) = kept_reply f (show m p v x (Fails far) h (omega (arith, b)) d)
   node_shape n show (Holding m c o) p x h b (after {s = Takes left next far} d f) = read_shape c o p next (bytes_in x) f
   node_shape n show (Holding m c o) p x h b (after {s = Fails far} {v = v} d f) = kept_reply f (show m p v x (Fails far) h (omega (arith, b)) d)

@@ -29,7 +29,7 @@ abbrev pub done_view : Result Reply Stop → Outcome
 done_view (Ok r) = Replied (reply_view r)
 done_view (Err s) = Stopped s
 
--- what follows from what was asked: for an array, an entry, a simple value, a type with a test behind it, and a byte string
+-- what follows from what was asked: for an array, an entry, a simple value, and a byte string
 abbrev pub array_outcome : Outcome → Outcome
 array_outcome (Replied r) = Replied (M.array_reply r)
 array_outcome (Stopped s) = Stopped s
@@ -43,11 +43,6 @@ abbrev pub simple_outcome : ℕ → Outcome → Outcome
 simple_outcome p (Replied (J.Takes left next far)) = Replied (J.Takes [] (M.plus p 1) 0)
 simple_outcome p (Replied (J.Fails far)) = Replied (J.Fails p)
 simple_outcome p (Stopped s) = Stopped s
-
-abbrev pub such_outcome : ℕ → Bool → Outcome → Outcome
-such_outcome p b (Replied (J.Takes left next far)) = Replied (M.such_reply p next b)
-such_outcome p b (Replied (J.Fails far)) = Replied (J.Fails far)
-such_outcome p b (Stopped s) = Stopped s
 
 abbrev pub held_outcome : (place next : ℕ) → Outcome → Outcome
 held_outcome p next (Replied (J.Takes left after far)) = Replied (J.Takes [] next 0)

@@ -7,7 +7,7 @@ ghost use Rattle.cddl_meaning.specs.Forms.{Language, bytes_in, members_in, pairs
 ghost use Rattle.cddl_meaning.specs.Judges as J;
 ghost use Rattle.cddl_meaning.specs.Moves as M;
 ghost use Rattle.match_moves.specs.Views.{values};
-ghost use Rattle.cddl_match.specs.Within.{Replied, Says, array_outcome, done_view, entry_outcome, held_outcome, said_view, simple_outcome, such_outcome};
+ghost use Rattle.cddl_match.specs.Within.{Ends, Replied, Says, array_outcome, done_view, entry_outcome, held_outcome, said_view, simple_outcome};
 ghost use Rattle.table_nodes.specs.Nodes.{test_view};
 ghost use Rattle.table_nodes.specs.declared.nodes.GroupId.{GroupId};
 ghost use Rattle.table_nodes.specs.declared.nodes.TypeId.{TypeId};
@@ -15,7 +15,7 @@ ghost use Rattle.table_nodes.specs.declared.nodes.TypeId.{TypeId};
 use crate::calls::{Said, Stop};
 use crate::means::Means;
 use cbor_item::Item;
-use match_moves::{Reply, passes, place_after, plus};
+use match_moves::{Reply, Subject, left_after_bits, passes, place_after, plus};
 use table_nodes::Test;
 
 // What a test says.
@@ -87,14 +87,33 @@ pub(crate) fn simple_said(place: usize, said: Said) -> Said
     }
 }
 
-// What a type with a test behind it says, which the item passes or not.
-pub(crate) fn such_said(place: usize, said: Said, passes: bool) -> Said
-    ensures { said_view result ≡ such_outcome place passes (said_view said) }
+// What is said where a type has said yes, and an item has passed the test behind it or not.
+fn such_said(place: usize, next: usize, passes: bool) -> Said
+    ensures { said_view result ≡ Replied (M.such_reply place next passes) }
 {
-    match said {
-        Said::Yes { .. } if !passes => Said::No { far: place },
-        said => said,
+    if passes {
+        Said::Yes { next }
+    } else {
+        Said::No { far: place }
     }
+}
+
+// What is said where a type has said yes, by the test behind it. The bits that it asks about are steps, which are taken
+// before they are tested.
+pub(crate) fn test_behind(
+    means: &mut Means<'_>,
+    test: &Test,
+    place: usize,
+    next: usize,
+    item: &Item,
+) -> Said
+    ensures { (l : Language TypeId GroupId) → Ends l (M.tested_move (test_view test.now) place next (view item.now)) means.old.left means.new.left (said_view result) }
+{
+    let Some(left) = left_after_bits(test, Subject::Item(item), means.left) else {
+        return Said::Spent;
+    };
+    means.left = left;
+    such_said(place, next, passes(test, item))
 }
 
 // What a byte string, which ends before `next`, says by what is said of what it holds.

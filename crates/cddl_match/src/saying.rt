@@ -11,7 +11,7 @@ ghost use Rattle.match_moves.specs.Views.{parts_move, rounds_move, values};
 ghost use Rattle.cddl_match.specs.Tellings.{IsTallied, Sorts, Tallies};
 ghost use Rattle.cddl_match.specs.Within.{Ends, Says, done_view, said_view};
 ghost use Rattle.table_nodes.specs.Language.{language_of};
-ghost use Rattle.table_nodes.specs.Nodes.{alternatives_view, content_view, entries_view, group_view, tag_number_view, type_view};
+ghost use Rattle.table_nodes.specs.Nodes.{alternatives_view, content_view, entries_view, group_view, tag_number_view, test_view, type_view};
 ghost use Rattle.table_nodes.specs.declared.nodes.TypeId.{TypeId};
 
 use crate::behind::{group_behind, type_behind};
@@ -21,17 +21,17 @@ use crate::looking::rounds_told;
 use crate::means::Means;
 use crate::reading::held_in;
 use crate::replies::{
-    array_said, either_said, entry_done, held_said, simple_said, such_said, test_says, tested,
+    array_said, either_said, entry_done, held_said, simple_said, test_behind, test_says, tested,
 };
 use crate::shelf::{Cells, Shelf};
 use crate::tallied::{Tallied, nothing_tallied, told_with};
 use cbor_item::Item;
 use match_moves::{
     Fate, Parts, Question, Reply, Round, Rounds, after_round, begin_tally, bytes_of,
-    first_are_enough, is_over, items_of, pairs_of, passes, place_after, plus, simple_of,
+    first_are_enough, is_over, items_of, pairs_of, place_after, plus, simple_of,
     tally_pair,
 };
-use table_nodes::{Content, Group, GroupId, MapEntry, Node, Table, TagNumber, TypeId};
+use table_nodes::{Content, Group, GroupId, MapEntry, Node, Table, TagNumber, Test, TypeId};
 
 // What a type says of an item. Tests are asked where this is called, since most types that are asked in a loop are tests, or
 // names of them. Calls are as deep as this, and what is deeper is asked by turns.
@@ -117,10 +117,7 @@ fn form_says<'i>(
             Said::Yes { .. } => type_says(table, means, *right, place, item, depth),
             said => said,
         },
-        Node::Such(of, test) => {
-            let said = type_says(table, means, *of, place, item, depth);
-            such_said(place, said, passes(test, item))
-        }
+        Node::Such(of, test) => such_says(table, means, *of, test, place, item, depth),
         Node::Holding(of, content, node) => {
             holding_says(table, means, *of, *content, *node, place, item, depth)
         }
@@ -224,6 +221,26 @@ fn tag_says<'i>(
                 said => said,
             }
         }
+    }
+}
+
+// A type is asked before the test behind it.
+#[inline]
+#[cycle(saying)]
+fn such_says<'i>(
+    table: &Table,
+    means: &mut Means<'i>,
+    of: TypeId,
+    test: &Test,
+    place: usize,
+    item: &'i Item,
+    depth: u8,
+) -> Said
+    ensures { Ends (language_of table.now) (M.type_move (F.Such of (test_view test.now)) place (view item.now)) means.old.left means.new.left (said_view result) }
+{
+    match type_says(table, means, of, place, item, depth) {
+        Said::Yes { next } => test_behind(means, test, place, next, item),
+        said => said,
     }
 }
 

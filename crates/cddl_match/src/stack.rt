@@ -6,7 +6,7 @@ ghost use Rattle.cddl_meaning.specs.Forms.{Language};
 ghost use Rattle.cddl_meaning.specs.Held.{Holds};
 ghost use Rattle.cddl_meaning.specs.Moves as M;
 ghost use Rattle.cddl_match.specs.Machine.{Finds, FindsAt, Goes, GoesFrom, IsKept, NeedsMore, asked_in, asks_in, found_in, is_alternative, next_in};
-ghost use Rattle.match_moves.specs.Views.{move_view, pending_view, question_view, reading_move, reply_view, sorting_view, subject_view};
+ghost use Rattle.match_moves.specs.Views.{move_view, pending_view, question_view, reading_move, reply_view, sorting_view, subject_view, weighing_move};
 ghost use Rattle.match_moves.specs.declared.questions.Reply as R;
 ghost use Rattle.match_moves.specs.declared.questions.Sorting as C;
 ghost use Rattle.table_nodes.specs.Language.{language_of};
@@ -18,8 +18,8 @@ use crate::reading::{held_in, string_in};
 use crate::shelf::Shelf;
 use history::History;
 use match_moves::{
-    Move, Pending, PendingType, Question, Reading, Reply, Subject, alternative_move,
-    first_of_group, first_of_type, next_entry, next_move,
+    Move, Pending, PendingType, Question, Reading, Reply, Subject, Weighing, alternative_move,
+    first_of_group, first_of_type, left_after_bits, next_entry, next_move, weighed_reply,
 };
 use std::alloc::{AllocError, Global};
 use std::mem;
@@ -272,6 +272,34 @@ fn read<'t, 'i>(
     ask(shelf.alloc, table, run, question, steps)
 }
 
+// Bits that are set are steps: one is taken, and the others are owed. Then the test has its reply. Where they are more than
+// the steps that are left, they are not tested.
+#[inline(never)]
+fn weigh<'t, 'i>(run: &mut Run<'t, 'i>, weighing: Weighing<'t, 'i>, steps: u64) -> Turned
+    requires owed { run.old.owed ≡ 0 }
+    ensures goes { result ≡ Turned.GoesOn → (l : Language TypeId GroupId) → GoesFrom l steps run.old (weighing_move weighing.entry) run.new }
+    ensures finds { (l : Language TypeId GroupId) → FindsAt l steps run.old (weighing_move weighing.entry) (found_in result run.new.next) }
+    ensures told { result ≡ Turned.Replied → (r : R.Reply) × (run.new.next ≡ Move.Answered r) }
+    ensures kind { result ≡ Turned.NoMemory → ⊥ }
+    ensures kept { (result ≡ Turned.GoesOn → ⊥) → (asked_in run.new.waiting.items ≡ asked_in run.old.waiting.items) ⊎ (asked_in run.new.waiting.items ≡ []) }
+    ensures taken { (result ≡ Turned.GoesOn → ⊥) → run.new.taken ≡ run.old.taken }
+    ensures capacity { vec_capacity run.new.waiting ≡ vec_capacity run.old.waiting }
+{
+    let free = steps.saturating_sub(run.taken);
+    let Some(left) = left_after_bits(weighing.test, weighing.subject, free) else {
+        return Turned::Spent;
+    };
+    let reply = weighed_reply(weighing);
+    let bits = free - left;
+    if bits == 0 {
+        return reply_to_last(run, reply);
+    }
+    run.next = Move::Answered(reply);
+    run.taken += 1;
+    run.owed = bits - 1;
+    Turned::GoesOn
+}
+
 // One turn: a step, with one question more or none; or the last question has its reply, and is taken off. Or the run ends.
 // There may be no memory for one question more, for the tally of a map's pairs, or for what a byte string holds.
 pub(crate) fn step<'t, 'i>(
@@ -306,6 +334,10 @@ pub(crate) fn step<'t, 'i>(
         Move::Reads(reading) => {
             let reading = *reading;
             return read(table, shelf, run, reading, steps);
+        }
+        Move::Weighs(weighing) => {
+            let weighing = *weighing;
+            return weigh(run, weighing, steps);
         }
     }
 }

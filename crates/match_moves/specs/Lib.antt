@@ -1,2 +1,3 @@
 pub mod Views
+pub mod Bits
 pub mod Tallies

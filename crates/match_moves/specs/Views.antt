@@ -3,6 +3,7 @@ use Rattle.std.specs.Prelude.{ℕ, List, map, take, nat_le, if◌then◌else◌}
 use Rattle.cbor_data.specs.Value.{Value, uint, bytes, place_count}
 use Rattle.item_nodes.specs.View.{pairs_view, view}
 use Rattle.item_nodes.specs.declared.item.Item.{Item}
+use Rattle.cddl_meaning.specs.Forms.{bits_asked, passes}
 use Rattle.cddl_meaning.specs.Judges as J
 use Rattle.cddl_meaning.specs.Moves as M
 use Rattle.table_nodes.specs.declared.nodes.TypeId.{TypeId}
@@ -32,8 +33,9 @@ use Rattle.match_moves.specs.declared.questions.Round.TheVariants.{Another, Over
 use Rattle.match_moves.specs.declared.questions.Rounds.{Rounds}
 use Rattle.match_moves.specs.declared.questions.Parts.{Parts}
 use Rattle.match_moves.specs.declared.questions.Reading.{Reading}
+use Rattle.match_moves.specs.declared.questions.Weighing.{Weighing}
 use Rattle.match_moves.specs.declared.questions.Move.{Move}
-use Rattle.match_moves.specs.declared.questions.Move.TheVariants.{Answered, Asks, Tries, Reads}
+use Rattle.match_moves.specs.declared.questions.Move.TheVariants.{Answered, Asks, Tries, Reads, Weighs}
 
 -- items, as contracts see them
 abbrev pub values : List Item → List Value
@@ -122,9 +124,13 @@ parts_move p = M.next_part p.parts.now p.base p.place (values p.items.now) p.far
 abbrev pub reading_move : Reading → M.Move TypeId GroupId
 reading_move r = M.Reads (content_view r.content) r.bytes.now r.node r.place r.next
 
+abbrev pub weighing_move : Weighing → M.Move TypeId GroupId
+weighing_move w = M.Weighs (bits_asked (test_view w.test.now) (subject_view w.subject)) (M.such_reply w.place w.next (passes (test_view w.test.now) (subject_view w.subject)))
+
 -- a move, with what waits for the reply to what it asks
 abbrev pub move_view : Move → M.Pending TypeId GroupId → M.Move TypeId GroupId
 move_view (Answered r) o = M.Answered (reply_view r)
 move_view (Asks q) o = M.Asks (question_view q) o
 move_view (Tries s) o = M.Tries (sorting_view s)
 move_view (Reads r) o = reading_move r
+move_view (Weighs w) o = weighing_move w

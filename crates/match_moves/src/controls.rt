@@ -1,15 +1,15 @@
 //! What controls ask next: `.and` and `.within`, tests behind a type, and what byte strings hold.
 
 ghost use Rattle.std.specs.Prelude.{◌≡◌};
-ghost use Rattle.cddl_meaning.specs.Forms.{Both, Such, Holding, bytes_in};
+ghost use Rattle.cddl_meaning.specs.Forms.{Both, Such, Holding, bits_asked, bytes_in, passes};
 ghost use Rattle.cddl_meaning.specs.Moves as M;
-ghost use Rattle.cddl_meaning.specs.Moves.{InHeld, InHolder, InLeft, InSuch, next_move, read_move, type_move};
-ghost use Rattle.match_moves.specs.Views.{move_view, pending_view, reply_view, subject_view};
+ghost use Rattle.cddl_meaning.specs.Moves.{InHeld, InHolder, InLeft, InSuch, next_move, read_move, such_reply, tested_move, type_move};
+ghost use Rattle.match_moves.specs.Views.{move_view, pending_view, reply_view, subject_view, weighing_move};
 ghost use Rattle.table_nodes.specs.declared.nodes.GroupId.{GroupId};
 ghost use Rattle.table_nodes.specs.declared.nodes.TypeId.{TypeId};
 ghost use Rattle.table_nodes.specs.Nodes.{content_view, test_view};
 
-use crate::questions::{Move, Pending, PendingType, Question, Reading, Reply, Subject};
+use crate::questions::{Move, Pending, PendingType, Question, Reading, Reply, Subject, Weighing};
 use crate::tested::passes_test;
 use item_nodes::Item;
 use table_nodes::{Content, Test, TypeId};
@@ -105,24 +105,63 @@ pub(crate) fn next_in_left<'t, 'i>(
     }
 }
 
-// A type has said yes, and the item has to pass the test; or it has said no.
-pub(crate) fn such_reply<'i>(
-    test: &Test,
-    place: usize,
-    subject: Subject<'_>,
-    reply: Reply<'_>,
-) -> Reply<'i>
-    ensures { M.Answered (reply_view result) ≡ next_move {N = TypeId} {G = GroupId} (InSuch (test_view test.now) place (subject_view subject.entry)) (reply_view reply.entry) }
+// The reply of a test behind a type that has said yes.
+#[inline(always)]
+fn such_reply<'i>(test: &Test, place: usize, next: usize, subject: Subject<'_>) -> Reply<'i>
+    ensures { reply_view result ≡ such_reply place next (passes (test_view test.now) (subject_view subject.entry)) }
 {
-    match reply {
-        Reply::Takes { next, .. } if passes_test(test, subject) => Reply::Takes {
+    if passes_test(test, subject) {
+        Reply::Takes {
             left: &[],
             next,
             far: 0,
-        },
-        Reply::Takes { .. } => Reply::Fails { far: place },
-        Reply::Fails { far } => Reply::Fails { far },
+        }
+    } else {
+        Reply::Fails { far: place }
     }
+}
+
+// A type has said yes, and the item has to pass the test. The bits of an item are weighed before that.
+#[inline(always)]
+fn tested_move<'t, 'i>(
+    test: &'t Test,
+    place: usize,
+    next: usize,
+    subject: Subject<'i>,
+) -> Move<'t, 'i>
+    ensures { (o : M.Pending TypeId GroupId) → move_view result o ≡ tested_move (test_view test.now) place next (subject_view subject.entry) }
+{
+    match test {
+        Test::Bits(_) => Move::Weighs(Weighing {
+            test,
+            subject,
+            place,
+            next,
+        }),
+        _ => Move::Answered(such_reply(test, place, next, subject)),
+    }
+}
+
+// A type has said yes, and its test is next; or it has said no.
+pub(crate) fn next_in_such<'t, 'i>(
+    test: &'t Test,
+    place: usize,
+    subject: Subject<'i>,
+    reply: Reply<'i>,
+) -> Move<'t, 'i>
+    ensures { (o : M.Pending TypeId GroupId) → move_view result o ≡ next_move (InSuch (test_view test.now) place (subject_view subject.entry)) (reply_view reply.entry) }
+{
+    match reply {
+        Reply::Takes { next, .. } => tested_move(test, place, next, subject),
+        Reply::Fails { far } => Move::Answered(Reply::Fails { far }),
+    }
+}
+
+/// The reply of a test whose bits were weighed.
+pub fn weighed_reply<'i>(weighing: Weighing<'_, '_>) -> Reply<'i>
+    ensures { weighing_move weighing.entry ≡ M.Weighs (bits_asked (test_view weighing.entry.test.now) (subject_view weighing.entry.subject)) (reply_view result) }
+{
+    such_reply(weighing.test, weighing.place, weighing.next, weighing.subject)
 }
 
 // A byte string is read. Another item holds nothing.

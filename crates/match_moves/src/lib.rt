@@ -2,6 +2,7 @@
 //! one small function for each form. Whoever asks keeps what waits.
 #![tactic(auto)]
 
+mod bits;
 mod contents;
 mod controls;
 mod counts;
@@ -11,7 +12,9 @@ mod questions;
 mod sorting;
 mod tested;
 
+pub use crate::bits::left_after_bits;
 pub use crate::contents::{bytes_of, items_of, pairs_of, simple_of};
+pub use crate::controls::weighed_reply;
 pub use crate::counts::Counts;
 pub use crate::moves::{
     after_round, entry_reply, first_of_group, first_of_type, is_over, next_move, said_reply,
@@ -19,7 +22,7 @@ pub use crate::moves::{
 pub use crate::places::{place_after, plus};
 pub use crate::questions::{
     Fate, Move, Parts, Pending, PendingGroup, PendingMap, PendingType, Question, Reading, Reply,
-    Round, Rounds, Sorting, Subject, Tally,
+    Round, Rounds, Sorting, Subject, Tally, Weighing,
 };
 pub use crate::sorting::{
     alternative_move, begin_tally, first_are_enough, next_entry, no_tally, shown_by_first,

@@ -40,7 +40,7 @@ ghost use Rattle.table_nodes.specs.Language.{language_of};
 ghost use Rattle.table_nodes.specs.Nodes.{group_view, most_view, tag_number_view, type_view};
 
 use crate::controls::{
-    both_move, held_reply, holding_move, next_in_holder, next_in_left, such_move, such_reply,
+    both_move, held_reply, holding_move, next_in_holder, next_in_left, next_in_such, such_move,
 };
 use crate::places::{place_after, plus};
 use crate::questions::{
@@ -697,7 +697,7 @@ fn next_of_type<'t, 'i>(
             test,
             place,
             subject,
-        } => return Move::Answered(such_reply(test, place, subject, reply)),
+        } => return next_in_such(test, place, subject, reply),
         PendingType::Holder {
             content,
             node,

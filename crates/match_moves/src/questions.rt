@@ -284,6 +284,17 @@ pub struct Reading<'i> {
     pub next: usize,
 }
 
+/// A test of bits, and the item whose bits are weighed.
+#[derive(Clone, Copy)]
+pub struct Weighing<'t, 'i> {
+    pub test: &'t Test,
+    pub subject: Subject<'i>,
+    /// The place of the item.
+    pub place: usize,
+    /// The place after it.
+    pub next: usize,
+}
+
 /// How many more rounds of a group a repetition takes, and of what.
 #[derive(Clone, Copy)]
 pub struct Rounds<'i> {
@@ -381,4 +392,6 @@ pub enum Move<'t, 'i> {
     Tries(Sorting<'t, 'i>),
     /// A type is asked of what a byte string holds.
     Reads(Reading<'i>),
+    /// The bits of an item that are set are steps, and are tested then.
+    Weighs(Weighing<'t, 'i>),
 }

@@ -9,6 +9,7 @@ ghost use Rattle.match_moves.specs.Views.{subject_view};
 ghost use Rattle.table_nodes.specs.Nodes.{test_view, whole_view};
 ghost use Rattle.table_nodes.specs.SizeSets.{set_view};
 
+use crate::bits::are_bits_among;
 use crate::questions::Subject;
 use cbor_data::Width;
 use item_nodes::Item;
@@ -110,8 +111,8 @@ fn has_size(sizes: &NumberSet, item: &Item) -> bool
 {
     match item {
         Item::Uint(number) => sizes.can_hold(*number),
-        Item::Bytes(bytes) => sizes.has(bytes.len() as u64),
-        Item::Text(text) => sizes.has(text.len() as u64),
+        Item::Bytes(bytes) => sizes.has(bytes.len() as u128),
+        Item::Text(text) => sizes.has(text.len() as u128),
         _ => false,
     }
 }
@@ -171,6 +172,7 @@ pub fn passes(test: &Test, item: &Item) -> bool
         Test::Greater(number) => is_above(*number, item),
         Test::AtLeast(number) => is_from(*number, item),
         Test::Sized(sizes) => has_size(sizes, item),
+        Test::Bits(members) => are_bits_among(members, Subject::Item(item)),
     }
 }
 
@@ -184,7 +186,8 @@ fn string_passes(test: &Test, bytes: &[u8]) -> bool
         Test::Major(major) => *major == 2,
         Test::Equals(literal) => is_string(literal, bytes),
         Test::Differs(literal) => !is_string(literal, bytes),
-        Test::Sized(sizes) => sizes.has(bytes.len() as u64),
+        Test::Sized(sizes) => sizes.has(bytes.len() as u128),
+        Test::Bits(members) => are_bits_among(members, Subject::Bytes(bytes)),
         Test::Simple(_)
         | Test::Float(_)
         | Test::Between { .. }

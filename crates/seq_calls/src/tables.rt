@@ -4,7 +4,7 @@ use call_lines::{count, number};
 use cbor_item::Item;
 use std::alloc::{AllocError, Global};
 use table_nodes::{
-    Content, Group, GroupId, MapEntry, Most, Node, Ranks, NumberRange, NumberSet, TagNumber, Test,
+    Content, Group, GroupId, MapEntry, Most, Node, NumberRange, NumberSet, Ranks, TagNumber, Test,
     TypeId, Whole,
 };
 
@@ -110,7 +110,8 @@ fn test_of(alloc: Global, form: &str, told: &str) -> Result<Test, AllocError> {
         "le" => Test::AtMost(whole(told)),
         "gt" => Test::Greater(whole(told)),
         "ge" => Test::AtLeast(whole(told)),
-        "size" => Test::Sized(sizes_of(alloc, told)?),
+        "size" => Test::Sized(ranges_of(alloc, told)?),
+        "bits" => Test::Bits(ranges_of(alloc, told)?),
         _ => Test::Anything,
     })
 }
@@ -125,7 +126,7 @@ fn between(told: &str, closed: bool) -> Test {
 }
 
 // Ranges, each as `first..last`, with commas between them.
-fn sizes_of(alloc: Global, told: &str) -> Result<NumberSet, AllocError> {
+fn ranges_of(alloc: Global, told: &str) -> Result<NumberSet, AllocError> {
     let mut ranges = Vec::new(alloc);
     for range in told.split(',') {
         let (least, last) = range.split_once("..").unwrap_or((range, range));

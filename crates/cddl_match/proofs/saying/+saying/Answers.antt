@@ -17,7 +17,7 @@ use Rattle.cddl_match.specs.declared.calls.Stop.TheVariants.{Spent}
 use Rattle.cddl_match.specs.Within.{Replied, Stopped, Says, done_view, said_view}
 use Rattle.item_nodes.proofs.Lemmas.{view-Uint}
 use Rattle.cddl_match.proofs.Outcomes.{answered, begins, ends_on, passes_on, says_on, took, asks}
-use Rattle.cddl_match.proofs.Sayings.{has_said, type_on, type_few, group_on, group_few, no_passes, yes_passes, array_ends, simple_ends, such_ends, meant_ends, held_ends, nothing_held, entry_ends, goes_on, ends_so, stops, round_stops}
+use Rattle.cddl_match.proofs.Sayings.{has_said, type_on, type_few, group_on, group_few, no_passes, yes_passes, array_ends, simple_ends, meant_ends, held_ends, nothing_held, entry_ends, goes_on, ends_so, stops, round_stops}
 use Rattle.cddl_match.proofs.Handing.{none_tried, other_key_next, other_value_next, its_value, kept, key_stops, value_stops}
 use Rattle.cddl_match.proofs.Tellings.{all_told, as_many_entries, no_pair_told, pair_sorted, pair_stops, pair_told, told_and}
 use Rattle.cddl_match.proofs.Ways.{and_on, a_round, itself, more_than, opens}
@@ -70,8 +70,11 @@ form_says-returns-in-Yes t c =
 pub form_says-returns-in_default-type_says : goal.form_says-returns-in_default-type_says
 form_says-returns-in_default-type_says t c = rw c.in-Both.is (no_passes (language_of c.args.table.now) (M.OfType c.in-Both.left c.args.place (view c.args.item.now)) c.args.means.now.left c.type_says-in-Both.new.means.left (M.InLeft c.in-Both.right c.args.place (view c.args.item.now)) c.type_says-in-Both.result (λ far. refl) c.in_default-type_says.not-Yes c.type_says-in-Both.ensures)
 
-pub form_says-returns-in-Such : goal.form_says-returns-in-Such
-form_says-returns-in-Such t c = rw (c.in-Such.is, c.such_said.ensures, c.passes.ensures) (such_ends (language_of c.args.table.now) c.in-Such.of (test_view c.in-Such.test) c.args.place (view c.args.item.now) c.args.means.now.left c.type_says-said.new.means.left _ c.type_says-said.ensures)
+pub such_says-returns-in-Yes : goal.such_says-returns-in-Yes
+such_says-returns-in-Yes t c = asks (language_of c.args.table.now) c.args.means.now.left c.type_says.new.means.left c.test_behind.new.means.left (M.InSuch (test_view c.args.test.now) c.args.place (view c.args.item.now)) (said_view c.test_behind.result) c.in-Yes.ensures (c.test_behind.ensures (language_of c.args.table.now))
+
+pub such_says-returns-in_default : goal.such_says-returns-in_default
+such_says-returns-in_default t c = no_passes (language_of c.args.table.now) (M.OfType c.args.of c.args.place (view c.args.item.now)) c.args.means.now.left c.type_says.new.means.left (M.InSuch (test_view c.args.test.now) c.args.place (view c.args.item.now)) c.type_says.result (λ far. refl) c.in_default.not-Yes c.type_says.ensures
 
 pub holding_says-returns-in-Yes : goal.holding_says-returns-in-Yes
 holding_says-returns-in-Yes t c = asks (language_of c.args.table.now) c.args.means.now.left c.type_says.new.means.left c.held_says.new.means.left (M.InHolder (content_view c.args.content) c.args.node c.args.place (view c.args.item.now)) (said_view c.held_says.result) c.in-Yes.ensures c.held_says.ensures
