@@ -18,6 +18,7 @@ use Rattle.cddl_language.specs.Reach.{at_choice, at_name, Reaches, points, group
 use Rattle.cddl_language.specs.Literals.{Values, literal_of}
 use Rattle.cddl_language.specs.Sizes as L
 use Rattle.cddl_language.specs.Sizes.{Behind, a_type, a_group, all_sizes, both_sizes, chosen_sizes, entries_sizes, entry_sizes, group_sizes, one_size, opens_choices, part_sizes, range_sizes, sizes_to, term_sizes}
+use Rattle.check_terms.specs.declared.row.Form.TheVariants as F
 use Rattle.check_terms.specs.declared.row.Row.{Row}
 use Rattle.check_terms.specs.Table.{Holds, HoldsText, Table, Tree, node, nothing, no_part, no_text, part, some_text}
 use Rattle.check_terms.specs.Trees.{IsEntries, IsEntry, IsGroup, IsRef, IsTerm, entries_tree, entry_tree, group_tree, ref_tree, term_tree}
@@ -451,44 +452,44 @@ module _ (which : Membership) (xs : List Definition) (root : Text) (worth : Valu
       at_term n (hash m) (part e f a b) k = nothing_there n (a_term (hash m)) (λ next. refl) (at_row n _ e)
 
       pub at_group : (n : ℕ) (g : Group) → IsGroup t n g → KnownPiece (of_group g) → P n (of_group g)
-      at_group n (sole es) (part e f a b) k = let s = standing n (group_tree (sole es)) (part e f a b) in by s.0 s.1 (s.2.group (sole es) (part e f a b)) (λ m i. at_entries m es i k)
+      at_group n (sole es) (part {i = i} {j = j} e f a b) k = let s = standing n (group_tree (sole es)) (part e f a b) in by s.0 s.1 (s.2.group (sole es) (part e f a b)) (λ m i. at_entries m es i k)
         where
           by : (r : GroupRow) → slice_get gs n ≡ Some r → IsGroupRow t (sole es) r → ((m : ℕ) → IsEntries t m es → P m (of_entries es)) → P n (of_group (sole es))
-          by r q (of_sole {n = m} i) d = h.inner n m (of_group (sole es)) (of_entries es) (λ next. refl) (at_row n _ e ∙ ap (group_row_view t.texts _ _ _) q) (part_within m (entries_tree es) i) (d m i)
-      at_group n (orelse g es) (part e f a b) k = let s = standing n (group_tree (orelse g es)) (part e f a b) in by s.0 s.1 (s.2.group (orelse g es) (part e f a b)) (λ m i. at_group m g i ((λ p d. k.0 p (Contains-append_left (group_points g) (entries_points es) p d)), k.1.0)) (λ m i. at_entries m es i ((λ p d. k.0 p (Contains-append_right (group_points g) (entries_points es) p d)), k.1.1))
+          by r q (of_sole {n = m} u) d = h.inner n m (of_group (sole es)) (of_entries es) (λ next. refl) (at_row n _ e ∙ ap (group_row_view t.texts F.Sole i j) q) (part_within m (entries_tree es) u) (d m u)
+      at_group n (orelse g es) (part {i = i} {j = j} e f a b) k = let s = standing n (group_tree (orelse g es)) (part e f a b) in by s.0 s.1 (s.2.group (orelse g es) (part e f a b)) (λ m i. at_group m g i ((λ p d. k.0 p (Contains-append_left (group_points g) (entries_points es) p d)), k.1.0)) (λ m i. at_entries m es i ((λ p d. k.0 p (Contains-append_right (group_points g) (entries_points es) p d)), k.1.1))
         where
           by : (r : GroupRow) → slice_get gs n ≡ Some r → IsGroupRow t (orelse g es) r → ((m : ℕ) → IsGroup t m g → P m (of_group g)) → ((m : ℕ) → IsEntries t m es → P m (of_entries es)) → P n (of_group (orelse g es))
-          by r q (of_orelse {n = l} {m = m} i j) d u = h.sides n l m (of_group (orelse g es)) (of_group g) (of_entries es) (λ next. refl) (at_row n _ e ∙ ap (group_row_view t.texts _ _ _) q) (part_within l (group_tree g) i) (part_within m (entries_tree es) j) (d l i) (u m j)
+          by r q (of_orelse {n = l} {m = m} v w) d u = h.sides n l m (of_group (orelse g es)) (of_group g) (of_entries es) (λ next. refl) (at_row n _ e ∙ ap (group_row_view t.texts F.OrElse i j) q) (part_within l (group_tree g) v) (part_within m (entries_tree es) w) (d l v) (u m w)
 
       pub at_entries : (n : ℕ) (es : Entries) → IsEntries t n es → KnownPiece (of_entries es) → P n (of_entries es)
-      at_entries n no_entries (part e f a b) k = let s = standing n (entries_tree no_entries) (part e f a b) in by s.0 s.1 (s.2.entries no_entries (part e f a b))
+      at_entries n no_entries (part {i = i} {j = j} e f a b) k = let s = standing n (entries_tree no_entries) (part e f a b) in by s.0 s.1 (s.2.entries no_entries (part e f a b))
         where
           by : (r : GroupRow) → slice_get gs n ≡ Some r → IsEntriesRow t no_entries r → P n (of_entries no_entries)
-          by r q of_none = empty_there n (of_entries no_entries) (λ next. refl) (at_row n _ e ∙ ap (group_row_view t.texts _ _ _) q)
-      at_entries n (entries es x true) (part e f a b) k = let s = standing n (entries_tree (entries es x true)) (part e f a b) in let w = entries_known es x true k in by s.0 s.1 (s.2.entries (entries es x true) (part e f a b)) (λ m i. at_entries m es i w.0) (λ m i. at_entry m x i w.1)
+          by r q of_none = empty_there n (of_entries no_entries) (λ next. refl) (at_row n _ e ∙ ap (group_row_view t.texts F.NoEntries i j) q)
+      at_entries n (entries es x true) (part {i = i} {j = j} e f a b) k = let s = standing n (entries_tree (entries es x true)) (part e f a b) in let w = entries_known es x true k in by s.0 s.1 (s.2.entries (entries es x true) (part e f a b)) (λ m i. at_entries m es i w.0) (λ m i. at_entry m x i w.1)
         where
           by : (r : GroupRow) → slice_get gs n ≡ Some r → IsEntriesRow t (entries es x true) r → ((m : ℕ) → IsEntries t m es → P m (of_entries es)) → ((m : ℕ) → IsEntry t m x → P m (of_entry x)) → P n (of_entries (entries es x true))
-          by r q (of_more {n = l} {m = m} i j) d u = h.sides n l m (of_entries (entries es x true)) (of_entries es) (of_entry x) (λ next. refl) (at_row n _ e ∙ ap (group_row_view t.texts _ _ _) q) (part_within l (entries_tree es) i) (part_within m (entry_tree x) j) (d l i) (u m j)
-      at_entries n (entries es x false) (part e f a b) k = let s = standing n (entries_tree (entries es x false)) (part e f a b) in let w = entries_known es x false k in by s.0 s.1 (s.2.entries (entries es x false) (part e f a b)) (λ m i. at_entries m es i w.0) (λ m i. at_entry m x i w.1)
+          by r q (of_more {n = l} {m = m} v w) d u = h.sides n l m (of_entries (entries es x true)) (of_entries es) (of_entry x) (λ next. refl) (at_row n _ e ∙ ap (group_row_view t.texts F.EntriesComma i j) q) (part_within l (entries_tree es) v) (part_within m (entry_tree x) w) (d l v) (u m w)
+      at_entries n (entries es x false) (part {i = i} {j = j} e f a b) k = let s = standing n (entries_tree (entries es x false)) (part e f a b) in let w = entries_known es x false k in by s.0 s.1 (s.2.entries (entries es x false) (part e f a b)) (λ m i. at_entries m es i w.0) (λ m i. at_entry m x i w.1)
         where
           by : (r : GroupRow) → slice_get gs n ≡ Some r → IsEntriesRow t (entries es x false) r → ((m : ℕ) → IsEntries t m es → P m (of_entries es)) → ((m : ℕ) → IsEntry t m x → P m (of_entry x)) → P n (of_entries (entries es x false))
-          by r q (of_more {n = l} {m = m} i j) d u = h.sides n l m (of_entries (entries es x false)) (of_entries es) (of_entry x) (λ next. refl) (at_row n _ e ∙ ap (group_row_view t.texts _ _ _) q) (part_within l (entries_tree es) i) (part_within m (entry_tree x) j) (d l i) (u m j)
+          by r q (of_more {n = l} {m = m} v w) d u = h.sides n l m (of_entries (entries es x false)) (of_entries es) (of_entry x) (λ next. refl) (at_row n _ e ∙ ap (group_row_view t.texts F.Entries i j) q) (part_within l (entries_tree es) v) (part_within m (entry_tree x) w) (d l v) (u m w)
 
       pub at_entry : (n : ℕ) (x : Entry) → IsEntry t n x → KnownPiece (of_entry x) → P n (of_entry x)
-      at_entry n (typed o y) (part {i = i} e f a b) k = let s = standing n (entry_tree (typed o y)) (part e f a b) in let r = term_row t i y a in by s.0 s.1 (s.2.entry (typed o y) (part e f a b) k.0) (at_term r.0 y r.2 k)
+      at_entry n (typed o y) (part {i = i} {j = j} e f a b) k = let s = standing n (entry_tree (typed o y)) (part e f a b) in let r = term_row t i y a in by s.0 s.1 (s.2.entry (typed o y) (part e f a b) k.0) (at_term r.0 y r.2 k)
         where
           by : (g : GroupRow) → slice_get gs n ≡ Some g → IsEntryRow xs root t (typed o y) g → P (term_row t i y a).0 (a_term y) → P n (of_entry (typed o y))
-          by g q (of_type {k = l} held none_named) d = by_once n (typed o y) (occurs_once o) (row_view i) refl (at_row n _ e ∙ (ap (group_row_view t.texts _ _ _) q ∙ once l o (row_view i) held)) (λ w v. (
+          by g q (of_type {k = l} held none_named) d = by_once n (typed o y) (occurs_once o) (row_view i) refl (at_row n _ e ∙ (ap (group_row_view t.texts F.Typed i j) q ∙ once l o (row_view i) held)) (λ w v. (
               let r = term_row t i y a in
               h.inner n r.0 (of_entry (typed o y)) (a_term y) (λ next. ap (λ (c : Bool). if c then part_sizes which worth xs next (part_of xs y) (term_sizes which worth xs next y) else None) w ∙ ap (λ (p : Part). part_sizes which worth xs next p (term_sizes which worth xs next y)) (type_part xs (part_of xs y) none_named)) (v ∙ ap row_view r.1) (part_within r.0 (term_tree y) r.2) d))
-          by g q (of_named {k = l} {m = m} {ess = ess} held is_named is) d = by_once n (typed o y) (occurs_once o) (group_view m) refl (at_row n _ e ∙ (ap (group_row_view t.texts _ _ _) q ∙ once l o (group_view m) held)) (λ w v. part_there n o y ess m (part_of xs y) w refl is_named is k.0 v)
+          by g q (of_named {k = l} {m = m} {ess = ess} held is_named is) d = by_once n (typed o y) (occurs_once o) (group_view m) refl (at_row n _ e ∙ (ap (group_row_view t.texts F.Typed i j) q ∙ once l o (group_view m) held)) (λ w v. part_there n o y ess m (part_of xs y) w refl is_named is k.0 v)
       at_entry n (keyed o u y) (part {i = i} {j = j} e f a b) k = let s = standing n (entry_tree (keyed o u y)) (part e f a b) in let r = term_row t j y b in by s.0 s.1 (s.2.entry (keyed o u y) (part e f a b) k.0) (at_term r.0 y r.2 ((λ p d. k.0 p (Contains-append_right (key_points u) (points y) p d)), k.1.1))
         where
           by : (g : GroupRow) → slice_get gs n ≡ Some g → IsEntryRow xs root t (keyed o u y) g → P (term_row t j y b).0 (a_term y) → P n (of_entry (keyed o u y))
-          by g q (of_keyed {k = l} held) d = by_once n (keyed o u y) (occurs_once o) (row_view j) refl (at_row n _ e ∙ (ap (group_row_view t.texts _ _ _) q ∙ once l o (row_view j) held)) (λ w v. (
+          by g q (of_keyed {k = l} held) d = by_once n (keyed o u y) (occurs_once o) (row_view j) refl (at_row n _ e ∙ (ap (group_row_view t.texts F.Keyed i j) q ∙ once l o (row_view j) held)) (λ w v. (
               let r = term_row t j y b in
               h.inner n r.0 (of_entry (keyed o u y)) (a_term y) (λ next. ap (λ (c : Bool). if c then term_sizes which worth xs next y else None) w) (v ∙ ap row_view r.1) (part_within r.0 (term_tree y) r.2) d))
-      at_entry n (grouped o g) (part e f a b) k = let s = standing n (entry_tree (grouped o g)) (part e f a b) in by s.0 s.1 (s.2.entry (grouped o g) (part e f a b) k.0) (λ m i. at_group m g i k)
+      at_entry n (grouped o g) (part {i = i} {j = j} e f a b) k = let s = standing n (entry_tree (grouped o g)) (part e f a b) in by s.0 s.1 (s.2.entry (grouped o g) (part e f a b) k.0) (λ m i. at_group m g i k)
         where
           by : (r : GroupRow) → slice_get gs n ≡ Some r → IsEntryRow xs root t (grouped o g) r → ((m : ℕ) → IsGroup t m g → P m (of_group g)) → P n (of_entry (grouped o g))
-          by r q (of_grouped {k = l} {n = m} held i) d = by_once n (grouped o g) (occurs_once o) (members_of (m ∷ [])) refl (at_row n _ e ∙ (ap (group_row_view t.texts _ _ _) q ∙ once l o (members_of (m ∷ [])) held)) (λ w v. h.inner n m (of_entry (grouped o g)) (of_group g) (λ next. ap (λ (c : Bool). if c then chosen_sizes which worth xs next g else None) w) v (part_within m (group_tree g) i) (d m i))
+          by r q (of_grouped {k = l} {n = m} held v) d = by_once n (grouped o g) (occurs_once o) (members_of (m ∷ [])) refl (at_row n _ e ∙ (ap (group_row_view t.texts F.Grouped i j) q ∙ once l o (members_of (m ∷ [])) held)) (λ w q. h.inner n m (of_entry (grouped o g)) (of_group g) (λ next. ap (λ (c : Bool). if c then chosen_sizes which worth xs next g else None) w) q (part_within m (group_tree g) v) (d m v))
