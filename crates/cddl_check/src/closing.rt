@@ -60,8 +60,16 @@ pub(crate) fn close_instances(
     let closed = close(alloc, terms, found)?;
     let openings = openings_of(alloc, terms, &closed, kinds, most)?;
     let literals = literals(alloc, terms, &closed, kinds)?;
-    let controllers = controllers(alloc, terms, &closed, kinds, &literals)?;
-    let members = members(alloc, terms, &closed, kinds, &literals, &controllers)?;
+    let controllers = controllers(alloc, terms, &closed, kinds, &openings, &literals)?;
+    let members = members(
+        alloc,
+        terms,
+        &closed,
+        kinds,
+        &openings,
+        &literals,
+        &controllers,
+    )?;
     let choosable = choosable(alloc, terms, &closed, kinds, &openings)?;
     Ok(Meant {
         closed,

@@ -109,7 +109,7 @@ module _ (worth : Values) (ds : List Definition) (root : Text) (on : AreInstance
   control_free (Some C.held_sequence) t u h k b R.holder = h
   control_free (Some C.held_sequence) t u h k b R.sequence_held = k refl
   control_free (Some (C.compared c)) t u h k b f = compares_free c (comparand (C.is_ordering c) (literal_of worth ds u)) t h b f
-  control_free (Some (C.member m)) t u h k b f = member_free m (members_of worth ds m u) t h b f
+  control_free (Some (C.member m)) t u h k b f = member_free m (members_of m worth ds u) t h b f
   control_free (Some (C.computed c)) t u h k b f = equal_free (computed_literal c (literal_of worth ds t) (literal_of worth ds u)) b f
   control_free None t u h k b f = absurd (no_choice f)
 

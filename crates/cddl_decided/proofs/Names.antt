@@ -297,7 +297,7 @@ module _ (worth : Values) (ds : List Definition) (root : Text) where
     control_has (Some C.held_item) a b h k = (h, k)
     control_has (Some C.held_sequence) a b h k = (h, k)
     control_has (Some (C.compared c)) a b h k = compares_has c (comparand (C.is_ordering c) (literal_of worth ds b)) a h
-    control_has (Some (C.member m)) a b h k = member_has m (members_of worth ds m b) a h
+    control_has (Some (C.member m)) a b h k = member_has m (members_of m worth ds b) a h
     control_has (Some (C.computed c)) a b h k = equal_has (computed_literal c (literal_of worth ds a) (literal_of worth ds b))
     control_has None a b h k = tt
 

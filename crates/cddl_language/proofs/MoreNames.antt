@@ -1,15 +1,15 @@
--- What `&` chooses, literals and sizes: what is found through so many names is found through more.
+-- What `&` chooses, literals and members: what is found through so many names is found through more.
 use Rattle.std.proofs.Common.{◌≡◌, ℕ, zero, suc, ◌≤◌, Bool, true, false, if◌then◌else◌, List, [], ◌∷◌, Option, Some, None, refl, sym, subst, arith}
 use Rattle.lists.proofs.Lemmas.{no_some as none_is_some}
 use Rattle.cddl_literal.specs.Numbers.{Meaning}
 use Rattle.cddl_language.specs.Numbers.{occurs_once}
-use Rattle.cddl_language.specs.Terms.{Term, named, parens, control, or, Group, sole, orelse, Entries, no_entries, entries, Entry, typed, keyed, grouped, Definition, alternatives, name_of}
+use Rattle.cddl_language.specs.Terms.{choice_of, choice_of_name, or, Term, named, parens, control, or, Group, sole, orelse, Entries, no_entries, entries, Entry, typed, keyed, grouped, Definition, alternatives, name_of}
 use Rattle.cddl_language.specs.Substitution.{group_choices, type_choices}
 use Rattle.cddl_language.specs.Kinds.{Part, asks_type, names_group, opens, is_group, part_of}
-use Rattle.cddl_language.specs.Controls.{Computation, Control, left_alone, left_and_right, held_item, held_sequence, compared, member, computed, control_of}
+use Rattle.cddl_language.specs.Controls.{Computation, Control, left_alone, left_and_right, held_item, held_sequence, compared, Membership, member, computed, control_of}
 use Rattle.cddl_language.specs.Choices.{chosen_each, chosen_entries, chosen_entry, chosen_group, chosen_in, chosen_part, types_of_both}
 use Rattle.cddl_language.specs.Literals.{Values, computed_literal, controlled_literal, literal_by, literal_in, only_choice}
-use Rattle.cddl_language.specs.Sizes.{Sizes, all_sizes, both_sizes, sizes_by, sizes_in}
+use Rattle.cddl_language.specs.Sizes.{Behind, a_type, a_group, Sizes, all_sizes, behind_sizes, both_sizes, chosen_sizes, each_sizes, entries_sizes, entry_sizes, group_sizes, members_in, opens_choices, part_sizes, term_sizes}
 
 -- what the one option has, the other has too
 abbrev Follows : {A : Type 0} → Option A → Option A → Type 0
@@ -102,21 +102,59 @@ module _ (worth : Values) (ds : List Definition) where
   more_literals (suc k) zero h t m e = absurd (omega (arith, h))
   more_literals (suc k) (suc n) h t m e = literal_follows (λ u. literal_in worth ds k u) (λ u. literal_in worth ds n u) (more_literals k n (omega (arith, h))) t m e
 
-  -- sizes
+-- members
 
-  module _ (f g : Term → Option Sizes) (follows : (t : Term) → Follows (f t) (g t)) where
-    all_follow : (ts : List Term) → Follows (all_sizes worth ds f ts) (all_sizes worth ds g ts)
+module _ (m : Membership) (worth : Values) (ds : List Definition) where
+  module _ (f g : Behind → Option Sizes) (follows : (b : Behind) → Follows (f b) (g b)) where
+    all_follow : (ts : List Term) → Follows (all_sizes f ts) (all_sizes g ts)
     all_follow [] rs e = e
-    all_follow (t ∷ ts) rs e = both_follow (f t) (all_sizes worth ds f ts) (g t) (all_sizes worth ds g ts) (follows t) (all_follow ts) rs e
+    all_follow (t ∷ ts) rs e = both_follow (f (a_type t)) (all_sizes f ts) (g (a_type t)) (all_sizes g ts) (follows (a_type t)) (all_follow ts) rs e
 
-    sizes_follow : (t : Term) → Follows (sizes_by worth ds f t) (sizes_by worth ds g t)
-    sizes_follow (named r) rs e = if_type (is_group ds (name_of r)) (all_sizes worth ds f (type_choices ds r)) (all_sizes worth ds g (type_choices ds r)) (all_follow (type_choices ds r)) rs e
-    sizes_follow (parens t) rs e = sizes_follow t rs e
-    sizes_follow (or t u) rs e = both_follow (sizes_by worth ds f t) (sizes_by worth ds f u) (sizes_by worth ds g t) (sizes_by worth ds g u) (sizes_follow t) (sizes_follow u) rs e
-    sizes_follow _ rs e = e
+    behind_group : (ess : List Entries) → Follows (group_sizes f ess) (group_sizes g ess)
+    behind_group [] rs e = e
+    behind_group (es ∷ ess) rs e = follows (a_group (es ∷ ess)) rs e
 
-  pub more_sizes : (k n : ℕ) → k ≤ n → (t : Term) → Follows (sizes_in worth ds k t) (sizes_in worth ds n t)
-  more_sizes zero zero h t rs e = e
-  more_sizes zero (suc n) h t rs e = sizes_follow (λ u. None) (λ u. sizes_in worth ds n u) (λ u v i. absurd (none_is_some i)) t rs e
-  more_sizes (suc k) zero h t rs e = absurd (omega (arith, h))
-  more_sizes (suc k) (suc n) h t rs e = sizes_follow (λ u. sizes_in worth ds k u) (λ u. sizes_in worth ds n u) (more_sizes k n (omega (arith, h))) t rs e
+    behind_part : (p : Part) (o q : Option Sizes) → Follows o q → Follows (part_sizes m worth ds f p o) (part_sizes m worth ds g p q)
+    behind_part asks_type o q h rs e = h rs e
+    behind_part (names_group r) o q h rs e = behind_group (group_choices ds r) rs e
+    behind_part (opens r d) o q h rs e = behind_group (alternatives d) rs e
+
+    if_opened : (b : Bool) (o q : Option Sizes) → Follows o q → Follows (if b then o else None) (if b then q else None)
+    if_opened true o q h rs e = h rs e
+    if_opened false o q h rs e = e
+
+    mutual
+      term_follows : (t : Term) → Follows (term_sizes m worth ds f t) (term_sizes m worth ds g t)
+      term_follows (named r) rs e = if_type (is_group ds (name_of r)) (all_sizes f (type_choices ds r)) (all_sizes g (type_choices ds r)) (all_follow (type_choices ds r)) rs e
+      term_follows (parens t) rs e = term_follows t rs e
+      term_follows (or t u) rs e = both_follow (term_sizes m worth ds f t) (term_sizes m worth ds f u) (term_sizes m worth ds g t) (term_sizes m worth ds g u) (term_follows t) (term_follows u) rs e
+      term_follows (choice_of d) rs e = if_opened (opens_choices m) (chosen_sizes m worth ds f d) (chosen_sizes m worth ds g d) (chosen_follow d) rs e
+      term_follows (choice_of_name r) rs e = if_opened (opens_choices m) (group_sizes f (group_choices ds r)) (group_sizes g (group_choices ds r)) (behind_group (group_choices ds r)) rs e
+      term_follows _ rs e = e
+
+      chosen_follow : (d : Group) → Follows (chosen_sizes m worth ds f d) (chosen_sizes m worth ds g d)
+      chosen_follow (sole es) rs e = entries_sizes_follow es rs e
+      chosen_follow (orelse d es) rs e = both_follow (chosen_sizes m worth ds f d) (entries_sizes m worth ds f es) (chosen_sizes m worth ds g d) (entries_sizes m worth ds g es) (chosen_follow d) (entries_sizes_follow es) rs e
+
+      entries_sizes_follow : (es : Entries) → Follows (entries_sizes m worth ds f es) (entries_sizes m worth ds g es)
+      entries_sizes_follow no_entries rs e = e
+      entries_sizes_follow (entries es d c) rs e = both_follow (entries_sizes m worth ds f es) (entry_sizes m worth ds f d) (entries_sizes m worth ds g es) (entry_sizes m worth ds g d) (entries_sizes_follow es) (entry_sizes_follow d) rs e
+
+      entry_sizes_follow : (d : Entry) → Follows (entry_sizes m worth ds f d) (entry_sizes m worth ds g d)
+      entry_sizes_follow (typed o t) rs e = if_opened (occurs_once o) (part_sizes m worth ds f (part_of ds t) (term_sizes m worth ds f t)) (part_sizes m worth ds g (part_of ds t) (term_sizes m worth ds g t)) (behind_part (part_of ds t) (term_sizes m worth ds f t) (term_sizes m worth ds g t) (term_follows t)) rs e
+      entry_sizes_follow (keyed o k t) rs e = if_opened (occurs_once o) (term_sizes m worth ds f t) (term_sizes m worth ds g t) (term_follows t) rs e
+      entry_sizes_follow (grouped o d) rs e = if_opened (occurs_once o) (chosen_sizes m worth ds f d) (chosen_sizes m worth ds g d) (chosen_follow d) rs e
+
+    each_sizes_follow : (ess : List Entries) → Follows (each_sizes m worth ds f ess) (each_sizes m worth ds g ess)
+    each_sizes_follow [] rs e = e
+    each_sizes_follow (es ∷ ess) rs e = both_follow (entries_sizes m worth ds f es) (each_sizes m worth ds f ess) (entries_sizes m worth ds g es) (each_sizes m worth ds g ess) (entries_sizes_follow es) (each_sizes_follow ess) rs e
+
+    behind_follow : (b : Behind) → Follows (behind_sizes m worth ds f b) (behind_sizes m worth ds g b)
+    behind_follow (a_type t) = term_follows t
+    behind_follow (a_group ess) = each_sizes_follow ess
+
+  pub more_members : (k n : ℕ) → k ≤ n → (b : Behind) → Follows (members_in m worth ds k b) (members_in m worth ds n b)
+  more_members zero zero h b rs e = e
+  more_members zero (suc n) h b rs e = behind_follow (λ c. None) (λ c. members_in m worth ds n c) (λ c v i. absurd (none_is_some i)) b rs e
+  more_members (suc k) zero h b rs e = absurd (omega (arith, h))
+  more_members (suc k) (suc n) h b rs e = behind_follow (λ c. members_in m worth ds k c) (λ c. members_in m worth ds n c) (more_members k n (omega (arith, h))) b rs e

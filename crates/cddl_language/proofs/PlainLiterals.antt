@@ -97,7 +97,7 @@ module _ (worth : Values) (ds : List Definition) where
   control_plain (Some held_item) a b = tt
   control_plain (Some held_sequence) a b = tt
   control_plain (Some (compared c)) a b = compares_plain c (literal_of worth ds b) a
-  control_plain (Some (member m)) a b = member_plain m (members_of worth ds m b) a
+  control_plain (Some (member m)) a b = member_plain m (members_of m worth ds b) a
   control_plain (Some (computed c)) a b = equal_plain (computed_literal c (literal_of worth ds a) (literal_of worth ds b))
   control_plain None a b = tt
 

@@ -235,6 +235,24 @@ below_nought = range (a_number (codes "0")) false (a_number (codes "0"))
 abbrev pub of_two_sizes : List Definition
 of_two_sizes = definition (codes "s") (a_number (codes "1")) ∷ also_type (codes "s") (control (a_number (codes "2")) (codes "plus") (a_number (codes "3"))) ∷ []
 
+-- `&(a: 0, b: 9)`, `&(a: 0, ? b: 9)`, `&(b: 9) / (4..7)`
+abbrev pub nought_or_nine : Term
+nought_or_nine = choice_of (sole (two (word (codes "a") (codes "0")) (word (codes "b") (codes "9"))))
+
+abbrev pub nought_or_not : Term
+nought_or_not = choice_of (sole (two (word (codes "a") (codes "0")) (keyed (Some (codes "?")) (bareword (codes "b")) (a_number (codes "9")))))
+
+abbrev pub nine_or_four_to_seven : Term
+nine_or_four_to_seven = or (choice_of (sole (lone (word (codes "b") (codes "9"))))) (parens (range (a_number (codes "4")) true (a_number (codes "7"))))
+
+-- `g = (a: 0, h)`, `h = (b: 2 // c: s)`, `s = 4..7`
+abbrev pub bits_by_names : List Definition
+bits_by_names =
+    group_is (codes "g") (grouped None (sole (two (word (codes "a") (codes "0")) (typed None (plain (codes "h"))))))
+    ∷ group_is (codes "h") (grouped None (orelse (sole (lone (word (codes "b") (codes "2")))) (lone (keyed None (bareword (codes "c")) (plain (codes "s"))))))
+    ∷ definition (codes "s") (range (a_number (codes "4")) true (a_number (codes "7")))
+    ∷ []
+
 -- `c = "b"`, `"a" .cat c`
 abbrev pub of_b : List Definition
 of_b = definition (codes "c") (a_text (codes "b")) ∷ []

@@ -222,7 +222,7 @@ is_operand c None = false
 
 -- the members that a controller of `.size` or `.bits` has, if it is one
 abbrev pub members_there : Specification → Values → S.Rule → List Term → Membership → S.Type2 → Option Sizes
-members_there s worth r xs m y = members_of worth (definitions s) m (fill (parameters_in r) xs (term_of2 y))
+members_there s worth r xs m y = members_of m worth (definitions s) (fill (parameters_in r) xs (term_of2 y))
 
 -- C13: a controller with which an item is compared and that is no literal (section 3.8.6); an operand that a computation does
 -- not take; a sum out of range, or a join that is too long (RFC 9165 section 2).

@@ -123,7 +123,7 @@ module _ (worth : Values) (ds : List Definition) where
   control_node (Some held_item) a b = F.Holding (type a) F.one_item (type b)
   control_node (Some held_sequence) a b = F.Holding (type a) F.sequence_of_items (type b)
   control_node (Some (compared c)) a b = such_as_compares c (comparand (is_ordering c) (literal_of worth ds b)) a
-  control_node (Some (member m)) a b = such_as_member m (members_of worth ds m b) a
+  control_node (Some (member m)) a b = such_as_member m (members_of m worth ds b) a
   control_node (Some (computed c)) a b = equal_to (computed_literal c (literal_of worth ds a) (literal_of worth ds b))
   control_node None a b = nothing
 

@@ -19,12 +19,13 @@ ghost use Rattle.cddl_language.specs.Prelude.{definition, plain};
 ghost use Rattle.cddl_language.specs.Reach.{Point, at_name, points_in};
 ghost use Rattle.cddl_language.specs.Free.{IsFreeInMeaning};
 ghost use Rattle.cddl_language.specs.Reading.{definitions_in, rules_of};
-ghost use Rattle.cddl_language.specs.Sizes.{sizes_of};
+ghost use Rattle.cddl_language.specs.Controls.{of_bits};
+ghost use Rattle.cddl_language.specs.Sizes.{members_of, sizes_of};
 ghost use Rattle.cddl_language.specs.StandsFor.{StandsFor};
 ghost use Rattle.cddl_language.specs.Substitution.{type_choices};
 ghost use Rattle.cddl_language.specs.Texts as T;
 ghost use Rattle.cddl_token.specs.declared.Code.TheVariants.{Arity, BadRange, BadRoot, Duplicate, GroupAsType, HashForm, KindClash, MapShape, NoKey, NoRoot, NotUnwrappable, Recursion, TooManyAlternatives, TooManyInstances, Undefined, UnknownControl};
-ghost use Rattle.cddl_language.specs.Terms.{Text, call, no_terms, entries, hash, map_of, no_entries, number, sole, typed};
+ghost use Rattle.cddl_language.specs.Terms.{Text, call, choice_of_name, no_terms, entries, hash, map_of, no_entries, number, sole, typed};
 
 /// Numbers in the texts of tokens.
 pub fn numbers()
@@ -97,6 +98,16 @@ pub fn sizes()
     ensures name { sizes_of E.worth E.of_two_sizes (plain (codes "s")) ≡ Some ((1, 1) ∷ (5, 5) ∷ []) }
     ensures text { sizes_of E.worth [] (E.a_text (codes "a")) ≡ None }
     ensures circle { sizes_of E.worth E.in_circle (plain (codes "a")) ≡ None }
+{}
+
+/// The members of the controller of `.bits`: of a choice from a group, with a range beside it, by names of groups, and of none,
+/// since an entry may be left out. A controller of `.size` has none by such a choice.
+pub fn bits()
+    ensures choice { members_of of_bits E.worth [] E.nought_or_nine ≡ Some ((0, 0) ∷ (9, 9) ∷ []) }
+    ensures range { members_of of_bits E.worth [] E.nine_or_four_to_seven ≡ Some ((9, 9) ∷ (4, 7) ∷ []) }
+    ensures names { members_of of_bits E.worth E.bits_by_names (choice_of_name (E.a_ref (codes "g"))) ≡ Some ((0, 0) ∷ (2, 2) ∷ (4, 7) ∷ []) }
+    ensures optional { members_of of_bits E.worth [] E.nought_or_not ≡ None }
+    ensures size { sizes_of E.worth [] E.nought_or_nine ≡ None }
 {}
 
 /// Literals that are computed from others, and none: of a sum with a text, and of names that need each other.

@@ -20,7 +20,7 @@ ghost use Rattle.cddl_meaning.specs.Forms.{Choice, Language, any_number_of, at_m
 ghost use Rattle.cddl_meaning.specs.Judges.{Answer, No, Says, Yes};
 ghost use Rattle.cddl_meaning.specs.Literals.{HasPlainLiterals};
 ghost use Rattle.cddl_language.specs.Choices.{chosen, chosen_by_name, chosen_in};
-ghost use Rattle.cddl_language.specs.Controls.{Comparison, Computation, comparison_in, computation_in, control_of, is_ordering, of_bits};
+ghost use Rattle.cddl_language.specs.Controls.{Comparison, Computation, comparison_in, computation_in, control_of, is_ordering, Membership, of_bits};
 ghost use Rattle.cddl_language.specs.MapFaults.{ComesBack, GoesThrough, HasMapShape, HasNoKey, IsSpliced, IsSplicedInto, LacksKey, IsLedToBy, OccursBadly, closed_entry, point_in};
 ghost use Rattle.cddl_language.specs.Maps.{Alternatives, alternatives_in, map_alternatives};
 ghost use Rattle.cddl_language.specs.Language.{Saying, TermSays, comparand, compared_test, language, type, reference, type_node};
@@ -30,7 +30,7 @@ ghost use Rattle.cddl_literal.specs.Numbers.{IsUint, Meaning, number_after};
 ghost use Rattle.cddl_token.specs.Numbers.{IsHashNumber, IsStar, IsTagNumberOpen};
 ghost use Rattle.cddl_language.specs.Numbers.{hash_form, least_in, most_in, numbered, tag_number, uint_in};
 ghost use Rattle.cddl_language.specs.Literals.{AreRight, AreTokens, Holds, Values, answer_of, computed_literal, item_of, literal_in, literal_of, whole};
-ghost use Rattle.cddl_language.specs.Sizes.{Sizes, members_of, sizes_in, sizes_of};
+ghost use Rattle.cddl_language.specs.Sizes.{Behind, Sizes, members_in, members_of, sizes_in, sizes_of};
 ghost use Rattle.cddl_literal.specs.declared.operators.Joining.TheVariants.{AsTheyAre, Dedented};
 ghost use Rattle.cddl_literal.specs.Operators.Joins.{joined};
 ghost use Rattle.cddl_literal.specs.Operators.Sums.{plus};
@@ -104,9 +104,9 @@ pub fn sizes_say()
 /// its no where it shows it; that of the bits shows at the item. Bit k of a byte string is that of value 2^(k mod 8) in byte k / 8,
 /// and bit k of a number the one of value 2^k.
 pub fn bits_say()
-    ensures yes { (worth : Values) (ds : List Definition) (a b : Term) (rs : Sizes) (p : ℕ) (x : Value) → members_of worth ds of_bits b ≡ Some rs → TermSays worth ds (control a (codes "bits") b) p x Yes ↔ (TermSays worth ds a p x Yes × (passes (bits_among rs) x ≡ true)) }
-    ensures left { (worth : Values) (ds : List Definition) (a b : Term) (rs : Sizes) (p : ℕ) (x : Value) (far : ℕ) → members_of worth ds of_bits b ≡ Some rs → TermSays worth ds a p x (No far) → TermSays worth ds (control a (codes "bits") b) p x (No far) }
-    ensures missed { (worth : Values) (ds : List Definition) (a b : Term) (rs : Sizes) (p : ℕ) (x : Value) → members_of worth ds of_bits b ≡ Some rs → TermSays worth ds a p x Yes → passes (bits_among rs) x ≡ false → TermSays worth ds (control a (codes "bits") b) p x (No p) }
+    ensures yes { (worth : Values) (ds : List Definition) (a b : Term) (rs : Sizes) (p : ℕ) (x : Value) → members_of of_bits worth ds b ≡ Some rs → TermSays worth ds (control a (codes "bits") b) p x Yes ↔ (TermSays worth ds a p x Yes × (passes (bits_among rs) x ≡ true)) }
+    ensures left { (worth : Values) (ds : List Definition) (a b : Term) (rs : Sizes) (p : ℕ) (x : Value) (far : ℕ) → members_of of_bits worth ds b ≡ Some rs → TermSays worth ds a p x (No far) → TermSays worth ds (control a (codes "bits") b) p x (No far) }
+    ensures missed { (worth : Values) (ds : List Definition) (a b : Term) (rs : Sizes) (p : ℕ) (x : Value) → members_of of_bits worth ds b ≡ Some rs → TermSays worth ds a p x Yes → passes (bits_among rs) x ≡ false → TermSays worth ds (control a (codes "bits") b) p x (No p) }
     ensures bytes { (rs : Sizes) (s : List ℕ) → (passes (bits_among rs) (bytes s) ≡ true) ↔ ((k : ℕ) → k < 8 * length s → has_bit (get_or s (k / 8) 0) (k % 8) ≡ true → (r : ℕ × ℕ) × Contains rs r × (r.0 ≤ k) × (k ≤ r.1)) }
     ensures number { (rs : Sizes) (n : ℕ) → (passes (bits_among rs) (uint n) ≡ true) ↔ ((k : ℕ) → k < 64 → has_bit n k ≡ true → (r : ℕ × ℕ) × Contains rs r × (r.0 ≤ k) × (k ≤ r.1)) }
     ensures others { (rs : Sizes) (x : Value) → bits_set x ≡ None → passes (bits_among rs) x ≡ false }
@@ -149,7 +149,7 @@ pub fn maps_without_alternatives()
 {}
 
 /// Once `~` has opened something, a name is a group's, a group in a map has alternatives, `&` chooses from a group, or a type is a
-/// literal or has the members of a `.size`, ways through more names change nothing.
+/// literal or has the members of a `.size` or a `.bits`, ways through more names change nothing.
 pub fn more_names_change_nothing()
     ensures opened { (ds : List Definition) (k : ℕ) (r : Ref) (o : Opened) → opened_in k ds r ≡ Some o → opened_in (suc k) ds r ≡ Some o }
     ensures group { (ds : List Definition) (k : ℕ) (n : Text) → is_group_in k ds n ≡ true → is_group_in (suc k) ds n ≡ true }
@@ -157,6 +157,7 @@ pub fn more_names_change_nothing()
     ensures chosen { (ds : List Definition) (k n : ℕ) → k ≤ n → (ess : List Entries) (ts : List Term) → chosen_in ds k ess ≡ Some ts → chosen_in ds n ess ≡ Some ts }
     ensures literal { (worth : Values) (ds : List Definition) (k n : ℕ) → k ≤ n → (t : Term) (m : Meaning) → literal_in worth ds k t ≡ Some m → literal_in worth ds n t ≡ Some m }
     ensures sizes { (worth : Values) (ds : List Definition) (k n : ℕ) → k ≤ n → (t : Term) (rs : Sizes) → sizes_in worth ds k t ≡ Some rs → sizes_in worth ds n t ≡ Some rs }
+    ensures members { (m : Membership) (worth : Values) (ds : List Definition) (k n : ℕ) → k ≤ n → (b : Behind) (rs : Sizes) → members_in m worth ds k b ≡ Some rs → members_in m worth ds n b ≡ Some rs }
 {}
 
 /// A specification is accepted or refused: of an accepted one no fault is told, of any other one, of one code at one byte. That one

@@ -114,7 +114,7 @@ control_free worth ds (Some held_item) a b m h = inl h
 control_free worth ds (Some held_sequence) a b m (inl e) = inl e
 control_free worth ds (Some held_sequence) a b m (inr e) = inr (e, refl)
 control_free worth ds (Some (compared c)) a b m h = inl (compared_free c (comparand (is_ordering c) (literal_of worth ds b)) a m h)
-control_free worth ds (Some (member k)) a b m h = inl (member_free k (members_of worth ds k b) a m h)
+control_free worth ds (Some (member k)) a b m h = inl (member_free k (members_of k worth ds b) a m h)
 control_free worth ds (Some (computed c)) a b m h = absurd (equal_free (computed_literal c (literal_of worth ds a) (literal_of worth ds b)) m h)
 
 control_items : (worth : Values) (ds : List Definition) (o : Option Control) (a b : Term) (g : GroupName) → FreeItems {N = TypeName} (control_node worth ds o a b) g → ⊥
@@ -124,7 +124,7 @@ control_items worth ds (Some left_and_right) a b g h = h
 control_items worth ds (Some held_item) a b g h = h
 control_items worth ds (Some held_sequence) a b g h = h
 control_items worth ds (Some (compared c)) a b g h = compared_items c (comparand (is_ordering c) (literal_of worth ds b)) a g h
-control_items worth ds (Some (member k)) a b g h = member_items k (members_of worth ds k b) a g h
+control_items worth ds (Some (member k)) a b g h = member_items k (members_of k worth ds b) a g h
 control_items worth ds (Some (computed c)) a b g h = equal_items (computed_literal c (literal_of worth ds a) (literal_of worth ds b)) g h
 
 module _ (s : Sense) (t : Table) (r : Ranks) (given : Given s t r) where

@@ -193,14 +193,19 @@ fn opened_in(
 }
 
 fn valued_in(alloc: Global, terms: &Terms<'_>, opened: &Opened) -> Option<Valued> {
-    let Opened { closed, kinds, .. } = opened;
+    let Opened {
+        closed,
+        kinds,
+        openings,
+        ..
+    } = opened;
     let Ok(literals) = literals(alloc, terms, closed, kinds) else {
         return None;
     };
-    let Ok(controllers) = controllers(alloc, terms, closed, kinds, &literals) else {
+    let Ok(controllers) = controllers(alloc, terms, closed, kinds, openings, &literals) else {
         return None;
     };
-    match members(alloc, terms, closed, kinds, &literals, &controllers) {
+    match members(alloc, terms, closed, kinds, openings, &literals, &controllers) {
         Ok(members) => Some(Valued {
             literals,
             controllers,

@@ -6,3 +6,4 @@ mod occurrences;
 
 pub(crate) use crate::choosing::causes::cause_of;
 pub use crate::choosing::choosing::choosable;
+pub use crate::choosing::occurrences::is_once;

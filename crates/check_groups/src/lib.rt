@@ -5,4 +5,5 @@
 mod causes;
 pub mod choosing;
 pub mod empty;
+pub mod rows;
 pub mod splices;

@@ -1,3 +1,4 @@
+pub mod Alternatives
 pub mod Below
 pub mod Going
 pub mod Induction

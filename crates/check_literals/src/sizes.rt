@@ -1,4 +1,5 @@
 //! The members of the controllers of `.size` and `.bits` (RFC 8610 sections 3.8.1 and 3.8.2), by rows of a table.
+mod chosen;
 mod controllers;
 mod depths;
 mod known;

@@ -13,7 +13,7 @@ use Rattle.check_terms.specs.Trees.{entry_tree, group_tree, ref_tree, term_tree}
 use Rattle.check_instances.specs.declared.found.Instance.{Instance}
 use Rattle.check_instances.specs.Bodies.{AreBodies, no_bodies, further_body}
 use Rattle.check_instances.specs.Found.{AreFound, none_found, further_found}
-use Rattle.check_reached.specs.Asked.{AreAsked, AreEntriesAsked, IsAsked, IsEntryAsked, WasAsked, choosing, choosing_by_name, computation, controller, first_end, last_end, left_operand, of_map, size_controller, of_map_entry, of_rule_entry}
+use Rattle.check_reached.specs.Asked.{AreAsked, AreEntriesAsked, IsAsked, IsEntryAsked, WasAsked, choosing, choosing_by_name, computation, controller, first_end, last_end, left_operand, members_controller, of_map, of_map_entry, of_rule_entry}
 use Rattle.check_reached.specs.declared.asked.Asked.{Asked}
 use Rattle.check_reached.specs.declared.asked.Question.{Question}
 
@@ -33,7 +33,7 @@ module _ (old new : Table) (trees : (n : Option ℕ) (x : Tree) → Holds old n 
   one_kept a (first_end {r = r} {xs = xs} {x = x} {y = y} {o = o} h s is e q) = first_end {r = r} {xs = xs} {x = x} {y = y} {o = o} h s (trees (Some a.row) (term_tree (fill (parameters_in r) xs (term_of2 x))) is) e q
   one_kept a (last_end {r = r} {xs = xs} {x = x} {y = y} {o = o} h s is e q) = last_end {r = r} {xs = xs} {x = x} {y = y} {o = o} h s (trees (Some a.row) (term_tree (fill (parameters_in r) xs (term_of2 y))) is) e q
   one_kept a (controller {r = r} {xs = xs} {x = x} {y = y} {o = o} {c = c} h s is e q) = controller {r = r} {xs = xs} {x = x} {y = y} {o = o} {c = c} h s (trees (Some a.row) (term_tree (fill (parameters_in r) xs (term_of2 y))) is) e q
-  one_kept a (size_controller {r = r} {xs = xs} {x = x} {y = y} {o = o} h s is e q) = size_controller {r = r} {xs = xs} {x = x} {y = y} {o = o} h s (trees (Some a.row) (term_tree (fill (parameters_in r) xs (term_of2 y))) is) e q
+  one_kept a (members_controller {r = r} {xs = xs} {x = x} {y = y} {o = o} {m = m} h s is e q) = members_controller {r = r} {xs = xs} {x = x} {y = y} {o = o} {m = m} h s (trees (Some a.row) (term_tree (fill (parameters_in r) xs (term_of2 y))) is) e q
   one_kept a (left_operand {r = r} {xs = xs} {x = x} {y = y} {o = o} {c = c} h s is e q) = left_operand {r = r} {xs = xs} {x = x} {y = y} {o = o} {c = c} h s (trees (Some a.row) (term_tree (fill (parameters_in r) xs (term_of2 x))) is) e q
   one_kept a (computation {r = r} {xs = xs} {x = x} {y = y} {o = o} {c = c} h s is e q) = computation {r = r} {xs = xs} {x = x} {y = y} {o = o} {c = c} h s (trees (Some a.row) (term_tree (fill (parameters_in r) xs (operation (term_of2 x) o (term_of2 y)))) is) e q
   one_kept a (of_map {r = r} {xs = xs} {u = u} {g = g} h is e q) = of_map {r = r} {xs = xs} {u = u} {g = g} h (trees (Some a.row) (group_tree (fill_group (parameters_in r) xs (group_of g))) is) e q
@@ -49,7 +49,7 @@ module _ (old new : Table) (trees : (n : Option ℕ) (x : Tree) → Holds old n 
     first_ends = λ r xs x y o h s. answer_kept answers _ _ _ (are.first_ends r xs x y o h s);
     last_ends = λ r xs x y o h s. answer_kept answers _ _ _ (are.last_ends r xs x y o h s);
     controllers = λ r xs x y o c h s. answer_kept answers _ _ _ (are.controllers r xs x y o c h s);
-    size_controllers = λ r xs x y o h s. answer_kept answers _ _ _ (are.size_controllers r xs x y o h s);
+    members_controllers = λ r xs x y o m h s. answer_kept answers _ _ _ (are.members_controllers r xs x y o m h s);
     left_operands = λ r xs x y o c h s. answer_kept answers _ _ _ (are.left_operands r xs x y o c h s);
     computations = λ r xs x y o c h s. answer_kept answers _ _ _ (are.computations r xs x y o c h s);
     maps = λ r xs u g h. answer_kept answers _ _ _ (are.maps r xs u g h);

@@ -218,7 +218,7 @@ module _ (s : Sense) (t : Table) where
   member_by k None None y i h g p = some_choices none
 
   -- What a control is, where the controller and the control are these literals, and the controller has these members.
-  module _ (y z : Term) (n : Text) (i j : ℕ) (g : IsTerm t i y) (h : IsTerm t j z) (p : IsKnown s y) (q : IsKnown s z) (m own : Option Meaning) (rs : Membership → Option Sizes) (literals : m ≡ literal_of s.worth s.definitions z) (its : own ≡ literal_of s.worth s.definitions (control y n z)) (members : (k : Membership) → Some (member k) ≡ control_of n → SameSizes (members_of s.worth s.definitions k z) (rs k)) where
+  module _ (y z : Term) (n : Text) (i j : ℕ) (g : IsTerm t i y) (h : IsTerm t j z) (p : IsKnown s y) (q : IsKnown s z) (m own : Option Meaning) (rs : Membership → Option Sizes) (literals : m ≡ literal_of s.worth s.definitions z) (its : own ≡ literal_of s.worth s.definitions (control y n z)) (members : (k : Membership) → Some (member k) ≡ control_of n → SameSizes (members_of k s.worth s.definitions z) (rs k)) where
     computes : (c : Computation) → Some (computed c) ≡ control_of n → own ≡ computed_literal c (literal_of s.worth s.definitions y) (literal_of s.worth s.definitions z)
     computes c e = its ∙ literal_controlled s.worth s.definitions y z n ∙ ap (λ o. controlled_literal o (literal_of s.worth s.definitions y) (literal_of s.worth s.definitions z)) (sym e)
 
@@ -228,7 +228,7 @@ module _ (s : Sense) (t : Table) where
     control_by (Some held_item) e = holdings (of_row g p.0 p.1) (of_row h q.0 q.1)
     control_by (Some held_sequence) e = holdings (of_row g p.0 p.1) (of_row h q.0 q.1)
     control_by (Some (compared c)) e = subst (λ o. Forms (L.control_node s.worth s.definitions (Some (compared c)) y z) (such_view i (test_by c o))) (sym literals) (compared_by c (L.comparand (is_ordering c) (literal_of s.worth s.definitions z)) y i g p)
-    control_by (Some (member k)) e = member_by k (members_of s.worth s.definitions k z) (rs k) y i (members k e) g p
+    control_by (Some (member k)) e = member_by k (members_of k s.worth s.definitions z) (rs k) y i (members k e) g p
     control_by (Some (computed c)) e = equal_by (computed_literal c (literal_of s.worth s.definitions y) (literal_of s.worth s.definitions z)) own (computes c e)
     control_by None e = some_choices none
 

@@ -5,13 +5,13 @@ use Rattle.cddl_language.proofs.Sized.{left_says_no, member_says, member_says_no
 use Rattle.cddl_language.proofs.bits_say.Goals as goal
 
 pub returns-clause-yes : goal.returns-clause-yes
-returns-clause-yes c worth ds a b rs p x e = member_says worth ds a p x of_bits (members_of worth ds of_bits b) rs e
+returns-clause-yes c worth ds a b rs p x e = member_says worth ds a p x of_bits (members_of of_bits worth ds b) rs e
 
 pub returns-clause-left : goal.returns-clause-left
-returns-clause-left c worth ds a b rs p x far e k = left_says_no worth ds a p x of_bits (members_of worth ds of_bits b) rs e far k
+returns-clause-left c worth ds a b rs p x far e k = left_says_no worth ds a p x of_bits (members_of of_bits worth ds b) rs e far k
 
 pub returns-clause-missed : goal.returns-clause-missed
-returns-clause-missed c worth ds a b rs p x e k h = member_says_no worth ds a p x of_bits (members_of worth ds of_bits b) rs e k h
+returns-clause-missed c worth ds a b rs p x e k h = member_says_no worth ds a p x of_bits (members_of of_bits worth ds b) rs e k h
 
 pub returns-clause-bytes : goal.returns-clause-bytes
 returns-clause-bytes c rs s = bytes_among rs s

@@ -1,5 +1,5 @@
 -- What stands at the rows of groups, of entries and of each entry.
-use Rattle.std.specs.Prelude.{◌≡◌, ℕ, Bool, List, [], Option, Some, None, slice_get}
+use Rattle.std.specs.Prelude.{◌≡◌, ℕ, Bool, List, [], length, Option, Some, None, slice_get}
 use Rattle.cddl_language.specs.Terms.{Text, Term, Group, sole, orelse, Entries, no_entries, entries, Entry, typed, keyed, grouped, Key, Definition, alternatives}
 use Rattle.cddl_language.specs.Kinds as K
 use Rattle.cddl_language.specs.Kinds.{part_of}
@@ -53,6 +53,11 @@ pub record IsAt {A : Type 0} (xs : List Definition) (root : Text) (t : Table) (O
 
 abbrev pub IsRowAt : List Definition → Text → Table → ℕ → GroupRow → Type 0
 IsRowAt xs root t n r = IsAt xs root t (IsGroupRow t) (IsEntriesRow t) (IsEntryRow xs root t) n r
+
+-- of all rows
+pub record AreRows (xs : List Definition) (root : Text) (t : Table) (rows : List GroupRow) : Type 0 where
+  pub all : length rows ≡ length t.rows
+  pub each : (n : ℕ) (r : GroupRow) → slice_get rows n ≡ Some r → IsRowAt xs root t n r
 
 abbrev pub occurrence_at : GroupRow → Option ℕ
 occurrence_at (RowV.Type k) = k

@@ -21,7 +21,7 @@ use check_terms::{Form, Row, Terms};
 /// What stands at a row, with its parts by their rows. The first number of an entry is that of the text of its occurrence, if
 /// it has one.
 #[derive(Clone, Copy)]
-pub(crate) enum GroupRow {
+pub enum GroupRow {
     /// Neither a group nor entries nor an entry.
     Other,
     /// A group of one alternative, which has these entries.
@@ -60,8 +60,8 @@ pub(crate) fn row_at(
     }
 }
 
-// The number of the text of an entry's occurrence, if it has one.
-pub(crate) fn occurrence_at(row: GroupRow) -> Option<u32>
+/// The number of the text of an entry's occurrence, if it has one.
+pub fn occurrence_at(row: GroupRow) -> Option<u32>
     ensures { result ≡ occurrence_at row }
 {
     match row {

@@ -7,8 +7,9 @@ ghost use Rattle.check_groups.specs.Choosing.Occurrences.{is_once_at};
 use check_terms::Terms;
 use check_terms::texts::occurrence_of;
 
-// Whether an entry with the occurrence of this text, if it has one, stands exactly once (RFC 8610 section 3.2).
-pub(crate) fn is_once(terms: &Terms<'_>, text: Option<u32>) -> bool
+/// Whether an entry with the occurrence of this text, if it has one, stands exactly once (RFC 8610 section 3.2). With a number of
+/// 2^64 or more it doesn't.
+pub fn is_once(terms: &Terms<'_>, text: Option<u32>) -> bool
     ensures { result ≡ is_once_at terms.now.texts text }
 {
     let Some(number) = text else {

@@ -8,11 +8,10 @@ use Rattle.cddl_meaning.specs.Alike.{AlikeAll, none, both, SameTest}
 use Rattle.cddl_meaning.specs.Forms as F
 use Rattle.cddl_meaning.specs.Forms.{fits_in, has_size, is_member}
 use Rattle.cddl_language.specs.Terms.{Text, Term, Ref, Definition}
-use Rattle.cddl_language.specs.Substitution.{type_choices}
 use Rattle.cddl_language.specs.Reach.{most_instances}
 use Rattle.cddl_language.specs.Literals.{Values}
 use Rattle.cddl_language.specs.Sizes as L
-use Rattle.cddl_language.specs.Sizes.{all_sizes, both_sizes, sizes_by, sizes_in, sizes_of}
+use Rattle.cddl_language.specs.Sizes.{Behind, a_type, a_group, behind_sizes, both_sizes, each_sizes, members_in, members_of as members_that}
 use Rattle.check_terms.specs.Table.{Table}
 use Rattle.check_terms.specs.Trees.{IsTerm, term_tree}
 use Rattle.check_names.specs.declared.kinds.kinds.Kinds.{Kinds}
@@ -22,7 +21,10 @@ use Rattle.check_literals.specs.Literals.{IsKnown}
 use Rattle.check_literals.specs.declared.sizes.sources.Source.{Source}
 use Rattle.check_literals.specs.Sizes.Sources.{In, View, no_members, numbers, members_of, members_of_choices, parts_in, view_at, viewed}
 use Rattle.check_literals.specs.Sizes.Reach.{IsReached, Leads, here, onwards, range_in, ranges_of, with_range}
-use Rattle.check_literals.proofs.OfSizes.Induction.{AreGiven, IsHereditary, IsOwn, IsRow, at_each, no_own, own, row_within}
+use Rattle.cddl_language.specs.Controls.{Membership}
+use Rattle.check_groups.specs.declared.causes.rows.GroupRow.{GroupRow}
+use Rattle.check_literals.proofs.OfSizes.Alternatives.{alternatives_sizes}
+use Rattle.check_literals.proofs.OfSizes.Induction.{AreGiven, IsHereditary, IsOwn, IsRow, Piece, all_behind, at_group, at_term, behind_within, no_own, own, piece_sizes}
 use Rattle.check_literals.proofs.OfSizes.Lists.{same_some}
 
 -- which ranges are in a list decides what has such a size
@@ -239,24 +241,27 @@ module _ (ss : List Source) where
           from : HasRange n v → has_size qs v ≡ true
           from k = by k k.row k.leads k.there
 
-module _ (xs : List Definition) (root : Text) (worth : Values) (refs : List Ref) (t : Table) (c : Closed) (ks : Kinds) (ls : Literals) (ss : List Source) (given : AreGiven xs root worth refs t c ks ls ss) where
-  abbrev Agrees : (Term → Option L.Sizes) → Type 0
-  Agrees next = (n : ℕ) (x : Term) → IsTerm t n x → IsKnown xs root worth x → (rs : L.Sizes) → next x ≡ Some rs → AreBelow ss n rs
+module _ (which : Membership) (xs : List Definition) (root : Text) (worth : Values) (refs : List Ref) (t : Table) (c : Closed) (ks : Kinds) (ls : Literals) (gs : List GroupRow) (ss : List Source) (given : AreGiven which xs root worth refs t c ks ls gs ss) where
+  abbrev IsRowOf : Behind → ℕ → Type 0
+  IsRowOf = IsRow which xs root worth refs t c ks ls gs ss
 
-  module _ (next : Term → Option L.Sizes) (agree : Agrees next) where
-    abbrev Below : ℕ → Term → Type 0
-    Below n x = (rs : L.Sizes) → sizes_by worth xs next x ≡ Some rs → AreBelow ss n rs
+  abbrev Agrees : (Behind → Option L.Sizes) → Type 0
+  Agrees next = (n : ℕ) (b : Behind) → IsRowOf b n → (rs : L.Sizes) → next b ≡ Some rs → AreBelow ss n rs
 
-    all_below : (ys : List Term) (ms : List ℕ) → AlikeAll (IsRow xs root worth refs t c ks ls ss) ys ms → (rs : L.Sizes) → all_sizes worth xs next ys ≡ Some rs → AreAmong ss ms rs
-    all_below ys ms none rs e = subst (AreAmong ss []) (same_some [] rs e) (nothing_among ss)
-    all_below ys ms (both {n = y} {m = m} {ns = zs} {ms = ns} r h) rs e =
-        let two = are_both (next y) (all_sizes worth xs next zs) rs e in
-        subst (AreAmong ss (m ∷ ns)) two.whole (join_among ss m ns two.left two.right (agree m y r.0 r.1 two.left two.first) (all_below zs ns h two.right two.second))
+  module _ (next : Behind → Option L.Sizes) (agree : Agrees next) where
+    abbrev Below : ℕ → Piece → Type 0
+    Below n x = (rs : L.Sizes) → piece_sizes which worth xs next x ≡ Some rs → AreBelow ss n rs
 
-    rows_within : (ys : List Term) (ms : List ℕ) → AlikeAll (IsRow xs root worth refs t c ks ls ss) ys ms → (m : ℕ) → In ms m → m < length ss
-    rows_within ys ms none m i = absurd i
-    rows_within ys ms (both {n = y} {m = x} {ns = zs} {ms = ns} r h) m (inl e) = (let w = row_within t x (term_tree y) r.0 in let all = given.sources.all in omega (arith, w, all, e))
-    rows_within ys ms (both {n = y} {m = x} {ns = zs} {ms = ns} r h) m (inr i) = rows_within zs ns h m i
+    all_below : (bs : List Behind) (ms : List ℕ) → AlikeAll IsRowOf bs ms → (rs : L.Sizes) → all_behind next bs ≡ Some rs → AreAmong ss ms rs
+    all_below bs ms none rs e = subst (AreAmong ss []) (same_some [] rs e) (nothing_among ss)
+    all_below bs ms (both {n = b} {m = m} {ns = ds} {ms = ns} r h) rs e =
+        let two = are_both (next b) (all_behind next ds) rs e in
+        subst (AreAmong ss (m ∷ ns)) two.whole (join_among ss m ns two.left two.right (agree m b r two.left two.first) (all_below ds ns h two.right two.second))
+
+    rows_within : (bs : List Behind) (ms : List ℕ) → AlikeAll IsRowOf bs ms → (m : ℕ) → In ms m → m < length ss
+    rows_within bs ms none m i = absurd i
+    rows_within bs ms (both {n = b} {m = x} {ns = ds} {ms = ns} r h) m (inl e) = (let w = behind_within which xs root worth refs t c ks ls gs ss x b r in let all = given.sources.all in omega (arith, w, all, e))
+    rows_within bs ms (both {n = b} {m = x} {ns = ds} {ms = ns} r h) m (inr i) = rows_within ds ns h m i
 
     empty_join : (rs : L.Sizes) → rs ++ [] ≡ rs
     empty_join [] = refl
@@ -273,22 +278,23 @@ module _ (xs : List Definition) (root : Text) (worth : Values) (refs : List Ref)
     two_within a b k l x (inl e) = subst (λ y. y < length ss) e k
     two_within a b k l x (inr i) = one_within b l x i
 
-    hereditary : IsHereditary xs root worth refs t c ks ls ss Below
+    hereditary : IsHereditary which xs root worth refs t c ks ls gs ss Below
     hereditary = record {
       leaf = λ n x o e i rs q. own_below ss n o (view_at ss n) refl i rs (sym (e next) ∙ q);
-      inner = λ n m y v w h rs q. of_parts ss n (members_of (m ∷ [])) rs v (not_rows (m ∷ [])) (one_within m w) (one_among m rs (h rs q));
-      sides = λ n a b y z v w u g h rs q. (
-          let two = are_both (sizes_by worth xs next y) (sizes_by worth xs next z) rs q in
+      inner = λ n m x y e v w h rs q. of_parts ss n (members_of (m ∷ [])) rs v (not_rows (m ∷ [])) (one_within m w) (one_among m rs (h rs (sym (e next) ∙ q)));
+      sides = λ n a b x y z e v w u g h rs q. (
+          let two = are_both (piece_sizes which worth xs next y) (piece_sizes which worth xs next z) rs (sym (e next) ∙ q) in
           of_parts ss n (members_of (a ∷ b ∷ [])) rs v (not_rows (a ∷ b ∷ [])) (two_within a b w u) (subst (AreAmong ss (a ∷ b ∷ [])) two.whole (join_among ss a (b ∷ []) two.left two.right (g two.left two.first) (one_among b two.right (h two.right two.second)))));
-      name = λ n r ms v e h rs q. of_parts ss n (members_of_choices ms) rs v (not_choices ms) (rows_within (type_choices xs r) ms h) (all_below (type_choices xs r) ms h rs (sym (ap (λ (b : Bool). if b then None else all_sizes worth xs next (type_choices xs r)) e) ∙ q));
+      name = λ n x bs ms e v h rs q. of_parts ss n (members_of_choices ms) rs v (not_choices ms) (rows_within bs ms h) (all_below bs ms h rs (sym (e next) ∙ q));
     }
 
-    by_below : (n : ℕ) (x : Term) → IsTerm t n x → IsKnown xs root worth x → (rs : L.Sizes) → sizes_by worth xs next x ≡ Some rs → AreBelow ss n rs
-    by_below = at_each xs root worth refs t c ks ls ss given Below hereditary
+    behind_below : (n : ℕ) (b : Behind) → IsRowOf b n → (rs : L.Sizes) → behind_sizes which worth xs next b ≡ Some rs → AreBelow ss n rs
+    behind_below n (a_type x) i rs q = at_term which xs root worth refs t c ks ls gs ss given Below hereditary n x i.0 i.1 rs q
+    behind_below n (a_group ess) i rs q = at_group which xs root worth refs t c ks ls gs ss given Below hereditary n i.group i.there i.known rs (sym (ap (each_sizes which worth xs next) i.same ∙ alternatives_sizes which worth xs next i.group) ∙ q)
 
-  in_below : (k : ℕ) → Agrees (λ x. sizes_in worth xs k x)
-  in_below zero = by_below (λ u. None) (λ n x i k rs e. absurd (never_some rs e))
-  in_below (suc k) = by_below (λ u. sizes_in worth xs k u) (in_below k)
+  in_below : (k : ℕ) → Agrees (λ b. members_in which worth xs k b)
+  in_below zero = behind_below (λ b. None) (λ n b i rs e. absurd (never_some rs e))
+  in_below (suc k) = behind_below (λ b. members_in which worth xs k b) (in_below k)
 
-  pub sizes_below : (n : ℕ) (x : Term) → IsTerm t n x → IsKnown xs root worth x → (rs : L.Sizes) → sizes_of worth xs x ≡ Some rs → AreBelow ss n rs
-  sizes_below = in_below most_instances
+  pub members_below : (n : ℕ) (x : Term) → IsTerm t n x → IsKnown xs root worth x → (rs : L.Sizes) → members_that which worth xs x ≡ Some rs → AreBelow ss n rs
+  members_below n x i k = in_below most_instances n (a_type x) (i, k)

@@ -1,15 +1,14 @@
--- A type has members through so many names exactly where the depth of its row is no greater.
+-- A type, or a group, has members through so many names exactly where the depth of its row is no greater.
 use Rattle.std.proofs.Common.{◌≡◌, inl, inr, ℕ, zero, suc, ◌+◌, ◌<◌, ◌≤◌, List, [], ◌∷◌, length, map, Bool, true, false, if◌then◌else◌, Option, Some, None, refl, sym, ap, ◌∙◌, arith}
 use Rattle.std.specs.Prelude.{is_some, nat_le, nat_lt, ◌&&◌}
 use Rattle.lists.proofs.Lemmas.{and_false, and_true, before_or_not, beyond_all as nothing_past, less, not_below as not_less, not_both, test_at_most, test_greater, test_less, test_not_less, tested as is_either}
 use Rattle.cddl_meaning.specs.Alike.{AlikeAll, none, both}
 use Rattle.cddl_language.specs.Controls.{Membership}
 use Rattle.cddl_language.specs.Terms.{Text, Term, Ref, Definition}
-use Rattle.cddl_language.specs.Substitution.{type_choices}
 use Rattle.cddl_language.specs.Reach.{most_instances}
 use Rattle.cddl_language.specs.Literals.{Values}
 use Rattle.cddl_language.specs.Sizes as L
-use Rattle.cddl_language.specs.Sizes.{all_sizes, both_sizes, sizes_by, sizes_in}
+use Rattle.cddl_language.specs.Sizes.{Behind, a_type, a_group, behind_sizes, both_sizes, each_sizes, members_in}
 use Rattle.check_terms.specs.Table.{Table}
 use Rattle.check_terms.specs.Trees.{IsTerm}
 use Rattle.check_names.specs.declared.kinds.kinds.Kinds.{Kinds}
@@ -20,7 +19,9 @@ use Rattle.check_literals.specs.declared.sizes.sources.Source.{Source}
 use Rattle.check_literals.specs.Sizes.Sizes.{AreSizable, flag_at, is_flagged}
 use Rattle.check_literals.specs.Sizes.Sources.{View, members_of, members_of_choices, view_at, viewed}
 use Rattle.check_literals.specs.Sizes.Depths.{AreDepths, answered, deeper, deepest, depth_at, depth_by, goes, greater, is_few, through_name}
-use Rattle.check_literals.proofs.OfSizes.Induction.{AreGiven, IsHereditary, IsOwn, IsRow, at_each, no_own, own}
+use Rattle.check_groups.specs.declared.causes.rows.GroupRow.{GroupRow}
+use Rattle.check_literals.proofs.OfSizes.Alternatives.{alternatives_sizes}
+use Rattle.check_literals.proofs.OfSizes.Induction.{AreGiven, IsHereditary, IsOwn, IsRow, Piece, a_term, of_group, all_behind, at_group, at_term, no_own, own, piece_sizes}
 use Rattle.check_literals.proofs.OfSizes.Numbers.{at_most}
 
 -- through fewer names
@@ -95,7 +96,7 @@ both_some None p = refl
 both_some (Some rs) None = refl
 both_some (Some rs) (Some qs) = refl
 
-module _ (xs : List Definition) (root : Text) (worth : Values) (refs : List Ref) (t : Table) (c : Closed) (ks : Kinds) (ls : Literals) (ss : List Source) (given : AreGiven xs root worth refs t c ks ls ss) (ds : List (Option ℕ)) (are : AreDepths ss ds) where
+module _ (which : Membership) (xs : List Definition) (root : Text) (worth : Values) (refs : List Ref) (t : Table) (c : Closed) (ks : Kinds) (ls : Literals) (gs : List GroupRow) (ss : List Source) (given : AreGiven which xs root worth refs t c ks ls gs ss) (ds : List (Option ℕ)) (are : AreDepths ss ds) where
   depth_is : (n : ℕ) → depth_at ds n ≡ depth_by ds (view_at ss n)
   depth_is n = elim (before_or_not n (length ss)) [
     | inl l ↦ are.each n l
@@ -104,9 +105,15 @@ module _ (xs : List Definition) (root : Text) (worth : Values) (refs : List Ref)
         ap answered (nothing_past ds n (omega (arith, l, all))) ∙ sym (ap (λ (o : Option Source). depth_by ds (viewed o)) (nothing_past ss n l)))
   ]
 
-  module _ (next : Term → Option L.Sizes) (k : ℕ) (few : k ≤ most_instances) (agree : (n : ℕ) (x : Term) → IsTerm t n x → IsKnown xs root worth x → is_some (next x) ≡ below (depth_at ds n) k) where
-    abbrev Goes : ℕ → Term → Type 0
-    Goes n x = is_some (sizes_by worth xs next x) ≡ goes (depth_at ds n) k
+  abbrev IsRowOf : Behind → ℕ → Type 0
+  IsRowOf = IsRow which xs root worth refs t c ks ls gs ss
+
+  module _ (next : Behind → Option L.Sizes) (k : ℕ) (few : k ≤ most_instances) (agree : (n : ℕ) (b : Behind) → IsRowOf b n → is_some (next b) ≡ below (depth_at ds n) k) where
+    abbrev sizes : Piece → Option L.Sizes
+    sizes x = piece_sizes which worth xs next x
+
+    abbrev Goes : ℕ → Piece → Type 0
+    Goes n x = is_some (sizes x) ≡ goes (depth_at ds n) k
 
     own_goes : (o : Option L.Sizes) (v : View) → IsOwn o v → is_some o ≡ goes (depth_by ds v) k
     own_goes o v no_own = refl
@@ -115,28 +122,29 @@ module _ (xs : List Definition) (root : Text) (worth : Values) (refs : List Ref)
     by_depth : (n : ℕ) (b : Bool) (v : View) → view_at ss n ≡ v → b ≡ goes (depth_by ds v) k → b ≡ goes (depth_at ds n) k
     by_depth n b v e g = g ∙ sym (ap (λ (o : Option ℕ). goes o k) (depth_is n ∙ ap (depth_by ds) e))
 
-    all_go : (ys : List Term) (ms : List ℕ) → AlikeAll (IsRow xs root worth refs t c ks ls ss) ys ms → is_some (all_sizes worth xs next ys) ≡ goes (deepest true ds ms) k
-    all_go ys ms none = sym (at_start k)
-    all_go ys ms (both {n = y} {m = m} {ns = zs} {ms = ns} r h) =
-        both_some (next y) (all_sizes worth xs next zs) ∙ (ap (λ (b : Bool). b && is_some (all_sizes worth xs next zs)) (agree m y r.0 r.1 ∙ sym (named_goes (depth_at ds m) k few)) ∙ (ap (λ (b : Bool). goes (through_name (depth_at ds m)) k && b) (all_go zs ns h) ∙ sym (deeper_goes (through_name (depth_at ds m)) (deepest true ds ns) k)))
+    all_go : (bs : List Behind) (ms : List ℕ) → AlikeAll IsRowOf bs ms → is_some (all_behind next bs) ≡ goes (deepest true ds ms) k
+    all_go bs ms none = sym (at_start k)
+    all_go bs ms (both {n = b} {m = m} {ns = ds2} {ms = ns} r h) =
+        both_some (next b) (all_behind next ds2) ∙ (ap (λ (d : Bool). d && is_some (all_behind next ds2)) (agree m b r ∙ sym (named_goes (depth_at ds m) k few)) ∙ (ap (λ (d : Bool). goes (through_name (depth_at ds m)) k && d) (all_go ds2 ns h) ∙ sym (deeper_goes (through_name (depth_at ds m)) (deepest true ds ns) k)))
 
     one_goes : (m : ℕ) → goes (depth_at ds m) k ≡ goes (deepest false ds (m ∷ [])) k
     one_goes m = sym (deeper_goes (depth_at ds m) (Some 0) k ∙ (ap (λ (b : Bool). goes (depth_at ds m) k && b) (at_start k) ∙ and_true (goes (depth_at ds m) k)))
 
-    hereditary : IsHereditary xs root worth refs t c ks ls ss Goes
+    hereditary : IsHereditary which xs root worth refs t c ks ls gs ss Goes
     hereditary = record {
       leaf = λ n x o e i. ap is_some (e next) ∙ by_depth n (is_some o) (view_at ss n) refl (own_goes o (view_at ss n) i);
-      inner = λ n m y v w g. by_depth n (is_some (sizes_by worth xs next y)) (members_of (m ∷ [])) v (g ∙ one_goes m);
-      sides = λ n a b y z v w u g h. by_depth n (is_some (both_sizes (sizes_by worth xs next y) (sizes_by worth xs next z))) (members_of (a ∷ b ∷ [])) v (both_some (sizes_by worth xs next y) (sizes_by worth xs next z) ∙ (ap (λ (p : Bool). p && is_some (sizes_by worth xs next z)) g ∙ (ap (λ (p : Bool). goes (depth_at ds a) k && p) (h ∙ one_goes b) ∙ sym (deeper_goes (depth_at ds a) (deepest false ds (b ∷ [])) k))));
-      name = λ n r ms v e h. ap (λ (b : Bool). is_some (if b then None else all_sizes worth xs next (type_choices xs r))) e ∙ by_depth n (is_some (all_sizes worth xs next (type_choices xs r))) (members_of_choices ms) v (all_go (type_choices xs r) ms h);
+      inner = λ n m x y e v w g. by_depth n (is_some (sizes x)) (members_of (m ∷ [])) v (ap is_some (e next) ∙ (g ∙ one_goes m));
+      sides = λ n a b x y z e v w u g h. by_depth n (is_some (sizes x)) (members_of (a ∷ b ∷ [])) v (ap is_some (e next) ∙ (both_some (sizes y) (sizes z) ∙ (ap (λ (p : Bool). p && is_some (sizes z)) g ∙ (ap (λ (p : Bool). goes (depth_at ds a) k && p) (h ∙ one_goes b) ∙ sym (deeper_goes (depth_at ds a) (deepest false ds (b ∷ [])) k)))));
+      name = λ n x bs ms e v h. by_depth n (is_some (sizes x)) (members_of_choices ms) v (ap is_some (e next) ∙ all_go bs ms h);
     }
 
-    by_goes : (n : ℕ) (x : Term) → IsTerm t n x → IsKnown xs root worth x → is_some (sizes_by worth xs next x) ≡ goes (depth_at ds n) k
-    by_goes = at_each xs root worth refs t c ks ls ss given Goes hereditary
+    behind_goes : (n : ℕ) (b : Behind) → IsRowOf b n → is_some (behind_sizes which worth xs next b) ≡ goes (depth_at ds n) k
+    behind_goes n (a_type x) i = at_term which xs root worth refs t c ks ls gs ss given Goes hereditary n x i.0 i.1
+    behind_goes n (a_group ess) i = ap is_some (ap (each_sizes which worth xs next) i.same ∙ alternatives_sizes which worth xs next i.group) ∙ at_group which xs root worth refs t c ks ls gs ss given Goes hereditary n i.group i.there i.known
 
-  in_goes : (k : ℕ) → k ≤ most_instances → (n : ℕ) (x : Term) → IsTerm t n x → IsKnown xs root worth x → is_some (sizes_in worth xs k x) ≡ goes (depth_at ds n) k
-  in_goes zero l n x i e = by_goes (λ u. None) zero l (λ m y p q. sym (none_below (depth_at ds m))) n x i e
-  in_goes (suc k) l n x i e = by_goes (λ u. sizes_in worth xs k u) (suc k) l (λ m y p q. in_goes k (omega (arith, l)) m y p q ∙ goes_below (depth_at ds m) k) n x i e
+  in_goes : (k : ℕ) → k ≤ most_instances → (n : ℕ) (b : Behind) → IsRowOf b n → is_some (members_in which worth xs k b) ≡ goes (depth_at ds n) k
+  in_goes zero l n b i = behind_goes (λ d. None) zero l (λ m d p. sym (none_below (depth_at ds m))) n b i
+  in_goes (suc k) l n b i = behind_goes (λ d. members_in which worth xs k d) (suc k) l (λ m d p. in_goes k (omega (arith, l)) m d p ∙ goes_below (depth_at ds m) k) n b i
 
   flag_of : (es : List (Option ℕ)) (n : ℕ) → flag_at (map is_few es) n ≡ goes (depth_at es n) most_instances
   flag_of [] n = refl
@@ -147,5 +155,5 @@ module _ (xs : List Definition) (root : Text) (worth : Values) (refs : List Ref)
       by false = refl
   flag_of (d ∷ es) (suc n) = flag_of es n
 
-  pub are_sizable : (flags : List Bool) → flags ≡ map is_few ds → (m : Membership) → AreSizable xs root worth t m flags
-  are_sizable flags e m n x i k = ap (λ (fs : List Bool). flag_at fs n) e ∙ (flag_of ds n ∙ sym (in_goes most_instances (omega arith) n x i k))
+  pub are_sizable : (flags : List Bool) → flags ≡ map is_few ds → AreSizable xs root worth t which flags
+  are_sizable flags e n x i k = ap (λ (fs : List Bool). flag_at fs n) e ∙ (flag_of ds n ∙ sym (in_goes most_instances (omega arith) n (a_type x) (i, k)))

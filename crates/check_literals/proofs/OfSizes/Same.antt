@@ -25,7 +25,8 @@ use Rattle.check_literals.specs.declared.sizes.sources.Source.{Source}
 use Rattle.check_literals.specs.Sizes.Sizes.{AreSizable, AreSizes, SameSizes, flag_at, list_at, sizes_at}
 use Rattle.check_literals.specs.Sizes.Controllers.{AreListed, HaveLists, IsListed, controller_at, controller_in, is_one, is_same_membership, is_such_name}
 use Rattle.check_literals.specs.Sizes.Reach.{ranges_of}
-use Rattle.check_literals.proofs.OfSizes.Below.{reached_below, same_sizes, sizes_below}
+use Rattle.check_literals.proofs.OfSizes.Below.{reached_below, members_below, same_sizes}
+use Rattle.check_groups.specs.declared.causes.rows.GroupRow.{GroupRow}
 use Rattle.check_literals.proofs.OfSizes.Induction.{AreGiven, row_within}
 
 -- as many bytes as a number says
@@ -65,7 +66,7 @@ none_same : (o p : Option L.Sizes) → is_some o ≡ false → p ≡ None → Sa
 none_same (Some rs) p e q = absurd (not_both true refl e)
 none_same None p e q = subst (SameSizes None) (sym q) tt
 
-module _ (which : Membership) (xs : List Definition) (root : Text) (worth : Values) (refs : List Ref) (t : Table) (c : Closed) (ks : Kinds) (ls : Literals) (ss : List Source) (given : AreGiven xs root worth refs t c ks ls ss) (one : (n m : Option ℕ) (x : Tree) → Holds t n x → Holds t m x → n ≡ m) (flags : List Bool) (sizable : AreSizable xs root worth t which flags) (z : Sizes) (listed : AreListed ss flags z) (all : HaveLists which t flags (length t.rows) z) where
+module _ (which : Membership) (xs : List Definition) (root : Text) (worth : Values) (refs : List Ref) (t : Table) (c : Closed) (ks : Kinds) (ls : Literals) (gs : List GroupRow) (ss : List Source) (given : AreGiven which xs root worth refs t c ks ls gs ss) (one : (n m : Option ℕ) (x : Tree) → Holds t n x → Holds t m x → n ≡ m) (flags : List Bool) (sizable : AreSizable xs root worth t which flags) (z : Sizes) (listed : AreListed ss flags z) (all : HaveLists which t flags (length t.rows) z) where
   record IsAsked (n j : ℕ) : Type 0 where
     pub within : j < length t.rows
     pub asks : controller_at which t j ≡ Some n
@@ -84,8 +85,8 @@ module _ (which : Membership) (xs : List Definition) (root : Text) (worth : Valu
   list_there : (n i : ℕ) → slice_get z.rows.items n ≡ Some (Some i) → (v : NumberSet) → slice_get z.lists.items i ≡ Some v → sizes_at z n ≡ Some (set_view v)
   list_there n i e v g = ap (list_at z.lists.items) e ∙ ap (option_map set_view) g
 
-  same_list : (n i : ℕ) (x : Term) → IsTerm t n x → IsKnown xs root worth x → is_some (members_of worth xs which x) ≡ true → slice_get z.rows.items n ≡ Some (Some i) → IsListed ss n i z.lists.items → SameSizes (members_of worth xs which x) (sizes_at z n)
-  same_list n i x h k some e l = some_same (members_of worth xs which x) (sizes_at z n) (set_view l.list) some (list_there n i e l.list l.there) (λ rs q v. same_sizes ss n rs (ranges_of ss l.is_list.reached) (sizes_below xs root worth refs t c ks ls ss given n x h k rs q) (reached_below ss n l.is_list.reached l.is_list.are_reached) v ∙ l.is_list.same v)
+  same_list : (n i : ℕ) (x : Term) → IsTerm t n x → IsKnown xs root worth x → is_some (members_of which worth xs x) ≡ true → slice_get z.rows.items n ≡ Some (Some i) → IsListed ss n i z.lists.items → SameSizes (members_of which worth xs x) (sizes_at z n)
+  same_list n i x h k some e l = some_same (members_of which worth xs x) (sizes_at z n) (set_view l.list) some (list_there n i e l.list l.there) (λ rs q v. same_sizes ss n rs (ranges_of ss l.is_list.reached) (members_below which xs root worth refs t c ks ls gs ss given n x h k rs q) (reached_below ss n l.is_list.reached l.is_list.are_reached) v ∙ l.is_list.same v)
 
   pub are_sizes : AreSizes xs root worth t which z
   are_sizes n x is h k = elim (is_either (flag_at flags n)) [
@@ -96,5 +97,5 @@ module _ (which : Membership) (xs : List Definition) (root : Text) (worth : Valu
         let places = listed.all in
         let p = (all is.row n a.within a.asks).place on (omega (arith, w, rows, places)) in
         same_list n p.0 x h k (sym (sizable n x h k) ∙ on) p.1 (listed.each n p.0 p.1))
-    | inr off ↦ none_same (members_of worth xs which x) (sizes_at z n) (sym (sizable n x h k) ∙ off) (no_list n (slice_get z.rows.items n) refl off)
+    | inr off ↦ none_same (members_of which worth xs x) (sizes_at z n) (sym (sizable n x h k) ∙ off) (no_list n (slice_get z.rows.items n) refl off)
   ]

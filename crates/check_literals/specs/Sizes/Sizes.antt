@@ -61,14 +61,14 @@ flag_at flags n = is_flagged (slice_get flags n)
 module _ (xs : List Definition) (root : Text) (worth : Values) (t : Table) where
   -- for each row of a type whether it may be such a controller
   abbrev pub AreSizable : Membership → List Bool → Type 0
-  AreSizable m flags = (n : ℕ) (x : Term) → IsTerm t n x → IsKnown xs root worth x → flag_at flags n ≡ is_some (members_of worth xs m x)
+  AreSizable m flags = (n : ℕ) (x : Term) → IsTerm t n x → IsKnown xs root worth x → flag_at flags n ≡ is_some (members_of m worth xs x)
 
   abbrev pub AreControllers : Controllers → Type 0
   AreControllers c = (m : Membership) → AreSizable m (flags_of c m)
 
   -- the members of each such controller
   abbrev pub AreSizes : Membership → Sizes → Type 0
-  AreSizes m z = (n : ℕ) (x : Term) → IsController m t n → IsTerm t n x → IsKnown xs root worth x → SameSizes (members_of worth xs m x) (sizes_at z n)
+  AreSizes m z = (n : ℕ) (x : Term) → IsController m t n → IsTerm t n x → IsKnown xs root worth x → SameSizes (members_of m worth xs x) (sizes_at z n)
 
   abbrev pub AreMembers : Members → Type 0
   AreMembers z = (m : Membership) → AreSizes m (sizes_of z m)

@@ -1,6 +1,7 @@
 -- Of what the members of a row's type are, one step down, by rows.
 use Rattle.std.specs.Prelude.{◌≡◌, ◌⊎◌, ◌<◌, ℕ, zero, suc, Bool, true, false, if◌then◌else◌, List, [], ◌∷◌, length, Option, Some, None, slice_get}
 use Rattle.cddl_literal.specs.Numbers.{Meaning, UintOf}
+use Rattle.cddl_language.specs.Terms.{Text}
 use Rattle.check_terms.specs.declared.row.Form.{Form}
 use Rattle.check_terms.specs.declared.row.Form.TheVariants as F
 use Rattle.check_terms.specs.declared.row.Row.{Row}
@@ -9,6 +10,12 @@ use Rattle.check_names.specs.declared.kinds.kinds.Kinds.{Kinds}
 use Rattle.check_names.specs.Kinds.Kinds.{is_group_there}
 use Rattle.check_instances.specs.declared.closed.closed.Closed.{Closed}
 use Rattle.check_instances.specs.declared.closed.closed.Meaning as M
+use Rattle.cddl_language.specs.Controls.{Membership}
+use Rattle.cddl_language.specs.Sizes.{opens_choices}
+use Rattle.check_groups.specs.declared.causes.rows.GroupRow.{GroupRow}
+use Rattle.check_groups.specs.declared.causes.rows.GroupRow.TheVariants as RowV
+use Rattle.check_groups.specs.Causes.Rows.{occurrence_at}
+use Rattle.check_groups.specs.Choosing.Occurrences.{is_once_at}
 use Rattle.check_literals.specs.declared.known.Literals.{Literals}
 use Rattle.check_literals.specs.Literals.{literal_at}
 use Rattle.table_nodes.specs.Sizes.{size_view}
@@ -16,7 +23,7 @@ use Rattle.check_literals.specs.declared.sizes.sources.Source.{Source}
 use Rattle.check_literals.specs.declared.sizes.sources.Source.TheVariants as SourceV
 
 -- A row has no members as it has to have them, or the numbers from a first to a last, or the members of other rows: of what
--- it is made of, or of the choices of the name that it is.
+-- it is made of, or of what stands behind the name that it is.
 pub data View : Type 0 where
   no_members : View
   numbers : ℕ × ℕ → View
@@ -90,18 +97,83 @@ abbrev pub named_view : List Row → Closed → Kinds → Option ℕ → View
 named_view rows c ks None = no_members
 named_view rows c ks (Some a) = if has_group_name ks (slice_get rows a) then no_members else choices_at c.meanings.items (slice_get c.places.items a)
 
+-- what `&` chooses from
+
+-- no numbers, as of a group without alternatives
+abbrev pub no_numbers : View
+no_numbers = numbers (1, 0)
+
+-- the group behind a name
+abbrev pub group_view : Option ℕ → View
+group_view None = no_numbers
+group_view (Some n) = members_of_choices (n ∷ [])
+
+abbrev pub alternatives_in : Option M.Meaning → View
+alternatives_in None = no_members
+alternatives_in (Some m) = group_view m.group
+
+abbrev pub alternatives_at : List M.Meaning → Option (Option ℕ) → View
+alternatives_at ms (Some (Some k)) = alternatives_in (slice_get ms k)
+alternatives_at ms _ = no_members
+
+abbrev pub by_name_view : Closed → Option ℕ → View
+by_name_view c None = no_members
+by_name_view c (Some a) = alternatives_at c.meanings.items (slice_get c.places.items a)
+
+-- What stands at a row of a group, of entries or of an entry: the group in an entry is in parentheses, or behind a name.
+
+abbrev pub inner_view : Form → Option ℕ → View
+inner_view F.Grouped g = row_view g
+inner_view _ g = group_view g
+
+abbrev pub standing_view : Form → Option ℕ → Option ℕ → GroupRow → View
+standing_view f i j RowV.Other = no_members
+standing_view f i j (RowV.Sole n) = members_of (n ∷ [])
+standing_view f i j (RowV.OrElse n m) = members_of (n ∷ m ∷ [])
+standing_view f i j RowV.NoEntries = no_numbers
+standing_view f i j (RowV.Entries n m) = members_of (n ∷ m ∷ [])
+standing_view f i j (RowV.Type k) = row_view i
+standing_view f i j (RowV.Pair k) = row_view j
+standing_view f i j (RowV.Group k g) = inner_view f g
+
+-- an entry has to occur once
+abbrev pub once_view : List Text → Form → Option ℕ → Option ℕ → GroupRow → View
+once_view texts f i j r = if is_once_at texts (occurrence_at r) then standing_view f i j r else no_members
+
+abbrev pub group_row_view : List Text → Form → Option ℕ → Option ℕ → Option GroupRow → View
+group_row_view texts f i j None = no_members
+group_row_view texts f i j (Some r) = once_view texts f i j r
+
+-- a type without ways through `&`
 module _ (t : Table) (c : Closed) (ks : Kinds) (ls : Literals) where
+  abbrev pub type_view : ℕ → Form → Option ℕ → Option ℕ → View
+  type_view n F.Number i j = one_number (uint_in (literal_at ls n))
+  type_view n F.Text i j = one_number (uint_in (literal_at ls n))
+  type_view n F.Bytes i j = one_number (uint_in (literal_at ls n))
+  type_view n F.Control i j = one_number (uint_in (literal_at ls n))
+  type_view n F.Range i j = numbers_between true (uint_at ls i) (uint_at ls j)
+  type_view n F.RangeBelow i j = numbers_between false (uint_at ls i) (uint_at ls j)
+  type_view n F.Parens i j = row_view i
+  type_view n F.Or i j = both_view i j
+  type_view n F.Named i j = named_view t.rows c ks i
+  type_view n _ i j = no_members
+
+module _ (which : Membership) (t : Table) (c : Closed) (ks : Kinds) (ls : Literals) (gs : List GroupRow) where
+  abbrev pub in_group : ℕ → Form → Option ℕ → Option ℕ → View
+  in_group n f i j = group_row_view t.texts f i j (slice_get gs n)
+
   abbrev pub form_view : ℕ → Form → Option ℕ → Option ℕ → View
-  form_view n F.Number i j = one_number (uint_in (literal_at ls n))
-  form_view n F.Text i j = one_number (uint_in (literal_at ls n))
-  form_view n F.Bytes i j = one_number (uint_in (literal_at ls n))
-  form_view n F.Control i j = one_number (uint_in (literal_at ls n))
-  form_view n F.Range i j = numbers_between true (uint_at ls i) (uint_at ls j)
-  form_view n F.RangeBelow i j = numbers_between false (uint_at ls i) (uint_at ls j)
-  form_view n F.Parens i j = row_view i
-  form_view n F.Or i j = both_view i j
-  form_view n F.Named i j = named_view t.rows c ks i
-  form_view n _ i j = no_members
+  form_view n F.ChoiceOf i j = if opens_choices which then row_view i else no_members
+  form_view n F.ChoiceOfName i j = if opens_choices which then by_name_view c i else no_members
+  form_view n F.Sole i j = in_group n F.Sole i j
+  form_view n F.OrElse i j = in_group n F.OrElse i j
+  form_view n F.NoEntries i j = in_group n F.NoEntries i j
+  form_view n F.Entries i j = in_group n F.Entries i j
+  form_view n F.EntriesComma i j = in_group n F.EntriesComma i j
+  form_view n F.Typed i j = in_group n F.Typed i j
+  form_view n F.Keyed i j = in_group n F.Keyed i j
+  form_view n F.Grouped i j = in_group n F.Grouped i j
+  form_view n f i j = type_view t c ks ls n f i j
 
   abbrev pub row_source : ℕ → Option Row → View
   row_source n None = no_members

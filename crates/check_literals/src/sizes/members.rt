@@ -11,6 +11,8 @@ ghost use Rattle.cddl_language.specs.Terms.{Ref, Text};
 ghost use Rattle.check_literals.specs.Literals.{AreLiterals};
 ghost use Rattle.check_literals.specs.Sizes.Controllers.{AreListed, HasList, HaveLists, IsReady, KeepsLists, controller_at, is_free, is_one, is_same_membership, is_wanted, is_such_form, is_such_text};
 ghost use Rattle.check_literals.specs.Sizes.Sizes.{AreControllers, AreMembers, AreSizable, AreSizes, flag_at};
+ghost use Rattle.check_groups.specs.Causes.Rows.{AreRows};
+ghost use Rattle.check_instances.specs.Openings.Openings.{AreOpenings};
 ghost use Rattle.check_terms.specs.Texts.Controls.{membership_view};
 ghost use Rattle.tree_nodes.specs.Syntax.Syntax.{Cddl};
 
@@ -19,8 +21,11 @@ use crate::sizes::known::{Controllers, Members, Sizes};
 use crate::sizes::reach::{Search, no_search, set_of};
 use crate::sizes::sources::{Source, sources};
 use cddl_language::written::reached_values;
+use check_groups::rows::{GroupRow, group_rows};
 use check_instances::closed::Closed;
 use check_instances::closed::laws::{meaning_at, meanings_are_reached, place_of};
+use check_instances::openings::Opening;
+use check_instances::openings::laws::part_is_reached;
 use check_names::kinds::Kinds;
 use check_terms::laws::equal_numbers;
 use check_terms::texts::{Control, Membership, control_of};
@@ -39,36 +44,40 @@ pub fn members(
     terms: &Terms<'_>,
     closed: &Closed,
     kinds: &Kinds,
+    openings: &[Opening],
     literals: &Literals,
     controllers: &Controllers,
 ) -> Result<Members, AllocError>
-    ensures { IfOk result (λ z. (x : Cddl) (worth : Values) (root : Text) (refs : List Ref) → AreRight x worth → IsClosed (definitions_in (rules_of x)) root refs terms.now closed.now → AreKinds terms.now.texts (definitions_in (rules_of x)) kinds.now → AreLiterals (definitions_in (rules_of x)) root worth terms.now literals.now → AreControllers (definitions_in (rules_of x)) root worth terms.now controllers.now → AreMembers (definitions_in (rules_of x)) root worth terms.now z) }
+    ensures { IfOk result (λ z. (x : Cddl) (worth : Values) (root : Text) (refs : List Ref) → AreRight x worth → IsClosed (definitions_in (rules_of x)) root refs terms.now closed.now → AreKinds terms.now.texts (definitions_in (rules_of x)) kinds.now → AreOpenings (definitions_in (rules_of x)) terms.now refs openings.now → AreLiterals (definitions_in (rules_of x)) root worth terms.now literals.now → AreControllers (definitions_in (rules_of x)) root worth terms.now controllers.now → AreMembers (definitions_in (rules_of x)) root worth terms.now z) }
 {
-    let sizable = controllers.of(Membership::Size);
-    let sizes = sizes(alloc, terms, closed, kinds, literals, Membership::Size, sizable)?;
-    let sizable = controllers.of(Membership::Bits);
-    let bits = sizes(alloc, terms, closed, kinds, literals, Membership::Bits, sizable)?;
+    let groups = group_rows(alloc, terms, closed, kinds, openings)?;
+    let size = Membership::Size;
+    let sizes = sizes_of(alloc, terms, closed, kinds, literals, &groups, size, controllers.of(size))?;
+    let bit = Membership::Bits;
+    let bits = sizes_of(alloc, terms, closed, kinds, literals, &groups, bit, controllers.of(bit))?;
     Ok(Members { sizes, bits })
 }
 
 // The members of the controllers of one of these controls.
-fn sizes(
+fn sizes_of(
     alloc: Global,
     terms: &Terms<'_>,
     closed: &Closed,
     kinds: &Kinds,
     literals: &Literals,
+    groups: &[GroupRow],
     membership: Membership,
     sizable: &[bool],
 ) -> Result<Sizes, AllocError>
-    ensures { IfOk result (λ z. (x : Cddl) (worth : Values) (root : Text) (refs : List Ref) → AreRight x worth → IsClosed (definitions_in (rules_of x)) root refs terms.now closed.now → AreKinds terms.now.texts (definitions_in (rules_of x)) kinds.now → AreLiterals (definitions_in (rules_of x)) root worth terms.now literals.now → AreSizable (definitions_in (rules_of x)) root worth terms.now (membership_view membership) sizable.now → AreSizes (definitions_in (rules_of x)) root worth terms.now (membership_view membership) z) }
+    ensures { IfOk result (λ z. (x : Cddl) (worth : Values) (root : Text) (refs : List Ref) → AreRight x worth → IsClosed (definitions_in (rules_of x)) root refs terms.now closed.now → AreKinds terms.now.texts (definitions_in (rules_of x)) kinds.now → AreLiterals (definitions_in (rules_of x)) root worth terms.now literals.now → AreRows (definitions_in (rules_of x)) root terms.now groups.now → AreSizable (definitions_in (rules_of x)) root worth terms.now (membership_view membership) sizable.now → AreSizes (definitions_in (rules_of x)) root worth terms.now (membership_view membership) z) }
 {
     equal_numbers(terms);
     place_of(terms);
     meaning_at();
     meanings_are_reached();
     reached_values();
-    let sources = sources(alloc, terms, closed, kinds, literals)?;
+    part_is_reached();
+    let sources = sources(alloc, terms, closed, kinds, literals, groups, membership)?;
     listed(alloc, terms, &sources, membership, sizable)
 }
 

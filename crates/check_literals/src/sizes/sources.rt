@@ -2,13 +2,18 @@
 
 ghost use Rattle.std.specs.Prelude.{◌≡◌, IfOk, length, slice_get};
 ghost use Rattle.table_nodes.specs.Sizes.{size_view};
-ghost use Rattle.check_literals.specs.Sizes.Sources.{AreSources, both_view, choices_at, choices_in, has_group_name, named_view, numbers, numbers_between, one_number, parts_in, range_to, row_view, source_of, source_view, uint_at, uint_in};
+ghost use Rattle.check_literals.specs.Sizes.Sources.{AreSources, both_view, choices_at, choices_in, has_group_name, named_view, numbers, numbers_between, one_number, parts_in, range_to, row_view, source_of, source_view, type_view, uint_at, uint_in};
+ghost use Rattle.cddl_language.specs.Sizes.{opens_choices};
+ghost use Rattle.check_terms.specs.Texts.Controls.{membership_view};
 ghost use Rattle.check_literals.specs.Literals.{literal_at};
 
 use crate::Literals;
+use crate::sizes::chosen::{choices_by_name, group_source};
 use cddl_literal::Literal;
+use check_groups::rows::GroupRow;
 use check_instances::closed::Closed;
 use check_names::kinds::Kinds;
+use check_terms::texts::Membership;
 use check_terms::{Form, Row, Terms};
 use std::alloc::{AllocError, Global};
 use table_nodes::NumberRange;
@@ -22,7 +27,7 @@ pub(crate) enum Source {
     Numbers(NumberRange),
     /// The members of all of these rows.
     Rows(Vec<u32>),
-    /// The members of all of these rows, the choices of a name.
+    /// The members of all of these rows, which stand behind a name.
     Choices(Vec<u32>),
 }
 
@@ -33,13 +38,16 @@ pub(crate) fn sources(
     closed: &Closed,
     kinds: &Kinds,
     literals: &Literals,
+    groups: &[GroupRow],
+    membership: Membership,
 ) -> Result<Vec<Source>, AllocError>
-    ensures { IfOk result (λ v. AreSources terms.now closed.now kinds.now literals.now v.items) }
+    ensures { IfOk result (λ v. AreSources (membership_view membership) terms.now closed.now kinds.now literals.now groups.now v.items) }
 {
     let count = terms.row_count()?;
     let mut sources = Vec::new(alloc);
     for number in 0..count {
-        let source = source_of(alloc, terms, closed, kinds, literals, number)?;
+        let source =
+            source_of(alloc, terms, closed, kinds, literals, groups, membership, number)?;
         sources.push(source)?;
     }
     Ok(sources)
@@ -51,13 +59,54 @@ fn source_of(
     closed: &Closed,
     kinds: &Kinds,
     literals: &Literals,
+    groups: &[GroupRow],
+    membership: Membership,
     number: u32,
 ) -> Result<Source, AllocError>
-    ensures { IfOk result (λ s. source_view s ≡ source_of terms.now closed.now kinds.now literals.now number) }
+    ensures { IfOk result (λ s. source_view s ≡ source_of (membership_view membership) terms.now closed.now kinds.now literals.now groups.now number) }
 {
     let Some(row) = terms.row(number) else {
         return Ok(Source::Nothing);
     };
+    match row.form {
+        Form::ChoiceOf if opens_choices(membership) => one_row(alloc, row.first),
+        Form::ChoiceOfName if opens_choices(membership) => {
+            choices_by_name(alloc, closed, row.first)
+        }
+        Form::Sole
+        | Form::OrElse
+        | Form::NoEntries
+        | Form::Entries
+        | Form::EntriesComma
+        | Form::Typed
+        | Form::Keyed
+        | Form::Grouped => group_source(alloc, terms, groups, row, number),
+        _ => type_source(alloc, terms, closed, kinds, literals, row, number),
+    }
+}
+
+// Whether there is a way through `&`.
+fn opens_choices(membership: Membership) -> bool
+    ensures { result ≡ opens_choices (membership_view membership) }
+{
+    match membership {
+        Membership::Size => false,
+        Membership::Bits => true,
+    }
+}
+
+// The source of a row of a type, without ways through `&`.
+fn type_source(
+    alloc: Global,
+    terms: &Terms<'_>,
+    closed: &Closed,
+    kinds: &Kinds,
+    literals: &Literals,
+    row: Row,
+    number: u32,
+) -> Result<Source, AllocError>
+    ensures { IfOk result (λ s. source_view s ≡ type_view terms.now closed.now kinds.now literals.now number row.form row.first row.second) }
+{
     match row.form {
         Form::Number | Form::Text | Form::Bytes | Form::Control => {
             Ok(one_number(uint_at(literals, Some(number))))
@@ -126,7 +175,7 @@ fn range_to(closed: bool, least: u64, last: u64) -> NumberRange
     }
 }
 
-fn one_row(alloc: Global, row: Option<u32>) -> Result<Source, AllocError>
+pub(crate) fn one_row(alloc: Global, row: Option<u32>) -> Result<Source, AllocError>
     ensures { IfOk result (λ s. source_view s ≡ row_view row) }
 {
     let Some(row) = row else {
@@ -137,7 +186,7 @@ fn one_row(alloc: Global, row: Option<u32>) -> Result<Source, AllocError>
     Ok(Source::Rows(rows))
 }
 
-fn two_rows(alloc: Global, first: Option<u32>, second: Option<u32>) -> Result<Source, AllocError>
+pub(crate) fn two_rows(alloc: Global, first: Option<u32>, second: Option<u32>) -> Result<Source, AllocError>
     ensures { IfOk result (λ s. source_view s ≡ both_view first second) }
 {
     let (Some(first), Some(second)) = (first, second) else {

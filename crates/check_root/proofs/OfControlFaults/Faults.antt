@@ -114,18 +114,18 @@ pub data IsAt (s : Specification) (worth : Values) (root : Text) (w : Wrong) (at
 
 -- What is wrong by the question, where the question is one of a type.
 module _ (s : Specification) (worth : Values) (w : Wrong) (z : Term) where
-  at_comparand : (c : Comparison) → is_wrong (definitions s) worth w (comparand_question c) z ≡ is_wrong_type w (comparand_question c) (literal_of worth (definitions s) z) (is_some (members_of worth (definitions s) of_size z))
+  at_comparand : (c : Comparison) → is_wrong (definitions s) worth w (comparand_question c) z ≡ is_wrong_type w (comparand_question c) (literal_of worth (definitions s) z) (is_some (members_of of_size worth (definitions s) z))
   at_comparand c = by (is_ordering c)
     where
-      by : (b : Bool) → is_wrong (definitions s) worth w (if b then QuestionV.IsNumber else QuestionV.IsLiteral) z ≡ is_wrong_type w (if b then QuestionV.IsNumber else QuestionV.IsLiteral) (literal_of worth (definitions s) z) (is_some (members_of worth (definitions s) of_size z))
+      by : (b : Bool) → is_wrong (definitions s) worth w (if b then QuestionV.IsNumber else QuestionV.IsLiteral) z ≡ is_wrong_type w (if b then QuestionV.IsNumber else QuestionV.IsLiteral) (literal_of worth (definitions s) z) (is_some (members_of of_size worth (definitions s) z))
       by true = refl
       by false = refl
 
-  at_controller_of : (m : Membership) → is_wrong (definitions s) worth w (members_question m) z ≡ is_wrong_type w (members_question m) (literal_of worth (definitions s) z) (is_some (members_of worth (definitions s) m z))
+  at_controller_of : (m : Membership) → is_wrong (definitions s) worth w (members_question m) z ≡ is_wrong_type w (members_question m) (literal_of worth (definitions s) z) (is_some (members_of m worth (definitions s) z))
   at_controller_of of_size = refl
   at_controller_of of_bits = refl
 
-  at_side : (c : Computation) → is_wrong (definitions s) worth w (operand_question c) z ≡ is_wrong_type w (operand_question c) (literal_of worth (definitions s) z) (is_some (members_of worth (definitions s) of_size z))
+  at_side : (c : Computation) → is_wrong (definitions s) worth w (operand_question c) z ≡ is_wrong_type w (operand_question c) (literal_of worth (definitions s) z) (is_some (members_of of_size worth (definitions s) z))
   at_side sum = refl
   at_side (join j) = refl
 

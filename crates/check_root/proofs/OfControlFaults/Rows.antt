@@ -42,11 +42,11 @@ other_row t ls w QuestionV.Computes n e = absurd (true≢false e)
 
 module _ (xs : List Definition) (worth : Values) where
   pub other_term : (w : Wrong) (q : Question) (x : Term) → is_asked q ≡ false → is_wrong xs worth w q x ≡ false
-  other_term w QuestionV.ChoosesFrom x e = other_type w QuestionV.ChoosesFrom (literal_of worth xs x) (is_some (members_of worth xs of_size x)) refl refl
-  other_term w QuestionV.ChoosesByName x e = other_type w QuestionV.ChoosesByName (literal_of worth xs x) (is_some (members_of worth xs of_size x)) refl refl
-  other_term w QuestionV.IsWhole x e = other_type w QuestionV.IsWhole (literal_of worth xs x) (is_some (members_of worth xs of_size x)) refl refl
-  other_term w QuestionV.MapGroup x e = other_type w QuestionV.MapGroup (literal_of worth xs x) (is_some (members_of worth xs of_size x)) refl refl
-  other_term w (QuestionV.Entry h) x e = other_type w (QuestionV.Entry h) (literal_of worth xs x) (is_some (members_of worth xs of_size x)) refl refl
+  other_term w QuestionV.ChoosesFrom x e = other_type w QuestionV.ChoosesFrom (literal_of worth xs x) (is_some (members_of of_size worth xs x)) refl refl
+  other_term w QuestionV.ChoosesByName x e = other_type w QuestionV.ChoosesByName (literal_of worth xs x) (is_some (members_of of_size worth xs x)) refl refl
+  other_term w QuestionV.IsWhole x e = other_type w QuestionV.IsWhole (literal_of worth xs x) (is_some (members_of of_size worth xs x)) refl refl
+  other_term w QuestionV.MapGroup x e = other_type w QuestionV.MapGroup (literal_of worth xs x) (is_some (members_of of_size worth xs x)) refl refl
+  other_term w (QuestionV.Entry h) x e = other_type w (QuestionV.Entry h) (literal_of worth xs x) (is_some (members_of of_size worth xs x)) refl refl
   other_term w QuestionV.IsLiteral x e = absurd (true≢false e)
   other_term w QuestionV.IsNumber x e = absurd (true≢false e)
   other_term w QuestionV.HasSizes x e = absurd (true≢false e)
@@ -56,7 +56,7 @@ module _ (xs : List Definition) (worth : Values) where
   other_term w QuestionV.Computes x e = absurd (true≢false e)
 
 module _ (xs : List Definition) (root : Text) (worth : Values) (t : Table) (ls : Literals) (literals : AreLiterals xs root worth t ls) where
-  same_type : (w : Wrong) → AreFlags xs root worth t w → (q : Question) (n : ℕ) (x : Term) → IsTerm t n x → IsKnown xs root worth x → is_wrong_type w q (literal_at ls n) (has_members w q n) ≡ is_wrong_type w q (literal_of worth xs x) (is_some (members_of worth xs (membership_asked q) x))
+  same_type : (w : Wrong) → AreFlags xs root worth t w → (q : Question) (n : ℕ) (x : Term) → IsTerm t n x → IsKnown xs root worth x → is_wrong_type w q (literal_at ls n) (has_members w q n) ≡ is_wrong_type w q (literal_of worth xs x) (is_some (members_of (membership_asked q) worth xs x))
   same_type WrongV.NotLiteral flags q n x h k = ap (is_wrong_literal q) (literals.values n x h k)
   same_type (WrongV.BadController b) flags q n x h k = ap (λ m. is_bad_controller q m (flag_at (flags_of b.now (membership_asked q)) n)) (literals.values n x h k) ∙ ap (is_bad_controller q (literal_of worth xs x)) (flags (membership_asked q) n x h k)
 

@@ -4,7 +4,7 @@ use Rattle.std.specs.List.{Contains}
 use Rattle.lists.proofs.Lemmas.{contains_at}
 use Rattle.cddl_token.specs.declared.Token.{Token}
 use Rattle.tree_nodes.specs.Syntax.Syntax as S
-use Rattle.cddl_language.specs.Controls.{Comparison, is_ordering, Computation, sum, join}
+use Rattle.cddl_language.specs.Controls.{Comparison, is_ordering, Computation, Membership, of_size, of_bits, sum, join}
 use Rattle.cddl_language.specs.Faults.{Specification, definitions, rules}
 use Rattle.cddl_language.specs.MapFaults.{HasTooManyAlternatives}
 use Rattle.cddl_language.specs.Reach.{Point, Reaches, group_points, ref_at}
@@ -17,7 +17,7 @@ use Rattle.check_maps.specs.MapFaults.Faults.{AreFaults}
 use Rattle.check_reached.specs.declared.asked.Asked.{Asked}
 use Rattle.check_reached.specs.declared.asked.Question.{Question}
 use Rattle.check_reached.specs.declared.asked.Question.TheVariants as QuestionV
-use Rattle.check_reached.specs.Asked.{AreAsked, IsAsked, choosing, choosing_by_name, comparand_question, computation, controller, first_end, last_end, left_operand, of_map, operand_question, size_controller}
+use Rattle.check_reached.specs.Asked.{AreAsked, IsAsked, choosing, choosing_by_name, comparand_question, computation, controller, first_end, last_end, left_operand, members_controller, members_question, of_map, operand_question}
 use Rattle.lists.specs.Least.{IsLeast}
 use Rattle.check_terms.specs.Table.{Table}
 use Rattle.check_root.specs.Least.{least_over}
@@ -48,6 +48,10 @@ module _ (s : Specification) (root : Text) (inside : AreGroupsReached s root) (t
       by true = refl
       by false = refl
 
+  no_members : (m : Membership) (o : Option ℕ) → crowded_by (members_question m) o ≡ None
+  no_members of_size o = refl
+  no_members of_bits o = refl
+
   no_operand : (c : Computation) (o : Option ℕ) → crowded_by (operand_question c) o ≡ None
   no_operand sum o = refl
   no_operand (join j) o = refl
@@ -67,7 +71,7 @@ module _ (s : Specification) (root : Text) (inside : AreGroupsReached s root) (t
   of_question a at (choosing h is start q) e = no_offset at (with_question _ a at q e)
   of_question a at (choosing_by_name h is start q) e = no_offset at (with_question _ a at q e)
   of_question a at (controller {c = c} h o is start q) e = no_offset at (sym (uncrowded c (crowded a)) ∙ with_question _ a at q e)
-  of_question a at (size_controller h o is start q) e = no_offset at (with_question _ a at q e)
+  of_question a at (members_controller {m = m} h o is start q) e = no_offset at (sym (no_members m (crowded a)) ∙ with_question _ a at q e)
   of_question a at (left_operand {c = c} h o is start q) e = no_offset at (sym (no_operand c (crowded a)) ∙ with_question _ a at q e)
   of_question a at (computation h o is start q) e = no_offset at (with_question _ a at q e)
   of_question a at (first_end h o is start q) e = no_offset at (with_question _ a at q e)

@@ -155,7 +155,7 @@ module _ (xs : List Definition) (worth : Values) where
 
   abbrev pub is_wrong : Wrong → Question → Term → Bool
   is_wrong w QuestionV.Computes x = is_wrong_computed w x
-  is_wrong w q x = is_wrong_type w q (literal_of worth xs x) (is_some (members_of worth xs (membership_asked q) x))
+  is_wrong w q x = is_wrong_type w q (literal_of worth xs x) (is_some (members_of (membership_asked q) worth xs x))
 
   -- The question asks for it, and it is wrong with the type.
   pub record IsWrong (t : Table) (w : Wrong) (a : Asked) (at : ℕ) : Type 0 where

@@ -10,12 +10,12 @@ returns-clause-meant c s worth root refs right instances few found kinds most =
     let kinds_are = subst (λ ts. AreKinds ts (definitions s) c.args.kinds.now) (sym c.in_ok-closed.ensures.texts) kinds in
     let openings = c.in_ok-openings.ensures (definitions s) root refs closed kinds_are most in
     let literals = c.in_ok-literals.ensures s.tree worth root refs right closed kinds_are in
-    let controllers = c.in_ok-controllers.ensures s.tree worth root refs right closed kinds_are literals in
+    let controllers = c.in_ok-controllers.ensures s.tree worth root refs right closed kinds_are (subst (AreOpenings (definitions s) c.close.new.terms refs) (sym c.deref.ensures.value) openings) literals in
     record {
       closed = closed;
       openings = openings;
       literals = literals;
       controllers = controllers;
-      members = c.in_ok-members.ensures s.tree worth root refs right closed kinds_are literals controllers;
-      choosable = c.in_ok-choosable.ensures (definitions s) root refs (c.texts_have_entries.ensures (rules s)) closed kinds_are (subst (AreOpenings (definitions s) c.close.new.terms refs) (sym c.deref.ensures.value) openings);
+      members = c.in_ok-members.ensures s.tree worth root refs right closed kinds_are (subst (AreOpenings (definitions s) c.close.new.terms refs) (sym c.deref-2.ensures.value) openings) literals controllers;
+      choosable = c.in_ok-choosable.ensures (definitions s) root refs (c.texts_have_entries.ensures (rules s)) closed kinds_are (subst (AreOpenings (definitions s) c.close.new.terms refs) (sym c.deref-3.ensures.value) openings);
     }
