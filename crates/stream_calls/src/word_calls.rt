@@ -84,5 +84,8 @@ fn push_numbers(alloc: Global, options: &Options, out: &mut String) -> Result<()
     if options.deterministic {
         out.push_str(", deterministic")?;
     }
+    if options.explain {
+        out.push_str(", explain")?;
+    }
     Ok(())
 }
