@@ -205,7 +205,15 @@ fn valued_in(alloc: Global, terms: &Terms<'_>, opened: &Opened) -> Option<Valued
     let Ok(controllers) = controllers(alloc, terms, closed, kinds, openings, &literals) else {
         return None;
     };
-    match members(alloc, terms, closed, kinds, openings, &literals, &controllers) {
+    match members(
+        alloc,
+        terms,
+        closed,
+        kinds,
+        openings,
+        &literals,
+        &controllers,
+    ) {
         Ok(members) => Some(Valued {
             literals,
             controllers,

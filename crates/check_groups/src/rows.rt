@@ -7,13 +7,12 @@ ghost use Rattle.check_groups.specs.Causes.Resolved.{IsResolved};
 ghost use Rattle.check_groups.specs.Causes.Rows.{AreRows};
 
 use crate::causes::rows::row_at;
+pub use crate::causes::rows::{GroupRow, occurrence_at};
 use check_instances::closed::Closed;
 use check_instances::openings::Opening;
 use check_names::kinds::Kinds;
 use check_terms::Terms;
 use std::alloc::{AllocError, Global};
-
-pub use crate::causes::rows::{GroupRow, occurrence_at};
 
 /// For each row of the table what stands there, if that is a group, entries or an entry.
 ///

@@ -27,10 +27,10 @@ use crate::form::{TagForm, TypeForm, nothing};
 use crate::laws::known_instances;
 use crate::literals::{equal_form, range_form};
 use crate::maps::{map_form, word_form};
+use crate::members::member_form;
 use crate::origin::{GroupOrigin, TypeOrigin};
 use crate::row_origins::row_origins;
 use crate::shape::{Shape, shape_at};
-use crate::members::member_form;
 use crate::source::Source;
 use crate::texts::{control_at, hash_at, tag_at};
 use check_instances::closed::choices;
@@ -262,9 +262,7 @@ fn known_form(
         Some(Control::Compared(comparison)) => {
             comparison_form(alloc, source, comparison, left, right)
         }
-        Some(Control::Member(membership)) => {
-            member_form(alloc, source, membership, left, right)
-        }
+        Some(Control::Member(membership)) => { member_form(alloc, source, membership, left, right) }
         Some(Control::Computed(_)) => equal_form(alloc, source, row),
         None => Ok(nothing(alloc)),
     }

@@ -19,8 +19,8 @@ use crate::sizes::depths::depths_of;
 use crate::sizes::known::Controllers;
 use crate::sizes::sources::sources;
 use cddl_language::written::reached_values;
-use check_instances::MOST_INSTANCES;
 use check_groups::rows::{GroupRow, group_rows};
+use check_instances::MOST_INSTANCES;
 use check_instances::closed::Closed;
 use check_instances::closed::laws::{meaning_at, meanings_are_reached, place_of};
 use check_instances::openings::Opening;
@@ -47,8 +47,24 @@ pub fn controllers(
     ensures { IfOk result (λ v. (x : Cddl) (worth : Values) (root : Text) (refs : List Ref) → AreRight x worth → IsClosed (definitions_in (rules_of x)) root refs terms.now closed.now → AreKinds terms.now.texts (definitions_in (rules_of x)) kinds.now → AreOpenings (definitions_in (rules_of x)) terms.now refs openings.now → AreLiterals (definitions_in (rules_of x)) root worth terms.now literals.now → AreControllers (definitions_in (rules_of x)) root worth terms.now v) }
 {
     let groups = group_rows(alloc, terms, closed, kinds, openings)?;
-    let sizes = sizable(alloc, terms, closed, kinds, literals, &groups, Membership::Size)?;
-    let bits = sizable(alloc, terms, closed, kinds, literals, &groups, Membership::Bits)?;
+    let sizes = sizable(
+        alloc,
+        terms,
+        closed,
+        kinds,
+        literals,
+        &groups,
+        Membership::Size,
+    )?;
+    let bits = sizable(
+        alloc,
+        terms,
+        closed,
+        kinds,
+        literals,
+        &groups,
+        Membership::Bits,
+    )?;
     Ok(Controllers { sizes, bits })
 }
 

@@ -52,9 +52,27 @@ pub fn members(
 {
     let groups = group_rows(alloc, terms, closed, kinds, openings)?;
     let size = Membership::Size;
-    let sizes = sizes_of(alloc, terms, closed, kinds, literals, &groups, size, controllers.of(size))?;
+    let sizes = sizes_of(
+        alloc,
+        terms,
+        closed,
+        kinds,
+        literals,
+        &groups,
+        size,
+        controllers.of(size),
+    )?;
     let bit = Membership::Bits;
-    let bits = sizes_of(alloc, terms, closed, kinds, literals, &groups, bit, controllers.of(bit))?;
+    let bits = sizes_of(
+        alloc,
+        terms,
+        closed,
+        kinds,
+        literals,
+        &groups,
+        bit,
+        controllers.of(bit),
+    )?;
     Ok(Members { sizes, bits })
 }
 

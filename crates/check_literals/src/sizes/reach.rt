@@ -100,7 +100,11 @@ fn parts_at(sources: &[Source], row: u32) -> &[u32]
 }
 
 // The numbers of all these rows, as a set.
-pub(crate) fn set_of(alloc: Global, sources: &[Source], rows: &[u32]) -> Result<NumberSet, AllocError>
+pub(crate) fn set_of(
+    alloc: Global,
+    sources: &[Source],
+    rows: &[u32],
+) -> Result<NumberSet, AllocError>
     ensures { IfOk result (λ z. SameTest (sized (ranges_of sources.now rows.now)) (sized (set_view z))) }
 {
     let ranges = ranges_of(alloc, sources, rows)?;
@@ -108,7 +112,11 @@ pub(crate) fn set_of(alloc: Global, sources: &[Source], rows: &[u32]) -> Result<
 }
 
 // The numbers of all these rows.
-fn ranges_of(alloc: Global, sources: &[Source], rows: &[u32]) -> Result<Vec<NumberRange>, AllocError>
+fn ranges_of(
+    alloc: Global,
+    sources: &[Source],
+    rows: &[u32],
+) -> Result<Vec<NumberRange>, AllocError>
     ensures { IfOk result (λ v. sizes_view v.items ≡ ranges_of sources.now rows.now) }
 {
     let mut ranges = Vec::new(alloc);

@@ -46,8 +46,9 @@ pub(crate) fn sources(
     let count = terms.row_count()?;
     let mut sources = Vec::new(alloc);
     for number in 0..count {
-        let source =
-            source_of(alloc, terms, closed, kinds, literals, groups, membership, number)?;
+        let source = source_of(
+            alloc, terms, closed, kinds, literals, groups, membership, number,
+        )?;
         sources.push(source)?;
     }
     Ok(sources)
@@ -186,7 +187,11 @@ pub(crate) fn one_row(alloc: Global, row: Option<u32>) -> Result<Source, AllocEr
     Ok(Source::Rows(rows))
 }
 
-pub(crate) fn two_rows(alloc: Global, first: Option<u32>, second: Option<u32>) -> Result<Source, AllocError>
+pub(crate) fn two_rows(
+    alloc: Global,
+    first: Option<u32>,
+    second: Option<u32>,
+) -> Result<Source, AllocError>
     ensures { IfOk result (λ s. source_view s ≡ both_view first second) }
 {
     let (Some(first), Some(second)) = (first, second) else {

@@ -78,7 +78,11 @@ fn is_wrong_type(wrong: Wrong<'_>, question: Question, literal: Option<&Literal>
     match wrong {
         Wrong::NotLiteral => is_wrong_literal(question, literal),
         Wrong::BadController(controllers) => {
-            is_bad_controller(question, literal, is_flagged(flags_for(controllers, question), row))
+            is_bad_controller(
+                question,
+                literal,
+                is_flagged(flags_for(controllers, question), row),
+            )
         }
     }
 }
