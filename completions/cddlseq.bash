@@ -9,9 +9,9 @@ _cddlseq() {
         return
     fi
     case $command in
-        check) options='--root' files=1 ;;
-        validate) options='--root --depth --item-bytes --steps --quiet' files=2 ;;
-        rewrite) options='--root --depth --item-bytes --steps --deterministic' files=2 ;;
+        check) options='--root --explain' files=1 ;;
+        validate) options='--root --explain --depth --item-bytes --steps --quiet' files=2 ;;
+        rewrite) options='--root --explain --depth --item-bytes --steps --deterministic' files=2 ;;
         show) options='--depth --item-bytes' files=1 ;;
         explain) options='' files=0 ;;
         help)

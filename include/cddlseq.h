@@ -2,9 +2,13 @@
    (RFC 8610), reported, and rewritten.
 
    A call that is given a text reads it anew; a handle has read one before. No call keeps a pointer of the caller's, prints, or ends
-   the process. Calls may be made from any thread, and from many at once, but not from a signal handler, nor from a forked child of a
-   process with threads. A handle stays on the thread that made it, and with it all handles and sessions that share its specification.
-   They take memory by malloc, realloc and free, and give back all of it but what a handle holds. A call may need 256 KiB of stack.
+   the process. They take memory by malloc, realloc and free, and give back all of it but what a handle holds. A call may need 256 KiB
+   of stack.
+
+   Calls may be made from any thread, and from many at once, but not from a signal handler, nor from a forked child of a process with
+   threads. A handle, of a specification or of a stream, may go from thread to thread, and is in one call at a time: the caller orders
+   its calls, as by a lock, or by the start or the end of a thread. For calls at once each thread has a handle of its own, by
+   cddlseq_share, or a session, by cddlseq_begin_by. Many may share one specification, which they only read.
 
    Whoever calls has to see to this, which nothing checks: no pointer is null, also where the length is 0; each points to as much
    as its length says, or to one struct; and what a call writes overlaps nothing else that it is given. */
@@ -111,12 +115,15 @@ enum cddlseq_wanted {
     CDDLSEQ_NOTATION = 5
 };
 
-/* What is told of a text. */
+/* What is told of a text. All is 0 where it is not refused. */
 struct cddlseq_refusal {
     /* An enum cddlseq_code. */
     uint32_t code;
     /* The byte of the text where it shows. */
     size_t offset;
+    /* The line of that byte, from 1, and its column, from 1, in characters, as cddlseq_position tells them. */
+    size_t line;
+    size_t column;
 };
 
 /* Where an offset of a text is, for a reader. */
@@ -206,8 +213,8 @@ uint32_t cddlseq_validate_many(
     size_t *done);
 
 /* A specification that was read once, with the limits of items. cddlseq_open makes it, or cddlseq_share. A call takes
-   it and gives it back, so that one call has it at a time, and cddlseq_close frees it, once. It stays on the thread that opened it.
-   Nothing checks this, nor that it is one that cddlseq_open or another call wrote. */
+   it and gives it back, so that one call has it at a time, and cddlseq_close frees it, once. Nothing checks this, nor that it is one
+   that cddlseq_open or another call wrote. */
 struct cddlseq_handle {
     void *at;
 };
@@ -241,15 +248,15 @@ uint32_t cddlseq_write_by(
 void cddlseq_close(struct cddlseq_handle handle);
 
 /* Makes another handle of the same specification, which is not read anew: CDDLSEQ_OK, or _NO_MEMORY, and then nothing is written. Each
-   handle is closed once; the specification is freed with the last handle or session that has it. All of them stay on the thread that
-   opened the first. */
+   handle is closed once; the specification is freed with the last handle or session that has it. */
 uint32_t cddlseq_share(
     struct cddlseq_handle handle,
     void **other,
     void **back);
 
 /* A stream that comes in pieces, with its specification. cddlseq_begin makes it, or cddlseq_begin_by. Of it holds what is
-   said of a struct cddlseq_handle; cddlseq_discard frees it. It keeps nothing of the pieces but what it has read of the item in work.
+   said of a struct cddlseq_handle; cddlseq_discard frees it. It keeps nothing of the pieces but what it has read of the item in work,
+   and the item that the last call of cddlseq_feed told.
 
        while ((length = read(device, piece, sizeof piece)) > 0) {
            for (size_t at = 0; at < length; at += used) {
@@ -273,7 +280,7 @@ uint32_t cddlseq_begin(
     void **at);
 
 /* Begins a session by a specification that a handle holds, which is not read anew; there may be many over one handle. It answers what
-   cddlseq_share does. The session may be used after the handle is closed; it stays on the thread of the handle. */
+   cddlseq_share does. The session may be used after the handle is closed. */
 uint32_t cddlseq_begin_by(
     struct cddlseq_handle handle,
     void **at,
@@ -295,7 +302,7 @@ uint32_t cddlseq_feed(
     void **back);
 
 /* Takes the next piece of the stream whole: CDDLSEQ_OK, _FAILED, _ENDED or _NO_MEMORY, with the end as above. It holds all items of
-   the piece at once. */
+   the piece at once, and keeps none. */
 uint32_t cddlseq_feed_all(
     struct cddlseq_session session,
     const uint8_t *piece, size_t piece_length,
@@ -309,8 +316,10 @@ uint32_t cddlseq_finish(
     struct cddlseq_end *end,
     void **back);
 
-/* Writes the CDDLSEQ_PATH or the CDDLSEQ_NOTATION of the mismatch by which the stream has failed to the front of the buffer, and
-   nothing of another stream: CDDLSEQ_OK, _NO_ROOM, _BAD_WANTED or _NO_MEMORY, with 'needed' as cddlseq_write has it. */
+/* Writes to the front of the buffer the CDDLSEQ_PATH or the CDDLSEQ_NOTATION of the mismatch by which the stream has failed, and
+   nothing of another stream; or the item that the last call of cddlseq_feed told, in encoding CDDLSEQ_PREFERRED or
+   CDDLSEQ_DETERMINISTIC, and nothing where that was not CDDLSEQ_ITEM, or another stream has begun, or a piece was fed whole since:
+   CDDLSEQ_OK, _NO_ROOM, _BAD_WANTED or _NO_MEMORY, with 'needed' as cddlseq_write has it. */
 uint32_t cddlseq_show(
     struct cddlseq_session session,
     uint32_t wanted,

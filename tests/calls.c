@@ -1,6 +1,7 @@
 // Tests of the calls of include/cddlseq.h: what each answers where nothing is said of a stream, what it leaves as it was, and what
 // comes of each request for memory that is refused: of all, or of each that comes after so many. Linked with --wrap for malloc and realloc.
 #include "cddlseq.h"
+#include <pthread.h>
 #include <stdio.h>
 #include <stdlib.h>
 #include <string.h>
@@ -56,17 +57,25 @@ static int is_end(const struct cddlseq_end *end, uint64_t items, uint64_t offset
     return end->items == items && end->offset == offset && end->cause == cause && end->place == place;
 }
 
+static int is_refusal(const struct cddlseq_refusal *refusal, uint32_t code, size_t offset, size_t line, size_t column) {
+    return refusal->code == code && refusal->offset == offset && refusal->line == line && refusal->column == column;
+}
+
 static void check(void) {
-    struct cddlseq_refusal refusal = {9, 9};
+    struct cddlseq_refusal refusal = {9, 9, 9, 9};
     EXPECT(cddlseq_check(TEXT(map), TEXT(""), &refusal) == CDDLSEQ_OK);
-    EXPECT(refusal.code == CDDLSEQ_NOT_REFUSED && refusal.offset == 0);
+    EXPECT(is_refusal(&refusal, CDDLSEQ_NOT_REFUSED, 0, 0, 0));
     EXPECT(cddlseq_check(TEXT(map), TEXT("n"), &refusal) == CDDLSEQ_OK);
     EXPECT(cddlseq_check(TEXT(map), TEXT("no"), &refusal) == CDDLSEQ_REFUSED);
     EXPECT(refusal.code == CDDLSEQ_C5_NO_ROOT);
     EXPECT(cddlseq_check(TEXT("a = b\n"), TEXT(""), &refusal) == CDDLSEQ_REFUSED);
-    EXPECT(refusal.code == CDDLSEQ_C3_UNDEFINED && refusal.offset == 4);
+    EXPECT(is_refusal(&refusal, CDDLSEQ_C3_UNDEFINED, 4, 1, 5));
     EXPECT(cddlseq_check(TEXT(map), TEXT("\xff"), &refusal) == CDDLSEQ_BAD_ROOT);
-    EXPECT(refusal.code == CDDLSEQ_NOT_REFUSED && refusal.offset == 0);
+    EXPECT(is_refusal(&refusal, CDDLSEQ_NOT_REFUSED, 0, 0, 0));
+    EXPECT(cddlseq_check(TEXT("a = \"\xe2\x82\xac\" /\r\n  b\n"), TEXT(""), &refusal) == CDDLSEQ_REFUSED);
+    EXPECT(is_refusal(&refusal, CDDLSEQ_C3_UNDEFINED, 15, 2, 3));
+    EXPECT(cddlseq_check(TEXT("a = int\n;\xc3\xa9\x80\n"), TEXT(""), &refusal) == CDDLSEQ_REFUSED);
+    EXPECT(is_refusal(&refusal, CDDLSEQ_S1_NOT_UTF8, 11, 2, 3));
 }
 
 static int is_position(const char *text, size_t length, size_t offset, size_t line, size_t column) {
@@ -86,9 +95,10 @@ static void position(void) {
 }
 
 static void validate(void) {
-    struct cddlseq_refusal refusal = {9, 9};
+    struct cddlseq_refusal refusal = {9, 9, 9, 9};
     struct cddlseq_end end = untold;
     EXPECT(cddlseq_validate(TEXT("a = b\n"), TEXT(""), BYTES("\x01"), &limits, &refusal, &end) == CDDLSEQ_REFUSED && is_untold(&end));
+    EXPECT(is_refusal(&refusal, CDDLSEQ_C3_UNDEFINED, 4, 1, 5));
     EXPECT(cddlseq_validate(TEXT(map), TEXT("\x80"), BYTES("\x01"), &limits, &refusal, &end) == CDDLSEQ_BAD_ROOT && is_untold(&end));
     for (int number = 0; number < 4; number++) {
         const struct cddlseq_limits bad[] = {{0, 1, 1}, {257, 1, 1}, {1, 0, 1}, {1, 67108865, 1}};
@@ -151,7 +161,7 @@ static void write_wanted(void) {
     EXPECT(is_untold(&end) && needed == 0 && !memcmp(buffer, "abcd", 4));
     needed = 99;
     EXPECT(cddlseq_write(TEXT("a"), TEXT(""), BYTES("\x01"), &limits, CDDLSEQ_REPORT, &refusal, &end, buffer, 4, &needed) == CDDLSEQ_REFUSED);
-    EXPECT(is_untold(&end) && needed == 0 && !memcmp(buffer, "abcd", 4) && refusal.code == CDDLSEQ_S10_UNEXPECTED);
+    EXPECT(is_untold(&end) && needed == 0 && !memcmp(buffer, "abcd", 4) && is_refusal(&refusal, CDDLSEQ_S10_UNEXPECTED, 1, 1, 2));
 }
 
 static void validate_many(void) {
@@ -175,17 +185,17 @@ static void validate_many(void) {
     EXPECT(cddlseq_validate_many(TEXT(map), TEXT("n"), BYTES("\x01"), offsets, 0, &limits, &refusal, ends, 0, &done) == CDDLSEQ_BAD_OFFSETS);
     EXPECT(cddlseq_validate_many(TEXT(map), TEXT("n"), BYTES("\x01"), offsets, 1, &limits, &refusal, ends, 0, &done) == CDDLSEQ_OK && done == 0);
     EXPECT(cddlseq_validate_many(TEXT("a"), TEXT(""), BYTES("\x01"), offsets, 4, &limits, &refusal, ends, 3, &done) == CDDLSEQ_REFUSED);
-    EXPECT(done == 0 && is_untold(&ends[0]));
+    EXPECT(done == 0 && is_untold(&ends[0]) && is_refusal(&refusal, CDDLSEQ_S10_UNEXPECTED, 1, 1, 2));
 }
 
 static void handles(void) {
-    struct cddlseq_refusal refusal = {9, 9};
+    struct cddlseq_refusal refusal = {9, 9, 9, 9};
     struct cddlseq_end end = untold;
     struct cddlseq_handle handle = {buffer_of_no_handle};
     uint8_t buffer[64];
     size_t needed = 99;
     EXPECT(cddlseq_open(TEXT("a = b\n"), TEXT(""), &limits, &refusal, &handle.at) == CDDLSEQ_REFUSED);
-    EXPECT(refusal.code == CDDLSEQ_C3_UNDEFINED && refusal.offset == 4 && handle.at == buffer_of_no_handle);
+    EXPECT(is_refusal(&refusal, CDDLSEQ_C3_UNDEFINED, 4, 1, 5) && handle.at == buffer_of_no_handle);
     const struct cddlseq_limits bad = {0, 1, 1}, shallow = {1, 3, 100};
     EXPECT(cddlseq_open(TEXT(map), TEXT(""), &bad, &refusal, &handle.at) == CDDLSEQ_BAD_LIMITS && handle.at == buffer_of_no_handle);
     EXPECT(cddlseq_open(TEXT("a = [* any]\n"), TEXT(""), &shallow, &refusal, &handle.at) == CDDLSEQ_OK && refusal.code == 0);
@@ -207,13 +217,14 @@ static void handles(void) {
 }
 
 static void sessions(void) {
-    struct cddlseq_refusal refusal = {9, 9};
+    struct cddlseq_refusal refusal = {9, 9, 9, 9};
     struct cddlseq_end end = untold;
     struct cddlseq_session session = {buffer_of_no_handle};
     uint8_t buffer[16];
     size_t used = 99, needed = 99;
     const struct cddlseq_limits bad = {0, 1, 1};
-    EXPECT(cddlseq_begin(TEXT("a = b\n"), TEXT(""), &limits, &refusal, &session.at) == CDDLSEQ_REFUSED && refusal.offset == 4);
+    EXPECT(cddlseq_begin(TEXT("a = b\n"), TEXT(""), &limits, &refusal, &session.at) == CDDLSEQ_REFUSED);
+    EXPECT(is_refusal(&refusal, CDDLSEQ_C3_UNDEFINED, 4, 1, 5) && session.at == buffer_of_no_handle);
     EXPECT(cddlseq_begin(TEXT(map), TEXT("\xff"), &limits, &refusal, &session.at) == CDDLSEQ_BAD_ROOT && refusal.code == 0);
     EXPECT(cddlseq_begin(TEXT(map), TEXT(""), &bad, &refusal, &session.at) == CDDLSEQ_BAD_LIMITS && session.at == buffer_of_no_handle);
     EXPECT(cddlseq_begin(TEXT("a = [* uint]\n"), TEXT(""), &limits, &refusal, &session.at) == CDDLSEQ_OK && refusal.code == 0);
@@ -253,6 +264,57 @@ static void sessions(void) {
     cddlseq_discard(session);
 }
 
+// Whether the call shows these bytes of a session, and nothing behind them, and none where there is room for one less.
+static int shows(struct cddlseq_session *session, uint32_t wanted, const char *bytes, size_t size) {
+    uint8_t buffer[64], kept[64];
+    size_t needed = 99;
+    memset(buffer, 0xee, sizeof buffer);
+    memset(kept, 0xee, sizeof kept);
+    uint32_t status = cddlseq_show(*session, wanted, buffer, sizeof buffer, &needed, &session->at);
+    if (status != CDDLSEQ_OK || needed != size || memcmp(buffer, bytes, size) || memcmp(buffer + size, kept, sizeof buffer - size)) {
+        return 0;
+    }
+    if (size == 0) {
+        return 1;
+    }
+    memset(buffer, 0xee, sizeof buffer);
+    status = cddlseq_show(*session, wanted, buffer, size - 1, &needed, &session->at);
+    return status == CDDLSEQ_NO_ROOM && needed == size && !memcmp(buffer, kept, sizeof buffer);
+}
+
+static int shows_item(struct cddlseq_session *session, const char *preferred, const char *deterministic, size_t size) {
+    return shows(session, CDDLSEQ_PREFERRED, preferred, size) && shows(session, CDDLSEQ_DETERMINISTIC, deterministic, size);
+}
+
+// The item that was told last, in each encoding.
+static void items(void) {
+    static const char item[] = "\xbf\x61\x62\x18\x01\x61\x61\x02\xff\xa0";
+    struct cddlseq_refusal refusal;
+    struct cddlseq_end end = untold;
+    struct cddlseq_session session = {buffer_of_no_handle};
+    size_t used = 99;
+    EXPECT(cddlseq_begin(TEXT("m = {* tstr => uint}\n"), TEXT(""), &limits, &refusal, &session.at) == CDDLSEQ_OK);
+    for (int time = 0; time < 2; time++) {
+        EXPECT(shows_item(&session, "", "", 0));
+        EXPECT(cddlseq_feed(session, (const uint8_t *)item, 3, &used, &end, &session.at) == CDDLSEQ_OK && shows_item(&session, "", "", 0));
+        EXPECT(cddlseq_feed(session, (const uint8_t *)item + 3, 7, &used, &end, &session.at) == CDDLSEQ_ITEM && used == 6);
+        EXPECT(shows_item(&session, "\xa2\x61\x62\x01\x61\x61\x02", "\xa2\x61\x61\x02\x61\x62\x01", 7) && shows(&session, CDDLSEQ_PATH, "", 0));
+        EXPECT(cddlseq_feed(session, BYTES("\xa0\xa1"), &used, &end, &session.at) == CDDLSEQ_ITEM && used == 1 && shows_item(&session, "\xa0", "\xa0", 1));
+        EXPECT(cddlseq_feed(session, BYTES("\xa1"), &used, &end, &session.at) == CDDLSEQ_OK && shows_item(&session, "", "", 0));
+        EXPECT(cddlseq_feed(session, BYTES("\x60\x20"), &used, &end, &session.at) == CDDLSEQ_FAILED && shows_item(&session, "", "", 0));
+        EXPECT(shows(&session, CDDLSEQ_PATH, "${\"\"}", 5) && shows(&session, CDDLSEQ_NOTATION, "-1", 2));
+        cddlseq_restart(session, &session.at);
+        EXPECT(cddlseq_feed(session, BYTES("\xbf\xff"), &used, &end, &session.at) == CDDLSEQ_ITEM && shows_item(&session, "\xa0", "\xa0", 1));
+        EXPECT(cddlseq_finish(session, &end, &session.at) == CDDLSEQ_OK && shows_item(&session, "\xa0", "\xa0", 1));
+        EXPECT(cddlseq_feed_all(session, BYTES("\xa0"), &end, &session.at) == CDDLSEQ_ENDED && shows_item(&session, "", "", 0));
+        cddlseq_restart(session, &session.at);
+        EXPECT(cddlseq_feed(session, BYTES("\xa0"), &used, &end, &session.at) == CDDLSEQ_ITEM);
+        cddlseq_restart(session, &session.at);
+    }
+    EXPECT(cddlseq_feed(session, BYTES("\xa0"), &used, &end, &session.at) == CDDLSEQ_ITEM);
+    cddlseq_discard(session);
+}
+
 // Sessions over one handle, fed by turns and used after the handles are closed.
 static void shared(void) {
     struct cddlseq_refusal refusal;
@@ -285,6 +347,63 @@ static void shared(void) {
     EXPECT(cddlseq_feed_all(one, BYTES("\x81\x18\x20\x81"), &end, &one.at) == CDDLSEQ_OK && is_end(&end, 1, 3, 0, 0));
     EXPECT(cddlseq_finish(one, &end, &one.at) == CDDLSEQ_FAILED && is_end(&end, 1, 3, CDDLSEQ_TRUNCATED, 4));
     cddlseq_discard(one);
+}
+
+// What a thread works on: a handle that the other one has too, by turns, and a handle and a session of its own by the same specification,
+// which it frees.
+struct work {
+    pthread_mutex_t *turn;
+    struct cddlseq_handle *common;
+    struct cddlseq_handle own;
+    struct cddlseq_session session;
+    int wrong;
+};
+
+static void *work(void *given) {
+    struct work *it = given;
+    struct cddlseq_handle other = {buffer_of_no_handle};
+    struct cddlseq_end end = untold;
+    size_t used = 99;
+    for (int time = 0; time < 300; time++) {
+        pthread_mutex_lock(it->turn);
+        it->wrong += cddlseq_validate_by(*it->common, BYTES("\x60\x81\x05"), &end, &it->common->at) != CDDLSEQ_OK || !is_end(&end, 2, 3, 0, 0);
+        pthread_mutex_unlock(it->turn);
+        it->wrong += cddlseq_share(it->own, &other.at, &it->own.at) != CDDLSEQ_OK;
+        it->wrong += cddlseq_validate_by(other, BYTES("\x80\x20"), &end, &other.at) != CDDLSEQ_FAILED || !is_end(&end, 1, 1, CDDLSEQ_MISMATCH, 0);
+        cddlseq_close(other);
+        it->wrong += cddlseq_feed(it->session, BYTES("\x9f\x18"), &used, &end, &it->session.at) != CDDLSEQ_OK;
+        it->wrong += cddlseq_feed(it->session, BYTES("\x05\xff"), &used, &end, &it->session.at) != CDDLSEQ_ITEM || !is_end(&end, 1, 4, 0, 0);
+        it->wrong += !shows(&it->session, CDDLSEQ_PREFERRED, "\x81\x05", 2);
+        cddlseq_restart(it->session, &it->session.at);
+    }
+    cddlseq_close(it->own);
+    cddlseq_discard(it->session);
+    return NULL;
+}
+
+// Two threads over one handle, by turns, and over handles and sessions of its specification, at once.
+static void threads(void) {
+    pthread_mutex_t turn = PTHREAD_MUTEX_INITIALIZER;
+    pthread_t made[2];
+    struct work works[2];
+    struct cddlseq_refusal refusal;
+    struct cddlseq_end end = untold;
+    struct cddlseq_handle common;
+    EXPECT(cddlseq_open(TEXT("a = [* uint .size (0..2)] / tstr\n"), TEXT(""), &limits, &refusal, &common.at) == CDDLSEQ_OK);
+    for (int at = 0; at < 2; at++) {
+        works[at] = (struct work){&turn, &common, {buffer_of_no_handle}, {buffer_of_no_handle}, 0};
+        EXPECT(cddlseq_share(common, &works[at].own.at, &common.at) == CDDLSEQ_OK);
+        EXPECT(cddlseq_begin_by(common, &works[at].session.at, &common.at) == CDDLSEQ_OK);
+    }
+    for (int at = 0; at < 2; at++) {
+        EXPECT(pthread_create(&made[at], NULL, work, &works[at]) == 0);
+    }
+    for (int at = 0; at < 2; at++) {
+        EXPECT(pthread_join(made[at], NULL) == 0 && works[at].wrong == 0);
+    }
+    EXPECT(cddlseq_validate_by(common, BYTES("\x81\x19\xff\xff\x81\x1a\x00\x01\x00\x00"), &end, &common.at) == CDDLSEQ_FAILED);
+    EXPECT(is_end(&end, 1, 4, CDDLSEQ_MISMATCH, 1));
+    cddlseq_close(common);
 }
 
 // With the request for memory refused that comes after so many: whether a handle and a session are made of one that is open, or nothing
@@ -353,6 +472,18 @@ static int is_session_told_without_memory(long number) {
         }
         cddlseq_restart(session, &session.at);
     }
+    EXPECT(cddlseq_feed(session, BYTES(stream), &used, &end, &session.at) == CDDLSEQ_ITEM);
+    for (uint32_t wanted = CDDLSEQ_PREFERRED; wanted <= CDDLSEQ_DETERMINISTIC; wanted++) {
+        for (long later = 0; later == 0 || was_refused; later++) {
+            uint8_t buffer[64];
+            size_t needed = 99;
+            before_refusal = later, was_refused = 0;
+            status = cddlseq_show(session, wanted, buffer, sizeof buffer, &needed, &session.at);
+            before_refusal = -1;
+            EXPECT(status == (was_refused ? CDDLSEQ_NO_MEMORY : CDDLSEQ_OK) && needed == (was_refused ? 0 : 10));
+        }
+    }
+    cddlseq_restart(session, &session.at);
     for (long later = 0; later == 0 || was_refused; later++) {
         before_refusal = later, was_refused = 0;
         status = cddlseq_feed_all(session, BYTES(stream), &end, &session.at);
@@ -403,14 +534,14 @@ static int is_handle_told_without_memory(long number) {
 static int is_told_without_memory(long number) {
     static const char stream[] = "\xa2\x61\x61\x82\x01\x02\x61\x62\x41\x05\xa2\x61\x62\x41\x05\x61\x61\x80";
     const size_t offsets[] = {0, 10, 18};
-    struct cddlseq_refusal refusal = {9, 9};
+    struct cddlseq_refusal refusal = {9, 9, 9, 9};
     struct cddlseq_end end = untold, ends[2] = {untold, untold};
     uint8_t buffer[256];
     size_t needed = 99, done = 99;
     int any = 0;
     before_refusal = number, was_refused = 0;
     uint32_t status = cddlseq_check(TEXT(map), TEXT("m"), &refusal);
-    EXPECT(status == (was_refused ? CDDLSEQ_NO_MEMORY : CDDLSEQ_OK) && refusal.code == 0 && refusal.offset == 0);
+    EXPECT(status == (was_refused ? CDDLSEQ_NO_MEMORY : CDDLSEQ_OK) && is_refusal(&refusal, CDDLSEQ_NOT_REFUSED, 0, 0, 0));
     any |= was_refused;
     before_refusal = number, was_refused = 0;
     status = cddlseq_validate(TEXT(map), TEXT(""), BYTES(stream), &limits, &refusal, &end);
@@ -460,7 +591,8 @@ static void refuse_memory(void) {
 }
 
 int main(int count, char **words) {
-    void (*const tests[])(void) = {check, position, validate, write_wanted, validate_many, handles, sessions, shared, refuse_memory};
+    void (*const tests[])(void) = {
+        check, position, validate, write_wanted, validate_many, handles, sessions, items, shared, threads, refuse_memory};
     int number = sizeof tests / sizeof *tests, passed = 0;
     if (count > 1) {
         step = atol(words[1]);

@@ -134,6 +134,34 @@ def threads_are_alike():
         return all(it.is_clean and it.items == 1 for it in pool.map(specification.validate, streams))
 
 
+def threads_share_a_session():
+    """Whether two threads may feed a session by turns, and a third one end it and drop it."""
+    session = Specification("a = [* uint]\n").session()
+    with ThreadPoolExecutor(1) as one, ThreadPoolExecutor(1) as two:
+        found = [it for at in range(100) for it in (one, two)[at % 2].submit(session.feed, b"\x81\x18\x20"[at % 3:at % 3 + 1]).result()]
+        end = two.submit(session.finish).result()
+        one.submit(session.restart).result()
+        begun = [two.submit(lambda: Specification("a = uint\n").session()).result() for _ in range(3)]
+        one.submit(begun.clear).result()
+    return [it.offset for it in found] == list(range(0, 99, 3)) and (end.items, end.offset, end.cause) == (33, 99, Cause.TRUNCATED)
+
+
+def many_are_told(streams):
+    """Whether each of many streams has its end, by its number and in order."""
+    ends = Specification("a = uint\n").validate_many([*streams, b"\x01\x20"])
+    told = [it.items for it in ends]
+    return told == [*range(len(streams)), 1] and len(ends) == len(told) and (ends[7].items, ends[-1].path, [it.place for it in ends[-1:]]) == (
+        7, "$", [0])
+
+
+def encodings_are_right():
+    """Whether items have their bytes in each encoding, also where the session has gone on since."""
+    stream = bytes.fromhex("bf61621801616102ffa0")
+    items = list(Specification("m = {* tstr => uint}\n").items([stream[:3], stream[3:]]))
+    return [(it.data, it.preferred.hex(), it.deterministic.hex()) for it in items] == [
+        (stream[:9], "a2616201616102", "a2616102616201"), (b"\xa0", "a0", "a0")]
+
+
 def checks_of(header):
     """What is tested, and whether it holds."""
     specification = Specification("m = {* tstr => uint}\n")
@@ -161,9 +189,11 @@ def checks_of(header):
         "items of a file": items_of(io.BytesIO(b"\x01\x18\x20")) == ([Item(0, 1, b"\x01"), Item(1, 3, b"\x18\x20")], None),
         "items, and one that fails": items_of(b"\x01\x20\x01") == ([Item(0, 1, b"\x01")], "item 2 at 1 fails: MISMATCH at $: -1"),
         "items, and one that is cut": items_of([b"\x01\x19", b"\x01"]) == ([Item(0, 1, b"\x01")], "item 2 at 1 fails: TRUNCATED"),
+        "items in each encoding": encodings_are_right(),
         "threads": threads_are_alike(),
-        "no streams": specification.validate_many([]) == [],
-        "many streams": [it.items for it in Specification("a = uint\n").validate_many(many)] == list(range(300)),
+        "threads over one session": threads_share_a_session(),
+        "no streams": list(specification.validate_many([])) == [],
+        "many streams": many_are_told(many),
         "preferred bytes": specification.rewrite(stream).data == stream,
         "deterministic bytes": specification.rewrite(stream, deterministic=True).data == bytes.fromhex("a2616102616201a0"),
         "a long report": Specification("a = uint\n").report(b"\x00" * 5000).count("\n") == 5001,

@@ -13,13 +13,12 @@ the answer. Lines that begin with '# ' say what the rows after them show. With '
 each request for memory refused in turn, too (tests/run_memory.py). What a row expects comes from an RFC or from docs/, never from
 what the program printed. A call is named 'ROOM.NAME', mostly by the name of the function:
 
-  cbor_calls    item and device of cbor_item, read of cbor_read, form of read_items
-  cddl_calls    literal of cddl_literal, token of cddl_token, terms and texts of check_terms, value of check_literals::values and
-                cddl_literal::operators, names of check_names, prelude of check_reading, graph of graphs, parts of alternatives
-  check_calls   text and root: what the rooms of cddl_check tell of a text, and of what its root leads to; lesser and too_many;
+  stream_calls  item and device of cbor_item, read of cbor_read, form of read_items; match of table_nodes and cddl_match, session
+                and run of seq_run; tool of command_line, cddl_tool and cddl
+  spec_calls    literal of cddl_literal, token of cddl_token, terms and texts of check_terms, value of check_literals::values and
+                cddl_literal::operators, names of check_names, prelude of check_reading, graph of graphs, parts of alternatives;
+                text and root: what the rooms of cddl_check tell of a text, and of what its root leads to; lesser and too_many;
                 spec of cddl_check, and table and ranks of cddl_table
-  seq_calls     match of table_nodes and cddl_match, session and run of seq_run
-  tool_calls    tool of command_line, cddl_tool and cddl
 
 These are the words:
 

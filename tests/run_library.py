@@ -4,7 +4,7 @@
     run_library.py FOLDER [--only TEXT] [--strict] [-v]
 
 FOLDER has the libraries that scripts/library.py makes. tests/calls.c is linked with the static one and run, with each request for
-memory refused in turn; with gcc's or clang's sanitizers; and under valgrind where that is installed. Then come the rows of rows.json
+memory refused in turn; with gcc's or clang's sanitizers, and with theirs of threads; and under valgrind where that is installed. Then come the rows of rows.json
 for check, validate and rewrite: on tests/caller.c, but for misuse and devices, on the same with sanitizers, and one of twenty under
 valgrind; on 'python3 -m cddlseq' over the shared one, with tests of the package (tests/package.py); and on the example of the crate in
 rust, where cargo is found. The examples examples/gateway.c and examples/cose_bench.py are run last. With --strict all rows are run
@@ -29,8 +29,11 @@ AT_ONCE = 3
 COUNT = re.compile(r"(\d+) passed, (\d+) failed")
 # Under valgrind one of so many requests for memory is refused, and one of so many rows is run.
 STEP, ROWS_STEP = "60", 20
+# How long a row may take there: one asks ten million questions.
+STRICT_SECONDS = 1800
 STRICT = ("valgrind", "-q", "--error-exitcode=9", "--leak-check=full", "--show-leak-kinds=all", "--errors-for-leak-kinds=all")
 SANITIZERS = ("-g", "-fsanitize=address,undefined", "-fno-sanitize-recover=all")
+OF_THREADS = ("-g", "-fsanitize=thread")
 HEADER = os.path.join(TOP, "include", "cddlseq.h")
 PACKAGE = os.path.join(TOP, "python")
 
@@ -45,13 +48,13 @@ def compiled(name, folder, work, *more, into=None):
     return made
 
 
-def has_sanitizers(work):
-    """Whether a program with sanitizers is made here, and runs."""
+def has_sanitizers(work, sanitizers):
+    """Whether a program with these sanitizers is made here, and runs."""
     source, made = os.path.join(work, "none.c"), os.path.join(work, "none")
     with open(source, "w", encoding="ascii") as file:
         file.write("int main(void) { return 0; }\n")
     compiler = shutil.which("cc") or shutil.which("clang") or "cc"
-    ran = subprocess.run([compiler, *SANITIZERS, "-o", made, source], stdout=subprocess.DEVNULL, stderr=subprocess.DEVNULL)
+    ran = subprocess.run([compiler, *sanitizers, "-o", made, source], stdout=subprocess.DEVNULL, stderr=subprocess.DEVNULL)
     return ran.returncode == 0 and subprocess.run([made], stderr=subprocess.DEVNULL).returncode == 0
 
 
@@ -74,16 +77,18 @@ def counted(words, **how):
 
 
 def run_calls(folder, work, is_sanitized):
-    """Tests of the calls, with memory refused, with sanitizers, and under valgrind."""
-    refusing = "-Wl,--wrap=malloc,--wrap=realloc"
-    calls = compiled("calls", folder, work, "-g", refusing)
+    """Tests of the calls, with memory refused, with sanitizers, with that of threads, and under valgrind."""
+    refusing = "-pthread", "-Wl,--wrap=malloc,--wrap=realloc"
+    calls = compiled("calls", folder, work, "-g", *refusing)
     passed, failed = counted([calls])
     runs = {}
     if is_sanitized:
-        runs["with sanitizers"] = [compiled("calls", folder, work, refusing, *SANITIZERS, into="sanitized_calls"), STEP]
+        runs["with sanitizers"] = [compiled("calls", folder, work, *refusing, *SANITIZERS, into="sanitized_calls"), STEP]
+    if has_sanitizers(work, OF_THREADS):
+        runs["with the sanitizer of threads"] = [compiled("calls", folder, work, *refusing, *OF_THREADS, into="threaded_calls"), STEP]
     if shutil.which("valgrind"):
         runs["under valgrind"] = [*STRICT, calls, STEP]
-    for how in ("with sanitizers", "under valgrind"):
+    for how in ("with sanitizers", "with the sanitizer of threads", "under valgrind"):
         if how in runs:
             clean = subprocess.run(runs[how], stdout=subprocess.DEVNULL).returncode == 0
             print(f"calls {how}: {'passed' if clean else 'FAILED'}", flush=True)
@@ -102,7 +107,8 @@ def run_callers(folder, work, rows, is_sanitized, is_strict, is_verbose):
         counts.append(run_rows("through C with sanitizers", sanitized, rows, is_verbose))
     if shutil.which("valgrind"):
         strict = scripted("strict_caller", work, f"exec {' '.join(STRICT)} '{caller}'")
-        counts.append(run_rows("through C under valgrind", strict, rows if is_strict else rows[::ROWS_STEP], is_verbose))
+        picked = [{**it, "seconds": STRICT_SECONDS} for it in (rows if is_strict else rows[::ROWS_STEP])]
+        counts.append(run_rows("through C under valgrind", strict, picked, is_verbose))
     return summed(counts)
 
 
@@ -217,7 +223,7 @@ def run_library(folder, only="", is_strict=False, is_verbose=False):
     # Python does not begin where its standard input is a directory.
     for_package = [it for it in rows if needs_devices(it) and it.get("after_stream") != "directory"]
     with tempfile.TemporaryDirectory() as work:
-        is_sanitized = has_sanitizers(work)
+        is_sanitized = has_sanitizers(work, SANITIZERS)
         return summed([
             run_calls(folder, work, is_sanitized),
             run_callers(folder, work, for_caller, is_sanitized, is_strict, is_verbose),

@@ -41,6 +41,8 @@ COMMANDS = [
     ["check", "a = [b, c<int>, ~d, &(x: 1)]\nb = (int // tstr)\nc<t> = [* t]\nd = #6.1(any)\n"],
     ["check", "a = [b]\nb = (int // c)\n"],
     ["check", "a = [~b]\nb = int\n"],
+    ["check", "--explain", "a = [b]\n\tb = (int //\tc)\n"],
+    ["check", "--explain", "--root", "\x1b s", "r = int\n"],
     ["check", "r = [a]\na = [g]\ng = (? int, g)\n"],
     ["check", "r = [a]\na = [5..tstr, 3*2 int]\n"],
     ["check", "r = (a: 1, b: [c])\nc = (d //\n"],

@@ -254,11 +254,12 @@ def run_of(program, row, way, stream, folder, size):
         elif given:
             source.close()
             feed(given, pieces_of(way, stream), run, way == "pieces")
+        seconds = row.get("seconds", SECONDS)
         if way == "open":
-            run.wait(SECONDS)
+            run.wait(seconds)
         if given:
             given.close()
-        run.wait(SECONDS)
+        run.wait(seconds)
         out.seek(0)
         with open(reading.fileno(), "rb", closefd=False) as errors:
             return out.read(), errors.read(), run.returncode
@@ -316,8 +317,8 @@ def faults_of(program, row):
                     file.write(spec)
             try:
                 got = run_of(program, row, way, stream or b"", folder, size)
-            except subprocess.TimeoutExpired:
-                wrong.append(f"{label}: no end in {SECONDS} seconds")
+            except subprocess.TimeoutExpired as expired:
+                wrong.append(f"{label}: no end in {expired.timeout} seconds")
                 continue
         wrong += [f"{label}: {it}" for it in differences(got, output, errors, status)]
     return wrong

@@ -50,7 +50,8 @@ def causes():
 def are_explanations_right(program):
     """Whether each explanation is that of the documents; prints those that are not."""
     subjects = [*codes(), *causes()]
-    wrong = [word for words, text in subjects for word in words if printed(program, "explain", word) != text]
+    wrong = [word for words, text in subjects for word in {*words, *(it.lower() for it in words)}
+             if printed(program, "explain", word) != text]
     if len(subjects) != 41:
         wrong.append(f"the documents have {len(subjects)} codes and causes")
     for it in wrong:

@@ -10,6 +10,8 @@
     >>> pieces = [bytes.fromhex("8201"), bytes.fromhex("038202"), bytes.fromhex("0a")]
     >>> [(item.offset, item.end, item.data.hex()) for item in specification.items(pieces)]
     [(0, 3, '820103'), (3, 6, '82020a')]
+    >>> [item.preferred.hex() for item in specification.items(bytes.fromhex("9f180103ff"))]
+    ['820103']
     >>> try:
     ...     Specification("a = b")
     ... except Refused as refused:
@@ -19,8 +21,7 @@
     (1, 5)
 
 The library libcddlseq does the work. It is the one that the environment's CDDLSEQ_LIBRARY names, or the one that the system finds.
-Many threads may use one specification, but the one that made it has it at hand, and for others its text is read anew in each call. A
-session is for the thread that began it.
+Many threads may use one specification at once. A session is for one thread at a time: a call waits for another one to end.
 """
 from __future__ import annotations
 
@@ -28,14 +29,14 @@ import ctypes
 import enum
 import itertools
 import threading
-from collections.abc import Iterable
-from functools import cached_property
+from array import array
+from collections.abc import Iterable, Sequence
 from typing import BinaryIO, Callable, Iterator, NamedTuple, Union
 
 from . import _library
 from ._library import CODES, library, passed
 
-__all__ = ["Cause", "End", "Failed", "Item", "Refused", "Rewritten", "Session", "Specification"]
+__all__ = ["Cause", "End", "Ends", "Failed", "Item", "Refused", "Rewritten", "Session", "Specification"]
 
 # How many bytes of a file are read at once.
 PIECE = 65536
@@ -84,24 +85,39 @@ class End:
     place    the byte of the stream where a fault shows; of a mismatch, and of a key that is there twice, the place in the item
     """
 
-    def __init__(self, items: int, offset: int, cause: int, place: int, shown: Callable[[int], bytes] | None = None):
-        self.items = items
-        self.offset = offset
-        self.cause = Cause(cause) if cause else None
-        self.place = place
+    __slots__ = ("_told", "_shown")
+
+    def __init__(self, told: tuple[int, int, int, int], shown: Callable[[int], bytes] | None = None):
+        self._told = told
         self._shown = shown
+
+    @property
+    def items(self) -> int:
+        return self._told[0]
+
+    @property
+    def offset(self) -> int:
+        return self._told[1]
+
+    @property
+    def cause(self) -> Cause | None:
+        return Cause(self._told[2]) if self._told[2] else None
+
+    @property
+    def place(self) -> int:
+        return self._told[3]
 
     @property
     def is_clean(self) -> bool:
         """Whether all bytes of the stream are items that match."""
-        return self.cause is None
+        return not self._told[2]
 
-    @cached_property
+    @property
     def path(self) -> str | None:
         """The path of the place of a mismatch, as '$[1]'; None for another end."""
         return self._show(_library.PATH)
 
-    @cached_property
+    @property
     def notation(self) -> str | None:
         """What is at the place of a mismatch, in diagnostic notation; None for another end."""
         return self._show(_library.NOTATION)
@@ -112,6 +128,27 @@ class End:
     def __repr__(self) -> str:
         cause = "None" if self.cause is None else f"Cause.{self.cause.name}"
         return f"End(items={self.items}, offset={self.offset}, cause={cause}, place={self.place})"
+
+
+class Ends(Sequence):
+    """The ends of many streams, in order. Each End is made as it is asked for."""
+
+    def __init__(self, specification: Specification, streams: list[bytes], told: ctypes.Array):
+        self._specification, self._streams, self._told = specification, streams, told
+
+    def __len__(self) -> int:
+        return len(self._streams)
+
+    def __getitem__(self, at):
+        if isinstance(at, slice):
+            return [self[it] for it in range(len(self))[at]]
+        told = _library.END.unpack_from(self._told, range(len(self))[at] * _library.END.size)
+        return self._specification._end(told, self._streams[at])
+
+    def __iter__(self) -> Iterator[End]:
+        end = self._specification._end
+        for told, stream in zip(_library.END.iter_unpack(self._told), self._streams):
+            yield end(told, stream) if told[2] == MISMATCH else End(told)
 
 
 class Failed(ValueError):
@@ -126,12 +163,26 @@ class Failed(ValueError):
         return f"item {self.end.items + 1} at {self.end.offset} fails: {self.end.cause.name}{at}"
 
 
-class Item(NamedTuple):
-    """An item that matches: the offset in the stream of its first byte, and of the byte behind its last; and its bytes."""
-
+class _Item(NamedTuple):
     offset: int
     end: int
     data: bytes
+
+
+class Item(_Item):
+    """An item that matches: the offset in the stream of its first byte, and of the byte behind its last; and its bytes."""
+
+    _specification: Specification
+
+    @property
+    def preferred(self) -> bytes:
+        """The item in preferred encoding (RFC 8949, section 4.1)."""
+        return self._specification.rewrite(self.data).data
+
+    @property
+    def deterministic(self) -> bytes:
+        """The item in deterministic encoding (RFC 8949, section 4.2.1)."""
+        return self._specification.rewrite(self.data, deterministic=True).data
 
 
 class Rewritten(NamedTuple):
@@ -142,25 +193,13 @@ class Rewritten(NamedTuple):
 
 
 class _Held:
-    """A handle of the library, which is used and freed on the thread that made it. One that another thread drops is freed when its own
-    thread makes the next."""
-
-    left: dict[int, list[tuple[Callable[[_library.Handle], None], _library.Handle]]] = {}
+    """A handle of the library, for one call at a time."""
 
     def __init__(self, made: _library.Handle, free: Callable[[_library.Handle], None]):
-        self.handle, self.free, self.thread = made, free, threading.get_ident()
-        for free_left, handle in self.left.pop(self.thread, ()):
-            free_left(handle)
-
-    @property
-    def is_mine(self) -> bool:
-        return self.thread == threading.get_ident()
+        self.handle, self.free = made, free
 
     def __del__(self) -> None:
-        if self.is_mine:
-            self.free(self.handle)
-        else:
-            self.left.setdefault(self.thread, []).append((self.free, self.handle))
+        self.free(self.handle)
 
 
 class Specification:
@@ -182,7 +221,8 @@ class Specification:
         # The library takes no bytes for no root. No rule has a name of no letters, nor one of a space.
         self._root = b"" if root is None else root.encode() or b" "
         self._limits = _library.Limits(depth, item_bytes, steps)
-        self._held = _Held(self._made(library.cddlseq_open), library.cddlseq_close)
+        self._held = _Held(self._opened(), library.cddlseq_close)
+        self._turn, self._of_thread = threading.Lock(), threading.local()
 
     def validate(self, stream: Stream) -> End:
         """Says how a stream ends: bytes, a binary file, or pieces of any size. Of a file, and of pieces, no more is read than shows
@@ -196,17 +236,17 @@ class Specification:
                 return end
         return session.finish()
 
-    def validate_many(self, streams: Iterable[bytes]) -> list[End]:
+    def validate_many(self, streams: Iterable[bytes]) -> Ends:
         """Says how each of many streams ends, by one call."""
         parts = [bytes(it) for it in streams]
-        bounds = [0, *itertools.accumulate(len(it) for it in parts)]
-        offsets, ends = (ctypes.c_size_t * len(bounds))(*bounds), (_library.End * len(parts))()
+        bounds = array("Q", [0, *itertools.accumulate(map(len, parts))])
+        offsets, ends = (ctypes.c_size_t * len(bounds)).from_buffer(bounds), (_library.End * len(parts))()
         refusal, done = _library.Refusal(), ctypes.c_size_t()
         status = library.cddlseq_validate_many(
             *passed(self._text), *passed(self._root), *passed(b"".join(parts)), offsets, len(bounds), self._limits, refusal, ends,
             len(parts), done)
         self._stop(status, refusal)
-        return [self._end(*told, part) for told, part in zip(_library.END.iter_unpack(ends), parts)]
+        return Ends(self, parts, ends)
 
     def session(self) -> Session:
         """Begins a stream that comes in pieces."""
@@ -238,81 +278,71 @@ class Specification:
         """The line for the end alone."""
         return self._write(_bytes_of(stream), _library.END_LINE)[0].decode()
 
-    def _made(self, call: Callable[..., int]) -> _library.Handle:
-        """The handle that a call makes of the text."""
+    def _opened(self) -> _library.Handle:
+        """The handle that is made of the text."""
         handle, refusal = _library.Handle(), _library.Refusal()
-        self._stop(call(*passed(self._text), *passed(self._root), self._limits, refusal, handle.back), refusal)
+        self._stop(library.cddlseq_open(*passed(self._text), *passed(self._root), self._limits, refusal, handle.back), refusal)
         return handle
 
+    @property
+    def _handle(self) -> _library.Handle:
+        """The handle of this thread, which shares the specification with those of others."""
+        held = getattr(self._of_thread, "held", None)
+        if held is None:
+            shared = _library.Handle()
+            with self._turn:
+                _stop(library.cddlseq_share(self._held.handle, shared.back, self._held.handle.back))
+            held = self._of_thread.held = _Held(shared, library.cddlseq_close)
+        return held.handle
+
     def _begun(self) -> _library.Handle:
-        """The handle of a session. On another thread than the specification's own the text is read anew."""
-        if not self._held.is_mine:
-            return self._made(library.cddlseq_begin)
-        held, begun = self._held.handle, _library.Handle()
-        _stop(library.cddlseq_begin_by(held, begun.back, held.back))
+        """The handle of a session."""
+        handle, begun = self._handle, _library.Handle()
+        _stop(library.cddlseq_begin_by(handle, begun.back, handle.back))
         return begun
 
     def _stop(self, status: int, refusal: _library.Refusal) -> int:
         """Raises what a status says, as _stop does, or of the text."""
         if status == _library.REFUSED:
-            position = _library.Position()
-            library.cddlseq_position(*passed(self._text), refusal.offset, position)
-            raise Refused(*CODES[refusal.code - 1], refusal.offset, position.line, position.column)
+            raise Refused(*CODES[refusal.code - 1], refusal.offset, refusal.line, refusal.column)
         return _stop(status)
 
     def _validate(self, stream: bytes) -> End:
-        end, refusal = _library.End(), _library.Refusal()
-        if self._held.is_mine:
-            handle = self._held.handle
-            status = library.cddlseq_validate_by(handle, *passed(stream), end, handle.back)
-        else:
-            # The text is read anew.
-            status = library.cddlseq_validate(
-                *passed(self._text), *passed(self._root), *passed(stream), self._limits, refusal, end)
-        self._stop(status, refusal)
-        return self._end(*_library.END.unpack(end), stream)
+        end, handle = _library.End(), self._handle
+        _stop(library.cddlseq_validate_by(handle, *passed(stream), end, handle.back))
+        return self._end(_library.END.unpack(end), stream)
 
     def _write(self, stream: bytes, wanted: int) -> tuple[bytes, End]:
         """What is wanted of the stream, and its end."""
-        end, refusal = _library.End(), _library.Refusal()
+        end, handle = _library.End(), self._handle
+        data = _written(
+            lambda buffer, room, needed: _stop(
+                library.cddlseq_write_by(handle, *passed(stream), wanted, end, buffer, room, needed, handle.back)), len(stream) + 256)
+        return data, self._end(_library.END.unpack(end), stream)
 
-        def write(buffer: ctypes.Array, room: int, needed: ctypes.c_size_t) -> int:
-            if self._held.is_mine:
-                handle = self._held.handle
-                return _stop(library.cddlseq_write_by(
-                    handle, *passed(stream), wanted, end, buffer, room, needed, handle.back))
-            return self._stop(library.cddlseq_write(
-                *passed(self._text), *passed(self._root), *passed(stream), self._limits, wanted, refusal, end, buffer, room, needed), refusal)
-
-        data = _written(write, len(stream) + 256)
-        return data, self._end(*_library.END.unpack(end), stream)
-
-    def _end(self, items: int, offset: int, cause: int, place: int, stream: bytes) -> End:
-        if cause != MISMATCH:
-            return End(items, offset, cause, place)
+    def _end(self, told: tuple[int, int, int, int], stream: bytes) -> End:
+        if told[2] != MISMATCH:
+            return End(told)
         # The item that fails, with what may come after it.
-        rest = stream[offset:offset + self._limits.item_bytes]
-        return End(items, offset, cause, place, lambda wanted: self._write(rest, wanted)[0])
+        rest = stream[told[1]:told[1] + self._limits.item_bytes]
+        return End(told, lambda wanted: self._write(rest, wanted)[0])
 
 
 class Session:
-    """A stream that comes in pieces, by a specification. It is for the thread that began it.
+    """A stream that comes in pieces, by a specification. A call waits where another thread is in one.
 
     end   how the stream ends, once that is known
     """
 
     def __init__(self, specification: Specification):
+        self._specification = specification
         self._told = _library.End()
         self._used = ctypes.c_size_t()
         self._pending = bytearray()
         self.end: End | None = None
+        self._turn = threading.Lock()
         self._held = _Held(specification._begun(), library.cddlseq_discard)
-
-    @property
-    def _handle(self) -> _library.Handle:
-        if not self._held.is_mine:
-            raise RuntimeError("a session is for the thread that began it")
-        return self._held.handle
+        self._handle = self._held.handle
 
     @property
     def items(self) -> int:
@@ -327,14 +357,19 @@ class Session:
     def feed(self, piece: bytes | bytearray | memoryview) -> list[Item]:
         """Takes the next piece, and answers the items that match and that it completes. Once one fails 'end' says so, and what follows
         it is not looked at."""
-        data, found = bytes(piece), []
-        start = ctypes.cast(ctypes.c_char_p(data), ctypes.c_void_p).value or 0
+        with self._turn:
+            return self._fed(bytes(piece))
+
+    def _fed(self, data: bytes) -> list[Item]:
+        found, start = [], ctypes.cast(ctypes.c_char_p(data), ctypes.c_void_p).value or 0
         at, handle, told, used = 0, self._handle, self._told, self._used
         while at < len(data) and not self.end:
             before = told.offset
             status = _stop(library.cddlseq_feed(handle, start + at, len(data) - at, used, told, handle.back))
             if status == _library.ITEM:
-                found.append(Item(before, told.offset, bytes(self._pending) + data[at:at + used.value]))
+                item = Item(before, told.offset, bytes(self._pending) + data[at:at + used.value])
+                item._specification = self._specification
+                found.append(item)
                 self._pending.clear()
             elif status == _library.OK:
                 self._pending += data[at:]
@@ -346,29 +381,32 @@ class Session:
     def feed_all(self, piece: bytes | bytearray | memoryview) -> End | None:
         """Takes the next piece, and answers how the stream ends, if that is known now. It keeps no items."""
         data = bytes(piece)
-        if not self.end and data:
-            status = _stop(library.cddlseq_feed_all(self._handle, *passed(data), self._told, self._handle.back))
-            if status != _library.OK:
-                self._ended()
-        return self.end
+        with self._turn:
+            if not self.end and data:
+                status = _stop(library.cddlseq_feed_all(self._handle, *passed(data), self._told, self._handle.back))
+                if status != _library.OK:
+                    self._ended()
+            return self.end
 
     def finish(self) -> End:
         """Ends the stream, and says how it ends."""
-        if not self.end:
-            _stop(library.cddlseq_finish(self._handle, self._told, self._handle.back))
-            self._ended()
-        return self.end
+        with self._turn:
+            if not self.end:
+                _stop(library.cddlseq_finish(self._handle, self._told, self._handle.back))
+                self._ended()
+            return self.end
 
     def restart(self) -> None:
         """Begins another stream by the same specification, whatever has come of the one before."""
-        library.cddlseq_restart(self._handle, self._handle.back)
-        self._told, self._pending, self.end = _library.End(), bytearray(), None
+        with self._turn:
+            library.cddlseq_restart(self._handle, self._handle.back)
+            self._told, self._pending, self.end = _library.End(), bytearray(), None
 
     def _ended(self) -> None:
         shown = None
         if self._told.cause == MISMATCH:
             shown = {wanted: self._show(wanted) for wanted in (_library.PATH, _library.NOTATION)}.__getitem__
-        self.end = End(*_library.END.unpack(self._told), shown)
+        self.end = End(_library.END.unpack(self._told), shown)
 
     def _show(self, wanted: int) -> bytes:
         return _written(

@@ -21,11 +21,7 @@ CODES = (
 
 
 class Refusal(ctypes.Structure):
-    _fields_ = [("code", c_uint32), ("offset", c_size_t)]
-
-
-class Position(ctypes.Structure):
-    _fields_ = [("line", c_size_t), ("column", c_size_t)]
+    _fields_ = [("code", c_uint32), ("offset", c_size_t), ("line", c_size_t), ("column", c_size_t)]
 
 
 class End(ctypes.Structure):
@@ -53,11 +49,6 @@ class Handle(ctypes.Structure):
 _BYTES = (c_char_p, c_size_t)
 _BACK = POINTER(c_void_p)
 _CALLS = {
-    "cddlseq_check": (*_BYTES, *_BYTES, POINTER(Refusal)),
-    "cddlseq_position": (*_BYTES, c_size_t, POINTER(Position)),
-    "cddlseq_validate": (*_BYTES, *_BYTES, *_BYTES, POINTER(Limits), POINTER(Refusal), POINTER(End)),
-    "cddlseq_write": (
-        *_BYTES, *_BYTES, *_BYTES, POINTER(Limits), c_uint32, POINTER(Refusal), POINTER(End), *_BYTES, POINTER(c_size_t)),
     "cddlseq_validate_many": (
         *_BYTES, *_BYTES, *_BYTES, POINTER(c_size_t), c_size_t, POINTER(Limits), POINTER(Refusal), POINTER(End), c_size_t,
         POINTER(c_size_t)),
@@ -65,7 +56,7 @@ _CALLS = {
     "cddlseq_validate_by": (Handle, *_BYTES, POINTER(End), _BACK),
     "cddlseq_write_by": (Handle, *_BYTES, c_uint32, POINTER(End), *_BYTES, POINTER(c_size_t), _BACK),
     "cddlseq_close": (Handle,),
-    "cddlseq_begin": (*_BYTES, *_BYTES, POINTER(Limits), POINTER(Refusal), _BACK),
+    "cddlseq_share": (Handle, _BACK, _BACK),
     "cddlseq_begin_by": (Handle, _BACK, _BACK),
     # A piece is told by its address, so that what is behind an item in it is passed on without a copy.
     "cddlseq_feed": (Handle, c_void_p, c_size_t, POINTER(c_size_t), POINTER(End), _BACK),
@@ -75,7 +66,7 @@ _CALLS = {
     "cddlseq_restart": (Handle, _BACK),
     "cddlseq_discard": (Handle,),
 }
-_TELL_NOTHING = ("cddlseq_position", "cddlseq_close", "cddlseq_restart", "cddlseq_discard")
+_TELL_NOTHING = ("cddlseq_close", "cddlseq_restart", "cddlseq_discard")
 
 
 def _load() -> ctypes.CDLL:

@@ -15,11 +15,6 @@ pub const ENDED: u32 = 10;
 pub struct Refusal {
     pub code: u32,
     pub offset: usize,
-}
-
-#[repr(C)]
-#[derive(Default)]
-pub struct Position {
     pub line: usize,
     pub column: usize,
 }
@@ -77,16 +72,7 @@ pub fn make(call: Maker, text: &[u8], root: &str, limits: &Limits) -> Result<Han
     }
 }
 
-/// Where an offset of a text is.
-pub fn position(text: &[u8], offset: usize) -> Position {
-    let mut position = Position::default();
-    // SAFETY: the slice is as long as is said, and what is written to is this function's own.
-    unsafe { cddlseq_position(text.as_ptr(), text.len(), offset, &mut position) };
-    position
-}
-
 extern "C" {
-    pub fn cddlseq_position(text: *const u8, text_length: usize, offset: usize, position: *mut Position);
     pub fn cddlseq_open(
         text: *const u8,
         text_length: usize,
@@ -115,6 +101,7 @@ extern "C" {
         back: *mut *mut c_void,
     ) -> u32;
     pub fn cddlseq_close(handle: Handle);
+    pub fn cddlseq_share(handle: Handle, other: *mut *mut c_void, back: *mut *mut c_void) -> u32;
     pub fn cddlseq_begin(
         text: *const u8,
         text_length: usize,

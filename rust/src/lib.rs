@@ -16,8 +16,9 @@
 //!
 //! let (mut one, mut two) = (specification.session()?, specification.session()?);
 //! drop(specification);
-//! assert_eq!((one.feed(&[0x82, 0x01])?, two.feed(&[0x82])?), (Step::More, Step::More));
-//! assert_eq!((one.feed(&[0x03])?, two.feed(&[0x05, 0x20])?), (Step::Item { used: 1 }, Step::Item { used: 2 }));
+//! assert_eq!((one.feed(&[0x82, 0x01])?, two.feed(&[0x9f])?), (Step::More, Step::More));
+//! assert_eq!((one.feed(&[0x03])?, two.feed(&[0x05, 0x20, 0xff])?), (Step::Item { used: 1 }, Step::Item { used: 3 }));
+//! assert_eq!(two.preferred()?, [0x82, 0x05, 0x20]);
 //! # Ok::<(), Box<dyn std::error::Error>>(())
 //! ```
 mod calls;

@@ -4,18 +4,21 @@ use crate::root_of;
 use crate::told::{End, NoMemory, Step, Unread, Wanted};
 use crate::Limits;
 
-/// A stream that comes in pieces, with its specification. It stays on the thread that began it.
+/// A stream that comes in pieces, with its specification. It may go to another thread.
 pub struct Session {
     handle: Handle,
     told: calls::End,
 }
+
+// SAFETY: what a handle leads to is proved to be of use on any thread (`Send`), and `&mut self` orders the calls of each.
+unsafe impl Send for Session {}
 
 impl Session {
     /// Reads a text, whose root is the rule of this name, or else the first one, and begins a stream.
     pub fn new(text: impl AsRef<[u8]>, root: Option<&str>, limits: Limits) -> Result<Session, Unread> {
         match calls::make(calls::cddlseq_begin, text.as_ref(), root_of(root), &limits) {
             Ok(handle) => Ok(Session::of(handle)),
-            Err((status, refusal)) => Err(Unread::of(text.as_ref(), status, &refusal)),
+            Err((status, refusal)) => Err(Unread::of(status, &refusal)),
         }
     }
 
@@ -83,12 +86,23 @@ impl Session {
 
     /// The path of the place of the mismatch by which the stream has failed; nothing of another stream.
     pub fn path(&mut self) -> Result<String, NoMemory> {
-        self.show(Wanted::Path)
+        self.show(Wanted::Path).map(text_of)
     }
 
     /// What is there, in diagnostic notation.
     pub fn notation(&mut self) -> Result<String, NoMemory> {
-        self.show(Wanted::Notation)
+        self.show(Wanted::Notation).map(text_of)
+    }
+
+    /// The item that the last [`feed`](Session::feed) completed, in preferred encoding; nothing where it completed none, or another
+    /// stream has begun, or a piece was fed whole since.
+    pub fn preferred(&mut self) -> Result<Vec<u8>, NoMemory> {
+        self.show(Wanted::Preferred)
+    }
+
+    /// The same item in deterministic encoding.
+    pub fn deterministic(&mut self) -> Result<Vec<u8>, NoMemory> {
+        self.show(Wanted::Deterministic)
     }
 
     /// Begins another stream by the same specification, whatever has come of the one before.
@@ -98,7 +112,7 @@ impl Session {
         unsafe { calls::cddlseq_restart(self.handle, &mut self.handle.at) }
     }
 
-    fn show(&mut self, wanted: Wanted) -> Result<String, NoMemory> {
+    fn show(&mut self, wanted: Wanted) -> Result<Vec<u8>, NoMemory> {
         let mut buffer = vec![0; 256];
         loop {
             let mut needed = 0;
@@ -116,7 +130,7 @@ impl Session {
             match status {
                 calls::OK => {
                     buffer.truncate(needed);
-                    return Ok(String::from_utf8(buffer).expect("paths and notations are text"));
+                    return Ok(buffer);
                 }
                 calls::NO_ROOM => buffer.resize(needed, 0),
                 _ => return Err(NoMemory),
@@ -134,9 +148,58 @@ impl Session {
     }
 }
 
+fn text_of(bytes: Vec<u8>) -> String {
+    String::from_utf8(bytes).expect("paths and notations are text")
+}
+
 impl Drop for Session {
     fn drop(&mut self) {
         // SAFETY: the handle is one that came back from the last call, and goes to no other.
         unsafe { calls::cddlseq_discard(self.handle) }
+    }
+}
+
+#[cfg(test)]
+mod tests {
+    use super::Session;
+    use crate::{Limits, Specification, Step};
+    use std::thread;
+
+    fn fed(session: &mut Session, pieces: &[&[u8]]) -> Vec<Step> {
+        pieces.iter().map(|it| session.feed(it).unwrap()).collect()
+    }
+
+    #[test]
+    fn items_are_shown_in_each_encoding() {
+        let mut session = Session::new("m = {* tstr => uint}", None, Limits::default()).unwrap();
+        let item = b"\xbf\x61b\x18\x01\x61a\x02\xff";
+        assert_eq!(fed(&mut session, &[&item[..3], &item[3..]]), [Step::More, Step::Item { used: 6 }]);
+        assert_eq!(session.preferred().unwrap(), b"\xa2\x61b\x01\x61a\x02");
+        assert_eq!(session.deterministic().unwrap(), b"\xa2\x61a\x02\x61b\x01");
+        assert_eq!(fed(&mut session, &[b"\xa1"]), [Step::More]);
+        assert!(session.preferred().unwrap().is_empty() && session.deterministic().unwrap().is_empty());
+    }
+
+    #[test]
+    fn threads_share_a_specification() {
+        let mut specification = Specification::new("a = [* uint .size (0..2)] / tstr", None, Limits::default()).unwrap();
+        let threads: Vec<_> = (0..2)
+            .map(|_| {
+                let (mut own, mut session) = (specification.share().unwrap(), specification.session().unwrap());
+                thread::spawn(move || {
+                    for _ in 0..300 {
+                        assert_eq!(own.validate(b"\x60\x81\x05").unwrap().items, 2);
+                        assert_eq!(fed(&mut session, &[b"\x81\x18", b"\x20"]), [Step::More, Step::Item { used: 1 }]);
+                        session.restart();
+                    }
+                    session
+                })
+            })
+            .collect();
+        drop(specification);
+        for thread in threads {
+            let mut session = thread.join().unwrap();
+            assert_eq!(fed(&mut session, &[b"\x60"]), [Step::Item { used: 1 }]);
+        }
     }
 }

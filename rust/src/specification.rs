@@ -5,17 +5,21 @@ use crate::session::Session;
 use crate::told::{End, NoMemory, Unread, Wanted};
 use crate::Limits;
 
-/// A specification that was read, with the limits of items. It stays on the thread that read it.
+/// A specification that was read, with the limits of items. It may go to another thread; for use by many at once there is
+/// [`share`](Specification::share).
 pub struct Specification {
     handle: Handle,
 }
+
+// SAFETY: what a handle leads to is proved to be of use on any thread (`Send`), and `&mut self` orders the calls of each.
+unsafe impl Send for Specification {}
 
 impl Specification {
     /// Reads a text, whose root is the rule of this name, or else the first one.
     pub fn new(text: impl AsRef<[u8]>, root: Option<&str>, limits: Limits) -> Result<Specification, Unread> {
         match calls::make(calls::cddlseq_open, text.as_ref(), root_of(root), &limits) {
             Ok(handle) => Ok(Specification { handle }),
-            Err((status, refusal)) => Err(Unread::of(text.as_ref(), status, &refusal)),
+            Err((status, refusal)) => Err(Unread::of(status, &refusal)),
         }
     }
 
@@ -33,6 +37,17 @@ impl Specification {
             )
         };
         told(status, &end)
+    }
+
+    /// The same specification once more, which is not read anew, as for another thread.
+    pub fn share(&mut self) -> Result<Specification, NoMemory> {
+        let mut at = std::ptr::null_mut();
+        // SAFETY: as in `validate`.
+        let status = unsafe { calls::cddlseq_share(self.handle, &mut at, &mut self.handle.at) };
+        match status {
+            calls::OK => Ok(Specification { handle: Handle { at } }),
+            _ => Err(NoMemory),
+        }
     }
 
     /// Begins a stream that comes in pieces. Its session shares the specification, which is not read anew, and may outlive this one.

@@ -56,18 +56,17 @@ pub enum Unread {
 }
 
 impl Unread {
-    /// What is told of this text.
-    pub(crate) fn of(text: &[u8], status: u32, refusal: &calls::Refusal) -> Unread {
+    /// What is told of a text.
+    pub(crate) fn of(status: u32, refusal: &calls::Refusal) -> Unread {
         match status {
             calls::REFUSED => {
                 let (code, name) = CODES[refusal.code as usize - 1];
-                let position = calls::position(text, refusal.offset);
                 Unread::Refused {
                     code,
                     name,
                     offset: refusal.offset,
-                    line: position.line,
-                    column: position.column,
+                    line: refusal.line,
+                    column: refusal.column,
                 }
             }
             calls::NO_MEMORY => Unread::NoMemory,

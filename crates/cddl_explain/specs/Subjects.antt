@@ -1,5 +1,6 @@
 -- What can be explained, and what is said of it.
-use Rattle.std.specs.Prelude.{◌≡◌, ◌⊎◌, ℕ, List, ◌++◌, codes, decimal}
+use Rattle.std.specs.Prelude.{◌≡◌, ◌⊎◌, ℕ, List, ◌++◌, codes, decimal, map}
+use Rattle.std.specs.Char.{to_ascii_lowercase}
 use Rattle.cddl_token.specs.Messages.{code_text}
 use Rattle.cddl_token.specs.declared.Code.{Code}
 use Rattle.cddl_explain.specs.declared.subjects.Subject.{Subject}
@@ -10,10 +11,14 @@ use Rattle.cddl_explain.specs.Names.{example_at_of, name_of, number_of}
 use Rattle.cddl_explain.specs.Places.{place_of}
 use Rattle.cddl_explain.specs.Sentences.{sentence_of}
 
--- The word is the number or the name of the code, or the word of the cause.
+-- The words are the same but for the case of letters.
+abbrev pub IsSameWord : List ℕ → List ℕ → Type 0
+IsSameWord a b = map to_ascii_lowercase a ≡ map to_ascii_lowercase b
+
+-- The word is the number or the name of the code, or the word of the cause, in any case of letters.
 abbrev pub IsNameOf : Subject → List ℕ → Type 0
-IsNameOf (subject.Code code) word = (word ≡ number_of code) ⊎ (word ≡ name_of code)
-IsNameOf (subject.Cause cause) word = word ≡ words_of cause
+IsNameOf (subject.Code code) word = IsSameWord word (number_of code) ⊎ IsSameWord word (name_of code)
+IsNameOf (subject.Cause cause) word = IsSameWord word (words_of cause)
 
 -- what is said of a code: what is wrong, which byte is told, and an example
 abbrev pub code_explanation : Code → List ℕ

@@ -3,14 +3,18 @@
 
 mod causes;
 mod examples;
+mod laws;
 mod names;
 mod places;
+mod refusals;
 mod sentences;
 mod subjects;
 
 pub use crate::causes::{Cause, meaning, words};
 pub use crate::examples::example;
+pub use crate::laws::names_are_printed;
 pub use crate::names::{example_at, name, number};
 pub use crate::places::place;
+pub use crate::refusals::explained_refusal;
 pub use crate::sentences::sentence;
 pub use crate::subjects::{Subject, explanation, subject_of};

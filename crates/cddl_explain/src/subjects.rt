@@ -3,7 +3,7 @@
 ghost use Rattle.std.specs.Prelude.{◌≡◌, ◌⊎◌, true, false, IfOk, IfSome, IfNone, string_bytes};
 ghost use Rattle.cddl_explain.specs.Names.{name_of, number_of};
 ghost use Rattle.cddl_explain.specs.Causes.{words_of};
-ghost use Rattle.cddl_explain.specs.Subjects.{code_explanation, explanation_of, IsNameOf};
+ghost use Rattle.cddl_explain.specs.Subjects.{code_explanation, explanation_of, IsNameOf, IsSameWord};
 ghost use Rattle.cddl_explain.specs.declared.causes.Cause.{Cause as WhyItem};
 ghost use Rattle.cddl_explain.specs.declared.subjects.Subject.{Subject as What};
 ghost use Rattle.cddl_token.specs.declared.Code.{Code as WhyText};
@@ -26,7 +26,7 @@ pub enum Subject {
 }
 
 /// What a word names: a code by its number or its name, as `C3` or `Undefined`, or a cause by the words that the program
-/// prints, as `mismatch`. Letter case counts.
+/// prints, as `mismatch`, in any case of their letters.
 pub fn subject_of(word: &str) -> Option<Subject>
     ensures some { IfSome result (λ s. IsNameOf s word.now) }
     ensures none { IfNone result ((s : What) → IsNameOf s word.now → ⊥) }
@@ -39,7 +39,7 @@ pub fn subject_of(word: &str) -> Option<Subject>
 
 fn cause_subject(word: &str) -> Option<Subject>
     ensures some { IfSome result (λ s. IsNameOf s word.now) }
-    ensures none { IfNone result ((cause : WhyItem) → word.now ≡ words_of cause → ⊥) }
+    ensures none { IfNone result ((cause : WhyItem) → IsSameWord word.now (words_of cause) → ⊥) }
 {
     match cause_named(word) {
         Some(cause) => Some(Subject::Cause(cause)),
@@ -48,8 +48,8 @@ fn cause_subject(word: &str) -> Option<Subject>
 }
 
 fn code_named(word: &str) -> Option<Code>
-    ensures some { IfSome result (λ code. (word.now ≡ number_of code) ⊎ (word.now ≡ name_of code)) }
-    ensures none { IfNone result ((code : WhyText) → (word.now ≡ number_of code) ⊎ (word.now ≡ name_of code) → ⊥) }
+    ensures some { IfSome result (λ code. IsSameWord word.now (number_of code) ⊎ IsSameWord word.now (name_of code)) }
+    ensures none { IfNone result ((code : WhyText) → IsSameWord word.now (number_of code) ⊎ IsSameWord word.now (name_of code) → ⊥) }
 {
     for code in &CODES {
         if is_code(*code, word) {
@@ -60,8 +60,8 @@ fn code_named(word: &str) -> Option<Code>
 }
 
 fn cause_named(word: &str) -> Option<Cause>
-    ensures some { IfSome result (λ cause. word.now ≡ words_of cause) }
-    ensures none { IfNone result ((cause : WhyItem) → word.now ≡ words_of cause → ⊥) }
+    ensures some { IfSome result (λ cause. IsSameWord word.now (words_of cause)) }
+    ensures none { IfNone result ((cause : WhyItem) → IsSameWord word.now (words_of cause) → ⊥) }
 {
     for cause in &CAUSES {
         if is_cause(*cause, word) {
@@ -72,17 +72,17 @@ fn cause_named(word: &str) -> Option<Cause>
 }
 
 fn is_code(code: Code, word: &str) -> bool
-    ensures yes { result ≡ true → (word.now ≡ number_of code) ⊎ (word.now ≡ name_of code) }
-    ensures no { result ≡ false → (word.now ≡ number_of code) ⊎ (word.now ≡ name_of code) → ⊥ }
+    ensures yes { result ≡ true → IsSameWord word.now (number_of code) ⊎ IsSameWord word.now (name_of code) }
+    ensures no { result ≡ false → IsSameWord word.now (number_of code) ⊎ IsSameWord word.now (name_of code) → ⊥ }
 {
-    word == number(code) || word == name(code)
+    word.eq_ignore_ascii_case(number(code)) || word.eq_ignore_ascii_case(name(code))
 }
 
 fn is_cause(cause: Cause, word: &str) -> bool
-    ensures yes { result ≡ true → word.now ≡ words_of cause }
-    ensures no { result ≡ false → word.now ≡ words_of cause → ⊥ }
+    ensures yes { result ≡ true → IsSameWord word.now (words_of cause) }
+    ensures no { result ≡ false → IsSameWord word.now (words_of cause) → ⊥ }
 {
-    word == words(cause)
+    word.eq_ignore_ascii_case(words(cause))
 }
 
 /// What is said of a subject, in whole lines: of a code what is wrong, which byte is told and an example, and of a cause what

@@ -1,5 +1,5 @@
 -- What pairs come to by the first entries of an alternative: so they do in each alternative that begins with these.
-use Rattle.std.specs.Prelude.{◌≡◌, ℕ, suc, ◌+◌, ◌-◌, ◌*◌, ◌<◌, ◌≤◌, ◌++◌, max, length, take, drop, List, Option, Some, None, IfSome, Result, Ok, Err}
+use Rattle.std.specs.Prelude.{◌≡◌, ℕ, suc, ◌+◌, ◌-◌, ◌*◌, ◌<◌, ◌≤◌, ◌++◌, max, length, take, List, Option, Some, None, IfSome, Result, Ok, Err}
 use Rattle.cbor_data.specs.Value.{Pairs, no_pairs, pairs_len, place_count}
 use Rattle.item_nodes.specs.View.{view}
 use Rattle.item_nodes.specs.declared.item.Item.{Item}

@@ -28,8 +28,7 @@ use crate::tallied::{Tallied, nothing_tallied, told_with};
 use cbor_item::Item;
 use match_moves::{
     Fate, Parts, Question, Reply, Round, Rounds, after_round, begin_tally, bytes_of,
-    first_are_enough, is_over, items_of, pairs_of, place_after, plus, simple_of,
-    tally_pair,
+    first_are_enough, is_over, items_of, pairs_of, place_after, plus, simple_of, tally_pair,
 };
 use table_nodes::{Content, Group, GroupId, MapEntry, Node, Table, TagNumber, Test, TypeId};
 

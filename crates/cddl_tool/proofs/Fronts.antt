@@ -1,9 +1,9 @@
 -- The first bytes of a text tell what all of it does.
-use Rattle.std.proofs.Common.{◌≡◌, ℕ, ◌<◌, ◌≤◌, inl, inr, ◌⊎◌, List, length, take, Option, subst, arith}
+use Rattle.std.proofs.Common.{◌≡◌, ℕ, ◌<◌, ◌≤◌, inl, inr, List, length, take, Option, subst, arith}
 use Rattle.std.proofs.lemmas.Bool.{cases_lt}
 use Rattle.std.proofs.lemmas.List.{length-take-le, take_all}
 use Rattle.check_text.specs.declared.fault.Fault.{Fault}
-use Rattle.cddl_check.specs.Text.{AreTokensOf, IsTreeOfText, IsUnreadText, IsWrongText, no_tokens, no_tree, has_fault}
+use Rattle.cddl_check.specs.Text.{IsTreeOfText, IsUnreadText, IsWrongText, no_tokens, no_tree, has_fault}
 use Rattle.cddl_table.specs.Text.{IsTabledText}
 use Rattle.cddl_token.specs.declared.Refusal.{Refusal}
 use Rattle.cddl_token.specs.declared.Refusal.TheVariants as RefusalV
@@ -11,7 +11,6 @@ use Rattle.tree_nodes.specs.Syntax.Syntax.{Cddl}
 use Rattle.table_nodes.specs.declared.table.Table.{Table}
 use Rattle.cddl_token.specs.Answers.{IsRefused}
 use Rattle.cddl_token.specs.declared.Code.{Code}
-use Rattle.cddl_token.specs.declared.Token.{Token}
 use Rattle.command_line.specs.Reading.{most_read}
 
 -- a text with a tree is short

@@ -22,6 +22,7 @@ use Rattle.command_line.specs.declared.choice.Task.TheVariants.{Check, Validate,
 use Rattle.command_line.specs.declared.status.TheConstants.{REFUSED, BROKEN}
 use Rattle.command_line.specs.Lines.{memory_line, read_failed_line, unexplained_line, write_failed_line}
 use Rattle.cddl_explain.specs.declared.subjects.Subject.{Subject}
+use Rattle.cddl_explain.specs.Refusals.{IsExplainedRefusal}
 use Rattle.cddl_explain.specs.Subjects.{explanation_of, IsNameOf}
 
 -- the specification of a task: to show a stream or to explain a code, that of any item
@@ -40,10 +41,26 @@ IsSaid device text = HasNotFailed device → device.failures_before < 2 ^ 64 - 1
 abbrev pub refusal_line : Fault → List ℕ
 refusal_line f = refusal_text (At f.code f.at) ++ codes "\n"
 
--- The text has no table with this name as its root: what is wrong with it was told, and the status says so; or want of memory was.
-pub data IsTurnedDown (text : List ℕ) (root : Option (List ℕ)) (error : Change) : ℕ → Type 0 where
-  refused : (f : Fault) → IsWrongText text root f → IsSaid error (refusal_line f) → IsTurnedDown text root error REFUSED
-  no_memory : IsSaid error memory_line → IsTurnedDown text root error BROKEN
+-- what is to be explained, and the name of a file: nothing where there is none
+abbrev pub word_in : Option (List ℕ) → List ℕ
+word_in None = []
+word_in (Some word) = word
+
+abbrev pub wanted_root : Options → Option (List ℕ)
+wanted_root o = option_map (λ s. string_bytes s) o.root
+
+abbrev pub named_file : Options → List ℕ
+named_file o = word_in (option_map (λ s. string_bytes s) o.spec)
+
+-- What is told of a refusal: its line, and with `--explain` also where it is and what is wrong.
+pub data IsToldRefusal (o : Options) (text : List ℕ) (f : Fault) : List ℕ → Type 0 where
+  line_alone : o.explain ≡ false → IsToldRefusal o text f (refusal_line f)
+  with_reason : o.explain ≡ true → (told : List ℕ) → IsExplainedRefusal f.code f.at (named_file o) text (wanted_root o) told → IsToldRefusal o text f told
+
+-- The text has no table with the root that is asked for: what is wrong with it was told, and the status says so; or want of memory was.
+pub data IsTurnedDown (o : Options) (text : List ℕ) (error : Change) : ℕ → Type 0 where
+  refused : (f : Fault) → IsWrongText text (wanted_root o) f → (told : List ℕ) → IsToldRefusal o text f told → IsSaid error told → IsTurnedDown o text error REFUSED
+  no_memory : IsSaid error memory_line → IsTurnedDown o text error BROKEN
 
 -- the line that says that a specification is accepted
 abbrev pub accepted_line : List ℕ
@@ -63,11 +80,6 @@ pub data IsAcceptance (output error : Change) : ℕ → Type 0 where
 -- a task that reads no stream
 abbrev pub HasNoStream : Task → Type 0
 HasNoStream task = (task ≡ Check) ⊎ (task ≡ Explain)
-
--- what is to be explained
-abbrev pub word_in : Option (List ℕ) → List ℕ
-word_in None = []
-word_in (Some word) = word
 
 abbrev pub wanted_word : Options → List ℕ
 wanted_word o = word_in (option_map (λ s. string_bytes s) o.code)

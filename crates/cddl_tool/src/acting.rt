@@ -3,16 +3,17 @@
 ghost use Rattle.std.specs.Prelude.{◌≡◌, ◌≢◌, ◌⊎◌, ℕ, List, Option, IfOk, IfErr, IfSome, OnOk, option_copied, option_map, string_bytes};
 ghost use Rattle.item_nodes.specs.Counted.{device_of};
 ghost use Rattle.cddl_check.specs.Text.{IsUnreadText};
+ghost use Rattle.cddl_explain.specs.Refusals.{IsExplainedRefusal};
 ghost use Rattle.cddl_table.specs.Text.{IsTabledText};
 ghost use Rattle.seq_run.specs.Judge.{judge_of};
 ghost use Rattle.seq_run.specs.Report.{IsShown};
 ghost use Rattle.seq_run.specs.Running.{change_of};
 ghost use Rattle.command_line.specs.Lines.{memory_line};
-ghost use Rattle.cddl_tool.specs.Acting.{fault_line, limits_of, mode_of, refusal_line, report_mode_of, rewrite_mode_of, specification_of, status_for, wanted_word, HasNoStream, IsAcceptance, IsAnswered, IsBroken, IsExplained, IsSaid, IsTold, IsTurnedDown};
+ghost use Rattle.cddl_tool.specs.Acting.{fault_line, limits_of, mode_of, refusal_line, report_mode_of, rewrite_mode_of, named_file, specification_of, status_for, wanted_root, wanted_word, HasNoStream, IsAcceptance, IsAnswered, IsBroken, IsExplained, IsSaid, IsTold, IsToldRefusal, IsTurnedDown};
 
 use cbor_item::{Counted, Sound, write_bytes};
 use cbor_read::Limits;
-use cddl_explain::{explanation, subject_of};
+use cddl_explain::{explained_refusal, explanation, subject_of};
 use cddl_table::read_specification;
 use cddl_token::Refusal;
 use check_text::Fault;
@@ -31,28 +32,28 @@ use table_nodes::Table;
 /// # Errors
 ///
 /// The exit status, with a line on `err`: [`REFUSED`], with the line `refused: CODE NAME at byte OFFSET`, where the text is no
-/// specification, or one that this version does not take; [`BROKEN`] where an allocation was refused.
+/// specification, or one that this version does not take; [`BROKEN`] where an allocation was refused. Where the options want a
+/// refusal explained, what [`explained_refusal`] tells of it is on `err`, which begins with that line.
 pub fn ready<E: Write>(
     alloc: Global,
     options: &Options,
     spec: &[u8],
     err: &mut Counted<E>,
 ) -> Result<Table, u8>
-    ensures found { IfOk result (IsTabledText (specification_of options.now.task spec.now) (option_map (λ s. string_bytes s) options.now.root)) }
+    ensures found { IfOk result (IsTabledText (specification_of options.now.task spec.now) (wanted_root options.now)) }
     ensures quiet { OnOk result (err.new ≡ err.old) }
-    ensures refused { IfErr result
-        (IsTurnedDown (specification_of options.now.task spec.now) (option_map (λ s. string_bytes s) options.now.root) (change_of E.contents err.old err.new)) }
+    ensures refused { IfErr result (IsTurnedDown options.now (specification_of options.now.task spec.now) (change_of E.contents err.old err.new)) }
 {
     let text = specification_for(options.task, spec);
     match read_specification(alloc, text, root_of(options)) {
         Ok(table) => Ok(table),
-        Err(why) => Err(say_unread(alloc, why, err)),
+        Err(why) => Err(say_unread(alloc, options, text, why, err)),
     }
 }
 
 // The name of the root, if the options have one.
 fn root_of(options: &Options) -> Option<&str>
-    ensures { option_map (λ r. r.now) result ≡ option_map (λ s. string_bytes s) options.now.root }
+    ensures { option_map (λ r. r.now) result ≡ wanted_root options.now }
 {
     match &options.root {
         Some(name) => Some(name.as_str()),
@@ -60,28 +61,86 @@ fn root_of(options: &Options) -> Option<&str>
     }
 }
 
+// The name of the file with the specification: an empty one where the task has none.
+fn file_of(options: &Options) -> &str
+    ensures { result.now ≡ named_file options.now }
+{
+    match &options.spec {
+        Some(name) => name.as_str(),
+        None => "",
+    }
+}
+
 // Says why a text has no table, and answers the status.
-fn say_unread<E: Write>(alloc: Global, why: Refusal, err: &mut Counted<E>) -> u8
-    ensures { (text : List ℕ) (root : Option (List ℕ)) → IsUnreadText text root why → IsTurnedDown text root (change_of E.contents err.old err.new) result }
+fn say_unread<E: Write>(
+    alloc: Global,
+    options: &Options,
+    text: &[u8],
+    why: Refusal,
+    err: &mut Counted<E>,
+) -> u8
+    ensures { IsUnreadText text.now (wanted_root options.now) why → IsTurnedDown options.now text.now (change_of E.contents err.old err.new) result }
 {
     match why {
-        Refusal::At(code, at) => say_refused(alloc, Fault { code, at }, err),
+        Refusal::At(code, at) => say_refused(alloc, options, text, Fault { code, at }, err),
         Refusal::Memory => say_no_memory(err),
     }
 }
 
 // Says what is wrong with a text, and answers the status.
-fn say_refused<E: Write>(alloc: Global, fault: Fault, err: &mut Counted<E>) -> u8
-    ensures { ((result ≡ REFUSED) × IsSaid (change_of E.contents err.old err.new) (refusal_line fault))
+fn say_refused<E: Write>(
+    alloc: Global,
+    options: &Options,
+    text: &[u8],
+    fault: Fault,
+    err: &mut Counted<E>,
+) -> u8
+    ensures { ((result ≡ REFUSED) × ((told : List ℕ) × IsToldRefusal options.now text.now fault told × IsSaid (change_of E.contents err.old err.new) told))
         ⊎ ((result ≡ BROKEN) × IsSaid (change_of E.contents err.old err.new) memory_line) }
 {
-    match line_of(alloc, fault) {
-        Ok(line) => {
-            say(line.as_str().as_bytes(), err);
+    match told_of_refusal(alloc, options, text, fault) {
+        Ok(told) => {
+            say(told.as_str().as_bytes(), err);
             REFUSED
         }
         Err(_) => say_no_memory(err),
     }
+}
+
+// What is told of a text that is refused: one text, which is written in one piece.
+#[tactic(auto, using(crate::proofs::Refusing::told_line, crate::proofs::Refusing::told_reason))]
+fn told_of_refusal(
+    alloc: Global,
+    options: &Options,
+    text: &[u8],
+    fault: Fault,
+) -> Result<String, AllocError>
+    ensures { IfOk result (λ told. IsToldRefusal options.now text.now fault (string_bytes told)) }
+{
+    if options.explain {
+        reason_of(alloc, options, text, fault)
+    } else {
+        line_of(alloc, fault)
+    }
+}
+
+// The line of the refusal, with where it is and what is wrong.
+fn reason_of(
+    alloc: Global,
+    options: &Options,
+    text: &[u8],
+    fault: Fault,
+) -> Result<String, AllocError>
+    ensures { IfOk result (λ told. IsExplainedRefusal fault.code fault.at (named_file options.now) text.now (wanted_root options.now) (string_bytes told)) }
+{
+    explained_refusal(
+        alloc,
+        fault.code,
+        fault.at,
+        file_of(options),
+        text,
+        root_of(options),
+    )
 }
 
 // The line that tells what is wrong with a text.

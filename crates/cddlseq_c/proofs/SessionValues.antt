@@ -14,13 +14,13 @@ use Rattle.core.proofs.alloc.Calls.{handle_tells}
 use Rattle.core.proofs.cell.Inside.{Good}
 use Rattle.std_alloc.specs.Box.Ownership.{box_owns}
 use Rattle.std_heap.specs.contracts.GlobalAllocator.TheImpl.{ghosts}
-use Rattle.seq_run.specs.contracts.owned.OwnedSession as owned
+use Rattle.cddlseq_c.specs.contracts.feeding.Feeding as feeding
 use Rattle.cddlseq_c.specs.contracts.session.CddlseqSession as session
 use Rattle.cddlseq_c.proofs.Values.{al, both, Z}
 
 -- what is in the box, and the handle
 abbrev pub R : RattleType
-R = owned.the_row
+R = feeding.the_row
 
 abbrev pub Handle : RattleType
 Handle = session.the_row

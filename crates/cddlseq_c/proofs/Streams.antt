@@ -7,7 +7,7 @@ use Rattle.cbor_data.specs.Faults.{Bounds}
 use Rattle.seq_run.specs.Judge.{Judge, judge_of}
 use Rattle.seq_run.specs.declared.end.End.{End}
 use Rattle.cddlseq_c.specs.Answers.{AreTold, AreValidated, HasEnd, IsReady, IsStop, IsStream, IsToldAt, IsToldMany, all_validated, none_validated}
-use Rattle.cddlseq_c.specs.Told.{no_refusal, refusal_of, status_of_stop, told_end}
+use Rattle.cddlseq_c.specs.Told.{IsStopTold, no_refusal, status_of_stop, told_end}
 use Rattle.cddlseq_c.specs.Held.{Held}
 use Rattle.cddlseq_c.specs.declared.stop.Stop.{Stop}
 use Rattle.cddlseq_c.specs.declared.told.CddlseqEnd.{CddlseqEnd}
@@ -40,5 +40,5 @@ module _ (text root bytes offsets : List ℕ) (limits : CddlseqLimits) (refusal 
       all_validated r.table fits is.tabled clear status
       (subst (λ l. IsToldMany (judge_of r.table limits.steps) l bytes offsets old new n status) is.limits_are (subst (λ steps. IsToldMany (judge_of r.table steps) r.limits bytes offsets old new n status) is.steps_are told))
 
-  pub none_by : (why : Stop) (ends : List CddlseqEnd) (status : ℕ) → IsStop limits text root why → status ≡ status_of_stop why → refusal ≡ refusal_of why → AreValidated text root bytes offsets limits refusal ends ends 0 status
+  pub none_by : (why : Stop) (ends : List CddlseqEnd) (status : ℕ) → IsStop limits text root why → status ≡ status_of_stop why → IsStopTold text why refusal → AreValidated text root bytes offsets limits refusal ends ends 0 status
   none_by why ends status is e told = subst (λ s. AreValidated text root bytes offsets limits refusal ends ends 0 s) (sym e) (none_validated why is told refl refl)

@@ -1,10 +1,11 @@
 -- What a call answers, by what was read, run and told.
 use Rattle.std.proofs.Common.{◌≡◌, ℕ, List, Bool, true, false, length, refl, sym, subst}
+use denote.RawPtr.{Ptr}
 use Rattle.cbor_data.specs.Faults.{Bounds}
 use Rattle.seq_run.specs.Judge.{Judge, judge_of}
 use Rattle.seq_run.specs.declared.end.End.{End}
 use Rattle.cddlseq_c.specs.Answers.{HasEnd, IsChecked, IsOpened, IsPut, IsReady, IsStop, IsToldEnd, IsToldWanted, IsUntabled, IsValidated, IsWanted, IsWritten, unchecked, end_told, unopened, validated, unvalidated, put, no_room, written, unwritten}
-use Rattle.cddlseq_c.specs.Told.{bounds_of, no_refusal, refusal_of, status_of, status_of_stop, told_end}
+use Rattle.cddlseq_c.specs.Told.{IsStopTold, bounds_of, no_refusal, status_of, status_of_stop, told_end}
 use Rattle.cddlseq_c.specs.Wanted.{number_of_wanted}
 use Rattle.cddlseq_c.specs.Held.{Held}
 use Rattle.cddlseq_c.specs.declared.stop.Stop.{Stop}
@@ -14,7 +15,7 @@ use Rattle.cddlseq_c.specs.declared.told.CddlseqRefusal.{CddlseqRefusal}
 use Rattle.cddlseq_c.specs.declared.told.TheConstants.{NO_ROOM}
 use Rattle.cddlseq_c.specs.declared.wanted.Wanted.{Wanted}
 
-pub stopped_check : (text root : List ℕ) (refusal : CddlseqRefusal) (why : Stop) (status : ℕ) → IsUntabled text root why → status ≡ status_of_stop why → refusal ≡ refusal_of why → IsChecked text root refusal status
+pub stopped_check : (text root : List ℕ) (refusal : CddlseqRefusal) (why : Stop) (status : ℕ) → IsUntabled text root why → status ≡ status_of_stop why → IsStopTold text why refusal → IsChecked text root refusal status
 stopped_check text root refusal why status is e told = subst (λ n. IsChecked text root refusal n) (sym e) (unchecked why is told)
 
 pub told_so : (judge : Judge) (l : Bounds) (stream : List ℕ) (old new : CddlseqEnd) (end : End) (status : ℕ) → HasEnd judge l stream end → new ≡ told_end end → status ≡ status_of end → IsToldEnd judge l stream old new status
@@ -43,12 +44,12 @@ module _ (text root : List ℕ) (limits : CddlseqLimits) (refusal : CddlseqRefus
     written_by stream number wanted old new out_old out_new needed status e told =
         written r.table wanted e is.tabled clear status (by_limits text root limits r (λ judge l. IsToldWanted wanted judge l stream old new out_old out_new needed status) is told)
 
-  module _ (why : Stop) (status : ℕ) (is : IsStop limits text root why) (e : status ≡ status_of_stop why) (told : refusal ≡ refusal_of why) where
+  module _ (why : Stop) (status : ℕ) (is : IsStop limits text root why) (e : status ≡ status_of_stop why) (told : IsStopTold text why refusal) where
     pub stopped_before : (stream : List ℕ) (end : CddlseqEnd) → IsValidated text root stream limits refusal end end status
     stopped_before stream end = subst (λ n. IsValidated text root stream limits refusal end end n) (sym e) (unvalidated why is told refl)
 
-    pub stopped_opening : IsOpened text root limits refusal status
-    stopped_opening = subst (λ n. IsOpened text root limits refusal n) (sym e) (unopened why is told)
+    pub stopped_opening : (at : Ptr) → IsOpened text root limits refusal at at status
+    stopped_opening at = subst (λ n. IsOpened text root limits refusal at at n) (sym e) (unopened why is told refl)
 
     pub unwritten_by : (stream : List ℕ) (number : ℕ) (end : CddlseqEnd) (out : List ℕ) → IsWritten text root stream limits number refusal end end out out 0 status
     unwritten_by stream number end out = subst (λ n. IsWritten text root stream limits number refusal end end out out 0 n) (sym e) (unwritten why is told refl refl refl)

@@ -1,5 +1,6 @@
 -- What the calls answer.
 use Rattle.std.specs.Prelude.{◌≡◌, ◌≢◌, ℕ, ◌+◌, ◌<◌, ◌≤◌, ◌⊎◌, Bool, true, false, List, [], ◌∷◌, ◌++◌, length, drop, Option, Some, None, slice_get, slice_index, slice_range, IsUtf8}
+use denote.RawPtr.{Ptr}
 use Rattle.cbor_data.specs.Value.{Value}
 use Rattle.cbor_data.specs.Faults.{Bounds}
 use Rattle.cbor_data.specs.Sequence.{Found}
@@ -21,7 +22,7 @@ use Rattle.cbor_read.specs.declared.limits.TheConstants.{MOST_ITEM_BYTES}
 use Rattle.cddlseq_c.specs.declared.told.TheConstants.{OK, NO_MEMORY, BAD_WANTED, BAD_OFFSETS, NO_ROOM}
 use Rattle.cddlseq_c.specs.declared.wanted.Wanted.{Wanted}
 use Rattle.cddlseq_c.specs.Held.{Held}
-use Rattle.cddlseq_c.specs.Told.{bounds_of, no_refusal, refusal_of, status_of, status_of_stop, told_end}
+use Rattle.cddlseq_c.specs.Told.{IsStopTold, bounds_of, no_refusal, status_of, status_of_stop, told_end}
 use Rattle.cddlseq_c.specs.Wanted.{bytes_of, number_of_wanted}
 
 -- the name of the root: none where it has no bytes
@@ -82,7 +83,7 @@ pub record IsWanted (wanted : Wanted) (judge : Judge) (l : Bounds) (stream bytes
 -- What `cddlseq_check` answers: the text is a specification, or this is why nothing is known of it.
 pub data IsChecked (text root : List ℕ) (refusal : CddlseqRefusal) : ℕ → Type 0 where
   accepted : (table : Table) → IsTabledText text (root_name root) table → refusal ≡ no_refusal → IsChecked text root refusal OK
-  unchecked : (why : Stop) → IsUntabled text root why → refusal ≡ refusal_of why → IsChecked text root refusal (status_of_stop why)
+  unchecked : (why : Stop) → IsUntabled text root why → IsStopTold text why refusal → IsChecked text root refusal (status_of_stop why)
 
 -- The stream has an end, and it is told; or memory was refused, and nothing is told.
 pub data IsToldEnd (judge : Judge) (l : Bounds) (stream : List ℕ) (old new : CddlseqEnd) : ℕ → Type 0 where
@@ -94,7 +95,7 @@ pub data IsToldEnd (judge : Judge) (l : Bounds) (stream : List ℕ) (old new : C
 pub data IsValidated (text root stream : List ℕ) (limits : CddlseqLimits) (refusal : CddlseqRefusal) (old new : CddlseqEnd) : ℕ → Type 0 where
   validated : (table : Table) → IsTabledText text (root_name root) table → refusal ≡ no_refusal → (status : ℕ) →
       IsToldEnd (judge_of table limits.steps) (bounds_of limits) stream old new status → IsValidated text root stream limits refusal old new status
-  unvalidated : (why : Stop) → IsStop limits text root why → refusal ≡ refusal_of why → new ≡ old → IsValidated text root stream limits refusal old new (status_of_stop why)
+  unvalidated : (why : Stop) → IsStop limits text root why → IsStopTold text why refusal → new ≡ old → IsValidated text root stream limits refusal old new (status_of_stop why)
 
 -- The bytes are at the front of the buffer, if there is room for them.
 abbrev pub IsPut : Bool → List ℕ → List ℕ → List ℕ → Type 0
@@ -118,13 +119,14 @@ pub data IsWritten (text root stream : List ℕ) (limits : CddlseqLimits) (numbe
       IsWritten text root stream limits number refusal old new out_old out_new needed status
   bad_wanted : ((wanted : Wanted) → number ≢ number_of_wanted wanted) → refusal ≡ no_refusal → new ≡ old → needed ≡ 0 → out_new ≡ out_old →
       IsWritten text root stream limits number refusal old new out_old out_new needed BAD_WANTED
-  unwritten : (why : Stop) → IsStop limits text root why → refusal ≡ refusal_of why → new ≡ old → needed ≡ 0 → out_new ≡ out_old →
+  unwritten : (why : Stop) → IsStop limits text root why → IsStopTold text why refusal → new ≡ old → needed ≡ 0 → out_new ≡ out_old →
       IsWritten text root stream limits number refusal old new out_old out_new needed (status_of_stop why)
 
--- What `cddlseq_open` answers: the text is ready, as above, with these limits; or this is why it is not.
-pub data IsOpened (text root : List ℕ) (limits : CddlseqLimits) (refusal : CddlseqRefusal) : ℕ → Type 0 where
-  opened : (ready : Held) → IsReady text root limits ready → refusal ≡ no_refusal → IsOpened text root limits refusal OK
-  unopened : (why : Stop) → IsStop limits text root why → refusal ≡ refusal_of why → IsOpened text root limits refusal (status_of_stop why)
+-- What `cddlseq_open` and `cddlseq_begin` answer: the text is ready, as above, with these limits, and a pointer is written; or this
+-- is why it is not, and none is.
+pub data IsOpened (text root : List ℕ) (limits : CddlseqLimits) (refusal : CddlseqRefusal) (old new : Ptr) : ℕ → Type 0 where
+  opened : (ready : Held) → IsReady text root limits ready → refusal ≡ no_refusal → IsOpened text root limits refusal old new OK
+  unopened : (why : Stop) → IsStop limits text root why → IsStopTold text why refusal → new ≡ old → IsOpened text root limits refusal old new (status_of_stop why)
 
 -- What `cddlseq_write_by` answers: this is told of the stream, and what is wanted by the number is written; or nothing is wanted by
 -- it.
@@ -163,8 +165,10 @@ pub data AreValidated (text root bytes offsets : List ℕ) (limits : CddlseqLimi
   all_validated : (table : Table) → length offsets ≡ length old + 1 → IsTabledText text (root_name root) table → refusal ≡ no_refusal → (status : ℕ) →
       IsToldMany (judge_of table limits.steps) (bounds_of limits) bytes offsets old new n status → AreValidated text root bytes offsets limits refusal old new n status
   bad_number : length offsets ≢ length old + 1 → refusal ≡ no_refusal → new ≡ old → n ≡ 0 → AreValidated text root bytes offsets limits refusal old new n BAD_OFFSETS
-  none_validated : (why : Stop) → IsStop limits text root why → refusal ≡ refusal_of why → new ≡ old → n ≡ 0 → AreValidated text root bytes offsets limits refusal old new n (status_of_stop why)
+  none_validated : (why : Stop) → IsStop limits text root why → IsStopTold text why refusal → new ≡ old → n ≡ 0 → AreValidated text root bytes offsets limits refusal old new n (status_of_stop why)
 
--- What `cddlseq_share` and `cddlseq_begin_by` answer: what they make is made, or memory was refused.
-abbrev pub IsMade : ℕ → Type 0
-IsMade status = (status ≡ OK) ⊎ (status ≡ NO_MEMORY)
+-- What `cddlseq_share` and `cddlseq_begin_by` answer: what they make is made, and a pointer to it is written; or memory was refused,
+-- and none is.
+pub data IsMade (old new : Ptr) : ℕ → Type 0 where
+  made : IsMade old new OK
+  unmade : new ≡ old → IsMade old new NO_MEMORY

@@ -1,14 +1,16 @@
 -- What is told of a text and of a stream, by numbers.
-use Rattle.std.specs.Prelude.{ℕ}
+use Rattle.std.specs.Prelude.{ℕ, ◌≡◌, List, take}
 use Rattle.cbor_data.specs.Faults.{Bounds}
 use Rattle.cbor_data.specs.declared.FaultKind.{FaultKind}
 use Rattle.cbor_data.specs.declared.FaultKind.TheVariants.{ReservedInfo, BadIndefinite, BadBreak, BadChunk, BadSimple, TooDeep, TooLong, Truncated, BadText, DuplicateKey}
 use Rattle.cddl_token.specs.declared.Code.{Code}
+use Rattle.check_text.specs.declared.fault.Fault.{Fault}
 use Rattle.cddl_token.specs.declared.Code.TheVariants.{NotUtf8, BadCharacter, Unclosed, BadEscape, BadNumber, FloatLiteral, NumberTooLarge, BadBytes, SourceTooLong, Unexpected, TooNested, Duplicate, KindClash, Undefined, Arity, NoRoot, BadRoot, GroupAsType, HashForm, UnknownControl, TooManyInstances, NotUnwrappable, Recursion, NotLiteral, BadRange, BadController, NoKey, MapShape, TooManyAlternatives}
 use Rattle.seq_run.specs.declared.end.Cause.{Cause}
 use Rattle.seq_run.specs.declared.end.Cause.TheVariants as cause
 use Rattle.seq_run.specs.declared.end.End.{End}
 use Rattle.seq_run.specs.declared.end.End.TheVariants as end
+use Rattle.text_position.specs.Positions.{IsAt}
 use Rattle.cddlseq_c.specs.declared.stop.Stop.{Stop}
 use Rattle.cddlseq_c.specs.declared.stop.Stop.TheVariants as stop
 use Rattle.cddlseq_c.specs.declared.told.CddlseqEnd.{CddlseqEnd}
@@ -81,14 +83,20 @@ status_of (end.Failed items offset why) = FAILED
 
 -- what is told of a text that is not refused
 abbrev pub no_refusal : CddlseqRefusal
-no_refusal = record { code = 0; offset = 0 }
+no_refusal = record { code = 0; offset = 0; line = 0; column = 0 }
 
--- what is told where a call stops
-abbrev pub refusal_of : Stop → CddlseqRefusal
-refusal_of (stop.Refused f) = record { code = number_of_code f.code; offset = f.at }
-refusal_of stop.Memory = no_refusal
-refusal_of stop.BadRoot = no_refusal
-refusal_of stop.BadLimits = no_refusal
+-- What is told of what is wrong with a text: the number of its code, its byte, and the line and the column of that.
+pub record IsFaultTold (text : List ℕ) (f : Fault) (told : CddlseqRefusal) : Type 0 where
+  pub code : told.code ≡ number_of_code f.code
+  pub offset : told.offset ≡ f.at
+  pub position : IsAt (take f.at text) told.line told.column
+
+-- What is told where a call that was given this text stops.
+abbrev pub IsStopTold : List ℕ → Stop → CddlseqRefusal → Type 0
+IsStopTold text (stop.Refused f) told = IsFaultTold text f told
+IsStopTold text stop.Memory told = told ≡ no_refusal
+IsStopTold text stop.BadRoot told = told ≡ no_refusal
+IsStopTold text stop.BadLimits told = told ≡ no_refusal
 
 abbrev pub status_of_stop : Stop → ℕ
 status_of_stop (stop.Refused f) = REFUSED

@@ -31,3 +31,6 @@ impl CddlseqHandle {
         unsafe { Box::from_raw(alloc, at as *mut Ready) }
     }
 }
+
+// What is in its box shares nothing that is changed but the count of the table's owners.
+unsafe impl Send for CddlseqHandle {}

@@ -6,6 +6,7 @@ ghost use Rattle.std.specs.Prelude.{take};
 ghost use Rattle.text_position.specs.Positions.{IsAt};
 ghost use Rattle.seq_run.specs.Judge.{judge_of};
 ghost use Rattle.cddlseq_c.specs.Answers.{AreValidated, IsChecked, IsOpened, IsToldEnd, IsValidated, IsWritten, IsWrittenBy};
+ghost use Rattle.cddlseq_c.specs.Fed.{Fed};
 ghost use Rattle.cddlseq_c.specs.Pieces.{IsFedAll, IsFedTo, IsFinished, IsShownBy};
 
 mod feeding;
@@ -20,7 +21,6 @@ mod stop;
 mod told;
 mod wanted;
 
-use crate::feeding::{feed, feed_all, finish, show};
 use crate::handle::CddlseqHandle;
 use crate::many::{fits, tell_many};
 use crate::position::CddlseqPosition;
@@ -51,7 +51,7 @@ pub extern "C" fn cddlseq_check(
             *refusal = NO_REFUSAL;
             OK
         }
-        Err(why) => tell_stop(why, refusal),
+        Err(why) => tell_stop(text, why, refusal),
     }
 }
 
@@ -85,7 +85,7 @@ pub extern "C" fn cddlseq_validate(
             *refusal = NO_REFUSAL;
             tell_end(alloc, &ready, stream, end)
         }
-        Err(why) => tell_stop(why, refusal),
+        Err(why) => tell_stop(text, why, refusal),
     }
 }
 
@@ -113,7 +113,7 @@ pub extern "C" fn cddlseq_write(
     };
     match prepare(alloc, text, root, limits) {
         Ok(ready) => tell_wanted(alloc, &ready, wanted, stream, end, out, needed),
-        Err(why) => tell_stop(why, refusal),
+        Err(why) => tell_stop(text, why, refusal),
     }
 }
 
@@ -140,7 +140,7 @@ pub extern "C" fn cddlseq_validate_many(
     }
     match prepare(alloc, text, root, limits) {
         Ok(ready) => tell_many(alloc, &ready, bytes, offsets, ends, done),
-        Err(why) => tell_stop(why, refusal),
+        Err(why) => tell_stop(text, why, refusal),
     }
 }
 
@@ -154,7 +154,7 @@ pub extern "C" fn cddlseq_open(
     refusal: &mut CddlseqRefusal,
     handle: &mut *mut u8,
 ) -> u32
-    ensures { IsOpened text.now root.now limits.now refusal.new result }
+    ensures { IsOpened text.now root.now limits.now refusal.new handle.old handle.new result }
 {
     *refusal = NO_REFUSAL;
     match prepare(alloc, text, root, limits) {
@@ -165,7 +165,7 @@ pub extern "C" fn cddlseq_open(
             }
             Err(_) => NO_MEMORY,
         },
-        Err(why) => tell_stop(why, refusal),
+        Err(why) => tell_stop(text, why, refusal),
     }
 }
 
@@ -223,12 +223,12 @@ pub extern "C" fn cddlseq_begin(
     refusal: &mut CddlseqRefusal,
     session: &mut *mut u8,
 ) -> u32
-    ensures { IsOpened text.now root.now limits.now refusal.new result }
+    ensures { IsOpened text.now root.now limits.now refusal.new session.old session.new result }
 {
     *refusal = NO_REFUSAL;
     match prepare(alloc, text, root, limits) {
         Ok(ready) => {
-            let begun = ready.into_session(alloc);
+            let begun = ready.into_feeding(alloc);
             match Box::new(alloc, begun) {
                 Ok(held) => {
                     *session = Box::into_raw(held) as *mut u8;
@@ -237,7 +237,7 @@ pub extern "C" fn cddlseq_begin(
                 Err(_) => NO_MEMORY,
             }
         }
-        Err(why) => tell_stop(why, refusal),
+        Err(why) => tell_stop(text, why, refusal),
     }
 }
 
@@ -251,10 +251,10 @@ pub extern "C" fn cddlseq_feed(
     end: &mut CddlseqEnd,
     back: &mut *mut u8,
 ) -> u32
-    ensures { IsFedTo session.value piece.now used.new end.old end.new result }
+    ensures { (now : Fed) × IsFedTo session.value now piece.now used.new end.old end.new result }
 {
     let mut held = session.into_box();
-    let status = feed(&mut held, piece, used, end);
+    let status = held.feed(piece, used, end);
     *back = Box::into_raw(held) as *mut u8;
     status
 }
@@ -268,10 +268,10 @@ pub extern "C" fn cddlseq_feed_all(
     end: &mut CddlseqEnd,
     back: &mut *mut u8,
 ) -> u32
-    ensures { IsFedAll session.value piece.now end.old end.new result }
+    ensures { (now : Fed) × IsFedAll session.value now piece.now end.old end.new result }
 {
     let mut held = session.into_box();
-    let status = feed_all(alloc, &mut held, piece, end);
+    let status = held.feed_all(alloc, piece, end);
     *back = Box::into_raw(held) as *mut u8;
     status
 }
@@ -283,15 +283,16 @@ pub extern "C" fn cddlseq_finish(
     end: &mut CddlseqEnd,
     back: &mut *mut u8,
 ) -> u32
-    ensures { IsFinished session.value end.old end.new result }
+    ensures { (now : Fed) × IsFinished session.value now end.old end.new result }
 {
     let mut held = session.into_box();
-    let status = finish(&mut held, end);
+    let status = held.finish(end);
     *back = Box::into_raw(held) as *mut u8;
     status
 }
 
-/// Writes what a number asks for of the mismatch by which a stream has ended: the path of its place, or what is there. The handle is
+/// Writes what a number asks for of a stream that comes in pieces: of the mismatch by which it has ended the path of its place, or
+/// what is there; or the item that the last call of [`cddlseq_feed`] told, in preferred or in deterministic encoding. The handle is
 /// used up, and comes back.
 #[unsafe(no_mangle)]
 pub extern "C" fn cddlseq_show(
@@ -305,7 +306,7 @@ pub extern "C" fn cddlseq_show(
     ensures { IsShownBy wanted session.value out.old out.new needed.new result }
 {
     let held = session.into_box();
-    let status = show(alloc, &held, wanted, out, needed);
+    let status = held.show(alloc, wanted, out, needed);
     *back = Box::into_raw(held) as *mut u8;
     status
 }

@@ -7,6 +7,7 @@ ghost use Rattle.cddlseq_c.specs.Answers.{AreOutside, IsReady, IsStop, IsUnread,
 ghost use Rattle.cddlseq_c.specs.Pieces.{begun_by};
 ghost use Rattle.cddlseq_c.specs.Told.{bounds_of};
 
+use crate::feeding::Feeding;
 use crate::stop::Stop;
 use crate::told::CddlseqLimits;
 use cbor_read::Limits;
@@ -76,11 +77,11 @@ impl Ready {
         Ok(Ready::new(table, self.limits, self.steps))
     }
 
-    // A session at the first byte of a stream.
-    pub(crate) fn into_session(self, alloc: Global) -> OwnedSession
+    // A stream in pieces, at its first byte.
+    pub(crate) fn into_feeding(self, alloc: Global) -> Feeding
         ensures { result ≡ begun_by self }
     {
-        OwnedSession::new(alloc, self.table, self.limits, self.steps)
+        Feeding::new(OwnedSession::new(alloc, self.table, self.limits, self.steps))
     }
 }
 

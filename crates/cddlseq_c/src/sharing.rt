@@ -4,10 +4,10 @@ ghost use Rattle.std.specs.Prelude.{◌≡◌, IfOk};
 ghost use Rattle.cddlseq_c.specs.Answers.{IsMade};
 ghost use Rattle.cddlseq_c.specs.Pieces.{begun_by};
 
+use crate::feeding::Feeding;
 use crate::handle::CddlseqHandle;
 use crate::ready::Ready;
 use crate::told::{NO_MEMORY, OK};
-use seq_run::OwnedSession;
 use std::alloc::{AllocError, Global};
 
 /// Makes another handle of the specification that a handle holds, which is not read anew. [`cddlseq_close`](crate::cddlseq_close)
@@ -19,7 +19,7 @@ pub extern "C" fn cddlseq_share(
     other: &mut *mut u8,
     back: &mut *mut u8,
 ) -> u32
-    ensures { IsMade result }
+    ensures { IsMade other.old other.new result }
 {
     let held = handle.into_box();
     let made = another(alloc, &held);
@@ -42,7 +42,7 @@ pub extern "C" fn cddlseq_begin_by(
     session: &mut *mut u8,
     back: &mut *mut u8,
 ) -> u32
-    ensures { IsMade result }
+    ensures { IsMade session.old session.new result }
 {
     let held = handle.into_box();
     let begun = begin(alloc, &held);
@@ -63,10 +63,10 @@ fn another(alloc: Global, ready: &Ready) -> Result<Box<Ready>, AllocError>
     Ok(Box::new(alloc, ready.another()?)?)
 }
 
-// A session by what is ready, at the first byte of a stream.
-fn begin(alloc: Global, ready: &Ready) -> Result<Box<OwnedSession>, AllocError>
+// A stream in pieces by what is ready, at its first byte.
+fn begin(alloc: Global, ready: &Ready) -> Result<Box<Feeding>, AllocError>
     ensures { IfOk result (λ held. held.value ≡ begun_by ready.now) }
 {
-    let session = ready.another()?.into_session(alloc);
-    Ok(Box::new(alloc, session)?)
+    let feeding = ready.another()?.into_feeding(alloc);
+    Ok(Box::new(alloc, feeding)?)
 }

@@ -1,13 +1,15 @@
 //! What a caller is told: a status, and numbers for what is wrong with a text and for how a stream ends.
 
 ghost use Rattle.std.specs.Prelude.{◌≡◌};
-ghost use Rattle.cddlseq_c.specs.Told.{number_of_cause, number_of_code, number_of_kind, place_of_cause, refusal_of, status_of, status_of_stop};
+ghost use Rattle.cddlseq_c.specs.Told.{IsFaultTold, IsStopTold, number_of_cause, number_of_code, number_of_kind, place_of_cause, status_of, status_of_stop};
 ghost use Rattle.cddlseq_c.specs.Told.{told_end as told_end_of};
 
 use crate::stop::Stop;
 use cbor_data::FaultKind;
 use cddl_token::Code;
+use check_text::Fault;
 use seq_run::{Cause, End};
+use text_position::position_of;
 
 /// The text is a specification; and where there is a stream, it is clean.
 pub const OK: u32 = 0;
@@ -50,6 +52,10 @@ pub struct CddlseqRefusal {
     pub code: u32,
     /// The byte of the text where it shows.
     pub offset: usize,
+    /// The line of that byte, from 1; or 0 where the text is not refused.
+    pub line: usize,
+    /// Its column, from 1, in characters; or 0.
+    pub column: usize,
 }
 
 /// What is told of a stream.
@@ -79,25 +85,40 @@ pub struct CddlseqLimits {
 }
 
 // What is told of a text that is not refused.
-pub(crate) const NO_REFUSAL: CddlseqRefusal = CddlseqRefusal { code: 0, offset: 0 };
+pub(crate) const NO_REFUSAL: CddlseqRefusal = CddlseqRefusal {
+    code: 0,
+    offset: 0,
+    line: 0,
+    column: 0,
+};
 
-// Tells why a call stops, and answers the status.
-pub(crate) fn tell_stop(why: Stop, told: &mut CddlseqRefusal) -> u32
+// Tells why a call that was given this text stops, and answers the status.
+pub(crate) fn tell_stop(text: &[u8], why: Stop, told: &mut CddlseqRefusal) -> u32
     ensures status { result ≡ status_of_stop why }
-    ensures told { told.new ≡ refusal_of why }
+    ensures told { IsStopTold text.now why told.new }
 {
     *told = NO_REFUSAL;
     match why {
         Stop::Refused(fault) => {
-            *told = CddlseqRefusal {
-                code: number_of_code(fault.code),
-                offset: fault.at,
-            };
+            *told = told_fault(text, fault);
             REFUSED
         }
         Stop::Memory => NO_MEMORY,
         Stop::BadRoot => BAD_ROOT,
         Stop::BadLimits => BAD_LIMITS,
+    }
+}
+
+// What is told of what is wrong with a text.
+fn told_fault(text: &[u8], fault: Fault) -> CddlseqRefusal
+    ensures { IsFaultTold text.now fault result }
+{
+    let position = position_of(text, fault.at);
+    CddlseqRefusal {
+        code: number_of_code(fault.code),
+        offset: fault.at,
+        line: position.line,
+        column: position.column,
     }
 }
 

@@ -2,7 +2,9 @@
 
 ghost use Rattle.std.specs.Prelude.{◌≡◌, ◌≢◌, ◌++◌, IfNone, IfOk, IfSome, OnOk, option_copied};
 ghost use Rattle.std.specs.Option.{option_map};
+ghost use Rattle.cbor_data.specs.Deterministic.{deterministic};
 ghost use Rattle.cbor_data.specs.Notation.{notation};
+ghost use Rattle.cbor_data.specs.Preferred.{preferred};
 ghost use Rattle.item_nodes.specs.View.{view};
 ghost use Rattle.cbor_item.specs.Place.Paths.{path};
 ghost use Rattle.seq_run.specs.Report.{or_nothing};
@@ -10,7 +12,7 @@ ghost use Rattle.cddlseq_c.specs.Wanted.{number_of_wanted, notation_at as notati
 ghost use Rattle.cddlseq_c.specs.Wanted.{mismatch_of as mismatch_of_end, mode_of as mode_of_wanted};
 ghost use Rattle.cddlseq_c.specs.declared.wanted.Wanted.{Wanted as AnyWanted};
 
-use cbor_item::{Item, Sound, item_at, path_text, push_notation};
+use cbor_item::{Counted, Item, Sound, item_at, path_text, push_notation, write_det, write_item};
 use seq_run::{Cause, End, Mode};
 use std::alloc::{AllocError, Global};
 
@@ -116,4 +118,45 @@ fn notation_in(alloc: Global, found: Option<&Item>) -> Result<Vec<u8>, AllocErro
         push_notation(&mut text, item)?;
     }
     Ok(text)
+}
+
+// An item in preferred encoding, and nothing where there is none.
+pub(crate) fn preferred_of(alloc: Global, item: Option<&Sound>) -> Result<Vec<u8>, AllocError>
+    ensures { IfOk result (λ bytes. bytes.items ≡ or_nothing (option_map preferred (option_copied item.entry))) }
+{
+    match item {
+        Some(item) => preferred(alloc, item),
+        None => Ok(Vec::new(alloc)),
+    }
+}
+
+fn preferred(alloc: Global, item: &Sound) -> Result<Vec<u8>, AllocError>
+    ensures { IfOk result (λ bytes. bytes.items ≡ preferred item.now) }
+{
+    let mut out = Counted::new(Vec::new(alloc));
+    // A vector takes all bytes, unless there is no memory for them.
+    if write_item(item, &mut out).is_err() {
+        return Err(AllocError);
+    }
+    Ok(out.into_inner())
+}
+
+// An item in deterministic encoding, and nothing where there is none.
+pub(crate) fn deterministic_of(alloc: Global, item: Option<&Sound>) -> Result<Vec<u8>, AllocError>
+    ensures { IfOk result (λ bytes. bytes.items ≡ or_nothing (option_map deterministic (option_copied item.entry))) }
+{
+    match item {
+        Some(item) => deterministic(alloc, item),
+        None => Ok(Vec::new(alloc)),
+    }
+}
+
+fn deterministic(alloc: Global, item: &Sound) -> Result<Vec<u8>, AllocError>
+    ensures { IfOk result (λ bytes. bytes.items ≡ deterministic item.now) }
+{
+    let mut out = Counted::new(Vec::new(alloc));
+    if write_det(alloc, item, &mut out).is_err() {
+        return Err(AllocError);
+    }
+    Ok(out.into_inner())
 }

@@ -1,3 +1,4 @@
+pub mod Crossing
 pub mod Fronts
 pub mod Runs
 pub mod Verdicts

@@ -8,8 +8,8 @@ pub returns-in-Ok-new : goal.returns-in-Ok-new
 returns-in-Ok-new c = opened c.in-Ok.ready c.in-Ok.ensures.ready refl
 
 pub returns-in-Ok : goal.returns-in-Ok
-returns-in-Ok c = unopened stop.Memory tt refl
+returns-in-Ok c = unopened stop.Memory tt refl refl
 
 pub returns : goal.returns
 returns c =
-    stopped_opening c.args.text.now c.args.root.now c.args.limits.now c.tell_stop.new.told c.in-Err.why c.tell_stop.result c.in-Err.ensures.stop c.tell_stop.ensures.status c.tell_stop.ensures.told
+    stopped_opening c.args.text.now c.args.root.now c.args.limits.now c.tell_stop.new.told c.in-Err.why c.tell_stop.result c.in-Err.ensures.stop c.tell_stop.ensures.status c.tell_stop.ensures.told c.args.handle.now

@@ -1,4 +1,4 @@
-use Rattle.std.proofs.Common.{◌≡◌, ◌+◌, ◌-◌, ◌<◌, ℕ, refl, subst, arith}
+use Rattle.std.proofs.Common.{◌≡◌, ◌<◌, refl, subst, arith}
 use Rattle.cddl_meaning.specs.Forms.{bits_asked}
 use Rattle.cddl_meaning.specs.Moves as M
 use Rattle.cddl_match.specs.Machine.{WaitsAt, found_in}

@@ -2,7 +2,7 @@
 -- The walk goes over the body, statement by statement. The handle is taken apart into its pointer and its allocator, and
 -- `Box::from_raw` is called with both; the cast of the pointer leaves no statement. That call's contract has two lifetimes, that of
 -- what is in the box and that of the allocator, which are made for it, and the value in the box, which is the handle's. The walk is
--- that of `CddlseqHandle::into_box`, with the row of `OwnedSession` in the place of that of `Ready`.
+-- that of `CddlseqHandle::into_box`, with the row of `Feeding` in the place of that of `Ready`.
 use Rattle.std.proofs.Common.{◌≡◌, List, [], ◌∷◌, ◌++◌, refl, sym, ap, subst}
 use mir.Syntax.{tcons, tnil, dnil, impl, Dict}
 use mir.Val.{Val, vptr}
@@ -41,7 +41,7 @@ use Rattle.std.proofs.raw_atomic.Walks.{proved_at, leaves}
 use Rattle.std_heap.proofs.Global.TheLaws as heap_laws
 use Rattle.std_heap.proofs.GlobalAllocator.TheImpl.Met.{passed}
 use Rattle.std_heap.specs.contracts.GlobalAllocator.TheImpl.{ghosts, dict}
-use Rattle.seq_run.proofs.owned.OwnedSession.TheLaws as session_laws
+use Rattle.cddlseq_c.proofs.feeding.Feeding.TheLaws as session_laws
 use Rattle.cddlseq_c.proofs.Values.{both, Z, handle_good}
 use Rattle.cddlseq_c.proofs.SessionValues.{Handle, R, handle_out}
 use Rattle.std_alloc.specs.contracts.boxed.Box.from_raw as callee

@@ -1,0 +1,34 @@
+//! Answers calls over items, streams and the program: of `cbor_item`, `cbor_read` and `read_items`; of `table_nodes`, `cddl_match`
+//! and `seq_run`; and of `command_line`, `cddl_tool` and `cddl`.
+#![tactic(auto)]
+
+mod act_calls;
+mod desk;
+mod devices;
+mod form_calls;
+mod item_calls;
+mod items;
+mod match_calls;
+mod read_calls;
+mod run_calls;
+mod say_calls;
+mod session_calls;
+mod shown;
+mod table_calls;
+mod tables;
+mod tool_calls;
+mod validate_calls;
+mod word_calls;
+mod write_calls;
+
+use crate::desk::Desk;
+use call_lines::{run, say_no_memory};
+use std::process::ExitCode;
+
+fn main(rt: HostRuntime) -> ExitCode {
+    let (mut input, mut out, mut err) = (rt.stdin(), rt.stdout(), rt.stderr());
+    match Desk::new(rt.alloc()) {
+        Ok(mut desk) => run(rt.alloc(), &mut desk, &mut input, &mut out, &mut err),
+        Err(_) => say_no_memory(&mut err),
+    }
+}
