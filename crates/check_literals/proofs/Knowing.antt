@@ -4,7 +4,7 @@ use Rattle.std.specs.Prelude.{Contains}
 use Rattle.std.proofs.lemmas.List.Elements.{Contains-append_left, Contains-append_right}
 use Rattle.cddl_literal.specs.Numbers.{Meaning}
 use Rattle.cddl_meaning.specs.Alike.{AlikeAll, none, both}
-use Rattle.cddl_language.specs.Controls.{Computation, Control, left_alone, left_and_right, held_item, held_sequence, compared, sized, computed, computation_in, control_of}
+use Rattle.cddl_language.specs.Controls.{Computation, Control, left_alone, left_and_right, held_item, held_sequence, compared, member, computed, computation_in, control_of}
 use Rattle.cddl_language.specs.Terms.{Text, Literal, number, text, bytes, Term, literal, named, parens, map_of, array_of, unwrapped, choice_of, choice_of_name, tagged, tagged_by, simple_by, hash, range, control, or, Ref, call, Definition, name_of}
 use Rattle.cddl_language.specs.Substitution.{type_choices}
 use Rattle.cddl_language.specs.Kinds.{is_group}
@@ -40,7 +40,7 @@ computes (Some left_and_right) c u v e = absurd (cc)
 computes (Some held_item) c u v e = absurd (cc)
 computes (Some held_sequence) c u v e = absurd (cc)
 computes (Some (compared d)) c u v e = absurd (cc)
-computes (Some sized) c u v e = absurd (cc)
+computes (Some (member m)) c u v e = absurd (cc)
 
 computes_none : (o : Option Control) (u v : Option Meaning) → computation_in o ≡ None → controlled_literal o u v ≡ None
 computes_none None u v e = refl
@@ -50,7 +50,7 @@ computes_none (Some left_and_right) u v e = refl
 computes_none (Some held_item) u v e = refl
 computes_none (Some held_sequence) u v e = refl
 computes_none (Some (compared d)) u v e = refl
-computes_none (Some sized) u v e = refl
+computes_none (Some (member m)) u v e = refl
 
 -- the rows of parts
 

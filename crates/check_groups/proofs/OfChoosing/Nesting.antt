@@ -1,5 +1,5 @@
 -- From the groups in a group from which `&` can choose, it can choose.
-use Rattle.std.proofs.Common.{◌≡◌, ℕ, zero, suc, ◌+◌, ◌-◌, ◌≤◌, Bool, true, false, if◌then◌else◌, List, [], ◌∷◌, Option, Some, None, refl, subst, arith}
+use Rattle.std.proofs.Common.{◌≡◌, ℕ, zero, suc, ◌+◌, ◌-◌, ◌≤◌, Bool, true, false, if◌then◌else◌, List, [], ◌∷◌, Option, None, refl, subst, arith}
 use Rattle.cddl_language.specs.Numbers.{occurs_once}
 use Rattle.cddl_language.specs.Terms.{Term, Group, sole, orelse, Entries, no_entries, entries, Entry, typed, keyed, grouped, Definition, alternatives}
 use Rattle.cddl_language.specs.Substitution.{group_choices}

@@ -1,5 +1,5 @@
 -- The ranges of all rows to which a row leads have the members of its type.
-use Rattle.std.proofs.Common.{◌≡◌, ◌⊎◌, ◌↔◌, inl, inr, ℕ, zero, suc, ◌<◌, List, [], ◌∷◌, ◌++◌, length, Bool, true, false, if◌then◌else◌, Option, Some, None, refl, sym, ap, subst, ◌∙◌, arith}
+use Rattle.std.proofs.Common.{◌≡◌, ◌⊎◌, ◌↔◌, inl, inr, ℕ, zero, suc, ◌<◌, List, [], ◌∷◌, ◌++◌, length, Bool, true, false, Option, Some, None, refl, sym, ap, subst, ◌∙◌, arith}
 use Rattle.std.specs.Prelude.{nat_le, nat_lt, ◌^◌, ◌&&◌, ◌||◌}
 use Rattle.lists.proofs.Lemmas.{before_or_not, beyond_all as nothing_past, either_true as one_of, false_true as not_true, never_some}
 use Rattle.cbor_data.specs.Value as V
@@ -13,7 +13,7 @@ use Rattle.cddl_language.specs.Literals.{Values}
 use Rattle.cddl_language.specs.Sizes as L
 use Rattle.cddl_language.specs.Sizes.{Behind, a_type, a_group, behind_sizes, both_sizes, each_sizes, members_in, members_of as members_that}
 use Rattle.check_terms.specs.Table.{Table}
-use Rattle.check_terms.specs.Trees.{IsTerm, term_tree}
+use Rattle.check_terms.specs.Trees.{IsTerm}
 use Rattle.check_names.specs.declared.kinds.kinds.Kinds.{Kinds}
 use Rattle.check_instances.specs.declared.closed.closed.Closed.{Closed}
 use Rattle.check_literals.specs.declared.known.Literals.{Literals}

@@ -4,24 +4,22 @@ use Rattle.std.specs.Prelude.{is_some, nat_le, nat_lt, ◌&&◌}
 use Rattle.lists.proofs.Lemmas.{and_false, and_true, before_or_not, beyond_all as nothing_past, less, not_below as not_less, not_both, test_at_most, test_greater, test_less, test_not_less, tested as is_either}
 use Rattle.cddl_meaning.specs.Alike.{AlikeAll, none, both}
 use Rattle.cddl_language.specs.Controls.{Membership}
-use Rattle.cddl_language.specs.Terms.{Text, Term, Ref, Definition}
+use Rattle.cddl_language.specs.Terms.{Text, Ref, Definition}
 use Rattle.cddl_language.specs.Reach.{most_instances}
 use Rattle.cddl_language.specs.Literals.{Values}
 use Rattle.cddl_language.specs.Sizes as L
 use Rattle.cddl_language.specs.Sizes.{Behind, a_type, a_group, behind_sizes, both_sizes, each_sizes, members_in}
 use Rattle.check_terms.specs.Table.{Table}
-use Rattle.check_terms.specs.Trees.{IsTerm}
 use Rattle.check_names.specs.declared.kinds.kinds.Kinds.{Kinds}
 use Rattle.check_instances.specs.declared.closed.closed.Closed.{Closed}
 use Rattle.check_literals.specs.declared.known.Literals.{Literals}
-use Rattle.check_literals.specs.Literals.{IsKnown}
 use Rattle.check_literals.specs.declared.sizes.sources.Source.{Source}
 use Rattle.check_literals.specs.Sizes.Sizes.{AreSizable, flag_at, is_flagged}
 use Rattle.check_literals.specs.Sizes.Sources.{View, members_of, members_of_choices, view_at, viewed}
 use Rattle.check_literals.specs.Sizes.Depths.{AreDepths, answered, deeper, deepest, depth_at, depth_by, goes, greater, is_few, through_name}
 use Rattle.check_groups.specs.declared.causes.rows.GroupRow.{GroupRow}
 use Rattle.check_literals.proofs.OfSizes.Alternatives.{alternatives_sizes}
-use Rattle.check_literals.proofs.OfSizes.Induction.{AreGiven, IsHereditary, IsOwn, IsRow, Piece, a_term, of_group, all_behind, at_group, at_term, no_own, own, piece_sizes}
+use Rattle.check_literals.proofs.OfSizes.Induction.{AreGiven, IsHereditary, IsOwn, IsRow, Piece, all_behind, at_group, at_term, no_own, own, piece_sizes}
 use Rattle.check_literals.proofs.OfSizes.Numbers.{at_most}
 
 -- through fewer names

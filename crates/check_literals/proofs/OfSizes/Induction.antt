@@ -186,17 +186,17 @@ all_in_alternatives : (P : Literal → Type 0) (g : Group) → AllInGroup P g �
 all_in_alternatives P (sole fs) h es c = by (from_contains (fs ∷ []) es c)
   where
     by : IsIn es (fs ∷ []) → AllInEntries P es
-    by (inl e) = subst (AllInEntries P) e h
+    by (inl e) = subst (AllInEntries P) (sym e) h
     by (inr i) = absurd i
-all_in_alternatives P (orelse g fs) h es c = by (Contains-append_cases (alternatives g) (fs ∷ []) es c)
+all_in_alternatives P (orelse g fs) h es c = by (all_in_alternatives P g h.0 es) (Contains-append_cases (alternatives g) (fs ∷ []) es c)
   where
-    by : Contains (alternatives g) es ⊎ Contains (fs ∷ []) es → AllInEntries P es
-    by (inl d) = all_in_alternatives P g h.0 es d
-    by (inr d) = last (from_contains (fs ∷ []) es d)
-      where
-        last : IsIn es (fs ∷ []) → AllInEntries P es
-        last (inl e) = subst (AllInEntries P) e h.1
-        last (inr i) = absurd i
+    last : IsIn es (fs ∷ []) → AllInEntries P es
+    last (inl e) = subst (AllInEntries P) (sym e) h.1
+    last (inr i) = absurd i
+
+    by : (Contains (alternatives g) es → AllInEntries P es) → Contains (alternatives g) es ⊎ Contains (fs ∷ []) es → AllInEntries P es
+    by f (inl d) = f d
+    by f (inr d) = last (from_contains (fs ∷ []) es d)
 
 same_some_list : (ess fss : List Entries) → Some ess ≡ Some fss → ess ≡ fss
 same_some_list ess fss e = cc

@@ -30,7 +30,7 @@ use Rattle.check_groups.specs.declared.causes.rows.GroupRow.{GroupRow}
 use Rattle.check_literals.proofs.OfSizes.Induction.{AreGiven, row_within}
 
 -- as many bytes as a number says
-so_many : ℕ → List ℕ
+abbrev so_many : ℕ → List ℕ
 so_many zero = []
 so_many (suc n) = 0 ∷ so_many n
 

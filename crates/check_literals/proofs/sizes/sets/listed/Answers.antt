@@ -2,7 +2,7 @@ use Rattle.std.proofs.Common.{◌≡◌, ◌+◌, ◌∙◌, ℕ, length, refl, 
 use Rattle.check_terms.specs.Texts.Controls.{membership_view}
 use Rattle.check_literals.specs.Sizes.Reach.{AreBelow}
 use Rattle.check_literals.proofs.OfSizes.Listing.{lists_more}
-use Rattle.check_literals.proofs.sizes.members.listed.Goals as goal
+use Rattle.check_literals.proofs.sizes.sets.listed.Goals as goal
 
 pub loop-number-init : goal.loop-number-init
 loop-number-init c = record {

@@ -1,6 +1,6 @@
 use Rattle.check_terms.specs.Texts.Controls.{membership_view}
 use Rattle.check_literals.specs.Sizes.Controllers.{AreListed, HaveLists, IsReady}
-use Rattle.check_literals.proofs.sizes.members.listed.Given as goal
+use Rattle.check_literals.proofs.sizes.sets.listed.Given as goal
 
 abbrev pub invariant-loop-number : goal.invariant-loop-number
 invariant-loop-number l = record {

@@ -6,7 +6,7 @@ use Rattle.check_literals.specs.declared.sizes.sources.Source.{Source}
 use Rattle.check_literals.specs.Sizes.Depths.{AreDepths, is_few}
 use Rattle.check_literals.proofs.OfSizes.Going.{are_sizable}
 use Rattle.check_literals.proofs.OfSizes.Induction.{AreGiven}
-use Rattle.check_literals.proofs.sizes.controllers.sizable.Goals as goal
+use Rattle.check_literals.proofs.sizes.flags.sizable.Goals as goal
 
 pub returns : goal.returns
 returns c = ok_then c.flags_of.result _ _ (λ v e x worth root refs right is kinds values rows.

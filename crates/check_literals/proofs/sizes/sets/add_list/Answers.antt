@@ -7,7 +7,7 @@ use Rattle.check_literals.specs.Sizes.Reach.{ranges_of}
 use Rattle.check_literals.specs.Sizes.Sizes.{flag_at}
 use Rattle.check_literals.proofs.OfSizes.Listing.{IsWanted, added, kept, more_listed, wanted}
 use Rattle.check_literals.proofs.OfSizes.Lists.{ok_with}
-use Rattle.check_literals.proofs.sizes.members.add_list.Goals as goal
+use Rattle.check_literals.proofs.sizes.sets.add_list.Goals as goal
 
 is_it_wanted : (c : goal.After-put_list) → IsWanted (flag_at c.args.sizable.now c.args.row) (slice_get c.args.sizes.now.rows.items c.args.row)
 is_it_wanted c = wanted (flag_at c.args.sizable.now c.args.row) (slice_get c.args.sizes.now.rows.items c.args.row) (sym (ap (λ (rows : List (Option ℕ)). is_wanted (flag_at c.args.sizable.now c.args.row) (slice_get rows c.args.row)) c.deref.ensures.value) ∙ (sym c.is_wanted.ensures ∙ c.if-not-is_wanted.false))

@@ -6,7 +6,7 @@ use Rattle.check_literals.specs.Sizes.Controllers.{AreListed}
 use Rattle.check_literals.proofs.OfSizes.Induction.{AreGiven}
 use Rattle.check_literals.proofs.OfSizes.Lists.{ok_with}
 use Rattle.check_literals.proofs.OfSizes.Same.{are_sizes}
-use Rattle.check_literals.proofs.sizes.members.sizes_of.Goals as goal
+use Rattle.check_literals.proofs.sizes.sets.sizes_of.Goals as goal
 
 pub returns : goal.returns
 returns c = ok_with c.listed.result _ _ _ (λ z listed all x worth root refs right is kinds values rows sizable.
