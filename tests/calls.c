@@ -302,7 +302,7 @@ static void items(void) {
         EXPECT(cddlseq_feed(session, BYTES("\xa0\xa1"), &used, &end, &session.at) == CDDLSEQ_ITEM && used == 1 && shows_item(&session, "\xa0", "\xa0", 1));
         EXPECT(cddlseq_feed(session, BYTES("\xa1"), &used, &end, &session.at) == CDDLSEQ_OK && shows_item(&session, "", "", 0));
         EXPECT(cddlseq_feed(session, BYTES("\x60\x20"), &used, &end, &session.at) == CDDLSEQ_FAILED && shows_item(&session, "", "", 0));
-        EXPECT(shows(&session, CDDLSEQ_PATH, "${\"\"}", 5) && shows(&session, CDDLSEQ_NOTATION, "-1", 2));
+        EXPECT(shows(&session, CDDLSEQ_PATH, "$<\"\">", 5) && shows(&session, CDDLSEQ_NOTATION, "\"\"", 2));
         cddlseq_restart(session, &session.at);
         EXPECT(cddlseq_feed(session, BYTES("\xbf\xff"), &used, &end, &session.at) == CDDLSEQ_ITEM && shows_item(&session, "\xa0", "\xa0", 1));
         EXPECT(cddlseq_finish(session, &end, &session.at) == CDDLSEQ_OK && shows_item(&session, "\xa0", "\xa0", 1));
