@@ -11,7 +11,7 @@ mod laws;
 mod literals;
 mod making;
 mod maps;
-mod members;
+mod memberships;
 mod numbers;
 mod origin;
 mod row_origins;

@@ -27,7 +27,7 @@ use crate::form::{TagForm, TypeForm, nothing};
 use crate::laws::known_instances;
 use crate::literals::{equal_form, range_form};
 use crate::maps::{map_form, word_form};
-use crate::members::member_form;
+use crate::memberships::member_form;
 use crate::origin::{GroupOrigin, TypeOrigin};
 use crate::row_origins::row_origins;
 use crate::shape::{Shape, shape_at};
