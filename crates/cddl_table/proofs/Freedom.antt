@@ -74,7 +74,7 @@ module _ {N G M H : Type 0} (l : Language N G) (k : Language M H) (R : N â†’ M â
   free_types_alike f g (maps a) m h = absurd h
   free_types_alike f g (boths {n = n} r s) m (inl h) = (n, inl refl, subst (R n) (sym h) r)
   free_types_alike f g (boths {o = o} r s) m (inr h) = (o, inr refl, subst (R o) (sym h) s)
-  free_types_alike f g (suches {n = n} r same) m h = (n, refl, subst (R n) (sym h) r)
+  free_types_alike f g (suches {n = n} r same bits) m h = (n, refl, subst (R n) (sym h) r)
   free_types_alike f g (holdings {n = n} {c = one_item} r s) m h = (n, refl, subst (R n) (sym h) r)
   free_types_alike f g (holdings {n = n} {c = sequence_of_items} r s) m (inl h) = (n, inl refl, subst (R n) (sym h) r)
   free_types_alike f g (holdings {o = o} {c = sequence_of_items} r s) m (inr h) = (o, inr refl, subst (R o) (sym h) s)
@@ -88,7 +88,7 @@ module _ {N G M H : Type 0} (l : Language N G) (k : Language M H) (R : N â†’ M â
   free_items_alike f g (simples r) b h = absurd h
   free_items_alike f g (maps a) b h = absurd h
   free_items_alike f g (boths r s) b h = absurd h
-  free_items_alike f g (suches r same) b h = absurd h
+  free_items_alike f g (suches r same bits) b h = absurd h
   free_items_alike f g (holdings r s) b h = absurd h
 
   -- What may be empty in the second language may be so in the first.

@@ -134,10 +134,10 @@ made_both old mid new o p m k v w = record { grows = further_keys old mid new v.
     by s t n (boths {n = q} {o = r} g h) so = w.named s t r h (v.named s t q g so)
 
 pub made_such_as : (old new : Keys) (x : F.Test) (o : TypeOrigin) (m : TypeId) → NumbersType old new o m → MakesType old new (F.Such o x) (F.Such m x)
-made_such_as old new x o m w = record { grows = w.grows; there = suches w.there (λ y. refl); named = λ s t n h so. by s t n h so }
+made_such_as old new x o m w = record { grows = w.grows; there = suches w.there (λ y. refl) (λ y. refl); named = λ s t n h so. by s t n h so }
   where
     by : (s : Sense) (t : Table) (n : F.Node TypeName GroupName) → AlikeTypes (IsTypeOrigin s t) (IsGroupOrigin s t) n (F.Such o x) → AreNamed s t old → AreNamed s t new
-    by s t n (suches {n = k} h same) so = w.named s t k h so
+    by s t n (suches {n = k} h same bits) so = w.named s t k h so
 
 pub made_holding : (old mid new : Keys) (c : F.Content) (o p : TypeOrigin) (m k : TypeId) → NumbersType old mid o m → NumbersType mid new p k → MakesType old new (F.Holding o c p) (F.Holding m c k)
 made_holding old mid new c o p m k v w = record { grows = further_keys old mid new v.grows w.grows; there = holdings (w.grows.types m.number o v.there) w.there; named = λ s t n h so. by s t n h so }

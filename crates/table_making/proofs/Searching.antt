@@ -71,7 +71,7 @@ module _ {N O M G P H : Type 0} (A : N → O → Type 0) (B : G → P → Type 0
   types_joined n (F.SimpleBy o) m (simples {n = p} a) (simples {m = q} c) = simples (types p o q a c)
   types_joined n (F.MapOf bss) m (maps {dss = dss} a) (maps {ess = ess} c) = maps (maps_joined dss bss ess a c)
   types_joined n (F.Both o z) m (boths {n = p} {o = u} a b) (boths {m = q} {q = v} c d) = boths (types p o q a c) (types u z v b d)
-  types_joined n (F.Such o t) m (suches {n = p} a same) (suches {m = q} c so) = suches (types p o q a c) (λ x. same x ∙ so x)
+  types_joined n (F.Such o t) m (suches {n = p} a same bits) (suches {m = q} c so more) = suches (types p o q a c) (λ x. same x ∙ so x) (λ x. bits x ∙ more x)
   types_joined n (F.Holding o t z) m (holdings {n = p} {o = u} a b) (holdings {m = q} {q = v} c d) = holdings (types p o q a c) (types u z v b d)
 
   pub groups_joined : (n : F.Group N G) (o : F.Group O P) (m : F.Group M H) → AlikeGroups A B n o → AlikeGroups C D o m → AlikeGroups R S n m
@@ -121,7 +121,7 @@ module _ {N M G H : Type 0} (A : N → M → Type 0) (B : G → H → Type 0) (R
   types_kept n m (simples {n = p} {m = q} a) = simples (types p q a)
   types_kept n m (maps {dss = dss} {ess = ess} a) = maps (maps_kept dss ess a)
   types_kept n m (boths {n = p} {o = u} {m = q} {q = v} a b) = boths (types p q a) (types u v b)
-  types_kept n m (suches {n = p} {m = q} a same) = suches (types p q a) same
+  types_kept n m (suches {n = p} {m = q} a same bits) = suches (types p q a) same bits
   types_kept n m (holdings {n = p} {o = u} {m = q} {q = v} a b) = holdings (types p q a) (types u v b)
 
   pub groups_kept : (n : F.Group N G) (m : F.Group M H) → AlikeGroups A B n m → AlikeGroups R S n m
