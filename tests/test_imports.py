@@ -1,7 +1,8 @@
 #!/usr/bin/env python3
 """Whether a crate names nothing of another crate's proofs but its public files of lemmas: proofs/Lemmas.antt, and for a module of
-the crate as `place` proofs/OfPlace/Lemmas.antt. What the toolchain itself makes there of a type of the other crate (`TheLaws`, which
-has the size of a value) may be named too.
+the crate as `place` proofs/OfPlace/Lemmas.antt; and proofs/Crossing.antt, whose lemmas say that a type may go to another thread, as
+the standard library names its own. What the toolchain itself makes there of a type of the other crate (`TheLaws`, which has the size
+of a value, and `TheSendSync`, that it may go to another thread) may be named too.
 
     test_imports.py
 
@@ -15,8 +16,8 @@ import sys
 import tempfile
 
 TOP = os.path.dirname(os.path.dirname(os.path.abspath(__file__)))
-NAMED = re.compile(r"\bRattle\.(\w+)\.proofs\.(?:Of[A-Z]\w*\.|(?:\w+\.)+(?=TheLaws\b))?([\w+-]+)")
-ALLOWED = ("Lemmas", "TheLaws")
+NAMED = re.compile(r"\bRattle\.(\w+)\.proofs\.(?:Of[A-Z]\w*\.|(?:\w+\.)+(?=(?:TheLaws|TheSendSync)\b))?([\w+-]+)")
+ALLOWED = ("Lemmas", "Crossing", "TheLaws", "TheSendSync")
 
 
 def strays(top):
