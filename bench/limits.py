@@ -22,6 +22,7 @@ from specifications import written
 from streams import head
 
 MIB = 1 << 20
+PIECE = 1 << 16
 RUNS = 5
 MOST_GROWTH, MOST_ROOM = 1.4, 1.2
 
@@ -65,15 +66,22 @@ def chains(program, folder):
     return measured("chains of 2,048 and 4,096 rules", 2, small, large, len(texts[1]), check("empty.cddl", "r = int\n"))[0]
 
 
-def string(byte, length):
-    return head(2, length) + bytes([byte]) * length
+def string(folder, name, byte, length):
+    """The path of a new file with a byte string. It is written in pieces: what this script holds counts for the programs that it
+    starts."""
+    path = os.path.join(folder, name)
+    with open(path, "wb") as file:
+        file.write(head(2, length))
+        for at in range(0, length, PIECE):
+            file.write(bytes([byte]) * min(PIECE, length - at))
+    return path
 
 
 def long_items(program, folder):
     specification = written(folder, "string.cddl", "r = bstr\n")
     runs = []
     for size in (16 * MIB, 64 * MIB):
-        path = written(folder, f"string{size}.cborseq", string(0, size - 5))
+        path = string(folder, f"string{size}.cborseq", 0, size - 5)
         words = [program, "validate", "--quiet", "--item-bytes", str(64 * MIB), specification, path]
         runs.append((words, f"clean: 1 items, {size} bytes\n"))
     bad, (small, large) = measured("a byte string of 16 and of 64 MiB", 4, *runs, 64 * MIB)
@@ -84,7 +92,7 @@ def bits(program, folder, name, sizes, steps, answer):
     specification = written(folder, "bits.cddl", f"r = bstr .bits (0..{8 * sizes[1]})\n")
     runs = []
     for size in sizes:
-        path = written(folder, f"bits{size}.cborseq", string(255, size - 5))
+        path = string(folder, f"bits{size}.cborseq", 255, size - 5)
         runs.append(([program, "validate", "--quiet", *steps, specification, path], answer(size)))
     return measured(name, 2, *runs, sizes[1])[0]
 
