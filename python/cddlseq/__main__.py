@@ -43,8 +43,8 @@ def misuse(text: str) -> NoReturn:
 
 
 def shown(name: str) -> str:
-    """A name with its control characters as their numbers."""
-    return re.sub(r"[\x00-\x1f\x7f-\x9f]", lambda it: f"\\u{ord(it[0]):04x}", name)
+    """A name with its control characters, and those that reorder what is shown (U+202A to U+202E, U+2066 to U+2069), as their numbers."""
+    return re.sub(r"[\x00-\x1f\x7f-\x9f\u202a-\u202e\u2066-\u2069]", lambda it: f"\\u{ord(it[0]):04x}", name)
 
 
 def number_of(option: str, text: str) -> int:
