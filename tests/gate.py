@@ -45,8 +45,8 @@ CALLS = archive_in(TOP)
 PROGRAM = os.path.join(TOP, "build", "cddlseq")
 # Each step may take a few gigabytes.
 STEPS_AT_ONCE = 3
-# What a check may take, in KiB.
-MEMORY_OF_A_CHECK = 4 << 20
+# What a check may take, in KiB: that of stream_calls takes 4.6 GB, and that of cddlseq_c 6.6 GB for a while.
+MEMORY_OF_A_CHECK = 5 << 20
 # Of four side by side on four cores each takes a sixth more processor time.
 CHECKS_AT_ONCE = 3
 COUNT = re.compile(r"(\d+) passed, (\d+) failed")

@@ -69,7 +69,7 @@ def are_imports_clean():
         return False
     found = strays(TOP)
     for path, number, name in found:
-        print(f"{path}:{number}: names {name}; of another crate's proofs only Lemmas may be named")
+        print(f"{path}:{number}: names {name}; of another crate's proofs only Lemmas and Crossing may be named")
     return not found
 
 
