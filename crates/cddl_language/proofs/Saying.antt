@@ -3,12 +3,13 @@ use Rattle.std.specs.Prelude.{◌≡◌, ℕ, suc, false, if◌then◌else◌, S
 use Rattle.std.proofs.Common.{refl, sym, ap, ◌∙◌, subst, arith}
 use Rattle.cbor_data.specs.Value.{Value, uint, text, array, pairs, pair, no_pairs, value, no_values}
 use Rattle.cddl_literal.specs.Numbers.{Meaning, UintOf, digit_value}
+use Rattle.cddl_meaning.proofs.Lemmas.{value_shows}
 use Rattle.cddl_meaning.specs.Forms.{Node, Plain}
 use Rattle.cddl_meaning.specs.Forms as F
 use Rattle.cddl_meaning.specs.Judges as J
 use Rattle.cddl_language.specs.Examples as E
 use Rattle.cddl_language.specs.Kinds.{is_group}
-use Rattle.cddl_language.specs.Language.{TypeName, GroupName, between, language, nothing, reference, type, type_node}
+use Rattle.cddl_language.specs.Language.{TypeName, GroupName, between, language, nothing, reference, type, type_node, word}
 use Rattle.cddl_language.specs.Literals.{Values, whole}
 use Rattle.cddl_language.specs.Prelude.{plain, prelude}
 use Rattle.cddl_language.specs.Substitution.{type_choices}
@@ -75,10 +76,14 @@ below_three worth one three = subst (λ (n : Node TypeName GroupName). J.Says (l
 pub one_of_two : (worth : Values) → J.Says (language worth []) (type_node worth [] (type E.one_of_two)) 0 (uint 1) J.Yes 6
 one_of_two worth = J.choice (J.this_one (int_takes_one worth 0))
 
+-- the key of `x: int` is one value
+x_shows : (worth : Values) → F.key_in (type_node worth []) F.most_forms (word (codes "x")) ≡ Some (text (codes "x"))
+x_shows worth = value_shows (type_node worth []) F.most_forms (word (codes "x")) (text (codes "x")) refl
+
 -- `{x: int}` says yes to `{"x": 1}`
 pub takes_x : (worth : Values) → J.Says (language worth []) (type_node worth [] (type (map_of E.x_int))) 0 (pairs (pair (text (codes "x")) (uint 1) no_pairs)) J.Yes 10
-takes_x worth = J.map refl (J.alternative (J.sort (J.here (J.passed refl) (int_takes_one worth 2)) J.all_sorted) J.no_alternative)
+takes_x worth = J.map refl (J.alternative (J.sort (J.asked (ap (λ o. F.is_other o (text (codes "x"))) (x_shows worth)) (J.here (J.passed refl) (int_takes_one worth 2))) J.all_sorted) J.no_alternative)
 
 -- and no to `{"y": 1}`, at the key
-pub strays : (worth : Values) → J.Says (language worth []) (type_node worth [] (type (map_of E.x_int))) 0 (pairs (pair (text (codes "y")) (uint 1) no_pairs)) (J.No 1) 5
-strays worth = J.map refl (J.alternative (J.sort (J.other_key (J.missed refl) J.nowhere) J.all_sorted) J.no_alternative)
+pub strays : (worth : Values) → J.Says (language worth []) (type_node worth [] (type (map_of E.x_int))) 0 (pairs (pair (text (codes "y")) (uint 1) no_pairs)) (J.No 1) 3
+strays worth = J.map refl (J.alternative (J.sort (J.passed_over (ap (λ o. F.is_other o (text (codes "y"))) (x_shows worth)) J.nowhere) J.all_sorted) J.no_alternative)

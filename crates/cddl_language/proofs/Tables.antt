@@ -1,12 +1,13 @@
 -- Tables that stand for specifications.
 use Rattle.std.specs.Prelude.{◌≡◌, ℕ, zero, suc, ◌<◌, ◌≤◌, List, [], ◌∷◌, map, Contains, codes, false}
-use Rattle.std.proofs.Common.{refl, sym, subst, arith}
+use Rattle.std.proofs.Common.{None, refl, sym, subst, arith}
 use Rattle.cbor_data.specs.Value.{Value}
 use Rattle.cddl_meaning.specs.Alike.{AlikeTypes, plain, choices, both, none}
 use Rattle.cddl_meaning.specs.Forms as F
 use Rattle.cddl_meaning.specs.Forms.{Language}
 use Rattle.cddl_meaning.specs.Judges.{Answer, Says}
 use Rattle.cddl_meaning.proofs.Lemmas.{says_too, said_before}
+use Rattle.cddl_meaning.proofs.Lemmas.{same_forms}
 use Rattle.cddl_language.proofs.Basics.{beyond_two, none_in, only}
 use Rattle.cddl_language.specs.Terms.{Text, Ref, Definition, call, no_terms, hash}
 use Rattle.cddl_language.specs.Examples as E
@@ -82,7 +83,7 @@ pub stands : (worth : Values) → StandsFor worth E.anything (codes "a") E.one_t
 stands worth = record {
   types = types;
   groups = [];
-  alike = record { types = λ t n c. same_form worth (t, n) c; groups = λ t g c. absurd (none_in c) };
+  alike = record { types = λ t n c. same_form worth (t, n) c; groups = λ t g c. absurd (none_in c); counting = same_forms (type_node worth E.anything) E.node_at IsFor NoGroup (λ t n c. same_form worth (t, n) c) };
   root_node = (0, omega arith, refl);
   instances = E.a_ref (codes "a") ∷ [];
   are_instances = record { all = λ r h. (0, omega arith, sym (reached r h)); only = λ r c. subst (Reaches E.anything (codes "a")) (sym (only c)) at_root; once = λ i j d h k. absurd (none_later i j h k) };

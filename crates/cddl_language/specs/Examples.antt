@@ -132,7 +132,7 @@ node_at zero = F.Choice (1 ∷ [])
 node_at (suc n) = F.Plain F.anything
 
 abbrev pub one_test : Language ℕ ℕ
-one_test = record { type_at = node_at; group_at = λ g. F.Alternatives [] }
+one_test = record { type_at = node_at; group_at = λ g. F.Alternatives []; counting = F.by_forms node_at }
 
 abbrev pub rank_at : Name ℕ ℕ → ℕ
 rank_at (a_type zero) = 1

@@ -177,7 +177,7 @@ module _ (worth : Values) (ds : List Definition) where
   group_form (round e) = round_form e
 
   abbrev pub language : Language TypeName GroupName
-  language = record { type_at = type_node; group_at = group_form }
+  language = record { type_at = type_node; group_at = group_form; counting = F.by_forms type_node }
 
 -- the type says this of the item, in however many judgements
 abbrev pub Saying : Language TypeName GroupName → Node TypeName GroupName → ℕ → Value → Answer → Type 0

@@ -158,7 +158,7 @@ pub fn items()
     ensures choice { (worth : Values) → Says (language worth []) (type_node worth [] (type E.one_of_two)) 0 (uint 1) Yes 6 }
     ensures range { (worth : Values) → worth (number (codes "1")) ≡ UintOf 1 → worth (number (codes "3")) ≡ UintOf 3 → Says (language worth []) (type_node worth [] (type E.below_three)) 0 (uint 3) (No 0) 1 }
     ensures pairs { (worth : Values) → Says (language worth []) (type_node worth [] (type (map_of E.x_int))) 0 (pairs (pair (text (codes "x")) (uint 1) no_pairs)) Yes 10 }
-    ensures stray { (worth : Values) → Says (language worth []) (type_node worth [] (type (map_of E.x_int))) 0 (pairs (pair (text (codes "y")) (uint 1) no_pairs)) (No 1) 5 }
+    ensures stray { (worth : Values) → Says (language worth []) (type_node worth [] (type (map_of E.x_int))) 0 (pairs (pair (text (codes "y")) (uint 1) no_pairs)) (No 1) 3 }
 {}
 
 /// In `t = &(b)`, `b = (x: t)` the choice goes through `b`, which is no reference there: recursion is told of `t` alone.

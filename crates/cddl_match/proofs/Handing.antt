@@ -1,5 +1,5 @@
 -- What the entries of an alternative do with a pair, one after the other.
-use Rattle.std.proofs.Common.{◌≡◌, ℕ, ◌-◌, ◌≤◌, ◌++◌, length, List, [], ◌∷◌, true, false, refl, sym, subst, ◌∙◌, append_assoc, arith}
+use Rattle.std.proofs.Common.{◌≡◌, ℕ, ◌+◌, ◌-◌, ◌<◌, ◌≤◌, ◌++◌, length, List, [], ◌∷◌, true, false, refl, sym, subst, ◌∙◌, append_assoc, arith}
 use Rattle.std.proofs.lemmas.List.{append-nil, length-append}
 use Rattle.std.specs.Prelude.{Err}
 use Rattle.cbor_data.specs.Value.{Pairs, place_count}
@@ -12,15 +12,31 @@ use Rattle.cddl_meaning.specs.Judges.{Takes, Fails}
 use Rattle.cddl_meaning.specs.Moves as M
 use Rattle.cddl_meaning.specs.Moves.{OfType}
 use Rattle.cddl_match.specs.Ahead.{ComesTo}
-use Rattle.cddl_match.specs.Tellings.{Becomes, BelongsBy, HandsOn, Sorts, sorting_of}
+use Rattle.cddl_match.specs.Tellings.{Becomes, BelongsBy, HandsOn, KeySays, Sorts, sorting_of}
 use Rattle.match_moves.specs.Views.{fate_view}
-use Rattle.cddl_match.specs.Within.{Replied, Stopped, Says}
+use Rattle.cddl_match.specs.Within.{Outcome, Replied, Stopped, Says}
 use Rattle.match_moves.specs.declared.questions.Fate.{Fate}
 use Rattle.match_moves.specs.declared.questions.Fate.TheVariants as T
 use Rattle.cddl_match.specs.declared.calls.Stop.{Stop}
 use Rattle.cddl_match.specs.declared.calls.Stop.TheVariants.{Spent, NoMemory}
-use Rattle.cddl_match.proofs.Outcomes.{asks_stopped, begins}
-use Rattle.cddl_match.proofs.Sayings.{ends_so, goes_on, key_yes, pair_taken, pair_kept, pair_handed_on}
+use Rattle.cddl_match.proofs.Outcomes.{asks_stopped, begins, ends_on}
+use Rattle.cddl_match.proofs.Sayings.{ends_so, key_yes, pair_taken, pair_kept, pair_handed_on}
+use Rattle.cddl_match.proofs.Ways.{and_on, answers, enters_on, passes_on, stays}
+
+module _ {N G : Type 0} (l : Language N G) (place : ℕ) (both : Item × Item) (e : F.MapEntry N) where
+  -- An entry is passed over, which takes no step; or it is asked, which takes one, and then its key type.
+  pub key_passed : (far steps : ℕ) → F.is_passed_over l.counting e.key_type (view both.0) ≡ true → KeySays l place both e steps steps (Replied (Fails far))
+  key_passed far steps i = (λ es all base rest tally. and_on l (passes_on l e es (sorting_of all base place both rest tally) i) (stays l (M.next_entry es (sorting_of all base place both rest tally))) (omega arith), omega arith)
+
+  pub key_asked : (steps mid left : ℕ) (o : Outcome) → F.is_passed_over l.counting e.key_type (view both.0) ≡ false → F.entry_cost l.counting + mid ≡ steps → Says l (OfType e.key_type place (view both.0)) mid left o → KeySays l place both e steps left o
+  key_asked steps mid left (Replied r) i c k = (λ es all base rest tally. (let s = sorting_of all base place both rest tally in and_on l (enters_on l e es s i) (answers l (M.InKey e es s) k.0) (omega (arith, c, k.1))), omega (arith, c, k.1))
+  key_asked steps mid left (Stopped Spent) i c k = λ es all base rest tally.
+      let s = sorting_of all base place both rest tally in
+      ends_on l steps mid left (Stopped Spent) (enters_on l e es s i) c (asks_stopped l (OfType e.key_type place (view both.0)) mid left (M.InKey e es s) Spent k)
+  key_asked steps mid left (Stopped NoMemory) i c k = tt
+
+  pub key_few : (steps left : ℕ) → F.is_passed_over l.counting e.key_type (view both.0) ≡ false → steps < F.entry_cost l.counting → KeySays l place both e steps left (Stopped Spent)
+  key_few steps left i h = λ es all base rest tally r w d. (let x = (enters_on l e es (sorting_of all base place both rest tally) i).comes r w d in omega (arith, x.2, h))
 
 module _ {N G : Type 0} (l : Language N G) where
   -- no entry was tried yet
@@ -38,24 +54,22 @@ module _ {N G : Type 0} (l : Language N G) where
     in_front : (xs : List (F.MapEntry N)) → front ++ xs ≡ h.first ++ (e ∷ xs)
     in_front xs = append_assoc h.first (e ∷ []) xs
 
-    -- its key is none of the entry's
-    pub other_key_next : {far left : ℕ} → Says l (OfType e.key_type place (view both.0)) mid left (Replied (Fails far)) → HandsOn l place both es others (steps - left)
+    -- Its key is none of the entry's. Wherever a no of the key type shows, and whatever place a yes tells, the same is next.
+    pub other_key_next : {left : ℕ} → KeySays l place both e mid left (Replied (Fails 0)) → HandsOn l place both es others (steps - left)
     other_key_next {left = left} k = record {
       first = front;
       parts = h.parts ∙ sym (in_front others);
-      comes = λ xs all base rest tally.
-          let s = sorting_of all base place both rest tally in
-          rw (in_front xs) (goes_on l (M.InKey e xs s) steps mid left (h.comes (e ∷ xs) all base rest tally) b k);
+      comes = λ xs all base rest tally. rw (in_front xs) (and_on l (h.comes (e ∷ xs) all base rest tally) (k.0 xs all base rest tally) (omega (arith, b, k.1)));
     }
 
     -- its key is the entry's, and it has another value, which the entry lets pass
-    pub other_value_next : {next far some left : ℕ} → e.cuts ≡ false → Says l (OfType e.key_type place (view both.0)) mid some (Replied (Takes [] next 0)) → Says l (OfType e.value_type (M.plus place (place_count (view both.0))) (view both.1)) some left (Replied (Fails far)) → HandsOn l place both es others (steps - left)
+    pub other_value_next : {far some left : ℕ} → e.cuts ≡ false → KeySays l place both e mid some (Replied (Takes [] 0 0)) → Says l (OfType e.value_type (M.plus place (place_count (view both.0))) (view both.1)) some left (Replied (Fails far)) → HandsOn l place both es others (steps - left)
     other_value_next {some = some} {left = left} c k v = record {
       first = front;
       parts = h.parts ∙ sym (in_front others);
       comes = λ xs all base rest tally.
           let s = sorting_of all base place both rest tally in
-          rw (in_front xs) (pair_handed_on l e xs s steps mid some left c (h.comes (e ∷ xs) all base rest tally) b k v);
+          rw (in_front xs) (pair_handed_on l e xs s steps mid some left c (h.comes (e ∷ xs) all base rest tally) b (k.0 xs all base rest tally, k.1) v);
     }
 
     belongs : {after : ℕ} (left : ℕ) {answer : J.Answer} → after ≡ length others → ((xs all : List (F.MapEntry N)) (base : ℕ) (rest : Pairs) (tally : M.Tally) → ComesTo l (M.next_entry (h.first ++ (e ∷ xs)) (sorting_of all base place both rest tally)) (M.sorted (sorting_of all base place both rest tally) (J.BelongsTo (length xs) answer)) (steps - left)) → BelongsBy l place both es after answer (steps - left)
@@ -68,23 +82,23 @@ module _ {N G : Type 0} (l : Language N G) where
       comes = λ xs all base rest tally. rw (in_front xs) (f xs all base rest tally);
     }
 
-    pub its_value : {next later after some left : ℕ} → after ≡ length others → Says l (OfType e.key_type place (view both.0)) mid some (Replied (Takes [] next 0)) → Says l (OfType e.value_type (M.plus place (place_count (view both.0))) (view both.1)) some left (Replied (Takes [] later 0)) → BelongsBy l place both es after J.Yes (steps - left)
-    its_value {some = some} {left = left} i k v = belongs left i (λ xs all base rest tally. (pair_taken l e xs (sorting_of all base place both rest tally) (length xs) steps mid some left refl (h.comes (e ∷ xs) all base rest tally) b k v).0)
+    pub its_value : {later after some left : ℕ} → after ≡ length others → KeySays l place both e mid some (Replied (Takes [] 0 0)) → Says l (OfType e.value_type (M.plus place (place_count (view both.0))) (view both.1)) some left (Replied (Takes [] later 0)) → BelongsBy l place both es after J.Yes (steps - left)
+    its_value {some = some} {left = left} i k v = belongs left i (λ xs all base rest tally. (pair_taken l e xs (sorting_of all base place both rest tally) (length xs) steps mid some left refl (h.comes (e ∷ xs) all base rest tally) b (k.0 xs all base rest tally, k.1) v).0)
 
-    pub kept : {next far after some left : ℕ} → after ≡ length others → e.cuts ≡ true → Says l (OfType e.key_type place (view both.0)) mid some (Replied (Takes [] next 0)) → Says l (OfType e.value_type (M.plus place (place_count (view both.0))) (view both.1)) some left (Replied (Fails far)) → BelongsBy l place both es after (J.No far) (steps - left)
-    kept {far = far} {some = some} {left = left} i c k v = belongs left i (λ xs all base rest tally. (pair_kept l e xs (sorting_of all base place both rest tally) (length xs) far steps mid some left refl c (h.comes (e ∷ xs) all base rest tally) b k v).0)
+    pub kept : {far after some left : ℕ} → after ≡ length others → e.cuts ≡ true → KeySays l place both e mid some (Replied (Takes [] 0 0)) → Says l (OfType e.value_type (M.plus place (place_count (view both.0))) (view both.1)) some left (Replied (Fails far)) → BelongsBy l place both es after (J.No far) (steps - left)
+    kept {far = far} {some = some} {left = left} i c k v = belongs left i (λ xs all base rest tally. (pair_kept l e xs (sorting_of all base place both rest tally) (length xs) far steps mid some left refl c (h.comes (e ∷ xs) all base rest tally) b (k.0 xs all base rest tally, k.1) v).0)
 
     here : (all : List (F.MapEntry N)) (base : ℕ) (rest : Pairs) (tally : M.Tally) → ComesTo l (M.next_entry es (sorting_of all base place both rest tally)) (M.next_entry (e ∷ others) (sorting_of all base place both rest tally)) (steps - mid)
     here all base rest tally = subst (λ xs. ComesTo l (M.next_entry xs (sorting_of all base place both rest tally)) (M.next_entry (e ∷ others) (sorting_of all base place both rest tally)) (steps - mid)) (sym h.parts) (h.comes (e ∷ others) all base rest tally)
 
-    pub key_stops : (left : ℕ) (stop : Stop) → Says l (OfType e.key_type place (view both.0)) mid left (Stopped stop) → Sorts l place both es steps left (Err stop)
-    key_stops left Spent k = λ all base rest tally. ends_so l steps mid left (Stopped Spent) (here all base rest tally) b (asks_stopped l (OfType e.key_type place (view both.0)) mid left (M.InKey e others (sorting_of all base place both rest tally)) Spent k)
+    pub key_stops : (left : ℕ) (stop : Stop) → KeySays l place both e mid left (Stopped stop) → Sorts l place both es steps left (Err stop)
+    key_stops left Spent k = λ all base rest tally. ends_so l steps mid left (Stopped Spent) (here all base rest tally) b (k others all base rest tally)
     key_stops left NoMemory k = tt
 
-    pub value_stops : {next some : ℕ} (left : ℕ) (stop : Stop) → Says l (OfType e.key_type place (view both.0)) mid some (Replied (Takes [] next 0)) → Says l (OfType e.value_type (M.plus place (place_count (view both.0))) (view both.1)) some left (Stopped stop) → Sorts l place both es steps left (Err stop)
+    pub value_stops : {some : ℕ} (left : ℕ) (stop : Stop) → KeySays l place both e mid some (Replied (Takes [] 0 0)) → Says l (OfType e.value_type (M.plus place (place_count (view both.0))) (view both.1)) some left (Stopped stop) → Sorts l place both es steps left (Err stop)
     value_stops {some = some} left Spent k v = λ all base rest tally.
         let s = sorting_of all base place both rest tally in
-        let x = key_yes l e others s steps mid some (here all base rest tally) b k in
+        let x = key_yes l e others s steps mid some (here all base rest tally) b (k.0 others all base rest tally, k.1) in
         ends_so l steps some left (Stopped Spent) x.0 x.1 (asks_stopped l (OfType e.value_type s.value_place s.held) some left (M.InValue e others s) Spent v)
     value_stops left NoMemory k v = tt
 

@@ -8,8 +8,10 @@ mod Ways
 mod Outcomes
 mod Sayings
 mod Handing
+mod Keys
 mod Tellings
 mod Open
+mod Passing
 mod Running
 mod Needs
 mod Machines

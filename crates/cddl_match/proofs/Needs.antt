@@ -1,18 +1,18 @@
 -- Room beside that for questions is needed only where the last question is one of a map or of what a byte string holds.
-use Rattle.std.proofs.Common.{◌≡◌, ◌⊎◌, inl, inr, ℕ, List, [], ◌∷◌, ◌++◌, reverse, refl, ap, sym, subst, ◌∙◌}
-use Rattle.std.specs.Prelude.{Bool, true, false, ◌||◌, zero, suc, Option, Some, None, nat_eq, length}
+use Rattle.std.proofs.Common.{◌≡◌, ◌≤◌, ◌⊎◌, inl, inr, ℕ, List, [], ◌∷◌, ◌++◌, reverse, refl, ap, sym, subst, ◌∙◌}
+use Rattle.std.specs.Prelude.{Bool, true, false, ◌||◌, zero, suc, Option, Some, None, nat_eq, length, vec_capacity, vec_len}
 use Rattle.std.proofs.lemmas.List.{reverse-append, reverse-reverse}
 use Rattle.cbor_data.specs.Value.{Value, Pairs, no_pairs, pair}
 use Rattle.cddl_meaning.specs.Forms.{TagNumber, any_number, exactly, such_as, MapEntry, Node, Plain, Ref, Choice, ArrayOf, TagOf, SimpleBy, MapOf, Both, Such, Holding, Most, Group, Entry, GroupRef, Sequence, Alternatives, Repeat, Language, members_in, tag_in, simple_in, Test, bits_among}
 use Rattle.cddl_meaning.specs.Judges.{Reply, Takes, Fails, is_over}
-use Rattle.cddl_meaning.specs.Moves.{Question, OfType, OfGroup, OfAlternative, Pending, InRef, InChoice, InArray, InHead, InSimple, InEntry, InSequence, InAlternatives, InRepeat, InMap, InKey, InValue, InLeft, InSuch, InHolder, InHeld, Sorting, Tally, Move, Answered, Asks, Tries, Reads, next_member, next_part, next_alternative, next_round, after_round, end_of_rounds, array_move, content_move, tag_move, simple_move, next_pair, next_entry, after_value, type_move, entry_move, group_move, first_move, next_move, Weighs, tested_move}
-use Rattle.cddl_match.specs.Machine.{NeedsMore, asked_in, is_alternative, last_of, next_in, pending_in}
+use Rattle.cddl_meaning.specs.Moves.{Question, OfType, OfGroup, OfAlternative, Pending, InRef, InChoice, InArray, InHead, InSimple, InEntry, InSequence, InAlternatives, InRepeat, InMap, InKey, InValue, InLeft, InSuch, InHolder, InHeld, Sorting, Tally, Move, Answered, Asks, Tries, Enters, Reads, next_member, next_part, next_alternative, next_round, after_round, end_of_rounds, array_move, content_move, tag_move, simple_move, next_pair, next_entry, after_value, type_move, entry_move, group_move, first_move, next_move, Weighs, tested_move}
+use Rattle.cddl_match.specs.Machine.{LastNeedsRoom, NeedsMore, WaitsAt, asked_in, is_alternative, last_of, next_in, pending_in}
 use Rattle.match_moves.specs.Views.{move_view}
 use Rattle.match_moves.specs.declared.questions.Move as C
 use Rattle.cddl_match.specs.declared.stack.Run.{Run}
 use Rattle.table_nodes.specs.declared.nodes.GroupId.{GroupId}
 use Rattle.table_nodes.specs.declared.nodes.TypeId.{TypeId}
-use Rattle.cddl_match.specs.Open.{ComesUpTo, begins, goes_on, tries, reads, reads_nothing, AreOpenWith, nothing, further, NeedsRoom, of_map, of_alternative, of_held, weighs}
+use Rattle.cddl_match.specs.Open.{ComesUpTo, begins, goes_on, tries, passes_over, enters, reads, reads_nothing, AreOpenWith, nothing, further, NeedsRoom, of_map, of_alternative, of_held, weighs}
 
 module _ {N G : Type 0} where
   -- what is asked of a map, or about a byte string
@@ -25,6 +25,7 @@ module _ {N G : Type 0} where
   takes_room (Answered r) = false
   takes_room (Asks q o) = needs_more o || is_alternative q
   takes_room (Tries s) = false
+  takes_room (Enters e es s) = false
   takes_room (Reads c b n p next) = true
   takes_room (Weighs n r) = false
 
@@ -157,6 +158,8 @@ module _ {N G : Type 0} (l : Language N G) where
   comes_needs (begins {q = q}) h = first_needs q h
   comes_needs (goes_on {q = p} {o = o} {r = r} c d) h = comes_needs c (next_needs N G o p r h)
   comes_needs (tries {s = s} c) h = absurd (next_entry_not N G s.entries s h)
+  comes_needs (passes_over {es = es} {s = s} i c) h = absurd (next_entry_not N G es s h)
+  comes_needs (enters i c) h = cc
   comes_needs (weighs c) h = cc
   comes_needs (reads k c) h = cc
   comes_needs (reads_nothing k c) h = cc
@@ -182,3 +185,8 @@ room_needed l r m next e = subst (λ m. NeedsMore l r (move_view m (last_of (pen
   where
     needed : (m : Move TypeId GroupId) → takes_room m ≡ true → NeedsMore l r m
     needed m e first taken a h = last_needs l (asked_in r.waiting.items) (reverse (asked_in r.waiting.items)) a refl h.opened e
+
+-- what is wanted by a run that has come further with the same questions open was wanted before
+pub wants_before : (l : Language TypeId GroupId) (before mid : Run) → mid.waiting ≡ before.waiting → ((first : Question TypeId GroupId) (taken : ℕ) → WaitsAt l first taken before.waiting.items (next_in before) → WaitsAt l first taken mid.waiting.items (next_in mid)) → (vec_capacity mid.waiting ≤ vec_len mid.waiting) ⊎ NeedsMore l mid (next_in mid) → (vec_capacity before.waiting ≤ vec_len before.waiting) ⊎ NeedsMore l before (next_in before)
+wants_before l before mid waiting comes (inl full) = inl (rw (← waiting) full)
+wants_before l before mid waiting comes (inr more) = inr (λ first taken a h. subst (λ v. LastNeedsRoom l (asked_in v.items)) waiting (more first taken a (comes first taken h)))

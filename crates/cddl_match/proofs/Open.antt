@@ -1,14 +1,14 @@
 -- Lists of open questions: each turn keeps one, and none is long.
-use Rattle.std.proofs.Common.{◌≡◌, ℕ, List, ◌∷◌, length, refl, arith}
+use Rattle.std.proofs.Common.{◌≡◌, ℕ, List, ◌∷◌, true, false, length, refl, arith}
 use Rattle.cbor_data.specs.Value.{Value}
-use Rattle.cddl_meaning.specs.Forms.{Content, Language}
+use Rattle.cddl_meaning.specs.Forms.{Content, Language, MapEntry, is_passed_over}
 use Rattle.cddl_meaning.specs.Held.{Holds}
 use Rattle.cddl_meaning.specs.Judges.{Reply, Fails}
-use Rattle.cddl_meaning.specs.Moves.{Question, OfType, Pending, InRef, InHeld, Sorting, Move, Answered, Asks, Tries, Reads, Replies, LeadsTo, first_move, next_move, next_entry, Weighs}
+use Rattle.cddl_meaning.specs.Moves.{Question, OfType, Pending, InRef, InKey, InHeld, Sorting, Move, Answered, Asks, Tries, Enters, Reads, Replies, LeadsTo, first_move, next_move, next_entry, Weighs}
 use Rattle.cddl_meaning.specs.Moves as M
 use Rattle.cddl_meaning.specs.Ranks.Reached as R
 use Rattle.cddl_meaning.specs.Ranks.Reached.{IsReached}
-use Rattle.cddl_match.specs.Open.{ComesUpTo, begins, goes_on, tries, reads, reads_nothing, AreOpenWith, nothing, further, weighs}
+use Rattle.cddl_match.specs.Open.{ComesUpTo, begins, goes_on, tries, passes_over, enters, reads, reads_nothing, AreOpenWith, nothing, further, weighs}
 
 module _ {N G : Type 0} (l : Language N G) where
   -- what a move comes to by itself is reached
@@ -16,6 +16,8 @@ module _ {N G : Type 0} (l : Language N G) where
   ends_reached M.at_once os h = h
   ends_reached (M.after {o = o} (M.replies d) e) os h = ends_reached e os (R.answered (ends_reached d (o ∷ os) (R.asked h)))
   ends_reached (M.tries e) os h = ends_reached e os (R.tried h)
+  ends_reached (M.passes_over i e) os h = ends_reached e os (R.passed i h)
+  ends_reached (M.enters i e) os h = ends_reached e os (R.entered i h)
   ends_reached M.weighs os h = R.weighed h
   ends_reached (M.reads k e) os h = ends_reached e os (R.read k h)
   ends_reached (M.reads_nothing k) os h = R.read_nothing k h
@@ -24,6 +26,8 @@ module _ {N G : Type 0} (l : Language N G) where
   comes_reached h begins = R.asked h
   comes_reached h (goes_on c (M.replies d)) = R.answered (ends_reached d _ (R.asked (comes_reached h c)))
   comes_reached h (tries c) = R.tried (comes_reached h c)
+  comes_reached h (passes_over i c) = R.passed i (comes_reached h c)
+  comes_reached h (enters i c) = R.entered i (comes_reached h c)
   comes_reached h (weighs c) = R.weighed (comes_reached h c)
   comes_reached h (reads k c) = R.read k (comes_reached h c)
   comes_reached h (reads_nothing k c) = R.read_nothing k (comes_reached h c)
@@ -41,6 +45,8 @@ module _ {N G : Type 0} (l : Language N G) where
   comes_replies begins d = (_, M.replies d)
   comes_replies (goes_on c e) d = comes_replies c (M.after e d)
   comes_replies (tries c) d = comes_replies c (M.tries d)
+  comes_replies (passes_over i c) d = comes_replies c (M.passes_over i d)
+  comes_replies (enters i c) d = comes_replies c (M.enters i d)
   comes_replies (weighs c) M.at_once = comes_replies c M.weighs
   comes_replies (reads k c) d = comes_replies c (M.reads k d)
   comes_replies (reads_nothing k c) M.at_once = comes_replies c (M.reads_nothing k)
@@ -56,6 +62,13 @@ module _ {N G : Type 0} (l : Language N G) where
   -- a pair is tried
   pub open_tried : {first : Question N G} {qs : List (Question N G)} {os : List (Pending N G)} {s : Sorting N} → AreOpenWith l first qs os (Tries s) → AreOpenWith l first qs os (next_entry s.entries s)
   open_tried (further h c) = further h (tries c)
+
+  -- an entry is passed over, or asked
+  pub open_passed : {first : Question N G} {qs : List (Question N G)} {os : List (Pending N G)} {e : MapEntry N} {es : List (MapEntry N)} {s : Sorting N} → is_passed_over l.counting e.key_type s.key ≡ true → AreOpenWith l first qs os (Enters e es s) → AreOpenWith l first qs os (next_entry es s)
+  open_passed i (further h c) = further h (passes_over i c)
+
+  pub open_entered : {first : Question N G} {qs : List (Question N G)} {os : List (Pending N G)} {e : MapEntry N} {es : List (MapEntry N)} {s : Sorting N} → is_passed_over l.counting e.key_type s.key ≡ false → AreOpenWith l first qs os (Enters e es s) → AreOpenWith l first qs os (Asks (OfType e.key_type s.key_place s.key) (InKey e es s))
+  open_entered i (further h c) = further h (enters i c)
 
   -- bits are weighed
   pub open_weighed : {first : Question N G} {qs : List (Question N G)} {os : List (Pending N G)} {n : ℕ} {r : Reply} → AreOpenWith l first qs os (Weighs n r) → AreOpenWith l first qs os (Answered r)

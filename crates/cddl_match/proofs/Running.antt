@@ -1,14 +1,16 @@
 -- What each turn keeps.
 use Rattle.std.proofs.Common.{◌≡◌, ℕ, zero, suc, ◌+◌, ◌*◌, ◌-◌, ◌<◌, ◌≤◌, List, [], ◌∷◌, ◌++◌, inl, inr, length, map, reverse, slice_index_or, slice_set, take, refl, sym, ap, subst, ◌∙◌, arith}
-use Rattle.std.specs.Prelude.{true, false}
+use Rattle.std.specs.Prelude.{All, true, false}
+use Rattle.std.proofs.lemmas.List.Elements.{All-head, All-tail}
 use Rattle.std.proofs.lemmas.List.{length-append, length-reverse, map-append, reverse-append}
 use Rattle.cbor_data.specs.Value.{Value}
-use Rattle.cddl_meaning.specs.Forms.{Content, Language}
+use Rattle.cddl_meaning.specs.Forms.{Content, Counting, Language, MapEntry, by_keys, entry_cost, every_entry, is_passed_over, pair_cost}
 use Rattle.cddl_meaning.specs.Held.{Holds}
 use Rattle.cddl_meaning.specs.Judges.{Reply, Fails}
-use Rattle.cddl_meaning.specs.Moves.{Question, OfType, Pending, InRef, InHeld, Sorting, Move, Answered, Asks, Tries, Reads, Replies, LeadsTo, first_move, next_move, next_entry, Weighs}
+use Rattle.cddl_meaning.specs.Moves.{Question, OfType, Pending, InRef, InKey, InHeld, Sorting, Move, Answered, Asks, Tries, Enters, Reads, Replies, LeadsTo, first_move, next_move, next_entry, Weighs}
 use Rattle.cddl_meaning.specs.Moves as M
 use Rattle.cddl_match.specs.Ahead.{Opens}
+use Rattle.cddl_match.specs.Entering.{ArePassed, IsPassed}
 use Rattle.cddl_match.specs.Machine.{Finds, FindsAt, IsAt, IsRun, IsStep, IsTurn, WaitsAt, asked_in, asks_in, below, last_of, next_in, noted, pending_in}
 use Rattle.cddl_match.specs.Open.{AreOpenWith, nothing, further}
 use Rattle.cddl_match.specs.Unwinding.{IsOnTheWay, Unwinds}
@@ -23,7 +25,7 @@ use Rattle.cddl_match.specs.declared.stack.Waiting.{Waiting}
 use Rattle.table_nodes.specs.declared.nodes.GroupId.{GroupId}
 use Rattle.table_nodes.specs.declared.nodes.TypeId.{TypeId}
 use Rattle.cddl_match.proofs.Held.{reads_none, reads_on, weighs_on}
-use Rattle.cddl_match.proofs.Open.{open_asked, open_answered, open_tried, open_read, open_unread, open_weighed}
+use Rattle.cddl_match.proofs.Open.{open_asked, open_answered, open_tried, open_passed, open_entered, open_read, open_unread, open_weighed}
 use Rattle.lists.proofs.Lemmas.{none_left}
 use Rattle.cddl_match.proofs.Turns as T
 use Rattle.cddl_match.proofs.Ways as W
@@ -57,6 +59,11 @@ last_written (y ∷ []) zero x h = refl
 last_written (y ∷ z ∷ xs) zero x h = absurd (omega (arith, h))
 last_written (y ∷ xs) (suc k) x h = ap (λ ys. y ∷ ys) (last_written xs k x (omega (arith, h)))
 
+-- a pair that is tried counts one at least
+pair_counts : {N : Type 0} (c : Counting N) (n : ℕ) → 0 < pair_cost c n
+pair_counts every_entry n = omega arith
+pair_counts (by_keys f) n = omega arith
+
 module _ {N G : Type 0} (l : Language N G) where
   pub at_steps : {first : Question N G} {m n : ℕ} {qs : List (Question N G)} {os : List (Pending N G)} {o : Move N G} → m ≡ n → IsAt l first m qs os o → IsAt l first n qs os o
   at_steps {first = first} {qs = qs} {os = os} {o = o} e h = subst (λ n. IsAt l first n qs os o) e h
@@ -71,8 +78,23 @@ module _ {N G : Type 0} (l : Language N G) where
   at_answered [] e h = absurd (omega (arith, e))
   at_answered (p ∷ qs) e h = record { way = T.answered l h.way; opened = open_answered l h.opened }
 
-  pub at_tried : {first : Question N G} {taken : ℕ} {qs : List (Question N G)} {os : List (Pending N G)} {s : Sorting N} → IsAt l first taken qs os (Tries s) → IsAt l first (taken + suc (length s.entries)) qs os (next_entry s.entries s)
+  pub at_tried : {first : Question N G} {taken : ℕ} {qs : List (Question N G)} {os : List (Pending N G)} {s : Sorting N} → IsAt l first taken qs os (Tries s) → IsAt l first (taken + pair_cost l.counting (length s.entries)) qs os (next_entry s.entries s)
   at_tried {s = s} h = record { way = T.gone_on l (W.tries_on l s) h.way; opened = open_tried l h.opened }
+
+  -- an entry is passed over, or asked
+  pub at_passed : {first : Question N G} {taken : ℕ} {qs : List (Question N G)} {os : List (Pending N G)} {e : MapEntry N} {es : List (MapEntry N)} {s : Sorting N} → is_passed_over l.counting e.key_type s.key ≡ true → IsAt l first taken qs os (Enters e es s) → IsAt l first taken qs os (next_entry es s)
+  at_passed {e = e} {es = es} {s = s} i h = record { way = T.in_steps (omega arith) (T.gone_on l (W.passes_on l e es s i) h.way); opened = open_passed l i h.opened }
+
+  pub at_entered : {first : Question N G} {taken : ℕ} {qs : List (Question N G)} {os : List (Pending N G)} {e : MapEntry N} {es : List (MapEntry N)} {s : Sorting N} → is_passed_over l.counting e.key_type s.key ≡ false → IsAt l first taken qs os (Enters e es s) → IsAt l first (taken + entry_cost l.counting) qs os (Asks (OfType e.key_type s.key_place s.key) (InKey e es s))
+  at_entered {e = e} {es = es} {s = s} i h = record { way = T.gone_on l (W.enters_on l e es s i) h.way; opened = open_entered l i h.opened }
+
+  -- entries are passed over, one after the other
+  at_all_passed : {first : Question N G} {taken : ℕ} {qs : List (Question N G)} {os : List (Pending N G)} (s : Sorting N) (before left : List (MapEntry N)) → All (IsPassed l s.key) before → IsAt l first taken qs os (next_entry (before ++ left) s) → IsAt l first taken qs os (next_entry left s)
+  at_all_passed s [] left i h = h
+  at_all_passed s (e ∷ before) left i h = at_all_passed s before left (All-tail (IsPassed l s.key) e before i) (at_passed (All-head (IsPassed l s.key) e before i) h)
+
+  pub at_left : {first : Question N G} {taken : ℕ} {qs : List (Question N G)} {os : List (Pending N G)} (s : Sorting N) (es left : List (MapEntry N)) → ArePassed l s.key es left → IsAt l first taken qs os (next_entry es s) → IsAt l first taken qs os (next_entry left s)
+  at_left {first = first} {taken = taken} {qs = qs} {os = os} s es left p h = at_all_passed s p.before left p.each (subst (λ es. IsAt l first taken qs os (next_entry es s)) p.whole h)
 
   pub at_read : {first : Question N G} {taken : ℕ} {qs : List (Question N G)} {os : List (Pending N G)} {c : Content} {b : List ℕ} {n : N} {p next : ℕ} {y : Value} → Holds c b y → IsAt l first taken qs os (Reads c b n p next) → IsAt l first taken qs os (Asks (OfType n 0 y) (InHeld p next))
   at_read {c = c} {b = b} {n = n} {p = p} {next = next} {y = y} k h = record { way = T.in_steps (omega arith) (T.gone_on l (reads_on l c b n p next y k) h.way); opened = open_read l k h.opened }
@@ -129,7 +151,10 @@ module _ {N G : Type 0} (l : Language N G) where
   at_most h r w d = omega (arith, (h.way.comes r w d).2)
 
   pub at_pair_over : {first : Question N G} {taken : ℕ} {qs : List (Question N G)} {os : List (Pending N G)} {s : Sorting N} → IsAt l first taken qs os (Tries s) → (r : Reply) (w : ℕ) → Replies l first r w → taken < w
-  at_pair_over h r w d = omega (arith, at_most (at_tried h) r w d)
+  at_pair_over {s = s} h r w d = omega (arith, at_most (at_tried h) r w d, pair_counts l.counting (length s.entries))
+
+  pub at_entry_over : {first : Question N G} {taken : ℕ} {qs : List (Question N G)} {os : List (Pending N G)} {e : MapEntry N} {es : List (MapEntry N)} {s : Sorting N} → is_passed_over l.counting e.key_type s.key ≡ false → IsAt l first taken qs os (Enters e es s) → (r : Reply) (w : ℕ) → Replies l first r w → taken < w
+  at_entry_over i h r w d = omega (arith, at_ask_over (at_entered i h) r w d)
 
   pub at_bits_over : {first : Question N G} {taken n : ℕ} {qs : List (Question N G)} {os : List (Pending N G)} {s : Reply} → IsAt l first taken qs os (Weighs n s) → (r : Reply) (w : ℕ) → Replies l first r w → taken + n ≤ w
   at_bits_over h r w d = at_most (at_weighed h) r w d
@@ -189,12 +214,7 @@ module _ (l : Language TypeId GroupId) (first : Question TypeId GroupId) (taken 
       let same : move_view r.next (last_of (pending_in r.waiting.items)) ≡ m = ap (λ xs. move_view r.next (last_of (pending_in xs))) items ∙ ap (λ o. move_view r.next o) (last_waits ws w) ∙ next in
       subst (λ n. WaitsAt l first taken r.waiting.items n) (sym same) (subst (λ xs. WaitsAt l first taken xs m) (sym items) (waits_more ws w m h))
 
-  -- Only questions that are open try pairs and read byte strings.
-  pub none_tries : (ws : List Waiting) (s : Sorting TypeId) → length ws ≡ 0 → WaitsAt l first taken ws (Tries s) → ⊥
-  none_tries ws s none h =
-      let h2 = rw (none_left ws none) at h in
-      absurd (omega (arith, tried_some l h2.opened))
-
+  -- Only questions that are open read byte strings.
   pub none_reads : (ws : List Waiting) (c : Content) (b : List ℕ) (n : TypeId) (p next : ℕ) → length ws ≡ 0 → WaitsAt l first taken ws (Reads c b n p next) → ⊥
   none_reads ws c b n p next none h =
       let h2 = rw (none_left ws none) at h in
@@ -243,11 +263,25 @@ module _ (l : Language TypeId GroupId) (first : Question TypeId GroupId) (steps 
   }
 
   -- a pair is tried
-  pub try_step : (ws : List Waiting) (v u : Waiting) {s : Sorting TypeId} → after.owed ≡ length s.entries → after.taken ≡ before.taken + 1 → before.taken < steps → WaitsAt l first before.taken before.waiting.items (Tries s) → before.waiting.items ≡ ws ++ v ∷ [] → after.waiting.items ≡ ws ++ u ∷ [] → noted u.asked ≡ noted v.asked → move_view after.next (pending_view u.pending) ≡ next_entry s.entries s → IsStep l first steps before after
-  try_step ws v u {s = s} owed taken less h items left asked next = record {
+  pub try_step : {s : Sorting TypeId} → pair_cost l.counting (length s.entries) ≡ 1 → before.owed ≡ 0 → after.owed ≡ before.owed → after.taken ≡ before.taken + 1 → before.taken < steps → WaitsAt l first before.taken before.waiting.items (Tries s) → after.waiting.items ≡ before.waiting.items → next_in after ≡ next_entry s.entries s → IsStep l first steps before after
+  try_step {s = s} one owed owes taken less h items next =
+      let open_some : 0 < length (asked_in before.waiting.items) = omega (arith, tried_some l h.opened, length-reverse (asked_in before.waiting.items)) in
+      record {
+        run = record {
+          at = rw (next, items) (at_steps l {m = before.taken + pair_cost l.counting (length s.entries)} (omega (arith, one, owed, owes, taken)) (at_tried l h));
+          owes = λ more. absurd (omega (arith, owed, owes, more));
+        };
+        within = omega (arith, taken, less);
+        turn = inl (taken, inl (ap asked_in items));
+        some = rw items open_some;
+      }
+
+  -- an entry is asked about a pair
+  pub entry_step : (ws : List Waiting) (v u : Waiting) {e : MapEntry TypeId} {es : List (MapEntry TypeId)} {s : Sorting TypeId} → entry_cost l.counting ≡ 1 → is_passed_over l.counting e.key_type s.key ≡ false → before.owed ≡ 0 → after.owed ≡ before.owed → after.taken ≡ before.taken + 1 → before.taken < steps → WaitsAt l first before.taken before.waiting.items (Enters e es s) → before.waiting.items ≡ ws ++ v ∷ [] → after.waiting.items ≡ ws ++ u ∷ [] → noted u.asked ≡ noted v.asked → move_view after.next (pending_view u.pending) ≡ Asks (OfType e.key_type s.key_place s.key) (InKey e es s) → IsStep l first steps before after
+  entry_step ws v u {e = e} {es = es} {s = s} one i owed owes taken less h items left asked next = record {
     run = record {
-      at = run_more l first (after.taken + after.owed) after ws u left next (at_steps l {m = before.taken + suc (length s.entries)} (omega (arith, owed, taken)) (rw asked (at_tried l (waits_last l first before.taken before.waiting.items ws v (Tries s) items h))));
-      owes = λ more. rw left (some_left ws u);
+      at = run_more l first (after.taken + after.owed) after ws u left next (at_steps l {m = before.taken + entry_cost l.counting} (omega (arith, one, owed, owes, taken)) (rw asked (at_entered l i (waits_last l first before.taken before.waiting.items ws v (Enters e es s) items h))));
+      owes = λ more. absurd (omega (arith, owed, owes, more));
     };
     within = omega (arith, taken, less);
     turn = inl (taken, inl (rw (items, left) (same_asked ws v u asked)));
@@ -313,6 +347,17 @@ found_from l steps before mid m n o taken lead finds = λ first at within. rw (�
 -- what is found by a run whose next move is this one
 pub finds_from : (l : Language TypeId GroupId) (steps : ℕ) (before mid : Run) (m : Move TypeId GroupId) (o : Outcome) → mid.taken ≡ before.taken → ((first : Question TypeId GroupId) → IsRun l first before → WaitsAt l first mid.taken mid.waiting.items m) → FindsAt l steps mid m o → Finds l steps before o
 finds_from l steps before mid m o taken lead finds = λ first run within. rw (← taken) (finds first (lead first run) (omega (arith, within, taken)))
+
+-- a run that has come further at no step, with the same questions open
+pub passed_run : (l : Language TypeId GroupId) (first : Question TypeId GroupId) (before after : Run) → after.waiting ≡ before.waiting → after.taken ≡ before.taken → after.owed ≡ before.owed → ((taken : ℕ) → WaitsAt l first taken before.waiting.items (next_in before) → WaitsAt l first taken after.waiting.items (next_in after)) → IsRun l first before → IsRun l first after
+passed_run l first before after waiting taken owed comes run = record {
+  at = at_steps l {m = before.taken + before.owed} (omega (arith, taken, owed)) (comes (before.taken + before.owed) run.at);
+  owes = λ more. rw waiting (run.owes (omega (arith, owed, more)));
+}
+
+-- what is found by it
+pub finds_of : (l : Language TypeId GroupId) (steps : ℕ) (before mid : Run) (o : Outcome) → mid.taken ≡ before.taken → ((first : Question TypeId GroupId) → IsRun l first before → IsRun l first mid) → Finds l steps mid o → Finds l steps before o
+finds_of l steps before mid o taken lead finds = λ first run within. rw (← taken) (finds first (lead first run) (omega (arith, within, taken)))
 
 -- Turns come to an end: each takes a step, and asks one question more at most, or takes one off.
 pub turns_left : (l : Language TypeId GroupId) (first : Question TypeId GroupId) (steps : ℕ) (before after : Run) → IsStep l first steps before after → 2 * (steps - after.taken) + length (asked_in after.waiting.items) < 2 * (steps - before.taken) + length (asked_in before.waiting.items)

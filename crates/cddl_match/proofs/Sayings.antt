@@ -126,19 +126,22 @@ module _ {N G : Type 0} (l : Language N G) where
   pub ends_so : {first m : Move N G} (steps mid left : ℕ) (o : Outcome) → ComesTo l first m (steps - mid) → mid ≤ steps → Ends l m mid left o → Ends l first steps left o
   ends_so steps mid left o a b h = ends_on l steps mid left o a (omega (arith, b)) h
 
-  -- An entry has taken a pair, or kept it, or handed it on; or that has stopped.
-  pub key_yes : {first : Move N G} {next : ℕ} (e : F.MapEntry N) (es : List (F.MapEntry N)) (s : M.Sorting N) (steps mid some : ℕ) → ComesTo l first (M.next_entry (e ∷ es) s) (steps - mid) → mid ≤ steps → Says l (OfType e.key_type s.key_place s.key) mid some (Replied (Takes [] next 0)) → ComesTo l first (Asks (OfType e.value_type s.value_place s.held) (M.InValue e es s)) (steps - some) × some ≤ steps
-  key_yes e es s steps mid some a b k = (goes_on (M.InKey e es s) steps mid some a b k, omega (arith, b, k.1))
+  -- An entry has taken a pair, or kept it, or handed it on; or that has stopped. Its key type has said yes.
+  abbrev KeyYes : F.MapEntry N → List (F.MapEntry N) → M.Sorting N → (steps left : ℕ) → Type 0
+  KeyYes e es s steps left = ComesTo l (M.next_entry (e ∷ es) s) (Asks (OfType e.value_type s.value_place s.held) (M.InValue e es s)) (steps - left) × left ≤ steps
 
-  pub pair_taken : {first : Move N G} {next later : ℕ} (e : F.MapEntry N) (es : List (F.MapEntry N)) (s : M.Sorting N) (after steps mid some left : ℕ) → after ≡ length es → ComesTo l first (M.next_entry (e ∷ es) s) (steps - mid) → mid ≤ steps → Says l (OfType e.key_type s.key_place s.key) mid some (Replied (Takes [] next 0)) → Says l (OfType e.value_type s.value_place s.held) some left (Replied (Takes [] later 0)) → ComesTo l first (M.sorted s (BelongsTo after Yes)) (steps - left) × left ≤ steps
+  pub key_yes : {first : Move N G} (e : F.MapEntry N) (es : List (F.MapEntry N)) (s : M.Sorting N) (steps mid some : ℕ) → ComesTo l first (M.next_entry (e ∷ es) s) (steps - mid) → mid ≤ steps → KeyYes e es s mid some → ComesTo l first (Asks (OfType e.value_type s.value_place s.held) (M.InValue e es s)) (steps - some) × some ≤ steps
+  key_yes e es s steps mid some a b k = (and_on l a k.0 (omega (arith, b, k.1)), omega (arith, b, k.1))
+
+  pub pair_taken : {first : Move N G} {later : ℕ} (e : F.MapEntry N) (es : List (F.MapEntry N)) (s : M.Sorting N) (after steps mid some left : ℕ) → after ≡ length es → ComesTo l first (M.next_entry (e ∷ es) s) (steps - mid) → mid ≤ steps → KeyYes e es s mid some → Says l (OfType e.value_type s.value_place s.held) some left (Replied (Takes [] later 0)) → ComesTo l first (M.sorted s (BelongsTo after Yes)) (steps - left) × left ≤ steps
   pair_taken e es s after steps mid some left i a b k v = let x = key_yes e es s steps mid some a b k in (rw i (goes_on (M.InValue e es s) steps some left x.0 x.1 v), omega (arith, x.1, v.1))
 
-  pub pair_kept : {first : Move N G} {next : ℕ} (e : F.MapEntry N) (es : List (F.MapEntry N)) (s : M.Sorting N) (after far steps mid some left : ℕ) → after ≡ length es → e.cuts ≡ true → ComesTo l first (M.next_entry (e ∷ es) s) (steps - mid) → mid ≤ steps → Says l (OfType e.key_type s.key_place s.key) mid some (Replied (Takes [] next 0)) → Says l (OfType e.value_type s.value_place s.held) some left (Replied (Fails far)) → ComesTo l first (M.sorted s (BelongsTo after (No far))) (steps - left) × left ≤ steps
+  pub pair_kept : {first : Move N G} (e : F.MapEntry N) (es : List (F.MapEntry N)) (s : M.Sorting N) (after far steps mid some left : ℕ) → after ≡ length es → e.cuts ≡ true → ComesTo l first (M.next_entry (e ∷ es) s) (steps - mid) → mid ≤ steps → KeyYes e es s mid some → Says l (OfType e.value_type s.value_place s.held) some left (Replied (Fails far)) → ComesTo l first (M.sorted s (BelongsTo after (No far))) (steps - left) × left ≤ steps
   pair_kept {first = first} e es s after far steps mid some left i c a b k v =
       let x = key_yes e es s steps mid some a b k in
       (rw i (subst (λ cuts. ComesTo l first (M.after_value cuts es s far) (steps - left)) c (goes_on (M.InValue e es s) steps some left x.0 x.1 v)), omega (arith, x.1, v.1))
 
-  pub pair_handed_on : {first : Move N G} {next far : ℕ} (e : F.MapEntry N) (es : List (F.MapEntry N)) (s : M.Sorting N) (steps mid some left : ℕ) → e.cuts ≡ false → ComesTo l first (M.next_entry (e ∷ es) s) (steps - mid) → mid ≤ steps → Says l (OfType e.key_type s.key_place s.key) mid some (Replied (Takes [] next 0)) → Says l (OfType e.value_type s.value_place s.held) some left (Replied (Fails far)) → ComesTo l first (M.next_entry es s) (steps - left)
+  pub pair_handed_on : {first : Move N G} {far : ℕ} (e : F.MapEntry N) (es : List (F.MapEntry N)) (s : M.Sorting N) (steps mid some left : ℕ) → e.cuts ≡ false → ComesTo l first (M.next_entry (e ∷ es) s) (steps - mid) → mid ≤ steps → KeyYes e es s mid some → Says l (OfType e.value_type s.value_place s.held) some left (Replied (Fails far)) → ComesTo l first (M.next_entry es s) (steps - left)
   pair_handed_on {first = first} {far = far} e es s steps mid some left c a b k v =
       let x = key_yes e es s steps mid some a b k in
       subst (λ cuts. ComesTo l first (M.after_value cuts es s far) (steps - left)) c (goes_on (M.InValue e es s) steps some left x.0 x.1 v)

@@ -4,7 +4,7 @@ use Rattle.std.proofs.Common.{ℕ, zero, suc, ◌-◌, ◌≤◌, ◌<◌, ◌^�
 use Rattle.cbor_data.specs.Value.{Value, Pairs, no_pairs, pair, place_count}
 use Rattle.cddl_meaning.specs.Forms.{members_in, pairs_in, bytes_in, tag_in, simple_in, passes, TagNumber, any_number, exactly, such_as, Content, MapEntry, Node, Plain, Ref, Choice, ArrayOf, TagOf, SimpleBy, MapOf, Both, Such, Holding, Most, Group, Entry, GroupRef, Sequence, Alternatives, Repeat, Language, Test, bits_among}
 use Rattle.cddl_meaning.specs.Judges.{Answer, Yes, No, Reply, Takes, Fails, is_over, one_less, Fate, BelongsTo, Stray, by_counts, shown_by}
-use Rattle.cddl_meaning.specs.Moves.{Question, OfType, OfGroup, Tally, tallied, fresh, first_of, enough_of, tally_says, answer_reply, either_reply, Sorting, Answered, Replies, replies, LeadsTo, at_once, after, tries, reads, reads_nothing, read_move, plus, test_reply, such_reply, next_way, map_move, next_pair, sorted, next_entry, after_value, next_member, next_part, next_alternative, next_round, repetition, after_round, end_of_rounds, array_move, content_move, tag_move, simple_move, type_move, entry_move, group_move, weighs, Weighs, tested_move}
+use Rattle.cddl_meaning.specs.Moves.{Question, OfType, OfGroup, Tally, tallied, fresh, first_of, enough_of, tally_says, answer_reply, either_reply, Sorting, Answered, Replies, replies, LeadsTo, at_once, after, tries, passes_over, enters, reads, reads_nothing, read_move, plus, test_reply, such_reply, next_way, map_move, next_pair, sorted, next_entry, after_value, next_member, next_part, next_alternative, next_round, repetition, after_round, end_of_rounds, array_move, content_move, tag_move, simple_move, type_move, entry_move, group_move, weighs, Weighs, tested_move}
 
 -- the greatest place that failed
 abbrev pub far_of : Reply → ℕ
@@ -183,10 +183,11 @@ module _ {N G : Type 0} (l : Language N G) where
 
   entries_shape : (n p : ℕ) → TypesShow n → (s : Sorting N) → p ≤ s.key_place → p ≤ s.value_place → s.value_place < 2 ^ 64 → RestShows n p s → (es : List (MapEntry N)) (w : ℕ) (r : Reply) → w ≤ n → LeadsTo l (next_entry es s) r w → IsTypeReply p r
   entries_shape n p show s h i j rest [] w r b d = rest (Stray s.key_place) w r h b d
-  entries_shape n p show s h i j rest (e ∷ es) w r b (after {s = Takes left next far} d (after {s = Takes left' next' far'} {w = u} d' f)) = rest (BelongsTo (length es) Yes) u r tt (omega (arith, b)) f
-  entries_shape n p show s h i j rest (e ∷ es) w r b (after {s = Takes left next far} d (after {s = Fails later} {v = v} {w = u} d' f)) =
+  entries_shape n p show s h i j rest (e ∷ es) w r b (passes_over i' g) = entries_shape n p show s h i j rest es w r b g
+  entries_shape n p show s h i j rest (e ∷ es) w r b (enters i' (after {s = Takes left next far} d (after {s = Takes left' next' far'} {w = u} d' f))) = rest (BelongsTo (length es) Yes) u r tt (omega (arith, b)) f
+  entries_shape n p show s h i j rest (e ∷ es) w r b (enters i' (after {s = Takes left next far} d (after {s = Fails later} {v = v} {w = u} d' f))) =
       value_shape n p s rest e.cuts es later u r (far_late p s.value_place later i (show e.value_type s.value_place v s.held (Fails later) j (omega (arith, b)) d')) (omega (arith, b)) (λ g. entries_shape n p show s h i j rest es u r (omega (arith, b)) g) f
-  entries_shape n p show s h i j rest (e ∷ es) w r b (after {s = Fails later} {w = u} d f) = entries_shape n p show s h i j rest es u r (omega (arith, b)) f
+  entries_shape n p show s h i j rest (e ∷ es) w r b (enters i' (after {s = Fails later} {w = u} d f)) = entries_shape n p show s h i j rest es u r (omega (arith, b)) f
 
   pairs_shape : (n p : ℕ) → TypesShow n → (es : List (MapEntry N)) (ps : Pairs) (q : ℕ) (t : Tally) → p ≤ q → q < 2 ^ 64 → NotBefore p t.stray → NotBefore p t.failing → (w : ℕ) (r : Reply) → w ≤ n → LeadsTo l (next_pair es p q ps t) r w → IsTypeReply p r
   pairs_shape n p show es no_pairs q t h j a c w r b d = alternative_shape p es q t a c d

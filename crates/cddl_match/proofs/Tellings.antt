@@ -1,10 +1,10 @@
 -- What pairs come to by the first entries of an alternative: so they do in each alternative that begins with these.
-use Rattle.std.proofs.Common.{◌≡◌, ◌≢◌, ℕ, suc, ◌+◌, ◌-◌, ◌*◌, ◌<◌, ◌≤◌, ◌++◌, max, length, take, drop, List, [], ◌∷◌, Bool, true, false, nat_eq, refl, sym, ap, subst, ◌∙◌, append_assoc, arith}
+use Rattle.std.proofs.Common.{◌≡◌, ◌≢◌, ℕ, suc, ◌+◌, ◌-◌, ◌<◌, ◌≤◌, ◌++◌, max, length, take, drop, List, [], ◌∷◌, Bool, true, false, nat_eq, refl, sym, ap, subst, ◌∙◌, append_assoc, arith}
 use Rattle.std.specs.Prelude.{Option, Some, None, IfSome, Ok, Err}
 use Rattle.std.proofs.lemmas.Bool.Decides.{nat_tests}
 use Rattle.std.proofs.lemmas.List.{length-append, length-map, length-take-le, take-append-drop, take-map, take_at}
-use Rattle.cbor_data.specs.Value.{Pairs, no_pairs, pair, pairs_len}
-use Rattle.item_nodes.specs.View.{pairs_view, view}
+use Rattle.cbor_data.specs.Value.{Pairs, no_pairs, pair}
+use Rattle.item_nodes.specs.View.{view}
 use Rattle.item_nodes.specs.declared.item.Item.{Item}
 use Rattle.cddl_meaning.specs.Forms as F
 use Rattle.cddl_meaning.specs.Forms.{Language}
@@ -13,7 +13,7 @@ use Rattle.cddl_meaning.specs.Moves as M
 use Rattle.cddl_meaning.specs.Moves.{counted, no_counts}
 use Rattle.cddl_match.specs.Ahead.{ComesTo, Opens}
 use Rattle.match_moves.specs.Tallies.{counted_again, widened}
-use Rattle.cddl_match.specs.Tellings.{AreTold, Becomes, BeginAlike, BelongsBy, Sorts, Tallies, sorting_of, told_with}
+use Rattle.cddl_match.specs.Tellings.{AreTold, BeginAlike, BelongsBy, Sorts, Tallies, sorting_of, told_with}
 use Rattle.match_moves.specs.Views.{fate_view}
 use Rattle.cddl_match.specs.Within.{Replied, Says, Stopped}
 use Rattle.match_moves.specs.declared.questions.Fate.{Fate}
@@ -28,7 +28,7 @@ use Rattle.table_nodes.specs.declared.nodes.TypeId.{TypeId}
 use Rattle.cddl_match.proofs.Handing.{becomes_so}
 use Rattle.cddl_match.proofs.Outcomes.{answered, ends_on, says_on}
 use Rattle.cddl_match.proofs.Sayings.{ends_so}
-use Rattle.cddl_match.proofs.Ways.{and_on, opens, stays, then_comes, tries_on}
+use Rattle.cddl_match.proofs.Ways.{and_on, more_than, opens, stays, then_comes, tries_on}
 
 -- lists
 
@@ -79,12 +79,16 @@ counted_in_front m k (c ∷ cs) ds h e = by (nat_eq m (length cs)) refl (λ i. c
     by true f i = rw (same, f) refl
     by false f i = rw (same, f) (ap (λ ns. c ∷ ns) (i (below f)))
 
+-- the steps for what was asked before a pair, for that, and for what was asked about it
+spent : (steps mid some left : ℕ) → mid ≤ steps → 1 + some ≡ mid → left ≤ some → (steps - mid) + (1 + (some - left)) ≡ steps - left
+spent steps mid some left i j h = omega (arith, i, j, h)
+
 pub as_many_entries : (es : List MapEntry) → length (entries_view es) ≡ length es
 as_many_entries es = length-map es entry_view
 
 module _ {N G : Type 0} (l : Language N G) where
   -- No pair was tried yet, so no entry is needed.
-  pub none_told : (es : List (F.MapEntry N)) (base : ℕ) (ps : Pairs) → AreTold l es base ps (M.plus base 1) ps (M.fresh es) 0 0 0
+  pub none_told : (es : List (F.MapEntry N)) (base : ℕ) (ps : Pairs) → AreTold l es base ps (M.plus base 1) ps (M.fresh es) 0 0
   none_told es base ps = record {
     first = [];
     others = es;
@@ -93,12 +97,12 @@ module _ {N G : Type 0} (l : Language N G) where
     many = refl;
     each = refl;
     counted = refl;
-    comes = λ xs. subst (λ k. ComesTo l (M.next_pair xs base (M.plus base 1) ps (M.fresh xs)) (M.next_pair xs base (M.plus base 1) ps (M.fresh xs)) k) (omega arith) (stays l (M.next_pair xs base (M.plus base 1) ps (M.fresh xs)));
+    comes = λ xs. stays l (M.next_pair xs base (M.plus base 1) ps (M.fresh xs));
   }
 
   -- More of the first entries tell it, too: no pair belongs to those behind.
-  pub more_told : {es : List (F.MapEntry N)} {base next : ℕ} {ps left : Pairs} {t : M.Tally} {told asked tried : ℕ} (more : ℕ) → told ≤ more → more ≤ length es → AreTold l es base ps next left t told asked tried → AreTold l es base ps next left t more asked tried
-  more_told {es = es} {base = base} {next = next} {ps = ps} {left = left} {t = t} {told = told} {asked = asked} {tried = tried} more h i a = record {
+  pub more_told : {es : List (F.MapEntry N)} {base next : ℕ} {ps left : Pairs} {t : M.Tally} {told asked : ℕ} (more : ℕ) → told ≤ more → more ≤ length es → AreTold l es base ps next left t told asked → AreTold l es base ps next left t more asked
+  more_told {es = es} {base = base} {next = next} {ps = ps} {left = left} {t = t} {told = told} {asked = asked} more h i a = record {
     first = a.first ++ ys;
     others = zs;
     counts = a.counts ++ no_counts ys;
@@ -127,10 +131,8 @@ module _ {N G : Type 0} (l : Language N G) where
       split : (xs : List (F.MapEntry N)) → a.counts ++ no_counts (ys ++ xs) ≡ (a.counts ++ no_counts ys) ++ no_counts xs
       split xs = ap (λ ns. a.counts ++ ns) (no_counts_of_both ys xs) ∙ sym (append_assoc a.counts (no_counts ys) (no_counts xs))
 
-      wider : (xs : List (F.MapEntry N)) → ComesTo l (M.next_pair ((a.first ++ ys) ++ xs) base (M.plus base 1) ps (M.fresh ((a.first ++ ys) ++ xs))) (M.next_pair ((a.first ++ ys) ++ xs) base next left (widened (a.counts ++ no_counts ys) xs t)) (asked + tried * suc (more + length xs))
-      wider xs =
-          let n : told + length (ys ++ xs) ≡ more + length xs = ap (λ k. told + k) (length-append ys xs) ∙ omega (arith, long, h) in
-          rw (append_assoc a.first ys xs, sym (split xs), sym n) (a.comes (ys ++ xs))
+      wider : (xs : List (F.MapEntry N)) → ComesTo l (M.next_pair ((a.first ++ ys) ++ xs) base (M.plus base 1) ps (M.fresh ((a.first ++ ys) ++ xs))) (M.next_pair ((a.first ++ ys) ++ xs) base next left (widened (a.counts ++ no_counts ys) xs t)) asked
+      wider xs = rw (append_assoc a.first ys xs, sym (split xs)) (a.comes (ys ++ xs))
 
   -- The tally of pairs with one more, that belongs to one of the first entries.
   tallied_in_front : {N : Type 0} (after m : ℕ) (answer : J.Answer) (cs : List ℕ) (xs : List (F.MapEntry N)) (t : M.Tally) (k : ℕ) → m < length cs → k ≡ m + length xs → M.tallied (widened cs xs t) (J.BelongsTo k answer) ≡ widened (counted m cs) xs (M.tallied t (J.BelongsTo after answer))
@@ -141,9 +143,9 @@ module _ {N G : Type 0} (l : Language N G) where
   tallied_counts after J.Yes t = refl
   tallied_counts after (J.No far) t = refl
 
-  -- One pair more belongs to an entry.
-  pub told_more : {es : List (F.MapEntry N)} {base place after asked tried k : ℕ} {ps rest : Pairs} {t : M.Tally} {told : ℕ} {answer : J.Answer} (both : Item × Item) → AreTold l es base ps place (pair (view both.0) (view both.1) rest) t told asked tried → BelongsBy l place both es after answer k → AreTold l es base ps (sorting_of es base place both rest t).next_place rest (M.tallied t (J.BelongsTo after answer)) (max told (length es - after)) (asked + k) (suc tried)
-  told_more {es = es} {base = base} {place = place} {after = after} {asked = asked} {tried = tried} {k = k} {ps = ps} {rest = rest} {t = t} {told = told} {answer = answer} both a b = record {
+  -- One pair more belongs to an entry. It takes a step itself, however many entries there are.
+  pub told_more : {es : List (F.MapEntry N)} {base place after asked k : ℕ} {ps rest : Pairs} {t : M.Tally} {told : ℕ} {answer : J.Answer} (both : Item × Item) → ((n : ℕ) → F.pair_cost l.counting n ≡ 1) → AreTold l es base ps place (pair (view both.0) (view both.1) rest) t told asked → BelongsBy l place both es after answer k → AreTold l es base ps (sorting_of es base place both rest t).next_place rest (M.tallied t (J.BelongsTo after answer)) (max told (length es - after)) (asked + (1 + k))
+  told_more {es = es} {base = base} {place = place} {after = after} {asked = asked} {k = k} {ps = ps} {rest = rest} {t = t} {told = told} {answer = answer} both one a b = record {
     first = d.first;
     others = d.others;
     counts = counted (length between.0) d.counts;
@@ -163,7 +165,7 @@ module _ {N G : Type 0} (l : Language N G) where
       more : ℕ
       more = max told (length es - after)
 
-      d : AreTold l es base ps place (pair (view both.0) (view both.1) rest) t more asked tried
+      d : AreTold l es base ps place (pair (view both.0) (view both.1) rest) t more asked
       d = more_told more (omega arith) (omega (arith, mine, a.many)) a
 
       between : (ts : List (F.MapEntry N)) × (d.first ≡ b.first ++ ts) × (b.others ≡ ts ++ d.others)
@@ -175,14 +177,11 @@ module _ {N G : Type 0} (l : Language N G) where
       inside : length between.0 < length d.counts
       inside = omega (arith, d.each, d.many, ap length between.1 ∙ length-append b.first between.0, b.some)
 
-      on : (xs : List (F.MapEntry N)) → ComesTo l (M.next_pair (d.first ++ xs) base (M.plus base 1) ps (M.fresh (d.first ++ xs))) (M.next_pair (d.first ++ xs) base (sorting_of es base place both rest t).next_place rest (widened (counted (length between.0) d.counts) xs (M.tallied t (J.BelongsTo after answer)))) ((asked + k) + suc tried * suc (more + length xs))
-      on xs = and_on l (and_on l (d.comes xs) (tries_on l s) refl) told_so (omega (arith, long))
+      on : (xs : List (F.MapEntry N)) → ComesTo l (M.next_pair (d.first ++ xs) base (M.plus base 1) ps (M.fresh (d.first ++ xs))) (M.next_pair (d.first ++ xs) base (sorting_of es base place both rest t).next_place rest (widened (counted (length between.0) d.counts) xs (M.tallied t (J.BelongsTo after answer)))) (asked + (1 + k))
+      on xs = and_on l (and_on l (d.comes xs) (tries_on l s) refl) told_so (omega (arith, one (length (d.first ++ xs))))
         where
           s : M.Sorting N
           s = sorting_of (d.first ++ xs) base place both rest (widened d.counts xs t)
-
-          long : length (d.first ++ xs) ≡ more + length xs
-          long = length-append d.first xs ∙ ap (λ n. n + length xs) d.many
 
           told_so : ComesTo l (M.next_entry (d.first ++ xs) s) (M.next_pair (d.first ++ xs) base s.next_place rest (widened (counted (length between.0) d.counts) xs (M.tallied t (J.BelongsTo after answer)))) k
           told_so =
@@ -191,7 +190,7 @@ module _ {N G : Type 0} (l : Language N G) where
               subst (λ u. ComesTo l (M.next_entry (d.first ++ xs) s) (M.next_pair (d.first ++ xs) base s.next_place rest u) k) f (subst (λ ys. ComesTo l (M.next_entry ys s) (M.sorted s (J.BelongsTo (length (between.0 ++ xs)) answer)) k) (sym e) (b.comes (between.0 ++ xs) (d.first ++ xs) base rest (widened d.counts xs t)))
 
   -- They are told by the same entries of another alternative.
-  pub told_again : {es : List (F.MapEntry N)} {base next told asked tried : ℕ} {ps left : Pairs} {t : M.Tally} (fs : List (F.MapEntry N)) → take told es ≡ take told fs → AreTold l es base ps next left t told asked tried → AreTold l fs base ps next left (counted_again told fs t) told asked tried
+  pub told_again : {es : List (F.MapEntry N)} {base next told asked : ℕ} {ps left : Pairs} {t : M.Tally} (fs : List (F.MapEntry N)) → take told es ≡ take told fs → AreTold l es base ps next left t told asked → AreTold l fs base ps next left (counted_again told fs t) told asked
   told_again {told = told} {t = t} fs e a = record {
     first = a.first;
     others = drop told fs;
@@ -204,54 +203,49 @@ module _ {N G : Type 0} (l : Language N G) where
   }
 
   -- What an alternative replies where all pairs are told.
-  pub opens_told : {es : List (F.MapEntry N)} {base next told asked tried : ℕ} {ps : Pairs} {t : M.Tally} → AreTold l es base ps next no_pairs t told asked tried → Opens l (M.OfAlternative es base ps) (M.Answered (M.answer_reply next (M.tally_says es base t))) (1 + (asked + tried * suc (length es)))
-  opens_told {es = es} {base = base} {next = next} {told = told} {asked = asked} {tried = tried} {ps = ps} {t = t} a =
+  pub opens_told : {es : List (F.MapEntry N)} {base next told asked : ℕ} {ps : Pairs} {t : M.Tally} → AreTold l es base ps next no_pairs t told asked → Opens l (M.OfAlternative es base ps) (M.Answered (M.answer_reply next (M.tally_says es base t))) (1 + asked)
+  opens_told {es = es} {base = base} {next = next} {asked = asked} {ps = ps} {t = t} a =
       let c : widened a.counts a.others t ≡ t = ap (λ ns. record { counts = ns; stray = t.stray; failing = t.failing }) (sym a.counted) in
-      let n : told + length a.others ≡ length es = sym (ap length a.parts ∙ length-append a.first a.others ∙ ap (λ k. k + length a.others) a.many) in
-      let d = subst (λ k. ComesTo l (M.next_pair es base (M.plus base 1) ps (M.fresh es)) (M.next_pair es base next no_pairs t) (asked + tried * suc k)) n (subst (λ u. ComesTo l (M.next_pair es base (M.plus base 1) ps (M.fresh es)) (M.next_pair es base next no_pairs u) (asked + tried * suc (told + length a.others))) c (subst (λ xs. ComesTo l (M.next_pair xs base (M.plus base 1) ps (M.fresh xs)) (M.next_pair xs base next no_pairs (widened a.counts a.others t)) (asked + tried * suc (told + length a.others))) (sym a.parts) (a.comes a.others))) in
+      let d = subst (λ u. ComesTo l (M.next_pair es base (M.plus base 1) ps (M.fresh es)) (M.next_pair es base next no_pairs u) asked) c (subst (λ xs. ComesTo l (M.next_pair xs base (M.plus base 1) ps (M.fresh xs)) (M.next_pair xs base next no_pairs (widened a.counts a.others t)) asked) (sym a.parts) (a.comes a.others)) in
       then_comes l (opens l (M.OfAlternative es base ps)) d refl
 
-  pub as_many_counts : {es : List (F.MapEntry N)} {base next told asked tried : ℕ} {ps left : Pairs} {t : M.Tally} → AreTold l es base ps next left t told asked tried → told ≤ length t.counts
+  pub as_many_counts : {es : List (F.MapEntry N)} {base next told asked : ℕ} {ps left : Pairs} {t : M.Tally} → AreTold l es base ps next left t told asked → told ≤ length t.counts
   as_many_counts a = omega (arith, ap length a.counted ∙ length-append a.counts (no_counts a.others), a.each)
-
-as_many_pairs : (ps : List (Item × Item)) → pairs_len (pairs_view ps) ≡ length ps
-as_many_pairs [] = refl
-as_many_pairs (p ∷ ps) = ap suc (as_many_pairs ps)
 
 same_front : (es fs : List MapEntry) {told : ℕ} → BeginAlike told es fs → take told (entries_view es) ≡ take told (entries_view fs)
 same_front es fs {told = told} h = take-map entry_view told es ∙ ap entries_view h.1 ∙ sym (take-map entry_view told fs)
 
 -- What an alternative replies whose first entries tell what becomes of each pair, as those of another one did.
-pub again : (l : Language TypeId GroupId) (es fs : List MapEntry) (base next told asked : ℕ) (ps : List (Item × Item)) (t : M.Tally) → BeginAlike told es fs → AreTold l (entries_view es) base (pairs_view ps) next no_pairs t told asked (pairs_len (pairs_view ps)) → Opens l (M.OfAlternative (entries_view fs) base (pairs_view ps)) (M.Answered (M.answer_reply next (M.tally_says (entries_view fs) base (counted_again told (entries_view fs) t)))) (1 + (asked + length ps * suc (length fs)))
-again l es fs base next told asked ps t h a = subst (λ n. Opens l (M.OfAlternative (entries_view fs) base (pairs_view ps)) (M.Answered (M.answer_reply next (M.tally_says (entries_view fs) base (counted_again told (entries_view fs) t)))) (1 + (asked + length ps * suc n))) (as_many_entries fs) (subst (λ n. Opens l (M.OfAlternative (entries_view fs) base (pairs_view ps)) (M.Answered (M.answer_reply next (M.tally_says (entries_view fs) base (counted_again told (entries_view fs) t)))) (1 + (asked + n * suc (length (entries_view fs))))) (as_many_pairs ps) (opens_told l (told_again l (entries_view fs) (same_front es fs h) a)))
+pub again : (l : Language TypeId GroupId) (es fs : List MapEntry) (base next told asked : ℕ) (ps : Pairs) (t : M.Tally) → BeginAlike told es fs → AreTold l (entries_view es) base ps next no_pairs t told asked → Opens l (M.OfAlternative (entries_view fs) base ps) (M.Answered (M.answer_reply next (M.tally_says (entries_view fs) base (counted_again told (entries_view fs) t)))) (1 + asked)
+again l es fs base next told asked ps t h a = opens_told l (told_again l (entries_view fs) (same_front es fs h) a)
 
 pub says_so : (l : Language TypeId GroupId) (q : M.Question TypeId GroupId) (steps left k next : ℕ) (a b : J.Answer) → Opens l q (M.Answered (M.answer_reply next a)) k → a ≡ b → k + left ≡ steps → Says l q steps left (Replied (M.answer_reply next b))
 says_so l q steps left k next a b o e h = says_on l steps left left (Replied (M.answer_reply next b)) (subst (λ x. Opens l q (M.Answered (M.answer_reply next x)) k) e o) h (answered l left (M.answer_reply next b))
 
-module _ (l : Language TypeId GroupId) (es : List (F.MapEntry TypeId)) (base : ℕ) where
-  pub no_pair_told : (ps : Pairs) (steps : ℕ) → AreTold l es base ps (M.plus base 1) ps (M.fresh es) 0 (steps - steps) 0
-  no_pair_told ps steps = subst (λ k. AreTold l es base ps (M.plus base 1) ps (M.fresh es) 0 k 0) (omega arith) (none_told l es base ps)
+module _ (l : Language TypeId GroupId) (one : (n : ℕ) → F.pair_cost l.counting n ≡ 1) (es : List (F.MapEntry TypeId)) (base : ℕ) where
+  pub no_pair_told : (ps : Pairs) (steps : ℕ) → AreTold l es base ps (M.plus base 1) ps (M.fresh es) 0 (steps - steps)
+  no_pair_told ps steps = subst (λ k. AreTold l es base ps (M.plus base 1) ps (M.fresh es) 0 k) (omega arith) (none_told l es base ps)
 
   module _ (place : ℕ) (both : Item × Item) (rest ps : Pairs) (t : M.Tally) where
+    -- There is no step for a pair.
+    pub pair_few : (u : Tallied) (steps left : ℕ) → ComesTo l (M.next_pair es base (M.plus base 1) ps (M.fresh es)) (M.Tries (sorting_of es base place both rest t)) (steps - left) → left ≤ steps → left < 1 → Tallies l es base ps steps left u (Err Spent)
+    pair_few u steps left a b h = ends_so l steps left left (Stopped Spent) a b (more_than l (sorting_of es base place both rest t) left (omega (arith, h, one (length es))))
+
     -- A pair is tried, and that has stopped.
-    pub pair_stops : (u : Tallied) (stop : Stop) (steps mid some left : ℕ) → ComesTo l (M.next_pair es base (M.plus base 1) ps (M.fresh es)) (M.Tries (sorting_of es base place both rest t)) (steps - mid) → mid ≤ steps → some + suc (length es) ≡ mid → Sorts l place both es some left (Err stop) → Tallies l es base ps steps left u (Err stop)
-    pair_stops u Spent steps mid some left a b e h = ends_so l steps mid left (Stopped Spent) a b (ends_on l mid some left (Stopped Spent) (tries_on l (sorting_of es base place both rest t)) (omega (arith, e)) (h es base rest t))
+    pub pair_stops : (u : Tallied) (stop : Stop) (steps mid some left : ℕ) → ComesTo l (M.next_pair es base (M.plus base 1) ps (M.fresh es)) (M.Tries (sorting_of es base place both rest t)) (steps - mid) → mid ≤ steps → 1 + some ≡ mid → Sorts l place both es some left (Err stop) → Tallies l es base ps steps left u (Err stop)
+    pair_stops u Spent steps mid some left a b e h = ends_so l steps mid left (Stopped Spent) a b (ends_on l mid some left (Stopped Spent) (tries_on l (sorting_of es base place both rest t)) (omega (arith, e, one (length es))) (h es base rest t))
     pair_stops u NoMemory steps mid some left a b e h = tt
 
     -- It is known what becomes of it.
-    pub pair_sorted : (fate : Fate) (steps mid some left : ℕ) → ComesTo l (M.next_pair es base (M.plus base 1) ps (M.fresh es)) (M.Tries (sorting_of es base place both rest t)) (steps - mid) → mid ≤ steps → some + suc (length es) ≡ mid → Sorts l place both es some left (Ok fate) → ComesTo l (M.next_pair es base (M.plus base 1) ps (M.fresh es)) (M.next_pair es base (sorting_of es base place both rest t).next_place rest (M.tallied t (fate_view fate))) (steps - left)
-    pair_sorted fate steps mid some left a b e h = and_on l a (and_on l (tries_on l (sorting_of es base place both rest t)) (becomes_so l place both es fate (some - left) h.0 es base rest t) refl) (omega (arith, b, e, h.1))
+    pub pair_sorted : (fate : Fate) (steps mid some left : ℕ) → ComesTo l (M.next_pair es base (M.plus base 1) ps (M.fresh es)) (M.Tries (sorting_of es base place both rest t)) (steps - mid) → mid ≤ steps → 1 + some ≡ mid → Sorts l place both es some left (Ok fate) → ComesTo l (M.next_pair es base (M.plus base 1) ps (M.fresh es)) (M.next_pair es base (sorting_of es base place both rest t).next_place rest (M.tallied t (fate_view fate))) (steps - left)
+    pair_sorted fate steps mid some left a b e h = and_on l a (and_on l (tries_on l (sorting_of es base place both rest t)) (becomes_so l place both es fate (some - left) h.0 es base rest t) refl) (omega (arith, b, e, h.1, one (length es)))
 
     -- How many of the first entries tell what becomes of each pair, this one too.
-    pub pair_told : (asked k n : ℕ) (told : Option ℕ) (fate : Fate) (many : ℕ) → length es ≡ many → IfSome told (λ m. (tried : ℕ) × (tried + pairs_len (pair (view both.0) (view both.1) rest) ≡ n) × AreTold l es base ps place (pair (view both.0) (view both.1) rest) t m asked tried) → Becomes l place both es fate k → IfSome (told_with told fate many) (λ m. (tried : ℕ) × (tried + pairs_len rest ≡ n) × AreTold l es base ps (sorting_of es base place both rest t).next_place rest (M.tallied t (fate_view fate)) m (asked + k) tried)
-    pair_told asked k n None fate many e h b = tt
-    pair_told asked k n (Some m) (T.Stray q) many e h b = tt
-    pair_told asked k n (Some m) (T.Matches after) many e h b = (suc h.0, omega (arith, h.1), rw (sym e) (told_more l both h.2 b))
-    pair_told asked k n (Some m) (T.Fails after far) many e h b = (suc h.0, omega (arith, h.1), rw (sym e) (told_more l both h.2 b))
-
-  pub all_told : (asked n next : ℕ) (ps : Pairs) (t : M.Tally) (told : Option ℕ) → IfSome told (λ m. (tried : ℕ) × (tried + 0 ≡ n) × AreTold l es base ps next no_pairs t m asked tried) → IfSome told (λ m. AreTold l es base ps next no_pairs t m asked n)
-  all_told asked n next ps t None h = tt
-  all_told asked n next ps t (Some m) h = subst (λ k. AreTold l es base ps next no_pairs t m asked k) (omega (arith, h.1)) h.2
+    pub pair_told : (told : Option ℕ) (fate : Fate) (many steps mid some left : ℕ) → length es ≡ many → mid ≤ steps → 1 + some ≡ mid → IfSome told (λ m. AreTold l es base ps place (pair (view both.0) (view both.1) rest) t m (steps - mid)) → Sorts l place both es some left (Ok fate) → IfSome (told_with told fate many) (λ m. AreTold l es base ps (sorting_of es base place both rest t).next_place rest (M.tallied t (fate_view fate)) m (steps - left))
+    pair_told None fate many steps mid some left e i j h b = tt
+    pair_told (Some m) (T.Stray q) many steps mid some left e i j h b = tt
+    pair_told (Some m) (T.Matches after) many steps mid some left e i j h b = rw (sym e, sym (spent steps mid some left i j b.1)) (told_more l both one h b.0)
+    pair_told (Some m) (T.Fails after far) many steps mid some left e i j h b = rw (sym e, sym (spent steps mid some left i j b.1)) (told_more l both one h b.0)
 
 pub told_and : (told : Option ℕ) (P Q : ℕ → Type 0) → IfSome told P → IfSome told Q → IfSome told (λ m. P m × Q m)
 told_and None P Q p q = tt

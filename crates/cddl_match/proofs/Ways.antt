@@ -1,8 +1,9 @@
 -- Names, choices of one and groups of one group reply as what is behind them.
-use Rattle.std.proofs.Common.{◌≡◌, ℕ, suc, ◌+◌, ◌≤◌, ◌<◌, length, List, [], ◌∷◌, Option, Some, None, IfSome, Bool, true, false, refl, ap, sym, subst, ◌∙◌, arith}
+use Rattle.std.proofs.Common.{◌≡◌, ℕ, suc, ◌+◌, ◌≤◌, ◌<◌, length, List, [], ◌∷◌, Option, Some, None, IfSome, Bool, true, false, refl, ap, sym, subst, ◌∙◌, arith, true≢false}
 use Rattle.std.specs.Prelude.{IfNone, MatchOption}
 use Rattle.cbor_data.specs.Value.{Value}
-use Rattle.cddl_meaning.specs.Forms.{Language, Test, passes, Node, Plain, Ref, Choice, Entry, GroupRef, Sequence, Alternatives, Most}
+use Rattle.cddl_meaning.specs.Forms as F
+use Rattle.cddl_meaning.specs.Forms.{Language, Test, passes, Node, Plain, Ref, Choice, Entry, GroupRef, Sequence, Alternatives, Most, pair_cost, entry_cost}
 use Rattle.cddl_meaning.specs.Judges.{Reply, Takes, Fails, is_over}
 use Rattle.cddl_meaning.specs.Moves as M
 use Rattle.cddl_meaning.specs.Moves.{Question, OfType, OfGroup, InRef, InChoice, InEntry, InSequence, InAlternatives, InRepeat, Move, Answered, Asks, Replies, replies, LeadsTo, at_once, after, first_move, type_move, group_move, next_move, next_member, next_part, next_round, repetition}
@@ -159,14 +160,30 @@ module _ {N G : Type 0} (l : Language N G) where
       let o = InRepeat least most g base q xs far in
       subst (λ m. ComesTo l (repetition least most g base q xs far) m n) (sym e) (subst (λ b. ComesTo l (next_round b least most g base q xs far) (next_move o s) n) (sym over) (answers o a))
 
-  pub tries_on : (s : M.Sorting N) → ComesTo l (M.Tries s) (M.next_entry s.entries s) (suc (length s.entries))
+  -- a pair is tried with the entries of its alternative
+  pub tries_on : (s : M.Sorting N) → ComesTo l (M.Tries s) (M.next_entry s.entries s) (pair_cost l.counting (length s.entries))
   tries_on s = record { leads = λ r w d. M.tries d; comes = λ r w d. by d }
     where
-      by : {r : Reply} {w : ℕ} → LeadsTo l (M.Tries s) r w → (v : ℕ) × LeadsTo l (M.next_entry s.entries s) r v × (w ≡ suc (length s.entries) + v)
+      by : {r : Reply} {w : ℕ} → LeadsTo l (M.Tries s) r w → (v : ℕ) × LeadsTo l (M.next_entry s.entries s) r v × (w ≡ pair_cost l.counting (length s.entries) + v)
       by (M.tries {w = v} d) = (v, d, refl)
 
-  pub more_than : (s : M.Sorting N) (k : ℕ) → k ≤ length s.entries → (r : Reply) (w : ℕ) → LeadsTo l (M.Tries s) r w → k < w
+  pub more_than : (s : M.Sorting N) (k : ℕ) → k < pair_cost l.counting (length s.entries) → (r : Reply) (w : ℕ) → LeadsTo l (M.Tries s) r w → k < w
   more_than s k h r w d = let x = (tries_on s).comes r w d in omega (arith, x.2, h)
+
+  -- an entry is passed over, or asked
+  pub passes_on : (e : F.MapEntry N) (es : List (F.MapEntry N)) (s : M.Sorting N) → F.is_passed_over l.counting e.key_type s.key ≡ true → ComesTo l (M.next_entry (e ∷ es) s) (M.next_entry es s) 0
+  passes_on e es s i = record { leads = λ r w d. subst (λ n. LeadsTo l (M.next_entry (e ∷ es) s) r n) (omega arith) (M.passes_over i d); comes = λ r w d. by d }
+    where
+      by : {r : Reply} {w : ℕ} → LeadsTo l (M.Enters e es s) r w → (v : ℕ) × LeadsTo l (M.next_entry es s) r v × (w ≡ 0 + v)
+      by (M.passes_over {w = v} j d) = (v, d, omega arith)
+      by (M.enters j d) = absurd (true≢false (sym i ∙ j))
+
+  pub enters_on : (e : F.MapEntry N) (es : List (F.MapEntry N)) (s : M.Sorting N) → F.is_passed_over l.counting e.key_type s.key ≡ false → ComesTo l (M.next_entry (e ∷ es) s) (Asks (OfType e.key_type s.key_place s.key) (M.InKey e es s)) (entry_cost l.counting)
+  enters_on e es s i = record { leads = λ r w d. M.enters i d; comes = λ r w d. by d }
+    where
+      by : {r : Reply} {w : ℕ} → LeadsTo l (M.Enters e es s) r w → (v : ℕ) × LeadsTo l (Asks (OfType e.key_type s.key_place s.key) (M.InKey e es s)) r v × (w ≡ entry_cost l.counting + v)
+      by (M.enters {w = v} j d) = (v, d, refl)
+      by (M.passes_over j d) = absurd (true≢false (sym j ∙ i))
 
 -- A choice of one, which leads to its only member.
 pub only_type : {N G : Type 0} (f : Node N G) (ms : List N) (o : Option N) → f ≡ Choice ms → IfSome o (λ m. ms ≡ m ∷ []) → IfSome o (λ next. (l : Language N G) (n : N) → l.type_at n ≡ f → IsTypeOf l n next 1)

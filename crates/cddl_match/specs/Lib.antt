@@ -1,5 +1,6 @@
 pub mod Unwinding
 pub mod Ahead
+pub mod Entering
 pub mod Within
 pub mod Tellings
 pub mod Open

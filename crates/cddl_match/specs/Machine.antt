@@ -73,8 +73,8 @@ asks_in r q = M.Asks q (last_of (pending_in r.waiting.items))
 abbrev pub next_in : Run → M.Move TypeId GroupId
 next_in r = move_view r.next (last_of (pending_in r.waiting.items))
 
--- The run, which began with this question, has come so far. The steps that it owes are taken in the turns to come, with
--- nothing asked.
+-- The run, which began with this question, has come so far. The steps that it owes, for bits that are set, are taken in the
+-- turns to come, with nothing asked.
 pub record IsRun (l : Language TypeId GroupId) (first : M.Question TypeId GroupId) (r : Run) : Type 0 where
   pub at : WaitsAt l first (r.taken + r.owed) r.waiting.items (next_in r)
   pub owes : 0 < r.owed → 0 < length (asked_in r.waiting.items)

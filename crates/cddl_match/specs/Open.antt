@@ -1,10 +1,10 @@
 -- The list of open questions.
-use Rattle.std.specs.Prelude.{◌≡◌, ℕ, List, [], ◌∷◌, reverse}
+use Rattle.std.specs.Prelude.{◌≡◌, ℕ, List, [], ◌∷◌, true, false, reverse}
 use Rattle.cbor_data.specs.Value.{Value}
-use Rattle.cddl_meaning.specs.Forms.{Content, Language, MapOf, Holding}
+use Rattle.cddl_meaning.specs.Forms.{Content, Language, MapEntry, MapOf, Holding, is_passed_over}
 use Rattle.cddl_meaning.specs.Held.{Holds}
 use Rattle.cddl_meaning.specs.Judges.{Reply, Fails}
-use Rattle.cddl_meaning.specs.Moves.{Question, OfType, OfAlternative, Pending, InRef, InHeld, Sorting, Move, Answered, Asks, Tries, Reads, Replies, first_move, next_move, next_entry, Weighs}
+use Rattle.cddl_meaning.specs.Moves.{Question, OfType, OfAlternative, Pending, InRef, InKey, InHeld, Sorting, Move, Answered, Asks, Tries, Enters, Reads, Replies, first_move, next_move, next_entry, Weighs}
 
 module _ {N G : Type 0} (l : Language N G) where
   -- By itself the question comes to this move: what it has asked before has these replies.
@@ -12,6 +12,8 @@ module _ {N G : Type 0} (l : Language N G) where
     begins : {q : Question N G} → ComesUpTo q (first_move l q)
     goes_on : {p q : Question N G} {o : Pending N G} {r : Reply} {w : ℕ} → ComesUpTo p (Asks q o) → Replies l q r w → ComesUpTo p (next_move o r)
     tries : {p : Question N G} {s : Sorting N} → ComesUpTo p (Tries s) → ComesUpTo p (next_entry s.entries s)
+    passes_over : {p : Question N G} {e : MapEntry N} {es : List (MapEntry N)} {s : Sorting N} → is_passed_over l.counting e.key_type s.key ≡ true → ComesUpTo p (Enters e es s) → ComesUpTo p (next_entry es s)
+    enters : {p : Question N G} {e : MapEntry N} {es : List (MapEntry N)} {s : Sorting N} → is_passed_over l.counting e.key_type s.key ≡ false → ComesUpTo p (Enters e es s) → ComesUpTo p (Asks (OfType e.key_type s.key_place s.key) (InKey e es s))
     weighs : {p : Question N G} {n : ℕ} {r : Reply} → ComesUpTo p (Weighs n r) → ComesUpTo p (Answered r)
     reads : {p : Question N G} {c : Content} {b : List ℕ} {n : N} {place next : ℕ} {y : Value} → Holds c b y → ComesUpTo p (Reads c b n place next) → ComesUpTo p (Asks (OfType n 0 y) (InHeld place next))
     reads_nothing : {p : Question N G} {c : Content} {b : List ℕ} {n : N} {place next : ℕ} → ((y : Value) → Holds c b y → ⊥) → ComesUpTo p (Reads c b n place next) → ComesUpTo p (Answered (Fails place))

@@ -1,6 +1,6 @@
 -- What pairs come to by the first entries of an alternative: so they do in each alternative that begins with these.
-use Rattle.std.specs.Prelude.{◌≡◌, ℕ, suc, ◌+◌, ◌-◌, ◌*◌, ◌<◌, ◌≤◌, ◌++◌, max, length, take, List, Option, Some, None, IfSome, Result, Ok, Err}
-use Rattle.cbor_data.specs.Value.{Pairs, no_pairs, pairs_len, place_count}
+use Rattle.std.specs.Prelude.{◌≡◌, ℕ, ◌-◌, ◌<◌, ◌≤◌, ◌++◌, max, length, take, List, ◌∷◌, Option, Some, None, IfSome, Result, Ok, Err}
+use Rattle.cbor_data.specs.Value.{Pairs, no_pairs, place_count}
 use Rattle.item_nodes.specs.View.{view}
 use Rattle.item_nodes.specs.declared.item.Item.{Item}
 use Rattle.cddl_meaning.specs.Forms as F
@@ -17,6 +17,7 @@ use Rattle.cddl_match.specs.Ahead.{ComesTo}
 use Rattle.match_moves.specs.Views.{tally_view}
 use Rattle.match_moves.specs.declared.questions.Fate.{Fate}
 use Rattle.match_moves.specs.declared.questions.Fate.TheVariants as T
+use Rattle.cddl_match.specs.Within.{Outcome, Replied, Stopped}
 use Rattle.cddl_match.specs.declared.calls.Stop.{Stop}
 use Rattle.cddl_match.specs.declared.calls.Stop.TheVariants.{Spent, NoMemory}
 use Rattle.cddl_match.specs.declared.tallied.Tallied.{Tallied}
@@ -47,6 +48,13 @@ told_with (Some told) (T.Stray place) entries = None
 told_with None fate entries = None
 
 module _ {N G : Type 0} (l : Language N G) where
+  -- What an entry's key type says of a pair's key, before the entries after it, within so many steps, of which so many are left
+  -- then. One that is passed over says no. Spent steps do not tell.
+  abbrev pub KeySays : (place : ℕ) → Item × Item → F.MapEntry N → (steps left : ℕ) → Outcome → Type 0
+  KeySays place pair e steps left (Replied r) = ((es all : List (F.MapEntry N)) (base : ℕ) (rest : Pairs) (tally : M.Tally) → ComesTo l (M.next_entry (e ∷ es) (sorting_of all base place pair rest tally)) (M.next_move (M.InKey e es (sorting_of all base place pair rest tally)) r) (steps - left)) × (left ≤ steps)
+  KeySays place pair e steps left (Stopped Spent) = (es all : List (F.MapEntry N)) (base : ℕ) (rest : Pairs) (tally : M.Tally) (r : J.Reply) (w : ℕ) → LeadsTo l (M.next_entry (e ∷ es) (sorting_of all base place pair rest tally)) r w → steps < w
+  KeySays place pair e steps left (Stopped NoMemory) = Unit {0}
+
   -- The first entries have handed a pair on to those that are left, and so they do to any others, in so many questions.
   pub record HandsOn (place : ℕ) (pair : Item × Item) (es left : List (F.MapEntry N)) (k : ℕ) : Type 0 where
     pub first : List (F.MapEntry N)
@@ -74,9 +82,9 @@ module _ {N G : Type 0} (l : Language N G) where
   Sorts place pair es steps left (Err Spent) = (all : List (F.MapEntry N)) (base : ℕ) (rest : Pairs) (tally : M.Tally) (r : J.Reply) (w : ℕ) → LeadsTo l (M.next_entry es (sorting_of all base place pair rest tally)) r w → steps < w
   Sorts place pair es steps left (Err NoMemory) = Unit {0}
 
-  -- So many pairs of the map at a base belong to the first entries, so many, of an alternative, in so many questions; and what
-  -- they come to is the same in each alternative that begins with these.
-  pub record AreTold (es : List (F.MapEntry N)) (base : ℕ) (ps : Pairs) (next : ℕ) (left : Pairs) (tally : M.Tally) (told asked tried : ℕ) : Type 0 where
+  -- Pairs of the map at a base belong to the first entries, so many, of an alternative, in so many questions; and what they
+  -- come to is the same in each alternative that begins with these.
+  pub record AreTold (es : List (F.MapEntry N)) (base : ℕ) (ps : Pairs) (next : ℕ) (left : Pairs) (tally : M.Tally) (told asked : ℕ) : Type 0 where
     pub first : List (F.MapEntry N)
     pub others : List (F.MapEntry N)
     pub counts : List ℕ
@@ -84,11 +92,11 @@ module _ {N G : Type 0} (l : Language N G) where
     pub many : length first ≡ told
     pub each : length counts ≡ told
     pub counted : tally.counts ≡ counts ++ M.no_counts others
-    pub comes : (xs : List (F.MapEntry N)) → ComesTo l (M.next_pair (first ++ xs) base (M.plus base 1) ps (M.fresh (first ++ xs))) (M.next_pair (first ++ xs) base next left (widened counts xs tally)) (asked + tried * suc (told + length xs))
+    pub comes : (xs : List (F.MapEntry N)) → ComesTo l (M.next_pair (first ++ xs) base (M.plus base 1) ps (M.fresh (first ++ xs))) (M.next_pair (first ++ xs) base next left (widened counts xs tally)) asked
 
 -- What is kept of the alternative that was asked last is so.
 abbrev pub IsTallied : Language TypeId GroupId → (base : ℕ) → Pairs → Tallied → Type 0
-IsTallied l base ps t = IfSome t.told (λ told. AreTold l (entries_view t.entries.now) base ps t.next no_pairs (tally_view t.tally) told t.asked (pairs_len ps) × (t.enough ≡ enough_of (entries_view (take told t.entries.now)) (take told (tally_view t.tally).counts)))
+IsTallied l base ps t = IfSome t.told (λ told. AreTold l (entries_view t.entries.now) base ps t.next no_pairs (tally_view t.tally) told t.asked × (t.enough ≡ enough_of (entries_view (take told t.entries.now)) (take told (tally_view t.tally).counts)))
 
 -- The pairs of the map at a base come to this with these entries, within so many steps, of which so many are left then.
 abbrev pub Tallies : Language TypeId GroupId → List (F.MapEntry TypeId) → (base : ℕ) → Pairs → (steps left : ℕ) → Tallied → Result Unit Stop → Type 0

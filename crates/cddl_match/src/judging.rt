@@ -20,8 +20,9 @@ const MOST_CALLS: u8 = 64;
 /// What the root type of the table says of the item.
 ///
 /// `steps` bounds the work. One step is one question: a type asked of an item, or of the number of a tag or of a simple
-/// value; or a group asked of a list of items; or one bit that is set, where a test asks about bits. At most `steps`
-/// questions are asked, and as many may wait for a reply.
+/// value; or a group asked of a list of items; or an alternative asked of a map, there each pair, and each entry that is asked
+/// about a pair; or one bit that is set, where a test asks about bits. An entry that is for one key is not asked about a pair
+/// with another, and takes none. At most `steps` questions are asked, and as many may wait for a reply.
 ///
 /// # Errors
 ///

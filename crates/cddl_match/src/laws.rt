@@ -5,14 +5,20 @@ ghost use Rattle.cbor_data.specs.Value.{Value, place_count};
 ghost use Rattle.cddl_meaning.specs.Size.{size};
 ghost use Rattle.cddl_meaning.specs.Forms.{Language, Node};
 ghost use Rattle.cddl_meaning.specs.Judges.{Answer, Says};
+ghost use Rattle.cddl_meaning.specs.Costs.{weighed};
+ghost use Rattle.cddl_meaning.specs.Ranks.Cheaper.{IsCheaper};
 ghost use Rattle.cddl_meaning.specs.Ranks.Decided.{IsDecided};
 ghost use Rattle.cddl_match.specs.Machine.{IsVerdict};
 ghost use Rattle.cddl_match.specs.Progress.{GoesOnFor, Progress};
 ghost use Rattle.cddl_match.specs.declared.answers.Verdict.{Verdict};
+ghost use Rattle.cddl_match.specs.declared.answers.Verdict.TheVariants.{Spent};
 ghost use Rattle.table_nodes.specs.Language.{RootSays, language_of, root_form};
 ghost use Rattle.table_nodes.specs.declared.nodes.GroupId.{GroupId};
 ghost use Rattle.table_nodes.specs.declared.nodes.TypeId.{TypeId};
 ghost use Rattle.table_nodes.specs.declared.table.Table.{Table};
+
+use cddl_meaning::ranks::counts_no_more;
+use table_nodes::{GroupId, TypeId};
 
 /// A type says one thing at most of an item whose place and size are below 2^64 together, and in one number of judgements;
 /// so does a table. It does nothing.
@@ -24,6 +30,22 @@ pub fn one_answer()
 /// A table says exactly one thing of an item whose size is below 2^64, and in one number of judgements. It does nothing.
 pub fn decided()
     ensures { (table : Table) (x : Value) → size x < 2 ^ 64 → IsDecided (language_of table) (root_form table) 0 x }
+{}
+
+/// What a table says of an item whose size is below 2^64 has a weight, too: the number of judgements where each pair of a map
+/// counts every entry of the alternative, asked or not. The answer and its place are the same, and the steps are no more than
+/// the weight. It does nothing.
+pub fn costs_no_more()
+    ensures { (table : Table) (x : Value) → size x < 2 ^ 64 → IsCheaper (language_of table) (root_form table) 0 x }
+{
+    counts_no_more::<TypeId, GroupId>();
+}
+
+/// By the weight: an answer takes no more steps than there are judgements in the one answer that has a weight, and where the
+/// steps are spent, that weight is over them. It does nothing.
+pub fn no_more_than_the_weight()
+    ensures says { (table : Table) (x : Value) (a b : Answer) (v w : ℕ) → size x < 2 ^ 64 → RootSays table x a v → Says (weighed (language_of table)) (root_form table) 0 x b w → (b ≡ a) × (v ≤ w) }
+    ensures spent { (table : Table) (x : Value) (steps : ℕ) → IsVerdict table x steps Spent → (a : Answer) (w : ℕ) → Says (weighed (language_of table)) (root_form table) 0 x a w → steps < w }
 {}
 
 /// Where a table says no of an item, that shows at a place in it. It does nothing.

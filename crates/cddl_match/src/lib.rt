@@ -5,6 +5,7 @@ mod answers;
 mod behind;
 mod calls;
 mod deeper;
+mod entering;
 mod judging;
 mod laws;
 mod looking;
@@ -21,7 +22,8 @@ mod telling;
 pub use crate::answers::{End, Verdict};
 pub use crate::judging::verdict;
 pub use crate::laws::{
-    decided, one_answer, one_verdict, shows_inside, turns_answer_alike, turns_are_few,
+    costs_no_more, decided, no_more_than_the_weight, one_answer, one_verdict, shows_inside,
+    turns_answer_alike, turns_are_few,
 };
 pub use crate::machine::Machine;
 pub use crate::shelf::Cells;

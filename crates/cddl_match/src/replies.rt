@@ -1,13 +1,16 @@
 //! What follows at once from what was asked.
 
-ghost use Rattle.std.specs.Prelude.{◌≡◌, Some, None, MatchOption};
+ghost use Rattle.std.specs.Prelude.{◌≡◌, Some, None, MatchOption, if◌then◌else◌};
+ghost use Rattle.cbor_data.specs.Value.{Value};
 ghost use Rattle.item_nodes.specs.View.{pairs_view, view};
 ghost use Rattle.cddl_meaning.specs.Forms as F;
 ghost use Rattle.cddl_meaning.specs.Forms.{Language, bytes_in, members_in, pairs_in, passes, simple_in};
 ghost use Rattle.cddl_meaning.specs.Judges as J;
 ghost use Rattle.cddl_meaning.specs.Moves as M;
 ghost use Rattle.match_moves.specs.Views.{values};
+ghost use Rattle.cddl_match.specs.Tellings.{KeySays};
 ghost use Rattle.cddl_match.specs.Within.{Ends, Replied, Says, array_outcome, done_view, entry_outcome, held_outcome, said_view, simple_outcome};
+ghost use Rattle.table_nodes.specs.Language.{language_of};
 ghost use Rattle.table_nodes.specs.Nodes.{test_view};
 ghost use Rattle.table_nodes.specs.declared.nodes.GroupId.{GroupId};
 ghost use Rattle.table_nodes.specs.declared.nodes.TypeId.{TypeId};
@@ -16,20 +19,28 @@ use crate::calls::{Said, Stop};
 use crate::means::Means;
 use cbor_item::Item;
 use match_moves::{Reply, Subject, left_after_bits, passes, place_after, plus};
-use table_nodes::Test;
+use table_nodes::{Table, Test};
 
-// What a test says.
+// What is said of an item that has passed a test, or not.
 #[inline(always)]
-pub(crate) fn tested(test: &Test, place: usize, item: &Item) -> Said
-    ensures { said_view result ≡ Replied (M.test_reply place (view item.now) (passes (test_view test.now) (view item.now))) }
+fn said_of(says: bool, place: usize, item: &Item) -> Said
+    ensures { said_view result ≡ Replied (M.test_reply place (view item.now) says) }
 {
-    if passes(test, item) {
+    if says {
         Said::Yes {
             next: place_after(item, place),
         }
     } else {
         Said::No { far: place }
     }
+}
+
+// What a test says.
+#[inline(always)]
+pub(crate) fn tested(test: &Test, place: usize, item: &Item) -> Said
+    ensures { said_view result ≡ Replied (M.test_reply place (view item.now) (passes (test_view test.now) (view item.now))) }
+{
+    said_of(passes(test, item), place, item)
 }
 
 // What a type says that is a test.
@@ -42,6 +53,37 @@ pub(crate) fn test_says(means: &mut Means<'_>, test: &Test, place: usize, item: 
     };
     means.left = left;
     tested(test, place, item)
+}
+
+// How many steps an entry takes whose key type is this test, which a pair's key has passed or not: one for the entry and one
+// for the test. Where the test asks for one value, and the key is another, the entry is passed over.
+#[inline(always)]
+fn steps_for_key(test: &Test, says: bool) -> u64
+    ensures { (type_at : TypeId → F.Node TypeId GroupId) (n : TypeId) (k : Value) → type_at n ≡ F.Plain (test_view test.now) → passes (test_view test.now) k ≡ says → result ≡ (if F.is_passed_over (F.by_forms type_at) n k then 0 else 2) }
+{
+    match test {
+        Test::Equals(_) => { if says { 2 } else { 0 } }
+        _ => 2,
+    }
+}
+
+// What an entry says of a pair's key whose key type is a test.
+#[inline(always)]
+pub(crate) fn key_tested(
+    table: &Table,
+    means: &mut Means<'_>,
+    test: &Test,
+    place: usize,
+    pair: &(Item, Item),
+) -> Said
+    ensures { (e : F.MapEntry TypeId) → (language_of table.now).type_at e.key_type ≡ F.Plain (test_view test.now) → KeySays (language_of table.now) place pair.now e means.old.left means.new.left (said_view result) }
+{
+    let says = passes(test, &pair.0);
+    let Some(left) = means.left.checked_sub(steps_for_key(test, says)) else {
+        return Said::Spent;
+    };
+    means.left = left;
+    said_of(says, place, &pair.0)
 }
 
 // What an array says by what its group did: the first item that is left shows a no.

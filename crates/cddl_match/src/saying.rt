@@ -8,10 +8,10 @@ ghost use Rattle.cddl_meaning.specs.Forms.{bytes_in, members_in, simple_in};
 ghost use Rattle.cddl_meaning.specs.Judges as J;
 ghost use Rattle.cddl_meaning.specs.Moves as M;
 ghost use Rattle.match_moves.specs.Views.{parts_move, rounds_move, values};
-ghost use Rattle.cddl_match.specs.Tellings.{IsTallied, Sorts, Tallies};
+ghost use Rattle.cddl_match.specs.Tellings.{IsTallied, KeySays, Sorts, Tallies};
 ghost use Rattle.cddl_match.specs.Within.{Ends, Says, done_view, said_view};
 ghost use Rattle.table_nodes.specs.Language.{language_of};
-ghost use Rattle.table_nodes.specs.Nodes.{alternatives_view, content_view, entries_view, group_view, tag_number_view, test_view, type_view};
+ghost use Rattle.table_nodes.specs.Nodes.{alternatives_view, content_view, entries_view, entry_view, group_view, tag_number_view, test_view, type_view};
 ghost use Rattle.table_nodes.specs.declared.nodes.TypeId.{TypeId};
 
 use crate::behind::{group_behind, type_behind};
@@ -21,14 +21,16 @@ use crate::looking::rounds_told;
 use crate::means::Means;
 use crate::reading::held_in;
 use crate::replies::{
-    array_said, either_said, entry_done, held_said, simple_said, test_behind, test_says, tested,
+    array_said, either_said, entry_done, held_said, key_tested, simple_said, test_behind,
+    test_says, tested,
 };
 use crate::shelf::{Cells, Shelf};
 use crate::tallied::{Tallied, nothing_tallied, told_with};
 use cbor_item::Item;
 use match_moves::{
     Fate, Parts, Question, Reply, Round, Rounds, after_round, begin_tally, bytes_of,
-    first_are_enough, is_over, items_of, pairs_of, place_after, plus, simple_of, tally_pair,
+    first_are_enough, is_over, is_passed_over, items_of, pairs_of, place_after, plus, simple_of,
+    tally_pair,
 };
 use table_nodes::{Content, Group, GroupId, MapEntry, Node, Table, TagNumber, Test, TypeId};
 
@@ -386,22 +388,17 @@ fn tally_pairs<'t, 'i>(
     let Ok(()) = begin_tally(&mut tallied.tally, entries) else {
         return Err(Stop::NoMemory);
     };
-    // Each pair takes a step, and one more for each entry.
-    let tried = entries.len() as u64;
     let mut told = Some(0);
-    // So many steps would be left if only what is asked about the pairs took any.
     let steps = means.left;
-    let mut unasked = steps;
     let mut place = plus(base, 1);
     let mut left = pairs;
     while let Some((pair, others)) = left.split_first() {
-        if means.left <= tried {
+        // Each pair takes a step.
+        let Some(some) = means.left.checked_sub(1) else {
             return Err(Stop::Spent);
-        }
-        means.left -= tried + 1;
-        let before = means.left;
+        };
+        means.left = some;
         let fate = pair_fate(table, means, entries, pair, place, depth)?;
-        unasked -= before - means.left;
         told = told_with(told, fate, entries.len());
         tally_pair(&mut tallied.tally, fate);
         place = place_after(&pair.1, place_after(&pair.0, place));
@@ -410,9 +407,36 @@ fn tally_pairs<'t, 'i>(
     tallied.entries = entries;
     tallied.told = told;
     tallied.enough = first_are_enough(told, entries, &tallied.tally);
-    tallied.asked = steps - unasked;
+    tallied.asked = steps - means.left;
     tallied.next = place;
     Ok(())
+}
+
+// What an entry's key type says of the key of a pair. An entry that is asked takes a step. One that is passed over takes
+// none: it is known to be for one key, and the pair has another.
+#[inline(always)]
+#[cycle(saying)]
+fn key_says<'i>(
+    table: &Table,
+    means: &mut Means<'i>,
+    entry: &MapEntry,
+    pair: &'i (Item, Item),
+    place: usize,
+    depth: u8,
+) -> Said
+    ensures { KeySays (language_of table.now) place pair.now (entry_view entry.now) means.old.left means.new.left (said_view result) }
+{
+    if let Some(Node::Plain(test)) = table.node(entry.key_type) {
+        return key_tested(table, means, test, place, pair);
+    }
+    if is_passed_over(table, entry, &pair.0) {
+        return Said::No { far: place };
+    }
+    let Some(left) = means.left.checked_sub(1) else {
+        return Said::Spent;
+    };
+    means.left = left;
+    type_says_here(table, means, entry.key_type, place, &pair.0, depth)
 }
 
 // What becomes of a pair, its key at `place`, that is tried with these entries.
@@ -431,7 +455,7 @@ fn pair_fate<'i>(
     let mut left = entries;
     while let Some((entry, others)) = left.split_first() {
         left = others;
-        match type_says_here(table, means, entry.key_type, place, &pair.0, depth) {
+        match key_says(table, means, entry, pair, place, depth) {
             Said::Yes { .. } => {}
             Said::No { .. } => continue,
             Said::Spent => return Err(Stop::Spent),

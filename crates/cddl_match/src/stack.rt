@@ -5,21 +5,26 @@ ghost use Rattle.cbor_data.specs.Value.{Value};
 ghost use Rattle.cddl_meaning.specs.Forms.{Language};
 ghost use Rattle.cddl_meaning.specs.Held.{Holds};
 ghost use Rattle.cddl_meaning.specs.Moves as M;
-ghost use Rattle.cddl_match.specs.Machine.{Finds, FindsAt, Goes, GoesFrom, IsKept, NeedsMore, asked_in, asks_in, found_in, is_alternative, next_in};
-ghost use Rattle.match_moves.specs.Views.{move_view, pending_view, question_view, reading_move, reply_view, sorting_view, subject_view, weighing_move};
+ghost use Rattle.cddl_match.specs.Entering.{IsAskedNext};
+ghost use Rattle.cddl_match.specs.Machine.{Finds, FindsAt, Goes, GoesFrom, IsKept, NeedsMore, WaitsAt, asked_in, asks_in, found_in, is_alternative, next_in};
+ghost use Rattle.match_moves.specs.Views.{entering_move, move_view, pending_view, question_view, reading_move, reply_view, sorting_view, subject_view, weighing_move};
 ghost use Rattle.match_moves.specs.declared.questions.Reply as R;
+ghost use Rattle.match_moves.specs.declared.questions.Entering as E;
 ghost use Rattle.match_moves.specs.declared.questions.Sorting as C;
 ghost use Rattle.table_nodes.specs.Language.{language_of};
 ghost use Rattle.table_nodes.specs.Nodes.{content_view};
 ghost use Rattle.table_nodes.specs.declared.nodes.GroupId.{GroupId};
 ghost use Rattle.table_nodes.specs.declared.nodes.TypeId.{TypeId};
+ghost use Rattle.table_nodes.specs.declared.table.Table.{Table};
 
+use crate::entering::asked_from;
 use crate::reading::{held_in, string_in};
 use crate::shelf::Shelf;
 use history::History;
 use match_moves::{
-    Move, Pending, PendingType, Question, Reading, Reply, Subject, Weighing, alternative_move,
-    first_of_group, first_of_type, left_after_bits, next_entry, next_move, weighed_reply,
+    Entering, Move, Pending, PendingType, Question, Reading, Reply, Subject, Weighing,
+    alternative_move, enter, first_of_group, first_of_type, is_passed_over, left_after_bits,
+    next_entry, next_move, weighed_reply,
 };
 use std::alloc::{AllocError, Global};
 use std::mem;
@@ -45,7 +50,8 @@ pub(crate) struct Waiting<'t, 'i> {
     pub(crate) pending: Pending<'t, 'i>,
 }
 
-/// The open questions, the next move, the steps that were taken, and those that are to be taken before that move.
+/// The open questions, the next move, the steps that were taken, and those that are to be taken before that move, for bits that
+/// are set.
 #[derive(Drop)]
 pub(crate) struct Run<'t, 'i> {
     pub(crate) waiting: Vec<Waiting<'t, 'i>>,
@@ -100,7 +106,7 @@ fn first_of<'t, 'i>(
     }
 }
 
-// A step that is owed: by a pair that is tried, for one of the entries of its alternative, or by bits that are set.
+// A step that is owed by bits that are set.
 #[inline]
 fn take_owed(run: &mut Run<'_, '_>, steps: u64) -> Turned
     requires owed { 0 < run.old.owed }
@@ -118,11 +124,62 @@ fn take_owed(run: &mut Run<'_, '_>, steps: u64) -> Turned
     Turned::GoesOn
 }
 
-// A pair is tried: a step, and one more is owed for each entry of its alternative.
+// A pair is tried: a step. What it comes to first is an entry of its alternative, if that has one.
 #[inline(never)]
 fn try_pair(run: &mut Run<'_, '_>, steps: u64) -> Turned
-    ensures goes { result ≡ Turned.GoesOn → (l : Language TypeId GroupId) (s : C.Sorting) → run.old.next ≡ Move.Tries s → GoesFrom l steps run.old (M.Tries (sorting_view s)) run.new }
-    ensures finds { (l : Language TypeId GroupId) (s : C.Sorting) → run.old.next ≡ Move.Tries s → FindsAt l steps run.old (M.Tries (sorting_view s)) (found_in result run.new.next) }
+    requires owed { run.old.owed ≡ 0 }
+    ensures goes { result ≡ Turned.GoesOn → (t : Table) (s : C.Sorting) → run.old.next ≡ Move.Tries s → GoesFrom (language_of t) steps run.old (M.Tries (sorting_view s)) run.new }
+    ensures finds { (t : Table) (s : C.Sorting) → run.old.next ≡ Move.Tries s → FindsAt (language_of t) steps run.old (M.Tries (sorting_view s)) (found_in result run.new.next) }
+    ensures kind { (result ≡ Turned.Replied → ⊥) × (result ≡ Turned.NoMemory → ⊥) }
+    ensures kept { (result ≡ Turned.GoesOn → ⊥) → IsKept run.old run.new }
+    ensures capacity { vec_capacity run.new.waiting ≡ vec_capacity run.old.waiting }
+{
+    if run.taken >= steps {
+        return Turned::Spent;
+    }
+    let next = mem::replace(&mut run.next, Move::Answered(Reply::Fails { far: 0 }));
+    let Move::Tries(sorting) = next else {
+        return Turned::Spent;
+    };
+    run.next = next_entry(sorting.entries, sorting);
+    run.taken += 1;
+    Turned::GoesOn
+}
+
+// Where the pair of the next move passes over the entry that it has come to, it comes to the next one that is asked about it,
+// at no step. Where there is none its key is stray, and the next move is that of the pair after it, or a reply.
+fn pass_over<'t, 'i>(table: &'t Table, run: &mut Run<'t, 'i>)
+    ensures comes { (first : M.Question TypeId GroupId) (taken : ℕ) → WaitsAt (language_of table.now) first taken run.old.waiting.items (next_in run.old) → WaitsAt (language_of table.now) first taken run.new.waiting.items (next_in run.new) }
+    ensures asked { IsAskedNext (language_of table.now) (next_in run.new) }
+    ensures waiting { run.new.waiting ≡ run.old.waiting }
+    ensures taken { run.new.taken ≡ run.old.taken }
+    ensures owed { run.new.owed ≡ run.old.owed }
+{
+    let Move::Enters(entering) = &run.next else {
+        return;
+    };
+    if !is_passed_over(table, entering.entry, &entering.sorting.pair.0) {
+        return;
+    }
+    let next = mem::replace(&mut run.next, Move::Answered(Reply::Fails { far: 0 }));
+    let Move::Enters(entering) = next else {
+        return;
+    };
+    let Entering {
+        others,
+        sorting,
+        ..
+    } = entering;
+    let left = asked_from(table, others, &sorting.pair.0);
+    run.next = next_entry(left, sorting);
+}
+
+// An entry is asked about a pair: a step. The question that it asks, that of its key type, is the next move.
+#[inline(never)]
+fn ask_entry(run: &mut Run<'_, '_>, steps: u64) -> Turned
+    requires owed { run.old.owed ≡ 0 }
+    ensures goes { result ≡ Turned.GoesOn → (t : Table) (e : E.Entering) → run.old.next ≡ Move.Enters e → IsAskedNext (language_of t) (entering_move e) → GoesFrom (language_of t) steps run.old (entering_move e) run.new }
+    ensures finds { (t : Table) (e : E.Entering) → run.old.next ≡ Move.Enters e → IsAskedNext (language_of t) (entering_move e) → FindsAt (language_of t) steps run.old (entering_move e) (found_in result run.new.next) }
     ensures kind { (result ≡ Turned.Replied → ⊥) × (result ≡ Turned.NoMemory → ⊥) }
     ensures kept { (result ≡ Turned.GoesOn → ⊥) → IsKept run.old run.new }
     ensures capacity { vec_capacity run.new.waiting ≡ vec_capacity run.old.waiting }
@@ -136,14 +193,12 @@ fn try_pair(run: &mut Run<'_, '_>, steps: u64) -> Turned
         return Turned::Spent;
     }
     let next = mem::replace(&mut run.next, Move::Answered(Reply::Fails { far: 0 }));
-    let Move::Tries(sorting) = next else {
+    let Move::Enters(entering) = next else {
         return Turned::Spent;
     };
-    let entries = sorting.entries;
     let last = &mut run.waiting[count - 1];
-    run.next = next_entry(entries, sorting, &mut last.pending);
+    run.next = enter(entering, &mut last.pending);
     run.taken += 1;
-    run.owed = entries.len() as u64;
     Turned::GoesOn
 }
 
@@ -300,14 +355,16 @@ fn weigh<'t, 'i>(run: &mut Run<'t, 'i>, weighing: Weighing<'t, 'i>, steps: u64) 
     Turned::GoesOn
 }
 
-// One turn: a step, with one question more or none; or the last question has its reply, and is taken off. Or the run ends.
-// There may be no memory for one question more, for the tally of a map's pairs, or for what a byte string holds.
-pub(crate) fn step<'t, 'i>(
+// One turn at a move that passes over no entry: a step, with one question more or none; or the last question has its reply, and
+// is taken off. Or the run ends. There may be no memory for one question more, for the tally of a map's pairs, or for what a
+// byte string holds.
+fn take_turn<'t, 'i>(
     table: &'t Table,
     shelf: &mut Shelf<'i>,
     run: &mut Run<'t, 'i>,
     steps: u64,
 ) -> Turned
+    requires asked { IsAskedNext (language_of table.now) (next_in run.old) }
     ensures goes { result ≡ Turned.GoesOn → Goes (language_of table.now) steps run.old run.new }
     ensures finds { Finds (language_of table.now) steps run.old (found_in result run.new.next) }
     ensures told { result ≡ Turned.Replied → (r : R.Reply) × (run.new.next ≡ Move.Answered r) }
@@ -331,6 +388,7 @@ pub(crate) fn step<'t, 'i>(
             return reply_to_last(run, reply);
         }
         Move::Tries(_) => return try_pair(run, steps),
+        Move::Enters(_) => return ask_entry(run, steps),
         Move::Reads(reading) => {
             let reading = *reading;
             return read(table, shelf, run, reading, steps);
@@ -340,4 +398,26 @@ pub(crate) fn step<'t, 'i>(
             return weigh(run, weighing, steps);
         }
     }
+}
+
+// One turn: a step, with one question more or none; or the last question has its reply, and is taken off. Or the run ends.
+// There may be no memory for one question more, for the tally of a map's pairs, or for what a byte string holds.
+pub(crate) fn step<'t, 'i>(
+    table: &'t Table,
+    shelf: &mut Shelf<'i>,
+    run: &mut Run<'t, 'i>,
+    steps: u64,
+) -> Turned
+    ensures goes { result ≡ Turned.GoesOn → Goes (language_of table.now) steps run.old run.new }
+    ensures finds { Finds (language_of table.now) steps run.old (found_in result run.new.next) }
+    ensures told { result ≡ Turned.Replied → (r : R.Reply) × (run.new.next ≡ Move.Answered r) }
+    // After a reply nothing is open, and else the list is as it was.
+    ensures kept { (result ≡ Turned.GoesOn → ⊥) → (asked_in run.new.waiting.items ≡ asked_in run.old.waiting.items) ⊎ (asked_in run.new.waiting.items ≡ []) }
+    ensures left { result ≡ Turned.NoMemory → asked_in run.new.waiting.items ≡ asked_in run.old.waiting.items }
+    ensures taken { (result ≡ Turned.GoesOn → ⊥) → run.new.taken ≡ run.old.taken }
+    ensures memory { result ≡ Turned.NoMemory → (vec_capacity run.old.waiting ≤ vec_len run.old.waiting) ⊎ NeedsMore (language_of table.now) run.old (next_in run.old) }
+    ensures capacity { vec_capacity run.old.waiting ≤ vec_capacity run.new.waiting }
+{
+    pass_over(table, run);
+    take_turn(table, shelf, run, steps)
 }

@@ -1,6 +1,6 @@
 //! What the pairs of a map came to in an alternative, and what follows for one that begins with the same entries.
 
-ghost use Rattle.std.specs.Prelude.{◌≡◌, ◌<◌, ◌≤◌, ◌+◌, ◌*◌, suc, length, take, None, Some, IfSome, IsTrue, MatchOption};
+ghost use Rattle.std.specs.Prelude.{◌≡◌, ◌<◌, ◌+◌, None, Some, IfSome, IsTrue, MatchOption};
 ghost use Rattle.item_nodes.specs.View.{pairs_view};
 ghost use Rattle.cddl_meaning.specs.Judges as J;
 ghost use Rattle.cddl_meaning.specs.Moves as M;
@@ -28,7 +28,7 @@ pub(crate) struct Tallied<'t> {
     pub(crate) told: Option<usize>,
     /// Whether as many pairs belong to each of these entries as it asks for.
     pub(crate) enough: bool,
-    /// So many questions were asked about the pairs.
+    /// So many steps were taken for the pairs, and for what was asked about them.
     pub(crate) asked: u64,
     /// The place after the pairs.
     pub(crate) next: usize,
@@ -74,15 +74,12 @@ fn begin_alike(some: &[MapEntry], others: &[MapEntry], count: usize) -> bool
     true
 }
 
-// How many of the steps an alternative leaves whose first entries tell what becomes of each of so many pairs, if there are
-// so many: it takes one itself, and one for each pair and one more for each entry of the pair's, beside the questions that
-// are asked about the pairs.
-fn left_after(steps: u64, asked: u64, entries: usize, pairs: usize) -> Option<u64>
-    ensures { MatchOption result (steps < 1 + (asked + pairs * suc entries)) (λ left. 1 + (asked + pairs * suc entries) + left ≡ steps) }
+// How many of the steps an alternative leaves whose first entries tell what becomes of each pair, if there are so many: it
+// takes one itself, beside those for the pairs. How many entries it has does not count.
+fn left_after(steps: u64, asked: u64) -> Option<u64>
+    ensures { MatchOption result (steps < 1 + asked) (λ left. 1 + asked + left ≡ steps) }
 {
-    let pairs = pairs as u64;
-    let tried = pairs.checked_mul(entries as u64)?.checked_add(pairs)?;
-    steps.checked_sub(1)?.checked_sub(asked)?.checked_sub(tried)
+    steps.checked_sub(1)?.checked_sub(asked)
 }
 
 // What is said by where a no shows, if it does.
@@ -137,7 +134,7 @@ impl<'t> Tallied<'t> {
         requires known { IsTallied (language_of table.now) base (pairs_view pairs.now) self.now }
         ensures { Says (language_of table.now) (M.OfAlternative (entries_view entries.now) base (pairs_view pairs.now)) means.old.left means.new.left (said_view result) }
     {
-        let Some(left) = left_after(means.left, self.asked, entries.len(), pairs.len()) else {
+        let Some(left) = left_after(means.left, self.asked) else {
             return Said::Spent;
         };
         means.left = left;

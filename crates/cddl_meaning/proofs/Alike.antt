@@ -1,10 +1,10 @@
 -- Languages that are alike say the same of each item, at the same place, with the same weight.
-use Rattle.std.proofs.Common.{[], ◌∷◌, ◌≡◌, ℕ, suc, ◌+◌, length, List, ◌∷◌, nat_le, ◌&&◌, refl, sym, subst, ap, ◌∙◌}
+use Rattle.std.proofs.Common.{[], ◌∷◌, ◌≡◌, ℕ, zero, suc, ◌+◌, length, List, ◌∷◌, Option, Some, None, Bool, true, false, nat_le, ◌&&◌, refl, sym, subst, ap, ◌∙◌}
 use Rattle.cbor_data.specs.Value.{Value, Pairs, pair}
-use Rattle.cddl_meaning.specs.Forms.{TagNumber, MapEntry, Node, Such, Most, Group, Language}
-use Rattle.cddl_meaning.specs.Judges.{Answer, Yes, No, Reply, Says, passed, missed, ref, choice, no_array, array, no_tag, tagged, other_tag, no_simple, simple_such, other_simple, no_map, map, left_no, left_yes, none_such, such_passed, such_missed, holder_no, no_string, holds_nothing, held_yes, held_no, Fate, BelongsTo, count_of, is_up_to_most, are_enough, first_stray, first_failing, by_counts, shown_by, alternative_says, either, Maps, no_alternative, alternative, Sorts, all_sorted, sort, Belongs, nowhere, other_key, here, cut_here, handed_on, Numbers, whichever, this_number, other_number, by_head, Chooses, no_more, this_one, not_this, Does, missing, matches, differs, group_ref, sequence, alternatives, repeat, DoesEach, all_done, one_fails, and_then, DoesFirst, all_fail, one_takes, or_else, Repeats, full, too_few, enough, empty_round, round}
+use Rattle.cddl_meaning.specs.Forms.{TagNumber, MapEntry, Node, Such, Most, Group, Language, Test, equals, Plain, key_by, key_in, most_forms, by_forms, Counting, every_entry, by_keys, is_other, is_passed_over, pair_cost, entry_cost}
+use Rattle.cddl_meaning.specs.Judges.{Answer, Yes, No, Reply, Says, passed, missed, ref, choice, no_array, array, no_tag, tagged, other_tag, no_simple, simple_such, other_simple, no_map, map, left_no, left_yes, none_such, such_passed, such_missed, holder_no, no_string, holds_nothing, held_yes, held_no, Fate, BelongsTo, count_of, is_up_to_most, are_enough, first_stray, first_failing, by_counts, shown_by, alternative_says, either, Maps, no_alternative, alternative, Sorts, all_sorted, sort, Belongs, nowhere, other_key, here, cut_here, handed_on, Numbers, whichever, this_number, other_number, by_head, Chooses, no_more, this_one, not_this, Does, missing, matches, differs, group_ref, sequence, alternatives, repeat, DoesEach, all_done, one_fails, and_then, DoesFirst, all_fail, one_takes, or_else, Repeats, full, too_few, enough, empty_round, round, passed_over, asked, BelongsAsked}
 use Rattle.cddl_meaning.specs.Alike as A
-use Rattle.cddl_meaning.specs.Alike.{flipped, AlikeAll, none, both, AlikeNumbers, any_numbers, same_number, heads, AlikeEntries, no_entries, entry, AlikeMaps, no_alternatives, AlikeTypes, plain, refs, choices, arrays, tags, simples, maps, boths, suches, holdings, AlikeGroups, entries, group_refs, sequences, alternates, repeats, AreAlike}
+use Rattle.cddl_meaning.specs.Alike.{flipped, AlikeAll, none, both, AlikeNumbers, any_numbers, same_number, heads, AlikeEntries, no_entries, entry, AlikeMaps, no_alternatives, AlikeCounting, AlikeTypes, plain, refs, choices, arrays, tags, simples, maps, boths, suches, holdings, AlikeGroups, entries, group_refs, sequences, alternates, repeats, AreAlike}
 
 module _ {N M : Type 0} (R : N → M → Type 0) where
   as_many : {ds : List (MapEntry N)} {es : List (MapEntry M)} → AlikeEntries R ds es → length ds ≡ length es
@@ -17,6 +17,24 @@ module _ {N M : Type 0} (R : N → M → Type 0) where
 
   alternative_too : {ds : List (MapEntry N)} {es : List (MapEntry M)} (p : ℕ) (fs : List Fate) → AlikeEntries R ds es → alternative_says ds p fs ≡ alternative_says es p fs
   alternative_too p fs r = ap (λ b. shown_by (first_stray fs) (shown_by (first_failing fs) (by_counts p b))) (enough_too fs r)
+
+  pair_cost_too : (c : Counting N) (d : Counting M) {i j : ℕ} → AlikeCounting R c d → i ≡ j → pair_cost c i ≡ pair_cost d j
+  pair_cost_too every_entry every_entry h e = ap suc e
+  pair_cost_too every_entry (by_keys g) h e = absurd h
+  pair_cost_too (by_keys f) every_entry h e = absurd h
+  pair_cost_too (by_keys f) (by_keys g) h e = refl
+
+  entry_cost_too : (c : Counting N) (d : Counting M) → AlikeCounting R c d → entry_cost c ≡ entry_cost d
+  entry_cost_too every_entry every_entry h = refl
+  entry_cost_too every_entry (by_keys g) h = absurd h
+  entry_cost_too (by_keys f) every_entry h = absurd h
+  entry_cost_too (by_keys f) (by_keys g) h = refl
+
+  passed_over_too : (c : Counting N) (d : Counting M) → AlikeCounting R c d → (n : N) (m : M) → R n m → (x : Value) → is_passed_over c n x ≡ is_passed_over d m x
+  passed_over_too every_entry every_entry h n m r x = refl
+  passed_over_too every_entry (by_keys g) h n m r x = absurd h
+  passed_over_too (by_keys f) every_entry h n m r x = absurd h
+  passed_over_too (by_keys f) (by_keys g) h n m r x = ap (λ v. is_other v x) (h n m r)
 
 module _ {N G M H : Type 0} (l : Language N G) (k : Language M H) (R : N → M → Type 0) (S : G → H → Type 0) (i : AreAlike l k R S) where
   mutual
@@ -54,18 +72,22 @@ module _ {N G M H : Type 0} (l : Language N G) (k : Language M H) (R : N → M �
     sorts_too : {ds : List (MapEntry N)} {es : List (MapEntry M)} {q w : ℕ} {ps : Pairs} {fs : List Fate} → Sorts l ds q ps fs w → AlikeEntries R ds es → Sorts k es q ps fs w
     sorts_too all_sorted r = all_sorted
     sorts_too {es = es} (sort {q = q} {v = v} {w = w} {k = c} {x = x} {ps = ps} {f = f} {fs = fs} d e) r =
-        subst (λ n. Sorts k es q (pair c x ps) (f ∷ fs) (suc n + v + w)) (sym (as_many R r)) (sort (belongs_too d r) (sorts_too e r))
+        subst (λ n. Sorts k es q (pair c x ps) (f ∷ fs) (n + v + w)) (sym (pair_cost_too R l.counting k.counting i.counting (as_many R r))) (sort (belongs_too d r) (sorts_too e r))
 
     belongs_too : {ds : List (MapEntry N)} {es : List (MapEntry M)} {q w : ℕ} {c x : Value} {f : Fate} → Belongs l ds q c x f w → AlikeEntries R ds es → Belongs k es q c x f w
     belongs_too nowhere no_entries = nowhere
-    belongs_too (other_key d b) (entry {d = m} {e = n} y z o r s rs) = other_key (says_too d (i.types m.key_type n.key_type r)) (belongs_too b rs)
-    belongs_too {es = []} (here d b) r = elim r [ ]
-    belongs_too {es = []} (cut_here h d b) r = elim r [ ]
-    belongs_too {es = n ∷ es} {q = q} {c = c} {x = x} (here {v = v} {w = w} d b) (entry {d = m} y z o r s rs) =
-        subst (λ i. Belongs k (n ∷ es) q c x (BelongsTo i Yes) (v + w)) (sym (as_many R rs)) (here (says_too d (i.types m.key_type n.key_type r)) (says_too b (i.types m.value_type n.value_type s)))
-    belongs_too {es = n ∷ es} {q = q} {c = c} {x = x} (cut_here {far = far} {v = v} {w = w} h d b) (entry {d = m} y z o r s rs) =
-        subst (λ i. Belongs k (n ∷ es) q c x (BelongsTo i (No far)) (v + w)) (sym (as_many R rs)) (cut_here (sym o ∙ h) (says_too d (i.types m.key_type n.key_type r)) (says_too b (i.types m.value_type n.value_type s)))
-    belongs_too (handed_on h d b t) (entry {d = m} {e = n} y z o r s rs) = handed_on (sym o ∙ h) (says_too d (i.types m.key_type n.key_type r)) (says_too b (i.types m.value_type n.value_type s)) (belongs_too t rs)
+    belongs_too (passed_over {k = c} h b) (entry {d = m} {e = n} y z o r s rs) = passed_over (sym (passed_over_too R l.counting k.counting i.counting m.key_type n.key_type r c) ∙ h) (belongs_too b rs)
+    belongs_too {es = n ∷ es} {q = q} {c = c} {x = x} {f = f} (asked {w = w} h b) (entry {d = m} y z o r s rs) =
+        subst (λ j. Belongs k (n ∷ es) q c x f (j + w)) (sym (entry_cost_too R l.counting k.counting i.counting)) (asked (sym (passed_over_too R l.counting k.counting i.counting m.key_type n.key_type r c) ∙ h) (asked_too b o r s rs))
+    belongs_too {es = []} (asked h b) r = elim r [ ]
+
+    asked_too : {d : MapEntry N} {e : MapEntry M} {ds : List (MapEntry N)} {es : List (MapEntry M)} {q w : ℕ} {c x : Value} {f : Fate} → BelongsAsked l d ds q c x f w → d.cuts ≡ e.cuts → R d.key_type e.key_type → R d.value_type e.value_type → AlikeEntries R ds es → BelongsAsked k e es q c x f w
+    asked_too {d = m} {e = n} (other_key d b) o r s rs = other_key (says_too d (i.types m.key_type n.key_type r)) (belongs_too b rs)
+    asked_too {d = m} {e = n} {es = es} {q = q} {c = c} {x = x} (here {v = v} {w = w} d b) o r s rs =
+        subst (λ i. BelongsAsked k n es q c x (BelongsTo i Yes) (v + w)) (sym (as_many R rs)) (here (says_too d (i.types m.key_type n.key_type r)) (says_too b (i.types m.value_type n.value_type s)))
+    asked_too {d = m} {e = n} {es = es} {q = q} {c = c} {x = x} (cut_here {far = far} {v = v} {w = w} h d b) o r s rs =
+        subst (λ i. BelongsAsked k n es q c x (BelongsTo i (No far)) (v + w)) (sym (as_many R rs)) (cut_here (sym o ∙ h) (says_too d (i.types m.key_type n.key_type r)) (says_too b (i.types m.value_type n.value_type s)))
+    asked_too {d = m} {e = n} (handed_on h d b t) o r s rs = handed_on (sym o ∙ h) (says_too d (i.types m.key_type n.key_type r)) (says_too b (i.types m.value_type n.value_type s)) (belongs_too t rs)
 
     pub numbers_too : {s : TagNumber N} {t : TagNumber M} {p n w : ℕ} {a : Answer} → Numbers l s p n a w → AlikeNumbers R s t → Numbers k t p n a w
     numbers_too whichever any_numbers = whichever
@@ -140,8 +162,14 @@ flip_groups R S (sequences r) = sequences (flip_all S r)
 flip_groups R S (alternates r) = alternates (flip_all S r)
 flip_groups R S (repeats r) = repeats r
 
+flip_counting : {N M : Type 0} (R : N → M → Type 0) (c : Counting N) (d : Counting M) → AlikeCounting R c d → AlikeCounting (flipped R) d c
+flip_counting R every_entry every_entry h = h
+flip_counting R every_entry (by_keys g) h = absurd h
+flip_counting R (by_keys f) every_entry h = absurd h
+flip_counting R (by_keys f) (by_keys g) h = λ m n r. sym (h n m r)
+
 pub flip : {N G M H : Type 0} (l : Language N G) (k : Language M H) (R : N → M → Type 0) (S : G → H → Type 0) → AreAlike l k R S → AreAlike k l (flipped R) (flipped S)
-flip l k R S i = record { types = λ m n r. flip_types R S (i.types n m r); groups = λ h g s. flip_groups R S (i.groups g h s) }
+flip l k R S i = record { types = λ m n r. flip_types R S (i.types n m r); groups = λ h g s. flip_groups R S (i.groups g h s); counting = flip_counting R l.counting k.counting i.counting }
 
 -- and back: what the one says of an item, the other does
 module _ {N G M H : Type 0} (l : Language N G) (k : Language M H) (R : N → M → Type 0) (S : G → H → Type 0) (i : AreAlike l k R S) where
@@ -150,3 +178,31 @@ module _ {N G M H : Type 0} (l : Language N G) (k : Language M H) (R : N → M �
 
   pub did_before : {g : G} {h : H} {p q w : ℕ} {xs : List Value} {r : Reply} → S g h → Does k (k.group_at h) p q xs r w → Does l (l.group_at g) p q xs r w
   did_before {g = g} {h = h} s d = let j = flip l k R S i in does_too k l (flipped R) (flipped S) j d (j.groups h g s)
+
+-- Where forms are alike, they show the same values.
+module _ {N G M H : Type 0} (f : N → Node N G) (g : M → Node M H) (R : N → M → Type 0) (S : G → H → Type 0) (types : (n : N) (m : M) → R n m → AlikeTypes R S (f n) (g m)) where
+  same_by_form : (u : N → Option Value) (v : M → Option Value) → ((n : N) (m : M) → R n m → u n ≡ v m) → {s : Node N G} {t : Node M H} → AlikeTypes R S s t → key_by u s ≡ key_by v t
+  same_by_form u v h plain = same_test u v _
+    where
+      same_test : (u : N → Option Value) (v : M → Option Value) (t : Test) → key_by {G = G} u (Plain t) ≡ key_by {G = H} v (Plain t)
+      same_test u v (equals x) = refl
+      same_test u v _ = refl
+  same_by_form u v h (refs {n = n} {m = m} r) = h n m r
+  same_by_form u v h (choices none) = refl
+  same_by_form u v h (choices (both {n = n} {m = m} r none)) = h n m r
+  same_by_form u v h (choices (both r (both s rs))) = refl
+  same_by_form u v h (arrays s) = refl
+  same_by_form u v h (tags t r) = refl
+  same_by_form u v h (simples r) = refl
+  same_by_form u v h (maps r) = refl
+  same_by_form u v h (boths r s) = refl
+  same_by_form u v h (suches r e b) = refl
+  same_by_form u v h (holdings r s) = refl
+
+  same_in : (k : ℕ) (n : N) (m : M) → R n m → key_in f k n ≡ key_in g k m
+  unfolding key_in
+  same_in zero n m r = same_by_form (λ n. None) (λ m. None) (λ n m r. refl) (types n m r)
+  same_in (suc k) n m r = same_by_form (λ n. key_in f k n) (λ m. key_in g k m) (λ n m r. same_in k n m r) (types n m r)
+
+  pub same_forms : AlikeCounting R (by_forms f) (by_forms g)
+  same_forms = λ n m r. same_in most_forms n m r

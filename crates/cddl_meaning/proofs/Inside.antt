@@ -2,7 +2,7 @@
 use Rattle.std.proofs.Common.{◌≡◌, ℕ, suc, ◌+◌, ◌<◌, ◌≤◌, List, [], ◌∷◌, Option, Some, None, Bool, true, false, arith}
 use Rattle.cbor_data.specs.Value.{Value, place_count, Pairs, pairs_place_count}
 use Rattle.cddl_meaning.specs.Forms.{MapEntry, Node, Most, Group, Language}
-use Rattle.cddl_meaning.specs.Judges.{Answer, Yes, No, Reply, Takes, Fails, over, failed, Says, missed, ref, choice, no_array, array, no_tag, tagged, other_tag, no_simple, other_simple, no_map, map, left_no, left_yes, none_such, such_missed, holder_no, no_string, holds_nothing, held_no, Fate, BelongsTo, Stray, are_enough, first_stray, first_failing, by_counts, shown_by, alternative_says, either, Maps, no_alternative, alternative, Sorts, all_sorted, sort, Belongs, nowhere, other_key, here, cut_here, handed_on, Chooses, no_more, not_this, Does, missing, matches, differs, group_ref, sequence, alternatives, repeat, DoesEach, all_done, one_fails, and_then, DoesFirst, all_fail, one_takes, or_else, Repeats, full, too_few, enough, empty_round, round}
+use Rattle.cddl_meaning.specs.Judges.{Answer, Yes, No, Reply, Takes, Fails, over, failed, Says, missed, ref, choice, no_array, array, no_tag, tagged, other_tag, no_simple, other_simple, no_map, map, left_no, left_yes, none_such, such_missed, holder_no, no_string, holds_nothing, held_no, Fate, BelongsTo, Stray, are_enough, first_stray, first_failing, by_counts, shown_by, alternative_says, either, Maps, no_alternative, alternative, Sorts, all_sorted, sort, Belongs, nowhere, passed_over, asked, BelongsAsked, other_key, here, cut_here, handed_on, Chooses, no_more, not_this, Does, missing, matches, differs, group_ref, sequence, alternatives, repeat, DoesEach, all_done, one_fails, and_then, DoesFirst, all_fail, one_takes, or_else, Repeats, full, too_few, enough, empty_round, round}
 use Rattle.cddl_meaning.proofs.Covers.{places_of, covers, any_places, array_places, map_places, tag_places}
 
 -- between the array and the end of its items, and what is left begins no earlier than before
@@ -100,10 +100,14 @@ module _ {N G : Type 0} (l : Language N G) where
 
     belongs_inside : (from end : ℕ) {es : List (MapEntry N)} {q w : ℕ} {k x : Value} {f : Fate} → from ≤ q → q + place_count k + place_count x ≤ end → Belongs l es q k x f w → FateShows from end f
     belongs_inside from end h j (nowhere {k = k}) = (h, omega (arith, j, any_places k))
-    belongs_inside from end h j (other_key d b) = belongs_inside from end h j b
-    belongs_inside from end h j (here d b) = tt
-    belongs_inside from end h j (cut_here c d b) = let i = says_inside b in (omega (arith, h, i.0), omega (arith, j, i.1))
-    belongs_inside from end h j (handed_on c d b m) = belongs_inside from end h j m
+    belongs_inside from end h j (passed_over i b) = belongs_inside from end h j b
+    belongs_inside from end h j (asked i b) = asked_inside from end h j b
+
+    asked_inside : (from end : ℕ) {e : MapEntry N} {es : List (MapEntry N)} {q w : ℕ} {k x : Value} {f : Fate} → from ≤ q → q + place_count k + place_count x ≤ end → BelongsAsked l e es q k x f w → FateShows from end f
+    asked_inside from end h j (other_key d b) = belongs_inside from end h j b
+    asked_inside from end h j (here d b) = tt
+    asked_inside from end h j (cut_here c d b) = let i = says_inside b in (omega (arith, h, i.0), omega (arith, j, i.1))
+    asked_inside from end h j (handed_on c d b m) = belongs_inside from end h j m
 
     chooses_inside : {ms : List N} {p far later w : ℕ} {x : Value} → p ≤ far → far < p + place_count x → Chooses l ms p x far (No later) w → (p ≤ later) × (later < p + place_count x)
     chooses_inside h k no_more = (h, k)

@@ -1,5 +1,6 @@
 -- What callers' proofs may name of this crate.
-pub use Rattle.cddl_meaning.proofs.Alike.{says_too, does_too, said_before, did_before}
+pub use Rattle.cddl_meaning.proofs.Alike.{same_forms, says_too, does_too, said_before, did_before}
+pub use Rattle.cddl_meaning.proofs.Costs.{costs, does_costs, forms_are_literals, never_yes, plain_keys, says_no, value_shows}
 pub use Rattle.cddl_meaning.proofs.Held.{held_once}
 pub use Rattle.cddl_meaning.proofs.Inside.{says_inside}
 pub use Rattle.cddl_meaning.proofs.Matches.{AllFit, Fits, one_saying, said, did}

@@ -2,6 +2,7 @@ pub mod Lemmas
 mod Alike
 mod Covers
 mod Held
+mod Costs
 mod Means
 mod Once
 mod Sizes

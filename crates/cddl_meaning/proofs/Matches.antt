@@ -2,10 +2,10 @@
 use Rattle.std.proofs.Common.{◌≡◌, ℕ, suc, ◌+◌, ◌-◌, ◌<◌, ◌≤◌, ◌^◌, max, length, List, [], ◌∷◌, Some, Bool, false, nat_eq, refl, subst, sym, ap, ◌∙◌, arith}
 use Rattle.lists.proofs.Lemmas.{test_equal as same_number, test_same as equal_number, unequal_number}
 use Rattle.cbor_data.specs.Value.{Value, place_count, Pairs, no_pairs, pair, pairs_place_count}
-use Rattle.cddl_meaning.specs.Forms.{Test, bits_among, passes, bits_asked, members_in, pairs_in, tag_in, simple_in, TagNumber, MapEntry, Node, Most, Group, Language}
+use Rattle.cddl_meaning.specs.Forms.{Test, bits_among, passes, bits_asked, members_in, pairs_in, tag_in, simple_in, TagNumber, MapEntry, Node, Most, Group, Language, pair_cost, entry_cost}
 use Rattle.cddl_meaning.specs.Size.{size, pairs_size, list_size}
-use Rattle.cddl_meaning.specs.Judges.{Answer, Yes, No, Reply, Takes, Fails, ArraySays, whole, over, failed, one_less, Says, passed, missed, ref, choice, no_array, array, no_tag, tagged, other_tag, no_simple, simple_such, other_simple, no_map, map, left_no, left_yes, none_such, such_passed, such_missed, holder_no, no_string, holds_nothing, held_yes, held_no, Fate, alternative_says, either, Maps, no_alternative, alternative, Sorts, all_sorted, sort, Belongs, nowhere, other_key, here, cut_here, handed_on, Numbers, whichever, this_number, other_number, by_head, Chooses, no_more, this_one, not_this, Does, missing, matches, differs, group_ref, sequence, alternatives, repeat, DoesEach, all_done, one_fails, and_then, DoesFirst, all_fail, one_takes, or_else, Repeats, full, too_few, enough, empty_round, round}
-use Rattle.cddl_meaning.specs.Moves.{Question, OfType, OfGroup, Tally, tallied, Sorting, Pending, InRef, InRepeat, InValue, Move, Answered, Asks, Tries, plus, yes_reply, reply_of, test_reply, such_reply, answer_reply, either_reply, fresh, tally_says, next_member, next_part, next_alternative, read_move, tested_move, next_way, next_pair, sorted, next_entry, repetition, after_round, tag_move, type_move, group_move, first_move, array_reply, next_move, Replies, replies, LeadsTo, at_once, after, tries, weighs, reads, reads_nothing}
+use Rattle.cddl_meaning.specs.Judges.{Answer, Yes, No, Reply, Takes, Fails, ArraySays, whole, over, failed, one_less, Says, passed, missed, ref, choice, no_array, array, no_tag, tagged, other_tag, no_simple, simple_such, other_simple, no_map, map, left_no, left_yes, none_such, such_passed, such_missed, holder_no, no_string, holds_nothing, held_yes, held_no, Fate, alternative_says, either, Maps, no_alternative, alternative, Sorts, all_sorted, sort, Belongs, nowhere, other_key, here, cut_here, handed_on, Numbers, whichever, this_number, other_number, by_head, Chooses, no_more, this_one, not_this, Does, missing, matches, differs, group_ref, sequence, alternatives, repeat, DoesEach, all_done, one_fails, and_then, DoesFirst, all_fail, one_takes, or_else, Repeats, full, too_few, enough, empty_round, round, passed_over, asked, BelongsAsked}
+use Rattle.cddl_meaning.specs.Moves.{Question, OfType, OfGroup, Tally, tallied, Sorting, Pending, InRef, InRepeat, InValue, Move, Answered, Asks, Tries, plus, yes_reply, reply_of, test_reply, such_reply, answer_reply, either_reply, fresh, tally_says, next_member, next_part, next_alternative, read_move, tested_move, next_way, next_pair, sorted, next_entry, repetition, after_round, tag_move, type_move, group_move, first_move, array_reply, next_move, Replies, replies, LeadsTo, at_once, after, tries, weighs, reads, reads_nothing, InKey, passes_over, enters}
 use Rattle.cddl_meaning.proofs.Once.{ends_once}
 use Rattle.cddl_meaning.proofs.Covers.{covers, leaves, any_places, array_places, map_places, tag_places, simple_places}
 use Rattle.cddl_meaning.proofs.Sizes.{size_some, all_some, array_size, tag_size, map_size, string_size, few_places, pairs_few_places, held_size}
@@ -151,14 +151,18 @@ module _ {N G : Type 0} (l : Language N G) where
 
     belongs_ends : {es : List (MapEntry N)} {v w : ℕ} {f : Fate} {r : Reply} (s : Sorting N) → Fits s.key_place (size s.key + size s.held) → s.value_place ≡ s.key_place + place_count s.key → Belongs l es s.key_place s.key s.held f v → LeadsTo l (sorted s f) r w → LeadsTo l (next_entry es s) r (v + w)
     belongs_ends s h k nowhere g = less g
-    belongs_ends {w = w} {r = r} s h k (other_key {e = e} {es = es} d b) g =
-        subst (λ n. LeadsTo l (next_entry (e ∷ es) s) r n) (omega arith) (after (ask_by (says_ends (omega (arith, h)) d)) (belongs_ends s h k b g))
-    belongs_ends {w = w} {r = r} s h k (here {e = e} {es = es} d b) g =
-        subst (λ n. LeadsTo l (next_entry (e ∷ es) s) r n) (omega arith) (after (ask_by (says_ends (omega (arith, h)) d)) (value_ends {e = e} {w = w} s k (ask_by (says_ends (omega (arith, h, few_places s.key)) b)) g))
-    belongs_ends {w = w} {r = r} s h k (cut_here {e = e} {es = es} c d b) g =
-        subst (λ n. LeadsTo l (next_entry (e ∷ es) s) r n) (omega arith) (after (ask_by (says_ends (omega (arith, h)) d)) (value_ends {e = e} {w = w} s k (ask_by (says_ends (omega (arith, h, few_places s.key)) b)) (rw c g)))
-    belongs_ends {w = w} {r = r} s h k (handed_on {e = e} {es = es} {w = z} c d b m) g =
-        subst (λ n. LeadsTo l (next_entry (e ∷ es) s) r n) (omega arith) (after (ask_by (says_ends (omega (arith, h)) d)) (value_ends {e = e} {w = z + w} s k (ask_by (says_ends (omega (arith, h, few_places s.key)) b)) (rw c (belongs_ends s h k m g))))
+    belongs_ends s h k (passed_over i b) g = passes_over i (belongs_ends s h k b g)
+    belongs_ends {w = w} {r = r} s h k (asked {e = e} {es = es} i b) g = subst (λ n. LeadsTo l (next_entry (e ∷ es) s) r n) (omega arith) (enters i (asked_ends s h k b g))
+
+    asked_ends : {e : MapEntry N} {es : List (MapEntry N)} {v w : ℕ} {f : Fate} {r : Reply} (s : Sorting N) → Fits s.key_place (size s.key + size s.held) → s.value_place ≡ s.key_place + place_count s.key → BelongsAsked l e es s.key_place s.key s.held f v → LeadsTo l (sorted s f) r w → LeadsTo l (Asks (OfType e.key_type s.key_place s.key) (InKey e es s)) r (v + w)
+    asked_ends {w = w} {r = r} s h k (other_key {e = e} {es = es} d b) g =
+        subst (λ n. LeadsTo l (Asks (OfType e.key_type s.key_place s.key) (InKey e es s)) r n) (omega arith) (after (ask_by (says_ends (omega (arith, h)) d)) (belongs_ends s h k b g))
+    asked_ends {w = w} {r = r} s h k (here {e = e} {es = es} d b) g =
+        subst (λ n. LeadsTo l (Asks (OfType e.key_type s.key_place s.key) (InKey e es s)) r n) (omega arith) (after (ask_by (says_ends (omega (arith, h)) d)) (value_ends {e = e} {w = w} s k (ask_by (says_ends (omega (arith, h, few_places s.key)) b)) g))
+    asked_ends {w = w} {r = r} s h k (cut_here {e = e} {es = es} c d b) g =
+        subst (λ n. LeadsTo l (Asks (OfType e.key_type s.key_place s.key) (InKey e es s)) r n) (omega arith) (after (ask_by (says_ends (omega (arith, h)) d)) (value_ends {e = e} {w = w} s k (ask_by (says_ends (omega (arith, h, few_places s.key)) b)) (rw c g)))
+    asked_ends {w = w} {r = r} s h k (handed_on {e = e} {es = es} {w = z} c d b m) g =
+        subst (λ n. LeadsTo l (Asks (OfType e.key_type s.key_place s.key) (InKey e es s)) r n) (omega arith) (after (ask_by (says_ends (omega (arith, h)) d)) (value_ends {e = e} {w = z + w} s k (ask_by (says_ends (omega (arith, h, few_places s.key)) b)) (rw c (belongs_ends s h k m g))))
 
     -- the number is meant, and the content goes on
     number_ends : {t : TagNumber N} {m : N} {p n v w : ℕ} {y : Value} {r : Reply} → Fits p 1 → Numbers l t p n Yes v → LeadsTo l (Asks (OfType m (plus p 1) y) InRef) r w → LeadsTo l (tag_move t m p (Some (n, y))) r (v + w)

@@ -3,14 +3,14 @@ use Rattle.std.proofs.Common.{◌≡◌, ◌≢◌, ℕ, zero, suc, ◌+◌, ◌
 use Rattle.std.proofs.lemmas.Bool.Decides.{nat_tests}
 use Rattle.lists.proofs.Lemmas.{is_equal}
 use Rattle.cbor_data.specs.Value.{Value, place_count, Pairs, no_pairs, pair, pairs_place_count}
-use Rattle.cddl_meaning.specs.Forms.{Test, bits_among, passes, bits_asked, members_in, pairs_in, bytes_in, tag_in, simple_in, TagNumber, any_number, exactly, such_as, Content, MapEntry, Node, Plain, Ref, Choice, ArrayOf, TagOf, SimpleBy, MapOf, Both, Such, Holding, Most, Group, Entry, GroupRef, Sequence, Alternatives, Repeat, Language}
+use Rattle.cddl_meaning.specs.Forms.{Test, bits_among, passes, bits_asked, members_in, pairs_in, bytes_in, tag_in, simple_in, TagNumber, any_number, exactly, such_as, Content, MapEntry, Node, Plain, Ref, Choice, ArrayOf, TagOf, SimpleBy, MapOf, Both, Such, Holding, Most, Group, Entry, GroupRef, Sequence, Alternatives, Repeat, Language, pair_cost, entry_cost}
 use Rattle.cddl_meaning.specs.Size.{size, pairs_size}
-use Rattle.cddl_meaning.specs.Judges.{Answer, Yes, No, Reply, Takes, Fails, whole, over, failed, is_over, one_less, Says, passed, missed, ref, choice, no_array, array, no_tag, tagged, other_tag, no_simple, simple_such, other_simple, no_map, map, left_no, left_yes, none_such, such_passed, such_missed, holder_no, no_string, holds_nothing, held_yes, held_no, Fate, BelongsTo, Stray, alternative_says, either, Maps, no_alternative, alternative, Sorts, all_sorted, sort, Belongs, nowhere, other_key, here, cut_here, handed_on, Numbers, whichever, this_number, other_number, by_head, Chooses, no_more, this_one, not_this, Does, missing, matches, differs, group_ref, sequence, alternatives, repeat, DoesEach, all_done, one_fails, and_then, DoesFirst, all_fail, one_takes, or_else, Repeats, full, too_few, enough, empty_round, round}
+use Rattle.cddl_meaning.specs.Judges.{Answer, Yes, No, Reply, Takes, Fails, whole, over, failed, is_over, one_less, Says, passed, missed, ref, choice, no_array, array, no_tag, tagged, other_tag, no_simple, simple_such, other_simple, no_map, map, left_no, left_yes, none_such, such_passed, such_missed, holder_no, no_string, holds_nothing, held_yes, held_no, Fate, BelongsTo, Stray, alternative_says, either, Maps, no_alternative, alternative, Sorts, all_sorted, sort, Belongs, nowhere, passed_over, asked, BelongsAsked, other_key, here, cut_here, handed_on, Numbers, whichever, this_number, other_number, by_head, Chooses, no_more, this_one, not_this, Does, missing, matches, differs, group_ref, sequence, alternatives, repeat, DoesEach, all_done, one_fails, and_then, DoesFirst, all_fail, one_takes, or_else, Repeats, full, too_few, enough, empty_round, round}
 use Rattle.cddl_meaning.proofs.Sizes.{size_some, all_some, array_size, tag_size, map_size, string_size, few_places, pairs_few_places, held_size}
 use Rattle.cddl_meaning.proofs.Covers.{leaves}
 use Rattle.cddl_meaning.proofs.Matches.{Fits, AllFit, plus_is, next_place, below, array_covers, tag_reply, simple_reply, map_reply, either_is, as_many}
 use Rattle.cddl_meaning.proofs.Tallies.{all_tallied, tally_is}
-use Rattle.cddl_meaning.specs.Moves.{Question, OfType, OfGroup, OfAlternative, Tally, tallied, fresh, tally_says, Sorting, InRef, Answered, Asks, Weighs, plus, reply_of, test_reply, such_reply, answer_reply, either_reply, next_member, next_part, next_alternative, next_round, repetition, after_round, end_of_rounds, array_move, content_move, tag_move, simple_move, read_move, tested_move, next_way, map_move, next_pair, sorted, next_entry, after_value, type_move, group_move, Replies, replies, LeadsTo, at_once, after, tries, weighs, reads, reads_nothing}
+use Rattle.cddl_meaning.specs.Moves.{Question, OfType, OfGroup, OfAlternative, Tally, tallied, fresh, tally_says, Sorting, InRef, InKey, Answered, Asks, Weighs, plus, reply_of, test_reply, such_reply, answer_reply, either_reply, next_member, next_part, next_alternative, next_round, repetition, after_round, end_of_rounds, array_move, content_move, tag_move, simple_move, read_move, tested_move, next_way, map_move, next_pair, sorted, next_entry, after_value, type_move, group_move, Replies, replies, LeadsTo, at_once, after, tries, passes_over, enters, weighs, reads, reads_nothing}
 
 is_unequal : (m n : ℕ) → nat_eq m n ≡ false → m ≢ n
 is_unequal m n h = λ e. absurd (clash m n h e)
@@ -121,6 +121,14 @@ module _ {N G : Type 0} (l : Language N G) where
     belongs : Belongs l es s.key_place s.key s.held fate before
     goes_on : LeadsTo l (sorted s fate) r after_it
 
+  record AskedIt (e : MapEntry N) (es : List (MapEntry N)) (s : Sorting N) (r : Reply) (w : ℕ) : Type 0 where
+    fate : Fate
+    before : ℕ
+    after_it : ℕ
+    total : before + after_it ≡ w
+    belongs : BelongsAsked l e es s.key_place s.key s.held fate before
+    goes_on : LeadsTo l (sorted s fate) r after_it
+
   such_says : {m : N} {t : Test} {p b far v : ℕ} {x : Value} {left : List Value} (c : Bool) → passes t x ≡ c → SaysIt (l.type_at m) p x (Takes left b far) v → SaysIt (Such m t) p x (such_reply p b c) (suc (v + bits_asked t x))
   such_says {m = m} {t = t} {p = p} {x = x} true e s = record { answer = Yes; is = ap (λ b. Takes [] b 0) (next_of s); says = such_passed (yes_of s) e }
   such_says {m = m} {t = t} {p = p} {x = x} false e s = record { answer = No p; is = refl; says = such_missed (yes_of s) e }
@@ -149,29 +157,37 @@ module _ {N G : Type 0} (l : Language N G) where
         record { answer = m.answer; is = m.is ∙ map_reply p x m.answer f i; says = map i m.maps }
 
     -- the value type has said no
-    value_from : {e : MapEntry N} {es : List (MapEntry N)} {far u v w : ℕ} {s : Sorting N} {r : Reply} (c : Bool) → e.cuts ≡ c → Says l (l.type_at e.key_type) s.key_place s.key Yes u → Says l (l.type_at e.value_type) (s.key_place + place_count s.key) s.held (No far) v → (LeadsTo l (next_entry es s) r w → BelongsIt es s r w) → LeadsTo l (after_value c es s far) r w → BelongsIt (e ∷ es) s r (u + (v + w))
+    value_from : {e : MapEntry N} {es : List (MapEntry N)} {far u v w : ℕ} {s : Sorting N} {r : Reply} (c : Bool) → e.cuts ≡ c → Says l (l.type_at e.key_type) s.key_place s.key Yes u → Says l (l.type_at e.value_type) (s.key_place + place_count s.key) s.held (No far) v → (LeadsTo l (next_entry es s) r w → BelongsIt es s r w) → LeadsTo l (after_value c es s far) r w → AskedIt e es s r (u + (v + w))
     value_from {es = es} {far = far} {u = u} {v = v} {w = w} true c d b rest e = record { fate = BelongsTo (length es) (No far); before = u + v; after_it = w; total = omega arith; belongs = cut_here c d b; goes_on = e }
     value_from {u = u} {v = v} false c d b rest e =
         let t = rest e in
         record { fate = t.fate; before = u + (v + t.before); after_it = t.after_it; total = omega (arith, t.total); belongs = handed_on c d b t.belongs; goes_on = t.goes_on }
 
-    belongs_from : (es : List (MapEntry N)) (s : Sorting N) {w : ℕ} {r : Reply} → Fits s.key_place (size s.key + size s.held) → s.value_place ≡ s.key_place + place_count s.key → w ≤ k → LeadsTo l (next_entry es s) r w → BelongsIt es s r w
-    belongs_from [] s {w = w} f z h e = record { fate = Stray s.key_place; before = 0; after_it = w; total = omega arith; belongs = nowhere; goes_on = e }
-    belongs_from (e ∷ es) s f z h (after {s = Takes left b later} {v = v} d (after {s = Takes also c last} {v = u} {w = w} d' g)) =
+    asked_from : (e : MapEntry N) (es : List (MapEntry N)) (s : Sorting N) {w : ℕ} {r : Reply} → Fits s.key_place (size s.key + size s.held) → s.value_place ≡ s.key_place + place_count s.key → w ≤ k → ((w : ℕ) → w ≤ k → LeadsTo l (next_entry es s) r w → BelongsIt es s r w) → LeadsTo l (Asks (OfType e.key_type s.key_place s.key) (InKey e es s)) r w → AskedIt e es s r w
+    asked_from e es s f z h rest (after {s = Takes left b later} {v = v} d (after {s = Takes also c last} {v = u} {w = w} d' g)) =
         let t = known.types (omega (arith, f)) (omega (arith, h)) d in
         let y = known.types (omega (arith, f, few_places s.key)) (omega (arith, h)) (subst (λ q. Replies l (OfType e.value_type q s.held) (Takes also c last) u) z d') in
         record { fate = BelongsTo (length es) Yes; before = v + u; after_it = w; total = omega arith; belongs = here (yes_of t) (yes_of y); goes_on = g }
-    belongs_from (e ∷ es) s f z h (after {s = Takes left b later} {v = v} d (after {s = Fails far} {v = u} {w = w} d' g)) =
+    asked_from e es s f z h rest (after {s = Takes left b later} {v = v} d (after {s = Fails far} {v = u} {w = w} d' g)) =
         let t = known.types (omega (arith, f)) (omega (arith, h)) d in
         let y = known.types (omega (arith, f, few_places s.key)) (omega (arith, h)) (subst (λ q. Replies l (OfType e.value_type q s.held) (Fails far) u) z d') in
-        value_from {e = e} {s = s} e.cuts refl (yes_of t) (no_of y) (λ g. belongs_from es s f z (omega (arith, h)) g) g
-    belongs_from (e ∷ es) s f z h (after {s = Fails far} {v = v} {w = w} d g) =
+        value_from {e = e} {s = s} e.cuts refl (yes_of t) (no_of y) (λ g. rest _ (omega (arith, h)) g) g
+    asked_from e es s f z h rest (after {s = Fails far} {v = v} {w = w} d g) =
         let t = known.types (omega (arith, f)) (omega (arith, h)) d in
-        let m = belongs_from es s f z (omega (arith, h)) g in
+        let m = rest _ (omega (arith, h)) g in
         record { fate = m.fate; before = v + m.before; after_it = m.after_it; total = omega (arith, m.total); belongs = other_key (no_of t) m.belongs; goes_on = m.goes_on }
 
+    belongs_from : (es : List (MapEntry N)) (s : Sorting N) {w : ℕ} {r : Reply} → Fits s.key_place (size s.key + size s.held) → s.value_place ≡ s.key_place + place_count s.key → w ≤ k → LeadsTo l (next_entry es s) r w → BelongsIt es s r w
+    belongs_from [] s {w = w} f z h e = record { fate = Stray s.key_place; before = 0; after_it = w; total = omega arith; belongs = nowhere; goes_on = e }
+    belongs_from (e ∷ es) s f z h (passes_over i g) =
+        let m = belongs_from es s f z h g in
+        record { fate = m.fate; before = m.before; after_it = m.after_it; total = m.total; belongs = passed_over i m.belongs; goes_on = m.goes_on }
+    belongs_from (e ∷ es) s {r = r} f z h (enters i g) =
+        let m = asked_from e es s {r = r} f z (omega (arith, h)) (λ w h g. belongs_from es s {w = w} {r = r} f z h g) g in
+        record { fate = m.fate; before = entry_cost l.counting + m.before; after_it = m.after_it; total = omega (arith, m.total); belongs = asked i m.belongs; goes_on = m.goes_on }
+
     -- a pair is sorted, and so are those after it
-    one_more_pair : {es : List (MapEntry N)} {p q u v w : ℕ} {c x : Value} {ps : Pairs} {t : Tally} (f : Fate) {r : Reply} → Belongs l es q c x f u → u + v ≡ w → SortsIt es p (q + place_count c + place_count x) ps (tallied t f) r v → SortsIt es p q (pair c x ps) t r (suc (length es) + w)
+    one_more_pair : {es : List (MapEntry N)} {p q u v w : ℕ} {c x : Value} {ps : Pairs} {t : Tally} (f : Fate) {r : Reply} → Belongs l es q c x f u → u + v ≡ w → SortsIt es p (q + place_count c + place_count x) ps (tallied t f) r v → SortsIt es p q (pair c x ps) t r (pair_cost l.counting (length es) + w)
     one_more_pair {es = es} {p = p} {q = q} {c = c} {x = x} {ps = ps} {t = t} f {r = r} b e m =
         record { fates = f ∷ m.fates; is = m.is ∙ ap (λ b. answer_reply b (tally_says es p (all_tallied (tallied t f) m.fates))) (omega arith); sorts = subst (λ w. Sorts l es q (pair c x ps) (f ∷ m.fates) w) (omega (arith, e)) (sort b m.sorts) }
 

@@ -12,4 +12,5 @@ pub mod Frames
 pub mod Bytes
 pub mod Example
 pub mod Flags
+pub mod Cheaper
 pub mod Lemmas

@@ -1,10 +1,10 @@
 -- What a type says of an item it says of each that is the same, at whatever place.
-use Rattle.std.proofs.Common.{◌≡◌, ℕ, suc, ◌+◌, max, length, List, [], ◌∷◌, Some, sym, ◌∙◌}
+use Rattle.std.proofs.Common.{◌≡◌, ℕ, suc, ◌+◌, max, length, List, [], ◌∷◌, Option, Some, None, not, refl, ap, sym, ◌∙◌}
 use Rattle.cbor_data.specs.Value.{Value, place_count, Pairs, no_pairs, pair}
 use Rattle.cbor_data.specs.Equivalence.{IsAdded, first, later, IsSame, same_uint, ArePairsSame, no_more, one_more}
-use Rattle.cddl_meaning.specs.Forms.{members_in, TagNumber, MapEntry, Node, ArrayOf, Most, Group, Language}
-use Rattle.cddl_meaning.specs.Judges.{Answer, Yes, No, Reply, Takes, Fails, ArraySays, whole, over, failed, Says, passed, missed, ref, choice, no_array, array, no_tag, tagged, other_tag, no_simple, simple_such, other_simple, no_map, map, left_no, left_yes, none_such, such_passed, such_missed, holder_no, no_string, holds_nothing, held_yes, held_no, Fate, BelongsTo, Stray, Maps, no_alternative, alternative, Sorts, all_sorted, sort, Belongs, nowhere, other_key, here, cut_here, handed_on, Numbers, whichever, this_number, other_number, by_head, Chooses, no_more as none_left, this_one, not_this, Does, missing, matches, differs, group_ref, sequence, alternatives, repeat, DoesEach, all_done, one_fails, and_then, DoesFirst, all_fail, one_takes, or_else, Repeats, full, too_few, enough, empty_round, round}
-use Rattle.cddl_meaning.specs.Literals.{IsPlainNode, HasPlainLiterals}
+use Rattle.cddl_meaning.specs.Forms.{equals, members_in, TagNumber, MapEntry, Node, ArrayOf, Most, Group, Counting, every_entry, by_keys, is_other, is_passed_over, pair_cost, entry_cost, Language}
+use Rattle.cddl_meaning.specs.Judges.{Answer, Yes, No, Reply, Takes, Fails, ArraySays, whole, over, failed, Says, passed, missed, ref, choice, no_array, array, no_tag, tagged, other_tag, no_simple, simple_such, other_simple, no_map, map, left_no, left_yes, none_such, such_passed, such_missed, holder_no, no_string, holds_nothing, held_yes, held_no, Fate, BelongsTo, Stray, Maps, no_alternative, alternative, Sorts, all_sorted, sort, Belongs, nowhere, passed_over, asked, BelongsAsked, other_key, here, cut_here, handed_on, Numbers, whichever, this_number, other_number, by_head, Chooses, no_more as none_left, this_one, not_this, Does, missing, matches, differs, group_ref, sequence, alternatives, repeat, DoesEach, all_done, one_fails, and_then, DoesFirst, all_fail, one_takes, or_else, Repeats, full, too_few, enough, empty_round, round}
+use Rattle.cddl_meaning.specs.Literals.{HasNoParts, IsPlainNode, HasPlainKeys, HasPlainLiterals}
 use Rattle.cddl_meaning.proofs.SameItems.{AllSame, none, both, as_long, test_same, members_same, pairs_same, content_same, no_members_same, no_pairs_same, no_content_same, bytes_same, number_same}
 use Rattle.cddl_meaning.proofs.SameFates.{AlikeAnswers, both_yes, both_no, AlikeFates, both_stray, both_belong, alike_fate, SameTally, tally_itself, tally_on, tally_more, tally_swapped, alternative_alike, either_alike}
 
@@ -53,6 +53,15 @@ lift_reply : {S T : Reply → ℕ → Type 0} → ((b : Reply) (v : ℕ) → S b
 lift_reply f (Takes left next far) s = let m = f (Takes s.rest s.next s.far) s.weight s.does in record { rest = s.rest; same = s.same; next = s.next; far = s.far; weight = m.weight; does = m.holds }
 lift_reply f (Fails far) s = let m = f (Fails s.far) s.weight s.does in record { far = s.far; weight = m.weight; does = m.holds }
 
+-- Of two keys that are the same both are another than the value that is known, or neither is.
+other_alike : (o : Option Value) {k m : Value} → ((v : Value) → o ≡ Some v → HasNoParts v) → IsSame k m → is_other o k ≡ is_other o m
+other_alike None h s = refl
+other_alike (Some v) h s = ap not (test_same (equals v) (h v refl) s)
+
+passed_alike : {N : Type 0} (c : Counting N) → HasPlainKeys c → (n : N) {k m : Value} → IsSame k m → is_passed_over c n k ≡ is_passed_over c n m
+passed_alike every_entry h n s = refl
+passed_alike (by_keys f) h n s = other_alike (f n) (h n) s
+
 module _ {N G : Type 0} (l : Language N G) (h : HasPlainLiterals l) where
   -- what an array says by what its group does
   all_taken : {g : G} {p next far w : ℕ} {y : Value} {ys rest : List Value} → members_in y ≡ Some ys → AllSame [] rest → Does l (l.group_at g) p (suc p) ys (Takes rest next far) w → YesToo (Says l (ArrayOf g) p y)
@@ -71,6 +80,13 @@ module _ {N G : Type 0} (l : Language N G) (h : HasPlainLiterals l) where
     fate : Fate
     weight : ℕ
     belongs : Belongs l es q k x fate weight
+    like : AlikeFates f fate
+
+  -- the same, where the first entry is asked about it
+  record AskedToo (e : MapEntry N) (es : List (MapEntry N)) (q : ℕ) (k x : Value) (f : Fate) : Type 0 where
+    fate : Fate
+    weight : ℕ
+    belongs : BelongsAsked l e es q k x fate weight
     like : AlikeFates f fate
 
   -- Pairs that have these fates wherever they stand, each at any place.
@@ -101,7 +117,7 @@ module _ {N G : Type 0} (l : Language N G) (h : HasPlainLiterals l) where
   sorts_at {es = es} (a_pair {k = k} {x = x} b s) q =
       let f = b q in
       let t = sorts_at s (q + place_count k + place_count x) in
-      record { fates = f.fate ∷ t.fates; weight = suc (length es) + f.weight + t.weight; sorts = sort f.belongs t.sorts; tally = tally_more f.like t.tally }
+      record { fates = f.fate ∷ t.fates; weight = pair_cost l.counting (length es) + f.weight + t.weight; sorts = sort f.belongs t.sorts; tally = tally_more f.like t.tally }
 
   mutual
     pub said_of_same : {f : Node N G} {p w : ℕ} {x y : Value} {a : Answer} → IsPlainNode f → Says l f p x a w → IsSame x y → (q : ℕ) → SaysToo (Says l f q y) a
@@ -156,19 +172,27 @@ module _ {N G : Type 0} (l : Language N G) (h : HasPlainLiterals l) where
 
     belongs_too : {es : List (MapEntry N)} {p w : ℕ} {k x m y : Value} {f : Fate} → Belongs l es p k x f w → IsSame k m → IsSame x y → (q : ℕ) → BelongsToo es q m y f
     belongs_too nowhere s t q = record { fate = Stray q; weight = 0; belongs = nowhere; like = both_stray }
-    belongs_too (other_key {e = e} d b) s t q =
+    belongs_too (passed_over {e = e} i b) s t q =
+        let r = belongs_too b s t q in
+        record { fate = r.fate; weight = r.weight; belongs = passed_over (sym (passed_alike l.counting h.keys e.key_type s) ∙ i) r.belongs; like = r.like }
+    belongs_too (asked {e = e} i b) s t q =
+        let r = asked_too b s t q in
+        record { fate = r.fate; weight = entry_cost l.counting + r.weight; belongs = asked (sym (passed_alike l.counting h.keys e.key_type s) ∙ i) r.belongs; like = r.like }
+
+    asked_too : {e : MapEntry N} {es : List (MapEntry N)} {p w : ℕ} {k x m y : Value} {f : Fate} → BelongsAsked l e es p k x f w → IsSame k m → IsSame x y → (q : ℕ) → AskedToo e es q m y f
+    asked_too (other_key {e = e} d b) s t q =
         let u = said_of_same (h.plain e.key_type) d s q in
         let r = belongs_too b s t q in
         record { fate = r.fate; weight = u.weight + r.weight; belongs = other_key u.says r.belongs; like = r.like }
-    belongs_too {m = m} (here {e = e} {es = es} d b) s t q =
+    asked_too {m = m} (here {e = e} {es = es} d b) s t q =
         let u = said_of_same (h.plain e.key_type) d s q in
         let v = said_of_same (h.plain e.value_type) b t (q + place_count m) in
         record { fate = BelongsTo (length es) Yes; weight = u.weight + v.weight; belongs = here u.says v.says; like = both_belong both_yes }
-    belongs_too {m = m} (cut_here {e = e} {es = es} c d b) s t q =
+    asked_too {m = m} (cut_here {e = e} {es = es} c d b) s t q =
         let u = said_of_same (h.plain e.key_type) d s q in
         let v = said_of_same (h.plain e.value_type) b t (q + place_count m) in
         record { fate = BelongsTo (length es) (No v.far); weight = u.weight + v.weight; belongs = cut_here c u.says v.says; like = both_belong both_no }
-    belongs_too {m = m} (handed_on {e = e} c d b g) s t q =
+    asked_too {m = m} (handed_on {e = e} c d b g) s t q =
         let u = said_of_same (h.plain e.key_type) d s q in
         let v = said_of_same (h.plain e.value_type) b t (q + place_count m) in
         let r = belongs_too g s t q in

@@ -4,7 +4,7 @@
 -- names of types, S those of groups.
 use Rattle.std.specs.Prelude.{◌≡◌, ℕ, List, [], ◌∷◌}
 use Rattle.cbor_data.specs.Value.{Value}
-use Rattle.cddl_meaning.specs.Forms.{Test, passes, bits_asked, TagNumber, any_number, exactly, such_as, Content, MapEntry, Node, Plain, Ref, Choice, ArrayOf, TagOf, SimpleBy, MapOf, Both, Such, Holding, Most, Group, Entry, GroupRef, Sequence, Alternatives, Repeat, Language}
+use Rattle.cddl_meaning.specs.Forms.{Test, passes, bits_asked, TagNumber, any_number, exactly, such_as, Content, MapEntry, Node, Plain, Ref, Choice, ArrayOf, TagOf, SimpleBy, MapOf, Both, Such, Holding, Most, Group, Entry, GroupRef, Sequence, Alternatives, Repeat, Language, Counting, every_entry, by_keys}
 
 -- as many names, related one by one in their order
 pub data AlikeAll {N M : Type 0} (R : N → M → Type 0) : List N → List M → Type 0 where
@@ -56,10 +56,18 @@ pub data AlikeGroups {N G M H : Type 0} (R : N → M → Type 0) (S : G → H �
   alternates : {gs : List G} {hs : List H} → AlikeAll S gs hs → AlikeGroups R S (Alternatives gs) (Alternatives hs)
   repeats : {least : ℕ} {most : Most} {g : G} {h : H} → S g h → AlikeGroups R S (Repeat least most g) (Repeat least most h)
 
--- what is related has forms alike
+-- the same is counted: related key types are known to be the same value, or neither is known to be one
+abbrev pub AlikeCounting : {N M : Type 0} → (N → M → Type 0) → Counting N → Counting M → Type 0
+AlikeCounting R every_entry every_entry = Unit {0}
+AlikeCounting R every_entry (by_keys g) = ⊥
+AlikeCounting R (by_keys f) every_entry = ⊥
+AlikeCounting {N = N} {M = M} R (by_keys f) (by_keys g) = (n : N) (m : M) → R n m → f n ≡ g m
+
+-- what is related has forms alike, and counts the same
 pub record AreAlike {N G M H : Type 0} (l : Language N G) (k : Language M H) (R : N → M → Type 0) (S : G → H → Type 0) : Type 0 where
   pub types : (n : N) (m : M) → R n m → AlikeTypes R S (l.type_at n) (k.type_at m)
   pub groups : (g : G) (h : H) → S g h → AlikeGroups R S (l.group_at g) (k.group_at h)
+  pub counting : AlikeCounting R l.counting k.counting
 
 -- the relation, read the other way
 abbrev pub flipped : {N M : Type 0} → (N → M → Type 0) → M → N → Type 0

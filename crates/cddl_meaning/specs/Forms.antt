@@ -221,7 +221,54 @@ pub data Group (N G : Type 0) : Type 0 where
   -- an occurrence (section 3.2)
   Repeat : (least : ℕ) → Most → G → Group N G
 
--- what each name stands for
+-- What is counted where a pair of a map is tried with the entries of an alternative: every entry, asked or not; or those that
+-- are asked, where an entry is passed over whose key type is known to be one value, and the pair's key is another.
+pub data Counting (N : Type 0) : Type 0 where
+  every_entry : Counting N
+  by_keys : (N → Option Value) → Counting N
+
+-- the key is another than the one value that is known
+abbrev pub is_other : Option Value → Value → Bool
+is_other None k = false
+is_other (Some v) k = not (same_value k v)
+
+-- An entry with this key type is passed over by a pair with this key.
+abbrev pub is_passed_over : {N : Type 0} → Counting N → N → Value → Bool
+is_passed_over every_entry n k = false
+is_passed_over (by_keys f) n k = is_other (f n) k
+
+-- what a pair counts that is tried with so many entries, and what each entry counts that is asked about it
+abbrev pub pair_cost : {N : Type 0} → Counting N → ℕ → ℕ
+pair_cost every_entry n = suc n
+pair_cost (by_keys f) n = 1
+
+abbrev pub entry_cost : {N : Type 0} → Counting N → ℕ
+entry_cost every_entry = 0
+entry_cost (by_keys f) = 1
+
+-- The one value that a type is, by its form: a value, or what a name stands for, or a choice of one. (`next`: of the types
+-- that it names.)
+abbrev pub key_by : {N G : Type 0} → (N → Option Value) → Node N G → Option Value
+key_by next (Plain (equals v)) = Some v
+key_by next (Ref m) = next m
+key_by next (Choice (m ∷ [])) = next m
+key_by next _ = None
+
+-- through so many of them
+unfoldable pub key_in : {N G : Type 0} → (N → Node N G) → ℕ → N → Option Value
+key_in type_at zero n = key_by (λ m. None) (type_at n)
+key_in type_at (suc k) n = key_by (λ m. key_in type_at k m) (type_at n)
+
+-- so many forms are gone through to find the value of a key, and one more
+unfoldable pub most_forms : ℕ
+most_forms = 16
+
+-- what is counted by the keys that forms show
+abbrev pub by_forms : {N G : Type 0} → (N → Node N G) → Counting N
+by_forms type_at = by_keys (key_in type_at most_forms)
+
+-- what each name stands for, and what is counted
 pub record Language (N G : Type 0) : Type 0 where
   pub type_at : N → Node N G
   pub group_at : G → Group N G
+  pub counting : Counting N

@@ -15,14 +15,16 @@
 -- What a byte string holds is asked about if its own type has said yes. It is an item by itself, with places of its own from
 -- 0 on, so a no of it shows at the byte string. Reading is no judgement.
 --
--- Each derivation has a weight, the number of its judgements: a type said something of an item, or a group did something
--- with a list; and in a map one for each alternative, one for each pair in each alternative, and one for each pair with
--- each entry of the alternative, tried or not; and in a test of bits after a type that has said yes one for each bit that is
--- set. A place is an item's number in preorder, a key before its value.
+-- Each derivation has a cost, the number of its judgements: a type said something of an item, or a group did something with
+-- a list; and in a map one for each alternative, one for each pair in each alternative, and one for each entry that is asked
+-- about a pair; and in a test of bits after a type that has said yes one for each bit that is set. An entry is passed over,
+-- which costs nothing, where its key type is known to be one value and the pair has another key: it could only say no.
+-- Where a language counts every entry instead, the number is the weight: each pair counts one for each entry of the
+-- alternative, asked or not, and one more. A place is an item's number in preorder, a key before its value.
 use Rattle.std.specs.Prelude.{◌≡◌, ◌≢◌, ℕ, zero, suc, ◌+◌, ◌-◌, max, length, List, [], ◌∷◌, Option, Some, None, Bool, true, false, nat_le, nat_eq, ◌&&◌, if◌then◌else◌}
 use Rattle.cbor_data.specs.Value.{Value, uint, place_count, Pairs, no_pairs, pair}
 use Rattle.cddl_meaning.specs.Held.{Holds}
-use Rattle.cddl_meaning.specs.Forms.{Test, passes, bits_asked, members_in, pairs_in, bytes_in, tag_in, simple_in, TagNumber, any_number, exactly, such_as, Content, MapEntry, Node, Plain, Ref, Choice, ArrayOf, TagOf, SimpleBy, MapOf, Both, Such, Holding, Most, at_most, any_number_of, Group, Entry, GroupRef, Sequence, Alternatives, Repeat, Language}
+use Rattle.cddl_meaning.specs.Forms.{Test, passes, bits_asked, members_in, pairs_in, bytes_in, tag_in, simple_in, TagNumber, any_number, exactly, such_as, Content, MapEntry, Node, Plain, Ref, Choice, ArrayOf, TagOf, SimpleBy, MapOf, Both, Such, Holding, Most, at_most, any_number_of, Group, Entry, GroupRef, Sequence, Alternatives, Repeat, Language, is_passed_over, pair_cost, entry_cost}
 
 -- What a type says: yes; or no, with the place where it shows. That is the greatest place of all trials that failed, but for
 -- those of types that then said yes.
@@ -146,16 +148,21 @@ mutual
   -- Each of these pairs, the first key at q, has its fate in an alternative of these entries.
   pub data Sorts {N G : Type 0} (l : Language N G) : List (MapEntry N) → ℕ → Pairs → List Fate → ℕ → Type 0 where
     all_sorted : {es : List (MapEntry N)} {q : ℕ} → Sorts l es q no_pairs [] 0
-    sort : {es : List (MapEntry N)} {q v w : ℕ} {k x : Value} {ps : Pairs} {f : Fate} {fs : List Fate} → Belongs l es q k x f v → Sorts l es (q + place_count k + place_count x) ps fs w → Sorts l es q (pair k x ps) (f ∷ fs) (suc (length es) + v + w)
+    sort : {es : List (MapEntry N)} {q v w : ℕ} {k x : Value} {ps : Pairs} {f : Fate} {fs : List Fate} → Belongs l es q k x f v → Sorts l es (q + place_count k + place_count x) ps fs w → Sorts l es q (pair k x ps) (f ∷ fs) (pair_cost l.counting (length es) + v + w)
 
   -- The pair of the key k, which is at q, and the value x belongs to the first of these entries that takes it. They are the
   -- last of an alternative.
   pub data Belongs {N G : Type 0} (l : Language N G) : List (MapEntry N) → ℕ → Value → Value → Fate → ℕ → Type 0 where
     nowhere : {q : ℕ} {k x : Value} → Belongs l [] q k x (Stray q) 0
-    other_key : {e : MapEntry N} {es : List (MapEntry N)} {q far v w : ℕ} {k x : Value} {f : Fate} → Says l (l.type_at e.key_type) q k (No far) v → Belongs l es q k x f w → Belongs l (e ∷ es) q k x f (v + w)
-    here : {e : MapEntry N} {es : List (MapEntry N)} {q v w : ℕ} {k x : Value} → Says l (l.type_at e.key_type) q k Yes v → Says l (l.type_at e.value_type) (q + place_count k) x Yes w → Belongs l (e ∷ es) q k x (BelongsTo (length es) Yes) (v + w)
-    cut_here : {e : MapEntry N} {es : List (MapEntry N)} {q far v w : ℕ} {k x : Value} → e.cuts ≡ true → Says l (l.type_at e.key_type) q k Yes v → Says l (l.type_at e.value_type) (q + place_count k) x (No far) w → Belongs l (e ∷ es) q k x (BelongsTo (length es) (No far)) (v + w)
-    handed_on : {e : MapEntry N} {es : List (MapEntry N)} {q far u v w : ℕ} {k x : Value} {f : Fate} → e.cuts ≡ false → Says l (l.type_at e.key_type) q k Yes u → Says l (l.type_at e.value_type) (q + place_count k) x (No far) v → Belongs l es q k x f w → Belongs l (e ∷ es) q k x f (u + (v + w))
+    passed_over : {e : MapEntry N} {es : List (MapEntry N)} {q w : ℕ} {k x : Value} {f : Fate} → is_passed_over l.counting e.key_type k ≡ true → Belongs l es q k x f w → Belongs l (e ∷ es) q k x f w
+    asked : {e : MapEntry N} {es : List (MapEntry N)} {q w : ℕ} {k x : Value} {f : Fate} → is_passed_over l.counting e.key_type k ≡ false → BelongsAsked l e es q k x f w → Belongs l (e ∷ es) q k x f (entry_cost l.counting + w)
+
+  -- The same, where the first of the entries is asked about it.
+  pub data BelongsAsked {N G : Type 0} (l : Language N G) : MapEntry N → List (MapEntry N) → ℕ → Value → Value → Fate → ℕ → Type 0 where
+    other_key : {e : MapEntry N} {es : List (MapEntry N)} {q far v w : ℕ} {k x : Value} {f : Fate} → Says l (l.type_at e.key_type) q k (No far) v → Belongs l es q k x f w → BelongsAsked l e es q k x f (v + w)
+    here : {e : MapEntry N} {es : List (MapEntry N)} {q v w : ℕ} {k x : Value} → Says l (l.type_at e.key_type) q k Yes v → Says l (l.type_at e.value_type) (q + place_count k) x Yes w → BelongsAsked l e es q k x (BelongsTo (length es) Yes) (v + w)
+    cut_here : {e : MapEntry N} {es : List (MapEntry N)} {q far v w : ℕ} {k x : Value} → e.cuts ≡ true → Says l (l.type_at e.key_type) q k Yes v → Says l (l.type_at e.value_type) (q + place_count k) x (No far) w → BelongsAsked l e es q k x (BelongsTo (length es) (No far)) (v + w)
+    handed_on : {e : MapEntry N} {es : List (MapEntry N)} {q far u v w : ℕ} {k x : Value} {f : Fate} → e.cuts ≡ false → Says l (l.type_at e.key_type) q k Yes u → Says l (l.type_at e.value_type) (q + place_count k) x (No far) v → Belongs l es q k x f w → BelongsAsked l e es q k x f (u + (v + w))
 
   -- The number n of a tag at p is meant, or not.
   pub data Numbers {N G : Type 0} (l : Language N G) : TagNumber N → ℕ → ℕ → Answer → ℕ → Type 0 where

@@ -6,3 +6,4 @@ pub mod Moves
 pub mod Size
 pub mod Literals
 pub mod Ranks
+pub mod Costs

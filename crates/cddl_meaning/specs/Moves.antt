@@ -1,8 +1,8 @@
 -- The moves of a matcher, as functions: each is a reply, or a question and what waits for its reply. They reply just what
 -- the definition says, wherever places have numbers below 2^64.
-use Rattle.std.specs.Prelude.{ℕ, zero, suc, ◌+◌, ◌-◌, ◌^◌, min, max, length, List, [], ◌∷◌, Option, Some, None, Bool, true, false, nat_eq, nat_le, ◌&&◌, if◌then◌else◌}
+use Rattle.std.specs.Prelude.{◌≡◌, ℕ, zero, suc, ◌+◌, ◌-◌, ◌^◌, min, max, length, List, [], ◌∷◌, Option, Some, None, Bool, true, false, nat_eq, nat_le, ◌&&◌, if◌then◌else◌}
 use Rattle.cbor_data.specs.Value.{Value, uint, place_count, Pairs, no_pairs, pair}
-use Rattle.cddl_meaning.specs.Forms.{Test, bits_among, passes, bits_asked, members_in, pairs_in, bytes_in, tag_in, simple_in, TagNumber, any_number, exactly, such_as, Content, MapEntry, Node, Plain, Ref, Choice, ArrayOf, TagOf, SimpleBy, MapOf, Both, Such, Holding, Most, Group, Entry, GroupRef, Sequence, Alternatives, Repeat, Language}
+use Rattle.cddl_meaning.specs.Forms.{Test, bits_among, passes, bits_asked, members_in, pairs_in, bytes_in, tag_in, simple_in, TagNumber, any_number, exactly, such_as, Content, MapEntry, Node, Plain, Ref, Choice, ArrayOf, TagOf, SimpleBy, MapOf, Both, Such, Holding, Most, Group, Entry, GroupRef, Sequence, Alternatives, Repeat, Language, is_passed_over, pair_cost, entry_cost}
 use Rattle.cddl_meaning.specs.Held.{Holds}
 use Rattle.cddl_meaning.specs.Judges.{Answer, Yes, No, Reply, Takes, Fails, is_over, one_less, is_up_to_most, Fate, BelongsTo, Stray, by_counts, shown_by}
 
@@ -68,12 +68,14 @@ pub data Pending (N G : Type 0) : Type 0 where
   -- the byte string whose content is asked about, and the place after it
   InHeld : (place next : ℕ) → Pending N G
 
--- Either the reply, or what is asked first; or a pair is tried with the entries of its alternative; or a byte string at a
--- place is read, and a type asked of what it holds; or so many bits are weighed, and then this is the reply.
+-- Either the reply, or what is asked first; or a pair is tried with the entries of its alternative, and there with one of them
+-- before those after it; or a byte string at a place is read, and a type asked of what it holds; or so many bits are weighed,
+-- and then this is the reply.
 pub data Move (N G : Type 0) : Type 0 where
   Answered : Reply → Move N G
   Asks : Question N G → Pending N G → Move N G
   Tries : Sorting N → Move N G
+  Enters : MapEntry N → List (MapEntry N) → Sorting N → Move N G
   Reads : Content → List ℕ → N → (place next : ℕ) → Move N G
   Weighs : (bits : ℕ) → Reply → Move N G
 
@@ -238,7 +240,7 @@ module _ {N G : Type 0} where
   -- The pair is tried with the next entry.
   abbrev pub next_entry : List (MapEntry N) → Sorting N → Move N G
   next_entry [] s = sorted s (Stray s.key_place)
-  next_entry (e ∷ es) s = Asks (OfType e.key_type s.key_place s.key) (InKey e es s)
+  next_entry (e ∷ es) s = Enters e es s
 
   -- An entry whose value type has said no keeps the pair if it cuts.
   abbrev pub after_value : Bool → List (MapEntry N) → Sorting N → ℕ → Move N G
@@ -320,7 +322,9 @@ module _ {N G : Type 0} where
     pub data LeadsTo (l : Language N G) : Move N G → Reply → ℕ → Type 0 where
       at_once : {r : Reply} → LeadsTo l (Answered r) r 0
       after : {q : Question N G} {o : Pending N G} {s r : Reply} {v w : ℕ} → Replies l q s v → LeadsTo l (next_move o s) r w → LeadsTo l (Asks q o) r (v + w)
-      tries : {s : Sorting N} {r : Reply} {w : ℕ} → LeadsTo l (next_entry s.entries s) r w → LeadsTo l (Tries s) r (suc (length s.entries) + w)
+      tries : {s : Sorting N} {r : Reply} {w : ℕ} → LeadsTo l (next_entry s.entries s) r w → LeadsTo l (Tries s) r (pair_cost l.counting (length s.entries) + w)
+      passes_over : {e : MapEntry N} {es : List (MapEntry N)} {s : Sorting N} {r : Reply} {w : ℕ} → is_passed_over l.counting e.key_type s.key ≡ true → LeadsTo l (next_entry es s) r w → LeadsTo l (Enters e es s) r w
+      enters : {e : MapEntry N} {es : List (MapEntry N)} {s : Sorting N} {r : Reply} {w : ℕ} → is_passed_over l.counting e.key_type s.key ≡ false → LeadsTo l (Asks (OfType e.key_type s.key_place s.key) (InKey e es s)) r w → LeadsTo l (Enters e es s) r (entry_cost l.counting + w)
       weighs : {n : ℕ} {r : Reply} → LeadsTo l (Weighs n r) r n
       reads : {c : Content} {b : List ℕ} {n : N} {p next w : ℕ} {y : Value} {r : Reply} → Holds c b y → LeadsTo l (Asks (OfType n 0 y) (InHeld p next)) r w → LeadsTo l (Reads c b n p next) r w
       reads_nothing : {c : Content} {b : List ℕ} {n : N} {p next : ℕ} → ((y : Value) → Holds c b y → ⊥) → LeadsTo l (Reads c b n p next) (Fails p) 0

@@ -3,3 +3,4 @@ pub mod Flags
 pub mod Reached
 pub mod Decided
 pub mod Example
+pub mod Cheaper

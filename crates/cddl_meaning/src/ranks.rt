@@ -7,6 +7,8 @@ ghost use Rattle.cbor_data.specs.Preferred.{preferred};
 ghost use Rattle.cddl_meaning.specs.Forms.{Node, Ref, Group, Language};
 ghost use Rattle.cddl_meaning.specs.Judges.{Answer, Reply, Takes, Says, Does};
 ghost use Rattle.cddl_meaning.specs.Moves.{Question, OfType, Pending, Move, Replies};
+ghost use Rattle.cddl_meaning.specs.Costs.{HasLiterals};
+ghost use Rattle.cddl_meaning.specs.Ranks.Cheaper.{IsCheaper};
 ghost use Rattle.cddl_meaning.specs.Ranks.Decided.{IsDecided};
 ghost use Rattle.cddl_meaning.specs.Ranks.Example.{example, example_rank};
 ghost use Rattle.cddl_meaning.specs.Ranks.Ranked.{IsRanked, LeadsTo, MayBeEmpty, Name};
@@ -25,6 +27,12 @@ pub fn some_answer<N, G>()
 /// number of judgements.
 pub fn decided<N, G>()
     ensures { (l : Language N G) (rank : Name N G → ℕ) (bound : ℕ) → IsRanked l rank bound → (n : Node N G) (p : ℕ) (x : Value) → p + size x < 2 ^ 64 → IsDecided l n p x }
+{}
+
+/// In a ranked language that knows its literal keys, what is counted of an item is no more than the weight, and the answer and
+/// its place are those of the weight.
+pub fn counts_no_more<N, G>()
+    ensures { (l : Language N G) (rank : Name N G → ℕ) (bound : ℕ) → IsRanked l rank bound → HasLiterals l → (n : Node N G) (p : ℕ) (x : Value) → p + size x < 2 ^ 64 → IsCheaper l n p x }
 {}
 
 /// In a ranked language no more questions are ever open than there are ranks, 0 among them, times the size of what the

@@ -1,3 +1,4 @@
 pub mod Views
 pub mod Bits
 pub mod Tallies
+pub mod Keys

@@ -20,6 +20,7 @@ use Rattle.match_moves.specs.declared.questions.Tally.{Tally}
 use Rattle.match_moves.specs.declared.questions.Fate.{Fate}
 use Rattle.match_moves.specs.declared.questions.Fate.TheVariants as F
 use Rattle.match_moves.specs.declared.questions.Sorting.{Sorting}
+use Rattle.match_moves.specs.declared.questions.Entering.{Entering}
 use Rattle.match_moves.specs.declared.questions.Pending.{Pending}
 use Rattle.match_moves.specs.declared.questions.Pending.TheVariants as P
 use Rattle.match_moves.specs.declared.questions.PendingType.{PendingType}
@@ -35,7 +36,7 @@ use Rattle.match_moves.specs.declared.questions.Parts.{Parts}
 use Rattle.match_moves.specs.declared.questions.Reading.{Reading}
 use Rattle.match_moves.specs.declared.questions.Weighing.{Weighing}
 use Rattle.match_moves.specs.declared.questions.Move.{Move}
-use Rattle.match_moves.specs.declared.questions.Move.TheVariants.{Answered, Asks, Tries, Reads, Weighs}
+use Rattle.match_moves.specs.declared.questions.Move.TheVariants.{Answered, Asks, Tries, Enters, Reads, Weighs}
 
 -- items, as contracts see them
 abbrev pub values : List Item → List Value
@@ -121,6 +122,9 @@ round_move (Over r) = M.Answered (reply_view r)
 abbrev pub parts_move : Parts → M.Move TypeId GroupId
 parts_move p = M.next_part p.parts.now p.base p.place (values p.items.now) p.far
 
+abbrev pub entering_move : Entering → M.Move TypeId GroupId
+entering_move e = M.Enters (entry_view e.entry.now) (entries_view e.others.now) (sorting_view e.sorting)
+
 abbrev pub reading_move : Reading → M.Move TypeId GroupId
 reading_move r = M.Reads (content_view r.content) r.bytes.now r.node r.place r.next
 
@@ -132,5 +136,6 @@ abbrev pub move_view : Move → M.Pending TypeId GroupId → M.Move TypeId Group
 move_view (Answered r) o = M.Answered (reply_view r)
 move_view (Asks q) o = M.Asks (question_view q) o
 move_view (Tries s) o = M.Tries (sorting_view s)
+move_view (Enters e) o = entering_move e
 move_view (Reads r) o = reading_move r
 move_view (Weighs w) o = weighing_move w

@@ -6,6 +6,7 @@ mod bits;
 mod contents;
 mod controls;
 mod counts;
+mod keys;
 mod moves;
 mod places;
 mod questions;
@@ -16,16 +17,17 @@ pub use crate::bits::left_after_bits;
 pub use crate::contents::{bytes_of, items_of, pairs_of, simple_of};
 pub use crate::controls::weighed_reply;
 pub use crate::counts::Counts;
+pub use crate::keys::is_passed_over;
 pub use crate::moves::{
     after_round, entry_reply, first_of_group, first_of_type, is_over, next_move, said_reply,
 };
 pub use crate::places::{place_after, plus};
 pub use crate::questions::{
-    Fate, Move, Parts, Pending, PendingGroup, PendingMap, PendingType, Question, Reading, Reply,
-    Round, Rounds, Sorting, Subject, Tally, Weighing,
+    Entering, Fate, Move, Parts, Pending, PendingGroup, PendingMap, PendingType, Question, Reading,
+    Reply, Round, Rounds, Sorting, Subject, Tally, Weighing,
 };
 pub use crate::sorting::{
-    alternative_move, begin_tally, first_are_enough, next_entry, no_tally, shown_by_first,
+    alternative_move, begin_tally, enter, first_are_enough, next_entry, no_tally, shown_by_first,
     shown_by_tally, tally_pair,
 };
 pub use crate::tested::{passes, passes_test};

@@ -163,6 +163,16 @@ pub struct Sorting<'t, 'i> {
     pub tally: Box<Tally>,
 }
 
+/// A pair that comes to an entry of its alternative.
+#[derive(Drop)]
+pub struct Entering<'t, 'i> {
+    /// The entry, which is passed over or asked.
+    pub entry: &'t MapEntry,
+    /// Those after it.
+    pub others: &'t [MapEntry],
+    pub sorting: Sorting<'t, 'i>,
+}
+
 /// What waits for the reply to the question that it asked.
 #[derive(Drop)]
 pub enum Pending<'t, 'i> {
@@ -390,6 +400,8 @@ pub enum Move<'t, 'i> {
     Asks(Question<'t, 'i>),
     /// A pair is tried with the entries of its alternative.
     Tries(Sorting<'t, 'i>),
+    /// A pair is tried with one of them, before those after it.
+    Enters(Entering<'t, 'i>),
     /// A type is asked of what a byte string holds.
     Reads(Reading<'i>),
     /// The bits of an item that are set are steps, and are tested then.

@@ -36,7 +36,9 @@ ghost use Rattle.table_nodes.specs.Nodes.{alternatives_view, entries_view, entry
 
 use crate::counts::Counts;
 use crate::places::{place_after, plus};
-use crate::questions::{Fate, Move, Pending, PendingMap, Question, Reply, Sorting, Subject, Tally};
+use crate::questions::{
+    Entering, Fate, Move, Pending, PendingMap, Question, Reply, Sorting, Subject, Tally,
+};
 use item_nodes::Item;
 use std::alloc::{AllocError, Global};
 use table_nodes::{MapEntry, Most};
@@ -271,30 +273,41 @@ fn sorted<'t, 'i>(sorting: Sorting<'t, 'i>, fate: Fate) -> Move<'t, 'i>
 }
 
 /// The pair is tried with the next of these entries.
-pub fn next_entry<'t, 'i>(
-    entries: &'t [MapEntry],
-    sorting: Sorting<'t, 'i>,
-    pending: &mut Pending<'t, 'i>,
-) -> Move<'t, 'i>
-    ensures { move_view result (pending_view pending.new) ≡ next_entry (entries_view entries.now) (sorting_view sorting.entry) }
+pub fn next_entry<'t, 'i>(entries: &'t [MapEntry], sorting: Sorting<'t, 'i>) -> Move<'t, 'i>
+    ensures { (o : M.Pending TypeId GroupId) → move_view result o ≡ next_entry (entries_view entries.now) (sorting_view sorting.entry) }
 {
     let place = sorting.place;
     match entries {
         [] => sorted(sorting, Fate::Stray { place }),
-        [entry, others @ ..] => {
-            let pair = sorting.pair;
-            *pending = Pending::Map(PendingMap::Key {
-                entry,
-                others,
-                sorting,
-            });
-            Move::Asks(Question::OfType {
-                node: entry.key_type,
-                place,
-                subject: Subject::Item(&pair.0),
-            })
-        }
+        [entry, others @ ..] => Move::Enters(Entering {
+            entry,
+            others,
+            sorting,
+        }),
     }
+}
+
+/// The entry that a pair has come to is asked whether the pair's key is of its key type.
+pub fn enter<'t, 'i>(entering: Entering<'t, 'i>, pending: &mut Pending<'t, 'i>) -> Move<'t, 'i>
+    ensures { move_view result (pending_view pending.new) ≡ M.Asks (M.OfType (entry_view entering.entry.entry.now).key_type (sorting_view entering.entry.sorting).key_place (sorting_view entering.entry.sorting).key) (InKey (entry_view entering.entry.entry.now) (entries_view entering.entry.others.now) (sorting_view entering.entry.sorting)) }
+{
+    let Entering {
+        entry,
+        others,
+        sorting,
+    } = entering;
+    let place = sorting.place;
+    let pair = sorting.pair;
+    *pending = Pending::Map(PendingMap::Key {
+        entry,
+        others,
+        sorting,
+    });
+    Move::Asks(Question::OfType {
+        node: entry.key_type,
+        place,
+        subject: Subject::Item(&pair.0),
+    })
 }
 
 // An entry's key type has replied: where it says yes, the entry asks about the value.
@@ -322,7 +335,7 @@ fn next_in_key<'t, 'i>(
                 subject: Subject::Item(&pair.1),
             })
         }
-        Reply::Fails { .. } => next_entry(others, sorting, pending),
+        Reply::Fails { .. } => next_entry(others, sorting),
     }
 }
 
@@ -340,7 +353,7 @@ fn next_in_value<'t, 'i>(
     match reply {
         Reply::Takes { .. } => sorted(sorting, Fate::Matches { after }),
         Reply::Fails { far } if entry.cuts => sorted(sorting, Fate::Fails { after, far }),
-        Reply::Fails { .. } => next_entry(others, sorting, pending),
+        Reply::Fails { .. } => next_entry(others, sorting),
     }
 }
 

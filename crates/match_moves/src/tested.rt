@@ -119,7 +119,7 @@ fn has_size(sizes: &NumberSet, item: &Item) -> bool
 
 // Whether an item is equal to this one. Most literals, and most items that are compared with one, are small numbers.
 #[inline(always)]
-fn is_equal(item: &Item, literal: &Item) -> bool
+pub(crate) fn is_equal(item: &Item, literal: &Item) -> bool
     ensures { result ≡ same_value (view item.now) (view literal.now) }
 {
     match (item, literal) {

@@ -14,7 +14,7 @@ ghost use Rattle.cddl_meaning.specs.Judges.{Answer, Yes, No};
 ghost use Rattle.cddl_meaning.specs.Ranks.Decided.{IsDecided};
 ghost use Rattle.table_nodes.specs.Language.{RootSays, language_of, rank_of, ranks_of, root_of};
 ghost use Rattle.table_nodes.specs.declared.table.Table.{Table};
-ghost use Rattle.seq_run.specs.Meaning.Text.{EndsByText, TextAccepts, TextSays};
+ghost use Rattle.seq_run.specs.Meaning.Text.{EndsByText, TextAccepts, TextOverruns, TextSays, TextWeighs};
 ghost use Rattle.seq_run.specs.Ends.{Ends};
 ghost use Rattle.seq_run.specs.Judge.{judge_of};
 ghost use Rattle.seq_run.specs.Written.{AreWritable, clean_end, found_from, written_bytes};
@@ -36,6 +36,13 @@ pub fn table_stands_for_text()
 /// A text says at most one thing of an item whose size is below 2^64, and in one number of judgements.
 pub fn text_says_once()
     ensures { (worth : Values) (ds : List Definition) (root : Text) (x : Value) (a b : Answer) (v w : ℕ) → size x < 2 ^ 64 → TextSays worth ds root x a v → TextSays worth ds root x b w → (b ≡ a) × (w ≡ v) }
+{}
+
+/// What a text says of an item takes no more questions than the item weighs by it, where each entry of a map counts for each
+/// pair, asked or not. So an item for which the steps are not enough weighs more than that.
+pub fn weight_by_text()
+    ensures questions { (worth : Values) (ds : List Definition) (root : Text) (x : Value) (a b : Answer) (v w : ℕ) → size x < 2 ^ 64 → TextSays worth ds root x a v → TextWeighs worth ds root x b w → (b ≡ a) × (v ≤ w) }
+    ensures overruns { (worth : Values) (ds : List Definition) (root : Text) (steps : ℕ) (x : Value) (bytes : List ℕ) → TextOverruns worth ds root steps x bytes → (a : Answer) (w : ℕ) → TextWeighs worth ds root x a w → steps < w }
 {}
 
 /// By a text a stream has one end and one list of items at most, and any sound items that it accepts and that are within the

@@ -4,6 +4,7 @@ use Rattle.std.specs.Prelude.{Contains}
 use Rattle.std.proofs.lemmas.Bool.{cases_lt}
 use Rattle.std.proofs.lemmas.Option.{slice_get_within, slice_get-get_or}
 use Rattle.lists.proofs.Lemmas.{contains_at, one_of as same_one, same_some as some_same, there as there_within}
+use Rattle.cddl_meaning.proofs.Lemmas.{same_forms}
 use Rattle.cddl_meaning.specs.Alike.{AlikeAll, none, both, AlikeTypes, AlikeGroups}
 use Rattle.cddl_language.specs.Language.{GroupName, TypeName, type, chosen_of, first_of, each_of, entry, round, group_form, reference, type_node, word}
 use Rattle.cddl_language.specs.StandsFor as Stands
@@ -214,7 +215,7 @@ module _ (s : Sense) (t : Table) (terms : (n : ℕ) (a b : Term) → IsTerm t n 
       groups_told = group_told;
       types_found = type_found;
       groups_found = group_found;
-      alike = record { types = type_alike; groups = group_alike };
+      alike = record { types = type_alike; groups = group_alike; counting = same_forms (type_node s.worth s.definitions) (λ n. type_or_none (slice_get v.types.items n.number)) TypePair GroupPair type_alike };
       root_node = type_numbered (reference (call s.root no_terms)) v.root top;
       have_nodes = λ r h. (let k = place_in s.refs r h in has_node r (all k.0 r k.1));
     }

@@ -104,4 +104,4 @@ group_or_none None = F.Alternatives []
 
 -- the language of these lists: a type or a group at each number
 abbrev pub language_in : List Node → List Group → Language TypeId GroupId
-language_in types groups = record { type_at = λ n. type_or_none (slice_get types n.number); group_at = λ g. group_or_none (slice_get groups g.number) }
+language_in types groups = record { type_at = λ n. type_or_none (slice_get types n.number); group_at = λ g. group_or_none (slice_get groups g.number); counting = F.by_forms (λ n. type_or_none (slice_get types n.number)) }

@@ -6,7 +6,7 @@ use Rattle.cddl_language.specs.StandsFor.{StandsFor}
 use Rattle.cddl_language.specs.Terms.{Definition, Text, call, no_terms}
 use Rattle.cddl_meaning.specs.Forms.{Language}
 use Rattle.cddl_meaning.specs.Judges.{Answer, Yes, No, Says}
-use Rattle.cddl_meaning.proofs.Lemmas.{said_before, said_of_same, says_too}
+use Rattle.cddl_meaning.proofs.Lemmas.{plain_keys, said_before, said_of_same, says_too}
 use Rattle.cddl_meaning.specs.Ranks.Ranked.{Name}
 use Rattle.cddl_meaning.specs.Literals.{HasPlainLiterals}
 use Rattle.cddl_language.proofs.PlainLiterals.{node_plain}
@@ -20,7 +20,7 @@ module _ {N G : Type 0} (worth : Values) (ds : List Definition) (root : Text) (l
   says x a w h = says_too (language worth ds) l _ _ s.alike h (s.alike.types (reference (call root no_terms)) top s.root_node)
 
 plain : (worth : Values) (ds : List Definition) → HasPlainLiterals (language worth ds)
-plain worth ds = record { plain = node_plain worth ds }
+plain worth ds = record { plain = node_plain worth ds; keys = plain_keys (language worth ds) (node_plain worth ds) }
 
 pub returns : goal.returns
 returns g c = record {

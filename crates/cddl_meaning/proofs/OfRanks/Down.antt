@@ -1,11 +1,11 @@
 -- Derivations in which each question is smaller than the one that asks it, or no larger and of a lower rank.
-use Rattle.std.proofs.Common.{◌≡◌, ℕ, suc, ◌+◌, ◌<◌, List, length}
+use Rattle.std.proofs.Common.{◌≡◌, ℕ, suc, ◌+◌, ◌<◌, List, length, true, false}
 use Rattle.cbor_data.specs.Value.{Value, Pairs}
-use Rattle.cddl_meaning.specs.Forms.{Content, Language}
+use Rattle.cddl_meaning.specs.Forms.{Content, Language, MapEntry, is_passed_over, pair_cost, entry_cost}
 use Rattle.cddl_meaning.specs.Held.{Holds}
 use Rattle.cddl_meaning.specs.Judges.{Reply, Fails}
 use Rattle.cddl_meaning.specs.Moves as Moves
-use Rattle.cddl_meaning.specs.Moves.{Question, OfType, OfGroup, OfAlternative, Sorting, Pending, InMap, InHeld, Move, Answered, Asks, Tries, Reads, Weighs, first_move, next_move, next_entry}
+use Rattle.cddl_meaning.specs.Moves.{Question, OfType, OfGroup, OfAlternative, Sorting, Pending, InMap, InHeld, Move, Answered, Asks, Tries, Reads, Weighs, first_move, next_move, next_entry, InKey, Enters}
 use Rattle.cddl_meaning.specs.Size.{size, pairs_size, list_size}
 use Rattle.cddl_meaning.proofs.OfRanks.Induction.{IsLess}
 
@@ -41,7 +41,9 @@ module _ {N G : Type 0} where
     pub data EndsDown (l : Language N G) (type_rank : N → ℕ) (group_rank : G → ℕ) : ℕ → ℕ → Move N G → Reply → ℕ → Type 0 where
       at_once : {S R : ℕ} {r : Reply} → EndsDown l type_rank group_rank S R (Answered r) r 0
       after : {S R v w : ℕ} {q : Question N G} {o : Pending N G} {s r : Reply} → IsBelow type_rank group_rank q o S R → RepliesDown l type_rank group_rank q s v → EndsDown l type_rank group_rank S R (next_move o s) r w → EndsDown l type_rank group_rank S R (Asks q o) r (v + w)
-      tries : {S R w : ℕ} {s : Sorting N} {r : Reply} → EndsDown l type_rank group_rank S R (next_entry s.entries s) r w → EndsDown l type_rank group_rank S R (Tries s) r (suc (length s.entries) + w)
+      tries : {S R w : ℕ} {s : Sorting N} {r : Reply} → EndsDown l type_rank group_rank S R (next_entry s.entries s) r w → EndsDown l type_rank group_rank S R (Tries s) r (pair_cost l.counting (length s.entries) + w)
+      passes_over : {S R w : ℕ} {e : MapEntry N} {es : List (MapEntry N)} {s : Sorting N} {r : Reply} → is_passed_over l.counting e.key_type s.key ≡ true → EndsDown l type_rank group_rank S R (next_entry es s) r w → EndsDown l type_rank group_rank S R (Enters e es s) r w
+      enters : {S R w : ℕ} {e : MapEntry N} {es : List (MapEntry N)} {s : Sorting N} {r : Reply} → is_passed_over l.counting e.key_type s.key ≡ false → EndsDown l type_rank group_rank S R (Asks (OfType e.key_type s.key_place s.key) (InKey e es s)) r w → EndsDown l type_rank group_rank S R (Enters e es s) r (entry_cost l.counting + w)
       weighs : {S R n : ℕ} {r : Reply} → EndsDown l type_rank group_rank S R (Weighs n r) r n
       -- whatever the bytes hold
       reads : {S R w : ℕ} {c : Content} {b : List ℕ} {n : N} {p next : ℕ} {y : Value} {r : Reply} → Holds c b y → EndsDown l type_rank group_rank S R (Asks (OfType n 0 y) (InHeld p next)) r w → EndsDown l type_rank group_rank S R (Reads c b n p next) r w
@@ -57,5 +59,7 @@ module _ {N G : Type 0} (l : Language N G) (type_rank : N → ℕ) (group_rank :
     plain_ends (after i d e) = Moves.after (plain_replies d) (plain_ends e)
     plain_ends (tries d) = Moves.tries (plain_ends d)
     plain_ends weighs = Moves.weighs
+    plain_ends (passes_over i d) = Moves.passes_over i (plain_ends d)
+    plain_ends (enters i d) = Moves.enters i (plain_ends d)
     plain_ends (reads h d) = Moves.reads h (plain_ends d)
     plain_ends (reads_nothing h) = Moves.reads_nothing h

@@ -1,20 +1,23 @@
 -- Each open question is below the one that asked it, so few are open.
-use Rattle.std.proofs.Common.{◌≡◌, ℕ, suc, ◌+◌, ◌*◌, ◌<◌, ◌≤◌, inl, inr, length, List, [], ◌∷◌, refl, subst, arith}
+use Rattle.std.proofs.Common.{◌≡◌, ℕ, suc, ◌+◌, ◌*◌, ◌<◌, ◌≤◌, inl, inr, length, List, [], ◌∷◌, refl, subst, arith, true, false, sym, ◌∙◌}
 use Rattle.std.proofs.Math.Nat.{mul-le-mul_left}
 use Rattle.cbor_data.specs.Value.{Value, no_pairs, pair}
-use Rattle.cddl_meaning.specs.Forms.{Content, Language}
+use Rattle.cddl_meaning.specs.Forms.{Content, Language, MapEntry, is_passed_over}
 use Rattle.cddl_meaning.specs.Held.{Holds}
 use Rattle.cddl_meaning.specs.Judges.{Reply, Fails}
-use Rattle.cddl_meaning.specs.Moves.{Question, OfType, OfGroup, OfAlternative, Sorting, Pending, InRef, InMap, InHeld, Move, Answered, Asks, Tries, Reads, Weighs, Replies, first_move, next_move, next_entry}
+use Rattle.cddl_meaning.specs.Moves.{Question, OfType, OfGroup, OfAlternative, Sorting, Pending, InRef, InMap, InHeld, Move, Answered, Asks, Tries, Reads, Weighs, Replies, first_move, next_move, next_entry, InKey, Enters}
 use Rattle.cddl_meaning.specs.Ranks.Ranked.{Name, IsRanked}
 use Rattle.cddl_meaning.specs.Size.{size, pairs_size, list_size, size_of}
 use Rattle.cddl_meaning.proofs.OfRanks.ByForm.{IsRankedByForm, types_by, groups_by, by_form}
-use Rattle.cddl_meaning.specs.Ranks.Reached.{IsReached, begun, asked, tried, read, read_nothing, weighed, answered, one_for_empty_map}
+use Rattle.cddl_meaning.specs.Ranks.Reached.{IsReached, begun, asked, tried, read, read_nothing, weighed, answered, one_for_empty_map, passed, entered}
 use Rattle.cddl_meaning.proofs.OfRanks.Induction.{IsLess}
 use Rattle.cddl_meaning.proofs.Lemmas.{size_some, all_some, key_less}
-use Rattle.cddl_meaning.proofs.OfRanks.Down.{height_of, rank_of, IsMapOf, IsBelow, plain_replies, RepliesDown, replies, EndsDown, at_once, after, tries, weighs, reads, reads_nothing}
+use Rattle.cddl_meaning.proofs.OfRanks.Down.{height_of, rank_of, IsMapOf, IsBelow, plain_replies, RepliesDown, replies, EndsDown, at_once, after, tries, weighs, reads, reads_nothing, passes_over, enters}
 use Rattle.cddl_meaning.proofs.Lemmas.{held_once}
 use Rattle.cddl_meaning.proofs.OfRanks.Total.{type_replies, group_replies, alternative_replies}
+
+true_not_false : true ≡ false → ⊥
+true_not_false e = cc
 
 module _ {N G : Type 0} (l : Language N G) (type_rank : N → ℕ) (group_rank : G → ℕ) (first : Question N G) where
   -- The last open question is this one, and what is open goes on from this reply to it. Each is below the one before it.
@@ -33,6 +36,14 @@ module _ {N G : Type 0} (l : Language N G) (type_rank : N → ℕ) (group_rank :
 
   goes_tried : {s : Sorting N} {os : List (Pending N G)} → GoesDown os (Tries s) → GoesDown os (next_entry s.entries s)
   goes_tried (within w (tries e)) = within w e
+
+  goes_passed : {e : MapEntry N} {es : List (MapEntry N)} {s : Sorting N} {os : List (Pending N G)} → is_passed_over l.counting e.key_type s.key ≡ true → GoesDown os (Enters e es s) → GoesDown os (next_entry es s)
+  goes_passed h (within w (passes_over i e)) = within w e
+  goes_passed h (within w (enters i e)) = absurd (true_not_false (sym h ∙ i))
+
+  goes_entered : {e : MapEntry N} {es : List (MapEntry N)} {s : Sorting N} {os : List (Pending N G)} → is_passed_over l.counting e.key_type s.key ≡ false → GoesDown os (Enters e es s) → GoesDown os (Asks (OfType e.key_type s.key_place s.key) (InKey e es s))
+  goes_entered h (within w (passes_over i e)) = absurd (true_not_false (sym i ∙ h))
+  goes_entered h (within w (enters i e)) = within w e
 
   goes_read : {c : Content} {b : List ℕ} {n : N} {p next : ℕ} {y : Value} {os : List (Pending N G)} → Holds c b y → GoesDown os (Reads c b n p next) → GoesDown os (Asks (OfType n 0 y) (InHeld p next))
   goes_read {n = n} {p = p} {next = next} h (within {q = q} {s = s} {w = v} w (reads k e)) = within w (subst (λ y. EndsDown l type_rank group_rank (height_of q) (rank_of type_rank group_rank q) (Asks (OfType n 0 y) (InHeld p next)) s v) (held_once h k) e)
@@ -53,6 +64,8 @@ module _ {N G : Type 0} (l : Language N G) (type_rank : N → ℕ) (group_rank :
   reached_down d begun = before d.2
   reached_down d (asked h) = goes_asked (reached_down d h)
   reached_down d (tried h) = goes_tried (reached_down d h)
+  reached_down d (passed i h) = goes_passed i (reached_down d h)
+  reached_down d (entered i h) = goes_entered i (reached_down d h)
   reached_down d (read k h) = goes_read k (reached_down d h)
   reached_down d (read_nothing k h) = goes_unread k (reached_down d h)
   reached_down d (weighed h) = goes_weighed (reached_down d h)

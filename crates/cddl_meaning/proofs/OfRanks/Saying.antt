@@ -2,8 +2,10 @@
 use Rattle.std.proofs.Common.{◌≡◌, ℕ, zero, suc, ◌+◌, ◌-◌, ◌<◌, ◌≤◌, ◌⊎◌, inl, inr, max, length, List, [], ◌∷◌, Option, Some, None, Bool, true, false, nat_eq, refl, subst, ap, arith, Contains}
 use Rattle.lists.proofs.Lemmas.{is_equal, is_unequal}
 use Rattle.cbor_data.specs.Value.{Value, uint, place_count, Pairs, no_pairs, pair}
-use Rattle.cddl_meaning.specs.Forms.{Test, passes, members_in, pairs_in, bytes_in, tag_in, simple_in, TagNumber, any_number, exactly, such_as, Content, one_item, sequence_of_items, MapEntry, Node, Plain, Ref, Choice, ArrayOf, TagOf, SimpleBy, MapOf, Both, Such, Holding, Most, Group, Entry, GroupRef, Sequence, Alternatives, Repeat, Language}
-use Rattle.cddl_meaning.specs.Judges.{Answer, Yes, No, Reply, Takes, Fails, whole, over, failed, is_over, one_less, Says, passed, missed, ref, choice, no_array, array, no_tag, tagged, other_tag, no_simple, simple_such, other_simple, no_map, map, left_no, left_yes, none_such, such_passed, such_missed, holder_no, no_string, holds_nothing, held_yes, held_no, Fate, BelongsTo, Stray, alternative_says, either, Maps, no_alternative, alternative, Sorts, all_sorted, sort, Belongs, nowhere, other_key, here, cut_here, handed_on, Numbers, whichever, this_number, other_number, by_head, Chooses, no_more, this_one, not_this, Does, missing, matches, differs, group_ref, sequence, alternatives, repeat, DoesEach, all_done, one_fails, and_then, DoesFirst, all_fail, one_takes, or_else, Repeats, full, too_few, enough, empty_round, round}
+use Rattle.cddl_meaning.specs.Forms.{Test, passes, members_in, pairs_in, bytes_in, tag_in, simple_in, TagNumber, any_number, exactly, such_as, Content, one_item, sequence_of_items, MapEntry, Node, Plain, Ref, Choice, ArrayOf, TagOf, SimpleBy, MapOf, Both, Such, Holding, Most, Group, Entry, GroupRef, Sequence, Alternatives, Repeat, Language, is_passed_over, pair_cost, entry_cost}
+use Rattle.cddl_meaning.specs.Judges.{Answer, Yes, No, Reply, Takes, Fails, whole, over, failed, is_over, one_less, Says, passed, missed, ref, choice, no_array, array, no_tag, tagged, other_tag, no_simple, simple_such, other_simple, no_map, map, left_no, left_yes, none_such, such_passed, such_missed, holder_no, no_string, holds_nothing, held_yes, held_no, Fate, BelongsTo, Stray, alternative_says, either, Maps, no_alternative, alternative, Sorts, all_sorted, sort, Belongs, nowhere, other_key, here, cut_here, handed_on, Numbers, whichever, this_number, other_number, by_head, Chooses, no_more, this_one, not_this, Does, missing, matches, differs, group_ref, sequence, alternatives, repeat, DoesEach, all_done, one_fails, and_then, DoesFirst, all_fail, one_takes, or_else, Repeats, full, too_few, enough, empty_round, round, passed_over, asked, BelongsAsked}
+use Rattle.cddl_meaning.proofs.Lemmas.{one_saying}
+use Rattle.cddl_meaning.specs.Ranks.Decided.{IsDecided}
 use Rattle.cddl_meaning.specs.Size.{size, pairs_size, list_size}
 use Rattle.cddl_meaning.proofs.OfRanks.Founded.{AreAll, HasEntry, HasGroupParts, HasNumber, HasTypeParts}
 use Rattle.cddl_meaning.specs.Ranks.Ranked.{IsFreeInGroup, IsFreeInType, IsFreePart, MayBeEmpty, a_group, a_round, a_type, all_items, alternative as free_alternative, front, holder, its_number, left_side, member as free_member, part, past_empty, right_side, same_item, same_list, sequence_held, tested}
@@ -89,6 +91,11 @@ module _ {N G : Type 0} (l : Language N G) where
     weight : ℕ
     belongs : Belongs l es q k x fate weight
 
+  record AskedSome (e : MapEntry N) (es : List (MapEntry N)) (q : ℕ) (k x : Value) : Type 0 where
+    fate : Fate
+    weight : ℕ
+    belongs : BelongsAsked l e es q k x fate weight
+
   record SortsSome (es : List (MapEntry N)) (q : ℕ) (ps : Pairs) : Type 0 where
     fates : List Fate
     weight : ℕ
@@ -135,17 +142,21 @@ module _ {N G : Type 0} (l : Language N G) where
   simple_next m p n x Yes w e d = record { answer = Yes; weight = suc w; says = simple_such e d }
   simple_next m p n x (No far) w e d = record { answer = No p; weight = suc w; says = other_simple e d }
 
-  cut_next : (e : MapEntry N) (es : List (MapEntry N)) (q : ℕ) (k x : Value) (far v w : ℕ) (c : Bool) → e.cuts ≡ c → Says l (l.type_at e.key_type) q k Yes v → Says l (l.type_at e.value_type) (q + place_count k) x (No far) w → BelongsSome es q k x → BelongsSome (e ∷ es) q k x
+  cut_next : (e : MapEntry N) (es : List (MapEntry N)) (q : ℕ) (k x : Value) (far v w : ℕ) (c : Bool) → e.cuts ≡ c → Says l (l.type_at e.key_type) q k Yes v → Says l (l.type_at e.value_type) (q + place_count k) x (No far) w → BelongsSome es q k x → AskedSome e es q k x
   cut_next e es q k x far v w true c d b others = record { fate = BelongsTo (length es) (No far); weight = v + w; belongs = cut_here c d b }
   cut_next e es q k x far v w false c d b others = record { fate = others.fate; weight = v + (w + others.weight); belongs = handed_on c d b others.belongs }
 
-  value_next : (e : MapEntry N) (es : List (MapEntry N)) (q : ℕ) (k x : Value) (v : ℕ) (a : Answer) (w : ℕ) → Says l (l.type_at e.key_type) q k Yes v → Says l (l.type_at e.value_type) (q + place_count k) x a w → BelongsSome es q k x → BelongsSome (e ∷ es) q k x
+  value_next : (e : MapEntry N) (es : List (MapEntry N)) (q : ℕ) (k x : Value) (v : ℕ) (a : Answer) (w : ℕ) → Says l (l.type_at e.key_type) q k Yes v → Says l (l.type_at e.value_type) (q + place_count k) x a w → BelongsSome es q k x → AskedSome e es q k x
   value_next e es q k x v Yes w d b others = record { fate = BelongsTo (length es) Yes; weight = v + w; belongs = here d b }
   value_next e es q k x v (No far) w d b others = cut_next e es q k x far v w e.cuts refl d b others
 
-  key_next : (e : MapEntry N) (es : List (MapEntry N)) (q : ℕ) (k x : Value) (a : Answer) (v : ℕ) → Says l (l.type_at e.key_type) q k a v → SaysSome (l.type_at e.value_type) (q + place_count k) x → BelongsSome es q k x → BelongsSome (e ∷ es) q k x
+  key_next : (e : MapEntry N) (es : List (MapEntry N)) (q : ℕ) (k x : Value) (a : Answer) (v : ℕ) → Says l (l.type_at e.key_type) q k a v → SaysSome (l.type_at e.value_type) (q + place_count k) x → BelongsSome es q k x → AskedSome e es q k x
   key_next e es q k x Yes v d b others = value_next e es q k x v b.answer b.weight d b.says others
   key_next e es q k x (No far) v d b others = record { fate = others.fate; weight = v + others.weight; belongs = other_key d others.belongs }
+
+  enter_next : (e : MapEntry N) (es : List (MapEntry N)) (q : ℕ) (k x : Value) (c : Bool) → is_passed_over l.counting e.key_type k ≡ c → BelongsSome es q k x → AskedSome e es q k x → BelongsSome (e ∷ es) q k x
+  enter_next e es q k x true i others d = record { fate = others.fate; weight = others.weight; belongs = passed_over i others.belongs }
+  enter_next e es q k x false i others d = record { fate = d.fate; weight = entry_cost l.counting + d.weight; belongs = asked i d.belongs }
 
   plain_some : (t : Test) (p : ℕ) (x : Value) (c : Bool) → passes t x ≡ c → SaysSome (Plain t) p x
   plain_some t p x true e = record { answer = Yes; weight = 1; says = passed e }
@@ -206,14 +217,15 @@ module _ {N G : Type 0} (l : Language N G) where
     belongs_some [] q k x a h j = record { fate = Stray q; weight = 0; belongs = nowhere }
     belongs_some (e ∷ es) q k x a h j =
         let d = types e.key_type q k (inl (a.0.0, h)) in
-        key_next e es q k x d.answer d.weight d.says (types e.value_type (q + place_count k) x (inl (a.0.1, j))) (belongs_some es q k x a.1 h j)
+        let others = belongs_some es q k x a.1 h j in
+        enter_next e es q k x (is_passed_over l.counting e.key_type k) refl others (key_next e es q k x d.answer d.weight d.says (types e.value_type (q + place_count k) x (inl (a.0.1, j))) others)
 
     sorts_some : (es : List (MapEntry N)) (q : ℕ) (ps : Pairs) → AreAll (HasEntry Any) es → pairs_size ps < S → SortsSome es q ps
     sorts_some es q no_pairs a h = record { fates = []; weight = 0; sorts = all_sorted }
     sorts_some es q (pair k x ps) a h =
         let d = belongs_some es q k x a (omega (arith, h, key_less k x ps)) (omega (arith, h, value_less k x ps)) in
         let e = sorts_some es (q + place_count k + place_count x) ps a (omega (arith, h)) in
-        record { fates = d.fate ∷ e.fates; weight = suc (length es) + d.weight + e.weight; sorts = sort d.belongs e.sorts }
+        record { fates = d.fate ∷ e.fates; weight = pair_cost l.counting (length es) + d.weight + e.weight; sorts = sort d.belongs e.sorts }
 
     maps_some : (ess : List (List (MapEntry N))) (p : ℕ) (ps : Pairs) (sofar : Answer) → AreAll (AreAll (HasEntry Any)) ess → pairs_size ps < S → MapsSome ess p ps sofar
     maps_some [] p ps sofar a h = record { answer = sofar; weight = 0; maps = no_alternative }

@@ -2,14 +2,14 @@
 use Rattle.std.proofs.Common.{◌≡◌, ℕ, zero, suc, ◌+◌, ◌-◌, ◌<◌, ◌≤◌, ◌⊎◌, inl, inr, max, length, List, [], ◌∷◌, Option, Some, None, Bool, true, false, nat_eq, refl, ap, arith}
 use Rattle.lists.proofs.Lemmas.{is_equal, is_unequal}
 use Rattle.cbor_data.specs.Value.{Value, uint, place_count, Pairs, no_pairs, pair}
-use Rattle.cddl_meaning.specs.Forms.{Test, bits_among, passes, bits_asked, members_in, pairs_in, bytes_in, tag_in, simple_in, TagNumber, any_number, exactly, such_as, Content, one_item, sequence_of_items, MapEntry, Node, Plain, Ref, Choice, ArrayOf, TagOf, SimpleBy, MapOf, Both, Such, Holding, Most, Group, Entry, GroupRef, Sequence, Alternatives, Repeat, Language}
+use Rattle.cddl_meaning.specs.Forms.{Test, bits_among, passes, bits_asked, members_in, pairs_in, bytes_in, tag_in, simple_in, TagNumber, any_number, exactly, such_as, Content, one_item, sequence_of_items, MapEntry, Node, Plain, Ref, Choice, ArrayOf, TagOf, SimpleBy, MapOf, Both, Such, Holding, Most, Group, Entry, GroupRef, Sequence, Alternatives, Repeat, Language, is_passed_over, pair_cost, entry_cost}
 use Rattle.cddl_meaning.specs.Judges.{Yes, No, Reply, Takes, Fails, is_over, one_less, Fate, BelongsTo, Stray}
 use Rattle.cddl_meaning.specs.Moves.{Question, OfType, OfGroup, OfAlternative, Tally, Sorting, Pending, InChoice, InHead, InSimple, InEntry, InSequence, InAlternatives, InRepeat, InKey, InValue, InLeft, InSuch, InHolder, InHeld, Move, Answered, Asks, plus, test_reply, such_reply, array_reply, next_member, next_part, next_alternative, next_round, repetition, after_round, end_of_rounds, array_move, content_move, tag_move, simple_move, read_move, tested_move, either_reply, answer_reply, fresh, tallied, tally_says, next_way, map_move, next_pair, sorted, next_entry, after_value, type_move, entry_move, group_move, next_move}
 use Rattle.cddl_meaning.specs.Size.{size, pairs_size, list_size}
 use Rattle.cddl_meaning.specs.Ranks.Ranked.{MayBeEmpty, named, every_part, one_of_them, no_minimum, no_round, an_empty_round, AllMayBeEmpty, no_part, this_part, OneMayBeEmpty, this_one, another}
 use Rattle.cddl_meaning.specs.Ranks.Flags.{AreBelow, IsTypeRanked}
 use Rattle.cddl_meaning.proofs.OfRanks.ByForm.{LeadsDown, IsGroupRanked, IsRankedByForm}
-use Rattle.cddl_meaning.proofs.OfRanks.Down.{IsBelow, RepliesDown, replies, EndsDown, at_once, after, tries, weighs, reads, reads_nothing}
+use Rattle.cddl_meaning.proofs.OfRanks.Down.{IsBelow, RepliesDown, replies, EndsDown, at_once, after, tries, weighs, reads, reads_nothing, passes_over, enters}
 use Rattle.cddl_meaning.proofs.Lemmas.{size_some, all_some, array_size, tag_size, map_size, string_size, size_spelled, held_size, key_less, value_less}
 use Rattle.cddl_meaning.specs.Held.{Holds, item}
 use Rattle.cddl_meaning.proofs.OfRanks.Readable.{Told, told}
@@ -67,18 +67,24 @@ module _ {N G : Type 0} (l : Language N G) (type_rank : N → ℕ) (group_rank :
         then (inl h) d.replies_down (value_next e es s d.reply known others)
     key_next e es s (Fails later) h known others = others
 
+    -- The entry is passed over, or asked.
+    enter : (e : MapEntry N) (es : List (MapEntry N)) (s : Sorting N) (c : Bool) → is_passed_over l.counting e.key_type s.key ≡ c → Ending S R (next_entry es s) AnyReply → Ending S R (Asks (OfType e.key_type s.key_place s.key) (InKey e es s)) AnyReply → Ending S R (next_entry (e ∷ es) s) AnyReply
+    enter e es s true i others d = record { reply = others.reply; weight = others.weight; ends = passes_over i others.ends; good = tt }
+    enter e es s false i others d = record { reply = d.reply; weight = entry_cost l.counting + d.weight; ends = enters i d.ends; good = tt }
+
     entries_total : (es : List (MapEntry N)) (s : Sorting N) → size s.key < S → size s.held < S → ((f : Fate) → Ending S R (sorted s f) AnyReply) → Ending S R (next_entry es s) AnyReply
     entries_total [] s h k known = known (Stray s.key_place)
     entries_total (e ∷ es) s h k known =
         let d = types e.key_type s.key_place s.key (inl h) in
-        then (inl h) d.replies_down (key_next e es s d.reply k known (entries_total es s h k known))
+        let others = entries_total es s h k known in
+        enter e es s (is_passed_over l.counting e.key_type s.key) refl others (then (inl h) d.replies_down (key_next e es s d.reply k known others))
 
     pairs_total : (es : List (MapEntry N)) (base q : ℕ) (ps : Pairs) (t : Tally) → pairs_size ps ≤ S → Ending S R (next_pair es base q ps t) AnyReply
     pairs_total es base q no_pairs t h = at_end (answer_reply q (tally_says es base t)) AnyReply tt
     pairs_total es base q (pair k x ps) t h =
         let s : Sorting N = record { entries = es; base = base; key_place = q; key = k; value_place = plus q (place_count k); held = x; next_place = plus (plus q (place_count k)) (place_count x); rest = ps; tally = t } in
         let d = entries_total es s (omega (arith, h, key_less k x ps)) (omega (arith, h, value_less k x ps)) (λ f. pairs_total es base s.next_place ps (tallied t f) (omega (arith, h))) in
-        record { reply = d.reply; weight = suc (length es) + d.weight; ends = tries d.ends; good = tt }
+        record { reply = d.reply; weight = pair_cost l.counting (length es) + d.weight; ends = tries d.ends; good = tt }
 
   alternative_total : (es : List (MapEntry N)) (base : ℕ) (ps : Pairs) → TypesReply (pairs_size ps) 0 → Replied (OfAlternative es base ps) AnyReply
   alternative_total es base ps types =

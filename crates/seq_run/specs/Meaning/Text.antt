@@ -6,15 +6,20 @@ use Rattle.cbor_data.specs.Value.{Value}
 use Rattle.cddl_language.specs.Language.{language, reference, type_node}
 use Rattle.cddl_language.specs.Literals.{Values}
 use Rattle.cddl_language.specs.Terms.{Definition, Text, call, no_terms}
+use Rattle.cddl_meaning.specs.Costs.{weighed}
 use Rattle.cddl_meaning.specs.Judges.{Answer, No, Says, Yes}
 use Rattle.seq_run.specs.Ends.{end_of}
 use Rattle.seq_run.specs.declared.end.End.{End}
 
 -- what written values stand for, the definitions of a text, and the name of the root
 module _ (worth : Values) (ds : List Definition) (root : Text) where
-  -- The root says this of the item, in so many judgements.
+  -- The root says this of the item, in so many questions.
   abbrev pub TextSays : Value → Answer → ℕ → Type 0
   TextSays x a w = Says (language worth ds) (type_node worth ds (reference (call root no_terms))) 0 x a w
+
+  -- The root says this of the item, which weighs so much: each pair of a map counts all entries, asked or not.
+  abbrev pub TextWeighs : Value → Answer → ℕ → Type 0
+  TextWeighs x a w = Says (weighed (language worth ds)) (type_node worth ds (reference (call root no_terms))) 0 x a w
 
   module _ (steps : ℕ) where
     -- of an item and its bytes: it is accepted, it does not match at a place, or the steps are not enough for it

@@ -2,7 +2,7 @@ use Rattle.std.proofs.Common.{◌≡◌, ◌+◌, ◌-◌, length, max, refl, sy
 use Rattle.std.specs.Prelude.{Err}
 use Rattle.std.proofs.lemmas.Result.{err_from_is_err_and}
 use Rattle.lists.proofs.Lemmas.{none_left}
-use Rattle.cbor_data.specs.Value.{pairs_len, place_count, uint}
+use Rattle.cbor_data.specs.Value.{place_count, uint}
 use Rattle.item_nodes.specs.View.{pairs_view, view}
 use Rattle.cddl_meaning.specs.Forms.{passes}
 use Rattle.cddl_meaning.specs.Judges as J
@@ -11,16 +11,15 @@ use Rattle.table_nodes.specs.Language.{language_of}
 use Rattle.table_nodes.specs.Nodes.{alternatives_view, content_view, entries_view, entry_view, most_view, test_view, type_view}
 use Rattle.table_nodes.specs.declared.nodes.GroupId.{GroupId}
 use Rattle.cddl_match.specs.Ahead.{ComesTo}
-use Rattle.cddl_match.specs.Tellings.{sorting_of}
 use Rattle.match_moves.specs.Views.{reply_view, rounds_move, tally_view, values}
 use Rattle.cddl_match.specs.declared.calls.Stop.TheVariants.{Spent}
 use Rattle.cddl_match.specs.Within.{Replied, Stopped, Says, done_view, said_view}
 use Rattle.item_nodes.proofs.Lemmas.{view-Uint}
 use Rattle.cddl_match.proofs.Outcomes.{answered, begins, ends_on, passes_on, says_on, took, asks}
 use Rattle.cddl_match.proofs.Sayings.{has_said, type_on, type_few, group_on, group_few, no_passes, yes_passes, array_ends, simple_ends, meant_ends, held_ends, nothing_held, entry_ends, goes_on, ends_so, stops, round_stops}
-use Rattle.cddl_match.proofs.Handing.{none_tried, other_key_next, other_value_next, its_value, kept, key_stops, value_stops}
-use Rattle.cddl_match.proofs.Tellings.{all_told, as_many_entries, no_pair_told, pair_sorted, pair_stops, pair_told, told_and}
-use Rattle.cddl_match.proofs.Ways.{and_on, a_round, itself, more_than, opens}
+use Rattle.cddl_match.proofs.Handing.{key_asked, key_few, key_passed, none_tried, other_key_next, other_value_next, its_value, kept, key_stops, value_stops}
+use Rattle.cddl_match.proofs.Tellings.{as_many_entries, no_pair_told, pair_few, pair_sorted, pair_stops, pair_told, told_and}
+use Rattle.cddl_match.proofs.Ways.{and_on, a_round, itself, opens}
 use Rattle.cddl_match.proofs.saying.+saying.Goals as goal
 
 pub type_says_here-returns-in_default-checked_sub : goal.type_says_here-returns-in_default-checked_sub
@@ -162,26 +161,22 @@ tally_pairs-loop-pair-init t c =
     let es = entries_view c.args.entries.now in
     let ps = pairs_view c.args.pairs.now in
     record {
-      within = (omega arith, omega arith);
+      within = omega arith;
       none = refl;
       comes = rw (c.plus-place.ensures, c.in-Ok.ensures) (begins l (M.next_pair es c.args.base (M.plus c.args.base 1) ps (M.fresh es)) c.args.means.now.left);
-      known = (0, omega arith, rw (c.plus-place.ensures, c.in-Ok.ensures) (no_pair_told l es c.args.base ps c.args.means.now.left));
+      known = rw (c.plus-place.ensures, c.in-Ok.ensures) (no_pair_told l (λ n. refl) es c.args.base ps c.args.means.now.left);
     }
 
-pub tally_pairs-returns-then-means-tried-clause-comes : goal.tally_pairs-returns-then-means-tried-clause-comes
-tally_pairs-returns-then-means-tried-clause-comes t c =
-    let l = language_of c.args.table.now in
+pub tally_pairs-returns-in_default-checked_sub-clause-comes : goal.tally_pairs-returns-in_default-checked_sub-clause-comes
+tally_pairs-returns-in_default-checked_sub-clause-comes t c =
     let here = rw c.in-Some.ensures.cases.0 at c.loop-pair.invariant.comes in
-    let s = sorting_of (entries_view c.args.entries.now) c.args.base c.loop-pair.place c.in-Some.pair.now (pairs_view c.in-Some.others.now) (tally_view c.loop-pair.tallied.tally) in
-    ends_so l c.args.means.now.left c.loop-pair.means.left c.loop-pair.means.left (Stopped Spent) here (omega (arith, c.loop-pair.invariant.within)) (more_than l s c.loop-pair.means.left (omega (arith, as_many_entries c.args.entries.now, c.if-means-tried.true)))
+    pair_few (language_of c.args.table.now) (λ n. refl) (entries_view c.args.entries.now) c.args.base c.loop-pair.place c.in-Some.pair.now (pairs_view c.in-Some.others.now) (pairs_view c.args.pairs.now) (tally_view c.loop-pair.tallied.tally) c.loop-pair.tallied c.args.means.now.left c.loop-pair.means.left here c.loop-pair.invariant.within (omega (arith, c.in_default-checked_sub.ensures))
 
 pub tally_pairs-returns-in_err-fate-clause-comes : goal.tally_pairs-returns-in_err-fate-clause-comes
 tally_pairs-returns-in_err-fate-clause-comes t c =
-    let l = language_of c.args.table.now in
-    let es = entries_view c.args.entries.now in
     let here = rw c.in-Some.ensures.cases.0 at c.loop-pair.invariant.comes in
     let e = err_from_is_err_and c.from_residual.result c.from_residual.ensures.1 in
-    rw (e.1 ∙ ap Err e.2) (pair_stops l es c.args.base c.loop-pair.place c.in-Some.pair.now (pairs_view c.in-Some.others.now) (pairs_view c.args.pairs.now) (tally_view c.loop-pair.tallied.tally) c.loop-pair.tallied _ c.args.means.now.left c.loop-pair.means.left (c.loop-pair.means.left - (length c.args.entries.now + 1)) c.pair_fate.new.means.left here (omega (arith, c.loop-pair.invariant.within)) (omega (arith, as_many_entries c.args.entries.now, c.if-means-tried.false)) c.in_err-fate.ensures)
+    rw (e.1 ∙ ap Err e.2) (pair_stops (language_of c.args.table.now) (λ n. refl) (entries_view c.args.entries.now) c.args.base c.loop-pair.place c.in-Some.pair.now (pairs_view c.in-Some.others.now) (pairs_view c.args.pairs.now) (tally_view c.loop-pair.tallied.tally) c.loop-pair.tallied _ c.args.means.now.left c.loop-pair.means.left c.in-Some-checked_sub.some c.pair_fate.new.means.left here c.loop-pair.invariant.within (omega (arith, c.in-Some-checked_sub.ensures)) c.in_err-fate.ensures)
 
 pub tally_pairs-loop-pair-preserved : goal.tally_pairs-loop-pair-preserved
 tally_pairs-loop-pair-preserved t c =
@@ -189,21 +184,33 @@ tally_pairs-loop-pair-preserved t c =
     let es = entries_view c.args.entries.now in
     let both = c.in-Some.pair.now in
     let rest = pairs_view c.in-Some.others.now in
+    let ps = pairs_view c.args.pairs.now in
     let tally = tally_view c.loop-pair.tallied.tally in
-    let tried = c.loop-pair.means.left - (length c.args.entries.now + 1) in
     let here = rw c.in-Some.ensures.cases.0 at c.loop-pair.invariant.comes in
     let known = rw c.in-Some.ensures.cases.0 at c.loop-pair.invariant.known in
     let place = c.place_after-place.ensures ∙ ap (λ k. M.plus k (place_count (view both.1))) c.place_after.ensures in
-    let asked : (c.args.means.now.left - c.loop-pair.unasked) + (tried - c.pair_fate.new.means.left) ≡ c.args.means.now.left - (c.loop-pair.unasked - (tried - c.pair_fate.new.means.left)) = omega (arith, c.loop-pair.invariant.within, c.in_ok-fate.ensures.1, c.if-means-tried.false) in
+    let one : 1 + c.in-Some-checked_sub.some ≡ c.loop-pair.means.left = omega (arith, c.in-Some-checked_sub.ensures) in
     record {
-      within = (omega (arith, c.loop-pair.invariant.within, c.in_ok-fate.ensures.1, c.if-means-tried.false), omega (arith, c.loop-pair.invariant.within));
+      within = omega (arith, c.loop-pair.invariant.within, c.in_ok-fate.ensures.1, one);
       none = c.loop-pair.invariant.none;
-      comes = rw (place, c.tally_pair.ensures) (pair_sorted l es c.args.base c.loop-pair.place both rest (pairs_view c.args.pairs.now) tally c.in_ok-fate.fate c.args.means.now.left c.loop-pair.means.left tried c.pair_fate.new.means.left here (omega (arith, c.loop-pair.invariant.within)) (omega (arith, as_many_entries c.args.entries.now, c.if-means-tried.false)) c.in_ok-fate.ensures);
-      known = rw (c.told_with-told.ensures, place, c.tally_pair.ensures, sym asked) (pair_told l es c.args.base c.loop-pair.place both rest (pairs_view c.args.pairs.now) tally (c.args.means.now.left - c.loop-pair.unasked) (tried - c.pair_fate.new.means.left) (pairs_len (pairs_view c.args.pairs.now)) c.loop-pair.told c.in_ok-fate.fate (length c.args.entries.now) (as_many_entries c.args.entries.now) known c.in_ok-fate.ensures.0);
+      comes = rw (place, c.tally_pair.ensures) (pair_sorted l (λ n. refl) es c.args.base c.loop-pair.place both rest ps tally c.in_ok-fate.fate c.args.means.now.left c.loop-pair.means.left c.in-Some-checked_sub.some c.pair_fate.new.means.left here c.loop-pair.invariant.within one c.in_ok-fate.ensures);
+      known = rw (c.told_with-told.ensures, place, c.tally_pair.ensures) (pair_told l (λ n. refl) es c.args.base c.loop-pair.place both rest ps tally c.loop-pair.told c.in_ok-fate.fate (length c.args.entries.now) c.args.means.now.left c.loop-pair.means.left c.in-Some-checked_sub.some c.pair_fate.new.means.left (as_many_entries c.args.entries.now) c.loop-pair.invariant.within one known c.in_ok-fate.ensures);
     }
 
 pub tally_pairs-returns-clause-known : goal.tally_pairs-returns-clause-known
-tally_pairs-returns-clause-known t c = told_and c.loop-pair.told _ _ (all_told (language_of c.args.table.now) (entries_view c.args.entries.now) c.args.base (c.args.means.now.left - c.loop-pair.unasked) (pairs_len (pairs_view c.args.pairs.now)) c.loop-pair.place (pairs_view c.args.pairs.now) (tally_view c.loop-pair.tallied.tally) c.loop-pair.told (rw (none_left _ c.in_default-split_first.ensures.cases) at c.loop-pair.invariant.known)) c.first_are_enough-tallied.ensures
+tally_pairs-returns-clause-known t c = told_and c.loop-pair.told _ _ (rw (none_left _ c.in_default-split_first.ensures.cases) at c.loop-pair.invariant.known) c.first_are_enough-tallied.ensures
+
+pub key_says-returns-in-Some-Plain : goal.key_says-returns-in-Some-Plain
+key_says-returns-in-Some-Plain t c = c.key_tested.ensures (entry_view c.args.entry.now) (rw c.in-Some-Plain.field-0-is at c.in-Some-Plain.ensures.found)
+
+pub key_says-returns-then-is_passed_over : goal.key_says-returns-then-is_passed_over
+key_says-returns-then-is_passed_over t c = key_passed (language_of c.args.table.now) c.args.place c.args.pair.now (entry_view c.args.entry.now) c.args.place c.args.means.now.left (sym c.is_passed_over.ensures ∙ c.if-is_passed_over.true)
+
+pub key_says-returns-in_default-checked_sub : goal.key_says-returns-in_default-checked_sub
+key_says-returns-in_default-checked_sub t c = key_few (language_of c.args.table.now) c.args.place c.args.pair.now (entry_view c.args.entry.now) c.args.means.now.left c.args.means.now.left (sym c.is_passed_over.ensures ∙ c.if-is_passed_over.false) (omega (arith, c.in_default-checked_sub.ensures))
+
+pub key_says-returns : goal.key_says-returns
+key_says-returns t c = key_asked (language_of c.args.table.now) c.args.place c.args.pair.now (entry_view c.args.entry.now) c.args.means.now.left c.in-Some.left c.type_says_here.new.means.left (said_view c.type_says_here.result) (sym c.is_passed_over.ensures ∙ c.if-is_passed_over.false) (omega (arith, c.in-Some.ensures)) c.type_says_here.ensures
 
 pub pair_fate-loop-entry-init : goal.pair_fate-loop-entry-init
 pair_fate-loop-entry-init t c = record {
@@ -230,10 +237,10 @@ pub pair_fate-returns-then-entry : goal.pair_fate-returns-then-entry
 pair_fate-returns-then-entry t c = (kept (language_of c.args.table.now) c.args.place c.args.pair.now (entries_view c.args.entries.now) (entry_view c.in-Some.entry.now) (entries_view c.in-Some.others.now) c.args.means.now.left c.loop-entry.means.left (rw c.in-Some.ensures.cases.0 at c.loop-entry.invariant.comes) c.loop-entry.invariant.within (sym (as_many_entries c.in-Some.others.now)) c.if-entry.true c.in-Yes.ensures (rw c.place_after-value_place.ensures at c.in-No-type_says_here.ensures), omega (arith, c.loop-entry.invariant.within, c.in-Yes.ensures.1, c.in-No-type_says_here.ensures.1))
 
 pub pair_fate-returns-in-Spent : goal.pair_fate-returns-in-Spent
-pair_fate-returns-in-Spent t c = key_stops (language_of c.args.table.now) c.args.place c.args.pair.now (entries_view c.args.entries.now) (entry_view c.in-Some.entry.now) (entries_view c.in-Some.others.now) c.args.means.now.left c.loop-entry.means.left (rw c.in-Some.ensures.cases.0 at c.loop-entry.invariant.comes) c.loop-entry.invariant.within c.type_says_here.new.means.left Spent c.in-Spent.ensures
+pair_fate-returns-in-Spent t c = key_stops (language_of c.args.table.now) c.args.place c.args.pair.now (entries_view c.args.entries.now) (entry_view c.in-Some.entry.now) (entries_view c.in-Some.others.now) c.args.means.now.left c.loop-entry.means.left (rw c.in-Some.ensures.cases.0 at c.loop-entry.invariant.comes) c.loop-entry.invariant.within c.key_says.new.means.left Spent c.in-Spent.ensures
 
 pub pair_fate-returns-in-Spent-type_says_here : goal.pair_fate-returns-in-Spent-type_says_here
-pair_fate-returns-in-Spent-type_says_here t c = value_stops (language_of c.args.table.now) c.args.place c.args.pair.now (entries_view c.args.entries.now) (entry_view c.in-Some.entry.now) (entries_view c.in-Some.others.now) c.args.means.now.left c.loop-entry.means.left (rw c.in-Some.ensures.cases.0 at c.loop-entry.invariant.comes) c.loop-entry.invariant.within c.type_says_here-in-Some.new.means.left Spent c.in-Yes.ensures (rw c.place_after-value_place.ensures at c.in-Spent-type_says_here.ensures)
+pair_fate-returns-in-Spent-type_says_here t c = value_stops (language_of c.args.table.now) c.args.place c.args.pair.now (entries_view c.args.entries.now) (entry_view c.in-Some.entry.now) (entries_view c.in-Some.others.now) c.args.means.now.left c.loop-entry.means.left (rw c.in-Some.ensures.cases.0 at c.loop-entry.invariant.comes) c.loop-entry.invariant.within c.type_says_here.new.means.left Spent c.in-Yes.ensures (rw c.place_after-value_place.ensures at c.in-Spent-type_says_here.ensures)
 
 pub entry_does-returns-in-Some : goal.entry_does-returns-in-Some
 entry_does-returns-in-Some t c = rw (c.in-Some.ensures.cases.0, c.entry_done.ensures) (entry_ends (language_of c.args.table.now) c.args.node c.args.base c.args.place (view c.in-Some.item.now) (values c.in-Some.rest.now) c.args.means.now.left c.type_says_here-said.new.means.left _ c.type_says_here-said.ensures)

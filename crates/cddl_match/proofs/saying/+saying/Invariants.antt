@@ -1,6 +1,5 @@
-use Rattle.std.proofs.Common.{◌≡◌, ℕ, ◌+◌, ◌-◌, ◌*◌, ◌≤◌, None, length}
+use Rattle.std.proofs.Common.{◌≡◌, ◌+◌, ◌-◌, ◌*◌, ◌≤◌, None, length}
 use Rattle.std.specs.Prelude.{IfSome}
-use Rattle.cbor_data.specs.Value.{pairs_len}
 use Rattle.item_nodes.specs.View.{pairs_view, view}
 use Rattle.cddl_meaning.specs.Judges.{Reply, Fails}
 use Rattle.cddl_meaning.specs.Moves as M
@@ -29,10 +28,10 @@ invariant-map_says-loop-entries l = record {
 
 abbrev pub invariant-tally_pairs-loop-pair : goal.invariant-tally_pairs-loop-pair
 invariant-tally_pairs-loop-pair l = record {
-  within : (l.means.left ≤ l.unasked) × (l.unasked ≤ l.fn.means.left);
+  within : l.means.left ≤ l.fn.means.left;
   none : l.tallied.told ≡ None;
   comes : ComesTo (language_of l.fn.table) (M.next_pair (entries_view l.fn.entries) l.fn.base (M.plus l.fn.base 1) (pairs_view l.fn.pairs) (M.fresh (entries_view l.fn.entries))) (M.next_pair (entries_view l.fn.entries) l.fn.base l.place (pairs_view l.left) (tally_view l.tallied.tally)) (l.fn.means.left - l.means.left);
-  known : IfSome l.told (λ told. (tried : ℕ) × (tried + pairs_len (pairs_view l.left) ≡ pairs_len (pairs_view l.fn.pairs)) × AreTold (language_of l.fn.table) (entries_view l.fn.entries) l.fn.base (pairs_view l.fn.pairs) l.place (pairs_view l.left) (tally_view l.tallied.tally) told (l.fn.means.left - l.unasked) tried);
+  known : IfSome l.told (λ told. AreTold (language_of l.fn.table) (entries_view l.fn.entries) l.fn.base (pairs_view l.fn.pairs) l.place (pairs_view l.left) (tally_view l.tallied.tally) told (l.fn.means.left - l.means.left));
 }
 
 abbrev pub invariant-pair_fate-loop-entry : goal.invariant-pair_fate-loop-entry
@@ -139,6 +138,9 @@ decreases-tally_pairs l = 8 * l.depth + 3
 
 abbrev pub decreases-pair_fate : goal.decreases-pair_fate
 decreases-pair_fate l = 8 * l.depth + 2
+
+abbrev pub decreases-key_says : goal.decreases-key_says
+decreases-key_says l = 8 * l.depth + 1
 
 abbrev pub decreases-parts_do : goal.decreases-parts_do
 decreases-parts_do l = 8 * l.depth + 3

@@ -1,28 +1,21 @@
-use Rattle.std.proofs.Common.{inr, refl, arith}
+use Rattle.std.proofs.Common.{ap}
 use Rattle.table_nodes.specs.Language.{language_of}
-use Rattle.cddl_match.specs.Machine.{found_in, last_of, pending_in}
-use Rattle.match_moves.specs.Views.{question_view, reply_view}
-use Rattle.match_moves.specs.declared.questions.Move.TheVariants as C
-use Rattle.cddl_meaning.specs.Moves as M
-use Rattle.cddl_match.proofs.Needs.{or_so, or_true, room_needed}
-use Rattle.cddl_match.proofs.Running.{finds_from, next_at, step_of}
+use Rattle.cddl_match.specs.Machine.{asked_in, found_in}
+use Rattle.cddl_match.proofs.Needs.{wants_before}
+use Rattle.cddl_match.proofs.Running.{finds_of, passed_run, step_of}
 use Rattle.cddl_match.proofs.stack.step.Goals as goal
 
-pub returns-in-Asks-clause-memory : goal.returns-in-Asks-clause-memory
-returns-in-Asks-clause-memory c = λ e.
-    let r = c.args.run.now in
-    or_so (c.ask.ensures.memory e) (λ a. room_needed (language_of c.args.table.now) r (C.Asks c.in-Asks.question) c.in-Asks.is (or_true (last_of (pending_in r.waiting.items)) (question_view c.in-Asks.question) (rw c.again-question.ensures at a)))
-
-pub returns-in-Answered-clause-goes : goal.returns-in-Answered-clause-goes
-returns-in-Answered-clause-goes c = λ e first run within.
+pub returns-clause-goes : goal.returns-clause-goes
+returns-clause-goes c = λ e first run within.
     let l = language_of c.args.table.now in
-    let at = rw (← c.again-reply.ensures) at (next_at l first c.args.run.now (C.Answered c.in-Answered.reply) (omega (arith, c.if-run-gt0.false)) c.in-Answered.is run) in
-    step_of l first c.args.steps _ _ _ refl refl (c.reply_to_last.ensures.goes e l c.args.steps first at within)
+    let p = c.pass_over.ensures in
+    step_of l first c.args.steps c.pass_over.new.run c.args.run.now _ p.taken (ap (λ v. asked_in v.items) p.waiting) (c.take_turn.ensures.goes e first (passed_run l first c.args.run.now c.pass_over.new.run p.waiting p.taken p.owed (p.comes first) run) (rw p.taken within))
 
-pub returns-in-Answered-clause-finds : goal.returns-in-Answered-clause-finds
-returns-in-Answered-clause-finds c =
+pub returns-clause-finds : goal.returns-clause-finds
+returns-clause-finds c =
     let l = language_of c.args.table.now in
-    finds_from l c.args.steps c.args.run.now c.args.run.now (M.Answered (reply_view c.again-reply.result)) (found_in c.reply_to_last.result c.reply_to_last.new.run.next) refl (λ first run. rw (← c.again-reply.ensures) at (next_at l first c.args.run.now (C.Answered c.in-Answered.reply) (omega (arith, c.if-run-gt0.false)) c.in-Answered.is run)) (c.reply_to_last.ensures.finds l c.args.steps)
+    let p = c.pass_over.ensures in
+    finds_of l c.args.steps c.args.run.now c.pass_over.new.run (found_in c.take_turn.result c.take_turn.new.run.next) p.taken (λ first run. passed_run l first c.args.run.now c.pass_over.new.run p.waiting p.taken p.owed (p.comes first) run) c.take_turn.ensures.finds
 
-pub returns-in-Reads-clause-memory : goal.returns-in-Reads-clause-memory
-returns-in-Reads-clause-memory c = λ e. inr (room_needed (language_of c.args.table.now) c.args.run.now (C.Reads c.in-Reads.reading) c.in-Reads.is refl)
+pub returns-clause-memory : goal.returns-clause-memory
+returns-clause-memory c = λ e. wants_before (language_of c.args.table.now) c.args.run.now c.pass_over.new.run c.pass_over.ensures.waiting c.pass_over.ensures.comes (c.take_turn.ensures.memory e)
