@@ -32,7 +32,7 @@ use Rattle.check_maps.specs.declared.spliced.owners.Owner.{Owner}
 use Rattle.check_maps.specs.declared.spliced.owners.Owner.TheVariants as OwnerV
 use Rattle.check_maps.specs.declared.spliced.owners.Way.{Way}
 use Rattle.check_maps.specs.Spliced.Spliced.{AreSpliced, AreWays, IsOwner, IsSplicedEntry, IsSplicedOwner, IsTarget, IsWay, WasSpliced, a_map, a_name, an_opening, of_map, of_point, somewhere}
-use Rattle.check_maps.specs.Spliced.Steps.{asked_by, edges_of, fact_of, flagged, is_flagged, named as named_owner, opened_owner, owner_of, place_of}
+use Rattle.check_maps.specs.Spliced.Steps.{asked_by, edges_of, fact_of, flagged, is_flagged, named as named_owner, opened_owner, owner_of, place_of, most_facts}
 use Rattle.check_maps.proofs.OfSpliced.Telling.{edge_in, edge_made, edge_parts, fact_same, flag_true, flagged_from, flagged_in, flagged_made, flagged_parts, in_edges, one_place}
 use Rattle.check_maps.proofs.OfSpliced.Inside.{none_in, place_in, points_bare, points_group, points_rule}
 use Rattle.check_maps.proofs.OfSpliced.Leading.{placed}
@@ -120,7 +120,7 @@ module _ (s : Specification) (root : Text) (laws : Laws s root) (t : Table) (one
     from_target : (x : Option Point) (u : Owner) → IsTarget (definitions s) refs x (Some u) → (p : Point) × (x ≡ Some p) × IsOwner (definitions s) refs u (Some p)
     from_target x u (somewhere {p = p} o) = (p, refl, o)
 
-    follows_spliced : (n : ℕ) → Follows 8192 (edges_of ways) n → (w : Owner) → fact_of w ≡ Some n → SplicedBy w
+    follows_spliced : (n : ℕ) → Follows most_facts (edges_of ways) n → (w : Owner) → fact_of w ≡ Some n → SplicedBy w
     follows_spliced n (concludes place i at lt first second) w e =
         let v = in_edges ways place i at in
         let parts = edge_parts v.1.owner v.1.target i v.3 in
@@ -133,7 +133,7 @@ module _ (s : Specification) (root : Text) (laws : Laws s root) (t : Table) (one
         (Some o.0, (subst (λ z. IsOwner (definitions s) refs z (Some o.0)) same o.2, of_point (record { rule = h.rule; arguments = h.arguments; owner = q.0; entry = h.entry; spliced = h.each q.0 q.1.0 q.1.1; point = o.1 })))
 
     abbrev FollowsOwner : Owner → Type 0
-    FollowsOwner w = (n : ℕ) → fact_of w ≡ Some n → Follows 8192 (edges_of ways) n
+    FollowsOwner w = (n : ℕ) → fact_of w ≡ Some n → Follows most_facts (edges_of ways) n
 
     abbrev IsFlagged : Option Point → Type 0
     IsFlagged q = (w : Owner) × (IsOwner (definitions s) refs w q × FollowsOwner w)
@@ -187,13 +187,13 @@ module _ (s : Specification) (root : Text) (laws : Laws s root) (t : Table) (one
     within (y ∷ ys) zero x e = omega arith
     within (y ∷ ys) (suc k) x e = let h = within ys k x e in omega (arith, h)
 
-    named_bound : (k : ℕ) → k < length refs → 2 * k < 8192
+    named_bound : (k : ℕ) → k < length refs → 2 * k < most_facts
     named_bound k h = let few = is.few in omega (arith, h, few)
 
-    opened_bound : (k : ℕ) → k < length refs → 2 * k + 1 < 8192
+    opened_bound : (k : ℕ) → k < length refs → 2 * k + 1 < most_facts
     opened_bound k h = let few = is.few in omega (arith, h, few)
 
-    owner_fact : (u : Owner) (p : Point) → IsOwner (definitions s) refs u (Some p) → (n : ℕ) × (fact_of u ≡ Some n) × (n < 8192)
+    owner_fact : (u : Owner) (p : Point) → IsOwner (definitions s) refs u (Some p) → (n : ℕ) × (fact_of u ≡ Some n) × (n < most_facts)
     owner_fact u p (a_name {k = k} {f = f} h) = (2 * k, refl, named_bound k (within refs k f h))
     owner_fact u p (an_opening {k = k} {e = e} h lead end free) = (2 * k + 1, refl, opened_bound k (within refs k e h))
 
@@ -211,8 +211,8 @@ module _ (s : Specification) (root : Text) (laws : Laws s root) (t : Table) (one
         let i : Implication = record { then = n.0; first = fact_of h.owner; second = None } in
         let made = edge_made v.0.owner v.0.target h.owner u.0 n.0 (v.2.owner ∙ h.owns) u.1 n.1 in
         let j = edge_in ways k.0 v.0 i v.1 made in
-        let so : Follows 8192 (edges_of ways) n.0 = concludes j.0 i j.1 n.2 (λ m e. h.follows m e) (λ m e. no_fact m e) in
-        (u.0, (u.2, λ m e. subst (Follows 8192 (edges_of ways)) (same_number n.0 m (sym n.1 ∙ e)) so))
+        let so : Follows most_facts (edges_of ways) n.0 = concludes j.0 i j.1 n.2 (λ m e. h.follows m e) (λ m e. no_fact m e) in
+        (u.0, (u.2, λ m e. subst (Follows most_facts (edges_of ways)) (same_number n.0 m (sym n.1 ∙ e)) so))
       where
         same_number : (a b : ℕ) → Some a ≡ Some b → a ≡ b
         same_number a b e = cc
@@ -223,7 +223,7 @@ module _ (s : Specification) (root : Text) (laws : Laws s root) (t : Table) (one
     flagged_owner r xs q e (M.of_name {r = v} {xs = ys} {q = u} {d = d} {f = f} h point k n m) = edge_flag v ys u d (at_name f) h (flagged_owner v ys u d h) point
     flagged_owner r xs q e (M.of_opened {r = v} {xs = ys} {q = u} {d = d} {f = f} h point k m) = edge_flag v ys u d (at_unwrapping f) h (flagged_owner v ys u d h) point
 
-    module _ (flags : List Bool) (following : AreFollowing 8192 (edges_of ways) flags) where
+    module _ (flags : List Bool) (following : AreFollowing most_facts (edges_of ways) flags) where
       by_flag : (w : Owner) → is_flagged flags w ≡ true → SplicedBy w
       by_flag w e = premise w (λ n h. follows_spliced n ((following.each n).0 (flag_true flags w n h e)) w h)
 

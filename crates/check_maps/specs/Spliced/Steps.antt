@@ -1,5 +1,6 @@
 -- What is done with one entry.
 use Rattle.std.specs.Prelude.{ℕ, ◌+◌, ◌*◌, Bool, true, false, if◌then◌else◌, List, [], ◌∷◌, Option, Some, None, slice_get}
+use Rattle.cddl_language.specs.Reach.{most_instances}
 use Rattle.graphs.specs.declared.implications.Implication.{Implication}
 use Rattle.check_terms.specs.declared.row.Form.{Form}
 use Rattle.check_terms.specs.declared.row.Form.TheVariants as F
@@ -15,6 +16,10 @@ use Rattle.check_maps.specs.declared.spliced.listing.Spliced.{Spliced}
 use Rattle.check_maps.specs.declared.spliced.owners.Owner.{Owner}
 use Rattle.check_maps.specs.declared.spliced.owners.Owner.TheVariants as OwnerV
 use Rattle.check_maps.specs.declared.spliced.owners.Way.{Way}
+
+-- how many facts there may be: two for each instance
+abbrev pub most_facts : ℕ
+most_facts = 2 * most_instances
 
 abbrev pub there : Option (Option ℕ) → Option ℕ
 there None = None

@@ -16,6 +16,7 @@ ghost use Rattle.check_maps.specs.Spliced.Steps as by;
 use crate::spliced::edges::{edges_of, fact_of};
 use crate::spliced::owners::{Owner, Way, owner_of, target_of};
 use cddl_language::live::{reached_parts, reached_rules};
+use check_instances::MOST_INSTANCES;
 use check_instances::closed::Closed;
 use check_instances::openings::Opening;
 use check_names::kinds::Kinds;
@@ -26,8 +27,8 @@ use check_terms::laws::equal_numbers;
 use graphs::implications::following;
 use std::alloc::{AllocError, Global};
 
-/// How many facts there may be: two for each of 4,096 instances.
-const FACTS: usize = 8_192;
+/// How many facts there may be: two for each instance.
+const FACTS: usize = 2 * MOST_INSTANCES;
 
 /// An entry of the text that is spliced into a map.
 #[derive(Clone, Copy)]
