@@ -6,14 +6,15 @@ ghost use Rattle.std.specs.BTreeMap.{insert_entry};
 ghost use Rattle.std.specs.Cmp.Lexicographic.{slice_cmp};
 ghost use Rattle.std.specs.Ordering.{nat_cmp};
 ghost use Rattle.cbor_data.specs.Deterministic.{deterministic};
-ghost use Rattle.cbor_data.specs.Preferred.{shortest_head};
+ghost use Rattle.cbor_data.specs.Preferred.{shortest_head, simple_bytes, float_bytes};
 ghost use Rattle.cbor_item.specs.Laying.{Lays, LaysAmong, LaysPairs, has_key, joined, seen};
 ghost use Rattle.item_nodes.specs.View.{view, values_view, pairs_view};
 ghost use Rattle.cbor_item.specs.Walk.{IsPlain, ArePlain, ArePairsPlain};
 ghost use Rattle.cbor_item.specs.declared.sound.Unsound.TheVariants.{Memory};
-ghost use Rattle.cbor_data.specs.Value.{place_count, values_place_count, pairs_place_count};
+ghost use Rattle.cbor_data.specs.Value.{FitsWidth, place_count, values_place_count, pairs_place_count};
 
 use crate::sound::Unsound;
+use cbor_data::Width;
 use item_nodes::Item;
 use item_nodes::head::Head;
 use std::alloc::Global;
@@ -33,24 +34,24 @@ pub fn append_det(
     ensures { Lays (view item.now) place out.old.items out.new.items result }
 {
     match item {
-        Item::Uint(n) => append_part(Head::shortest(0, *n).as_slice(), place, out),
-        Item::Nint(n) => append_part(Head::shortest(1, *n).as_slice(), place, out),
+        Item::Uint(n) => append_number(0, *n, place, out),
+        Item::Nint(n) => append_number(1, *n, place, out),
         Item::Bytes(bytes) => append_string(2, bytes.as_slice(), place, out),
         Item::Text(text) => append_string(3, text.as_str().as_bytes(), place, out),
         Item::Array(items) => {
-            append(Head::shortest(4, items.len() as u64).as_slice(), out)?;
+            append_head(4, items.len() as u64, out)?;
             append_members(alloc, items, place + 1, out)
         }
         Item::Map(pairs) => {
-            append(Head::shortest(5, pairs.len() as u64).as_slice(), out)?;
+            append_head(5, pairs.len() as u64, out)?;
             append_pairs(alloc, pairs, place + 1, out)
         }
         Item::Tag(number, content) => {
-            append(Head::shortest(6, *number).as_slice(), out)?;
+            append_head(6, *number, out)?;
             append_det(alloc, content, place + 1, out)
         }
-        Item::Simple(n) => append_part(Head::simple(*n).as_slice(), place, out),
-        Item::Float(width, bits) => append_part(Head::float(*width, *bits).as_slice(), place, out),
+        Item::Simple(n) => append_simple(*n, place, out),
+        Item::Float(width, bits) => append_float(*width, *bits, place, out),
     }
 }
 
@@ -74,6 +75,7 @@ fn append_members(
 
 // The same of the pairs of a map, whose keys may not be the same.
 #[cycle(det)]
+#[inline(never)]
 fn append_pairs(
     alloc: Global,
     pairs: &Vec<(Item, Item)>,
@@ -101,6 +103,7 @@ fn append_pairs(
 }
 
 // Whether a key with these bytes is there.
+#[inline(never)]
 fn is_noted(noted: &BTreeMap<Vec<u8>, Vec<u8>>, key: &Vec<u8>) -> bool
     ensures { result ≡ has_key key.now.items (seen noted.now) }
 {
@@ -108,6 +111,7 @@ fn is_noted(noted: &BTreeMap<Vec<u8>, Vec<u8>>, key: &Vec<u8>) -> bool
 }
 
 // Puts a pair in its place among those in order.
+#[inline(never)]
 fn note(noted: &mut BTreeMap<Vec<u8>, Vec<u8>>, key: Vec<u8>, value: Vec<u8>) -> Result<(), Unsound>
     ensures ok { OnOk result (seen noted.new ≡ insert_entry (slice_cmp nat_cmp) (seen noted.old) key.items value.items) }
     ensures err { IfErr result (λ e. e ≡ Memory) }
@@ -119,6 +123,7 @@ fn note(noted: &mut BTreeMap<Vec<u8>, Vec<u8>>, key: Vec<u8>, value: Vec<u8>) ->
 }
 
 // Adds the pairs in order, each key and then its value.
+#[inline(never)]
 fn append_noted(noted: &BTreeMap<Vec<u8>, Vec<u8>>, out: &mut Vec<u8>) -> Result<(), Unsound>
     ensures ok { OnOk result (out.new.items ≡ out.old.items ++ joined (seen noted.now)) }
     ensures err { IfErr result (λ e. e ≡ Memory) }
@@ -141,6 +146,56 @@ fn append(bytes: &[u8], out: &mut Vec<u8>) -> Result<(), Unsound>
     }
 }
 
+// Adds a head.
+#[inline(never)]
+fn append_head(major: u8, argument: u64, out: &mut Vec<u8>) -> Result<(), Unsound>
+    requires { major < 8 }
+    ensures ok { OnOk result (out.new.items ≡ out.old.items ++ shortest_head major argument) }
+    ensures err { IfErr result (λ e. e ≡ Memory) }
+{
+    append(Head::shortest(major, argument).as_slice(), out)
+}
+
+// The bytes of an integer at `place`.
+#[inline(never)]
+fn append_number(
+    major: u8,
+    argument: u64,
+    place: usize,
+    out: &mut Vec<u8>,
+) -> Result<usize, Unsound>
+    requires major { major < 8 }
+    requires room { place + 1 < 2 ^ 64 }
+    ensures ok { IfOk result (λ next. next ≡ place + 1) }
+    ensures bytes { OnOk result (out.new.items ≡ out.old.items ++ shortest_head major argument) }
+    ensures err { IfErr result (λ e. e ≡ Memory) }
+{
+    append_part(Head::shortest(major, argument).as_slice(), place, out)
+}
+
+// The bytes of a simple value at `place`.
+#[inline(never)]
+fn append_simple(n: u8, place: usize, out: &mut Vec<u8>) -> Result<usize, Unsound>
+    requires { place + 1 < 2 ^ 64 }
+    ensures ok { IfOk result (λ next. next ≡ place + 1) }
+    ensures bytes { OnOk result (out.new.items ≡ out.old.items ++ simple_bytes n) }
+    ensures err { IfErr result (λ e. e ≡ Memory) }
+{
+    append_part(Head::simple(n).as_slice(), place, out)
+}
+
+// The bytes of a float at `place`.
+#[inline(never)]
+fn append_float(width: Width, bits: u64, place: usize, out: &mut Vec<u8>) -> Result<usize, Unsound>
+    requires fits { FitsWidth width bits }
+    requires room { place + 1 < 2 ^ 64 }
+    ensures ok { IfOk result (λ next. next ≡ place + 1) }
+    ensures bytes { OnOk result (out.new.items ≡ out.old.items ++ float_bytes width bits) }
+    ensures err { IfErr result (λ e. e ≡ Memory) }
+{
+    append_part(Head::float(width, bits).as_slice(), place, out)
+}
+
 // The bytes of an item without parts at `place`.
 fn append_part(bytes: &[u8], place: usize, out: &mut Vec<u8>) -> Result<usize, Unsound>
     requires { place + 1 < 2 ^ 64 }
@@ -152,6 +207,8 @@ fn append_part(bytes: &[u8], place: usize, out: &mut Vec<u8>) -> Result<usize, U
     Ok(place + 1)
 }
 
+// A string at `place`: its head, and then its bytes.
+#[inline(never)]
 fn append_string(major: u8, bytes: &[u8], place: usize, out: &mut Vec<u8>) -> Result<usize, Unsound>
     requires major { major < 8 }
     requires room { place + 1 < 2 ^ 64 }
@@ -159,6 +216,6 @@ fn append_string(major: u8, bytes: &[u8], place: usize, out: &mut Vec<u8>) -> Re
     ensures bytes { OnOk result (out.new.items ≡ out.old.items ++ (shortest_head major (length bytes.now) ++ bytes.now)) }
     ensures err { IfErr result (λ e. e ≡ Memory) }
 {
-    append(Head::shortest(major, bytes.len() as u64).as_slice(), out)?;
+    append_head(major, bytes.len() as u64, out)?;
     append_part(bytes, place, out)
 }

@@ -3,9 +3,9 @@
 ghost use Rattle.std.specs.Prelude.{◌≡◌, ◌<◌, ◌≤◌, ◌++◌, length, take, OnOk, IfOk};
 ghost use Rattle.std.specs.Io.KnownBytes.{Appends};
 ghost use Rattle.cbor_data.specs.Deterministic.{deterministic, values_ordered, pairs_ordered};
-ghost use Rattle.cbor_data.specs.Preferred.{shortest_head, values_preferred, pairs_preferred};
+ghost use Rattle.cbor_data.specs.Preferred.{shortest_head, simple_bytes, float_bytes, values_preferred, pairs_preferred};
 ghost use Rattle.cbor_data.specs.Validity.{IsValid};
-ghost use Rattle.cbor_data.specs.Value.{Pairs, array, pairs as pairs_value};
+ghost use Rattle.cbor_data.specs.Value.{FitsWidth, Pairs, array, pairs as pairs_value};
 ghost use Rattle.item_nodes.specs.Counted.{device_of, failures_of, HasRisen};
 ghost use Rattle.item_nodes.specs.InOrder.{laid, lengths_of, total, cut, seen_slices};
 ghost use Rattle.cbor_item.specs.Laying.{joined};
@@ -14,6 +14,7 @@ ghost use Rattle.cbor_item.specs.Walk.{IsPlain, ArePlain, ArePairsPlain};
 
 use crate::sound::Sound;
 use crate::write::{WriteFault, write_bytes};
+use cbor_data::Width;
 use item_nodes::head::Head;
 use item_nodes::rising::are_keys_rising;
 use item_nodes::{Counted, Item};
@@ -71,16 +72,16 @@ fn add_det(alloc: Global, item: &Item, out: &mut Vec<u8>) -> Result<(), AllocErr
     ensures { OnOk result (out.new.items ≡ out.old.items ++ deterministic (view item.now)) }
 {
     match item {
-        Item::Uint(n) => out.extend_from_slice(Head::shortest(0, *n).as_slice()),
-        Item::Nint(n) => out.extend_from_slice(Head::shortest(1, *n).as_slice()),
+        Item::Uint(n) => add_head(0, *n, out),
+        Item::Nint(n) => add_head(1, *n, out),
         Item::Bytes(bytes) => add_string(2, bytes.as_slice(), out),
         Item::Text(text) => add_string(3, text.as_str().as_bytes(), out),
         Item::Array(items) => {
-            out.extend_from_slice(Head::shortest(4, items.len() as u64).as_slice())?;
+            add_head(4, items.len() as u64, out)?;
             add_members(alloc, items, out)
         }
         Item::Map(pairs) => {
-            out.extend_from_slice(Head::shortest(5, pairs.len() as u64).as_slice())?;
+            add_head(5, pairs.len() as u64, out)?;
             if are_keys_rising(pairs.as_slice()) {
                 return add_pairs(alloc, pairs, out);
             }
@@ -89,11 +90,11 @@ fn add_det(alloc: Global, item: &Item, out: &mut Vec<u8>) -> Result<(), AllocErr
             add_sorted(alloc, bytes.as_slice(), &lengths, out)
         }
         Item::Tag(number, content) => {
-            out.extend_from_slice(Head::shortest(6, *number).as_slice())?;
+            add_head(6, *number, out)?;
             add_det(alloc, content, out)
         }
-        Item::Simple(n) => out.extend_from_slice(Head::simple(*n).as_slice()),
-        Item::Float(width, bits) => out.extend_from_slice(Head::float(*width, *bits).as_slice()),
+        Item::Simple(n) => add_simple(*n, out),
+        Item::Float(width, bits) => add_float(*width, *bits, out),
     }
 }
 
@@ -125,6 +126,7 @@ fn add_pairs(alloc: Global, pairs: &Vec<(Item, Item)>, out: &mut Vec<u8>) -> Res
 
 // Adds the pairs of a map as they come, and answers how many bytes each key and each value has.
 #[cycle(add)]
+#[inline(never)]
 fn lay_out(
     alloc: Global,
     pairs: &Vec<(Item, Item)>,
@@ -148,6 +150,7 @@ fn lay_out(
 
 // Adds the pairs whose keys and values have these lengths in the bytes, sorted. No two keys have the same bytes, so the values
 // decide nothing.
+#[inline(never)]
 fn add_sorted(
     alloc: Global,
     bytes: &[u8],
@@ -193,11 +196,38 @@ fn add_entries(entries: &Vec<(&[u8], &[u8])>, out: &mut Vec<u8>) -> Result<(), A
     Ok(())
 }
 
+// A head.
+#[inline(never)]
+fn add_head(major: u8, argument: u64, out: &mut Vec<u8>) -> Result<(), AllocError>
+    requires { major < 8 }
+    ensures { OnOk result (out.new.items ≡ out.old.items ++ shortest_head major argument) }
+{
+    out.extend_from_slice(Head::shortest(major, argument).as_slice())
+}
+
+// A simple value.
+#[inline(never)]
+fn add_simple(n: u8, out: &mut Vec<u8>) -> Result<(), AllocError>
+    ensures { OnOk result (out.new.items ≡ out.old.items ++ simple_bytes n) }
+{
+    out.extend_from_slice(Head::simple(n).as_slice())
+}
+
+// A float.
+#[inline(never)]
+fn add_float(width: Width, bits: u64, out: &mut Vec<u8>) -> Result<(), AllocError>
+    requires { FitsWidth width bits }
+    ensures { OnOk result (out.new.items ≡ out.old.items ++ float_bytes width bits) }
+{
+    out.extend_from_slice(Head::float(width, bits).as_slice())
+}
+
 // A string: its head, and then its bytes.
+#[inline(never)]
 fn add_string(major: u8, bytes: &[u8], out: &mut Vec<u8>) -> Result<(), AllocError>
     requires { major < 8 }
     ensures { OnOk result (out.new.items ≡ out.old.items ++ (shortest_head major (length bytes.now) ++ bytes.now)) }
 {
-    out.extend_from_slice(Head::shortest(major, bytes.len() as u64).as_slice())?;
+    add_head(major, bytes.len() as u64, out)?;
     out.extend_from_slice(bytes)
 }

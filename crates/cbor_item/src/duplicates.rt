@@ -71,6 +71,7 @@ fn walk_members(alloc: Global, items: &Vec<Item>, place: usize) -> Result<usize,
 
 // The same of the pairs of a map. Only keys are laid out as bytes.
 #[cycle(walk)]
+#[inline(never)]
 fn walk_pairs(alloc: Global, pairs: &Vec<(Item, Item)>, place: usize) -> Result<usize, Unsound>
     requires plain { ArePairsPlain (pairs_view pairs.now.items) }
     requires room { place + pairs_place_count (pairs_view pairs.now.items) < 2 ^ 64 }
@@ -90,6 +91,7 @@ fn walk_pairs(alloc: Global, pairs: &Vec<(Item, Item)>, place: usize) -> Result<
 }
 
 // Adds the key's deterministic bytes to those of the keys before it. Answers whether they are new.
+#[inline(never)]
 fn note_key(keys: &mut BTreeSet<Vec<u8>>, key: Vec<u8>) -> Result<bool, Unsound>
     ensures new { IfOk result (λ new. new ≡ not (has keys.old key.items)) }
     ensures noted { OnOk result ((bytes : List ℕ) → has keys.new bytes ≡ (bytes_eq bytes key.items || has keys.old bytes)) }

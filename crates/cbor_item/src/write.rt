@@ -2,13 +2,14 @@
 
 ghost use Rattle.std.specs.Prelude.{◌≡◌, ◌+◌, ◌<◌, ◌^◌, ◌++◌, length, take, OnOk, OnErr, IfErr};
 ghost use Rattle.std.specs.Io.KnownBytes.{Appends};
-ghost use Rattle.cbor_data.specs.Preferred.{preferred, shortest_head};
-ghost use Rattle.cbor_data.specs.Value.{array, pairs as pairs_value, AreBitsFitting};
+ghost use Rattle.cbor_data.specs.Preferred.{preferred, shortest_head, simple_bytes, float_bytes};
+ghost use Rattle.cbor_data.specs.Value.{array, pairs as pairs_value, AreBitsFitting, FitsWidth};
 ghost use Rattle.item_nodes.specs.Counted.{device_of, failures_of, HasRisen};
 ghost use Rattle.cbor_item.specs.Gone.{Goes, state_of};
 ghost use Rattle.item_nodes.specs.View.{view, values_view, pairs_view};
 
 use crate::sound::Sound;
+use cbor_data::Width;
 use item_nodes::head::Head;
 use item_nodes::{Counted, Item};
 use std::io::Write;
@@ -76,19 +77,56 @@ pub fn write_value<W: Write>(
     ensures { Goes (state_of W.contents out.old) (state_of W.contents out.new) before (preferred (view item.now)) result }
 {
     match item {
-        Item::Uint(n) => write_head(&Head::shortest(0, *n), before, out),
-        Item::Nint(n) => write_head(&Head::shortest(1, *n), before, out),
+        Item::Uint(n) => write_shortest(0, *n, before, out),
+        Item::Nint(n) => write_shortest(1, *n, before, out),
         Item::Bytes(bytes) => write_string(2, bytes.as_slice(), before, out),
         Item::Text(text) => write_string(3, text.as_str().as_bytes(), before, out),
         Item::Array(items) => write_members(items, before, out),
         Item::Map(pairs) => write_pairs(pairs, before, out),
         Item::Tag(number, content) => {
-            let after = write_head(&Head::shortest(6, *number), before, out)?;
+            let after = write_shortest(6, *number, before, out)?;
             write_value(content, after, out)
         }
-        Item::Simple(n) => write_head(&Head::simple(*n), before, out),
-        Item::Float(width, bits) => write_head(&Head::float(*width, *bits), before, out),
+        Item::Simple(n) => write_simple(*n, before, out),
+        Item::Float(width, bits) => write_float(*width, *bits, before, out),
     }
+}
+
+// The shortest head of a major type with an argument.
+#[inline(never)]
+fn write_shortest<W: Write>(
+    major: u8,
+    argument: u64,
+    before: u128,
+    out: &mut Counted<W>,
+) -> Result<u128, WriteFault>
+    requires major { major < 8 }
+    requires room { before + length (shortest_head major argument) < 2 ^ 128 }
+    ensures { Goes (state_of W.contents out.old) (state_of W.contents out.new) before (shortest_head major argument) result }
+{
+    write_head(&Head::shortest(major, argument), before, out)
+}
+
+#[inline(never)]
+fn write_simple<W: Write>(n: u8, before: u128, out: &mut Counted<W>) -> Result<u128, WriteFault>
+    requires { before + length (simple_bytes n) < 2 ^ 128 }
+    ensures { Goes (state_of W.contents out.old) (state_of W.contents out.new) before (simple_bytes n) result }
+{
+    write_head(&Head::simple(n), before, out)
+}
+
+#[inline(never)]
+fn write_float<W: Write>(
+    width: Width,
+    bits: u64,
+    before: u128,
+    out: &mut Counted<W>,
+) -> Result<u128, WriteFault>
+    requires fits { FitsWidth width bits }
+    requires room { before + length (float_bytes width bits) < 2 ^ 128 }
+    ensures { Goes (state_of W.contents out.old) (state_of W.contents out.new) before (float_bytes width bits) result }
+{
+    write_head(&Head::float(width, bits), before, out)
 }
 
 fn write_head<W: Write>(head: &Head, before: u128, out: &mut Counted<W>) -> Result<u128, WriteFault>
@@ -115,6 +153,7 @@ fn write_part<W: Write>(
 }
 
 // A string: its head, and then its bytes.
+#[inline(never)]
 fn write_string<W: Write>(
     major: u8,
     bytes: &[u8],
@@ -125,7 +164,7 @@ fn write_string<W: Write>(
     requires room { before + length (shortest_head major (length bytes.now) ++ bytes.now) < 2 ^ 128 }
     ensures { Goes (state_of W.contents out.old) (state_of W.contents out.new) before (shortest_head major (length bytes.now) ++ bytes.now) result }
 {
-    let after = write_head(&Head::shortest(major, bytes.len() as u64), before, out)?;
+    let after = write_shortest(major, bytes.len() as u64, before, out)?;
     write_part(bytes, after, out)
 }
 
@@ -139,7 +178,7 @@ fn write_members<W: Write>(
     requires room { before + length (preferred (array (values_view items.now.items))) < 2 ^ 128 }
     ensures { Goes (state_of W.contents out.old) (state_of W.contents out.new) before (preferred (array (values_view items.now.items))) result }
 {
-    let mut after = write_head(&Head::shortest(4, items.len() as u64), before, out)?;
+    let mut after = write_shortest(4, items.len() as u64, before, out)?;
     for item in items {
         after = write_value(item, after, out)?;
     }
@@ -156,7 +195,7 @@ fn write_pairs<W: Write>(
     requires room { before + length (preferred (pairs_value (pairs_view pairs.now.items))) < 2 ^ 128 }
     ensures { Goes (state_of W.contents out.old) (state_of W.contents out.new) before (preferred (pairs_value (pairs_view pairs.now.items))) result }
 {
-    let mut after = write_head(&Head::shortest(5, pairs.len() as u64), before, out)?;
+    let mut after = write_shortest(5, pairs.len() as u64, before, out)?;
     for (key, value) in pairs {
         after = write_value(key, after, out)?;
         after = write_value(value, after, out)?;

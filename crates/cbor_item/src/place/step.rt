@@ -24,6 +24,7 @@ pub enum Step<'a> {
 }
 
 // Puts the step down from its last byte to its first.
+#[inline(never)]
 pub fn push_backwards(out: &mut Vec<u8>, step: &[u8]) -> Result<(), AllocError>
     ensures { OnOk result (out.new.items ≡ out.old.items ++ reverse step.now) }
 {
@@ -36,6 +37,7 @@ pub fn push_backwards(out: &mut Vec<u8>, step: &[u8]) -> Result<(), AllocError>
 }
 
 // The step as text.
+#[inline(never)]
 pub fn step_text(alloc: Global, step: Step) -> Result<Vec<u8>, AllocError>
     ensures { IfOk result (λ text. text.items ≡ step_bytes step.entry) }
 {

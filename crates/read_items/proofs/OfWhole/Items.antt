@@ -184,3 +184,12 @@ whole_front d b x end h =
       spells = record { written = f; ok = h.ok; text = h.text; is = ap (take end) h.is ∙ (ap (λ k. take k (flat f ++ drop end b)) placed ∙ take-append_seam (flat f) (drop end b)); meant = h.meant };
       shallow = h.shallow;
     }
+
+-- what is no deeper than the one is no deeper than the other
+pub deeper_front : (d e : ℕ) (b : List ℕ) (x : Value) (n : ℕ) → d ≤ e → IsWholeItem d b x n → IsWholeItem e b x n
+deeper_front d e b x n less h = record {
+  some = h.some;
+  within = h.within;
+  spells = h.spells;
+  shallow = omega (arith, h.shallow, less);
+}

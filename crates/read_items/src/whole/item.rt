@@ -12,12 +12,16 @@ use crate::whole::list::{end_len, is_end, may_be_there, push_part, trimmed};
 use item_nodes::Item;
 use std::alloc::{AllocError, Global};
 
+// An item with more containers round a place of it is left to a reader that keeps what is open in a list: each call of this one
+// takes a level of the program's stack, of 1.2 KiB where maps are keys of maps.
+const DEEPEST: u32 = 32;
+
 /// The item at the front of `bytes`, and how many bytes it has (RFC 8949 section 3). It has at most `depth` containers
 /// round or at some place; whether it repeats a key is not asked.
 ///
 /// `None` says nothing: no item may be there, or none that is all there, or one with a text that is not UTF-8, or too
-/// deep. Bytes are looked at once, calls are `depth` deep at most, and a declared length takes memory for 32 members at
-/// most before they are read. In the end a list has room for twice its members at most.
+/// deep, or more than 32 containers deep. Bytes are looked at once, calls are 32 deep at most, and a declared length takes
+/// memory for 32 members at most before they are read. In the end a list has room for twice its members at most.
 ///
 /// # Errors
 ///
@@ -29,7 +33,7 @@ pub fn whole_item(
 ) -> Result<Option<(Item, usize)>, AllocError>
     ensures { IfOk result (λ found. IfSome found (λ r. IsWholeItem depth bytes.now (view r.0) r.1)) }
 {
-    item_at(alloc, bytes, 0, depth)
+    item_at(alloc, bytes, 0, depth.min(DEEPEST))
 }
 
 // The item at `at`, and where it ends.

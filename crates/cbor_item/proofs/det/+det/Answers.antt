@@ -175,40 +175,39 @@ append_pairs-returns t c =
     subst (λ zs. LaysPairs (pairs_view zs) c.args.place old new (Ok next)) same
     (all_known (seen c.loop-key.noted) next (pairs_view ys) c.args.place old new knows (subst (λ zs. ArePairsPlain (pairs_view zs)) (sym same) c.requires.plain) c.in_ok-append_noted.ensures.ok)
 
-pub append_det-returns-in_ok-append-in-Array : goal.append_det-returns-in_ok-append-in-Array
-append_det-returns-in_ok-append-in-Array t c =
+pub append_det-returns-in_ok-append_head-in-Array : goal.append_det-returns-in_ok-append_head-in-Array
+append_det-returns-in_ok-append_head-in-Array t c =
     let xs = c.in-Array.items.items in
     let old = c.args.out.now.items in
     let new = c.append_members.new.out.items in
     let r = c.append_members.result in
     let len : c.len.result ≡ length xs = search rules in
-    let head : c.as_slice-in-Array.result.now ≡ shortest_head 4 (values_len (values_view xs)) = c.as_slice-in-Array.ensures ∙ (c.shortest-in-Array.ensures ∙ ap (shortest_head 4) (len ∙ sym (values_len-view xs))) in
+    let head : shortest_head 4 c.len.result ≡ shortest_head 4 (values_len (values_view xs)) = ap (shortest_head 4) (len ∙ sym (values_len-view xs)) in
     subst (λ i. Lays (view i) c.args.place old new r) (sym c.in-Array.is)
     (subst (λ v. Lays v c.args.place old new r) (sym (view-Array c.in-Array.items))
-    (lays_array (values_view xs) c.args.place old c.append.new.out.items new r (c.in_ok-append-in-Array.ensures.ok ∙ ap (λ b. old ++ b) head) c.append_members.ensures))
+    (lays_array (values_view xs) c.args.place old c.append_head.new.out.items new r (c.in_ok-append_head-in-Array.ensures.ok ∙ ap (λ b. old ++ b) head) c.append_members.ensures))
 
-pub append_det-returns-in_ok-append-in-Map : goal.append_det-returns-in_ok-append-in-Map
-append_det-returns-in_ok-append-in-Map t c =
+pub append_det-returns-in_ok-append_head-in-Map : goal.append_det-returns-in_ok-append_head-in-Map
+append_det-returns-in_ok-append_head-in-Map t c =
     let ps = c.in-Map.pairs.items in
     let old = c.args.out.now.items in
     let new = c.append_pairs.new.out.items in
     let r = c.append_pairs.result in
     let len : c.len-in-Map.result ≡ length ps = search rules in
-    let head : c.as_slice-in-Map.result.now ≡ shortest_head 5 (pairs_len (pairs_view ps)) = c.as_slice-in-Map.ensures ∙ (c.shortest-in-Map.ensures ∙ ap (shortest_head 5) (len ∙ sym (pairs_len-view ps))) in
+    let head : shortest_head 5 c.len-in-Map.result ≡ shortest_head 5 (pairs_len (pairs_view ps)) = ap (shortest_head 5) (len ∙ sym (pairs_len-view ps)) in
     subst (λ i. Lays (view i) c.args.place old new r) (sym c.in-Map.is)
     (subst (λ v. Lays v c.args.place old new r) (sym (view-Map c.in-Map.pairs))
-    (lays_map (pairs_view ps) c.args.place old c.append-in-Map.new.out.items new r (c.in_ok-append-in-Map.ensures.ok ∙ ap (λ b. old ++ b) head) c.append_pairs.ensures))
+    (lays_map (pairs_view ps) c.args.place old c.append_head-in-Map.new.out.items new r (c.in_ok-append_head-in-Map.ensures.ok ∙ ap (λ b. old ++ b) head) c.append_pairs.ensures))
 
-pub append_det-returns-in_ok-append-in-Tag : goal.append_det-returns-in_ok-append-in-Tag
-append_det-returns-in_ok-append-in-Tag t c =
+pub append_det-returns-in_ok-append_head-in-Tag : goal.append_det-returns-in_ok-append_head-in-Tag
+append_det-returns-in_ok-append_head-in-Tag t c =
     let n = c.in-Tag.number in
     let x = c.in-Tag.content in
     let old = c.args.out.now.items in
     let new = c.append_det.new.out.items in
     let r = c.append_det.result in
-    let mid = c.append-in-Tag.new.out.items in
-    let head : c.as_slice-in-Tag.result.now ≡ shortest_head 6 n = c.as_slice-in-Tag.ensures ∙ c.shortest-in-Tag.ensures in
+    let mid = c.append_head-in-Tag.new.out.items in
     subst (λ i. Lays (view i) c.args.place old new r) (sym c.in-Tag.is)
     (subst (λ v. Lays v c.args.place old new r) (sym (view-Tag n x))
-    (lays_tag n (view x.value) c.args.place old mid new r (c.in_ok-append-in-Tag.ensures.ok ∙ ap (λ b. old ++ b) head)
+    (lays_tag n (view x.value) c.args.place old mid new r c.in_ok-append_head-in-Tag.ensures.ok
     (subst (λ i. Lays (view i) (c.args.place + 1) mid new r) c.deref.ensures c.append_det.ensures)))

@@ -39,58 +39,57 @@ add_det-add_det-requires t c =
     let known = tag_known c.args.item.now c.in-Tag.number c.in-Tag.content c.in-Tag.is c.requires.plain c.requires.valid in
     (omega (arith, tag_size c.in-Tag.number c.in-Tag.content, ap the_size c.in-Tag.is, ap the_size c.deref.ensures), (subst (λ i. IsPlain (view i)) (sym c.deref.ensures) known.plain, subst (λ i. IsValid (view i)) (sym c.deref.ensures) known.valid))
 
-pub add_det-returns-in_ok-extend_from_slice-in-Array : goal.add_det-returns-in_ok-extend_from_slice-in-Array
-add_det-returns-in_ok-extend_from_slice-in-Array t c =
+pub add_det-returns-in_ok-add_head-in-Array : goal.add_det-returns-in_ok-add_head-in-Array
+add_det-returns-in_ok-add_head-in-Array t c =
     let xs = c.in-Array.items.items in
     let old = c.args.out.now.items in
-    let mid = c.extend_from_slice-in-Array.new.self.items in
+    let mid = c.add_head-in-Array.new.out.items in
     let len : c.len.result ≡ length xs = search rules in
-    let head : c.as_slice-in-Array.result.now ≡ shortest_head 4 (values_len (values_view xs)) = c.as_slice-in-Array.ensures ∙ (c.shortest-in-Array.ensures ∙ ap (shortest_head 4) (len ∙ sym (values_len-view xs))) in
-    ok_then c.add_members.result (added_array c.args.item.now c.in-Array.items old mid c.add_members.new.out.items c.in-Array.is (c.in_ok-extend_from_slice-in-Array.ensures.items ∙ ap (λ b. old ++ b) head)) c.add_members.ensures
+    let head : shortest_head 4 c.len.result ≡ shortest_head 4 (values_len (values_view xs)) = ap (shortest_head 4) (len ∙ sym (values_len-view xs)) in
+    ok_then c.add_members.result (added_array c.args.item.now c.in-Array.items old mid c.add_members.new.out.items c.in-Array.is (c.in_ok-add_head-in-Array.ensures ∙ ap (λ b. old ++ b) head)) c.add_members.ensures
 
 pub add_det-returns-then-are_keys_rising : goal.add_det-returns-then-are_keys_rising
 add_det-returns-then-are_keys_rising t c =
     let ps = c.in-Map.pairs.items in
     let old = c.args.out.now.items in
-    let mid = c.extend_from_slice-in-Map.new.self.items in
+    let mid = c.add_head-in-Map.new.out.items in
     let known = map_known c.args.item.now c.in-Map.pairs c.in-Map.is c.requires.plain c.requires.valid in
     let len : c.len-in-Map.result ≡ length ps = search rules in
-    let head : c.as_slice-in-Map.result.now ≡ shortest_head 5 (pairs_len (pairs_view ps)) = c.as_slice-in-Map.ensures ∙ (c.shortest-in-Map.ensures ∙ ap (shortest_head 5) (len ∙ sym (pairs_len-view ps))) in
-    let up = rw c.as_slice-in-Map-2.ensures.value at (c.are_keys_rising.ensures c.if-are_keys_rising.true) in
+    let head : shortest_head 5 c.len-in-Map.result ≡ shortest_head 5 (pairs_len (pairs_view ps)) = ap (shortest_head 5) (len ∙ sym (pairs_len-view ps)) in
+    let up = rw c.as_slice-in-Map.ensures.value at (c.are_keys_rising.ensures c.if-are_keys_rising.true) in
     let order : joined (laid (pairs_view ps)) ≡ pairs_preferred (pairs_ordered (pairs_view ps)) = rising_joined ps known.plain (valid_apart (pairs (pairs_view ps)) known.valid) up in
-    ok_then c.add_pairs.result (λ h. added_map c.args.item.now c.in-Map.pairs old mid c.add_pairs.new.out.items c.in-Map.is (c.in_ok-extend_from_slice-in-Map.ensures.items ∙ ap (λ b. old ++ b) head) (h ∙ ap (λ b. mid ++ b) order)) c.add_pairs.ensures
+    ok_then c.add_pairs.result (λ h. added_map c.args.item.now c.in-Map.pairs old mid c.add_pairs.new.out.items c.in-Map.is (c.in_ok-add_head-in-Map.ensures ∙ ap (λ b. old ++ b) head) (h ∙ ap (λ b. mid ++ b) order)) c.add_pairs.ensures
 
 pub add_det-add_sorted-requires : goal.add_det-add_sorted-requires
 add_det-add_sorted-requires t c =
     let es = laid (pairs_view c.in-Map.pairs.items) in
     let lengths : c.in_ok-lengths-in-Map.lengths.items ≡ lengths_of es = c.in_ok-lengths-in-Map.ensures.lengths in
-    let bytes : c.as_slice-in-Map-3.result.now ≡ joined es = c.as_slice-in-Map-3.ensures.value ∙ (c.in_ok-lengths-in-Map.ensures.bytes ∙ ap (λ b. b ++ joined es) c.new-bytes.ensures.items) in
+    let bytes : c.as_slice-in-Map-2.result.now ≡ joined es = c.as_slice-in-Map-2.ensures.value ∙ (c.in_ok-lengths-in-Map.ensures.bytes ∙ ap (λ b. b ++ joined es) c.new-bytes.ensures.items) in
     let all : total (lengths_of es) ≡ length (joined es) = total_joined es in
-    subst (λ ls. total ls ≤ length c.as_slice-in-Map-3.result.now) (sym lengths) (subst (λ b. total (lengths_of es) ≤ length b) (sym bytes) (omega arith))
+    subst (λ ls. total ls ≤ length c.as_slice-in-Map-2.result.now) (sym lengths) (subst (λ b. total (lengths_of es) ≤ length b) (sym bytes) (omega arith))
 
 pub add_det-returns-in_ok-lengths-in-Map : goal.add_det-returns-in_ok-lengths-in-Map
 add_det-returns-in_ok-lengths-in-Map t c =
     let ps = c.in-Map.pairs.items in
     let es = laid (pairs_view ps) in
     let old = c.args.out.now.items in
-    let mid = c.extend_from_slice-in-Map.new.self.items in
+    let mid = c.add_head-in-Map.new.out.items in
     let known = map_known c.args.item.now c.in-Map.pairs c.in-Map.is c.requires.plain c.requires.valid in
     let len : c.len-in-Map.result ≡ length ps = search rules in
-    let head : c.as_slice-in-Map.result.now ≡ shortest_head 5 (pairs_len (pairs_view ps)) = c.as_slice-in-Map.ensures ∙ (c.shortest-in-Map.ensures ∙ ap (shortest_head 5) (len ∙ sym (pairs_len-view ps))) in
+    let head : shortest_head 5 c.len-in-Map.result ≡ shortest_head 5 (pairs_len (pairs_view ps)) = ap (shortest_head 5) (len ∙ sym (pairs_len-view ps)) in
     let lengths : c.in_ok-lengths-in-Map.lengths.items ≡ lengths_of es = c.in_ok-lengths-in-Map.ensures.lengths in
-    let bytes : c.as_slice-in-Map-3.result.now ≡ joined es = c.as_slice-in-Map-3.ensures.value ∙ (c.in_ok-lengths-in-Map.ensures.bytes ∙ ap (λ b. b ++ joined es) c.new-bytes.ensures.items) in
-    let are : cut c.in_ok-lengths-in-Map.lengths.items c.as_slice-in-Map-3.result.now ≡ es = ap₂ cut lengths bytes ∙ cut_joined es in
-    ok_then c.add_sorted.result (λ h. added_map c.args.item.now c.in-Map.pairs old mid c.add_sorted.new.out.items c.in-Map.is (c.in_ok-extend_from_slice-in-Map.ensures.items ∙ ap (λ b. old ++ b) head) (h (pairs_view ps) known.plain known.valid are)) c.add_sorted.ensures
+    let bytes : c.as_slice-in-Map-2.result.now ≡ joined es = c.as_slice-in-Map-2.ensures.value ∙ (c.in_ok-lengths-in-Map.ensures.bytes ∙ ap (λ b. b ++ joined es) c.new-bytes.ensures.items) in
+    let are : cut c.in_ok-lengths-in-Map.lengths.items c.as_slice-in-Map-2.result.now ≡ es = ap₂ cut lengths bytes ∙ cut_joined es in
+    ok_then c.add_sorted.result (λ h. added_map c.args.item.now c.in-Map.pairs old mid c.add_sorted.new.out.items c.in-Map.is (c.in_ok-add_head-in-Map.ensures ∙ ap (λ b. old ++ b) head) (h (pairs_view ps) known.plain known.valid are)) c.add_sorted.ensures
 
-pub add_det-returns-in_ok-extend_from_slice-in-Tag : goal.add_det-returns-in_ok-extend_from_slice-in-Tag
-add_det-returns-in_ok-extend_from_slice-in-Tag t c =
+pub add_det-returns-in_ok-add_head-in-Tag : goal.add_det-returns-in_ok-add_head-in-Tag
+add_det-returns-in_ok-add_head-in-Tag t c =
     let n = c.in-Tag.number in
     let x = c.in-Tag.content in
     let old = c.args.out.now.items in
-    let mid = c.extend_from_slice-in-Tag.new.self.items in
+    let mid = c.add_head-in-Tag.new.out.items in
     let new = c.add_det.new.out.items in
-    let head : c.as_slice-in-Tag.result.now ≡ shortest_head 6 n = c.as_slice-in-Tag.ensures ∙ c.shortest-in-Tag.ensures in
-    ok_then c.add_det.result (λ h. added_tag c.args.item.now n x old mid new c.in-Tag.is (c.in_ok-extend_from_slice-in-Tag.ensures.items ∙ ap (λ b. old ++ b) head) (h ∙ ap (λ i. mid ++ deterministic (view i)) c.deref.ensures)) c.add_det.ensures
+    ok_then c.add_det.result (λ h. added_tag c.args.item.now n x old mid new c.in-Tag.is c.in_ok-add_head-in-Tag.ensures (h ∙ ap (λ i. mid ++ deterministic (view i)) c.deref.ensures)) c.add_det.ensures
 
 pub add_members-loop-item-init : goal.add_members-loop-item-init
 add_members-loop-item-init t c =

@@ -11,43 +11,43 @@ use denote.Param.Weighed.{most}
 use Rattle.cbor_item.proofs.Goes.{goes_on, goes_no_further, goes_nowhere, room_first, room_rest}
 use Rattle.cbor_item.proofs.write.+write.Goals as goal
 
-pub write_members-write_head-requires : goal.write_members-write_head-requires
-write_members-write_head-requires g t c =
+pub write_members-write_shortest-requires : goal.write_members-write_shortest-requires
+write_members-write_shortest-requires g t c =
     let vs = values_view c.args.items.now.items in
     let len : c.len.result ≡ length c.args.items.now.items = search rules in
-    let head : c.shortest.result ≡ shortest_head 4 (values_len vs) = c.shortest.ensures ∙ ap (shortest_head 4) (len ∙ sym (values_len-view c.args.items.now.items)) in
-    subst (λ h. c.args.before + length h < 2 ^ 128) (sym head) (room_first c.args.before (2 ^ 128) (shortest_head 4 (values_len vs)) (values_preferred vs) c.requires.room)
+    let head : shortest_head 4 c.len.result ≡ shortest_head 4 (values_len vs) = ap (shortest_head 4) (len ∙ sym (values_len-view c.args.items.now.items)) in
+    record { major = omega arith; room = subst (λ h. c.args.before + length h < 2 ^ 128) (sym head) (room_first c.args.before (2 ^ 128) (shortest_head 4 (values_len vs)) (values_preferred vs) c.requires.room) }
 
 pub write_members-returns-in_err-after : goal.write_members-returns-in_err-after
 write_members-returns-in_err-after g t c =
     let vs = values_view c.args.items.now.items in
     let old = state_of g.W.Write.contents c.args.out.now in
-    let new = state_of g.W.Write.contents c.write_head.new.out in
+    let new = state_of g.W.Write.contents c.write_shortest.new.out in
     let fault = c.in_err-after.field-0.0 in
     let len : c.len.result ≡ length c.args.items.now.items = search rules in
-    let head : c.shortest.result ≡ shortest_head 4 (values_len vs) = c.shortest.ensures ∙ ap (shortest_head 4) (len ∙ sym (values_len-view c.args.items.now.items)) in
+    let head : shortest_head 4 c.len.result ≡ shortest_head 4 (values_len vs) = ap (shortest_head 4) (len ∙ sym (values_len-view c.args.items.now.items)) in
     let is : c.from_residual.result ≡ Err fault = search rules in
     subst (Goes old new c.args.before (preferred (array vs))) (sym is)
     (subst (λ h. Goes old new c.args.before (h ++ values_preferred vs) (Err fault)) head
-    (goes_no_further old new c.args.before fault.written c.shortest.result (values_preferred vs) c.in_err-after.ensures))
+    (goes_no_further old new c.args.before fault.written (shortest_head 4 c.len.result) (values_preferred vs) c.in_err-after.ensures))
 
 pub write_members-loop-item-init : goal.write_members-loop-item-init
 write_members-loop-item-init g t c =
     let ys = c.deref-item-items.result.now in
     let vs = values_view ys in
     let old = state_of g.W.Write.contents c.args.out.now in
-    let mid = state_of g.W.Write.contents c.write_head.new.out in
+    let mid = state_of g.W.Write.contents c.write_shortest.new.out in
     let same : ys ≡ c.args.items.now.items = c.deref-item-items.ensures.value in
     let len : c.len.result ≡ length c.args.items.now.items = search rules in
-    let head : c.shortest.result ≡ shortest_head 4 (values_len vs) = c.shortest.ensures ∙ ap (shortest_head 4) (len ∙ ap length (sym same) ∙ sym (values_len-view ys)) in
+    let head : shortest_head 4 c.len.result ≡ shortest_head 4 (values_len vs) = ap (shortest_head 4) (len ∙ ap length (sym same) ∙ sym (values_len-view ys)) in
     record {
       fitting = subst (λ zs. AreValuesFitting (values_view zs)) (sym same) c.requires.fitting;
       room =
-          room_rest c.args.before c.in_ok-after.after (2 ^ 128) c.shortest.result (values_preferred vs) c.in_ok-after.ensures.is
+          room_rest c.args.before c.in_ok-after.after (2 ^ 128) (shortest_head 4 c.len.result) (values_preferred vs) c.in_ok-after.ensures.is
           (subst (λ h. c.args.before + length (h ++ values_preferred vs) < 2 ^ 128) (sym head) (subst (λ zs. c.args.before + length (preferred (array (values_view zs))) < 2 ^ 128) (sym same) c.requires.room));
       follows = λ end r h.
           subst (λ x. Goes old end c.args.before (x ++ values_preferred vs) r) head
-          (goes_on old mid end c.args.before c.in_ok-after.after c.shortest.result (values_preferred vs) r c.in_ok-after.ensures h);
+          (goes_on old mid end c.args.before c.in_ok-after.after (shortest_head 4 c.len.result) (values_preferred vs) r c.in_ok-after.ensures h);
     }
 
 pub write_members-loop-item-preserved : goal.write_members-loop-item-preserved
@@ -78,43 +78,43 @@ write_members-returns g t c =
     subst (λ zs. Goes old here c.args.before (preferred (array (values_view zs))) (Ok after)) c.deref-item-items.ensures.value
     (c.loop-item.invariant.follows here (Ok after) (subst (λ vs. Goes here here after (values_preferred vs) (Ok after)) (sym none) (goes_nowhere here after)))
 
-pub write_pairs-write_head-requires : goal.write_pairs-write_head-requires
-write_pairs-write_head-requires g t c =
+pub write_pairs-write_shortest-requires : goal.write_pairs-write_shortest-requires
+write_pairs-write_shortest-requires g t c =
     let vs = pairs_view c.args.pairs.now.items in
     let len : c.len.result ≡ length c.args.pairs.now.items = search rules in
-    let head : c.shortest.result ≡ shortest_head 5 (pairs_len vs) = c.shortest.ensures ∙ ap (shortest_head 5) (len ∙ sym (pairs_len-view c.args.pairs.now.items)) in
-    subst (λ h. c.args.before + length h < 2 ^ 128) (sym head) (room_first c.args.before (2 ^ 128) (shortest_head 5 (pairs_len vs)) (pairs_preferred vs) c.requires.room)
+    let head : shortest_head 5 c.len.result ≡ shortest_head 5 (pairs_len vs) = ap (shortest_head 5) (len ∙ sym (pairs_len-view c.args.pairs.now.items)) in
+    record { major = omega arith; room = subst (λ h. c.args.before + length h < 2 ^ 128) (sym head) (room_first c.args.before (2 ^ 128) (shortest_head 5 (pairs_len vs)) (pairs_preferred vs) c.requires.room) }
 
 pub write_pairs-returns-in_err-after : goal.write_pairs-returns-in_err-after
 write_pairs-returns-in_err-after g t c =
     let vs = pairs_view c.args.pairs.now.items in
     let old = state_of g.W.Write.contents c.args.out.now in
-    let new = state_of g.W.Write.contents c.write_head.new.out in
+    let new = state_of g.W.Write.contents c.write_shortest.new.out in
     let fault = c.in_err-after.field-0.0 in
     let len : c.len.result ≡ length c.args.pairs.now.items = search rules in
-    let head : c.shortest.result ≡ shortest_head 5 (pairs_len vs) = c.shortest.ensures ∙ ap (shortest_head 5) (len ∙ sym (pairs_len-view c.args.pairs.now.items)) in
+    let head : shortest_head 5 c.len.result ≡ shortest_head 5 (pairs_len vs) = ap (shortest_head 5) (len ∙ sym (pairs_len-view c.args.pairs.now.items)) in
     let is : c.from_residual.result ≡ Err fault = search rules in
     subst (Goes old new c.args.before (preferred (pairs vs))) (sym is)
     (subst (λ h. Goes old new c.args.before (h ++ pairs_preferred vs) (Err fault)) head
-    (goes_no_further old new c.args.before fault.written c.shortest.result (pairs_preferred vs) c.in_err-after.ensures))
+    (goes_no_further old new c.args.before fault.written (shortest_head 5 c.len.result) (pairs_preferred vs) c.in_err-after.ensures))
 
 pub write_pairs-loop-key-init : goal.write_pairs-loop-key-init
 write_pairs-loop-key-init g t c =
     let ys = c.deref-key-items.result.now in
     let vs = pairs_view ys in
     let old = state_of g.W.Write.contents c.args.out.now in
-    let mid = state_of g.W.Write.contents c.write_head.new.out in
+    let mid = state_of g.W.Write.contents c.write_shortest.new.out in
     let same : ys ≡ c.args.pairs.now.items = c.deref-key-items.ensures.value in
     let len : c.len.result ≡ length c.args.pairs.now.items = search rules in
-    let head : c.shortest.result ≡ shortest_head 5 (pairs_len vs) = c.shortest.ensures ∙ ap (shortest_head 5) (len ∙ ap length (sym same) ∙ sym (pairs_len-view ys)) in
+    let head : shortest_head 5 c.len.result ≡ shortest_head 5 (pairs_len vs) = ap (shortest_head 5) (len ∙ ap length (sym same) ∙ sym (pairs_len-view ys)) in
     record {
       fitting = subst (λ zs. ArePairsFitting (pairs_view zs)) (sym same) c.requires.fitting;
       room =
-          room_rest c.args.before c.in_ok-after.after (2 ^ 128) c.shortest.result (pairs_preferred vs) c.in_ok-after.ensures.is
+          room_rest c.args.before c.in_ok-after.after (2 ^ 128) (shortest_head 5 c.len.result) (pairs_preferred vs) c.in_ok-after.ensures.is
           (subst (λ h. c.args.before + length (h ++ pairs_preferred vs) < 2 ^ 128) (sym head) (subst (λ zs. c.args.before + length (preferred (pairs (pairs_view zs))) < 2 ^ 128) (sym same) c.requires.room));
       follows = λ end r h.
           subst (λ x. Goes old end c.args.before (x ++ pairs_preferred vs) r) head
-          (goes_on old mid end c.args.before c.in_ok-after.after c.shortest.result (pairs_preferred vs) r c.in_ok-after.ensures h);
+          (goes_on old mid end c.args.before c.in_ok-after.after (shortest_head 5 c.len.result) (pairs_preferred vs) r c.in_ok-after.ensures h);
     }
 
 pub write_pairs-write_value-requires : goal.write_pairs-write_value-requires
@@ -210,11 +210,10 @@ write_pairs-returns g t c =
 pub write_value-returns-in_ok-after-in-Tag : goal.write_value-returns-in_ok-after-in-Tag
 write_value-returns-in_ok-after-in-Tag g t c =
     let old = state_of g.W.Write.contents c.args.out.now in
-    let mid = state_of g.W.Write.contents c.write_head-in-Tag.new.out in
+    let mid = state_of g.W.Write.contents c.write_shortest-in-Tag.new.out in
     let new = state_of g.W.Write.contents c.write_value.new.out in
     let r = c.write_value.result in
     subst (λ i. Goes old new c.args.before (preferred (view i)) r) (sym c.in-Tag.is)
     (subst (λ v. Goes old new c.args.before (preferred v) r) (sym (view-Tag c.in-Tag.number c.in-Tag.content))
     (subst (λ i. Goes old new c.args.before (shortest_head 6 c.in-Tag.number ++ preferred (view i)) r) c.deref.ensures
-    (subst (λ h. Goes old new c.args.before (h ++ preferred (view c.deref.result.now)) r) c.shortest-in-Tag.ensures
-    (goes_on old mid new c.args.before c.in_ok-after-in-Tag.after c.shortest-in-Tag.result (preferred (view c.deref.result.now)) r c.in_ok-after-in-Tag.ensures c.write_value.ensures))))
+    (goes_on old mid new c.args.before c.in_ok-after-in-Tag.after (shortest_head 6 c.in-Tag.number) (preferred (view c.deref.result.now)) r c.in_ok-after-in-Tag.ensures c.write_value.ensures)))
