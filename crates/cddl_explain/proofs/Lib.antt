@@ -1,2 +1,4 @@
+pub mod Finding
 pub mod Naming
 pub mod Refused
+pub mod Ruling

@@ -1,7 +1,13 @@
 pub mod Causes
 pub mod Examples
+pub mod Hints
+pub mod Known
 pub mod Names
+pub mod Origins
+pub mod Parts
 pub mod Places
+pub mod Predicates
 pub mod Refusals
+pub mod Rules
 pub mod Sentences
 pub mod Subjects

@@ -1,34 +1,50 @@
 -- What is told of a refusal to one who wants more than its line.
-use Rattle.std.specs.Prelude.{◌≡◌, ℕ, ◌-◌, ◌==◌, ◌&&◌, min, Bool, List, [], ◌++◌, codes, decimal, get_or, length, take, Option, Some, if◌then◌else◌, nat_lt, nat_le}
+use Rattle.std.specs.Prelude.{◌≡◌, ℕ, nat_lt, List, ◌++◌, codes, decimal, slice_range, take, Option, Some, if◌then◌else◌}
 use Rattle.cddl_token.specs.Messages.{refusal_text}
 use Rattle.cddl_token.specs.declared.Code.{Code}
 use Rattle.cddl_token.specs.declared.Code.TheVariants.{NoRoot}
 use Rattle.cddl_token.specs.declared.Refusal.TheVariants.{At}
+use Rattle.cddl_token.specs.declared.Token.{Token}
 use Rattle.text_position.specs.Positions.{IsAt}
-use Rattle.text_shown.specs.Places.{IsPointedAt}
+use Rattle.text_shown.specs.Places.{shown_part, IsPointedAt}
 use Rattle.text_shown.specs.Shown.{shown}
+use Rattle.cddl_explain.specs.Hints.{IsHint}
 use Rattle.cddl_explain.specs.Names.{name_of}
+use Rattle.cddl_explain.specs.Parts.{AreTokens, IsPart}
+use Rattle.cddl_explain.specs.Predicates.{predicate_of}
 use Rattle.cddl_explain.specs.Sentences.{sentence_of}
+use Rattle.cddl_explain.specs.declared.parts.Part.{Part}
 
--- The text ends with a line feed, and the offset is not before its end.
-abbrev pub is_behind_lines : List ℕ → ℕ → Bool
-is_behind_lines text offset = nat_lt 0 (length text) && (nat_le (length text) offset && get_or text (length text - 1) 0 == 10)
+-- what is wrong where no part of the text is: as the code says it, or with the root that was asked for
+abbrev pub of_nothing : Code → Option (List ℕ) → List ℕ
+of_nothing NoRoot (Some name) = codes "`" ++ (shown name ++ codes "`, which --root asks for, is no rule and none of the prelude")
+of_nothing code root = sentence_of code
 
--- where the mark stands: at the offset, and for the end of the text behind the last character of its last line
-abbrev pub marked_offset : List ℕ → ℕ → ℕ
-marked_offset text offset = if is_behind_lines text offset then length text - 1 else min offset (length text)
+-- what is wrong: with the token or the end of the text; or as the code alone says it, where there is neither
+abbrev pub said : Code → List ℕ → Option (List ℕ) → Part → List ℕ
+said code text root p =
+    if p.ends then codes "the end of the text " ++ predicate_of code
+    else if nat_lt p.from p.to then codes "`" ++ (shown_part (slice_range text p.from p.to) ++ (codes "` " ++ predicate_of code))
+    else of_nothing code root
 
--- the name of the root that was asked for, where nothing has it
-abbrev pub asked_root : Code → Option (List ℕ) → List ℕ
-asked_root NoRoot (Some name) = codes ": " ++ shown name
-asked_root code root = []
+-- what is wrong, and then what was perhaps meant
+pub record IsWrong (code : Code) (text : List ℕ) (part : Part) (ts : List Token) (root : Option (List ℕ)) (told : List ℕ) : Type 0 where
+  pub hint : List ℕ
+  pub is_hint : IsHint code text part ts root hint
+  pub is : told ≡ said code text root part ++ hint
 
 -- what is told: the line of the refusal; the file, the line and the column, and the name of the code; the line of the text and
--- the mark; and the sentence of the code
+-- the marks under the part that is meant; what is wrong with it; and what was perhaps meant
 pub record IsExplainedRefusal (code : Code) (offset : ℕ) (file text : List ℕ) (root : Option (List ℕ)) (told : List ℕ) : Type 0 where
+  pub ts : List Token
+  pub part : Part
   pub line : ℕ
   pub column : ℕ
   pub pointed : List ℕ
-  pub is_at : IsAt (take (marked_offset text offset) text) line column
-  pub points : IsPointedAt text (marked_offset text offset) pointed
-  pub is : told ≡ refusal_text (At code offset) ++ (codes "\n" ++ (shown file ++ (codes ":" ++ (decimal line ++ (codes ":" ++ (decimal column ++ (codes ": " ++ (name_of code ++ (codes "\n" ++ (pointed ++ (sentence_of code ++ (asked_root code root ++ codes "\n"))))))))))))
+  pub wrong : List ℕ
+  pub are_tokens : AreTokens text ts
+  pub is_part : IsPart code text offset ts part
+  pub is_at : IsAt (take part.from text) line column
+  pub points : IsPointedAt text part.from part.to pointed
+  pub is_wrong : IsWrong code text part ts root wrong
+  pub is : told ≡ refusal_text (At code offset) ++ (codes "\n" ++ (shown file ++ (codes ":" ++ (decimal line ++ (codes ":" ++ (decimal column ++ (codes ": " ++ (name_of code ++ (codes "\n" ++ (pointed ++ (wrong ++ codes "\n")))))))))))

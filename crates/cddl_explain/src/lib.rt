@@ -3,11 +3,18 @@
 
 mod causes;
 mod examples;
+mod hints;
+mod known;
 mod laws;
 mod names;
+mod origins;
+mod parts;
 mod places;
+mod predicates;
 mod refusals;
+mod rules;
 mod sentences;
+mod stops;
 mod subjects;
 
 pub use crate::causes::{Cause, meaning, words};

@@ -2,20 +2,26 @@
 
 ghost use Rattle.std.specs.Prelude.{◌≡◌, ◌≤◌, length, IfOk, option_map, string_bytes};
 ghost use Rattle.text_shown.specs.Shown.{shown};
-ghost use Rattle.cddl_explain.specs.Refusals.{asked_root, is_behind_lines, marked_offset, IsExplainedRefusal};
+ghost use Rattle.cddl_explain.specs.Parts.{IsWithin};
+ghost use Rattle.cddl_explain.specs.Refusals.{of_nothing, said, IsExplainedRefusal, IsWrong};
 
+use crate::hints::hint;
 use crate::names::name;
+use crate::parts::{Part, part_of, tokens_of};
+use crate::predicates::predicate;
 use crate::sentences::sentence;
-use cddl_token::{Code, Refusal};
+use cddl_token::{Code, Refusal, Token};
 use std::alloc::{AllocError, Global};
 use text_position::position_of;
-use text_shown::{pointed_at, push_shown};
+use text_shown::{pointed_at, push_shown, shown_part};
 
 /// What is told of a refusal, in whole lines: the line of the refusal; the name of the file, the line and the column, and the
-/// name of the code; the line of the text, with a mark under the place; and what is wrong, with the name of the root where that
-/// names nothing.
+/// name of the code; the line of the text, with marks under the part that is meant; and what is wrong with it, with the name or the control that was
+/// perhaps meant in its place.
 ///
-/// The mark stands at the offset. Where that is the end of the text, the mark stands behind the last character of the last line.
+/// The part is the token that begins at the offset. Where that is the end of the text, one mark stands behind the last token.
+/// Where the text has no tokens, the marks are under the character, number or string that is wrong. Where nothing of the text
+/// is wrong, as where there is no root, one mark stands at the offset, and the sentence is that of the code.
 ///
 /// # Errors
 ///
@@ -30,31 +36,53 @@ pub fn explained_refusal(
 ) -> Result<String, AllocError>
     ensures { IfOk result (λ told. IsExplainedRefusal code offset file.now text.now (option_map (λ r. r.now) root.entry) (string_bytes told)) }
 {
-    let marked = marked_offset(text, offset);
-    let position = position_of(text, marked);
-    let pointed = pointed_at(alloc, text, marked)?;
+    let tokens = tokens_of(alloc, text)?;
+    let part = part_of(code, text, offset, tokens.as_slice());
+    let position = position_of(text, part.from);
+    let pointed = pointed_at(alloc, text, part.from, part.to)?;
+    let wrong = wrong(alloc, code, text, part, tokens.as_slice(), root)?;
     let file = shown(alloc, file)?;
-    let asked = asked_root(alloc, code, root)?;
     let (line, column) = (position.line, position.column);
-    let (refusal, name, sentence) = (Refusal::At(code, offset), name(code), sentence(code));
-    format!(in alloc; "{refusal}\n{file}:{line}:{column}: {name}\n{pointed}{sentence}{asked}\n")
+    let (refusal, name) = (Refusal::At(code, offset), name(code));
+    format!(in alloc; "{refusal}\n{file}:{line}:{column}: {name}\n{pointed}{wrong}\n")
 }
 
-fn marked_offset(text: &[u8], offset: usize) -> usize
-    ensures value { result ≡ marked_offset text.now offset }
-    ensures within { result ≤ length text.now }
+// What is wrong, and what was perhaps meant.
+fn wrong(
+    alloc: Global,
+    code: Code,
+    text: &[u8],
+    part: Part,
+    tokens: &[Token<'_>],
+    root: Option<&str>,
+) -> Result<String, AllocError>
+    requires { IsWithin (length text.now) part }
+    ensures { IfOk result (λ told. IsWrong code text.now part tokens.now (option_map (λ r. r.now) root.entry) (string_bytes told)) }
 {
-    if is_behind_lines(text, offset) {
-        text.len() - 1
-    } else {
-        offset.min(text.len())
+    let said = said(alloc, code, text, root, part)?;
+    let hint = hint(alloc, code, text, part, tokens, root)?;
+    format!(in alloc; "{said}{hint}")
+}
+
+fn said(
+    alloc: Global,
+    code: Code,
+    text: &[u8],
+    root: Option<&str>,
+    part: Part,
+) -> Result<String, AllocError>
+    requires { IsWithin (length text.now) part }
+    ensures { IfOk result (λ told. string_bytes told ≡ said code text.now (option_map (λ r. r.now) root.entry) part) }
+{
+    let predicate = predicate(code);
+    if part.ends {
+        return format!(in alloc; "the end of the text {predicate}");
     }
-}
-
-fn is_behind_lines(text: &[u8], offset: usize) -> bool
-    ensures { result ≡ is_behind_lines text.now offset }
-{
-    0 < text.len() && text.len() <= offset && text[text.len() - 1] == b'\n'
+    if part.from < part.to {
+        let shown = shown_part(alloc, &text[part.from..part.to])?;
+        return format!(in alloc; "`{shown}` {predicate}");
+    }
+    of_nothing(alloc, code, root)
 }
 
 fn shown(alloc: Global, word: &str) -> Result<String, AllocError>
@@ -65,14 +93,18 @@ fn shown(alloc: Global, word: &str) -> Result<String, AllocError>
     Ok(text)
 }
 
-fn asked_root(alloc: Global, code: Code, root: Option<&str>) -> Result<String, AllocError>
-    ensures { IfOk result (λ text. string_bytes text ≡ asked_root code (option_map (λ r. r.now) root.entry)) }
+// What is wrong where no part of the text is.
+fn of_nothing(alloc: Global, code: Code, root: Option<&str>) -> Result<String, AllocError>
+    ensures { IfOk result (λ text. string_bytes text ≡ of_nothing code (option_map (λ r. r.now) root.entry)) }
 {
     match (code, root) {
         (Code::NoRoot, Some(name)) => {
             let name = shown(alloc, name)?;
-            format!(in alloc; ": {name}")
+            format!(in alloc; "`{name}`, which --root asks for, is no rule and none of the prelude")
         }
-        _ => Ok(String::new(alloc)),
+        _ => {
+            let sentence = sentence(code);
+            format!(in alloc; "{sentence}")
+        }
     }
 }

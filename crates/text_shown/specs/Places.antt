@@ -1,5 +1,5 @@
--- A place in a text, as it is shown: its line, with a mark under it.
-use Rattle.std.specs.Prelude.{◌≡◌, ◌⊎◌, ℕ, ◌<◌, ◌≤◌, ◌-◌, ◌==◌, ◌||◌, nat_lt, Bool, true, false, List, [], ◌++◌, codes, chars, drop, take, get_or, length, flat_map, slice_range, if◌then◌else◌}
+-- A part of a text, as it is shown: the line where it begins, with marks under it.
+use Rattle.std.specs.Prelude.{◌≡◌, ◌⊎◌, ℕ, ◌<◌, ◌≤◌, ◌-◌, ◌==◌, ◌||◌, nat_lt, Bool, true, false, List, [], ◌∷◌, ◌++◌, codes, chars, drop, take, get_or, length, min, flat_map, slice_range, if◌then◌else◌}
 use Rattle.std.specs.Str.Lossy.{utf8_lossy}
 use Rattle.text_shown.specs.Shown.{shown_char}
 
@@ -39,23 +39,28 @@ dots_for characters = if nat_lt most_beside (length characters) then codes ".." 
 abbrev pub shown_before : List ℕ → List ℕ
 shown_before characters = dots_for characters ++ flat_map line_char (drop (length characters - most_beside) characters)
 
--- the first of the characters from the place on
-abbrev pub shown_from : List ℕ → List ℕ
-shown_from characters = flat_map line_char (take most_beside characters) ++ dots_for characters
+-- a part by itself: the first of its characters
+abbrev pub shown_part : List ℕ → List ℕ
+shown_part part = flat_map line_char (take most_beside (characters_of part)) ++ dots_for (characters_of part)
 
--- a space for each character
-abbrev pub spaces_for : List ℕ → List ℕ
-spaces_for text = flat_map (λ c. codes " ") (chars text)
+-- a word once for each character of a text
+abbrev pub repeated : List ℕ → List ℕ → List ℕ
+repeated word text = flat_map (λ c. word) (chars text)
 
--- the line with these bytes before the place and from it on, and the mark
-abbrev pub marked_line : List ℕ → List ℕ → List ℕ
-marked_line before from =
-    shown_before (characters_of before) ++ (shown_from (characters_of from) ++ (codes "\n" ++ (spaces_for (shown_before (characters_of before)) ++ codes "^\n")))
+-- a mark for each character that is shown, and one where there is none
+abbrev pub marks_for : List ℕ → List ℕ
+marks_for [] = codes "^"
+marks_for (b ∷ text) = repeated (codes "^") (b ∷ text)
 
--- what is shown of the place of an offset
-pub record IsPointedAt (text : List ℕ) (offset : ℕ) (shown : List ℕ) : Type 0 where
+-- the line with these bytes before the part and from its beginning on, and marks under what of the part is in the line
+abbrev pub marked_line : List ℕ → List ℕ → List ℕ → List ℕ
+marked_line before from part =
+    shown_before (characters_of before) ++ (shown_part from ++ (codes "\n" ++ (repeated (codes " ") (shown_before (characters_of before)) ++ (marks_for (shown_part part) ++ codes "\n"))))
+
+-- what is shown of a part
+pub record IsPointedAt (text : List ℕ) (from to : ℕ) (shown : List ℕ) : Type 0 where
   pub start : ℕ
   pub end : ℕ
-  pub begins : IsLineStart text offset start
-  pub ends : IsLineEnd text offset end
-  pub is : shown ≡ marked_line (slice_range text start offset) (slice_range text offset end)
+  pub begins : IsLineStart text from start
+  pub ends : IsLineEnd text from end
+  pub is : shown ≡ marked_line (slice_range text start from) (slice_range text from end) (slice_range text from (min to end))

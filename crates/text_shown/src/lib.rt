@@ -1,4 +1,4 @@
-//! How texts of a user's are shown on standard error: words, and a place in a text by its line with a mark under it. What is
+//! How texts of a user's are shown on standard error: words, and a part of a text by its line with marks under it. What is
 //! here knows nothing of CDDL.
 #![tactic(auto)]
 
@@ -6,5 +6,5 @@ mod lines;
 mod places;
 mod words;
 
-pub use crate::places::pointed_at;
+pub use crate::places::{pointed_at, shown_part};
 pub use crate::words::push_shown;

@@ -1,0 +1,103 @@
+//! What was perhaps meant.
+
+ghost use Rattle.std.specs.Prelude.{◌≡◌, [], length, option_map, string_bytes, IfOk};
+ghost use Rattle.near_words.specs.Near.{texts};
+ghost use Rattle.cddl_explain.specs.Hints.{defined_names, hint_of, part_text, IsHint, IsHintAmong};
+ghost use Rattle.cddl_explain.specs.Known.{control_names as known_controls};
+ghost use Rattle.cddl_explain.specs.Origins.{IsOrigin};
+ghost use Rattle.cddl_explain.specs.Parts.{IsWithin};
+
+use crate::known::{control_names, prelude_names};
+use crate::origins::origin_hint;
+use crate::parts::Part;
+use crate::rules::rule_names;
+use cddl_token::{Code, Token};
+use near_words::nearest;
+use std::alloc::{AllocError, Global};
+
+// What is said where no control is near.
+pub(crate) const KNOWN: &str =
+    "; known are .default, .and, .within, .cbor, .cborseq, .eq, .ne, .lt, .le, .gt, .ge, .size, .bits, .plus, .cat and .det";
+
+// What was perhaps meant in place of what a refusal with this code is about: words behind what is wrong, or none.
+pub(crate) fn hint(
+    alloc: Global,
+    code: Code,
+    text: &[u8],
+    part: Part,
+    tokens: &[Token<'_>],
+    root: Option<&str>,
+) -> Result<String, AllocError>
+    requires { IsWithin (length text.now) part }
+    ensures { IfOk result (λ told. IsHint code text.now part tokens.now (option_map (λ r. r.now) root.entry) (string_bytes told)) }
+{
+    match (code, root) {
+        (Code::Undefined, _) => name_hint(alloc, text, part, tokens),
+        (Code::UnknownControl, _) => control_hint(alloc, text, part),
+        (Code::NoRoot, Some(name)) => defined_hint(alloc, name, tokens),
+        (Code::Duplicate | Code::KindClash | Code::Arity | Code::GroupAsType, _) => {
+            rule_hint(alloc, text, part, tokens)
+        }
+        _ => Ok(String::new(alloc)),
+    }
+}
+
+fn name_hint(
+    alloc: Global,
+    text: &[u8],
+    part: Part,
+    tokens: &[Token<'_>],
+) -> Result<String, AllocError>
+    requires { IsWithin (length text.now) part }
+    ensures { IfOk result (λ told. IsHintAmong (defined_names tokens.now) (part_text text.now part) [] (string_bytes told)) }
+{
+    let name = String::from_utf8_lossy(alloc, &text[part.from..part.to])?;
+    defined_hint(alloc, name.as_str(), tokens)
+}
+
+fn rule_hint(
+    alloc: Global,
+    text: &[u8],
+    part: Part,
+    tokens: &[Token<'_>],
+) -> Result<String, AllocError>
+    requires { IsWithin (length text.now) part }
+    ensures { IfOk result (λ told. IsOrigin text.now part.from tokens.now (part_text text.now part) (string_bytes told)) }
+{
+    let name = String::from_utf8_lossy(alloc, &text[part.from..part.to])?;
+    origin_hint(alloc, text, part.from, tokens, name.as_str())
+}
+
+fn control_hint(alloc: Global, text: &[u8], part: Part) -> Result<String, AllocError>
+    requires { IsWithin (length text.now) part }
+    ensures { IfOk result (λ told. IsHintAmong known_controls (part_text text.now part) KNOWN.now (string_bytes told)) }
+{
+    let name = String::from_utf8_lossy(alloc, &text[part.from..part.to])?;
+    let found = nearest(alloc, name.as_str(), control_names())?;
+    hint_of(alloc, KNOWN, found)
+}
+
+fn defined_hint(alloc: Global, name: &str, tokens: &[Token<'_>]) -> Result<String, AllocError>
+    ensures { IfOk result (λ told. IsHintAmong (defined_names tokens.now) name.now [] (string_bytes told)) }
+{
+    let names = defined_names(alloc, tokens)?;
+    let found = nearest(alloc, name, names.as_slice())?;
+    hint_of(alloc, "", found)
+}
+
+fn defined_names<'s>(alloc: Global, tokens: &[Token<'s>]) -> Result<Vec<&'s str>, AllocError>
+    ensures { IfOk result (λ names. texts names.items ≡ defined_names tokens.now) }
+{
+    let mut names = rule_names(alloc, tokens)?;
+    names.extend_from_slice(prelude_names())?;
+    Ok(names)
+}
+
+fn hint_of(alloc: Global, other: &str, found: Option<&str>) -> Result<String, AllocError>
+    ensures { IfOk result (λ told. string_bytes told ≡ hint_of other.now (option_map (λ n. n.now) found.entry)) }
+{
+    match found {
+        Some(name) => format!(in alloc; "; did you mean `{name}`?"),
+        None => format!(in alloc; "{other}"),
+    }
+}

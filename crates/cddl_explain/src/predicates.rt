@@ -1,0 +1,114 @@
+//! What is wrong with the token that a refusal names, by the code.
+
+ghost use Rattle.std.specs.Prelude.{◌≡◌};
+ghost use Rattle.cddl_explain.specs.Predicates.{predicate_of};
+
+use cddl_token::Code;
+
+pub(crate) const NOT_UTF8: &str = "is not UTF-8";
+
+pub(crate) const BAD_CHARACTER: &str = "begins no token, or a string or comment may not hold it";
+
+pub(crate) const UNCLOSED: &str = "is a string that is not closed";
+
+pub(crate) const BAD_ESCAPE: &str = "begins no escape; in a prefixed string no backslash does";
+
+pub(crate) const BAD_NUMBER: &str =
+    "is no number: a decimal of more than one digit begins with 0, or 0x, 0b or - has no digit after it";
+
+pub(crate) const FLOAT_LITERAL: &str = "is a float, and numbers in a specification are whole here";
+
+pub(crate) const NUMBER_TOO_LARGE: &str = "holds a uint over 2^64 - 1, or over 2^64 after -";
+
+pub(crate) const BAD_BYTES: &str = "has no hex between its quotes, or after b64 no base64";
+
+pub(crate) const SOURCE_TOO_LONG: &str = "is past the 1,048,576 bytes that a source may have";
+
+pub(crate) const UNEXPECTED: &str = "cannot stand here";
+
+pub(crate) const TOO_NESTED: &str = "opens one more inside 128 open ones";
+
+pub(crate) const DUPLICATE: &str =
+    "is defined by = before, as something else; or it stands twice in a list of parameters";
+
+pub(crate) const KIND_CLASH: &str =
+    "is a type by another rule, and a group by this one, or the other way round";
+
+pub(crate) const UNDEFINED: &str = "is no rule, no parameter, none of the prelude and no socket";
+
+pub(crate) const ARITY: &str =
+    "has another number of arguments than of parameters; or it is a parameter with arguments; or another rule of this name has another number of parameters";
+
+pub(crate) const NO_ROOT: &str = "is no root";
+
+pub(crate) const BAD_ROOT: &str = "is the root, and it is a group or has parameters";
+
+pub(crate) const GROUP_AS_TYPE: &str =
+    "is a group, and a type has to stand here; or it is a type after &";
+
+pub(crate) const HASH_FORM: &str =
+    "means nothing: it is #8 or #9, or #d.n with another d than 7, or #7.n with 24, 28 to 31, or over 255";
+
+pub(crate) const UNKNOWN_CONTROL: &str = "is no control that is known here";
+
+pub(crate) const TOO_MANY_INSTANCES: &str = "has more than 4,096 instances";
+
+pub(crate) const NOT_UNWRAPPABLE: &str =
+    "opens nothing, or ~ opens a group where a type has to stand; or & cannot choose: an entry may occur other than once, or a group comes back to itself";
+
+pub(crate) const RECURSION: &str = "comes back to itself before an item is taken or gone into";
+
+pub(crate) const NOT_LITERAL: &str =
+    "begins no literal that the control can take: .plus takes whole numbers, .cat and .det take strings; or the sum is out of range, or the join has more than 65,536 bytes";
+
+pub(crate) const BAD_RANGE: &str =
+    "is no whole number, as the ends of a range are; or it is an occurrence whose minimum is over its maximum";
+
+pub(crate) const BAD_CONTROLLER: &str =
+    "begins what the control cannot take: .lt, .le, .gt and .ge take whole numbers, .size and .bits take unsigned numbers and ranges of them; or the joined text is not UTF-8";
+
+pub(crate) const NO_KEY: &str =
+    "begins an entry of a map that has no key and is no group: a key has : or => right behind it";
+
+pub(crate) const MAP_SHAPE: &str =
+    "begins an entry of a map whose group occurs as none in a map may, or as its alternatives do not allow; or the group comes back to itself";
+
+pub(crate) const TOO_MANY_ALTERNATIVES: &str =
+    "opens a map that has, or in which a group has, more than 512 alternatives, or more than 16,384 entries in them";
+
+// What is wrong with the token that a refusal with this code names: words that follow the token and end with no full stop.
+pub(crate) fn predicate(code: Code) -> &'static str
+    ensures { result.now ≡ predicate_of code }
+{
+    match code {
+        Code::NotUtf8 => NOT_UTF8,
+        Code::BadCharacter => BAD_CHARACTER,
+        Code::Unclosed => UNCLOSED,
+        Code::BadEscape => BAD_ESCAPE,
+        Code::BadNumber => BAD_NUMBER,
+        Code::FloatLiteral => FLOAT_LITERAL,
+        Code::NumberTooLarge => NUMBER_TOO_LARGE,
+        Code::BadBytes => BAD_BYTES,
+        Code::SourceTooLong => SOURCE_TOO_LONG,
+        Code::Unexpected => UNEXPECTED,
+        Code::TooNested => TOO_NESTED,
+        Code::Duplicate => DUPLICATE,
+        Code::KindClash => KIND_CLASH,
+        Code::Undefined => UNDEFINED,
+        Code::Arity => ARITY,
+        Code::NoRoot => NO_ROOT,
+        Code::BadRoot => BAD_ROOT,
+        Code::GroupAsType => GROUP_AS_TYPE,
+        Code::HashForm => HASH_FORM,
+        Code::UnknownControl => UNKNOWN_CONTROL,
+        Code::TooManyInstances => TOO_MANY_INSTANCES,
+        Code::NotUnwrappable => NOT_UNWRAPPABLE,
+        Code::Recursion => RECURSION,
+        Code::NotLiteral => NOT_LITERAL,
+        Code::BadRange => BAD_RANGE,
+        Code::BadController => BAD_CONTROLLER,
+        Code::NoKey => NO_KEY,
+        Code::MapShape => MAP_SHAPE,
+        Code::TooManyAlternatives => TOO_MANY_ALTERNATIVES,
+    }
+}
