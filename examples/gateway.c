@@ -46,7 +46,7 @@ static void say_dropped(struct cddlseq_handle *handle, unsigned long number, con
     struct cddlseq_end end;
     size_t needed;
     uint32_t status =
-        cddlseq_write_by(*handle, frame, length, CDDLSEQ_END_LINE, &end, line, sizeof line, &needed, &handle->at);
+        cddlseq_write_by(handle, frame, length, CDDLSEQ_END_LINE, &end, line, sizeof line, &needed);
     if (status == CDDLSEQ_FAILED) {
         fprintf(stderr, "frame %lu dropped: %.*s", number, (int)needed, (const char *)line);
     } else {
@@ -68,7 +68,7 @@ static int run(struct cddlseq_handle *handle) {
             fprintf(stderr, "frame %lu is cut\n", number);
             return 1;
         }
-        uint32_t status = cddlseq_validate_by(*handle, bytes + 2, length, &end, &handle->at);
+        uint32_t status = cddlseq_validate_by(handle, bytes + 2, length, &end);
         if (status == CDDLSEQ_NO_MEMORY) {
             fprintf(stderr, "frame %lu dropped: out of memory\n", number);
         } else if (status == CDDLSEQ_OK && end.items == 0) {
@@ -92,7 +92,7 @@ static int open_specification(const char *name, struct cddlseq_handle *handle) {
     }
     size_t length = fread(text, 1, sizeof text, file);
     fclose(file);
-    uint32_t status = cddlseq_open(text, length, (const uint8_t *)"", 0, &limits, &refusal, &handle->at);
+    uint32_t status = cddlseq_open(text, length, (const uint8_t *)"", 0, &limits, &refusal, handle);
     if (status != CDDLSEQ_OK) {
         fprintf(stderr, "%s: status %u, code %u at byte %zu\n", name, (unsigned)status, (unsigned)refusal.code, refusal.offset);
     }
@@ -100,7 +100,7 @@ static int open_specification(const char *name, struct cddlseq_handle *handle) {
 }
 
 int main(int count, char **words) {
-    struct cddlseq_handle handle;
+    struct cddlseq_handle handle = CDDLSEQ_NOTHING;
     if (count != 2) {
         fprintf(stderr, "usage: gateway SPEC\n");
         return 2;
@@ -109,6 +109,6 @@ int main(int count, char **words) {
         return 2;
     }
     int status = run(&handle);
-    cddlseq_close(handle);
+    cddlseq_close(&handle);
     return status;
 }

@@ -45,7 +45,13 @@ enum cddlseq_status {
     /* An item of a stream that comes in pieces matches. */
     CDDLSEQ_ITEM = 9,
     /* A stream that comes in pieces has ended before, and was clean. */
-    CDDLSEQ_ENDED = 10
+    CDDLSEQ_ENDED = 10,
+    /* The handle, or the session, holds nothing. */
+    CDDLSEQ_CLOSED = 11,
+    /* The code of a refusal is no enum cddlseq_code. */
+    CDDLSEQ_BAD_REFUSAL = 12,
+    /* The name of the file is not UTF-8. */
+    CDDLSEQ_BAD_FILE = 13
 };
 
 /* What is wrong with a text. */
@@ -212,125 +218,135 @@ uint32_t cddlseq_validate_many(
     struct cddlseq_end *ends, size_t ends_length,
     size_t *done);
 
-/* A specification that was read once, with the limits of items. cddlseq_open makes it, or cddlseq_share. A call takes
-   it and gives it back, so that one call has it at a time, and cddlseq_close frees it, once. Nothing checks this, nor that it is one
-   that cddlseq_open or another call wrote. */
+/* Explains a refusal that a call told of this text, with this root: writes to the front of the buffer the line of the refusal; the name of
+   the file, the line and the column, and the name of the code; the line of the text, with a mark under the place; and what is wrong.
+   CDDLSEQ_OK, or _NO_ROOM, with 'needed' as above; or, and then nothing is written and 'needed' is 0: _BAD_REFUSAL, _BAD_FILE and
+   _BAD_ROOT, where the code is none or a name is not UTF-8, and _NO_MEMORY. The name of the file is what is to be told, and no file is
+   looked for. */
+uint32_t cddlseq_explain(
+    const uint8_t *text, size_t text_length,
+    const uint8_t *root, size_t root_length,
+    const uint8_t *file, size_t file_length,
+    const struct cddlseq_refusal *refusal,
+    uint8_t *buffer, size_t buffer_length,
+    size_t *needed);
+
+/* A specification that was read once, with the limits of items; or nothing. It is made with CDDLSEQ_NOTHING, cddlseq_open and cddlseq_share
+   have it hold a specification, and cddlseq_close frees that. Only calls write to it, one at a time; a copy of it is not to be used. A
+   call by a handle that holds nothing answers CDDLSEQ_CLOSED, and tells and writes nothing. */
 struct cddlseq_handle {
     void *at;
 };
 
-/* Reads a text for many streams, and writes what a handle leads to: CDDLSEQ_OK, or what cddlseq_validate says where nothing is said of
-   a stream, and then nothing is written. */
+/* To begin a struct cddlseq_handle, or a struct cddlseq_session, with. */
+#define CDDLSEQ_NOTHING {0}
+
+/* Reads a text for many streams, and has the handle hold it: CDDLSEQ_OK, and what it held before is freed; or what cddlseq_validate says
+   where nothing is said of a stream, and it holds what it held. */
 uint32_t cddlseq_open(
     const uint8_t *text, size_t text_length,
     const uint8_t *root, size_t root_length,
     const struct cddlseq_limits *limits,
     struct cddlseq_refusal *refusal,
-    void **at);
+    struct cddlseq_handle *handle);
 
-/* What cddlseq_validate says of a stream, by a handle: CDDLSEQ_OK, _FAILED or _NO_MEMORY. The handle comes back by its last argument. */
+/* What cddlseq_validate says of a stream, by a handle: CDDLSEQ_OK, _FAILED or _NO_MEMORY; or _CLOSED. */
 uint32_t cddlseq_validate_by(
-    struct cddlseq_handle handle,
+    struct cddlseq_handle *handle,
     const uint8_t *stream, size_t stream_length,
-    struct cddlseq_end *end,
-    void **back);
+    struct cddlseq_end *end);
 
-/* What cddlseq_write says and writes of a stream, by a handle, which comes back by its last argument. */
+/* What cddlseq_write says and writes of a stream, by a handle; or CDDLSEQ_CLOSED. */
 uint32_t cddlseq_write_by(
-    struct cddlseq_handle handle,
+    struct cddlseq_handle *handle,
     const uint8_t *stream, size_t stream_length,
     uint32_t wanted,
     struct cddlseq_end *end,
     uint8_t *buffer, size_t buffer_length,
-    size_t *needed,
-    void **back);
+    size_t *needed);
 
-void cddlseq_close(struct cddlseq_handle handle);
+/* Frees what the handle holds, if it holds anything. It holds nothing then. */
+void cddlseq_close(struct cddlseq_handle *handle);
 
-/* Makes another handle of the same specification, which is not read anew: CDDLSEQ_OK, or _NO_MEMORY, and then nothing is written. Each
-   handle is closed once; the specification is freed with the last handle or session that has it. */
+/* Has another handle hold the same specification, which is not read anew: CDDLSEQ_OK, and what the other one held before is freed; or
+   _NO_MEMORY or _CLOSED, and it holds what it held. The specification is freed with the last handle or session that holds it. */
 uint32_t cddlseq_share(
-    struct cddlseq_handle handle,
-    void **other,
-    void **back);
+    struct cddlseq_handle *handle,
+    struct cddlseq_handle *other);
 
-/* A stream that comes in pieces, with its specification. cddlseq_begin makes it, or cddlseq_begin_by. Of it holds what is
-   said of a struct cddlseq_handle; cddlseq_discard frees it. It keeps nothing of the pieces but what it has read of the item in work,
-   and the item that the last call of cddlseq_feed told.
+/* A stream that comes in pieces, with its specification; or nothing. cddlseq_begin and cddlseq_begin_by have it hold one, cddlseq_discard
+   frees that, and else it is as a struct cddlseq_handle. It keeps nothing of the pieces but what it has read of the item in work, and the
+   item that the last call of cddlseq_feed told.
 
        while ((length = read(device, piece, sizeof piece)) > 0) {
            for (size_t at = 0; at < length; at += used) {
-               status = cddlseq_feed(session, piece + at, length - at, &used, &end, &session.at);
+               status = cddlseq_feed(&session, piece + at, length - at, &used, &end);
                if (status != CDDLSEQ_ITEM && status != CDDLSEQ_OK) {
                    return status;
                }
            }
        }
-       return cddlseq_finish(session, &end, &session.at); */
+       return cddlseq_finish(&session, &end); */
 struct cddlseq_session {
     void *at;
 };
 
-/* Reads a text, and writes what a session leads to, at the first byte of a stream. It answers what cddlseq_open does. */
+/* Reads a text, and has the session hold a stream at its first byte. It answers what cddlseq_open does. */
 uint32_t cddlseq_begin(
     const uint8_t *text, size_t text_length,
     const uint8_t *root, size_t root_length,
     const struct cddlseq_limits *limits,
     struct cddlseq_refusal *refusal,
-    void **at);
+    struct cddlseq_session *session);
 
 /* Begins a session by a specification that a handle holds, which is not read anew; there may be many over one handle. It answers what
    cddlseq_share does. The session may be used after the handle is closed. */
 uint32_t cddlseq_begin_by(
-    struct cddlseq_handle handle,
-    void **at,
-    void **back);
+    struct cddlseq_handle *handle,
+    struct cddlseq_session *session);
 
 /* Takes the next piece of the stream, up to the end of an item that it completes; 'used' says how many bytes of the piece are done
-   with, and those behind them are for the next call. The session comes back by its last argument.
+   with, and those behind them are for the next call.
 
    CDDLSEQ_ITEM: an item matches, whose last byte is the last one used. CDDLSEQ_OK: the whole piece is used, and completes none. The
    end has how many items match so far, and how many bytes these have, and no cause: so an item begins where the end before had its
    offset, and ends where the next one has it.
    CDDLSEQ_FAILED: the stream has failed, whatever follows, and the end is told. CDDLSEQ_ENDED: it was finished before, and was clean.
-   CDDLSEQ_NO_MEMORY: nothing is told, and each later call answers so, too. */
+   CDDLSEQ_NO_MEMORY: nothing is told, and each later call answers so, too. CDDLSEQ_CLOSED: nothing is told, and 'used' is 0. */
 uint32_t cddlseq_feed(
-    struct cddlseq_session session,
+    struct cddlseq_session *session,
     const uint8_t *piece, size_t piece_length,
     size_t *used,
-    struct cddlseq_end *end,
-    void **back);
+    struct cddlseq_end *end);
 
-/* Takes the next piece of the stream whole: CDDLSEQ_OK, _FAILED, _ENDED or _NO_MEMORY, with the end as above. It holds all items of
-   the piece at once, and keeps none. */
+/* Takes the next piece of the stream whole: CDDLSEQ_OK, _FAILED, _ENDED, _NO_MEMORY or _CLOSED, with the end as above. It holds all items
+   of the piece at once, and keeps none. */
 uint32_t cddlseq_feed_all(
-    struct cddlseq_session session,
+    struct cddlseq_session *session,
     const uint8_t *piece, size_t piece_length,
-    struct cddlseq_end *end,
-    void **back);
+    struct cddlseq_end *end);
 
 /* Ends the stream, and tells its end: CDDLSEQ_OK or _FAILED, and again the same when it is asked again; or CDDLSEQ_NO_MEMORY, where a
-   call answered so before. Takes no memory. */
+   call answered so before; or CDDLSEQ_CLOSED. Takes no memory. */
 uint32_t cddlseq_finish(
-    struct cddlseq_session session,
-    struct cddlseq_end *end,
-    void **back);
+    struct cddlseq_session *session,
+    struct cddlseq_end *end);
 
 /* Writes to the front of the buffer the CDDLSEQ_PATH or the CDDLSEQ_NOTATION of the mismatch by which the stream has failed, and
    nothing of another stream; or the item that the last call of cddlseq_feed told, in encoding CDDLSEQ_PREFERRED or
    CDDLSEQ_DETERMINISTIC, and nothing where that was not CDDLSEQ_ITEM, or another stream has begun, or a piece was fed whole since:
-   CDDLSEQ_OK, _NO_ROOM, _BAD_WANTED or _NO_MEMORY, with 'needed' as cddlseq_write has it. */
+   CDDLSEQ_OK, _NO_ROOM, _BAD_WANTED or _NO_MEMORY, with 'needed' as cddlseq_write has it; or _CLOSED. */
 uint32_t cddlseq_show(
-    struct cddlseq_session session,
+    struct cddlseq_session *session,
     uint32_t wanted,
     uint8_t *buffer, size_t buffer_length,
-    size_t *needed,
-    void **back);
+    size_t *needed);
 
 /* Begins another stream by the same specification, whatever has come of the one before. Takes no memory. */
-void cddlseq_restart(struct cddlseq_session session, void **back);
+void cddlseq_restart(struct cddlseq_session *session);
 
-void cddlseq_discard(struct cddlseq_session session);
+/* Frees what the session holds, if it holds anything. It holds nothing then. */
+void cddlseq_discard(struct cddlseq_session *session);
 
 #ifdef __cplusplus
 }

@@ -1,4 +1,4 @@
-// The commands check, validate and rewrite over the calls of include/cddlseq.h, so that the rows and the tests of the program can
+// The commands check, validate, rewrite and show over the calls of include/cddlseq.h, so that the rows and the tests of the program can
 // be run on the library. It says what the program says, but for misuse, and reads a stream whole before it writes. What validate says
 // of a stream has to be what a session says of it, however it is cut into pieces.
 #include "cddlseq.h"
@@ -12,6 +12,9 @@
 
 enum { BROKEN = 3, LONGEST_TEXT = 1048577, LONGEST_IN_PIECES = 1 << 17 };
 
+// The specification that show reads.
+static const char any[] = "a = any";
+
 struct bytes {
     uint8_t *at;
     size_t length, room;
@@ -19,7 +22,7 @@ struct bytes {
 
 struct options {
     const char *command, *spec, *stream, *root;
-    int quiet, deterministic;
+    int quiet, deterministic, explain;
     struct cddlseq_limits limits;
 };
 
@@ -52,7 +55,7 @@ static int no_memory(void) {
 }
 
 static int misuse(void) {
-    say("usage: caller check|validate|rewrite [OPTION..] SPEC [FILE]\n");
+    say("usage: caller check|validate|rewrite|show [OPTION..] SPEC [FILE]\n");
     return BROKEN;
 }
 
@@ -122,6 +125,28 @@ static int refused(uint32_t status, const struct cddlseq_refusal *refusal) {
     return 2;
 }
 
+// The status of the program for a text that is refused, which is explained where the options say so.
+static int refused_text(const struct options *options, const struct bytes *text, uint32_t status, const struct cddlseq_refusal *refusal, struct bytes *told) {
+    const char *root = options->root ? options->root : "";
+    size_t needed = 64;
+    if (status != CDDLSEQ_REFUSED || !options->explain) {
+        return refused(status, refusal);
+    }
+    do {
+        if (!has_room(told, needed)) {
+            return no_memory();
+        }
+        status = cddlseq_explain(
+            text->at, text->length, (const uint8_t *)root, strlen(root), (const uint8_t *)options->spec, strlen(options->spec), refusal,
+            told->at, told->room, &needed);
+    } while (status == CDDLSEQ_NO_ROOM);
+    if (status != CDDLSEQ_OK) {
+        return refused(status, refusal);
+    }
+    put(2, told->at, needed);
+    return 2;
+}
+
 // Has the library write what is wanted, to a buffer that is made larger where it has to be.
 static uint32_t ask(
     const struct options *options, const struct bytes *text, const struct bytes *stream, uint32_t wanted,
@@ -152,7 +177,7 @@ static uint32_t ask_by(struct cddlseq_handle *handle, const struct bytes *stream
             return CDDLSEQ_NO_MEMORY;
         }
         status = cddlseq_write_by(
-            *handle, stream->at, stream->length, wanted, &end, told->at, told->room, &needed, &handle->at);
+            handle, stream->at, stream->length, wanted, &end, told->at, told->room, &needed);
     } while (status == CDDLSEQ_NO_ROOM);
     told->length = needed;
     return status;
@@ -168,9 +193,9 @@ static uint32_t feed_pieces(
             uint32_t status;
             if (is_whole) {
                 used = length;
-                status = cddlseq_feed_all(*session, stream->at + at, length, end, &session->at);
+                status = cddlseq_feed_all(session, stream->at + at, length, end);
             } else {
-                status = cddlseq_feed(*session, stream->at + at + from, length - from, &used, end, &session->at);
+                status = cddlseq_feed(session, stream->at + at + from, length - from, &used, end);
             }
             int is_item = status == CDDLSEQ_ITEM && end->items == before.items + 1 && end->offset == at + from + used;
             if (status != CDDLSEQ_OK && !is_item) {
@@ -178,14 +203,14 @@ static uint32_t feed_pieces(
             }
         }
     }
-    return cddlseq_finish(*session, end, &session->at);
+    return cddlseq_finish(session, end);
 }
 
 // Whether a session shows this of the place of its mismatch.
 static int shows(struct cddlseq_session *session, uint32_t wanted, const struct bytes *told) {
     uint8_t *shown = malloc(told->length + 1);
     size_t needed = 0;
-    uint32_t status = shown ? cddlseq_show(*session, wanted, shown, told->length, &needed, &session->at) : CDDLSEQ_NO_MEMORY;
+    uint32_t status = shown ? cddlseq_show(session, wanted, shown, told->length, &needed) : CDDLSEQ_NO_MEMORY;
     int is_same = status == CDDLSEQ_OK && needed == told->length && !memcmp(shown, told->at, needed);
     free(shown);
     return is_same;
@@ -196,7 +221,7 @@ static int is_same_in_pieces(
     const struct options *options, const struct bytes *text, const struct bytes *stream, struct bytes *path, struct bytes *notation) {
     const uint8_t *root = (const uint8_t *)(options->root ? options->root : "");
     struct cddlseq_refusal refusal;
-    struct cddlseq_session session;
+    struct cddlseq_session session = CDDLSEQ_NOTHING;
     struct cddlseq_end end, wanted = {0};
     uint32_t status = cddlseq_validate(
         text->at, text->length, root, strlen((const char *)root), stream->at, stream->length, &options->limits, &refusal, &wanted);
@@ -204,7 +229,7 @@ static int is_same_in_pieces(
         ask(options, text, stream, CDDLSEQ_NOTATION, &refusal, notation) != status) {
         return status > CDDLSEQ_FAILED;
     }
-    if (cddlseq_begin(text->at, text->length, root, strlen((const char *)root), &options->limits, &refusal, &session.at) != CDDLSEQ_OK) {
+    if (cddlseq_begin(text->at, text->length, root, strlen((const char *)root), &options->limits, &refusal, &session) != CDDLSEQ_OK) {
         return 0;
     }
     int is_same = 1;
@@ -213,9 +238,9 @@ static int is_same_in_pieces(
         uint32_t told = feed_pieces(&session, stream, is_whole ? 1021 : 1, is_whole, &end);
         is_same = told == status && end.items == wanted.items && end.offset == wanted.offset && end.cause == wanted.cause &&
                   end.place == wanted.place && shows(&session, CDDLSEQ_PATH, path) && shows(&session, CDDLSEQ_NOTATION, notation);
-        cddlseq_restart(session, &session.at);
+        cddlseq_restart(&session);
     }
-    cddlseq_discard(session);
+    cddlseq_discard(&session);
     return is_same;
 }
 
@@ -240,9 +265,9 @@ static int rewrite(
     const struct options *options, const struct bytes *text, const struct bytes *stream, struct bytes *told, struct bytes *line) {
     const uint8_t *root = (const uint8_t *)(options->root ? options->root : "");
     struct cddlseq_refusal refusal;
-    struct cddlseq_handle handle;
+    struct cddlseq_handle handle = CDDLSEQ_NOTHING;
     uint32_t status = cddlseq_open(
-        text->at, text->length, root, strlen((const char *)root), &options->limits, &refusal, &handle.at);
+        text->at, text->length, root, strlen((const char *)root), &options->limits, &refusal, &handle);
     if (status != CDDLSEQ_OK) {
         return refused(status, &refusal);
     }
@@ -250,7 +275,7 @@ static int rewrite(
     if (status <= CDDLSEQ_FAILED) {
         status = ask_by(&handle, stream, CDDLSEQ_END_LINE, line);
     }
-    cddlseq_close(handle);
+    cddlseq_close(&handle);
     if (status > CDDLSEQ_FAILED) {
         return refused(status, &refusal);
     }
@@ -263,13 +288,19 @@ static int rewrite(
 static int perform(const struct options *options, struct bytes *text, struct bytes *stream, struct bytes *told, struct bytes *line) {
     const uint8_t *root = (const uint8_t *)(options->root ? options->root : "");
     struct cddlseq_refusal refusal;
-    int status = has_room(text, 1) && has_room(stream, 1) ? read_file(options->spec, LONGEST_TEXT, text) : no_memory();
+    int status = has_room(text, sizeof any) && has_room(stream, 1) ? 0 : no_memory();
+    if (!status && options->spec) {
+        status = read_file(options->spec, LONGEST_TEXT, text);
+    } else if (!status) {
+        text->length = sizeof any - 1;
+        memcpy(text->at, any, text->length);
+    }
     if (status) {
         return status;
     }
     uint32_t answer = cddlseq_check(text->at, text->length, root, strlen((const char *)root), &refusal);
     if (answer != CDDLSEQ_OK) {
-        return refused(answer, &refusal);
+        return refused_text(options, text, answer, &refusal, told);
     }
     if (!strcmp(options->command, "check")) {
         put(1, (const uint8_t *)"accepted\n", 9);
@@ -301,6 +332,8 @@ static int is_option(char ***words, struct options *into) {
         into->quiet = 1;
     } else if (!strcmp(**words, "--deterministic")) {
         into->deterministic = 1;
+    } else if (!strcmp(**words, "--explain")) {
+        into->explain = 1;
     } else if ((value = value_of("--root", words))) {
         into->root = value;
     } else if ((value = value_of("--depth", words))) {
@@ -330,17 +363,28 @@ static int is_read(char **words, struct options *into) {
             }
         }
     }
-    return into->spec != NULL;
+    return 1;
+}
+
+// Of show the first file is the stream.
+static int are_named(struct options *options) {
+    if (strcmp(options->command, "show")) {
+        return options->spec != NULL;
+    }
+    int is_one = !options->stream;
+    options->stream = options->spec;
+    options->spec = NULL;
+    return is_one;
 }
 
 int main(int count, char **words) {
     struct options options = {0};
     struct bytes text = {0}, stream = {0}, told = {0}, line = {0};
     options.limits = (struct cddlseq_limits)CDDLSEQ_LIMITS;
-    if (count < 3 || !is_read(words + 2, &options)) {
+    options.command = count < 2 ? "" : words[1];
+    if (count < 2 || !is_read(words + 2, &options) || !are_named(&options)) {
         return misuse();
     }
-    options.command = words[1];
     if (options.stream && !strcmp(options.stream, "-")) {
         options.stream = NULL;
     }

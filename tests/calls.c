@@ -47,8 +47,6 @@ static const struct cddlseq_limits limits = CDDLSEQ_LIMITS;
 static const struct cddlseq_end untold = {7, 7, 7, 7};
 static const char map[] = "m = {a: [* n], b: bstr .cbor n}\nn = uint .lt 10\n";
 
-static uint8_t buffer_of_no_handle[1];
-
 static int is_untold(const struct cddlseq_end *end) {
     return end->items == 7 && end->offset == 7 && end->cause == 7 && end->place == 7;
 }
@@ -191,77 +189,157 @@ static void validate_many(void) {
 static void handles(void) {
     struct cddlseq_refusal refusal = {9, 9, 9, 9};
     struct cddlseq_end end = untold;
-    struct cddlseq_handle handle = {buffer_of_no_handle};
+    struct cddlseq_handle handle = CDDLSEQ_NOTHING;
     uint8_t buffer[64];
     size_t needed = 99;
-    EXPECT(cddlseq_open(TEXT("a = b\n"), TEXT(""), &limits, &refusal, &handle.at) == CDDLSEQ_REFUSED);
-    EXPECT(is_refusal(&refusal, CDDLSEQ_C3_UNDEFINED, 4, 1, 5) && handle.at == buffer_of_no_handle);
+    EXPECT(cddlseq_open(TEXT("a = b\n"), TEXT(""), &limits, &refusal, &handle) == CDDLSEQ_REFUSED);
+    EXPECT(is_refusal(&refusal, CDDLSEQ_C3_UNDEFINED, 4, 1, 5) && handle.at == NULL);
     const struct cddlseq_limits bad = {0, 1, 1}, shallow = {1, 3, 100};
-    EXPECT(cddlseq_open(TEXT(map), TEXT(""), &bad, &refusal, &handle.at) == CDDLSEQ_BAD_LIMITS && handle.at == buffer_of_no_handle);
-    EXPECT(cddlseq_open(TEXT("a = [* any]\n"), TEXT(""), &shallow, &refusal, &handle.at) == CDDLSEQ_OK && refusal.code == 0);
+    EXPECT(cddlseq_open(TEXT(map), TEXT(""), &bad, &refusal, &handle) == CDDLSEQ_BAD_LIMITS && handle.at == NULL);
+    EXPECT(cddlseq_open(TEXT("a = [* any]\n"), TEXT(""), &shallow, &refusal, &handle) == CDDLSEQ_OK && refusal.code == 0);
     void *at = handle.at;
-    EXPECT(at && at != buffer_of_no_handle);
+    EXPECT(at != NULL);
     for (int time = 0; time < 3; time++) {
-        EXPECT(cddlseq_validate_by(handle, BYTES("\x80\x81\x01"), &end, &handle.at) == CDDLSEQ_OK && handle.at == at);
+        EXPECT(cddlseq_validate_by(&handle, BYTES("\x80\x81\x01"), &end) == CDDLSEQ_OK && handle.at == at);
         EXPECT(is_end(&end, 2, 3, CDDLSEQ_CLEAN, 0));
-        EXPECT(cddlseq_validate_by(handle, BYTES("\x80\x81\x80"), &end, &handle.at) == CDDLSEQ_FAILED && handle.at == at);
+        EXPECT(cddlseq_validate_by(&handle, BYTES("\x80\x81\x80"), &end) == CDDLSEQ_FAILED && handle.at == at);
         EXPECT(is_end(&end, 1, 1, CDDLSEQ_TOO_DEEP, 2));
-        EXPECT(cddlseq_write_by(handle, BYTES("\x9f\x01\xff\x01"), CDDLSEQ_PREFERRED, &end, buffer, 64, &needed, &handle.at) == CDDLSEQ_FAILED);
+        EXPECT(cddlseq_write_by(&handle, BYTES("\x9f\x01\xff\x01"), CDDLSEQ_PREFERRED, &end, buffer, 64, &needed) == CDDLSEQ_FAILED);
         EXPECT(handle.at == at && needed == 2 && !memcmp(buffer, "\x81\x01", 2) && is_end(&end, 1, 3, CDDLSEQ_MISMATCH, 0));
-        EXPECT(cddlseq_write_by(handle, BYTES("\x80"), CDDLSEQ_REPORT, &end, buffer, 8, &needed, &handle.at) == CDDLSEQ_NO_ROOM && handle.at == at);
+        EXPECT(cddlseq_write_by(&handle, BYTES("\x80"), CDDLSEQ_REPORT, &end, buffer, 8, &needed) == CDDLSEQ_NO_ROOM && handle.at == at);
         end = untold;
-        EXPECT(cddlseq_write_by(handle, BYTES("\x80"), 6, &end, buffer, 64, &needed, &handle.at) == CDDLSEQ_BAD_WANTED);
+        EXPECT(cddlseq_write_by(&handle, BYTES("\x80"), 6, &end, buffer, 64, &needed) == CDDLSEQ_BAD_WANTED);
         EXPECT(handle.at == at && needed == 0 && is_untold(&end));
     }
-    cddlseq_close(handle);
+    // What it held is freed, whatever it is to hold; and where the text is refused it holds it still.
+    EXPECT(cddlseq_open(TEXT("a = b\n"), TEXT(""), &limits, &refusal, &handle) == CDDLSEQ_REFUSED && handle.at == at);
+    EXPECT(cddlseq_validate_by(&handle, BYTES("\x80"), &end) == CDDLSEQ_OK);
+    EXPECT(cddlseq_open(TEXT("a = uint\n"), TEXT(""), &limits, &refusal, &handle) == CDDLSEQ_OK);
+    EXPECT(cddlseq_validate_by(&handle, BYTES("\x80"), &end) == CDDLSEQ_FAILED && is_end(&end, 0, 0, CDDLSEQ_MISMATCH, 0));
+    cddlseq_close(&handle);
+    EXPECT(handle.at == NULL);
+}
+
+// A handle and a session that hold nothing, from the beginning or since they were closed.
+static void closed(void) {
+    struct cddlseq_refusal refusal;
+    struct cddlseq_end end = untold;
+    struct cddlseq_handle handle = CDDLSEQ_NOTHING, other = CDDLSEQ_NOTHING;
+    struct cddlseq_session session = CDDLSEQ_NOTHING;
+    uint8_t buffer[4] = "abcd";
+    for (int time = 0; time < 2; time++) {
+        size_t used = 99, needed = 99;
+        EXPECT(cddlseq_validate_by(&handle, BYTES("\x80"), &end) == CDDLSEQ_CLOSED && is_untold(&end));
+        EXPECT(cddlseq_write_by(&handle, BYTES("\x80"), CDDLSEQ_PREFERRED, &end, buffer, 4, &needed) == CDDLSEQ_CLOSED && is_untold(&end));
+        EXPECT(needed == 0 && !memcmp(buffer, "abcd", 4));
+        EXPECT(cddlseq_share(&handle, &other) == CDDLSEQ_CLOSED && other.at == NULL);
+        EXPECT(cddlseq_begin_by(&handle, &session) == CDDLSEQ_CLOSED && session.at == NULL);
+        EXPECT(cddlseq_feed(&session, BYTES("\x80"), &used, &end) == CDDLSEQ_CLOSED && used == 0 && is_untold(&end));
+        EXPECT(cddlseq_feed_all(&session, BYTES("\x80"), &end) == CDDLSEQ_CLOSED && is_untold(&end));
+        EXPECT(cddlseq_finish(&session, &end) == CDDLSEQ_CLOSED && is_untold(&end));
+        needed = 99;
+        EXPECT(cddlseq_show(&session, CDDLSEQ_PATH, buffer, 4, &needed) == CDDLSEQ_CLOSED && needed == 0 && !memcmp(buffer, "abcd", 4));
+        cddlseq_restart(&session);
+        EXPECT(handle.at == NULL && session.at == NULL);
+        EXPECT(cddlseq_open(TEXT("a = uint\n"), TEXT(""), &limits, &refusal, &handle) == CDDLSEQ_OK && handle.at != NULL);
+        EXPECT(cddlseq_begin_by(&handle, &session) == CDDLSEQ_OK && session.at != NULL);
+        EXPECT(cddlseq_share(&handle, &other) == CDDLSEQ_OK && other.at != NULL);
+        // What they held before is freed.
+        EXPECT(cddlseq_begin_by(&handle, &session) == CDDLSEQ_OK && cddlseq_share(&handle, &other) == CDDLSEQ_OK);
+        for (int again = 0; again < 2; again++) {
+            cddlseq_close(&handle);
+            cddlseq_close(&other);
+            cddlseq_discard(&session);
+            EXPECT(handle.at == NULL && other.at == NULL && session.at == NULL);
+        }
+    }
+}
+
+// Whether a refusal is explained by these lines, and nothing behind them is written, and nothing where there is room for one less.
+static int explains(const char *text, const char *root, const struct cddlseq_refusal *refusal, const char *lines) {
+    uint8_t buffer[512], kept[512];
+    size_t needed = 99, size = strlen(lines);
+    memset(buffer, 0xee, sizeof buffer);
+    memset(kept, 0xee, sizeof kept);
+    uint32_t told = cddlseq_explain(TEXT(text), TEXT(root), TEXT("it.cddl"), refusal, buffer, sizeof buffer, &needed);
+    if (told != CDDLSEQ_OK || needed != size || memcmp(buffer, lines, size) || memcmp(buffer + size, kept, sizeof buffer - size)) {
+        return 0;
+    }
+    memset(buffer, 0xee, sizeof buffer);
+    told = cddlseq_explain(TEXT(text), TEXT(root), TEXT("it.cddl"), refusal, buffer, size - 1, &needed);
+    return told == CDDLSEQ_NO_ROOM && needed == size && !memcmp(buffer, kept, sizeof buffer);
+}
+
+static void explain(void) {
+    static const char text[] = "a = \"\xe2\x82\xac\" /\n  b\n";
+    struct cddlseq_refusal refusal = {9, 9, 9, 9};
+    uint8_t buffer[4] = "abcd";
+    size_t needed = 99;
+    EXPECT(cddlseq_check(TEXT(text), TEXT(""), &refusal) == CDDLSEQ_REFUSED);
+    EXPECT(explains(text, "", &refusal,
+        "refused: C3 Undefined at byte 14\nit.cddl:2:3: Undefined\n  b\n  ^\n`b` is no rule, no parameter, none of the prelude and no socket\n"));
+    EXPECT(cddlseq_check(TEXT(map), TEXT("no"), &refusal) == CDDLSEQ_REFUSED);
+    EXPECT(explains(map, "no", &refusal,
+        "refused: C5 NoRoot at byte 0\nit.cddl:1:1: NoRoot\nm = {a: [* n], b: bstr .cbor n}\n^\n"
+        "`no`, which --root asks for, is no rule and none of the prelude\n"));
+    EXPECT(cddlseq_explain(TEXT(map), TEXT("no"), TEXT("\xff"), &refusal, buffer, 4, &needed) == CDDLSEQ_BAD_FILE && needed == 0);
+    needed = 99;
+    EXPECT(cddlseq_explain(TEXT(map), TEXT("\xff"), TEXT(""), &refusal, buffer, 4, &needed) == CDDLSEQ_BAD_ROOT && needed == 0);
+    const uint32_t none[] = {0, 30, UINT32_MAX};
+    for (int at = 0; at < 3; at++) {
+        needed = 99;
+        refusal.code = none[at];
+        EXPECT(cddlseq_explain(TEXT(map), TEXT(""), TEXT(""), &refusal, buffer, 4, &needed) == CDDLSEQ_BAD_REFUSAL && needed == 0);
+    }
+    EXPECT(!memcmp(buffer, "abcd", 4));
 }
 
 static void sessions(void) {
     struct cddlseq_refusal refusal = {9, 9, 9, 9};
     struct cddlseq_end end = untold;
-    struct cddlseq_session session = {buffer_of_no_handle};
+    struct cddlseq_session session = CDDLSEQ_NOTHING;
     uint8_t buffer[16];
     size_t used = 99, needed = 99;
     const struct cddlseq_limits bad = {0, 1, 1};
-    EXPECT(cddlseq_begin(TEXT("a = b\n"), TEXT(""), &limits, &refusal, &session.at) == CDDLSEQ_REFUSED);
-    EXPECT(is_refusal(&refusal, CDDLSEQ_C3_UNDEFINED, 4, 1, 5) && session.at == buffer_of_no_handle);
-    EXPECT(cddlseq_begin(TEXT(map), TEXT("\xff"), &limits, &refusal, &session.at) == CDDLSEQ_BAD_ROOT && refusal.code == 0);
-    EXPECT(cddlseq_begin(TEXT(map), TEXT(""), &bad, &refusal, &session.at) == CDDLSEQ_BAD_LIMITS && session.at == buffer_of_no_handle);
-    EXPECT(cddlseq_begin(TEXT("a = [* uint]\n"), TEXT(""), &limits, &refusal, &session.at) == CDDLSEQ_OK && refusal.code == 0);
+    EXPECT(cddlseq_begin(TEXT("a = b\n"), TEXT(""), &limits, &refusal, &session) == CDDLSEQ_REFUSED);
+    EXPECT(is_refusal(&refusal, CDDLSEQ_C3_UNDEFINED, 4, 1, 5) && session.at == NULL);
+    EXPECT(cddlseq_begin(TEXT(map), TEXT("\xff"), &limits, &refusal, &session) == CDDLSEQ_BAD_ROOT && refusal.code == 0);
+    EXPECT(cddlseq_begin(TEXT(map), TEXT(""), &bad, &refusal, &session) == CDDLSEQ_BAD_LIMITS && session.at == NULL);
+    EXPECT(cddlseq_begin(TEXT("a = [* uint]\n"), TEXT(""), &limits, &refusal, &session) == CDDLSEQ_OK && refusal.code == 0);
     void *at = session.at;
-    EXPECT(at && at != buffer_of_no_handle);
+    EXPECT(at != NULL);
     for (int time = 0; time < 2; time++) {
-        EXPECT(cddlseq_feed(session, BYTES(""), &used, &end, &session.at) == CDDLSEQ_OK && used == 0 && is_end(&end, 0, 0, 0, 0));
-        EXPECT(cddlseq_feed(session, BYTES("\x80\x81"), &used, &end, &session.at) == CDDLSEQ_ITEM && used == 1 && is_end(&end, 1, 1, 0, 0));
-        EXPECT(cddlseq_feed(session, BYTES("\x81"), &used, &end, &session.at) == CDDLSEQ_OK && used == 1 && is_end(&end, 1, 1, 0, 0));
-        EXPECT(cddlseq_show(session, CDDLSEQ_PATH, buffer, 16, &needed, &session.at) == CDDLSEQ_OK && needed == 0);
-        EXPECT(cddlseq_feed(session, BYTES("\x18\x20\x80"), &used, &end, &session.at) == CDDLSEQ_ITEM && used == 2 && is_end(&end, 2, 4, 0, 0));
-        EXPECT(cddlseq_feed_all(session, BYTES("\x80\x80\x82\x01"), &end, &session.at) == CDDLSEQ_OK && is_end(&end, 4, 6, 0, 0));
-        EXPECT(cddlseq_feed(session, BYTES("\x60\x80"), &used, &end, &session.at) == CDDLSEQ_FAILED && used == 2);
+        EXPECT(cddlseq_feed(&session, BYTES(""), &used, &end) == CDDLSEQ_OK && used == 0 && is_end(&end, 0, 0, 0, 0));
+        EXPECT(cddlseq_feed(&session, BYTES("\x80\x81"), &used, &end) == CDDLSEQ_ITEM && used == 1 && is_end(&end, 1, 1, 0, 0));
+        EXPECT(cddlseq_feed(&session, BYTES("\x81"), &used, &end) == CDDLSEQ_OK && used == 1 && is_end(&end, 1, 1, 0, 0));
+        EXPECT(cddlseq_show(&session, CDDLSEQ_PATH, buffer, 16, &needed) == CDDLSEQ_OK && needed == 0);
+        EXPECT(cddlseq_feed(&session, BYTES("\x18\x20\x80"), &used, &end) == CDDLSEQ_ITEM && used == 2 && is_end(&end, 2, 4, 0, 0));
+        EXPECT(cddlseq_feed_all(&session, BYTES("\x80\x80\x82\x01"), &end) == CDDLSEQ_OK && is_end(&end, 4, 6, 0, 0));
+        EXPECT(cddlseq_feed(&session, BYTES("\x60\x80"), &used, &end) == CDDLSEQ_FAILED && used == 2);
         EXPECT(is_end(&end, 4, 6, CDDLSEQ_MISMATCH, 2) && session.at == at);
         end = untold;
-        EXPECT(cddlseq_feed(session, BYTES("\x80"), &used, &end, &session.at) == CDDLSEQ_FAILED && is_end(&end, 4, 6, CDDLSEQ_MISMATCH, 2));
+        EXPECT(cddlseq_feed(&session, BYTES("\x80"), &used, &end) == CDDLSEQ_FAILED && is_end(&end, 4, 6, CDDLSEQ_MISMATCH, 2));
         end = untold;
-        EXPECT(cddlseq_finish(session, &end, &session.at) == CDDLSEQ_FAILED && is_end(&end, 4, 6, CDDLSEQ_MISMATCH, 2));
+        EXPECT(cddlseq_finish(&session, &end) == CDDLSEQ_FAILED && is_end(&end, 4, 6, CDDLSEQ_MISMATCH, 2));
         memset(buffer, 0xee, sizeof buffer);
-        EXPECT(cddlseq_show(session, CDDLSEQ_PATH, buffer, 16, &needed, &session.at) == CDDLSEQ_OK && needed == 4 && !memcmp(buffer, "$[1]\xee", 5));
-        EXPECT(cddlseq_show(session, CDDLSEQ_NOTATION, buffer, 1, &needed, &session.at) == CDDLSEQ_NO_ROOM && needed == 2 && buffer[0] == '$');
-        EXPECT(cddlseq_show(session, CDDLSEQ_NOTATION, buffer, 2, &needed, &session.at) == CDDLSEQ_OK && !memcmp(buffer, "\"\"1]", 4));
-        EXPECT(cddlseq_show(session, CDDLSEQ_REPORT, buffer, 16, &needed, &session.at) == CDDLSEQ_BAD_WANTED && needed == 0);
-        cddlseq_restart(session, &session.at);
+        EXPECT(cddlseq_show(&session, CDDLSEQ_PATH, buffer, 16, &needed) == CDDLSEQ_OK && needed == 4 && !memcmp(buffer, "$[1]\xee", 5));
+        EXPECT(cddlseq_show(&session, CDDLSEQ_NOTATION, buffer, 1, &needed) == CDDLSEQ_NO_ROOM && needed == 2 && buffer[0] == '$');
+        EXPECT(cddlseq_show(&session, CDDLSEQ_NOTATION, buffer, 2, &needed) == CDDLSEQ_OK && !memcmp(buffer, "\"\"1]", 4));
+        EXPECT(cddlseq_show(&session, CDDLSEQ_REPORT, buffer, 16, &needed) == CDDLSEQ_BAD_WANTED && needed == 0);
+        cddlseq_restart(&session);
         EXPECT(session.at == at);
     }
-    EXPECT(cddlseq_feed_all(session, BYTES("\x80\x82\x01"), &end, &session.at) == CDDLSEQ_OK && is_end(&end, 1, 1, 0, 0));
-    EXPECT(cddlseq_finish(session, &end, &session.at) == CDDLSEQ_FAILED && is_end(&end, 1, 1, CDDLSEQ_TRUNCATED, 3));
-    EXPECT(cddlseq_show(session, CDDLSEQ_PATH, buffer, 16, &needed, &session.at) == CDDLSEQ_OK && needed == 0);
-    cddlseq_restart(session, &session.at);
-    EXPECT(cddlseq_feed_all(session, BYTES("\x80"), &end, &session.at) == CDDLSEQ_OK && is_end(&end, 1, 1, 0, 0));
+    EXPECT(cddlseq_feed_all(&session, BYTES("\x80\x82\x01"), &end) == CDDLSEQ_OK && is_end(&end, 1, 1, 0, 0));
+    EXPECT(cddlseq_finish(&session, &end) == CDDLSEQ_FAILED && is_end(&end, 1, 1, CDDLSEQ_TRUNCATED, 3));
+    EXPECT(cddlseq_show(&session, CDDLSEQ_PATH, buffer, 16, &needed) == CDDLSEQ_OK && needed == 0);
+    cddlseq_restart(&session);
+    EXPECT(cddlseq_feed_all(&session, BYTES("\x80"), &end) == CDDLSEQ_OK && is_end(&end, 1, 1, 0, 0));
     for (int time = 0; time < 2; time++) {
-        EXPECT(cddlseq_finish(session, &end, &session.at) == CDDLSEQ_OK && is_end(&end, 1, 1, 0, 0));
-        EXPECT(cddlseq_feed(session, BYTES("\x80"), &used, &end, &session.at) == CDDLSEQ_ENDED && is_end(&end, 1, 1, 0, 0));
-        EXPECT(cddlseq_feed_all(session, BYTES("\x80"), &end, &session.at) == CDDLSEQ_ENDED && is_end(&end, 1, 1, 0, 0));
+        EXPECT(cddlseq_finish(&session, &end) == CDDLSEQ_OK && is_end(&end, 1, 1, 0, 0));
+        EXPECT(cddlseq_feed(&session, BYTES("\x80"), &used, &end) == CDDLSEQ_ENDED && is_end(&end, 1, 1, 0, 0));
+        EXPECT(cddlseq_feed_all(&session, BYTES("\x80"), &end) == CDDLSEQ_ENDED && is_end(&end, 1, 1, 0, 0));
     }
-    cddlseq_discard(session);
+    cddlseq_discard(&session);
 }
 
 // Whether the call shows these bytes of a session, and nothing behind them, and none where there is room for one less.
@@ -270,7 +348,7 @@ static int shows(struct cddlseq_session *session, uint32_t wanted, const char *b
     size_t needed = 99;
     memset(buffer, 0xee, sizeof buffer);
     memset(kept, 0xee, sizeof kept);
-    uint32_t status = cddlseq_show(*session, wanted, buffer, sizeof buffer, &needed, &session->at);
+    uint32_t status = cddlseq_show(session, wanted, buffer, sizeof buffer, &needed);
     if (status != CDDLSEQ_OK || needed != size || memcmp(buffer, bytes, size) || memcmp(buffer + size, kept, sizeof buffer - size)) {
         return 0;
     }
@@ -278,7 +356,7 @@ static int shows(struct cddlseq_session *session, uint32_t wanted, const char *b
         return 1;
     }
     memset(buffer, 0xee, sizeof buffer);
-    status = cddlseq_show(*session, wanted, buffer, size - 1, &needed, &session->at);
+    status = cddlseq_show(session, wanted, buffer, size - 1, &needed);
     return status == CDDLSEQ_NO_ROOM && needed == size && !memcmp(buffer, kept, sizeof buffer);
 }
 
@@ -291,62 +369,62 @@ static void items(void) {
     static const char item[] = "\xbf\x61\x62\x18\x01\x61\x61\x02\xff\xa0";
     struct cddlseq_refusal refusal;
     struct cddlseq_end end = untold;
-    struct cddlseq_session session = {buffer_of_no_handle};
+    struct cddlseq_session session = CDDLSEQ_NOTHING;
     size_t used = 99;
-    EXPECT(cddlseq_begin(TEXT("m = {* tstr => uint}\n"), TEXT(""), &limits, &refusal, &session.at) == CDDLSEQ_OK);
+    EXPECT(cddlseq_begin(TEXT("m = {* tstr => uint}\n"), TEXT(""), &limits, &refusal, &session) == CDDLSEQ_OK);
     for (int time = 0; time < 2; time++) {
         EXPECT(shows_item(&session, "", "", 0));
-        EXPECT(cddlseq_feed(session, (const uint8_t *)item, 3, &used, &end, &session.at) == CDDLSEQ_OK && shows_item(&session, "", "", 0));
-        EXPECT(cddlseq_feed(session, (const uint8_t *)item + 3, 7, &used, &end, &session.at) == CDDLSEQ_ITEM && used == 6);
+        EXPECT(cddlseq_feed(&session, (const uint8_t *)item, 3, &used, &end) == CDDLSEQ_OK && shows_item(&session, "", "", 0));
+        EXPECT(cddlseq_feed(&session, (const uint8_t *)item + 3, 7, &used, &end) == CDDLSEQ_ITEM && used == 6);
         EXPECT(shows_item(&session, "\xa2\x61\x62\x01\x61\x61\x02", "\xa2\x61\x61\x02\x61\x62\x01", 7) && shows(&session, CDDLSEQ_PATH, "", 0));
-        EXPECT(cddlseq_feed(session, BYTES("\xa0\xa1"), &used, &end, &session.at) == CDDLSEQ_ITEM && used == 1 && shows_item(&session, "\xa0", "\xa0", 1));
-        EXPECT(cddlseq_feed(session, BYTES("\xa1"), &used, &end, &session.at) == CDDLSEQ_OK && shows_item(&session, "", "", 0));
-        EXPECT(cddlseq_feed(session, BYTES("\x60\x20"), &used, &end, &session.at) == CDDLSEQ_FAILED && shows_item(&session, "", "", 0));
+        EXPECT(cddlseq_feed(&session, BYTES("\xa0\xa1"), &used, &end) == CDDLSEQ_ITEM && used == 1 && shows_item(&session, "\xa0", "\xa0", 1));
+        EXPECT(cddlseq_feed(&session, BYTES("\xa1"), &used, &end) == CDDLSEQ_OK && shows_item(&session, "", "", 0));
+        EXPECT(cddlseq_feed(&session, BYTES("\x60\x20"), &used, &end) == CDDLSEQ_FAILED && shows_item(&session, "", "", 0));
         EXPECT(shows(&session, CDDLSEQ_PATH, "$<\"\">", 5) && shows(&session, CDDLSEQ_NOTATION, "\"\"", 2));
-        cddlseq_restart(session, &session.at);
-        EXPECT(cddlseq_feed(session, BYTES("\xbf\xff"), &used, &end, &session.at) == CDDLSEQ_ITEM && shows_item(&session, "\xa0", "\xa0", 1));
-        EXPECT(cddlseq_finish(session, &end, &session.at) == CDDLSEQ_OK && shows_item(&session, "\xa0", "\xa0", 1));
-        EXPECT(cddlseq_feed_all(session, BYTES("\xa0"), &end, &session.at) == CDDLSEQ_ENDED && shows_item(&session, "", "", 0));
-        cddlseq_restart(session, &session.at);
-        EXPECT(cddlseq_feed(session, BYTES("\xa0"), &used, &end, &session.at) == CDDLSEQ_ITEM);
-        cddlseq_restart(session, &session.at);
+        cddlseq_restart(&session);
+        EXPECT(cddlseq_feed(&session, BYTES("\xbf\xff"), &used, &end) == CDDLSEQ_ITEM && shows_item(&session, "\xa0", "\xa0", 1));
+        EXPECT(cddlseq_finish(&session, &end) == CDDLSEQ_OK && shows_item(&session, "\xa0", "\xa0", 1));
+        EXPECT(cddlseq_feed_all(&session, BYTES("\xa0"), &end) == CDDLSEQ_ENDED && shows_item(&session, "", "", 0));
+        cddlseq_restart(&session);
+        EXPECT(cddlseq_feed(&session, BYTES("\xa0"), &used, &end) == CDDLSEQ_ITEM);
+        cddlseq_restart(&session);
     }
-    EXPECT(cddlseq_feed(session, BYTES("\xa0"), &used, &end, &session.at) == CDDLSEQ_ITEM);
-    cddlseq_discard(session);
+    EXPECT(cddlseq_feed(&session, BYTES("\xa0"), &used, &end) == CDDLSEQ_ITEM);
+    cddlseq_discard(&session);
 }
 
 // Sessions over one handle, fed by turns and used after the handles are closed.
 static void shared(void) {
     struct cddlseq_refusal refusal;
     struct cddlseq_end end = untold;
-    struct cddlseq_handle handle, other = {buffer_of_no_handle};
-    struct cddlseq_session one = {buffer_of_no_handle}, two = {buffer_of_no_handle};
+    struct cddlseq_handle handle = CDDLSEQ_NOTHING, other = CDDLSEQ_NOTHING;
+    struct cddlseq_session one = CDDLSEQ_NOTHING, two = CDDLSEQ_NOTHING;
     const struct cddlseq_limits shallow = {2, 16, 1000};
     size_t used = 99;
-    EXPECT(cddlseq_open(TEXT("a = [* uint] / tstr\n"), TEXT(""), &shallow, &refusal, &handle.at) == CDDLSEQ_OK);
+    EXPECT(cddlseq_open(TEXT("a = [* uint] / tstr\n"), TEXT(""), &shallow, &refusal, &handle) == CDDLSEQ_OK);
     void *at = handle.at;
-    EXPECT(cddlseq_begin_by(handle, &one.at, &handle.at) == CDDLSEQ_OK && handle.at == at && one.at != buffer_of_no_handle);
-    EXPECT(cddlseq_share(handle, &other.at, &handle.at) == CDDLSEQ_OK && handle.at == at && other.at != buffer_of_no_handle && other.at != at);
-    EXPECT(cddlseq_feed(one, BYTES("\x80\x82"), &used, &end, &one.at) == CDDLSEQ_ITEM && used == 1 && is_end(&end, 1, 1, 0, 0));
-    cddlseq_close(handle);
+    EXPECT(cddlseq_begin_by(&handle, &one) == CDDLSEQ_OK && handle.at == at && one.at != NULL);
+    EXPECT(cddlseq_share(&handle, &other) == CDDLSEQ_OK && handle.at == at && other.at != NULL && other.at != at);
+    EXPECT(cddlseq_feed(&one, BYTES("\x80\x82"), &used, &end) == CDDLSEQ_ITEM && used == 1 && is_end(&end, 1, 1, 0, 0));
+    cddlseq_close(&handle);
     at = other.at;
-    EXPECT(cddlseq_validate_by(other, BYTES("\x60\x81\x05"), &end, &other.at) == CDDLSEQ_OK && other.at == at && is_end(&end, 2, 3, 0, 0));
-    EXPECT(cddlseq_begin_by(other, &two.at, &other.at) == CDDLSEQ_OK && other.at == at && two.at != one.at);
-    EXPECT(cddlseq_feed_all(two, BYTES("\x60\x61"), &end, &two.at) == CDDLSEQ_OK && is_end(&end, 1, 1, 0, 0));
-    cddlseq_close(other);
-    EXPECT(cddlseq_feed(one, BYTES("\x82\x01"), &used, &end, &one.at) == CDDLSEQ_OK && used == 2 && is_end(&end, 1, 1, 0, 0));
-    EXPECT(cddlseq_feed(two, BYTES("\x62\x20"), &used, &end, &two.at) == CDDLSEQ_ITEM && used == 1 && is_end(&end, 2, 3, 0, 0));
-    EXPECT(cddlseq_feed(one, BYTES("\x02\x80"), &used, &end, &one.at) == CDDLSEQ_ITEM && used == 1 && is_end(&end, 2, 4, 0, 0));
-    EXPECT(cddlseq_feed(two, BYTES("\x20"), &used, &end, &two.at) == CDDLSEQ_FAILED && is_end(&end, 2, 3, CDDLSEQ_MISMATCH, 0));
-    EXPECT(cddlseq_feed(one, BYTES("\x81\x81\x81"), &used, &end, &one.at) == CDDLSEQ_FAILED && is_end(&end, 2, 4, CDDLSEQ_TOO_DEEP, 6));
-    cddlseq_restart(two, &two.at);
-    EXPECT(cddlseq_feed_all(two, BYTES("\x60\x80"), &end, &two.at) == CDDLSEQ_OK && is_end(&end, 2, 2, 0, 0));
-    cddlseq_restart(one, &one.at);
-    EXPECT(cddlseq_finish(two, &end, &two.at) == CDDLSEQ_OK && is_end(&end, 2, 2, 0, 0));
-    cddlseq_discard(two);
-    EXPECT(cddlseq_feed_all(one, BYTES("\x81\x18\x20\x81"), &end, &one.at) == CDDLSEQ_OK && is_end(&end, 1, 3, 0, 0));
-    EXPECT(cddlseq_finish(one, &end, &one.at) == CDDLSEQ_FAILED && is_end(&end, 1, 3, CDDLSEQ_TRUNCATED, 4));
-    cddlseq_discard(one);
+    EXPECT(cddlseq_validate_by(&other, BYTES("\x60\x81\x05"), &end) == CDDLSEQ_OK && other.at == at && is_end(&end, 2, 3, 0, 0));
+    EXPECT(cddlseq_begin_by(&other, &two) == CDDLSEQ_OK && other.at == at && two.at != one.at);
+    EXPECT(cddlseq_feed_all(&two, BYTES("\x60\x61"), &end) == CDDLSEQ_OK && is_end(&end, 1, 1, 0, 0));
+    cddlseq_close(&other);
+    EXPECT(cddlseq_feed(&one, BYTES("\x82\x01"), &used, &end) == CDDLSEQ_OK && used == 2 && is_end(&end, 1, 1, 0, 0));
+    EXPECT(cddlseq_feed(&two, BYTES("\x62\x20"), &used, &end) == CDDLSEQ_ITEM && used == 1 && is_end(&end, 2, 3, 0, 0));
+    EXPECT(cddlseq_feed(&one, BYTES("\x02\x80"), &used, &end) == CDDLSEQ_ITEM && used == 1 && is_end(&end, 2, 4, 0, 0));
+    EXPECT(cddlseq_feed(&two, BYTES("\x20"), &used, &end) == CDDLSEQ_FAILED && is_end(&end, 2, 3, CDDLSEQ_MISMATCH, 0));
+    EXPECT(cddlseq_feed(&one, BYTES("\x81\x81\x81"), &used, &end) == CDDLSEQ_FAILED && is_end(&end, 2, 4, CDDLSEQ_TOO_DEEP, 6));
+    cddlseq_restart(&two);
+    EXPECT(cddlseq_feed_all(&two, BYTES("\x60\x80"), &end) == CDDLSEQ_OK && is_end(&end, 2, 2, 0, 0));
+    cddlseq_restart(&one);
+    EXPECT(cddlseq_finish(&two, &end) == CDDLSEQ_OK && is_end(&end, 2, 2, 0, 0));
+    cddlseq_discard(&two);
+    EXPECT(cddlseq_feed_all(&one, BYTES("\x81\x18\x20\x81"), &end) == CDDLSEQ_OK && is_end(&end, 1, 3, 0, 0));
+    EXPECT(cddlseq_finish(&one, &end) == CDDLSEQ_FAILED && is_end(&end, 1, 3, CDDLSEQ_TRUNCATED, 4));
+    cddlseq_discard(&one);
 }
 
 // What a thread works on: a handle that the other one has too, by turns, and a handle and a session of its own by the same specification,
@@ -361,23 +439,23 @@ struct work {
 
 static void *work(void *given) {
     struct work *it = given;
-    struct cddlseq_handle other = {buffer_of_no_handle};
+    struct cddlseq_handle other = CDDLSEQ_NOTHING;
     struct cddlseq_end end = untold;
     size_t used = 99;
     for (int time = 0; time < 300; time++) {
         pthread_mutex_lock(it->turn);
-        it->wrong += cddlseq_validate_by(*it->common, BYTES("\x60\x81\x05"), &end, &it->common->at) != CDDLSEQ_OK || !is_end(&end, 2, 3, 0, 0);
+        it->wrong += cddlseq_validate_by(it->common, BYTES("\x60\x81\x05"), &end) != CDDLSEQ_OK || !is_end(&end, 2, 3, 0, 0);
         pthread_mutex_unlock(it->turn);
-        it->wrong += cddlseq_share(it->own, &other.at, &it->own.at) != CDDLSEQ_OK;
-        it->wrong += cddlseq_validate_by(other, BYTES("\x80\x20"), &end, &other.at) != CDDLSEQ_FAILED || !is_end(&end, 1, 1, CDDLSEQ_MISMATCH, 0);
-        cddlseq_close(other);
-        it->wrong += cddlseq_feed(it->session, BYTES("\x9f\x18"), &used, &end, &it->session.at) != CDDLSEQ_OK;
-        it->wrong += cddlseq_feed(it->session, BYTES("\x05\xff"), &used, &end, &it->session.at) != CDDLSEQ_ITEM || !is_end(&end, 1, 4, 0, 0);
+        it->wrong += cddlseq_share(&it->own, &other) != CDDLSEQ_OK;
+        it->wrong += cddlseq_validate_by(&other, BYTES("\x80\x20"), &end) != CDDLSEQ_FAILED || !is_end(&end, 1, 1, CDDLSEQ_MISMATCH, 0);
+        cddlseq_close(&other);
+        it->wrong += cddlseq_feed(&it->session, BYTES("\x9f\x18"), &used, &end) != CDDLSEQ_OK;
+        it->wrong += cddlseq_feed(&it->session, BYTES("\x05\xff"), &used, &end) != CDDLSEQ_ITEM || !is_end(&end, 1, 4, 0, 0);
         it->wrong += !shows(&it->session, CDDLSEQ_PREFERRED, "\x81\x05", 2);
-        cddlseq_restart(it->session, &it->session.at);
+        cddlseq_restart(&it->session);
     }
-    cddlseq_close(it->own);
-    cddlseq_discard(it->session);
+    cddlseq_close(&it->own);
+    cddlseq_discard(&it->session);
     return NULL;
 }
 
@@ -388,12 +466,12 @@ static void threads(void) {
     struct work works[2];
     struct cddlseq_refusal refusal;
     struct cddlseq_end end = untold;
-    struct cddlseq_handle common;
-    EXPECT(cddlseq_open(TEXT("a = [* uint .size (0..2)] / tstr\n"), TEXT(""), &limits, &refusal, &common.at) == CDDLSEQ_OK);
+    struct cddlseq_handle common = CDDLSEQ_NOTHING;
+    EXPECT(cddlseq_open(TEXT("a = [* uint .size (0..2)] / tstr\n"), TEXT(""), &limits, &refusal, &common) == CDDLSEQ_OK);
     for (int at = 0; at < 2; at++) {
-        works[at] = (struct work){&turn, &common, {buffer_of_no_handle}, {buffer_of_no_handle}, 0};
-        EXPECT(cddlseq_share(common, &works[at].own.at, &common.at) == CDDLSEQ_OK);
-        EXPECT(cddlseq_begin_by(common, &works[at].session.at, &common.at) == CDDLSEQ_OK);
+        works[at] = (struct work){&turn, &common, CDDLSEQ_NOTHING, CDDLSEQ_NOTHING, 0};
+        EXPECT(cddlseq_share(&common, &works[at].own) == CDDLSEQ_OK);
+        EXPECT(cddlseq_begin_by(&common, &works[at].session) == CDDLSEQ_OK);
     }
     for (int at = 0; at < 2; at++) {
         EXPECT(pthread_create(&made[at], NULL, work, &works[at]) == 0);
@@ -401,9 +479,9 @@ static void threads(void) {
     for (int at = 0; at < 2; at++) {
         EXPECT(pthread_join(made[at], NULL) == 0 && works[at].wrong == 0);
     }
-    EXPECT(cddlseq_validate_by(common, BYTES("\x81\x19\xff\xff\x81\x1a\x00\x01\x00\x00"), &end, &common.at) == CDDLSEQ_FAILED);
+    EXPECT(cddlseq_validate_by(&common, BYTES("\x81\x19\xff\xff\x81\x1a\x00\x01\x00\x00"), &end) == CDDLSEQ_FAILED);
     EXPECT(is_end(&end, 1, 4, CDDLSEQ_MISMATCH, 1));
-    cddlseq_close(common);
+    cddlseq_close(&common);
 }
 
 // With the request for memory refused that comes after so many: whether a handle and a session are made of one that is open, or nothing
@@ -411,29 +489,29 @@ static void threads(void) {
 static int is_shared_without_memory(long number) {
     struct cddlseq_refusal refusal;
     struct cddlseq_end end = untold;
-    struct cddlseq_handle handle, other = {buffer_of_no_handle};
-    struct cddlseq_session session = {buffer_of_no_handle};
-    EXPECT(cddlseq_open(TEXT(map), TEXT("n"), &limits, &refusal, &handle.at) == CDDLSEQ_OK);
+    struct cddlseq_handle handle = CDDLSEQ_NOTHING, other = CDDLSEQ_NOTHING;
+    struct cddlseq_session session = CDDLSEQ_NOTHING;
+    EXPECT(cddlseq_open(TEXT(map), TEXT("n"), &limits, &refusal, &handle) == CDDLSEQ_OK);
     void *at = handle.at;
     before_refusal = number, was_refused = 0;
-    uint32_t status = cddlseq_share(handle, &other.at, &handle.at);
+    uint32_t status = cddlseq_share(&handle, &other);
     int any = was_refused;
     before_refusal = -1;
-    EXPECT(status == (any ? CDDLSEQ_NO_MEMORY : CDDLSEQ_OK) && (other.at == buffer_of_no_handle) == any && handle.at == at);
+    EXPECT(status == (any ? CDDLSEQ_NO_MEMORY : CDDLSEQ_OK) && (other.at == NULL) == any && handle.at == at);
     before_refusal = number, was_refused = 0;
-    status = cddlseq_begin_by(handle, &session.at, &handle.at);
+    status = cddlseq_begin_by(&handle, &session);
     int no_session = was_refused;
     before_refusal = -1;
-    EXPECT(status == (no_session ? CDDLSEQ_NO_MEMORY : CDDLSEQ_OK) && (session.at == buffer_of_no_handle) == no_session && handle.at == at);
-    EXPECT(cddlseq_validate_by(handle, BYTES("\x01"), &end, &handle.at) == CDDLSEQ_OK && is_end(&end, 1, 1, 0, 0));
-    cddlseq_close(handle);
+    EXPECT(status == (no_session ? CDDLSEQ_NO_MEMORY : CDDLSEQ_OK) && (session.at == NULL) == no_session && handle.at == at);
+    EXPECT(cddlseq_validate_by(&handle, BYTES("\x01"), &end) == CDDLSEQ_OK && is_end(&end, 1, 1, 0, 0));
+    cddlseq_close(&handle);
     if (!any) {
-        EXPECT(cddlseq_validate_by(other, BYTES("\x02\x03"), &end, &other.at) == CDDLSEQ_OK && is_end(&end, 2, 2, 0, 0));
-        cddlseq_close(other);
+        EXPECT(cddlseq_validate_by(&other, BYTES("\x02\x03"), &end) == CDDLSEQ_OK && is_end(&end, 2, 2, 0, 0));
+        cddlseq_close(&other);
     }
     if (!no_session) {
-        EXPECT(cddlseq_feed_all(session, BYTES("\x04"), &end, &session.at) == CDDLSEQ_OK && is_end(&end, 1, 1, 0, 0));
-        cddlseq_discard(session);
+        EXPECT(cddlseq_feed_all(&session, BYTES("\x04"), &end) == CDDLSEQ_OK && is_end(&end, 1, 1, 0, 0));
+        cddlseq_discard(&session);
     }
     return any || no_session;
 }
@@ -443,13 +521,13 @@ static int is_session_told_without_memory(long number) {
     static const char stream[] = "\xa2\x61\x61\x82\x01\x02\x61\x62\x41\x05\xa2\x61\x62\x41\x05\x61\x61\x81\x60";
     struct cddlseq_refusal refusal;
     struct cddlseq_end end = untold;
-    struct cddlseq_session session = {buffer_of_no_handle};
+    struct cddlseq_session session = CDDLSEQ_NOTHING;
     size_t used = 0;
     before_refusal = number, was_refused = 0;
-    uint32_t status = cddlseq_begin(TEXT(map), TEXT(""), &limits, &refusal, &session.at);
+    uint32_t status = cddlseq_begin(TEXT(map), TEXT(""), &limits, &refusal, &session);
     int any = was_refused;
     before_refusal = -1;
-    EXPECT(status == (any ? CDDLSEQ_NO_MEMORY : CDDLSEQ_OK) && (session.at == buffer_of_no_handle) == any);
+    EXPECT(status == (any ? CDDLSEQ_NO_MEMORY : CDDLSEQ_OK) && (session.at == NULL) == any);
     if (any) {
         return 1;
     }
@@ -459,48 +537,48 @@ static int is_session_told_without_memory(long number) {
         for (size_t at = 0; at < sizeof stream - 1 && status <= CDDLSEQ_ITEM && status != CDDLSEQ_FAILED && status != CDDLSEQ_NO_MEMORY; at += used) {
             end = untold;
             size_t left = sizeof stream - 1 - at;
-            status = cddlseq_feed(session, (const uint8_t *)stream + at, left < 3 ? left : 3, &used, &end, &session.at);
+            status = cddlseq_feed(&session, (const uint8_t *)stream + at, left < 3 ? left : 3, &used, &end);
         }
         before_refusal = -1;
         if (was_refused) {
             EXPECT(status == CDDLSEQ_NO_MEMORY && used == 0 && is_untold(&end));
-            EXPECT(cddlseq_feed(session, BYTES("\xa0"), &used, &end, &session.at) == CDDLSEQ_NO_MEMORY && is_untold(&end));
-            EXPECT(cddlseq_feed_all(session, BYTES("\xa0"), &end, &session.at) == CDDLSEQ_NO_MEMORY && is_untold(&end));
-            EXPECT(cddlseq_finish(session, &end, &session.at) == CDDLSEQ_NO_MEMORY && is_untold(&end));
+            EXPECT(cddlseq_feed(&session, BYTES("\xa0"), &used, &end) == CDDLSEQ_NO_MEMORY && is_untold(&end));
+            EXPECT(cddlseq_feed_all(&session, BYTES("\xa0"), &end) == CDDLSEQ_NO_MEMORY && is_untold(&end));
+            EXPECT(cddlseq_finish(&session, &end) == CDDLSEQ_NO_MEMORY && is_untold(&end));
         } else {
             EXPECT(status == CDDLSEQ_FAILED && is_end(&end, 1, 10, CDDLSEQ_MISMATCH, 5));
         }
-        cddlseq_restart(session, &session.at);
+        cddlseq_restart(&session);
     }
-    EXPECT(cddlseq_feed(session, BYTES(stream), &used, &end, &session.at) == CDDLSEQ_ITEM);
+    EXPECT(cddlseq_feed(&session, BYTES(stream), &used, &end) == CDDLSEQ_ITEM);
     for (uint32_t wanted = CDDLSEQ_PREFERRED; wanted <= CDDLSEQ_DETERMINISTIC; wanted++) {
         for (long later = 0; later == 0 || was_refused; later++) {
             uint8_t buffer[64];
             size_t needed = 99;
             before_refusal = later, was_refused = 0;
-            status = cddlseq_show(session, wanted, buffer, sizeof buffer, &needed, &session.at);
+            status = cddlseq_show(&session, wanted, buffer, sizeof buffer, &needed);
             before_refusal = -1;
             EXPECT(status == (was_refused ? CDDLSEQ_NO_MEMORY : CDDLSEQ_OK) && needed == (was_refused ? 0 : 10));
         }
     }
-    cddlseq_restart(session, &session.at);
+    cddlseq_restart(&session);
     for (long later = 0; later == 0 || was_refused; later++) {
         before_refusal = later, was_refused = 0;
-        status = cddlseq_feed_all(session, BYTES(stream), &end, &session.at);
+        status = cddlseq_feed_all(&session, BYTES(stream), &end);
         EXPECT(status == (was_refused ? CDDLSEQ_NO_MEMORY : CDDLSEQ_FAILED));
         if (!was_refused) {
             uint8_t buffer[64];
             size_t needed = 99;
             for (long last = 0; last == 0 || was_refused; last++) {
                 before_refusal = last, was_refused = 0;
-                status = cddlseq_show(session, CDDLSEQ_PATH, buffer, sizeof buffer, &needed, &session.at);
+                status = cddlseq_show(&session, CDDLSEQ_PATH, buffer, sizeof buffer, &needed);
                 EXPECT(status == (was_refused ? CDDLSEQ_NO_MEMORY : CDDLSEQ_OK) && needed == (was_refused ? 0 : 9));
             }
         }
         before_refusal = -1;
-        cddlseq_restart(session, &session.at);
+        cddlseq_restart(&session);
     }
-    cddlseq_discard(session);
+    cddlseq_discard(&session);
     return 0;
 }
 
@@ -508,12 +586,12 @@ static int is_session_told_without_memory(long number) {
 static int is_handle_told_without_memory(long number) {
     struct cddlseq_refusal refusal;
     struct cddlseq_end end = untold;
-    struct cddlseq_handle handle = {buffer_of_no_handle};
+    struct cddlseq_handle handle = CDDLSEQ_NOTHING;
     before_refusal = number, was_refused = 0;
-    uint32_t status = cddlseq_open(TEXT(map), TEXT("n"), &limits, &refusal, &handle.at);
+    uint32_t status = cddlseq_open(TEXT(map), TEXT("n"), &limits, &refusal, &handle);
     int any = was_refused;
     before_refusal = -1;
-    EXPECT(status == (any ? CDDLSEQ_NO_MEMORY : CDDLSEQ_OK) && (handle.at == buffer_of_no_handle) == any);
+    EXPECT(status == (any ? CDDLSEQ_NO_MEMORY : CDDLSEQ_OK) && (handle.at == NULL) == any);
     if (any) {
         return 1;
     }
@@ -521,11 +599,11 @@ static int is_handle_told_without_memory(long number) {
     for (long later = 0; later == 0 || was_refused; later++) {
         end = untold;
         before_refusal = later, was_refused = 0;
-        status = cddlseq_validate_by(handle, BYTES("\x01\x18\x20"), &end, &handle.at);
+        status = cddlseq_validate_by(&handle, BYTES("\x01\x18\x20"), &end);
         before_refusal = -1;
         EXPECT(handle.at == at && (was_refused ? status == CDDLSEQ_NO_MEMORY && is_untold(&end) : is_end(&end, 1, 1, CDDLSEQ_MISMATCH, 0)));
     }
-    cddlseq_close(handle);
+    cddlseq_close(&handle);
     return 0;
 }
 
@@ -560,6 +638,11 @@ static int is_told_without_memory(long number) {
     EXPECT(done == 0 ? is_untold(&ends[0]) : is_end(&ends[0], 1, 10, 0, 0));
     EXPECT(done == 2 ? is_end(&ends[1], 1, 8, 0, 0) : is_untold(&ends[1]));
     any |= was_refused;
+    const struct cddlseq_refusal told = {CDDLSEQ_C5_NO_ROOT, 0, 1, 1};
+    before_refusal = number, was_refused = 0;
+    status = cddlseq_explain(TEXT(map), TEXT("no"), TEXT("it.cddl"), &told, buffer, sizeof buffer, &needed);
+    EXPECT(status == (was_refused ? CDDLSEQ_NO_MEMORY : CDDLSEQ_OK) && (needed == 0) == was_refused);
+    any |= was_refused;
     before_refusal = -1;
     return any;
 }
@@ -592,7 +675,7 @@ static void refuse_memory(void) {
 
 int main(int count, char **words) {
     void (*const tests[])(void) = {
-        check, position, validate, write_wanted, validate_many, handles, sessions, items, shared, threads, refuse_memory};
+        check, position, validate, write_wanted, validate_many, explain, handles, closed, sessions, items, shared, threads, refuse_memory};
     int number = sizeof tests / sizeof *tests, passed = 0;
     if (count > 1) {
         step = atol(words[1]);

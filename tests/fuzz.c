@@ -123,24 +123,24 @@ static void expect_report(
 static void expect_session(
     const uint8_t *text, size_t text_length, const uint8_t *stream, size_t stream_length, uint32_t status, const struct cddlseq_end *wanted) {
     struct cddlseq_refusal refusal;
-    struct cddlseq_session session;
+    struct cddlseq_session session = CDDLSEQ_NOTHING;
     struct cddlseq_end end;
     size_t size = 1 + stream_length % 7, used = 0;
-    uint32_t told = cddlseq_begin(text, text_length, (const uint8_t *)"", 0, &limits, &refusal, &session.at);
+    uint32_t told = cddlseq_begin(text, text_length, (const uint8_t *)"", 0, &limits, &refusal, &session);
     if (told != CDDLSEQ_OK) {
         stop("a session is not begun");
     }
     for (size_t at = 0; at < stream_length && (told == CDDLSEQ_OK || told == CDDLSEQ_ITEM); at += used) {
         size_t left = stream_length - at;
-        told = cddlseq_feed(session, stream + at, left < size ? left : size, &used, &end, &session.at);
+        told = cddlseq_feed(&session, stream + at, left < size ? left : size, &used, &end);
     }
     if (told == CDDLSEQ_OK || told == CDDLSEQ_ITEM) {
-        told = cddlseq_finish(session, &end, &session.at);
+        told = cddlseq_finish(&session, &end);
     }
     if (told != status || end.items != wanted->items || end.offset != wanted->offset || end.cause != wanted->cause || end.place != wanted->place) {
         stop("the session differs");
     }
-    cddlseq_discard(session);
+    cddlseq_discard(&session);
 }
 
 static void count(uint32_t status, const struct cddlseq_refusal *refusal, const struct cddlseq_end *end) {

@@ -11,6 +11,7 @@ import argparse
 import doctest
 import io
 import os
+import pickle
 import re
 import sys
 import tempfile
@@ -20,7 +21,7 @@ import cddlseq
 from cddlseq import Cause, Failed, Item, Refused, Specification, _library
 from cddlseq.__main__ import main as command
 from run_rows import differences, errors_of, output_of, spec_of, stream_of
-from rows_of_library import needs_devices, rows_of_commands
+from rows_of_library import is_of_words, needs_devices, rows_of_commands
 
 
 def spelled(name):
@@ -48,6 +49,14 @@ def refusal_of(text, root=None):
         Specification(text, root)
     except Refused as refused:
         return refused.code, refused.name, refused.offset, refused.line, refused.column
+    return None
+
+
+def explained_of(text, root, file):
+    try:
+        Specification(text, root)
+    except Refused as refused:
+        return pickle.loads(pickle.dumps(refused)).explained(file)
     return None
 
 
@@ -177,6 +186,10 @@ def checks_of(header):
         "a column in characters": refusal_of('a = "\u00e9\u20ac\U0001f600" / b\n') == ("C3", "Undefined", 18, 1, 13),
         "a text that is no UTF-8": refusal_of(b"a = int\n;\xc3\xa9\x80\n") == ("S1", "NotUtf8", 11, 2, 3),
         "a text that is too long": refusal_of("a = int\n" + " " * 2**20) == ("S9", "SourceTooLong", 2**20, 2, 2**20 - 7),
+        "a refusal that is explained": explained_of("a = int\n", "b", "it.cddl") == (
+            "refused: C5 NoRoot at byte 0\nit.cddl:1:1: NoRoot\na = int\n^\n`b`, which --root asks for, is no rule and none of the prelude\n"),
+        "a refusal of an empty text that is explained": explained_of(b"", None, "\x1b") == (
+            "refused: C5 NoRoot at byte 0\n\\u001b:1:1: NoRoot\n\n^\nthere is no rule and no --root, or --root names nothing\n"),
         "a refusal for its root": refusal_of("a = int\n", "b")[0] == "C5",
         "a root of no letters": refusal_of("a = int\n", "")[0] == "C5",
         "a root": refusal_of("a = int\nb = uint\n", "b") is None,
@@ -226,7 +239,7 @@ def faults_of(row):
             with open(os.path.join(folder, "SPEC"), "wb") as file:
                 file.write(spec)
         got = told_by(row["words"], stream_of(row) or b"", folder)
-    return differences(got, output_of(row), errors_of(row), row.get("status", 0))
+    return differences(got, output_of(row), None if is_of_words(row) else errors_of(row), row.get("status", 0))
 
 
 def run_rows(only, is_verbose):

@@ -4,9 +4,9 @@
     run_library.py FOLDER [--only TEXT] [--strict] [-v]
 
 FOLDER has the libraries that scripts/library.py makes. tests/calls.c is linked with the static one and run, with each request for
-memory refused in turn; with gcc's or clang's sanitizers, and with theirs of threads; and under valgrind where that is installed. Then come the rows of rows.json
-for check, validate and rewrite: on tests/caller.c, but for misuse and devices, on the same with sanitizers, and one of twenty under
-valgrind; on 'python3 -m cddlseq' over the shared one, with tests of the package (tests/package.py); and on the example of the crate in
+memory refused in turn; with gcc's or clang's sanitizers, and with theirs of threads; and under valgrind where that is installed. Then come the
+rows of rows.json for check, validate, rewrite and show: on tests/caller.c, but for misuse and devices, on the same with sanitizers, and
+one of twenty under valgrind; on 'python3 -m cddlseq' over the shared one, with tests of the package (tests/package.py); and on the example of the crate in
 rust, where cargo is found. The examples examples/gateway.c and examples/cose_bench.py are run last. With --strict all rows are run
 under valgrind, which takes half an hour of processor time. The last line is 'N passed, M failed', and the status is 0 only where none
 failed.

@@ -17,8 +17,14 @@
     ... except Refused as refused:
     ...     print(refused)
     ...     refused.line, refused.column
+    ...     print(refused.explained("it.cddl"), end="")
     refused: C3 Undefined at byte 4
     (1, 5)
+    refused: C3 Undefined at byte 4
+    it.cddl:1:5: Undefined
+    a = b
+        ^
+    `b` is no rule, no parameter, none of the prelude and no socket
 
 The library libcddlseq does the work. It is the one that the environment's CDDLSEQ_LIBRARY names, or the one that the system finds.
 Many threads may use one specification at once. A session is for one thread at a time: a call waits for another one to end.
@@ -68,12 +74,23 @@ class Refused(ValueError):
     """A text is no specification: what is wrong, by its code (as 'C3') and name (as 'Undefined'), and where it shows: the byte, from 0,
     and the line and the column, from 1. A line ends with a line feed, and a column is a character."""
 
-    def __init__(self, code: str, name: str, offset: int, line: int, column: int):
+    def __init__(self, code: str, name: str, offset: int, line: int, column: int, text: bytes = b"", root: bytes = b""):
         super().__init__(code, name, offset, line, column)
         self.code, self.name, self.offset, self.line, self.column = code, name, offset, line, column
+        self._text, self._root = text, root
 
     def __str__(self) -> str:
         return f"refused: {self.code} {self.name} at byte {self.offset}"
+
+    def explained(self, file: str = "-") -> str:
+        """The same, and in further lines the file of this name, the line and the column; the line of the text, with a mark under the place;
+        and what is wrong, as the program 'cddlseq check --explain' prints it."""
+        told = _library.Refusal(CODES.index((self.code, self.name)) + 1, self.offset, self.line, self.column)
+        named = file.encode()
+        return _written(
+            lambda buffer, room, needed: _stop(
+                library.cddlseq_explain(*passed(self._text), *passed(self._root), *passed(named), told, buffer, room, needed)),
+            512).decode()
 
 
 class End:
@@ -281,7 +298,7 @@ class Specification:
     def _opened(self) -> _library.Handle:
         """The handle that is made of the text."""
         handle, refusal = _library.Handle(), _library.Refusal()
-        self._stop(library.cddlseq_open(*passed(self._text), *passed(self._root), self._limits, refusal, handle.back), refusal)
+        self._stop(library.cddlseq_open(*passed(self._text), *passed(self._root), self._limits, refusal, handle), refusal)
         return handle
 
     @property
@@ -291,25 +308,25 @@ class Specification:
         if held is None:
             shared = _library.Handle()
             with self._turn:
-                _stop(library.cddlseq_share(self._held.handle, shared.back, self._held.handle.back))
+                _stop(library.cddlseq_share(self._held.handle, shared))
             held = self._of_thread.held = _Held(shared, library.cddlseq_close)
         return held.handle
 
     def _begun(self) -> _library.Handle:
         """The handle of a session."""
         handle, begun = self._handle, _library.Handle()
-        _stop(library.cddlseq_begin_by(handle, begun.back, handle.back))
+        _stop(library.cddlseq_begin_by(handle, begun))
         return begun
 
     def _stop(self, status: int, refusal: _library.Refusal) -> int:
         """Raises what a status says, as _stop does, or of the text."""
         if status == _library.REFUSED:
-            raise Refused(*CODES[refusal.code - 1], refusal.offset, refusal.line, refusal.column)
+            raise Refused(*CODES[refusal.code - 1], refusal.offset, refusal.line, refusal.column, self._text, self._root)
         return _stop(status)
 
     def _validate(self, stream: bytes) -> End:
         end, handle = _library.End(), self._handle
-        _stop(library.cddlseq_validate_by(handle, *passed(stream), end, handle.back))
+        _stop(library.cddlseq_validate_by(handle, *passed(stream), end))
         return self._end(_library.END.unpack(end), stream)
 
     def _write(self, stream: bytes, wanted: int) -> tuple[bytes, End]:
@@ -317,7 +334,7 @@ class Specification:
         end, handle = _library.End(), self._handle
         data = _written(
             lambda buffer, room, needed: _stop(
-                library.cddlseq_write_by(handle, *passed(stream), wanted, end, buffer, room, needed, handle.back)), len(stream) + 256)
+                library.cddlseq_write_by(handle, *passed(stream), wanted, end, buffer, room, needed)), len(stream) + 256)
         return data, self._end(_library.END.unpack(end), stream)
 
     def _end(self, told: tuple[int, int, int, int], stream: bytes) -> End:
@@ -365,7 +382,7 @@ class Session:
         at, handle, told, used = 0, self._handle, self._told, self._used
         while at < len(data) and not self.end:
             before = told.offset
-            status = _stop(library.cddlseq_feed(handle, start + at, len(data) - at, used, told, handle.back))
+            status = _stop(library.cddlseq_feed(handle, start + at, len(data) - at, used, told))
             if status == _library.ITEM:
                 item = Item(before, told.offset, bytes(self._pending) + data[at:at + used.value])
                 item._specification = self._specification
@@ -383,7 +400,7 @@ class Session:
         data = bytes(piece)
         with self._turn:
             if not self.end and data:
-                status = _stop(library.cddlseq_feed_all(self._handle, *passed(data), self._told, self._handle.back))
+                status = _stop(library.cddlseq_feed_all(self._handle, *passed(data), self._told))
                 if status != _library.OK:
                     self._ended()
             return self.end
@@ -392,14 +409,14 @@ class Session:
         """Ends the stream, and says how it ends."""
         with self._turn:
             if not self.end:
-                _stop(library.cddlseq_finish(self._handle, self._told, self._handle.back))
+                _stop(library.cddlseq_finish(self._handle, self._told))
                 self._ended()
             return self.end
 
     def restart(self) -> None:
         """Begins another stream by the same specification, whatever has come of the one before."""
         with self._turn:
-            library.cddlseq_restart(self._handle, self._handle.back)
+            library.cddlseq_restart(self._handle)
             self._told, self._pending, self.end = _library.End(), bytearray(), None
 
     def _ended(self) -> None:
@@ -411,7 +428,7 @@ class Session:
     def _show(self, wanted: int) -> bytes:
         return _written(
             lambda buffer, room, needed: _stop(
-                library.cddlseq_show(self._handle, wanted, buffer, room, needed, self._handle.back)), 256)
+                library.cddlseq_show(self._handle, wanted, buffer, room, needed)), 256)
 
 
 def _written(call: Callable[..., int], room: int) -> bytes:
@@ -425,11 +442,16 @@ def _written(call: Callable[..., int], room: int) -> bytes:
     return buffer.raw[:needed.value]
 
 
+_BAD = (
+    _library.BAD_ROOT, _library.BAD_LIMITS, _library.BAD_WANTED, _library.BAD_OFFSETS, _library.CLOSED, _library.BAD_REFUSAL,
+    _library.BAD_FILE)
+
+
 def _stop(status: int) -> int:
     """Raises what a status says of memory, or of what was passed, and passes others on."""
     if status == _library.NO_MEMORY:
         raise MemoryError("libcddlseq was refused memory")
-    if status in (_library.BAD_ROOT, _library.BAD_LIMITS, _library.BAD_WANTED, _library.BAD_OFFSETS):
+    if status in _BAD:
         raise ValueError(f"libcddlseq answers {status}")
     return status
 

@@ -1,11 +1,12 @@
-"""The commands check, validate and rewrite of the program cddlseq, over the library.
+"""The commands check, validate, rewrite and show of the program cddlseq, over the library.
 
     python3 -m cddlseq check SPEC
     python3 -m cddlseq validate SPEC [FILE]
     python3 -m cddlseq rewrite SPEC [FILE]
+    python3 -m cddlseq show [FILE]
 
-It prints what the program prints, but for help and misuse, and takes the program's options: --root NAME; for validate and rewrite
---depth N, --item-bytes N and --steps N; for validate --quiet, for rewrite --deterministic. It reads a stream whole before it
+It prints what the program prints, but for help and misuse, and takes the program's options: --depth N and --item-bytes N but for check;
+--root NAME and --explain but for show; for validate and rewrite --steps N; for validate --quiet, for rewrite --deterministic. It reads a stream whole before it
 writes. The status is 0 where the stream is clean, 1 where it failed, 2 where the specification is refused, and 3 where the words
 are wrong, a file or a device failed, or memory was refused.
 """
@@ -22,11 +23,14 @@ BROKEN = 3
 # One byte more is read of a longer text, which tells that it is too long.
 LONGEST_TEXT = 1_048_576
 COMMANDS = {
-    "check": {"--root"},
-    "validate": {"--root", "--depth", "--item-bytes", "--steps", "--quiet"},
-    "rewrite": {"--root", "--depth", "--item-bytes", "--steps", "--deterministic"},
+    "check": {"--root", "--explain"},
+    "validate": {"--root", "--explain", "--depth", "--item-bytes", "--steps", "--quiet"},
+    "rewrite": {"--root", "--explain", "--depth", "--item-bytes", "--steps", "--deterministic"},
+    "show": {"--depth", "--item-bytes"},
 }
-FLAGS = {"--quiet", "--deterministic"}
+# The specification that show reads.
+ANY = b"a = any"
+FLAGS = {"--explain", "--quiet", "--deterministic"}
 MOST = {"--depth": 256, "--item-bytes": 67_108_864, "--steps": 2**64 - 1}
 
 
@@ -174,12 +178,15 @@ def program(words: list[str]) -> int:
         return 0
     options, names = options_of(command, left)
     limits = {it[2:].replace("-", "_"): number_of(it, options[it]) for it in MOST if it in options}
-    if not 1 <= len(names) <= (1 if command == "check" else 2):
-        misuse(f"{command} takes {'one file' if command == 'check' else 'one file or two'}")
+    least, most, files = {"check": (1, 1, "one file"), "show": (0, 1, "one file at most")}.get(command, (1, 2, "one file or two"))
+    if not least <= len(names) <= most:
+        misuse(f"{command} takes {files}")
+    if command == "show":
+        return act(command, Specification(ANY, **limits), options, names[0] if names else "-")
     try:
         specification = Specification(text_of(names[0]), options.get("--root"), **limits)
     except Refused as refused:
-        raise Stop(f"{refused}\n", 2) from None
+        raise Stop(refused.explained(names[0]) if "--explain" in options else f"{refused}\n", 2) from None
     if command == "check":
         write(b"accepted\n")
         return 0

@@ -6,7 +6,7 @@ import os
 import struct
 from ctypes import POINTER, c_char_p, c_size_t, c_uint32, c_uint64, c_void_p
 
-OK, FAILED, REFUSED, NO_MEMORY, BAD_ROOT, BAD_LIMITS, BAD_WANTED, BAD_OFFSETS, NO_ROOM, ITEM, ENDED = range(11)
+OK, FAILED, REFUSED, NO_MEMORY, BAD_ROOT, BAD_LIMITS, BAD_WANTED, BAD_OFFSETS, NO_ROOM, ITEM, ENDED, CLOSED, BAD_REFUSAL, BAD_FILE = range(14)
 REPORT, END_LINE, PREFERRED, DETERMINISTIC, PATH, NOTATION = range(6)
 
 # The codes of what is wrong with a text, with their names. The number of each is its place, from 1.
@@ -37,34 +37,31 @@ class Limits(ctypes.Structure):
 
 
 class Handle(ctypes.Structure):
-    """A handle of a specification, or of a stream that comes in pieces. Its pointer goes to a call, which writes it back."""
+    """A handle of a specification, or of a stream that comes in pieces; or of nothing, as it is made."""
 
     _fields_ = [("at", c_void_p)]
 
-    @property
-    def back(self):
-        return ctypes.cast(ctypes.byref(self), POINTER(c_void_p))
-
 
 _BYTES = (c_char_p, c_size_t)
-_BACK = POINTER(c_void_p)
+_HANDLE = POINTER(Handle)
 _CALLS = {
     "cddlseq_validate_many": (
         *_BYTES, *_BYTES, *_BYTES, POINTER(c_size_t), c_size_t, POINTER(Limits), POINTER(Refusal), POINTER(End), c_size_t,
         POINTER(c_size_t)),
-    "cddlseq_open": (*_BYTES, *_BYTES, POINTER(Limits), POINTER(Refusal), _BACK),
-    "cddlseq_validate_by": (Handle, *_BYTES, POINTER(End), _BACK),
-    "cddlseq_write_by": (Handle, *_BYTES, c_uint32, POINTER(End), *_BYTES, POINTER(c_size_t), _BACK),
-    "cddlseq_close": (Handle,),
-    "cddlseq_share": (Handle, _BACK, _BACK),
-    "cddlseq_begin_by": (Handle, _BACK, _BACK),
+    "cddlseq_explain": (*_BYTES, *_BYTES, *_BYTES, POINTER(Refusal), *_BYTES, POINTER(c_size_t)),
+    "cddlseq_open": (*_BYTES, *_BYTES, POINTER(Limits), POINTER(Refusal), _HANDLE),
+    "cddlseq_validate_by": (_HANDLE, *_BYTES, POINTER(End)),
+    "cddlseq_write_by": (_HANDLE, *_BYTES, c_uint32, POINTER(End), *_BYTES, POINTER(c_size_t)),
+    "cddlseq_close": (_HANDLE,),
+    "cddlseq_share": (_HANDLE, _HANDLE),
+    "cddlseq_begin_by": (_HANDLE, _HANDLE),
     # A piece is told by its address, so that what is behind an item in it is passed on without a copy.
-    "cddlseq_feed": (Handle, c_void_p, c_size_t, POINTER(c_size_t), POINTER(End), _BACK),
-    "cddlseq_feed_all": (Handle, *_BYTES, POINTER(End), _BACK),
-    "cddlseq_finish": (Handle, POINTER(End), _BACK),
-    "cddlseq_show": (Handle, c_uint32, *_BYTES, POINTER(c_size_t), _BACK),
-    "cddlseq_restart": (Handle, _BACK),
-    "cddlseq_discard": (Handle,),
+    "cddlseq_feed": (_HANDLE, c_void_p, c_size_t, POINTER(c_size_t), POINTER(End)),
+    "cddlseq_feed_all": (_HANDLE, *_BYTES, POINTER(End)),
+    "cddlseq_finish": (_HANDLE, POINTER(End)),
+    "cddlseq_show": (_HANDLE, c_uint32, *_BYTES, POINTER(c_size_t)),
+    "cddlseq_restart": (_HANDLE,),
+    "cddlseq_discard": (_HANDLE,),
 }
 _TELL_NOTHING = ("cddlseq_close", "cddlseq_restart", "cddlseq_discard")
 

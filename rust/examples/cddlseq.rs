@@ -1,4 +1,4 @@
-//! The commands check, validate and rewrite of the program, over the crate. It says what the program says, but for help and misuse,
+//! The commands check, validate, rewrite and show of the program, over the crate. It says what the program says, but for help and misuse,
 //! and reads a stream whole before it writes.
 //!
 //!     cargo run --example cddlseq -- validate SPEC [FILE]
@@ -21,6 +21,7 @@ struct Words {
     root: Option<String>,
     is_quiet: bool,
     is_deterministic: bool,
+    is_explained: bool,
     limits: Limits,
 }
 
@@ -46,7 +47,7 @@ impl From<Unread> for Stop {
 
 fn misuse() -> Stop {
     Stop(
-        "usage: cddlseq check|validate|rewrite [OPTION..] SPEC [FILE]\n".to_string(),
+        "usage: cddlseq check|validate|rewrite|show [OPTION..] SPEC [FILE]\n".to_string(),
         BROKEN,
     )
 }
@@ -58,6 +59,7 @@ fn words_of(mut words: impl Iterator<Item = String>) -> Result<Words, Stop> {
         root: None,
         is_quiet: false,
         is_deterministic: false,
+        is_explained: false,
         limits: Limits::default(),
     };
     let mut all_are_names = false;
@@ -74,6 +76,7 @@ fn words_of(mut words: impl Iterator<Item = String>) -> Result<Words, Stop> {
             "--" => all_are_names = true,
             "--quiet" => into.is_quiet = true,
             "--deterministic" => into.is_deterministic = true,
+            "--explain" => into.is_explained = true,
             _ => {
                 let value = value.or_else(|| words.next()).ok_or_else(misuse)?;
                 set_option(&mut into, &option, value)?;
@@ -134,18 +137,29 @@ fn in_pieces(words: &Words, text: &[u8], stream: &[u8]) -> Result<End, Stop> {
 }
 
 fn perform(words: &Words) -> Result<i32, Stop> {
-    let spec = words.names.first().ok_or_else(misuse)?;
-    let text = read(spec, LONGEST_TEXT)?;
-    let mut specification = Specification::new(&text, words.root.as_deref(), words.limits)?;
+    let mut names = words.names.iter();
+    let (spec, text) = if words.command == "show" {
+        ("", b"a = any".to_vec())
+    } else {
+        let spec = names.next().ok_or_else(misuse)?;
+        (spec.as_str(), read(spec, LONGEST_TEXT)?)
+    };
+    let mut specification = match Specification::new(&text, words.root.as_deref(), words.limits) {
+        Ok(specification) => specification,
+        Err(why @ Unread::Refused { .. }) if words.is_explained => {
+            return Err(Stop(why.explained(&text, words.root.as_deref(), spec)?, 2))
+        }
+        Err(why) => return Err(why.into()),
+    };
     if words.command == "check" {
         println!("accepted");
         return Ok(0);
     }
-    let name = words.names.get(1).map_or("-", |it| it.as_str());
+    let name = names.next().map_or("-", |it| it.as_str());
     let stream = read(name, u64::MAX)?;
     let wanted = match (words.command.as_str(), words.is_quiet, words.is_deterministic) {
         ("validate", true, _) => Wanted::EndLine,
-        ("validate", false, _) => Wanted::Report,
+        ("validate" | "show", false, _) => Wanted::Report,
         ("rewrite", _, true) => Wanted::Deterministic,
         ("rewrite", _, false) => Wanted::Preferred,
         _ => return Err(misuse()),

@@ -40,19 +40,26 @@ pub struct Limits {
     pub steps: u64,
 }
 
+/// A handle of a specification, or of a stream that comes in pieces; or of nothing.
 #[repr(C)]
-#[derive(Clone, Copy)]
 pub struct Handle {
-    pub at: *mut c_void,
+    at: *mut c_void,
 }
 
-type Maker =
-    unsafe extern "C" fn(*const u8, usize, *const u8, usize, *const Limits, *mut Refusal, *mut *mut c_void) -> u32;
+impl Handle {
+    pub fn of_nothing() -> Handle {
+        Handle {
+            at: std::ptr::null_mut(),
+        }
+    }
+}
 
-/// What a call that makes a handle writes: the handle, or what it answers.
+type Maker = unsafe extern "C" fn(*const u8, usize, *const u8, usize, *const Limits, *mut Refusal, *mut Handle) -> u32;
+
+/// The handle that a call has hold what it makes of a text, or what it answers.
 pub fn make(call: Maker, text: &[u8], root: &str, limits: &Limits) -> Result<Handle, (u32, Refusal)> {
     let mut refusal = Refusal::default();
-    let mut at = std::ptr::null_mut();
+    let mut handle = Handle::of_nothing();
     // SAFETY: each slice is as long as is said, and what is written to is this function's own.
     let status = unsafe {
         call(
@@ -62,17 +69,29 @@ pub fn make(call: Maker, text: &[u8], root: &str, limits: &Limits) -> Result<Han
             root.len(),
             limits,
             &mut refusal,
-            &mut at,
+            &mut handle,
         )
     };
     if status == OK {
-        Ok(Handle { at })
+        Ok(handle)
     } else {
         Err((status, refusal))
     }
 }
 
 extern "C" {
+    pub fn cddlseq_explain(
+        text: *const u8,
+        text_length: usize,
+        root: *const u8,
+        root_length: usize,
+        file: *const u8,
+        file_length: usize,
+        refusal: *const Refusal,
+        buffer: *mut u8,
+        buffer_length: usize,
+        needed: *mut usize,
+    ) -> u32;
     pub fn cddlseq_open(
         text: *const u8,
         text_length: usize,
@@ -80,17 +99,16 @@ extern "C" {
         root_length: usize,
         limits: *const Limits,
         refusal: *mut Refusal,
-        at: *mut *mut c_void,
+        handle: *mut Handle,
     ) -> u32;
     pub fn cddlseq_validate_by(
-        handle: Handle,
+        handle: *mut Handle,
         stream: *const u8,
         stream_length: usize,
         end: *mut End,
-        back: *mut *mut c_void,
     ) -> u32;
     pub fn cddlseq_write_by(
-        handle: Handle,
+        handle: *mut Handle,
         stream: *const u8,
         stream_length: usize,
         wanted: u32,
@@ -98,10 +116,9 @@ extern "C" {
         buffer: *mut u8,
         buffer_length: usize,
         needed: *mut usize,
-        back: *mut *mut c_void,
     ) -> u32;
-    pub fn cddlseq_close(handle: Handle);
-    pub fn cddlseq_share(handle: Handle, other: *mut *mut c_void, back: *mut *mut c_void) -> u32;
+    pub fn cddlseq_close(handle: *mut Handle);
+    pub fn cddlseq_share(handle: *mut Handle, other: *mut Handle) -> u32;
     pub fn cddlseq_begin(
         text: *const u8,
         text_length: usize,
@@ -109,33 +126,30 @@ extern "C" {
         root_length: usize,
         limits: *const Limits,
         refusal: *mut Refusal,
-        at: *mut *mut c_void,
+        session: *mut Handle,
     ) -> u32;
-    pub fn cddlseq_begin_by(handle: Handle, at: *mut *mut c_void, back: *mut *mut c_void) -> u32;
+    pub fn cddlseq_begin_by(handle: *mut Handle, session: *mut Handle) -> u32;
     pub fn cddlseq_feed(
-        session: Handle,
+        session: *mut Handle,
         piece: *const u8,
         piece_length: usize,
         used: *mut usize,
         end: *mut End,
-        back: *mut *mut c_void,
     ) -> u32;
     pub fn cddlseq_feed_all(
-        session: Handle,
+        session: *mut Handle,
         piece: *const u8,
         piece_length: usize,
         end: *mut End,
-        back: *mut *mut c_void,
     ) -> u32;
-    pub fn cddlseq_finish(session: Handle, end: *mut End, back: *mut *mut c_void) -> u32;
+    pub fn cddlseq_finish(session: *mut Handle, end: *mut End) -> u32;
     pub fn cddlseq_show(
-        session: Handle,
+        session: *mut Handle,
         wanted: u32,
         buffer: *mut u8,
         buffer_length: usize,
         needed: *mut usize,
-        back: *mut *mut c_void,
     ) -> u32;
-    pub fn cddlseq_restart(session: Handle, back: *mut *mut c_void);
-    pub fn cddlseq_discard(session: Handle);
+    pub fn cddlseq_restart(session: *mut Handle);
+    pub fn cddlseq_discard(session: *mut Handle);
 }

@@ -19,6 +19,9 @@
 //! assert_eq!((one.feed(&[0x82, 0x01])?, two.feed(&[0x9f])?), (Step::More, Step::More));
 //! assert_eq!((one.feed(&[0x03])?, two.feed(&[0x05, 0x20, 0xff])?), (Step::Item { used: 1 }, Step::Item { used: 3 }));
 //! assert_eq!(two.preferred()?, [0x82, 0x05, 0x20]);
+//!
+//! let why = Specification::new("a = b", None, Limits::default()).err().unwrap();
+//! assert!(why.explained("a = b", None, "it.cddl")?.starts_with("refused: C3 Undefined at byte 4\nit.cddl:1:5: Undefined\na = b\n    ^\n"));
 //! # Ok::<(), Box<dyn std::error::Error>>(())
 //! ```
 mod calls;

@@ -33,15 +33,14 @@ impl Session {
     /// Takes the next piece of the stream, up to the end of an item that it completes.
     pub fn feed(&mut self, piece: &[u8]) -> Result<Step, NoMemory> {
         let mut used = 0;
-        // SAFETY: the handle is one that came back from the last call, and `&mut self` gives it to one call at a time.
+        // SAFETY: the handle is what the calls left, and `&mut self` gives it to one call at a time.
         let status = unsafe {
             calls::cddlseq_feed(
-                self.handle,
+                &mut self.handle,
                 piece.as_ptr(),
                 piece.len(),
                 &mut used,
                 &mut self.told,
-                &mut self.handle.at,
             )
         };
         match status {
@@ -56,11 +55,10 @@ impl Session {
         // SAFETY: as in `feed`.
         let status = unsafe {
             calls::cddlseq_feed_all(
-                self.handle,
+                &mut self.handle,
                 piece.as_ptr(),
                 piece.len(),
                 &mut self.told,
-                &mut self.handle.at,
             )
         };
         match status {
@@ -72,7 +70,7 @@ impl Session {
     /// Ends the stream, and says how it ends.
     pub fn finish(&mut self) -> Result<End, NoMemory> {
         // SAFETY: as in `feed`.
-        let status = unsafe { calls::cddlseq_finish(self.handle, &mut self.told, &mut self.handle.at) };
+        let status = unsafe { calls::cddlseq_finish(&mut self.handle, &mut self.told) };
         match status {
             calls::OK => Ok(End::of(&self.told)),
             _ => self.ended(status),
@@ -109,7 +107,7 @@ impl Session {
     pub fn restart(&mut self) {
         self.told = calls::End::default();
         // SAFETY: as in `feed`.
-        unsafe { calls::cddlseq_restart(self.handle, &mut self.handle.at) }
+        unsafe { calls::cddlseq_restart(&mut self.handle) }
     }
 
     fn show(&mut self, wanted: Wanted) -> Result<Vec<u8>, NoMemory> {
@@ -119,12 +117,11 @@ impl Session {
             // SAFETY: as in `feed`; and the buffer is as long as is said.
             let status = unsafe {
                 calls::cddlseq_show(
-                    self.handle,
+                    &mut self.handle,
                     wanted as u32,
                     buffer.as_mut_ptr(),
                     buffer.len(),
                     &mut needed,
-                    &mut self.handle.at,
                 )
             };
             match status {
@@ -154,8 +151,8 @@ fn text_of(bytes: Vec<u8>) -> String {
 
 impl Drop for Session {
     fn drop(&mut self) {
-        // SAFETY: the handle is one that came back from the last call, and goes to no other.
-        unsafe { calls::cddlseq_discard(self.handle) }
+        // SAFETY: the handle is what the calls left, and goes to no other.
+        unsafe { calls::cddlseq_discard(&mut self.handle) }
     }
 }
 

@@ -26,14 +26,13 @@ impl Specification {
     /// Says how a stream ends.
     pub fn validate(&mut self, stream: &[u8]) -> Result<End, NoMemory> {
         let mut end = calls::End::default();
-        // SAFETY: the handle is one that came back from the last call, and `&mut self` gives it to one call at a time.
+        // SAFETY: the handle is what the calls left, and `&mut self` gives it to one call at a time.
         let status = unsafe {
             calls::cddlseq_validate_by(
-                self.handle,
+                &mut self.handle,
                 stream.as_ptr(),
                 stream.len(),
                 &mut end,
-                &mut self.handle.at,
             )
         };
         told(status, &end)
@@ -41,22 +40,22 @@ impl Specification {
 
     /// The same specification once more, which is not read anew, as for another thread.
     pub fn share(&mut self) -> Result<Specification, NoMemory> {
-        let mut at = std::ptr::null_mut();
+        let mut handle = Handle::of_nothing();
         // SAFETY: as in `validate`.
-        let status = unsafe { calls::cddlseq_share(self.handle, &mut at, &mut self.handle.at) };
+        let status = unsafe { calls::cddlseq_share(&mut self.handle, &mut handle) };
         match status {
-            calls::OK => Ok(Specification { handle: Handle { at } }),
+            calls::OK => Ok(Specification { handle }),
             _ => Err(NoMemory),
         }
     }
 
     /// Begins a stream that comes in pieces. Its session shares the specification, which is not read anew, and may outlive this one.
     pub fn session(&mut self) -> Result<Session, NoMemory> {
-        let mut at = std::ptr::null_mut();
+        let mut handle = Handle::of_nothing();
         // SAFETY: as in `validate`.
-        let status = unsafe { calls::cddlseq_begin_by(self.handle, &mut at, &mut self.handle.at) };
+        let status = unsafe { calls::cddlseq_begin_by(&mut self.handle, &mut handle) };
         match status {
-            calls::OK => Ok(Session::of(Handle { at })),
+            calls::OK => Ok(Session::of(handle)),
             _ => Err(NoMemory),
         }
     }
@@ -70,7 +69,7 @@ impl Specification {
             // SAFETY: as in `validate`; and the buffer is as long as is said.
             let status = unsafe {
                 calls::cddlseq_write_by(
-                    self.handle,
+                    &mut self.handle,
                     stream.as_ptr(),
                     stream.len(),
                     wanted as u32,
@@ -78,7 +77,6 @@ impl Specification {
                     buffer.as_mut_ptr(),
                     buffer.len(),
                     &mut needed,
-                    &mut self.handle.at,
                 )
             };
             if status != calls::NO_ROOM {
@@ -102,8 +100,8 @@ impl Specification {
 
 impl Drop for Specification {
     fn drop(&mut self) {
-        // SAFETY: the handle is one that came back from the last call, and goes to no other.
-        unsafe { calls::cddlseq_close(self.handle) }
+        // SAFETY: the handle is what the calls left, and goes to no other.
+        unsafe { calls::cddlseq_close(&mut self.handle) }
     }
 }
 

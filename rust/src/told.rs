@@ -3,6 +3,7 @@ use std::error::Error;
 use std::fmt;
 
 use crate::calls;
+use crate::root_of;
 
 /// The codes of what is wrong with a text, with their names. The number of each is its place, from 1.
 const CODES: [(&str, &str); 29] = [
@@ -73,6 +74,64 @@ impl Unread {
             calls::BAD_LIMITS => Unread::BadLimits,
             // A root is a str.
             _ => unreachable!("libcddlseq answers {status}"),
+        }
+    }
+
+    /// What is wrong with the text, with the root that was asked for: the line of the refusal; the file of this name, the line and the
+    /// column, and the name of the code; the line of the text, with a mark under the place; and what is wrong. Where the text is not
+    /// refused it is one line.
+    pub fn explained(&self, text: impl AsRef<[u8]>, root: Option<&str>, file: &str) -> Result<String, NoMemory> {
+        let Some(refusal) = self.refusal() else {
+            return Ok(format!("{self}\n"));
+        };
+        let (text, root) = (text.as_ref(), root_of(root));
+        let mut buffer = vec![0; 512];
+        loop {
+            let mut needed = 0;
+            // SAFETY: each slice is as long as is said, and what is written to is this function's own.
+            let status = unsafe {
+                calls::cddlseq_explain(
+                    text.as_ptr(),
+                    text.len(),
+                    root.as_ptr(),
+                    root.len(),
+                    file.as_ptr(),
+                    file.len(),
+                    &refusal,
+                    buffer.as_mut_ptr(),
+                    buffer.len(),
+                    &mut needed,
+                )
+            };
+            match status {
+                calls::OK => {
+                    buffer.truncate(needed);
+                    return Ok(String::from_utf8(buffer).expect("what is told is text"));
+                }
+                calls::NO_ROOM => buffer.resize(needed, 0),
+                _ => return Err(NoMemory),
+            }
+        }
+    }
+
+    fn refusal(&self) -> Option<calls::Refusal> {
+        match *self {
+            Unread::Refused {
+                code,
+                name,
+                offset,
+                line,
+                column,
+            } => {
+                let at = CODES.iter().position(|&it| it == (code, name))?;
+                Some(calls::Refusal {
+                    code: at as u32 + 1,
+                    offset,
+                    line,
+                    column,
+                })
+            }
+            Unread::BadLimits | Unread::NoMemory => None,
         }
     }
 }
@@ -240,6 +299,16 @@ mod tests {
             column: 11,
         };
         assert_eq!(read.err(), Some(wanted));
+    }
+
+    #[test]
+    fn refusals_are_explained() {
+        let (text, root) = ("a = int\n", Some("nosuch"));
+        let why = crate::Specification::new(text, root, crate::Limits::default()).err().unwrap();
+        let told = "refused: C5 NoRoot at byte 0\nit.cddl:1:1: NoRoot\na = int\n^\n\
+            `nosuch`, which --root asks for, is no rule and none of the prelude\n";
+        assert_eq!(why.explained(text, root, "it.cddl").unwrap(), told);
+        assert_eq!(Unread::BadLimits.explained(text, root, "it.cddl").unwrap(), format!("{}\n", Unread::BadLimits));
     }
 
     #[test]

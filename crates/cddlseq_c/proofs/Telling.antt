@@ -1,10 +1,10 @@
 -- What a call answers, by what was read, run and told.
-use Rattle.std.proofs.Common.{◌≡◌, ℕ, List, Bool, true, false, length, refl, sym, subst}
-use denote.RawPtr.{Ptr}
+use Rattle.std.proofs.Common.{◌≡◌, ℕ, List, Option, Bool, true, false, length, refl, sym, subst}
 use Rattle.cbor_data.specs.Faults.{Bounds}
 use Rattle.seq_run.specs.Judge.{Judge, judge_of}
 use Rattle.seq_run.specs.declared.end.End.{End}
-use Rattle.cddlseq_c.specs.Answers.{HasEnd, IsChecked, IsOpened, IsPut, IsReady, IsStop, IsToldEnd, IsToldWanted, IsUntabled, IsValidated, IsWanted, IsWritten, unchecked, end_told, unopened, validated, unvalidated, put, no_room, written, unwritten}
+use Rattle.cddlseq_c.specs.Answers.{HasEnd, IsChecked, IsPut, IsReady, IsStop, IsToldEnd, IsToldWanted, IsUntabled, IsValidated, IsWanted, IsWritten, unchecked, end_told, validated, unvalidated, put, no_room, written, unwritten}
+use Rattle.cddlseq_c.specs.Handles.{IsOpened, unopened}
 use Rattle.cddlseq_c.specs.Told.{IsStopTold, bounds_of, no_refusal, status_of, status_of_stop, told_end}
 use Rattle.cddlseq_c.specs.Wanted.{number_of_wanted}
 use Rattle.cddlseq_c.specs.Held.{Held}
@@ -48,8 +48,8 @@ module _ (text root : List ℕ) (limits : CddlseqLimits) (refusal : CddlseqRefus
     pub stopped_before : (stream : List ℕ) (end : CddlseqEnd) → IsValidated text root stream limits refusal end end status
     stopped_before stream end = subst (λ n. IsValidated text root stream limits refusal end end n) (sym e) (unvalidated why is told refl)
 
-    pub stopped_opening : (at : Ptr) → IsOpened text root limits refusal at at status
-    stopped_opening at = subst (λ n. IsOpened text root limits refusal at at n) (sym e) (unopened why is told refl)
+    pub stopped_opening : {X : Type 0} (made_of : Held → X) (held : Option X) → IsOpened made_of text root limits refusal held held status
+    stopped_opening made_of held = subst (λ n. IsOpened made_of text root limits refusal held held n) (sym e) (unopened why is told refl)
 
     pub unwritten_by : (stream : List ℕ) (number : ℕ) (end : CddlseqEnd) (out : List ℕ) → IsWritten text root stream limits number refusal end end out out 0 status
     unwritten_by stream number end out = subst (λ n. IsWritten text root stream limits number refusal end end out out 0 n) (sym e) (unwritten why is told refl refl refl)

@@ -1,6 +1,5 @@
 -- What the calls answer.
 use Rattle.std.specs.Prelude.{◌≡◌, ◌≢◌, ℕ, ◌+◌, ◌<◌, ◌≤◌, ◌⊎◌, Bool, true, false, List, [], ◌∷◌, ◌++◌, length, drop, Option, Some, None, slice_get, slice_index, slice_range, IsUtf8}
-use denote.RawPtr.{Ptr}
 use Rattle.cbor_data.specs.Value.{Value}
 use Rattle.cbor_data.specs.Faults.{Bounds}
 use Rattle.cbor_data.specs.Sequence.{Found}
@@ -122,14 +121,7 @@ pub data IsWritten (text root stream : List ℕ) (limits : CddlseqLimits) (numbe
   unwritten : (why : Stop) → IsStop limits text root why → IsStopTold text why refusal → new ≡ old → needed ≡ 0 → out_new ≡ out_old →
       IsWritten text root stream limits number refusal old new out_old out_new needed (status_of_stop why)
 
--- What `cddlseq_open` and `cddlseq_begin` answer: the text is ready, as above, with these limits, and a pointer is written; or this
--- is why it is not, and none is.
-pub data IsOpened (text root : List ℕ) (limits : CddlseqLimits) (refusal : CddlseqRefusal) (old new : Ptr) : ℕ → Type 0 where
-  opened : (ready : Held) → IsReady text root limits ready → refusal ≡ no_refusal → IsOpened text root limits refusal old new OK
-  unopened : (why : Stop) → IsStop limits text root why → IsStopTold text why refusal → new ≡ old → IsOpened text root limits refusal old new (status_of_stop why)
-
--- What `cddlseq_write_by` answers: this is told of the stream, and what is wanted by the number is written; or nothing is wanted by
--- it.
+-- What is told of a stream and of what is wanted of it by a number: this, and what is wanted is written; or nothing is wanted by it.
 pub data IsWrittenBy (number : ℕ) (judge : Judge) (l : Bounds) (stream : List ℕ) (old new : CddlseqEnd) (out_old out_new : List ℕ) (needed : ℕ) : ℕ → Type 0 where
   by_number : (wanted : Wanted) → number ≡ number_of_wanted wanted → (status : ℕ) → IsToldWanted wanted judge l stream old new out_old out_new needed status →
       IsWrittenBy number judge l stream old new out_old out_new needed status
@@ -166,9 +158,3 @@ pub data AreValidated (text root bytes offsets : List ℕ) (limits : CddlseqLimi
       IsToldMany (judge_of table limits.steps) (bounds_of limits) bytes offsets old new n status → AreValidated text root bytes offsets limits refusal old new n status
   bad_number : length offsets ≢ length old + 1 → refusal ≡ no_refusal → new ≡ old → n ≡ 0 → AreValidated text root bytes offsets limits refusal old new n BAD_OFFSETS
   none_validated : (why : Stop) → IsStop limits text root why → IsStopTold text why refusal → new ≡ old → n ≡ 0 → AreValidated text root bytes offsets limits refusal old new n (status_of_stop why)
-
--- What `cddlseq_share` and `cddlseq_begin_by` answer: what they make is made, and a pointer to it is written; or memory was refused,
--- and none is.
-pub data IsMade (old new : Ptr) : ℕ → Type 0 where
-  made : IsMade old new OK
-  unmade : new ≡ old → IsMade old new NO_MEMORY

@@ -2,5 +2,8 @@ pub mod Told
 pub mod Held
 pub mod Wanted
 pub mod Answers
+pub mod Explained
 pub mod Fed
+pub mod Owned
 pub mod Pieces
+pub mod Handles

@@ -122,3 +122,7 @@ pub data IsShownBy (number : ℕ) (f : Fed) (out_old out_new : List ℕ) (needed
 -- a stream at its first byte, by what a handle holds
 abbrev pub begun_by : Held → Fed
 begun_by h = record { progress = record { judge = judge_of h.table h.steps; limits = h.limits; fed = []; taken = []; stopped = None }; item = None }
+
+-- the next stream by the same specification, at its first byte
+abbrev pub restarted : Fed → Fed
+restarted f = record { progress = record { judge = f.progress.judge; limits = f.progress.limits; fed = []; taken = []; stopped = None }; item = None }

@@ -44,6 +44,15 @@ pub const ITEM: u32 = 9;
 /// A stream that comes in pieces has ended before, and was clean.
 pub const ENDED: u32 = 10;
 
+/// The handle holds nothing.
+pub const CLOSED: u32 = 11;
+
+/// The code of a refusal is none.
+pub const BAD_REFUSAL: u32 = 12;
+
+/// The name of the file is not UTF-8.
+pub const BAD_FILE: u32 = 13;
+
 /// What is told of a text.
 #[repr(C)]
 #[derive(Clone, Copy)]

@@ -1,17 +1,14 @@
-use mir.Raw.{raw}
-use denote.Memory.{lone}
 use denote.Struct.Struct.{exits_of}
 use denote.Struct.Owning.{shape, fields, to}
 use denote.Param.Send.{IsSend, AllSend, owning_send, struct_send, sendable}
-use Rattle.std.proofs.Crossing as heap
-use Rattle.std_alloc.proofs.SendSync.{quiet, lies}
+use Rattle.std_alloc.proofs.SendSync.{quiet}
 use Rattle.std_heap.proofs.Global.TheSendSync as allocator
 use Rattle.cddlseq_c.specs.contracts.feeding.Feeding as Feeding
 use Rattle.cddlseq_c.specs.contracts.session.CddlseqSession.{the_row, the_type}
-use Rattle.cddlseq_c.proofs.Crossing.{feeding_send}
+use Rattle.cddlseq_c.proofs.Crossing.{owned_crosses, feeding_send}
 
 pub send : IsSend the_row
 send =
     let all : AllSend (fields the_type) = (search sendable, (allocator.the_field_send, tt)) in
-    owning_send the_type all (λ d. (lies Feeding.the_row feeding_send d.at d.value, heap.frees.frees d.alloc (raw (lone Feeding.the_row.mir)) d.at))
+    owning_send the_type all (λ d. owned_crosses Feeding.the_row feeding_send d.alloc d.at d.value)
     (λ k. quiet (to the_type) (exits_of k (fields the_type)) ((struct_send (shape the_type) all).leaving k))

@@ -1,0 +1,43 @@
+-- A null pointer is a handle of nothing.
+use Rattle.std.proofs.Common.{◌≡◌, List, [], ◌∷◌, ◌++◌, refl, sym, subst}
+use mir.Val.{Val, vptr}
+use base.Logic.{SProp, ent, emp, id⊢}
+use base.Fml.{ftrue, feq}
+use prog.Wp.{WpFn}
+use types.Kit.{‵, raw, ◌⊛◌, ◌$◌, ◌∵◌, !, qed, by, move, keep, drop, split, fsplit, fjoin, suffices, use0, feq_i}
+use types.Run.{lit, of_opd, no_more, and_then, returns, enter}
+use types.ByLocal.{alloc_all, pass_all, free_all, look_at, get, sets, env}
+use types.Part.{agg}
+use contract.Monad.{fact, fact_i}
+use contract.Running.{tables}
+use denote.Exit.{yes, no}
+use denote.RattleType.{RattleType, owns}
+use denote.Signature.{types_at, plain}
+use denote.RawPtr.{Ptr, null_ptr, ptr_val}
+use denote.Steps.{nothing}
+use denote.Triple.Walked.{Stays, stay_dropped, walk_of}
+use Rattle.core.specs.declared.option.Option.{Option}
+use Rattle.core.specs.declared.option.Option.TheVariants.{None}
+use Rattle.core.proofs.alloc.Calls.{Goes-blank, handle_tells}
+use Rattle.std.proofs.raw_atomic.Walks.{proved_at, leaves}
+use Rattle.cddlseq_c.proofs.OwnedValues.{al, both, Z, handle_good}
+use Rattle.cddlseq_c.proofs.Values.{R, handle_in}
+use Rattle.cddlseq_c.specs.contracts.handle.CddlseqHandle.none.{ended, clauses}
+use Rattle.cddlseq_c.specs.contracts.handle.CddlseqHandle.none.Key.{name as #self}
+use Rattle.cddlseq_c.proofs.handle.CddlseqHandle.none.Statement.{statement}
+use Rattle.cddlseq_c.proofs.handle.CddlseqHandle.none.Code as code
+
+pub none_spec : {M : Type 1} → statement M
+none_spec {M = M} 𝓤 𝓛 𝓜 𝓡 wired =
+    let H = 𝓛.H in let 𝓣 = tables 𝓤 H 𝓜 𝓡 𝓡.env in let En = ended in let c = clauses 𝓛 𝓜.mem 𝓡.returns in let fn = code.function in
+    let hs : Stays En.signature.params En.kept = (stay_dropped (plain (λ _. Z)) yes, tt) in
+    proved_at 𝓛 En hs c 𝓜 𝓡 (Goes-blank 𝓛 0 (plain (λ _. Z)) yes (λ κs x f. tt), tt) #self fn (code.unfolded 𝓤 H 𝓜 𝓡 wired) (λ z are.
+    let κs = z.0.0 in let a = z.0.3.0 in let Post : Val → SProp 𝓤 = (walk_of 𝓛 En hs c).post z in let Run : List Val → SProp 𝓤 = λ ws. WpFn 𝓤 H 𝓣.C 𝓣.Λ fn ws Post in
+    qed 𝓛 ((‵ ftrue ⊛ ‵ (owns (types_at En.signature.params κs) z.0.3 z.0.4)) ∷ raw (emp 𝓤) ∷ []) ∵ split ! $ move ! (1 ∷ []) $ fsplit ! $ handle_tells al ! a z.0.4.0 (λ h ea fits.
+    let w : Val = both (ptr_val null_ptr) h in let e : Option R.Denot = None in
+    suffices ! (Run (h ∷ [])) (subst (λ (us : List Val). ent 𝓤 (Run (h ∷ [])) (Run us)) (sym (λ i. ea i ++ [])) (id⊢ 𝓤 (Run (h ∷ [])))) $
+    enter ! 𝓣.C 𝓣.Λ fn (h ∷ []) Post $ alloc_all ! (λ l. pass_all ! refl (fits, tt) $
+    sets ! (agg ! (and_then ! (lit ! tt) (and_then ! (get ! refl) (no_more !)))) refl (handle_good null_ptr h fits) $
+    feq_i ! Ptr null_ptr null_ptr refl $ handle_in ! null_ptr h a None $
+    use0 𝓛 (raw (fact 𝓤 (e ≡ e))) (fact_i 𝓤 (e ≡ e) (emp 𝓤) refl) $ nothing ! $ nothing ! $ fjoin ! $ nothing ! $
+    returns ! (look_at ! 0 refl) $ free_all ! refl $ keep ! (0 ∷ 1 ∷ 3 ∷ 2 ∷ []) $ by ! (leaves 𝓛 En hs c z w (record { at = null_ptr; alloc = a; value = None }) (tt, tt) (tt, tt)))))

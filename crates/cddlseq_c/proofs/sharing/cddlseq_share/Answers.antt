@@ -1,9 +1,0 @@
-use Rattle.std.proofs.Common.{refl}
-use Rattle.cddlseq_c.specs.Answers.{made, unmade}
-use Rattle.cddlseq_c.proofs.sharing.cddlseq_share.Goals as goal
-
-pub returns-in-Ok : goal.returns-in-Ok
-returns-in-Ok c = made
-
-pub returns-in-Err : goal.returns-in-Err
-returns-in-Err c = unmade refl
