@@ -55,7 +55,8 @@ has nothing in it. A refusal is the name of its kind, with 'at' its place. Reade
                                what a session answers to each piece with its items, its end, the item that it rejected, and how
                                many items and bytes it has taken, with '|' between them; session.feed_one takes items one by
                                one, session.validate_pieces all at once, and answers no more than the items and the end; a piece
-                               '-' is empty
+                               '-' is empty. session.owned_feed and session.owned_feed_one are those of a session that owns its
+                               table, and session.owned_again is its second stream, behind one of the same pieces
   run.report ROOT STEPS DEPTH BYTES SIZE HEX
                                the line of the end, or why there is none; how many bytes were read of a device that gives at most
                                SIZE at once, and how many were asked for at once; and what was written, each line after ' / '.
@@ -578,10 +579,12 @@ def run_cases(row, root, sizes, word, known, answer):
 
     def case(lines, fault_of):
         return Case(row, lines, lambda answers: first_fault(map(fault_of, answers, cuts, given)))
-    yield case([f"session.feed {root} 1000 64 8192 {it}" for it in words],
-               lambda answer, pieces, known: fed_fault(pieces, answer, items, end, known))
-    yield case([f"session.feed_one {root} 1000 64 8192 {it}" for it in words],
-               lambda answer, pieces, _: taken_fault(pieces, answer, items, end))
+    for call in ("feed", "owned_feed", "owned_again"):
+        yield case([f"session.{call} {root} 1000 64 8192 {it}" for it in words],
+                   lambda answer, pieces, known: fed_fault(pieces, answer, items, end, known))
+    for call in ("feed_one", "owned_feed_one"):
+        yield case([f"session.{call} {root} 1000 64 8192 {it}" for it in words],
+                   lambda answer, pieces, _: taken_fault(pieces, answer, items, end))
     yield case([f"session.validate_pieces {root} 1000 64 8192 {it}" for it in words],
                lambda answer, *_: validated_fault(answer, items, end))
     yield case([f"run.end_line {root} 1000 64 8192 {size} {stream.hex()}" for size in sizes],

@@ -13,6 +13,7 @@ mod read_calls;
 mod run_calls;
 mod say_calls;
 mod session_calls;
+mod sessions;
 mod shown;
 mod table_calls;
 mod tables;

@@ -1,15 +1,17 @@
 //! Calls of sessions of `seq_run`: a line has all pieces of a stream, and its answer what came of each.
+use crate::sessions::Sessions;
 use call_lines::{bytes, first, limit, number, push_no_memory, push_text};
 use cbor_item::{Sound, diag};
 use cbor_read::Limits;
-use seq_run::{End, Session, State, Step, validate_pieces};
+use seq_run::{End, OwnedSession, Session, State, Step, validate_pieces};
 use std::alloc::{AllocError, Global};
+use std::sync::Arc;
 use table_nodes::Table;
 
 // The words are the steps for each item, the limits, and the pieces.
 pub(crate) fn answer(
     alloc: Global,
-    table: &Table,
+    table: Box<Table>,
     name: &str,
     words: &str,
     out: &mut String,
@@ -21,12 +23,17 @@ pub(crate) fn answer(
     };
     match name {
         "feed" | "feed_one" => {
-            let mut session = Session::new(alloc, table, limits, number(steps));
-            push_session(alloc, &mut session, name, words, out)
+            let mut session = Session::new(alloc, &table, limits, number(steps));
+            push_session(alloc, &mut session, name == "feed", words, out)
+        }
+        "owned_feed" | "owned_feed_one" | "owned_again" => {
+            let table = Arc::new(alloc, Box::into_inner(table))?;
+            let mut session = OwnedSession::new(alloc, table, limits, number(steps));
+            push_owned(alloc, &mut session, name, words, out)
         }
         "validate_pieces" => {
             let pieces = pieces_of(alloc, words)?;
-            let told = validate_pieces(alloc, table, limits, number(steps), &pieces);
+            let told = validate_pieces(alloc, &table, limits, number(steps), &pieces);
             push_validated(alloc, told, out)
         }
         _ => out.push_str("no such call"),
@@ -75,18 +82,33 @@ fn push_end(alloc: Global, end: End, out: &mut String) -> Result<(), AllocError>
     out.push_str(format!(in alloc; "{end:?}")?.as_str())
 }
 
+// The same of a session that owns its table: at its first stream, or of pieces that are whole behind another stream of the same.
+fn push_owned(
+    alloc: Global,
+    session: &mut OwnedSession,
+    name: &str,
+    words: &str,
+    out: &mut String,
+) -> Result<(), AllocError> {
+    if name == "owned_again" {
+        push_session(alloc, session, false, words, &mut String::new(alloc))?;
+        session.restart();
+    }
+    push_session(alloc, session, name != "owned_feed_one", words, out)
+}
+
 // What a session answers to each piece, with the items that it adds; then the end, the item that was rejected, and how much was
 // taken.
-fn push_session(
+fn push_session<S: Sessions>(
     alloc: Global,
-    session: &mut Session<'_>,
-    name: &str,
+    session: &mut S,
+    is_whole: bool,
     words: &str,
     out: &mut String,
 ) -> Result<(), AllocError> {
     for word in words.split(' ') {
         let piece = bytes(alloc, word)?;
-        if name == "feed" {
+        if is_whole {
             push_fed(alloc, session, &piece, out)?;
         } else {
             push_taken(alloc, session, &piece, out)?;
@@ -113,9 +135,9 @@ fn push_rejected(
     }
 }
 
-fn push_fed(
+fn push_fed<S: Sessions>(
     alloc: Global,
-    session: &mut Session<'_>,
+    session: &mut S,
     piece: &[u8],
     out: &mut String,
 ) -> Result<(), AllocError> {
@@ -130,9 +152,9 @@ fn push_fed(
 }
 
 // Takes the items of a piece one by one.
-fn push_taken(
+fn push_taken<S: Sessions>(
     alloc: Global,
-    session: &mut Session<'_>,
+    session: &mut S,
     piece: &[u8],
     out: &mut String,
 ) -> Result<(), AllocError> {

@@ -67,7 +67,7 @@ impl Tables {
         };
         match room {
             "match" => match_calls::answer(self.alloc, &table, name, words, out),
-            "session" => session_calls::answer(self.alloc, &table, name, words, out),
+            "session" => session_calls::answer(self.alloc, table, name, words, out),
             _ => run_calls::answer(self.alloc, &table, name, words, out),
         }
     }
