@@ -3,10 +3,10 @@
 
     edits.py [--rt COMMAND] [--anew] [--inner] [NAME..]
 
-First the libraries below are proved, or taken from what 'rt ci' kept on this machine; then come the tests of the script that
-tries edits, tests/wrong_edits.py, whose words these are, and the edits of the crates that are named, or of all. After each
-part comes a line with the processor time that it took. The last line is 'N passed, M failed', and the status is 0 only where
-none failed.
+First the libraries below are proved, or taken from what 'make test' left in this checkout or 'rt ci' kept on this machine; then
+come the tests of the script that tries edits, tests/wrong_edits.py, whose words these are, and the edits of the crates that are
+named, or of all. After each part comes a line with the processor time that it took. The last line is 'N passed, M failed', and
+the status is 0 only where none failed.
 """
 import argparse
 import glob
@@ -22,6 +22,8 @@ from wrong_edits import run_wrong
 
 sys.path.insert(0, os.path.join(TOP, "scripts"))
 from build import copy_of, prove
+from library import folder_of_kit
+from proved import are_proved
 
 
 def crates_with_edits(names):
@@ -32,7 +34,11 @@ def crates_with_edits(names):
 
 def proved_libraries(rt, names):
     """Puts the libraries of these crates and of those below them, as 'rt ci' proves them, into crates/*/out/rlib, and returns
-    whether all are proved. None that an earlier check left there stays, since the two do not fit each other."""
+    whether all are proved. Where 'make test' has left all of them there, they stay. Else none that an earlier check left there
+    stays, since the two do not fit each other."""
+    if are_proved(folder_of_kit(rt), names):
+        print("the libraries are those that 'make test' proved")
+        return True
     for left in glob.glob(os.path.join(TOP, "crates", "*", "out", "rlib")):
         shutil.rmtree(left)
     with copy_of(names) as (folder, names):

@@ -30,13 +30,15 @@ from run_grammar import run_grammar
 from run_library import run_library
 from run_memory import run_memory
 from run_rows import TOP, run_rows
+from run_small import run_small
 from test_completions import are_completions_right
 from test_explain import are_explanations_right
 from test_imports import are_imports_clean
 from test_man import is_page_right
 
 sys.path.insert(0, os.path.join(TOP, "scripts"))
-from library import archive_in, build, link
+from library import archive_in, build, folder_of_kit, link
+from proved import note
 
 PROVED = os.path.join(TOP, "crates", "cddlseq", "out", "cddlseq")
 OUTLINE = os.path.join(TOP, "crates", "cddl_outline", "out", "cddl_outline")
@@ -132,6 +134,7 @@ def rows(rt):
         ("random streams as a file and in pieces", lambda: random_cuts.compare(PROGRAM)),
         ("random items whose pairs are in two orders", lambda: random_orders.compare(PROGRAM)),
         ("commands and calls with each request for memory refused", lambda: run_memory(PROGRAM)),
+        ("hostile inputs in a small stack and in little memory", lambda: run_small(PROGRAM)),
         ("comparisons of the man page with the program's help", lambda: (1, 0) if is_page_right(PROGRAM) else (0, 1)),
         ("comparisons of the completions with the program's help", lambda: (1, 0) if are_completions_right(PROGRAM) else (0, 1)),
         ("comparisons of explanations with the documents", lambda: (1, 0) if are_explanations_right(PROGRAM) else (0, 1)),
@@ -154,6 +157,7 @@ def main():
     print(f"names of other crates' proofs: {'passed' if clean else 'FAILED'}", flush=True)
     passed, failed = told("proofs and tests", lambda: kept_proofs(words.rt) if words.quick else proofs(words.rt))
     if not failed and not words.quick:
+        note(folder_of_kit(words.rt))
         # 'rt ci' proves a static library, and builds none
         is_built = told("library for C", lambda: bool(build(words.rt, TOP)))
         passed, failed = passed + is_built, failed + (not is_built)
