@@ -1,6 +1,5 @@
 -- What an accepted specification has.
-use Rattle.std.proofs.Common.{◌≡◌, ◌≢◌, ℕ, ◌+◌, ◌^◌, ◌<◌, ◌≤◌, false, inl, inr, List, length, Some, refl, sym, subst, arith}
-use Rattle.std.proofs.lemmas.Bool.{cases_lt}
+use Rattle.std.proofs.Common.{◌≡◌, ◌≢◌, ◌+◌, ◌^◌, ◌<◌, ◌≤◌, false, List, length, Some, refl, sym, subst, arith}
 use Rattle.std.specs.Prelude.{AllPairs, Contains}
 use Rattle.cddl_token.specs.declared.Code.TheVariants.{TooManyInstances}
 use Rattle.cddl_language.specs.Faults.{HasTooManyInstances, IsAccepted, OfRoot, Specification, definitions, root_of}
@@ -16,15 +15,13 @@ use Rattle.cddl_meaning.specs.Ranks.Decided.{IsDecided}
 use Rattle.cddl_meaning.specs.Size.{size}
 use Rattle.cddl_decided.specs.Ways.{WaysEnd}
 use Rattle.cddl_decided.proofs.Founding.{group_founded, type_founded}
+use Rattle.cddl_decided.proofs.OfBounds.Few.{few_pairs}
 use Rattle.cddl_decided.proofs.Names.{IsGroup, IsType, MoreChoices, groups_have, types_have}
 use Rattle.cddl_decided.proofs.Reached.{AreInstancesOn, goes_on}
 use Rattle.cddl_decided.proofs.Ways.{all_end}
 
 few : (s : Specification) (worth : Values) (root : Text) → IsAccepted s worth → root_of s ≡ Some root → (rs : List Ref) → ((r : Ref) → Contains rs r → Reaches (definitions s) root r) → AllPairs (λ (q r : Ref). q ≢ r) rs → length rs ≤ most_instances
-few s worth root accepted e rs reached apart = elim (cases_lt most_instances (length rs)) [ inl h ↦ absurd (many h) | inr h ↦ h ]
-  where
-    many : most_instances < length rs → ⊥
-    many h = accepted TooManyInstances 0 (subst (λ o. OfRoot o (λ n. HasTooManyInstances s n 0)) (sym e) (record { instances = rs; reached = reached; distinct = apart; many = h; offset = refl }))
+few s worth root accepted e rs reached apart = few_pairs s root (λ h. accepted TooManyInstances 0 (subst (λ o. OfRoot o (λ n. HasTooManyInstances s n 0)) (sym e) h)) rs reached apart
 
 pub ways_end : ((ds : List Definition) (root : Text) → AreInstancesOn ds root) → (s : Specification) (worth : Values) (root : Text) → IsAccepted s worth → root_of s ≡ Some root → ((p : Point) → LeadsBack (definitions s) root p → ⊥) → (p : Point) → Reaches (definitions s) root (ref_at p) → WaysEnd (definitions s) p
 ways_end on s worth root accepted e none p here = all_end (definitions s) root most_instances (few s worth root accepted e) none (goes_on (definitions s) root (on (definitions s) root)) p here

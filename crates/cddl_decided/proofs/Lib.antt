@@ -1,7 +1,9 @@
 mod Accepted
+mod Apart
 mod Emptiness
 mod Founding
 mod Names
+mod OfBounds
 mod Parts
 mod Reached
 mod Ways

@@ -1,9 +1,9 @@
 -- Whatever types and groups name that are of instances alone is of instances alone, too.
 use Rattle.std.proofs.Common.{◌≡◌, ℕ, zero, suc, ◌≤◌, ltb, Bool, true, false, if◌then◌else◌, List, [], ◌∷◌, ◌++◌, map, Option, Some, None, is_some, refl, sym, ap, subst, ◌∙◌, arith}
-use Rattle.std.specs.Prelude.{Contains, flat_map}
+use Rattle.std.specs.Prelude.{Contains}
 use Rattle.std.specs.List.{list_all}
 use Rattle.std.proofs.lemmas.List.{append-nil, append_assoc}
-use Rattle.lists.proofs.Lemmas.{from_contains, to_contains, IsIn, no_some as none_is_some}
+use Rattle.lists.proofs.Lemmas.{from_contains, to_contains, no_some as none_is_some}
 use Rattle.std.proofs.lemmas.Bool.{false≢true}
 use Rattle.std.proofs.Common.{inl, inr}
 use Rattle.cbor_data.specs.Value.{Value}
@@ -11,7 +11,7 @@ use Rattle.cddl_literal.specs.Numbers.{Meaning}
 use Rattle.cddl_meaning.specs.Forms as F
 use Rattle.cddl_meaning.specs.Forms.{Most, at_most, any_number_of}
 use Rattle.cddl_language.specs.Controls as C
-use Rattle.cddl_language.specs.Numbers.{least_of, most_of, number_or_any, occurs_once, tag_number}
+use Rattle.cddl_language.specs.Numbers.{least_of, most_of, number_or_any, occurs_once}
 use Rattle.cddl_language.specs.Terms.{Text, Term, literal, named, parens, map_of, array_of, unwrapped, choice_of, choice_of_name, tagged, tagged_by, simple_by, hash, range, control, or, Ref, Group, sole, orelse, Entries, no_entries, entries, Entry, typed, keyed, grouped, Key, of_type, bareword, of_value, Definition, alternatives, choices, entry_list, name_of, occurrence_of}
 use Rattle.cddl_language.specs.Substitution.{group_choices, type_choices}
 use Rattle.cddl_language.specs.Kinds.{Opened, opens_group, opens_type, opened, is_group, Part, asks_type, names_group, opens, part_of}
@@ -22,9 +22,9 @@ use Rattle.cddl_language.specs.Choices as Ch
 use Rattle.cddl_language.specs.Choices.{can_choose, chosen, chosen_by_name, chosen_each, chosen_entries, chosen_entry, chosen_group, chosen_in, chosen_part}
 use Rattle.cddl_language.specs.Maps as M
 use Rattle.cddl_language.specs.Maps.{Alternatives, Member, alternatives_in, combined, each_needed, from, in_each, in_entries, in_entry, in_group, in_part, is_needed, map_alternatives, may_repeat, members, occurring, occurring_so, occurs, ways}
-use Rattle.cddl_language.specs.Language.{TypeName, type, reference, chosen_of, word, GroupName, first_of, each_of, entry, round, between, choice, chosen_name, chosen_names, chosen_part_name, comparand, content, control_node, entry_form, equal_to, group_form, key_name, language, map_entry, map_node, part_form, round_form, rounds_form, such_as_compares, such_as_member, term_node, type_node}
+use Rattle.cddl_language.specs.Language.{TypeName, type, reference, chosen_of, word, GroupName, first_of, each_of, entry, round, between, choice, chosen_name, chosen_names, chosen_part_name, comparand, content, control_node, equal_to, group_form, key_name, map_entry, map_node, part_form, round_form, rounds_form, such_as_compares, such_as_member, term_node, type_node}
 use Rattle.cddl_meaning.proofs.OfRanks.Lemmas.{AreAll, HasEntry, HasGroupParts, HasNumber, HasTypeParts}
-use Rattle.cddl_decided.proofs.Reached.{AreInstancesOn, all_points, both, left, nothing, of_all, of_group, one, right}
+use Rattle.cddl_decided.proofs.Reached.{AreInstancesOn, all_points, left, nothing, of_all, of_group, one, right}
 use Rattle.check_instances.specs.Closed.Closed.{AreReached}
 
 pub all_both : {A : Type 0} (P : A → Type 0) (xs ys : List A) → AreAll P xs → AreAll P ys → AreAll P (xs ++ ys)

@@ -1,8 +1,8 @@
 -- What is free in what an instance means is an instance, too.
-use Rattle.std.proofs.Common.{◌≡◌, inl, inr, List, [], ◌∷◌, ◌++◌, Some, refl, sym, ap, subst, arith}
+use Rattle.std.proofs.Common.{◌≡◌, inl, inr, List, [], ◌∷◌, ◌++◌, Some, refl, sym, subst}
 use Rattle.std.specs.Prelude.{Contains}
 use Rattle.lists.proofs.Lemmas.{IsIn, from_contains, in_cases, in_left, in_right, to_contains}
-use Rattle.cddl_language.specs.Terms.{Text, Term, Ref, Group, sole, orelse, Entries, no_entries, entries, Entry, typed, keyed, grouped, Definition, alternatives}
+use Rattle.cddl_language.specs.Terms.{Text, Term, Ref, Group, sole, orelse, Entries, Entry, Definition, alternatives}
 use Rattle.cddl_language.specs.Substitution.{group_choices, type_choices}
 use Rattle.cddl_language.specs.Kinds.{opens_group, opens_type, opened, names_group, opens, part_of}
 use Rattle.cddl_language.specs.Reach.{Point, Reaches, at_choice, at_chosen_name, at_name, at_opened_choice, at_unwrapping, entries_points, entry_points, group_points, key_points, points, ref_at}
@@ -24,6 +24,10 @@ pub record AreInstancesOn (ds : List Definition) (root : Text) : Type 0 where
   pub named : (t : Term) (r : Ref) → AreReached ds root (points t) → part_of ds t ≡ names_group r → Reaches ds root r
   pub opening : (t : Term) (r : Ref) (g : Group) → AreReached ds root (points t) → part_of ds t ≡ opens r g → Reaches ds root r
   pub opened : (t : Term) (r : Ref) (g : Group) → AreReached ds root (points t) → part_of ds t ≡ opens r g → AreReached ds root (group_points g)
+
+-- as the laws of instances have them
+pub instances_on : ((ds : List Definition) (root : Text) (r : Ref) (t : Term) → Reaches ds root r → Contains (type_choices ds r) t → AreReached ds root (points t)) → ((ds : List Definition) (root : Text) (r : Ref) (es : Entries) → Reaches ds root r → Contains (group_choices ds r) es → AreReached ds root (entries_points es)) → ((ds : List Definition) (root : Text) (r : Ref) (g : Group) → Reaches ds root r → opened ds r ≡ Some (opens_group g) → AreReached ds root (group_points g)) → ((ds : List Definition) (root : Text) (r : Ref) (t : Term) → Reaches ds root r → opened ds r ≡ Some (opens_type t) → AreReached ds root (points t)) → ((ds : List Definition) (root : Text) (t : Term) (r : Ref) → AreReached ds root (points t) → part_of ds t ≡ names_group r → Reaches ds root r) → ((ds : List Definition) (root : Text) (t : Term) (r : Ref) (g : Group) → AreReached ds root (points t) → part_of ds t ≡ opens r g → Reaches ds root r) → ((ds : List Definition) (root : Text) (t : Term) (r : Ref) (g : Group) → AreReached ds root (points t) → part_of ds t ≡ opens r g → AreReached ds root (group_points g)) → (ds : List Definition) (root : Text) → AreInstancesOn ds root
+instances_on types group opened_group content named opening opened ds root = record { types = types ds root; group = group ds root; opened_group = opened_group ds root; content = content ds root; named = named ds root; opening = opening ds root; opened = opened ds root }
 
 module _ (ds : List Definition) (root : Text) where
   abbrev Reached : List Point → Type 0

@@ -19,6 +19,8 @@ use cddl_language::{accepted_has_no_cycle, accepted_root_is_type, more_names_cha
 use check_instances::closed::laws::meanings_are_reached;
 use check_instances::openings::laws::{opened_is_reached, part_is_reached};
 
+pub mod bounds;
+
 /// Entries may be empty, as free references are told, where each of them may take no item by its form. It is so of any definitions.
 pub fn empty_by_form()
     ensures { (worth : Values) (ds : List Definition) (es : Entries) → AllMayBeEmpty (language worth ds) (map entry (entry_list es)) → MayBeEmpty ds es }

@@ -1,0 +1,16 @@
+pub mod After
+pub mod Choosing
+pub mod Enough
+pub mod Few
+pub mod GroupNames
+pub mod Heights
+pub mod Led
+pub mod Literals
+pub mod Mapping
+pub mod Members
+pub mod Naming
+pub mod Openings
+pub mod Places
+pub mod Points
+pub mod Sited
+pub mod Unsized
