@@ -1,5 +1,5 @@
 -- What an accepted specification has.
-use Rattle.std.proofs.Common.{◌≡◌, ◌≢◌, ◌+◌, ◌^◌, ◌<◌, ◌≤◌, false, List, length, Some, refl, sym, subst, arith}
+use Rattle.std.proofs.Common.{◌≡◌, ◌≢◌, ◌+◌, ◌^◌, ◌<◌, ◌≤◌, false, List, length, Some, sym, subst, arith}
 use Rattle.std.specs.Prelude.{AllPairs, Contains}
 use Rattle.cddl_token.specs.declared.Code.TheVariants.{TooManyInstances}
 use Rattle.cddl_language.specs.Faults.{HasTooManyInstances, IsAccepted, OfRoot, Specification, definitions, root_of}

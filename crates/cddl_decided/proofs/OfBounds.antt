@@ -10,6 +10,7 @@ pub mod Mapping
 pub mod Members
 pub mod Naming
 pub mod Openings
+pub mod Operands
 pub mod Places
 pub mod Points
 pub mod Sited

@@ -1,18 +1,24 @@
 //! That definitions which go through so many names at most lose nothing by it: what is found through any number of names is found
 //! through these. A way through more names than there are comes back to one. The functions here do nothing: their contracts are laws.
 
-ghost use Rattle.std.specs.Prelude.{◌≡◌, ℕ, List, Some, flat_map, true};
+ghost use Rattle.std.specs.Prelude.{◌≡◌, ℕ, List, [], ◌∷◌, None, Some, flat_map, true};
 ghost use Rattle.cddl_language.specs.Choices.{chosen_in};
-ghost use Rattle.cddl_language.specs.Controls.{Membership};
-ghost use Rattle.cddl_language.specs.Faults.{Specification, definitions};
+ghost use Rattle.cddl_language.specs.Controls.{Membership, of_bits};
+ghost use Rattle.cddl_language.specs.Examples.{worth};
+ghost use Rattle.cddl_language.specs.Faults.{Specification, definitions, rules};
 ghost use Rattle.cddl_language.specs.Kinds.{Opened, is_group, is_group_in, opened, opened_in};
 ghost use Rattle.cddl_language.specs.Literals.{Values, literal_in, literal_of};
 ghost use Rattle.cddl_language.specs.Maps.{Alternatives, alternatives_in, alternatives_of};
 ghost use Rattle.cddl_language.specs.Reach.{Reaches, entries_points, most_instances, points, points_in};
+ghost use Rattle.cddl_language.specs.Reading.{parameters_in, term_of2};
+ghost use Rattle.cddl_language.specs.Sites.{IsReached, an_operation};
 ghost use Rattle.cddl_language.specs.Sizes.{Sizes, a_type, members_in, members_of, sizes_in, sizes_of};
+ghost use Rattle.cddl_language.specs.Substitution.{fill};
 ghost use Rattle.cddl_language.specs.Terms.{Definition, Entries, Ref, Term, Text};
 ghost use Rattle.cddl_literal.specs.Numbers.{Meaning};
+ghost use Rattle.tree_nodes.specs.Syntax.Syntax.{Operator, Rule, Type2};
 ghost use Rattle.check_instances.specs.Closed.Closed.{AreReached};
+ghost use Rattle.cddl_decided.specs.Bounds.Example.{after_a, both_ways};
 ghost use Rattle.cddl_decided.specs.Bounds.Untold.{ChooseGroups, HasFewInstances, NamesNoGroupAsType};
 
 use cddl_language::more_names_change_nothing;
@@ -47,7 +53,17 @@ pub fn instances_are_enough()
     opened_names_are_types();
 }
 
-/// Where no type stands after `&` in the text (C7), none does in what an instance means: each name there is a group's.
+/// Where no type stands after `&` in the text (C7), none does in what an instance means, nor in an operand of a range or a control
+/// with the arguments of the instance in it, at a site that is reached: each name there is a group's.
 pub fn choices_name_groups()
-    ensures { (s : Specification) → NamesNoGroupAsType s → (root : Text) (r : Ref) → Reaches (definitions s) root r → ChooseGroups (definitions s) (points_in (definitions s) r) }
+    ensures meaning { (s : Specification) → NamesNoGroupAsType s → (root : Text) (r : Ref) → Reaches (definitions s) root r → ChooseGroups (definitions s) (points_in (definitions s) r) }
+    ensures first { (s : Specification) → NamesNoGroupAsType s → (root : Text) (r : Rule) (xs : List Term) (x y : Type2) (o : Operator) → IsReached (rules s) root r xs (an_operation x o y) → ChooseGroups (definitions s) (points (fill (parameters_in r) xs (term_of2 x))) }
+    ensures last { (s : Specification) → NamesNoGroupAsType s → (root : Text) (r : Rule) (xs : List Term) (x y : Type2) (o : Operator) → IsReached (rules s) root r xs (an_operation x o y) → ChooseGroups (definitions s) (points (fill (parameters_in r) xs (term_of2 y))) }
+{}
+
+/// Why `members` asks that no type stands after `&`: the way from `&a` to these bits passes four names, each of two as a type and
+/// as a group.
+pub fn types_count_twice()
+    ensures three { members_in of_bits worth both_ways 3 (a_type after_a) ≡ None }
+    ensures four { members_in of_bits worth both_ways 4 (a_type after_a) ≡ Some ((5, 5) ∷ (5, 5) ∷ (5, 5) ∷ []) }
 {}

@@ -106,22 +106,25 @@ module _ (s : Specification) (none : NamesNoGroupAsType s) where
   abbrev pub NamesGroup : Text → Type 0
   NamesGroup n = is_group (definitions s) n ≡ true
 
+  of_group : (b c : Bool) → (if b then false else c) ≡ true → c ≡ true
+  of_group true c e = absurd (false≢true e)
+  of_group false c e = e
+
+  at_sites : (r : S.Rule) → Contains (rules s) r → (t : Token) (f : S.Ref) → Contains (sites r) (a_choice_of_name t f) → NamesGroup (ref_name f)
+  at_sites r i t f c = by (names_a_group s r f) refl
+    where
+      by : (b : Bool) → names_a_group s r f ≡ b → NamesGroup (ref_name f)
+      by true e = of_group (is_parameter r (ref_name f)) (is_group (definitions s) (ref_name f)) e
+      by false e = absurd (none (L.ref_token f).start (type_name (record { rule = i; site = c }) e refl))
+
+  pub rule_names_groups : (r : S.Rule) → Contains (rules s) r → AllInBody NamesGroup (body_of r)
+  rule_names_groups r i = in_rule NamesGroup r (at_sites r i)
+
   all_name_groups : AllDefinitions NamesGroup (definitions s)
   all_name_groups = in_rules NamesGroup (rules s) at_sites
-    where
-      of_group : (b c : Bool) → (if b then false else c) ≡ true → c ≡ true
-      of_group true c e = absurd (false≢true e)
-      of_group false c e = e
-
-      at_sites : (r : S.Rule) → Contains (rules s) r → (t : Token) (f : S.Ref) → Contains (sites r) (a_choice_of_name t f) → NamesGroup (ref_name f)
-      at_sites r i t f c = by (names_a_group s r f) refl
-        where
-          by : (b : Bool) → names_a_group s r f ≡ b → NamesGroup (ref_name f)
-          by true e = of_group (is_parameter r (ref_name f)) (is_group (definitions s) (ref_name f)) e
-          by false e = absurd (none (L.ref_token f).start (type_name (record { rule = i; site = c }) e refl))
 
   module _ (root : Text) (r : Ref) (here : Reaches (definitions s) root r) where
-    of_reached : AllInRef NamesGroup r
+    pub of_reached : AllInRef NamesGroup r
     of_reached = in_reached NamesGroup (definitions s) root r all_name_groups here
 
     pub types_choose : (t : Term) → Contains (type_choices (definitions s) r) t → AllPoints NamesGroup (points t)
