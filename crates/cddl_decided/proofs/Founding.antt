@@ -28,7 +28,8 @@ use Rattle.cddl_meaning.proofs.OfRanks.Lemmas.{AreAll, IsFounded, founded}
 use Rattle.cddl_decided.proofs.Emptiness.{empty_entries}
 use Rattle.cddl_decided.proofs.Names.{IsGroup, IsType, MoreChoices, all_both, all_mapped, names_have}
 use Rattle.cddl_decided.proofs.Parts.{named_group, opened_group}
-use Rattle.cddl_decided.proofs.Reached.{AreInstancesOn, all_points, choice as choice_reached, each, entry as entry_reached, free, goes_on, in_all, left, of_all, of_group, right}
+use Rattle.cddl_decided.proofs.Points.{all_points}
+use Rattle.cddl_decided.proofs.Reached.{AreInstancesOn, choice as choice_reached, each, entry as entry_reached, free, goes_on, in_all, left, of_all, of_group, right}
 
 at_all : {A : Type 0} (P : A → Type 0) (xs : List A) → AreAll P xs → (x : A) → IsIn x xs → P x
 at_all P [] h x i = absurd i

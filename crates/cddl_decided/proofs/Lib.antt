@@ -5,5 +5,6 @@ mod Founding
 mod Names
 mod OfBounds
 mod Parts
+mod Points
 mod Reached
 mod Ways

@@ -24,7 +24,8 @@ use Rattle.cddl_language.specs.Maps as M
 use Rattle.cddl_language.specs.Maps.{Alternatives, Member, alternatives_in, combined, each_needed, from, in_each, in_entries, in_entry, in_group, in_part, is_needed, map_alternatives, may_repeat, members, occurring, occurring_so, occurs, ways}
 use Rattle.cddl_language.specs.Language.{TypeName, type, reference, chosen_of, word, GroupName, first_of, each_of, entry, round, between, choice, chosen_name, chosen_names, chosen_part_name, comparand, content, control_node, equal_to, group_form, key_name, map_entry, map_node, part_form, round_form, rounds_form, such_as_compares, such_as_member, term_node, type_node}
 use Rattle.cddl_meaning.proofs.OfRanks.Lemmas.{AreAll, HasEntry, HasGroupParts, HasNumber, HasTypeParts}
-use Rattle.cddl_decided.proofs.Reached.{AreInstancesOn, all_points, left, nothing, of_all, of_group, one, right}
+use Rattle.cddl_decided.proofs.Points.{all_points}
+use Rattle.cddl_decided.proofs.Reached.{AreInstancesOn, left, nothing, of_all, of_group, one, right}
 use Rattle.check_instances.specs.Closed.Closed.{AreReached}
 
 pub all_both : {A : Type 0} (P : A → Type 0) (xs ys : List A) → AreAll P xs → AreAll P ys → AreAll P (xs ++ ys)

@@ -12,6 +12,5 @@ pub mod Naming
 pub mod Openings
 pub mod Operands
 pub mod Places
-pub mod Points
 pub mod Sited
 pub mod Unsized

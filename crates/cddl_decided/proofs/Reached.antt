@@ -1,19 +1,15 @@
 -- What is free in what an instance means is an instance, too.
-use Rattle.std.proofs.Common.{◌≡◌, inl, inr, List, [], ◌∷◌, ◌++◌, Some, refl, sym, subst}
+use Rattle.std.proofs.Common.{◌≡◌, inl, inr, List, [], ◌∷◌, ◌++◌, Some, sym, subst}
 use Rattle.std.specs.Prelude.{Contains}
-use Rattle.lists.proofs.Lemmas.{IsIn, from_contains, in_cases, in_left, in_right, to_contains}
-use Rattle.cddl_language.specs.Terms.{Text, Term, Ref, Group, sole, orelse, Entries, Entry, Definition, alternatives}
+use Rattle.lists.proofs.Lemmas.{IsIn}
+use Rattle.cddl_language.specs.Terms.{Text, Term, Ref, Group, Entries, Entry, Definition, alternatives}
 use Rattle.cddl_language.specs.Substitution.{group_choices, type_choices}
 use Rattle.cddl_language.specs.Kinds.{opens_group, opens_type, opened, names_group, opens, part_of}
 use Rattle.cddl_language.specs.Reach.{Point, Reaches, at_choice, at_chosen_name, at_name, at_opened_choice, at_unwrapping, entries_points, entry_points, group_points, key_points, points, ref_at}
 use Rattle.cddl_language.specs.Free as F
 use Rattle.cddl_language.specs.Free.{IsFree, IsFreeInSome, IsFreeInEach, IsFreeInEntry, IsFreeInChoice, IsFreeInChosen, IsFreeInChosenEntry, IsFreeInMeaning}
 use Rattle.check_instances.specs.Closed.Closed.{AreReached}
-
--- the points of all these alternatives
-abbrev pub all_points : List Entries → List Point
-all_points [] = []
-all_points (es ∷ ess) = entries_points es ++ all_points ess
+use Rattle.cddl_decided.proofs.Points.{all_points, all_stand, group_stand, left_stand, none_stand, one_stands, right_stand}
 
 -- the references in what an instance means or opens, and in what an entry names or opens
 pub record AreInstancesOn (ds : List Definition) (root : Text) : Type 0 where
@@ -34,33 +30,24 @@ module _ (ds : List Definition) (root : Text) where
   Reached ps = AreReached ds root ps
 
   pub one : (p : Point) → Reached (p ∷ []) → Reaches ds root (ref_at p)
-  one p h = h p (to_contains (p ∷ []) p (inl refl))
+  one p h = one_stands (λ q. Reaches ds root (ref_at q)) p h
 
   pub left : (ps qs : List Point) → Reached (ps ++ qs) → Reached ps
-  left ps qs h p c = h p (to_contains (ps ++ qs) p (in_left ps qs p (from_contains ps p c)))
+  left ps qs h = left_stand (λ q. Reaches ds root (ref_at q)) ps qs h
 
   pub right : (ps qs : List Point) → Reached (ps ++ qs) → Reached qs
-  right ps qs h p c = h p (to_contains (ps ++ qs) p (in_right ps qs p (from_contains qs p c)))
-
-  pub both : (ps qs : List Point) → Reached ps → Reached qs → Reached (ps ++ qs)
-  both ps qs h k p c = elim (in_cases ps qs p (from_contains (ps ++ qs) p c)) [ inl i ↦ h p (to_contains ps p i) | inr i ↦ k p (to_contains qs p i) ]
+  right ps qs h = right_stand (λ q. Reaches ds root (ref_at q)) ps qs h
 
   pub nothing : Reached []
-  nothing p c = absurd (from_contains [] p c)
-
-  both_all : (xs ys : List Entries) → Reached (all_points xs) → Reached (all_points ys) → Reached (all_points (xs ++ ys))
-  both_all [] ys h k = k
-  both_all (x ∷ xs) ys h k = both (entries_points x) (all_points (xs ++ ys)) (left (entries_points x) (all_points xs) h) (both_all xs ys (right (entries_points x) (all_points xs) h) k)
+  nothing = none_stand (λ q. Reaches ds root (ref_at q))
 
   -- of the alternatives of a group
   pub of_group : (g : Group) → Reached (group_points g) → Reached (all_points (alternatives g))
-  of_group (sole es) h = both (entries_points es) [] h nothing
-  of_group (orelse g es) h = both_all (alternatives g) (es ∷ []) (of_group g (left (group_points g) (entries_points es) h)) (both (entries_points es) [] (right (group_points g) (entries_points es) h) nothing)
+  of_group g h = group_stand (λ q. Reaches ds root (ref_at q)) g h
 
   -- of what a name means as a group
   pub of_all : (ess : List Entries) → ((es : Entries) → Contains ess es → Reached (entries_points es)) → Reached (all_points ess)
-  of_all [] h = nothing
-  of_all (es ∷ ess) h = both (entries_points es) (all_points ess) (h es (to_contains (es ∷ ess) es (inl refl))) (of_all ess (λ fs c. h fs (to_contains (es ∷ ess) fs (inr (from_contains ess fs c)))))
+  of_all ess h = all_stand (λ q. Reaches ds root (ref_at q)) ess h
 
   -- of one of these alternatives
   pub in_all : (ess : List Entries) (es : Entries) → IsIn es ess → Reached (all_points ess) → Reached (entries_points es)

@@ -1,5 +1,5 @@
-//! That definitions which go through so many names at most lose nothing by it: what is found through any number of names is found
-//! through these. A way through more names than there are comes back to one. The functions here do nothing: their contracts are laws.
+//! Definitions that go through so many names at most lose nothing by it: what is found through any number of names is found
+//! through these, and is the same. The functions here do nothing: their contracts are laws.
 
 ghost use Rattle.std.specs.Prelude.{◌≡◌, ℕ, List, [], ◌∷◌, None, Some, flat_map, true};
 ghost use Rattle.cddl_language.specs.Choices.{chosen_in};
@@ -35,9 +35,10 @@ pub fn names_are_enough()
     more_names_change_nothing();
 }
 
-/// Where a root leads to no more instances than may be, what is asked of terms in which all references are instances is found
-/// through as many names as there may be instances, if it is through any number: the literal that a type is, the sizes of a type,
-/// the types from which `&` chooses, and the alternatives of a group in a map.
+/// Where a root leads to no more instances than may be (C10), what is asked of terms all of whose references are instances is found
+/// through as many names as there may be instances, if it is through any number: the literal that a type is, its sizes, the types
+/// from which `&` chooses, and the alternatives of a group in a map. So are the members of a controller, where no type stands after
+/// `&` (C7).
 pub fn instances_are_enough()
     ensures literal { (s : Specification) (root : Text) → HasFewInstances s root → (worth : Values) (t : Term) → AreReached (definitions s) root (points t) → (n : ℕ) (m : Meaning) → literal_in worth (definitions s) n t ≡ Some m → literal_of worth (definitions s) t ≡ Some m }
     ensures sizes { (s : Specification) (root : Text) → HasFewInstances s root → (worth : Values) (t : Term) → AreReached (definitions s) root (points t) → (n : ℕ) (rs : Sizes) → sizes_in worth (definitions s) n t ≡ Some rs → sizes_of worth (definitions s) t ≡ Some rs }

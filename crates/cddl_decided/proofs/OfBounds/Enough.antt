@@ -14,12 +14,12 @@ use Rattle.cddl_language.specs.Substitution.{group_choices, type_choices}
 use Rattle.cddl_language.specs.Terms.{Entries, Group, Ref, Term, Text}
 use Rattle.check_instances.specs.Closed.Closed.{AreReached}
 use Rattle.cddl_decided.specs.Bounds.Untold.{ChooseGroups, HasFewInstances, NamesNoGroupAsType}
-use Rattle.cddl_decided.proofs.Reached.{AreInstancesOn, all_points}
+use Rattle.cddl_decided.proofs.Points.{AllStand, all_points}
+use Rattle.cddl_decided.proofs.Reached.{AreInstancesOn}
 use Rattle.cddl_decided.proofs.OfBounds.Choosing.{MoreChosen, chosen_enough}
 use Rattle.cddl_decided.proofs.OfBounds.Mapping.{MoreAlternatives, alternatives_enough}
 use Rattle.cddl_decided.proofs.OfBounds.Members.{MoreMembers, members_enough}
 use Rattle.cddl_decided.proofs.OfBounds.Places.{AreTypes}
-use Rattle.cddl_decided.proofs.OfBounds.Points.{AllStand}
 use Rattle.cddl_decided.proofs.OfBounds.Sited.{IsOfGroup, group_chooses, opened_chooses, points_choose, types_choose}
 
 flat_points : (ess : List Entries) → flat_map entries_points ess ≡ all_points ess

@@ -10,7 +10,8 @@ use Rattle.cddl_language.specs.Substitution.{group_choices}
 use Rattle.cddl_language.specs.Terms.{Definition, Entries, no_entries, entries, Entry, typed, keyed, grouped, Group, sole, orelse, Term, Text, alternatives}
 use Rattle.check_instances.specs.Closed.Closed.{AreReached}
 use Rattle.cddl_decided.proofs.Parts.{opened_group}
-use Rattle.cddl_decided.proofs.Reached.{AreInstancesOn, all_points, left, right}
+use Rattle.cddl_decided.proofs.Points.{all_points}
+use Rattle.cddl_decided.proofs.Reached.{AreInstancesOn, left, right}
 use Rattle.cddl_decided.proofs.OfBounds.Few.{IsPlaced, Place, group_of, opened_of}
 use Rattle.cddl_decided.proofs.OfBounds.Heights.{IsFirst, first_of_both}
 use Rattle.cddl_decided.proofs.OfBounds.Places.{AreTypes, before, group_at, group_told, named_place, opened_alternatives, opened_place}

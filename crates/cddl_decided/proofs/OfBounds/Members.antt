@@ -14,11 +14,11 @@ use Rattle.cddl_language.specs.Substitution.{group_choices, type_choices}
 use Rattle.cddl_language.specs.Terms.{Definition, Entries, no_entries, entries, Entry, typed, keyed, grouped, Group, sole, orelse, Ref, Term, literal, named, parens, choice_of, choice_of_name, range, control, or, Text, name_of}
 use Rattle.check_instances.specs.Closed.Closed.{AreReached}
 use Rattle.cddl_decided.proofs.Parts.{opened_group}
-use Rattle.cddl_decided.proofs.Reached.{AreInstancesOn, all_points}
+use Rattle.cddl_decided.proofs.Points.{AllStand, all_points, all_stand, group_stand, left_stand, none_stand, one_stands, right_stand}
+use Rattle.cddl_decided.proofs.Reached.{AreInstancesOn}
 use Rattle.cddl_decided.proofs.OfBounds.Few.{IsPlaced, Place, few_places, group_of, opened_of, place_by, place_of, type_of}
 use Rattle.cddl_decided.proofs.OfBounds.Heights.{IsFirst, finds_more, first_if, first_of_both, is_found, is_low, is_told, not_both}
 use Rattle.cddl_decided.proofs.OfBounds.Places.{AreTypes, named_place, opened_alternatives, opened_place}
-use Rattle.cddl_decided.proofs.OfBounds.Points.{AllStand, all_stand, group_stand, left_stand, none_stand, one_stands, right_stand}
 use Rattle.cddl_decided.proofs.OfBounds.Unsized.{opened_unsized, sizes_before}
 
 one_of_both : (o q p s : Option Sizes) → IsFirst (both_sizes o q) (both_sizes p s) → IsFirst o p ⊎ IsFirst q s

@@ -8,7 +8,8 @@ use Rattle.cddl_language.specs.Substitution.{group_choices}
 use Rattle.cddl_language.specs.Terms.{Definition, Entries, Group, Ref, Term, Text, alternatives, name_of}
 use Rattle.check_instances.specs.Closed.Closed.{AreReached}
 use Rattle.cddl_decided.proofs.Parts.{named_group, opened_group}
-use Rattle.cddl_decided.proofs.Reached.{AreInstancesOn, all_points, nothing, of_all, of_group}
+use Rattle.cddl_decided.proofs.Points.{all_points}
+use Rattle.cddl_decided.proofs.Reached.{AreInstancesOn, nothing, of_all, of_group}
 use Rattle.cddl_decided.proofs.OfBounds.Few.{IsPlaced, Place, few_places, group_of, opened_of, place_by, type_of}
 use Rattle.cddl_decided.proofs.OfBounds.Heights.{IsFirst, finds_more, is_found, is_low, is_told}
 
