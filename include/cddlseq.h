@@ -51,7 +51,9 @@ enum cddlseq_status {
     /* The code of a refusal is no enum cddlseq_code. */
     CDDLSEQ_BAD_REFUSAL = 12,
     /* The name of the file is not UTF-8. */
-    CDDLSEQ_BAD_FILE = 13
+    CDDLSEQ_BAD_FILE = 13,
+    /* The word names no code and no cause. */
+    CDDLSEQ_BAD_WORD = 14
 };
 
 /* What is wrong with a text. */
@@ -228,6 +230,15 @@ uint32_t cddlseq_explain(
     const uint8_t *root, size_t root_length,
     const uint8_t *file, size_t file_length,
     const struct cddlseq_refusal *refusal,
+    uint8_t *buffer, size_t buffer_length,
+    size_t *needed);
+
+/* Explains what a word names: the code of a refused text, by its number or its name, as "C3" or "Undefined", or the cause of a failed
+   stream, by the words of its line, as "mismatch", in any case of their letters. Writes to the front of the buffer, in whole lines, of a
+   code what is wrong, which byte is told and an example, and of a cause what it says, with an example. CDDLSEQ_OK, or _NO_ROOM, with
+   'needed' as above; or, and then nothing is written and 'needed' is 0: _BAD_WORD and _NO_MEMORY. */
+uint32_t cddlseq_explain_word(
+    const uint8_t *word, size_t word_length,
     uint8_t *buffer, size_t buffer_length,
     size_t *needed);
 

@@ -1,14 +1,16 @@
-//! A refusal is explained.
+//! A refusal is explained, and what a code or a cause means.
 
 ghost use Rattle.std.specs.Prelude.{◌≡◌, ◌≢◌, IfNone, IfSome, IsUtf8, option_map};
 ghost use Rattle.cddl_token.specs.declared.Code.{Code as AnyCode};
 ghost use Rattle.cddlseq_c.specs.Answers.{root_name};
-ghost use Rattle.cddlseq_c.specs.Explained.{IsExplained};
+ghost use Rattle.cddlseq_c.specs.Explained.{IsExplained, IsWordExplained};
 ghost use Rattle.cddlseq_c.specs.Told.{number_of_code};
 
 use crate::running::put;
-use crate::told::{BAD_FILE, BAD_REFUSAL, BAD_ROOT, CddlseqRefusal, NO_MEMORY, NO_ROOM, OK};
-use cddl_explain::explained_refusal;
+use crate::told::{
+    BAD_FILE, BAD_REFUSAL, BAD_ROOT, BAD_WORD, CddlseqRefusal, NO_MEMORY, NO_ROOM, OK,
+};
+use cddl_explain::{explained_refusal, explanation, subject_of};
 use cddl_token::Code;
 use std::alloc::Global;
 use std::str;
@@ -38,6 +40,34 @@ pub extern "C" fn cddlseq_explain(
         return BAD_ROOT;
     };
     match explained_refusal(alloc, code, refusal.offset, file, text, root) {
+        Ok(told) => {
+            let bytes = told.as_str().as_bytes();
+            *needed = bytes.len();
+            if put(bytes, out) { OK } else { NO_ROOM }
+        }
+        Err(_) => NO_MEMORY,
+    }
+}
+
+/// Writes what is said of the code or the cause that a word names: of a code what is wrong, which byte is told and an example, and
+/// of a cause what it says, with an example.
+#[unsafe(no_mangle)]
+pub extern "C" fn cddlseq_explain_word(
+    alloc: Global,
+    word: &[u8],
+    out: &mut [u8],
+    needed: &mut usize,
+) -> u32
+    ensures { IsWordExplained word.now out.old out.new needed.new result }
+{
+    *needed = 0;
+    let Ok(word) = str::from_utf8(word) else {
+        return BAD_WORD;
+    };
+    let Some(subject) = subject_of(word) else {
+        return BAD_WORD;
+    };
+    match explanation(alloc, subject) {
         Ok(told) => {
             let bytes = told.as_str().as_bytes();
             *needed = bytes.len();

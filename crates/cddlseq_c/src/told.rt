@@ -53,6 +53,9 @@ pub const BAD_REFUSAL: u32 = 12;
 /// The name of the file is not UTF-8.
 pub const BAD_FILE: u32 = 13;
 
+/// The word names no code and no cause.
+pub const BAD_WORD: u32 = 14;
+
 /// What is told of a text.
 #[repr(C)]
 #[derive(Clone, Copy)]
