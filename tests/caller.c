@@ -1,9 +1,9 @@
-// The commands check, validate, rewrite and show over the calls of include/cddlseq.h, so that the rows and the tests of the program can
-// be run on the library. It says what the program says, but for misuse, and reads a stream whole before it writes. What validate says
-// of a stream has to be what a session says of it, however it is cut into pieces.
+// The commands check, validate, rewrite, show and explain over the calls of include/cddlseq.h, so that the rows and the tests of the
+// program can be run on the library. It says what the program says, but for misuse, and reads a stream whole before it writes. What
+// validate says of a stream has to be what a session says of it, however it is cut into pieces.
 #include "cddlseq.h"
-#include <errno.h>
 #include <fcntl.h>
+#include <signal.h>
 #include <stdint.h>
 #include <stdio.h>
 #include <stdlib.h>
@@ -15,11 +15,14 @@ enum { BROKEN = 3, LONGEST_TEXT = 1048577, LONGEST_IN_PIECES = 1 << 17 };
 // The specification that show reads.
 static const char any[] = "a = any";
 
+// 'is_cut': a read failed behind them.
 struct bytes {
     uint8_t *at;
     size_t length, room;
+    int is_cut;
 };
 
+// Of 'explain' the specification is the word.
 struct options {
     const char *command, *spec, *stream, *root;
     int quiet, deterministic, explain;
@@ -34,19 +37,36 @@ static const char *const codes[] = {
     "C18 TooManyAlternatives",
 };
 
-static void put(int device, const uint8_t *bytes, size_t length) {
-    while (length > 0) {
-        ssize_t taken = write(device, bytes, length);
+// Writes the bytes, and returns how many the device took: fewer where a write failed.
+static size_t put(int device, const uint8_t *bytes, size_t length) {
+    size_t written = 0;
+    while (written < length) {
+        ssize_t taken = write(device, bytes + written, length - written);
         if (taken <= 0) {
-            return;
+            break;
         }
-        bytes += taken;
-        length -= (size_t)taken;
+        written += (size_t)taken;
     }
+    return written;
 }
 
+// A failed write of what is said is passed over.
 static void say(const char *text) {
     put(2, (const uint8_t *)text, strlen(text));
+}
+
+// Says how far it came.
+static int broken_after(const char *what, uint64_t number, const char *of) {
+    char line[64];
+    snprintf(line, sizeof line, "%s failed after %llu %s\n", what, (unsigned long long)number, of);
+    say(line);
+    return BROKEN;
+}
+
+// Writes the bytes to standard output. Returns this status, or that of a failed write.
+static int answer(const uint8_t *bytes, size_t length, int status) {
+    size_t written = put(1, bytes, length);
+    return written == length ? status : broken_after("write", written, "bytes");
 }
 
 static int no_memory(void) {
@@ -55,17 +75,43 @@ static int no_memory(void) {
 }
 
 static int misuse(void) {
-    say("usage: caller check|validate|rewrite|show [OPTION..] SPEC [FILE]\n");
+    say("usage: caller check|validate|rewrite|show|explain [OPTION..] SPEC [FILE]\n");
     return BROKEN;
 }
 
-// Says that a file cannot be used; control characters of its name as their numbers.
-static int bad_file(const char *what, const char *name) {
+// The character at the front of a word, and how many bytes it has: none where they are no UTF-8.
+static size_t character(const char *word, uint32_t *it) {
+    const unsigned char *bytes = (const unsigned char *)word;
+    static const uint32_t least[] = {0, 0, 0x80, 0x800, 0x10000};
+    size_t length = *bytes < 0x80 ? 1 : *bytes < 0xc0 ? 0 : *bytes < 0xe0 ? 2 : *bytes < 0xf0 ? 3 : *bytes < 0xf8 ? 4 : 0;
+    *it = length == 1 ? *bytes : *bytes & (0x7fu >> length);
+    for (size_t at = 1; at < length; at++) {
+        if ((bytes[at] & 0xc0) != 0x80) {
+            return 0;
+        }
+        *it = *it << 6 | (bytes[at] & 0x3f);
+    }
+    int is_surrogate = *it >= 0xd800 && *it < 0xe000;
+    return *it < least[length] || *it > 0x10ffff || is_surrogate ? 0 : length;
+}
+
+// Whether a character is shown as its number: a control character, or one that changes the order of others.
+static int is_escaped(uint32_t it) {
+    return it < 0x20 || (it >= 0x7f && it < 0xa0) || (it >= 0x202a && it <= 0x202e) || (it >= 0x2066 && it <= 0x2069);
+}
+
+// Says a line that ends with a word, some of whose characters are shown as their numbers.
+static int say_of(const char *what, const char *word) {
+    uint32_t it;
     say(what);
-    for (; *name; name++) {
+    for (size_t length; *word; word += length) {
         char shown[8];
-        int is_control = (unsigned char)*name < 32 || *name == 127;
-        snprintf(shown, sizeof shown, is_control ? "\\u%04x" : "%c", (unsigned char)*name);
+        length = character(word, &it);
+        if (is_escaped(it)) {
+            snprintf(shown, sizeof shown, "\\u%04x", (unsigned)it);
+        } else {
+            snprintf(shown, sizeof shown, "%.*s", (int)length, word);
+        }
         say(shown);
     }
     say("\n");
@@ -88,7 +134,7 @@ static int has_room(struct bytes *it, size_t room) {
 static int read_file(const char *name, size_t most, struct bytes *into) {
     int device = name ? open(name, O_RDONLY) : 0, status = 0;
     if (device < 0) {
-        return bad_file("cannot open ", name);
+        return say_of("cannot open ", name);
     }
     while (into->length < most) {
         if (into->length == into->room && !has_room(into, 2 * into->room + 4096)) {
@@ -97,9 +143,7 @@ static int read_file(const char *name, size_t most, struct bytes *into) {
         }
         size_t left = into->room - into->length;
         ssize_t count = read(device, into->at + into->length, left < most - into->length ? left : most - into->length);
-        if (count < 0) {
-            status = bad_file("cannot read ", name ? name : "-");
-        }
+        into->is_cut = count < 0;
         if (count <= 0) {
             break;
         }
@@ -244,9 +288,30 @@ static int is_same_in_pieces(
     return is_same;
 }
 
+// Whether a read failed before the end of the stream was known, and how far it was taken.
+static int is_cut_off(const struct options *options, const struct bytes *text, const struct bytes *stream, struct cddlseq_end *end) {
+    const uint8_t *root = (const uint8_t *)(options->root ? options->root : "");
+    struct cddlseq_refusal refusal;
+    struct cddlseq_session session = CDDLSEQ_NOTHING;
+    cddlseq_begin(text->at, text->length, root, strlen((const char *)root), &options->limits, &refusal, &session);
+    int is_open = cddlseq_feed_all(&session, stream->at, stream->length, end) == CDDLSEQ_OK;
+    cddlseq_discard(&session);
+    return stream->is_cut && is_open;
+}
+
+// How long the lines are but for the last one.
+static size_t before_last_line(const struct bytes *lines) {
+    size_t length = lines->length ? lines->length - 1 : 0;
+    while (length > 0 && lines->at[length - 1] != '\n') {
+        length--;
+    }
+    return length;
+}
+
 static int validate(
     const struct options *options, const struct bytes *text, const struct bytes *stream, struct bytes *told, struct bytes *more) {
     struct cddlseq_refusal refusal;
+    struct cddlseq_end end;
     // Of a stream that comes byte by byte there is a call for each, so a long one is left out.
     if (stream->length < LONGEST_IN_PIECES && !is_same_in_pieces(options, text, stream, told, more)) {
         say("a session says something else\n");
@@ -256,8 +321,12 @@ static int validate(
     if (status > CDDLSEQ_FAILED) {
         return refused(status, &refusal);
     }
-    put(1, told->at, told->length);
-    return (int)status;
+    if (!is_cut_off(options, text, stream, &end)) {
+        return answer(told->at, told->length, (int)status);
+    }
+    // The line of the end is the last one.
+    int broken = answer(told->at, before_last_line(told), 0);
+    return broken ? broken : broken_after("read", end.items, "items");
 }
 
 // Asks by a handle for the items and for the line of the end.
@@ -265,6 +334,7 @@ static int rewrite(
     const struct options *options, const struct bytes *text, const struct bytes *stream, struct bytes *told, struct bytes *line) {
     const uint8_t *root = (const uint8_t *)(options->root ? options->root : "");
     struct cddlseq_refusal refusal;
+    struct cddlseq_end end;
     struct cddlseq_handle handle = CDDLSEQ_NOTHING;
     uint32_t status = cddlseq_open(
         text->at, text->length, root, strlen((const char *)root), &options->limits, &refusal, &handle);
@@ -279,9 +349,31 @@ static int rewrite(
     if (status > CDDLSEQ_FAILED) {
         return refused(status, &refusal);
     }
-    put(1, told->at, told->length);
+    int broken = answer(told->at, told->length, 0);
+    if (!broken && is_cut_off(options, text, stream, &end)) {
+        broken = broken_after("read", end.items, "items");
+    }
+    if (broken) {
+        return broken;
+    }
     put(2, line->at, line->length);
     return (int)status;
+}
+
+// Writes what the word means.
+static int explain(const char *word, struct bytes *told) {
+    uint32_t status;
+    size_t needed = 64;
+    do {
+        if (!has_room(told, needed)) {
+            return no_memory();
+        }
+        status = cddlseq_explain_word((const uint8_t *)word, strlen(word), told->at, told->room, &needed);
+    } while (status == CDDLSEQ_NO_ROOM);
+    if (status == CDDLSEQ_BAD_WORD) {
+        return say_of("no such code or cause (cddlseq explain --help lists them): ", word);
+    }
+    return status == CDDLSEQ_OK ? answer(told->at, needed, 0) : no_memory();
 }
 
 // Reads the files, and does what the command says.
@@ -291,6 +383,7 @@ static int perform(const struct options *options, struct bytes *text, struct byt
     int status = has_room(text, sizeof any) && has_room(stream, 1) ? 0 : no_memory();
     if (!status && options->spec) {
         status = read_file(options->spec, LONGEST_TEXT, text);
+        status = text->is_cut ? say_of("cannot read ", options->spec) : status;
     } else if (!status) {
         text->length = sizeof any - 1;
         memcpy(text->at, any, text->length);
@@ -298,13 +391,12 @@ static int perform(const struct options *options, struct bytes *text, struct byt
     if (status) {
         return status;
     }
-    uint32_t answer = cddlseq_check(text->at, text->length, root, strlen((const char *)root), &refusal);
-    if (answer != CDDLSEQ_OK) {
-        return refused_text(options, text, answer, &refusal, told);
+    uint32_t checked = cddlseq_check(text->at, text->length, root, strlen((const char *)root), &refusal);
+    if (checked != CDDLSEQ_OK) {
+        return refused_text(options, text, checked, &refusal, told);
     }
     if (!strcmp(options->command, "check")) {
-        put(1, (const uint8_t *)"accepted\n", 9);
-        return 0;
+        return answer((const uint8_t *)"accepted\n", 9, 0);
     }
     status = read_file(options->stream, SIZE_MAX, stream);
     if (status) {
@@ -366,6 +458,23 @@ static int is_read(char **words, struct options *into) {
     return 1;
 }
 
+// Whether all words are UTF-8; the first that is not is told.
+static int are_characters(char **words) {
+    char line[64];
+    uint32_t it;
+    for (int number = 1; words[number]; number++) {
+        for (size_t at = 0, length; words[number][at]; at += length) {
+            length = character(words[number] + at, &it);
+            if (!length) {
+                snprintf(line, sizeof line, "argument %d is not UTF-8\n", number);
+                say(line);
+                return 0;
+            }
+        }
+    }
+    return 1;
+}
+
 // Of show the first file is the stream.
 static int are_named(struct options *options) {
     if (strcmp(options->command, "show")) {
@@ -382,13 +491,19 @@ int main(int count, char **words) {
     struct bytes text = {0}, stream = {0}, told = {0}, line = {0};
     options.limits = (struct cddlseq_limits)CDDLSEQ_LIMITS;
     options.command = count < 2 ? "" : words[1];
+    // A failed write is told.
+    signal(SIGPIPE, SIG_IGN);
+    if (!are_characters(words)) {
+        return BROKEN;
+    }
     if (count < 2 || !is_read(words + 2, &options) || !are_named(&options)) {
         return misuse();
     }
     if (options.stream && !strcmp(options.stream, "-")) {
         options.stream = NULL;
     }
-    int status = perform(&options, &text, &stream, &told, &line);
+    int is_word = !strcmp(options.command, "explain");
+    int status = is_word ? explain(options.spec, &told) : perform(&options, &text, &stream, &told, &line);
     free(text.at);
     free(stream.at);
     free(told.at);

@@ -9,6 +9,10 @@
 #define TEXT(it) (const uint8_t *)(it), strlen(it)
 #define BYTES(it) (const uint8_t *)(it), sizeof(it) - 1
 #define EXPECT(it) expect(it, #it, __LINE__)
+// How much stack a call may need.
+#ifndef STACK
+#define STACK (256 * 1024)
+#endif
 
 static long before_refusal = -1;
 static int was_refused, wrong;
@@ -294,6 +298,35 @@ static void explain(void) {
     EXPECT(!memcmp(buffer, "abcd", 4));
 }
 
+static const char bad_text[] =
+    "text is not UTF-8: a text string, or a chunk of one, is not UTF-8; the byte is the first of its head\n"
+    "Example, by the specification a = any and the bytes 61 ff:\n\nfailed: 0 items, offset 0: text is not UTF-8 at byte 0\n";
+
+// Whether a word is explained by these lines, and nothing behind them is written, and nothing where there is room for one less.
+static int explains_word(const char *word, const char *lines) {
+    uint8_t buffer[512], kept[512];
+    size_t needed = 99, size = strlen(lines);
+    memset(buffer, 0xee, sizeof buffer);
+    memset(kept, 0xee, sizeof kept);
+    uint32_t told = cddlseq_explain_word(TEXT(word), buffer, sizeof buffer, &needed);
+    int is_put = told == CDDLSEQ_OK && needed == size && !memcmp(buffer, lines, size) && !memcmp(buffer + size, kept, sizeof buffer - size);
+    memset(buffer, 0xee, sizeof buffer);
+    told = cddlseq_explain_word(TEXT(word), buffer, size - 1, &needed);
+    return is_put && told == CDDLSEQ_NO_ROOM && needed == size && !memcmp(buffer, kept, sizeof buffer);
+}
+
+static void explain_word(void) {
+    uint8_t buffer[4] = "abcd";
+    EXPECT(explains_word("text is not UTF-8", bad_text) && explains_word("TEXT is not utf-8", bad_text));
+    size_t needed = 99;
+    EXPECT(cddlseq_explain_word(BYTES("C3\0"), buffer, 4, &needed) == CDDLSEQ_BAD_WORD && needed == 0);
+    const char *const none[] = {"", "C19", "c03", "C3\n", "\xff", "C3\xff", "text is not UTF-8 "};
+    for (int at = 0; at < 7; at++, needed = 99) {
+        EXPECT(cddlseq_explain_word(TEXT(none[at]), buffer, 4, &needed) == CDDLSEQ_BAD_WORD && needed == 0);
+    }
+    EXPECT(cddlseq_explain_word(TEXT("C3"), buffer, 4, &needed) == CDDLSEQ_NO_ROOM && needed > 4 && !memcmp(buffer, "abcd", 4));
+}
+
 static void sessions(void) {
     struct cddlseq_refusal refusal = {9, 9, 9, 9};
     struct cddlseq_end end = untold;
@@ -484,6 +517,77 @@ static void threads(void) {
     cddlseq_close(&common);
 }
 
+// Has nothing be left of bytes that were passed to a call.
+static void taken_back(void *at, size_t length) {
+    memset(at, 0xff, length);
+    free(at);
+}
+
+// What was passed to a call is gone after it, and what it made is of use all the same.
+static void lent_bytes(void) {
+    static const char stream[] = "\xbf\x61\x62\x18\x01\xff\xa1\x61\x61\x20";
+    struct cddlseq_limits *passed = memcpy(malloc(sizeof limits), &limits, sizeof limits);
+    struct cddlseq_refusal refusal;
+    struct cddlseq_end end = untold;
+    struct cddlseq_handle handle = CDDLSEQ_NOTHING;
+    struct cddlseq_session session = CDDLSEQ_NOTHING;
+    char *text = strdup("m = {* tstr => uint}\n"), *root = strdup("m");
+    size_t used = 99;
+    EXPECT(cddlseq_open(TEXT(text), TEXT(root), passed, &refusal, &handle) == CDDLSEQ_OK);
+    taken_back(text, strlen(text)), taken_back(root, 1), taken_back(passed, sizeof *passed);
+    EXPECT(cddlseq_begin_by(&handle, &session) == CDDLSEQ_OK);
+    for (size_t at = 0; at < 10; at++) {
+        uint8_t *piece = memcpy(malloc(1), stream + at, 1);
+        uint32_t status = cddlseq_feed(&session, piece, 1, &used, &end);
+        taken_back(piece, 1);
+        EXPECT(used == 1 && status == (at == 5 ? CDDLSEQ_ITEM : at == 9 ? CDDLSEQ_FAILED : CDDLSEQ_OK));
+        EXPECT(at != 5 || (is_end(&end, 1, 6, 0, 0) && shows_item(&session, "\xa1\x61\x62\x01", "\xa1\x61\x62\x01", 4)));
+    }
+    EXPECT(is_end(&end, 1, 6, CDDLSEQ_MISMATCH, 1) && shows(&session, CDDLSEQ_PATH, "$<\"a\">", 6));
+    EXPECT(cddlseq_validate_by(&handle, BYTES("\xa0"), &end) == CDDLSEQ_OK && is_end(&end, 1, 1, 0, 0));
+    cddlseq_close(&handle);
+    cddlseq_discard(&session);
+}
+
+// A text with as many brackets in each other as it may have, a stream of as many maps that are keys of each other, the innermost with a
+// key twice, and what is told of both.
+struct deep {
+    char text[4096];
+    uint8_t stream[1024];
+    size_t length;
+    uint32_t of_text, of_stream;
+    struct cddlseq_refusal refusal, none;
+    struct cddlseq_end end;
+};
+
+static void *tell_deep(void *given) {
+    struct deep *it = given;
+    it->of_text = cddlseq_check(TEXT(it->text), TEXT("a"), &it->refusal);
+    it->of_stream = cddlseq_validate(TEXT("a = any\n"), TEXT(""), it->stream, it->length, &limits, &it->none, &it->end);
+    return NULL;
+}
+
+// As much stack as the header says is enough, also for what takes most of it.
+static void stack(void) {
+    struct deep deep = {.text = "b = int\na = ", .length = 255 + 5 + 255}, again;
+    pthread_attr_t little;
+    pthread_t made;
+    for (int at = 0; at < 257; at++) {
+        strcat(deep.text, at < 128 ? "{1: b // 1 => b / " : at == 128 ? "int" : "}");
+    }
+    memset(deep.stream, 0xa1, 255);
+    memcpy(deep.stream + 255, "\xa2\x01\x01\x01\x01", 5);
+    memset(deep.stream + 260, 0x01, 255);
+    again = deep;
+    tell_deep(&deep);
+    EXPECT(deep.of_text <= CDDLSEQ_REFUSED && deep.of_stream == CDDLSEQ_FAILED && is_end(&deep.end, 0, 0, CDDLSEQ_DUPLICATE_KEY, 258));
+    EXPECT(pthread_attr_init(&little) == 0 && pthread_attr_setstacksize(&little, STACK) == 0);
+    EXPECT(pthread_create(&made, &little, tell_deep, &again) == 0 && pthread_join(made, NULL) == 0);
+    pthread_attr_destroy(&little);
+    EXPECT(again.of_text == deep.of_text && again.refusal.code == deep.refusal.code && again.refusal.offset == deep.refusal.offset);
+    EXPECT(again.of_stream == CDDLSEQ_FAILED && is_end(&again.end, 0, 0, CDDLSEQ_DUPLICATE_KEY, 258));
+}
+
 // With the request for memory refused that comes after so many: whether a handle and a session are made of one that is open, or nothing
 // is. The one that is open is of use after that.
 static int is_shared_without_memory(long number) {
@@ -643,6 +747,12 @@ static int is_told_without_memory(long number) {
     status = cddlseq_explain(TEXT(map), TEXT("no"), TEXT("it.cddl"), &told, buffer, sizeof buffer, &needed);
     EXPECT(status == (was_refused ? CDDLSEQ_NO_MEMORY : CDDLSEQ_OK) && (needed == 0) == was_refused);
     any |= was_refused;
+    for (int of_cause = 0; of_cause < 2; of_cause++) {
+        before_refusal = number, was_refused = 0;
+        status = cddlseq_explain_word(TEXT(of_cause ? "mismatch" : "C3"), buffer, 0, &needed);
+        EXPECT(status == (was_refused ? CDDLSEQ_NO_MEMORY : CDDLSEQ_NO_ROOM) && (needed == 0) == was_refused);
+        any |= was_refused;
+    }
     before_refusal = -1;
     return any;
 }
@@ -675,7 +785,8 @@ static void refuse_memory(void) {
 
 int main(int count, char **words) {
     void (*const tests[])(void) = {
-        check, position, validate, write_wanted, validate_many, explain, handles, closed, sessions, items, shared, threads, refuse_memory};
+        check, position, validate, write_wanted, validate_many, explain, explain_word, handles, closed, sessions, items, shared, lent_bytes,
+        threads, stack, refuse_memory};
     int number = sizeof tests / sizeof *tests, passed = 0;
     if (count > 1) {
         step = atol(words[1]);

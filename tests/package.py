@@ -1,11 +1,12 @@
 #!/usr/bin/env python3
 """Tests the Python package: the examples of its documentation, its numbers against those of the header, its calls, and the rows
-of rows.json for its commands, as far as these need no devices of their own.
+of rows.json, but for those that need devices of their own.
 
     package.py HEADER [--only TEXT] [-v]
 
 The package and its library are found by PYTHONPATH and CDDLSEQ_LIBRARY. Each row is run in a process that is forked off, since
-Python takes longer to begin than most rows do. The last line is 'N passed, M failed'.
+Python takes longer to begin than most rows do, and does not begin where its standard input is a directory. The memory that a row gives
+a program it has there besides what it has as it is forked off. The last line is 'N passed, M failed'.
 """
 import argparse
 import doctest
@@ -13,15 +14,17 @@ import io
 import os
 import pickle
 import re
+import resource
+import signal
 import sys
 import tempfile
 from concurrent.futures import ThreadPoolExecutor
 
 import cddlseq
-from cddlseq import Cause, Failed, Item, Refused, Specification, _library
+from cddlseq import Cause, Failed, Item, Refused, Specification, _library, explain
 from cddlseq.__main__ import main as command
-from run_rows import differences, errors_of, output_of, spec_of, stream_of
-from rows_of_library import is_of_words, needs_devices, rows_of_commands
+from run_rows import cases_of, differences, spec_of
+from rows_of_library import needs_devices, rows_for_package
 
 
 def spelled(name):
@@ -190,6 +193,8 @@ def checks_of(header):
             "refused: C5 NoRoot at byte 0\nit.cddl:1:1: NoRoot\na = int\n^\n`b`, which --root asks for, is no rule and none of the prelude\n"),
         "a refusal of an empty text that is explained": explained_of(b"", None, "\x1b") == (
             "refused: C5 NoRoot at byte 0\n\\u001b:1:1: NoRoot\n\n^\nthere is no rule and no --root, or --root names nothing\n"),
+        "a word that is explained": explain("Mismatch").startswith("mismatch: the item does not match the root") and explain("c3").endswith("\n"),
+        "words that name nothing": all(is_value_error(lambda: explain(it)) for it in ("", "C19", "C3\n", "\udc80")),
         "a refusal for its root": refusal_of("a = int\n", "b")[0] == "C5",
         "a root of no letters": refusal_of("a = int\n", "")[0] == "C5",
         "a root": refusal_of("a = int\nb = uint\n", "b") is None,
@@ -213,38 +218,67 @@ def checks_of(header):
     }
 
 
-def told_by(words, stream, folder):
+def memory_now():
+    """How many bytes of address space this process has."""
+    with open("/proc/self/statm", encoding="ascii") as file:
+        return int(file.read().split()[0]) * resource.getpagesize()
+
+
+def limit(row, size):
+    """Has this process have the memory of a row, and write files of so many bytes at most."""
+    if "memory" in row:
+        most = memory_now() + row["memory"]
+        resource.setrlimit(resource.RLIMIT_AS, (most, most))
+    if size is not None:
+        signal.signal(signal.SIGXFSZ, signal.SIG_IGN)
+        resource.setrlimit(resource.RLIMIT_FSIZE, (size, size))
+
+
+def run_command(words, folder, files, row, size):
+    """Runs the command in a folder with these files, which end this process."""
+    os.chdir(folder)
+    for number, file in enumerate(files):
+        os.dup2(file if isinstance(file, int) else file.fileno(), number)
+    sys.argv[1:] = words
+    limit(row, size)
+    os._exit(command())
+
+
+def told_by(row, stream, folder, size):
     """What the command writes to standard output and error in a folder, and its status."""
-    with tempfile.TemporaryFile() as given, tempfile.TemporaryFile() as out, tempfile.TemporaryFile() as err:
+    reading, writing = os.pipe()
+    with tempfile.TemporaryFile() as given, tempfile.TemporaryFile() as out, open(reading, "rb") as errors:
         given.write(stream)
         given.seek(0)
         child = os.fork()
         if child == 0:
-            os.chdir(folder)
-            for number, file in enumerate((given, out, err)):
-                os.dup2(file.fileno(), number)
-            sys.argv[1:] = words
-            os._exit(command())
+            is_directory = row.get("after_stream") == "directory"
+            run_command(row["words"], folder, (os.open(folder, os.O_RDONLY) if is_directory else given, out, writing), row, size)
+        # What is told on standard error fits the pipe, and is no file, whose size is limited.
+        os.close(writing)
+        said = errors.read()
         status = os.waitstatus_to_exitcode(os.waitpid(child, 0)[1])
         out.seek(0)
-        err.seek(0)
-        return out.read(), err.read(), status
+        return out.read(), said, status
 
 
 def faults_of(row):
     """What is wrong with what the command says of a row, a line each."""
+    wrong = []
     with tempfile.TemporaryDirectory() as folder:
         spec = spec_of(row)
         if spec is not None:
             with open(os.path.join(folder, "SPEC"), "wb") as file:
                 file.write(spec)
-        got = told_by(row["words"], stream_of(row) or b"", folder)
-    return differences(got, output_of(row), None if is_of_words(row) else errors_of(row), row.get("status", 0))
+        for label, _, stream, size, output, errors, status in cases_of(row):
+            got = told_by(row, stream or b"", folder, size)
+            wrong += [f"{label}: {it}" for it in differences(got, output, errors, status)]
+    return wrong
 
 
 def run_rows(only, is_verbose):
     """Runs the rows, prints those that failed, and returns how many passed and failed."""
-    rows = [it for it in rows_of_commands(only) if not needs_devices(it)]
+    rows = [it for it in rows_for_package(only) if not needs_devices(it) or it.get("after_stream") == "directory"]
     failed = 0
     for row in rows:
         wrong = faults_of(row)

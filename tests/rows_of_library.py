@@ -1,20 +1,31 @@
-"""Which rows of rows.json are run on the library: those of its commands."""
+"""Which rows of rows.json are run on the library, and through which of its callers."""
 import json
 import os
 
 from run_rows import TOP
 
-COMMANDS = ("check", "validate", "rewrite", "show")
+COMMANDS = ("check", "validate", "rewrite", "show", "explain")
 DEVICES = ("after_stream", "stdout_to", "stderr_to", "stderr_one_of")
+OF_ITSELF = {"--help", "-h", "--version", "-V"}
 
 
-def rows_of_commands(only=""):
-    """The rows of these commands whose name has the text, each for one run: the library's callers read a stream whole before they
-    write. The memory that a row gives a program is for the program alone."""
+def rows_for_package(only=""):
+    """The rows whose name has the text, each in one way: the library's callers read a stream whole before they write. So a row is left out
+    that wants items from before memory is short."""
     with open(os.path.join(TOP, "tests", "rows.json"), encoding="utf-8") as file:
-        rows = json.load(file)
-    rows = [it for it in rows if it["words"][:1] and it["words"][0] in COMMANDS and "memory" not in it and only in it["name"]]
-    return [{key: value for key, value in it.items() if key not in ("tells_at_once", "each_write_fails")} for it in rows]
+        rows = [it for it in json.load(file) if only in it["name"] and not ("memory" in it and "items" in it)]
+    return [{**it, "ways": it.get("ways", ["whole"])[:1], "tells_at_once": False} for it in rows]
+
+
+def rows_for_caller(only=""):
+    """Those that ask the library: the others are about the program's own text."""
+    return [it for it in rows_for_package(only) if not is_of_program(it)]
+
+
+def rows_for_crate(only=""):
+    """Those of these that the example of the crate in rust is made for."""
+    rows = [it for it in rows_for_caller(only) if not needs_devices(it) and "memory" not in it]
+    return [{**it, "each_write_fails": False} for it in rows]
 
 
 def needs_devices(row):
@@ -28,7 +39,7 @@ def is_of_words(row):
     return ("".join(said) if isinstance(said, list) else said or "").startswith("error: ")
 
 
-def is_fixed(row):
-    """Whether all that has to come is fixed: it is not the program's own text on its words."""
-    is_told = None not in (row.get("stdout", ""), row.get("stderr", "")) and not is_of_words(row)
-    return is_told and all(it.isascii() or it.isprintable() for it in row["words"])
+def is_of_program(row):
+    """Whether what is told is the program's own text: its help or its version, or what is wrong with its words."""
+    has_no_command = not row["words"] or row["words"][0] not in COMMANDS
+    return has_no_command or is_of_words(row) or None in (row.get("stdout", ""), row.get("stderr", "")) or not OF_ITSELF.isdisjoint(row["words"])

@@ -3,13 +3,13 @@
 
     run_library.py FOLDER [--only TEXT] [--strict] [-v]
 
-FOLDER has the libraries that scripts/library.py makes. tests/calls.c is linked with the static one and run, with each request for
-memory refused in turn; with gcc's or clang's sanitizers, and with theirs of threads; and under valgrind where that is installed. Then come the
-rows of rows.json for check, validate, rewrite and show: on tests/caller.c, but for misuse and devices, on the same with sanitizers, and
-one of twenty under valgrind; on 'python3 -m cddlseq' over the shared one, with tests of the package (tests/package.py); and on the example of the crate in
-rust, where cargo is found. The examples examples/gateway.c and examples/cose_bench.py are run last. With --strict all rows are run
-under valgrind, which takes half an hour of processor time. The last line is 'N passed, M failed', and the status is 0 only where none
-failed.
+FOLDER has the libraries that scripts/library.py makes. The shared one has to ask the system for memory alone. tests/calls.c is linked
+with the static one and run, with each request for memory refused in turn; with gcc's or clang's sanitizers, and with theirs of threads;
+and under valgrind where that is installed. Then come the rows of rows.json: on tests/caller.c, but for those about the program's own
+text, on the same with sanitizers, and one of twenty under valgrind; all of them on 'python3 -m cddlseq' over the shared one, with tests
+of the package (tests/package.py); and on the example of the crate in rust, where cargo is found, but for those about that text and about
+devices. The examples examples/gateway.c and examples/cose_bench.py are run last. With --strict all rows are run under valgrind, which
+takes half an hour of processor time. The last line is 'N passed, M failed', and the status is 0 only where none failed.
 """
 import argparse
 import os
@@ -22,7 +22,7 @@ import sys
 import tempfile
 from concurrent.futures import ThreadPoolExecutor
 
-from rows_of_library import is_fixed, needs_devices, rows_of_commands
+from rows_of_library import needs_devices, rows_for_caller, rows_for_crate, rows_for_package
 from run_rows import TOP, faults_of
 
 AT_ONCE = 3
@@ -33,7 +33,9 @@ STEP, ROWS_STEP = "60", 20
 STRICT_SECONDS = 1800
 STRICT = ("valgrind", "-q", "--error-exitcode=9", "--leak-check=full", "--show-leak-kinds=all", "--errors-for-leak-kinds=all")
 SANITIZERS = ("-g", "-fsanitize=address,undefined", "-fno-sanitize-recover=all")
-OF_THREADS = ("-g", "-fsanitize=thread")
+# This one takes stack of its own.
+OF_THREADS = ("-g", "-fsanitize=thread", "-DSTACK=1048576")
+MEMORY = {"malloc", "realloc", "free", "memcpy", "memmove", "memset", "memcmp", "bcmp"}
 HEADER = os.path.join(TOP, "include", "cddlseq.h")
 PACKAGE = os.path.join(TOP, "python")
 
@@ -76,6 +78,16 @@ def counted(words, **how):
     return passed, failed or int(ran.returncode != 0 or not found)
 
 
+def asks_for_memory_alone(folder):
+    """Whether nothing of the system is called by the library but what gives memory, copies it and compares it: nothing that prints, or
+    ends the process."""
+    words = ["nm", "-D", "--undefined-only", "--format=posix", os.path.join(folder, "libcddlseq.so.1")]
+    ran = subprocess.run(words, stdout=subprocess.PIPE, text=True, check=True)
+    asked = {line.split()[0].split("@")[0] for line in ran.stdout.splitlines() if line.split()[1] == "U"}
+    print(f"the library asks for {', '.join(sorted(asked))}: {'passed' if asked <= MEMORY else 'FAILED'}", flush=True)
+    return (1, 0) if asked <= MEMORY else (0, 1)
+
+
 def run_calls(folder, work, is_sanitized):
     """Tests of the calls, with memory refused, with sanitizers, with that of threads, and under valgrind."""
     refusing = "-pthread", "-Wl,--wrap=malloc,--wrap=realloc"
@@ -102,6 +114,8 @@ def run_callers(folder, work, rows, is_sanitized, is_strict, is_verbose):
     """The rows through C: as they are, with sanitizers, and under valgrind."""
     caller = compiled("caller", folder, work, "-g")
     counts = [run_rows("through C", caller, rows, is_verbose)]
+    # Sanitizers and valgrind take memory of their own.
+    rows = [{**it, "each_write_fails": False} for it in rows if "memory" not in it]
     if is_sanitized:
         sanitized = compiled("caller", folder, work, *SANITIZERS, into="sanitized_caller")
         counts.append(run_rows("through C with sanitizers", sanitized, rows, is_verbose))
@@ -113,8 +127,7 @@ def run_callers(folder, work, rows, is_sanitized, is_strict, is_verbose):
 
 
 def run_rows(what, program, rows, is_verbose):
-    """Runs the rows on a program, in one way each, prints those that failed, and returns how many passed and failed."""
-    rows = [{**it, "ways": it.get("ways", ["whole"])[:1]} for it in rows]
+    """Runs the rows on a program, prints those that failed, and returns how many passed and failed."""
     with ThreadPoolExecutor(AT_ONCE) as pool:
         told = list(pool.map(lambda row: faults_of(program, row), rows))
     for row, wrong in zip(rows, told):
@@ -218,18 +231,17 @@ def summed(counts):
 
 def run_library(folder, only="", is_strict=False, is_verbose=False):
     """Runs all of it, and returns how many passed and failed."""
-    rows = rows_of_commands(only)
-    for_caller = [it for it in rows if is_fixed(it) and not needs_devices(it)]
-    # Python does not begin where its standard input is a directory.
-    for_package = [it for it in rows if needs_devices(it) and it.get("after_stream") != "directory"]
+    # A row about a directory as standard input is among those of the package.
+    for_package = [it for it in rows_for_package(only) if needs_devices(it) and it.get("after_stream") != "directory"]
     with tempfile.TemporaryDirectory() as work:
         is_sanitized = has_sanitizers(work, SANITIZERS)
         return summed([
+            asks_for_memory_alone(folder),
             run_calls(folder, work, is_sanitized),
-            run_callers(folder, work, for_caller, is_sanitized, is_strict, is_verbose),
+            run_callers(folder, work, rows_for_caller(only), is_sanitized, is_strict, is_verbose),
             run_package(folder, only, is_verbose),
             run_rows("about devices through Python", python_of(folder, work), for_package, is_verbose),
-            run_crate(folder, work, for_caller, is_verbose),
+            run_crate(folder, work, rows_for_crate(only), is_verbose),
             run_examples(folder, work),
         ])
 

@@ -25,6 +25,8 @@
     a = b
         ^
     `b` is no rule, no parameter, none of the prelude and no socket
+    >>> print(explain("step limit reached").splitlines()[0])
+    step limit reached: to tell whether the item matches takes more questions than --steps allows, which are 10000000 unless it is given
 
 The library libcddlseq does the work. It is the one that the environment's CDDLSEQ_LIBRARY names, or the one that the system finds.
 Many threads may use one specification at once. A session is for one thread at a time: a call waits for another one to end.
@@ -42,7 +44,8 @@ from typing import BinaryIO, Callable, Iterator, NamedTuple, Union
 from . import _library
 from ._library import CODES, library, passed
 
-__all__ = ["Cause", "End", "Ends", "Failed", "Item", "Refused", "Rewritten", "Session", "Specification"]
+__all__ = ["Cause", "End", "Ends", "Failed", "Item", "Refused", "Rewritten", "Session", "Specification", "explain"]
+__version__ = "0.1.0"
 
 # How many bytes of a file are read at once.
 PIECE = 65536
@@ -91,6 +94,20 @@ class Refused(ValueError):
             lambda buffer, room, needed: _stop(
                 library.cddlseq_explain(*passed(self._text), *passed(self._root), *passed(named), told, buffer, room, needed)),
             512).decode()
+
+
+def explain(word: str) -> str:
+    """What the code of a refusal means, by its number or its name, as 'C3' or 'Undefined', or why a stream fails, by the words of its line,
+    as 'mismatch', in any case of their letters, as the program 'cddlseq explain' prints it. Raises ValueError where the word names none."""
+    named = word.encode()
+
+    def call(buffer, room, needed):
+        status = library.cddlseq_explain_word(*passed(named), buffer, room, needed)
+        if status == _library.BAD_WORD:
+            raise ValueError(f"no such code or cause: {word}")
+        return _stop(status)
+
+    return _written(call, 512).decode()
 
 
 class End:

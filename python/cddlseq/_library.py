@@ -6,7 +6,7 @@ import os
 import struct
 from ctypes import POINTER, c_char_p, c_size_t, c_uint32, c_uint64, c_void_p
 
-OK, FAILED, REFUSED, NO_MEMORY, BAD_ROOT, BAD_LIMITS, BAD_WANTED, BAD_OFFSETS, NO_ROOM, ITEM, ENDED, CLOSED, BAD_REFUSAL, BAD_FILE = range(14)
+OK, FAILED, REFUSED, NO_MEMORY, BAD_ROOT, BAD_LIMITS, BAD_WANTED, BAD_OFFSETS, NO_ROOM, ITEM, ENDED, CLOSED, BAD_REFUSAL, BAD_FILE, BAD_WORD = range(15)
 REPORT, END_LINE, PREFERRED, DETERMINISTIC, PATH, NOTATION = range(6)
 
 # The codes of what is wrong with a text, with their names. The number of each is its place, from 1.
@@ -49,6 +49,7 @@ _CALLS = {
         *_BYTES, *_BYTES, *_BYTES, POINTER(c_size_t), c_size_t, POINTER(Limits), POINTER(Refusal), POINTER(End), c_size_t,
         POINTER(c_size_t)),
     "cddlseq_explain": (*_BYTES, *_BYTES, *_BYTES, POINTER(Refusal), *_BYTES, POINTER(c_size_t)),
+    "cddlseq_explain_word": (*_BYTES, *_BYTES, POINTER(c_size_t)),
     "cddlseq_open": (*_BYTES, *_BYTES, POINTER(Limits), POINTER(Refusal), _HANDLE),
     "cddlseq_validate_by": (_HANDLE, *_BYTES, POINTER(End)),
     "cddlseq_write_by": (_HANDLE, *_BYTES, c_uint32, POINTER(End), *_BYTES, POINTER(c_size_t)),

@@ -1,8 +1,9 @@
-//! The commands check, validate, rewrite and show of the program, over the crate. It says what the program says, but for help and misuse,
-//! and reads a stream whole before it writes.
+//! The commands of the program, over the crate. It says what the program says, but for help, misuse and failed writes, and reads a stream
+//! whole before it writes.
 //!
 //!     cargo run --example cddlseq -- validate SPEC [FILE]
-use cddlseq::{End, Limits, NoMemory, Session, Specification, Step, Unread, Wanted};
+use cddlseq::{explain, End, Limits, NoMemory, Session, Specification, Step, Unread, Wanted};
+use std::ffi::OsString;
 use std::fs::File;
 use std::io::{self, Read, Write};
 use std::process::exit;
@@ -47,9 +48,19 @@ impl From<Unread> for Stop {
 
 fn misuse() -> Stop {
     Stop(
-        "usage: cddlseq check|validate|rewrite|show [OPTION..] SPEC [FILE]\n".to_string(),
+        "usage: cddlseq check|validate|rewrite|show|explain [OPTION..] SPEC [FILE]\n".to_string(),
         BROKEN,
     )
+}
+
+fn texts_of(words: impl Iterator<Item = OsString>) -> Result<Vec<String>, Stop> {
+    (1..)
+        .zip(words)
+        .map(|(number, word)| {
+            let why = |_| Stop(format!("argument {number} is not UTF-8\n"), BROKEN);
+            word.into_string().map_err(why)
+        })
+        .collect()
 }
 
 fn words_of(mut words: impl Iterator<Item = String>) -> Result<Words, Stop> {
@@ -97,11 +108,12 @@ fn set_option(into: &mut Words, option: &str, value: String) -> Result<(), Stop>
     Ok(())
 }
 
-/// A name with its control characters as their numbers.
+/// A name with its control characters, and those that change the order of others, as their numbers.
 fn shown(name: &str) -> String {
+    let is_escaped = |it: char| it.is_control() || matches!(it, '\u{202a}'..='\u{202e}' | '\u{2066}'..='\u{2069}');
     let number = |it: char| format!("\\u{:04x}", it as u32);
     name.chars()
-        .map(|it| if it.is_control() { number(it) } else { it.to_string() })
+        .map(|it| if is_escaped(it) { number(it) } else { it.to_string() })
         .collect()
 }
 
@@ -136,7 +148,20 @@ fn in_pieces(words: &Words, text: &[u8], stream: &[u8]) -> Result<End, Stop> {
     Ok(session.finish()?)
 }
 
+fn tell_meaning(words: &Words) -> Result<i32, Stop> {
+    let word = words.names.first().ok_or_else(misuse)?;
+    let Some(text) = explain(word)? else {
+        let unknown = "no such code or cause (cddlseq explain --help lists them)";
+        return Err(Stop(format!("{unknown}: {}\n", shown(word)), BROKEN));
+    };
+    print!("{text}");
+    Ok(0)
+}
+
 fn perform(words: &Words) -> Result<i32, Stop> {
+    if words.command == "explain" {
+        return tell_meaning(words);
+    }
     let mut names = words.names.iter();
     let (spec, text) = if words.command == "show" {
         ("", b"a = any".to_vec())
@@ -176,7 +201,8 @@ fn perform(words: &Words) -> Result<i32, Stop> {
 }
 
 fn main() {
-    let told = words_of(std::env::args().skip(1)).and_then(|words| perform(&words));
+    let words = texts_of(std::env::args_os().skip(1)).and_then(|words| words_of(words.into_iter()));
+    let told = words.and_then(|words| perform(&words));
     exit(told.unwrap_or_else(|Stop(line, status)| {
         let _ = io::stderr().write_all(line.as_bytes());
         status

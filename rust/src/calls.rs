@@ -9,6 +9,7 @@ pub const BAD_LIMITS: u32 = 5;
 pub const NO_ROOM: u32 = 8;
 pub const ITEM: u32 = 9;
 pub const ENDED: u32 = 10;
+pub const BAD_WORD: u32 = 14;
 
 #[repr(C)]
 #[derive(Default)]
@@ -88,6 +89,13 @@ extern "C" {
         file: *const u8,
         file_length: usize,
         refusal: *const Refusal,
+        buffer: *mut u8,
+        buffer_length: usize,
+        needed: *mut usize,
+    ) -> u32;
+    pub fn cddlseq_explain_word(
+        word: *const u8,
+        word_length: usize,
         buffer: *mut u8,
         buffer_length: usize,
         needed: *mut usize,

@@ -2,7 +2,7 @@
 //! proved. These bindings are not: they are tested.
 //!
 //! ```
-//! use cddlseq::{Cause, Limits, Specification, Step, Session};
+//! use cddlseq::{explain, Cause, Limits, Session, Specification, Step};
 //!
 //! let text = "reading = [time: uint, value: int]";
 //! let mut specification = Specification::new(text, None, Limits::default())?;
@@ -22,14 +22,17 @@
 //!
 //! let why = Specification::new("a = b", None, Limits::default()).err().unwrap();
 //! assert!(why.explained("a = b", None, "it.cddl")?.starts_with("refused: C3 Undefined at byte 4\nit.cddl:1:5: Undefined\na = b\n    ^\n"));
+//! assert!(explain("mismatch")?.unwrap().starts_with("mismatch: the item does not match the root of the specification"));
 //! # Ok::<(), Box<dyn std::error::Error>>(())
 //! ```
 mod calls;
+mod explaining;
 mod session;
 mod specification;
 mod told;
 
 pub use crate::calls::Limits;
+pub use crate::explaining::explain;
 pub use crate::session::Session;
 pub use crate::specification::Specification;
 pub use crate::told::{Cause, End, Fault, NoMemory, Step, Unread, Wanted};

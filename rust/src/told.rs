@@ -3,6 +3,7 @@ use std::error::Error;
 use std::fmt;
 
 use crate::calls;
+use crate::explaining::written;
 use crate::root_of;
 
 /// The codes of what is wrong with a text, with their names. The number of each is its place, from 1.
@@ -85,33 +86,22 @@ impl Unread {
             return Ok(format!("{self}\n"));
         };
         let (text, root) = (text.as_ref(), root_of(root));
-        let mut buffer = vec![0; 512];
-        loop {
-            let mut needed = 0;
-            // SAFETY: each slice is as long as is said, and what is written to is this function's own.
-            let status = unsafe {
-                calls::cddlseq_explain(
-                    text.as_ptr(),
-                    text.len(),
-                    root.as_ptr(),
-                    root.len(),
-                    file.as_ptr(),
-                    file.len(),
-                    &refusal,
-                    buffer.as_mut_ptr(),
-                    buffer.len(),
-                    &mut needed,
-                )
-            };
-            match status {
-                calls::OK => {
-                    buffer.truncate(needed);
-                    return Ok(String::from_utf8(buffer).expect("what is told is text"));
-                }
-                calls::NO_ROOM => buffer.resize(needed, 0),
-                _ => return Err(NoMemory),
-            }
-        }
+        // SAFETY: each slice is as long as is said, and what is written to is the buffer alone.
+        let told = written(|buffer, needed| unsafe {
+            calls::cddlseq_explain(
+                text.as_ptr(),
+                text.len(),
+                root.as_ptr(),
+                root.len(),
+                file.as_ptr(),
+                file.len(),
+                &refusal,
+                buffer.as_mut_ptr(),
+                buffer.len(),
+                needed,
+            )
+        });
+        told.map_err(|_| NoMemory)
     }
 
     fn refusal(&self) -> Option<calls::Refusal> {
@@ -331,6 +321,7 @@ mod tests {
             ("NO_ROOM", calls::NO_ROOM),
             ("ITEM", calls::ITEM),
             ("ENDED", calls::ENDED),
+            ("BAD_WORD", calls::BAD_WORD),
             ("MISMATCH", 11),
             ("STEP_LIMIT", 12),
         ] {
