@@ -101,7 +101,7 @@ def explain(word: str) -> str:
     as 'mismatch', in any case of their letters, as the program 'cddlseq explain' prints it. Raises ValueError where the word names none."""
     named = word.encode()
 
-    def call(buffer, room, needed):
+    def call(buffer: ctypes.Array, room: int, needed: ctypes.c_size_t) -> int:
         status = library.cddlseq_explain_word(*passed(named), buffer, room, needed)
         if status == _library.BAD_WORD:
             raise ValueError(f"no such code or cause: {word}")
@@ -111,13 +111,7 @@ def explain(word: str) -> str:
 
 
 class End:
-    """How a stream ends.
-
-    items    how many items match
-    offset   how many bytes these have: the offset of the item that fails, if one does
-    cause    why it fails; None where the stream is clean
-    place    the byte of the stream where a fault shows; of a mismatch, and of a key that is there twice, the place in the item
-    """
+    """How a stream ends."""
 
     __slots__ = ("_told", "_shown")
 
@@ -127,18 +121,23 @@ class End:
 
     @property
     def items(self) -> int:
+        """How many items match."""
         return self._told[0]
 
     @property
     def offset(self) -> int:
+        """How many bytes these have: the offset of the item that fails, if one does."""
         return self._told[1]
 
     @property
     def cause(self) -> Cause | None:
+        """Why it fails; None where the stream is clean."""
         return Cause(self._told[2]) if self._told[2] else None
 
     @property
     def place(self) -> int:
+        """The byte of the stream where a fault shows; of a mismatch, and of a key that is there twice, the place in the item: it and all
+        in it are numbered from 0 as they begin, a key before its value."""
         return self._told[3]
 
     @property
@@ -164,7 +163,7 @@ class End:
         return f"End(items={self.items}, offset={self.offset}, cause={cause}, place={self.place})"
 
 
-class Ends(Sequence):
+class Ends(Sequence[End]):
     """The ends of many streams, in order. Each End is made as it is asked for."""
 
     def __init__(self, specification: Specification, streams: list[bytes], told: ctypes.Array):
@@ -173,7 +172,7 @@ class Ends(Sequence):
     def __len__(self) -> int:
         return len(self._streams)
 
-    def __getitem__(self, at):
+    def __getitem__(self, at: int | slice) -> End | list[End]:
         if isinstance(at, slice):
             return [self[it] for it in range(len(self))[at]]
         told = _library.END.unpack_from(self._told, range(len(self))[at] * _library.END.size)
