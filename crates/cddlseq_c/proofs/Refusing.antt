@@ -1,5 +1,5 @@
 -- What is told of a refusal, and of what a word names, by what was made and put.
-use Rattle.std.proofs.Common.{◌≡◌, ℕ, List, Option, Bool, true, false, length, refl, sym, ap, ◌∙◌, subst}
+use Rattle.std.proofs.Common.{◌≡◌, ℕ, List, Option, Bool, true, false, length, sym, ap, ◌∙◌, subst}
 use Rattle.cddl_explain.specs.Refusals.{IsExplainedRefusal}
 use Rattle.cddl_explain.specs.Subjects.{IsNameOf, explanation_of}
 use Rattle.cddl_explain.specs.declared.subjects.Subject.{Subject}
