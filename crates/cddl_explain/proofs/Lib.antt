@@ -1,4 +1,8 @@
+pub mod Counting
+pub mod Expecting
 pub mod Finding
+pub mod Hinting
 pub mod Naming
 pub mod Refused
 pub mod Ruling
+pub mod Wording

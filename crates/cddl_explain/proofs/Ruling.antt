@@ -1,5 +1,5 @@
 -- One token more of those that may begin rules.
-use Rattle.std.proofs.Common.{◌≡◌, ℕ, ◌+◌, ◌-◌, ◌<◌, Bor, refl, take, append_assoc, length-drop, arith, ◌&&◌, nat_eq, List, [], ◌∷◌, ◌++◌, Some, Bool, true, false, get_or, drop, length, ap, sym, ◌∙◌, cond}
+use Rattle.std.proofs.Common.{◌≡◌, ℕ, ◌+◌, ◌-◌, ◌<◌, Bor, refl, take, append_assoc, length-drop, arith, ◌&&◌, nat_eq, List, [], ◌∷◌, ◌++◌, Bool, true, false, get_or, drop, length, ap, sym, ◌∙◌, cond}
 use Rattle.std.proofs.lemmas.List.{at_drop_more, map-append, take_all}
 use Rattle.std.specs.Cmp.Lexicographic.{pointwise}
 use Rattle.cddl_token.specs.declared.Token.{Token}
@@ -23,12 +23,13 @@ names_at ts k d begins lt e =
     here ∙ ap (λ b. cond b (name_of_token (get_or ts k d).text.now ∷ rule_names (drop (k + 1) ts)) (rule_names (drop (k + 1) ts))) (sym same ∙ e)
 
 pub first_at : (name : List ℕ) (ts : List Token) (k : ℕ) (d : Token) (begins same : Bool) → k < length ts → begins_rule (drop k ts) ≡ begins → pointwise nat_eq (name_of_token (get_or ts k d).text.now) name ≡ same →
-    first_rule name (drop k ts) ≡ cond (begins && same) (Some (get_or ts k d).start) (first_rule name (drop (k + 1) ts))
+    first_rule name (drop k ts) ≡ cond (begins && same) (drop k ts) (first_rule name (drop (k + 1) ts))
 first_at name ts k d begins same lt e1 e2 =
     let later = first_rule name (drop (k + 1) ts) in
-    let start = (get_or ts k d).start in
+    let here = at_drop_more (λ (xs : List Token). xs) ts k d lt in
     let is_name = pointwise nat_eq (name_of_token (get_or ts k d).text.now) name in
-    at_drop_more (first_rule name) ts k d lt ∙ ap (λ b. cond (b && is_name) (Some start) later) (sym (at_drop_more begins_rule ts k d lt) ∙ e1) ∙ ap (λ s. cond (begins && s) (Some start) later) e2
+    let found = get_or ts k d ∷ drop (k + 1) ts in
+    at_drop_more (first_rule name) ts k d lt ∙ (ap (λ b. cond (b && is_name) found later) (sym (at_drop_more begins_rule ts k d lt) ∙ e1) ∙ (ap (λ s. cond (begins && s) found later) e2 ∙ ap (λ xs. cond (begins && same) xs later) (sym here)))
 
 -- what is left of a list, up to its end
 pub rest_whole : (ts : List Token) (n : ℕ) → take (length ts - n) (drop n ts) ≡ drop n ts
@@ -53,3 +54,7 @@ first_no_rule name (t ∷ ts) k lt e = first_at name (t ∷ ts) k t false (point
 pub first_other_name : (name found : List ℕ) (ts : List Token) (k : ℕ) (d : Token) → k < length ts → begins_rule (drop k ts) ≡ true → found ≡ name_of_token (get_or ts k d).text.now →
     pointwise nat_eq found name ≡ false → first_rule name (drop k ts) ≡ first_rule name (drop (k + 1) ts)
 first_other_name name found ts k d lt begins is other = first_at name ts k d true false lt begins (ap (λ x. pointwise nat_eq x name) (sym is) ∙ other)
+
+pub first_here : (name found : List ℕ) (ts : List Token) (k : ℕ) (d : Token) → k < length ts → begins_rule (drop k ts) ≡ true → found ≡ name_of_token (get_or ts k d).text.now →
+    pointwise nat_eq found name ≡ true → first_rule name (drop k ts) ≡ drop k ts
+first_here name found ts k d lt begins is same = first_at name ts k d true true lt begins (ap (λ x. pointwise nat_eq x name) (sym is) ∙ same)

@@ -1,7 +1,10 @@
+pub mod Arity
 pub mod Causes
 pub mod Examples
+pub mod Expected
 pub mod Hints
 pub mod Known
+pub mod Meant
 pub mod Names
 pub mod Origins
 pub mod Parts
@@ -10,4 +13,5 @@ pub mod Predicates
 pub mod Refusals
 pub mod Rules
 pub mod Sentences
+pub mod Spots
 pub mod Subjects

@@ -1,7 +1,11 @@
 -- What is wrong with the token that a refusal names, by the code: words that follow the token.
-use Rattle.std.specs.Prelude.{ℕ, List}
+use Rattle.std.specs.Prelude.{ℕ, List, [], ◌∷◌, if◌then◌else◌}
 use Rattle.cddl_token.specs.declared.Code.{Code}
 use Rattle.cddl_token.specs.declared.Code.TheVariants.{NotUtf8, BadCharacter, Unclosed, BadEscape, BadNumber, FloatLiteral, NumberTooLarge, BadBytes, SourceTooLong, Unexpected, TooNested, Duplicate, KindClash, Undefined, Arity, NoRoot, BadRoot, GroupAsType, HashForm, UnknownControl, TooManyInstances, NotUnwrappable, Recursion, NotLiteral, BadRange, BadController, NoKey, MapShape, TooManyAlternatives}
+use Rattle.cddl_token.specs.declared.Token.{Token}
+use Rattle.cddl_explain.specs.Arity.{arity_of_name}
+use Rattle.cddl_explain.specs.Rules.{begins_rule}
+use Rattle.cddl_explain.specs.Spots.{before, behind}
 use Rattle.cddl_explain.specs.declared.predicates.TheConstants as text
 
 abbrev pub predicate_of : Code → List ℕ
@@ -34,3 +38,14 @@ predicate_of BadController = text.BAD_CONTROLLER.now
 predicate_of NoKey = text.NO_KEY.now
 predicate_of MapShape = text.MAP_SHAPE.now
 predicate_of TooManyAlternatives = text.TOO_MANY_ALTERNATIVES.now
+
+-- of a name that stands twice: as the name of a rule, or in a list of parameters
+abbrev pub duplicate_of : List Token → List ℕ
+duplicate_of [] = text.DUPLICATE.now
+duplicate_of (t ∷ ts) = if begins_rule (t ∷ ts) then text.DUPLICATE.now else text.PARAMETER_TWICE.now
+
+-- what is wrong with the token at the offset, of all tokens
+abbrev pub predicate_at : Code → ℕ → List Token → List ℕ
+predicate_at Arity at ts = arity_of_name (before at ts) (behind at ts) ts
+predicate_at Duplicate at ts = duplicate_of (behind at ts)
+predicate_at code at ts = predicate_of code

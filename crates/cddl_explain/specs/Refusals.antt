@@ -11,7 +11,7 @@ use Rattle.text_shown.specs.Shown.{shown}
 use Rattle.cddl_explain.specs.Hints.{IsHint}
 use Rattle.cddl_explain.specs.Names.{name_of}
 use Rattle.cddl_explain.specs.Parts.{AreTokens, IsPart}
-use Rattle.cddl_explain.specs.Predicates.{predicate_of}
+use Rattle.cddl_explain.specs.Predicates.{predicate_at}
 use Rattle.cddl_explain.specs.Sentences.{sentence_of}
 use Rattle.cddl_explain.specs.declared.parts.Part.{Part}
 
@@ -21,17 +21,17 @@ of_nothing NoRoot (Some name) = codes "`" ++ (shown name ++ codes "`, which --ro
 of_nothing code root = sentence_of code
 
 -- what is wrong: with the token or the end of the text; or as the code alone says it, where there is neither
-abbrev pub said : Code → List ℕ → Option (List ℕ) → Part → List ℕ
-said code text root p =
-    if p.ends then codes "the end of the text " ++ predicate_of code
-    else if nat_lt p.from p.to then codes "`" ++ (shown_part (slice_range text p.from p.to) ++ (codes "` " ++ predicate_of code))
+abbrev pub said : Code → List ℕ → List Token → Option (List ℕ) → Part → List ℕ
+said code text ts root p =
+    if p.ends then codes "the end of the text " ++ predicate_at code p.from ts
+    else if nat_lt p.from p.to then codes "`" ++ (shown_part (slice_range text p.from p.to) ++ (codes "` " ++ predicate_at code p.from ts))
     else of_nothing code root
 
 -- what is wrong, and then what was perhaps meant
 pub record IsWrong (code : Code) (text : List ℕ) (part : Part) (ts : List Token) (root : Option (List ℕ)) (told : List ℕ) : Type 0 where
   pub hint : List ℕ
   pub is_hint : IsHint code text part ts root hint
-  pub is : told ≡ said code text root part ++ hint
+  pub is : told ≡ said code text ts root part ++ hint
 
 -- what is told: the line of the refusal; the file, the line and the column, and the name of the code; the line of the text and
 -- the marks under the part that is meant; what is wrong with it; and what was perhaps meant

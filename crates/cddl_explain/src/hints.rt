@@ -1,16 +1,22 @@
 //! What was perhaps meant.
 
-ghost use Rattle.std.specs.Prelude.{◌≡◌, [], length, option_map, string_bytes, IfOk};
+ghost use Rattle.std.specs.Prelude.{◌≡◌, ◌<◌, length, option_map, string_bytes, All, IfOk};
+ghost use Rattle.cddl_token.specs.declared.Token.{Token as AToken};
 ghost use Rattle.near_words.specs.Near.{texts};
-ghost use Rattle.cddl_explain.specs.Hints.{defined_names, hint_of, part_text, IsHint, IsHintAmong};
+ghost use Rattle.cddl_explain.specs.Hints.{defined_names, hint_of, part_text, IsChoiceHint, IsHint, IsHintAmong, IsNameHint, IsTokenHint};
 ghost use Rattle.cddl_explain.specs.Known.{control_names as known_controls};
 ghost use Rattle.cddl_explain.specs.Origins.{IsOrigin};
 ghost use Rattle.cddl_explain.specs.Parts.{IsWithin};
 
+use crate::expected::expectation;
 use crate::known::{control_names, prelude_names};
+use crate::meant::{
+    FLOATS, choice_words, key_words, name_words, reading_words, root_words, tag_words,
+};
 use crate::origins::origin_hint;
 use crate::parts::Part;
 use crate::rules::rule_names;
+use crate::spots::passed;
 use cddl_token::{Code, Token};
 use near_words::nearest;
 use std::alloc::{AllocError, Global};
@@ -31,28 +37,67 @@ pub(crate) fn hint(
     requires { IsWithin (length text.now) part }
     ensures { IfOk result (λ told. IsHint code text.now part tokens.now (option_map (λ r. r.now) root.entry) (string_bytes told)) }
 {
+    let (before, behind) = tokens.split_at(passed(tokens, part.from));
     match (code, root) {
-        (Code::Undefined, _) => name_hint(alloc, text, part, tokens),
+        (Code::FloatLiteral, _) => format!(in alloc; "{FLOATS}"),
+        (Code::Unexpected, _) => token_hint(alloc, before, part.from, behind),
+        (Code::Undefined, _) => name_hint(alloc, text, part, behind, tokens),
         (Code::UnknownControl, _) => control_hint(alloc, text, part),
-        (Code::NoRoot, Some(name)) => defined_hint(alloc, name, tokens),
-        (Code::Duplicate | Code::KindClash | Code::Arity | Code::GroupAsType, _) => {
+        (Code::NoRoot, Some(name)) => defined_hint(alloc, name, "", tokens),
+        (Code::BadRoot, _) => root_words(alloc, tokens, part.from),
+        (Code::HashForm, _) => tag_words(alloc, behind),
+        (Code::NoKey, _) => key_words(alloc, behind),
+        (Code::Duplicate, _) => choice_hint(alloc, text, part, behind, tokens),
+        (Code::KindClash | Code::Arity | Code::GroupAsType, _) => {
             rule_hint(alloc, text, part, tokens)
         }
         _ => Ok(String::new(alloc)),
     }
 }
 
+// Which tokens may come in place of the first of those behind a place, and how the one before it is read.
+fn token_hint(
+    alloc: Global,
+    before: &[Token<'_>],
+    at: usize,
+    behind: &[Token<'_>],
+) -> Result<String, AllocError>
+    requires { All (λ (t : AToken). t.start < at) before.now }
+    ensures { IfOk result (λ told. IsTokenHint before.now behind.now (string_bytes told)) }
+{
+    let expected = expectation(alloc, before, at)?;
+    let reading = reading_words(alloc, before.last(), behind)?;
+    format!(in alloc; "{expected}{reading}")
+}
+
+fn choice_hint(
+    alloc: Global,
+    text: &[u8],
+    part: Part,
+    behind: &[Token<'_>],
+    tokens: &[Token<'_>],
+) -> Result<String, AllocError>
+    requires { IsWithin (length text.now) part }
+    ensures { IfOk result (λ told. IsChoiceHint text.now part behind.now tokens.now (string_bytes told)) }
+{
+    let origin = rule_hint(alloc, text, part, tokens)?;
+    let choice = choice_words(alloc, behind)?;
+    format!(in alloc; "{origin}{choice}")
+}
+
 fn name_hint(
     alloc: Global,
     text: &[u8],
     part: Part,
+    behind: &[Token<'_>],
     tokens: &[Token<'_>],
 ) -> Result<String, AllocError>
     requires { IsWithin (length text.now) part }
-    ensures { IfOk result (λ told. IsHintAmong (defined_names tokens.now) (part_text text.now part) [] (string_bytes told)) }
+    ensures { IfOk result (λ told. IsNameHint text.now part behind.now tokens.now (string_bytes told)) }
 {
     let name = String::from_utf8_lossy(alloc, &text[part.from..part.to])?;
-    defined_hint(alloc, name.as_str(), tokens)
+    let other = name_words(alloc, name.as_str(), behind)?;
+    defined_hint(alloc, name.as_str(), other.as_str(), tokens)
 }
 
 fn rule_hint(
@@ -77,12 +122,17 @@ fn control_hint(alloc: Global, text: &[u8], part: Part) -> Result<String, AllocE
     hint_of(alloc, KNOWN, found)
 }
 
-fn defined_hint(alloc: Global, name: &str, tokens: &[Token<'_>]) -> Result<String, AllocError>
-    ensures { IfOk result (λ told. IsHintAmong (defined_names tokens.now) name.now [] (string_bytes told)) }
+fn defined_hint(
+    alloc: Global,
+    name: &str,
+    other: &str,
+    tokens: &[Token<'_>],
+) -> Result<String, AllocError>
+    ensures { IfOk result (λ told. IsHintAmong (defined_names tokens.now) name.now other.now (string_bytes told)) }
 {
     let names = defined_names(alloc, tokens)?;
     let found = nearest(alloc, name, names.as_slice())?;
-    hint_of(alloc, "", found)
+    hint_of(alloc, other, found)
 }
 
 fn defined_names<'s>(alloc: Global, tokens: &[Token<'s>]) -> Result<Vec<&'s str>, AllocError>

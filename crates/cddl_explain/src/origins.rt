@@ -18,8 +18,8 @@ pub(crate) fn origin_hint(
 ) -> Result<String, AllocError>
     ensures { IfOk result (λ told. IsOrigin text.now here tokens.now name.now (string_bytes told)) }
 {
-    match first_rule(tokens, name) {
-        Some(start) => told_at(alloc, text, here, start),
+    match first_rule(tokens, name).first() {
+        Some(rule) => told_at(alloc, text, here, rule.start),
         None => Ok(String::new(alloc)),
     }
 }
@@ -40,14 +40,14 @@ fn place_words(alloc: Global, line: usize, column: usize) -> Result<String, Allo
     format!(in alloc; "; the first rule of this name is in line {line}, column {column}")
 }
 
-// The offset of the first rule of a name.
-fn first_rule(tokens: &[Token<'_>], name: &str) -> Option<usize>
-    ensures { result ≡ first_rule name.now tokens.now }
+// The tokens from the first rule of a name on, and none where it has no rule.
+pub(crate) fn first_rule<'t, 's>(tokens: &'t [Token<'s>], name: &str) -> &'t [Token<'s>]
+    ensures { result.now ≡ first_rule name.now tokens.now }
 {
     'rule: for k in 0..tokens.len() {
         if begins_rule(tokens, k) && *name_of_token(tokens[k].text) == *name {
-            return Some(tokens[k].start);
+            return &tokens[k..];
         }
     }
-    None
+    &tokens[..0]
 }

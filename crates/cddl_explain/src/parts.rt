@@ -116,7 +116,7 @@ fn part_of_token(before: usize, token: &Token<'_>) -> Part
     }
 }
 
-fn is_open(kind: Kind) -> bool
+pub(crate) fn is_open(kind: Kind) -> bool
     ensures { result ≡ is_open kind }
 {
     matches!(kind, Kind::NameOpen)

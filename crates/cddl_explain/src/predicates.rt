@@ -1,9 +1,13 @@
 //! What is wrong with the token that a refusal names, by the code.
 
-ghost use Rattle.std.specs.Prelude.{◌≡◌};
-ghost use Rattle.cddl_explain.specs.Predicates.{predicate_of};
+ghost use Rattle.std.specs.Prelude.{◌≡◌, string_bytes, IfOk};
+ghost use Rattle.cddl_explain.specs.Predicates.{duplicate_of, predicate_at, predicate_of};
 
-use cddl_token::Code;
+use crate::arity::arity_of_name;
+use crate::rules::begins_rule;
+use crate::spots::passed;
+use cddl_token::{Code, Token};
+use std::alloc::{AllocError, Global};
 
 pub(crate) const NOT_UTF8: &str = "is not UTF-8";
 
@@ -28,16 +32,16 @@ pub(crate) const UNEXPECTED: &str = "cannot stand here";
 
 pub(crate) const TOO_NESTED: &str = "opens one more inside 128 open ones";
 
-pub(crate) const DUPLICATE: &str =
-    "is defined by = before, as something else; or it stands twice in a list of parameters";
+pub(crate) const DUPLICATE: &str = "is defined by = before, as something else";
+
+pub(crate) const PARAMETER_TWICE: &str = "stands twice in this list of parameters";
 
 pub(crate) const KIND_CLASH: &str =
     "is a type by another rule, and a group by this one, or the other way round";
 
 pub(crate) const UNDEFINED: &str = "is no rule, no parameter, none of the prelude and no socket";
 
-pub(crate) const ARITY: &str =
-    "has another number of arguments than of parameters; or it is a parameter with arguments; or another rule of this name has another number of parameters";
+pub(crate) const ARITY: &str = "has a wrong number of arguments or parameters";
 
 pub(crate) const NO_ROOT: &str = "is no root";
 
@@ -76,8 +80,38 @@ pub(crate) const MAP_SHAPE: &str =
 pub(crate) const TOO_MANY_ALTERNATIVES: &str =
     "opens a map that has, or in which a group has, more than 512 alternatives, or more than 16,384 entries in them";
 
-// What is wrong with the token that a refusal with this code names: words that follow the token and end with no full stop.
-pub(crate) fn predicate(code: Code) -> &'static str
+// What is wrong with the token that a refusal with this code names, which is at the offset: words that follow the token and
+// end with no full stop.
+pub(crate) fn predicate_at(
+    alloc: Global,
+    code: Code,
+    at: usize,
+    tokens: &[Token<'_>],
+) -> Result<String, AllocError>
+    ensures { IfOk result (λ told. string_bytes told ≡ predicate_at code at tokens.now) }
+{
+    let (before, behind) = tokens.split_at(passed(tokens, at));
+    match code {
+        Code::Arity => arity_of_name(alloc, before, behind, tokens),
+        Code::Duplicate => duplicate(alloc, behind),
+        _ => {
+            let words = predicate(code);
+            format!(in alloc; "{words}")
+        }
+    }
+}
+
+fn duplicate(alloc: Global, here: &[Token<'_>]) -> Result<String, AllocError>
+    ensures { IfOk result (λ told. string_bytes told ≡ duplicate_of here.now) }
+{
+    match here.first() {
+        Some(_) if !begins_rule(here, 0) => format!(in alloc; "{PARAMETER_TWICE}"),
+        _ => format!(in alloc; "{DUPLICATE}"),
+    }
+}
+
+// What is wrong with a token, by the code alone.
+fn predicate(code: Code) -> &'static str
     ensures { result.now ≡ predicate_of code }
 {
     match code {

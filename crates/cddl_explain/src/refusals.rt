@@ -8,7 +8,7 @@ ghost use Rattle.cddl_explain.specs.Refusals.{of_nothing, said, IsExplainedRefus
 use crate::hints::hint;
 use crate::names::name;
 use crate::parts::{Part, part_of, tokens_of};
-use crate::predicates::predicate;
+use crate::predicates::predicate_at;
 use crate::sentences::sentence;
 use cddl_token::{Code, Refusal, Token};
 use std::alloc::{AllocError, Global};
@@ -16,8 +16,8 @@ use text_position::position_of;
 use text_shown::{pointed_at, push_shown, shown_part};
 
 /// What is told of a refusal, in whole lines: the line of the refusal; the name of the file, the line and the column, and the
-/// name of the code; the line of the text, with marks under the part that is meant; and what is wrong with it, with the name or the control that was
-/// perhaps meant in its place.
+/// name of the code; the line of the text, with marks under the part that is meant; and what is wrong with it, with what may
+/// stand in its place, or what was perhaps meant.
 ///
 /// The part is the token that begins at the offset. Where that is the end of the text, one mark stands behind the last token.
 /// Where the text has no tokens, the marks are under the character, number or string that is wrong. Where nothing of the text
@@ -59,7 +59,7 @@ fn wrong(
     requires { IsWithin (length text.now) part }
     ensures { IfOk result (λ told. IsWrong code text.now part tokens.now (option_map (λ r. r.now) root.entry) (string_bytes told)) }
 {
-    let said = said(alloc, code, text, root, part)?;
+    let said = said(alloc, code, text, tokens, root, part)?;
     let hint = hint(alloc, code, text, part, tokens, root)?;
     format!(in alloc; "{said}{hint}")
 }
@@ -68,13 +68,14 @@ fn said(
     alloc: Global,
     code: Code,
     text: &[u8],
+    tokens: &[Token<'_>],
     root: Option<&str>,
     part: Part,
 ) -> Result<String, AllocError>
     requires { IsWithin (length text.now) part }
-    ensures { IfOk result (λ told. string_bytes told ≡ said code text.now (option_map (λ r. r.now) root.entry) part) }
+    ensures { IfOk result (λ told. string_bytes told ≡ said code text.now tokens.now (option_map (λ r. r.now) root.entry) part) }
 {
-    let predicate = predicate(code);
+    let predicate = predicate_at(alloc, code, part.from, tokens)?;
     if part.ends {
         return format!(in alloc; "the end of the text {predicate}");
     }

@@ -83,7 +83,7 @@ fn closes(tokens: &[Token<'_>]) -> bool
 }
 
 // Whether the first token is an assignment.
-fn assigns(tokens: &[Token<'_>]) -> bool
+pub(crate) fn assigns(tokens: &[Token<'_>]) -> bool
     ensures { result ≡ assigns tokens.now }
 {
     match tokens.first() {
@@ -98,7 +98,7 @@ fn is_assignment(kind: Kind) -> bool
     matches!(kind, Kind::Assign | Kind::TypeAssign | Kind::GroupAssign)
 }
 
-fn in_list_of(kind: Kind) -> InList
+pub(crate) fn in_list_of(kind: Kind) -> InList
     ensures { result ≡ in_list_of kind }
 {
     match kind {

@@ -1,0 +1,15 @@
+-- The tokens before a place, and those from there on.
+use Rattle.std.specs.Prelude.{ℕ, suc, nat_lt, List, [], ◌∷◌, drop, take, if◌then◌else◌}
+use Rattle.cddl_token.specs.declared.Token.{Token}
+
+-- how many tokens begin before the offset, up to the first that does not
+abbrev pub passed : ℕ → List Token → ℕ
+passed at [] = 0
+passed at (t ∷ ts) = if nat_lt t.start at then suc (passed at ts) else 0
+
+-- the tokens that begin before the offset, and those behind them
+abbrev pub before : ℕ → List Token → List Token
+before at ts = take (passed at ts) ts
+
+abbrev pub behind : ℕ → List Token → List Token
+behind at ts = drop (passed at ts) ts
