@@ -1,3 +1,4 @@
 mod Lists
 mod OfBits
+mod OfIndex
 mod OfKeys

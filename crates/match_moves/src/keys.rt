@@ -54,7 +54,7 @@ fn shown_at(table: &Table, node: TypeId) -> Shown<'_>
 
 // The one value that a type is known to be by its form.
 #[inline]
-fn value_of<'t>(table: &'t Table, node: TypeId) -> Option<&'t Item>
+pub(crate) fn value_of<'t>(table: &'t Table, node: TypeId) -> Option<&'t Item>
     ensures { MatchOption result (key_in (language_of table.now).type_at most_forms node ≡ None) (λ literal. key_in (language_of table.now).type_at most_forms node ≡ Some (view literal.now)) }
 {
     let mut node = node;

@@ -6,6 +6,7 @@ mod bits;
 mod contents;
 mod controls;
 mod counts;
+mod index;
 mod keys;
 mod moves;
 mod places;
@@ -17,6 +18,7 @@ pub use crate::bits::left_after_bits;
 pub use crate::contents::{bytes_of, items_of, pairs_of, simple_of};
 pub use crate::controls::weighed_reply;
 pub use crate::counts::Counts;
+pub use crate::index::KeyIndex;
 pub use crate::keys::is_passed_over;
 pub use crate::moves::{
     after_round, entry_reply, first_of_group, first_of_type, is_over, next_move, said_reply,
