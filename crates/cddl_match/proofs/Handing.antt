@@ -1,7 +1,8 @@
 -- What the entries of an alternative do with a pair, one after the other.
-use Rattle.std.proofs.Common.{◌≡◌, ℕ, ◌+◌, ◌-◌, ◌<◌, ◌≤◌, ◌++◌, length, List, [], ◌∷◌, true, false, refl, sym, subst, ◌∙◌, append_assoc, arith}
+use Rattle.std.proofs.Common.{◌≡◌, ℕ, ◌+◌, ◌-◌, ◌<◌, ◌≤◌, ◌++◌, length, List, [], ◌∷◌, true, false, refl, sym, ap, subst, ◌∙◌, append_assoc, arith}
 use Rattle.std.proofs.lemmas.List.{append-nil, length-append}
-use Rattle.std.specs.Prelude.{Err}
+use Rattle.std.proofs.lemmas.List.Elements.{All-head, All-tail}
+use Rattle.std.specs.Prelude.{All, Err}
 use Rattle.cbor_data.specs.Value.{Pairs, place_count}
 use Rattle.item_nodes.specs.View.{view}
 use Rattle.item_nodes.specs.declared.item.Item.{Item}
@@ -12,6 +13,7 @@ use Rattle.cddl_meaning.specs.Judges.{Takes, Fails}
 use Rattle.cddl_meaning.specs.Moves as M
 use Rattle.cddl_meaning.specs.Moves.{OfType}
 use Rattle.cddl_match.specs.Ahead.{ComesTo}
+use Rattle.cddl_match.specs.Entering.{ArePassed, IsPassed}
 use Rattle.cddl_match.specs.Tellings.{Becomes, BelongsBy, HandsOn, KeySays, Sorts, sorting_of}
 use Rattle.match_moves.specs.Views.{fate_view}
 use Rattle.cddl_match.specs.Within.{Outcome, Replied, Stopped, Says}
@@ -101,6 +103,19 @@ module _ {N G : Type 0} (l : Language N G) where
         let x = key_yes l e others s steps mid some (here all base rest tally) b (k.0 others all base rest tally, k.1) in
         ends_so l steps some left (Stopped Spent) x.0 x.1 (asks_stopped l (OfType e.value_type s.value_place s.held) some left (M.InValue e others s) Spent v)
     value_stops left NoMemory k v = tt
+
+  -- Entries that are passed over take no step.
+  over_passed : (before xs : List (F.MapEntry N)) (s : M.Sorting N) → All (IsPassed l s.key) before → ComesTo l (M.next_entry (before ++ xs) s) (M.next_entry xs s) 0
+  over_passed [] xs s h = stays l (M.next_entry xs s)
+  over_passed (e ∷ es) xs s h = and_on l (passes_on l e (es ++ xs) s (All-head (IsPassed l s.key) e es h)) (over_passed es xs s (All-tail (IsPassed l s.key) e es h)) (omega arith)
+
+  -- Where an index leads past entries, the pair is handed on to those after them.
+  pub handed_past : (place : ℕ) (both : Item × Item) (es left others : List (F.MapEntry N)) (k : ℕ) → HandsOn l place both es left k → ArePassed l (view both.0) left others → HandsOn l place both es others k
+  handed_past place both es left others k h p = record {
+    first = h.first ++ p.before;
+    parts = h.parts ∙ ap (λ xs. h.first ++ xs) p.whole ∙ sym (append_assoc h.first p.before others);
+    comes = λ xs all base rest tally. rw (append_assoc h.first p.before xs) (and_on l (h.comes (p.before ++ xs) all base rest tally) (over_passed p.before xs (sorting_of all base place both rest tally) p.each) (omega arith));
+  }
 
   -- It belongs to no entry.
   pub is_stray : (place : ℕ) (both : Item × Item) (es : List (F.MapEntry N)) (k : ℕ) → HandsOn l place both es [] k → Becomes l place both es (T.Stray place) k

@@ -250,3 +250,8 @@ module _ (l : Language TypeId GroupId) (one : (n : ℕ) → F.pair_cost l.counti
 pub told_and : (told : Option ℕ) (P Q : ℕ → Type 0) → IfSome told P → IfSome told Q → IfSome told (λ m. P m × Q m)
 told_and None P Q p q = tt
 told_and (Some m) P Q p q = (p, q)
+
+-- So many first entries tell: there are so many, and they have so many counts.
+pub told_fits : (l : Language TypeId GroupId) (es : List MapEntry) (base next asked : ℕ) (ps left : Pairs) (t : M.Tally) (told : Option ℕ) → IfSome told (λ m. AreTold l (entries_view es) base ps next left t m asked) → IfSome told (λ m. (m ≤ length es) × (m ≤ length t.counts))
+told_fits l es base next asked ps left t None h = tt
+told_fits l es base next asked ps left t (Some m) h = (omega (arith, h.many, ap length h.parts, length-append h.first h.others, as_many_entries es), as_many_counts l h)

@@ -4,6 +4,11 @@ use Rattle.cbor_data.specs.Value.{Value}
 use Rattle.cddl_meaning.specs.Forms.{Language, MapEntry, is_passed_over}
 use Rattle.cddl_meaning.specs.Moves.{Move, Enters}
 
+-- The entries that are left are the last ones.
+pub record EndIn {N : Type 0} (es left : List (MapEntry N)) : Type 0 where
+  pub first : List (MapEntry N)
+  pub whole : es ≡ first ++ left
+
 module _ {N G : Type 0} (l : Language N G) where
   -- a pair with this key passes over the entry
   abbrev pub IsPassed : Value → MapEntry N → Type 0

@@ -1,14 +1,22 @@
 //! Which entries of an alternative are asked about a pair.
 
-ghost use Rattle.std.specs.Prelude.{◌≡◌};
-ghost use Rattle.cddl_match.specs.Entering.{ArePassed, IsFirstAsked};
+ghost use Rattle.std.specs.Prelude.{◌≡◌, IfSome};
+ghost use Rattle.cddl_match.specs.Entering.{ArePassed, EndIn, IsFirstAsked};
 ghost use Rattle.item_nodes.specs.View.{view};
+ghost use Rattle.match_moves.specs.Places.{IsIndexOf};
 ghost use Rattle.table_nodes.specs.Language.{language_of};
 ghost use Rattle.table_nodes.specs.Nodes.{entries_view};
+ghost use Rattle.table_nodes.specs.declared.table.Table.{Table as Tables};
 
 use item_nodes::Item;
-use match_moves::is_passed_over;
+use match_moves::{KeyIndex, is_passed_over};
+use std::alloc::Global;
 use table_nodes::{MapEntry, Table};
+
+// An index is made for so many entries and pairs at least. For fewer it would not save what it takes to make it.
+const INDEXED_ENTRIES: usize = 16;
+
+const INDEXED_PAIRS: usize = 16;
 
 // These entries from the first one on that is asked about a pair with this key. The pair passes over those before it.
 pub(crate) fn asked_from<'t>(table: &Table, entries: &'t [MapEntry], key: &Item) -> &'t [MapEntry]
@@ -23,4 +31,40 @@ pub(crate) fn asked_from<'t>(table: &Table, entries: &'t [MapEntry], key: &Item)
         left = others;
     }
     left
+}
+
+// An index of these entries for so many pairs, if it is worth while and there is memory for it.
+pub(crate) fn index_for<'t>(
+    alloc: Global,
+    table: &'t Table,
+    entries: &[MapEntry],
+    pairs: usize,
+) -> Option<KeyIndex<'t>>
+    ensures { IfSome result (IsIndexOf (language_of table.now).type_at (entries_view entries.now)) }
+{
+    if entries.len() < INDEXED_ENTRIES || pairs < INDEXED_PAIRS {
+        return None;
+    }
+    KeyIndex::new(alloc, table, entries)
+}
+
+// These last entries of an alternative from the first one on that a pair with this key is not known to pass over.
+#[inline]
+pub(crate) fn unpassed<'e>(
+    index: Option<&KeyIndex<'_>>,
+    entries: &'e [MapEntry],
+    left: &'e [MapEntry],
+    key: &Item,
+) -> &'e [MapEntry]
+    requires { EndIn (entries_view entries.now) (entries_view left.now) }
+    ensures { (table : Tables) → IfSome index.entry (λ i. IsIndexOf (language_of table).type_at (entries_view entries.now) i.now) → ArePassed (language_of table) (view key.now) (entries_view left.now) (entries_view result.now) }
+{
+    let Some(index) = index else {
+        return left;
+    };
+    let next = index.next_asked(key, entries.len() - left.len());
+    match entries.split_at_checked(next) {
+        Some((_, others)) => others,
+        None => &[],
+    }
 }

@@ -1,12 +1,13 @@
 //! What types say of items and groups do with them, each question by a call of its own.
 
-ghost use Rattle.std.specs.Prelude.{ℕ, List, Some};
+ghost use Rattle.std.specs.Prelude.{ℕ, IfSome, List, Some};
 ghost use Rattle.cbor_data.specs.Value.{Pairs};
 ghost use Rattle.item_nodes.specs.View.{pairs_view, view};
 ghost use Rattle.cddl_meaning.specs.Forms as F;
 ghost use Rattle.cddl_meaning.specs.Forms.{bytes_in, members_in, simple_in};
 ghost use Rattle.cddl_meaning.specs.Judges as J;
 ghost use Rattle.cddl_meaning.specs.Moves as M;
+ghost use Rattle.match_moves.specs.Places.{IsIndexOf};
 ghost use Rattle.match_moves.specs.Views.{parts_move, rounds_move, values};
 ghost use Rattle.cddl_match.specs.Tellings.{IsTallied, KeySays, Sorts, Tallies};
 ghost use Rattle.cddl_match.specs.Within.{Ends, Says, done_view, said_view};
@@ -17,6 +18,7 @@ ghost use Rattle.table_nodes.specs.declared.nodes.TypeId.{TypeId};
 use crate::behind::{group_behind, type_behind};
 use crate::calls::{Said, Stop};
 use crate::deeper::{replied_by_turns, type_by_turns};
+use crate::entering::{index_for, unpassed};
 use crate::looking::rounds_told;
 use crate::means::Means;
 use crate::reading::held_in;
@@ -28,7 +30,7 @@ use crate::shelf::{Cells, Shelf};
 use crate::tallied::{Tallied, nothing_tallied, told_with};
 use cbor_item::Item;
 use match_moves::{
-    Fate, Parts, Question, Reply, Round, Rounds, after_round, begin_tally, bytes_of,
+    Fate, KeyIndex, Parts, Question, Reply, Round, Rounds, after_round, begin_tally, bytes_of,
     first_are_enough, is_over, is_passed_over, items_of, pairs_of, place_after, plus, simple_of,
     tally_pair,
 };
@@ -388,6 +390,8 @@ fn tally_pairs<'t, 'i>(
     let Ok(()) = begin_tally(&mut tallied.tally, entries) else {
         return Err(Stop::NoMemory);
     };
+    let index = index_for(means.shelf.alloc, table, entries, pairs.len());
+    let index = index.as_ref();
     let mut told = Some(0);
     let steps = means.left;
     let mut place = plus(base, 1);
@@ -398,7 +402,7 @@ fn tally_pairs<'t, 'i>(
             return Err(Stop::Spent);
         };
         means.left = some;
-        let fate = pair_fate(table, means, entries, pair, place, depth)?;
+        let fate = pair_fate(table, means, index, entries, pair, place, depth)?;
         told = told_with(told, fate, entries.len());
         tally_pair(&mut tallied.tally, fate);
         place = place_after(&pair.1, place_after(&pair.0, place));
@@ -439,21 +443,24 @@ fn key_says<'i>(
     type_says_here(table, means, entry.key_type, place, &pair.0, depth)
 }
 
-// What becomes of a pair, its key at `place`, that is tried with these entries.
+// What becomes of a pair, its key at `place`, that is tried with these entries. Where they have an index, the pair goes from one
+// that may be asked to the next.
 #[inline(always)]
 #[cycle(saying)]
 fn pair_fate<'i>(
     table: &Table,
     means: &mut Means<'i>,
+    index: Option<&KeyIndex<'_>>,
     entries: &[MapEntry],
     pair: &'i (Item, Item),
     place: usize,
     depth: u8,
 ) -> Result<Fate, Stop>
+    requires { IfSome index (λ i. IsIndexOf (language_of table.now).type_at (entries_view entries.now) i.now) }
     ensures { Sorts (language_of table.now) place pair.now (entries_view entries.now) means.old.left means.new.left result }
 {
     let mut left = entries;
-    while let Some((entry, others)) = left.split_first() {
+    while let Some((entry, others)) = unpassed(index, entries, left, &pair.0).split_first() {
         left = others;
         match key_says(table, means, entry, pair, place, depth) {
             Said::Yes { .. } => {}

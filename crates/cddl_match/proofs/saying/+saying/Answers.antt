@@ -11,14 +11,16 @@ use Rattle.table_nodes.specs.Language.{language_of}
 use Rattle.table_nodes.specs.Nodes.{alternatives_view, content_view, entries_view, entry_view, most_view, test_view, type_view}
 use Rattle.table_nodes.specs.declared.nodes.GroupId.{GroupId}
 use Rattle.cddl_match.specs.Ahead.{ComesTo}
+use Rattle.match_moves.specs.Places.{IsIndexOf}
 use Rattle.match_moves.specs.Views.{reply_view, rounds_move, tally_view, values}
 use Rattle.cddl_match.specs.declared.calls.Stop.TheVariants.{Spent}
 use Rattle.cddl_match.specs.Within.{Replied, Stopped, Says, done_view, said_view}
 use Rattle.item_nodes.proofs.Lemmas.{view-Uint}
 use Rattle.cddl_match.proofs.Outcomes.{answered, begins, ends_on, passes_on, says_on, took, asks}
+use Rattle.cddl_match.proofs.Passing.{lent}
 use Rattle.cddl_match.proofs.Sayings.{has_said, type_on, type_few, group_on, group_few, no_passes, yes_passes, array_ends, simple_ends, meant_ends, held_ends, nothing_held, entry_ends, goes_on, ends_so, stops, round_stops}
-use Rattle.cddl_match.proofs.Handing.{key_asked, key_few, key_passed, none_tried, other_key_next, other_value_next, its_value, kept, key_stops, value_stops}
-use Rattle.cddl_match.proofs.Tellings.{as_many_entries, no_pair_told, pair_few, pair_sorted, pair_stops, pair_told, told_and}
+use Rattle.cddl_match.proofs.Handing.{handed_past, is_stray, key_asked, key_few, key_passed, none_tried, other_key_next, other_value_next, its_value, kept, key_stops, value_stops}
+use Rattle.cddl_match.proofs.Tellings.{as_many_entries, no_pair_told, pair_few, pair_sorted, pair_stops, pair_told, told_and, told_fits}
 use Rattle.cddl_match.proofs.Ways.{and_on, a_round, itself, opens}
 use Rattle.cddl_match.proofs.saying.+saying.Goals as goal
 
@@ -197,6 +199,12 @@ tally_pairs-loop-pair-preserved t c =
       known = rw (c.told_with-told.ensures, place, c.tally_pair.ensures) (pair_told l (λ n. refl) es c.args.base c.loop-pair.place both rest ps tally c.loop-pair.told c.in_ok-fate.fate (length c.args.entries.now) c.args.means.now.left c.loop-pair.means.left c.in-Some-checked_sub.some c.pair_fate.new.means.left (as_many_entries c.args.entries.now) c.loop-pair.invariant.within one known c.in_ok-fate.ensures);
     }
 
+pub tally_pairs-pair_fate-requires : goal.tally_pairs-pair_fate-requires
+tally_pairs-pair_fate-requires t c = (omega arith, lent c.as_ref-index.result c.index_for-index.result (IsIndexOf (language_of c.args.table.now).type_at (entries_view c.args.entries.now)) c.as_ref-index.ensures.value c.index_for-index.ensures)
+
+pub tally_pairs-first_are_enough-tallied-requires : goal.tally_pairs-first_are_enough-tallied-requires
+tally_pairs-first_are_enough-tallied-requires t c = told_fits (language_of c.args.table.now) c.args.entries.now c.args.base c.loop-pair.place (c.args.means.now.left - c.loop-pair.means.left) (pairs_view c.args.pairs.now) (pairs_view c.loop-pair.left.now) (tally_view c.loop-pair.tallied.tally) c.loop-pair.told c.loop-pair.invariant.known
+
 pub tally_pairs-returns-clause-known : goal.tally_pairs-returns-clause-known
 tally_pairs-returns-clause-known t c = told_and c.loop-pair.told _ _ (rw (none_left _ c.in_default-split_first.ensures.cases) at c.loop-pair.invariant.known) c.first_are_enough-tallied.ensures
 
@@ -221,26 +229,34 @@ pair_fate-loop-entry-init t c = record {
 pub pair_fate-loop-entry-preserved-in-No : goal.pair_fate-loop-entry-preserved-in-No
 pair_fate-loop-entry-preserved-in-No t c = record {
   within = omega (arith, c.loop-entry.invariant.within, c.in-No.ensures.1);
-  comes = other_key_next (language_of c.args.table.now) c.args.place c.args.pair.now (entries_view c.args.entries.now) (entry_view c.in-Some.entry.now) (entries_view c.in-Some.others.now) c.args.means.now.left c.loop-entry.means.left (rw c.in-Some.ensures.cases.0 at c.loop-entry.invariant.comes) c.loop-entry.invariant.within c.in-No.ensures;
+  comes = other_key_next (language_of c.args.table.now) c.args.place c.args.pair.now (entries_view c.args.entries.now) (entry_view c.in-Some.entry.now) (entries_view c.in-Some.others.now) c.args.means.now.left c.loop-entry.means.left (rw c.in-Some.ensures.cases.0 at (handed_past (language_of c.args.table.now) c.args.place c.args.pair.now (entries_view c.args.entries.now) (entries_view c.loop-entry.left.now) (entries_view c.unpassed.result.now) (c.args.means.now.left - c.loop-entry.means.left) c.loop-entry.invariant.comes (c.unpassed.ensures c.args.table.now c.requires))) c.loop-entry.invariant.within c.in-No.ensures;
 }
 
 pub pair_fate-loop-entry-preserved : goal.pair_fate-loop-entry-preserved
 pair_fate-loop-entry-preserved t c = record {
   within = omega (arith, c.loop-entry.invariant.within, c.in-Yes.ensures.1, c.in-No-type_says_here.ensures.1);
-  comes = other_value_next (language_of c.args.table.now) c.args.place c.args.pair.now (entries_view c.args.entries.now) (entry_view c.in-Some.entry.now) (entries_view c.in-Some.others.now) c.args.means.now.left c.loop-entry.means.left (rw c.in-Some.ensures.cases.0 at c.loop-entry.invariant.comes) c.loop-entry.invariant.within c.if-entry.false c.in-Yes.ensures (rw c.place_after-value_place.ensures at c.in-No-type_says_here.ensures);
+  comes = other_value_next (language_of c.args.table.now) c.args.place c.args.pair.now (entries_view c.args.entries.now) (entry_view c.in-Some.entry.now) (entries_view c.in-Some.others.now) c.args.means.now.left c.loop-entry.means.left (rw c.in-Some.ensures.cases.0 at (handed_past (language_of c.args.table.now) c.args.place c.args.pair.now (entries_view c.args.entries.now) (entries_view c.loop-entry.left.now) (entries_view c.unpassed.result.now) (c.args.means.now.left - c.loop-entry.means.left) c.loop-entry.invariant.comes (c.unpassed.ensures c.args.table.now c.requires))) c.loop-entry.invariant.within c.if-entry.false c.in-Yes.ensures (rw c.place_after-value_place.ensures at c.in-No-type_says_here.ensures);
 }
 
 pub pair_fate-returns-in-Yes-type_says_here : goal.pair_fate-returns-in-Yes-type_says_here
-pair_fate-returns-in-Yes-type_says_here t c = (its_value (language_of c.args.table.now) c.args.place c.args.pair.now (entries_view c.args.entries.now) (entry_view c.in-Some.entry.now) (entries_view c.in-Some.others.now) c.args.means.now.left c.loop-entry.means.left (rw c.in-Some.ensures.cases.0 at c.loop-entry.invariant.comes) c.loop-entry.invariant.within (sym (as_many_entries c.in-Some.others.now)) c.in-Yes.ensures (rw c.place_after-value_place.ensures at c.in-Yes-type_says_here.ensures), omega (arith, c.loop-entry.invariant.within, c.in-Yes.ensures.1, c.in-Yes-type_says_here.ensures.1))
+pair_fate-returns-in-Yes-type_says_here t c = (its_value (language_of c.args.table.now) c.args.place c.args.pair.now (entries_view c.args.entries.now) (entry_view c.in-Some.entry.now) (entries_view c.in-Some.others.now) c.args.means.now.left c.loop-entry.means.left (rw c.in-Some.ensures.cases.0 at (handed_past (language_of c.args.table.now) c.args.place c.args.pair.now (entries_view c.args.entries.now) (entries_view c.loop-entry.left.now) (entries_view c.unpassed.result.now) (c.args.means.now.left - c.loop-entry.means.left) c.loop-entry.invariant.comes (c.unpassed.ensures c.args.table.now c.requires))) c.loop-entry.invariant.within (sym (as_many_entries c.in-Some.others.now)) c.in-Yes.ensures (rw c.place_after-value_place.ensures at c.in-Yes-type_says_here.ensures), omega (arith, c.loop-entry.invariant.within, c.in-Yes.ensures.1, c.in-Yes-type_says_here.ensures.1))
 
 pub pair_fate-returns-then-entry : goal.pair_fate-returns-then-entry
-pair_fate-returns-then-entry t c = (kept (language_of c.args.table.now) c.args.place c.args.pair.now (entries_view c.args.entries.now) (entry_view c.in-Some.entry.now) (entries_view c.in-Some.others.now) c.args.means.now.left c.loop-entry.means.left (rw c.in-Some.ensures.cases.0 at c.loop-entry.invariant.comes) c.loop-entry.invariant.within (sym (as_many_entries c.in-Some.others.now)) c.if-entry.true c.in-Yes.ensures (rw c.place_after-value_place.ensures at c.in-No-type_says_here.ensures), omega (arith, c.loop-entry.invariant.within, c.in-Yes.ensures.1, c.in-No-type_says_here.ensures.1))
+pair_fate-returns-then-entry t c = (kept (language_of c.args.table.now) c.args.place c.args.pair.now (entries_view c.args.entries.now) (entry_view c.in-Some.entry.now) (entries_view c.in-Some.others.now) c.args.means.now.left c.loop-entry.means.left (rw c.in-Some.ensures.cases.0 at (handed_past (language_of c.args.table.now) c.args.place c.args.pair.now (entries_view c.args.entries.now) (entries_view c.loop-entry.left.now) (entries_view c.unpassed.result.now) (c.args.means.now.left - c.loop-entry.means.left) c.loop-entry.invariant.comes (c.unpassed.ensures c.args.table.now c.requires))) c.loop-entry.invariant.within (sym (as_many_entries c.in-Some.others.now)) c.if-entry.true c.in-Yes.ensures (rw c.place_after-value_place.ensures at c.in-No-type_says_here.ensures), omega (arith, c.loop-entry.invariant.within, c.in-Yes.ensures.1, c.in-No-type_says_here.ensures.1))
 
 pub pair_fate-returns-in-Spent : goal.pair_fate-returns-in-Spent
-pair_fate-returns-in-Spent t c = key_stops (language_of c.args.table.now) c.args.place c.args.pair.now (entries_view c.args.entries.now) (entry_view c.in-Some.entry.now) (entries_view c.in-Some.others.now) c.args.means.now.left c.loop-entry.means.left (rw c.in-Some.ensures.cases.0 at c.loop-entry.invariant.comes) c.loop-entry.invariant.within c.key_says.new.means.left Spent c.in-Spent.ensures
+pair_fate-returns-in-Spent t c = key_stops (language_of c.args.table.now) c.args.place c.args.pair.now (entries_view c.args.entries.now) (entry_view c.in-Some.entry.now) (entries_view c.in-Some.others.now) c.args.means.now.left c.loop-entry.means.left (rw c.in-Some.ensures.cases.0 at (handed_past (language_of c.args.table.now) c.args.place c.args.pair.now (entries_view c.args.entries.now) (entries_view c.loop-entry.left.now) (entries_view c.unpassed.result.now) (c.args.means.now.left - c.loop-entry.means.left) c.loop-entry.invariant.comes (c.unpassed.ensures c.args.table.now c.requires))) c.loop-entry.invariant.within c.key_says.new.means.left Spent c.in-Spent.ensures
 
 pub pair_fate-returns-in-Spent-type_says_here : goal.pair_fate-returns-in-Spent-type_says_here
-pair_fate-returns-in-Spent-type_says_here t c = value_stops (language_of c.args.table.now) c.args.place c.args.pair.now (entries_view c.args.entries.now) (entry_view c.in-Some.entry.now) (entries_view c.in-Some.others.now) c.args.means.now.left c.loop-entry.means.left (rw c.in-Some.ensures.cases.0 at c.loop-entry.invariant.comes) c.loop-entry.invariant.within c.type_says_here.new.means.left Spent c.in-Yes.ensures (rw c.place_after-value_place.ensures at c.in-Spent-type_says_here.ensures)
+pair_fate-returns-in-Spent-type_says_here t c = value_stops (language_of c.args.table.now) c.args.place c.args.pair.now (entries_view c.args.entries.now) (entry_view c.in-Some.entry.now) (entries_view c.in-Some.others.now) c.args.means.now.left c.loop-entry.means.left (rw c.in-Some.ensures.cases.0 at (handed_past (language_of c.args.table.now) c.args.place c.args.pair.now (entries_view c.args.entries.now) (entries_view c.loop-entry.left.now) (entries_view c.unpassed.result.now) (c.args.means.now.left - c.loop-entry.means.left) c.loop-entry.invariant.comes (c.unpassed.ensures c.args.table.now c.requires))) c.loop-entry.invariant.within c.type_says_here.new.means.left Spent c.in-Yes.ensures (rw c.place_after-value_place.ensures at c.in-Spent-type_says_here.ensures)
+
+pub pair_fate-returns : goal.pair_fate-returns
+pair_fate-returns t c =
+    let l = language_of c.args.table.now in
+    let es = entries_view c.args.entries.now in
+    let taken = c.args.means.now.left - c.loop-entry.means.left in
+    let here = handed_past l c.args.place c.args.pair.now es (entries_view c.loop-entry.left.now) (entries_view c.unpassed.result.now) taken c.loop-entry.invariant.comes (c.unpassed.ensures c.args.table.now c.requires) in
+    (is_stray l c.args.place c.args.pair.now es taken (rw (none_left _ c.in_default.ensures.cases) at here), c.loop-entry.invariant.within)
 
 pub entry_does-returns-in-Some : goal.entry_does-returns-in-Some
 entry_does-returns-in-Some t c = rw (c.in-Some.ensures.cases.0, c.entry_done.ensures) (entry_ends (language_of c.args.table.now) c.args.node c.args.base c.args.place (view c.in-Some.item.now) (values c.in-Some.rest.now) c.args.means.now.left c.type_says_here-said.new.means.left _ c.type_says_here-said.ensures)
