@@ -12,7 +12,8 @@ of some 100 bytes against a specification that asks about each item in them, and
 the least processor time of the one to that of the other is printed. So is that for byte strings against 20,000 sizes
 that none of them has to that against two. Then it reads streams of maps with 100,000 and with 200,000 pairs in the same
 way as the arrays. The columns: that ratio for the larger maps, the growth of the processor time, and the peak memory for
-each pair of a map, with the specification and with 'any'.
+each pair of a map, with the specification and with 'any'. Maps whose keys are literals of the specification are read so,
+too, by 1,000 pairs against 1,000 keys, and by 10,000 and 20,000 pairs against 16,383.
 
 A stream of messages with one signature, whose protected headers are in a byte string, is read against the
 specification in examples/cose_sign1.cddl and against 'any', as the arrays are. The last streams are one byte string
@@ -23,7 +24,7 @@ is read in it, against 'any'; the growth of the processor time; and the peak mem
 The status is 1 where a specification is not answered as expected, where its growth or that for a byte string is
 outside 1.4 to 2.8, where the ratio for arrays is over 1.3 or one for sizes, maps or messages over 2, where the growth for
 maps is outside 1.4 to 3.4 (more keys than the processor's caches hold take longer each), or where the specification
-takes over 64 bytes for a pair more than 'any'.
+takes over 64 bytes for a pair more than 'any'. So it is where the ratio for literal keys is over 3, or their growth over 3.4.
 """
 import argparse
 import os
@@ -43,6 +44,8 @@ MESSAGES = 40_000
 PAIRS = 100_000, 200_000
 MAPS_AT_A_TIME = 4
 MOST_MAP_RATIO, MOST_MAP_GROWTH, MOST_BYTES_A_PAIR = 2, 3.4, 64
+KEYS, MAPS_OF_KEYS, MOST_KEYS_RATIO = 1000, 1000, 3
+MOST_KEYS, PAIRS_OF_KEYS = 16_383, (10_000, 20_000)
 COSE = os.path.join(os.path.dirname(os.path.dirname(os.path.abspath(__file__))), "examples", "cose_sign1.cddl")
 MOST_COSE_RATIO = 2
 LEVELS = 1000
@@ -244,6 +247,25 @@ def maps(program, folder):
     return bad
 
 
+def literal_keys(program, folder):
+    # the keys of the pairs from the last to the first, so that neither is in the order of the other
+    item = encoded({n: n for n in reversed(range(KEYS))})
+    path = written(folder, "keys.cborseq", item * MAPS_OF_KEYS)
+    text = "r = { " + ", ".join(f"? {n} => uint" for n in range(KEYS)) + " }\n"
+    specifications = {"any": written(folder, "any.cddl", "r = any\n"), "keys": written(folder, "keys.cddl", text)}
+    times, = least_times(program, specifications, [path])
+    ratio = times["keys"] / times["any"]
+    text = "r = { " + ", ".join(f"? {n} => uint" for n in range(MOST_KEYS)) + ", * uint => uint }\n"
+    many = {"keys": written(folder, "many.cddl", text)}
+    paths = [written(folder, f"keys{count}.cborseq", encoded({n: n for n in reversed(range(count))}) * MAPS_AT_A_TIME)
+             for count in PAIRS_OF_KEYS]
+    small, large = least_times(program, many, paths)
+    growth = large["keys"] / small["keys"]
+    print(f"\n{KEYS} pairs against {KEYS} literal keys: {ratio:.2f} times 'any'; {PAIRS_OF_KEYS[1]} pairs against {MOST_KEYS}: "
+          f"growth {growth:.2f}, {1000 * large['keys'] / MAPS_AT_A_TIME:.1f} ms a map")
+    return ratio > MOST_KEYS_RATIO or growth > MOST_MAP_GROWTH
+
+
 def signed_message(number):
     """A COSE_Sign1 with its tag: protected headers, a key identifier, a payload of 20 bytes, and any signature."""
     signature = bytes((number + k) % 256 for k in range(64))
@@ -315,7 +337,7 @@ def main():
     words.add_argument("program")
     program = os.path.abspath(words.parse_args().program)
     with tempfile.TemporaryDirectory() as folder:
-        bad = [it(program, folder) for it in (check_all, arrays, sizes, maps, signed_messages, byte_strings)]
+        bad = [it(program, folder) for it in (check_all, arrays, sizes, maps, literal_keys, signed_messages, byte_strings)]
     return 1 if any(bad) else 0
 
 
