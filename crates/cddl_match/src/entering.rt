@@ -16,7 +16,7 @@ use table_nodes::{MapEntry, Table};
 // An index is made for so many entries and pairs at least. For fewer it would not save what it takes to make it.
 const INDEXED_ENTRIES: usize = 16;
 
-const INDEXED_PAIRS: usize = 16;
+const INDEXED_PAIRS: usize = 64;
 
 // These entries from the first one on that is asked about a pair with this key. The pair passes over those before it.
 pub(crate) fn asked_from<'t>(table: &Table, entries: &'t [MapEntry], key: &Item) -> &'t [MapEntry]
