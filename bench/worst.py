@@ -8,6 +8,7 @@ under 2 seconds the least of three counts. The columns: the bytes of the larger 
 growth from the smaller one, the peak memory on it in MiB and its growth, the bytes of memory for each byte of the larger input,
 and what the program answered. What an empty input takes is in all of them: 1 ms and 2 MiB. Nothing fails here: it is a table of
 what is bounded and of what is not, and no part of 'make bench'. With --make the inputs are left in a folder, and nothing is run.
+It needs bash and GNU time.
 """
 import argparse
 import os
@@ -107,7 +108,7 @@ ITEMS = [
      lambda size: (long_literals(size), head(4, 16) + 16 * encoded("a" * 200 * size)), 1250, 2500),
     ("empty maps, and so many entries that may be absent", [],
      lambda size: (optional_entries(size), head(4, size) + b"\xa0" * size), 8000, 16_000),
-    ("other keys than so many literal ones", ["--steps", str(10**9)], lambda size: (literal_keys(size), other_keys(size)), 8000, 16_000),
+    ("other keys than so many literal ones", [], lambda size: (literal_keys(size), other_keys(size)), 8000, 16_000),
 ]
 
 

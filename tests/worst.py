@@ -4,11 +4,11 @@
     worst.py PROGRAM [--minutes N] [--seed S] [--specifications | --items] [--kept FOLDER]
 
 A candidate is a tree, whose parts stand once or as often as the scale says, in a row or in each other; so it is written at any size.
-'check' reads a specification, and 'validate' or 'rewrite --deterministic' an item, with few steps; at up to 4 KiB, and where it is
-near the worst, or by chance, at twice or eight times the scale too. There are four sorts of the worst: by the processor time and by the memory
-for each byte, over what an empty input takes, and by the growth of both at twice the bytes. Those that are kept are changed again.
-Where the same are kept the same seed makes the same candidates; but times differ from run to run. (Instructions would not, but valgrind
-takes a second to count those of a run that takes 5 ms.)
+A candidate is rated at up to 4 KiB: 'check' reads a specification, and 'validate' or 'rewrite --deterministic' an item, with few steps.
+Where it is near the worst, or by chance, it is rated at twice or eight times the scale too. There are four sorts of the worst: by the
+processor time and by the memory for each byte, over what an empty input takes, and by the growth of both at twice the bytes. Those that
+are kept are changed again. The same seed makes the same candidates as long as the same are kept, but times differ from run to run.
+(Instructions would not, but valgrind takes a second to count those of a run of 5 ms.)
 
 A signal is told at once, and its input is left in the folder --kept. At the end the worst of each sort are made as small as they get,
 left there, and told: as a text and an item in hex at a small scale, with what they take at the larger of 64 and 128 KiB, and the
@@ -153,9 +153,9 @@ class Search:
 
     def rate(self, candidate, runs):
         """Fills in what it takes for each byte at a small size."""
-        size, micros, room = self.taken(candidate, candidate.scale, runs)
+        size, micros, room = taken = self.taken(candidate, candidate.scale, runs)
         candidate.rates = {"time": micros / (size + OWN_BYTES), "memory": room / (size + OWN_BYTES)}
-        return size, micros, room
+        return taken
 
     def rate_growth(self, candidate, size, micros, room):
         """Fills in how that grows at twice the bytes, where it has more at a larger scale."""
@@ -171,8 +171,7 @@ class Search:
                 candidate.rates["growth of memory"] = (more_room / max(room, LEAST_ROOM)) ** (1 / twice)
 
     def is_near(self, candidate, sort):
-        best = self.best[sort]
-        return len(best) < KEPT or candidate.rates[sort] > 0.7 * best[-1].rates[sort]
+        return len(self.best[sort]) < KEPT or candidate.rates[sort] > 0.7 * self.best[sort][-1].rates[sort]
 
     def try_it(self, candidate):
         """Rates a candidate, and keeps it where it is among the worst of a sort, with few that are like it."""
@@ -254,10 +253,10 @@ def seeds_of(kind):
 
 def searched(search, kind, minutes):
     """Searches for so long, and tells every five minutes how far it is."""
-    seeds, began = seeds_of(kind), time.monotonic()
+    seeds = seeds_of(kind)
+    began = told = time.monotonic()
     for seed in seeds:
         search.try_it(seed)
-    told = began
     while time.monotonic() < began + 60 * minutes:
         search.step(seeds)
         if time.monotonic() > told + 300:
