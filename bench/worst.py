@@ -93,6 +93,7 @@ CHECKS = [
     ("joins of a text of 32 KiB", joins, 1000, 2000),
     ("a rule of many parameters", lambda size: generic(size, 1, ""), 256 * KIB, 512 * KIB),
     ("the same, not reached", lambda size: generic(size, 0, ""), 256 * KIB, 512 * KIB),
+    ("a list in 120 parentheses", lambda size: f"r = [{'(' * 120}{rows(size, 'N')}{')' * 120}]\n", 10_000, 20_000),
 ]
 SUIT = os.path.join(os.path.dirname(os.path.dirname(os.path.abspath(__file__))), "examples", "suit.cddl")
 HELD, TWICE = "t = int / bstr .cbor t\n", "t = int / bstr .cbor t / bstr .cbor t\n"

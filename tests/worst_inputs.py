@@ -20,11 +20,13 @@ WORDS = (
     "int uint nint tstr bstr any bool null float16 .size .bits .cbor .cborseq .and .within .lt .le .gt .ge .eq .ne .default .cat .det .plus "
     "= /= //= => : ^ , / // * + ? ~ & 1*2 2* *3 .. ... 0 1 -1 65536 18446744073709551615 @ @@ 'a' \"b\" h'00' a@ a@@ b c $s $$g").split()
 OPENING = {"[": "]", "{": "}", "(": ")", "<": ">"}
-TOKEN = re.compile(r""";[^\n]*|"(?:[^"\\]|\\.)*"|(?:h|b64)?'(?:[^'\\]|\\.)*'|\n(?=[$@\w])|[ \t\r\n]+|\.{2,3}|\.?[$@\w][-.$@\w]*(?<![-.])|/{1,2}=|//|=>|.""", re.S)
+TOKEN = re.compile(
+    r""";[^\n]*|"(?:[^"\\]|\\.)*"|(?:h|b64)?'(?:[^'\\]|\\.)*'|\n(?=[$@\w])|[ \t\r\n]+"""
+    r"""|\#6(?:\.\d+)?\(|\#(?:\d\.?\d*)?|\d*\*\d*|-?\d\w*|\.{2,3}|\.?[$@\w][-.$@\w]*(?<![-.])|/{1,2}=|//|=>|.""", re.S)
 
-# The containers of items, and the strings that hold items.
-AROUND = ("array", "open array", "key", "open key", "value", "tag", "held", "chunk", "held in an array", "map")
-STRINGS = ("held", "chunk")
+# The containers of items, and the strings that hold items, which may be in each other without a limit.
+AROUND = ("array", "open array", "key", "open key", "value", "tag", "map", "string", "chunk", "array in a string")
+STRINGS = ("string", "chunk", "array in a string")
 LEAVES = ("0", "number", "text", "long", "negative", "bytes", "true", "null", "float", "same")
 
 
@@ -36,8 +38,12 @@ class Node:
     times: float = 0
     is_nested: bool = False
 
-    def count(self, scale, most=1 << 20):
-        return min(most, max(1, round(scale * self.times))) if self.times else 1
+    def count(self, scale):
+        return max(1, round(scale * self.times)) if self.times else 1
+
+    def depth(self, most):
+        """How often it is in itself, where that has a limit: the same at any scale."""
+        return max(1, round(most * min(1, self.times)))
 
 
 def nodes_of(tree):
@@ -53,7 +59,7 @@ def leaves_of(tree):
 
 
 def is_scaled(tree):
-    return any(it.times for it in nodes_of(tree))
+    return any(it.times and (not it.is_nested or it.kind in STRINGS) for it in nodes_of(tree))
 
 
 def parts_at(tree, scale):
@@ -62,20 +68,25 @@ def parts_at(tree, scale):
         return 1
     inside = sum(parts_at(it, scale) for it in tree.parts)
     count = tree.count(scale)
-    return inside + count if tree.is_nested else count * (inside + 1)
+    return inside + (count if tree.kind in STRINGS else MOST_BRACKETS) if tree.is_nested else count * (inside + 1)
 
 
-def text_of(tree, scale, index=0):
-    """The specification. In leaves '@' is the number of the row that they are in, and '@@' the next one."""
+def text_of(tree, scale):
+    """The specification, without spaces where there may be none: before arguments, and behind the number of a tag."""
+    return re.sub(r" (?=<)|(?<=>) (?=\()", "", spaced(tree, scale))
+
+
+def spaced(tree, scale, index=0):
+    """The same with a space between all parts. In leaves '@' is the number of the row that they are in, and '@@' the next one."""
     if isinstance(tree, str):
         return tree.replace("@@", str(index + 1)).replace("@", str(index))
     before, between, after = TEXTS[tree.kind]
     if tree.is_nested:
-        count = tree.count(scale, MOST_BRACKETS)
-        return before * count + between.join(text_of(it, scale, index) for it in tree.parts) + after * count
+        count = tree.depth(MOST_BRACKETS)
+        return before * count + between.join(spaced(it, scale, index) for it in tree.parts) + after * count
     rows = range(tree.count(scale)) if tree.times else [index]
     between_parts = " " if tree.times and tree.kind != "rules" else between
-    return before + between.join(between_parts.join(text_of(it, scale, row) for it in tree.parts) for row in rows) + after
+    return before + between.join(between_parts.join(spaced(it, scale, row) for it in tree.parts) for row in rows) + after
 
 
 def tree_of(text):
@@ -85,8 +96,8 @@ def tree_of(text):
         if token == "\n" and len(open_nodes) == 1 or not open_nodes:
             open_nodes = [Node("words", [])]
             rules.parts.append(open_nodes[0])
-        if token in OPENING:
-            open_nodes.append(Node(token, []))
+        if token in OPENING or token.startswith("#6") and token.endswith("("):
+            open_nodes.append(Node(token if token in OPENING else "tag", []))
             open_nodes[-2].parts.append(open_nodes[-1])
         elif token in OPENING.values() and len(open_nodes) > 1:
             open_nodes.pop()
@@ -110,8 +121,8 @@ def around(kind, length):
     """What is before and behind one item of this length that this is put round."""
     return {
         "array": (b"\x81", b""), "open array": (b"\x9f", b"\xff"), "key": (b"\xa1", b"\0"), "open key": (b"\xbf", b"\0\xff"),
-        "value": (b"\xa1\0", b""), "tag": (b"\xc1", b""), "map": (b"\xa2\1\0\2", b""), "held": (head(2, length), b""),
-        "chunk": (b"\x5f" + head(2, length), b"\xff"), "held in an array": (head(2, length + 1) + b"\x81", b""),
+        "value": (b"\xa1\0", b""), "tag": (b"\xc1", b""), "map": (b"\xa2\1\0\2", b""), "string": (head(2, length), b""),
+        "chunk": (b"\x5f" + head(2, length), b"\xff"), "array in a string": (head(2, length + 1) + b"\x81", b""),
     }[kind]
 
 
@@ -124,7 +135,7 @@ def items_of(tree, scale, index=0):
     if tree.kind == "words":
         return items
     if tree.is_nested:
-        return [nested(tree.kind, tree.count(scale, 1 << 20 if tree.kind in STRINGS else MOST_CONTAINERS), items)]
+        return [nested(tree.kind, tree.count(scale) if tree.kind in STRINGS else tree.depth(MOST_CONTAINERS), items)]
     if tree.kind in ("array", "open array"):
         return [head(4, len(items)) + b"".join(items) if tree.kind == "array" else b"\x9f" + b"".join(items) + b"\xff"]
     if tree.kind in ("map", "key", "value", "open key"):
@@ -132,7 +143,7 @@ def items_of(tree, scale, index=0):
         return [head(5, len(items) // 2) + b"".join(items) if tree.kind != "open key" else b"\xbf" + b"".join(items) + b"\xff"]
     if tree.kind == "chunk":
         return [b"\x5f" + b"".join(head(2, len(it)) + it for it in items) + b"\xff"]
-    held = b"".join(items) if tree.kind != "held in an array" else head(4, len(items)) + b"".join(items)
+    held = b"".join(items) if tree.kind != "array in a string" else head(4, len(items)) + b"".join(items)
     return [b"\xc1" + (held or b"\0") if tree.kind == "tag" else head(2, len(held)) + held]
 
 
@@ -254,9 +265,9 @@ SPECIFICATIONS = [
 ]
 ITSELF = "r = [* r] / {* r => r} / #6.1(r) / bstr .cbor r / bool / int / tstr"
 ITEMS = [
-    (spec("t = int / bstr .cbor t"), Node("held", ["0"], 1, True)),
-    (spec("t = int / bstr .cbor t / bstr .cbor t"), Node("held", ["long"], 0.01, True)),
-    (spec("t = int / bstr .cborseq [* t] / [* t]"), Node("held in an array", ["0"], 1, True)),
+    (spec("t = int / bstr .cbor t"), Node("string", ["0"], 1, True)),
+    (spec("t = int / bstr .cbor t / bstr .cbor t"), Node("string", ["long"], 0.01, True)),
+    (spec("t = int / bstr .cborseq [* t] / [* t]"), Node("array in a string", ["0"], 1, True)),
     (spec("r = {", ("list", 1, "? @ => int"), "}"), Node("map", [Node("words", ["number", "0"], 1)])),
     (spec("r = [* (", ("choice", 0.1, '"k@"'), ")]"), Node("array", [Node("words", ["text"], 1)])),
     (spec(ITSELF), Node("array", [Node("key", ["number"], 1, True)])),
