@@ -87,6 +87,7 @@ def numbers(size):
 
 CHECKS = [
     ("calls with other arguments, and a long body", arguments, 500, 1000),
+    ("a call of itself with a longer argument", lambda size: f"r = [b<int>]\nb<t> = [t, ? b<[{rows(size, 't')}]>]\n", 400, 800),
     ("maps that share a group of many entries", maps_of_a_group, 2000, 4000),
     ("maps that share a group of 512 alternatives", maps_of_alternatives, 2000, 4000),
     ("sizes that extend one list", sizes, 2000, 4000),
