@@ -2,7 +2,7 @@
 use Rattle.std.proofs.Common.{◌≡◌, ℕ, ◌+◌, ◌-◌, ◌<◌, ◌≤◌, ◌++◌, length, List, [], ◌∷◌, true, false, refl, sym, ap, subst, ◌∙◌, append_assoc, arith}
 use Rattle.std.proofs.lemmas.List.{append-nil, length-append}
 use Rattle.std.proofs.lemmas.List.Elements.{All-head, All-tail}
-use Rattle.std.specs.Prelude.{All, Err}
+use Rattle.std.specs.Prelude.{All, Err, Ok, Some}
 use Rattle.cbor_data.specs.Value.{Pairs, place_count}
 use Rattle.item_nodes.specs.View.{view}
 use Rattle.item_nodes.specs.declared.item.Item.{Item}
@@ -14,7 +14,7 @@ use Rattle.cddl_meaning.specs.Moves as M
 use Rattle.cddl_meaning.specs.Moves.{OfType}
 use Rattle.cddl_match.specs.Ahead.{ComesTo}
 use Rattle.cddl_match.specs.Entering.{ArePassed, IsPassed}
-use Rattle.cddl_match.specs.Tellings.{Becomes, BelongsBy, HandsOn, KeySays, Sorts, sorting_of}
+use Rattle.cddl_match.specs.Tellings.{Becomes, BelongsBy, HandsOn, Keeps, KeySays, Meets, PassesOn, Sorts, sorting_of}
 use Rattle.match_moves.specs.Views.{fate_view}
 use Rattle.cddl_match.specs.Within.{Outcome, Replied, Stopped, Says}
 use Rattle.match_moves.specs.declared.questions.Fate.{Fate}
@@ -40,6 +40,30 @@ module _ {N G : Type 0} (l : Language N G) (place : ℕ) (both : Item × Item) (
   pub key_few : (steps left : ℕ) → F.is_passed_over l.counting e.key_type (view both.0) ≡ false → steps < F.entry_cost l.counting → KeySays l place both e steps left (Stopped Spent)
   key_few steps left i h = λ es all base rest tally r w d. (let x = (enters_on l e es (sorting_of all base place both rest tally) i).comes r w d in omega (arith, x.2, h))
 
+-- What an entry comes to whose key type has said yes: by what its value type says.
+module _ {N G : Type 0} (l : Language N G) (place : ℕ) (both : Item × Item) (e : F.MapEntry N) (steps some left : ℕ) (k : KeySays l place both e steps some (Replied (Takes [] 0 0))) where
+  abbrev value : M.Question N G
+  value = OfType e.value_type (M.plus place (place_count (view both.0))) (view both.1)
+
+  at_entry : (es all : List (F.MapEntry N)) (base : ℕ) (rest : Pairs) (tally : M.Tally) → ComesTo l (M.next_entry (e ∷ es) (sorting_of all base place both rest tally)) (M.next_entry (e ∷ es) (sorting_of all base place both rest tally)) (steps - steps)
+  at_entry es all base rest tally = begins l (M.next_entry (e ∷ es) (sorting_of all base place both rest tally)) steps
+
+  -- it has another value, which the entry lets pass
+  pub other_value : {far : ℕ} → e.cuts ≡ false → Says l value some left (Replied (Fails far)) → PassesOn l place both e (steps - left) × (left ≤ steps)
+  other_value c v = (λ es all base rest tally. pair_handed_on l e es (sorting_of all base place both rest tally) steps steps some left c (at_entry es all base rest tally) (omega arith) (k.0 es all base rest tally, k.1) v, omega (arith, k.1, v.1))
+
+  pub its_value : {later : ℕ} → Says l value some left (Replied (Takes [] later 0)) → Keeps l place both e J.Yes (steps - left) × (left ≤ steps)
+  its_value v = (λ es all base rest tally. (pair_taken l e es (sorting_of all base place both rest tally) (length es) steps steps some left refl (at_entry es all base rest tally) (omega arith) (k.0 es all base rest tally, k.1) v).0, omega (arith, k.1, v.1))
+
+  pub kept : {far : ℕ} → e.cuts ≡ true → Says l value some left (Replied (Fails far)) → Keeps l place both e (J.No far) (steps - left) × (left ≤ steps)
+  kept {far = far} c v = (λ es all base rest tally. (pair_kept l e es (sorting_of all base place both rest tally) (length es) far steps steps some left refl c (at_entry es all base rest tally) (omega arith) (k.0 es all base rest tally, k.1) v).0, omega (arith, k.1, v.1))
+
+  pub value_spent : (after : ℕ) → Says l value some left (Stopped Spent) → Meets l place both e after steps left (Err Spent)
+  value_spent after v = λ es all base rest tally.
+      let s = sorting_of all base place both rest tally in
+      let x = key_yes l e es s steps steps some (at_entry es all base rest tally) (omega arith) (k.0 es all base rest tally, k.1) in
+      ends_so l steps some left (Stopped Spent) x.0 x.1 (asks_stopped l (OfType e.value_type s.value_place s.held) some left (M.InValue e es s) Spent v)
+
 module _ {N G : Type 0} (l : Language N G) where
   -- no entry was tried yet
   pub none_tried : (place : ℕ) (both : Item × Item) (es : List (F.MapEntry N)) (steps : ℕ) → HandsOn l place both es es (steps - steps)
@@ -56,22 +80,12 @@ module _ {N G : Type 0} (l : Language N G) where
     in_front : (xs : List (F.MapEntry N)) → front ++ xs ≡ h.first ++ (e ∷ xs)
     in_front xs = append_assoc h.first (e ∷ []) xs
 
-    -- Its key is none of the entry's. Wherever a no of the key type shows, and whatever place a yes tells, the same is next.
-    pub other_key_next : {left : ℕ} → KeySays l place both e mid left (Replied (Fails 0)) → HandsOn l place both es others (steps - left)
-    other_key_next {left = left} k = record {
+    -- It is handed on.
+    pub handed_on : (left : ℕ) → PassesOn l place both e (mid - left) × (left ≤ mid) → HandsOn l place both es others (steps - left)
+    handed_on left m = record {
       first = front;
       parts = h.parts ∙ sym (in_front others);
-      comes = λ xs all base rest tally. rw (in_front xs) (and_on l (h.comes (e ∷ xs) all base rest tally) (k.0 xs all base rest tally) (omega (arith, b, k.1)));
-    }
-
-    -- its key is the entry's, and it has another value, which the entry lets pass
-    pub other_value_next : {far some left : ℕ} → e.cuts ≡ false → KeySays l place both e mid some (Replied (Takes [] 0 0)) → Says l (OfType e.value_type (M.plus place (place_count (view both.0))) (view both.1)) some left (Replied (Fails far)) → HandsOn l place both es others (steps - left)
-    other_value_next {some = some} {left = left} c k v = record {
-      first = front;
-      parts = h.parts ∙ sym (in_front others);
-      comes = λ xs all base rest tally.
-          let s = sorting_of all base place both rest tally in
-          rw (in_front xs) (pair_handed_on l e xs s steps mid some left c (h.comes (e ∷ xs) all base rest tally) b (k.0 xs all base rest tally, k.1) v);
+      comes = λ xs all base rest tally. rw (in_front xs) (and_on l (h.comes (e ∷ xs) all base rest tally) (m.0 xs all base rest tally) (omega (arith, b, m.1)));
     }
 
     belongs : {after : ℕ} (left : ℕ) {answer : J.Answer} → after ≡ length others → ((xs all : List (F.MapEntry N)) (base : ℕ) (rest : Pairs) (tally : M.Tally) → ComesTo l (M.next_entry (h.first ++ (e ∷ xs)) (sorting_of all base place both rest tally)) (M.sorted (sorting_of all base place both rest tally) (J.BelongsTo (length xs) answer)) (steps - left)) → BelongsBy l place both es after answer (steps - left)
@@ -84,25 +98,22 @@ module _ {N G : Type 0} (l : Language N G) where
       comes = λ xs all base rest tally. rw (in_front xs) (f xs all base rest tally);
     }
 
-    pub its_value : {later after some left : ℕ} → after ≡ length others → KeySays l place both e mid some (Replied (Takes [] 0 0)) → Says l (OfType e.value_type (M.plus place (place_count (view both.0))) (view both.1)) some left (Replied (Takes [] later 0)) → BelongsBy l place both es after J.Yes (steps - left)
-    its_value {some = some} {left = left} i k v = belongs left i (λ xs all base rest tally. (pair_taken l e xs (sorting_of all base place both rest tally) (length xs) steps mid some left refl (h.comes (e ∷ xs) all base rest tally) b (k.0 xs all base rest tally, k.1) v).0)
-
-    pub kept : {far after some left : ℕ} → after ≡ length others → e.cuts ≡ true → KeySays l place both e mid some (Replied (Takes [] 0 0)) → Says l (OfType e.value_type (M.plus place (place_count (view both.0))) (view both.1)) some left (Replied (Fails far)) → BelongsBy l place both es after (J.No far) (steps - left)
-    kept {far = far} {some = some} {left = left} i c k v = belongs left i (λ xs all base rest tally. (pair_kept l e xs (sorting_of all base place both rest tally) (length xs) far steps mid some left refl c (h.comes (e ∷ xs) all base rest tally) b (k.0 xs all base rest tally, k.1) v).0)
-
     here : (all : List (F.MapEntry N)) (base : ℕ) (rest : Pairs) (tally : M.Tally) → ComesTo l (M.next_entry es (sorting_of all base place both rest tally)) (M.next_entry (e ∷ others) (sorting_of all base place both rest tally)) (steps - mid)
     here all base rest tally = subst (λ xs. ComesTo l (M.next_entry xs (sorting_of all base place both rest tally)) (M.next_entry (e ∷ others) (sorting_of all base place both rest tally)) (steps - mid)) (sym h.parts) (h.comes (e ∷ others) all base rest tally)
 
-    pub key_stops : (left : ℕ) (stop : Stop) → KeySays l place both e mid left (Stopped stop) → Sorts l place both es steps left (Err stop)
-    key_stops left Spent k = λ all base rest tally. ends_so l steps mid left (Stopped Spent) (here all base rest tally) b (k others all base rest tally)
-    key_stops left NoMemory k = tt
+    keeps : (after left : ℕ) (answer : J.Answer) → after ≡ length others → Keeps l place both e answer (mid - left) × (left ≤ mid) → BelongsBy l place both es after answer (steps - left)
+    keeps after left answer i m = belongs left i (λ xs all base rest tally. and_on l (h.comes (e ∷ xs) all base rest tally) (m.0 xs all base rest tally) (omega (arith, b, m.1)))
 
-    pub value_stops : {some : ℕ} (left : ℕ) (stop : Stop) → KeySays l place both e mid some (Replied (Takes [] 0 0)) → Says l (OfType e.value_type (M.plus place (place_count (view both.0))) (view both.1)) some left (Stopped stop) → Sorts l place both es steps left (Err stop)
-    value_stops {some = some} left Spent k v = λ all base rest tally.
-        let s = sorting_of all base place both rest tally in
-        let x = key_yes l e others s steps mid some (here all base rest tally) b (k.0 others all base rest tally, k.1) in
-        ends_so l steps some left (Stopped Spent) x.0 x.1 (asks_stopped l (OfType e.value_type s.value_place s.held) some left (M.InValue e others s) Spent v)
-    value_stops left NoMemory k v = tt
+    -- It belongs to the entry.
+    pub met : (after left : ℕ) (fate : Fate) → after ≡ length others → Meets l place both e after mid left (Ok (Some fate)) → Sorts l place both es steps left (Ok fate)
+    met after left (T.Matches n) i m = (keeps n left J.Yes (m.0 ∙ i) m.1, omega (arith, b, m.1.1))
+    met after left (T.Fails n far) i m = (keeps n left (J.No far) (m.0 ∙ i) m.1, omega (arith, b, m.1.1))
+    met after left (T.Stray q) i m = absurd m
+
+    -- What was asked has stopped.
+    pub met_stops : (after left : ℕ) (stop : Stop) → Meets l place both e after mid left (Err stop) → Sorts l place both es steps left (Err stop)
+    met_stops after left Spent m = λ all base rest tally. ends_so l steps mid left (Stopped Spent) (here all base rest tally) b (m others all base rest tally)
+    met_stops after left NoMemory m = tt
 
   -- Entries that are passed over take no step.
   over_passed : (before xs : List (F.MapEntry N)) (s : M.Sorting N) → All (IsPassed l s.key) before → ComesTo l (M.next_entry (before ++ xs) s) (M.next_entry xs s) 0

@@ -55,6 +55,23 @@ module _ {N G : Type 0} (l : Language N G) where
   KeySays place pair e steps left (Stopped Spent) = (es all : List (F.MapEntry N)) (base : ℕ) (rest : Pairs) (tally : M.Tally) (r : J.Reply) (w : ℕ) → LeadsTo l (M.next_entry (e ∷ es) (sorting_of all base place pair rest tally)) r w → steps < w
   KeySays place pair e steps left (Stopped NoMemory) = Unit {0}
 
+  -- An entry hands a pair on to those after it, whatever these are, in so many questions; or the pair belongs to it.
+  abbrev pub PassesOn : (place : ℕ) → Item × Item → F.MapEntry N → ℕ → Type 0
+  PassesOn place pair e k = (es all : List (F.MapEntry N)) (base : ℕ) (rest : Pairs) (tally : M.Tally) → ComesTo l (M.next_entry (e ∷ es) (sorting_of all base place pair rest tally)) (M.next_entry es (sorting_of all base place pair rest tally)) k
+
+  abbrev pub Keeps : (place : ℕ) → Item × Item → F.MapEntry N → J.Answer → ℕ → Type 0
+  Keeps place pair e answer k = (es all : List (F.MapEntry N)) (base : ℕ) (rest : Pairs) (tally : M.Tally) → ComesTo l (M.next_entry (e ∷ es) (sorting_of all base place pair rest tally)) (M.sorted (sorting_of all base place pair rest tally) (J.BelongsTo (length es) answer)) k
+
+  -- This becomes of a pair at an entry that has so many after it, within so many steps, of which so many are left then: it is
+  -- handed on, or it belongs to the entry. Spent steps do not tell.
+  abbrev pub Meets : (place : ℕ) → Item × Item → F.MapEntry N → (after steps left : ℕ) → Result (Option Fate) Stop → Type 0
+  Meets place pair e after steps left (Ok None) = PassesOn place pair e (steps - left) × (left ≤ steps)
+  Meets place pair e after steps left (Ok (Some (T.Matches n))) = (n ≡ after) × (Keeps place pair e J.Yes (steps - left) × (left ≤ steps))
+  Meets place pair e after steps left (Ok (Some (T.Fails n far))) = (n ≡ after) × (Keeps place pair e (J.No far) (steps - left) × (left ≤ steps))
+  Meets place pair e after steps left (Ok (Some (T.Stray q))) = ⊥
+  Meets place pair e after steps left (Err Spent) = (es all : List (F.MapEntry N)) (base : ℕ) (rest : Pairs) (tally : M.Tally) (r : J.Reply) (w : ℕ) → LeadsTo l (M.next_entry (e ∷ es) (sorting_of all base place pair rest tally)) r w → steps < w
+  Meets place pair e after steps left (Err NoMemory) = Unit {0}
+
   -- The first entries have handed a pair on to those that are left, and so they do to any others, in so many questions.
   pub record HandsOn (place : ℕ) (pair : Item × Item) (es left : List (F.MapEntry N)) (k : ℕ) : Type 0 where
     pub first : List (F.MapEntry N)

@@ -51,17 +51,14 @@ pub(crate) fn index_for<'t>(
 // These last entries of an alternative from the first one on that a pair with this key is not known to pass over.
 #[inline]
 pub(crate) fn unpassed<'e>(
-    index: Option<&KeyIndex<'_>>,
+    index: &KeyIndex<'_>,
     entries: &'e [MapEntry],
     left: &'e [MapEntry],
     key: &Item,
 ) -> &'e [MapEntry]
     requires { EndIn (entries_view entries.now) (entries_view left.now) }
-    ensures { (table : Tables) → IfSome index.entry (λ i. IsIndexOf (language_of table).type_at (entries_view entries.now) i.now) → ArePassed (language_of table) (view key.now) (entries_view left.now) (entries_view result.now) }
+    ensures { (table : Tables) → IsIndexOf (language_of table).type_at (entries_view entries.now) index.now → ArePassed (language_of table) (view key.now) (entries_view left.now) (entries_view result.now) }
 {
-    let Some(index) = index else {
-        return left;
-    };
     let next = index.next_asked(key, entries.len() - left.len());
     match entries.split_at_checked(next) {
         Some((_, others)) => others,

@@ -9,7 +9,7 @@ ghost use Rattle.cddl_meaning.specs.Judges as J;
 ghost use Rattle.cddl_meaning.specs.Moves as M;
 ghost use Rattle.match_moves.specs.Places.{IsIndexOf};
 ghost use Rattle.match_moves.specs.Views.{parts_move, rounds_move, values};
-ghost use Rattle.cddl_match.specs.Tellings.{IsTallied, KeySays, Sorts, Tallies};
+ghost use Rattle.cddl_match.specs.Tellings.{IsTallied, KeySays, Meets, Sorts, Tallies};
 ghost use Rattle.cddl_match.specs.Within.{Ends, Says, done_view, said_view};
 ghost use Rattle.table_nodes.specs.Language.{language_of};
 ghost use Rattle.table_nodes.specs.Nodes.{alternatives_view, content_view, entries_view, entry_view, group_view, tag_number_view, test_view, type_view};
@@ -443,8 +443,41 @@ fn key_says<'i>(
     type_says_here(table, means, entry.key_type, place, &pair.0, depth)
 }
 
-// What becomes of a pair, its key at `place`, that is tried with these entries. Where they have an index, the pair goes from one
-// that may be asked to the next.
+// What becomes of a pair, its key at `place`, at an entry with so many after it, if the pair is not handed on to those.
+#[inline(always)]
+#[cycle(saying)]
+fn entry_meets<'i>(
+    table: &Table,
+    means: &mut Means<'i>,
+    entry: &MapEntry,
+    after: usize,
+    pair: &'i (Item, Item),
+    place: usize,
+    depth: u8,
+) -> Result<Option<Fate>, Stop>
+    ensures { Meets (language_of table.now) place pair.now (entry_view entry.now) after means.old.left means.new.left result }
+{
+    match key_says(table, means, entry, pair, place, depth) {
+        Said::Yes { .. } => {}
+        Said::No { .. } => return Ok(None),
+        Said::Spent => return Err(Stop::Spent),
+        Said::NoMemory => return Err(Stop::NoMemory),
+    }
+    let value_place = place_after(&pair.0, place);
+    match type_says_here(table, means, entry.value_type, value_place, &pair.1, depth) {
+        Said::Yes { .. } => return Ok(Some(Fate::Matches { after })),
+        Said::No { far } => {
+            if entry.cuts {
+                return Ok(Some(Fate::Fails { after, far }));
+            }
+            Ok(None)
+        }
+        Said::Spent => return Err(Stop::Spent),
+        Said::NoMemory => return Err(Stop::NoMemory),
+    }
+}
+
+// What becomes of a pair, its key at `place`, that is tried with these entries: with each in order, or by an index.
 #[inline(always)]
 #[cycle(saying)]
 fn pair_fate<'i>(
@@ -459,27 +492,43 @@ fn pair_fate<'i>(
     requires { IfSome index (λ i. IsIndexOf (language_of table.now).type_at (entries_view entries.now) i.now) }
     ensures { Sorts (language_of table.now) place pair.now (entries_view entries.now) means.old.left means.new.left result }
 {
+    if let Some(index) = index {
+        return indexed_fate(table, means, index, entries, pair, place, depth);
+    }
+    let mut left = entries;
+    while let Some((entry, others)) = left.split_first() {
+        let after = others.len();
+        if let Some(fate) = entry_meets(table, means, entry, after, pair, place, depth)? {
+            return Ok(fate);
+        }
+        left = others;
+    }
+    Ok(Fate::Stray { place })
+}
+
+// What becomes of a pair, its key at `place`, that goes from one of these entries that may be asked about it to the next, by
+// an index of them. It is no part of the loop over entries in order, which has no test for an index so.
+#[inline(never)]
+#[cycle(saying)]
+fn indexed_fate<'i>(
+    table: &Table,
+    means: &mut Means<'i>,
+    index: &KeyIndex<'_>,
+    entries: &[MapEntry],
+    pair: &'i (Item, Item),
+    place: usize,
+    depth: u8,
+) -> Result<Fate, Stop>
+    requires { IsIndexOf (language_of table.now).type_at (entries_view entries.now) index.now }
+    ensures { Sorts (language_of table.now) place pair.now (entries_view entries.now) means.old.left means.new.left result }
+{
     let mut left = entries;
     while let Some((entry, others)) = unpassed(index, entries, left, &pair.0).split_first() {
-        left = others;
-        match key_says(table, means, entry, pair, place, depth) {
-            Said::Yes { .. } => {}
-            Said::No { .. } => continue,
-            Said::Spent => return Err(Stop::Spent),
-            Said::NoMemory => return Err(Stop::NoMemory),
-        }
         let after = others.len();
-        let value_place = place_after(&pair.0, place);
-        match type_says_here(table, means, entry.value_type, value_place, &pair.1, depth) {
-            Said::Yes { .. } => return Ok(Fate::Matches { after }),
-            Said::No { far } => {
-                if entry.cuts {
-                    return Ok(Fate::Fails { after, far });
-                }
-            }
-            Said::Spent => return Err(Stop::Spent),
-            Said::NoMemory => return Err(Stop::NoMemory),
+        if let Some(fate) = entry_meets(table, means, entry, after, pair, place, depth)? {
+            return Ok(fate);
         }
+        left = others;
     }
     Ok(Fate::Stray { place })
 }

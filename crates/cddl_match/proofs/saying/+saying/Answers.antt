@@ -13,13 +13,12 @@ use Rattle.table_nodes.specs.declared.nodes.GroupId.{GroupId}
 use Rattle.cddl_match.specs.Ahead.{ComesTo}
 use Rattle.match_moves.specs.Places.{IsIndexOf}
 use Rattle.match_moves.specs.Views.{reply_view, rounds_move, tally_view, values}
-use Rattle.cddl_match.specs.declared.calls.Stop.TheVariants.{Spent}
 use Rattle.cddl_match.specs.Within.{Replied, Stopped, Says, done_view, said_view}
 use Rattle.item_nodes.proofs.Lemmas.{view-Uint}
 use Rattle.cddl_match.proofs.Outcomes.{answered, begins, ends_on, passes_on, says_on, took, asks}
 use Rattle.cddl_match.proofs.Passing.{lent}
 use Rattle.cddl_match.proofs.Sayings.{has_said, type_on, type_few, group_on, group_few, no_passes, yes_passes, array_ends, simple_ends, meant_ends, held_ends, nothing_held, entry_ends, goes_on, ends_so, stops, round_stops}
-use Rattle.cddl_match.proofs.Handing.{handed_past, is_stray, key_asked, key_few, key_passed, none_tried, other_key_next, other_value_next, its_value, kept, key_stops, value_stops}
+use Rattle.cddl_match.proofs.Handing.{handed_on, handed_past, is_stray, its_value, kept, key_asked, key_few, key_passed, met, met_stops, none_tried, other_value, value_spent}
 use Rattle.cddl_match.proofs.Tellings.{as_many_entries, no_pair_told, pair_few, pair_sorted, pair_stops, pair_told, told_and, told_fits}
 use Rattle.cddl_match.proofs.Ways.{and_on, a_round, itself, opens}
 use Rattle.cddl_match.proofs.saying.+saying.Goals as goal
@@ -220,38 +219,75 @@ key_says-returns-in_default-checked_sub t c = key_few (language_of c.args.table.
 pub key_says-returns : goal.key_says-returns
 key_says-returns t c = key_asked (language_of c.args.table.now) c.args.place c.args.pair.now (entry_view c.args.entry.now) c.args.means.now.left c.in-Some.left c.type_says_here.new.means.left (said_view c.type_says_here.result) (sym c.is_passed_over.ensures ∙ c.if-is_passed_over.false) (omega (arith, c.in-Some.ensures)) c.type_says_here.ensures
 
+pub entry_meets-returns-in-Spent : goal.entry_meets-returns-in-Spent
+entry_meets-returns-in-Spent t c = c.in-Spent.ensures
+
+pub entry_meets-returns-in-No : goal.entry_meets-returns-in-No
+entry_meets-returns-in-No t c = c.in-No.ensures
+
+pub entry_meets-returns-in-Yes-type_says_here : goal.entry_meets-returns-in-Yes-type_says_here
+entry_meets-returns-in-Yes-type_says_here t c = (refl, its_value (language_of c.args.table.now) c.args.place c.args.pair.now (entry_view c.args.entry.now) c.args.means.now.left c.key_says.new.means.left c.type_says_here.new.means.left c.in-Yes.ensures (rw c.place_after-value_place.ensures at c.in-Yes-type_says_here.ensures))
+
+pub entry_meets-returns-then-entry : goal.entry_meets-returns-then-entry
+entry_meets-returns-then-entry t c = (refl, kept (language_of c.args.table.now) c.args.place c.args.pair.now (entry_view c.args.entry.now) c.args.means.now.left c.key_says.new.means.left c.type_says_here.new.means.left c.in-Yes.ensures c.if-entry.true (rw c.place_after-value_place.ensures at c.in-No-type_says_here.ensures))
+
+pub entry_meets-returns : goal.entry_meets-returns
+entry_meets-returns t c = other_value (language_of c.args.table.now) c.args.place c.args.pair.now (entry_view c.args.entry.now) c.args.means.now.left c.key_says.new.means.left c.type_says_here.new.means.left c.in-Yes.ensures c.if-entry.false (rw c.place_after-value_place.ensures at c.in-No-type_says_here.ensures)
+
+pub entry_meets-returns-in-Spent-type_says_here : goal.entry_meets-returns-in-Spent-type_says_here
+entry_meets-returns-in-Spent-type_says_here t c = value_spent (language_of c.args.table.now) c.args.place c.args.pair.now (entry_view c.args.entry.now) c.args.means.now.left c.key_says.new.means.left c.type_says_here.new.means.left c.in-Yes.ensures c.args.after (rw c.place_after-value_place.ensures at c.in-Spent-type_says_here.ensures)
+
 pub pair_fate-loop-entry-init : goal.pair_fate-loop-entry-init
 pair_fate-loop-entry-init t c = record {
   within = omega arith;
   comes = none_tried (language_of c.args.table.now) c.args.place c.args.pair.now (entries_view c.args.entries.now) c.args.means.now.left;
 }
 
-pub pair_fate-loop-entry-preserved-in-No : goal.pair_fate-loop-entry-preserved-in-No
-pair_fate-loop-entry-preserved-in-No t c = record {
-  within = omega (arith, c.loop-entry.invariant.within, c.in-No.ensures.1);
-  comes = other_key_next (language_of c.args.table.now) c.args.place c.args.pair.now (entries_view c.args.entries.now) (entry_view c.in-Some.entry.now) (entries_view c.in-Some.others.now) c.args.means.now.left c.loop-entry.means.left (rw c.in-Some.ensures.cases.0 at (handed_past (language_of c.args.table.now) c.args.place c.args.pair.now (entries_view c.args.entries.now) (entries_view c.loop-entry.left.now) (entries_view c.unpassed.result.now) (c.args.means.now.left - c.loop-entry.means.left) c.loop-entry.invariant.comes (c.unpassed.ensures c.args.table.now c.requires))) c.loop-entry.invariant.within c.in-No.ensures;
-}
-
 pub pair_fate-loop-entry-preserved : goal.pair_fate-loop-entry-preserved
-pair_fate-loop-entry-preserved t c = record {
-  within = omega (arith, c.loop-entry.invariant.within, c.in-Yes.ensures.1, c.in-No-type_says_here.ensures.1);
-  comes = other_value_next (language_of c.args.table.now) c.args.place c.args.pair.now (entries_view c.args.entries.now) (entry_view c.in-Some.entry.now) (entries_view c.in-Some.others.now) c.args.means.now.left c.loop-entry.means.left (rw c.in-Some.ensures.cases.0 at (handed_past (language_of c.args.table.now) c.args.place c.args.pair.now (entries_view c.args.entries.now) (entries_view c.loop-entry.left.now) (entries_view c.unpassed.result.now) (c.args.means.now.left - c.loop-entry.means.left) c.loop-entry.invariant.comes (c.unpassed.ensures c.args.table.now c.requires))) c.loop-entry.invariant.within c.if-entry.false c.in-Yes.ensures (rw c.place_after-value_place.ensures at c.in-No-type_says_here.ensures);
-}
+pair_fate-loop-entry-preserved t c =
+    let met = rw c.in_default-2.is at c.in_ok-fate.ensures in
+    record {
+      within = omega (arith, c.loop-entry.invariant.within, met.1);
+      comes = handed_on (language_of c.args.table.now) c.args.place c.args.pair.now (entries_view c.args.entries.now) (entry_view c.in-Some-split_first.entry.now) (entries_view c.in-Some-split_first.others.now) c.args.means.now.left c.loop-entry.means.left (rw c.in-Some-split_first.ensures.cases.0 at c.loop-entry.invariant.comes) c.loop-entry.invariant.within c.entry_meets.new.means.left met;
+    }
 
-pub pair_fate-returns-in-Yes-type_says_here : goal.pair_fate-returns-in-Yes-type_says_here
-pair_fate-returns-in-Yes-type_says_here t c = (its_value (language_of c.args.table.now) c.args.place c.args.pair.now (entries_view c.args.entries.now) (entry_view c.in-Some.entry.now) (entries_view c.in-Some.others.now) c.args.means.now.left c.loop-entry.means.left (rw c.in-Some.ensures.cases.0 at (handed_past (language_of c.args.table.now) c.args.place c.args.pair.now (entries_view c.args.entries.now) (entries_view c.loop-entry.left.now) (entries_view c.unpassed.result.now) (c.args.means.now.left - c.loop-entry.means.left) c.loop-entry.invariant.comes (c.unpassed.ensures c.args.table.now c.requires))) c.loop-entry.invariant.within (sym (as_many_entries c.in-Some.others.now)) c.in-Yes.ensures (rw c.place_after-value_place.ensures at c.in-Yes-type_says_here.ensures), omega (arith, c.loop-entry.invariant.within, c.in-Yes.ensures.1, c.in-Yes-type_says_here.ensures.1))
+pub pair_fate-returns-in-Some-2 : goal.pair_fate-returns-in-Some-2
+pair_fate-returns-in-Some-2 t c = met (language_of c.args.table.now) c.args.place c.args.pair.now (entries_view c.args.entries.now) (entry_view c.in-Some-split_first.entry.now) (entries_view c.in-Some-split_first.others.now) c.args.means.now.left c.loop-entry.means.left (rw c.in-Some-split_first.ensures.cases.0 at c.loop-entry.invariant.comes) c.loop-entry.invariant.within (length c.in-Some-split_first.others.now) c.entry_meets.new.means.left c.in-Some-2.fate (sym (as_many_entries c.in-Some-split_first.others.now)) (rw c.in-Some-2.is at c.in_ok-fate.ensures)
 
-pub pair_fate-returns-then-entry : goal.pair_fate-returns-then-entry
-pair_fate-returns-then-entry t c = (kept (language_of c.args.table.now) c.args.place c.args.pair.now (entries_view c.args.entries.now) (entry_view c.in-Some.entry.now) (entries_view c.in-Some.others.now) c.args.means.now.left c.loop-entry.means.left (rw c.in-Some.ensures.cases.0 at (handed_past (language_of c.args.table.now) c.args.place c.args.pair.now (entries_view c.args.entries.now) (entries_view c.loop-entry.left.now) (entries_view c.unpassed.result.now) (c.args.means.now.left - c.loop-entry.means.left) c.loop-entry.invariant.comes (c.unpassed.ensures c.args.table.now c.requires))) c.loop-entry.invariant.within (sym (as_many_entries c.in-Some.others.now)) c.if-entry.true c.in-Yes.ensures (rw c.place_after-value_place.ensures at c.in-No-type_says_here.ensures), omega (arith, c.loop-entry.invariant.within, c.in-Yes.ensures.1, c.in-No-type_says_here.ensures.1))
-
-pub pair_fate-returns-in-Spent : goal.pair_fate-returns-in-Spent
-pair_fate-returns-in-Spent t c = key_stops (language_of c.args.table.now) c.args.place c.args.pair.now (entries_view c.args.entries.now) (entry_view c.in-Some.entry.now) (entries_view c.in-Some.others.now) c.args.means.now.left c.loop-entry.means.left (rw c.in-Some.ensures.cases.0 at (handed_past (language_of c.args.table.now) c.args.place c.args.pair.now (entries_view c.args.entries.now) (entries_view c.loop-entry.left.now) (entries_view c.unpassed.result.now) (c.args.means.now.left - c.loop-entry.means.left) c.loop-entry.invariant.comes (c.unpassed.ensures c.args.table.now c.requires))) c.loop-entry.invariant.within c.key_says.new.means.left Spent c.in-Spent.ensures
-
-pub pair_fate-returns-in-Spent-type_says_here : goal.pair_fate-returns-in-Spent-type_says_here
-pair_fate-returns-in-Spent-type_says_here t c = value_stops (language_of c.args.table.now) c.args.place c.args.pair.now (entries_view c.args.entries.now) (entry_view c.in-Some.entry.now) (entries_view c.in-Some.others.now) c.args.means.now.left c.loop-entry.means.left (rw c.in-Some.ensures.cases.0 at (handed_past (language_of c.args.table.now) c.args.place c.args.pair.now (entries_view c.args.entries.now) (entries_view c.loop-entry.left.now) (entries_view c.unpassed.result.now) (c.args.means.now.left - c.loop-entry.means.left) c.loop-entry.invariant.comes (c.unpassed.ensures c.args.table.now c.requires))) c.loop-entry.invariant.within c.type_says_here.new.means.left Spent c.in-Yes.ensures (rw c.place_after-value_place.ensures at c.in-Spent-type_says_here.ensures)
+pub pair_fate-returns-in_err-fate : goal.pair_fate-returns-in_err-fate
+pair_fate-returns-in_err-fate t c =
+    let e = err_from_is_err_and c.from_residual.result c.from_residual.ensures.1 in
+    rw (e.1 ∙ ap Err e.2) (met_stops (language_of c.args.table.now) c.args.place c.args.pair.now (entries_view c.args.entries.now) (entry_view c.in-Some-split_first.entry.now) (entries_view c.in-Some-split_first.others.now) c.args.means.now.left c.loop-entry.means.left (rw c.in-Some-split_first.ensures.cases.0 at c.loop-entry.invariant.comes) c.loop-entry.invariant.within (length c.in-Some-split_first.others.now) c.entry_meets.new.means.left _ c.in_err-fate.ensures)
 
 pub pair_fate-returns : goal.pair_fate-returns
 pair_fate-returns t c =
+    let taken = c.args.means.now.left - c.loop-entry.means.left in
+    (is_stray (language_of c.args.table.now) c.args.place c.args.pair.now (entries_view c.args.entries.now) taken (rw (none_left _ c.in_default-split_first.ensures.cases) at c.loop-entry.invariant.comes), c.loop-entry.invariant.within)
+
+pub indexed_fate-loop-entry-init : goal.indexed_fate-loop-entry-init
+indexed_fate-loop-entry-init t c = record {
+  within = omega arith;
+  comes = none_tried (language_of c.args.table.now) c.args.place c.args.pair.now (entries_view c.args.entries.now) c.args.means.now.left;
+}
+
+pub indexed_fate-loop-entry-preserved : goal.indexed_fate-loop-entry-preserved
+indexed_fate-loop-entry-preserved t c =
+    let met = rw c.in_default-2.is at c.in_ok-fate.ensures in
+    record {
+      within = omega (arith, c.loop-entry.invariant.within, met.1);
+      comes = handed_on (language_of c.args.table.now) c.args.place c.args.pair.now (entries_view c.args.entries.now) (entry_view c.in-Some.entry.now) (entries_view c.in-Some.others.now) c.args.means.now.left c.loop-entry.means.left (rw c.in-Some.ensures.cases.0 at (handed_past (language_of c.args.table.now) c.args.place c.args.pair.now (entries_view c.args.entries.now) (entries_view c.loop-entry.left.now) (entries_view c.unpassed.result.now) (c.args.means.now.left - c.loop-entry.means.left) c.loop-entry.invariant.comes (c.unpassed.ensures c.args.table.now c.requires))) c.loop-entry.invariant.within c.entry_meets.new.means.left met;
+    }
+
+pub indexed_fate-returns-in-Some-2 : goal.indexed_fate-returns-in-Some-2
+indexed_fate-returns-in-Some-2 t c = met (language_of c.args.table.now) c.args.place c.args.pair.now (entries_view c.args.entries.now) (entry_view c.in-Some.entry.now) (entries_view c.in-Some.others.now) c.args.means.now.left c.loop-entry.means.left (rw c.in-Some.ensures.cases.0 at (handed_past (language_of c.args.table.now) c.args.place c.args.pair.now (entries_view c.args.entries.now) (entries_view c.loop-entry.left.now) (entries_view c.unpassed.result.now) (c.args.means.now.left - c.loop-entry.means.left) c.loop-entry.invariant.comes (c.unpassed.ensures c.args.table.now c.requires))) c.loop-entry.invariant.within (length c.in-Some.others.now) c.entry_meets.new.means.left c.in-Some-2.fate (sym (as_many_entries c.in-Some.others.now)) (rw c.in-Some-2.is at c.in_ok-fate.ensures)
+
+pub indexed_fate-returns-in_err-fate : goal.indexed_fate-returns-in_err-fate
+indexed_fate-returns-in_err-fate t c =
+    let e = err_from_is_err_and c.from_residual.result c.from_residual.ensures.1 in
+    rw (e.1 ∙ ap Err e.2) (met_stops (language_of c.args.table.now) c.args.place c.args.pair.now (entries_view c.args.entries.now) (entry_view c.in-Some.entry.now) (entries_view c.in-Some.others.now) c.args.means.now.left c.loop-entry.means.left (rw c.in-Some.ensures.cases.0 at (handed_past (language_of c.args.table.now) c.args.place c.args.pair.now (entries_view c.args.entries.now) (entries_view c.loop-entry.left.now) (entries_view c.unpassed.result.now) (c.args.means.now.left - c.loop-entry.means.left) c.loop-entry.invariant.comes (c.unpassed.ensures c.args.table.now c.requires))) c.loop-entry.invariant.within (length c.in-Some.others.now) c.entry_meets.new.means.left _ c.in_err-fate.ensures)
+
+pub indexed_fate-returns : goal.indexed_fate-returns
+indexed_fate-returns t c =
     let l = language_of c.args.table.now in
     let es = entries_view c.args.entries.now in
     let taken = c.args.means.now.left - c.loop-entry.means.left in

@@ -40,6 +40,12 @@ invariant-pair_fate-loop-entry l = record {
   comes : HandsOn (language_of l.fn.table) l.fn.place l.fn.pair (entries_view l.fn.entries) (entries_view l.left) (l.fn.means.left - l.means.left);
 }
 
+abbrev pub invariant-indexed_fate-loop-entry : goal.invariant-indexed_fate-loop-entry
+invariant-indexed_fate-loop-entry l = record {
+  within : l.means.left ≤ l.fn.means.left;
+  comes : HandsOn (language_of l.fn.table) l.fn.place l.fn.pair (entries_view l.fn.entries) (entries_view l.left) (l.fn.means.left - l.means.left);
+}
+
 abbrev pub invariant-parts_do-loop-part : goal.invariant-parts_do-loop-part
 invariant-parts_do-loop-part l = record {
   within : l.means.left ≤ l.fn.means.left;
@@ -70,6 +76,9 @@ decreases-tally_pairs-loop-pair l = length l.left
 abbrev pub decreases-pair_fate-loop-entry : goal.decreases-pair_fate-loop-entry
 decreases-pair_fate-loop-entry l = length l.left
 
+abbrev pub decreases-indexed_fate-loop-entry : goal.decreases-indexed_fate-loop-entry
+decreases-indexed_fate-loop-entry l = length l.left
+
 abbrev pub decreases-parts_do-loop-part : goal.decreases-parts_do-loop-part
 decreases-parts_do-loop-part l = length l.left.parts.now
 
@@ -83,70 +92,76 @@ decreases-rounds_do-loop-group l = l.means.left
 -- Each type and group that is asked takes from the depth.
 
 abbrev pub decreases-type_says : goal.decreases-type_says
-decreases-type_says l = 8 * l.depth + 1
+decreases-type_says l = 16 * l.depth + 1
 
 abbrev pub decreases-type_says_here : goal.decreases-type_says_here
-decreases-type_says_here l = 8 * l.depth
+decreases-type_says_here l = 16 * l.depth
 
 abbrev pub decreases-group_does_here : goal.decreases-group_does_here
-decreases-group_does_here l = 8 * l.depth + 2
+decreases-group_does_here l = 16 * l.depth + 2
 
 abbrev pub decreases-entry_does : goal.decreases-entry_does
-decreases-entry_does l = 8 * l.depth + 1
+decreases-entry_does l = 16 * l.depth + 1
 
 abbrev pub decreases-group_does : goal.decreases-group_does
-decreases-group_does l = 8 * l.depth
+decreases-group_does l = 16 * l.depth
 
 abbrev pub decreases-form_says : goal.decreases-form_says
-decreases-form_says l = 8 * l.depth + 7
+decreases-form_says l = 16 * l.depth + 15
 
 abbrev pub decreases-group_form_does : goal.decreases-group_form_does
-decreases-group_form_does l = 8 * l.depth + 7
+decreases-group_form_does l = 16 * l.depth + 15
 
 abbrev pub decreases-choice_says : goal.decreases-choice_says
-decreases-choice_says l = 8 * l.depth + 2
+decreases-choice_says l = 16 * l.depth + 2
 
 abbrev pub decreases-array_says : goal.decreases-array_says
-decreases-array_says l = 8 * l.depth + 3
+decreases-array_says l = 16 * l.depth + 3
 
 abbrev pub decreases-simple_says : goal.decreases-simple_says
-decreases-simple_says l = 8 * l.depth + 3
+decreases-simple_says l = 16 * l.depth + 3
 
 abbrev pub decreases-such_says : goal.decreases-such_says
-decreases-such_says l = 8 * l.depth + 4
+decreases-such_says l = 16 * l.depth + 4
 
 abbrev pub decreases-holding_says : goal.decreases-holding_says
-decreases-holding_says l = 8 * l.depth + 4
+decreases-holding_says l = 16 * l.depth + 4
 
 abbrev pub decreases-tag_says : goal.decreases-tag_says
-decreases-tag_says l = 8 * l.depth + 3
+decreases-tag_says l = 16 * l.depth + 3
 
 abbrev pub decreases-held_says : goal.decreases-held_says
-decreases-held_says l = 8 * l.depth + 3
+decreases-held_says l = 16 * l.depth + 3
 
 abbrev pub decreases-apart_says : goal.decreases-apart_says
-decreases-apart_says l = 8 * l.depth + 2
+decreases-apart_says l = 16 * l.depth + 2
 
 abbrev pub decreases-map_says : goal.decreases-map_says
-decreases-map_says l = 8 * l.depth + 5
+decreases-map_says l = 16 * l.depth + 7
 
 abbrev pub decreases-alternative_says : goal.decreases-alternative_says
-decreases-alternative_says l = 8 * l.depth + 4
+decreases-alternative_says l = 16 * l.depth + 6
 
 abbrev pub decreases-tally_pairs : goal.decreases-tally_pairs
-decreases-tally_pairs l = 8 * l.depth + 3
+decreases-tally_pairs l = 16 * l.depth + 5
 
 abbrev pub decreases-pair_fate : goal.decreases-pair_fate
-decreases-pair_fate l = 8 * l.depth + 2
+decreases-pair_fate l = 16 * l.depth + 4
+
+abbrev pub decreases-indexed_fate : goal.decreases-indexed_fate
+decreases-indexed_fate l = 16 * l.depth + 3
+
+abbrev pub decreases-entry_meets : goal.decreases-entry_meets
+decreases-entry_meets l = 16 * l.depth + 2
 
 abbrev pub decreases-key_says : goal.decreases-key_says
-decreases-key_says l = 8 * l.depth + 1
+decreases-key_says l = 16 * l.depth + 1
 
 abbrev pub decreases-parts_do : goal.decreases-parts_do
-decreases-parts_do l = 8 * l.depth + 3
+decreases-parts_do l = 16 * l.depth + 3
 
 abbrev pub decreases-alternatives_do : goal.decreases-alternatives_do
-decreases-alternatives_do l = 8 * l.depth + 1
+decreases-alternatives_do l = 16 * l.depth + 1
 
 abbrev pub decreases-rounds_do : goal.decreases-rounds_do
-decreases-rounds_do l = 8 * l.depth + 1
+decreases-rounds_do l = 16 * l.depth + 1
