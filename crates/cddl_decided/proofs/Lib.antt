@@ -1,10 +1,15 @@
 mod Accepted
 mod Apart
+mod Clearing
 mod Emptiness
 mod Founding
 mod Names
 mod OfBounds
+mod OfTokens
+mod Outcomes
 mod Parts
 mod Points
 mod Reached
+mod Splicing
+mod Valued
 mod Ways

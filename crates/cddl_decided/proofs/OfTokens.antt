@@ -1,0 +1,4 @@
+pub mod Deciding
+pub mod Ends
+pub mod Strings
+pub mod Tokens
