@@ -2,7 +2,6 @@
 use Rattle.std.proofs.Common.{◌≡◌, ◌∙◌, Result, Err, IfErr, ap, sym, subst}
 use Rattle.std.specs.Result.{IsErrAnd}
 use Rattle.std.proofs.lemmas.Result.{err_from_is_err_and}
-use Rattle.cddl_token.specs.declared.Refusal.{Refusal}
 
-pub handed : {T : Type 0} (P : Refusal → Type 0) (r : Result T Refusal) (e : Refusal) → IsErrAnd r (λ y. y ≡ e) → P e → IfErr r P
+pub handed : {T E : Type 0} (P : E → Type 0) (r : Result T E) (e : E) → IsErrAnd r (λ y. y ≡ e) → P e → IfErr r P
 handed P r e h p = let y = err_from_is_err_and r h in subst (λ q. IfErr q P) (sym (y.1 ∙ ap Err y.2)) p

@@ -27,14 +27,6 @@ use Rattle.table_making.specs.Nodes.{AreNodes}
 use Rattle.table_making.specs.declared.making.Nodes.{Nodes}
 use Rattle.cddl_table.proofs.Down.{Given}
 
-pub ok_with : {T E : Type 0} (x : Result T E) (A B C P : T → Type 0) → IfOk x A → IfOk x B → IfOk x C → ((v : T) → A v → B v → C v → P v) → IfOk x P
-ok_with (Ok v) A B C P a b c f = f v a b c
-ok_with (Err e) A B C P a b c f = tt
-
-pub err_with : {T E : Type 0} (x : Result T E) (A P : E → Type 0) → IfErr x A → ((e : E) → A e → P e) → IfErr x P
-err_with (Ok v) A P a f = tt
-err_with (Err e) A P a f = f e a
-
 -- What is known of the instances, by the laws of others.
 pub record Laws (s : Sense) (t : Table) (c : Closed) : Type 0 where
   pub same_row : (n m : Option ℕ) (x : Tree) → Holds t n x → Holds t m x → n ≡ m

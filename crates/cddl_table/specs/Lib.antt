@@ -1,3 +1,4 @@
+pub mod Origins
 pub mod Ranks
 pub mod Root
 pub mod Text

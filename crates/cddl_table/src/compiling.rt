@@ -2,14 +2,17 @@
 
 ghost use Rattle.std.specs.Prelude.{IfOk, List};
 ghost use Rattle.tree_nodes.specs.Syntax.Syntax.{Cddl};
+ghost use Rattle.tree_nodes.specs.View.{view};
+ghost use Rattle.tree_nodes.specs.declared.tree.Tree.{Tree};
 ghost use Rattle.cddl_language.specs.Literals.{AreRight, Values};
 ghost use Rattle.cddl_language.specs.Terms.{Ref, Text};
-ghost use Rattle.cddl_check.specs.Spec.{AreFindings, definitions_of};
+ghost use Rattle.cddl_check.specs.Spec.{AreFindings, IsSpec, definitions_of};
 ghost use Rattle.table_making.specs.Basis.{IsSource};
+ghost use Rattle.cddl_table.specs.Origins.{AreTraced};
 ghost use Rattle.cddl_table.specs.Ranks.{LeavesNoRankOut};
 ghost use Rattle.cddl_table.specs.Text.{IsTableOf, sense};
 
-use crate::table::{Unmade, table_of};
+use crate::table::{Traced, Unmade, traced_of};
 use cddl_check::{Findings, Spec};
 use cddl_language::one_table_of_values;
 use std::alloc::{AllocError, Global};
@@ -31,17 +34,38 @@ pub fn compile(alloc: Global, spec: &Spec<'_>) -> Result<Table, AllocError>
     ensures stands { IfOk result (IsTableOf spec.now) }
     ensures ranks { IfOk result LeavesNoRankOut }
 {
+    let traced = compile_with_origins(alloc, spec.findings())?;
+    let Traced { table, .. } = traced;
+    Ok(table)
+}
+
+/// The table of a specification, made of what was found of it, with what each of its types is of: by the numbers of the terms
+/// and of the instances that the findings have.
+///
+/// It takes what [`compile`] takes.
+///
+/// # Errors
+///
+/// Memory was refused, or a number does not fit. Nothing else is refused of what was checked.
+pub fn compile_with_origins(
+    alloc: Global,
+    findings: &Findings<'_>,
+) -> Result<Traced, AllocError>
+    requires { (tree : Tree) × (root : Text) × IsSpec tree root findings.now }
+    ensures stands { IfOk result (λ x. (tree : Tree) (root : Text) → IsSpec tree root findings.now → IsTableOf (record { tree = tree; root = root }) x.table) }
+    ensures ranks { IfOk result (λ x. LeavesNoRankOut x.table) }
+    ensures traced { IfOk result (λ x. (tree : Tree) (root : Text) → IsSpec tree root findings.now → AreTraced (view tree) root findings.now x) }
+{
     one_table_of_values();
-    let findings = spec.findings();
     let source = source_of(findings);
-    match table_of(
+    match traced_of(
         alloc,
         &findings.terms,
         &source,
         &findings.ranks,
         findings.root,
     ) {
-        Ok(table) => Ok(table),
+        Ok(traced) => Ok(traced),
         Err(Unmade::NoRoom) => Err(AllocError),
         Err(Unmade::NotRanked) => unreachable!(),
     }

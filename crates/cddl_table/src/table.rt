@@ -3,6 +3,7 @@
 ghost use Rattle.std.specs.Prelude.{◌≡◌, ℕ, IfErr, IfOk, List, Some, false, map, slice_get};
 ghost use Rattle.cddl_language.specs.Kinds.{is_group};
 ghost use Rattle.cddl_language.specs.StandsFor.{StandsFor};
+ghost use Rattle.cddl_table.specs.Origins.{AreOrigins};
 ghost use Rattle.cddl_table.specs.Ranks.{ArePlaces, LeavesNoRankOut, group_rank, type_rank};
 ghost use Rattle.table_making.specs.Basis.{IsSource, Sense};
 ghost use Rattle.check_recursion.specs.Order.{AreRanked};
@@ -25,9 +26,9 @@ use check_recursion::Ranks;
 use check_terms::laws::equal_numbers;
 use check_terms::{NoRoom, Terms};
 use std::alloc::{AllocError, Global};
-use table_making::{Nodes, Source, nodes_of};
+use table_making::{Nodes, Source, TypeOrigin, nodes_of};
 use table_nodes::flags::flags_of;
-use table_nodes::{Ranks as NodeRanks, Table};
+use table_nodes::{Group, Node as TableNode, Ranks as NodeRanks, Table, TypeId};
 
 // Why there is no table.
 #[derive(Clone, Copy, Debug, PartialEq, Eq)]
@@ -54,21 +55,31 @@ impl From<AllocError> for Unmade {
     }
 }
 
+/// A table, and what each of its types is of.
+#[derive(Drop)]
+pub struct Traced {
+    /// The table.
+    pub table: Table,
+    /// What each type is of, by its number.
+    pub origins: Vec<TypeOrigin>,
+}
+
 // The table of a specification (RFC 8610 sections 2 and 3): a type or a group for each of its instances and for what their
-// parts ask for, each with a rank that is above those of what it asks of the same item.
+// parts ask for, each with a rank that is above those of what it asks of the same item. Each type comes with what it is of.
 //
 // It is given the table of terms, what is known of the instances and of the rows, ranks of what they ask, and the number of the
 // root's name. NoRoom is told where memory is refused or a number does not fit. NotRanked never comes where what is given is of
 // one specification, and the root is a name of a type.
-pub(crate) fn table_of(
+pub(crate) fn traced_of(
     alloc: Global,
     terms: &Terms<'_>,
     source: &Source<'_>,
     ranks: &Ranks,
     root: u32,
-) -> Result<Table, Unmade>
-    ensures stands { IfOk result (λ table. (s : Sense) → IsSource s terms.now source.now → slice_get terms.now.texts root ≡ Some s.root → is_group s.definitions s.root ≡ false → AreRanked s.definitions s.root s.refs terms.now ranks.now → StandsFor s.worth s.definitions s.root (language_of table) (root_of table) (rank_of table) (ranks_of table)) }
-    ensures ranks { IfOk result LeavesNoRankOut }
+) -> Result<Traced, Unmade>
+    ensures stands { IfOk result (λ x. (s : Sense) → IsSource s terms.now source.now → slice_get terms.now.texts root ≡ Some s.root → is_group s.definitions s.root ≡ false → AreRanked s.definitions s.root s.refs terms.now ranks.now → StandsFor s.worth s.definitions s.root (language_of x.table) (root_of x.table) (rank_of x.table) (ranks_of x.table)) }
+    ensures ranks { IfOk result (λ x. LeavesNoRankOut x.table) }
+    ensures traced { IfOk result (λ x. (s : Sense) → IsSource s terms.now source.now → slice_get terms.now.texts root ≡ Some s.root → is_group s.definitions s.root ≡ false → AreOrigins s terms.now x) }
     ensures ranked { IfErr result (λ why. why ≡ Why.NotRanked → (s : Sense) → IsSource s terms.now source.now → slice_get terms.now.texts root ≡ Some s.root → is_group s.definitions s.root ≡ false → AreRanked s.definitions s.root s.refs terms.now ranks.now → ⊥) }
 {
     equal_numbers(terms);
@@ -81,7 +92,18 @@ pub(crate) fn table_of(
     };
     let nodes = nodes_of(alloc, terms, source, place)?;
     let ranks = ranks_of(alloc, ranks, &nodes)?;
-    ranked_table(nodes, ranks)
+    let Nodes {
+        types,
+        groups,
+        root,
+        type_origins,
+        ..
+    } = nodes;
+    let table = ranked_table(types, groups, root, ranks)?;
+    Ok(Traced {
+        table,
+        origins: type_origins,
+    })
 }
 
 // Ranks of the types and groups, numbered by the order of those that are used, and which groups may take no item.
@@ -101,19 +123,18 @@ fn ranks_of(alloc: Global, ranks: &Ranks, nodes: &Nodes) -> Result<NodeRanks, Un
 }
 
 // The table of these types and groups, with their ranks.
-fn ranked_table(nodes: Nodes, ranks: NodeRanks) -> Result<Table, Unmade>
-    ensures language { IfOk result (λ table. language_of table ≡ language_in nodes.types.items nodes.groups.items) }
-    ensures root { IfOk result (λ table. root_of table ≡ nodes.root) }
+fn ranked_table(
+    types: Vec<TableNode>,
+    groups: Vec<Group>,
+    root: TypeId,
+    ranks: NodeRanks,
+) -> Result<Table, Unmade>
+    ensures language { IfOk result (λ table. language_of table ≡ language_in types.items groups.items) }
+    ensures root { IfOk result (λ table. root_of table ≡ root) }
     ensures ranks { IfOk result (λ table. rank_of table ≡ rank_in ranks.types.items ranks.groups.items) }
     ensures ranked { IfOk result (λ table. IsRanked (language_of table) (rank_of table) (ranks_of table)) }
-    ensures refused { IfErr result (λ _. AreFlags (language_in nodes.types.items nodes.groups.items) (flag_in ranks.may_be_empty.items) → (bound : ℕ) → IsRanked (language_in nodes.types.items nodes.groups.items) (rank_in ranks.types.items ranks.groups.items) bound → ⊥) }
+    ensures refused { IfErr result (λ _. AreFlags (language_in types.items groups.items) (flag_in ranks.may_be_empty.items) → (bound : ℕ) → IsRanked (language_in types.items groups.items) (rank_in ranks.types.items ranks.groups.items) bound → ⊥) }
 {
-    let Nodes {
-        types,
-        groups,
-        root,
-        ..
-    } = nodes;
     match Table::new(types, groups, root, ranks) {
         Ok(table) => {
             table.ranks();

@@ -1,21 +1,32 @@
-use Rattle.std.proofs.Common.{length, sym}
-use Rattle.lists.proofs.Lemmas.{ok_then}
+use Rattle.std.proofs.Common.{length, refl, sym}
 use Rattle.cddl_table.proofs.Finding.{root_found, root_there}
+use Rattle.cddl_table.proofs.Handing.{handed}
 use Rattle.cddl_table.proofs.Places.{left_out_none, places_ranked}
 use Rattle.cddl_table.proofs.Ranked.{are_ranked}
-use Rattle.cddl_table.proofs.Standing.{Laws, err_with, given, ok_with, stands}
-use Rattle.cddl_table.proofs.table.table_of.Goals as goal
+use Rattle.cddl_table.proofs.Standing.{Laws, given, stands}
+use Rattle.cddl_table.proofs.table.traced_of.Goals as goal
 
 pub returns-in_default-clause-ranked : goal.returns-in_default-clause-ranked
 returns-in_default-clause-ranked c = λ why s basis text group ranked. root_there c.args.terms.now s.definitions s.root s.refs c.args.source.now.closed.now c.args.root c.equal_numbers.ensures.table basis.closed text (λ k q e. c.meaning_at.ensures s.definitions s.root s.refs c.args.terms.now c.args.source.now.closed.now k q basis.closed e) (sym c.in_default.ensures)
 
 pub returns-clause-stands : goal.returns-clause-stands
-returns-clause-stands c = ok_with c.ranked_table.result _ _ _ _ c.ranked_table.ensures.language c.ranked_table.ensures.root c.ranked_table.ensures.ranked (λ table l r k s basis text group ranked.
+returns-clause-stands c = λ s basis text group ranked.
     let place = root_found c.args.terms.now s.definitions s.root s.refs c.args.source.now.closed.now c.args.root c.equal_numbers.ensures.table basis.closed text c.in-Some.place (sym c.in-Some.ensures) in
-    stands s c.args.terms.now c.args.source.now.closed.now basis.closed c.in_ok-nodes.nodes (c.in_ok-nodes.ensures s basis place group) table l r k)
+    stands s c.args.terms.now c.args.source.now.closed.now basis.closed c.in_ok-nodes.nodes (c.in_ok-nodes.ensures s basis place group) c.in_ok-table.table c.in_ok-table.ensures.language c.in_ok-table.ensures.root c.in_ok-table.ensures.ranked
 
-pub returns-clause-ranked : goal.returns-clause-ranked
-returns-clause-ranked c = err_with c.ranked_table.result _ _ c.ranked_table.ensures.refused (λ why refused not_ranked s basis text group ranked.
+pub returns-clause-traced : goal.returns-clause-traced
+returns-clause-traced c = λ s basis text group.
+    let place = root_found c.args.terms.now s.definitions s.root s.refs c.args.source.now.closed.now c.args.root c.equal_numbers.ensures.table basis.closed text c.in-Some.place (sym c.in-Some.ensures) in
+    record {
+      nodes = c.in_ok-nodes.nodes;
+      are_nodes = c.in_ok-nodes.ensures s basis place group;
+      same_origins = refl;
+      same_language = c.in_ok-table.ensures.language;
+      same_root = c.in_ok-table.ensures.root;
+    }
+
+pub returns-in_err-table-clause-ranked : goal.returns-in_err-table-clause-ranked
+returns-in_err-table-clause-ranked c = handed _ _ c.in_err-table.field-0.0 c.from_residual-in_err-table.ensures.1 (λ not_ranked s basis text group ranked.
     let laws : Laws s c.args.terms.now c.args.source.now.closed.now = record {
       same_row = c.equal_numbers.ensures.tree;
       meaning = λ k q e. c.meaning_at.ensures s.definitions s.root s.refs c.args.terms.now c.args.source.now.closed.now k q basis.closed e;
@@ -27,7 +38,7 @@ returns-clause-ranked c = err_with c.ranked_table.result _ _ c.ranked_table.ensu
     let place = root_found c.args.terms.now s.definitions s.root s.refs c.args.source.now.closed.now c.args.root c.equal_numbers.ensures.table basis.closed text c.in-Some.place (sym c.in-Some.ensures) in
     let by_rows = are_ranked s c.args.terms.now c.args.ranks.now (given s c.args.terms.now c.args.source.now.closed.now basis.closed c.args.ranks.now ranked laws) c.in_ok-nodes.nodes (c.in_ok-nodes.ensures s basis place group) in
     let places = places_ranked _ _ c.in_ok-ranks.ranks.types.items c.in_ok-ranks.ranks.groups.items c.in_ok-ranks.ensures.ranks _ _ by_rows in
-    refused (c.in_ok-ranks.ensures.flags c.in_ok-nodes.nodes.types.items) (length c.in_ok-ranks.ensures.ranks.used) places)
+    c.in_err-table.ensures.refused (c.in_ok-ranks.ensures.flags c.in_ok-nodes.nodes.types.items) (length c.in_ok-ranks.ensures.ranks.used) places)
 
 pub returns-clause-ranks : goal.returns-clause-ranks
-returns-clause-ranks c = ok_then c.ranked_table.result _ _ (λ table e. left_out_none _ _ _ _ c.in_ok-ranks.ensures.ranks table e) c.ranked_table.ensures.ranks
+returns-clause-ranks c = left_out_none _ _ _ _ c.in_ok-ranks.ensures.ranks c.in_ok-table.table c.in_ok-table.ensures.ranks
