@@ -1,0 +1,10 @@
+mod Adding
+mod Nodes
+mod Rules
+mod Ending
+mod Growing
+mod Copying
+mod Reading
+mod Placing
+mod Standing
+mod Stepping

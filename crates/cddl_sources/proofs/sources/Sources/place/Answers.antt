@@ -1,0 +1,36 @@
+use Rattle.std.proofs.Common.{arith, rules, refl, List, Option, None, Some, sym, subst, ◌∙◌, ap, ◌++◌, ◌∷◌, [], take}
+use Rattle.std.proofs.lemmas.List.{take_all}
+use Rattle.std.proofs.lemmas.Grind.{common_steps}
+use Rattle.lists.proofs.Lemmas.{none_in}
+use Rattle.table_nodes.specs.declared.nodes.TypeId.{TypeId}
+use Rattle.cddl_sources.specs.States.{IsStateAfter, IsStateOf}
+use Rattle.cddl_sources.specs.declared.place.State.{State}
+use Rattle.cddl_sources.proofs.Standing.{is_place, no_rule, none_then, some_then}
+use Rattle.cddl_sources.proofs.Stepping.{at_index, found_named, next_state}
+use Rattle.cddl_sources.proofs.sources.Sources.place.Goals as goal
+
+pub loop-id-init : goal.loop-id-init
+loop-id-init c = λ m h. absurd (none_in m h)
+
+pub loop-id-preserved : goal.loop-id-preserved
+loop-id-preserved c =
+    next_state c.args.self.now c.args.chain.now c.loop-id.id-index c.loop-id.state c.step-state.result _ c.loop-id-test.true c.loop-id.invariant c.step-state.ensures
+    (at_index c.args.chain.now c.loop-id.id-index _ c.loop-id-test.true)
+
+pub returns-in-Some-clause-some : goal.returns-in-Some-clause-some
+returns-in-Some-clause-some c =
+    let all = subst (λ (ids : List TypeId). IsStateOf c.args.self.now ids c.loop-id.state) (take_all c.loop-id.id-index c.args.chain.now c.loop-id-test.false) c.loop-id.invariant in
+    let after : IsStateAfter c.args.self.now c.args.chain.now c.in-Some.state = subst (λ (o : Option State). IsStateOf c.args.self.now c.args.chain.now o) c.in-Some.is all in
+    some_then c.told.result _ _ (λ p t s table known. is_place s table c.args.self.now known c.args.chain.now c.in-Some.state p after t) c.told.ensures.some
+
+pub returns-in-Some-clause-none : goal.returns-in-Some-clause-none
+returns-in-Some-clause-none c =
+    let all = subst (λ (ids : List TypeId). IsStateOf c.args.self.now ids c.loop-id.state) (take_all c.loop-id.id-index c.args.chain.now c.loop-id-test.false) c.loop-id.invariant in
+    let after : IsStateAfter c.args.self.now c.args.chain.now c.in-Some.state = subst (λ (o : Option State). IsStateOf c.args.self.now c.args.chain.now o) c.in-Some.is all in
+    none_then c.told.result _ _ (λ f s table known m h. absurd (f after.rule (found_named c.args.self.now c.in-Some.state.number after.inside c.in-Some.state.found after.found))) c.told.ensures.none
+
+pub returns-in-None-clause-none : goal.returns-in-None-clause-none
+returns-in-None-clause-none c =
+    let all = subst (λ (ids : List TypeId). IsStateOf c.args.self.now ids c.loop-id.state) (take_all c.loop-id.id-index c.args.chain.now c.loop-id-test.false) c.loop-id.invariant in
+    let none = subst (λ (o : Option State). IsStateOf c.args.self.now c.args.chain.now o) c.in-None.is all in
+    λ s table known m h. no_rule s table c.args.self.now known m (none m h)

@@ -1,0 +1,18 @@
+use Rattle.std.proofs.Common.{map, refl, ap, ◌∙◌}
+use Rattle.cddl_sources.proofs.Growing.{grown}
+use Rattle.cddl_sources.proofs.Reading.{rules_kept}
+use Rattle.cddl_sources.specs.States.{name_number}
+use Rattle.cddl_sources.proofs.sources.sources_of.Goals as goal
+
+pub returns : goal.returns
+returns c = record {
+  more = c.text_pieces.new.terms;
+  grows = grown _ _ _ c.in_ok-copy.ensures (grown _ _ _ c.in_ok-rules.ensures.grows c.in_ok-pieces.ensures.grows);
+  distinct = c.equal_numbers.ensures.table.texts;
+  one_term = λ n a b h k. (c.equal_numbers.ensures.term n n a b h k).0 refl;
+  one_row = λ n m a h k. (c.equal_numbers.ensures.term n m a a h k).1 refl;
+  origins = refl;
+  numbers = c.in_ok-numbers.ensures ∙ ap (map (name_number c.args.findings.now.terms.rows)) c.deref.ensures.value;
+  rules = rules_kept _ _ _ _ c.in_ok-pieces.ensures.grows c.in_ok-rules.ensures.rules;
+  pieces = c.in_ok-pieces.ensures.pieces;
+}

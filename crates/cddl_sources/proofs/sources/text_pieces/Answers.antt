@@ -1,0 +1,12 @@
+use Rattle.std.proofs.Common.{List, ap, sym, subst, ◌∙◌, map}
+use Rattle.lists.proofs.Lemmas.{ok_then}
+use Rattle.tree_nodes.specs.View.{token_of, view}
+use Rattle.cddl_language.specs.Reading.{rules_of}
+use Rattle.cddl_sources.specs.Walk.{view_found}
+use Rattle.cddl_sources.proofs.Placing.{pieces_stand}
+use Rattle.cddl_sources.proofs.sources.text_pieces.Goals as goal
+
+pub returns-clause-pieces : goal.returns-clause-pieces
+returns-clause-pieces c =
+    let read = token_of c.args.tree.now in
+    ok_then c.pieces_of.result _ _ (λ v h. pieces_stand c.pieces_of.new.terms read (rules_of (view c.args.tree.now)) _ v.items (ap (map (view_found read)) c.deref.ensures.value ∙ c.in-Ok.ensures) h) c.pieces_of.ensures.read

@@ -1,0 +1,64 @@
+-- What is known of a specification's rules and of its types in the text, by the numbers of its terms and of its table.
+use Rattle.std.specs.Prelude.{◌≡◌, ℕ, List, Some, map, slice_get}
+use Rattle.tree_nodes.specs.Syntax.Syntax as S
+use Rattle.tree_nodes.specs.View.{view}
+use Rattle.cddl_language.specs.Literals.{AreRight, Values}
+use Rattle.cddl_language.specs.Reading.{name_in, rules_of}
+use Rattle.cddl_language.specs.StandsFor.{AreInstances}
+use Rattle.cddl_language.specs.Terms.{Ref, Term}
+use Rattle.check_terms.specs.Table.{AreDistinct, Grows, Table}
+use Rattle.check_terms.specs.Trees.{IsRef, IsTerm}
+use Rattle.check_instances.specs.declared.closed.closed.Meaning.{Meaning}
+use Rattle.cddl_check.specs.Spec.{Checked, definitions_of}
+use Rattle.table_making.specs.Basis.{Sense}
+use Rattle.table_making.specs.Nodes.{AreNodes}
+use Rattle.table_making.specs.declared.making.Nodes.{Nodes}
+use Rattle.table_making.specs.declared.origin.TypeOrigin.{TypeOrigin}
+use Rattle.table_nodes.specs.Nodes.{language_in}
+use Rattle.table_nodes.specs.Language.{language_of, root_of}
+use Rattle.table_nodes.specs.declared.table.Table.{Table as Made}
+use Rattle.cddl_table.specs.Text.{sense}
+use Rattle.cddl_sources.specs.Origins.{ArePieces}
+use Rattle.cddl_sources.specs.States.{name_number}
+use Rattle.cddl_sources.specs.Spans.{IsNameSpan, IsSpan, body_tokens}
+use Rattle.cddl_sources.specs.declared.sources.RuleAt.{RuleAt}
+use Rattle.cddl_sources.specs.declared.sources.Sources.{Sources}
+
+-- The number of the rule's name, and where the rule has its name and its body.
+pub record IsRuleAt (t : Table) (r : S.Rule) (a : RuleAt) : Type 0 where
+  pub number : slice_get t.texts a.number ≡ Some (name_in r)
+  pub name : IsNameSpan r a.name
+  pub body : IsSpan (body_tokens r) a.body
+
+-- one for one
+pub record AreRules (t : Table) (rs : List S.Rule) (xs : List RuleAt) : Type 0 where
+  pub told : (i : ℕ) (a : RuleAt) → slice_get xs i ≡ Some a → (r : S.Rule) × (slice_get rs i ≡ Some r) × IsRuleAt t r a
+  pub all : (i : ℕ) (r : S.Rule) → slice_get rs i ≡ Some r → (a : RuleAt) × (slice_get xs i ≡ Some a)
+
+-- What is made by the table of terms t, the meanings of instances, the rules of the text, and the origins of a table's types. The
+-- table u has all that t has by the same numbers, and what stands in the text has its numbers there.
+pub record IsMade (t : Table) (ms : List Meaning) (rs : List S.Rule) (os : List TypeOrigin) (x : Sources) : Type 0 where
+  pub more : Table
+  pub grows : Grows t more
+  pub distinct : AreDistinct more.texts
+  pub one_term : (n : ℕ) (a b : Term) → IsTerm more n a → IsTerm more n b → a ≡ b
+  pub one_row : (n m : ℕ) (a : Term) → IsTerm more n a → IsTerm more m a → n ≡ m
+  pub origins : x.origins.items ≡ os
+  pub numbers : x.numbers.items ≡ map (name_number t.rows) ms
+  pub rules : AreRules more rs x.rules.items
+  pub pieces : ArePieces more rs x.pieces.items
+
+-- The places are of the types of this table, made of nodes that are of what the origins say.
+pub record AreSources (s : Sense) (table : Made) (x : Sources) : Type 0 where
+  pub terms : Table
+  pub nodes : Nodes
+  pub meanings : List Meaning
+  pub are_nodes : AreNodes s terms nodes
+  pub are_meanings : (k : ℕ) (q : Ref) → slice_get s.refs k ≡ Some q → (m : Meaning) × (slice_get meanings k ≡ Some m) × IsRef terms m.call q
+  pub made : IsMade terms meanings (rules_of s.tree) nodes.type_origins.items x
+  pub same_language : language_of table ≡ language_in nodes.types.items nodes.groups.items
+  pub same_root : root_of table ≡ nodes.root
+
+-- The same of a specification that was checked, with whatever values are right.
+abbrev pub AreSourcesOf : Checked → Made → Sources → Type 0
+AreSourcesOf s table x = (worth : Values) → AreRight (view s.tree) worth → (refs : List Ref) × AreInstances (definitions_of (view s.tree)) s.root refs × AreSources (sense (view s.tree) worth s.root refs) table x

@@ -1,0 +1,28 @@
+-- Parts of a text by the offsets of their tokens.
+use Rattle.std.specs.Prelude.{◌≡◌, ℕ, ◌+◌, List, [], ◌∷◌, ◌++◌, length}
+use Rattle.tree_nodes.specs.Syntax.Syntax as S
+use Rattle.tree_nodes.specs.View.{StartsAt}
+use Rattle.cddl_language.specs.Reading.{name_at, name_in}
+use Rattle.cddl_sources.specs.declared.span.Span.{Span}
+
+-- the last of the tokens ends there
+pub record EndsAt (ts : List S.Lexeme) (at : ℕ) : Type 0 where
+  pub front : List S.Lexeme
+  pub last : S.Lexeme
+  pub split : ts ≡ front ++ last ∷ []
+  pub ends : at ≡ (last.1).end
+
+-- from the first byte of the first of the tokens to the last byte of the last
+pub record IsSpan (ts : List S.Lexeme) (s : Span) : Type 0 where
+  pub starts : StartsAt ts s.first
+  pub ends : EndsAt ts s.end
+
+-- what a rule has after its sign
+abbrev pub body_tokens : S.Rule → List S.Lexeme
+body_tokens (S.type_rule n a t) = S.flat_types t
+body_tokens (S.group_rule n a e) = S.flat_entry e
+
+-- where the rule has its name
+pub record IsNameSpan (r : S.Rule) (s : Span) : Type 0 where
+  pub starts : s.first ≡ name_at r
+  pub ends : s.end ≡ name_at r + length (name_in r)

@@ -1,0 +1,41 @@
+-- What one step of the walk over a tree adds to the list of pieces.
+use Rattle.std.specs.Prelude.{◌≡◌, ℕ, List, ◌++◌, map}
+use Rattle.std.specs.List.{flat_map}
+use Rattle.cddl_token.specs.declared.Token.{Token}
+use Rattle.tree_nodes.specs.Syntax.Syntax as S
+use Rattle.tree_nodes.specs.declared.tree.Leaf.{Leaf}
+use Rattle.tree_nodes.specs.declared.tree.Entry.{Entry}
+use Rattle.tree_nodes.specs.declared.tree.Further.{Further}
+use Rattle.tree_nodes.specs.declared.tree.GrpChoice.{GrpChoice}
+use Rattle.tree_nodes.specs.declared.tree.GrpEnt.TheViews.{out-GrpChoice}
+use Rattle.tree_nodes.specs.View.{view_grpent, view_type1, view_type2, view_types, view_value}
+use Rattle.cddl_sources.specs.declared.node.Found.{Found}
+use Rattle.cddl_sources.specs.declared.node.Node.{Node}
+use Rattle.cddl_sources.specs.declared.node.Node.TheVariants as NodeV
+use Rattle.cddl_sources.specs.Pieces.{Piece, a_type, a_word, in_entry, in_type1, operand, placed}
+
+abbrev pub view_node : (Leaf → Token) → Node → Piece
+view_node read (NodeV.Choice t) = a_type (view_types read t.now)
+view_node read (NodeV.Operation t) = a_type (S.only (view_type1 read t.now))
+view_node read (NodeV.Operand t) = operand (view_type2 read t.now)
+view_node read (NodeV.Literal v) = operand (S.literal (view_value read v))
+view_node read (NodeV.Word l) = a_word (read l)
+
+-- with the place of its rule
+abbrev pub view_found : (Leaf → Token) → Found → ℕ × Piece
+view_found read f = (f.rule, view_node read f.node)
+
+-- the list has grown by these, whatever token a leaf is read as
+pub record Adds (old new : List Found) (rule : ℕ) (added : (Leaf → Token) → List Piece) : Type 0 where
+  pub each : (read : Leaf → Token) → map (view_found read) new ≡ map (view_found read) old ++ placed rule (added read)
+
+-- those of a further type of a list, of an entry of a group, and of a further choice
+
+abbrev pub further_pieces : (Leaf → Token) → Further → List Piece
+further_pieces read x = in_type1 (view_type1 read x.type1)
+
+abbrev pub entry_pieces : (Leaf → Token) → Entry → List Piece
+entry_pieces read e = in_entry (view_grpent read e.grpent)
+
+abbrev pub choice_pieces : (Leaf → Token) → GrpChoice → List Piece
+choice_pieces read c = flat_map (entry_pieces read) (out-GrpChoice c).entries.items

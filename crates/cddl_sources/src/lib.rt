@@ -1,0 +1,16 @@
+//! Where the types of a table stand in the text of its specification: the rule, and the offsets of the type in it.
+#![tactic(auto)]
+
+mod copies;
+mod node;
+mod origin;
+mod piece;
+mod place;
+mod push;
+mod sources;
+mod span;
+mod walk;
+
+pub use crate::place::Place;
+pub use crate::sources::{Sourced, Sources, compile_with_sources};
+pub use crate::span::Span;

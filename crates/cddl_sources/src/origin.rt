@@ -1,0 +1,137 @@
+//! What a type of the table is of that is a node of the tree: the number of its row, or of the word's text.
+
+ghost use Rattle.std.specs.Prelude.{◌≡◌, ◌++◌, [], ◌∷◌, IfOk, IfSome, None, OnOk, Some};
+ghost use Rattle.cddl_language.specs.Reading.{literal_of, term_of, term_of1, text_of};
+ghost use Rattle.cddl_language.specs.Terms.{Term, typed};
+ghost use Rattle.check_terms.specs.Table.{Grows, Holds, node, nothing};
+ghost use Rattle.check_terms.specs.Trees.{IsEntry, IsTerm, literal_tree};
+ghost use Rattle.tree_nodes.specs.View.{token_of, view_type1, view_types, view_value};
+ghost use Rattle.cddl_sources.specs.Origins.{AreRead, IsOriginOf};
+ghost use Rattle.cddl_sources.specs.Walk.{view_node};
+
+use crate::node::{Found, Node};
+use crate::piece::PieceAt;
+use crate::span::node_span;
+use check_reading::reader::{read_operand, read_operation, read_type_entry};
+use check_terms::laws::growing_keeps;
+use check_terms::{Form, NoRoom, Terms};
+use std::alloc::Global;
+use table_making::TypeOrigin;
+use tree_nodes::{Leaf, Tree, Type1, Types, Value};
+
+// What these nodes are, each read into the table of terms. It reads each node with all that is in it, so a type is read once for
+// each bracket in which it stands, of which the parser has 128 at most.
+pub(crate) fn pieces_of<'s>(
+    alloc: Global,
+    terms: &mut Terms<'s>,
+    tree: &Tree<'s>,
+    found: &[Found<'_>],
+) -> Result<Vec<PieceAt>, NoRoom>
+    ensures grows { Grows terms.old terms.new }
+    ensures read { IfOk result (λ v. AreRead terms.new (token_of tree.now) found.now v.items) }
+{
+    growing_keeps();
+    let mut pieces = Vec::new(alloc);
+    for node in found {
+        let origin = node_origin(terms, tree, node.node)?;
+        let piece = PieceAt {
+            rule: node.rule,
+            origin,
+            span: node_span(tree, node.node),
+        };
+        push(&mut pieces, piece)?;
+    }
+    Ok(pieces)
+}
+
+fn push(pieces: &mut Vec<PieceAt>, piece: PieceAt) -> Result<(), NoRoom>
+    ensures { OnOk result (pieces.new.items ≡ pieces.old.items ++ piece ∷ []) }
+{
+    match pieces.push(piece) {
+        Ok(()) => Ok(()),
+        Err(_) => Err(NoRoom),
+    }
+}
+
+// The row of a type, or the text of a word.
+fn node_origin<'s>(
+    terms: &mut Terms<'s>,
+    tree: &Tree<'s>,
+    node: Node<'_>,
+) -> Result<TypeOrigin, NoRoom>
+    ensures grows { Grows terms.old terms.new }
+    ensures origin { IfOk result (λ o. IsOriginOf terms.new (view_node (token_of tree.now) node.entry) o) }
+{
+    match node {
+        Node::Choice(types) => Ok(TypeOrigin::Row(read_types(terms, tree, types)?)),
+        Node::Operation(type1) => Ok(TypeOrigin::Row(read_type1(terms, tree, type1)?)),
+        Node::Operand(type2) => Ok(TypeOrigin::Row(read_operand(terms, tree, type2)?)),
+        Node::Literal(value) => Ok(TypeOrigin::Row(read_literal(terms, tree, value)?)),
+        Node::Word(leaf) => Ok(TypeOrigin::Word(terms.add_text(text_at(tree, leaf))?)),
+    }
+}
+
+// The row of a choice: the part of the entry that it is by itself.
+fn read_types<'s>(terms: &mut Terms<'s>, tree: &Tree<'s>, types: &Types) -> Result<u32, NoRoom>
+    ensures grows { Grows terms.old terms.new }
+    ensures term { IfOk result (λ n. IsTerm terms.new n (term_of (view_types (token_of tree.now) types.now))) }
+{
+    let entry = read_type_entry(terms, tree, types)?;
+    match first_part(terms, entry) {
+        Some(row) => Ok(row),
+        None => Err(NoRoom),
+    }
+}
+
+// The row of an entry's type.
+fn first_part(terms: &Terms<'_>, entry: u32) -> Option<u32>
+    ensures { IfSome result (λ n. (x : Term) → IsEntry terms.now entry (typed None x) → IsTerm terms.now n x) }
+{
+    terms.row(entry)?.first
+}
+
+fn read_type1<'s>(terms: &mut Terms<'s>, tree: &Tree<'s>, type1: &Type1) -> Result<u32, NoRoom>
+    ensures grows { Grows terms.old terms.new }
+    ensures term { IfOk result (λ n. IsTerm terms.new n (term_of1 (view_type1 (token_of tree.now) type1.now))) }
+{
+    match type1 {
+        Type1::One(operand) => read_operand(terms, tree, operand),
+        Type1::Operation {
+            left,
+            operator,
+            right,
+        } => read_operation(terms, tree, left, operator, right),
+    }
+}
+
+fn read_literal<'s>(terms: &mut Terms<'s>, tree: &Tree<'s>, value: Value) -> Result<u32, NoRoom>
+    ensures grows { Grows terms.old terms.new }
+    ensures literal { IfOk result (λ n. Holds terms.new (Some n) (literal_tree (literal_of (view_value (token_of tree.now) value)))) }
+{
+    match value {
+        Value::Number(leaf) => add_leaf(terms, tree, Form::Number, leaf),
+        Value::Text(leaf) => add_leaf(terms, tree, Form::Text, leaf),
+        Value::Bytes(leaf) => add_leaf(terms, tree, Form::Bytes, leaf),
+    }
+}
+
+// The number of a row with the text of this leaf and no parts.
+fn add_leaf<'s>(
+    terms: &mut Terms<'s>,
+    tree: &Tree<'s>,
+    form: Form,
+    leaf: Leaf,
+) -> Result<u32, NoRoom>
+    ensures grows { Grows terms.old terms.new }
+    ensures stands { IfOk result (λ n. Holds terms.new (Some n) (node form (Some (text_of (token_of tree.now leaf))) nothing nothing)) }
+{
+    let text = text_at(tree, leaf);
+    terms.add_node(form, Some(text), None, None)
+}
+
+// The text of a leaf's token.
+fn text_at<'s>(tree: &Tree<'s>, leaf: Leaf) -> &'s str
+    ensures { result.now ≡ text_of (token_of tree.now leaf) }
+{
+    tree.token(leaf).text
+}

@@ -1,0 +1,68 @@
+//! A node of each kind is put at the end of the list.
+
+ghost use Rattle.std.specs.Prelude.{OnOk, [], ◌∷◌};
+ghost use Rattle.tree_nodes.specs.Syntax.Syntax as S;
+ghost use Rattle.tree_nodes.specs.View.{view_type1, view_type2, view_types, view_value};
+ghost use Rattle.cddl_sources.specs.Pieces.{a_type, a_word, operand};
+ghost use Rattle.cddl_sources.specs.Walk.{Adds, view_node};
+
+use crate::node::{Found, Node};
+use std::alloc::AllocError;
+use tree_nodes::{Leaf, Type1, Type2, Types, Value};
+
+pub(crate) fn push_choice<'t>(
+    types: &'t Types,
+    rule: usize,
+    found: &mut Vec<Found<'t>>,
+) -> Result<(), AllocError>
+    ensures { OnOk result (Adds found.old.items found.new.items rule (λ read. a_type (view_types read types.now) ∷ [])) }
+{
+    push(Node::Choice(types), rule, found)
+}
+
+pub(crate) fn push_operation<'t>(
+    type1: &'t Type1,
+    rule: usize,
+    found: &mut Vec<Found<'t>>,
+) -> Result<(), AllocError>
+    ensures { OnOk result (Adds found.old.items found.new.items rule (λ read. a_type (S.only (view_type1 read type1.now)) ∷ [])) }
+{
+    push(Node::Operation(type1), rule, found)
+}
+
+pub(crate) fn push_operand<'t>(
+    type2: &'t Type2,
+    rule: usize,
+    found: &mut Vec<Found<'t>>,
+) -> Result<(), AllocError>
+    ensures { OnOk result (Adds found.old.items found.new.items rule (λ read. operand (view_type2 read type2.now) ∷ [])) }
+{
+    push(Node::Operand(type2), rule, found)
+}
+
+pub(crate) fn push_literal(
+    value: Value,
+    rule: usize,
+    found: &mut Vec<Found<'_>>,
+) -> Result<(), AllocError>
+    ensures { OnOk result (Adds found.old.items found.new.items rule (λ read. operand (S.literal (view_value read value)) ∷ [])) }
+{
+    push(Node::Literal(value), rule, found)
+}
+
+pub(crate) fn push_word(
+    name: Leaf,
+    rule: usize,
+    found: &mut Vec<Found<'_>>,
+) -> Result<(), AllocError>
+    ensures { OnOk result (Adds found.old.items found.new.items rule (λ read. a_word (read name) ∷ [])) }
+{
+    push(Node::Word(name), rule, found)
+}
+
+fn push<'t>(node: Node<'t>, rule: usize, found: &mut Vec<Found<'t>>) -> Result<(), AllocError>
+    ensures { OnOk result (Adds found.old.items found.new.items rule (λ read. view_node read node.entry ∷ [])) }
+{
+    found.push(Found { rule, node })?;
+    Ok(())
+}
