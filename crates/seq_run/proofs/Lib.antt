@@ -10,6 +10,7 @@ pub mod Feeding
 pub mod Cutting
 pub mod Reporting
 pub mod RunLoop
+pub mod Told
 pub mod Appending
 pub mod Heads
 pub mod Small

@@ -126,7 +126,7 @@ output_begins mode judge l stream found rest out t is others end rejected e r =
     let after = items_output mode (1 + length found) more.0 ++ end_output mode end rejected in
     (after, ap (λ (fs : List Found). items_output mode 1 fs ++ end_output mode end rejected) more.1 ∙ (ap (λ (b : List ℕ). b ++ end_output mode end rejected) (items_output-append mode 1 found more.0) ∙ (append_assoc (items_output mode 1 found) (items_output mode (1 + length found) more.0) (end_output mode end rejected) ∙ ap (λ (b : List ℕ). b ++ after) (sym is))))
 
-some_byte : (piece : List ℕ) → piece ≢ [] → 0 < length piece
+pub some_byte : (piece : List ℕ) → piece ≢ [] → 0 < length piece
 some_byte [] h = absurd (h refl)
 some_byte (b ∷ bs) h = omega arith
 

@@ -12,5 +12,7 @@ pub mod Report
 pub mod Heads
 pub mod Output
 pub mod Running
+pub mod Telling
+pub mod Watching
 pub mod Written
 pub mod Meaning

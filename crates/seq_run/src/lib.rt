@@ -12,6 +12,7 @@ mod owned;
 mod pieces;
 mod running;
 mod session;
+mod watching;
 
 pub use crate::end::{Cause, End, State, Stopped};
 pub use crate::laws::{decisive_end, one_end, same_if_rewritten, some_end, written_is_read_back};
@@ -19,5 +20,6 @@ pub use crate::lines::end_line;
 pub use crate::output::Mode;
 pub use crate::owned::OwnedSession;
 pub use crate::pieces::validate_pieces;
-pub use crate::running::{RunFault, run};
+pub use crate::running::{RunFault, run, run_watched};
 pub use crate::session::{Session, Step};
+pub use crate::watching::{Unwatched, Watch};

@@ -8,6 +8,7 @@ ghost use Rattle.seq_run.specs.Ends.{IsDecisive};
 ghost use Rattle.seq_run.specs.Judge.{judge_of};
 ghost use Rattle.seq_run.specs.Report.{IsShown};
 ghost use Rattle.seq_run.specs.Running.{Adds, IsDecided, IsFault, IsPieceDone, ReadsByPieces, WritesAll, change_of};
+ghost use Rattle.seq_run.specs.Watching.{TellsByPieces};
 ghost use Rattle.seq_run.specs.Written.{IsReadBack, IsWrittenStream};
 
 use crate::end::{End, State};
@@ -15,6 +16,7 @@ use crate::head::Head;
 use crate::laws::{decisive_end, written_is_read_back};
 use crate::output::{Mode, push_end, push_item, push_smalls};
 use crate::session::{Session, Step};
+use crate::watching::{Unwatched, Watch};
 use cbor_item::{Counted, Sound, write_bytes};
 use cbor_read::Limits;
 use cddl_match::shows_inside;
@@ -69,11 +71,43 @@ pub fn run<R: Read, W: Write>(
     ensures reads { ReadsByPieces (judge_of table.now steps) limits (change_of R.remaining input.old input.new) }
     ensures fault { IfErr result (IsFault mode (judge_of table.now steps) limits (change_of R.remaining input.old input.new) (change_of W.contents output.old output.new)) }
 {
+    let mut watch = Unwatched;
+    run_watched(alloc, table, limits, steps, mode, input, output, &mut watch)
+}
+
+/// Runs a stream as [`run`] does, and tells the watch after each piece that leaves the end open how many items were taken so far,
+/// and how many bytes were read.
+///
+/// # Errors
+///
+/// Those of [`run`].
+pub fn run_watched<R: Read, W: Write, P: Watch>(
+    alloc: Global,
+    table: &Table,
+    limits: Limits,
+    steps: u64,
+    mode: Mode,
+    input: &mut Counted<R>,
+    output: &mut Counted<W>,
+    watch: &mut P,
+) -> Result<(End, Option<Sound>), RunFault>
+    ensures reported { IfOk result (λ r. IfSome (R.remaining (device_of input.old)) (λ stream.
+        WritesAll mode (judge_of table.now steps) limits stream (change_of W.contents output.old output.new) r.0 r.1)) }
+    ensures read_back { IfOk result (λ r. (items : List Value) →
+        IsWrittenStream table.now limits items (R.remaining (device_of input.old)) → IsDecisive r.0 →
+        IsReadBack mode items (change_of W.contents output.old output.new) r.0 r.1) }
+    ensures shown { IfOk result (λ r. IsShown r.0 r.1) }
+    ensures counts { OnOk result ((failures_of input.new ≡ failures_of input.old) × (failures_of output.new ≡ failures_of output.old)) }
+    ensures reads { ReadsByPieces (judge_of table.now steps) limits (change_of R.remaining input.old input.new) }
+    ensures fault { IfErr result (IsFault mode (judge_of table.now steps) limits (change_of R.remaining input.old input.new) (change_of W.contents output.old output.new)) }
+    ensures told { TellsByPieces (judge_of table.now steps) limits (change_of R.remaining input.old input.new) (P.told watch.old) (P.told watch.new) }
+{
     let mut session = Session::new(alloc, table, limits, steps);
     let mut buffer = [0; PIECE];
     let mut bytes = Vec::new(alloc);
     let mut reported = 0;
     let mut written = 0;
+    let mut consumed = 0;
     'pieces: loop {
         let Ok(count) = input.read(&mut buffer) else {
             return Err(RunFault::ReadFailed(reported));
@@ -93,6 +127,8 @@ pub fn run<R: Read, W: Write>(
             return Ok((end, session.into_rejected()));
         }
         reported = session.taken().0;
+        consumed += count as u64;
+        watch.tell(reported, consumed);
     }
 }
 
