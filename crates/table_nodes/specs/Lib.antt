@@ -4,3 +4,4 @@ pub mod Nodes
 pub mod Ranks
 pub mod Language
 pub mod Flags
+pub mod Majors

@@ -2,11 +2,13 @@
 #![tactic(auto)]
 
 pub mod flags;
+mod majors;
 mod nodes;
 mod ranks;
 mod sizes;
 mod table;
 
+pub use crate::majors::{Told, major_of};
 pub use crate::nodes::{
     Content, Group, GroupId, MapEntry, Most, Node, TagNumber, Test, TypeId, Whole,
 };

@@ -2,11 +2,14 @@
 
 ghost use Rattle.std.specs.Prelude.{◌≡◌, max};
 ghost use Rattle.cddl_meaning.specs.Ranks.Ranked.{IsRanked};
+ghost use Rattle.table_nodes.specs.Majors.{AreShown, are_shown_once};
 ghost use Rattle.table_nodes.specs.Nodes.{language_in};
 ghost use Rattle.table_nodes.specs.Ranks.{greatest, rank_in};
 
+use crate::majors::{Told, known_of, told_of};
 use crate::nodes::{Group, GroupId, Node, TypeId};
 use crate::ranks::{NotRanked, Ranks, are_ranked, greatest};
+use std::alloc::{AllocError, Global};
 
 /// Types and groups by their numbers, each with a rank, and the number of the root type. A number that is not there is a
 /// type that says no to every item, or a group that fails.
@@ -18,18 +21,22 @@ pub struct Table {
     type_ranks: Vec<usize>,
     group_ranks: Vec<usize>,
     ranks: usize,
+    told: Vec<[Told; 8]>,
     pub ghost bound: { ranks ≡ max (greatest type_ranks.items) (greatest group_ranks.items) },
     pub ghost ranked: { IsRanked (language_in types.items groups.items) (rank_in type_ranks.items group_ranks.items) ranks },
+    pub ghost shown: { AreShown types.items told.items } by { are_shown_once types.items told.items },
 }
 
 impl Table {
-    ghost use Rattle.std.specs.Prelude.{◌≡◌, [], ℕ, IfErr, IfOk, IfSome, IfNone};
+    ghost use Rattle.std.specs.Prelude.{◌≡◌, [], ℕ, Bool, Some, IfErr, IfOk, IfSome, IfNone};
     ghost use Rattle.cddl_meaning.specs.Forms.{Alternatives, Choice};
     ghost use Rattle.cddl_meaning.specs.Ranks.Flags.{AreFlags};
     ghost use Rattle.cddl_meaning.specs.Ranks.Ranked.{IsRanked};
     ghost use Rattle.table_nodes.specs.Nodes.{group_view, language_in, type_view};
     ghost use Rattle.table_nodes.specs.Ranks.{flag_in, rank_in};
-    ghost use Rattle.table_nodes.specs.Language.{language_of, rank_of, ranks_of, root_of};
+    ghost use Rattle.table_nodes.specs.Language.{language_of, rank_of, ranks_of, root_of, shown_of, told_of};
+    ghost use Rattle.table_nodes.specs.Majors.{TellsOf, told_view};
+    ghost use Rattle.table_nodes.specs.declared.nodes.TypeId.{TypeId};
 
     /// The table of these types and groups, each with its number in the list, and of this root type. Takes no memory, and
     /// looks at each part at most twice.
@@ -58,6 +65,7 @@ impl Table {
             ..
         } = ranks;
         let most = greatest(&type_ranks).max(greatest(&group_ranks));
+        let told = Vec::new(*types.allocator());
         Ok(Table {
             types,
             groups,
@@ -65,6 +73,37 @@ impl Table {
             type_ranks,
             group_ranks,
             ranks: most,
+            told,
+        })
+    }
+
+    /// The same table, which keeps what each type says by the major type alone, as far as forms show it. It takes 32 bytes and
+    /// the same time for each type, and time for each of its parts.
+    pub fn with_told(self, alloc: Global) -> Result<Table, AllocError>
+        ensures language { IfOk result (λ table. language_of table ≡ language_of self) }
+        ensures root { IfOk result (λ table. root_of table ≡ root_of self) }
+        ensures rank { IfOk result (λ table. rank_of table ≡ rank_of self) }
+        ensures ranks { IfOk result (λ table. ranks_of table ≡ ranks_of self) }
+        ensures told { IfOk result (λ table. (n : TypeId) (m : ℕ) → told_of table n m ≡ shown_of table n m) }
+    {
+        let Table {
+            types,
+            groups,
+            root,
+            type_ranks,
+            group_ranks,
+            ranks,
+            ..
+        } = self;
+        let told = told_of(alloc, &types)?;
+        Ok(Table {
+            types,
+            groups,
+            root,
+            type_ranks,
+            group_ranks,
+            ranks,
+            told,
         })
     }
 
@@ -89,6 +128,16 @@ impl Table {
         ensures none { IfNone result ((language_of self.now).type_at id ≡ Choice []) }
     {
         self.types.get(id.number)
+    }
+
+    /// What the type of this number says of each item of this major type, at each place, if that is kept.
+    #[inline(always)]
+    pub fn told(&self, id: TypeId, major: u8) -> Told
+        ensures told { told_view result ≡ told_of self.now id major }
+        ensures shown { (t : Bool × ℕ) → told_view result ≡ Some t → shown_of self.now id major ≡ Some t }
+        ensures says { (t : Bool × ℕ) → told_view result ≡ Some t → TellsOf (language_of self.now) id major t.0 t.1 }
+    {
+        known_of(&self.told, id, major)
     }
 
     /// The group of this number, if it is there.
