@@ -1,0 +1,6 @@
+pub mod Causes
+pub mod Lines
+pub mod Paths
+pub mod Reasons
+pub mod Types
+pub mod Values
