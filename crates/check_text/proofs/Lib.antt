@@ -3,5 +3,6 @@ pub mod Firsts
 pub mod Refusing
 pub mod Rooting
 pub mod Staging
+mod OfEverywhere
 mod OfRuleFaults
 pub mod OfSiteFaults

@@ -1,4 +1,5 @@
 pub mod Codes
+pub mod Everywhere
 pub mod First
 pub mod RuleFaults
 pub mod SiteFaults

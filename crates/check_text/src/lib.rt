@@ -1,6 +1,7 @@
 //! What is wrong with a specification's text, and where: of the lowest code that stands anywhere, the least offset.
 #![tactic(auto)]
 
+pub mod everywhere;
 mod fault;
 pub mod laws;
 pub mod rule_faults;

@@ -25,22 +25,15 @@ use Rattle.check_reading.specs.declared.survey.survey.Survey.{Survey}
 use Rattle.lists.specs.Least.{IsLeast, lesser_of}
 use Rattle.check_reading.specs.Survey.Survey.{IsSurvey}
 use Rattle.lists.proofs.Lemmas.{same_least as alike, lesser_least as either}
-use Rattle.check_text.specs.RuleFaults.Arity.{HasWrongArityAtRule, arities, arity_at, count_by, count_of, count_there, first_count, told_unless}
+use Rattle.check_text.specs.RuleFaults.Arity.{HasOtherCount, HasWrongArityAtRule, arities, arity_at, count_by, count_of, count_there, first_count, told_unless}
 use Rattle.check_text.proofs.OfRuleFaults.Rules.{IsRest, as_many, at_first, definition_at, first_or_later, later, lesser_last, lesser_none, none_in, rest_first, rest_further, rules_view, whole}
-
--- the fault of one rule
-record IsFault (xs : List L.Definition) (r : S.Rule) (at : ℕ) : Type 0 where
-  count : ℕ
-  counted : parameter_count xs (name_in r) ≡ Some count
-  differs : length (parameters_in r) ≢ count
-  offset : at ≡ name_at r
 
 record OneFaults (xs : List L.Definition) (rs : List S.Rule) (at : ℕ) : Type 0 where
   rule : S.Rule
   present : Contains rs rule
-  fault : IsFault xs rule at
+  fault : HasOtherCount xs rule at
 
-told : (xs : List L.Definition) (r : S.Rule) (own : ℕ) (o : Option ℕ) → own ≡ length (parameters_in r) → parameter_count xs (name_in r) ≡ o → IsLeast (IsFault xs r) (told_unless own o (name_at r))
+told : (xs : List L.Definition) (r : S.Rule) (own : ℕ) (o : Option ℕ) → own ≡ length (parameters_in r) → parameter_count xs (name_in r) ≡ o → IsLeast (HasOtherCount xs r) (told_unless own o (name_at r))
 told xs r own None e h = λ p f. none f.count (sym h ∙ f.counted)
   where
     none : (k : ℕ) → None ≡ Some k → ⊥
@@ -50,9 +43,9 @@ told xs r own (Some k) e h = by (eqb_tells own k)
     same : (j : ℕ) → Some k ≡ Some j → k ≡ j
     same j e = cc
 
-    by : ((nat_eq own k ≡ true) × (own ≡ k)) ⊎ ((nat_eq own k ≡ false) × (own ≢ k)) → IsLeast (IsFault xs r) (if nat_eq own k then None else Some (name_at r))
-    by (inl q) = subst (λ b. IsLeast (IsFault xs r) (if b then None else Some (name_at r))) (sym q.0) (λ p f. f.differs (sym e ∙ q.1 ∙ same f.count (sym h ∙ f.counted)))
-    by (inr q) = subst (λ b. IsLeast (IsFault xs r) (if b then None else Some (name_at r))) (sym q.0) (record { count = k; counted = h; differs = λ f. q.1 (e ∙ f); offset = refl }, λ p f. least p f.offset)
+    by : ((nat_eq own k ≡ true) × (own ≡ k)) ⊎ ((nat_eq own k ≡ false) × (own ≢ k)) → IsLeast (HasOtherCount xs r) (if nat_eq own k then None else Some (name_at r))
+    by (inl q) = subst (λ b. IsLeast (HasOtherCount xs r) (if b then None else Some (name_at r))) (sym q.0) (λ p f. f.differs (sym e ∙ q.1 ∙ same f.count (sym h ∙ f.counted)))
+    by (inr q) = subst (λ b. IsLeast (HasOtherCount xs r) (if b then None else Some (name_at r))) (sym q.0) (record { count = k; counted = h; differs = λ f. q.1 (e ∙ f); offset = refl }, λ p f. least p f.offset)
       where
         least : (p : ℕ) → p ≡ name_at r → name_at r ≤ p
         least p f = omega (arith, f)
@@ -84,7 +77,7 @@ module _ (t : Table) (tree : Tree) (s : Survey) (is : IsSurvey t tree s) where
       found (v ∷ vs) zero h = (v, refl)
       found (v ∷ vs) (suc k) h = found vs k (omega (arith, h))
 
-  one_rule : (r : Rule) (d : Definition) → IsDefinition t d (definition_of (view_rule (token_of tree) r)) → IsLeast (IsFault (definitions_in (rules_of (view tree))) (view_rule (token_of tree) r)) (arity_at (token_of tree) s.definitions.items s.names.items (Some r) d)
+  pub one_rule : (r : Rule) (d : Definition) → IsDefinition t d (definition_of (view_rule (token_of tree) r)) → IsLeast (HasOtherCount (definitions_in (rules_of (view tree))) (view_rule (token_of tree) r)) (arity_at (token_of tree) s.definitions.items s.names.items (Some r) d)
   one_rule r d h =
       let v = name_there d.name (name_in (view_rule (token_of tree) r)) h.name in
       told (definitions_in (rules_of (view tree))) (view_rule (token_of tree) r) (length d.parameters.items) (count_there s.definitions.items (slice_get s.names.items d.name)) (as_many t.texts d.parameters.items (parameters_in (view_rule (token_of tree) r)) h.parameters) (sym (ap (count_there s.definitions.items) v.1 ∙ own_count (name_in (view_rule (token_of tree) r)) v.0 (is.names_stand d.name (name_in (view_rule (token_of tree) r)) v.0 h.name v.1)))
@@ -96,15 +89,15 @@ module _ (t : Table) (tree : Tree) (s : Survey) (is : IsSurvey t tree s) where
   all_rules i (r ∷ rs) (d ∷ ds) rest (further_definition h hs) =
       subst (λ o. IsLeast (OneFaults (definitions_in (rules_of (view tree))) (map (view_rule (token_of tree)) (r ∷ rs))) (lesser_of (arity_at (token_of tree) s.definitions.items s.names.items o d) (arities (token_of tree) s.definitions.items s.names.items tree.rules.items (i + 1) ds))) (sym (rest_first tree.rules.items i r rs rest)) (alike _ _ onwards back _ (either _ _ _ _ (one_rule r d h) (all_rules (i + 1) rs ds (rest_further tree.rules.items i r rs rest) hs)))
     where
-      onwards : (p : ℕ) → IsFault (definitions_in (rules_of (view tree))) (view_rule (token_of tree) r) p ⊎ OneFaults (definitions_in (rules_of (view tree))) (map (view_rule (token_of tree)) rs) p → OneFaults (definitions_in (rules_of (view tree))) (map (view_rule (token_of tree)) (r ∷ rs)) p
+      onwards : (p : ℕ) → HasOtherCount (definitions_in (rules_of (view tree))) (view_rule (token_of tree) r) p ⊎ OneFaults (definitions_in (rules_of (view tree))) (map (view_rule (token_of tree)) rs) p → OneFaults (definitions_in (rules_of (view tree))) (map (view_rule (token_of tree)) (r ∷ rs)) p
       onwards p (inl f) = record { rule = view_rule (token_of tree) r; present = at_first (view_rule (token_of tree) r) (map (view_rule (token_of tree)) rs); fault = f }
       onwards p (inr f) = record { rule = f.rule; present = later (view_rule (token_of tree) r) f.rule (map (view_rule (token_of tree)) rs) f.present; fault = f.fault }
 
-      back : (p : ℕ) → OneFaults (definitions_in (rules_of (view tree))) (map (view_rule (token_of tree)) (r ∷ rs)) p → IsFault (definitions_in (rules_of (view tree))) (view_rule (token_of tree) r) p ⊎ OneFaults (definitions_in (rules_of (view tree))) (map (view_rule (token_of tree)) rs) p
+      back : (p : ℕ) → OneFaults (definitions_in (rules_of (view tree))) (map (view_rule (token_of tree)) (r ∷ rs)) p → HasOtherCount (definitions_in (rules_of (view tree))) (view_rule (token_of tree) r) p ⊎ OneFaults (definitions_in (rules_of (view tree))) (map (view_rule (token_of tree)) rs) p
       back p f = by (first_or_later (view_rule (token_of tree) r) (map (view_rule (token_of tree)) rs) f.rule f.present)
         where
-          by : (view_rule (token_of tree) r ≡ f.rule) ⊎ Contains (map (view_rule (token_of tree)) rs) f.rule → IsFault (definitions_in (rules_of (view tree))) (view_rule (token_of tree) r) p ⊎ OneFaults (definitions_in (rules_of (view tree))) (map (view_rule (token_of tree)) rs) p
-          by (inl e) = inl (subst (λ q. IsFault (definitions_in (rules_of (view tree))) q p) (sym e) f.fault)
+          by : (view_rule (token_of tree) r ≡ f.rule) ⊎ Contains (map (view_rule (token_of tree)) rs) f.rule → HasOtherCount (definitions_in (rules_of (view tree))) (view_rule (token_of tree) r) p ⊎ OneFaults (definitions_in (rules_of (view tree))) (map (view_rule (token_of tree)) rs) p
+          by (inl e) = inl (subst (λ q. HasOtherCount (definitions_in (rules_of (view tree))) q p) (sym e) f.fault)
           by (inr k) = inr (record { rule = f.rule; present = k; fault = f.fault })
 
   pub wrong_arities : (z : Specification) → z.tree ≡ view tree → (o : Option ℕ) → o ≡ arities (token_of tree) s.definitions.items s.names.items tree.rules.items 0 s.definitions.items → IsLeast (HasWrongArityAtRule z) o

@@ -50,17 +50,18 @@ clash_told xs r a b e f true h = (record { clash = λ g. differing a b (sym h) (
     least p k = omega (arith, k)
 clash_told xs r a b e f false h = λ p k. k.clash (sym e ∙ equal a b (sym h) ∙ f)
 
-pub clashes : (tree : Tree) (z : Specification) → z.tree ≡ view tree → (o : Option ℕ) → IsLeast (OneOf (IsClashAt (defined_in tree)) (rules z)) o → IsLeast (IsKindClash z) o
-clashes tree z e o h = alike (OneOf (IsClashAt (defined_in tree)) (rules z)) (IsKindClash z) to from o h
-  where
-    same : definitions z ≡ defined_in tree
-    same = ap (λ x. definitions_in (rules_of x)) e
+module _ (tree : Tree) (z : Specification) (e : z.tree ≡ view tree) where
+  same : definitions z ≡ defined_in tree
+  same = ap (λ x. definitions_in (rules_of x)) e
 
-    to : (p : ℕ) → OneOf (IsClashAt (defined_in tree)) (rules z) p → IsKindClash z p
-    to p k = record { rule = k.rule; present = k.present; clash = subst (λ xs. is_group_definition xs (definition_of k.rule) ≢ is_group xs (name_in k.rule)) (sym same) k.fault.clash; offset = k.fault.offset }
+  pub clash_in_text : (p : ℕ) → OneOf (IsClashAt (defined_in tree)) (rules z) p → IsKindClash z p
+  clash_in_text p k = record { rule = k.rule; present = k.present; clash = subst (λ xs. is_group_definition xs (definition_of k.rule) ≢ is_group xs (name_in k.rule)) (sym same) k.fault.clash; offset = k.fault.offset }
 
-    from : (p : ℕ) → IsKindClash z p → OneOf (IsClashAt (defined_in tree)) (rules z) p
-    from p k = record { rule = k.rule; present = k.present; fault = record { clash = subst (λ xs. is_group_definition xs (definition_of k.rule) ≢ is_group xs (name_in k.rule)) same k.clash; offset = k.offset } }
+  pub clash_at_rule : (p : ℕ) → IsKindClash z p → OneOf (IsClashAt (defined_in tree)) (rules z) p
+  clash_at_rule p k = record { rule = k.rule; present = k.present; fault = record { clash = subst (λ xs. is_group_definition xs (definition_of k.rule) ≢ is_group xs (name_in k.rule)) same k.clash; offset = k.offset } }
+
+  pub clashes : (o : Option ℕ) → IsLeast (OneOf (IsClashAt (defined_in tree)) (rules z)) o → IsLeast (IsKindClash z) o
+  clashes o h = alike (OneOf (IsClashAt (defined_in tree)) (rules z)) (IsKindClash z) clash_in_text clash_at_rule o h
 
 pub not_both : (o : Option Definition) (d : Definition) → o ≡ Some d → o ≡ None → ⊥
 not_both o d e f = cc

@@ -189,37 +189,38 @@ module _ (t : Table) (tree : Tree) (s : Survey) (is : IsSurvey t tree s) (law : 
   abbrev tokens : List Token
   tokens = parameter_tokens (rule_head r)
 
+  pub to_duplicate : (at : ℕ) → IsOther (rules_of (view tree)) r at ⊎ IsRepeated d.parameters.items (parameter_tokens (rule_head r)) at → IsDuplicateAt (rules_of (view tree)) r at
+  to_duplicate at (inl f) = other_equals f.equals f.first_so f.differs f.offset
+  to_duplicate at (inr f) =
+      let x = by_number d.parameters.items (parameter_tokens (rule_head r)) h.parameters f.earlier f.number f.first in
+      let y = by_number d.parameters.items (parameter_tokens (rule_head r)) h.parameters f.later f.number f.second in
+      parameter_twice f.before x.1 f.there (one_text (slice_get t.texts f.number) (text_of x.0) (text_of f.token) x.2 (subst (λ u. slice_get t.texts f.number ≡ Some (text_of u)) (one_token _ y.0 f.token y.1 f.there) y.2)) f.offset
+
+  pub from_duplicate : (at : ℕ) → IsDuplicateAt (rules_of (view tree)) r at → IsOther (rules_of (view tree)) r at ⊎ IsRepeated d.parameters.items (parameter_tokens (rule_head r)) at
+  from_duplicate at (other_equals {q = q} a f g i) = inl (record { first = q; equals = a; first_so = f; differs = g; offset = i })
+  from_duplicate at (parameter_twice {t = u} {u = v} {j = j} {k = m} l a b same i) =
+      let x = by_token d.parameters.items (parameter_tokens (rule_head r)) h.parameters j u a in
+      let y = by_token d.parameters.items (parameter_tokens (rule_head r)) h.parameters m v b in
+      let equal = is.table.texts x.0 y.0 (text_of u) x.2 (y.2 ∙ ap Some (sym same)) in
+      inr (record { earlier = j; later = m; number = x.0; token = v; before = l; first = x.1; second = y.1 ∙ ap Some (sym equal); there = b; offset = i })
+
   pub both : (o p : Option ℕ) → o ≡ other_equals_by s.definitions.items s.names.items d (name_at r) → IsLeast (IsRepeated d.parameters.items (parameter_tokens (rule_head r))) p → IsLeast (IsDuplicateAt (rules_of (view tree)) r) (lesser_of o p)
-  both o p e k = alike _ _ onwards back _ (either _ _ o p (subst (IsLeast (IsOther (rules_of (view tree)) r)) (sym e) others) k)
+  both o p e k = alike _ _ to_duplicate from_duplicate _ (either _ _ o p (subst (IsLeast (IsOther (rules_of (view tree)) r)) (sym e) others) k)
+
+module _ (tree : Tree) (z : Specification) (e : z.tree ≡ view tree) where
+  same_rules : rules z ≡ rules_of (view tree)
+  same_rules = ap rules_of e
+
+  pub duplicate_in_text : (p : ℕ) → OneOf (IsDuplicateAt (rules_of (view tree))) (rules z) p → IsDuplicate z p
+  duplicate_in_text p k = by k.rule k.present k.fault
     where
-      onwards : (at : ℕ) → IsOther (rules_of (view tree)) r at ⊎ IsRepeated d.parameters.items (parameter_tokens (rule_head r)) at → IsDuplicateAt (rules_of (view tree)) r at
-      onwards at (inl f) = other_equals f.equals f.first_so f.differs f.offset
-      onwards at (inr f) =
-          let x = by_number d.parameters.items (parameter_tokens (rule_head r)) h.parameters f.earlier f.number f.first in
-          let y = by_number d.parameters.items (parameter_tokens (rule_head r)) h.parameters f.later f.number f.second in
-          parameter_twice f.before x.1 f.there (one_text (slice_get t.texts f.number) (text_of x.0) (text_of f.token) x.2 (subst (λ u. slice_get t.texts f.number ≡ Some (text_of u)) (one_token _ y.0 f.token y.1 f.there) y.2)) f.offset
+      by : (r : S.Rule) → Contains (rules z) r → IsDuplicateAt (rules_of (view tree)) r p → IsDuplicate z p
+      by r c (other_equals {q = q} a f g i) = F.other_equals c a (subst (λ rs. F.first_equals rs (name_in r) ≡ Some q) (sym same_rules) f) g i
+      by r c (parameter_twice l a b f i) = F.parameter_twice c l a b f i
 
-      back : (at : ℕ) → IsDuplicateAt (rules_of (view tree)) r at → IsOther (rules_of (view tree)) r at ⊎ IsRepeated d.parameters.items (parameter_tokens (rule_head r)) at
-      back at (other_equals {q = q} a f g i) = inl (record { first = q; equals = a; first_so = f; differs = g; offset = i })
-      back at (parameter_twice {t = u} {u = v} {j = j} {k = m} l a b same i) =
-          let x = by_token d.parameters.items (parameter_tokens (rule_head r)) h.parameters j u a in
-          let y = by_token d.parameters.items (parameter_tokens (rule_head r)) h.parameters m v b in
-          let equal = is.table.texts x.0 y.0 (text_of u) x.2 (y.2 ∙ ap Some (sym same)) in
-          inr (record { earlier = j; later = m; number = x.0; token = v; before = l; first = x.1; second = y.1 ∙ ap Some (sym equal); there = b; offset = i })
+  pub duplicate_at_rule : (p : ℕ) → IsDuplicate z p → OneOf (IsDuplicateAt (rules_of (view tree))) (rules z) p
+  duplicate_at_rule p (F.other_equals {q = q} {r = r} c a f g i) = record { rule = r; present = c; fault = other_equals a (subst (λ rs. F.first_equals rs (name_in r) ≡ Some q) same_rules f) g i }
+  duplicate_at_rule p (F.parameter_twice {r = r} c l a b f i) = record { rule = r; present = c; fault = parameter_twice l a b f i }
 
-pub duplicates : (tree : Tree) (z : Specification) → z.tree ≡ view tree → (o : Option ℕ) → IsLeast (OneOf (IsDuplicateAt (rules_of (view tree))) (rules z)) o → IsLeast (IsDuplicate z) o
-duplicates tree z e o h = alike (OneOf (IsDuplicateAt (rules_of (view tree))) (rules z)) (IsDuplicate z) to from o h
-  where
-    same : rules z ≡ rules_of (view tree)
-    same = ap rules_of e
-
-    to : (p : ℕ) → OneOf (IsDuplicateAt (rules_of (view tree))) (rules z) p → IsDuplicate z p
-    to p k = by k.rule k.present k.fault
-      where
-        by : (r : S.Rule) → Contains (rules z) r → IsDuplicateAt (rules_of (view tree)) r p → IsDuplicate z p
-        by r c (other_equals {q = q} a f g i) = F.other_equals c a (subst (λ rs. F.first_equals rs (name_in r) ≡ Some q) (sym same) f) g i
-        by r c (parameter_twice l a b f i) = F.parameter_twice c l a b f i
-
-    from : (p : ℕ) → IsDuplicate z p → OneOf (IsDuplicateAt (rules_of (view tree))) (rules z) p
-    from p (F.other_equals {q = q} {r = r} c a f g i) = record { rule = r; present = c; fault = other_equals a (subst (λ rs. F.first_equals rs (name_in r) ≡ Some q) same f) g i }
-    from p (F.parameter_twice {r = r} c l a b f i) = record { rule = r; present = c; fault = parameter_twice l a b f i }
+  pub duplicates : (o : Option ℕ) → IsLeast (OneOf (IsDuplicateAt (rules_of (view tree))) (rules z)) o → IsLeast (IsDuplicate z) o
+  duplicates o h = alike (OneOf (IsDuplicateAt (rules_of (view tree))) (rules z)) (IsDuplicate z) duplicate_in_text duplicate_at_rule o h

@@ -47,22 +47,30 @@ pub record IsBefore (ns : List ℕ) (ts : List Token) (i at : ℕ) : Type 0 wher
   pub fault : IsRepeated ns ts at
   pub within : fault.later < i
 
-record IsThere (ns : List ℕ) (ts : List Token) (i at : ℕ) : Type 0 where
-  fault : IsRepeated ns ts at
-  here : fault.later ≡ i
+pub record IsThere (ns : List ℕ) (ts : List Token) (i at : ℕ) : Type 0 where
+  pub fault : IsRepeated ns ts at
+  pub here : fault.later ≡ i
 
 -- the keys are the numbers before the place i
-pub record IsRead (ns : List ℕ) (ts : List Token) (keys : List ℕ) (i : ℕ) (least : Option ℕ) : Type 0 where
+pub record AreSeen (ns keys : List ℕ) (i : ℕ) : Type 0 where
   pub from : (k : ℕ) → is_among k keys ≡ true → (j : ℕ) × (j < i) × (slice_get ns j ≡ Some k)
   pub to : (k j : ℕ) → j < i → slice_get ns j ≡ Some k → is_among k keys ≡ true
+
+pub record IsRead (ns : List ℕ) (ts : List Token) (keys : List ℕ) (i : ℕ) (least : Option ℕ) : Type 0 where
+  pub seen : AreSeen ns keys i
   pub told : IsLeast (IsBefore ns ts i) least
 
-pub none_read : (ns : List ℕ) (ts : List Token) (keys : List ℕ) → keys ≡ [] → IsRead ns ts keys 0 None
-none_read ns ts keys e = record {
+pub none_seen : (ns keys : List ℕ) → keys ≡ [] → AreSeen ns keys 0
+none_seen ns keys e = record {
   from = λ k h. absurd (true≢false (sym h ∙ ap (is_among k) e));
   to = λ k j l h. absurd (omega (arith, l));
-  told = λ p f. let l = f.within in omega (arith, l);
 }
+
+pub none_before : (ns : List ℕ) (ts : List Token) (p : ℕ) → IsBefore ns ts 0 p → ⊥
+none_before ns ts p f = let l = f.within in omega (arith, l)
+
+pub none_read : (ns : List ℕ) (ts : List Token) (keys : List ℕ) → keys ≡ [] → IsRead ns ts keys 0 None
+none_read ns ts keys e = record { seen = none_seen ns keys e; told = none_before ns ts }
 
 one_number : (o : Option ℕ) (x y : ℕ) → o ≡ Some x → o ≡ Some y → x ≡ y
 one_number o x y e f = cc
@@ -73,8 +81,8 @@ one_token o x y e f = cc
 no_token : (o : Option Token) (x : Token) → o ≡ None → o ≡ Some x → ⊥
 no_token o x e f = cc
 
-module _ (ns : List ℕ) (ts : List Token) (keys : List ℕ) (i : ℕ) (least : Option ℕ) (r : IsRead ns ts keys i least) (p : ℕ) (place : slice_get ns i ≡ Some p) where
-  again : (a : Bool) → is_among p keys ≡ a → (o : Option Token) → slice_get ts i ≡ o → IsLeast (IsThere ns ts i) (told_again (not a) o)
+module _ (ns : List ℕ) (ts : List Token) (keys : List ℕ) (i : ℕ) (r : AreSeen ns keys i) (p : ℕ) (place : slice_get ns i ≡ Some p) where
+  pub again : (a : Bool) → is_among p keys ≡ a → (o : Option Token) → slice_get ts i ≡ o → IsLeast (IsThere ns ts i) (told_again (not a) o)
   again true e None f = λ at k. no_token (slice_get ts i) k.fault.token f (subst (λ j. slice_get ts j ≡ Some k.fault.token) k.here k.fault.there)
   again true e (Some u) f = (record { fault = record { earlier = (r.from p e).0; later = i; number = p; token = u; before = (r.from p e).1; first = (r.from p e).2; second = place; there = f; offset = refl }; here = refl }, λ at k. lowest at k.fault.offset (one_token (slice_get ts i) u k.fault.token f (subst (λ j. slice_get ts j ≡ Some k.fault.token) k.here k.fault.there)))
     where
@@ -82,8 +90,8 @@ module _ (ns : List ℕ) (ts : List Token) (keys : List ℕ) (i : ℕ) (least : 
       lowest at g h = let same = ap (λ (w : Token). w.start) h in omega (arith, g, same)
   again false e o f = λ at k. true≢false (sym (r.to k.fault.number k.fault.earlier (subst (λ j. k.fault.earlier < j) k.here k.fault.before) k.fault.first) ∙ ap (λ m. is_among m keys) (sym (one_number (slice_get ns i) p k.fault.number place (subst (λ j. slice_get ns j ≡ Some k.fault.number) k.here k.fault.second))) ∙ e)
 
-  pub next_read : (new : List ℕ) (b : Bool) (o lesser : Option ℕ) → b ≡ not (is_among p keys) → ((k : ℕ) → is_among k new ≡ (is_among k keys || nat_eq k p)) → o ≡ told_again b (slice_get ts i) → lesser ≡ lesser_of least o → IsRead ns ts new (i + 1) lesser
-  next_read new b o lesser is_new adds tells less = record { from = from; to = to; told = subst (IsLeast (IsBefore ns ts (i + 1))) (sym (less ∙ ap (lesser_of least) (tells ∙ ap (λ c. told_again c (slice_get ts i)) is_new))) (alike _ _ onwards back _ (either _ _ _ _ r.told (again (is_among p keys) refl (slice_get ts i) refl))) }
+  pub next_seen : (new : List ℕ) → ((k : ℕ) → is_among k new ≡ (is_among k keys || nat_eq k p)) → AreSeen ns new (i + 1)
+  next_seen new adds = record { from = from; to = to }
     where
       from : (k : ℕ) → is_among k new ≡ true → (j : ℕ) × (j < i + 1) × (slice_get ns j ≡ Some k)
       from k h = by (is_among k keys) refl (sym (adds k) ∙ h)
@@ -99,22 +107,31 @@ module _ (ns : List ℕ) (ts : List Token) (keys : List ℕ) (i : ℕ) (least : 
           by (inl g) = ap (λ (a : Bool). a || nat_eq k p) (r.to k j g e)
           by (inr g) = let same : j ≡ i = omega (arith, g, l) in ap (λ (a : Bool). is_among k keys || a) (eq_same k p (one_number (slice_get ns i) k p (subst (λ m. slice_get ns m ≡ Some k) same e) place)) ∙ or_true (is_among k keys)
 
-      onwards : (at : ℕ) → IsBefore ns ts i at ⊎ IsThere ns ts i at → IsBefore ns ts (i + 1) at
-      onwards at (inl f) = let l = f.within in record { fault = f.fault; within = omega (arith, l) }
-      onwards at (inr f) = let l = f.here in record { fault = f.fault; within = omega (arith, l) }
+  pub before_next : (at : ℕ) → IsBefore ns ts i at ⊎ IsThere ns ts i at → IsBefore ns ts (i + 1) at
+  before_next at (inl f) = let l = f.within in record { fault = f.fault; within = omega (arith, l) }
+  before_next at (inr f) = let l = f.here in record { fault = f.fault; within = omega (arith, l) }
 
-      back : (at : ℕ) → IsBefore ns ts (i + 1) at → IsBefore ns ts i at ⊎ IsThere ns ts i at
-      back at f = by (cases_lt f.fault.later i)
-        where
-          by : (f.fault.later < i) ⊎ (i ≤ f.fault.later) → IsBefore ns ts i at ⊎ IsThere ns ts i at
-          by (inl g) = inl (record { fault = f.fault; within = g })
-          by (inr g) = let l = f.within in inr (record { fault = f.fault; here = omega (arith, g, l) })
+  pub before_or_there : (at : ℕ) → IsBefore ns ts (i + 1) at → IsBefore ns ts i at ⊎ IsThere ns ts i at
+  before_or_there at f = by (cases_lt f.fault.later i)
+    where
+      by : (f.fault.later < i) ⊎ (i ≤ f.fault.later) → IsBefore ns ts i at ⊎ IsThere ns ts i at
+      by (inl g) = inl (record { fault = f.fault; within = g })
+      by (inr g) = let l = f.within in inr (record { fault = f.fault; here = omega (arith, g, l) })
+
+  pub told_there : (b : Bool) (o : Option ℕ) → b ≡ not (is_among p keys) → o ≡ told_again b (slice_get ts i) → IsLeast (IsThere ns ts i) o
+  told_there b o is_new tells = subst (IsLeast (IsThere ns ts i)) (sym (tells ∙ ap (λ c. told_again c (slice_get ts i)) is_new)) (again (is_among p keys) refl (slice_get ts i) refl)
+
+pub next_read : (ns : List ℕ) (ts : List Token) (keys : List ℕ) (i : ℕ) (least : Option ℕ) → IsRead ns ts keys i least → (p : ℕ) → slice_get ns i ≡ Some p → (new : List ℕ) (b : Bool) (o lesser : Option ℕ) → b ≡ not (is_among p keys) → ((k : ℕ) → is_among k new ≡ (is_among k keys || nat_eq k p)) → o ≡ told_again b (slice_get ts i) → lesser ≡ lesser_of least o → IsRead ns ts new (i + 1) lesser
+next_read ns ts keys i least r p place new b o lesser is_new adds tells less = record {
+  seen = next_seen ns ts keys i r.seen p place new adds;
+  told = subst (IsLeast (IsBefore ns ts (i + 1))) (sym less) (alike _ _ (before_next ns ts keys i r.seen p place) (before_or_there ns ts keys i r.seen p place) _ (either _ _ least o r.told (told_there ns ts keys i r.seen p place b o is_new tells)));
+}
 
 pub number_there : (ns : List ℕ) (i p : ℕ) → i < length ns → p ≡ get_or ns i p → slice_get ns i ≡ Some p
 number_there ns i p l e = slice_get_read ns (length ns) i p refl l e
 
+pub before_all : (ns : List ℕ) (ts : List Token) (i : ℕ) → length ns ≤ i → (at : ℕ) → IsRepeated ns ts at → IsBefore ns ts i at
+before_all ns ts i h at f = let l = slice_get_within ns f.later f.number f.second in record { fault = f; within = omega (arith, l, h) }
+
 pub all_read : (ns : List ℕ) (ts : List Token) (keys : List ℕ) (i : ℕ) (least : Option ℕ) → length ns ≤ i → IsRead ns ts keys i least → IsLeast (IsRepeated ns ts) least
-all_read ns ts keys i least h r = alike (IsBefore ns ts i) (IsRepeated ns ts) (λ at f. f.fault) back least r.told
-  where
-    back : (at : ℕ) → IsRepeated ns ts at → IsBefore ns ts i at
-    back at f = let l = slice_get_within ns f.later f.number f.second in record { fault = f; within = omega (arith, l, h) }
+all_read ns ts keys i least h r = alike (IsBefore ns ts i) (IsRepeated ns ts) (λ at f. f.fault) (before_all ns ts i h) least r.told

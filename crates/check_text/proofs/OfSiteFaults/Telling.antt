@@ -129,36 +129,36 @@ module _ (read : Leaf → Token) (rs : List S.Rule) (P : S.Rule → Site → ℕ
 
 -- The sites that were found are those of the text.
 module _ (stand : FoundStand) (every : AllFound) (read : Leaf → Token) (tree : S.Cddl) (P : S.Rule → Site → ℕ → Type 0) where
-  told_in : (given : Option Text) (fs : List Found) → map (view_found read) fs ≡ all_sites (rules_of tree) → (o : Option ℕ) → IsLeast (Among read (rules_of tree) P fs) o → IsLeast (IsTold (record { tree = tree; given = given }) P) o
-  told_in given fs e o h = alike (Among read (rules_of tree) P fs) (IsTold (record { tree = tree; given = given }) P) to from o h
-    where
-      to : (p : ℕ) → Among read (rules_of tree) P fs p → IsTold (record { tree = tree; given = given }) P p
-      to p k =
-          let it = stand read (rules_of tree) fs e k.one k.present in
-          let same = one_of (slice_get (rules_of tree) k.one.rule) it.rule k.told.rule it.place k.told.place in
-          record {
-            rule = k.told.rule;
-            site = view_site read k.one.site;
-            found = record {
-              rule = contained (rules_of tree) k.one.rule k.told.rule k.told.place;
-              site = subst (λ (r : S.Rule). Contains (sites r) (view_site read k.one.site)) same it.contained;
-            };
-            told = k.told.told;
-          }
+  pub told_there : (given : Option Text) (fs : List Found) → map (view_found read) fs ≡ all_sites (rules_of tree) → (p : ℕ) → Among read (rules_of tree) P fs p → IsTold (record { tree = tree; given = given }) P p
+  told_there given fs e p k =
+      let it = stand read (rules_of tree) fs e k.one k.present in
+      let same = one_of (slice_get (rules_of tree) k.one.rule) it.rule k.told.rule it.place k.told.place in
+      record {
+        rule = k.told.rule;
+        site = view_site read k.one.site;
+        found = record {
+          rule = contained (rules_of tree) k.one.rule k.told.rule k.told.place;
+          site = subst (λ (r : S.Rule). Contains (sites r) (view_site read k.one.site)) same it.contained;
+        };
+        told = k.told.told;
+      }
 
-      from : (p : ℕ) → IsTold (record { tree = tree; given = given }) P p → Among read (rules_of tree) P fs p
-      from p k =
-          let place = place_of (rules_of tree) k.rule k.found.rule in
-          let it = every read (rules_of tree) fs e place.0 k.rule k.site place.1 k.found.site in
-          record {
-            one = it.found;
-            present = it.contained;
-            told = record {
-              rule = k.rule;
-              place = subst (λ n. slice_get (rules_of tree) n ≡ Some k.rule) (sym it.place) place.1;
-              told = subst (λ q. P k.rule q p) (sym it.same) k.told;
-            };
-          }
+  pub there_told : (given : Option Text) (fs : List Found) → map (view_found read) fs ≡ all_sites (rules_of tree) → (p : ℕ) → IsTold (record { tree = tree; given = given }) P p → Among read (rules_of tree) P fs p
+  there_told given fs e p k =
+      let place = place_of (rules_of tree) k.rule k.found.rule in
+      let it = every read (rules_of tree) fs e place.0 k.rule k.site place.1 k.found.site in
+      record {
+        one = it.found;
+        present = it.contained;
+        told = record {
+          rule = k.rule;
+          place = subst (λ n. slice_get (rules_of tree) n ≡ Some k.rule) (sym it.place) place.1;
+          told = subst (λ q. P k.rule q p) (sym it.same) k.told;
+        };
+      }
+
+  told_in : (given : Option Text) (fs : List Found) → map (view_found read) fs ≡ all_sites (rules_of tree) → (o : Option ℕ) → IsLeast (Among read (rules_of tree) P fs) o → IsLeast (IsTold (record { tree = tree; given = given }) P) o
+  told_in given fs e o h = alike (Among read (rules_of tree) P fs) (IsTold (record { tree = tree; given = given }) P) (told_there given fs e) (there_told given fs e) o h
 
   pub told : (s : Specification) → s.tree ≡ tree → (fs : List Found) → map (view_found read) fs ≡ all_sites (rules_of tree) → (o : Option ℕ) → IsLeast (Among read (rules_of tree) P fs) o → IsLeast (IsTold s P) o
   told s e fs f o h = subst (λ (t : S.Cddl). IsLeast (IsTold (record { tree = t; given = s.given }) P) o) (sym e) (told_in s.given fs f o h)

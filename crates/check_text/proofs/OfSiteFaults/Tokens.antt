@@ -15,7 +15,7 @@ told_here B start b = ((b, refl), λ p h. subst (λ q. start ≤ q) (sym h.1) (l
 pub told_nowhere : (B : Type 0) (start : ℕ) → (B → ⊥) → IsLeast (λ at. B × (at ≡ start)) None
 told_nowhere B start b = λ p h. b h.0
 
-bad_hash_from : (s : Specification) (r : S.Rule) (q : Site) (p : ℕ) → HasSite s r q → IsBadHashAt q p → HasBadHash s p
+pub bad_hash_from : (s : Specification) (r : S.Rule) (q : Site) (p : ℕ) → HasSite s r q → IsBadHashAt q p → HasBadHash s p
 bad_hash_from s r (a_name b f) p h k = absurd k
 bad_hash_from s r (an_unwrapping b t f) p h k = absurd k
 bad_hash_from s r (a_choice_of t g) p h k = absurd k
@@ -28,7 +28,7 @@ bad_hash_from s r (a_map t g) p h k = absurd k
 pub bad_hashes : (s : Specification) (o : Option ℕ) → IsLeast (IsTold s (λ r. IsBadHashAt)) o → IsLeast (HasBadHash s) o
 bad_hashes s o h = alike (IsTold s (λ r. IsBadHashAt)) (HasBadHash s) (λ p k. bad_hash_from s k.rule k.site p k.found k.told) (λ p k. record { rule = k.rule; site = a_hash k.token; found = k.found; told = (k.bad, k.offset) }) o h
 
-unknown_from : (s : Specification) (r : S.Rule) (q : Site) (p : ℕ) → HasSite s r q → IsUnknownControlAt q p → HasUnknownControl s p
+pub unknown_from : (s : Specification) (r : S.Rule) (q : Site) (p : ℕ) → HasSite s r q → IsUnknownControlAt q p → HasUnknownControl s p
 unknown_from s r (a_name b f) p h k = absurd k
 unknown_from s r (an_unwrapping b t f) p h k = absurd k
 unknown_from s r (a_choice_of t g) p h k = absurd k

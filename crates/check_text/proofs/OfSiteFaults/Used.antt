@@ -98,7 +98,7 @@ module _ (t : Table) (tree : Tree) (s : Survey) (ms : List Mark) (is : IsRead t 
 
 -- in all of a text
 
-undefined_from : (s : Specification) (r : S.Rule) (q : Site) (p : ℕ) → HasSite s r q → (w : Option S.Ref) → ref_at_site q ≡ w → OfRef (IsUndefinedName (definitions s) r) w p → IsUndefined s p
+pub undefined_from : (s : Specification) (r : S.Rule) (q : Site) (p : ℕ) → HasSite s r q → (w : Option S.Ref) → ref_at_site q ≡ w → OfRef (IsUndefinedName (definitions s) r) w p → IsUndefined s p
 undefined_from s r q p h None e k = absurd k
 undefined_from s r q p h (Some f) e k = record { rule = r; ref = f; found = record { at = q; found = h; name = e }; no_parameter = k.0.0; no_socket = k.0.1; no_definition = k.0.2; offset = k.1 }
 
@@ -120,21 +120,21 @@ arity_of s r f p h at true e k c w = by_parameter h e (λ z. other_count 0 (leng
 arity_of s r f p h at false e None c w = absurd (true≢false (sym w))
 arity_of s r f p h at false e (Some k) c w = by_name h e c (other_count k (length (arguments f)) w) at
 
-arity_from : (s : Specification) (r : S.Rule) (q : Site) (p : ℕ) → HasSite s r q → (w : Option S.Ref) → ref_at_site q ≡ w → OfRef (λ f. is_other_than (count_wanted (definitions s) r f) (length (arguments f)) ≡ true) w p → HasWrongArityAtName s p
+pub arity_from : (s : Specification) (r : S.Rule) (q : Site) (p : ℕ) → HasSite s r q → (w : Option S.Ref) → ref_at_site q ≡ w → OfRef (λ f. is_other_than (count_wanted (definitions s) r f) (length (arguments f)) ≡ true) w p → HasWrongArityAtName s p
 arity_from s r q p h None e k = absurd k
 arity_from s r q p h (Some f) e k = arity_of s r f p (record { at = q; found = h; name = e }) k.1 (is_parameter r (ref_name f)) refl (parameter_count (definitions s) (ref_name f)) refl k.0
 
 told_name : (s : Specification) (r : S.Rule) (f : S.Ref) (p : ℕ) → HasName s r f → p ≡ (ref_token f).start → is_other_than (count_wanted (definitions s) r f) (length (arguments f)) ≡ true → IsTold s (IsWrongArityAt (definitions s)) p
 told_name s r f p h at w = record { rule = r; site = h.at; found = h.found; told = subst (λ (x : Option S.Ref). OfRef (λ g. is_other_than (count_wanted (definitions s) r g) (length (arguments g)) ≡ true) x p) (sym h.name) (w, at) }
 
-arity_to : (s : Specification) (p : ℕ) → HasWrongArityAtName s p → IsTold s (IsWrongArityAt (definitions s)) p
+pub arity_to : (s : Specification) (p : ℕ) → HasWrongArityAtName s p → IsTold s (IsWrongArityAt (definitions s)) p
 arity_to s p (by_name {r = r} {f = f} {k = k} h e c w at) = told_name s r f p h at ((λ i. is_other_than (if e i then Some 0 else c i) (length (arguments f))) ∙ count_other k (length (arguments f)) w)
 arity_to s p (by_parameter {r = r} {f = f} h e w at) = told_name s r f p h at ((λ i. is_other_than (if e i then Some 0 else parameter_count (definitions s) (ref_name f)) (length (arguments f))) ∙ count_other 0 (length (arguments f)) (λ z. w (no_arguments (arguments f) z)))
 
 pub wrong_arities : (s : Specification) (tree : S.Cddl) → s.tree ≡ tree → (o : Option ℕ) → IsLeast (IsTold s (IsWrongArityAt (definitions_in (rules_of tree)))) o → IsLeast (HasWrongArityAtName s) o
 wrong_arities s tree e o h = alike (IsTold s (IsWrongArityAt (definitions s))) (HasWrongArityAtName s) (λ p k. arity_from s k.rule k.site p k.found (ref_at_site k.site) refl k.told) (arity_to s) o (subst (λ (x : S.Cddl). IsLeast (IsTold s (IsWrongArityAt (definitions_in (rules_of x)))) o) (sym e) h)
 
-kind_from : (s : Specification) (r : S.Rule) (q : Site) (p : ℕ) → HasSite s r q → IsGroupAsTypeAt (definitions s) r q p → HasGroupAsType s p
+pub kind_from : (s : Specification) (r : S.Rule) (q : Site) (p : ℕ) → HasSite s r q → IsGroupAsTypeAt (definitions s) r q p → HasGroupAsType s p
 kind_from s r (a_name true f) p h k = F.group_name h k.0 k.1
 kind_from s r (a_name false f) p h k = absurd k
 kind_from s r (an_unwrapping b t f) p h k = absurd k
@@ -145,7 +145,7 @@ kind_from s r (an_operation x o y) p h k = absurd k
 kind_from s r (an_entry e) p h k = absurd k
 kind_from s r (a_map t g) p h k = absurd k
 
-kind_to : (s : Specification) (p : ℕ) → HasGroupAsType s p → IsTold s (IsGroupAsTypeAt (definitions s)) p
+pub kind_to : (s : Specification) (p : ℕ) → HasGroupAsType s p → IsTold s (IsGroupAsTypeAt (definitions s)) p
 kind_to s p (F.group_name {r = r} {f = f} h e at) = record { rule = r; site = a_name true f; found = h; told = (e, at) }
 kind_to s p (F.type_name {r = r} {t = t} {f = f} h e at) = record { rule = r; site = a_choice_of_name t f; found = h; told = (e, at) }
 

@@ -2,6 +2,7 @@
 use Rattle.std.specs.Prelude.{◌≡◌, ◌≢◌, ℕ, ◌+◌, nat_eq, if◌then◌else◌, List, [], ◌∷◌, length, Contains, Option, Some, None, slice_get}
 use Rattle.cddl_token.specs.declared.Token.{Token}
 use Rattle.tree_nodes.specs.Syntax.Syntax as S
+use Rattle.cddl_language.specs.Terms as L
 use Rattle.cddl_language.specs.Faults.{Specification, definitions, parameter_count, rules}
 use Rattle.cddl_language.specs.Reading.{name_at, name_in, parameters_in}
 use Rattle.tree_nodes.specs.declared.tree.Leaf.{Leaf}
@@ -20,6 +21,13 @@ pub record HasWrongArityAtRule (s : Specification) (at : ℕ) : Type 0 where
   pub counted : parameter_count (definitions s) (name_in rule) ≡ Some count
   pub differs : length (parameters_in rule) ≢ count
   pub offset : at ≡ name_at rule
+
+-- the same at one rule, where the text has these definitions
+pub record HasOtherCount (ds : List L.Definition) (r : S.Rule) (at : ℕ) : Type 0 where
+  pub count : ℕ
+  pub counted : parameter_count ds (name_in r) ≡ Some count
+  pub differs : length (parameters_in r) ≢ count
+  pub offset : at ≡ name_at r
 
 -- What the code finds.
 

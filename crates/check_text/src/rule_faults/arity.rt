@@ -29,7 +29,8 @@ pub fn wrong_arity(terms: &Terms<'_>, tree: &Tree<'_>, survey: &Survey<'_>) -> O
     least
 }
 
-fn arity_at(
+// The offset of the rule of this definition, if it has another number of parameters than its name.
+pub(crate) fn arity_at(
     tree: &Tree<'_>,
     survey: &Survey<'_>,
     place: usize,

@@ -58,7 +58,7 @@ fn duplicate_at(
 }
 
 // The offset of the rule, where its definition by `=` says something else than the first one of its name.
-fn other_equals(
+pub(crate) fn other_equals(
     tree: &Tree<'_>,
     survey: &Survey<'_>,
     rule: &Rule,
@@ -149,7 +149,7 @@ fn repeated(
 }
 
 // Whether the number was not there yet.
-fn add_number(seen: &mut IndexSet<u32>, number: u32) -> Result<bool, AllocError>
+pub(crate) fn add_number(seen: &mut IndexSet<u32>, number: u32) -> Result<bool, AllocError>
     ensures added { IfOk result (λ b. b ≡ not (is_among number seen.old.keys)) }
     ensures keeps { IfOk result (λ b. (k : ℕ) → is_among k seen.new.keys ≡ (is_among k seen.old.keys || nat_eq k number)) }
 {
@@ -158,7 +158,7 @@ fn add_number(seen: &mut IndexSet<u32>, number: u32) -> Result<bool, AllocError>
 }
 
 // The offset of a parameter, unless it is a new one.
-fn start_again(tree: &Tree<'_>, rule: &Rule, place: usize, is_new: bool) -> Option<usize>
+pub(crate) fn start_again(tree: &Tree<'_>, rule: &Rule, place: usize, is_new: bool) -> Option<usize>
     ensures { result ≡ told_again is_new (slice_get (parameter_tokens (rule_head (view_rule (token_of tree.now) rule.now))) place) }
 {
     if is_new {

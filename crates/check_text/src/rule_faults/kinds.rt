@@ -27,7 +27,8 @@ pub fn kind_clash(terms: &Terms<'_>, tree: &Tree<'_>, survey: &Survey<'_>) -> Op
     least
 }
 
-fn clash_at(
+// The offset of this rule, if its definition is of another kind than its name.
+pub(crate) fn clash_at(
     terms: &Terms<'_>,
     tree: &Tree<'_>,
     survey: &Survey<'_>,

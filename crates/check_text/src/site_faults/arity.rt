@@ -45,7 +45,8 @@ pub fn wrong_arity(
     Ok(least)
 }
 
-fn wrong_arity_at(
+// The offset of the name at this site, if it has a wrong number of arguments.
+pub(crate) fn wrong_arity_at(
     terms: &Terms<'_>,
     tree: &Tree<'_>,
     survey: &Survey<'_>,

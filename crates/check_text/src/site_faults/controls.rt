@@ -32,7 +32,8 @@ pub fn unknown_control(tree: &Tree<'_>, survey: &Survey<'_>) -> Option<usize>
     least
 }
 
-fn unknown_control_at(tree: &Tree<'_>, site: Site<'_>) -> Option<usize>
+// The offset of the control at this site, if it is not known.
+pub(crate) fn unknown_control_at(tree: &Tree<'_>, site: Site<'_>) -> Option<usize>
     ensures { IsLeast (IsUnknownControlAt (view_site (token_of tree.now) site.entry)) result }
 {
     match site {

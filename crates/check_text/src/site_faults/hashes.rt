@@ -31,7 +31,8 @@ pub fn bad_hash(tree: &Tree<'_>, survey: &Survey<'_>) -> Option<usize>
     least
 }
 
-fn bad_hash_at(tree: &Tree<'_>, site: Site<'_>) -> Option<usize>
+// The offset of the `#` at this site, if it stands for nothing.
+pub(crate) fn bad_hash_at(tree: &Tree<'_>, site: Site<'_>) -> Option<usize>
     ensures { IsLeast (IsBadHashAt (view_site (token_of tree.now) site.entry)) result }
 {
     match site {

@@ -47,7 +47,8 @@ pub fn group_as_type(
     Ok(least)
 }
 
-fn group_as_type_at(
+// The offset of the name at this site, if it is of a kind that it may not be of.
+pub(crate) fn group_as_type_at(
     terms: &Terms<'_>,
     tree: &Tree<'_>,
     survey: &Survey<'_>,

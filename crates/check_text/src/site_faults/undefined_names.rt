@@ -46,7 +46,8 @@ pub fn undefined(
     Ok(least)
 }
 
-fn undefined_at(
+// The offset of the name at this site, if nothing defines it.
+pub(crate) fn undefined_at(
     terms: &Terms<'_>,
     tree: &Tree<'_>,
     survey: &Survey<'_>,

@@ -1,0 +1,4 @@
+pub mod Codes
+pub mod Offsets
+pub mod Rules
+pub mod Sites
