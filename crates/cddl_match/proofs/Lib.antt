@@ -1,3 +1,4 @@
+pub mod Lemmas
 mod Held
 mod Turns
 mod Decides

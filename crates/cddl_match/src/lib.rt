@@ -26,4 +26,5 @@ pub use crate::laws::{
     turns_answer_alike, turns_are_few,
 };
 pub use crate::machine::Machine;
-pub use crate::shelf::Cells;
+pub use crate::shelf::{Cells, Shelf};
+pub use crate::stack::held_on;

@@ -21,7 +21,7 @@ pub struct Cells {
 
 /// Cells, and how many of them are filled.
 #[derive(Drop)]
-pub(crate) struct Shelf<'i> {
+pub struct Shelf<'i> {
     pub(crate) alloc: Global,
     cells: &'i Cells,
     filled: usize,
@@ -74,8 +74,8 @@ fn put(cell: &OnceBox<Item>, item: Box<Item>) -> Option<&Item>
 }
 
 impl<'i> Shelf<'i> {
-    // No cell is filled yet.
-    pub(crate) fn new(alloc: Global, cells: &'i Cells) -> Shelf<'i> {
+    /// No cell is filled yet.
+    pub fn new(alloc: Global, cells: &'i Cells) -> Shelf<'i> {
         Shelf {
             alloc,
             cells,

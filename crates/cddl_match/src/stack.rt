@@ -261,13 +261,13 @@ fn ask<'t, 'i>(
     Turned::GoesOn
 }
 
-// What a byte string holds, if it holds something. A string that is all it holds stays where it is, and else that is put on
-// the shelf.
-//
-// # Errors
-//
-// `AllocError` where there is no memory for it.
-fn held_on<'i>(
+/// What a byte string holds, if it holds something. A string that is all it holds stays where it is, and else that is put on
+/// the shelf.
+///
+/// # Errors
+///
+/// `AllocError` where there is no memory for it.
+pub fn held_on<'i>(
     shelf: &mut Shelf<'i>,
     reading: Reading<'i>,
 ) -> Result<Option<Subject<'i>>, AllocError>
