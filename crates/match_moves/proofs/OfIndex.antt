@@ -1,6 +1,7 @@
 -- Where an index stands on entries that a pair does not pass over.
-use Rattle.std.proofs.Common.{◌≡◌, ℕ, zero, suc, ◌+◌, ◌<◌, ◌≤◌, List, [], ◌∷◌, map, length, slice_index_or, Option, Some, None, Bool, true, false, not, ◌==◌, All, Contains, IsSorted, refl, sym, ap, ap₂, ◌∙◌, subst, arith, ◌⊎◌, inl, inr, ⊎_elim}
+use Rattle.std.proofs.Common.{◌≡◌, ℕ, zero, suc, ◌+◌, ◌<◌, ◌≤◌, List, [], ◌∷◌, map, length, slice_index_or, Option, Some, None, Bool, true, false, leb, not, ◌==◌, All, Contains, IsSorted, refl, sym, ap, ap₂, ◌∙◌, subst, arith, ◌⊎◌, inl, inr, ⊎_elim}
 use Rattle.std.specs.Cmp.{IsTotalOrder}
+use Rattle.std.specs.Cmp.Lexicographic.{slice_cmp}
 use Rattle.std.specs.List.Sorted.{IsNonDecreasingBy, IsPartitionPoint, IsPermutation}
 use Rattle.std.specs.Ordering.{is_eq, is_lt, nat_cmp, on, ordering_index, ordering_reverse, ordering_then}
 use Rattle.std.specs.declared.cmp.Ordering.{Ordering}
@@ -8,8 +9,8 @@ use Rattle.std.specs.declared.cmp.Ordering.TheVariants.{Equal, Greater, Less}
 use Rattle.std.proofs.lemmas.Cmp.{nat_cmp_total, nat_list_cmp_total, on_total, ranked, then_total, tied_itself}
 use Rattle.std.proofs.lemmas.List.{get_or-map, get_or_default, length-map}
 use Rattle.std.proofs.lemmas.List.Elements.{All-cons, All-nil}
-use Rattle.std.proofs.lemmas.List.Sorted.{All-permutation, Contains-permutation, IsPermutation-map, length_permutation, ranks_by, searchable_from_sorted, sorted_far}
-use Rattle.std.proofs.lemmas.Bool.Decides.{nat_tests}
+use Rattle.std.proofs.lemmas.List.Sorted.{All-permutation, Contains-permutation, IsPermutation-map, IsPermutation-sym, length_permutation, ranks_by, searchable_from_sorted, sorted_far}
+use Rattle.std.proofs.lemmas.Bool.Decides.{leb_tells, nat_tests}
 use Rattle.lists.proofs.Lemmas.{both}
 use Rattle.cbor_data.specs.Same.{same_list, same_value}
 use Rattle.cbor_data.specs.Value.{Value, uint, nint, bytes, text, array, pairs, tag, simple, float}
@@ -17,6 +18,30 @@ use Rattle.cddl_meaning.specs.Forms as F
 use Rattle.cddl_meaning.specs.Forms.{by_forms, is_other, is_passed_over, key_in, most_forms}
 use Rattle.match_moves.specs.Index.{IsNextAsked, IsNextOf, kind_of, literal_of, literal_view, number_of, numbered_from, ordered, place_cmp, place_view, string_of, value_cmp}
 use Rattle.match_moves.specs.declared.index.Literal.{Literal}
+use Rattle.match_moves.specs.declared.index.Literal.TheVariants as L
+
+-- Literals of which neither comes first stand for one value.
+tied_numbers : (m n : ℕ) → nat_cmp m n ≡ Equal → m ≡ n
+tied_numbers m n e = ranked m n Equal (sym e)
+
+both_tied : (o r : Ordering) → ordering_then o r ≡ Equal → (o ≡ Equal) × (r ≡ Equal)
+both_tied Less r e = absurd (cc e)
+both_tied Equal r e = (refl, e)
+both_tied Greater r e = absurd (cc e)
+
+tied_lists : (s t : List ℕ) → slice_cmp nat_cmp s t ≡ Equal → s ≡ t
+tied_lists [] [] e = refl
+tied_lists (x ∷ s) (y ∷ t) e = let b = both_tied (nat_cmp x y) (slice_cmp nat_cmp s t) e in ap₂ (λ a r. a ∷ r) (tied_numbers x y b.0) (tied_lists s t b.1)
+tied_lists [] (y ∷ t) e = absurd (cc e)
+tied_lists (x ∷ s) [] e = absurd (cc e)
+
+tied_values : (x y : Literal) → value_cmp (literal_view x) (literal_view y) ≡ Equal → literal_view x ≡ literal_view y
+tied_values L.Other L.Other e = refl
+tied_values (L.Uint m) (L.Uint n) e = ap (λ k. Some (uint k)) (tied_numbers m n (both_tied (nat_cmp m n) Equal e).0)
+tied_values (L.Nint m) (L.Nint n) e = ap (λ k. Some (nint k)) (tied_numbers m n (both_tied (nat_cmp m n) Equal e).0)
+tied_values (L.Bytes s) (L.Bytes t) e = ap (λ r. Some (bytes r)) (tied_lists s.now t.now e)
+tied_values (L.Text s) (L.Text t) e = ap (λ r. Some (text r)) (tied_lists s.now t.now e)
+tied_values _ _ e = absurd (cc e)
 
 value_total : IsTotalOrder value_cmp
 value_total = then_total (on_total kind_of nat_cmp_total) (then_total (on_total number_of nat_cmp_total) (on_total string_of nat_list_cmp_total))
@@ -88,6 +113,7 @@ module _ (xs : List (Literal × ℕ)) (t : Literal × ℕ) (at : ℕ) (rise : Is
         on = omega (arith, greater y.1 t.1 (sym (ap (λ o. ordering_then o (nat_cmp y.1 t.1)) e) ∙ high));
         within = omega (arith, small, length-map xs place_view);
         least = λ p from c. subst (λ z. z.1 ≤ p) (is y) ((behind p from c).1 y).1;
+        there = inr (at, omega (arith, inside, length-map xs place_view), get_or-map place_view xs at y (literal_view t.0, y.1) inside ∙ ap place_view (is y) ∙ ap (λ v. (v, y.1)) (tied_values y.0 t.0 e));
       }
 
   -- It has not, or there is none: there is no such place.
@@ -96,10 +122,21 @@ module _ (xs : List (Literal × ℕ)) (t : Literal × ℕ) (at : ℕ) (rise : Is
     on = small;
     within = omega (arith, length-map xs place_view);
     least = λ p from c. (let b = behind p from c in absurd (h b.0 (λ d. (b.1 d).0)));
+    there = inl (sym (length-map xs place_view));
   }
 
-pub itself_found : (v : Option Value) (places : List (Option Value × ℕ)) (from : ℕ) → from ≤ length places → IsNextOf v places from from
-itself_found v places from h = record { on = omega arith; within = h; least = λ p f c. f }
+-- The search has found the literal at the position itself.
+pub itself_found : (xs : List (Literal × ℕ)) (t : Literal × ℕ) (k : ℕ) → t.1 ≤ length xs → k < length xs → place_cmp (slice_index_or xs k t) t ≡ Equal → IsNextOf (literal_view t.0) (map place_view xs) t.1 t.1
+itself_found xs t k small inside e =
+    let y = slice_index_or xs k t in
+    let tied = both_tied (value_cmp (literal_view y.0) (literal_view t.0)) (nat_cmp y.1 t.1) e in
+    let here : place_view y ≡ (literal_view t.0, t.1) = ap₂ (λ v j. (v, j)) (tied_values y.0 t.0 tied.0) (tied_numbers y.1 t.1 tied.1) in
+    record {
+      on = omega arith;
+      within = omega (arith, small, length-map xs place_view);
+      least = λ p f c. f;
+      there = inr (k, omega (arith, inside, length-map xs place_view), get_or-map place_view xs k t (literal_view t.0, t.1) inside ∙ here);
+    }
 
 -- What is known of an entry stands in the list, with its position.
 numbered_has : {N G : Type 0} (type_at : N → F.Node N G) (n : ℕ) (es : List (F.MapEntry N)) (i : ℕ) (e : F.MapEntry N) → i < length es → slice_index_or es i e ≡ e → Contains (numbered_from type_at n es) (literal_of type_at e, n + i)
@@ -113,6 +150,21 @@ numbered_has type_at n (x ∷ es) (suc i) e h is =
 numbered_length : {N G : Type 0} (type_at : N → F.Node N G) (n : ℕ) (es : List (F.MapEntry N)) → length (numbered_from type_at n es) ≡ length es
 numbered_length type_at n [] = refl
 numbered_length type_at n (e ∷ es) = ap suc (numbered_length type_at (suc n) es)
+
+numbered_at : {N G : Type 0} (type_at : N → F.Node N G) (n : ℕ) (es : List (F.MapEntry N)) (k : ℕ) (d : Option Value × ℕ) (e : F.MapEntry N) → k < length es → slice_index_or (numbered_from type_at n es) k d ≡ (literal_of type_at (slice_index_or es k e), n + k)
+numbered_at type_at n [] k d e h = absurd (omega (arith, h))
+numbered_at type_at n (x ∷ es) zero d e h = ap (λ j. (literal_of type_at x, j)) (omega arith)
+numbered_at type_at n (x ∷ es) (suc k) d e h =
+    let on : suc n + k ≡ n + suc k = omega arith in
+    numbered_at type_at (suc n) es k d e (omega (arith, h)) ∙ ap (λ j. (literal_of type_at (slice_index_or es k e), j)) on
+
+-- What stands there with a position is known of the entry at it.
+numbered_tells : {N G : Type 0} (type_at : N → F.Node N G) (n : ℕ) (es : List (F.MapEntry N)) (v : Option Value) (i : ℕ) (e : F.MapEntry N) → Contains (numbered_from type_at n es) (v, n + i) → slice_index_or es i e ≡ e → literal_of type_at e ≡ v
+numbered_tells type_at n es v i e c is =
+    let inside : c.0 < length es = omega (arith, c.1, numbered_length type_at n es) in
+    let same : (literal_of type_at (slice_index_or es c.0 e), n + c.0) ≡ (v, n + i) = sym (numbered_at type_at n es c.0 (v, n + i) e inside) ∙ c.2 in
+    let place : i ≡ c.0 = omega (arith, ap (λ x. x.1) same) in
+    ap (literal_of type_at) (sym is ∙ ap (λ j. slice_index_or es j e) place) ∙ ap (λ x. x.0) same
 
 number : (m n : ℕ) → (m == n) ≡ true → m ≡ n
 number m n e = grind (arith, nat_tests)
@@ -155,12 +207,23 @@ module _ {N G : Type 0} (type_at : N → F.Node N G) (k : Value) (es : List (F.M
   in_place : (i : ℕ) (e : F.MapEntry N) → i < length es → slice_index_or es i e ≡ e → Contains places (literal_of type_at e, i)
   in_place i e h is = Contains-permutation (numbered_from type_at 0 es) places (literal_of type_at e, i) moved (subst (λ j. Contains (numbered_from type_at 0 es) (literal_of type_at e, j)) (zero_before i) (numbered_has type_at 0 es i e h is))
 
-  -- Up to the next entry with the key's literal, and the next without one, all are passed over.
-  pub next_is : (from next some other : ℕ) → IsNextOf (ordered (Some k)) places from some → IsNextOf None places from other → from ≤ next → next ≤ some → next ≤ other → IsNextAsked type_at k es from next
-  next_is from next some other s o on a b = record {
+  at_place : (i : ℕ) (v : Option Value) (e : F.MapEntry N) → Contains places (v, i) → slice_index_or es i e ≡ e → literal_of type_at e ≡ v
+  at_place i v e c is = numbered_tells type_at 0 es v i e (subst (λ j. Contains (numbered_from type_at 0 es) (v, j)) (sym (zero_before i)) (Contains-permutation places (numbered_from type_at 0 es) (v, i) (IsPermutation-sym (numbered_from type_at 0 es) places moved) c)) is
+
+  -- What stands at a place that is found, if that is of an entry.
+  stands : (i : ℕ) (v : Option Value) (from : ℕ) → IsNextOf v places from i → i < length es → (e : F.MapEntry N) → slice_index_or es i e ≡ e → literal_of type_at e ≡ v
+  stands i v from n f e is = ⊎_elim (λ (l : i ≡ length places). absurd (omega (arith, l, f, as_many type_at es places moved))) (λ (c : Contains places (v, i)). at_place i v e c is) n.there
+
+  -- Up to the next entry with the key's literal, and the next without one, all are passed over; and the first of these is next.
+  pub next_is : (from next some other : ℕ) → IsNextOf (ordered (Some k)) places from some → IsNextOf None places from other → from ≤ next → next ≤ some → next ≤ other → (some ≤ other → next ≡ some) → (other < some → next ≡ other) → IsNextAsked type_at k es from next
+  next_is from next some other s o on a b first second = record {
     on = on;
     within = omega (arith, a, s.within, as_many type_at es places moved);
     passed = λ i e f l is. by i e f l is (is_passed_over (by_forms type_at) e.key_type k) refl;
+    may = λ e f is. ⊎_elim
+        (λ (h : (leb some other ≡ true) × (some ≤ other)). inr (stands next (ordered (Some k)) from (subst (IsNextOf (ordered (Some k)) places from) (sym (first h.1)) s) f e is))
+        (λ (h : (leb some other ≡ false) × (other < some)). inl (stands next None from (subst (IsNextOf None places from) (sym (second h.1)) o) f e is))
+        (leb_tells some other);
   }
     where
       by : (i : ℕ) (e : F.MapEntry N) → from ≤ i → i < next → slice_index_or es i e ≡ e → (b : Bool) → is_passed_over (by_forms type_at) e.key_type k ≡ b → b ≡ true

@@ -1,5 +1,5 @@
 -- Entries of an alternative in the order of the literals that their keys are known to be.
-use Rattle.std.specs.Prelude.{◌≡◌, ℕ, suc, ◌<◌, ◌≤◌, List, [], ◌∷◌, length, slice_index_or, Option, Some, None, true}
+use Rattle.std.specs.Prelude.{◌≡◌, ◌⊎◌, ℕ, suc, ◌<◌, ◌≤◌, List, [], ◌∷◌, length, slice_index_or, Option, Some, None, true}
 use Rattle.std.specs.Cmp.Lexicographic.{slice_cmp}
 use Rattle.std.specs.List.{Contains}
 use Rattle.std.specs.Ordering.{nat_cmp, on, then_cmp}
@@ -65,14 +65,17 @@ module _ {N G : Type 0} (type_at : N → F.Node N G) where
   numbered_from n [] = []
   numbered_from n (e ∷ es) = (literal_of e, n) ∷ numbered_from (suc n) es
 
-  -- From a position on, the entries before another are passed over by a pair with this key.
+  -- From a position on, the entries before another are passed over by a pair with this key. The key of that one, if there is one,
+  -- is known to be ordered as this key, or is not known to be one by which keys are ordered.
   pub record IsNextAsked (k : Value) (es : List (F.MapEntry N)) (from next : ℕ) : Type 0 where
     pub on : from ≤ next
     pub within : next ≤ length es
     pub passed : (i : ℕ) (e : F.MapEntry N) → from ≤ i → i < next → slice_index_or es i e ≡ e → is_passed_over (by_forms type_at) e.key_type k ≡ true
+    pub may : (e : F.MapEntry N) → next < length es → slice_index_or es next e ≡ e → (literal_of e ≡ None) ⊎ (literal_of e ≡ ordered (Some k))
 
 -- the least position from one on at which the literal stands in a list, or else so many
 pub record IsNextOf (v : Option Value) (places : List (Option Value × ℕ)) (from next : ℕ) : Type 0 where
   pub on : from ≤ next
   pub within : next ≤ length places
   pub least : (p : ℕ) → from ≤ p → Contains places (v, p) → next ≤ p
+  pub there : (next ≡ length places) ⊎ Contains places (v, next)

@@ -4,9 +4,19 @@ use Rattle.std.specs.Ordering.{is_eq, nat_cmp, ordering_then}
 use Rattle.std.specs.declared.cmp.Ordering.TheVariants.{Equal}
 use Rattle.match_moves.specs.Index.{literal_view, place_view, value_cmp}
 use Rattle.match_moves.specs.declared.index.Literal.{Literal}
-use Rattle.match_moves.proofs.OfIndex.{are_equal, found, not_found, point_of}
+use Rattle.match_moves.proofs.OfIndex.{are_equal, found, itself_found, not_found, point_of}
 use Rattle.match_moves.proofs.index.KeyIndex.next_of.Goals as goal
 use Rattle.match_moves.proofs.index.KeyIndex.next_of.Goals.{in_default-via-in-Some+else-is_eq, in_default-via-in_default}
+
+pub returns-in-Ok : goal.returns-in-Ok
+returns-in-Ok c few =
+    let xs = c.args.self.now.places.items in
+    let t : Literal × ℕ = (c.args.literal, c.args.from) in
+    let law = c.literals_are_ordered.ensures in
+    let small : c.args.from ≤ length xs = omega (arith, few, length-map xs place_view) in
+    let bound = rw (c.in-Ok.is, c.deref.ensures.value) at c.binary_search.ensures.bound in
+    let equal = rw (c.in-Ok.is, c.deref.ensures.value) at c.binary_search.ensures.ok in
+    itself_found xs t c.in-Ok.field-0 small bound (sym (ap (λ o. ordering_then o (nat_cmp (slice_index_or xs c.in-Ok.field-0 t).1 c.args.from)) (law (slice_index_or xs c.in-Ok.field-0 t).0 c.args.literal)) ∙ equal t)
 
 pub returns-in-Some : goal.returns-in-Some
 returns-in-Some c small =
