@@ -47,10 +47,10 @@ module _ (read : Leaf → Token) where
       let s = last_split (out-Types t).others.items x is in
       let first = S.only (view_type1 read (out-Types t).first) in
       let whole : view_types read t ≡ S.or (with_types first (map (view_further read) s.0)) (view_further read x).0 (view_further read x).1 =
-            view_out-Types read t
-            ∙ ap (λ xs. with_types first (map (view_further read) xs)) s.1
-            ∙ ap (with_types first) (map-append (view_further read) s.0 (x ∷ []))
-            ∙ with_last first (map (view_further read) s.0) (view_further read x) in
+      view_out-Types read t
+      ∙ ap (λ xs. with_types first (map (view_further read) xs)) s.1
+      ∙ ap (with_types first) (map-append (view_further read) s.0 (x ∷ []))
+      ∙ with_last first (map (view_further read) s.0) (view_further read x) in
       subst (λ (z : S.Types). EndsAt (S.flat_types z) at) (sym whole)
       (behind (S.flat_types (with_types first (map (view_further read) s.0)))
       (behind_one (Slash, (view_further read x).0)

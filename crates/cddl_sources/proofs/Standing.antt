@@ -52,10 +52,10 @@ module _ (s : Sense) (table : Made) (x : Sources) (k : AreSources s table x) whe
           let w = k.are_meanings i q f in
           let c = call_number k.terms w.0.call q w.2 in
           let numbers : slice_get x.numbers.items i ≡ Some (Some c.0) =
-                ap (λ (ns : List (Option ℕ)). slice_get ns i) k.made.numbers
-                ∙ slice_get-map (name_number k.terms.rows) k.meanings i
-                ∙ ap (option_map (name_number k.terms.rows)) w.1
-                ∙ ap Some c.1 in
+          ap (λ (ns : List (Option ℕ)). slice_get ns i) k.made.numbers
+          ∙ slice_get-map (name_number k.terms.rows) k.meanings i
+          ∙ ap (option_map (name_number k.terms.rows)) w.1
+          ∙ ap Some c.1 in
           (c.0, ap (number_in x.numbers.items) (ap (λ os. slice_get os m.number) k.made.origins ∙ e) ∙ ap flattened numbers, k.made.grows.texts c.0 (name_of q) c.2)
 
   -- what has the number of a name is an instance of it
