@@ -71,6 +71,7 @@ chosen_of words task rows o taken met read = record {
   quiet = read.quiet ∙ ap is_set (sym (ap (option_and_then (λ (p : Text × List Row). first_of (codes "quiet") p.1)) met.found));
   deterministic = read.deterministic ∙ ap is_set (sym (ap (option_and_then (λ (p : Text × List Row). first_of (codes "deterministic") p.1)) met.found));
   explain = read.explain ∙ ap is_set (sym (ap (option_and_then (λ (p : Text × List Row). first_of (codes "explain") p.1)) met.found));
+  no_progress = read.no_progress ∙ ap is_set (sym (ap (option_and_then (λ (p : Text × List Row). first_of (codes "no-progress") p.1)) met.found));
 }
 
 first_code : Text → ℕ
@@ -122,6 +123,7 @@ read_of words task rows o met c =
       quiet = c.quiet ∙ ap is_set (ap (option_and_then (λ (p : Text × List Row). first_of (codes "quiet") p.1)) met.found);
       deterministic = c.deterministic ∙ ap is_set (ap (option_and_then (λ (p : Text × List Row). first_of (codes "deterministic") p.1)) met.found);
       explain = c.explain ∙ ap is_set (ap (option_and_then (λ (p : Text × List Row). first_of (codes "explain") p.1)) met.found);
+      no_progress = c.no_progress ∙ ap is_set (ap (option_and_then (λ (p : Text × List Row). first_of (codes "no-progress") p.1)) met.found);
     }
 
 pub unread : (task : Task) (rows : List Row) (u : Use) → ((o : Options) → AreRead task rows o → ⊥) → AreUnread task rows u

@@ -62,6 +62,10 @@ deterministic_rule = flag_rule (codes "deterministic")
 abbrev pub explain_rule : Rule
 explain_rule = flag_rule (codes "explain")
 
+-- `--no-progress`
+abbrev pub no_progress_rule : Rule
+no_progress_rule = flag_rule (codes "no-progress")
+
 -- a command with `SPEC`, `--root NAME` and `--explain`
 abbrev pub spec_app : App → App
 spec_app a = with_rule (with_rule (with_rule a spec_rule) root_rule) explain_rule
@@ -70,9 +74,9 @@ spec_app a = with_rule (with_rule (with_rule a spec_rule) root_rule) explain_rul
 abbrev pub stream_app : App → App
 stream_app a = with_rule (with_rule (with_rule a file_rule) depth_rule) item_bytes_rule
 
--- a command with `SPEC`, `[FILE]`, all options of these, and `--steps N`
+-- a command with `SPEC`, `[FILE]`, all options of these, `--steps N` and `--no-progress`
 abbrev pub judging_app : App → App
-judging_app a = with_rule (stream_app (spec_app a)) steps_rule
+judging_app a = with_rule (with_rule (stream_app (spec_app a)) steps_rule) no_progress_rule
 
 -- `check SPEC`, with `--root` and `--explain`
 abbrev pub check_app : App
@@ -165,6 +169,7 @@ pub record AreRead (task : Task) (rows : List Row) (o : Options) : Type 0 where
   pub quiet : o.quiet ≡ is_set (first_of (codes "quiet") rows)
   pub deterministic : o.deterministic ≡ is_set (first_of (codes "deterministic") rows)
   pub explain : o.explain ≡ is_set (first_of (codes "explain") rows)
+  pub no_progress : o.no_progress ≡ is_set (first_of (codes "no-progress") rows)
 
 abbrev pub AreUnread : Task → List Row → Use → Type 0
 AreUnread task rows (Words e) = (o : Options) → AreRead task rows o → ⊥
@@ -184,6 +189,7 @@ pub record AreChosen (o : Options) (words : List Text) : Type 0 where
   pub quiet : o.quiet ≡ is_set (given_text (codes "quiet") words)
   pub deterministic : o.deterministic ≡ is_set (given_text (codes "deterministic") words)
   pub explain : o.explain ≡ is_set (given_text (codes "explain") words)
+  pub no_progress : o.no_progress ≡ is_set (given_text (codes "no-progress") words)
 
 -- Where the words are refused they give no options.
 abbrev pub IsMisuse : List Text → Use → Type 0

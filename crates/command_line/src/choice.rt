@@ -55,6 +55,8 @@ pub struct Options {
     pub deterministic: bool,
     /// Whether more is told of a refusal than its line.
     pub explain: bool,
+    /// Whether no progress is shown.
+    pub no_progress: bool,
     pub ghost depth_in_range: { (1 ≤ depth) × (depth ≤ 256) },
     pub ghost item_bytes_in_range: { (1 ≤ item_bytes) × (item_bytes ≤ MOST_ITEM_BYTES) },
 }

@@ -85,7 +85,7 @@ Exit status:
 /// Reads the words of the command line, the program's name first: `check SPEC`, `validate SPEC [FILE]`,
 /// `rewrite SPEC [FILE]`, `show [FILE]` or `explain CODE`; where there is a SPEC with `--root NAME` and `--explain`; where there is a stream with
 /// `--depth N`, from 1 to [`MOST_DEPTH`], and `--item-bytes N`, from 1 to [`MOST_ITEM_BYTES`]; where there are both with
-/// `--steps N`, from 1; `validate` with `--quiet`, and `rewrite` with `--deterministic`. The defaults are [`MOST_DEPTH`],
+/// `--steps N`, from 1, and `--no-progress`; `validate` with `--quiet`, and `rewrite` with `--deterministic`. The defaults are [`MOST_DEPTH`],
 /// [`ITEM_BYTES`] and [`STEPS`], also where a command has no such option.
 ///
 /// # Errors
@@ -195,6 +195,7 @@ fn options_of(alloc: Global, task: Task, given: &ArgMatches<'_>) -> Result<Optio
         quiet: is_given(given, "quiet"),
         deterministic: is_given(given, "deterministic"),
         explain: is_given(given, "explain"),
+        no_progress: is_given(given, "no-progress"),
     })
 }
 
@@ -347,13 +348,19 @@ fn with_code<'a>(alloc: Global, command: Command<'a>) -> Result<Command<'a>, All
     command.arg(code_arg(alloc))
 }
 
-// The command with what is taken with a specification and a stream, and the steps.
+// The command with what is taken with a specification and a stream, the steps, and whether no progress is shown.
 fn with_judgement<'a>(alloc: Global, command: Command<'a>) -> Result<Command<'a>, AllocError>
     requires { (out-Command command).has_globals ≡ false }
     ensures app { IfOk result (λ c. app_of c ≡ judging_app (app_of command.entry)) }
     ensures local { IfOk result (λ c. (out-Command c).has_globals ≡ false) }
 {
-    with_stream(alloc, with_specification(alloc, command)?)?.arg(steps_arg(alloc))
+    with_stream(alloc, with_specification(alloc, command)?)?
+        .arg(steps_arg(alloc))?
+        .arg(flag_arg(
+            alloc,
+            "no-progress",
+            "Shows no progress, where standard error is a terminal",
+        ))
 }
 
 // The command with what is taken with a specification: its file, the root, and whether a refusal is explained.

@@ -32,4 +32,5 @@ returns-clause-read c = record {
   quiet = c.is_given.ensures ∙ ap is_set (first_value-rows (found_of c.args.given.now) (codes "quiet"));
   deterministic = c.is_given-2.ensures ∙ ap is_set (first_value-rows (found_of c.args.given.now) (codes "deterministic"));
   explain = c.is_given-3.ensures ∙ ap is_set (first_value-rows (found_of c.args.given.now) (codes "explain"));
+  no_progress = c.is_given-4.ensures ∙ ap is_set (first_value-rows (found_of c.args.given.now) (codes "no-progress"));
 }
