@@ -11,6 +11,7 @@ ghost use Rattle.seq_run.specs.Running.{change_of};
 ghost use Rattle.command_line.specs.Lines.{memory_line};
 ghost use Rattle.cddl_tool.specs.Acting.{fault_line, limits_of, mode_of, refusal_line, report_mode_of, rewrite_mode_of, named_file, specification_of, status_for, wanted_root, wanted_word, HasNoStream, IsAcceptance, IsAnswered, IsBroken, IsExplained, IsSaid, IsTold, IsToldRefusal, IsTurnedDown};
 
+use crate::progress::{Screen, run_shown};
 use cbor_item::{Counted, Sound, write_bytes};
 use cbor_read::Limits;
 use cddl_explain::{explained_refusal, explanation, subject_of};
@@ -21,7 +22,7 @@ use command_line::{
     BROKEN, FAILED, Options, REFUSED, Task, say, say_no_memory, say_read_failed, say_unexplained,
     say_write_failed,
 };
-use seq_run::{End, Mode, RunFault, end_line, run};
+use seq_run::{End, Mode, RunFault, Unwatched, end_line};
 use std::alloc::{AllocError, Global};
 use std::io::{Read, Write};
 use table_nodes::Table;
@@ -194,7 +195,8 @@ pub fn act<R: Read, W: Write, E: Write>(
         Task::Check => accept(out, err),
         Task::Explain => explain(alloc, word_of(options), out, err),
         Task::Validate | Task::Rewrite | Task::Show => {
-            go_through(alloc, options, table, input, out, err)
+            let mut screen = Unwatched;
+            go_through(alloc, options, table, input, out, err, &mut screen)
         }
     }
 }
@@ -242,14 +244,15 @@ fn explain<W: Write, E: Write>(
     }
 }
 
-// Goes through the stream, writes what the task asks for, and answers the status.
-fn go_through<R: Read, W: Write, E: Write>(
+// Goes through the stream, writes what the task asks for, and answers the status. How far it is is shown on the screen.
+pub(crate) fn go_through<R: Read, W: Write, E: Write, P: Screen>(
     alloc: Global,
     options: &Options,
     table: &Table,
     input: &mut Counted<R>,
     out: &mut Counted<W>,
     err: &mut Counted<E>,
+    screen: &mut P,
 ) -> u8
     ensures answered { result ≢ BROKEN → IfSome (R.remaining (device_of input.old)) (λ stream.
         IsAnswered options.now (judge_of table.now options.now.steps) stream (change_of W.contents out.old out.new) (change_of E.contents err.old err.new) result) }
@@ -259,7 +262,16 @@ fn go_through<R: Read, W: Write, E: Write>(
 {
     let mode = mode_for(options);
     let limits = limits_for(options);
-    match run(alloc, table, limits, options.steps, mode, input, out) {
+    match run_shown(
+        alloc,
+        table,
+        limits,
+        options.steps,
+        mode,
+        input,
+        out,
+        screen,
+    ) {
         Ok((end, rejected)) => {
             let status = tell_end(alloc, options.task, &end, rejected.as_ref(), err);
             drop(rejected);

@@ -3,9 +3,15 @@
 
 mod acting;
 mod laws;
+mod progress;
+mod watching;
 
 pub use crate::acting::{act, ready};
 pub use crate::laws::front_tells;
+pub use crate::progress::{
+    ProgressLine, Screen, clear_line, is_due, is_progress_shown, show_progress,
+};
+pub use crate::watching::act_watched;
 pub use cddl_table::read_specification;
 pub use cddl_token::Refusal;
 pub use command_line::{
