@@ -1,0 +1,87 @@
+-- What a reason tells.
+use Rattle.std.proofs.Common.{◌≡◌, ℕ, ◌+◌, ◌<◌, ◌≤◌, List, [], ◌∷◌, ◌++◌, Contains, get_or, length, map, subst, take, append_assoc, arith, ap, sym, ◌∙◌, refl, All}
+use Rattle.std.proofs.lemmas.List.{append-nil, map-append, take_all, take_more}
+use Rattle.cddl_meaning.specs.Forms as F
+use Rattle.cddl_meaning.specs.Forms.{Language}
+use Rattle.cbor_data.specs.Value.{Value}
+use Rattle.cddl_meaning.specs.Judges.{Reply, No}
+use Rattle.cddl_meaning.specs.Moves as M
+use Rattle.cddl_meaning.specs.Moves.{Question, Pending, Answered, Replies}
+use Rattle.std.proofs.lemmas.List.Elements.{Contains-append_right}
+use Rattle.cddl_match.specs.Entering.{EndIn}
+use Rattle.cddl_match.specs.Open.{AreOpenWith, further}
+use Rattle.cddl_match.proofs.Lemmas.{comes_replies}
+use Rattle.cddl_reasons.specs.Opened.{asked_in, waits_in}
+use Rattle.cddl_reasons.specs.Told.{AreReasons, IsCause, IsCount, IsEntryOf, IsReason, string_of, strings_of, type_of, types_of}
+use Rattle.cddl_reasons.specs.declared.causes.Cause.{Cause}
+use Rattle.cddl_reasons.specs.declared.causes.Cause.TheVariants as C
+use Rattle.cddl_reasons.specs.declared.causes.Reasons.{Reasons}
+use Rattle.cddl_reasons.specs.declared.run.Open.{Open}
+use Rattle.match_moves.specs.Views.{pending_view, question_view}
+use Rattle.cddl_match.specs.Machine.{root_question}
+use Rattle.table_nodes.specs.Language.{RootSays, language_of}
+use Rattle.table_nodes.specs.declared.table.Table.{Table}
+use Rattle.table_nodes.specs.declared.nodes.GroupId.{GroupId}
+use Rattle.table_nodes.specs.declared.nodes.TypeId.{TypeId}
+
+-- An open question has the reply to which it has come.
+pub open_replies : (l : Language TypeId GroupId) {first q : Question TypeId GroupId} {qs : List (Question TypeId GroupId)} {os : List (Pending TypeId GroupId)} {r : Reply} → AreOpenWith l first (q ∷ qs) os (Answered r) → (w : ℕ) × Replies l q r w
+open_replies l (further h c) = comes_replies l c M.at_once
+
+types_append : (xs ys : List (Question TypeId GroupId)) → types_of (xs ++ ys) ≡ types_of xs ++ types_of ys
+types_append [] ys = refl
+types_append (x ∷ xs) ys = ap (λ ts. type_of x ++ ts) (types_append xs ys) ∙ sym (append_assoc (type_of x) (types_of xs) (types_of ys))
+
+strings_append : (xs ys : List (Pending TypeId GroupId)) → strings_of (xs ++ ys) ≡ strings_of xs ++ strings_of ys
+strings_append [] ys = refl
+strings_append (x ∷ xs) ys = ap (λ ts. string_of x ++ ts) (strings_append xs ys) ∙ sym (append_assoc (string_of x) (strings_of xs) (strings_of ys))
+
+-- one more of them
+one_more : (xs : List Open) (i : ℕ) (o : Open) → i < length xs → o ≡ get_or xs i o → take (i + 1) xs ≡ take i xs ++ o ∷ []
+one_more xs i o lt e = take_more xs i o lt ∙ ap (λ x. take i xs ++ x ∷ []) (sym e)
+
+pub types_more : (xs : List Open) (i : ℕ) (o : Open) → i < length xs → o ≡ get_or xs i o → types_of (asked_in (take (i + 1) xs)) ≡ types_of (asked_in (take i xs)) ++ type_of (question_view o.question)
+types_more xs i o lt e =
+    ap (λ ys. types_of (asked_in ys)) (one_more xs i o lt e)
+    ∙ ap types_of (map-append (λ (o : Open). question_view o.question) (take i xs) (o ∷ []))
+    ∙ types_append (asked_in (take i xs)) (question_view o.question ∷ [])
+    ∙ ap (λ ts. types_of (asked_in (take i xs)) ++ ts) (append-nil (type_of (question_view o.question)))
+
+pub types_whole : (xs : List Open) (i : ℕ) → length xs ≤ i → types_of (asked_in (take i xs)) ≡ types_of (asked_in xs)
+types_whole xs i le = ap (λ ys. types_of (asked_in ys)) (take_all i xs le)
+
+pub strings_more : (xs : List Open) (i : ℕ) (o : Open) → i < length xs → o ≡ get_or xs i o → strings_of (waits_in (take (i + 1) xs)) ≡ strings_of (waits_in (take i xs)) ++ string_of (pending_view o.pending)
+strings_more xs i o lt e =
+    ap (λ ys. strings_of (waits_in ys)) (one_more xs i o lt e)
+    ∙ ap strings_of (map-append (λ (o : Open). pending_view o.pending) (take i xs) (o ∷ []))
+    ∙ strings_append (waits_in (take i xs)) (pending_view o.pending ∷ [])
+    ∙ ap (λ ts. strings_of (waits_in (take i xs)) ++ ts) (append-nil (string_of (pending_view o.pending)))
+
+pub strings_whole : (xs : List Open) (i : ℕ) → length xs ≤ i → strings_of (waits_in (take i xs)) ≡ strings_of (waits_in xs)
+strings_whole xs i le = ap (λ ys. strings_of (waits_in ys)) (take_all i xs le)
+
+-- the first of the last entries, and those after it
+pub end_has : (es left others : List (F.MapEntry TypeId)) (e : F.MapEntry TypeId) → left ≡ e ∷ others → EndIn es left → Contains es e
+end_has es left others e is h =
+    let whole : es ≡ h.first ++ e ∷ others = h.whole ∙ ap (λ xs. h.first ++ xs) is in
+    subst (λ xs. Contains xs e) (sym whole) (Contains-append_right h.first (e ∷ others) e (0, omega arith, refl))
+
+pub end_next : (es left others : List (F.MapEntry TypeId)) (e : F.MapEntry TypeId) → left ≡ e ∷ others → EndIn es left → EndIn es others
+end_next es left others e is h = record {
+  first = h.first ++ e ∷ [];
+  whole = h.whole ∙ ap (λ xs. h.first ++ xs) is ∙ sym (append_assoc h.first (e ∷ []) others);
+}
+
+-- What is so of an entry's count is a cause.
+pub counted_cause : (l : Language TypeId GroupId) (q : Question TypeId GroupId) (far : ℕ) (e : F.MapEntry TypeId) (c : Cause) → IsEntryOf q far e → IsCount e c → IsCause l q far c
+counted_cause l q far e (C.Few key count least) i h = (e, i, h)
+counted_cause l q far e (C.Many key count most) i h = (e, i, h)
+counted_cause l q far e C.Value i h = absurd h
+counted_cause l q far e (C.Missing m) i h = absurd h
+counted_cause l q far e C.TooMuch i h = absurd h
+counted_cause l q far e C.Stray i h = absurd h
+counted_cause l q far e (C.NothingHeld c) i h = absurd h
+
+-- what is told of a no
+pub are_reasons : (t : Table) (x : Value) (steps most place : ℕ) (r : Reasons) → r.place ≡ place → ((w : ℕ) → RootSays t x (No place) w → All (IsReason (language_of t) (root_question t x)) r.list.items) → (0 < most → 0 < length r.list.items) → (w : ℕ) × RootSays t x (No place) w × (w ≤ steps) → AreReasons t x steps most r
+are_reasons t x steps most place r at each some said = record { verdict = rw at said; each = each said.0 said.1; some = some }

@@ -1,0 +1,103 @@
+-- What a reason tells: a question that was open, and has failed.
+use Rattle.std.specs.Prelude.{◌≡◌, ◌≢◌, ◌⊎◌, ℕ, ◌<◌, ◌≤◌, List, [], ◌∷◌, ◌++◌, All, length, reverse}
+use Rattle.std.specs.List.{Contains}
+use Rattle.cbor_data.specs.Value.{Value}
+use Rattle.cddl_meaning.specs.Forms as F
+use Rattle.cddl_meaning.specs.Forms.{Language}
+use Rattle.cddl_meaning.specs.Judges.{Answer, Yes, No, Fails}
+use Rattle.cddl_meaning.specs.Moves as M
+use Rattle.cddl_meaning.specs.Moves.{Replies}
+use Rattle.cddl_match.specs.Machine.{root_question}
+use Rattle.cddl_match.specs.Open.{AreOpenWith}
+use Rattle.table_nodes.specs.Language.{RootSays, language_of}
+use Rattle.table_nodes.specs.Nodes.{content_view}
+use Rattle.table_nodes.specs.declared.nodes.GroupId.{GroupId}
+use Rattle.table_nodes.specs.declared.nodes.TypeId.{TypeId}
+use Rattle.table_nodes.specs.declared.table.Table.{Table}
+use Rattle.cddl_reasons.specs.declared.causes.Cause.{Cause}
+use Rattle.cddl_reasons.specs.declared.causes.Cause.TheVariants as C
+use Rattle.cddl_reasons.specs.declared.causes.Reason.{Reason}
+use Rattle.cddl_reasons.specs.declared.causes.Reasons.{Reasons}
+
+-- the type that is asked, if one is
+abbrev pub type_of : M.Question TypeId GroupId → List TypeId
+type_of (M.OfType n p x) = n ∷ []
+type_of (M.OfGroup g base q xs) = []
+type_of (M.OfAlternative es base ps) = []
+
+abbrev pub types_of : List (M.Question TypeId GroupId) → List TypeId
+types_of [] = []
+types_of (q ∷ qs) = type_of q ++ types_of qs
+
+-- the place of the byte string whose content is asked about, if one's is
+abbrev pub string_of : M.Pending TypeId GroupId → List ℕ
+string_of (M.InHeld p next) = p ∷ []
+string_of _ = []
+
+abbrev pub strings_of : List (M.Pending TypeId GroupId) → List ℕ
+strings_of [] = []
+strings_of (o ∷ os) = string_of o ++ strings_of os
+
+-- No item of an array is left for the group, which is one of this type.
+abbrev pub IsMissing : Language TypeId GroupId → M.Question TypeId GroupId → TypeId → Type 0
+IsMissing l (M.OfGroup g base q []) m = l.group_at g ≡ F.Entry m
+IsMissing l _ m = ⊥
+
+-- The type is that of an array, and its no shows not there but at this place.
+abbrev pub IsTooMuch : Language TypeId GroupId → M.Question TypeId GroupId → ℕ → Type 0
+IsTooMuch l (M.OfType n p x) far = (g : GroupId) × (l.type_at n ≡ F.ArrayOf g) × (far ≢ p)
+IsTooMuch l _ far = ⊥
+
+-- The no of the alternative of a map shows not there but at this place.
+abbrev pub IsStray : M.Question TypeId GroupId → ℕ → Type 0
+IsStray (M.OfAlternative es base ps) far = far ≢ base
+IsStray _ far = ⊥
+
+-- The type is about what byte strings hold.
+abbrev pub IsUnheld : Language TypeId GroupId → M.Question TypeId GroupId → F.Content → Type 0
+IsUnheld l (M.OfType n p x) c = (m : TypeId) × (k : TypeId) × (l.type_at n ≡ F.Holding m c k)
+IsUnheld l _ c = ⊥
+
+-- So many pairs are too few for an entry, or too many.
+abbrev pub IsCount : F.MapEntry TypeId → Cause → Type 0
+IsCount e (C.Few key count least) = (key ≡ e.key_type) × (least ≡ e.least) × (count < least)
+IsCount e (C.Many key count most) = (key ≡ e.key_type) × (F.at_most most ≡ e.most) × (most < count)
+IsCount e _ = ⊥
+
+-- It is an entry of the alternative, whose no shows at the map.
+abbrev pub IsEntryOf : M.Question TypeId GroupId → (far : ℕ) → F.MapEntry TypeId → Type 0
+IsEntryOf (M.OfAlternative es base ps) far e = (far ≡ base) × Contains es e
+IsEntryOf _ far e = ⊥
+
+-- Of this question, which has failed at this place, the cause tells what it is.
+abbrev pub IsCause : Language TypeId GroupId → M.Question TypeId GroupId → (far : ℕ) → Cause → Type 0
+IsCause l q far C.Value = Unit {0}
+IsCause l q far (C.Missing m) = IsMissing l q m
+IsCause l q far C.TooMuch = IsTooMuch l q far
+IsCause l q far C.Stray = IsStray q far
+IsCause l q far (C.Few key count least) = (e : F.MapEntry TypeId) × IsEntryOf q far e × IsCount e (C.Few key count least)
+IsCause l q far (C.Many key count most) = (e : F.MapEntry TypeId) × IsEntryOf q far e × IsCount e (C.Many key count most)
+IsCause l q far (C.NothingHeld c) = IsUnheld l q (content_view c)
+
+-- The reason is a question that was open, the last of those that were, and has failed at that place.
+pub record IsReason (l : Language TypeId GroupId) (first : M.Question TypeId GroupId) (r : Reason) : Type 0 where
+  -- those before it, the first one first, and how each of them waited
+  pub before : List (M.Question TypeId GroupId)
+  pub waits : List (M.Pending TypeId GroupId)
+  pub last : M.Question TypeId GroupId
+  pub next : M.Move TypeId GroupId
+  pub opened : AreOpenWith l first (last ∷ reverse before) (reverse waits ++ M.InRef ∷ []) next
+  pub fails : (w : ℕ) × Replies l last (Fails r.place) w
+  pub types : r.types.items ≡ types_of before ++ type_of last
+  pub strings : r.strings.items ≡ strings_of waits
+  pub cause : IsCause l last r.place r.cause
+
+-- The table says no to the item, which shows at that place, and these are reasons for it: some, if any are asked for.
+pub record AreReasons (t : Table) (x : Value) (steps most : ℕ) (r : Reasons) : Type 0 where
+  pub verdict : (w : ℕ) × RootSays t x (No r.place) w × (w ≤ steps)
+  pub each : All (IsReason (language_of t) (root_question t x)) r.list.items
+  pub some : 0 < most → 0 < length r.list.items
+
+-- The table says yes to the item, or so many steps do not tell.
+abbrev pub HasNone : Table → Value → ℕ → Type 0
+HasNone t x steps = ((w : ℕ) × RootSays t x Yes w × (w ≤ steps)) ⊎ ((a : Answer) (w : ℕ) → RootSays t x a w → steps < w)

@@ -1,0 +1,45 @@
+//! What is told of an item that does not match.
+
+use table_nodes::{Content, TypeId};
+
+/// Why a question has failed that asks nothing else that fails there.
+#[derive(Clone, Copy)]
+pub enum Cause {
+    /// The item at the place, or the number of the tag or simple value there, is not of the last type.
+    Value,
+    /// In the array at the place no item is left for a member of this type. The last type is the array's.
+    Missing { member: TypeId },
+    /// The member of an array that stands at the place is too much. The last type is the array's.
+    TooMuch,
+    /// The key at the place belongs to no entry of an alternative. The last type is the map's.
+    Stray,
+    /// So many pairs of the map at the place belong to the entry with this key type, and more are wanted.
+    Few { key: TypeId, count: u64, least: u64 },
+    /// The same, and fewer are wanted.
+    Many { key: TypeId, count: u64, most: u64 },
+    /// The byte string at the place holds no item, or no sequence. The last type is the control's.
+    NothingHeld { content: Content },
+}
+
+/// A question that has failed.
+#[derive(Drop)]
+pub struct Reason {
+    /// The types that are open there, the root type first.
+    pub types: Vec<TypeId>,
+    /// The places of the byte strings in whose content that is, the outermost first. Each counts in the one before it.
+    pub strings: Vec<usize>,
+    /// Where it has failed: in the item, or in the content of the last of these strings.
+    pub place: usize,
+    pub cause: Cause,
+}
+
+/// Why an item does not match.
+#[derive(Drop)]
+pub struct Reasons {
+    /// Where that shows.
+    pub place: usize,
+    /// The first reasons, in the order in which the questions have failed.
+    pub list: Vec<Reason>,
+    /// How many more there are.
+    pub more: u64,
+}

@@ -1,0 +1,374 @@
+//! What is told of a question that has failed.
+
+ghost use Rattle.std.specs.Prelude.{◌≡◌, ◌++◌, ℕ, List, [], All, IfOk, IfSome};
+ghost use Rattle.std.specs.List.{Contains};
+ghost use Rattle.cbor_data.specs.Value.{Pairs, Value};
+ghost use Rattle.cddl_meaning.specs.Forms as F;
+ghost use Rattle.cddl_meaning.specs.Judges as J;
+ghost use Rattle.cddl_meaning.specs.Moves as M;
+ghost use Rattle.cddl_reasons.specs.Opened.{StandsAt, asked_in, waits_in};
+ghost use Rattle.cddl_reasons.specs.Told.{IsCause, IsCount, IsEntryOf, IsReason, string_of, strings_of, type_of, types_of};
+ghost use Rattle.match_moves.specs.Views.{pending_view, question_view, reply_view, values};
+ghost use Rattle.table_nodes.specs.Language.{language_of};
+ghost use Rattle.table_nodes.specs.Nodes.{entries_view, entry_view};
+ghost use Rattle.table_nodes.specs.declared.nodes.GroupId.{GroupId};
+ghost use Rattle.table_nodes.specs.declared.nodes.TypeId.{TypeId};
+
+use crate::aims::{Aim, is_at};
+use crate::causes::{Cause, Reason};
+use crate::found::{Deeper, Found};
+use crate::run::{Open, Run, Wanted};
+use item_nodes::Item;
+use match_moves::{Counts, Pending, PendingMap, PendingType, Question, Reply};
+use std::alloc::{AllocError, Global};
+use table_nodes::{Group, GroupId, MapEntry, Most, Node, Table, TypeId};
+
+// The type that is asked, if one is, is put behind others.
+fn push_type(types: &mut Vec<TypeId>, question: &Question<'_, '_>) -> Result<(), AllocError>
+    ensures { IfOk result (λ _. types.new.items ≡ types.old.items ++ type_of (question_view question.now)) }
+{
+    match question {
+        Question::OfType { node, .. } => {
+            types.push(*node)?;
+            return Ok(());
+        }
+        Question::OfGroup { .. } => return Ok(()),
+        Question::OfAlternative { .. } => return Ok(()),
+    }
+}
+
+// The types that are asked, the first one first.
+fn types_in(alloc: Global, below: &[Open<'_, '_>]) -> Result<Vec<TypeId>, AllocError>
+    ensures { IfOk result (λ types. types.items ≡ types_of (asked_in below.now)) }
+{
+    let mut types = Vec::new(alloc);
+    for waiting in below {
+        push_type(&mut types, &waiting.question)?;
+    }
+    Ok(types)
+}
+
+// The place of the byte string whose content is asked about, if one's is, is put behind others.
+fn push_string(strings: &mut Vec<usize>, pending: &Pending<'_, '_>) -> Result<(), AllocError>
+    ensures { IfOk result (λ _. strings.new.items ≡ strings.old.items ++ string_of (pending_view pending.now)) }
+{
+    if let Pending::Type(PendingType::Held { place, .. }) = pending {
+        strings.push(*place)?;
+    }
+    Ok(())
+}
+
+// The places of the byte strings whose content these questions ask about, the outermost first.
+fn strings_in(alloc: Global, below: &[Open<'_, '_>]) -> Result<Vec<usize>, AllocError>
+    ensures { IfOk result (λ strings. strings.items ≡ strings_of (waits_in below.now)) }
+{
+    let mut strings = Vec::new(alloc);
+    for waiting in below {
+        push_string(&mut strings, &waiting.pending)?;
+    }
+    Ok(strings)
+}
+
+// Why a type has failed at `far` that was asked of the item at `place`.
+fn type_cause(table: &Table, node: TypeId, place: usize, far: usize) -> Cause
+    ensures { (x : Value) → IsCause (language_of table.now) (M.OfType node place x) far result }
+{
+    match table.node(node) {
+        Some(Node::ArrayOf(_)) if far != place => Cause::TooMuch,
+        Some(Node::Holding(_, content, _)) => Cause::NothingHeld { content: *content },
+        _ => Cause::Value,
+    }
+}
+
+// Why a group has failed that was asked of no items.
+fn missing_cause(table: &Table, group: GroupId) -> Cause
+    ensures { (base place far : ℕ) → IsCause (language_of table.now) (M.OfGroup group base place []) far result }
+{
+    match table.group(group) {
+        Some(Group::Entry(member)) => Cause::Missing { member: *member },
+        _ => Cause::Value,
+    }
+}
+
+// Why a group has failed that was asked of these items.
+fn group_cause(table: &Table, group: GroupId, items: &[Item]) -> Cause
+    ensures { (base place far : ℕ) → IsCause (language_of table.now) (M.OfGroup group base place (values items.now)) far result }
+{
+    match items {
+        [] => missing_cause(table, group),
+        _ => Cause::Value,
+    }
+}
+
+// Why an alternative of the map at `base` has failed at `far`, if that is not for its counts.
+fn alternative_cause(base: usize, far: usize) -> Cause
+    ensures { (l : F.Language TypeId GroupId) (es : List (F.MapEntry TypeId)) (ps : Pairs) → IsCause l (M.OfAlternative es base ps) far result }
+{
+    if far != base { Cause::Stray } else { Cause::Value }
+}
+
+// How many pairs belong to the entry of this number of an alternative.
+fn count_at(last: &Open<'_, '_>, number: usize) -> u64 {
+    match last.counts.get(number) {
+        Some(count) => *count,
+        None => 0,
+    }
+}
+
+// What is wrong, if something is, where so many pairs belong to an entry.
+fn count_cause(entry: &MapEntry, count: u64) -> Option<Cause>
+    ensures { IfSome result (λ cause. IsCount (entry_view entry.now) cause) }
+{
+    if count < entry.least {
+        return Some(Cause::Few {
+            key: entry.key_type,
+            count,
+            least: entry.least,
+        });
+    }
+    match entry.most {
+        Most::AtMost(most) if count > most => Some(Cause::Many {
+            key: entry.key_type,
+            count,
+            most,
+        }),
+        _ => None,
+    }
+}
+
+// The counts, in the order of the entries.
+fn counts_in(counts: &Counts) -> &[u64] {
+    match counts.few.get(..counts.entries) {
+        Some(few) => few,
+        None => counts.many.as_slice(),
+    }
+}
+
+// The counts of the pairs with one more, which belongs to the entry with so many after it.
+fn counts_after(alloc: Global, counts: &[u64], after: usize) -> Result<Vec<u64>, AllocError> {
+    let mut all = Vec::from_slice(alloc, counts)?;
+    if after < counts.len() {
+        let number = counts.len() - after - 1;
+        all[number] = all[number].saturating_add(1);
+    }
+    Ok(all)
+}
+
+// An open question is told this reply. Where that is the yes to the last value of a map, it is known then how many pairs belong
+// to each entry.
+pub(crate) fn note_counts(
+    alloc: Global,
+    last: &mut Open<'_, '_>,
+    reply: &Reply<'_>,
+) -> Result<(), AllocError>
+    ensures question { last.new.question ≡ last.old.question }
+    ensures pending { last.new.pending ≡ last.old.pending }
+{
+    let Reply::Takes { .. } = reply else {
+        return Ok(());
+    };
+    let Pending::Map(PendingMap::Value {
+        others, sorting, ..
+    }) = &last.pending
+    else {
+        return Ok(());
+    };
+    if sorting.rest.is_empty() && is_at(last.wanted, sorting.base) {
+        last.counts = counts_after(alloc, counts_in(&sorting.tally.counts), others.len())?;
+    }
+    Ok(())
+}
+
+// Why a question has failed at this place.
+fn cause_of(table: &Table, question: &Question<'_, '_>, far: usize) -> Cause
+    ensures { IsCause (language_of table.now) (question_view question.now) far result }
+{
+    match question {
+        Question::OfType { node, place, .. } => type_cause(table, *node, *place, far),
+        Question::OfGroup { group, items, .. } => group_cause(table, *group, *items),
+        Question::OfAlternative { base, .. } => alternative_cause(*base, far),
+    }
+}
+
+// Why an open question has failed at this place. Where its own reasons are deeper it is told by itself.
+fn cause_in(table: &Table, last: &Open<'_, '_>, far: usize) -> Cause
+    ensures { IsCause (language_of table.now) (question_view last.now.question) far result }
+{
+    match last.wanted {
+        Wanted::Itself => Cause::Value,
+        _ => cause_of(table, &last.question, far),
+    }
+}
+
+// The last question as a reason, since it has failed at this place.
+fn reason_of(
+    alloc: Global,
+    table: &Table,
+    run: &Run<'_, '_>,
+    far: usize,
+    cause: Cause,
+) -> Result<Reason, AllocError>
+    ensures { IfOk result (λ reason. (first : M.Question TypeId GroupId) → IsCause (language_of table.now) (question_view run.now.last.question) far cause → StandsAt (language_of table.now) first run.now.below.items run.now.last (M.Answered (J.Fails far)) → IsReason (language_of table.now) first reason) }
+{
+    let below = run.below.as_slice();
+    let mut types = types_in(alloc, below)?;
+    push_type(&mut types, &run.last.question)?;
+    let strings = strings_in(alloc, below)?;
+    Ok(Reason {
+        types,
+        strings,
+        place: far,
+        cause,
+    })
+}
+
+// Whether a no of the question at this place is what is looked for.
+fn is_wanted(last: &Open<'_, '_>, far: usize) -> bool {
+    match last.wanted {
+        Wanted::Itself => true,
+        wanted => is_at(wanted, far),
+    }
+}
+
+// What is known of a question of its own reasons, which has failed at this place.
+fn deeper_of(last: &Open<'_, '_>, far: usize) -> Option<Deeper> {
+    match last.wanted {
+        Wanted::Itself => Some(Deeper {
+            number: last.number,
+            far,
+        }),
+        _ => None,
+    }
+}
+
+// The last question has failed at this place, for this cause: one reason more, in the list if that has room.
+fn tell_cause(
+    table: &Table,
+    run: &Run<'_, '_>,
+    far: usize,
+    cause: Cause,
+    aim: Aim<'_>,
+    found: &mut Found,
+) -> Result<(), AllocError>
+    ensures { IfOk result (λ _. (first : M.Question TypeId GroupId) → IsCause (language_of table.now) (question_view run.now.last.question) far cause → StandsAt (language_of table.now) first run.now.below.items run.now.last (M.Answered (J.Fails far)) → All (IsReason (language_of table.now) first) found.old.list.items → All (IsReason (language_of table.now) first) found.new.list.items) }
+{
+    if found.list.len() >= aim.most {
+        found.more = found.more.saturating_add(1);
+        return Ok(());
+    }
+    let reason = reason_of(aim.alloc, table, run, far, cause)?;
+    found.add(reason, deeper_of(&run.last, far))?;
+    Ok(())
+}
+
+// An entry of the last question, an alternative of a map that has failed at the map, to which so many pairs belong.
+fn tell_count(
+    table: &Table,
+    run: &Run<'_, '_>,
+    entry: &MapEntry,
+    count: u64,
+    far: usize,
+    aim: Aim<'_>,
+    found: &mut Found,
+) -> Result<(), AllocError>
+    ensures { IfOk result (λ _. (first : M.Question TypeId GroupId) → IsEntryOf (question_view run.now.last.question) far (entry_view entry.now) → StandsAt (language_of table.now) first run.now.below.items run.now.last (M.Answered (J.Fails far)) → All (IsReason (language_of table.now) first) found.old.list.items → All (IsReason (language_of table.now) first) found.new.list.items) }
+{
+    let Some(cause) = count_cause(entry, count) else {
+        return Ok(());
+    };
+    tell_cause(table, run, far, cause, aim, found)?;
+    Ok(())
+}
+
+// The entries of the last question, an alternative of a map that has failed at the map, to which too few or too many pairs
+// belong.
+fn tell_entries(
+    table: &Table,
+    run: &Run<'_, '_>,
+    entries: &[MapEntry],
+    far: usize,
+    aim: Aim<'_>,
+    found: &mut Found,
+) -> Result<(), AllocError>
+    ensures { IfOk result (λ _. (first : M.Question TypeId GroupId) → ((e : F.MapEntry TypeId) → Contains (entries_view entries.now) e → IsEntryOf (question_view run.now.last.question) far e) → StandsAt (language_of table.now) first run.now.below.items run.now.last (M.Answered (J.Fails far)) → All (IsReason (language_of table.now) first) found.old.list.items → All (IsReason (language_of table.now) first) found.new.list.items) }
+{
+    let mut left = entries;
+    let mut number: usize = 0;
+    'each: while let Some((entry, others)) = left.split_first() {
+        let count = count_at(&run.last, number);
+        tell_count(table, run, entry, count, far, aim, found)?;
+        number = number.saturating_add(1);
+        left = others;
+    }
+    Ok(())
+}
+
+// The same, where the last question is an alternative that has failed at the map.
+fn tell_counts(
+    table: &Table,
+    run: &Run<'_, '_>,
+    far: usize,
+    aim: Aim<'_>,
+    found: &mut Found,
+) -> Result<(), AllocError>
+    ensures { IfOk result (λ _. (first : M.Question TypeId GroupId) → StandsAt (language_of table.now) first run.now.below.items run.now.last (M.Answered (J.Fails far)) → All (IsReason (language_of table.now) first) found.old.list.items → All (IsReason (language_of table.now) first) found.new.list.items) }
+{
+    let Question::OfAlternative { entries, base, .. } = run.last.question else {
+        return Ok(());
+    };
+    if far != base {
+        return Ok(());
+    }
+    tell_entries(table, run, entries, far, aim, found)?;
+    Ok(())
+}
+
+// The last question has failed. Where none that it asked has failed at the place that is looked for, or a key of its own is
+// stray there, it is a reason.
+fn tell_fault(
+    table: &Table,
+    run: &Run<'_, '_>,
+    far: usize,
+    aim: Aim<'_>,
+    found: &mut Found,
+) -> Result<(), AllocError>
+    ensures { IfOk result (λ _. (first : M.Question TypeId GroupId) → StandsAt (language_of table.now) first run.now.below.items run.now.last (M.Answered (J.Fails far)) → All (IsReason (language_of table.now) first) found.old.list.items → All (IsReason (language_of table.now) first) found.new.list.items) }
+{
+    let last = &run.last;
+    if !is_wanted(last, far) {
+        found.forget(last.mark);
+        return Ok(());
+    }
+    tell_counts(table, run, far, aim, found)?;
+    if !last.tried && !found.is_at(last.mark) {
+        return Ok(());
+    }
+    let cause = cause_in(table, last, far);
+    tell_cause(table, run, far, cause, aim, found)?;
+    Ok(())
+}
+
+// The last question has this reply. A yes tells no trials that failed.
+pub(crate) fn tell(
+    table: &Table,
+    run: &Run<'_, '_>,
+    reply: Reply<'_>,
+    aim: Aim<'_>,
+    found: &mut Found,
+) -> Result<(), AllocError>
+    ensures { IfOk result (λ _. (first : M.Question TypeId GroupId) → StandsAt (language_of table.now) first run.now.below.items run.now.last (M.Answered (reply_view reply.entry)) → All (IsReason (language_of table.now) first) found.old.list.items → All (IsReason (language_of table.now) first) found.new.list.items) }
+{
+    match reply {
+        Reply::Fails { far } => {
+            tell_fault(table, run, far, aim, found)?;
+            return Ok(());
+        }
+        Reply::Takes { .. } => {
+            if let Question::OfGroup { .. } = run.last.question {
+                return Ok(());
+            }
+            found.forget(run.last.mark);
+            return Ok(());
+        }
+    }
+}
