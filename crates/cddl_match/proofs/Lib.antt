@@ -16,3 +16,4 @@ mod Passing
 mod Running
 mod Needs
 mod Machines
+mod ByMajor

@@ -7,6 +7,7 @@ mod calls;
 mod deeper;
 mod entering;
 mod judging;
+mod known;
 mod laws;
 mod looking;
 mod machine;

@@ -23,7 +23,7 @@ use table_nodes::{Table, Test};
 
 // What is said of an item that has passed a test, or not.
 #[inline(always)]
-fn said_of(says: bool, place: usize, item: &Item) -> Said
+pub(crate) fn said_of(says: bool, place: usize, item: &Item) -> Said
     ensures { said_view result ≡ Replied (M.test_reply place (view item.now) says) }
 {
     if says {

@@ -19,6 +19,7 @@ use crate::behind::{group_behind, type_behind};
 use crate::calls::{Said, Stop};
 use crate::deeper::{replied_by_turns, type_by_turns};
 use crate::entering::{index_for, unpassed};
+use crate::known::{said_in, told_of};
 use crate::looking::rounds_told;
 use crate::means::Means;
 use crate::reading::held_in;
@@ -34,7 +35,7 @@ use match_moves::{
     first_are_enough, is_over, is_passed_over, items_of, pairs_of, place_after, plus, simple_of,
     tally_pair,
 };
-use table_nodes::{Content, Group, GroupId, MapEntry, Node, Table, TagNumber, Test, TypeId};
+use table_nodes::{Content, Group, GroupId, MapEntry, Node, Table, TagNumber, Test, Told, TypeId};
 
 // What a type says of an item. Tests are asked where this is called, since most types that are asked in a loop are tests, or
 // names of them. Calls are as deep as this, and what is deeper is asked by turns.
@@ -50,6 +51,13 @@ fn type_says_here<'i>(
 ) -> Said
     ensures { Says (language_of table.now) (M.OfType node place (view item.now)) means.old.left means.new.left (said_view result) }
 {
+    let told = told_of(table, node, item);
+    if let Told::Yes(steps) = told {
+        return said_in(means, true, steps, place, item);
+    }
+    if let Told::No(steps) = told {
+        return said_in(means, false, steps, place, item);
+    }
     if let Some(Node::Plain(test)) = table.node(node) {
         return test_says(means, test, place, item);
     }

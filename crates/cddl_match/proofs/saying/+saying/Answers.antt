@@ -1,4 +1,4 @@
-use Rattle.std.proofs.Common.{◌≡◌, ◌+◌, ◌-◌, length, max, refl, sym, ap, subst, ◌∙◌, arith}
+use Rattle.std.proofs.Common.{◌≡◌, ◌+◌, ◌-◌, length, max, true, false, refl, sym, ap, subst, ◌∙◌, arith}
 use Rattle.std.specs.Prelude.{Err}
 use Rattle.std.proofs.lemmas.Result.{err_from_is_err_and}
 use Rattle.lists.proofs.Lemmas.{none_left}
@@ -8,6 +8,7 @@ use Rattle.cddl_meaning.specs.Forms.{passes}
 use Rattle.cddl_meaning.specs.Judges as J
 use Rattle.cddl_meaning.specs.Moves as M
 use Rattle.table_nodes.specs.Language.{language_of}
+use Rattle.table_nodes.specs.Majors.{told_view}
 use Rattle.table_nodes.specs.Nodes.{alternatives_view, content_view, entries_view, entry_view, most_view, test_view, type_view}
 use Rattle.table_nodes.specs.declared.nodes.GroupId.{GroupId}
 use Rattle.cddl_match.specs.Ahead.{ComesTo}
@@ -25,6 +26,12 @@ use Rattle.cddl_match.proofs.saying.+saying.Goals as goal
 
 pub type_says_here-returns-in_default-checked_sub : goal.type_says_here-returns-in_default-checked_sub
 type_says_here-returns-in_default-checked_sub t c = type_few (language_of c.args.table.now) c.args.place (view c.args.item.now) c.args.means.now.left c.args.means.now.left c.type_behind-behind.ensures.passed (omega (arith, c.ranges.place.fits)) (omega (arith, c.in_default-checked_sub.ensures, c.from.ensures))
+
+pub type_says_here-returns-in-Yes : goal.type_says_here-returns-in-Yes
+type_says_here-returns-in-Yes t c = c.said_in.ensures (language_of c.args.table.now) c.args.node (c.told_of-told.ensures (true, c.in-Yes.steps) (ap told_view c.in-Yes.is))
+
+pub type_says_here-returns-in-No : goal.type_says_here-returns-in-No
+type_says_here-returns-in-No t c = c.said_in-in-No.ensures (language_of c.args.table.now) c.args.node (c.told_of-told.ensures (false, c.in-No.steps) (ap told_view c.in-No.is))
 
 pub type_says_here-returns-in-Some-Plain : goal.type_says_here-returns-in-Some-Plain
 type_says_here-returns-in-Some-Plain t c = c.test_says.ensures (language_of c.args.table.now) c.args.node (rw c.in-Some-Plain.field-0-is at c.in-Some-Plain.ensures.found)
