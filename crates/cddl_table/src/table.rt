@@ -99,7 +99,7 @@ pub(crate) fn traced_of(
         type_origins,
         ..
     } = nodes;
-    let table = ranked_table(types, groups, root, ranks)?;
+    let table = ranked_table(alloc, types, groups, root, ranks)?;
     Ok(Traced {
         table,
         origins: type_origins,
@@ -122,8 +122,9 @@ fn ranks_of(alloc: Global, ranks: &Ranks, nodes: &Nodes) -> Result<NodeRanks, Un
     })
 }
 
-// The table of these types and groups, with their ranks.
+// The table of these types and groups, with their ranks and what is known of them.
 fn ranked_table(
+    alloc: Global,
     types: Vec<TableNode>,
     groups: Vec<Group>,
     root: TypeId,
@@ -133,10 +134,11 @@ fn ranked_table(
     ensures root { IfOk result (λ table. root_of table ≡ root) }
     ensures ranks { IfOk result (λ table. rank_of table ≡ rank_in ranks.types.items ranks.groups.items) }
     ensures ranked { IfOk result (λ table. IsRanked (language_of table) (rank_of table) (ranks_of table)) }
-    ensures refused { IfErr result (λ _. AreFlags (language_in types.items groups.items) (flag_in ranks.may_be_empty.items) → (bound : ℕ) → IsRanked (language_in types.items groups.items) (rank_in ranks.types.items ranks.groups.items) bound → ⊥) }
+    ensures refused { IfErr result (λ why. why ≡ Why.NotRanked → AreFlags (language_in types.items groups.items) (flag_in ranks.may_be_empty.items) → (bound : ℕ) → IsRanked (language_in types.items groups.items) (rank_in ranks.types.items ranks.groups.items) bound → ⊥) }
 {
     match Table::new(types, groups, root, ranks) {
         Ok(table) => {
+            let table = table.with_told(alloc)?;
             table.ranks();
             Ok(table)
         }

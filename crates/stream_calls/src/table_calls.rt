@@ -54,7 +54,7 @@ impl Tables {
         let groups = groups_of(self.alloc, self.groups.as_str())?;
         let ranks = ranks_of(self.alloc, self.ranks.as_str())?;
         match Table::new(types, groups, type_id(root), ranks) {
-            Ok(table) => Ok(Some(Box::new(self.alloc, table)?)),
+            Ok(table) => Ok(Some(Box::new(self.alloc, table.with_told(self.alloc)?)?)),
             Err(_) => Ok(None),
         }
     }

@@ -38,7 +38,7 @@ returns-in_err-table-clause-ranked c = handed _ _ c.in_err-table.field-0.0 c.fro
     let place = root_found c.args.terms.now s.definitions s.root s.refs c.args.source.now.closed.now c.args.root c.equal_numbers.ensures.table basis.closed text c.in-Some.place (sym c.in-Some.ensures) in
     let by_rows = are_ranked s c.args.terms.now c.args.ranks.now (given s c.args.terms.now c.args.source.now.closed.now basis.closed c.args.ranks.now ranked laws) c.in_ok-nodes.nodes (c.in_ok-nodes.ensures s basis place group) in
     let places = places_ranked _ _ c.in_ok-ranks.ranks.types.items c.in_ok-ranks.ranks.groups.items c.in_ok-ranks.ensures.ranks _ _ by_rows in
-    c.in_err-table.ensures.refused (c.in_ok-ranks.ensures.flags c.in_ok-nodes.nodes.types.items) (length c.in_ok-ranks.ensures.ranks.used) places)
+    c.in_err-table.ensures.refused not_ranked (c.in_ok-ranks.ensures.flags c.in_ok-nodes.nodes.types.items) (length c.in_ok-ranks.ensures.ranks.used) places)
 
 pub returns-clause-ranks : goal.returns-clause-ranks
 returns-clause-ranks c = left_out_none _ _ _ _ c.in_ok-ranks.ensures.ranks c.in_ok-table.table c.in_ok-table.ensures.ranks
