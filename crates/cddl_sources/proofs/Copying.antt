@@ -1,9 +1,9 @@
 -- A table that has what another has, text by text and row by row.
-use Rattle.std.proofs.Common.{◌≡◌, ℕ, ◌+◌, ◌<◌, ◌≤◌, ◌⊎◌, inl, inr, Option, Some, None, IfSome, length, slice_get, refl, sym, ap, subst, ◌∙◌, arith}
-use Rattle.lists.proofs.Lemmas.{last_or_below, one_of, there, within}
+use Rattle.std.proofs.Common.{◌≡◌, ℕ, ◌+◌, ◌<◌, ◌≤◌, ◌⊎◌, inl, inr, Option, Some, None, IfSome, length, slice_get, sym, ap, ◌∙◌, arith}
+use Rattle.lists.proofs.Lemmas.{last_or_below, there, within}
 use Rattle.cddl_language.specs.Terms.{Text}
 use Rattle.check_terms.specs.declared.row.Row.{Row}
-use Rattle.check_terms.specs.Table.{Grows, HasParts, IsBelow, IsTable, Table}
+use Rattle.check_terms.specs.Table.{Grows, HasParts, IsTable, Table}
 use Rattle.cddl_sources.specs.Copies.{HasTexts}
 
 -- one text more

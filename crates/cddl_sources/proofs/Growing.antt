@@ -1,5 +1,5 @@
 -- What a number stands for, it stands for in each table that has grown from this one.
-use Rattle.std.proofs.Common.{◌≡◌, ℕ, Option, Result, Some, IfOk, slice_get, subst}
+use Rattle.std.proofs.Common.{◌≡◌, ℕ, Option, Result, Some, IfOk, subst}
 use Rattle.lists.proofs.Lemmas.{ok_then}
 use Rattle.check_terms.specs.declared.row.Form.{Form}
 use Rattle.cddl_language.specs.Terms.{Text}

@@ -3,7 +3,7 @@ use Rattle.std.proofs.Common.{◌≡◌, ℕ, ◌+◌, ◌<◌, ◌≤◌, ◌�
 use Rattle.std.specs.List.{Contains}
 use Rattle.std.proofs.lemmas.List.Elements.{Contains-append_left, Contains-push, Contains-push_cases}
 use Rattle.std.proofs.lemmas.Option.{slice_get-map, slice_get_read}
-use Rattle.lists.proofs.Lemmas.{get_cases, none_in, one_of, push_length, same_some, there, within}
+use Rattle.lists.proofs.Lemmas.{get_cases, none_in, push_length, same_some, there, within}
 use Rattle.cddl_token.specs.declared.Token.{Token}
 use Rattle.tree_nodes.specs.Syntax.Syntax as S
 use Rattle.tree_nodes.specs.declared.tree.Leaf.{Leaf}
@@ -17,13 +17,12 @@ use Rattle.tree_nodes.proofs.Lemmas.{view-One, view-Operation}
 use Rattle.cddl_language.specs.Reading.{operation, term_of1, term_of2}
 use Rattle.cddl_language.specs.Terms.{Term, typed}
 use Rattle.check_terms.specs.declared.row.Row.{Row}
-use Rattle.check_terms.specs.Table.{Grows, Holds, part, no_part, Table, Tree}
+use Rattle.check_terms.specs.Table.{Grows, Holds, part, Table}
 use Rattle.check_terms.specs.Trees.{IsEntry, IsTerm, term_tree}
 use Rattle.table_making.specs.declared.origin.TypeOrigin.{TypeOrigin}
 use Rattle.cddl_sources.specs.Origins.{AreRead, IsOriginOf, IsRead, of_type, of_word}
 use Rattle.cddl_sources.specs.Pieces.{Piece}
 use Rattle.cddl_sources.specs.Sources.{AreRules, IsRuleAt}
-use Rattle.cddl_sources.specs.States.{text_in}
 use Rattle.cddl_sources.specs.declared.node.Found.{Found}
 use Rattle.cddl_sources.specs.declared.piece.PieceAt.{PieceAt}
 use Rattle.cddl_sources.specs.declared.sources.RuleAt.{RuleAt}

@@ -1,5 +1,5 @@
 -- What numbers say of places is so of the names for which the table's types stand.
-use Rattle.std.proofs.Common.{◌≡◌, ℕ, Bool, true, false, List, ◌∷◌, ◌++◌, map, Option, Some, None, IfNone, IfSome, option_map, slice_get, refl, sym, ap, subst, ◌∙◌}
+use Rattle.std.proofs.Common.{◌≡◌, ℕ, Bool, true, false, List, Option, Some, None, IfNone, IfSome, option_map, slice_get, refl, sym, ap, subst, ◌∙◌}
 use Rattle.std.specs.List.{Contains}
 use Rattle.std.proofs.lemmas.Option.{slice_get-map}
 use Rattle.lists.proofs.Lemmas.{contains_at, one_of, place_of, same_some}
@@ -7,22 +7,21 @@ use Rattle.tree_nodes.specs.Syntax.Syntax as S
 use Rattle.cddl_language.specs.Language.{TypeName, reference, type, word}
 use Rattle.cddl_language.specs.Reading.{name_in, rules_of, term_of, text_of}
 use Rattle.cddl_language.specs.Terms.{Ref, Term, Text, call, name_of}
-use Rattle.check_terms.specs.Table.{Table, Grows, Holds, no_part, part, HoldsText, no_text, some_text, Tree}
+use Rattle.check_terms.specs.Table.{Table, part, some_text}
 use Rattle.check_terms.specs.Trees.{IsRef, IsTerm}
-use Rattle.check_instances.specs.declared.closed.closed.Meaning.{Meaning}
 use Rattle.table_making.specs.Basis.{Sense}
 use Rattle.table_making.specs.Nodes.{IsNameOfType}
-use Rattle.table_making.specs.Origins.{IsTypeOrigin, of_row, of_instance, of_chosen, of_word}
+use Rattle.table_making.specs.Origins.{IsTypeOrigin, of_row, of_instance, of_word}
 use Rattle.table_making.specs.declared.origin.TypeOrigin.{TypeOrigin}
 use Rattle.table_making.specs.declared.origin.TypeOrigin.TheVariants as T
 use Rattle.table_nodes.specs.declared.nodes.TypeId.{TypeId}
 use Rattle.table_nodes.specs.declared.table.Table.{Table as Made}
 use Rattle.cddl_sources.specs.Origins.{IsOriginOf, of_type, of_word as of_token, Stands}
-use Rattle.cddl_sources.specs.Pieces.{Piece, a_type, a_word, in_rule, name_of_piece, tokens_of_piece}
-use Rattle.cddl_sources.specs.Places.{BeginsWithInstance, IsInstanceOf, IsOfNoRule, IsPlace, IsShown, StandNowhere, a_piece, the_body}
+use Rattle.cddl_sources.specs.Pieces.{Piece, in_rule, name_of_piece, tokens_of_piece}
+use Rattle.cddl_sources.specs.Places.{BeginsWithInstance, IsOfNoRule, IsPlace, IsShown, StandNowhere, a_piece, the_body}
 use Rattle.cddl_sources.specs.Sources.{AreSources, IsRuleAt}
 use Rattle.cddl_sources.specs.Spans.{IsNameSpan, IsSpan, body_tokens}
-use Rattle.cddl_sources.specs.States.{ArePassed, HasNoPlace, HasNoRule, HasNumber, IsFoundBy, IsFoundOr, IsOfOrigin, IsStateAfter, IsTold, flattened, name_number, number_at, number_in, text_in}
+use Rattle.cddl_sources.specs.States.{ArePassed, HasNoPlace, HasNoRule, HasNumber, IsFoundOr, IsStateAfter, IsTold, flattened, name_number, number_at, number_in, text_in}
 use Rattle.cddl_sources.specs.declared.piece.PieceAt.{PieceAt}
 use Rattle.cddl_sources.specs.declared.place.Place.{Place}
 use Rattle.cddl_sources.specs.declared.place.State.{State}

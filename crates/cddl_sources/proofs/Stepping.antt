@@ -7,7 +7,7 @@ use Rattle.lists.proofs.Lemmas.{either, none_in, some_none, tested}
 use Rattle.table_making.specs.declared.origin.TypeOrigin.{TypeOrigin}
 use Rattle.table_making.specs.declared.origin.TypeOrigin.TheVariants as T
 use Rattle.table_nodes.specs.declared.nodes.TypeId.{TypeId}
-use Rattle.cddl_sources.specs.States.{ArePassed, HasNoPlace, HasNoRule, HasNumber, IsFoundBy, IsFoundOr, IsOfOrigin, IsStarted, IsStateAfter, IsStateOf}
+use Rattle.cddl_sources.specs.States.{ArePassed, HasNoRule, HasNumber, IsFoundBy, IsFoundOr, IsOfOrigin, IsStarted, IsStateAfter, IsStateOf}
 use Rattle.cddl_sources.specs.declared.piece.PieceAt.{PieceAt}
 use Rattle.cddl_sources.specs.declared.place.State.{State}
 use Rattle.cddl_sources.specs.declared.sources.Sources.{Sources}

@@ -1,5 +1,4 @@
-use Rattle.std.proofs.Common.{◌≡◌, ap, sym, subst, ◌∙◌, Some, slice_get, arith, rules}
-use Rattle.std.proofs.lemmas.Grind.{common_steps}
+use Rattle.std.proofs.Common.{◌≡◌, ap, sym, subst, ◌∙◌, Some}
 use Rattle.tree_nodes.specs.Syntax.Syntax as S
 use Rattle.tree_nodes.specs.View.{token_of, view_type1, view_type2, view_types, view_value}
 use Rattle.table_making.specs.declared.origin.TypeOrigin.TheVariants as T
@@ -11,29 +10,29 @@ use Rattle.cddl_sources.proofs.origin.node_origin.Goals as goal
 pub returns-in_ok-read_types-in-Choice-clause-origin : goal.returns-in_ok-read_types-in-Choice-clause-origin
 returns-in_ok-read_types-in-Choice-clause-origin c =
     let read = token_of c.args.tree.now in
-    let e : view_node read c.args.node ≡ a_type (view_types read c.in-Choice.types.now) = first_of (simp (c.in-Choice.is, c.in-Choice.types-is), simp c.in-Choice.is, search rules, cc) in
+    let e : view_node read c.args.node ≡ a_type (view_types read c.in-Choice.types.now) = simp c.in-Choice.is in
     subst (λ (p : Piece). IsOriginOf c.read_types.new.terms p (T.Row c.in_ok-read_types-in-Choice.field-0)) (sym e) (of_type c.in_ok-read_types-in-Choice.ensures.term)
 
 pub returns-in_ok-read_type1-in-Operation-clause-origin : goal.returns-in_ok-read_type1-in-Operation-clause-origin
 returns-in_ok-read_type1-in-Operation-clause-origin c =
     let read = token_of c.args.tree.now in
-    let e : view_node read c.args.node ≡ a_type (S.only (view_type1 read c.in-Operation.type1.now)) = first_of (simp (c.in-Operation.is, c.in-Operation.type1-is), simp c.in-Operation.is, search rules, cc) in
+    let e : view_node read c.args.node ≡ a_type (S.only (view_type1 read c.in-Operation.type1.now)) = simp c.in-Operation.is in
     subst (λ (p : Piece). IsOriginOf c.read_type1.new.terms p (T.Row c.in_ok-read_type1-in-Operation.field-0)) (sym e) (of_type c.in_ok-read_type1-in-Operation.ensures.term)
 
 pub returns-in_ok-read_operand-in-Operand-clause-origin : goal.returns-in_ok-read_operand-in-Operand-clause-origin
 returns-in_ok-read_operand-in-Operand-clause-origin c =
     let read = token_of c.args.tree.now in
-    let e : view_node read c.args.node ≡ operand (view_type2 read c.in-Operand.type2.now) = first_of (simp (c.in-Operand.is, c.in-Operand.type2-is), simp c.in-Operand.is, search rules, cc) in
+    let e : view_node read c.args.node ≡ operand (view_type2 read c.in-Operand.type2.now) = simp c.in-Operand.is in
     subst (λ (p : Piece). IsOriginOf c.read_operand.new.terms p (T.Row c.in_ok-read_operand-in-Operand.field-0)) (sym e) (of_type c.in_ok-read_operand-in-Operand.ensures.term)
 
 pub returns-in_ok-read_literal-in-Literal-clause-origin : goal.returns-in_ok-read_literal-in-Literal-clause-origin
 returns-in_ok-read_literal-in-Literal-clause-origin c =
     let read = token_of c.args.tree.now in
-    let e : view_node read c.args.node ≡ operand (S.literal (view_value read c.in-Literal.value)) = first_of (simp (c.in-Literal.is, c.in-Literal.value-is), simp c.in-Literal.is, search rules, cc) in
+    let e : view_node read c.args.node ≡ operand (S.literal (view_value read c.in-Literal.value)) = simp c.in-Literal.is in
     subst (λ (p : Piece). IsOriginOf c.read_literal.new.terms p (T.Row c.in_ok-read_literal-in-Literal.field-0)) (sym e) (of_type c.in_ok-read_literal-in-Literal.ensures.literal)
 
 pub returns-in_ok-add_text-in-Word-clause-origin : goal.returns-in_ok-add_text-in-Word-clause-origin
 returns-in_ok-add_text-in-Word-clause-origin c =
     let read = token_of c.args.tree.now in
-    let e : view_node read c.args.node ≡ a_word (read c.in-Word.leaf) = first_of (simp (c.in-Word.is, c.in-Word.leaf-is), simp c.in-Word.is, search rules, cc) in
+    let e : view_node read c.args.node ≡ a_word (read c.in-Word.leaf) = simp c.in-Word.is in
     subst (λ (p : Piece). IsOriginOf c.add_text.new.self p (T.Word c.in_ok-add_text-in-Word.field-0)) (sym e) (of_word (c.in_ok-add_text-in-Word.ensures.there ∙ ap Some c.text_at.ensures))

@@ -1,4 +1,4 @@
-use Rattle.std.proofs.Common.{List, ap, sym, subst, ◌∙◌, map}
+use Rattle.std.proofs.Common.{ap, ◌∙◌, map}
 use Rattle.lists.proofs.Lemmas.{ok_then}
 use Rattle.tree_nodes.specs.View.{token_of, view}
 use Rattle.cddl_language.specs.Reading.{rules_of}

@@ -1,7 +1,7 @@
 use Rattle.cddl_token.specs.declared.Kind.TheVariants.{Ampersand, AngleClose, BraceClose, BraceOpen, BracketClose, BracketOpen, Hash, ParenClose, ParenOpen, SimpleHeadOpen, TagHeadOpen, TagOpen, Tilde}
-use Rattle.std.proofs.Common.{◌∷◌, ◌++◌, []}
+use Rattle.std.proofs.Common.{◌∷◌}
 use Rattle.tree_nodes.specs.Syntax.Syntax as S
-use Rattle.tree_nodes.specs.View.{view_group, view_ref, view_types, token_of}
+use Rattle.tree_nodes.specs.View.{view_group, view_types, token_of}
 use Rattle.tree_nodes.proofs.Lemmas.{views}
 use Rattle.cddl_sources.proofs.Ending.{alone, behind, behind_one}
 use Rattle.cddl_sources.proofs.span.type2_end.Goals as goal

@@ -1,4 +1,4 @@
-use Rattle.std.proofs.Common.{◌≡◌, ◌-◌, List, length, option_map, Option, Some, None, slice_get, sym, ap, subst, ◌∙◌}
+use Rattle.std.proofs.Common.{◌≡◌, ◌-◌, List, length, option_map, Some, None, slice_get, sym, ap, subst, ◌∙◌}
 use Rattle.std.specs.Borrow.{Bor}
 use Rattle.tree_nodes.specs.declared.tree.Further.{Further}
 use Rattle.tree_nodes.specs.View.{token_of}

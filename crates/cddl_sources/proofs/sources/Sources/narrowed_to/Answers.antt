@@ -1,4 +1,4 @@
-use Rattle.std.proofs.Common.{◌≡◌, true, false, Option, Some, ap, refl, sym, subst, ◌++◌, ◌∷◌, [], arith, rules, slice_get}
+use Rattle.std.proofs.Common.{◌≡◌, true, false, Option, ap, refl, sym, subst, ◌++◌, ◌∷◌, [], arith, rules, slice_get}
 use Rattle.std.proofs.lemmas.Grind.{common_steps}
 use Rattle.lists.proofs.Lemmas.{one_of}
 use Rattle.table_making.specs.declared.origin.TypeOrigin.{TypeOrigin}

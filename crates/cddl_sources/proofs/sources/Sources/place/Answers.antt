@@ -1,6 +1,5 @@
-use Rattle.std.proofs.Common.{arith, rules, refl, List, Option, None, Some, sym, subst, ◌∙◌, ap, ◌++◌, ◌∷◌, [], take}
+use Rattle.std.proofs.Common.{List, Option, subst}
 use Rattle.std.proofs.lemmas.List.{take_all}
-use Rattle.std.proofs.lemmas.Grind.{common_steps}
 use Rattle.lists.proofs.Lemmas.{none_in}
 use Rattle.table_nodes.specs.declared.nodes.TypeId.{TypeId}
 use Rattle.cddl_sources.specs.States.{IsStateAfter, IsStateOf}
