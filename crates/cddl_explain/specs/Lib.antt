@@ -2,6 +2,7 @@ pub mod Arity
 pub mod Causes
 pub mod Examples
 pub mod Expected
+pub mod Further
 pub mod Hints
 pub mod Known
 pub mod Meant

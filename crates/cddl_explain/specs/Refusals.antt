@@ -33,18 +33,24 @@ pub record IsWrong (code : Code) (text : List ℕ) (part : Part) (ts : List Toke
   pub is_hint : IsHint code text part ts root hint
   pub is : told ≡ said code text ts root part ++ hint
 
--- what is told: the line of the refusal; the file, the line and the column, and the name of the code; the line of the text and
--- the marks under the part that is meant; what is wrong with it; and what was perhaps meant
-pub record IsExplainedRefusal (code : Code) (offset : ℕ) (file text : List ℕ) (root : Option (List ℕ)) (told : List ℕ) : Type 0 where
-  pub ts : List Token
+-- what is told of a fault in a text with these tokens: the file, the line and the column, and the name of the code; the line of
+-- the text and the marks under the part that is meant; what is wrong with it; and what was perhaps meant
+pub record IsExplainedPlace (code : Code) (offset : ℕ) (file text : List ℕ) (ts : List Token) (root : Option (List ℕ)) (told : List ℕ) : Type 0 where
   pub part : Part
   pub line : ℕ
   pub column : ℕ
   pub pointed : List ℕ
   pub wrong : List ℕ
-  pub are_tokens : AreTokens text ts
   pub is_part : IsPart code text offset ts part
   pub is_at : IsAt (take part.from text) line column
   pub points : IsPointedAt text part.from part.to pointed
   pub is_wrong : IsWrong code text part ts root wrong
-  pub is : told ≡ refusal_text (At code offset) ++ (codes "\n" ++ (shown file ++ (codes ":" ++ (decimal line ++ (codes ":" ++ (decimal column ++ (codes ": " ++ (name_of code ++ (codes "\n" ++ (pointed ++ (wrong ++ codes "\n")))))))))))
+  pub is : told ≡ shown file ++ (codes ":" ++ (decimal line ++ (codes ":" ++ (decimal column ++ (codes ": " ++ (name_of code ++ (codes "\n" ++ (pointed ++ (wrong ++ codes "\n")))))))))
+
+-- what is told of a refusal: its line, and then this
+pub record IsExplainedRefusal (code : Code) (offset : ℕ) (file text : List ℕ) (root : Option (List ℕ)) (told : List ℕ) : Type 0 where
+  pub ts : List Token
+  pub are_tokens : AreTokens text ts
+  pub place : List ℕ
+  pub is_place : IsExplainedPlace code offset file text ts root place
+  pub is : told ≡ refusal_text (At code offset) ++ (codes "\n" ++ place)

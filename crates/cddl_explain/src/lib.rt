@@ -5,6 +5,7 @@ mod arity;
 mod causes;
 mod examples;
 mod expected;
+mod further;
 mod hints;
 mod known;
 mod laws;
@@ -24,6 +25,7 @@ mod subjects;
 
 pub use crate::causes::{Cause, meaning, words};
 pub use crate::examples::example;
+pub use crate::further::further_faults;
 pub use crate::laws::{each_kind_is_asked, names_are_printed};
 pub use crate::names::{example_at, name, number};
 pub use crate::places::place;

@@ -1,9 +1,10 @@
 //! What is told of a refused specification to one who wants more than the line of the refusal.
 
-ghost use Rattle.std.specs.Prelude.{◌≡◌, ◌≤◌, length, IfOk, option_map, string_bytes};
+ghost use Rattle.std.specs.Prelude.{◌≡◌, ◌≤◌, length, map, IfOk, option_map, string_bytes};
+ghost use Rattle.cddl_token.specs.Answers.{span, InOrder};
 ghost use Rattle.text_shown.specs.Shown.{shown};
 ghost use Rattle.cddl_explain.specs.Parts.{IsWithin};
-ghost use Rattle.cddl_explain.specs.Refusals.{of_nothing, said, IsExplainedRefusal, IsWrong};
+ghost use Rattle.cddl_explain.specs.Refusals.{of_nothing, said, IsExplainedPlace, IsExplainedRefusal, IsWrong};
 
 use crate::hints::hint;
 use crate::names::name;
@@ -37,14 +38,31 @@ pub fn explained_refusal(
     ensures { IfOk result (λ told. IsExplainedRefusal code offset file.now text.now (option_map (λ r. r.now) root.entry) (string_bytes told)) }
 {
     let tokens = tokens_of(alloc, text)?;
-    let part = part_of(code, text, offset, tokens.as_slice());
+    let place = explained_place(alloc, code, offset, file, text, tokens.as_slice(), root)?;
+    let refusal = Refusal::At(code, offset);
+    format!(in alloc; "{refusal}\n{place}")
+}
+
+// Where a fault is, and what is wrong there, in whole lines.
+pub(crate) fn explained_place(
+    alloc: Global,
+    code: Code,
+    offset: usize,
+    file: &str,
+    text: &[u8],
+    tokens: &[Token<'_>],
+    root: Option<&str>,
+) -> Result<String, AllocError>
+    requires { InOrder 0 (length text.now) (map span tokens.now) }
+    ensures { IfOk result (λ told. IsExplainedPlace code offset file.now text.now tokens.now (option_map (λ r. r.now) root.entry) (string_bytes told)) }
+{
+    let part = part_of(code, text, offset, tokens);
     let position = position_of(text, part.from);
     let pointed = pointed_at(alloc, text, part.from, part.to)?;
-    let wrong = wrong(alloc, code, text, part, tokens.as_slice(), root)?;
+    let wrong = wrong(alloc, code, text, part, tokens, root)?;
     let file = shown(alloc, file)?;
-    let (line, column) = (position.line, position.column);
-    let (refusal, name) = (Refusal::At(code, offset), name(code));
-    format!(in alloc; "{refusal}\n{file}:{line}:{column}: {name}\n{pointed}{wrong}\n")
+    let (line, column, name) = (position.line, position.column, name(code));
+    format!(in alloc; "{file}:{line}:{column}: {name}\n{pointed}{wrong}\n")
 }
 
 // What is wrong, and what was perhaps meant.
