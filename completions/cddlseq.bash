@@ -10,8 +10,8 @@ _cddlseq() {
     fi
     case $command in
         check) options='--root --explain' files=1 ;;
-        validate) options='--root --explain --depth --item-bytes --steps --quiet' files=2 ;;
-        rewrite) options='--root --explain --depth --item-bytes --steps --deterministic' files=2 ;;
+        validate) options='--root --explain --depth --item-bytes --steps --no-progress --quiet' files=2 ;;
+        rewrite) options='--root --explain --depth --item-bytes --steps --no-progress --deterministic' files=2 ;;
         show) options='--depth --item-bytes' files=1 ;;
         explain) options='' files=0 ;;
         help)

@@ -35,6 +35,7 @@ from test_completions import are_completions_right
 from test_explain import are_explanations_right
 from test_imports import are_imports_clean
 from test_man import is_page_right
+from test_progress import run_progress
 
 sys.path.insert(0, os.path.join(TOP, "scripts"))
 from library import archive_in, build, folder_of_kit, link
@@ -138,6 +139,7 @@ def rows(rt):
         ("comparisons of the man page with the program's help", lambda: (1, 0) if is_page_right(PROGRAM) else (0, 1)),
         ("comparisons of the completions with the program's help", lambda: (1, 0) if are_completions_right(PROGRAM) else (0, 1)),
         ("comparisons of explanations with the documents", lambda: (1, 0) if are_explanations_right(PROGRAM) else (0, 1)),
+        ("progress on a terminal", lambda: run_progress(PROGRAM)),
         ("rows of the grammar", lambda: run_grammar(OUTLINE)),
         ("comparisons with a plain recognizer", lambda: recognizer.compare(OUTLINE)),
     ):

@@ -11,9 +11,9 @@ OF_ITSELF = {"--help", "-h", "--version", "-V"}
 
 def rows_for_package(only=""):
     """The rows whose name has the text, each in one way: the library's callers read a stream whole before they write. So a row is left out
-    that wants items from before memory is short."""
+    that wants items from before memory is short. They show no progress, and have no option for it."""
     with open(os.path.join(TOP, "tests", "rows.json"), encoding="utf-8") as file:
-        rows = [it for it in json.load(file) if only in it["name"] and not ("memory" in it and "items" in it)]
+        rows = [it for it in json.load(file) if only in it["name"] and not ("memory" in it and "items" in it) and "--no-progress" not in it["words"]]
     return [{**it, "ways": it.get("ways", ["whole"])[:1], "tells_at_once": False} for it in rows]
 
 

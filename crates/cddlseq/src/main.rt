@@ -4,10 +4,11 @@
 
 use cbor_item::Counted;
 use cddl_tool::{
-    Options, Use, act, options_of_arguments, read_text, ready, say_no_memory, say_no_text,
-    say_unopened, say_words, stream_name,
+    Options, ProgressLine, Use, act_watched, is_progress_shown, options_of_arguments, read_text,
+    ready, say_no_memory, say_no_text, say_unopened, say_words, stream_name,
 };
-use std::io::{self, ErrorKind, Read, Write};
+use std::fs::File;
+use std::io::{self, ErrorKind, IsTerminal, Read, Write};
 use std::process::ExitCode;
 use std::{env, fs};
 use table_nodes::Table;
@@ -73,22 +74,52 @@ fn act_on_stream<E: Write>(
     err: &mut Counted<E>,
 ) -> u8 {
     let Some(name) = stream_name(options) else {
-        return act_on_device(rt, options, table, rt.stdin(), err);
+        return act_on_device(rt, options, table, rt.stdin(), None, err);
     };
     match fs::open(rt, name) {
-        Ok(file) => act_on_device(rt, options, table, file, err),
+        Ok(file) => {
+            let size = size_of_file(&file);
+            act_on_device(rt, options, table, file, size, err)
+        }
         Err(_) => say_unopened(rt.alloc(), name, err),
     }
 }
 
+// The size of a file, where it is one whose size says how many bytes can be read.
+fn size_of_file(file: &File) -> Option<u64> {
+    let about = file.metadata().ok()?;
+    if about.is_file() {
+        Some(about.len())
+    } else {
+        None
+    }
+}
+
+// Acts on a stream, whose size is known or not, and shows how far it is where standard error is a terminal and standard output
+// is none.
 fn act_on_device<R: Read + Drop, E: Write>(
     rt: &HostRuntime,
     options: &Options,
     table: &Table,
     device: R,
+    size: Option<u64>,
     err: &mut Counted<E>,
 ) -> u8 {
     let mut input = Counted::new(device);
     let mut output = Counted::new(rt.stdout());
-    act(rt.alloc(), options, table, &mut input, &mut output, err)
+    let is_shown = is_progress_shown(
+        options,
+        rt.stderr().is_terminal(),
+        rt.stdout().is_terminal(),
+    );
+    let mut screen = ProgressLine::new(rt, rt.stderr(), size, is_shown);
+    act_watched(
+        rt.alloc(),
+        options,
+        table,
+        &mut input,
+        &mut output,
+        err,
+        &mut screen,
+    )
 }
