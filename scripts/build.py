@@ -21,8 +21,8 @@ import time
 from contextlib import contextmanager
 
 TOP = os.path.dirname(os.path.dirname(os.path.abspath(__file__)))
-# What the proofs of a crate do not read.
-LEFT_OUT = shutil.ignore_patterns("out", "must-fail", "wrong", "*.md")
+# What in the folder of a crate its proofs do not read.
+LEFT_OUT = {"out", "must-fail", "wrong", "README.md"}
 ROW = re.compile(r"(\w+)[^:#]*:(.*)")
 DONE = re.compile(r"rt: (\w+) (proved|is kept: .*)")
 
@@ -43,6 +43,12 @@ def with_those_below(names, rows):
     return sorted(found)
 
 
+def copy_crate(name, folder):
+    """Copies what the proofs of a crate read."""
+    crate = os.path.join(TOP, "crates", name)
+    shutil.copytree(crate, os.path.join(folder, "crates", name), ignore=lambda it, _: LEFT_OUT if it == crate else ())
+
+
 @contextmanager
 def copy_of(names):
     """A folder with a copy of these crates and of those below them, with nothing that was made of them, and their names."""
@@ -53,7 +59,7 @@ def copy_of(names):
         with open(os.path.join(folder, "crates.txt"), "w", encoding="utf-8") as file:
             file.writelines(rows[it][0] for it in names)
         for name in names:
-            shutil.copytree(os.path.join(TOP, "crates", name), os.path.join(folder, "crates", name), ignore=LEFT_OUT)
+            copy_crate(name, folder)
         yield folder, names
 
 

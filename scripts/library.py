@@ -20,7 +20,7 @@ import subprocess
 import sys
 import tempfile
 
-from build import LEFT_OUT, TOP, copy_of, prove, rows_of_crates
+from build import TOP, copy_crate, copy_of, prove, rows_of_crates
 
 CRATE = "cddlseq_c"
 CALLS = "cddlseq_*"
@@ -89,7 +89,7 @@ def prove_and_build(rt, top):
     with copy_of(below) as (folder, names):
         if not prove(rt, folder, len(names)):
             return None
-        shutil.copytree(os.path.join(TOP, "crates", CRATE), os.path.join(folder, "crates", CRATE), ignore=LEFT_OUT)
+        copy_crate(CRATE, folder)
         with open(os.path.join(folder, "crates.txt"), "a", encoding="utf-8") as file:
             file.write(line)
         archive = build(rt, folder)
