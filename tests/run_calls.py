@@ -33,7 +33,7 @@ These are the words:
 
 A table of match.types, match.groups and match.ranks is made of words, whose numbers name other words of the same list:
 
-  any, major:0, closed:1:5 (1..5), open:1:5 (1...5), ref:2, choice:1,2, array:GROUP, tag:NUMBER:CONTENT, simple:1, both:1:2,
+  any, major:0, text:a, bytes:61, closed:1:5 (1..5), open:1:5 (1...5), ref:2, choice:1,2, array:GROUP, tag:NUMBER:CONTENT, simple:1, both:1:2,
   one:1:2 and sequence:1:2 (.cbor and .cborseq), such:1:TEST with ne:5, lt:n5 (-6), le, gt, ge, size:1..2,4..4 or
   bits:0,2..3;
   map:ALTERNATIVE/.., each '-' or entries with commas, as 0*any:1=2, or 1*1:1^2 where the key cuts; and groups entry:TYPE,

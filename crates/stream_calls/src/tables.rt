@@ -1,6 +1,6 @@
 //! Tables that words build: each word is a type or a group, and numbers name those of the same list. The parts of a word have
 //! colons between them, and `tests/run_calls.py` explains them.
-use call_lines::{count, number};
+use call_lines::{bytes, count, number};
 use cbor_item::Item;
 use std::alloc::{AllocError, Global};
 use table_nodes::{
@@ -105,6 +105,8 @@ fn test_of(alloc: Global, form: &str, told: &str) -> Result<Test, AllocError> {
         "major" => Test::Major(told.parse::<u8>().unwrap_or(0)),
         "closed" => between(told, true),
         "open" => between(told, false),
+        "text" => Test::Equals(Item::Text(String::from_str(alloc, told)?)),
+        "bytes" => Test::Equals(Item::Bytes(bytes(alloc, told)?)),
         "ne" => Test::Differs(Item::Uint(number(told))),
         "lt" => Test::Less(whole(told)),
         "le" => Test::AtMost(whole(told)),
