@@ -51,6 +51,9 @@ has nothing in it. A refusal is the name of its kind, with 'at' its place. Reade
                                what the call answers, how often the device failed, and what it took
 
   match.verdict ROOT STEPS HEX what the type says of an item; match.turns ROOT STEPS ROOM HEX says so by turns
+  match.reasons ROOT STEPS MOST HEX
+                               where a no shows, and why: of each reason the types that are open and the place, behind those of
+                               the byte strings in whose content it is, each with ':'; and how many more there are
   session.feed ROOT STEPS DEPTH BYTES PIECE..
                                what a session answers to each piece with its items, its end, the item that it rejected, and how
                                many items and bytes it has taken, with '|' between them; session.feed_one takes items one by

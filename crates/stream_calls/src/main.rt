@@ -10,6 +10,7 @@ mod item_calls;
 mod items;
 mod match_calls;
 mod read_calls;
+mod reason_calls;
 mod run_calls;
 mod say_calls;
 mod session_calls;

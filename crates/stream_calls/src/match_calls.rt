@@ -1,4 +1,5 @@
 //! Calls of `table_nodes` and `cddl_match`.
+use crate::reason_calls::push_reasons;
 use crate::tables::groups_of;
 use call_lines::{bytes, count, first, number, push_no_memory, push_none, push_number};
 use cbor_item::Sound;
@@ -24,7 +25,8 @@ fn push_marks(flags: &[bool], out: &mut String) -> Result<(), AllocError> {
     push_none(out)
 }
 
-// The greatest rank; or what the root says of an item in so many steps, by calls, or by turns with room for so many questions.
+// The greatest rank; or what the root says of an item in so many steps, by calls, or by turns with room for so many questions; or
+// why it says no, in so many reasons.
 pub(crate) fn answer(
     alloc: Global,
     table: &Table,
@@ -40,6 +42,11 @@ pub(crate) fn answer(
             push_judged(alloc, verdict(alloc, table, &item, number(steps)), out)
         }
         "turns" => push_turns(alloc, table, number(steps), words, out),
+        "reasons" => {
+            let (most, words) = first(words);
+            let item = held_of(alloc, words)?;
+            push_reasons(alloc, table, &item, number(steps), count(most), out)
+        }
         _ => out.push_str("no such call"),
     }
 }

@@ -1,0 +1,84 @@
+//! Calls of `cddl_reasons`.
+use call_lines::{push_no_memory, push_none, push_number};
+use cbor_item::Sound;
+use cddl_reasons::{Cause, Reason, find_reasons};
+use std::alloc::{AllocError, Global};
+use table_nodes::{Content, Table};
+
+// Why a table says no to an item: where that shows, so many reasons, and how many more there are.
+pub(crate) fn push_reasons(
+    alloc: Global,
+    table: &Table,
+    item: &Sound,
+    steps: u64,
+    most: usize,
+    out: &mut String,
+) -> Result<(), AllocError> {
+    match find_reasons(alloc, table, item, steps, most) {
+        Ok(Some(reasons)) => {
+            out.push_str("at ")?;
+            push_number(alloc, reasons.place as u64, out)?;
+            for reason in &reasons.list {
+                push_reason(alloc, reason, out)?;
+            }
+            out.push_str(", ")?;
+            push_number(alloc, reasons.more, out)?;
+            out.push_str(" more")
+        }
+        Ok(None) => push_none(out),
+        Err(_) => push_no_memory(out),
+    }
+}
+
+// The types, the strings in whose content it is, the place, and the cause.
+fn push_reason(alloc: Global, reason: &Reason, out: &mut String) -> Result<(), AllocError> {
+    out.push_str(", ")?;
+    for id in &reason.types {
+        push_number(alloc, id.number as u64, out)?;
+        out.push_str(" ")?;
+    }
+    out.push_str("at ")?;
+    for place in &reason.strings {
+        push_number(alloc, *place as u64, out)?;
+        out.push_str(":")?;
+    }
+    push_number(alloc, reason.place as u64, out)?;
+    push_cause(alloc, reason.cause, out)
+}
+
+fn push_cause(alloc: Global, cause: Cause, out: &mut String) -> Result<(), AllocError> {
+    match cause {
+        Cause::Value => Ok(()),
+        Cause::Missing { member } => push_named(alloc, " missing ", member.number, out),
+        Cause::TooMuch => out.push_str(" too much"),
+        Cause::Stray => out.push_str(" stray"),
+        Cause::Few { key, count, least } => {
+            push_named(alloc, " few of ", key.number, out)?;
+            push_counts(alloc, count, " < ", least, out)
+        }
+        Cause::Many { key, count, most } => {
+            push_named(alloc, " many of ", key.number, out)?;
+            push_counts(alloc, count, " > ", most, out)
+        }
+        Cause::NothingHeld { content: Content::OneItem } => out.push_str(" no item"),
+        Cause::NothingHeld { content: Content::Sequence } => out.push_str(" no sequence"),
+    }
+}
+
+fn push_named(alloc: Global, what: &str, number: usize, out: &mut String) -> Result<(), AllocError> {
+    out.push_str(what)?;
+    push_number(alloc, number as u64, out)
+}
+
+fn push_counts(
+    alloc: Global,
+    count: u64,
+    sign: &str,
+    bound: u64,
+    out: &mut String,
+) -> Result<(), AllocError> {
+    out.push_str(" ")?;
+    push_number(alloc, count, out)?;
+    out.push_str(sign)?;
+    push_number(alloc, bound, out)
+}
