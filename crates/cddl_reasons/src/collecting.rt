@@ -88,18 +88,43 @@ fn all_reasons(
     ensures { IfOk result (λ found. All (IsReason (language_of table.now) (root_question table.now item.now)) found.list.items) }
 {
     let mut known = Vec::new(alloc);
-    let mut found = pass(table, item, place, Aim { alloc, most, known: &known }, turns)?;
+    let mut found = pass(
+        table,
+        item,
+        place,
+        Aim {
+            alloc,
+            most,
+            known: &known,
+        },
+        turns,
+    )?;
     'passes: for _ in 0..MOST_PASSES {
         if !learn(&mut known, &found)? {
             return Ok(found);
         }
-        found = pass(table, item, place, Aim { alloc, most, known: &known }, turns)?;
+        found = pass(
+            table,
+            item,
+            place,
+            Aim {
+                alloc,
+                most,
+                known: &known,
+            },
+            turns,
+        )?;
     }
     Ok(found)
 }
 
 // The root type as a reason.
-fn root_reason(alloc: Global, table: &Table, item: &Sound, place: usize) -> Result<Reason, AllocError>
+fn root_reason(
+    alloc: Global,
+    table: &Table,
+    item: &Sound,
+    place: usize,
+) -> Result<Reason, AllocError>
     ensures { IfOk result (λ reason. (w : ℕ) → RootSays table.now item.now (Answer.No place) w → IsReason (language_of table.now) (root_question table.now item.now) reason) }
 {
     let _sound = item.item();

@@ -104,7 +104,11 @@ fn group_cause(table: &Table, group: GroupId, items: &[Item]) -> Cause
 fn alternative_cause(base: usize, far: usize) -> Cause
     ensures { (l : F.Language TypeId GroupId) (es : List (F.MapEntry TypeId)) (ps : Pairs) → IsCause l (M.OfAlternative es base ps) far result }
 {
-    if far != base { Cause::Stray } else { Cause::Value }
+    if far != base {
+        Cause::Stray
+    } else {
+        Cause::Value
+    }
 }
 
 // How many pairs belong to the entry of this number of an alternative.
@@ -167,9 +171,13 @@ pub(crate) fn note_counts(
     let Reply::Takes { .. } = reply else {
         return Ok(());
     };
-    let Pending::Map(PendingMap::Value {
-        others, sorting, ..
-    }) = &last.pending
+    let Pending::Map(
+        PendingMap::Value {
+            others,
+            sorting,
+            ..
+        },
+    ) = &last.pending
     else {
         return Ok(());
     };

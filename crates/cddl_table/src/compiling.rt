@@ -47,10 +47,7 @@ pub fn compile(alloc: Global, spec: &Spec<'_>) -> Result<Table, AllocError>
 /// # Errors
 ///
 /// Memory was refused, or a number does not fit. Nothing else is refused of what was checked.
-pub fn compile_with_origins(
-    alloc: Global,
-    findings: &Findings<'_>,
-) -> Result<Traced, AllocError>
+pub fn compile_with_origins(alloc: Global, findings: &Findings<'_>) -> Result<Traced, AllocError>
     requires { (tree : Tree) × (root : Text) × IsSpec tree root findings.now }
     ensures stands { IfOk result (λ x. (tree : Tree) (root : Text) → IsSpec tree root findings.now → IsTableOf (record { tree = tree; root = root }) x.table) }
     ensures ranks { IfOk result (λ x. LeavesNoRankOut x.table) }

@@ -60,12 +60,21 @@ fn push_cause(alloc: Global, cause: Cause, out: &mut String) -> Result<(), Alloc
             push_named(alloc, " many of ", key.number, out)?;
             push_counts(alloc, count, " > ", most, out)
         }
-        Cause::NothingHeld { content: Content::OneItem } => out.push_str(" no item"),
-        Cause::NothingHeld { content: Content::Sequence } => out.push_str(" no sequence"),
+        Cause::NothingHeld {
+            content: Content::OneItem,
+        } => out.push_str(" no item"),
+        Cause::NothingHeld {
+            content: Content::Sequence,
+        } => out.push_str(" no sequence"),
     }
 }
 
-fn push_named(alloc: Global, what: &str, number: usize, out: &mut String) -> Result<(), AllocError> {
+fn push_named(
+    alloc: Global,
+    what: &str,
+    number: usize,
+    out: &mut String,
+) -> Result<(), AllocError> {
     out.push_str(what)?;
     push_number(alloc, number as u64, out)
 }

@@ -11,9 +11,10 @@ abbrev pub IsOne : (ℕ → Type 0) → Type 0
 IsOne P = (p q : ℕ) → P p → P q → p ≡ q
 
 pub gains_pushed : (old new : List ℕ) (at : ℕ) → new ≡ old ++ at ∷ [] → Gains (IsThatOf (Some at)) old new
-gains_pushed old new at e p =
-    (λ h. either (Contains-push_cases old at p (subst (λ xs. Contains xs p) e h)) inl (λ same. inr (ap Some same)),
-    λ h. subst (λ xs. Contains xs p) (sym e) (either h (λ c. Contains-append_left old (at ∷ []) p c) (λ same. subst (λ q. Contains (old ++ at ∷ []) q) (same_some_there at p same) (Contains-push old at))))
+gains_pushed old new at e p = (
+  λ h. either (Contains-push_cases old at p (subst (λ xs. Contains xs p) e h)) inl (λ same. inr (ap Some same)),
+  λ h. subst (λ xs. Contains xs p) (sym e) (either h (λ c. Contains-append_left old (at ∷ []) p c) (λ same. subst (λ q. Contains (old ++ at ∷ []) q) (same_some_there at p same) (Contains-push old at))),
+)
 
 pub gains_nothing : (old new : List ℕ) → new ≡ old → Gains (IsThatOf None) old new
 gains_nothing old new e p = (λ h. inl (subst (λ xs. Contains xs p) e h), λ h. subst (λ xs. Contains xs p) (sym e) (either h (λ c. c) (λ none. absurd (never_some p none))))

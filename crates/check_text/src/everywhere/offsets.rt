@@ -20,10 +20,7 @@ pub(crate) fn push_found(offsets: &mut Vec<usize>, found: Option<usize>) -> Resu
 }
 
 // A list of this offset alone, if there is one.
-pub(crate) fn found_alone(
-    alloc: Global,
-    found: Option<usize>,
-) -> Result<Vec<usize>, AllocError>
+pub(crate) fn found_alone(alloc: Global, found: Option<usize>) -> Result<Vec<usize>, AllocError>
     ensures { IfOk result (λ v. (p : ℕ) → Contains v.items p ↔ IsThatOf found p) }
 {
     let mut offsets = Vec::new(alloc);

@@ -60,9 +60,7 @@ fn push_told(
     ensures { OnOk result (IsSurvey terms.now tree.now survey.now → slice_get tree.now.rules.items place ≡ Some rule.now → Gains (IsToldAtRule code (rules_of (view tree.now)) (view_rule (token_of tree.now) rule.now)) offsets.old.items offsets.new.items) }
 {
     match code {
-        RuleCode::Duplicate => {
-            push_duplicates(alloc, offsets, terms, tree, survey, place, rule)
-        }
+        RuleCode::Duplicate => { push_duplicates(alloc, offsets, terms, tree, survey, place, rule) }
         RuleCode::KindClash => push_found(offsets, clash_at(terms, tree, survey, place, rule)),
         RuleCode::Arity => push_found(offsets, other_count(terms, tree, survey, place, rule)),
     }

@@ -14,8 +14,7 @@ ghost use Rattle.tree_nodes.specs.View.{token_of, view};
 
 use crate::everywhere::offsets::push_found;
 use crate::site_faults::{
-    Mark, bad_hash_at, group_as_type_at, marks_of, undefined_at, unknown_control_at,
-    wrong_arity_at,
+    Mark, bad_hash_at, group_as_type_at, marks_of, undefined_at, unknown_control_at, wrong_arity_at,
 };
 use check_reading::survey::Survey;
 use check_sites::sites::Found;
