@@ -1,19 +1,22 @@
 """Which rows of rows.json are run on the library, and through which of its callers."""
 import json
 import os
+import re
 
 from run_rows import TOP
 
 COMMANDS = ("check", "validate", "rewrite", "show", "explain")
 DEVICES = ("after_stream", "stdout_to", "stderr_to", "stderr_one_of")
+PLACE = re.compile(r"\S+:\d+:\d+: [A-Z]\w*")
 OF_ITSELF = {"--help", "-h", "--version", "-V"}
 
 
 def rows_for_package(only=""):
     """The rows whose name has the text, each in one way: the library's callers read a stream whole before they write. So a row is left out
-    that wants items from before memory is short. They show no progress, and have no option for it."""
+    that wants items from before memory is short, or that is told more than the first fault of a specification. They show no progress,
+    and have no option for it."""
     with open(os.path.join(TOP, "tests", "rows.json"), encoding="utf-8") as file:
-        rows = [it for it in json.load(file) if only in it["name"] and not ("memory" in it and "items" in it) and "--no-progress" not in it["words"]]
+        rows = [it for it in json.load(file) if only in it["name"] and not ("memory" in it and "items" in it) and "--no-progress" not in it["words"] and not tells_further_faults(it)]
     return [{**it, "ways": it.get("ways", ["whole"])[:1], "tells_at_once": False} for it in rows]
 
 
@@ -26,6 +29,12 @@ def rows_for_crate(only=""):
     """Those of these that the example of the crate in rust is made for."""
     rows = [it for it in rows_for_caller(only) if not needs_devices(it) and "memory" not in it]
     return [{**it, "each_write_fails": False} for it in rows]
+
+
+def tells_further_faults(row):
+    """Whether more faults of a specification are told than the first: the library tells that alone."""
+    said = row.get("stderr", "")
+    return isinstance(said, list) and sum(1 for it in said if PLACE.fullmatch(it)) > 1
 
 
 def needs_devices(row):

@@ -11,7 +11,7 @@ use Rattle.seq_run.specs.Running.{Change}
 use Rattle.command_line.specs.Lines.{memory_line}
 use Rattle.command_line.specs.declared.choice.Options.{Options}
 use Rattle.command_line.specs.declared.status.TheConstants.{REFUSED, BROKEN}
-use Rattle.cddl_explain.specs.Refusals.{IsExplainedRefusal}
+use Rattle.cddl_tool.specs.Further.{IsReason}
 use Rattle.cddl_tool.specs.Acting.{named_file, refusal_line, wanted_root, IsSaid, IsToldRefusal, line_alone, with_reason, IsTurnedDown, refused, no_memory}
 
 -- the reason was told
@@ -40,11 +40,11 @@ pub told_line : {Z E : Type 0} (o : Options) (text : List ℕ) (f : Fault) (r : 
 told_line o text f r e h = IfOk-weaker r _ _ (λ told same. subst (λ t. IsToldRefusal o text f t) (sym same) (line_alone e)) h
 
 pub told_reason : {Z E : Type 0} (o : Options) (text : List ℕ) (f : Fault) (r : Result (String Z) E) → o.explain ≡ true →
-    IfOk r (λ told. IsExplainedRefusal f.code f.at (named_file o) text (wanted_root o) (string_bytes told)) → IfOk r (λ told. IsToldRefusal o text f (string_bytes told))
+    IfOk r (λ told. IsReason f (named_file o) text (wanted_root o) (string_bytes told)) → IfOk r (λ told. IsToldRefusal o text f (string_bytes told))
 told_reason o text f r e h = IfOk-weaker r _ _ (λ told reason. with_reason e (string_bytes told) reason) h
 
 -- the names are those of the options
 pub by_names : {Z E : Type 0} (o : Options) (text : List ℕ) (f : Fault) (file : List ℕ) (root : Option (List ℕ)) (r : Result (String Z) E) → file ≡ named_file o → root ≡ wanted_root o →
-    IfOk r (λ told. IsExplainedRefusal f.code f.at file text root (string_bytes told)) → IfOk r (λ told. IsExplainedRefusal f.code f.at (named_file o) text (wanted_root o) (string_bytes told))
+    IfOk r (λ told. IsReason f file text root (string_bytes told)) → IfOk r (λ told. IsReason f (named_file o) text (wanted_root o) (string_bytes told))
 by_names o text f file root r is_file is_root h =
-    IfOk-weaker r _ _ (λ told reason. subst (λ x. IsExplainedRefusal f.code f.at (named_file o) text x (string_bytes told)) is_root (subst (λ x. IsExplainedRefusal f.code f.at x text root (string_bytes told)) is_file reason)) h
+    IfOk-weaker r _ _ (λ told reason. subst (λ x. IsReason f (named_file o) text x (string_bytes told)) is_root (subst (λ x. IsReason f x text root (string_bytes told)) is_file reason)) h

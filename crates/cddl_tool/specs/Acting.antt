@@ -22,8 +22,8 @@ use Rattle.command_line.specs.declared.choice.Task.TheVariants.{Check, Validate,
 use Rattle.command_line.specs.declared.status.TheConstants.{REFUSED, BROKEN}
 use Rattle.command_line.specs.Lines.{memory_line, read_failed_line, unexplained_line, write_failed_line}
 use Rattle.cddl_explain.specs.declared.subjects.Subject.{Subject}
-use Rattle.cddl_explain.specs.Refusals.{IsExplainedRefusal}
 use Rattle.cddl_explain.specs.Subjects.{explanation_of, IsNameOf}
+use Rattle.cddl_tool.specs.Further.{IsReason}
 
 -- the specification of a task: to show a stream or to explain a code, that of any item
 abbrev pub specification_of : Task → List ℕ → List ℕ
@@ -52,10 +52,10 @@ wanted_root o = option_map (λ s. string_bytes s) o.root
 abbrev pub named_file : Options → List ℕ
 named_file o = word_in (option_map (λ s. string_bytes s) o.spec)
 
--- What is told of a refusal: its line, and with `--explain` also where it is and what is wrong.
+-- What is told of a refusal: its line, and with `--explain` also where it is and what is wrong, and what else is wrong.
 pub data IsToldRefusal (o : Options) (text : List ℕ) (f : Fault) : List ℕ → Type 0 where
   line_alone : o.explain ≡ false → IsToldRefusal o text f (refusal_line f)
-  with_reason : o.explain ≡ true → (told : List ℕ) → IsExplainedRefusal f.code f.at (named_file o) text (wanted_root o) told → IsToldRefusal o text f told
+  with_reason : o.explain ≡ true → (told : List ℕ) → IsReason f (named_file o) text (wanted_root o) told → IsToldRefusal o text f told
 
 -- The text has no table with the root that is asked for: what is wrong with it was told, and the status says so; or want of memory was.
 pub data IsTurnedDown (o : Options) (text : List ℕ) (error : Change) : ℕ → Type 0 where

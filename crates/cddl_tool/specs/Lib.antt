@@ -1,3 +1,4 @@
 pub mod Acting
+pub mod Further
 pub mod Progress
 pub mod Screens

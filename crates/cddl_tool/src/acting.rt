@@ -3,18 +3,19 @@
 ghost use Rattle.std.specs.Prelude.{◌≡◌, ◌≢◌, ◌⊎◌, ℕ, List, Option, IfOk, IfErr, IfSome, OnOk, option_copied, option_map, string_bytes};
 ghost use Rattle.item_nodes.specs.Counted.{device_of};
 ghost use Rattle.cddl_check.specs.Text.{IsUnreadText};
-ghost use Rattle.cddl_explain.specs.Refusals.{IsExplainedRefusal};
 ghost use Rattle.cddl_table.specs.Text.{IsTabledText};
 ghost use Rattle.seq_run.specs.Judge.{judge_of};
 ghost use Rattle.seq_run.specs.Report.{IsShown};
 ghost use Rattle.seq_run.specs.Running.{change_of};
 ghost use Rattle.command_line.specs.Lines.{memory_line};
+ghost use Rattle.cddl_tool.specs.Further.{IsReason};
 ghost use Rattle.cddl_tool.specs.Acting.{fault_line, limits_of, mode_of, refusal_line, report_mode_of, rewrite_mode_of, named_file, specification_of, status_for, wanted_root, wanted_word, HasNoStream, IsAcceptance, IsAnswered, IsBroken, IsExplained, IsSaid, IsTold, IsToldRefusal, IsTurnedDown};
 
+use crate::further::explained;
 use crate::progress::{Screen, run_shown};
 use cbor_item::{Counted, Sound, write_bytes};
 use cbor_read::Limits;
-use cddl_explain::{explained_refusal, explanation, subject_of};
+use cddl_explain::{explanation, subject_of};
 use cddl_table::read_specification;
 use cddl_token::Refusal;
 use check_text::Fault;
@@ -125,23 +126,16 @@ fn told_of_refusal(
     }
 }
 
-// The line of the refusal, with where it is and what is wrong.
+// The line of the refusal, with where it is and what is wrong, and what else is.
 fn reason_of(
     alloc: Global,
     options: &Options,
     text: &[u8],
     fault: Fault,
 ) -> Result<String, AllocError>
-    ensures { IfOk result (λ told. IsExplainedRefusal fault.code fault.at (named_file options.now) text.now (wanted_root options.now) (string_bytes told)) }
+    ensures { IfOk result (λ told. IsReason fault (named_file options.now) text.now (wanted_root options.now) (string_bytes told)) }
 {
-    explained_refusal(
-        alloc,
-        fault.code,
-        fault.at,
-        file_of(options),
-        text,
-        root_of(options),
-    )
+    explained(alloc, fault, file_of(options), text, root_of(options))
 }
 
 // The line that tells what is wrong with a text.

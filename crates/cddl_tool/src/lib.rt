@@ -2,6 +2,7 @@
 #![tactic(auto)]
 
 mod acting;
+mod further;
 mod laws;
 mod progress;
 mod watching;
