@@ -2,3 +2,4 @@ mod Ranges
 pub mod Refusing
 pub mod Telling
 mod Fronts
+mod Besides

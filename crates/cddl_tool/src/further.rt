@@ -1,6 +1,6 @@
 //! What is told of a refusal to one who wants more than its line.
 
-ghost use Rattle.std.specs.Prelude.{IfOk, option_map, string_bytes};
+ghost use Rattle.std.specs.Prelude.{◌≡◌, ◌<◌, IfOk, Some, length, option_map, slice_get, string_bytes};
 ghost use Rattle.cddl_explain.specs.Further.{AreFurther};
 ghost use Rattle.cddl_tool.specs.Further.{AreBesides, IsReason};
 
@@ -42,10 +42,21 @@ fn besides(
 {
     let mut told = String::new(alloc);
     'fault: for k in 0..faults.len() {
-        let part = of_code(alloc, fault, &faults[k], file, text, root)?;
+        let part = of_code(alloc, fault, listed_at(faults, k), file, text, root)?;
         told.push_str(part.as_str())?;
     }
     Ok(told)
+}
+
+// The faults of the code at this index.
+fn listed_at(faults: &[Listed], index: usize) -> &Listed
+    requires { index < length faults.now }
+    ensures { slice_get faults.now index ≡ Some result.now }
+{
+    match faults.get(index) {
+        Some(listed) => listed,
+        None => unreachable!(),
+    }
 }
 
 // What is told of the faults of one code.
