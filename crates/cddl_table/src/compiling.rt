@@ -29,7 +29,8 @@ use table_nodes::Table;
 ///
 /// # Errors
 ///
-/// Memory was refused, or a number does not fit. Nothing else is refused of what was checked.
+/// Memory was refused, the forms have more parts than there is room for, or a number does not fit. Nothing else is refused of what
+/// was checked.
 pub fn compile(alloc: Global, spec: &Spec<'_>) -> Result<Table, AllocError>
     ensures stands { IfOk result (IsTableOf spec.now) }
     ensures ranks { IfOk result LeavesNoRankOut }
@@ -46,7 +47,8 @@ pub fn compile(alloc: Global, spec: &Spec<'_>) -> Result<Table, AllocError>
 ///
 /// # Errors
 ///
-/// Memory was refused, or a number does not fit. Nothing else is refused of what was checked.
+/// Memory was refused, the forms have more parts than there is room for, or a number does not fit. Nothing else is refused of what
+/// was checked.
 pub fn compile_with_origins(alloc: Global, findings: &Findings<'_>) -> Result<Traced, AllocError>
     requires { (tree : Tree) × (root : Text) × IsSpec tree root findings.now }
     ensures stands { IfOk result (λ x. (tree : Tree) (root : Text) → IsSpec tree root findings.now → IsTableOf (record { tree = tree; root = root }) x.table) }

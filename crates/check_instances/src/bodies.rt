@@ -18,15 +18,19 @@ ghost use Rattle.check_instances.specs.Steps as by;
 
 use crate::laws::patterns_grow;
 use crate::patterns::Pattern;
+use crate::room::take;
 use check_names::environment::Name;
 use check_terms::fill::arguments_of;
 use check_terms::laws::{filled_trees, is_table};
 use check_terms::{Body, NoRoom, Terms, push};
+use rooms::Room;
 use std::alloc::Global;
 
 // What a closed reference means: the body of each definition of its name, with the arguments in the place of the parameters.
+// The arguments, the bodies, and the rows that are filled take room.
 pub(crate) fn bodies_of(
     alloc: Global,
+    room: &mut Room,
     terms: &mut Terms<'_>,
     names: &[Name],
     known: &[Pattern],
@@ -45,7 +49,8 @@ pub(crate) fn bodies_of(
         return Err(NoRoom);
     };
     let arguments = arguments_of(alloc, terms, row.first)?;
-    fill_name(alloc, terms, name, known, own, &arguments)
+    take(room, arguments.len())?;
+    fill_name(alloc, room, terms, name, known, own, &arguments)
 }
 
 fn name_at(names: &[Name], number: Option<u32>) -> Option<&Name>
@@ -57,6 +62,7 @@ fn name_at(names: &[Name], number: Option<u32>) -> Option<&Name>
 // The bodies of the name's definitions: the prelude's, unless the text replaces it, and those of the text that count.
 fn fill_name(
     alloc: Global,
+    room: &mut Room,
     terms: &mut Terms<'_>,
     name: &Name,
     known: &[Pattern],
@@ -68,8 +74,8 @@ fn fill_name(
     ensures stand { IfOk result (λ v. (xs : List L.Definition) (n : Text) (ts : List Term) → IsStanding xs n (standing name.now) → ArePatterns terms.old known.now prelude → ArePatterns terms.old own.now xs → AreTrees terms.old arguments.now (term_trees ts) → AreBodies terms.new v.items (filled_bodies ts (definitions_of xs n))) }
 {
     patterns_grow();
-    let bodies = fill_known(alloc, terms, kept_place(name), known, arguments)?;
-    fill_own(alloc, terms, &name.counting, own, arguments, bodies)
+    let bodies = fill_known(alloc, room, terms, kept_place(name), known, arguments)?;
+    fill_own(alloc, room, terms, &name.counting, own, arguments, bodies)
 }
 
 // The place of the prelude's definition, unless the text replaces it.
@@ -84,6 +90,7 @@ fn kept_place(name: &Name) -> Option<usize>
 
 fn fill_known(
     alloc: Global,
+    room: &mut Room,
     terms: &mut Terms<'_>,
     place: Option<usize>,
     patterns: &[Pattern],
@@ -95,7 +102,7 @@ fn fill_known(
 {
     let mut bodies = Vec::new(alloc);
     if let Some(place) = place {
-        let body = fill_at(alloc, terms, place, patterns, arguments)?;
+        let body = fill_at(alloc, room, terms, place, patterns, arguments)?;
         push(&mut bodies, body)?;
     }
     Ok(bodies)
@@ -104,6 +111,7 @@ fn fill_known(
 // The bodies of the definitions at these places, after the others.
 fn fill_own(
     alloc: Global,
+    room: &mut Room,
     terms: &mut Terms<'_>,
     places: &[usize],
     patterns: &[Pattern],
@@ -116,7 +124,7 @@ fn fill_own(
 {
     patterns_grow();
     for place in places {
-        let body = fill_at(alloc, terms, *place, patterns, arguments)?;
+        let body = fill_at(alloc, room, terms, *place, patterns, arguments)?;
         push(&mut bodies, body)?;
     }
     Ok(bodies)
@@ -125,6 +133,7 @@ fn fill_own(
 // The body of the definition at the place.
 fn fill_at(
     alloc: Global,
+    room: &mut Room,
     terms: &mut Terms<'_>,
     place: usize,
     patterns: &[Pattern],
@@ -138,7 +147,10 @@ fn fill_at(
     let Some(pattern) = pattern_at(patterns, place) else {
         return Err(NoRoom);
     };
+    let rows = terms.len();
     let row = pattern.template.fill(alloc, terms, arguments)?;
+    take(room, 1)?;
+    take(room, terms.len().saturating_sub(rows))?;
     Ok(with_row(pattern.body, row))
 }
 

@@ -21,10 +21,17 @@ use check_names::environment::Name;
 use check_names::environment::laws::names_stand;
 use check_terms::laws::{equal_numbers, growing_keeps};
 use check_terms::{Body, Definition, Form, NoRoom, Row, Terms, push};
+use rooms::Room;
 use std::alloc::Global;
 
 /// How many instances there may be.
 pub const MOST_INSTANCES: usize = 4096;
+
+/// How many bodies, rows in them and arguments instances may have, beside those that the text gives room for.
+const FILLED_ROWS: u64 = 524_288;
+
+/// For how many of them each row and each definition of the text gives room.
+const FILLED_ROWS_OF_A_ROW: u64 = 2;
 
 /// A closed reference that the root leads to, and what it means.
 #[derive(Drop)]
@@ -54,8 +61,11 @@ pub enum Found {
 /// each instance. The template of each definition is made first, which costs n log n for the rows of all of them. With more
 /// instances than may be the search ends at once. Nothing recurses.
 ///
-/// An error comes where memory is refused, or each number of 32 bits is taken; then some rows may have been added. It may come,
-/// too, where a number is not of this table.
+/// The arguments and the bodies of all instances, and the rows that are added for these, are at most 524,288 and two for each
+/// definition and each row that the table has before.
+///
+/// An error comes where memory is refused, where there are more of these, or where each number of 32 bits is taken; then some rows
+/// may have been added. It may come, too, where a number is not of this table.
 pub fn instances(
     alloc: Global,
     terms: &mut Terms<'_>,
@@ -115,6 +125,11 @@ fn search_from(
 {
     growing_keeps();
     patterns_grow();
+    let mut room = Room::new(
+        FILLED_ROWS,
+        FILLED_ROWS_OF_A_ROW,
+        terms.len().saturating_add(own.len()),
+    );
     let mut search = begin(alloc, terms, root)?;
     let mut found = Vec::new(alloc);
     while let Some(call) = search.reference(found.len()) {
@@ -122,7 +137,16 @@ fn search_from(
             equal_numbers(terms);
             return Ok(Found::TooMany);
         }
-        let instance = follow(alloc, terms, &mut search, names, known, own, call)?;
+        let instance = follow(
+            alloc,
+            &mut room,
+            terms,
+            &mut search,
+            names,
+            known,
+            own,
+            call,
+        )?;
         push(&mut found, instance)?;
     }
     equal_numbers(terms);
@@ -142,6 +166,7 @@ fn begin(alloc: Global, terms: &Terms<'_>, root: u32) -> Result<Search, NoRoom>
 // What the reference means, and the references that stand in it.
 fn follow(
     alloc: Global,
+    room: &mut Room,
     terms: &mut Terms<'_>,
     search: &mut Search,
     names: &[Name],
@@ -157,7 +182,7 @@ fn follow(
     ensures follows { IfOk result (λ i. (xs : List L.Definition) (n : Text) (from first : List ℕ) → AreMeanings xs terms.old names.now known.now own.now → search.old.waiting.items ≡ [] → slice_get search.old.refs.items (length first) ≡ Some call → IsSearch xs n terms.old from first search.old.marks.items search.old.waiting.items search.old.refs.items → IsSearch xs n terms.new (rows_of i.bodies.items ++ from) (first ++ call ∷ []) search.new.marks.items search.new.waiting.items search.new.refs.items) }
 {
     growing_keeps();
-    let bodies = bodies_of(alloc, terms, names, known, own, call)?;
+    let bodies = bodies_of(alloc, room, terms, names, known, own, call)?;
     search.await_bodies(&bodies)?;
     search.walk(terms)?;
     Ok(Instance { call, bodies })

@@ -9,6 +9,7 @@ pub mod laws;
 mod marks;
 pub mod openings;
 mod patterns;
+mod room;
 mod search;
 
 pub use crate::found::{Found, Instance, MOST_INSTANCES, instances};

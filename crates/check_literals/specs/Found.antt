@@ -3,7 +3,9 @@ use Rattle.std.specs.Prelude.{◌≡◌, ◌≢◌, ◌<◌, ◌≤◌, ℕ, suc
 use Rattle.cddl_literal.specs.Literals.{view}
 use Rattle.cddl_literal.specs.Numbers.{Meaning}
 use Rattle.cddl_literal.specs.declared.Literal.{Literal}
+use Rattle.cddl_literal.specs.declared.Literal.TheVariants as LiteralV
 use Rattle.cddl_literal.specs.declared.operators.Fault.{Fault}
+use Rattle.std.specs.String.{string_len}
 use Rattle.check_literals.specs.Values.Values.{Answers}
 use Rattle.cddl_language.specs.Literals.{Means, computed_literal}
 use Rattle.cddl_language.specs.Reach.{most_instances}
@@ -82,6 +84,17 @@ pub record IsStep (t : Table) (count row : ℕ) (d : Need) (old new : Progress) 
 abbrev pub added : Found → List Literal
 added (FoundV.New l d) = l ∷ []
 added _ = []
+
+-- the bytes of a string
+abbrev pub literal_bytes : Literal → ℕ
+literal_bytes (LiteralV.Text s) = string_len s
+literal_bytes (LiteralV.Bytes v) = length v.items
+literal_bytes _ = 0
+
+-- the bytes of a string that no row had before
+abbrev pub bytes_of : Found → ℕ
+bytes_of (FoundV.New l d) = literal_bytes l
+bytes_of _ = 0
 
 abbrev pub outcome_of : ℕ → Found → Outcome
 outcome_of n FoundV.Nothing = OutcomeV.Nothing

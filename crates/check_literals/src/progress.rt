@@ -1,7 +1,7 @@
 //! What is known of rows, one after another.
 
 ghost use Rattle.std.specs.Prelude.{◌≡◌, ◌<◌, ◌++◌, IfOk, Some, length, map, slice_get};
-ghost use Rattle.check_literals.specs.Found.{AreTold, IsBlank, IsOrdered, IsPut, IsSound, IsStep, added, names_of, outcome_of};
+ghost use Rattle.check_literals.specs.Found.{AreTold, IsBlank, IsOrdered, IsPut, IsSound, IsStep, added, bytes_of, literal_bytes, names_of, outcome_of};
 ghost use Rattle.check_literals.specs.Needs.{Need as NeedOf, need_view};
 
 use crate::found::{Found, Progress, found_of};
@@ -9,7 +9,14 @@ use crate::known::{Literals, Outcome};
 use crate::needs::Need;
 use cddl_literal::Literal;
 use check_terms::Terms;
+use rooms::Room;
 use std::alloc::{AllocError, Global};
+
+/// How many bytes the strings among literals may have together, beside those that the rows give room for.
+const BYTES: u64 = 4 << 20;
+
+/// For how many of these bytes each row gives room.
+const BYTES_OF_A_ROW: u64 = 64;
 
 // What the rows of the order are, each told from those before it that it needs. Nothing is told of other rows.
 pub(crate) fn progress_of(
@@ -21,9 +28,10 @@ pub(crate) fn progress_of(
     requires { IsOrdered (map need_view needs.now) order.now }
     ensures { IfOk result (AreTold terms.now (map need_view needs.now) order.now (length order.now)) }
 {
+    let mut room = Room::new(BYTES, BYTES_OF_A_ROW, needs.len());
     let mut known = nothing_known(alloc, needs.len())?;
     for row in order {
-        settle(alloc, terms, needs, *row, &mut known)?;
+        settle(alloc, &mut room, terms, needs, *row, &mut known)?;
     }
     Ok(known)
 }
@@ -46,6 +54,7 @@ fn nothing_known(alloc: Global, count: usize) -> Result<Progress, AllocError>
 // Finds out what the row is, from the rows that it needs.
 fn settle(
     alloc: Global,
+    room: &mut Room,
     terms: &Terms<'_>,
     needs: &[Need],
     row: usize,
@@ -56,7 +65,28 @@ fn settle(
     ensures { IfOk result (λ _. (d : NeedOf) → slice_get (map need_view needs.now) row ≡ Some d → IsStep terms.now (length needs.now) row d known.old known.new) }
 {
     let found = found_of(alloc, terms, needs[row], known)?;
+    room.take(bytes_of(&found))?;
     put(known, row, found)
+}
+
+// How many bytes a new string has.
+fn bytes_of(found: &Found) -> usize
+    ensures { result ≡ bytes_of found.now }
+{
+    match found {
+        Found::New { literal, .. } => literal_bytes(literal),
+        _ => 0,
+    }
+}
+
+fn literal_bytes(literal: &Literal) -> usize
+    ensures { result ≡ literal_bytes literal.now }
+{
+    match literal {
+        Literal::Text(text) => text.len(),
+        Literal::Bytes(bytes) => bytes.len(),
+        _ => 0,
+    }
 }
 
 fn put(known: &mut Progress, row: usize, found: Found) -> Result<(), AllocError>

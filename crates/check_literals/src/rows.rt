@@ -29,11 +29,11 @@ use std::alloc::{AllocError, Global};
 ///
 /// The time is n log n in rows, and linear in the bytes of the literals. The memory is a few numbers for each row, and the bytes
 /// of each literal once: what is written, and at most 65,536 bytes for each control that computes. Names and parentheses share
-/// the place of what they stand for.
+/// the place of what they stand for. All of these bytes are at most 4 MiB and 64 for each row.
 ///
 /// # Errors
 ///
-/// `AllocError` where memory is refused, and where the table has 2^32 rows or more.
+/// `AllocError` where memory is refused, where there are more bytes than these, and where the table has 2^32 rows or more.
 pub fn literals(
     alloc: Global,
     terms: &Terms<'_>,

@@ -20,6 +20,7 @@ mod shape;
 mod source;
 mod texts;
 mod types;
+mod weights;
 
 pub use crate::making::{Nodes, nodes_of};
 pub use crate::origin::{GroupOrigin, TypeOrigin};

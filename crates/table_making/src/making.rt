@@ -13,8 +13,15 @@ use crate::search::Search;
 use crate::source::Source;
 use check_terms::laws::equal_numbers;
 use check_terms::{NoRoom, Terms};
+use rooms::Room;
 use std::alloc::Global;
 use table_nodes::{Group, Node, TypeId};
+
+/// How many parts forms may have beside those that the rows give room for.
+const PARTS: u64 = 262_144;
+
+/// For how many parts of forms each row of the terms gives room.
+const PARTS_OF_A_ROW: u64 = 8;
 
 /// Types and groups for a table, each with what it is of.
 #[derive(Drop)]
@@ -41,8 +48,10 @@ pub struct Nodes {
 ///
 /// # Errors
 ///
-/// [`NoRoom`] where memory is refused. It may come, too, where a row or a place is not there, where a text has a number that no
-/// token has, and where the group of a map, or a part that it needs, has more alternatives or entries than `alternatives` makes.
+/// [`NoRoom`] where memory is refused, and where the forms have more parts than 262,144 and eight for each row: a part is a choice,
+/// an alternative of a map or of a group, an entry, or 64 bytes of a string in a test. It may come, too, where a row or a place is
+/// not there, where a text has a number that no token has, and where the group of a map, or a part that it needs, has more
+/// alternatives or entries than `alternatives` makes.
 pub fn nodes_of(
     alloc: Global,
     terms: &Terms<'_>,
@@ -59,6 +68,7 @@ pub fn nodes_of(
         numbers,
         types: Vec::new(alloc),
         groups: Vec::new(alloc),
+        room: Room::new(PARTS, PARTS_OF_A_ROW, terms.len()),
     };
     search.run(alloc, terms, source)?;
     let nodes = finish(alloc, search, top)?;

@@ -10,7 +10,9 @@ use crate::numbers::Numbers;
 use crate::origin::{GroupOrigin, TypeOrigin};
 use crate::source::Source;
 use crate::types::type_form;
+use crate::weights::{take_group, take_type};
 use check_terms::{NoRoom, Terms, push};
+use rooms::Room;
 use std::alloc::Global;
 use table_nodes::{Group, Node};
 
@@ -23,6 +25,8 @@ pub(crate) struct Search {
     pub numbers: Numbers,
     pub types: Vec<Node>,
     pub groups: Vec<Group>,
+    /// The parts of forms that may still be made.
+    pub room: Room,
 }
 
 impl Search {
@@ -78,6 +82,7 @@ impl Search {
         ensures keeps { OnOk result ((s : Sense) → IsSource s terms.now source.now → slice_get (keys_in self.old).types (length self.old.types.items) ≡ Some origin → HasSearch s terms.now self.old → HasSearch s terms.now self.new) }
     {
         let form = type_form(alloc, terms, source, origin)?;
+        take_type(&mut self.room, &form)?;
         let node = self.numbers.type_node(alloc, form)?;
         push(&mut self.types, node)?;
         Ok(())
@@ -94,6 +99,7 @@ impl Search {
         ensures keeps { OnOk result ((s : Sense) → IsSource s terms.now source.now → slice_get (keys_in self.old).groups (length self.old.groups.items) ≡ Some origin → HasSearch s terms.now self.old → HasSearch s terms.now self.new) }
     {
         let form = group_form(alloc, terms, source, origin)?;
+        take_group(&mut self.room, &form)?;
         let node = self.numbers.group_node(alloc, form)?;
         push(&mut self.groups, node)?;
         Ok(())

@@ -18,17 +18,32 @@ use crate::closed::closed::{Closed, Meaning};
 use crate::closed::joining::group_of;
 use crate::closed::looking::{places_of, stripped_of};
 use crate::closed::spines::choices;
+use crate::room::take;
 use check_terms::laws::{equal_numbers, growing_keeps, is_table, rows_stand};
 use check_terms::{Body, NoRoom, Terms, push};
+use rooms::Room;
 use std::alloc::Global;
+
+/// How many rows a body may need for its group, which take no room.
+const ROWS_OF_A_BODY: usize = 4;
+
+/// How many choices, and further rows of groups, instances may have together, beside those that the rows give room for, and beside
+/// one choice for each body.
+const CHOICES: u64 = 65_536;
+
+/// For how many of them each row gives room.
+const CHOICES_OF_A_ROW: u64 = 4;
 
 /// What the instances mean (RFC 8610 section 3.10), and what is looked up of them by rows of the table, which gets a row for each
 /// group that is none of its rows.
 ///
 /// It takes time and memory in proportion to the rows, and to the choices and the alternatives of all instances together.
 ///
-/// An error comes where memory is refused, or each number of 32 bits is taken; then some rows may have been added. It may come,
-/// too, where a number is not of this table.
+/// These choices, and the rows that are added, are at most 65,536 and four for each row that the table has before, beside one choice
+/// and four rows for each body.
+///
+/// An error comes where memory is refused, where there are more of these, or where each number of 32 bits is taken; then some rows
+/// may have been added. It may come, too, where a number is not of this table.
 pub fn close(alloc: Global, terms: &mut Terms<'_>, found: &[Instance]) -> Result<Closed, NoRoom>
     ensures grows { Grows terms.old terms.new }
     ensures texts { terms.new.texts ≡ terms.old.texts }
@@ -56,9 +71,18 @@ fn meanings_of(
     ensures means { IfOk result (λ v. (xs : List L.Definition) (refs : List Ref) → AreFound xs terms.old found.now refs → AlikeAll (IsMeaning xs terms.new) refs v.items) }
 {
     growing_keeps();
+    let mut room = Room::new(CHOICES, CHOICES_OF_A_ROW, terms.len());
     let mut meanings = Vec::new(alloc);
     for instance in found {
+        let rows = terms.len();
         let meaning = meaning_of(alloc, terms, instance)?;
+        let bodies = instance.bodies.len();
+        let added = terms.len().saturating_sub(rows);
+        take(&mut room, meaning.types.len().saturating_sub(bodies))?;
+        take(
+            &mut room,
+            added.saturating_sub(bodies.saturating_mul(ROWS_OF_A_BODY)),
+        )?;
         push(&mut meanings, meaning)?;
     }
     Ok(meanings)

@@ -30,15 +30,23 @@ use check_names::kinds::Kinds;
 use check_terms::laws::equal_numbers;
 use check_terms::texts::{Control, Membership, control_of};
 use check_terms::{Form, Row, Terms};
+use rooms::Room;
 use std::alloc::{AllocError, Global};
 use table_nodes::NumberSet;
+
+/// To how many rows the controllers of one control may lead, each for itself, beside those that the rows give room for.
+const REACHED: u64 = 262_144;
+
+/// To how many of them each row gives room.
+const REACHED_OF_A_ROW: u64 = 16;
 
 /// The members of the types that are controllers of `.size` or `.bits` (RFC 8610 sections 3.8.1 and 3.8.2), where `controllers`
 /// tells which rows may be such. Each row to which a controller leads is looked at once for it, however many ways lead there.
 ///
 /// For each controller it takes a time of n log n for the rows to which it leads, and 16 bytes for each of their ranges that is
-/// left when those that overlap or touch are one: a range that belongs to many controllers is kept for each. An error comes only
-/// where memory is refused, or where the table numbers no further row.
+/// left when those that overlap or touch are one: a range that belongs to many controllers is kept for each. All controllers of one
+/// control lead to 262,144 rows at most, and to 16 more for each row, where a row counts for each that leads to it. An error comes
+/// where memory is refused, where they lead to more, or where the table numbers no further row.
 pub fn members(
     alloc: Global,
     terms: &Terms<'_>,
@@ -112,11 +120,20 @@ fn listed(
     ensures all { IfOk result (λ z. HaveLists (membership_view membership) terms.now sizable.now (length terms.now.rows) z) }
 {
     let count = terms.row_count()?;
+    let mut room = Room::new(REACHED, REACHED_OF_A_ROW, sources.len());
     let mut search = no_search(alloc, sources.len())?;
     let mut sizes = no_sizes(alloc, sources.len())?;
     for number in 0..count {
         let controller = controller_at(terms, membership, number);
-        add_controller(alloc, sources, sizable, &mut search, &mut sizes, controller)?;
+        add_controller(
+            alloc,
+            &mut room,
+            sources,
+            sizable,
+            &mut search,
+            &mut sizes,
+            controller,
+        )?;
     }
     Ok(sizes)
 }
@@ -186,6 +203,7 @@ fn is_same(first: Membership, second: Membership) -> bool
 // Adds the list of the controller, if there is one.
 fn add_controller(
     alloc: Global,
+    room: &mut Room,
     sources: &[Source],
     sizable: &[bool],
     search: &mut Search,
@@ -200,7 +218,7 @@ fn add_controller(
     ensures kept { IfOk result (λ _. KeepsLists sizes.old sizes.new) }
 {
     match controller {
-        Some(row) => add_list(alloc, sources, sizable, search, sizes, row),
+        Some(row) => add_list(alloc, room, sources, sizable, search, sizes, row),
         None => Ok(()),
     }
 }
@@ -208,6 +226,7 @@ fn add_controller(
 // Adds the list of the row, where it may be a controller and has none yet.
 fn add_list(
     alloc: Global,
+    room: &mut Room,
     sources: &[Source],
     sizable: &[bool],
     search: &mut Search,
@@ -225,6 +244,7 @@ fn add_list(
         return Ok(());
     }
     search.reach(sources, row, sizes.lists.len() + 1)?;
+    room.take(search.reached.len())?;
     let list = set_of(alloc, sources, &search.reached)?;
     put_list(sizes, row, list)
 }
