@@ -18,7 +18,7 @@ too, by 1,000 pairs against 1,000 keys, and by 10,000 and 20,000 pairs against 1
 A stream of messages with one signature, whose protected headers are in a byte string, is read against the
 specification in examples/cose_sign1.cddl and against 'any', as the arrays are. The last streams are one byte string
 each, of two sizes: with one large array in it, with a sequence of many items, and with a string in a string and so
-on, 1,000 levels of them. The columns: the ratio of the processor time for the larger one to that for a stream of what
+on, 100 levels of them. The columns: the ratio of the processor time for the larger one to that for a stream of what
 is read in it, against 'any'; the growth of the processor time; and the peak memory for each byte of the item.
 
 The status is 1 where a specification is not answered as expected, where its growth or that for a byte string is
@@ -48,7 +48,7 @@ KEYS, MAPS_OF_KEYS, MOST_KEYS_RATIO = 1000, 1000, 3
 MOST_KEYS, PAIRS_OF_KEYS = 16_383, (10_000, 20_000)
 COSE = os.path.join(os.path.dirname(os.path.dirname(os.path.abspath(__file__))), "examples", "cose_sign1.cddl")
 MOST_COSE_RATIO = 2
-LEVELS = 1000
+LEVELS = 100
 STRINGS, MEMBERS, MOST_SIZES_RATIO = 2_000_000, 20_000, 2
 ACCEPTED = "accepted\n"
 
@@ -301,7 +301,7 @@ def held_sequence(count):
 
 
 def held_strings(size):
-    """A string in a string and so on, 1,000 levels round a number; and all of the strings, one after the other. Each is
+    """A string in a string and so on, 100 levels round a number; and all of the strings, one after the other. Each is
     a chunk behind empty ones, as many as it takes for each level to add the same number of bytes."""
     empty = size // LEVELS - 11
     levels = [b"\0"]

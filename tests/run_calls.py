@@ -101,6 +101,7 @@ A row whose call begins with '@' stands for many:
   @fill PARAMETERS ARGUMENTS   what '[t, ~u, ]' is with these names as arguments
   @shared TIMES                how many rows are added where a body that has 't' in 2 to so many places is filled
   @strings ROOT N              what it says of 1 in so many byte strings, each in the next one
+  @arrays ROOT N               what it says of 0 in so many byte strings, each in an array in the next one, by calls and by turns
 """
 import argparse
 import glob
@@ -443,6 +444,19 @@ def strings_case(row, root, count, answer):
     return Case(row, [f"match.verdict {root} 100000 {held.hex()}"], lambda answers: unlike(answers[0], answer))
 
 
+def arrays_case(row, root, count, answer):
+    """The number 0 in so many byte strings, each in an array in the one before it: by calls, and by turns."""
+    held = b"\0"
+    for _ in range(int(count)):
+        held = b"\x81\x59" + len(held).to_bytes(2, "big") + held
+    lines = [f"match.{call} {held.hex()}" for call in (f"verdict {root} 100000", f"turns {root} 100000 16")]
+
+    def fault(answers):
+        told = TURNS.fullmatch(answers[1])
+        return unlike(answers[0], answer) or unlike(told[1] if told else answers[1], answer, "by turns: ")
+    return Case(row, lines, fault)
+
+
 # Terms
 
 class Words:
@@ -684,6 +698,7 @@ FAMILIES = {
     "@fill": lambda row, words, answer, before: [fill_case(row, *words, answer)],
     "@shared": lambda row, words, answer, before: [shared_case(row, *words, answer)],
     "@strings": lambda row, words, answer, before: [strings_case(row, *words, answer)],
+    "@arrays": lambda row, words, answer, before: [arrays_case(row, *words, answer)],
 }
 
 

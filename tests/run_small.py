@@ -72,6 +72,9 @@ ITEMS = {
     "maps that are values beside a long string": b"\x82" + LONG_STRING + nested(b"\xa1\1", 254, b"\1"),
     "maps that are keys beside a long string": b"\x82" + LONG_STRING + nested(b"\xa1", 254, b"\1", b"\1"),
     "strings in arrays in strings": held_again(200, b"\1"),
+    # more than may be read in their strings, which ends as want of memory
+    "too many strings in arrays in strings": held_again(1200, b"\1"),
+    "these beside arrays": b"\x82" + nested(b"\x81", 250, b"\1") + held_again(1200, b"\1"),
     "maps that are keys in 16 strings": held_again(16, held(nested(b"\xa1", 200, b"\1", b"\1"))),
 }
 HELD = {"arrays": ARRAYS, "keys": KEYS, "keys to breaks": KEYS_TO_BREAKS, "falling pairs": FALLING, "keys beside others": APART}

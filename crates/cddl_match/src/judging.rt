@@ -27,7 +27,8 @@ const MOST_CALLS: u8 = 64;
 /// # Errors
 ///
 /// `AllocError` where there is no memory for the questions that wait, for the tally of a map's pairs, or for what byte
-/// strings hold.
+/// strings hold; or where more bytes are to be read in these than 1 MiB, and 64 for each item and each byte of a string in the
+/// item, those that are read again too, or a quarter of that kept at once for questions that wait.
 pub fn verdict(
     alloc: Global,
     table: &Table,
@@ -43,11 +44,12 @@ pub fn verdict(
     ensures spent { result ≡ Ok Verdict.Spent → (a : Answer) (w : ℕ) → RootSays table.now item.now a w → steps < w }
 {
     let cells = Cells::new(alloc);
+    let whole = item.item();
     let mut means = Means {
         left: steps,
-        shelf: Shelf::new(alloc, &cells),
+        shelf: Shelf::for_item(alloc, &cells, whole),
     };
-    match type_says(table, &mut means, table.root(), 0, item.item(), MOST_CALLS) {
+    match type_says(table, &mut means, table.root(), 0, whole, MOST_CALLS) {
         Said::Yes { .. } => Ok(Verdict::Yes),
         Said::No { far } => Ok(Verdict::No { place: far }),
         Said::Spent => Ok(Verdict::Spent),

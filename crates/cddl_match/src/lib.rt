@@ -1,6 +1,7 @@
 //! Whether an item matches a type (RFC 8610 sections 2 and 3 and appendix A).
 #![tactic(auto)]
 
+mod allowance;
 mod answers;
 mod behind;
 mod calls;

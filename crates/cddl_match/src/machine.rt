@@ -84,10 +84,11 @@ impl<'t, 'i> Machine<'t, 'i> {
     {
         let waiting = Vec::with_capacity(alloc, room)?;
         *cells = Cells::new(alloc);
+        let whole = item.item();
         let root = Question::OfType {
             node: table.root(),
             place: 0,
-            subject: Subject::Item(item.item()),
+            subject: Subject::Item(whole),
         };
         Ok(Machine {
             table,
@@ -100,7 +101,7 @@ impl<'t, 'i> Machine<'t, 'i> {
                 taken: 0,
                 owed: 0,
             },
-            shelf: Shelf::new(alloc, cells),
+            shelf: Shelf::for_item(alloc, cells, whole),
             end: None,
         })
     }

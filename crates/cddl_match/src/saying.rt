@@ -22,7 +22,6 @@ use crate::entering::{index_for, unpassed};
 use crate::known::{said_in, told_of};
 use crate::looking::rounds_told;
 use crate::means::Means;
-use crate::reading::held_in;
 use crate::replies::{
     array_said, either_said, entry_done, held_said, key_tested, simple_said, test_behind,
     test_says, tested,
@@ -293,7 +292,7 @@ fn held_says(
     let Some(bytes) = bytes_of(item) else {
         return Said::No { far: place };
     };
-    match held_in(means.shelf.alloc, content, bytes) {
+    match means.shelf.held(content, bytes) {
         Ok(Some(held)) => { held_said(place, next, apart_says(table, means, node, 0, held, depth)) }
         Ok(None) => Said::No { far: place },
         Err(_) => Said::NoMemory,
@@ -314,12 +313,14 @@ fn apart_says(
 {
     let alloc = means.shelf.alloc;
     let cells = Cells::new(alloc);
+    let before = means.shelf.allowance;
     let mut inner = Means {
         left: means.left,
-        shelf: Shelf::new(alloc, &cells),
+        shelf: Shelf::with(alloc, &cells, before),
     };
     let said = type_says(table, &mut inner, node, place, &item, depth);
     means.left = inner.left;
+    means.shelf.allowance = before.after(inner.shelf.allowance);
     said
 }
 

@@ -1,10 +1,20 @@
-//! Where items that were read in byte strings are kept, so that questions may refer to them.
+//! Where items that were read in byte strings are kept, so that questions may refer to them, and how many bytes may be read.
 
-ghost use Rattle.std.specs.Prelude.{◌≡◌, IfOk, IfSome};
+ghost use Rattle.std.specs.Prelude.{◌≡◌, ◌≤◌, ◌+◌, ◌-◌, ◌*◌, ◌/◌, ◌^◌, length, IfOk, IfSome, OnOk, MatchOption};
+ghost use Rattle.cbor_data.specs.Value.{Value};
+ghost use Rattle.cddl_match.specs.Allowance.{most_in};
+ghost use Rattle.cddl_meaning.specs.Held.{Holds};
+ghost use Rattle.cddl_meaning.specs.Moves.{plus};
+ghost use Rattle.cddl_meaning.specs.Size.{size};
+ghost use Rattle.item_nodes.specs.View.{view};
+ghost use Rattle.table_nodes.specs.Nodes.{content_view};
 
+use crate::allowance::Allowance;
+use crate::reading::held_in;
 use cbor_item::Item;
 use once_cell::race::OnceBox;
 use std::alloc::{AllocError, Global};
+use table_nodes::Content;
 
 /// So many chunks there may be, each with twice as many cells as the one before it: more than there is memory for.
 const MOST_CHUNKS: usize = 48;
@@ -19,12 +29,13 @@ pub struct Cells {
     chunks: OnceBox<Vec<OnceBox<Chunk>>>,
 }
 
-/// Cells, and how many of them are filled.
+/// Cells, how many of them are filled, and how many bytes may be read in byte strings.
 #[derive(Drop)]
 pub struct Shelf<'i> {
     pub(crate) alloc: Global,
     cells: &'i Cells,
     filled: usize,
+    pub(crate) allowance: Allowance<'i>,
 }
 
 impl Cells {
@@ -74,23 +85,69 @@ fn put(cell: &OnceBox<Item>, item: Box<Item>) -> Option<&Item>
 }
 
 impl<'i> Shelf<'i> {
-    /// No cell is filled yet.
-    pub fn new(alloc: Global, cells: &'i Cells) -> Shelf<'i> {
+    /// No cell is filled yet. As many bytes may be read as there is memory for.
+    pub fn new(alloc: Global, cells: &'i Cells) -> Shelf<'i>
+        ensures most { most_in result.allowance ≡ 2 ^ 64 - 1 }
+        ensures nothing { result.allowance.read + result.allowance.kept ≡ 0 }
+    {
+        Shelf::with(alloc, cells, Allowance::unbounded())
+    }
+
+    /// No cell is filled yet. For this item 1 MiB may be read in byte strings, and 64 bytes for each item and each byte of a
+    /// string in it, where bytes that are read again count again. A quarter of that may be kept.
+    pub fn for_item(alloc: Global, cells: &'i Cells, item: &'i Item) -> Shelf<'i>
+        ensures most { most_in result.allowance ≡ plus (2 ^ 20) (64 * size (view item.now)) }
+        ensures nothing { result.allowance.read + result.allowance.kept ≡ 0 }
+    {
+        Shelf::with(alloc, cells, Allowance::of(item))
+    }
+
+    // No cell is filled yet, and so much may be read.
+    pub(crate) fn with(alloc: Global, cells: &'i Cells, allowance: Allowance<'i>) -> Shelf<'i>
+        ensures { result.allowance ≡ allowance.entry }
+    {
         Shelf {
             alloc,
             cells,
             filled: 0,
+            allowance,
         }
     }
 
-    // The item, for as long as the cells.
+    // What a byte string of these bytes holds, if it holds something.
     //
     // # Errors
     //
-    // `AllocError` where there is no memory for it.
-    pub(crate) fn keep(&mut self, item: Item) -> Result<&'i Item, AllocError>
-        ensures { IfOk result (λ kept. kept.now ≡ item) }
+    // `AllocError` where there is no memory for it, or where no more bytes may be read.
+    pub(crate) fn held(
+        &mut self,
+        content: Content,
+        bytes: &[u8],
+    ) -> Result<Option<Item>, AllocError>
+        ensures held { IfOk result (λ held. MatchOption held ((y : Value) → Holds (content_view content) bytes.now y → ⊥) (λ item. Holds (content_view content) bytes.now (view item))) }
+        // The bytes are taken from those that may be read.
+        ensures within { OnOk result (plus self.old.allowance.read (length bytes.now) ≤ most_in self.old.allowance) }
+        ensures taken { OnOk result (self.new.allowance.read ≡ plus self.old.allowance.read (length bytes.now)) }
     {
+        if !self.allowance.take_read(bytes.len()) {
+            return Err(AllocError);
+        }
+        held_in(self.alloc, content, bytes)
+    }
+
+    // The item, which so many bytes were, for as long as the cells.
+    //
+    // # Errors
+    //
+    // `AllocError` where there is no memory for it, or where no more may be kept.
+    pub(crate) fn keep(&mut self, item: Item, bytes: usize) -> Result<&'i Item, AllocError>
+        ensures kept { IfOk result (λ kept. kept.now ≡ item) }
+        ensures within { OnOk result (plus self.old.allowance.kept bytes ≤ most_in self.old.allowance / 4) }
+        ensures taken { OnOk result (self.new.allowance.kept ≡ plus self.old.allowance.kept bytes) }
+    {
+        if !self.allowance.take_kept(bytes) {
+            return Err(AllocError);
+        }
         let cells = self.cells;
         let Some(cell) = cells.cell(self.alloc, self.filled)? else {
             return Err(AllocError);

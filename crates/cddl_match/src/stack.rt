@@ -18,7 +18,7 @@ ghost use Rattle.table_nodes.specs.declared.nodes.TypeId.{TypeId};
 ghost use Rattle.table_nodes.specs.declared.table.Table.{Table};
 
 use crate::entering::asked_from;
-use crate::reading::{held_in, string_in};
+use crate::reading::string_in;
 use crate::shelf::Shelf;
 use history::History;
 use match_moves::{
@@ -261,12 +261,12 @@ fn ask<'t, 'i>(
     Turned::GoesOn
 }
 
-/// What a byte string holds, if it holds something. A string that is all it holds stays where it is, and else that is put on
-/// the shelf.
+/// What a byte string holds, if it holds something. A string that is all it holds stays where it is, and else that is read, and
+/// put on the shelf.
 ///
 /// # Errors
 ///
-/// `AllocError` where there is no memory for it.
+/// `AllocError` where there is no memory for it, or where the shelf allows no more bytes to be read or kept.
 pub fn held_on<'i>(
     shelf: &mut Shelf<'i>,
     reading: Reading<'i>,
@@ -276,10 +276,10 @@ pub fn held_on<'i>(
     if let Some(string) = string_in(reading.content, reading.bytes) {
         return Ok(Some(Subject::Bytes(string)));
     }
-    let Some(item) = held_in(shelf.alloc, reading.content, reading.bytes)? else {
+    let Some(item) = shelf.held(reading.content, reading.bytes)? else {
         return Ok(None);
     };
-    Ok(Some(Subject::Item(shelf.keep(item)?)))
+    Ok(Some(Subject::Item(shelf.keep(item, reading.bytes.len())?)))
 }
 
 // A byte string is read, and a type is asked of what it holds; if it holds nothing, that is the last question's reply. There

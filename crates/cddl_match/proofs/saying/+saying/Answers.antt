@@ -127,10 +127,10 @@ pub tag_says-returns-in_default : goal.tag_says-returns-in_default
 tag_says-returns-in_default t c = rw c.in-SuchAs.is (stops (language_of c.args.table.now) (M.OfType c.in-SuchAs.head c.args.place (uint c.args.found)) c.args.means.now.left c.apart_says.new.means.left (M.InHead c.args.node c.args.place (view c.args.content.now)) c.apart_says.result c.in_default.not-Yes c.in_default.not-No (rw (view-Uint c.args.found) at c.apart_says.ensures))
 
 pub held_says-returns-in-Ok-None : goal.held_says-returns-in-Ok-None
-held_says-returns-in-Ok-None t c = rw c.in-Some.ensures (nothing_held (language_of c.args.table.now) (content_view c.args.content) c.in-Some.bytes.now c.args.node c.args.place c.args.next c.args.means.now.left (rw c.in-Ok-None.field-0-is at c.in-Ok-None.ensures))
+held_says-returns-in-Ok-None t c = rw c.in-Some.ensures (nothing_held (language_of c.args.table.now) (content_view c.args.content) c.in-Some.bytes.now c.args.node c.args.place c.args.next c.args.means.now.left (rw c.in-Ok-None.field-0-is at c.in-Ok-None.ensures.held))
 
 pub held_says-returns-in-Ok-Some : goal.held_says-returns-in-Ok-Some
-held_says-returns-in-Ok-Some t c = rw (c.in-Some.ensures, c.held_said.ensures) (held_ends (language_of c.args.table.now) (content_view c.args.content) c.in-Some.bytes.now c.args.node c.args.place c.args.next (view c.in-Ok-Some.held) c.args.means.now.left c.apart_says.new.means.left _ (rw c.in-Ok-Some.field-0-is at c.in-Ok-Some.ensures) c.apart_says.ensures)
+held_says-returns-in-Ok-Some t c = rw (c.in-Some.ensures, c.held_said.ensures) (held_ends (language_of c.args.table.now) (content_view c.args.content) c.in-Some.bytes.now c.args.node c.args.place c.args.next (view c.in-Ok-Some.held) c.args.means.now.left c.apart_says.new.means.left _ (rw c.in-Ok-Some.field-0-is at c.in-Ok-Some.ensures.held) c.apart_says.ensures)
 
 pub map_says-loop-entries-init : goal.map_says-loop-entries-init
 map_says-loop-entries-init t c = record {

@@ -6,9 +6,9 @@ use Rattle.cddl_match.proofs.machine.Machine.new.Goals as goal
 
 pub invariant_of-result : goal.invariant_of-result
 invariant_of-result c = record {
-  sound = c.item.ensures.sound;
+  sound = c.item-whole.ensures.sound;
   parts = record {
-    at = rw (c.in_ok-waiting.ensures.items, c.root.ensures, c.item.ensures.same) (at_begin (language_of c.args.table.now) (root_question c.args.table.now c.args.item.now));
+    at = rw (c.in_ok-waiting.ensures.items, c.root.ensures, c.item-whole.ensures.same) (at_begin (language_of c.args.table.now) (root_question c.args.table.now c.args.item.now));
     owes = λ h. absurd (omega (arith, h));
   };
   within = omega arith;
